@@ -1,0 +1,23 @@
+# The two commands of this repository, and the program alone. README.md says what they need and print.
+.DEFAULT_GOAL := run
+.PHONY: run test
+
+RT      ?= rt
+EXAMPLE  = 1970-01-01 2024-02-29 19783 2199-12-31
+SOURCES  = crates.txt $(shell find crates -type f -not -path '*/out/*')
+
+# the example: by the proved program where it is built, else unproved in a minute or two, and it says which
+run:
+	@if [ -x office ]; then ./office $(EXAMPLE); else \
+	echo "not built yet: running unproved (make office builds the proved program)" >&2; \
+	cd crates/mx_cli && $(RT) try -- $(EXAMPLE); fi
+
+# the gate, from nothing; where it passes, the program that it proved and ran is left as ./office
+test:
+	@$(RT) ci
+	@install -m 755 crates/mx_cli/out/mx_cli office
+
+# the proved program alone
+office: $(SOURCES)
+	cd crates/mx_cli && $(RT) run -- $(EXAMPLE) > /dev/null
+	install -m 755 crates/mx_cli/out/mx_cli $@

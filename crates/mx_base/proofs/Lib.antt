@@ -1,0 +1,4 @@
+pub mod CalendarLemmas
+pub mod IdentifierLemmas
+pub mod RoundTrips
+pub mod TextLemmas

@@ -1,0 +1,3 @@
+pub mod Calendar
+pub mod Identifier
+pub mod Texts

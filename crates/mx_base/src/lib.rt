@@ -1,0 +1,17 @@
+//! The vocabulary of the records office: identifiers, days and moments, the three dimensions of use, and
+//! the exact texts of days, moments and hours.
+#![tactic(auto)]
+
+pub mod amounts;
+pub mod calendar;
+pub mod days;
+pub mod identifiers;
+pub mod moments;
+pub mod print;
+mod texts;
+
+pub use amounts::{Base, Left, Limit, Status, Use};
+pub use days::{Day, plus_days};
+pub use identifiers::{BadText, Doc, Kind, MelRef, Part, Position, Serial, Tail, TaskId};
+pub use moments::{Moment, day_of};
+pub use print::{print_day, print_day_number, print_hours, print_moment};

@@ -1,0 +1,90 @@
+//! Moments of the records: whole UTC minutes from 1970-01-01T00:00 to 2199-12-31T23:59.
+ghost use Rattle.std.specs.Prelude.{◌≡◌, ◌≢◌, ℕ, ◌/◌, ◌≤◌, ◌↔◌, IsSome, IfSome, IfNone, IfOk, OnErr};
+ghost use Rattle.mx_base.specs.Calendar.{last_moment};
+ghost use Rattle.mx_base.specs.Texts.{moment_text};
+
+use crate::days::{Day, read_day};
+use crate::identifiers::BadText;
+use crate::texts::read_clock;
+use std::marker::Model;
+
+/// The number of 2199-12-31T23:59, the last moment.
+pub const LAST_MOMENT: u32 = 120_968_639;
+
+/// The minutes of a day.
+pub(crate) const MINUTES_OF_A_DAY: u32 = 1440;
+
+/// A UTC minute from 1970-01-01T00:00 to 2199-12-31T23:59. Contracts see it as its number: 0 is
+/// 1970-01-01T00:00.
+#[derive(Clone, Copy, Debug, PartialEq, Eq, PartialOrd, Ord)]
+pub struct Moment {
+    number: u32,
+}
+
+impl Model for Moment {
+    ghost use Rattle.std.specs.Prelude.{ℕ, ◌≤◌};
+
+    ghost Value = { ℕ };
+
+    ghost view = { λ m. m.number };
+
+    ghost invariant = { λ m. m.number ≤ 120_968_639 };
+
+    ghost inverse = { λ n. record { number = n } };
+}
+
+impl Moment {
+    /// The moment with that number, or `None` past 2199-12-31T23:59.
+    pub fn of_number(number: u32) -> Option<Moment>
+        ensures some { IsSome result ↔ (number ≤ last_moment) }
+        ensures value { IfSome result (λ moment. moment ≡ number) }
+    {
+        if number > LAST_MOMENT {
+            return None;
+        }
+        Some(Moment { number })
+    }
+
+    /// How many minutes after 1970-01-01T00:00 it is.
+    pub fn number(self) -> u32
+        ensures value { result ≡ self }
+        ensures bound { self ≤ last_moment }
+    {
+        self.number
+    }
+
+    /// The moment that a text `YYYY-MM-DDTHH:MM` names. `BadText` for any other text: of another length,
+    /// with other characters than digits, `-`, `T` and `:` in their places, with a date that `Day::read`
+    /// refuses, or with a time past 23:59.
+    pub fn read(text: &str) -> Result<Moment, BadText>
+        ensures ok { IfOk result (λ m. (m ≤ last_moment) × (moment_text m ≡ text.now)) }
+        ensures only { IfOk result (λ m. (n : ℕ) → n ≤ last_moment → moment_text n ≡ text.now → n ≡ m) }
+        ensures err { OnErr result ((m : ℕ) → m ≤ last_moment → moment_text m ≢ text.now) }
+    {
+        match read_moment(text.as_bytes()) {
+            Some(number) => Ok(Moment { number }),
+            None => Err(BadText),
+        }
+    }
+}
+
+/// The day that a moment is in.
+pub fn day_of(moment: Moment) -> Day
+    ensures { result ≡ moment / 1440 }
+{
+    Day::of_number(moment.number / MINUTES_OF_A_DAY).unwrap()
+}
+
+// The number of the moment that these bytes name.
+#[tactic(auto, unfolding(crate::specs::Texts::day_text, crate::specs::Texts::moment_text))]
+fn read_moment(text: &[u8]) -> Option<u32>
+    ensures some { IfSome result (λ m. (m ≤ last_moment) × (moment_text m ≡ text.now)) }
+    ensures none { IfNone result ((m : ℕ) → m ≤ last_moment → moment_text m ≢ text.now) }
+{
+    if text.len() != 16 || text[10] != b'T' {
+        return None;
+    }
+    let day = read_day(&text[..10])?;
+    let minute = read_clock(&text[11..])?;
+    Some(day * MINUTES_OF_A_DAY + minute as u32)
+}

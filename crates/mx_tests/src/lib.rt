@@ -1,0 +1,14 @@
+//! Tests over the public calls of all crates, with expected values from outside: the calendar of another
+//! program, the worked examples, and the texts as they are to be printed.
+#![tactic(auto)]
+
+#[cfg(test)]
+mod calendar;
+#[cfg(test)]
+mod identifiers;
+#[cfg(test)]
+mod printers;
+#[cfg(test)]
+mod want_of_memory;
+#[cfg(test)]
+mod words;

@@ -1,0 +1,78 @@
+//! What is left where memory runs out. These tests pass whichever allocation fails:
+//! `scripts/fail-allocations.sh` runs them with each one failing in turn.
+
+use mx_base::{Day, Moment, print_day, print_day_number, print_hours, print_moment};
+use mx_words::run_words;
+use std::alloc::{AllocError, Global};
+use std::process::Abort;
+use std::test::Fail;
+
+// A printer that began behind `kept` appended the text, or left the vector as it was.
+fn is_printed_or_unchanged(
+    rt: &impl Abort,
+    out: &Vec<u8>,
+    printed: Result<(), AllocError>,
+    kept: &[u8],
+    text: &[u8],
+) {
+    let Some(added) = out.as_slice().strip_prefix(kept) else {
+        panic!(rt; "the bytes in front changed");
+    };
+    if printed.is_ok() {
+        assert_eq!(rt; added, text);
+    } else {
+        assert!(rt; added.is_empty());
+    }
+}
+
+// Each printer has to grow a vector that has room for the bytes in front alone.
+#[test]
+fn printers_append_all_or_nothing(rt: HostRuntime) -> Result<(), Fail> {
+    let moment = Moment::read("2024-03-01T09:30").or(Err("refused"))?;
+    let day = Day::read("2024-03-01").or(Err("refused"))?;
+    if let Ok(mut out) = Vec::from_slice(rt.alloc(), b"day=") {
+        let printed = print_day(&mut out, day);
+        is_printed_or_unchanged(&rt, &out, printed, b"day=", b"2024-03-01");
+    }
+    if let Ok(mut out) = Vec::from_slice(rt.alloc(), b"last=") {
+        let printed = print_day_number(&mut out, 84_006);
+        is_printed_or_unchanged(&rt, &out, printed, b"last=", b"later");
+    }
+    if let Ok(mut out) = Vec::from_slice(rt.alloc(), b"off=") {
+        let printed = print_moment(&mut out, moment);
+        is_printed_or_unchanged(&rt, &out, printed, b"off=", b"2024-03-01T09:30");
+    }
+    if let Ok(mut out) = Vec::from_slice(rt.alloc(), b"h=") {
+        let printed = print_hours(&mut out, -601);
+        is_printed_or_unchanged(&rt, &out, printed, b"h=", b"-10:01");
+    }
+    Ok(())
+}
+
+fn three_words(alloc: Global) -> Result<Vec<String>, AllocError> {
+    let mut words = Vec::new(alloc);
+    for word in ["office", "2024-02-29", "19783"] {
+        words.push(String::from_str(alloc, word)?)?;
+    }
+    Ok(words)
+}
+
+#[test]
+fn the_program_prints_all_or_a_fault(rt: HostRuntime) {
+    let Ok(words) = three_words(rt.alloc()) else {
+        return;
+    };
+    let mut out = [0; 64];
+    let mut err = [0; 64];
+    let (mut rest, mut faults) = (out.as_mut_slice(), err.as_mut_slice());
+    let status = run_words(&rt, words.as_slice(), &mut rest, &mut faults);
+    let expected = b"2024-02-29 19782\n2024-03-01 19783\n".as_slice();
+    if status == 0 {
+        assert!(rt; out.as_slice().starts_with(expected));
+        assert_eq!(rt; err[0], 0);
+    } else {
+        assert_eq!(rt; status, 4);
+        assert_eq!(rt; out[0], 0);
+        assert!(rt; err.as_slice().starts_with(b"fault memory\n"));
+    }
+}
