@@ -34,6 +34,9 @@ impl Model for Moment {
 }
 
 impl Moment {
+    /// 1970-01-01T00:00, the first moment.
+    pub const FIRST: Moment = Moment { number: 0 };
+
     /// The moment with that number, or `None` past 2199-12-31T23:59.
     pub fn of_number(number: u32) -> Option<Moment>
         ensures some { IsSome result ↔ (number ≤ last_moment) }

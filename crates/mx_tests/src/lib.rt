@@ -3,11 +3,17 @@
 #![tactic(auto)]
 
 #[cfg(test)]
+mod book;
+#[cfg(test)]
 mod calendar;
+#[cfg(test)]
+mod commands;
 #[cfg(test)]
 mod identifiers;
 #[cfg(test)]
 mod printers;
+#[cfg(test)]
+mod samples;
 #[cfg(test)]
 mod want_of_memory;
 #[cfg(test)]

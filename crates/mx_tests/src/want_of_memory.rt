@@ -1,7 +1,10 @@
 //! What is left where memory runs out. These tests pass whichever allocation fails:
 //! `scripts/fail-allocations.sh` runs them with each one failing in turn.
 
+use crate::samples::{aircraft, doc, first_two, sector, sector_body, tail};
 use mx_base::{Day, Moment, print_day, print_day_number, print_hours, print_moment};
+use mx_book::Verdict;
+use mx_command::{Command, Item, MakeFault};
 use mx_words::run_words;
 use std::alloc::{AllocError, Global};
 use std::process::Abort;
@@ -75,4 +78,65 @@ fn the_program_prints_all_or_a_fault(rt: HostRuntime) {
         assert_eq!(rt; out[0], 0);
         assert!(rt; err.as_slice().starts_with(b"fault memory\n"));
     }
+}
+
+// A sector is made as it is, or not for want of memory; an aircraft, which needs none, always is.
+#[test]
+fn a_command_is_made_or_memory_ran_out(rt: HostRuntime) -> Result<(), Fail> {
+    let (off, on) = ("2024-03-01T08:00", "2024-03-01T09:30");
+    match Command::make(
+        rt.alloc(),
+        doc("TL/D-ABCD/12/1")?,
+        sector_body(1, off, on, 1)?,
+    ) {
+        Ok(command) => assert_eq!(rt; command.doc().as_str(), "TL/D-ABCD/12/1"),
+        Err(fault) => assert_eq!(rt; fault, MakeFault::Memory),
+    }
+    match Command::sector(rt.alloc(), sector_body(1, off, on, 1)?) {
+        Ok(command) => assert_eq!(rt; command.doc().as_str(), "TL/D-ABCD/12/1"),
+        Err(fault) => assert_eq!(rt; fault, MakeFault::Memory),
+    }
+    let added = aircraft(rt.alloc(), "A1", "D-ABCD")?;
+    if let Ok(copy) = added.copy(rt.alloc()) {
+        assert!(rt; copy.is_same(&added));
+    }
+    Ok(())
+}
+
+// A command that gets no memory is handed back and the book is as it was; what only asks takes none.
+#[test]
+fn a_book_enters_a_command_or_is_as_it_was(rt: HostRuntime) -> Result<(), Fail> {
+    let Ok(mut book) = first_two(rt.alloc()) else {
+        return Ok(());
+    };
+    for (line, off, on) in [
+        (2, "2024-03-02T08:00", "2024-03-02T08:30"),
+        (3, "2024-03-02T09:00", "2024-03-02T09:30"),
+        (4, "2024-03-02T10:00", "2024-03-02T10:30"),
+        (5, "2024-03-02T11:00", "2024-03-02T11:30"),
+    ] {
+        let Ok(command) = sector(rt.alloc(), line, off, on, 1) else {
+            continue;
+        };
+        let before = book.len();
+        assert_eq!(rt; book.judge(&command), Verdict::New);
+        match book.enter(command) {
+            Ok(seq) => assert_eq!(rt; seq, before + 1),
+            Err((back, _)) => {
+                assert_eq!(rt; book.len(), before);
+                assert_eq!(rt; book.judge(&back), Verdict::New);
+            }
+        }
+    }
+    if let Ok(copy) = book.copy(rt.alloc()) {
+        assert_eq!(rt; copy.len(), book.len());
+    }
+    let airframe = Item::Airframe(tail("D-ABCD")?);
+    let life = book.life_now(&airframe);
+    let cycles = book.len().saturating_add(799);
+    assert_eq!(rt; life.map(|life| life.cycles), Some(cycles));
+    if let Ok(list) = book.life_list(rt.alloc(), &tail("D-ABCD")?) {
+        assert_eq!(rt; list.map(|list| list.life), life);
+    }
+    Ok(())
 }

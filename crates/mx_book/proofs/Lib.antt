@@ -1,0 +1,5 @@
+pub mod GrowthLemmas
+pub mod JudgeLemmas
+pub mod KnownLemmas
+pub mod LifeLemmas
+pub mod Worked

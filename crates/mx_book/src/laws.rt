@@ -1,0 +1,40 @@
+//! Laws of books and runs: what the definitions give, in the subject's own words. Each function does
+//! nothing; its contract is the law, and the checker proves it.
+ghost use Rattle.std.specs.Prelude.{◌≡◌, ◌≢◌, ◌+◌, ◌≤◌, ℕ, List, [], ◌∷◌, ◌++◌, length, true, IfSome, IsSomeAnd};
+ghost use Rattle.std.specs.List.{AllPairs, list_all};
+ghost use Rattle.mx_command.specs.Act.{Entry};
+ghost use Rattle.mx_command.specs.Shape.{has_shape};
+ghost use Rattle.mx_command.specs.declared.item.Item.TheVariants.{Airframe};
+ghost use Rattle.mx_book.specs.Life.{life_now};
+ghost use Rattle.mx_book.specs.Judge.{judge};
+ghost use Rattle.mx_book.specs.Book.{IsBook};
+ghost use Rattle.mx_book.specs.Run.{answers, book_after, book_run};
+
+use crate::verdict::Verdict;
+
+/// A command once accepted is answered `Already` with its number by every later book, and changes nothing.
+pub fn accepted_is_known()
+    ensures known { (book more : List Entry) (command : Entry) → judge book command ≡ Verdict.New → judge (book ++ command ∷ more) command ≡ Verdict.Already (length book + 1) }
+    ensures unchanged { (book more : List Entry) (command : Entry) → judge book command ≡ Verdict.New → book_after (book ++ command ∷ more) command ≡ book ++ command ∷ more }
+{}
+
+/// No book has one document twice.
+pub fn documents_are_distinct()
+    ensures { (book : List Entry) → IsBook book → AllPairs (λ a b. a.doc ≢ b.doc) book }
+{}
+
+/// The life of an airframe never falls as entries are added.
+pub fn life_never_falls()
+    ensures { (book more : List Entry) (tail : List ℕ) → IfSome (life_now book (Airframe tail)) (λ before. IsSomeAnd (life_now (book ++ more) (Airframe tail)) (λ after. (before.minutes ≤ after.minutes) × (before.cycles ≤ after.cycles))) }
+{}
+
+/// A run over two lists joined is the run over the first and then over the second.
+pub fn runs_join()
+    ensures book { (book commands more : List Entry) → book_run book (commands ++ more) ≡ book_run (book_run book commands) more }
+    ensures answers { (book commands more : List Entry) → answers book (commands ++ more) ≡ answers book commands ++ answers (book_run book commands) more }
+{}
+
+/// A run over commands, each of its shape, makes a book of a book.
+pub fn runs_give_books()
+    ensures { (book commands : List Entry) → IsBook book → list_all has_shape commands ≡ true → IsBook (book_run book commands) }
+{}

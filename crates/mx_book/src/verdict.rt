@@ -1,0 +1,47 @@
+//! The verdict on a command, and why one is refused.
+ghost use Rattle.std.specs.Prelude.{◌≡◌};
+
+use mx_base::Moment;
+
+/// Why a command is refused.
+#[derive(Clone, Copy, Debug, PartialEq, Eq)]
+pub enum Refusal {
+    /// An entry has the document with other contents: the number of that entry.
+    Conflict(u32),
+    /// The book has 1,000,000 entries, or 50 aircraft where one more is added.
+    Full,
+    /// No aircraft has a registration that the command names.
+    UnknownAircraft,
+    /// An aircraft has the registration already.
+    AircraftExists,
+    /// A sector takes off before the clock of its airframe: that clock.
+    OutOfOrder(Moment),
+}
+
+impl Refusal {
+    ghost use Rattle.mx_book.specs.Judge.{refusal_number};
+
+    /// The number that stands for the refusal in replies. Of several that apply the least is given.
+    pub fn number(&self) -> u8
+        ensures { result ≡ refusal_number self.now }
+    {
+        match self {
+            Refusal::Conflict(_) => 10,
+            Refusal::Full => 11,
+            Refusal::UnknownAircraft => 20,
+            Refusal::AircraftExists => 30,
+            Refusal::OutOfOrder(_) => 41,
+        }
+    }
+}
+
+/// What a book says of a command before it is entered.
+#[derive(Clone, Copy, Debug, PartialEq, Eq)]
+pub enum Verdict {
+    /// It may be entered.
+    New,
+    /// The entry with this number has its document and equal contents.
+    Already(u32),
+    /// It may not be entered.
+    Refused(Refusal),
+}

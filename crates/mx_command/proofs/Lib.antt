@@ -1,0 +1,2 @@
+pub mod DocumentLemmas
+pub mod SameLemmas

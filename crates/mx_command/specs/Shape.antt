@@ -1,0 +1,61 @@
+-- The shape that each command has: the bounds of its amounts, and its document.
+use Rattle.std.specs.Prelude.{ℕ, ◌+◌, ◌/◌, List, ◌∷◌, ◌++◌, Bool, false, not, ◌&&◌, Option, Some, None, nat_eq, nat_le, codes, if◌then◌else◌, length}
+use Rattle.std.specs.List.{starts_with}
+use Rattle.std.specs.Fmt.{decimal}
+use Rattle.mx_base.specs.declared.amounts.Use.{Use}
+use Rattle.mx_command.specs.Act.{Act, Entry, Added, Flown}
+use Rattle.mx_command.specs.Same.{same_text}
+use Rattle.mx_command.specs.declared.sector.Sector.{Sector}
+
+-- the number is from least to most
+abbrev pub within : ℕ → ℕ → ℕ → Bool
+within least most number = nat_le least number && nat_le number most
+
+-- the use that an item brings with it: up to 100,000,000 minutes and 1,000,000 cycles
+abbrev pub use_shape : Use → Bool
+use_shape u = nat_le u.minutes 100000000 && nat_le u.cycles 1000000
+
+-- an opening of a thing that was built by the day of its as_of
+abbrev pub opening_shape : ℕ → Use → ℕ → Bool
+opening_shape birth opening as_of = use_shape opening && nat_le birth (as_of / 1440)
+
+-- a sector: page 1 to 999,999, line 1 to 99, 1 to 1,440 minutes from take-off to landing, 1 to 50 cycles
+abbrev pub sector_shape : Sector → Bool
+sector_shape s =
+    within 1 999999 s.page && (within 1 99 s.line && (within (s.off + 1) (s.off + 1440) s.on && within 1 50 s.cycles))
+
+-- an aircraft has no positions so far
+abbrev pub no_positions : List (List ℕ × List ℕ) → Bool
+no_positions positions = nat_eq (length positions) 0
+
+-- the shape of what a command says
+abbrev pub act_shape : Act → Bool
+act_shape (Added a positions) = opening_shape a.birth a.opening a.as_of && no_positions positions
+act_shape (Flown sector) = sector_shape sector
+
+-- a document of the technical log begins with TL/
+abbrev pub is_log_doc : List ℕ → Bool
+is_log_doc doc = starts_with nat_eq doc (codes "TL/")
+
+-- the document of a sector: TL/tail/page/line, with plain decimal numbers
+abbrev pub sector_doc : Sector → List ℕ
+sector_doc s = codes "TL/" ++ (s.tail ++ 47 ∷ (decimal s.page ++ 47 ∷ decimal s.line))
+
+-- a sector has the document of its page and line, and no other command has one of the technical log
+abbrev pub doc_shape : List ℕ → Act → Bool
+doc_shape doc (Flown sector) = same_text doc (sector_doc sector)
+doc_shape doc _ = not (is_log_doc doc)
+
+-- the shape of a command
+abbrev pub has_shape : Entry → Bool
+has_shape e = act_shape e.act && doc_shape e.doc e.act
+
+-- what is said is a sector of its shape
+abbrev pub is_sector_shaped : Act → Bool
+is_sector_shaped (Flown sector) = sector_shape sector
+is_sector_shaped _ = false
+
+-- the command of a sector of its shape, by its own document
+abbrev pub sector_entry : Act → Option Entry
+sector_entry (Flown sector) = if sector_shape sector then Some (record { doc = sector_doc sector; act = Flown sector }) else None
+sector_entry _ = None

@@ -1,0 +1,17 @@
+//! The commands that enter something into the records: what each says, the shape that each has, and when
+//! two are the same.
+#![tactic(auto)]
+
+pub mod aircraft;
+pub mod body;
+pub mod command;
+mod document;
+pub mod item;
+pub mod sector;
+pub mod shape;
+
+pub use aircraft::Aircraft;
+pub use body::Body;
+pub use command::{Command, MakeFault};
+pub use item::Item;
+pub use sector::Sector;
