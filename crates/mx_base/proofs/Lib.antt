@@ -1,3 +1,4 @@
+pub mod AsciiLemmas
 pub mod CalendarLemmas
 pub mod IdentifierLemmas
 pub mod RoundTrips

@@ -5,7 +5,7 @@ ghost use Rattle.mx_base.specs.Texts.{day_text};
 
 use crate::calendar::{CivilDate, date_of_day, day_of_date};
 use crate::identifiers::BadText;
-use crate::texts::read_date;
+use crate::texts::{date_bytes, read_date};
 use std::marker::Model;
 
 /// The number of 2199-12-31, the last day.
@@ -92,4 +92,12 @@ pub(crate) fn read_day(text: &[u8]) -> Option<u32>
     ensures none { IfNone result ((d : ℕ) → d ≤ last_day → day_text d ≢ text.now) }
 {
     day_of_date(read_date(text)?)
+}
+
+/// The text of a day, `YYYY-MM-DD`.
+#[tactic(auto, unfolding(crate::specs::Texts::day_text))]
+pub(crate) fn day_bytes(day: Day) -> [u8; 10]
+    ensures { result ≡ day_text day }
+{
+    date_bytes(day.date())
 }

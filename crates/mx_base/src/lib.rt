@@ -13,5 +13,5 @@ mod texts;
 pub use amounts::{Base, Left, Limit, Status, Use};
 pub use days::{Day, plus_days};
 pub use identifiers::{BadText, Doc, Kind, MelRef, Part, Position, Serial, Tail, TaskId};
-pub use moments::{Moment, day_of};
+pub use moments::{Moment, MomentText, day_of};
 pub use print::{print_day, print_day_number, print_hours, print_moment};

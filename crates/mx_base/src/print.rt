@@ -3,9 +3,8 @@
 ghost use Rattle.std.specs.Prelude.{◌≡◌, ◌≤◌, ◌++◌, take, length, IsOk, OnOk, OnErr, vec_len};
 ghost use Rattle.mx_base.specs.Texts.{day_text, day_number_text, moment_text, hours_text};
 
-use crate::days::Day;
-use crate::moments::{MINUTES_OF_A_DAY, Moment, day_of};
-use crate::texts::{clock_bytes, date_bytes};
+use crate::days::{Day, day_bytes};
+use crate::moments::Moment;
 use itoa::Buffer;
 use std::alloc::AllocError;
 
@@ -29,14 +28,11 @@ pub fn print_day_number(out: &mut Vec<u8>, number: u32) -> Result<(), AllocError
 }
 
 /// Appends a moment as `YYYY-MM-DDTHH:MM`.
-#[tactic(auto, unfolding(crate::specs::Texts::moment_text))]
 pub fn print_moment(out: &mut Vec<u8>, moment: Moment) -> Result<(), AllocError>
     ensures printed { OnOk result (out.new.items ≡ out.old.items ++ moment_text moment) }
     ensures unchanged { OnErr result (out.new.items ≡ out.old.items) }
 {
-    let day = day_bytes(day_of(moment));
-    let clock = clock_bytes((moment.number() % MINUTES_OF_A_DAY) as u16);
-    append(out, &day, b"T", &clock)
+    out.extend_from_slice(moment.text().as_str().as_bytes())
 }
 
 /// Appends an amount of minutes as hours, `H:MM`, with `-` in front of a negative one: 2910 is `48:30`
@@ -55,13 +51,6 @@ pub fn print_hours(out: &mut Vec<u8>, minutes: i64) -> Result<(), AllocError>
     } else {
         append(out, b"", hours, &clock)
     }
-}
-
-#[tactic(auto, unfolding(crate::specs::Texts::day_text))]
-fn day_bytes(day: Day) -> [u8; 10]
-    ensures { result ≡ day_text day }
-{
-    date_bytes(day.date())
 }
 
 // Appends three texts, or none of them.

@@ -15,7 +15,7 @@ use Rattle.mx_book.specs.Register.{register, aircraft}
 use Rattle.mx_book.specs.Life.{minutes_of, cycles_of, credited, has_landed_by, use_after, life_now}
 use Rattle.mx_book.specs.Judge.{judge}
 use Rattle.mx_book.specs.Book.{is_new, IsBook}
-use Rattle.mx_book.specs.Run.{answer, answers, book_after, book_run}
+use Rattle.mx_book.specs.Run.{reply, replies, book_after, book_run}
 use Rattle.mx_book.proofs.JudgeLemmas.{both_true, is_new-New, IsBook-entered}
 
 minutes_of-append : (xs ys : List Sector) → minutes_of (xs ++ ys) ≡ minutes_of xs + minutes_of ys
@@ -64,9 +64,9 @@ pub book_run-append : (book commands more : List Entry) → book_run book (comma
 book_run-append book [] more = refl
 book_run-append book (c ∷ commands) more = book_run-append (book_after book c) commands more
 
-pub answers-append : (book commands more : List Entry) → answers book (commands ++ more) ≡ answers book commands ++ answers (book_run book commands) more
-answers-append book [] more = refl
-answers-append book (c ∷ commands) more = ap (λ rest. answer book c ∷ rest) (answers-append (book_after book c) commands more)
+pub replies-append : (book commands more : List Entry) → replies book (commands ++ more) ≡ replies book commands ++ replies (book_run book commands) more
+replies-append book [] more = refl
+replies-append book (c ∷ commands) more = ap (λ rest. reply book c ∷ rest) (replies-append (book_after book c) commands more)
 
 IsBook-after : (book : List Entry) (command : Entry) → IsBook book → has_shape command ≡ true → (b : Bool) → is_new (judge book command) ≡ b → IsBook (cond b (book ++ command ∷ []) book)
 IsBook-after book command h shape true new = IsBook-entered book command h shape (is_new-New (judge book command) new)

@@ -11,7 +11,8 @@ use Rattle.mx_book.specs.declared.verdict.Verdict.TheVariants.{New, Already, Ref
 use Rattle.mx_book.specs.Life.{life_at, life_now, airframe_clock}
 use Rattle.mx_book.specs.Judge.{judge}
 use Rattle.mx_book.specs.Book.{is_book, entry_at}
-use Rattle.mx_book.specs.Run.{answers, book_run, Accepted, Known, Declined}
+use Rattle.mx_book.specs.declared.verdict.Reply.TheVariants.{Accepted, Already as AlreadyEntered, Refused as NotEntered}
+use Rattle.mx_book.specs.Run.{replies, book_run}
 use Rattle.mx_book.specs.Lists.{life_list}
 
 -- a moment: a day from 1970, hours and minutes; 2024-01-01 is day 19,723
@@ -53,8 +54,8 @@ first_sector-shape : has_shape (first_sector 1) ≡ true
 unfolding digits
 first_sector-shape = refl
 
-first_two-answers : answers [] first_two ≡ Accepted 1 ∷ Accepted 2 ∷ []
-first_two-answers = refl
+first_two-replies : replies [] first_two ≡ Accepted 1 ∷ Accepted 2 ∷ []
+first_two-replies = refl
 
 first_two-book : is_book first_two ≡ true
 first_two-book = refl
@@ -70,8 +71,8 @@ other_cycles = refl
 run_again : book_run [] (a1 ∷ first_sector 1 ∷ first_sector 1 ∷ []) ≡ first_two
 run_again = refl
 
-run_again-answers : answers [] (a1 ∷ first_sector 1 ∷ first_sector 1 ∷ first_sector 2 ∷ []) ≡ Accepted 1 ∷ Accepted 2 ∷ Known 2 ∷ Declined (Conflict 2) ∷ []
-run_again-answers = refl
+run_again-replies : replies [] (a1 ∷ first_sector 1 ∷ first_sector 1 ∷ first_sector 2 ∷ []) ≡ Accepted 1 ∷ Accepted 2 ∷ AlreadyEntered 2 ∷ NotEntered (Conflict 2) ∷ []
+run_again-replies = refl
 
 -- 90 minutes and one cycle more, from the landing on
 life_after : life_now first_two (Airframe abcd) ≡ Some (used 60090 801)

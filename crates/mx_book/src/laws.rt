@@ -8,7 +8,7 @@ ghost use Rattle.mx_command.specs.declared.item.Item.TheVariants.{Airframe};
 ghost use Rattle.mx_book.specs.Life.{life_now};
 ghost use Rattle.mx_book.specs.Judge.{judge};
 ghost use Rattle.mx_book.specs.Book.{IsBook};
-ghost use Rattle.mx_book.specs.Run.{answers, book_after, book_run};
+ghost use Rattle.mx_book.specs.Run.{book_after, book_run, replies};
 
 use crate::verdict::Verdict;
 
@@ -31,7 +31,7 @@ pub fn life_never_falls()
 /// A run over two lists joined is the run over the first and then over the second.
 pub fn runs_join()
     ensures book { (book commands more : List Entry) → book_run book (commands ++ more) ≡ book_run (book_run book commands) more }
-    ensures answers { (book commands more : List Entry) → answers book (commands ++ more) ≡ answers book commands ++ answers (book_run book commands) more }
+    ensures replies { (book commands more : List Entry) → replies book (commands ++ more) ≡ replies book commands ++ replies (book_run book commands) more }
 {}
 
 /// A run over commands, each of its shape, makes a book of a book.

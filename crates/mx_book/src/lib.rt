@@ -12,4 +12,4 @@ pub mod verdict;
 
 pub use book::{Book, NoMemory};
 pub use life_list::LifeList;
-pub use verdict::{Refusal, Verdict};
+pub use verdict::{Refusal, Reply, Verdict};

@@ -1,4 +1,4 @@
-//! The verdict on a command, and why one is refused.
+//! The verdict on a command, why one is refused, and what is replied.
 ghost use Rattle.std.specs.Prelude.{◌≡◌};
 
 use mx_base::Moment;
@@ -43,5 +43,16 @@ pub enum Verdict {
     /// The entry with this number has its document and equal contents.
     Already(u32),
     /// It may not be entered.
+    Refused(Refusal),
+}
+
+/// What is answered to a command that was handed in.
+#[derive(Clone, Copy, Debug, PartialEq, Eq)]
+pub enum Reply {
+    /// It was accepted, and is the entry with this number.
+    Accepted(u32),
+    /// The entry with this number has its document and equal contents; nothing changed.
+    Already(u32),
+    /// It was refused; nothing changed.
     Refused(Refusal),
 }

@@ -13,6 +13,8 @@ mod identifiers;
 #[cfg(test)]
 mod printers;
 #[cfg(test)]
+mod reports;
+#[cfg(test)]
 mod samples;
 #[cfg(test)]
 mod want_of_memory;

@@ -1,10 +1,11 @@
 //! What is left where memory runs out. These tests pass whichever allocation fails:
 //! `scripts/fail-allocations.sh` runs them with each one failing in turn.
 
-use crate::samples::{aircraft, doc, first_two, sector, sector_body, tail};
+use crate::samples::{aircraft, doc, first_two, moment, sector, sector_body, tail};
 use mx_base::{Day, Moment, print_day, print_day_number, print_hours, print_moment};
-use mx_book::Verdict;
+use mx_book::{Refusal, Reply, Verdict};
 use mx_command::{Command, Item, MakeFault};
+use mx_reports::{life_text, reply_text};
 use mx_words::run_words;
 use std::alloc::{AllocError, Global};
 use std::process::Abort;
@@ -137,6 +138,27 @@ fn a_book_enters_a_command_or_is_as_it_was(rt: HostRuntime) -> Result<(), Fail> 
     assert_eq!(rt; life.map(|life| life.cycles), Some(cycles));
     if let Ok(list) = book.life_list(rt.alloc(), &tail("D-ABCD")?) {
         assert_eq!(rt; list.map(|list| list.life), life);
+    }
+    Ok(())
+}
+
+#[test]
+fn texts_are_whole_or_nothing(rt: HostRuntime) -> Result<(), Fail> {
+    let clock = moment("2024-03-01T09:30")?;
+    if let Ok(mut out) = Vec::from_slice(rt.alloc(), b"=") {
+        let printed = reply_text(&mut out, &Reply::Refused(Refusal::OutOfOrder(clock)));
+        is_printed_or_unchanged(&rt, &out, printed, b"=", b"refused 41 2024-03-01T09:30\n");
+    }
+    let Ok(book) = first_two(rt.alloc()) else {
+        return Ok(());
+    };
+    let Ok(Some(list)) = book.life_list(rt.alloc(), &tail("D-ABCD")?) else {
+        return Ok(());
+    };
+    if let Ok(mut out) = Vec::from_slice(rt.alloc(), b"=") {
+        let printed = life_text(&mut out, &list);
+        let text = b"life D-ABCD\nairframe C172 1001:30 801\nend 1\n";
+        is_printed_or_unchanged(&rt, &out, printed, b"=", text);
     }
     Ok(())
 }

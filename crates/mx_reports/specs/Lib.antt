@@ -1,0 +1,3 @@
+pub mod LifeText
+pub mod ReplyText
+pub mod Words

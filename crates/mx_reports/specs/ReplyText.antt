@@ -1,0 +1,28 @@
+-- The text of a reply.
+use Rattle.std.specs.Prelude.{ℕ, List, [], ◌∷◌, ◌++◌, codes}
+use Rattle.std.specs.Fmt.{decimal}
+use Rattle.mx_base.specs.Texts.{moment_text}
+use Rattle.mx_book.specs.declared.verdict.Refusal.{Refusal}
+use Rattle.mx_book.specs.declared.verdict.Refusal.TheVariants.{Conflict, Full, UnknownAircraft, AircraftExists, OutOfOrder}
+use Rattle.mx_book.specs.declared.verdict.Reply.{Reply}
+use Rattle.mx_book.specs.declared.verdict.Reply.TheVariants.{Accepted, Already, Refused}
+use Rattle.mx_book.specs.Judge.{refusal_number}
+use Rattle.mx_reports.specs.Words.{spaced}
+
+-- what a refusal carries beside its number: the number of an entry, or a moment
+abbrev pub carried_words : Refusal → List ℕ
+carried_words (Conflict seq) = spaced (decimal seq)
+carried_words (OutOfOrder clock) = spaced (moment_text clock)
+carried_words Full = []
+carried_words UnknownAircraft = []
+carried_words AircraftExists = []
+
+-- the number of a refusal, and what it carries
+abbrev pub refusal_words : Refusal → List ℕ
+refusal_words refusal = spaced (decimal (refusal_number refusal)) ++ carried_words refusal
+
+-- accepted SEQ; already SEQ; refused NUMBER and what it carries
+abbrev pub reply_line : Reply → List ℕ
+reply_line (Accepted seq) = (codes "accepted" ++ spaced (decimal seq)) ++ 10 ∷ []
+reply_line (Already seq) = (codes "already" ++ spaced (decimal seq)) ++ 10 ∷ []
+reply_line (Refused refusal) = (codes "refused" ++ refusal_words refusal) ++ 10 ∷ []

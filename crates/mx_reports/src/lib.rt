@@ -1,0 +1,10 @@
+//! Replies and lists as exact text. Each printer appends exact bytes to a vector, or leaves its items as they
+//! were where memory runs out.
+#![tactic(auto)]
+
+pub mod life;
+pub mod reply;
+mod words;
+
+pub use life::life_text;
+pub use reply::reply_text;

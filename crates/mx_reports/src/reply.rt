@@ -1,0 +1,67 @@
+//! The text of a reply.
+ghost use Rattle.std.specs.Prelude.{◌≡◌, ◌++◌, [], ◌∷◌, codes, OnOk, OnErr};
+ghost use Rattle.std.specs.Fmt.{decimal};
+ghost use Rattle.mx_reports.specs.Words.{spaced, StartsWith};
+ghost use Rattle.mx_reports.specs.ReplyText.{refusal_words, carried_words, reply_line};
+
+use crate::words::{append_moment, append_number};
+use mx_book::{Refusal, Reply};
+use std::alloc::AllocError;
+
+// What a refusal carries beside its number.
+fn append_carried(out: &mut Vec<u8>, refusal: &Refusal) -> Result<(), AllocError>
+    ensures words { OnOk result (out.new.items ≡ out.old.items ++ carried_words refusal.now) }
+    ensures kept { OnErr result (StartsWith out.old.items out.new.items) }
+{
+    match refusal {
+        Refusal::Conflict(seq) => append_number(out, *seq as usize),
+        Refusal::OutOfOrder(clock) => append_moment(out, *clock),
+        Refusal::Full | Refusal::UnknownAircraft | Refusal::AircraftExists => Ok(()),
+    }
+}
+
+#[tactic(auto, using(crate::proofs::StartsLemmas::starts_further))]
+fn append_refusal(out: &mut Vec<u8>, refusal: &Refusal) -> Result<(), AllocError>
+    ensures words { OnOk result (out.new.items ≡ out.old.items ++ (codes "refused" ++ refusal_words refusal.now)) }
+    ensures kept { OnErr result (StartsWith out.old.items out.new.items) }
+{
+    out.extend_from_slice(b"refused")?;
+    append_number(out, refusal.number() as usize)?;
+    append_carried(out, refusal)
+}
+
+#[tactic(auto, using(crate::proofs::StartsLemmas::starts_further))]
+fn append_entered(out: &mut Vec<u8>, word: &[u8], seq: u32) -> Result<(), AllocError>
+    ensures words { OnOk result (out.new.items ≡ out.old.items ++ (word.now ++ spaced (decimal seq))) }
+    ensures kept { OnErr result (StartsWith out.old.items out.new.items) }
+{
+    out.extend_from_slice(word)?;
+    append_number(out, seq as usize)
+}
+
+#[tactic(auto, using(crate::proofs::StartsLemmas::starts_further))]
+fn append_line(out: &mut Vec<u8>, reply: &Reply) -> Result<(), AllocError>
+    ensures words { OnOk result (out.new.items ≡ out.old.items ++ reply_line reply.now) }
+    ensures kept { OnErr result (StartsWith out.old.items out.new.items) }
+{
+    match reply {
+        Reply::Accepted(seq) => append_entered(out, b"accepted", *seq)?,
+        Reply::Already(seq) => append_entered(out, b"already", *seq)?,
+        Reply::Refused(refusal) => append_refusal(out, refusal)?,
+    }
+    out.extend_from_slice(b"\n")
+}
+
+/// Appends the line of a reply: `accepted SEQ`, `already SEQ`, or `refused NUMBER` and what the refusal
+/// carries, the number of an entry or a moment.
+pub fn reply_text(out: &mut Vec<u8>, reply: &Reply) -> Result<(), AllocError>
+    ensures printed { OnOk result (out.new.items ≡ out.old.items ++ reply_line reply.now) }
+    ensures unchanged { OnErr result (out.new.items ≡ out.old.items) }
+{
+    let len = out.len();
+    let done = append_line(out, reply);
+    if done.is_err() {
+        out.truncate(len);
+    }
+    done
+}

@@ -1,0 +1,63 @@
+//! Words and line ends, appended. Where memory runs out, what was there before is there still, with some words
+//! behind it.
+ghost use Rattle.std.specs.Prelude.{◌≡◌, ◌++◌, [], ◌∷◌, OnOk, OnErr};
+ghost use Rattle.std.specs.Fmt.{decimal};
+ghost use Rattle.mx_base.specs.Texts.{hours_text, moment_text};
+ghost use Rattle.mx_reports.specs.Words.{spaced, use_words, end_line, StartsWith};
+
+use itoa::Buffer;
+use mx_base::{Moment, Use, print_hours, print_moment};
+use std::alloc::AllocError;
+
+pub(crate) fn append_word(out: &mut Vec<u8>, word: &[u8]) -> Result<(), AllocError>
+    ensures words { OnOk result (out.new.items ≡ out.old.items ++ spaced word.now) }
+    ensures kept { OnErr result (StartsWith out.old.items out.new.items) }
+{
+    out.push(b' ')?;
+    out.extend_from_slice(word)
+}
+
+pub(crate) fn append_number(out: &mut Vec<u8>, number: usize) -> Result<(), AllocError>
+    ensures words { OnOk result (out.new.items ≡ out.old.items ++ spaced (decimal number)) }
+    ensures kept { OnErr result (StartsWith out.old.items out.new.items) }
+{
+    let mut buffer = Buffer::new();
+    append_word(out, buffer.format(number).as_bytes())
+}
+
+#[tactic(auto, using(crate::proofs::StartsLemmas::starts_further))]
+pub(crate) fn append_moment(out: &mut Vec<u8>, moment: Moment) -> Result<(), AllocError>
+    ensures words { OnOk result (out.new.items ≡ out.old.items ++ spaced (moment_text moment)) }
+    ensures kept { OnErr result (StartsWith out.old.items out.new.items) }
+{
+    out.push(b' ')?;
+    print_moment(out, moment)
+}
+
+#[tactic(auto, using(crate::proofs::StartsLemmas::starts_further))]
+fn append_hours(out: &mut Vec<u8>, minutes: i64) -> Result<(), AllocError>
+    ensures words { OnOk result (out.new.items ≡ out.old.items ++ spaced (hours_text minutes)) }
+    ensures kept { OnErr result (StartsWith out.old.items out.new.items) }
+{
+    out.push(b' ')?;
+    print_hours(out, minutes)
+}
+
+#[tactic(auto, using(crate::proofs::StartsLemmas::starts_further))]
+pub(crate) fn append_use(out: &mut Vec<u8>, life: &Use) -> Result<(), AllocError>
+    ensures words { OnOk result (out.new.items ≡ out.old.items ++ use_words life.now) }
+    ensures kept { OnErr result (StartsWith out.old.items out.new.items) }
+{
+    append_hours(out, i64::from(life.minutes))?;
+    append_number(out, life.cycles as usize)
+}
+
+#[tactic(auto, using(crate::proofs::StartsLemmas::starts_further))]
+pub(crate) fn append_end(out: &mut Vec<u8>, rows: usize) -> Result<(), AllocError>
+    ensures words { OnOk result (out.new.items ≡ out.old.items ++ end_line rows) }
+    ensures kept { OnErr result (StartsWith out.old.items out.new.items) }
+{
+    out.extend_from_slice(b"end")?;
+    append_number(out, rows)?;
+    out.extend_from_slice(b"\n")
+}

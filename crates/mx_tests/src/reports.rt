@@ -1,0 +1,39 @@
+//! Replies and life lists as text.
+
+use crate::samples::{first_two, moment, tail};
+use mx_book::{Refusal, Reply};
+use mx_reports::{life_text, reply_text};
+use std::test::Fail;
+
+#[test]
+fn replies_are_printed(rt: HostRuntime) -> Result<(), Fail> {
+    for (reply, text) in [
+        (Reply::Accepted(1), "accepted 1\n"),
+        (Reply::Already(4), "already 4\n"),
+        (Reply::Refused(Refusal::Conflict(4)), "refused 10 4\n"),
+        (Reply::Refused(Refusal::Full), "refused 11\n"),
+        (Reply::Refused(Refusal::UnknownAircraft), "refused 20\n"),
+        (Reply::Refused(Refusal::AircraftExists), "refused 30\n"),
+        (
+            Reply::Refused(Refusal::OutOfOrder(moment("2024-03-01T09:30")?)),
+            "refused 41 2024-03-01T09:30\n",
+        ),
+    ] {
+        let mut out = Vec::new(rt.alloc());
+        reply_text(&mut out, &reply)?;
+        assert_eq!(rt; out.as_slice(), text.as_bytes());
+    }
+    Ok(())
+}
+
+#[test]
+fn a_life_list_is_printed(rt: HostRuntime) -> Result<(), Fail> {
+    let book = first_two(rt.alloc())?;
+    let list = book.life_list(rt.alloc(), &tail("D-ABCD")?);
+    let list = list.or(Err("no memory"))?.ok_or("no list")?;
+    let mut out = Vec::new(rt.alloc());
+    life_text(&mut out, &list)?;
+    let text = "life D-ABCD\nairframe C172 1001:30 801\nend 1\n";
+    assert_eq!(rt; out.as_slice(), text.as_bytes());
+    Ok(())
+}
