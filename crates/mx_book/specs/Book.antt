@@ -1,5 +1,5 @@
 -- Which lists of entries are books.
-use Rattle.std.specs.Prelude.{◌≡◌, ◌≤◌, ℕ, zero, suc, length, List, [], ◌∷◌, ◌++◌, Bool, true, false, ◌&&◌, Option, None, slice_get}
+use Rattle.std.specs.Prelude.{◌≡◌, ◌≤◌, ℕ, zero, suc, length, List, [], ◌∷◌, ◌++◌, Bool, true, false, ◌&&◌, Option, None, slice_get, take, drop}
 use Rattle.std.specs.List.{list_all}
 use Rattle.mx_command.specs.Act.{Entry}
 use Rattle.mx_command.specs.Shape.{has_shape}
@@ -31,3 +31,8 @@ pub record IsBook (book : List Entry) : Type 0 where
 abbrev pub entry_at : List Entry → ℕ → Option Entry
 entry_at book zero = None
 entry_at book (suc k) = slice_get book k
+
+-- the first entries, at most so many, of those with at least this number
+abbrev pub entries_from : ℕ → ℕ → List Entry → List Entry
+entries_from zero at_most book = take at_most book
+entries_from (suc before) at_most book = take at_most (drop before book)

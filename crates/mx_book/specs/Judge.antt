@@ -5,7 +5,7 @@ use Rattle.std.specs.Option.{option_map}
 use Rattle.mx_command.specs.Act.{Act, Entry, Added, Flown, aircraft_of}
 use Rattle.mx_command.specs.Same.{same_text, same_entry}
 use Rattle.mx_book.specs.declared.verdict.Refusal.{Refusal}
-use Rattle.mx_book.specs.declared.verdict.Refusal.TheVariants.{Conflict, Full, UnknownAircraft, AircraftExists, OutOfOrder}
+use Rattle.mx_book.specs.declared.verdict.Refusal.TheVariants.{Conflict, Full, UnknownAircraft, UnknownComponent, AircraftExists, OutOfOrder}
 use Rattle.mx_book.specs.declared.verdict.Verdict.{Verdict}
 use Rattle.mx_book.specs.declared.verdict.Verdict.TheVariants.{New, Already, Refused}
 use Rattle.mx_book.specs.Register.{register, aircraft}
@@ -16,6 +16,7 @@ abbrev pub refusal_number : Refusal → ℕ
 refusal_number (Conflict seq) = 10
 refusal_number Full = 11
 refusal_number UnknownAircraft = 20
+refusal_number UnknownComponent = 21
 refusal_number AircraftExists = 30
 refusal_number (OutOfOrder clock) = 41
 

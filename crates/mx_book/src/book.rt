@@ -4,7 +4,7 @@ ghost use Rattle.std.specs.Option.{option_copied};
 ghost use Rattle.mx_book.specs.Life.{life_now, life_at};
 ghost use Rattle.mx_book.specs.Lists.{life_list};
 ghost use Rattle.mx_book.specs.Judge.{judge};
-ghost use Rattle.mx_book.specs.Book.{entry_at, IsBook};
+ghost use Rattle.mx_book.specs.Book.{entry_at, entries_from, IsBook};
 
 use crate::judging::verdict_on;
 use crate::life_list::{LifeList, list_lives};
@@ -126,6 +126,14 @@ impl Book {
         Ok(list_lives(self.entries.as_slice(), tail))
     }
 
+    /// A copy of the first entries, at most `at_most`, of those whose number is at least `from`, in their order.
+    /// `NoMemory` where memory runs out.
+    pub fn entries(&self, alloc: Global, from: u32, at_most: u32) -> Result<Vec<Command>, NoMemory>
+        ensures { IfOk result (λ v. v.items ≡ entries_from from at_most self.now) }
+    {
+        Ok(copied(alloc, page(self.entries.as_slice(), from, at_most))?)
+    }
+
     /// The same book again. `NoMemory` where memory runs out.
     pub fn copy(&self, alloc: Global) -> Result<Book, NoMemory>
         ensures { IfOk result (λ b. b ≡ self.now) }
@@ -133,6 +141,15 @@ impl Book {
         let entries = copied(alloc, self.entries.as_slice())?;
         Ok(Book { entries })
     }
+}
+
+// The first entries, at most so many, of those with at least this number.
+fn page(entries: &[Command], from: u32, at_most: u32) -> &[Command]
+    ensures { result.now ≡ entries_from from at_most entries.now }
+{
+    let before = entries.len().min(from.saturating_sub(1) as usize);
+    let rest = &entries[before..];
+    &rest[..rest.len().min(at_most as usize)]
 }
 
 fn copied(alloc: Global, entries: &[Command]) -> Result<Vec<Command>, AllocError>

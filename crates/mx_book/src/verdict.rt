@@ -12,6 +12,8 @@ pub enum Refusal {
     Full,
     /// No aircraft has a registration that the command names.
     UnknownAircraft,
+    /// No component has the serial number that was asked for.
+    UnknownComponent,
     /// An aircraft has the registration already.
     AircraftExists,
     /// A sector takes off before the clock of its airframe: that clock.
@@ -29,6 +31,7 @@ impl Refusal {
             Refusal::Conflict(_) => 10,
             Refusal::Full => 11,
             Refusal::UnknownAircraft => 20,
+            Refusal::UnknownComponent => 21,
             Refusal::AircraftExists => 30,
             Refusal::OutOfOrder(_) => 41,
         }

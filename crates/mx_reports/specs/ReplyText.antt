@@ -3,7 +3,7 @@ use Rattle.std.specs.Prelude.{ℕ, List, [], ◌∷◌, ◌++◌, codes}
 use Rattle.std.specs.Fmt.{decimal}
 use Rattle.mx_base.specs.Texts.{moment_text}
 use Rattle.mx_book.specs.declared.verdict.Refusal.{Refusal}
-use Rattle.mx_book.specs.declared.verdict.Refusal.TheVariants.{Conflict, Full, UnknownAircraft, AircraftExists, OutOfOrder}
+use Rattle.mx_book.specs.declared.verdict.Refusal.TheVariants.{Conflict, Full, UnknownAircraft, UnknownComponent, AircraftExists, OutOfOrder}
 use Rattle.mx_book.specs.declared.verdict.Reply.{Reply}
 use Rattle.mx_book.specs.declared.verdict.Reply.TheVariants.{Accepted, Already, Refused}
 use Rattle.mx_book.specs.Judge.{refusal_number}
@@ -15,6 +15,7 @@ carried_words (Conflict seq) = spaced (decimal seq)
 carried_words (OutOfOrder clock) = spaced (moment_text clock)
 carried_words Full = []
 carried_words UnknownAircraft = []
+carried_words UnknownComponent = []
 carried_words AircraftExists = []
 
 -- the number of a refusal, and what it carries

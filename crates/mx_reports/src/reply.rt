@@ -16,7 +16,10 @@ fn append_carried(out: &mut Vec<u8>, refusal: &Refusal) -> Result<(), AllocError
     match refusal {
         Refusal::Conflict(seq) => append_number(out, *seq as usize),
         Refusal::OutOfOrder(clock) => append_moment(out, *clock),
-        Refusal::Full | Refusal::UnknownAircraft | Refusal::AircraftExists => Ok(()),
+        Refusal::Full
+        | Refusal::UnknownAircraft
+        | Refusal::UnknownComponent
+        | Refusal::AircraftExists => Ok(()),
     }
 }
 

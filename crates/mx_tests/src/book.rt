@@ -111,6 +111,7 @@ fn refusals_have_their_numbers(rt: HostRuntime) -> Result<(), Fail> {
         (Refusal::Conflict(4), 10),
         (Refusal::Full, 11),
         (Refusal::UnknownAircraft, 20),
+        (Refusal::UnknownComponent, 21),
         (Refusal::AircraftExists, 30),
         (Refusal::OutOfOrder(moment("2024-03-01T09:30")?), 41),
     ] {

@@ -13,6 +13,7 @@ fn replies_are_printed(rt: HostRuntime) -> Result<(), Fail> {
         (Reply::Refused(Refusal::Conflict(4)), "refused 10 4\n"),
         (Reply::Refused(Refusal::Full), "refused 11\n"),
         (Reply::Refused(Refusal::UnknownAircraft), "refused 20\n"),
+        (Reply::Refused(Refusal::UnknownComponent), "refused 21\n"),
         (Reply::Refused(Refusal::AircraftExists), "refused 30\n"),
         (
             Reply::Refused(Refusal::OutOfOrder(moment("2024-03-01T09:30")?)),

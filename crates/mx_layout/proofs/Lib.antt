@@ -1,0 +1,11 @@
+pub mod CrashLemmas
+pub mod CreateLemmas
+pub mod CreateTextLemmas
+pub mod FillLemmas
+pub mod InsideLemmas
+pub mod PointLemmas
+pub mod ProbeLemmas
+pub mod QueryLemmas
+pub mod ReadLemmas
+pub mod RowLemmas
+pub mod WriteLemmas

@@ -1,0 +1,47 @@
+-- The texts that make the tables of layout 1.
+use Rattle.std.specs.Prelude.{ℕ, List, codes}
+
+abbrev pub office_text : List ℕ
+office_text = codes "CREATE TABLE office (id INTEGER PRIMARY KEY CHECK (id = 1), layout INTEGER NOT NULL, step INTEGER NOT NULL, mark INTEGER NOT NULL) STRICT"
+
+abbrev pub entry_text : List ℕ
+entry_text = codes "CREATE TABLE entry (seq INTEGER PRIMARY KEY, doc TEXT NOT NULL UNIQUE, kind INTEGER NOT NULL) STRICT"
+
+abbrev pub aircraft_text : List ℕ
+aircraft_text = codes "CREATE TABLE aircraft (seq INTEGER PRIMARY KEY, tail TEXT NOT NULL UNIQUE, kind TEXT NOT NULL, birth INTEGER NOT NULL, minutes INTEGER NOT NULL, cycles INTEGER NOT NULL, as_of INTEGER NOT NULL) STRICT"
+
+abbrev pub place_text : List ℕ
+place_text = codes "CREATE TABLE place (seq INTEGER NOT NULL, line INTEGER NOT NULL, position TEXT NOT NULL, part TEXT NOT NULL, PRIMARY KEY (seq, line)) STRICT"
+
+abbrev pub component_text : List ℕ
+component_text = codes "CREATE TABLE component (seq INTEGER PRIMARY KEY, serial TEXT NOT NULL UNIQUE, part TEXT NOT NULL, birth INTEGER NOT NULL, minutes INTEGER NOT NULL, cycles INTEGER NOT NULL, as_of INTEGER NOT NULL) STRICT"
+
+abbrev pub programme_text : List ℕ
+programme_text = codes "CREATE TABLE programme (seq INTEGER PRIMARY KEY, kind TEXT NOT NULL, revision INTEGER NOT NULL) STRICT"
+
+abbrev pub task_text : List ℕ
+task_text = codes "CREATE TABLE task (seq INTEGER NOT NULL, line INTEGER NOT NULL, id TEXT NOT NULL, part TEXT, retire INTEGER NOT NULL, first_m INTEGER, first_c INTEGER, first_d INTEGER, rep_m INTEGER, rep_c INTEGER, rep_d INTEGER, tol_m INTEGER NOT NULL, tol_c INTEGER NOT NULL, tol_d INTEGER NOT NULL, PRIMARY KEY (seq, line)) STRICT"
+
+abbrev pub opening_text : List ℕ
+opening_text = codes "CREATE TABLE opening (seq INTEGER PRIMARY KEY, item INTEGER NOT NULL, kind TEXT NOT NULL, task TEXT NOT NULL, minutes INTEGER NOT NULL, cycles INTEGER NOT NULL, day INTEGER NOT NULL) STRICT"
+
+abbrev pub crs_text : List ℕ
+crs_text = codes "CREATE TABLE crs (seq INTEGER PRIMARY KEY, item INTEGER NOT NULL, kind TEXT, moment INTEGER NOT NULL) STRICT"
+
+abbrev pub crs_line_text : List ℕ
+crs_line_text = codes "CREATE TABLE crs_line (seq INTEGER NOT NULL, line INTEGER NOT NULL, item INTEGER, task TEXT, defect INTEGER, PRIMARY KEY (seq, line)) STRICT"
+
+abbrev pub extension_text : List ℕ
+extension_text = codes "CREATE TABLE extension (seq INTEGER PRIMARY KEY, defect INTEGER NOT NULL, day INTEGER NOT NULL, days INTEGER NOT NULL) STRICT"
+
+abbrev pub defect_text : List ℕ
+defect_text = codes "CREATE TABLE defect (seq INTEGER PRIMARY KEY, aircraft INTEGER NOT NULL, moment INTEGER NOT NULL, reference TEXT NOT NULL, category INTEGER NOT NULL, days INTEGER) STRICT"
+
+abbrev pub sector1_text : List ℕ
+sector1_text = codes "CREATE TABLE sector1 (seq INTEGER PRIMARY KEY, aircraft INTEGER NOT NULL, page INTEGER NOT NULL, line INTEGER NOT NULL, took_off TEXT NOT NULL, landed TEXT NOT NULL, cycles INTEGER NOT NULL) STRICT"
+
+abbrev pub fit1_text : List ℕ
+fit1_text = codes "CREATE TABLE fit1 (seq INTEGER PRIMARY KEY, component INTEGER NOT NULL, aircraft INTEGER NOT NULL, position TEXT NOT NULL, moment TEXT NOT NULL) STRICT"
+
+abbrev pub removal1_text : List ℕ
+removal1_text = codes "CREATE TABLE removal1 (seq INTEGER PRIMARY KEY, component INTEGER NOT NULL, moment TEXT NOT NULL) STRICT"

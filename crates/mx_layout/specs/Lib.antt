@@ -1,0 +1,9 @@
+pub mod Contents
+pub mod CreateTexts
+pub mod Crash
+pub mod Making
+pub mod Point
+pub mod Reading
+pub mod Tables
+pub mod Writing
+pub mod Names

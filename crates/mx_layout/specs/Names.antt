@@ -1,0 +1,22 @@
+-- The names of the tables.
+use Rattle.std.specs.Prelude.{ℕ, List, codes}
+use Rattle.mx_layout.specs.declared.fault.Table.{Table}
+use Rattle.mx_layout.specs.declared.fault.Table.TheVariants.{Office, Entry, Aircraft, Place, Component, Programme, Task, Opening, Crs, CrsLine, Extension, Defect, Sector1, Fit1, Removal1}
+
+-- the name of a table in the file
+abbrev pub table_name : Table → List ℕ
+table_name Office = codes "office"
+table_name Entry = codes "entry"
+table_name Aircraft = codes "aircraft"
+table_name Place = codes "place"
+table_name Component = codes "component"
+table_name Programme = codes "programme"
+table_name Task = codes "task"
+table_name Opening = codes "opening"
+table_name Crs = codes "crs"
+table_name CrsLine = codes "crs_line"
+table_name Extension = codes "extension"
+table_name Defect = codes "defect"
+table_name Sector1 = codes "sector1"
+table_name Fit1 = codes "fit1"
+table_name Removal1 = codes "removal1"

@@ -1,0 +1,29 @@
+-- What a query over a whole table answers.
+use Rattle.std.specs.Prelude.{◌≡◌, ℕ, List, length, map, All, Contains, IsPermutation, IsSorted, Option, MatchOption}
+use Rattle.std.specs.Ordering.{on}
+use Rattle.sqlite.specs.Order.{Row, column, value_cmp}
+use Rattle.sqlite.specs.Table.{Table}
+use Rattle.sqlite.specs.Tree.{Trees}
+use Rattle.sqlite.specs.State.{State, IsUnchanged}
+use Rattle.mx_layout.specs.Contents.{rows_in}
+
+-- exactly the rows of the table, in the order of the first column
+pub record AreAll (table : Table) (trees : Trees) (rows : List Row) : Type 0 where
+  pub all : IsPermutation (rows_in table trees) rows
+  pub sorted : IsSorted (on (λ r. column r 0) value_cmp) rows
+
+-- some row of the table is none of those
+abbrev pub HasOther : (Row → Type 0) → List Row → Type 0
+HasOther IsGood rows = (row : Row) × Contains rows row × ¬ IsGood row
+
+abbrev pub AreWide : ℕ → List Row → Type 0
+AreWide width = All (λ row. length row ≡ width)
+
+-- the row is that of some X that fits
+abbrev pub IsRowOf : {X : Type 0} → (X → Row) → (X → Type 0) → Row → Type 0
+IsRowOf {X} as_cells Fits row = (x : X) × Fits x × (row ≡ as_cells x)
+
+-- a register was read, or some row of its table is none, and nothing changed
+pub record Reads {X V : Type 0} (table : Table) (as_cells : X → Row) (Fits : X → Type 0) (old new : State) (read : Option V) (items : V → List X) : Type 0 where
+  pub same : IsUnchanged old new
+  pub found : MatchOption read (HasOther (IsRowOf as_cells Fits) (rows_in table old.now.trees)) (λ v. AreAll table old.now.trees (map as_cells (items v)))

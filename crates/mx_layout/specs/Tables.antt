@@ -1,0 +1,124 @@
+-- The tables of layout 1: their columns and keys, and the schema that they make.
+use Rattle.std.specs.Prelude.{◌≡◌, ℕ, pos, Bool, true, false, List, [], ◌∷◌, Some, None, codes}
+use Rattle.sqlite.specs.Collation.TheVariants.{Binary}
+use Rattle.sqlite.specs.declared.types.Value.TheVariants.{Null, Int}
+use Rattle.sqlite.specs.Table.{Table}
+use Rattle.sqlite.specs.Schema.{Schema}
+use Rattle.sqlite.specs.Kind.TheVariants.{Integer, Text}
+use Rattle.sqlite.specs.Term.{lit, col}
+use Rattle.sqlite_schema.specs.declared.schema.Column.{Column}
+use Rattle.sqlite_schema.specs.declared.schema.Index.{Index}
+use Rattle.sqlite_value.specs.Keys.{plain}
+use Rattle.sqlite_sql.specs.Term.{op2}
+use Rattle.sqlite_sql.specs.declared.ops.BinaryOp.TheVariants.{Compare}
+use Rattle.sqlite_sql.specs.declared.ops.CompareOp.TheVariants.{Eq}
+
+-- a column of whole numbers of a strict table
+abbrev pub integer : List ℕ → Bool → Column
+integer name not_null = record { name = name; kind = Integer; is_strict = true; not_null = not_null; default = Null; collation = Binary }
+
+-- a column of texts of a strict table
+abbrev pub text : List ℕ → Bool → Column
+text name not_null = record { name = name; kind = Text; is_strict = true; not_null = not_null; default = Null; collation = Binary }
+
+-- a table whose first column is the rowid
+abbrev pub keyed : List ℕ → ℕ → List Column → Table
+keyed name tree columns = record {
+  name = name;
+  tree = tree;
+  columns = columns;
+  key = Some 0;
+  primary = 0 ∷ [];
+  uniques = [];
+  orders = [];
+  checks = [];
+  references = [];
+  computed = [];
+  stamps = record { places = []; terms = []; formats = [] };
+  is_counted = false;
+}
+
+-- where the file stands: the one row of the point
+abbrev pub office : Table
+office = record (keyed (codes "office") 0 (integer (codes "id") false ∷ integer (codes "layout") true ∷ integer (codes "step") true ∷ integer (codes "mark") true ∷ [])) { checks = op2 (Compare Eq Binary) (col 1 0) (lit (Int (pos 1))) ∷ [] }
+
+-- every entry: its document and its kind
+abbrev pub entry : Table
+entry = record (keyed (codes "entry") 1 (integer (codes "seq") false ∷ text (codes "doc") true ∷ integer (codes "kind") true ∷ [])) { uniques = (2 ∷ []) ∷ []; orders = plain ∷ [] }
+
+-- an aircraft and its opening
+abbrev pub aircraft : Table
+aircraft = record (keyed (codes "aircraft") 3 (integer (codes "seq") false ∷ text (codes "tail") true ∷ text (codes "kind") true ∷ integer (codes "birth") true ∷ integer (codes "minutes") true ∷ integer (codes "cycles") true ∷ integer (codes "as_of") true ∷ [])) { uniques = (2 ∷ []) ∷ []; orders = plain ∷ [] }
+
+-- a position of an aircraft, and the part that it takes
+abbrev pub place : Table
+place = record (keyed (codes "place") 5 (integer (codes "seq") true ∷ integer (codes "line") true ∷ text (codes "position") true ∷ text (codes "part") true ∷ [])) { key = None; primary = 1 ∷ 2 ∷ []; uniques = (1 ∷ 2 ∷ []) ∷ []; orders = plain ∷ [] }
+
+-- a component and its opening
+abbrev pub component : Table
+component = record (keyed (codes "component") 7 (integer (codes "seq") false ∷ text (codes "serial") true ∷ text (codes "part") true ∷ integer (codes "birth") true ∷ integer (codes "minutes") true ∷ integer (codes "cycles") true ∷ integer (codes "as_of") true ∷ [])) { uniques = (2 ∷ []) ∷ []; orders = plain ∷ [] }
+
+-- a revision of a maintenance programme
+abbrev pub programme : Table
+programme = keyed (codes "programme") 9 (integer (codes "seq") false ∷ text (codes "kind") true ∷ integer (codes "revision") true ∷ [])
+
+-- a task of a programme
+abbrev pub task : Table
+task = record (keyed (codes "task") 10 (integer (codes "seq") true ∷ integer (codes "line") true ∷ text (codes "id") true ∷ text (codes "part") false ∷ integer (codes "retire") true ∷ integer (codes "first_m") false ∷ integer (codes "first_c") false ∷ integer (codes "first_d") false ∷ integer (codes "rep_m") false ∷ integer (codes "rep_c") false ∷ integer (codes "rep_d") false ∷ integer (codes "tol_m") true ∷ integer (codes "tol_c") true ∷ integer (codes "tol_d") true ∷ [])) { key = None; primary = 1 ∷ 2 ∷ []; uniques = (1 ∷ 2 ∷ []) ∷ []; orders = plain ∷ [] }
+
+-- an accomplishment before the records begin
+abbrev pub opening : Table
+opening = keyed (codes "opening") 12 (integer (codes "seq") false ∷ integer (codes "item") true ∷ text (codes "kind") true ∷ text (codes "task") true ∷ integer (codes "minutes") true ∷ integer (codes "cycles") true ∷ integer (codes "day") true ∷ [])
+
+-- a release to service
+abbrev pub crs : Table
+crs = keyed (codes "crs") 13 (integer (codes "seq") false ∷ integer (codes "item") true ∷ text (codes "kind") false ∷ integer (codes "moment") true ∷ [])
+
+-- a line of a release
+abbrev pub crs_line : Table
+crs_line = record (keyed (codes "crs_line") 14 (integer (codes "seq") true ∷ integer (codes "line") true ∷ integer (codes "item") false ∷ text (codes "task") false ∷ integer (codes "defect") false ∷ [])) { key = None; primary = 1 ∷ 2 ∷ []; uniques = (1 ∷ 2 ∷ []) ∷ []; orders = plain ∷ [] }
+
+-- an extension of a rectification interval
+abbrev pub extension : Table
+extension = keyed (codes "extension") 16 (integer (codes "seq") false ∷ integer (codes "defect") true ∷ integer (codes "day") true ∷ integer (codes "days") true ∷ [])
+
+-- a deferred defect
+abbrev pub defect : Table
+defect = keyed (codes "defect") 17 (integer (codes "seq") false ∷ integer (codes "aircraft") true ∷ integer (codes "moment") true ∷ text (codes "reference") true ∷ integer (codes "category") true ∷ integer (codes "days") false ∷ [])
+
+-- a sector, its moments as text
+abbrev pub sector1 : Table
+sector1 = keyed (codes "sector1") 18 (integer (codes "seq") false ∷ integer (codes "aircraft") true ∷ integer (codes "page") true ∷ integer (codes "line") true ∷ text (codes "took_off") true ∷ text (codes "landed") true ∷ integer (codes "cycles") true ∷ [])
+
+-- a fitting, its moment as text
+abbrev pub fit1 : Table
+fit1 = keyed (codes "fit1") 19 (integer (codes "seq") false ∷ integer (codes "component") true ∷ integer (codes "aircraft") true ∷ text (codes "position") true ∷ text (codes "moment") true ∷ [])
+
+-- a removal, its moment as text
+abbrev pub removal1 : Table
+removal1 = keyed (codes "removal1") 20 (integer (codes "seq") false ∷ integer (codes "component") true ∷ text (codes "moment") true ∷ [])
+
+-- the index that keeps one text or one compound key unique
+abbrev pub unique : List ℕ → ℕ → ℕ → List ℕ → Index
+unique name tree table columns = record { name = name; tree = tree; table = table; columns = columns; order = plain; is_unique = true }
+
+-- the schema of layout 1
+abbrev pub layout_1 : Schema
+layout_1 = record {
+  tables = office ∷ entry ∷ aircraft ∷ place ∷ component ∷ programme ∷ task ∷ opening ∷ crs ∷ crs_line ∷ extension ∷ defect ∷ sector1 ∷ fit1 ∷ removal1 ∷ [];
+  indexes = unique (codes "sqlite_autoindex_entry_1") 2 1 (2 ∷ [])
+      ∷ unique (codes "sqlite_autoindex_aircraft_1") 4 3 (2 ∷ [])
+      ∷ unique (codes "sqlite_autoindex_place_1") 6 5 (1 ∷ 2 ∷ [])
+      ∷ unique (codes "sqlite_autoindex_component_1") 8 7 (2 ∷ [])
+      ∷ unique (codes "sqlite_autoindex_task_1") 11 10 (1 ∷ 2 ∷ [])
+      ∷ unique (codes "sqlite_autoindex_crs_line_1") 15 14 (1 ∷ 2 ∷ []) ∷ [];
+  views = [];
+}
+
+-- no table at all
+abbrev pub no_schema : Schema
+no_schema = record { tables = []; indexes = []; views = [] }
+
+-- the first table of the schema is office, as at each layout and step
+abbrev pub HasOffice : Schema → Type 0
+HasOffice schema = (rest : List Table) × (schema.tables ≡ office ∷ rest)

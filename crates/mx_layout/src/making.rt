@@ -1,0 +1,177 @@
+//! Making the tables of an empty book, in one commit.
+
+ghost use Rattle.std.specs.Prelude.{◌≡◌, ◌≢◌, ◌⊎◌, ◌<◌, ◌≤◌, [], ◌∷◌, true, false, Some, slice_get, IsTrue, IfOk, IfErr, OnOk, IsErr};
+ghost use Rattle.sqlite.specs.State.{HasCleanDisk, IsUnchanged};
+ghost use Rattle.sqlite.specs.Held.{state};
+ghost use Rattle.sqlite_catalog.specs.Listing.{IsSound};
+ghost use Rattle.sqlite_trees.specs.View.{doubt};
+ghost use Rattle.mx_layout.specs.Crash.{Leaves, RestsAs, StaysInside, IsWithin, ChangesNothing};
+ghost use Rattle.mx_layout.specs.Making.{create_texts, IsBlank, IsEmptyBook};
+ghost use Rattle.mx_layout.specs.Point.{point_cells, IsStop};
+ghost use Rattle.mx_layout.specs.Tables.{layout_1, no_schema, office, HasOffice};
+ghost use Rattle.mx_layout.specs.Writing.{Gains};
+
+use crate::fault::{TableFault, fault_of};
+use crate::points::{Layout, Point};
+use sqlite::{Alter, Connection, Error, Transaction, params};
+
+/// The text that makes the table at this place of layout 1.
+fn create_text(at: u8) -> &'static str
+    requires { at < 15 }
+    ensures { slice_get create_texts at ≡ Some result.now }
+{
+    match at {
+        0 =>
+            "CREATE TABLE office (id INTEGER PRIMARY KEY CHECK (id = 1), layout INTEGER NOT NULL, step INTEGER NOT NULL, mark INTEGER NOT NULL) STRICT",
+        1 =>
+            "CREATE TABLE entry (seq INTEGER PRIMARY KEY, doc TEXT NOT NULL UNIQUE, kind INTEGER NOT NULL) STRICT",
+        2 =>
+            "CREATE TABLE aircraft (seq INTEGER PRIMARY KEY, tail TEXT NOT NULL UNIQUE, kind TEXT NOT NULL, birth INTEGER NOT NULL, minutes INTEGER NOT NULL, cycles INTEGER NOT NULL, as_of INTEGER NOT NULL) STRICT",
+        3 =>
+            "CREATE TABLE place (seq INTEGER NOT NULL, line INTEGER NOT NULL, position TEXT NOT NULL, part TEXT NOT NULL, PRIMARY KEY (seq, line)) STRICT",
+        4 =>
+            "CREATE TABLE component (seq INTEGER PRIMARY KEY, serial TEXT NOT NULL UNIQUE, part TEXT NOT NULL, birth INTEGER NOT NULL, minutes INTEGER NOT NULL, cycles INTEGER NOT NULL, as_of INTEGER NOT NULL) STRICT",
+        5 =>
+            "CREATE TABLE programme (seq INTEGER PRIMARY KEY, kind TEXT NOT NULL, revision INTEGER NOT NULL) STRICT",
+        6 =>
+            "CREATE TABLE task (seq INTEGER NOT NULL, line INTEGER NOT NULL, id TEXT NOT NULL, part TEXT, retire INTEGER NOT NULL, first_m INTEGER, first_c INTEGER, first_d INTEGER, rep_m INTEGER, rep_c INTEGER, rep_d INTEGER, tol_m INTEGER NOT NULL, tol_c INTEGER NOT NULL, tol_d INTEGER NOT NULL, PRIMARY KEY (seq, line)) STRICT",
+        7 =>
+            "CREATE TABLE opening (seq INTEGER PRIMARY KEY, item INTEGER NOT NULL, kind TEXT NOT NULL, task TEXT NOT NULL, minutes INTEGER NOT NULL, cycles INTEGER NOT NULL, day INTEGER NOT NULL) STRICT",
+        8 =>
+            "CREATE TABLE crs (seq INTEGER PRIMARY KEY, item INTEGER NOT NULL, kind TEXT, moment INTEGER NOT NULL) STRICT",
+        9 =>
+            "CREATE TABLE crs_line (seq INTEGER NOT NULL, line INTEGER NOT NULL, item INTEGER, task TEXT, defect INTEGER, PRIMARY KEY (seq, line)) STRICT",
+        10 =>
+            "CREATE TABLE extension (seq INTEGER PRIMARY KEY, defect INTEGER NOT NULL, day INTEGER NOT NULL, days INTEGER NOT NULL) STRICT",
+        11 =>
+            "CREATE TABLE defect (seq INTEGER PRIMARY KEY, aircraft INTEGER NOT NULL, moment INTEGER NOT NULL, reference TEXT NOT NULL, category INTEGER NOT NULL, days INTEGER) STRICT",
+        12 =>
+            "CREATE TABLE sector1 (seq INTEGER PRIMARY KEY, aircraft INTEGER NOT NULL, page INTEGER NOT NULL, line INTEGER NOT NULL, took_off TEXT NOT NULL, landed TEXT NOT NULL, cycles INTEGER NOT NULL) STRICT",
+        13 =>
+            "CREATE TABLE fit1 (seq INTEGER PRIMARY KEY, component INTEGER NOT NULL, aircraft INTEGER NOT NULL, position TEXT NOT NULL, moment TEXT NOT NULL) STRICT",
+        14 =>
+            "CREATE TABLE removal1 (seq INTEGER PRIMARY KEY, component INTEGER NOT NULL, moment TEXT NOT NULL) STRICT",
+        _ => "",
+    }
+}
+
+/// Makes the tables of layout 1 in the open transaction, one after another.
+fn make_tables<S: Alter>(tx: &mut Transaction<'_, S>) -> Result<(), Error>
+    ensures same_reference { tx.new.conn.ghost_name ≡ tx.old.conn.ghost_name }
+    ensures mode { HasCleanDisk (state S.Store tx.new.conn.now) → IsTrue (state S.Store tx.old.conn.now).in_transaction
+        → OnOk result (IsTrue (state S.Store tx.new.conn.now).in_transaction) }
+    ensures makes { HasCleanDisk (state S.Store tx.new.conn.now) → IsTrue (state S.Store tx.old.conn.now).in_transaction → IsBlank no_schema (state S.Store tx.old.conn.now).now
+        → OnOk result (IsBlank layout_1 (state S.Store tx.new.conn.now).now) }
+    ensures within { IsWithin (state S.Store tx.old.conn.now) (state S.Store tx.new.conn.now) }
+{
+    for at in 0..15 {
+        tx.execute(create_text(at), &[])?;
+    }
+    Ok(())
+}
+
+/// Adds the row of the point.
+fn insert_office<S: Alter>(tx: &mut Transaction<'_, S>, point: &Point) -> Result<usize, Error>
+    ensures same_reference { tx.new.conn.ghost_name ≡ tx.old.conn.ghost_name }
+    ensures inside { HasCleanDisk (state S.Store tx.new.conn.now) → IsTrue (state S.Store tx.old.conn.now).in_transaction
+        → OnOk result (StaysInside (state S.Store tx.old.conn.now) (state S.Store tx.new.conn.now)) }
+    ensures adds { HasCleanDisk (state S.Store tx.new.conn.now) → IsTrue (state S.Store tx.old.conn.now).in_transaction → (state S.Store tx.old.conn.now).now.schema ≡ layout_1
+        → OnOk result (Gains office (point_cells point.now) (state S.Store tx.old.conn.now).now (state S.Store tx.new.conn.now).now) }
+    ensures within { IsWithin (state S.Store tx.old.conn.now) (state S.Store tx.new.conn.now) }
+{
+    tx.execute(
+        "INSERT INTO office (id, layout, step, mark) VALUES (1, ?1, ?2, ?3)",
+        params![u32::from(point.layout), u32::from(point.step), point.mark],
+    )
+}
+
+/// Makes the tables of the layout and the row of its point in the open transaction.
+fn fill<S: Alter>(tx: &mut Transaction<'_, S>, layout: Layout) -> Result<(), Error>
+    requires { layout.0 ≡ 1 }
+    ensures same_reference { tx.new.conn.ghost_name ≡ tx.old.conn.ghost_name }
+    ensures inside { HasCleanDisk (state S.Store tx.new.conn.now) → IsTrue (state S.Store tx.old.conn.now).in_transaction
+        → OnOk result (StaysInside (state S.Store tx.old.conn.now) (state S.Store tx.new.conn.now)) }
+    ensures makes { HasCleanDisk (state S.Store tx.new.conn.now) → IsTrue (state S.Store tx.old.conn.now).in_transaction → IsBlank no_schema (state S.Store tx.old.conn.now).now
+        → OnOk result (((state S.Store tx.new.conn.now).now.schema ≡ layout_1) × IsEmptyBook (state S.Store tx.new.conn.now).now.trees) }
+    ensures within { IsWithin (state S.Store tx.old.conn.now) (state S.Store tx.new.conn.now) }
+{
+    make_tables(tx)?;
+    let point = Point {
+        layout: layout.0,
+        step: 0,
+        mark: 0,
+    };
+    insert_office(tx, &point)?;
+    Ok(())
+}
+
+/// Whether there is a table `office`.
+fn has_office<S: Alter>(tx: &mut Transaction<'_, S>) -> Result<bool, TableFault>
+    ensures same_reference { tx.new.conn.ghost_name ≡ tx.old.conn.ghost_name }
+    ensures absent { HasCleanDisk (state S.Store tx.new.conn.now)
+        → (IsTrue (state S.Store tx.old.conn.now).is_open → (state S.Store tx.old.conn.now).now.schema ≡ no_schema) → IfOk result (λ there. there ≡ false) }
+    ensures present { HasCleanDisk (state S.Store tx.new.conn.now)
+        → (IsTrue (state S.Store tx.old.conn.now).is_open → HasOffice (state S.Store tx.old.conn.now).now.schema) → IfOk result (λ there. IsTrue there) }
+    ensures unchanged { HasCleanDisk (state S.Store tx.new.conn.now)
+        → IfOk result (λ there. there ≡ false → IsUnchanged (state S.Store tx.old.conn.now) (state S.Store tx.new.conn.now)) }
+    ensures stopped { IfErr result IsStop }
+    ensures within { IsWithin (state S.Store tx.old.conn.now) (state S.Store tx.new.conn.now) }
+{
+    match tx.query_all("SELECT 1 FROM office LIMIT 1", &[]) {
+        Ok(_) => Ok(true),
+        Err(Error::SqlInputError(_)) => Ok(false),
+        Err(error) => Err(fault_of(error)),
+    }
+}
+
+/// Makes the tables of the layout and the row of its point, unless there is a table `office`.
+fn fill_new<S: Alter>(tx: &mut Transaction<'_, S>, layout: Layout) -> Result<(), TableFault>
+    requires { layout.0 ≡ 1 }
+    ensures same_reference { tx.new.conn.ghost_name ≡ tx.old.conn.ghost_name }
+    ensures inside { HasCleanDisk (state S.Store tx.new.conn.now) → IsTrue (state S.Store tx.old.conn.now).in_transaction
+        → OnOk result (StaysInside (state S.Store tx.old.conn.now) (state S.Store tx.new.conn.now)) }
+    ensures makes { HasCleanDisk (state S.Store tx.new.conn.now) → IsTrue (state S.Store tx.old.conn.now).in_transaction → IsBlank no_schema (state S.Store tx.old.conn.now).now
+        → OnOk result (((state S.Store tx.new.conn.now).now.schema ≡ layout_1) × IsEmptyBook (state S.Store tx.new.conn.now).now.trees) }
+    ensures not_here { HasCleanDisk (state S.Store tx.new.conn.now)
+        → (IsTrue (state S.Store tx.old.conn.now).is_open → (state S.Store tx.old.conn.now).now.schema ≡ no_schema) → result ≢ Err TableFault.Exists }
+    ensures taken { HasCleanDisk (state S.Store tx.new.conn.now)
+        → (IsTrue (state S.Store tx.old.conn.now).is_open → HasOffice (state S.Store tx.old.conn.now).now.schema) → IsErr result }
+    ensures faults { IfErr result (λ fault. IsStop fault ⊎ (fault ≡ TableFault.Exists)) }
+    ensures within { IsWithin (state S.Store tx.old.conn.now) (state S.Store tx.new.conn.now) }
+{
+    if has_office(tx)? {
+        return Err(TableFault::Exists);
+    }
+    match fill(tx, layout) {
+        Ok(()) => Ok(()),
+        Err(_) => Err(TableFault::Store),
+    }
+}
+
+/// Makes the tables of an empty book in this layout, in one commit. Whatever the answer is, a crash leaves no table or all of them.
+///
+/// # Errors
+/// `Exists` where there is a table `office` already, and `Memory` where memory ran out before the first table: then nothing changed.
+/// `Store` for each other error, also of the commit, which may have been made.
+pub fn create<S: Alter>(conn: &mut Connection<S>, layout: Layout) -> Result<(), TableFault>
+    requires idle { conn.old.in_transaction ≡ false }
+    requires built { layout.0 ≡ 1 }
+    ensures idle { conn.new.in_transaction ≡ false }
+    ensures clean { doubt (state S.Store conn.old).is_clean ≤ doubt (state S.Store conn.new).is_clean }
+    ensures made { RestsAs (state S.Store conn.old) no_schema (IsSound no_schema) → OnOk result (RestsAs (state S.Store conn.new) layout_1 IsEmptyBook) }
+    ensures crash { RestsAs (state S.Store conn.old) no_schema (IsSound no_schema) → Leaves (state S.Store conn.new) (λ db. IsSound no_schema db ⊎ IsEmptyBook db) }
+    ensures unchanged { IfErr result (λ fault. fault ≢ TableFault.Store → ChangesNothing (state S.Store conn.old) (state S.Store conn.new)) }
+    ensures not_here { RestsAs (state S.Store conn.old) no_schema (IsSound no_schema) → HasCleanDisk (state S.Store conn.new) → result ≢ Err TableFault.Exists }
+    ensures taken { HasCleanDisk (state S.Store conn.new) → (IsTrue (state S.Store conn.old).is_open → HasOffice (state S.Store conn.old).now.schema) → IsErr result }
+    ensures kept { (IsTrue (state S.Store conn.old).is_open → HasOffice (state S.Store conn.old).now.schema) → ChangesNothing (state S.Store conn.old) (state S.Store conn.new) }
+    ensures faults { IfErr result (λ fault. IsStop fault ⊎ (fault ≡ TableFault.Exists)) }
+{
+    let mut tx = conn.transaction();
+    if let Err(fault) = fill_new(&mut tx, layout) {
+        return Err(fault);
+    }
+    match tx.commit() {
+        Ok(()) => Ok(()),
+        Err(_) => Err(TableFault::Store),
+    }
+}

@@ -1,0 +1,120 @@
+//! Reading the point that a file is at.
+
+ghost use Rattle.std.specs.Prelude.{◌≡◌, ◌⊎◌, ◌<◌, ◌^◌, [], ◌∷◌, ℕ, pos, false, true, length, IsTrue, OnOk, MatchOption, MatchResult};
+ghost use Rattle.sqlite.specs.declared.types.Value.TheVariants.{Int};
+ghost use Rattle.sqlite.specs.Order.{column};
+ghost use Rattle.sqlite.specs.State.{HasCleanDisk, IsUnchanged};
+ghost use Rattle.sqlite.specs.Held.{state};
+ghost use Rattle.mx_layout.specs.Contents.{rows_in};
+ghost use Rattle.mx_layout.specs.Crash.{StaysInside, IsWithin, ChangesNothing};
+ghost use Rattle.mx_layout.specs.Point.{point_cells, FitsPoint, IsPoint, HoldsBelow, IsStop, IsNoPoint, HoldsPoint, ReadsPoint, ReadsExactly};
+ghost use Rattle.mx_layout.specs.Tables.{office, HasOffice};
+
+use crate::fault::{Table, TableFault, fault_of};
+use crate::points::Point;
+use sqlite::types::ValueRef;
+use sqlite::{Alter, Connection, Error, Row, Transaction};
+
+/// The number in a column, if it is one of 32 bits.
+fn number_at(row: &Row, at: usize) -> Option<u32>
+    requires { at < length row.now }
+    ensures { MatchOption result (¬ HoldsBelow (2 ^ 32) (column row.now at)) (λ n. (column row.now at ≡ Int (pos n)) × (n < 2 ^ 32)) }
+{
+    match row.get_ref(at) {
+        Ok(ValueRef::Int(number)) => match u32::try_from(number) {
+            Ok(number) => Some(number),
+            Err(_) => None,
+        },
+        _ => None,
+    }
+}
+
+/// The number in a column, if it is one of 8 bits.
+fn byte_at(row: &Row, at: usize) -> Option<u8>
+    requires { at < length row.now }
+    ensures { MatchOption result (¬ HoldsBelow (2 ^ 8) (column row.now at)) (λ n. (column row.now at ≡ Int (pos n)) × (n < 2 ^ 8)) }
+{
+    match row.get_ref(at) {
+        Ok(ValueRef::Int(number)) => match u8::try_from(number) {
+            Ok(number) => Some(number),
+            Err(_) => None,
+        },
+        _ => None,
+    }
+}
+
+/// The point that the values of a row are.
+fn point_of(row: &Row) -> Option<Point>
+    ensures { MatchOption result (¬ IsPoint row.now) (λ p. row.now ≡ point_cells p) }
+{
+    if row.column_count() != 4 {
+        return None;
+    }
+    if number_at(row, 0)? != 1 {
+        return None;
+    }
+    Some(Point {
+        layout: byte_at(row, 1)?,
+        step: byte_at(row, 2)?,
+        mark: number_at(row, 3)?,
+    })
+}
+
+/// The point that the rows of `office` are.
+fn only_point(found: &[Row]) -> Result<Point, TableFault>
+    ensures { MatchResult result (λ p. found.now ≡ point_cells p ∷ []) (IsNoPoint found.now) }
+{
+    if found.len() != 1 {
+        return Err(TableFault::NotOurs);
+    }
+    match point_of(&found[0]) {
+        Some(point) => Ok(point),
+        None => Err(TableFault::Damaged(Table::Office)),
+    }
+}
+
+/// The point that the file is at, read inside a transaction.
+///
+/// # Errors
+/// `NotOurs` where the file's tables have no such statement, or `office` has not exactly one row;
+/// `Damaged(Table::Office)` where that row is no point; else `Memory` or `Store`.
+pub fn point_in<S: Alter>(tx: &mut Transaction<'_, S>) -> Result<Point, TableFault>
+    ensures same_reference { tx.new.conn.ghost_name ≡ tx.old.conn.ghost_name }
+    ensures inside { HasCleanDisk (state S.Store tx.new.conn.now) → IsTrue (state S.Store tx.old.conn.now).in_transaction
+        → OnOk result (StaysInside (state S.Store tx.old.conn.now) (state S.Store tx.new.conn.now)) }
+    ensures unchanged { HasCleanDisk (state S.Store tx.new.conn.now) → HasOffice (state S.Store tx.old.conn.now).now.schema
+        → OnOk result (IsUnchanged (state S.Store tx.old.conn.now) (state S.Store tx.new.conn.now)) }
+    ensures reads { HasCleanDisk (state S.Store tx.new.conn.now) → (IsTrue (state S.Store tx.old.conn.now).is_open → HasOffice (state S.Store tx.old.conn.now).now.schema)
+        → ReadsPoint (rows_in office (state S.Store tx.old.conn.now).now.trees) result }
+    ensures exact { (p : Point) → HasCleanDisk (state S.Store tx.new.conn.now) → (IsTrue (state S.Store tx.old.conn.now).is_open → HoldsPoint p (state S.Store tx.old.conn.now).now)
+        → FitsPoint p → ReadsExactly p result }
+    ensures open { HasCleanDisk (state S.Store tx.new.conn.now)
+        → MatchResult result (λ _. IsTrue (state S.Store tx.old.conn.now).is_open) (λ fault. IsStop fault ⊎ IsTrue (state S.Store tx.old.conn.now).is_open) }
+    ensures within { IsWithin (state S.Store tx.old.conn.now) (state S.Store tx.new.conn.now) }
+{
+    let found = match tx.query_all("SELECT id, layout, step, mark FROM office ORDER BY id", &[]) {
+        Ok(found) => found,
+        Err(Error::SqlInputError(_)) => return Err(TableFault::NotOurs),
+        Err(error) => return Err(fault_of(error)),
+    };
+    only_point(&found)
+}
+
+/// The point that the file is at. Nothing is changed, whatever the answer is.
+///
+/// # Errors
+/// Those of [`point_in`].
+pub fn point<S: Alter>(conn: &mut Connection<S>) -> Result<Point, TableFault>
+    requires { conn.old.in_transaction ≡ false }
+    ensures idle { conn.new.in_transaction ≡ false }
+    ensures unchanged { ChangesNothing (state S.Store conn.old) (state S.Store conn.new) }
+    ensures reads { HasCleanDisk (state S.Store conn.new) → (IsTrue (state S.Store conn.old).is_open → HasOffice (state S.Store conn.old).now.schema)
+        → ReadsPoint (rows_in office (state S.Store conn.old).now.trees) result }
+    ensures exact { (p : Point) → HasCleanDisk (state S.Store conn.new) → (IsTrue (state S.Store conn.old).is_open → HoldsPoint p (state S.Store conn.old).now)
+        → FitsPoint p → ReadsExactly p result }
+    ensures open { HasCleanDisk (state S.Store conn.new)
+        → MatchResult result (λ _. IsTrue (state S.Store conn.old).is_open) (λ fault. IsStop fault ⊎ IsTrue (state S.Store conn.old).is_open) }
+{
+    let mut tx = conn.transaction();
+    point_in(&mut tx)
+}

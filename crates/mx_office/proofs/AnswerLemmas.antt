@@ -1,0 +1,39 @@
+-- The exits of a question.
+use Rattle.std.proofs.Common.{◌≡◌, ◌⊎◌, inl, inr, Option, Some, None, Result, Ok, Err, ap, ◌∙◌}
+use Rattle.std.specs.Result.{IsErr, IsErrAnd, MatchResult}
+use Rattle.mx_book.specs.declared.verdict.Refusal.{Refusal}
+use Rattle.mx_office.specs.declared.fault.Fault.{Fault}
+use Rattle.mx_layout.specs.declared.fault.Table.{Table}
+use Rattle.mx_office.specs.declared.fault.Fault.TheVariants.{Memory, Store, Damaged}
+use Rattle.mx_office.specs.declared.fault.Ask.{Ask}
+use Rattle.mx_office.specs.declared.fault.Ask.TheVariants.{Refused, Failed}
+use Rattle.mx_office.specs.declared.fault.OpenFault.{OpenFault}
+use Rattle.mx_office.specs.declared.fault.OpenFault.TheVariants as unopened
+use Rattle.mx_layout.specs.declared.fault.TableFault.{TableFault}
+use Rattle.mx_layout.specs.Point.{IsStop}
+use Rattle.mx_office.specs.Faults.{open_fault_from, found_or, IsAnswer}
+
+-- want of memory or the store stopped reading the book
+pub stopped : {V : Type 0} (P : V → Type 0) (result : Result V Fault) (f : Fault) → IsErr result × IsErrAnd result (λ it. it ≡ f) → (f ≡ Memory) ⊎ (f ≡ Store) → MatchResult result P (λ it. (it ≡ Memory) ⊎ (it ≡ Store))
+stopped P (Ok v) f is why = (cc)
+stopped P (Err it) f is why = elim why [ inl memory ↦ inl (is.1 ∙ memory) | inr store ↦ inr (is.1 ∙ store) ]
+
+pub stopped_answer : {X : Type 0} (said result : Result X Ask) (f : Fault) → IsErr result × IsErrAnd result (λ it. it ≡ Failed f) → (f ≡ Memory) ⊎ (f ≡ Store) → IsAnswer said result
+stopped_answer said (Ok x) f is why = (cc)
+stopped_answer said (Err it) f is why = elim why [ inl memory ↦ inr (inl (ap Err (is.1 ∙ ap Failed memory))) | inr store ↦ inr (inr (ap Err (is.1 ∙ ap Failed store))) ]
+
+-- the definition gives this, or none
+pub some_answer : {X : Type 0} (refusal : Refusal) (x : X) (said : Option X) → Some x ≡ said → IsAnswer (found_or refusal said) (Ok x)
+some_answer refusal x said is = inl (ap (found_or refusal) is)
+
+pub none_answer : {X : Type 0} (refusal : Refusal) (said : Option X) → None ≡ said → IsAnswer (found_or refusal said) (Err (Refused refusal))
+none_answer refusal said is = inl (ap (found_or refusal) is)
+
+-- want of memory or the store stopped the opening
+pub open_stops : (f : TableFault) (answered : OpenFault) → answered ≡ open_fault_from f → IsStop f → (answered ≡ unopened.Memory) ⊎ (answered ≡ unopened.Store)
+open_stops f answered is why = elim why [ inl memory ↦ inl (is ∙ ap open_fault_from memory) | inr store ↦ inr (is ∙ ap open_fault_from store) ]
+
+-- what stopped reading the book is no damage
+pub no_damage : {V : Type 0} (result : Result V Fault) (f : Fault) (table : Table) → IsErr result × IsErrAnd result (λ it. it ≡ f) → (f ≡ Memory) ⊎ (f ≡ Store) → result ≡ Err (Damaged table) → ⊥
+no_damage (Ok v) f table is why same = cc
+no_damage (Err it) f table is why same = let said : it ≡ f = is.1 in elim why [ inl memory ↦ cc | inr store ↦ cc ]

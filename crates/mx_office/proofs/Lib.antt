@@ -1,0 +1,6 @@
+pub mod LoadLemmas
+pub mod OfficeLemmas
+pub mod ReopenLemmas
+pub mod RunLemmas
+pub mod StandsLemmas
+pub mod AnswerLemmas

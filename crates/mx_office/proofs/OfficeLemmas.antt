@@ -1,0 +1,51 @@
+-- The exits of a call of the office, over states.
+use Rattle.std.proofs.Common.{◌≡◌, inl, inr, ◌+◌, ◌≤◌, false, cond, List, [], ◌∷◌, ◌++◌, length, sym, ap, subst, ◌∙◌, arith}
+use Rattle.sqlite.specs.State.{State, HasCleanDisk}
+use Rattle.sqlite_trees.specs.View.{doubt}
+use Rattle.mx_command.specs.Act.{Entry}
+use Rattle.mx_book.specs.declared.verdict.Verdict.{Verdict}
+use Rattle.mx_book.specs.declared.verdict.Verdict.TheVariants.{New}
+use Rattle.mx_book.specs.Judge.{judge}
+use Rattle.mx_book.specs.Book.{is_new}
+use Rattle.mx_book.specs.Run.{book_after, reply, reply_to}
+use Rattle.mx_layout.specs.Tables.{layout_1}
+use Rattle.mx_layout.specs.Crash.{Leaves}
+use Rattle.mx_layout.proofs.CrashLemmas.{rests_same, leaves_same}
+use Rattle.mx_office.specs.Stands.{Stands, Rests, IsEither}
+
+pub rests_as : (s : State) (one other : List Entry) → (HasCleanDisk s → one ≡ other) → Rests s one → Rests s other
+rests_as s one other same r = rests_same s layout_1 (λ db. Stands db one) (λ db. Stands db other) (λ clean db is. subst (Stands db) (same clean) is) r
+
+pub rests_either : (s : State) (one other : List Entry) → Rests s one → Leaves s (IsEither one other)
+rests_either s one other r clean db may = inl (r.crash clean db may)
+
+-- the book after a command that is new, and after any other
+pub after_new : (book : List Entry) (c : Entry) → judge book c ≡ New → book_after book c ≡ book ++ c ∷ []
+after_new book c h = ap (λ v. cond (is_new v) (book ++ c ∷ []) book) h
+
+pub after_old : (book : List Entry) (c : Entry) (v : Verdict) → judge book c ≡ v → is_new v ≡ false → book_after book c ≡ book
+after_old book c v h old = ap (λ w. cond (is_new w) (book ++ c ∷ []) book) h ∙ ap (λ b. cond b (book ++ c ∷ []) book) old
+
+-- `loaded` is what the code read, and it is the book where the disk is clean
+module _ (mid : State) (book loaded : List Entry) (c : Entry) (exact : HasCleanDisk mid → loaded ≡ book) (rests : Rests mid book) where
+  pub old_reply : (v : Verdict) → judge loaded c ≡ v → HasCleanDisk mid → reply book c ≡ reply_to (length loaded + 1) v
+  old_reply v is clean = ap (λ b. reply b c) (sym (exact clean)) ∙ ap (reply_to (length loaded + 1)) is
+
+  -- the verdict is not New
+  pub old_kept : (v : Verdict) → judge loaded c ≡ v → is_new v ≡ false → Rests mid (book_after book c)
+  old_kept v is old = rests_as mid book (book_after book c) (λ clean. sym (after_old book c v (ap (λ b. judge b c) (sym (exact clean)) ∙ is) old)) rests
+
+  pub loaded_rests : Rests mid loaded
+  loaded_rests = rests_as mid book loaded (λ clean. sym (exact clean)) rests
+
+  module _ (new : judge loaded c ≡ New) (end : State) (later : doubt mid.is_clean ≤ doubt end.is_clean) where
+    after : HasCleanDisk end → loaded ++ c ∷ [] ≡ book_after book c
+    after clean = let early : HasCleanDisk mid = omega arith in sym (after_new loaded c new) ∙ ap (λ b. book_after b c) (exact early)
+
+    pub new_kept : Rests end (loaded ++ c ∷ []) → Rests end (book_after book c)
+    new_kept r = rests_as end (loaded ++ c ∷ []) (book_after book c) after r
+
+    pub new_crash : Leaves end (IsEither loaded (loaded ++ c ∷ [])) → Leaves end (IsEither book (book_after book c))
+    new_crash h = leaves_same end (IsEither loaded (loaded ++ c ∷ [])) (IsEither book (book_after book c)) (λ clean db is.
+        let early : HasCleanDisk mid = omega arith in
+        elim is [ inl one ↦ inl (subst (Stands db) (exact early) one) | inr other ↦ inr (subst (Stands db) (after clean) other) ]) h

@@ -1,0 +1,8 @@
+use Rattle.mx_book.specs.Book.{entries_from}
+use Rattle.std.proofs.Common.{◌≡◌}
+use Rattle.mx_office.proofs.AnswerLemmas.{stopped}
+use Rattle.mx_office.proofs.office.Office.entries.Goals as goal
+
+pub returns-in_err-book-clause-exact : goal.returns-in_err-book-clause-exact
+returns-in_err-book-clause-exact g c book works rests clean =
+    stopped (λ v. v.items ≡ entries_from c.args.from c.args.at_most book) c.from_residual.result c.in_err-book.field-0.0 c.from_residual.ensures (c.in_err-book.ensures.exact book works rests clean)

@@ -1,0 +1,17 @@
+use Rattle.std.proofs.Common.{◌∙◌, ap}
+use Rattle.mx_book.specs.Life.{life_now}
+use Rattle.mx_office.specs.Faults.{found_or, unknown}
+use Rattle.mx_office.proofs.AnswerLemmas.{stopped_answer, some_answer, none_answer}
+use Rattle.mx_office.proofs.office.Office.life.Goals as goal
+
+pub returns-in_err-book-clause-exact : goal.returns-in_err-book-clause-exact
+returns-in_err-book-clause-exact g c book works rests clean =
+    stopped_answer (found_or (unknown c.args.item.now) (life_now book c.args.item.now)) c.from_residual.result c.in_err-book.field-0.0 c.from_residual.ensures (c.in_err-book.ensures.exact book works rests clean)
+
+pub returns-in-Some-clause-exact : goal.returns-in-Some-clause-exact
+returns-in-Some-clause-exact g c book works rests clean =
+    some_answer (unknown c.args.item.now) c.in-Some.life (life_now book c.args.item.now) (c.in-Some.ensures ∙ ap (λ b. life_now b c.args.item.now) (c.in_ok-book.ensures.exact book works rests clean))
+
+pub returns-clause-exact : goal.returns-clause-exact
+returns-clause-exact g c book works rests clean =
+    rw c.unknown_of.ensures (none_answer (unknown c.args.item.now) (life_now book c.args.item.now) (c.in-None.ensures ∙ ap (λ b. life_now b c.args.item.now) (c.in_ok-book.ensures.exact book works rests clean)))

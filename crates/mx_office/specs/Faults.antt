@@ -1,0 +1,44 @@
+-- The faults of the office that faults of the tables are, and the answers to a question.
+use Rattle.std.specs.Prelude.{◌≡◌, ◌⊎◌, Option, Some, None, Result, Ok, Err}
+use Rattle.mx_command.specs.declared.item.Item.{Item}
+use Rattle.mx_command.specs.declared.item.Item.TheVariants.{Airframe, Component}
+use Rattle.mx_book.specs.declared.verdict.Refusal.{Refusal}
+use Rattle.mx_book.specs.declared.verdict.Refusal.TheVariants.{UnknownAircraft, UnknownComponent}
+use Rattle.mx_layout.specs.declared.fault.TableFault.{TableFault}
+use Rattle.mx_layout.specs.declared.fault.TableFault.TheVariants as table
+use Rattle.mx_office.specs.declared.fault.Fault.{Fault}
+use Rattle.mx_office.specs.declared.fault.Fault.TheVariants.{Memory, Store, Damaged}
+use Rattle.mx_office.specs.declared.fault.OpenFault.{OpenFault}
+use Rattle.mx_office.specs.declared.fault.OpenFault.TheVariants as unopened
+use Rattle.mx_office.specs.declared.fault.Ask.{Ask}
+use Rattle.mx_office.specs.declared.fault.Ask.TheVariants.{Refused, Failed}
+
+-- want of memory and damage stay what they are, and anything else is the store's
+abbrev pub fault_from : TableFault → Fault
+fault_from table.Memory = Memory
+fault_from (table.Damaged t) = Damaged t
+fault_from table.Store = Store
+fault_from table.NotOurs = Store
+fault_from table.Exists = Store
+
+-- why no office was opened, where the point could not be read
+abbrev pub open_fault_from : TableFault → OpenFault
+open_fault_from table.Memory = unopened.Memory
+open_fault_from (table.Damaged t) = unopened.Damaged t
+open_fault_from table.Store = unopened.Store
+open_fault_from table.NotOurs = unopened.NotOurs
+open_fault_from table.Exists = unopened.Store
+
+-- why an item is unknown
+abbrev pub unknown : Item → Refusal
+unknown (Airframe tail) = UnknownAircraft
+unknown (Component serial) = UnknownComponent
+
+-- what was asked for, or the refusal where there is none
+abbrev pub found_or : {X : Type 0} → Refusal → Option X → Result X Ask
+found_or refusal (Some x) = Ok x
+found_or refusal None = Err (Refused refusal)
+
+-- the answer is this one, unless memory or the store failed
+abbrev pub IsAnswer : {X : Type 0} → Result X Ask → Result X Ask → Type 0
+IsAnswer said result = (result ≡ said) ⊎ ((result ≡ Err (Failed Memory)) ⊎ (result ≡ Err (Failed Store)))

@@ -1,0 +1,14 @@
+//! The office: the tables of one book in a database file. A command is applied in one commit, and a question is
+//! answered from the tables; whatever stops a call, the file is that of one book.
+#![tactic(auto)]
+
+mod adding;
+pub mod fault;
+pub mod laws;
+mod loading;
+pub mod office;
+pub mod power;
+
+pub use fault::{Ask, Fault, OpenFault, Outcomes};
+pub use mx_book::Reply;
+pub use office::{Office, open_office};

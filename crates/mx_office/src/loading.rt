@@ -1,0 +1,57 @@
+//! Reading the book that the tables hold.
+ghost use Rattle.std.specs.Prelude.{◌≡◌, ◌≢◌, ◌⊎◌, false, IsTrue, MatchResult};
+ghost use Rattle.sqlite.specs.State.{HasCleanDisk};
+ghost use Rattle.sqlite.specs.Held.{state};
+ghost use Rattle.mx_layout.specs.Crash.{StaysInside, IsWithin, ChangesNothing};
+ghost use Rattle.mx_layout.specs.Tables.{layout_1};
+ghost use Rattle.mx_office.specs.Stands.{Stands, Rests};
+
+use crate::fault::{Fault, fault_of};
+use mx_book::Book;
+use mx_layout::Table;
+use mx_register::merge::merge;
+use mx_tables::{rows_aircraft, rows_entry, rows_sector1};
+use sqlite::{Alter, Connection, Transaction};
+use std::alloc::Global;
+
+// The book that the tables hold, read inside a transaction.
+fn load<S: Alter>(alloc: Global, tx: &mut Transaction<'_, S>) -> Result<Book, Fault>
+    ensures same_reference { tx.new.conn.ghost_name ≡ tx.old.conn.ghost_name }
+    ensures usable { result ≢ Err Fault.NeedsReopen }
+    ensures inside { HasCleanDisk (state S.Store tx.new.conn.now) → IsTrue (state S.Store tx.old.conn.now).in_transaction
+        → result ≢ Err Fault.Memory → result ≢ Err Fault.Store → StaysInside (state S.Store tx.old.conn.now) (state S.Store tx.new.conn.now) }
+    ensures exact { (book : _) → HasCleanDisk (state S.Store tx.new.conn.now) → (state S.Store tx.old.conn.now).now.schema ≡ layout_1 → Stands (state S.Store tx.old.conn.now).now.trees book
+        → MatchResult result (λ b. b ≡ book) (λ fault. (fault ≡ Fault.Memory) ⊎ (fault ≡ Fault.Store)) }
+    ensures within { IsWithin (state S.Store tx.old.conn.now) (state S.Store tx.new.conn.now) }
+{
+    let entries = match rows_entry(alloc, tx) {
+        Ok(entries) => entries,
+        Err(fault) => return Err(fault_of(fault)),
+    };
+    let aircraft = match rows_aircraft(alloc, tx) {
+        Ok(aircraft) => aircraft,
+        Err(fault) => return Err(fault_of(fault)),
+    };
+    let sectors = match rows_sector1(alloc, tx) {
+        Ok(sectors) => sectors,
+        Err(fault) => return Err(fault_of(fault)),
+    };
+    match merge(alloc, &entries, &aircraft, &sectors) {
+        Ok(Some(book)) => Ok(book),
+        Ok(None) => Err(Fault::Damaged(Table::Entry)),
+        Err(_) => Err(Fault::Memory),
+    }
+}
+
+/// The book that the tables hold, read in a transaction that is then dropped, so that nothing changes.
+pub(crate) fn load_book<S: Alter>(alloc: Global, conn: &mut Connection<S>) -> Result<Book, Fault>
+    requires { conn.old.in_transaction ≡ false }
+    ensures idle { conn.new.in_transaction ≡ false }
+    ensures usable { result ≢ Err Fault.NeedsReopen }
+    ensures unchanged { ChangesNothing (state S.Store conn.old) (state S.Store conn.new) }
+    ensures exact { (book : _) → Rests (state S.Store conn.old) book → HasCleanDisk (state S.Store conn.new)
+        → MatchResult result (λ b. b ≡ book) (λ fault. (fault ≡ Fault.Memory) ⊎ (fault ≡ Fault.Store)) }
+{
+    let mut tx = conn.transaction();
+    load(alloc, &mut tx)
+}

@@ -1,0 +1,252 @@
+//! An office over a database, from opening to closing.
+ghost use Rattle.std.specs.Prelude.{◌≡◌, ◌≢◌, ◌⊎◌, ◌≤◌, ◌+◌, [], ◌∷◌, ◌++◌, length, take, drop, List, Option, Some, None, true, false, IsTrue, OnOk, OnErr, IfOk, IfErr, MatchResult};
+ghost use Rattle.sqlite.specs.State.{HasCleanDisk};
+ghost use Rattle.sqlite.specs.Held.{state};
+ghost use Rattle.sqlite_trees.specs.View.{doubt};
+ghost use Rattle.mx_book.specs.Book.{entries_from};
+ghost use Rattle.mx_book.specs.Life.{life_now};
+ghost use Rattle.mx_book.specs.Lists.{life_list};
+ghost use Rattle.mx_book.specs.Run.{book_after, book_run, reply, replies};
+ghost use Rattle.mx_layout.specs.Crash.{Leaves, ChangesNothing};
+ghost use Rattle.mx_office.specs.Faults.{found_or, unknown, IsAnswer};
+ghost use Rattle.mx_office.specs.Stands.{Rests, IsEither};
+
+use crate::adding::enter;
+use crate::fault::{Ask, Fault, OpenFault, Outcomes, open_fault_of};
+use crate::loading::load_book;
+use mx_base::{Tail, Use};
+use mx_book::{Book, LifeList, Refusal, Reply, Verdict};
+use mx_command::{Command, Item};
+use mx_layout::{Table, point};
+use sqlite::{Alter, Connection};
+use std::alloc::Global;
+
+/// The newest layout of the tables.
+pub const NEWEST_LAYOUT: u8 = 1;
+
+// Judges a command against the book that the tables hold, and enters it in one commit where it is new.
+fn answer<S: Alter>(
+    alloc: Global,
+    conn: &mut Connection<S>,
+    command: &Command,
+) -> Result<Reply, Fault>
+    requires { conn.old.in_transaction ≡ false }
+    ensures idle { conn.new.in_transaction ≡ false }
+    ensures clean { doubt (state S.Store conn.old).is_clean ≤ doubt (state S.Store conn.new).is_clean }
+    ensures usable { result ≢ Err Fault.NeedsReopen }
+    ensures reply { (book : _) → Rests (state S.Store conn.old) book → HasCleanDisk (state S.Store conn.new) → IfOk result (λ r. r ≡ reply book command.now) }
+    ensures kept { (book : _) → Rests (state S.Store conn.old) book → OnOk result (Rests (state S.Store conn.new) (book_after book command.now)) }
+    ensures untouched { ((seq : _) → result ≢ Ok (Reply.Accepted seq)) → result ≢ Err Fault.Store → ChangesNothing (state S.Store conn.old) (state S.Store conn.new) }
+    ensures whole { (book : _) → Rests (state S.Store conn.old) book → HasCleanDisk (state S.Store conn.new) → (table : _) → result ≢ Err (Fault.Damaged table) }
+    ensures crash { (book : _) → Rests (state S.Store conn.old) book → Leaves (state S.Store conn.new) (IsEither book (book_after book command.now)) }
+{
+    let book = load_book(alloc, conn)?;
+    match book.judge(command) {
+        Verdict::Already(seq) => Ok(Reply::Already(seq)),
+        Verdict::Refused(refusal) => Ok(Reply::Refused(refusal)),
+        Verdict::New => {
+            let seq = book.len() + 1;
+            match enter(conn, &book, command) {
+                Ok(()) => Ok(Reply::Accepted(seq)),
+                Err(_) => Err(Fault::Store),
+            }
+        }
+    }
+}
+
+// Why an item is unknown.
+fn unknown_of(item: &Item) -> Refusal
+    ensures { result ≡ unknown item.now }
+{
+    match item {
+        Item::Airframe(_) => Refusal::UnknownAircraft,
+        Item::Component(_) => Refusal::UnknownComponent,
+    }
+}
+
+/// An office: the tables of one book in a database, and whether a commit is in doubt.
+pub struct Office<S: Alter> {
+    conn: Connection<S>,
+    needs_reopen: bool,
+    ghost idle: { conn.in_transaction ≡ false },
+}
+
+/// Opens the office that a database holds. Nothing is changed; where it isn't opened the connection is handed
+/// back with the reason: `NotOurs`, `NewerLayout`, `Damaged` where the point can't be read or is none that a
+/// file can be at, `Memory` or `Store`.
+pub fn open_office<S: Alter>(
+    mut conn: Connection<S>,
+) -> Result<Office<S>, (Connection<S>, OpenFault)>
+    requires { conn.in_transaction ≡ false }
+    ensures ready { IfOk result (λ office. office.needs_reopen ≡ false) }
+    ensures unchanged { MatchResult result (λ office. ChangesNothing (state S.Store conn) (state S.Store office.conn)) (λ e. ChangesNothing (state S.Store conn) (state S.Store e.0)) }
+    ensures kept { (book : _) → Rests (state S.Store conn) book → MatchResult result (λ office. Rests (state S.Store office.conn) book) (λ e. Rests (state S.Store e.0) book) }
+    ensures whole { (book : _) → Rests (state S.Store conn) book → IfErr result (λ e. HasCleanDisk (state S.Store e.0) → (e.1 ≡ OpenFault.Memory) ⊎ (e.1 ≡ OpenFault.Store)) }
+{
+    match point(&mut conn) {
+        Ok(at) => {
+            if at.layout > NEWEST_LAYOUT {
+                return Err((conn, OpenFault::NewerLayout(at.layout)));
+            }
+            if at.layout != NEWEST_LAYOUT || at.step != 0 || at.mark != 0 {
+                return Err((conn, OpenFault::Damaged(Table::Office)));
+            }
+            Ok(Office {
+                conn,
+                needs_reopen: false,
+            })
+        }
+        Err(fault) => Err((conn, open_fault_of(fault))),
+    }
+}
+
+impl<S: Alter> Office<S> {
+    /// The connection, as it stands.
+    pub fn close(self) -> Connection<S>
+        ensures { result ≡ self.conn }
+    {
+        let Office {
+            conn,
+            needs_reopen: _,
+        } = self;
+        conn
+    }
+
+    /// Whether a commit is in doubt, so that the file has to be opened again.
+    pub fn needs_reopen(&self) -> bool
+        ensures { result ≡ self.now.needs_reopen }
+    {
+        self.needs_reopen
+    }
+
+    /// Judges a command, and enters it in one commit where it is new. A command that is known or refused writes
+    /// nothing. After `Store` the command may be kept or not, and each later call answers `NeedsReopen`.
+    pub fn apply(&mut self, alloc: Global, command: &Command) -> Result<Reply, Fault>
+        ensures reopen { self.old.needs_reopen ≡ true → (result ≡ Err Fault.NeedsReopen) × (self.new ≡ self.old) }
+        ensures usable { self.old.needs_reopen ≡ false → result ≢ Err Fault.NeedsReopen }
+        ensures goes_on { self.old.needs_reopen ≡ false → result ≢ Err Fault.Store → self.new.needs_reopen ≡ false }
+        ensures stopped { result ≡ Err Fault.Store → self.new.needs_reopen ≡ true }
+        ensures clean { doubt (state S.Store self.old.conn).is_clean ≤ doubt (state S.Store self.new.conn).is_clean }
+        ensures reply { (book : _) → Rests (state S.Store self.old.conn) book → HasCleanDisk (state S.Store self.new.conn) → IfOk result (λ r. r ≡ reply book command.now) }
+        ensures kept { (book : _) → Rests (state S.Store self.old.conn) book → OnOk result (Rests (state S.Store self.new.conn) (book_after book command.now)) }
+        ensures same { (book : _) → Rests (state S.Store self.old.conn) book → IfErr result (λ fault. fault ≢ Fault.Store → Rests (state S.Store self.new.conn) book) }
+        ensures untouched { self.old.needs_reopen ≡ false → ((seq : _) → result ≢ Ok (Reply.Accepted seq)) → result ≢ Err Fault.Store → ChangesNothing (state S.Store self.old.conn) (state S.Store self.new.conn) }
+        ensures whole { (book : _) → Rests (state S.Store self.old.conn) book → HasCleanDisk (state S.Store self.new.conn) → (table : _) → result ≢ Err (Fault.Damaged table) }
+        ensures crash { (book : _) → Rests (state S.Store self.old.conn) book → Leaves (state S.Store self.new.conn) (IsEither book (book_after book command.now)) }
+    {
+        if self.needs_reopen {
+            return Err(Fault::NeedsReopen);
+        }
+        let answered = answer(alloc, &mut self.conn, command);
+        if answered == Err(Fault::Store) {
+            self.needs_reopen = true;
+        }
+        answered
+    }
+
+    /// Applies commands in their order, each in a commit of its own, and stops at the first fault. Room for all
+    /// replies is made first; where it is refused there is no reply, and the run stopped at `Memory`.
+    pub fn run(&mut self, alloc: Global, commands: &[Command]) -> Outcomes
+        ensures counted { length result.replies.items ≤ length commands.now }
+        ensures done { result.stopped ≡ None → length result.replies.items ≡ length commands.now }
+        ensures clean { doubt (state S.Store self.old.conn).is_clean ≤ doubt (state S.Store self.new.conn).is_clean }
+        ensures replies { (book : _) → Rests (state S.Store self.old.conn) book → HasCleanDisk (state S.Store self.new.conn)
+            → result.replies.items ≡ replies book (take (length result.replies.items) commands.now) }
+        ensures kept { (book : _) → Rests (state S.Store self.old.conn) book → result.stopped ≢ Some Fault.Store
+            → Rests (state S.Store self.new.conn) (book_run book (take (length result.replies.items) commands.now)) }
+        ensures crash { (book : _) → Rests (state S.Store self.old.conn) book
+            → Leaves (state S.Store self.new.conn) (IsEither (book_run book (take (length result.replies.items) commands.now)) (book_run book (take (length result.replies.items + 1) commands.now))) }
+    {
+        let Ok(mut replies) = Vec::with_capacity(alloc, commands.len()) else {
+            return Outcomes {
+                replies: Vec::new(alloc),
+                stopped: Some(Fault::Memory),
+            };
+        };
+        for command in commands {
+            match self.apply(alloc, command) {
+                Ok(reply) => replies.push_reserved(reply),
+                Err(fault) => {
+                    return Outcomes {
+                        replies,
+                        stopped: Some(fault),
+                    };
+                }
+            }
+        }
+        Outcomes {
+            replies,
+            stopped: None,
+        }
+    }
+
+    // The book that the tables hold.
+    fn book(&mut self, alloc: Global) -> Result<Book, Fault>
+        ensures reopen { self.old.needs_reopen ≡ true → (result ≡ Err Fault.NeedsReopen) × (self.new ≡ self.old) }
+        ensures usable { self.old.needs_reopen ≡ false → result ≢ Err Fault.NeedsReopen }
+        ensures goes_on { self.old.needs_reopen ≡ false → result ≢ Err Fault.Store → self.new.needs_reopen ≡ false }
+        ensures stopped { result ≡ Err Fault.Store → self.new.needs_reopen ≡ true }
+        ensures untouched { self.old.needs_reopen ≡ false → ChangesNothing (state S.Store self.old.conn) (state S.Store self.new.conn) }
+        ensures exact { (book : _) → self.old.needs_reopen ≡ false → Rests (state S.Store self.old.conn) book → HasCleanDisk (state S.Store self.new.conn)
+            → MatchResult result (λ b. b ≡ book) (λ fault. (fault ≡ Fault.Memory) ⊎ (fault ≡ Fault.Store)) }
+    {
+        if self.needs_reopen {
+            return Err(Fault::NeedsReopen);
+        }
+        let book = load_book(alloc, &mut self.conn);
+        if let Err(Fault::Store) = &book {
+            self.needs_reopen = true;
+        }
+        book
+    }
+    /// The life list of an aircraft. `Refused(UnknownAircraft)` where no aircraft has the registration.
+    /// No table changes.
+    pub fn life_rows(&mut self, alloc: Global, tail: &Tail) -> Result<LifeList, Ask>
+        ensures reopen { self.old.needs_reopen ≡ true → (result ≡ Err (Ask.Failed Fault.NeedsReopen)) × (self.new ≡ self.old) }
+        ensures usable { self.old.needs_reopen ≡ false → result ≢ Err (Ask.Failed Fault.NeedsReopen) }
+        ensures goes_on { self.old.needs_reopen ≡ false → result ≢ Err (Ask.Failed Fault.Store) → self.new.needs_reopen ≡ false }
+        ensures stopped { result ≡ Err (Ask.Failed Fault.Store) → self.new.needs_reopen ≡ true }
+        ensures untouched { self.old.needs_reopen ≡ false → ChangesNothing (state S.Store self.old.conn) (state S.Store self.new.conn) }
+        ensures exact { (book : _) → self.old.needs_reopen ≡ false → Rests (state S.Store self.old.conn) book → HasCleanDisk (state S.Store self.new.conn)
+            → IsAnswer (found_or Refusal.UnknownAircraft (life_list book tail.now)) result }
+    {
+        let book = self.book(alloc)?;
+        match book.life_list(alloc, tail)? {
+            Some(list) => Ok(list),
+            None => Err(Ask::Refused(Refusal::UnknownAircraft)),
+        }
+    }
+
+    /// The life of an item with all of its sectors. `Refused(UnknownAircraft)` or `Refused(UnknownComponent)`
+    /// where the item is unknown. No table changes.
+    pub fn life(&mut self, alloc: Global, item: &Item) -> Result<Use, Ask>
+        ensures reopen { self.old.needs_reopen ≡ true → (result ≡ Err (Ask.Failed Fault.NeedsReopen)) × (self.new ≡ self.old) }
+        ensures usable { self.old.needs_reopen ≡ false → result ≢ Err (Ask.Failed Fault.NeedsReopen) }
+        ensures goes_on { self.old.needs_reopen ≡ false → result ≢ Err (Ask.Failed Fault.Store) → self.new.needs_reopen ≡ false }
+        ensures stopped { result ≡ Err (Ask.Failed Fault.Store) → self.new.needs_reopen ≡ true }
+        ensures untouched { self.old.needs_reopen ≡ false → ChangesNothing (state S.Store self.old.conn) (state S.Store self.new.conn) }
+        ensures exact { (book : _) → self.old.needs_reopen ≡ false → Rests (state S.Store self.old.conn) book → HasCleanDisk (state S.Store self.new.conn)
+            → IsAnswer (found_or (unknown item.now) (life_now book item.now)) result }
+    {
+        let book = self.book(alloc)?;
+        match book.life_now(item) {
+            Some(life) => Ok(life),
+            None => Err(Ask::Refused(unknown_of(item))),
+        }
+    }
+
+    /// The first commands, at most `at_most`, of those whose number is at least `from`, in their order. No table
+    /// changes.
+    pub fn entries(&mut self, alloc: Global, from: u32, at_most: u32) -> Result<Vec<Command>, Fault>
+        ensures reopen { self.old.needs_reopen ≡ true → (result ≡ Err Fault.NeedsReopen) × (self.new ≡ self.old) }
+        ensures usable { self.old.needs_reopen ≡ false → result ≢ Err Fault.NeedsReopen }
+        ensures goes_on { self.old.needs_reopen ≡ false → result ≢ Err Fault.Store → self.new.needs_reopen ≡ false }
+        ensures stopped { result ≡ Err Fault.Store → self.new.needs_reopen ≡ true }
+        ensures untouched { self.old.needs_reopen ≡ false → ChangesNothing (state S.Store self.old.conn) (state S.Store self.new.conn) }
+        ensures exact { (book : _) → self.old.needs_reopen ≡ false → Rests (state S.Store self.old.conn) book → HasCleanDisk (state S.Store self.new.conn)
+            → MatchResult result (λ v. v.items ≡ entries_from from at_most book) (λ fault. (fault ≡ Fault.Memory) ⊎ (fault ≡ Fault.Store)) }
+    {
+        let book = self.book(alloc)?;
+        Ok(book.entries(alloc, from, at_most)?)
+    }
+}

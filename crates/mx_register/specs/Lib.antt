@@ -1,0 +1,5 @@
+pub mod Rows
+pub mod Registers
+pub mod Rising
+pub mod Merge
+pub mod Left
