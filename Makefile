@@ -3,7 +3,7 @@
 .PHONY: run test
 
 RT      ?= rt
-EXAMPLE  = 1970-01-01 2024-02-29 19783 2199-12-31
+EXAMPLE  = try D-ABCD 60000 800 2024-03-01T08:00 2024-03-01T09:30 1
 SOURCES  = crates.txt $(shell find crates -type f -not -path '*/out/*')
 
 # the example: by the proved program where it is built, else unproved in a minute or two, and it says which

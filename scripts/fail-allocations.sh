@@ -1,28 +1,30 @@
 #!/usr/bin/env bash
-# Runs the tests of mx_tests with each allocation failing in turn, unproved: the first, the second and so on,
-# until no test reaches the one that would fail. A test of the module want_of_memory has to pass every time;
-# any other test may fail, since it wants its result. Prints a line a run, and ends with the count.
+# Runs each test that is to bear want of memory with each of its requests for memory refused in turn: all tests
+# of the modules want_of_memory and office_memory of mx_tests. Run by hand, after the gate or `rt test` in
+# crates/mx_tests has linked the tests; needs a C compiler. Prints a line a test, and ends with the count.
 set -u
-cd "$(dirname "$0")/../crates/mx_tests" || exit 2
-RT=${RT:-rt}
-most=${1:-200}
-for ((nth = 1; nth <= most; nth++)); do
-    log=$("$RT" try --test --fail-alloc "$nth" 2>&1)
-    if ! grep -q '^test result: ' <<< "$log"; then
-        echo "$log"
-        echo "allocation $nth: the tests did not run"
-        exit 2
-    fi
-    if grep -E '^test want_of_memory::.* FAILED' <<< "$log"; then
-        echo "$log"
-        echo "allocation $nth: a test that is to bear it failed"
-        exit 1
-    fi
-    failed=$(grep -cE '^test .* FAILED' <<< "$log")
-    echo "allocation $nth: every test of want_of_memory passed, $failed others wanted it"
-    if [ "$failed" = 0 ]; then
-        echo "$nth runs; no other test makes $nth allocations"
-        exit 0
-    fi
+cd "$(dirname "$0")/.." || exit 2
+tests=crates/mx_tests/out/mx_tests_tests
+if [ ! -x "$tests" ]; then
+    echo "the tests are not linked yet: run the gate, or rt test in crates/mx_tests"
+    exit 2
+fi
+folder=$(mktemp -d) || exit 2
+trap 'rm -rf "$folder"' EXIT
+shim=$folder/fail_allocation.so
+${CC:-cc} -O1 -shared -fPIC -o "$shim" scripts/fail_allocation.c || exit 2
+runs=0
+for test in $("$tests" --list | sed -n 's/^\(\(want_of_memory\|office_memory\)::.*\): test$/\1/p'); do
+    most=$(COUNT_ALLOCATIONS=1 LD_PRELOAD=$shim "$tests" "$test" 2>&1 > /dev/null | tail -n 1)
+    for ((nth = 1; nth <= most; nth++)); do
+        if ! FAIL_AT=$nth LD_PRELOAD=$shim "$tests" "$test" > "$folder/log" 2>&1; then
+            cat "$folder/log"
+            echo "$test fails where request $nth of $most is refused"
+            exit 1
+        fi
+    done
+    echo "$test: $most requests, each refused in turn"
+    runs=$((runs + most))
 done
-echo "stopped after $most runs"
+if [ "$runs" = 0 ]; then echo "no test made a request"; exit 1; fi
+echo "$runs runs passed"

@@ -1,11 +1,13 @@
 -- The faults of the office that faults of the tables are, and the answers to a question.
-use Rattle.std.specs.Prelude.{◌≡◌, ◌⊎◌, Option, Some, None, Result, Ok, Err}
+use Rattle.std.specs.Prelude.{◌≡◌, ◌⊎◌, nat_lt, nat_eq, ◌&&◌, if◌then◌else◌, Bool, Option, Some, None, Result, Ok, Err}
 use Rattle.mx_command.specs.declared.item.Item.{Item}
 use Rattle.mx_command.specs.declared.item.Item.TheVariants.{Airframe, Component}
 use Rattle.mx_book.specs.declared.verdict.Refusal.{Refusal}
 use Rattle.mx_book.specs.declared.verdict.Refusal.TheVariants.{UnknownAircraft, UnknownComponent}
+use Rattle.mx_layout.specs.declared.fault.Table.TheVariants.{Office}
 use Rattle.mx_layout.specs.declared.fault.TableFault.{TableFault}
 use Rattle.mx_layout.specs.declared.fault.TableFault.TheVariants as table
+use Rattle.mx_layout.specs.declared.points.Point.{Point}
 use Rattle.mx_office.specs.declared.fault.Fault.{Fault}
 use Rattle.mx_office.specs.declared.fault.Fault.TheVariants.{Memory, Store, Damaged}
 use Rattle.mx_office.specs.declared.fault.OpenFault.{OpenFault}
@@ -29,6 +31,14 @@ open_fault_from table.Store = unopened.Store
 open_fault_from table.NotOurs = unopened.NotOurs
 open_fault_from table.Exists = unopened.Store
 
+-- the point is settled at layout 1
+abbrev pub is_first : Point → Bool
+is_first p = nat_eq p.layout 1 && nat_eq p.step 0 && nat_eq p.mark 0
+
+-- why no office was opened, where the file is at this point: its layout is newer than 1, or no file can be at the point
+abbrev pub open_answer : Point → Option OpenFault
+open_answer p = if nat_lt 1 p.layout then Some (unopened.NewerLayout p.layout) else if is_first p then None else Some (unopened.Damaged Office)
+
 -- why an item is unknown
 abbrev pub unknown : Item → Refusal
 unknown (Airframe tail) = UnknownAircraft
@@ -42,3 +52,7 @@ found_or refusal None = Err (Refused refusal)
 -- the answer is this one, unless memory or the store failed
 abbrev pub IsAnswer : {X : Type 0} → Result X Ask → Result X Ask → Type 0
 IsAnswer said result = (result ≡ said) ⊎ ((result ≡ Err (Failed Memory)) ⊎ (result ≡ Err (Failed Store)))
+
+-- no office was opened: for this reason, or memory or the store failed
+abbrev pub IsUnopened : Option OpenFault → OpenFault → Type 0
+IsUnopened said fault = (said ≡ Some fault) ⊎ ((fault ≡ unopened.Memory) ⊎ (fault ≡ unopened.Store))

@@ -1,5 +1,5 @@
 //! An office over a database, from opening to closing.
-ghost use Rattle.std.specs.Prelude.{◌≡◌, ◌≢◌, ◌⊎◌, ◌≤◌, ◌+◌, [], ◌∷◌, ◌++◌, length, take, drop, List, Option, Some, None, true, false, IsTrue, OnOk, OnErr, IfOk, IfErr, MatchResult};
+ghost use Rattle.std.specs.Prelude.{◌≡◌, ◌≢◌, ◌⊎◌, ◌≤◌, ◌<◌, ◌+◌, [], ◌∷◌, ◌++◌, length, take, drop, List, Option, Some, None, true, false, IsTrue, OnOk, OnErr, IfOk, IfErr, MatchResult};
 ghost use Rattle.sqlite.specs.State.{HasCleanDisk};
 ghost use Rattle.sqlite.specs.Held.{state};
 ghost use Rattle.sqlite_trees.specs.View.{doubt};
@@ -7,8 +7,13 @@ ghost use Rattle.mx_book.specs.Book.{entries_from};
 ghost use Rattle.mx_book.specs.Life.{life_now};
 ghost use Rattle.mx_book.specs.Lists.{life_list};
 ghost use Rattle.mx_book.specs.Run.{book_after, book_run, reply, replies};
+ghost use Rattle.mx_layout.specs.declared.points.Point.{Point};
+ghost use Rattle.mx_layout.specs.Contents.{rows_in};
 ghost use Rattle.mx_layout.specs.Crash.{Leaves, ChangesNothing};
-ghost use Rattle.mx_office.specs.Faults.{found_or, unknown, IsAnswer};
+ghost use Rattle.mx_layout.specs.Making.{first_point};
+ghost use Rattle.mx_layout.specs.Point.{point_cells, FitsPoint, HoldsPoint};
+ghost use Rattle.mx_layout.specs.Tables.{office, HasOffice};
+ghost use Rattle.mx_office.specs.Faults.{found_or, unknown, open_answer, IsAnswer, IsUnopened};
 ghost use Rattle.mx_office.specs.Stands.{Rests, IsEither};
 
 use crate::adding::enter;
@@ -81,6 +86,12 @@ pub fn open_office<S: Alter>(
     ensures ready { IfOk result (λ office. office.needs_reopen ≡ false) }
     ensures unchanged { MatchResult result (λ office. ChangesNothing (state S.Store conn) (state S.Store office.conn)) (λ e. ChangesNothing (state S.Store conn) (state S.Store e.0)) }
     ensures kept { (book : _) → Rests (state S.Store conn) book → MatchResult result (λ office. Rests (state S.Store office.conn) book) (λ e. Rests (state S.Store e.0) book) }
+    ensures opened { (IsTrue (state S.Store conn).is_open → HasOffice (state S.Store conn).now.schema)
+        → IfOk result (λ at. HasCleanDisk (state S.Store at.conn) → rows_in office (state S.Store conn).now.trees ≡ point_cells first_point ∷ []) }
+    ensures exact { (p : Point) → (IsTrue (state S.Store conn).is_open → HoldsPoint p (state S.Store conn).now) → FitsPoint p
+        → MatchResult result (λ at. HasCleanDisk (state S.Store at.conn) → open_answer p ≡ None) (λ e. HasCleanDisk (state S.Store e.0) → IsUnopened (open_answer p) e.1) }
+    ensures not_ours { (IsTrue (state S.Store conn).is_open → HasOffice (state S.Store conn).now.schema)
+        → IfErr result (λ e. HasCleanDisk (state S.Store e.0) → e.1 ≡ OpenFault.NotOurs → length (rows_in office (state S.Store conn).now.trees) ≢ 1) }
     ensures whole { (book : _) → Rests (state S.Store conn) book → IfErr result (λ e. HasCleanDisk (state S.Store e.0) → (e.1 ≡ OpenFault.Memory) ⊎ (e.1 ≡ OpenFault.Store)) }
 {
     match point(&mut conn) {
@@ -149,6 +160,12 @@ impl<S: Alter> Office<S> {
     pub fn run(&mut self, alloc: Global, commands: &[Command]) -> Outcomes
         ensures counted { length result.replies.items ≤ length commands.now }
         ensures done { result.stopped ≡ None → length result.replies.items ≡ length commands.now }
+        ensures cut { result.stopped ≢ None → result.stopped ≢ Some Fault.Memory → length result.replies.items < length commands.now }
+        ensures reopen { self.old.needs_reopen ≡ true → (result.replies.items ≡ []) × (self.new ≡ self.old) }
+        ensures usable { self.old.needs_reopen ≡ false → result.stopped ≢ Some Fault.NeedsReopen }
+        ensures goes_on { self.old.needs_reopen ≡ false → result.stopped ≢ Some Fault.Store → self.new.needs_reopen ≡ false }
+        ensures stopped { result.stopped ≡ Some Fault.Store → self.new.needs_reopen ≡ true }
+        ensures whole { (book : _) → Rests (state S.Store self.old.conn) book → HasCleanDisk (state S.Store self.new.conn) → (table : _) → result.stopped ≢ Some (Fault.Damaged table) }
         ensures clean { doubt (state S.Store self.old.conn).is_clean ≤ doubt (state S.Store self.new.conn).is_clean }
         ensures replies { (book : _) → Rests (state S.Store self.old.conn) book → HasCleanDisk (state S.Store self.new.conn)
             → result.replies.items ≡ replies book (take (length result.replies.items) commands.now) }

@@ -11,9 +11,10 @@ ghost use Rattle.mx_layout.specs.Reading.{AreAll, HasOther, IsRowOf};
 ghost use Rattle.mx_layout.specs.Writing.{Gains};
 ghost use Rattle.mx_tables.specs.Registers.{ShowsAll, AddsRow, OnRead};
 
+use mx_layout::fault::fault_of;
 use mx_layout::{Table, TableFault};
 use sqlite::types::ValueRef;
-use sqlite::{Alter, Error, ErrorCode, Row, Transaction};
+use sqlite::{Alter, Row, Transaction};
 use std::alloc::Global;
 
 /// A type of rows that a table holds.
@@ -27,16 +28,6 @@ pub trait Register: Sized {
     /// The row that these values are, or `None` where they are those of no row of the type.
     fn read(row: &Row) -> Option<Self>
         ensures { MatchOption result ((x : Self) → Fits x → row.now ≢ cells x) (λ x. (row.now ≡ cells x) × Fits x) };
-}
-
-// The fault that an error of `sqlite` is: want of memory, or the store's.
-fn fault_of(error: Error) -> TableFault
-    ensures { (result ≡ TableFault.Memory) ⊎ (result ≡ TableFault.Store) }
-{
-    match error {
-        Error::SqliteFailure(ErrorCode::OutOfMemory) => TableFault::Memory,
-        _ => TableFault::Store,
-    }
 }
 
 // The rows of an answer by their type. `Damaged` with the table where one is none.

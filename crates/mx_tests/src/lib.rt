@@ -11,11 +11,22 @@ mod commands;
 #[cfg(test)]
 mod identifiers;
 #[cfg(test)]
+mod layout;
+#[cfg(test)]
+mod office;
+#[cfg(test)]
+mod office_memory;
+#[cfg(test)]
 mod printers;
+#[cfg(test)]
+mod registers;
 #[cfg(test)]
 mod reports;
 #[cfg(test)]
 mod samples;
+#[cfg(test)]
+#[cfg(test)]
+mod tables;
 #[cfg(test)]
 mod want_of_memory;
 #[cfg(test)]

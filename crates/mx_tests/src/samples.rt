@@ -4,6 +4,9 @@
 use mx_base::{Day, Doc, Kind, Moment, Tail, Use};
 use mx_book::{Book, Verdict};
 use mx_command::{Body, Command, MakeFault};
+use mx_layout::{Layout, create};
+use mx_office::{Office, OpenFault, open_office};
+use sqlite::{Connection, MemStore};
 use std::alloc::Global;
 
 pub fn doc(text: &str) -> Result<Doc, &'static str> {
@@ -99,4 +102,59 @@ pub fn first_two(alloc: Global) -> Result<Book, &'static str> {
         sector(alloc, 1, "2024-03-01T08:00", "2024-03-01T09:30", 1)?,
     )?;
     Ok(book)
+}
+
+/// The two commands that make the book of `first_two`.
+pub fn two_commands(alloc: Global) -> Result<Vec<Command>, &'static str> {
+    let mut commands = Vec::new(alloc);
+    let added = aircraft(alloc, "A1", "D-ABCD")?;
+    commands.push(added).or(Err("no memory"))?;
+    let flown = sector(alloc, 1, "2024-03-01T08:00", "2024-03-01T09:30", 1)?;
+    commands.push(flown).or(Err("no memory"))?;
+    Ok(commands)
+}
+
+/// A count as the number of an entry.
+pub fn number(count: usize) -> u32 {
+    u32::try_from(count).unwrap_or(u32::MAX)
+}
+
+/// Whether these are the same commands, in the same order.
+pub fn are_same(found: &[Command], wanted: &[Command]) -> bool {
+    found.len() == wanted.len() && found.iter().zip(wanted.iter()).all(|(a, b)| a.is_same(b))
+}
+
+/// The tables of an empty book in memory, after this text.
+pub fn after(alloc: Global, sql: &str) -> Result<Connection<MemStore>, &'static str> {
+    let mut conn = Connection::open_in_memory(alloc).or(Err("no memory"))?;
+    if create(&mut conn, Layout(1)).is_err() {
+        return Err("no tables");
+    }
+    match conn.execute(sql, &[]) {
+        Ok(_) => Ok(conn),
+        Err(_) => Err("the text is refused"),
+    }
+}
+
+/// The office that a database in memory holds, or what is answered in its place.
+pub fn opened(conn: Connection<MemStore>) -> Result<Office<MemStore>, Option<OpenFault>> {
+    if !conn.is_autocommit() {
+        return Err(None);
+    }
+    match open_office(conn) {
+        Ok(office) => Ok(office),
+        Err((_, fault)) => Err(Some(fault)),
+    }
+}
+
+/// An office of the empty book, in memory.
+pub fn empty_office(alloc: Global) -> Result<Office<MemStore>, &'static str> {
+    let mut conn = Connection::open_in_memory(alloc).or(Err("no memory"))?;
+    if create(&mut conn, Layout(1)).is_err() {
+        return Err("no tables");
+    }
+    match open_office(conn) {
+        Ok(office) => Ok(office),
+        Err((_, _)) => Err("no office"),
+    }
 }

@@ -1,42 +1,190 @@
-//! The program on its words: what it prints to each writer, and its status.
+//! The program on its words: what it prints to each writer, its status, and the files that it leaves.
 
 use mx_words::run_words;
+use sqlite::Connection;
 use std::process::Abort;
 use std::test::Fail;
+use std::{env, fs, io};
 
-fn words_of(rt: &HostRuntime, words: &[&str]) -> Result<Vec<String>, Fail> {
+// What the program printed, and its status.
+#[derive(Drop)]
+struct Done {
+    out: Vec<u8>,
+    err: Vec<u8>,
+    status: u8,
+}
+
+fn run(rt: &HostRuntime, words: &[&str]) -> Result<Done, Fail> {
     let mut all = Vec::new(rt.alloc());
     for word in words {
         all.push(String::from_str(rt.alloc(), word)?)?;
     }
-    Ok(all)
-}
-
-#[test]
-fn days_are_printed_with_their_numbers(rt: HostRuntime) -> Result<(), Fail> {
-    let words = words_of(&rt, &["office", "2024-02-29", "19783", "0"])?;
     let mut out = Vec::new(rt.alloc());
     let mut err = Vec::new(rt.alloc());
-    let status = run_words(&rt, words.as_slice(), &mut out, &mut err);
-    assert_eq!(rt;
-        out.as_slice(),
-        b"2024-02-29 19782\n2024-03-01 19783\n1970-01-01 0\n".as_slice()
-    );
-    assert!(rt; err.is_empty());
-    assert_eq!(rt; status, 0);
+    let status = run_words(rt, all.as_slice(), &mut out, &mut err);
+    Ok(Done { out, err, status })
+}
+
+impl Done {
+    // It printed these texts, and ended with this status.
+    fn is(&self, rt: &impl Abort, out: &str, err: &str, status: u8) {
+        assert_eq!(rt; self.out.as_slice(), out.as_bytes());
+        assert_eq!(rt; self.err.as_slice(), err.as_bytes());
+        assert_eq!(rt; self.status, status);
+    }
+}
+
+// A path in the temporary folder where no file is, nor the log of one.
+fn new_path(rt: &HostRuntime, name: &str) -> Result<String, Fail> {
+    let folder = env::temp_dir(rt)?;
+    let process = std::process::id(rt.process());
+    let path = format!(in rt.alloc(); "{}/office-{process}-{name}", folder.as_str())?;
+    remove(rt, path.as_str())?;
+    Ok(path)
+}
+
+fn remove_one(rt: &HostRuntime, path: &str) -> Result<(), Fail> {
+    match fs::remove_file(rt, path) {
+        Ok(()) => Ok(()),
+        Err(error) if error.kind() == io::ErrorKind::NotFound => Ok(()),
+        Err(error) => Err(Fail::from(error)),
+    }
+}
+
+// Removes a database and its log.
+fn remove(rt: &HostRuntime, path: &str) -> Result<(), Fail> {
+    remove_one(rt, path)?;
+    let log = format!(in rt.alloc(); "{path}-wal")?;
+    remove_one(rt, log.as_str())
+}
+
+// Runs statements on the database in a file, which is made where it isn't there.
+fn execute(rt: &HostRuntime, path: &str, sql: &str) -> Result<(), Fail> {
+    let mut conn = Connection::open(rt, path)?;
+    conn.execute_batch(sql)?;
+    conn.close()?;
     Ok(())
 }
 
 #[test]
-fn a_word_that_is_no_day_prints_a_fault_alone(rt: HostRuntime) -> Result<(), Fail> {
-    for word in ["2023-02-29", "84006", "-1", "+1", "", "day", "4294967296"] {
-        let words = words_of(&rt, &["office", "2024-02-29", word])?;
-        let mut out = Vec::new(rt.alloc());
-        let mut err = Vec::new(rt.alloc());
-        let status = run_words(&rt, words.as_slice(), &mut out, &mut err);
-        assert!(rt; out.is_empty(), "at {word}");
-        assert_eq!(rt; err.as_slice(), b"fault words\n".as_slice(), "at {word}");
-        assert_eq!(rt; status, 2, "at {word}");
+fn a_trial_prints_the_replies_and_the_life(rt: HostRuntime) -> Result<(), Fail> {
+    let (off, on) = ("2024-03-01T08:00", "2024-03-01T09:30");
+    let text = "accepted 1\naccepted 2\nlife D-ABCD\nairframe TRY 1001:30 801\nend 1\n";
+    let words = ["office", "try", "D-ABCD", "60000", "800", off, on, "1"];
+    run(&rt, &words)?.is(&rt, text, "", 0);
+    Ok(())
+}
+
+#[test]
+fn words_that_make_no_command_print_a_fault_alone(rt: HostRuntime) -> Result<(), Fail> {
+    let (off, on) = ("2024-03-01T08:00", "2024-03-01T09:30");
+    for (tail, minutes, landed, line) in [
+        ("D-ABCD", "60000", off, "fault shape\n"),
+        ("D ABCD", "60000", on, "fault words\n"),
+        ("D-ABCD", "-1", on, "fault words\n"),
+        ("D-ABCD", "+1", on, "fault words\n"),
+        ("D-ABCD", "", on, "fault words\n"),
+        ("D-ABCD", "4294967296", on, "fault words\n"),
+        ("D-ABCD", "60000", "2023-02-29T09:30", "fault words\n"),
+    ] {
+        let words = ["office", "try", tail, minutes, "800", off, landed, "1"];
+        run(&rt, &words)?.is(&rt, "", line, 2);
     }
     Ok(())
+}
+
+#[test]
+fn a_missing_word_prints_the_usage(rt: HostRuntime) -> Result<(), Fail> {
+    let done = run(&rt, &["office", "life", "book.db"])?;
+    assert!(rt; done.out.is_empty());
+    let text = str::from_utf8(done.err.as_slice())?;
+    assert!(rt;
+        text.starts_with("error: the following required arguments were not provided:\n  <TAIL>\n")
+    );
+    assert!(rt; text.contains("Usage: office life <FILE> <TAIL>\n"));
+    assert_eq!(rt; done.status, 2);
+    let done = run(&rt, &["office"])?;
+    assert!(rt; done.out.is_empty());
+    assert!(rt;
+        done.err
+            .as_slice()
+            .starts_with(b"error: 'office' requires a subcommand")
+    );
+    assert_eq!(rt; done.status, 2);
+    Ok(())
+}
+
+#[test]
+fn help_is_printed_to_standard_output(rt: HostRuntime) -> Result<(), Fail> {
+    for words in [["office", "--help"].as_slice(), &["office", "help", "init"]] {
+        let done = run(&rt, words)?;
+        assert!(rt; done.err.is_empty());
+        let text = str::from_utf8(done.out.as_slice())?;
+        assert!(rt; text.contains("Usage: office "));
+        assert_eq!(rt; done.status, 0);
+    }
+    Ok(())
+}
+
+#[test]
+fn a_new_book_is_empty_and_is_made_once(rt: HostRuntime) -> Result<(), Fail> {
+    let path = new_path(&rt, "new.db")?;
+    let file = path.as_str();
+    run(&rt, &["office", "init", file])?.is(&rt, "created\n", "", 0);
+    run(&rt, &["office", "life", file, "D-ABCD"])?.is(&rt, "refused 20\n", "", 1);
+    let before = fs::read(&rt, file)?;
+    run(&rt, &["office", "init", file])?.is(&rt, "", "fault exists\n", 5);
+    let after = fs::read(&rt, file)?;
+    assert_eq!(rt; before.as_slice(), after.as_slice());
+    remove(&rt, file)
+}
+
+#[test]
+fn a_file_that_is_missing_is_no_office_and_is_not_made(rt: HostRuntime) -> Result<(), Fail> {
+    let path = new_path(&rt, "missing.db")?;
+    let file = path.as_str();
+    run(&rt, &["office", "life", file, "D-ABCD"])?.is(&rt, "", "fault not-ours\n", 5);
+    assert!(rt; !fs::exists(&rt, file)?);
+    Ok(())
+}
+
+#[test]
+fn a_database_of_others_is_not_ours(rt: HostRuntime) -> Result<(), Fail> {
+    let path = new_path(&rt, "others.db")?;
+    let file = path.as_str();
+    execute(
+        &rt,
+        file,
+        "CREATE TABLE note (id INTEGER PRIMARY KEY) STRICT",
+    )?;
+    let before = fs::read(&rt, file)?;
+    run(&rt, &["office", "life", file, "D-ABCD"])?.is(&rt, "", "fault not-ours\n", 5);
+    let after = fs::read(&rt, file)?;
+    assert_eq!(rt; before.as_slice(), after.as_slice());
+    remove(&rt, file)
+}
+
+#[test]
+fn a_newer_layout_is_refused_and_kept(rt: HostRuntime) -> Result<(), Fail> {
+    let path = new_path(&rt, "newer.db")?;
+    let file = path.as_str();
+    run(&rt, &["office", "init", file])?.is(&rt, "created\n", "", 0);
+    execute(&rt, file, "UPDATE office SET layout = 9")?;
+    let before = fs::read(&rt, file)?;
+    run(&rt, &["office", "life", file, "D-ABCD"])?.is(&rt, "", "fault newer 9\n", 5);
+    let after = fs::read(&rt, file)?;
+    assert_eq!(rt; before.as_slice(), after.as_slice());
+    remove(&rt, file)
+}
+
+#[test]
+fn a_text_is_no_database(rt: HostRuntime) -> Result<(), Fail> {
+    let path = new_path(&rt, "text.db")?;
+    let file = path.as_str();
+    fs::write(&rt, file, "Tail, hours, cycles\n")?;
+    run(&rt, &["office", "life", file, "D-ABCD"])?.is(&rt, "", "fault store\n", 5);
+    run(&rt, &["office", "init", file])?.is(&rt, "", "fault store\n", 5);
+    let kept = fs::read_to_string(&rt, file)?;
+    assert_eq!(rt; kept.as_str(), "Tail, hours, cycles\n");
+    remove(&rt, file)
 }

@@ -1,7 +1,10 @@
-//! The words of the program `office`, and what they print.
+//! The words of the program `office`: what each does, what it prints to which stream, and the status.
 #![tactic(auto)]
 
-pub mod days;
+mod database;
+mod fault;
 pub mod run;
+mod trial;
+mod words;
 
 pub use run::run_words;

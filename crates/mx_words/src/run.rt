@@ -1,57 +1,174 @@
-//! The program on its words: what it prints, and its status.
+//! The program on its words.
+ghost use Rattle.std.specs.Prelude.{◌≡◌, ◌≢◌, ◌↔◌, ◌⊎◌, ◌≤◌, false, IfOk};
 
-use crate::days::{day_of_word, print_day_line};
-use std::alloc::{AllocError, Global};
+use crate::database::{enter_all, make, open, print_life};
+use crate::fault::{BAD_WORDS, DONE, STOPPED, Stop};
+use crate::trial::commands_of;
+use crate::words::{Trial, Words, command, words_of};
+use clap::Error as WordsError;
+use clap::error::ErrorKind as WordsKind;
+use mx_base::Tail;
+use mx_command::Command;
+use mx_layout::TableFault;
+use mx_office::{Fault, Office, OpenFault};
+use sqlite::{Alter, Connection, Error, ErrorCode, FileFrom, FileStore, Wary};
+use std::alloc::Global;
+use std::fs;
 use std::io::Write;
 
-/// Everything was done.
-pub const DONE: u8 = 0;
-
-/// The words are none that the program takes.
-pub const BAD_WORDS: u8 = 2;
-
-/// Memory ran out, or a writer failed.
-pub const FAULT: u8 = 4;
-
-// Why nothing was printed.
-#[derive(Drop)]
-enum DaysFault {
-    Memory,
-    Words,
+// Applies the commands of a trial, and appends the replies and the life of its aircraft.
+fn try_commands<S: Alter>(
+    alloc: Global,
+    office: &mut Office<S>,
+    commands: &[Command],
+    tail: &Tail,
+    out: &mut Vec<u8>,
+) -> Result<u8, Stop>
+    ensures bound { IfOk result (λ status. status ≤ 1) }
+{
+    let entered = enter_all(alloc, office, commands, out)?;
+    let asked = print_life(alloc, office, tail, out)?;
+    Ok(entered.max(asked))
 }
 
-impl From<AllocError> for DaysFault {
-    fn from(_error: AllocError) -> DaysFault {
-        DaysFault::Memory
+// Enters an aircraft and one sector into a store in memory, and appends the replies and the life.
+fn try_out(alloc: Global, trial: &Trial, out: &mut Vec<u8>) -> Result<u8, Stop>
+    ensures bound { IfOk result (λ status. status ≤ 1) }
+{
+    let commands = commands_of(alloc, trial)?;
+    let Ok(mut conn) = Connection::open_in_memory(alloc) else {
+        return Err(Stop::Open(OpenFault::Memory));
+    };
+    make(&mut conn)?;
+    let mut office = open(conn)?;
+    let tried = try_commands(alloc, &mut office, commands.as_slice(), &trial.tail, out);
+    drop(office.close());
+    tried
+}
+
+// Why no database was opened.
+fn open_fault_of(error: Error) -> OpenFault
+    ensures memory { (result ≡ OpenFault.Memory) ↔ (error ≡ Error.SqliteFailure ErrorCode.OutOfMemory) }
+    ensures kind { (result ≡ OpenFault.Memory) ⊎ (result ≡ OpenFault.Store) }
+{
+    match error {
+        Error::SqliteFailure(ErrorCode::OutOfMemory) => OpenFault::Memory,
+        _ => OpenFault::Store,
     }
 }
 
-// The lines of the days that the words name.
-fn lines_of_days(alloc: Global, words: &[String]) -> Result<Vec<u8>, DaysFault> {
-    let mut lines = Vec::new(alloc);
-    for word in words {
-        let Some(day) = day_of_word(word.as_str()) else {
-            return Err(DaysFault::Words);
-        };
-        print_day_line(&mut lines, day)?;
+// Opens the database in a file, which is made where it isn't there.
+fn open_file(rt: &HostRuntime, file: &str) -> Result<Connection<FileStore<FileFrom<Wary>>>, Stop>
+    ensures idle { IfOk result (λ conn. conn.in_transaction ≡ false) }
+{
+    match Connection::open_from(rt, file, false, Wary) {
+        Ok(conn) => Ok(conn),
+        Err((error, _)) => Err(Stop::Open(open_fault_of(error))),
     }
-    Ok(lines)
 }
 
-/// Runs the program on its words, the first of which is its name: each further word is a day, by its date
-/// or its number, and gives a line with both. Prints to the two writers, and answers the status: 0 where
-/// all was done, 2 with `fault words` where a word is no day, 4 where memory or a writer failed.
+// Makes an empty book in a file.
+fn init(rt: &HostRuntime, file: &str, out: &mut Vec<u8>) -> Result<u8, Stop>
+    ensures done { IfOk result (λ status. status ≡ 0) }
+{
+    let mut conn = open_file(rt, file)?;
+    make(&mut conn)?;
+    if conn.close().is_err() {
+        return Err(Stop::Create(TableFault::Store));
+    }
+    if out.extend_from_slice(b"created\n").is_err() {
+        return Err(Stop::Create(TableFault::Memory));
+    }
+    Ok(DONE)
+}
+
+// Appends the life of an aircraft. A file that isn't there is no office, and is not made.
+fn life(rt: &HostRuntime, file: &str, tail: &Tail, out: &mut Vec<u8>) -> Result<u8, Stop>
+    ensures bound { IfOk result (λ status. status ≤ 1) }
+{
+    if let Ok(false) = fs::exists(rt, file) {
+        return Err(Stop::Open(OpenFault::NotOurs));
+    }
+    let mut office = open(open_file(rt, file)?)?;
+    let printed = print_life(rt.alloc(), &mut office, tail, out);
+    if office.close().close().is_err() && printed.is_ok() {
+        return Err(Stop::Office(Fault::Store));
+    }
+    printed
+}
+
+fn perform(rt: &HostRuntime, words: &Words<'_>, out: &mut Vec<u8>) -> Result<u8, Stop>
+    ensures bound { IfOk result (λ status. status ≤ 1) }
+{
+    match words {
+        Words::Try(trial) => try_out(rt.alloc(), trial, out),
+        Words::Init { file } => init(rt, file, out),
+        Words::Life { file, tail } => life(rt, file, tail, out),
+    }
+}
+
+// Prints clap's text of help or of a fault, and answers the status.
+fn print_usage<O: Write, E: Write>(error: &WordsError, out: &mut O, err: &mut E) -> u8
+    ensures named { (result ≡ 0) ⊎ ((result ≡ 2) ⊎ (result ≡ 4)) }
+{
+    let (written, status) = if error.use_stderr() {
+        (write!(err, "{error}"), BAD_WORDS)
+    } else {
+        (write!(out, "{error}"), DONE)
+    };
+    if written.is_err() { STOPPED } else { status }
+}
+
+// Prints what was done, and the fault that stopped it; answers the status.
+fn print_done<O: Write, E: Write>(
+    text: &[u8],
+    done: Result<u8, Stop>,
+    out: &mut O,
+    err: &mut E,
+) -> u8
+    requires { IfOk done (λ status. status ≤ 1) }
+    ensures bound { result ≤ 5 }
+    ensures named { result ≢ 3 }
+{
+    let printed = out.write_all(text);
+    let (reported, status) = match done {
+        Ok(status) => (Ok(()), status),
+        Err(stop) => (stop.write(err), stop.status()),
+    };
+    if printed.is_err() || reported.is_err() {
+        return status.max(STOPPED);
+    }
+    status
+}
+
+/// Runs the program on its words, the first of which is its name. Prints replies, reports and help to `out`,
+/// faults and usage to `err`, and answers the status: 0 where all was done; 1 where a reply or a question was
+/// refused; 2 for words that it does not take; 4 for a fault after the database was opened; 5 where it could
+/// not be opened or made.
 pub fn run_words<O: Write, E: Write>(
     rt: &HostRuntime,
     words: &[String],
     out: &mut O,
     err: &mut E,
-) -> u8 {
-    let days = words.get(1..).unwrap_or(&[]);
-    let (written, status) = match lines_of_days(rt.alloc(), days) {
-        Ok(lines) => (out.write_all(lines.as_slice()), DONE),
-        Err(DaysFault::Words) => (err.write_all(b"fault words\n"), BAD_WORDS),
-        Err(DaysFault::Memory) => (err.write_all(b"fault memory\n"), FAULT),
+) -> u8
+    ensures bound { result ≤ 5 }
+    ensures named { result ≢ 3 }
+{
+    let Ok(command) = command(rt.alloc()) else {
+        return print_done(&[], Err(Stop::MakeMemory), out, err);
     };
-    if written.is_err() { FAULT } else { status }
+    match command.try_get_matches_from(words) {
+        Err(error) if error.kind() == WordsKind::OutOfMemory => {
+            print_done(&[], Err(Stop::MakeMemory), out, err)
+        }
+        Err(error) => print_usage(&error, out, err),
+        Ok(matches) => {
+            let mut text = Vec::new(rt.alloc());
+            let done = match words_of(&matches) {
+                Some(words) => perform(rt, &words, &mut text),
+                None => Err(Stop::Words),
+            };
+            print_done(&text, done, out, err)
+        }
+    }
 }

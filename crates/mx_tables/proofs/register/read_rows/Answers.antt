@@ -13,16 +13,16 @@ pub returns-in-Err-clause-within : goal.returns-in-Err-clause-within
 returns-in-Err-clause-within g c = record { survives = c.query_all.ensures.survives; kept = λ clean inside. query_keeps (state g.S.Store c.args.tx.now.conn.now) (state g.S.Store c.query_all.new.self.conn.now) c.args.sql.now [] _ (c.in-Err.ensures.err clean) }
 
 pub returns-in-Err-clause-inside : goal.returns-in-Err-clause-inside
-returns-in-Err-clause-inside g c clean inside = not_read (StaysInside (state g.S.Store c.args.tx.now.conn.now) (state g.S.Store c.query_all.new.self.conn.now)) _ c.fault_of.ensures
+returns-in-Err-clause-inside g c clean inside = not_read (StaysInside (state g.S.Store c.args.tx.now.conn.now) (state g.S.Store c.query_all.new.self.conn.now)) _ c.fault_of.ensures.stop
 
 pub returns-in-Err-clause-unchanged : goal.returns-in-Err-clause-unchanged
-returns-in-Err-clause-unchanged g c shown shows clean = not_read (IsUnchanged (state g.S.Store c.args.tx.now.conn.now) (state g.S.Store c.query_all.new.self.conn.now)) _ c.fault_of.ensures
+returns-in-Err-clause-unchanged g c shown shows clean = not_read (IsUnchanged (state g.S.Store c.args.tx.now.conn.now) (state g.S.Store c.query_all.new.self.conn.now)) _ c.fault_of.ensures.stop
 
 pub returns-in-Err-clause-damaged : goal.returns-in-Err-clause-damaged
-returns-in-Err-clause-damaged g c shown shows clean is = absurd (never_damaged _ c.fault_of.ensures is)
+returns-in-Err-clause-damaged g c shown shows clean is = absurd (never_damaged _ c.fault_of.ensures.stop is)
 
 pub returns-in-Err-clause-cause : goal.returns-in-Err-clause-cause
-returns-in-Err-clause-cause g c = elim c.fault_of.ensures [ inl memory ↦ inl memory | inr store ↦ inr (inl store) ]
+returns-in-Err-clause-cause g c = elim c.fault_of.ensures.stop [ inl memory ↦ inl memory | inr store ↦ inr (inl store) ]
 
 pub returns-clause-within : goal.returns-clause-within
 returns-clause-within g c = record { survives = c.query_all.ensures.survives; kept = λ clean inside. shown_keeps (state g.S.Store c.args.tx.now.conn.now) (state g.S.Store c.query_all.new.self.conn.now) c.args.sql.now [] c.in-Ok.found.items inside (c.in-Ok.ensures.ok clean) }

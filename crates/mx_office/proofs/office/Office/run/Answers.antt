@@ -4,8 +4,17 @@ use Rattle.sqlite.specs.State.{HasCleanDisk}
 use Rattle.mx_layout.specs.Crash.{Leaves}
 use Rattle.mx_office.specs.Stands.{Rests, IsEither}
 use Rattle.mx_book.specs.Run.{book_run, replies}
-use Rattle.mx_office.proofs.RunLemmas.{next_run, next_replies}
+use Rattle.mx_office.specs.declared.fault.Fault.TheVariants.{Store, Damaged}
+use Rattle.mx_office.proofs.RunLemmas.{next_run, next_replies, stop_of, err_of}
 use Rattle.mx_office.proofs.office.Office.run.Goals as goal
+
+pub returns-in-Err-clause-goes_on : goal.returns-in-Err-clause-goes_on
+returns-in-Err-clause-goes_on g c usable other =
+    c.apply.ensures.goes_on (c.loop-command.invariant.works usable) (λ same. other (stop_of c.in-Err.fault Store c.apply.result c.in-Err.is same))
+
+pub returns-in-Err-clause-whole : goal.returns-in-Err-clause-whole
+returns-in-Err-clause-whole g c book rests clean table is =
+    c.apply.ensures.whole (book_run book (take c.loop-command.command-index c.args.commands.now)) (c.loop-command.invariant.rests book rests) clean table (err_of c.in-Err.fault (Damaged table) c.apply.result c.in-Err.is is)
 
 pub returns-in-Err-clause-kept : goal.returns-in-Err-clause-kept
 returns-in-Err-clause-kept g c book rests other =
@@ -32,6 +41,8 @@ loop-command-preserved g c =
     record {
       count = search rules;
       room = search rules;
+      held = λ stuck. search rules;
+      works = λ usable. search rules;
       clean = omega (arith, c.loop-command.invariant.clean, c.apply.ensures.clean);
       rests = λ book rests. subst (Rests (state g.S.Store c.apply.new.self.conn)) (sym (next_run book cs i c.command-item.result low c.command-item.is)) (c.in-Ok-apply.ensures.kept (book_run book (take i cs)) (c.loop-command.invariant.rests book rests));
       said = λ book rests clean.

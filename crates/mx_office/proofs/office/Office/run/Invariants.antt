@@ -1,4 +1,4 @@
-use Rattle.std.proofs.Common.{◌≡◌, ◌≤◌, length, take, List}
+use Rattle.std.proofs.Common.{◌≡◌, ◌≤◌, length, take, List, true, false}
 use Rattle.std.specs.Prelude.{vec_capacity}
 use Rattle.sqlite.specs.Held.{state}
 use Rattle.sqlite.specs.State.{HasCleanDisk}
@@ -12,6 +12,8 @@ abbrev pub invariant-loop-command : goal.invariant-loop-command
 invariant-loop-command g l = record {
   count : length l.replies.items ≡ l.command-index;
   room : length l.commands ≤ vec_capacity l.replies;
+  held : l.fn.self.needs_reopen ≡ true → (l.self ≡ l.fn.self) × (l.command-index ≡ 0);
+  works : l.fn.self.needs_reopen ≡ false → l.self.needs_reopen ≡ false;
   clean : doubt (state g.S.Store l.fn.self.conn).is_clean ≤ doubt (state g.S.Store l.self.conn).is_clean;
   rests : (book : List Entry) → Rests (state g.S.Store l.fn.self.conn) book → Rests (state g.S.Store l.self.conn) (book_run book (take l.command-index l.commands));
   said : (book : List Entry) → Rests (state g.S.Store l.fn.self.conn) book → HasCleanDisk (state g.S.Store l.self.conn) → l.replies.items ≡ replies book (take l.command-index l.commands);

@@ -1,0 +1,66 @@
+//! The trial: an aircraft and one sector, entered into a store in memory.
+
+ghost use Rattle.std.specs.Prelude.{◌≡◌, ◌↔◌, length, IfOk};
+
+use crate::fault::Stop;
+use crate::words::Trial;
+use mx_base::{Day, Doc, Kind, Moment, Use};
+use mx_command::{Body, Command, MakeFault};
+use std::alloc::Global;
+
+fn stop_of(fault: MakeFault) -> Stop
+    ensures shape { (result ≡ Stop.Shape) ↔ (fault ≡ MakeFault.BadShape) }
+    ensures memory { (result ≡ Stop.MakeMemory) ↔ (fault ≡ MakeFault.Memory) }
+{
+    match fault {
+        MakeFault::Memory => Stop::MakeMemory,
+        MakeFault::BadShape => Stop::Shape,
+    }
+}
+
+fn aircraft_of(alloc: Global, trial: &Trial) -> Result<Command, Stop> {
+    let (Ok(doc), Ok(kind), Some(birth)) = (Doc::read("A1"), Kind::read("TRY"), Day::of_number(0))
+    else {
+        return Err(Stop::Shape);
+    };
+    let body = Body::AddAircraft {
+        tail: trial.tail,
+        kind,
+        birth,
+        opening: Use {
+            minutes: trial.minutes,
+            cycles: trial.cycles,
+        },
+        as_of: Moment::FIRST,
+        positions: Vec::new(alloc),
+    };
+    Command::make(alloc, doc, body).map_err(stop_of)
+}
+
+fn sector_of(alloc: Global, trial: &Trial) -> Result<Command, Stop> {
+    let body = Body::Sector {
+        tail: trial.tail,
+        page: 1,
+        line: 1,
+        off: trial.off,
+        on: trial.on,
+        cycles: trial.sector_cycles,
+    };
+    Command::sector(alloc, body).map_err(stop_of)
+}
+
+/// The two commands of a trial: the aircraft `A1` of kind `TRY`, built and as of the first moment, and the
+/// sector of page 1 line 1. `Shape` where one of them lacks its shape.
+pub(crate) fn commands_of(alloc: Global, trial: &Trial) -> Result<Vec<Command>, Stop>
+    ensures two { IfOk result (λ commands. length commands.items ≡ 2) }
+{
+    let aircraft = aircraft_of(alloc, trial)?;
+    let sector = sector_of(alloc, trial)?;
+    let Ok(mut commands) = Vec::with_capacity(alloc, 2) else {
+        return Err(Stop::MakeMemory);
+    };
+    if commands.push(aircraft).is_err() || commands.push(sector).is_err() {
+        return Err(Stop::MakeMemory);
+    }
+    Ok(commands)
+}
