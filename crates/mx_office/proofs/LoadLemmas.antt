@@ -1,5 +1,5 @@
 -- What is read from the tables that stand for a book.
-use Rattle.std.proofs.Common.{◌≡◌, ◌≢◌, ◌⊎◌, inl, inr, ℕ, suc, ◌==◌, cond, Some, None, ◌+◌, ◌<◌, ◌≤◌, pos, List, [], ◌∷◌, map, length, All, slice_index_or, false, refl, sym, ap, subst, ◌∙◌, arith, Result, Ok, Err, OnOk}
+use Rattle.std.proofs.Common.{◌≡◌, ◌≢◌, ◌⊎◌, inl, inr, ℕ, suc, Some, None, ◌+◌, ◌<◌, ◌≤◌, pos, List, [], ◌∷◌, map, length, All, slice_index_or, false, refl, sym, ap, subst, ◌∙◌, arith, Result, Ok, Err, OnOk}
 use Rattle.std.specs.Ordering.{is_lt, on}
 use Rattle.std.specs.List.Sorted.{IsPermutation, IsSorted}
 use Rattle.std.proofs.lemmas.Int.{ints}
@@ -8,20 +8,17 @@ use Rattle.std.proofs.lemmas.List.Sorted.{IsPermutation-refl, IsPermutation-tran
 use Rattle.std.proofs.lemmas.List.Elements.{All-map, All-nil}
 use Rattle.sqlite_value.proofs.OrderLemmas.{value_cmp-Int}
 use Rattle.sqlite.specs.declared.types.Value.{Value}
-use Rattle.sqlite.specs.declared.types.Value.TheVariants.{Int, Text}
+use Rattle.sqlite.specs.declared.types.Value.TheVariants.{Int}
 use Rattle.sqlite.specs.Order.{Row, column, value_cmp}
 use Rattle.sqlite.specs.Table.{Table}
 use Rattle.sqlite.specs.Tree.{Trees}
 use Rattle.sqlite.specs.Effect.{Database}
 use Rattle.sqlite.specs.State.{State, IsUnchanged}
-use Rattle.mx_base.proofs.RoundTrips.{moment_text_injective}
 use Rattle.mx_command.specs.Act.{Entry}
-use Rattle.mx_register.specs.declared.rows.EntryKind.{EntryKind}
-use Rattle.mx_register.specs.declared.rows.EntryKind.TheVariants.{AddAircraft, Sector}
 use Rattle.mx_register.specs.declared.rows.EntryRow.{EntryRow}
 use Rattle.mx_register.specs.declared.rows.AircraftRow.{AircraftRow}
 use Rattle.mx_register.specs.declared.rows.SectorRow.{SectorRow}
-use Rattle.mx_register.specs.Rows.{kind_number, FitsEntry, FitsAircraft, FitsSector}
+use Rattle.mx_register.specs.Rows.{FitsEntry, FitsAircraft, FitsSector}
 use Rattle.mx_register.specs.Registers.{entry_rows, aircraft_rows, sector_rows}
 use Rattle.mx_register.specs.Rising.{IsRising, IsFrom}
 use Rattle.mx_register.proofs.RegisterLemmas.{entry_rows-rising, aircraft_rows-rising, sector_rows-rising}
@@ -31,6 +28,7 @@ use Rattle.mx_layout.specs.Contents.{rows_in}
 use Rattle.mx_layout.specs.Reading.{AreAll, HasOther, IsRowOf}
 use Rattle.mx_layout.specs.Making.{IsEmptyBook}
 use Rattle.mx_layout.specs.Tables.{layout_1, entry, aircraft, sector1}
+use Rattle.mx_tables.proofs.CellLemmas.{entry_once, aircraft_once, sector_once, cells_once}
 use Rattle.mx_tables.specs.Cells.{entry_cells, aircraft_cells, sector_cells}
 use Rattle.mx_layout.specs.declared.fault.Table.{Table as Named}
 use Rattle.mx_layout.specs.declared.fault.TableFault.{TableFault}
@@ -45,28 +43,11 @@ abbrev number_of : Value → ℕ
 number_of (Int (pos n)) = n
 number_of _ = 0
 
-abbrev text_of : Value → List ℕ
-text_of (Text bytes) = bytes
-text_of _ = []
-
 abbrev row_key : Row → ℕ
-row_key row = number_of (column row 0)
+row_key values = number_of (column values 0)
 
 not_less : (a b : ℕ) → is_lt (value_cmp (Int (pos b)) (Int (pos a))) ≡ false → a ≤ b
 not_less a b h = let e = value_cmp-Int (pos b) (pos a) in grind (arith, ints, nat_tests)
-
--- lists that have one image are one, where rows that fit have one image only if they are one
-fitting_once : {X Y : Type 0} (f : X → Y) (Fits : X → Type 0) → ((a b : X) → Fits a → Fits b → f a ≡ f b → a ≡ b) → (xs ys : List X) → All Fits xs → All Fits ys → map f xs ≡ map f ys → xs ≡ ys
-fitting_once f Fits once [] [] p q e = refl
-fitting_once f Fits once [] (y ∷ ys) p q e = (cc)
-fitting_once f Fits once (x ∷ xs) [] p q e = (cc)
-fitting_once f Fits once (x ∷ xs) (y ∷ ys) p q e =
-    let head : f x ≡ f y = cc in
-    let tail : map f xs ≡ map f ys = cc in
-    let first : Fits x = p 0 x (omega arith) in
-    let other : Fits y = q 0 y (omega arith) in
-    ap (λ z. z ∷ xs) (once x y first other head)
-    ∙ ap (λ zs. y ∷ zs) (fitting_once f Fits once xs ys (λ i d low. p (suc i) d (omega arith)) (λ i d low. q (suc i) d (omega arith)) tail)
 
 module _ {X : Type 0} (as_cells : X → Row) (Fits : X → Type 0) (key : X → ℕ) (first : (x : X) → column (as_cells x) 0 ≡ Int (pos (key x))) where
   keys : (x : X) → key x ≡ row_key (as_cells x)
@@ -93,7 +74,7 @@ module _ {X : Type 0} (as_cells : X → Row) (Fits : X → Type 0) (key : X → 
         let same = IsPermutation-trans _ _ _ is all.all in
         let rising = IsRising-map as_cells key row_key keys low high register up in
         let from = IsFrom-map as_cells key row_key keys 0 read (from_sorted 0 read (λ d _. omega arith) all.sorted) in
-        sym (fitting_once as_cells Fits once register read fit fits (sorted_once row_key low 0 high (map as_cells register) (map as_cells read) rising from same))
+        sym (cells_once as_cells Fits once register read fit fits (sorted_once row_key low 0 high (map as_cells register) (map as_cells read) rising from same))
 
     -- no row of the table is none of the type
     pub none_damaged : ¬ HasOther (IsRowOf as_cells Fits) (rows_in table trees)
@@ -106,62 +87,8 @@ module _ {X : Type 0} (as_cells : X → Row) (Fits : X → Type 0) (key : X → 
     pub register_once : (low high : ℕ) (other : List X) (up : ℕ) → IsRising key low register high → Shows as_cells other table trees → All Fits other → IsRising key low other up → register ≡ other
     register_once low high other up rising shows fits others =
         let same = IsPermutation-trans _ _ _ is (IsPermutation-sym _ _ shows) in
-        fitting_once as_cells Fits once register other fit fits (sorted_once row_key low low high (map as_cells register) (map as_cells other)
+        cells_once as_cells Fits once register other fit fits (sorted_once row_key low low high (map as_cells register) (map as_cells other)
         (IsRising-map as_cells key row_key keys low high register rising) (IsFrom-map as_cells key row_key keys low other (IsFrom-rising key low up other others)) same)
-
--- ── a row that fits is that of its values ──
-
-abbrev kind_decoded : ℕ → EntryKind
-kind_decoded n = cond (n == 1) AddAircraft Sector
-
-back_kind : (k : EntryKind) → kind_decoded (kind_number k) ≡ k
-back_kind AddAircraft = refl
-back_kind Sector = refl
-
-abbrev entry_decoded : Row → EntryRow
-entry_decoded row = record { seq = number_of (column row 0); doc = text_of (column row 1); kind = kind_decoded (number_of (column row 2)) }
-
-entry_back : (e : EntryRow) → entry_decoded (entry_cells e) ≡ e
-entry_back e = ap (λ (k : EntryKind). let r : EntryRow = record { seq = e.seq; doc = e.doc; kind = k } in r) (back_kind e.kind)
-
-entry_once : (a b : EntryRow) → FitsEntry a → FitsEntry b → entry_cells a ≡ entry_cells b → a ≡ b
-entry_once a b _ _ e = sym (entry_back a) ∙ ap entry_decoded e ∙ entry_back b
-
-abbrev aircraft_decoded : Row → AircraftRow
-aircraft_decoded row = record {
-  seq = number_of (column row 0);
-  tail = text_of (column row 1);
-  kind = text_of (column row 2);
-  birth = number_of (column row 3);
-  minutes = number_of (column row 4);
-  cycles = number_of (column row 5);
-  as_of = number_of (column row 6);
-}
-
-aircraft_once : (a b : AircraftRow) → FitsAircraft a → FitsAircraft b → aircraft_cells a ≡ aircraft_cells b → a ≡ b
-aircraft_once a b _ _ e = ap aircraft_decoded e
-
--- a sector row with other moments
-abbrev with_moments : SectorRow → ℕ → ℕ → SectorRow
-with_moments r off on = record { seq = r.seq; aircraft = r.aircraft; page = r.page; line = r.line; took_off = off; landed = on; cycles = r.cycles }
-
-abbrev numbers_decoded : ℕ → ℕ → Row → SectorRow
-numbers_decoded off on row = record {
-  seq = number_of (column row 0);
-  aircraft = number_of (column row 1);
-  page = number_of (column row 2);
-  line = number_of (column row 3);
-  took_off = off;
-  landed = on;
-  cycles = number_of (column row 6);
-}
-
-sector_once : (a b : SectorRow) → FitsSector a → FitsSector b → sector_cells a ≡ sector_cells b → a ≡ b
-sector_once a b p q e =
-    let off : a.took_off ≡ b.took_off = moment_text_injective a.took_off b.took_off p.took_off q.took_off (ap (λ row. text_of (column row 4)) e) in
-    let on : a.landed ≡ b.landed = moment_text_injective a.landed b.landed p.landed q.landed (ap (λ row. text_of (column row 5)) e) in
-    let numbers : with_moments a a.took_off a.landed ≡ with_moments b a.took_off a.landed = ap (numbers_decoded a.took_off a.landed) e in
-    numbers ∙ ap (λ off. with_moments b off a.landed) off ∙ ap (λ on. with_moments b b.took_off on) on
 
 -- ── the tables of a book ──
 
