@@ -3,10 +3,10 @@ use Rattle.std.proofs.Common.{rules, ◌≡◌, refl, sym, ◌∙◌, ap, ℕ, L
 use Rattle.std.specs.Bool.{Decides}
 use Rattle.std.specs.Cmp.Lexicographic.{pointwise}
 use Rattle.std.proofs.lemmas.Slice.Eq.{slice_eq-Decides}
-use Rattle.mx_command.specs.Act.{Act, Entry, act_of, Added, Flown}
+use Rattle.mx_command.specs.Act.{Act, Entry, act_of, Added, Listed, Flown, Fitted, Removed}
 use Rattle.mx_command.specs.Same.{same_act, same_entry, same_text, same_position}
 use Rattle.mx_command.specs.declared.body.Body.{Body}
-use Rattle.mx_command.specs.declared.body.Body.TheVariants.{AddAircraft, Sector as FlewSector}
+use Rattle.mx_command.specs.declared.body.Body.TheVariants.{AddAircraft, AddComponent, Sector as FlewSector, Fit, Remove}
 use Rattle.mx_command.specs.declared.aircraft.Aircraft.{Aircraft}
 use Rattle.mx_command.specs.declared.sector.Sector.{Sector}
 use Rattle.mx_command.specs.contracts.body.BodyPartialEq.TheImpl as body
@@ -16,7 +16,10 @@ use Rattle.mx_command.specs.contracts.aircraft.AircraftPartialEq.TheImpl as airc
 -- the derived test of two bodies is that of what they say
 pub body_same : (a b : Body) → (body.ghosts).eq a b ≡ same_act (act_of a) (act_of b)
 body_same (AddAircraft tail kind birth opening as_of positions) (AddAircraft tail' kind' birth' opening' as_of' positions') = refl
+body_same (AddComponent serial part birth opening as_of) (AddComponent serial' part' birth' opening' as_of') = refl
 body_same (FlewSector tail page line off on cycles) (FlewSector tail' page' line' off' on' cycles') = refl
+body_same (Fit serial tail position moment) (Fit serial' tail' position' moment') = refl
+body_same (Remove serial moment) (Remove serial' moment') = refl
 body_same _ _ = refl
 
 pub text_same : (a b : List ℕ) → Decides (same_text a b) (a ≡ b)
@@ -56,7 +59,10 @@ added_same a b ps qs = search (rules, aircraft_same, positions_same, both)
 
 act_same : (a b : Act) → Decides (same_act a b) (a ≡ b)
 act_same (Added a ps) (Added b qs) = decides_along _ (simp and_assoc) (added_same a b ps qs)
+act_same (Listed a) (Listed b) = search rules
 act_same (Flown a) (Flown b) = search (rules, sector_same)
+act_same (Fitted a) (Fitted b) = search rules
+act_same (Removed a) (Removed b) = search rules
 act_same _ _ = ((λ h. (cc)), (λ h. (cc)))
 
 entry_with : List ℕ → Act → Entry

@@ -1,14 +1,20 @@
 -- What a command says, with lists where the code has vectors.
-use Rattle.std.specs.Prelude.{ℕ, List, Option, Some, None}
+use Rattle.std.specs.Prelude.{ℕ, List, [], Option, Some, None}
 use Rattle.mx_command.specs.declared.aircraft.Aircraft.{Aircraft}
+use Rattle.mx_command.specs.declared.component.Component.{Component}
 use Rattle.mx_command.specs.declared.sector.Sector.{Sector}
+use Rattle.mx_command.specs.declared.fitting.Fitting.{Fitting}
+use Rattle.mx_command.specs.declared.fitting.Removal.{Removal}
 use Rattle.mx_command.specs.declared.body.Body.{Body}
-use Rattle.mx_command.specs.declared.body.Body.TheVariants.{AddAircraft, Sector as FlewSector}
+use Rattle.mx_command.specs.declared.body.Body.TheVariants.{AddAircraft, AddComponent, Sector as FlewSector, Fit, Remove}
 
--- what a command says, a case for each kind of command: an aircraft and its positions was added, a sector was flown
+-- what a command says, a case for each kind of command: an aircraft with its positions was added, a component was listed, a sector was flown, a component was fitted or removed
 pub data Act : Type 0 where
   Added : Aircraft → List (List ℕ × List ℕ) → Act
+  Listed : Component → Act
   Flown : Sector → Act
+  Fitted : Fitting → Act
+  Removed : Removal → Act
 
 -- a command, which once accepted is an entry: its document, and what it says
 pub record Entry : Type 0 where
@@ -18,14 +24,37 @@ pub record Entry : Type 0 where
 -- what a body says
 abbrev pub act_of : Body → Act
 act_of (AddAircraft tail kind birth opening as_of positions) = Added (record { tail = tail; kind = kind; birth = birth; opening = opening; as_of = as_of }) positions.items
+act_of (AddComponent serial part birth opening as_of) = Listed (record { serial = serial; part = part; birth = birth; opening = opening; as_of = as_of })
 act_of (FlewSector tail page line off on cycles) = Flown (record { tail = tail; page = page; line = line; off = off; on = on; cycles = cycles })
+act_of (Fit serial tail position moment) = Fitted (record { serial = serial; tail = tail; position = position; moment = moment })
+act_of (Remove serial moment) = Removed (record { serial = serial; moment = moment })
 
 -- the aircraft, where one was added
 abbrev pub aircraft_of : Act → Option Aircraft
 aircraft_of (Added aircraft positions) = Some aircraft
 aircraft_of _ = None
 
+-- the positions of the aircraft, each with the part that it takes, where one was added
+abbrev pub positions_of : Act → List (List ℕ × List ℕ)
+positions_of (Added aircraft positions) = positions
+positions_of _ = []
+
+-- the component, where one was listed
+abbrev pub component_of : Act → Option Component
+component_of (Listed component) = Some component
+component_of _ = None
+
 -- the sector, where one was flown
 abbrev pub sector_of : Act → Option Sector
 sector_of (Flown sector) = Some sector
 sector_of _ = None
+
+-- the fitting, where a component was fitted
+abbrev pub fitting_of : Act → Option Fitting
+fitting_of (Fitted fitting) = Some fitting
+fitting_of _ = None
+
+-- the removal, where a component was removed
+abbrev pub removal_of : Act → Option Removal
+removal_of (Removed removal) = Some removal
+removal_of _ = None

@@ -1,9 +1,9 @@
 -- The shape that each command has: the bounds of its amounts, and its document.
-use Rattle.std.specs.Prelude.{ℕ, ◌+◌, ◌/◌, List, ◌∷◌, ◌++◌, Bool, false, not, ◌&&◌, Option, Some, None, nat_eq, nat_le, codes, if◌then◌else◌, length}
-use Rattle.std.specs.List.{starts_with}
+use Rattle.std.specs.Prelude.{ℕ, ◌+◌, ◌/◌, List, [], ◌∷◌, ◌++◌, Bool, true, false, not, ◌&&◌, Option, Some, None, nat_eq, nat_le, codes, if◌then◌else◌, length}
+use Rattle.std.specs.List.{list_any, starts_with}
 use Rattle.std.specs.Fmt.{decimal}
 use Rattle.mx_base.specs.declared.amounts.Use.{Use}
-use Rattle.mx_command.specs.Act.{Act, Entry, Added, Flown}
+use Rattle.mx_command.specs.Act.{Act, Entry, Added, Listed, Flown, Fitted, Removed}
 use Rattle.mx_command.specs.Same.{same_text}
 use Rattle.mx_command.specs.declared.sector.Sector.{Sector}
 
@@ -24,14 +24,26 @@ abbrev pub sector_shape : Sector → Bool
 sector_shape s =
     within 1 999999 s.page && (within 1 99 s.line && (within (s.off + 1) (s.off + 1440) s.on && within 1 50 s.cycles))
 
--- an aircraft has no positions so far
-abbrev pub no_positions : List (List ℕ × List ℕ) → Bool
-no_positions positions = nat_eq (length positions) 0
+-- the positions have the same name
+abbrev pub same_name : List ℕ × List ℕ → List ℕ × List ℕ → Bool
+same_name a b = same_text a.0 b.0
+
+-- no two are the same
+abbrev pub are_distinct : {X : Type 0} → (X → X → Bool) → List X → Bool
+are_distinct same [] = true
+are_distinct same (x ∷ xs) = not (list_any (same x) xs) && are_distinct same xs
+
+-- the positions of an aircraft: up to 40, of distinct names
+abbrev pub positions_shape : List (List ℕ × List ℕ) → Bool
+positions_shape positions = nat_le (length positions) 40 && are_distinct same_name positions
 
 -- the shape of what a command says
 abbrev pub act_shape : Act → Bool
-act_shape (Added a positions) = opening_shape a.birth a.opening a.as_of && no_positions positions
+act_shape (Added a positions) = opening_shape a.birth a.opening a.as_of && positions_shape positions
+act_shape (Listed c) = opening_shape c.birth c.opening c.as_of
 act_shape (Flown sector) = sector_shape sector
+act_shape (Fitted fitting) = true
+act_shape (Removed removal) = true
 
 -- a document of the technical log begins with TL/
 abbrev pub is_log_doc : List ℕ → Bool

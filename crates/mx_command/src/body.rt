@@ -1,10 +1,12 @@
 //! What a command says.
 ghost use Rattle.std.specs.Prelude.{◌≡◌, IfOk};
-ghost use Rattle.mx_command.specs.Act.{act_of, aircraft_of, sector_of};
+ghost use Rattle.mx_command.specs.Act.{act_of, aircraft_of, component_of, sector_of, fitting_of, removal_of};
 
 use crate::aircraft::Aircraft;
+use crate::component::Component;
+use crate::fitting::{Fitting, Removal};
 use crate::sector::Sector;
-use mx_base::{Day, Kind, Moment, Part, Position, Tail, Use};
+use mx_base::{Day, Kind, Moment, Part, Position, Serial, Tail, Use};
 use std::alloc::{AllocError, Global};
 
 /// What a command says, a variant for each kind of command.
@@ -22,8 +24,22 @@ pub enum Body {
         opening: Use,
         /// The moment up to which the opening counts.
         as_of: Moment,
-        /// The positions that components are fitted to, each with the part that it takes. None so far.
+        /// The positions that components are fitted to, each with the part that it takes: up to 40, of distinct
+        /// names.
         positions: Vec<(Position, Part)>,
+    },
+    /// A component comes into the records.
+    AddComponent {
+        /// Its serial number, which names it in the whole office.
+        serial: Serial,
+        /// The part that it is one of.
+        part: Part,
+        /// The day on which it was made, at the latest the day of `as_of`.
+        birth: Day,
+        /// Its use before the records begin: up to 100,000,000 minutes and 1,000,000 cycles.
+        opening: Use,
+        /// The moment up to which the opening counts.
+        as_of: Moment,
     },
     /// An aircraft flew from a take-off to a landing.
     Sector {
@@ -39,6 +55,24 @@ pub enum Body {
         on: Moment,
         /// The cycles logged, 1 to 50.
         cycles: u32,
+    },
+    /// A component was fitted to an aircraft.
+    Fit {
+        /// The serial number of the component.
+        serial: Serial,
+        /// The registration of the aircraft.
+        tail: Tail,
+        /// The position of the aircraft.
+        position: Position,
+        /// The moment from which on the component flies with the aircraft.
+        moment: Moment,
+    },
+    /// A component was removed from the aircraft that it was fitted to.
+    Remove {
+        /// The serial number of the component.
+        serial: Serial,
+        /// The moment up to which the component flew with the aircraft.
+        moment: Moment,
     },
 }
 
@@ -58,6 +92,28 @@ impl Body {
             } => Some(Aircraft {
                 tail: *tail,
                 kind: *kind,
+                birth: *birth,
+                opening: *opening,
+                as_of: *as_of,
+            }),
+            _ => None,
+        }
+    }
+
+    /// The component that it adds.
+    pub fn added_component(&self) -> Option<Component>
+        ensures { result ≡ component_of (act_of self.now) }
+    {
+        match self {
+            Body::AddComponent {
+                serial,
+                part,
+                birth,
+                opening,
+                as_of,
+            } => Some(Component {
+                serial: *serial,
+                part: *part,
                 birth: *birth,
                 opening: *opening,
                 as_of: *as_of,
@@ -90,6 +146,39 @@ impl Body {
         }
     }
 
+    /// The fitting of a component.
+    pub fn fitting(&self) -> Option<Fitting>
+        ensures { result ≡ fitting_of (act_of self.now) }
+    {
+        match self {
+            Body::Fit {
+                serial,
+                tail,
+                position,
+                moment,
+            } => Some(Fitting {
+                serial: *serial,
+                tail: *tail,
+                position: *position,
+                moment: *moment,
+            }),
+            _ => None,
+        }
+    }
+
+    /// The removal of a component.
+    pub fn removal(&self) -> Option<Removal>
+        ensures { result ≡ removal_of (act_of self.now) }
+    {
+        match self {
+            Body::Remove { serial, moment } => Some(Removal {
+                serial: *serial,
+                moment: *moment,
+            }),
+            _ => None,
+        }
+    }
+
     /// The same body again.
     pub fn copy(&self, alloc: Global) -> Result<Body, AllocError>
         ensures { IfOk result (λ body. act_of body ≡ act_of self.now) }
@@ -110,6 +199,19 @@ impl Body {
                 as_of: *as_of,
                 positions: Vec::from_slice(alloc, positions.as_slice())?,
             },
+            Body::AddComponent {
+                serial,
+                part,
+                birth,
+                opening,
+                as_of,
+            } => Body::AddComponent {
+                serial: *serial,
+                part: *part,
+                birth: *birth,
+                opening: *opening,
+                as_of: *as_of,
+            },
             Body::Sector {
                 tail,
                 page,
@@ -124,6 +226,21 @@ impl Body {
                 off: *off,
                 on: *on,
                 cycles: *cycles,
+            },
+            Body::Fit {
+                serial,
+                tail,
+                position,
+                moment,
+            } => Body::Fit {
+                serial: *serial,
+                tail: *tail,
+                position: *position,
+                moment: *moment,
+            },
+            Body::Remove { serial, moment } => Body::Remove {
+                serial: *serial,
+                moment: *moment,
             },
         })
     }

@@ -5,9 +5,11 @@ ghost use Rattle.mx_command.specs.Shape.{act_shape, doc_shape};
 
 use crate::aircraft::Aircraft;
 use crate::body::Body;
+use crate::component::Component;
 use crate::document::{document_of_sector, is_of_log};
+use crate::fitting::{Fitting, Removal};
 use crate::sector::Sector;
-use mx_base::Doc;
+use mx_base::{Doc, Part, Position};
 use std::alloc::{AllocError, Global};
 use std::marker::Model;
 
@@ -53,7 +55,7 @@ impl Model for Command {
 
 impl Command {
     ghost use Rattle.std.specs.Prelude.{◌↔◌, false, IsTrue, OnOk, IfSome};
-    ghost use Rattle.mx_command.specs.Act.{aircraft_of};
+    ghost use Rattle.mx_command.specs.Act.{aircraft_of, component_of, fitting_of, removal_of, positions_of};
     ghost use Rattle.mx_command.specs.Same.{same_entry};
     ghost use Rattle.mx_command.specs.Shape.{has_shape, sector_shape, is_sector_shaped, sector_entry};
 
@@ -137,12 +139,43 @@ impl Command {
         self.body.added_aircraft()
     }
 
+    /// The positions of the aircraft that it adds, each with the part that it takes; none where it adds no aircraft.
+    pub fn positions(&self) -> &[(Position, Part)]
+        ensures { result.now ≡ positions_of self.now.act }
+    {
+        match &self.body {
+            Body::AddAircraft { positions, .. } => positions.as_slice(),
+            _ => &[],
+        }
+    }
+
+    /// The component that it adds.
+    pub fn added_component(&self) -> Option<Component>
+        ensures { result ≡ component_of self.now.act }
+    {
+        self.body.added_component()
+    }
+
     /// The sector that was flown.
     pub fn flown_sector(&self) -> Option<Sector>
         ensures sector { result ≡ sector_of self.now.act }
         ensures shape { IfSome result (λ s. sector_shape s ≡ true) }
     {
         self.body.flown_sector()
+    }
+
+    /// The fitting of a component.
+    pub fn fitting(&self) -> Option<Fitting>
+        ensures { result ≡ fitting_of self.now.act }
+    {
+        self.body.fitting()
+    }
+
+    /// The removal of a component.
+    pub fn removal(&self) -> Option<Removal>
+        ensures { result ≡ removal_of self.now.act }
+    {
+        self.body.removal()
     }
 }
 

@@ -5,7 +5,9 @@
 pub mod aircraft;
 pub mod body;
 pub mod command;
+pub mod component;
 mod document;
+pub mod fitting;
 pub mod item;
 pub mod sector;
 pub mod shape;
@@ -13,5 +15,7 @@ pub mod shape;
 pub use aircraft::Aircraft;
 pub use body::Body;
 pub use command::{Command, MakeFault};
+pub use component::Component;
+pub use fitting::{Fitting, Removal};
 pub use item::Item;
 pub use sector::Sector;

@@ -1,16 +1,20 @@
 //! The shape of what a command says: the bounds of its amounts.
 ghost use Rattle.std.specs.Prelude.{◌≡◌};
+ghost use Rattle.std.specs.List.{list_any};
 ghost use Rattle.mx_command.specs.Act.{act_of};
-ghost use Rattle.mx_command.specs.Shape.{act_shape, opening_shape, use_shape, within};
+ghost use Rattle.mx_command.specs.Shape.{act_shape, opening_shape, positions_shape, are_distinct, same_name, use_shape, within};
 
 use crate::body::Body;
-use mx_base::{Day, Moment, Use, day_of};
+use mx_base::{Day, Moment, Part, Position, Use, day_of};
 
 /// The most flight minutes that an item may bring with it.
 pub const MOST_OPENING_MINUTES: u32 = 100_000_000;
 
 /// The most cycles that an item may bring with it.
 pub const MOST_OPENING_CYCLES: u32 = 1_000_000;
+
+/// The most positions of an aircraft.
+pub const MOST_POSITIONS: usize = 40;
 
 /// The last page of a technical log.
 pub const LAST_PAGE: u32 = 999_999;
@@ -36,7 +40,16 @@ impl Body {
                 as_of,
                 positions,
                 ..
-            } => has_opening_shape(*birth, opening, *as_of) && positions.is_empty(),
+            } => {
+                has_opening_shape(*birth, opening, *as_of)
+                    && have_positions_shape(positions.as_slice())
+            }
+            Body::AddComponent {
+                birth,
+                opening,
+                as_of,
+                ..
+            } => has_opening_shape(*birth, opening, *as_of),
             Body::Sector {
                 page,
                 line,
@@ -52,6 +65,7 @@ impl Body {
                     && is_within(earliest, latest, on.number())
                     && is_within(1, MOST_SECTOR_CYCLES, *cycles)
             }
+            Body::Fit { .. } | Body::Remove { .. } => true,
         }
     }
 }
@@ -66,6 +80,31 @@ fn has_opening_shape(birth: Day, opening: &Use, as_of: Moment) -> bool
     ensures { result ≡ opening_shape birth opening.now as_of }
 {
     has_use_shape(opening) && birth <= day_of(as_of)
+}
+
+fn have_positions_shape(positions: &[(Position, Part)]) -> bool
+    ensures { result ≡ positions_shape positions.now }
+{
+    positions.len() <= MOST_POSITIONS && have_distinct_names(positions)
+}
+
+fn is_name_among(position: &(Position, Part), others: &[(Position, Part)]) -> bool
+    ensures { result ≡ list_any (same_name position.now) others.now }
+{
+    others.iter().any(|other| position.0 == other.0)
+}
+
+fn have_distinct_names(positions: &[(Position, Part)]) -> bool
+    ensures { result ≡ are_distinct same_name positions.now }
+{
+    let mut rest = positions;
+    while let Some((position, later)) = rest.split_first() {
+        if is_name_among(position, later) {
+            return false;
+        }
+        rest = later;
+    }
+    true
 }
 
 fn is_within(least: u32, most: u32, number: u32) -> bool
