@@ -3,7 +3,7 @@ use Rattle.std.proofs.Common.{arith, refl, sym, subst, ap, ◌∙◌, ◌≡◌,
 use Rattle.std.proofs.lemmas.Bool.Decides.{nat_tests}
 use Rattle.std.specs.Prelude.{nat_le}
 use Rattle.std.specs.List.{list_all}
-use Rattle.mx_command.specs.Act.{Act, Entry, Added, aircraft_of}
+use Rattle.mx_command.specs.Act.{Act, Entry, Added, Listed, aircraft_of}
 use Rattle.mx_command.specs.Same.{same_entry}
 use Rattle.mx_command.specs.Shape.{has_shape}
 use Rattle.mx_command.specs.declared.aircraft.Aircraft.{Aircraft}
@@ -29,6 +29,7 @@ neither false q h = refl
 
 few_entries : (book : List Entry) (act : Act) → is_full book act ≡ false → nat_le 1000000 (length book) ≡ false
 few_entries book (Added a positions) h = neither _ _ h
+few_entries book (Listed c) h = neither _ _ h
 few_entries book _ h = h
 
 unrefused : (r : Option Refusal) → verdict_of r ≡ New → r ≡ None

@@ -3,14 +3,17 @@ use Rattle.std.proofs.Common.{arith, refl, sym, subst, ap, ◌∙◌, ◌≡◌,
 use Rattle.std.proofs.lemmas.Bool.Decides.{nat_tests}
 use Rattle.std.specs.Prelude.{find, filter}
 use Rattle.std.specs.List.{cons_option, list_all}
-use Rattle.mx_command.specs.Act.{Act, Entry, Added, Flown, aircraft_of, sector_of}
+use Rattle.std.specs.Option.{option_map}
+use Rattle.mx_command.specs.Act.{Act, Entry, Added, Listed, Flown, aircraft_of, component_of, sector_of}
 use Rattle.mx_command.specs.Shape.{has_shape, act_shape, doc_shape, opening_shape, sector_shape, use_shape}
 use Rattle.mx_base.specs.declared.amounts.Use.{Use}
 use Rattle.mx_command.specs.declared.item.Item.{Item}
 use Rattle.mx_command.specs.declared.item.Item.TheVariants.{Airframe as OfAirframe, Component as OfComponent}
 use Rattle.mx_command.specs.declared.sector.Sector.{Sector}
 use Rattle.mx_command.specs.declared.aircraft.Aircraft.{Aircraft}
-use Rattle.mx_book.specs.Register.{register, aircraft}
+use Rattle.mx_command.specs.declared.component.Component.{Component}
+use Rattle.mx_command.specs.Same.{same_text}
+use Rattle.mx_book.specs.Register.{register, aircraft, component}
 use Rattle.mx_book.specs.Life.{opening_of, selected, share, minutes_of, cycles_of, is_credited, has_landed_by}
 
 pub both_true : (p q : Bool) → p && q ≡ true → (p ≡ true) × (q ≡ true)
@@ -42,14 +45,23 @@ aircraft_good (Added b positions) a s h = let e : b ≡ a = cc in
     subst (λ y. use_shape y.opening ≡ true) e (both_true (use_shape b.opening) _ opening.0).0
 aircraft_good _ a s h = (cc)
 
-aircraft_opening : (book : List Entry) (tail : List ℕ) (u : Use) → list_all has_shape book ≡ true → (o : Option Aircraft) → aircraft book tail ≡ o → Rattle.std.specs.Option.option_map (λ (a : Aircraft). a.opening) o ≡ Some u → use_shape u ≡ true
+aircraft_opening : (book : List Entry) (tail : List ℕ) (u : Use) → list_all has_shape book ≡ true → (o : Option Aircraft) → aircraft book tail ≡ o → option_map (λ (a : Aircraft). a.opening) o ≡ Some u → use_shape u ≡ true
 aircraft_opening book tail u s None q h = (cc)
-aircraft_opening book tail u s (Some a) q h = let e : a.opening ≡ u = cc in subst (λ y. use_shape y ≡ true) e (found_good aircraft_of (λ b. Rattle.mx_command.specs.Same.same_text b.tail tail) (λ b. use_shape b.opening) aircraft_good book a s q)
+aircraft_opening book tail u s (Some a) q h = let e : a.opening ≡ u = cc in subst (λ y. use_shape y ≡ true) e (found_good aircraft_of (λ b. same_text b.tail tail) (λ b. use_shape b.opening) aircraft_good book a s q)
+
+component_good : (act : Act) (c : Component) → act_shape act ≡ true → component_of act ≡ Some c → use_shape c.opening ≡ true
+component_good (Listed b) c s h = let e : b ≡ c = cc in
+    subst (λ y. use_shape y.opening ≡ true) e (both_true (use_shape b.opening) _ s).0
+component_good _ c s h = (cc)
+
+component_opening : (book : List Entry) (serial : List ℕ) (u : Use) → list_all has_shape book ≡ true → (o : Option Component) → component book serial ≡ o → option_map (λ (c : Component). c.opening) o ≡ Some u → use_shape u ≡ true
+component_opening book serial u s None q h = (cc)
+component_opening book serial u s (Some c) q h = let e : c.opening ≡ u = cc in subst (λ y. use_shape y ≡ true) e (found_good component_of (λ b. same_text b.serial serial) (λ b. use_shape b.opening) component_good book c s q)
 
 -- an opening has its shape
 pub opening_small : (book : List Entry) (item : Item) (u : Use) → list_all has_shape book ≡ true → opening_of book item ≡ Some u → use_shape u ≡ true
 opening_small book (OfAirframe tail) u s h = aircraft_opening book tail u s (aircraft book tail) refl h
-opening_small book (OfComponent serial) u s h = (cc)
+opening_small book (OfComponent serial) u s h = component_opening book serial u s (component book serial) refl h
 
 opening_bounds : (u : Use) → use_shape u ≡ true → (u.minutes ≤ 100000000) × (u.cycles ≤ 1000000)
 opening_bounds u s = (grind (arith, nat_tests), grind (arith, nat_tests))

@@ -8,7 +8,7 @@ use Rattle.mx_command.specs.Shape.{has_shape}
 use Rattle.mx_command.specs.declared.item.Item.TheVariants.{Airframe, Component}
 use Rattle.mx_book.specs.declared.verdict.Refusal.TheVariants.{Conflict, UnknownAircraft, AircraftExists, OutOfOrder}
 use Rattle.mx_book.specs.declared.verdict.Verdict.TheVariants.{New, Already, Refused}
-use Rattle.mx_book.specs.Life.{life_at, life_now, airframe_clock}
+use Rattle.mx_book.specs.Life.{life_at, life_now, clock}
 use Rattle.mx_book.specs.Judge.{judge}
 use Rattle.mx_book.specs.Book.{is_book, entry_at}
 use Rattle.mx_book.specs.declared.verdict.Reply.TheVariants.{Accepted, Already as AlreadyEntered, Refused as NotEntered}
@@ -101,7 +101,7 @@ at_the_clock : judge first_two (logged (codes "TL/D-ABCD/12/3") (sector 3 (at 19
 at_the_clock = refl
 
 -- the clock begins at the as_of
-first_clock : airframe_clock (a1 ∷ []) abcd ≡ at 19723 0 0
+first_clock : clock (a1 ∷ []) (Airframe abcd) ≡ at 19723 0 0
 first_clock = refl
 
 -- other refusals
@@ -124,7 +124,7 @@ unknown_serial = refl
 no_list : life_list first_two (codes "D-NONE") ≡ None
 no_list = refl
 
-listed : life_list first_two abcd ≡ Some (record { tail = abcd; kind = codes "C172"; life = used 60090 801 })
+listed : life_list first_two abcd ≡ Some (record { tail = abcd; kind = codes "C172"; life = used 60090 801; parts = [] })
 listed = refl
 
 -- entries by their numbers

@@ -1,6 +1,9 @@
 pub mod Register
+pub mod Span
 pub mod Life
 pub mod Judge
 pub mod Book
 pub mod Run
+pub mod Order
 pub mod Lists
+pub mod Ranks

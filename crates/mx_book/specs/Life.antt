@@ -1,19 +1,24 @@
--- Which sectors an item is credited with, its life, and the clock of an airframe.
+-- Which sectors an item is credited with, its life, and its clock.
 use Rattle.std.specs.Prelude.{ℕ, ◌+◌, ◌-◌, max, nat_le, List, [], ◌∷◌, Bool, true, false, ◌&&◌, Option, Some, None, if◌then◌else◌, filter}
-use Rattle.std.specs.List.{flat_map}
-use Rattle.std.specs.Option.{option_map}
+use Rattle.std.specs.List.{filter_map, flat_map, list_any}
+use Rattle.std.specs.Option.{option_map, option_map_or}
 use Rattle.mx_base.specs.declared.amounts.Use.{Use}
-use Rattle.mx_command.specs.Act.{Act, Entry, Added, Flown, sector_of}
+use Rattle.mx_command.specs.Act.{Act, Entry, Added, Listed, Flown, Fitted, Removed, sector_of}
 use Rattle.mx_command.specs.Same.{same_text}
 use Rattle.mx_command.specs.declared.item.Item.{Item}
 use Rattle.mx_command.specs.declared.item.Item.TheVariants.{Airframe, Component}
 use Rattle.mx_command.specs.declared.sector.Sector.{Sector}
-use Rattle.mx_book.specs.Register.{register, aircraft}
+use Rattle.mx_book.specs.Register.{register, aircraft, component}
+use Rattle.mx_book.specs.Span.{Span, spans, spans_of, span_begun}
 
--- the item is credited with the sector: an airframe with all of its tail, a component with none so far
+-- the sector is flown within the span: with its aircraft, taken off from the fitting on, and landed by the removal
+abbrev pub is_within : Sector → Span → Bool
+is_within s span = same_text span.tail s.tail && (nat_le span.from s.off && option_map_or (λ to. nat_le s.on to) span.to true)
+
+-- the item is credited with the sector: an airframe with all of its tail, a component with each within one of its spans
 abbrev pub is_credited : List Entry → Item → Sector → Bool
 is_credited book (Airframe tail) s = same_text s.tail tail
-is_credited book (Component serial) s = false
+is_credited book (Component serial) s = list_any (is_within s) (spans_of book serial)
 
 -- the sectors that an item is credited with
 abbrev pub credited : List Entry → Item → List Sector
@@ -40,7 +45,7 @@ use_after sectors opening = record { minutes = opening.minutes + minutes_of sect
 -- the use that an item brought with it
 abbrev pub opening_of : List Entry → Item → Option Use
 opening_of book (Airframe tail) = option_map (λ a. a.opening) (aircraft book tail)
-opening_of book (Component serial) = None
+opening_of book (Component serial) = option_map (λ c. c.opening) (component book serial)
 
 -- the sector has landed by the moment, where one is named
 abbrev pub has_landed_by : Option ℕ → Sector → Bool
@@ -68,14 +73,32 @@ latest (moment ∷ moments) = max moment (latest moments)
 abbrev pub if_same : List ℕ → List ℕ → ℕ → List ℕ
 if_same a b moment = if same_text a b then moment ∷ [] else []
 
--- the moments that an entry gives the clock of an airframe: its as_of, and each landing
+-- the moments that an entry gives the clock of an airframe, removals aside: its as_of, each landing, each fitting to it
 abbrev pub airframe_moments : List ℕ → Act → List ℕ
 airframe_moments tail (Added a positions) = if_same a.tail tail a.as_of
 airframe_moments tail (Flown s) = if_same s.tail tail s.on
+airframe_moments tail (Fitted f) = if_same f.tail tail f.moment
+airframe_moments tail _ = []
 
--- the clock of an airframe: the latest moment that the book has of it
-abbrev pub airframe_clock : List Entry → List ℕ → ℕ
-airframe_clock book tail = latest (flat_map (λ entry. airframe_moments tail entry.act) book)
+-- the moments that an entry gives the clock of a component: its as_of, each fitting, each removal
+abbrev pub component_moments : List ℕ → Act → List ℕ
+component_moments serial (Listed c) = if_same c.serial serial c.as_of
+component_moments serial (Fitted f) = if_same f.serial serial f.moment
+component_moments serial (Removed r) = if_same r.serial serial r.moment
+component_moments serial _ = []
+
+-- the moments at which components were removed from an aircraft: the ends of the spans there
+abbrev pub removals_from : List Entry → List ℕ → List ℕ
+removals_from book tail = filter_map (λ s. s.to) (filter (λ s. same_text s.tail tail) (spans book))
+
+-- the moment at which the component of the span that an entry begins was removed from an aircraft
+abbrev pub removals_begun : Entry → List Entry → List ℕ → List ℕ
+removals_begun entry later tail = filter_map (λ s. s.to) (filter (λ s. same_text s.tail tail) (span_begun entry.act later))
+
+-- the clock of an item: the latest moment that the book has of it
+abbrev pub clock : List Entry → Item → ℕ
+clock book (Airframe tail) = max (latest (flat_map (λ entry. airframe_moments tail entry.act) book)) (latest (removals_from book tail))
+clock book (Component serial) = latest (flat_map (λ entry. component_moments serial entry.act) book)
 
 -- ── how the plain program sums a life: entry by entry ──
 

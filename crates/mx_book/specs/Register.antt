@@ -1,10 +1,12 @@
 -- The registers of a book: what its entries of one kind say, and finding a row there. A book is the list of its entries, the first one first.
-use Rattle.std.specs.Prelude.{List, Option, find}
+use Rattle.std.specs.Prelude.{List, [], Option, find, if◌then◌else◌}
 use Prim.Native.Nat.{ℕ}
-use Rattle.std.specs.List.{filter_map}
-use Rattle.mx_command.specs.Act.{Act, Entry, aircraft_of}
+use Rattle.std.specs.List.{filter_map, flat_map}
+use Rattle.std.specs.Option.{option_map}
+use Rattle.mx_command.specs.Act.{Act, Entry, Added, aircraft_of, component_of}
 use Rattle.mx_command.specs.Same.{same_text}
 use Rattle.mx_command.specs.declared.aircraft.Aircraft.{Aircraft}
+use Rattle.mx_command.specs.declared.component.Component.{Component}
 
 -- what the entries of one kind say, in their order
 abbrev pub register : {Row : Type 0} → (Act → Option Row) → List Entry → List Row
@@ -13,3 +15,24 @@ register pick book = filter_map (λ entry. pick entry.act) book
 -- the aircraft with this registration
 abbrev pub aircraft : List Entry → List ℕ → Option Aircraft
 aircraft book tail = find (λ a. same_text a.tail tail) (register aircraft_of book)
+
+-- the component with this serial number
+abbrev pub component : List Entry → List ℕ → Option Component
+component book serial = find (λ c. same_text c.serial serial) (register component_of book)
+
+-- the positions that an entry gives the aircraft with this registration, where it adds that aircraft
+abbrev pub positions_added : List ℕ → Act → List (List ℕ × List ℕ)
+positions_added tail (Added a positions) = if same_text a.tail tail then positions else []
+positions_added tail _ = []
+
+-- the positions of an aircraft, each with the part that it takes
+abbrev pub positions : List Entry → List ℕ → List (List ℕ × List ℕ)
+positions book tail = flat_map (λ entry. positions_added tail entry.act) book
+
+-- the part that the position with this name takes
+abbrev pub part_among : List (List ℕ × List ℕ) → List ℕ → Option (List ℕ)
+part_among positions position = option_map (λ p. p.1) (find (λ p. same_text p.0 position) positions)
+
+-- the part that a position of an aircraft takes
+abbrev pub part_at : List Entry → List ℕ → List ℕ → Option (List ℕ)
+part_at book tail position = part_among (positions book tail) position

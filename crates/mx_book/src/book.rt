@@ -79,6 +79,14 @@ impl Book {
         self.entries.get(seq as usize - 1)
     }
 
+    /// The entries, in their order.
+    pub fn as_slice(&self) -> &[Command]
+        ensures entries { result.now ≡ self.now }
+        ensures book { IsBook self.now }
+    {
+        self.entries.as_slice()
+    }
+
     /// The verdict on a command: `Already` where an entry has its document and equal contents; else the
     /// refusal with the least number that applies; else `New`.
     pub fn judge(&self, command: &Command) -> Verdict
@@ -119,11 +127,11 @@ impl Book {
     }
 
     /// The life list of an aircraft, or `None` where the registration is unknown. `NoMemory` where memory
-    /// runs out; the airframe's line alone takes none.
-    pub fn life_list(&self, _alloc: Global, tail: &Tail) -> Result<Option<LifeList>, NoMemory>
+    /// runs out.
+    pub fn life_list(&self, alloc: Global, tail: &Tail) -> Result<Option<LifeList>, NoMemory>
         ensures { IfOk result (λ list. list ≡ life_list self.now tail.now) }
     {
-        Ok(list_lives(self.entries.as_slice(), tail))
+        Ok(list_lives(alloc, self.entries.as_slice(), tail)?)
     }
 
     /// A copy of the first entries, at most `at_most`, of those whose number is at least `from`, in their order.

@@ -1,19 +1,23 @@
 //! Judging a command against the entries of a book.
 ghost use Rattle.std.specs.Prelude.{◌≡◌, ◌+◌, ◌≤◌, ℕ, List, length};
 ghost use Rattle.std.specs.Option.{option_map};
-ghost use Rattle.mx_command.specs.Act.{Added, Flown};
+ghost use Rattle.mx_command.specs.Act.{Added, Listed, Flown};
 ghost use Rattle.mx_book.specs.Judge.{known_from, known_same, refusals, first_of, judge};
 
+use crate::judging_fittings::{refusal_of_fitting, refusal_of_removal};
 use crate::lives::clock_of_airframe;
-use crate::register::{aircraft_count, aircraft_of_tail};
+use crate::register::{aircraft_count, aircraft_of_tail, component_count, component_of_serial};
 use crate::verdict::{Refusal, Verdict};
-use mx_command::{Aircraft, Command, Sector};
+use mx_command::{Aircraft, Command, Component, Sector};
 
 /// The most entries of a book.
 pub const MOST_ENTRIES: usize = 1_000_000;
 
 /// The most aircraft of a book.
 pub const MOST_AIRCRAFT: usize = 50;
+
+/// The most components of a book.
+pub const MOST_COMPONENTS: usize = 5_000;
 
 // The number of the entry with the document of a command, and whether it is the same.
 fn known(entries: &[Command], command: &Command) -> Option<(u32, bool)>
@@ -46,6 +50,19 @@ fn refusal_of_aircraft(entries: &[Command], aircraft: &Aircraft) -> Option<Refus
     }
 }
 
+// Why a component is not added.
+fn refusal_of_component(entries: &[Command], component: &Component) -> Option<Refusal>
+    ensures { result ≡ first_of (refusals entries.now (Listed component.now)) }
+{
+    if entries.len() >= MOST_ENTRIES || component_count(entries) >= MOST_COMPONENTS {
+        Some(Refusal::Full)
+    } else if component_of_serial(entries, &component.serial).is_some() {
+        Some(Refusal::ComponentExists)
+    } else {
+        None
+    }
+}
+
 // Why a sector is not entered.
 fn refusal_of_sector(entries: &[Command], sector: &Sector) -> Option<Refusal>
     ensures { result ≡ first_of (refusals entries.now (Flown sector.now)) }
@@ -71,8 +88,17 @@ fn refusal(entries: &[Command], command: &Command) -> Option<Refusal>
     if let Some(aircraft) = command.added_aircraft() {
         return refusal_of_aircraft(entries, &aircraft);
     }
+    if let Some(component) = command.added_component() {
+        return refusal_of_component(entries, &component);
+    }
     if let Some(sector) = command.flown_sector() {
         return refusal_of_sector(entries, &sector);
+    }
+    if let Some(fitting) = command.fitting() {
+        return refusal_of_fitting(entries, &fitting);
+    }
+    if let Some(removal) = command.removal() {
+        return refusal_of_removal(entries, &removal);
     }
     unreachable!()
 }

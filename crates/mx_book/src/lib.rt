@@ -4,12 +4,16 @@
 
 pub mod book;
 mod judging;
+mod judging_fittings;
 pub mod laws;
 pub mod life_list;
 mod lives;
+pub mod order;
 mod register;
+mod spans;
 pub mod verdict;
 
 pub use book::{Book, NoMemory};
-pub use life_list::LifeList;
+pub use life_list::{FittedPart, LifeList};
+pub use order::{Placed, Rows};
 pub use verdict::{Refusal, Reply, Verdict};

@@ -1,12 +1,20 @@
 //! Lives and clocks, read from all entries anew.
 ghost use Rattle.std.specs.Prelude.{◌≡◌, ◌≤◌, ◌+◌, length, true, if◌then◌else◌};
 ghost use Rattle.std.specs.List.{flat_map, list_all};
-ghost use Rattle.mx_command.specs.Shape.{has_shape, use_shape};
-ghost use Rattle.mx_book.specs.Life.{selected, is_credited, share, use_after, opening_of, life_until, latest, airframe_moments, airframe_clock};
+ghost use Rattle.mx_command.specs.Act.{Flown};
+ghost use Rattle.mx_command.specs.Shape.{has_shape, use_shape, sector_shape};
+ghost use Rattle.mx_command.specs.declared.item.Item.TheVariants.{Airframe, Component};
+ghost use Rattle.mx_book.specs.Life.{selected, is_credited, has_landed_by, share, use_after, opening_of, life_until, latest, airframe_moments, component_moments, clock};
 
-use crate::register::aircraft_of_tail;
-use mx_base::{Moment, Tail, Use};
+use crate::register::{aircraft_of_tail, component_of_serial};
+use crate::spans::{is_within_span, latest_removal};
+use mx_base::{Moment, Serial, Tail, Use};
 use mx_command::{Body, Command, Item, Sector};
+
+const NO_USE: Use = Use {
+    minutes: 0,
+    cycles: 0,
+};
 
 // Whether an item is credited with a sector.
 fn is_credited_with(entries: &[Command], item: &Item, sector: &Sector) -> bool
@@ -14,7 +22,7 @@ fn is_credited_with(entries: &[Command], item: &Item, sector: &Sector) -> bool
 {
     match item {
         Item::Airframe(tail) => sector.tail == *tail,
-        Item::Component(_) => false,
+        Item::Component(serial) => is_within_span(entries, serial, sector),
     }
 }
 
@@ -24,7 +32,32 @@ fn opening_use(entries: &[Command], item: &Item) -> Option<Use>
 {
     match item {
         Item::Airframe(tail) => { aircraft_of_tail(entries, tail).map(|aircraft| aircraft.opening) }
-        Item::Component(_) => None,
+        Item::Component(serial) => { component_of_serial(entries, serial).map(|component| component.opening) }
+    }
+}
+
+// Whether a sector has landed by the moment with a number, where one is named.
+fn has_landed(sector: &Sector, until: Option<u32>) -> bool
+    ensures { result ≡ has_landed_by until sector.now }
+{
+    match until {
+        None => true,
+        Some(moment) => sector.on.number() <= moment,
+    }
+}
+
+// What a sector adds to the life of an item.
+fn share_of_sector(entries: &[Command], item: &Item, until: Option<u32>, sector: &Sector) -> Use
+    requires { sector_shape sector.now ≡ true }
+    ensures { result ≡ share entries.now item.now until (Flown sector.now) }
+{
+    if is_credited_with(entries, item, sector) && has_landed(sector, until) {
+        Use {
+            minutes: sector.on.number() - sector.off.number(),
+            cycles: sector.cycles,
+        }
+    } else {
+        NO_USE
     }
 }
 
@@ -32,21 +65,9 @@ fn opening_use(entries: &[Command], item: &Item) -> Option<Use>
 fn share_of(entries: &[Command], item: &Item, until: Option<u32>, entry: &Command) -> Use
     ensures { result ≡ share entries.now item.now until entry.now.act }
 {
-    if let Some(sector) = entry.flown_sector() {
-        let has_landed = match until {
-            None => true,
-            Some(moment) => sector.on.number() <= moment,
-        };
-        if is_credited_with(entries, item, &sector) && has_landed {
-            return Use {
-                minutes: sector.on.number() - sector.off.number(),
-                cycles: sector.cycles,
-            };
-        }
-    }
-    Use {
-        minutes: 0,
-        cycles: 0,
+    match entry.flown_sector() {
+        Some(sector) => share_of_sector(entries, item, until, &sector),
+        None => NO_USE,
     }
 }
 
@@ -87,7 +108,7 @@ fn moment_if(is_same: bool, moment: Moment) -> Moment
     if is_same { moment } else { Moment::FIRST }
 }
 
-// The moment that an entry gives the clock of an airframe, or the first of all.
+// The moment that an entry gives the clock of an airframe, removals aside, or the first of all.
 fn moment_of_airframe(tail: &Tail, entry: &Command) -> Moment
     ensures { result ≡ latest (airframe_moments tail.now entry.now.act) }
 {
@@ -102,17 +123,63 @@ fn moment_of_airframe(tail: &Tail, entry: &Command) -> Moment
             on,
             ..
         } => moment_if(*flown == *tail, *on),
+        Body::Fit {
+            tail: fitted_to,
+            moment,
+            ..
+        } => moment_if(*fitted_to == *tail, *moment),
+        _ => Moment::FIRST,
     }
 }
 
-/// The clock of an airframe: the latest moment that the entries have of it.
-pub(crate) fn clock_of_airframe(entries: &[Command], tail: &Tail) -> Moment
-    ensures { result ≡ airframe_clock entries.now tail.now }
+// The latest moment that the entries have of an airframe, removals aside.
+fn latest_of_airframe(entries: &[Command], tail: &Tail) -> Moment
+    ensures { result ≡ latest (flat_map (λ entry. airframe_moments tail.now entry.act) entries.now) }
 {
     let mut clock = Moment::FIRST;
     let mut rest = entries;
     while let Some((entry, later)) = rest.split_first() {
         clock = clock.max(moment_of_airframe(tail, entry));
+        rest = later;
+    }
+    clock
+}
+
+/// The clock of an airframe: the latest moment that the entries have of it.
+pub(crate) fn clock_of_airframe(entries: &[Command], tail: &Tail) -> Moment
+    ensures { result ≡ clock entries.now (Airframe tail.now) }
+{
+    latest_of_airframe(entries, tail).max(latest_removal(entries, tail))
+}
+
+// The moment that an entry gives the clock of a component, or the first of all.
+fn moment_of_component(serial: &Serial, entry: &Command) -> Moment
+    ensures { result ≡ latest (component_moments serial.now entry.now.act) }
+{
+    match entry.body() {
+        Body::AddComponent {
+            serial: added,
+            as_of,
+            ..
+        } => moment_if(*added == *serial, *as_of),
+        Body::Fit {
+            serial: fitted,
+            moment,
+            ..
+        } => moment_if(*fitted == *serial, *moment),
+        Body::Remove { serial: removed, moment } => moment_if(*removed == *serial, *moment),
+        _ => Moment::FIRST,
+    }
+}
+
+/// The clock of a component: the latest moment that the entries have of it.
+pub(crate) fn clock_of_component(entries: &[Command], serial: &Serial) -> Moment
+    ensures { result ≡ clock entries.now (Component serial.now) }
+{
+    let mut clock = Moment::FIRST;
+    let mut rest = entries;
+    while let Some((entry, later)) = rest.split_first() {
+        clock = clock.max(moment_of_component(serial, entry));
         rest = later;
     }
     clock

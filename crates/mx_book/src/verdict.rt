@@ -8,15 +8,29 @@ use mx_base::Moment;
 pub enum Refusal {
     /// An entry has the document with other contents: the number of that entry.
     Conflict(u32),
-    /// The book has 1,000,000 entries, or 50 aircraft where one more is added.
+    /// The book has 1,000,000 entries, or 50 aircraft where one more is added, or 5,000 components where one
+    /// more is added.
     Full,
-    /// No aircraft has a registration that the command names.
+    /// No aircraft has a registration that the command names, or that was asked for.
     UnknownAircraft,
-    /// No component has the serial number that was asked for.
+    /// No component has a serial number that the command names, or that was asked for.
     UnknownComponent,
+    /// The aircraft does not have the position that a component is fitted to.
+    UnknownPosition,
     /// An aircraft has the registration already.
     AircraftExists,
-    /// A sector takes off before the clock of its airframe: that clock.
+    /// A component has the serial number already.
+    ComponentExists,
+    /// A component is fitted to the position already.
+    PositionTaken,
+    /// The component that is to be fitted is fitted somewhere already.
+    AlreadyFitted,
+    /// The component that is to be removed is fitted nowhere.
+    NotFitted,
+    /// The position takes another part than the component is one of.
+    WrongPart,
+    /// A sector takes off before the clock of its airframe, or a component is fitted or removed before the
+    /// greater of the airframe's clock and its own: that clock.
     OutOfOrder(Moment),
 }
 
@@ -32,7 +46,13 @@ impl Refusal {
             Refusal::Full => 11,
             Refusal::UnknownAircraft => 20,
             Refusal::UnknownComponent => 21,
+            Refusal::UnknownPosition => 22,
             Refusal::AircraftExists => 30,
+            Refusal::ComponentExists => 31,
+            Refusal::PositionTaken => 33,
+            Refusal::AlreadyFitted => 34,
+            Refusal::NotFitted => 35,
+            Refusal::WrongPart => 36,
             Refusal::OutOfOrder(_) => 41,
         }
     }

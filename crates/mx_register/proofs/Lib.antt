@@ -1,6 +1,7 @@
-pub mod RegisterLemmas
-pub mod SortedLemmas
 pub mod NewLemmas
-pub mod AdderLemmas
+pub mod NameLemmas
+pub mod TakeLemmas
 pub mod MergeLemmas
 pub mod SoundLemmas
+pub mod SortedLemmas
+pub mod RegisterLemmas

@@ -1,103 +1,138 @@
 -- The merge gives a book exactly from its registers.
-use Rattle.std.proofs.Common.{◌≡◌, ℕ, ◌+◌, ◌==◌, cond, true, List, [], ◌∷◌, ◌++◌, length, Option, Some, None, refl, sym, ap, ◌∙◌, arith, append_assoc, append-nil}
-use Rattle.std.specs.Prelude.{is_some, unwrap_or, Result, Ok, Err, IfOk}
+use Rattle.std.proofs.Common.{◌≡◌, ℕ, ◌+◌, ◌≤◌, ◌==◌, cond, Bool, true, false, List, [], ◌∷◌, ◌++◌, length, Option, Some, None, refl, sym, ap, ◌∙◌, arith, append_assoc, append-nil, length-append}
+use Rattle.std.specs.Prelude.{is_some, Result, Ok, Err, IfOk}
 use Rattle.std.specs.List.{list_all}
 use Rattle.std.specs.Option.{option_and_then, option_map}
-use Rattle.std.proofs.lemmas.Bool.{eqb-true}
 use Rattle.std.proofs.lemmas.Bool.Decides.{nat_tests}
-use Rattle.mx_command.specs.Act.{Act, Entry, Added, Flown}
-use Rattle.mx_command.specs.Shape.{has_shape, act_shape, doc_shape, opening_shape, no_positions}
-use Rattle.mx_command.specs.declared.aircraft.Aircraft.{Aircraft}
-use Rattle.mx_command.specs.declared.sector.Sector.{Sector}
+use Rattle.mx_command.specs.Act.{Act, Entry, Added, Listed, Flown, Fitted, Removed, positions_of}
+use Rattle.mx_command.specs.Shape.{has_shape}
 use Rattle.mx_book.specs.Judge.{judge}
 use Rattle.mx_book.specs.Book.{is_new, is_book_from, IsBook}
 use Rattle.mx_book.proofs.JudgeLemmas.{both_true}
+use Rattle.mx_register.specs.declared.merge.Registers.{Registers}
 use Rattle.mx_register.specs.declared.rows.EntryRow.{EntryRow}
 use Rattle.mx_register.specs.declared.rows.AircraftRow.{AircraftRow}
+use Rattle.mx_register.specs.declared.rows.PlaceRow.{PlaceRow}
+use Rattle.mx_register.specs.declared.rows.ComponentRow.{ComponentRow}
 use Rattle.mx_register.specs.declared.rows.SectorRow.{SectorRow}
-use Rattle.mx_register.specs.Registers.{gives, kind_of, entry_row, sector_row, entry_added, aircraft_by, aircraft_added, sector_by, sector_added, entry_rows, aircraft_rows, sector_rows, seq_of_tail, tail_at}
-use Rattle.mx_register.specs.Merge.{Rest, sector_said, command_of, with_rest, take_by, merged}
-use Rattle.mx_register.proofs.NewLemmas.{flown_is_known}
-use Rattle.mx_register.proofs.AdderLemmas.{is_some-seq_of_tail, tail_at-seq_of_tail}
+use Rattle.mx_register.specs.declared.rows.FittingRow.{FittingRow}
+use Rattle.mx_register.specs.declared.rows.RemovalRow.{RemovalRow}
+use Rattle.mx_register.specs.Names.{tail_at, serial_at, seq_of_tail, seq_of_serial, or_zero}
+use Rattle.mx_register.specs.Registers.{gives, gives_by, next, kind_of, entry_row, aircraft_row, component_row, sector_row, fitting_row, removal_row, places_from, entry_added, aircraft_by, places_by, components_by, sectors_by, fittings_by, removals_by, entry_rows, AreRegistersOf}
+use Rattle.mx_register.specs.Merge.{Rest, aircraft_said, component_said, sector_said, fitting_said, removal_said, command_of, first_of_entry, take_places, take_by, take_command, merged}
+use Rattle.mx_register.specs.Left.{all_rows}
+use Rattle.mx_register.proofs.NewLemmas.{flown_is_known, fitted_is_known, removed_is_known}
+use Rattle.mx_register.proofs.NameLemmas.{tail_known, serial_known}
+use Rattle.mx_register.proofs.TakeLemmas.{same-eq, takes_places, IsBehind}
 
-same-eq : (n : ℕ) → (n == n) ≡ true
-same-eq n = grind (arith, nat_tests)
+-- ── the rows of one entry say it ──
 
-empty_list : {X : Type 0} (xs : List X) → (length xs == 0) ≡ true → xs ≡ []
-empty_list [] h = refl
-empty_list (x ∷ xs) h = let e = eqb-true (length (x ∷ xs)) 0 h in absurd (omega arith)
+-- the rows of an entry, in front of others
+abbrev pub in_front : List Entry → Act → Rest → Rest
+in_front before act rest = record {
+  aircraft = aircraft_by before act ++ rest.aircraft;
+  places = places_by before act ++ rest.places;
+  components = components_by before act ++ rest.components;
+  sectors = sectors_by before act ++ rest.sectors;
+  fittings = fittings_by before act ++ rest.fittings;
+  removals = removals_by before act ++ rest.removals;
+}
 
--- an aircraft of its shape has no positions
-without_positions : (doc : List ℕ) (a : Aircraft) (positions : List (List ℕ × List ℕ)) → has_shape (record { doc = doc; act = Added a positions }) ≡ true → positions ≡ []
-without_positions doc a positions h =
-    let shape = both_true (act_shape (Added a positions)) (doc_shape doc (Added a positions)) h in
-    empty_list positions (both_true (opening_shape a.birth a.opening a.as_of) (no_positions positions) shape.0).1
+first_found : {Row : Type 0} (seq_of : Row → ℕ) (row : Row) (rows : List Row) → first_of_entry seq_of (seq_of row) (row ∷ rows) ≡ Some (row, rows)
+first_found seq_of row rows = ap (λ b. cond b (Some (row, rows)) None) (same-eq (seq_of row))
 
-some_seq : (o : Option ℕ) → is_some o ≡ true → o ≡ Some (unwrap_or o 0)
-some_seq None h = (cc)
-some_seq (Some seq) h = refl
+-- a command that is new is said by its rows
+says_again : (before : List Entry) (doc : List ℕ) (act : Act) (rest : Rest) → is_new (judge before (record { doc = doc; act = act })) ≡ true → IsBehind (next before) rest.places
+    → take_by before (next before) (in_front before act rest) (kind_of act) ≡ Some (act, rest)
+says_again before doc (Added a positions) rest new behind =
+    let seq = next before in
+    let all = places_from seq 1 positions ++ rest.places in
+    let row = aircraft_row seq a in
+    ap (option_map (λ (taken : AircraftRow × List AircraftRow). (aircraft_said taken.0 (take_places seq 1 all).0, record rest { aircraft = taken.1; places = (take_places seq 1 all).1 }))) (first_found (λ (r : AircraftRow). r.seq) row rest.aircraft)
+    ∙ ap (λ (t : List (List ℕ × List ℕ) × List PlaceRow). Some (aircraft_said row t.0, record rest { places = t.1 })) (takes_places seq 1 positions rest.places behind)
+says_again before doc (Listed c) rest new behind =
+    ap (option_map (λ (taken : ComponentRow × List ComponentRow). (component_said taken.0, record rest { components = taken.1 }))) (first_found (λ (r : ComponentRow). r.seq) (component_row (next before) c) rest.components)
+says_again before doc (Flown s) rest new behind =
+    let row = sector_row (next before) (or_zero (seq_of_tail before s.tail)) s in
+    ap (option_and_then (λ (taken : SectorRow × List SectorRow). option_map (λ tail. (sector_said taken.0 tail, record rest { sectors = taken.1 })) (tail_at before taken.0.aircraft))) (first_found (λ (r : SectorRow). r.seq) row rest.sectors)
+    ∙ ap (option_map (λ tail. (sector_said row tail, rest))) (tail_known before s.tail (flown_is_known before doc s new))
+says_again before doc (Fitted f) rest new behind =
+    let row = fitting_row (next before) (or_zero (seq_of_serial before f.serial)) (or_zero (seq_of_tail before f.tail)) f in
+    let known = fitted_is_known before doc f new in
+    ap (option_and_then (λ (taken : FittingRow × List FittingRow). option_and_then (λ serial. option_map (λ tail. (fitting_said taken.0 serial tail, record rest { fittings = taken.1 })) (tail_at before taken.0.aircraft)) (serial_at before taken.0.component))) (first_found (λ (r : FittingRow). r.seq) row rest.fittings)
+    ∙ ap (option_and_then (λ serial. option_map (λ tail. (fitting_said row serial tail, rest)) (tail_at before row.aircraft))) (serial_known before f.serial known.1)
+    ∙ ap (option_map (λ tail. (fitting_said row f.serial tail, rest))) (tail_known before f.tail known.0)
+says_again before doc (Removed r) rest new behind =
+    let row = removal_row (next before) (or_zero (seq_of_serial before r.serial)) r in
+    ap (option_and_then (λ (taken : RemovalRow × List RemovalRow). option_map (λ serial. (removal_said taken.0 serial, record rest { removals = taken.1 })) (serial_at before taken.0.component))) (first_found (λ (x : RemovalRow). x.seq) row rest.removals)
+    ∙ ap (option_map (λ serial. (removal_said row serial, rest))) (serial_known before r.serial (removed_is_known before doc r new))
 
--- the registration of a sector that is new is found from its row
-tail_of_row : (before : List Entry) (doc : List ℕ) (s : Sector) → is_new (judge before (record { doc = doc; act = Flown s })) ≡ true → tail_at before (unwrap_or (seq_of_tail s.tail (aircraft_rows before)) 0) ≡ Some s.tail
-tail_of_row before doc s new =
-    let found = sym (is_some-seq_of_tail before s.tail) ∙ flown_is_known before doc s new in
-    tail_at-seq_of_tail before s.tail (unwrap_or (seq_of_tail s.tail (aircraft_rows before)) 0) (some_seq (seq_of_tail s.tail (aircraft_rows before)) found)
+-- the rows of a command of its shape that is new give it
+take_gives : (before : List Entry) (doc : List ℕ) (act : Act) (rest : Rest) → has_shape (record { doc = doc; act = act }) ≡ true → is_new (judge before (record { doc = doc; act = act })) ≡ true → IsBehind (next before) rest.places
+    → take_command before (entry_row (next before) (record { doc = doc; act = act })) (in_front before act rest) ≡ Some (record { doc = doc; act = act }, rest)
+take_gives before doc act rest shape new behind =
+    ap (option_and_then (λ (taken : Act × Rest). option_map (λ (command : Entry). (command, taken.1)) (command_of doc taken.0))) (says_again before doc act rest new behind)
+    ∙ ap (λ b. option_map (λ (command : Entry). (command, rest)) (cond b (Some (record { doc = doc; act = act })) None)) shape
 
--- a command of its shape is made
-shaped_command : (doc : List ℕ) (act : Act) → has_shape (record { doc = doc; act = act }) ≡ true → command_of doc act ≡ Some (record { doc = doc; act = act })
-shaped_command doc act h = ap (λ b. cond b (Some (record { doc = doc; act = act })) None) h
+-- ── the rows of a book give it ──
 
--- the rows of a command of its shape that is new say it
-take_gives : (before : List Entry) (doc : List ℕ) (act : Act) (aircraft : List AircraftRow) (sectors : List SectorRow)
-    → has_shape (record { doc = doc; act = act }) ≡ true → is_new (judge before (record { doc = doc; act = act })) ≡ true
-    → take_by before (entry_row (length before + 1) (record { doc = doc; act = act })) (record { aircraft = aircraft_by (length before + 1) act ++ aircraft; sectors = sector_by before act ++ sectors }) (kind_of act)
-    ≡ Some (record { doc = doc; act = act }, record { aircraft = aircraft; sectors = sectors })
-take_gives before doc (Added a positions) aircraft sectors shape new =
-    let bare = without_positions doc a positions shape in
-    let shaped : has_shape (record { doc = doc; act = Added a [] }) ≡ true = ap (λ (ps : List (List ℕ × List ℕ)). has_shape (record { doc = doc; act = Added a ps })) (sym bare) ∙ shape in
-    let rest : Rest = record { aircraft = aircraft; sectors = sectors } in
-    ap (λ b. cond b (option_map (with_rest rest) (command_of doc (Added a []))) None) (same-eq (length before + 1))
-    ∙ ap (option_map (with_rest rest)) (shaped_command doc (Added a []) shaped)
-    ∙ ap (λ (ps : List (List ℕ × List ℕ)). Some (with_rest rest (record { doc = doc; act = Added a ps }))) (sym bare)
-take_gives before doc (Flown s) aircraft sectors shape new =
-    let rest : Rest = record { aircraft = aircraft; sectors = sectors } in
-    let adder = unwrap_or (seq_of_tail s.tail (aircraft_rows before)) 0 in
-    let row = sector_row (length before + 1) adder s in
-    ap (λ b. cond b (option_map (with_rest rest) (option_and_then (λ tail. command_of doc (sector_said row tail)) (tail_at before adder))) None) (same-eq (length before + 1))
-    ∙ ap (λ o. option_map (with_rest rest) (option_and_then (λ tail. command_of doc (sector_said row tail)) o)) (tail_of_row before doc s new)
-    ∙ ap (option_map (with_rest rest)) (shaped_command doc (Flown s) shape)
+-- what entries give to the registers, behind the entries before them
+abbrev pub all_later : List Entry → List Entry → Rest
+all_later before later = record {
+  aircraft = gives_by aircraft_by before later;
+  places = gives_by places_by before later;
+  components = gives_by components_by before later;
+  sectors = gives_by sectors_by before later;
+  fittings = gives_by fittings_by before later;
+  removals = gives_by removals_by before later;
+}
+
+other_number : (n m : ℕ) → n ≤ m → (m + 1 == n) ≡ false
+other_number n m h = grind (arith, nat_tests)
+
+behind_if : (seq n : ℕ) (positions : List (List ℕ × List ℕ)) (rows : List PlaceRow) → seq ≤ n → IsBehind seq rows → IsBehind seq (places_from (n + 1) 1 positions ++ rows)
+behind_if seq n [] rows h rest = rest
+behind_if seq n (p ∷ positions) rows h rest = other_number seq n h
+
+-- the positions of later entries are of other numbers
+later_behind : (seq : ℕ) (before later : List Entry) → seq ≤ length before → IsBehind seq (gives_by places_by before later)
+later_behind seq before [] h = tt
+later_behind seq before (entry ∷ later) h =
+    behind_if seq (length before) (positions_of entry.act) (gives_by places_by (before ++ entry ∷ []) later) h
+    (later_behind seq (before ++ entry ∷ []) later (omega (arith, length-append before (entry ∷ []))))
 
 -- over what later entries give to the registers the merge gives those entries behind the others
-pub merged_gives : (before later : List Entry) → is_book_from before later ≡ true → list_all has_shape later ≡ true
-    → merged before (gives entry_added before later) (record { aircraft = gives aircraft_added before later; sectors = gives sector_added before later }) ≡ Some (before ++ later)
+merged_gives : (before later : List Entry) → is_book_from before later ≡ true → list_all has_shape later ≡ true → merged before (gives entry_added before later) (all_later before later) ≡ Some (before ++ later)
 merged_gives before [] judged shaped = ap (λ (book : List Entry). Some book) (sym (append-nil before))
 merged_gives before (entry ∷ later) judged shaped =
     let new = both_true (is_new (judge before entry)) (is_book_from (before ++ entry ∷ []) later) judged in
     let shape = both_true (has_shape entry) (list_all has_shape later) shaped in
-    rw (take_gives before entry.doc entry.act (gives aircraft_added (before ++ entry ∷ []) later) (gives sector_added (before ++ entry ∷ []) later) shape.0 new.0, same-eq (length before + 1), new.0)
+    let behind = later_behind (next before) (before ++ entry ∷ []) later (omega (arith, length-append before (entry ∷ []))) in
+    rw (take_gives before entry.doc entry.act (all_later (before ++ entry ∷ []) later) shape.0 new.0 behind, same-eq (length before + 1), new.0)
     (merged_gives (before ++ entry ∷ []) later new.1 shape.1 ∙ ap (λ (book : List Entry). Some book) (append_assoc before (entry ∷ []) later))
 
--- over the registers of a book the merge gives the book
-pub merged_book : (book : List Entry) → IsBook book → merged [] (entry_rows book) (record { aircraft = aircraft_rows book; sectors = sector_rows book }) ≡ Some book
-merged_book book is = merged_gives [] book is.judged is.shaped
+rest_with : List AircraftRow → List PlaceRow → List ComponentRow → List SectorRow → List FittingRow → List RemovalRow → Rest
+rest_with a p c s f r = record { aircraft = a; places = p; components = c; sectors = s; fittings = f; removals = r }
 
--- what the merge gives from the registers of a book
-pub merged_from : (book : List Entry) (entries : List EntryRow) (aircraft : List AircraftRow) (sectors : List SectorRow) → IsBook book → entries ≡ entry_rows book → aircraft ≡ aircraft_rows book → sectors ≡ sector_rows book
-    → merged [] entries (record { aircraft = aircraft; sectors = sectors }) ≡ Some book
-merged_from book entries aircraft sectors is one two three =
-    let first = ap (λ (rows : List EntryRow). merged [] rows (record { aircraft = aircraft; sectors = sectors })) one in
-    let second = ap (λ (rows : List AircraftRow). merged [] (entry_rows book) (record { aircraft = rows; sectors = sectors })) two in
-    let third = ap (λ (rows : List SectorRow). merged [] (entry_rows book) (record { aircraft = aircraft_rows book; sectors = rows })) three in
-    first ∙ second ∙ third ∙ merged_book book is
+same_rest : (a a' : List AircraftRow) (p p' : List PlaceRow) (c c' : List ComponentRow) (s s' : List SectorRow) (f f' : List FittingRow) (r r' : List RemovalRow) → a ≡ a' → p ≡ p' → c ≡ c' → s ≡ s' → f ≡ f' → r ≡ r' → rest_with a p c s f r ≡ rest_with a' p' c' s' f' r'
+same_rest a a' p p' c c' s s' f f' r r' one two three four five six = cc
+
+registers_rest : (registers : Registers) (book : List Entry) → AreRegistersOf registers book → all_rows registers ≡ all_later [] book
+unfolding rest_with
+registers_rest registers book are = same_rest _ _ _ _ _ _ _ _ _ _ _ _ are.aircraft are.places are.components are.sectors are.fittings are.removals
+
+-- from the registers of a book the merge gives the book
+pub merged_from : (registers : Registers) (book : List Entry) → IsBook book → AreRegistersOf registers book → merged [] registers.entries.items (all_rows registers) ≡ Some book
+merged_from registers book is are =
+    ap (λ (rows : List EntryRow). merged [] rows (all_rows registers)) are.entries ∙ ap (merged [] (entry_rows book)) (registers_rest registers book are) ∙ merged_gives [] book is.judged is.shaped
 
 -- equal options have equal values
 pub same_some : {X : Type 0} {a b : X} → Some a ≡ Some b → a ≡ b
 same_some e = cc
 
 -- registers are those of at most one book
-pub one_book : (one other : List Entry) → entry_rows one ≡ entry_rows other → aircraft_rows one ≡ aircraft_rows other → sector_rows one ≡ sector_rows other → IsBook one → IsBook other → one ≡ other
-one_book one other entries aircraft sectors is was =
-    same_some (sym (merged_book one is) ∙ merged_from other (entry_rows one) (aircraft_rows one) (sector_rows one) was entries aircraft sectors)
+pub one_book : (registers : Registers) (one other : List Entry) → AreRegistersOf registers one → AreRegistersOf registers other → IsBook one → IsBook other → one ≡ other
+one_book registers one other are were is was = same_some (sym (merged_from registers one is are) ∙ merged_from registers other was were)
 
 -- a result that is what the merge gives, where that is a book
 pub found_is : {Fault : Type 0} {given : Option (List Entry)} {book : List Entry} (result : Result (Option (List Entry)) Fault) → IfOk result (λ found. found ≡ given) → given ≡ Some book → IfOk result (λ found. found ≡ Some book)

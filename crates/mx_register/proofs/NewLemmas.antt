@@ -1,15 +1,18 @@
--- What a verdict of new says of the registrations.
-use Rattle.std.proofs.Common.{◌≡◌, List, [], ◌∷◌, ℕ, Bool, true, false, ◌||◌, Option, Some, None, refl, sym, ap, ◌∙◌}
+-- What a verdict of new says of the registrations and the serial numbers.
+use Rattle.std.proofs.Common.{◌≡◌, List, [], ◌∷◌, ◌++◌, ℕ, Bool, true, false, cond, ◌||◌, Option, Some, None, refl, sym, ap, ◌∙◌}
 use Rattle.std.specs.Prelude.{not, is_some}
 use Rattle.std.specs.Option.{option_map}
-use Rattle.mx_command.specs.Act.{Entry, Added, Flown}
+use Rattle.mx_command.specs.Act.{Act, Entry, Added, Listed, Flown, Fitted, Removed}
 use Rattle.mx_command.specs.declared.aircraft.Aircraft.{Aircraft}
+use Rattle.mx_command.specs.declared.component.Component.{Component}
 use Rattle.mx_command.specs.declared.sector.Sector.{Sector}
+use Rattle.mx_command.specs.declared.fitting.Fitting.{Fitting}
+use Rattle.mx_command.specs.declared.fitting.Removal.{Removal}
 use Rattle.mx_book.specs.declared.verdict.Refusal.{Refusal}
-use Rattle.mx_book.specs.declared.verdict.Refusal.TheVariants.{Full, UnknownAircraft, AircraftExists, OutOfOrder}
+use Rattle.mx_book.specs.declared.verdict.Refusal.TheVariants.{Full, UnknownAircraft, UnknownComponent, UnknownPosition, AircraftExists, ComponentExists}
 use Rattle.mx_book.specs.declared.verdict.Verdict.TheVariants.{New}
-use Rattle.mx_book.specs.Register.{aircraft}
-use Rattle.mx_book.specs.Judge.{judge, judge_by, refusals, first_of, when, verdict_of, is_full, names_unknown_aircraft, aircraft_exists, too_early}
+use Rattle.mx_book.specs.Register.{aircraft, component}
+use Rattle.mx_book.specs.Judge.{judge, judge_by, refusals, first_of, when, verdict_of, is_full, names_unknown_aircraft, names_unknown_component, names_unknown_position, aircraft_exists, component_exists}
 use Rattle.mx_book.specs.Book.{is_new}
 use Rattle.mx_book.proofs.JudgeLemmas.{is_new-New}
 use Rattle.mx_book.proofs.KnownLemmas.{unknown_document}
@@ -24,12 +27,28 @@ not_refused book command h =
     let new = is_new-New (judge book command) h in
     unrefused (first_of (refusals book command.act)) (sym (ap (judge_by book command) (unknown_document book command new)) ∙ new)
 
-none_applies : (full unknown exists : Bool) (late : Option Refusal)
-    → first_of (when full Full ∷ when unknown UnknownAircraft ∷ when exists AircraftExists ∷ late ∷ []) ≡ None → (unknown ≡ false) × (exists ≡ false)
-none_applies false false false late h = (refl, refl)
-none_applies false false true late h = (cc)
-none_applies false true exists late h = (cc)
-none_applies true unknown exists late h = (cc)
+-- where no refusal applies the first does not, and none of the others
+first_none : (b : Bool) (refusal : Refusal) (others : List (Option Refusal)) → first_of (when b refusal ∷ others) ≡ None → (b ≡ false) × (first_of others ≡ None)
+first_none true refusal others h = (cc)
+first_none false refusal others h = (refl, h)
+
+-- of a command that is new each name that it names is known, and the name that it adds is not
+record IsFresh (book : List Entry) (act : Act) : Type 0 where
+  pub aircraft_known : names_unknown_aircraft book act ≡ false
+  pub component_known : names_unknown_component book act ≡ false
+  pub aircraft_free : aircraft_exists book act ≡ false
+  pub component_free : component_exists book act ≡ false
+
+is_fresh : (book : List Entry) (command : Entry) → is_new (judge book command) ≡ true → IsFresh book command.act
+is_fresh book command h =
+    let act = command.act in
+    let one = first_none (is_full book act) Full _ (not_refused book command h) in
+    let two = first_none (names_unknown_aircraft book act) UnknownAircraft _ one.1 in
+    let three = first_none (names_unknown_component book act) UnknownComponent _ two.1 in
+    let four = first_none (names_unknown_position book act) UnknownPosition _ three.1 in
+    let five = first_none (aircraft_exists book act) AircraftExists _ four.1 in
+    let six = first_none (component_exists book act) ComponentExists _ five.1 in
+    record { aircraft_known = two.0; component_known = three.0; aircraft_free = five.0; component_free = six.0 }
 
 known : (b : Bool) → not b || false ≡ false → b ≡ true
 known true h = refl
@@ -37,12 +56,22 @@ known false h = (cc)
 
 -- an aircraft that is added has a registration that none had
 pub added_is_unknown : (book : List Entry) (doc : List ℕ) (a : Aircraft) (positions : List (List ℕ × List ℕ)) → is_new (judge book (record { doc = doc; act = Added a positions })) ≡ true → is_some (aircraft book a.tail) ≡ false
-added_is_unknown book doc a positions h =
-    let act = Added a positions in
-    (none_applies (is_full book act) (names_unknown_aircraft book act) (aircraft_exists book act) (option_map OutOfOrder (too_early book act)) (not_refused book (record { doc = doc; act = act }) h)).1
+added_is_unknown book doc a positions h = (is_fresh book (record { doc = doc; act = Added a positions }) h).aircraft_free
+
+-- a component that is added has a serial number that none had
+pub listed_is_unknown : (book : List Entry) (doc : List ℕ) (c : Component) → is_new (judge book (record { doc = doc; act = Listed c })) ≡ true → is_some (component book c.serial) ≡ false
+listed_is_unknown book doc c h = (is_fresh book (record { doc = doc; act = Listed c }) h).component_free
 
 -- a sector that is entered names an aircraft
 pub flown_is_known : (book : List Entry) (doc : List ℕ) (s : Sector) → is_new (judge book (record { doc = doc; act = Flown s })) ≡ true → is_some (aircraft book s.tail) ≡ true
-flown_is_known book doc s h =
-    let act = Flown s in
-    known (is_some (aircraft book s.tail)) (none_applies (is_full book act) (names_unknown_aircraft book act) (aircraft_exists book act) (option_map OutOfOrder (too_early book act)) (not_refused book (record { doc = doc; act = act }) h)).0
+flown_is_known book doc s h = known (is_some (aircraft book s.tail)) (is_fresh book (record { doc = doc; act = Flown s }) h).aircraft_known
+
+-- a fitting that is entered names an aircraft and a component
+pub fitted_is_known : (book : List Entry) (doc : List ℕ) (f : Fitting) → is_new (judge book (record { doc = doc; act = Fitted f })) ≡ true → (is_some (aircraft book f.tail) ≡ true) × (is_some (component book f.serial) ≡ true)
+fitted_is_known book doc f h =
+    let fresh = is_fresh book (record { doc = doc; act = Fitted f }) h in
+    (known (is_some (aircraft book f.tail)) fresh.aircraft_known, known (is_some (component book f.serial)) fresh.component_known)
+
+-- a removal that is entered names a component
+pub removed_is_known : (book : List Entry) (doc : List ℕ) (r : Removal) → is_new (judge book (record { doc = doc; act = Removed r })) ≡ true → is_some (component book r.serial) ≡ true
+removed_is_known book doc r h = known (is_some (component book r.serial)) (is_fresh book (record { doc = doc; act = Removed r }) h).component_known

@@ -1,17 +1,29 @@
 -- Registers as a book grows by a command, and the order of their rows.
-use Rattle.std.proofs.Common.{◌≡◌, ℕ, ◌+◌, ◌<◌, List, [], ◌∷◌, ◌++◌, length, Some, refl, sym, ap, subst, ◌∙◌, arith, All, append_assoc, append-nil, length-append}
-use Rattle.std.specs.Prelude.{unwrap_or}
-use Rattle.std.proofs.lemmas.List.Elements.{All-append, All-cons, All-nil}
-use Rattle.mx_command.specs.Act.{Act, Entry, Added, Flown, aircraft_of, sector_of}
+use Rattle.std.proofs.Common.{◌≡◌, ℕ, ◌+◌, ◌*◌, ◌^◌, ◌<◌, ◌≤◌, List, [], ◌∷◌, ◌++◌, length, Bool, true, Option, Some, None, refl, sym, ap, subst, ◌∙◌, arith, All, append_assoc, append-nil, length-append}
+use Rattle.std.specs.Prelude.{nat_le}
+use Rattle.std.specs.List.{cons_option, list_all}
+use Rattle.std.specs.Option.{option_map}
+use Rattle.std.proofs.lemmas.Bool.Decides.{nat_tests}
+use Rattle.std.proofs.lemmas.List.Elements.{All-append, All-nil}
+use Rattle.mx_command.specs.Act.{Act, Entry, Added, Listed, Flown, Fitted, Removed, positions_of, aircraft_of, component_of, sector_of, fitting_of, removal_of}
+use Rattle.mx_command.specs.Shape.{has_shape, act_shape, doc_shape, opening_shape, positions_shape}
 use Rattle.mx_command.specs.declared.aircraft.Aircraft.{Aircraft}
+use Rattle.mx_command.specs.declared.component.Component.{Component}
 use Rattle.mx_command.specs.declared.sector.Sector.{Sector}
+use Rattle.mx_command.specs.declared.fitting.Fitting.{Fitting}
+use Rattle.mx_command.specs.declared.fitting.Removal.{Removal}
+use Rattle.mx_book.proofs.JudgeLemmas.{both_true}
 use Rattle.mx_register.specs.declared.rows.EntryRow.{EntryRow}
 use Rattle.mx_register.specs.declared.rows.AircraftRow.{AircraftRow}
+use Rattle.mx_register.specs.declared.rows.PlaceRow.{PlaceRow}
+use Rattle.mx_register.specs.declared.rows.ComponentRow.{ComponentRow}
 use Rattle.mx_register.specs.declared.rows.SectorRow.{SectorRow}
-use Rattle.mx_register.specs.Rows.{FitsEntry, FitsAircraft, FitsSector}
+use Rattle.mx_register.specs.declared.rows.FittingRow.{FittingRow}
+use Rattle.mx_register.specs.declared.rows.RemovalRow.{RemovalRow}
+use Rattle.mx_register.specs.Names.{seq_of_tail, seq_of_serial, or_zero}
+use Rattle.mx_register.specs.Rows.{FitsEntry, FitsAircraft, FitsPlace, FitsComponent, FitsSector, FitsFitting, FitsRemoval, place_key}
 use Rattle.mx_register.specs.Rising.{IsRising}
-use Rattle.mx_register.specs.Registers.{gives, entry_row, aircraft_row, sector_row, entry_added, aircraft_by, aircraft_added, sector_by, sector_added, entry_rows, aircraft_rows, sector_rows, seq_of_tail, FitBook}
-use Rattle.mx_register.proofs.SortedLemmas.{keys_below}
+use Rattle.mx_register.specs.Registers.{gives, gives_by, next, if_any, places_from, entry_row, aircraft_row, component_row, sector_row, fitting_row, removal_row, entry_added, aircraft_by, places_by, components_by, sectors_by, fittings_by, removals_by, entry_rows, aircraft_rows, place_rows, component_rows, sector_rows, fitting_rows, removal_rows, FitBook, FitsNext}
 
 -- ── one command more ──
 
@@ -26,76 +38,32 @@ gives-more added before (entry ∷ book) command =
     ap (λ rows. added before entry ++ rows) (later ∙ place) ∙ sym (append_assoc (added before entry) rest (added (before ++ entry ∷ book) command))
 
 -- a command adds its row to the entries
-pub entry_rows-more : (book : List Entry) (command : Entry) → entry_rows (book ++ command ∷ []) ≡ entry_rows book ++ entry_row (length book + 1) command ∷ []
+pub entry_rows-more : (book : List Entry) (command : Entry) → entry_rows (book ++ command ∷ []) ≡ entry_rows book ++ entry_added book command
 entry_rows-more book command = gives-more entry_added [] book command
 
--- a command adds to the aircraft the one that it says
-pub aircraft_rows-more : (book : List Entry) (command : Entry) → aircraft_rows (book ++ command ∷ []) ≡ aircraft_rows book ++ aircraft_by (length book + 1) command.act
-aircraft_rows-more book command = gives-more aircraft_added [] book command
-
--- a command adds to the sectors the one that it says
-pub sector_rows-more : (book : List Entry) (command : Entry) → sector_rows (book ++ command ∷ []) ≡ sector_rows book ++ sector_by book command.act
-sector_rows-more book command = gives-more sector_added [] book command
-
-aircraft_by-added : (seq : ℕ) (act : Act) (a : Aircraft) → aircraft_of act ≡ Some a → aircraft_by seq act ≡ aircraft_row seq a ∷ []
-aircraft_by-added seq (Added b positions) a e = let same : b ≡ a = cc in ap (λ c. aircraft_row seq c ∷ []) same
-aircraft_by-added seq (Flown s) a e = (cc)
-
-aircraft_by-flown : (seq : ℕ) (act : Act) (s : Sector) → sector_of act ≡ Some s → aircraft_by seq act ≡ []
-aircraft_by-flown seq (Added b positions) s e = (cc)
-aircraft_by-flown seq (Flown t) s e = refl
-
-sector_by-added : (before : List Entry) (act : Act) (a : Aircraft) → aircraft_of act ≡ Some a → sector_by before act ≡ []
-sector_by-added before (Added b positions) a e = refl
-sector_by-added before (Flown s) a e = (cc)
-
-sector_by-flown : (before : List Entry) (act : Act) (s : Sector) (aircraft : ℕ) → sector_of act ≡ Some s → seq_of_tail s.tail (aircraft_rows before) ≡ Some aircraft → sector_by before act ≡ sector_row (length before + 1) aircraft s ∷ []
-sector_by-flown before (Added b positions) s aircraft e found = (cc)
-sector_by-flown before (Flown t) s aircraft e found =
-    let same : t ≡ s = cc in
-    ap (λ x. sector_row (length before + 1) (unwrap_or (seq_of_tail x.tail (aircraft_rows before)) 0) x ∷ []) same ∙ ap (λ o. sector_row (length before + 1) (unwrap_or o 0) s ∷ []) found
-
--- a command that adds an aircraft adds its row
-pub aircraft_rows-added : (book : List Entry) (command : Entry) (a : Aircraft) → aircraft_of command.act ≡ Some a → aircraft_rows (book ++ command ∷ []) ≡ aircraft_rows book ++ aircraft_row (length book + 1) a ∷ []
-aircraft_rows-added book command a e = aircraft_rows-more book command ∙ ap (λ rows. aircraft_rows book ++ rows) (aircraft_by-added (length book + 1) command.act a e)
-
--- a command that says a sector adds no aircraft
-pub aircraft_rows-flown : (book : List Entry) (command : Entry) (s : Sector) → sector_of command.act ≡ Some s → aircraft_rows (book ++ command ∷ []) ≡ aircraft_rows book
-aircraft_rows-flown book command s e = aircraft_rows-more book command ∙ ap (λ rows. aircraft_rows book ++ rows) (aircraft_by-flown (length book + 1) command.act s e) ∙ append-nil (aircraft_rows book)
-
--- a command that adds an aircraft adds no sector
-pub sector_rows-added : (book : List Entry) (command : Entry) (a : Aircraft) → aircraft_of command.act ≡ Some a → sector_rows (book ++ command ∷ []) ≡ sector_rows book
-sector_rows-added book command a e = sector_rows-more book command ∙ ap (λ rows. sector_rows book ++ rows) (sector_by-added book command.act a e) ∙ append-nil (sector_rows book)
-
--- a command that says a sector adds its row, with the number of the entry that added its aircraft
-pub sector_rows-flown : (book : List Entry) (command : Entry) (s : Sector) (aircraft : ℕ) → sector_of command.act ≡ Some s → seq_of_tail s.tail (aircraft_rows book) ≡ Some aircraft
-    → sector_rows (book ++ command ∷ []) ≡ sector_rows book ++ sector_row (length book + 1) aircraft s ∷ []
-sector_rows-flown book command s aircraft e found = sector_rows-more book command ∙ ap (λ rows. sector_rows book ++ rows) (sector_by-flown book command.act s aircraft e found)
+-- a command adds to each other register the rows that it says
+pub gives_by-more : {Row : Type 0} (by : List Entry → Act → List Row) (book : List Entry) (command : Entry) → gives_by by [] (book ++ command ∷ []) ≡ gives_by by [] book ++ by book command.act
+gives_by-more by book command = gives-more (λ earlier entry. by earlier entry.act) [] book command
 
 -- ── rows that fit ──
 
-one_more : {Row : Type 0} (P : Row → Type 0) (rows : List Row) (row : Row) → All P rows → P row → All P (rows ++ row ∷ [])
-one_more P rows row all one = All-append P rows (row ∷ []) all (All-cons P row [] one (All-nil P))
-
 -- the rows of the empty book fit
 pub FitBook-empty : FitBook []
-FitBook-empty = record { entries = All-nil FitsEntry; aircraft = All-nil FitsAircraft; sectors = All-nil FitsSector }
+FitBook-empty = record { entries = All-nil FitsEntry; aircraft = All-nil FitsAircraft; places = All-nil FitsPlace; components = All-nil FitsComponent; sectors = All-nil FitsSector; fittings = All-nil FitsFitting; removals = All-nil FitsRemoval }
 
--- the rows of a book fit where an aircraft is added whose rows do
-pub FitBook-added : (book : List Entry) (command : Entry) (a : Aircraft) → FitBook book → aircraft_of command.act ≡ Some a → FitsEntry (entry_row (length book + 1) command) → FitsAircraft (aircraft_row (length book + 1) a) → FitBook (book ++ command ∷ [])
-FitBook-added book command a fit e entry row = record {
-  entries = subst (All FitsEntry) (sym (entry_rows-more book command)) (one_more FitsEntry (entry_rows book) (entry_row (length book + 1) command) fit.entries entry);
-  aircraft = subst (All FitsAircraft) (sym (aircraft_rows-added book command a e)) (one_more FitsAircraft (aircraft_rows book) (aircraft_row (length book + 1) a) fit.aircraft row);
-  sectors = subst (All FitsSector) (sym (sector_rows-added book command a e)) fit.sectors;
-}
+more_fit : {Row : Type 0} (P : Row → Type 0) (by : List Entry → Act → List Row) (book : List Entry) (command : Entry) → All P (gives_by by [] book) → All P (by book command.act) → All P (gives_by by [] (book ++ command ∷ []))
+more_fit P by book command all new = subst (All P) (sym (gives_by-more by book command)) (All-append P (gives_by by [] book) (by book command.act) all new)
 
--- the rows of a book fit where a sector is entered whose rows do
-pub FitBook-flown : (book : List Entry) (command : Entry) (s : Sector) (aircraft : ℕ) → FitBook book → sector_of command.act ≡ Some s → seq_of_tail s.tail (aircraft_rows book) ≡ Some aircraft
-    → FitsEntry (entry_row (length book + 1) command) → FitsSector (sector_row (length book + 1) aircraft s) → FitBook (book ++ command ∷ [])
-FitBook-flown book command s aircraft fit e found entry row = record {
-  entries = subst (All FitsEntry) (sym (entry_rows-more book command)) (one_more FitsEntry (entry_rows book) (entry_row (length book + 1) command) fit.entries entry);
-  aircraft = subst (All FitsAircraft) (sym (aircraft_rows-flown book command s e)) fit.aircraft;
-  sectors = subst (All FitsSector) (sym (sector_rows-flown book command s aircraft e found)) (one_more FitsSector (sector_rows book) (sector_row (length book + 1) aircraft s) fit.sectors row);
+-- the rows of a book with one command more fit where those of the command do
+pub FitBook-more : (book : List Entry) (command : Entry) → FitBook book → FitsNext book command → FitBook (book ++ command ∷ [])
+FitBook-more book command fit new = record {
+  entries = subst (All FitsEntry) (sym (entry_rows-more book command)) (All-append FitsEntry (entry_rows book) (entry_added book command) fit.entries new.entries);
+  aircraft = more_fit FitsAircraft aircraft_by book command fit.aircraft new.aircraft;
+  places = more_fit FitsPlace places_by book command fit.places new.places;
+  components = more_fit FitsComponent components_by book command fit.components new.components;
+  sectors = more_fit FitsSector sectors_by book command fit.sectors new.sectors;
+  fittings = more_fit FitsFitting fittings_by book command fit.fittings new.fittings;
+  removals = more_fit FitsRemoval removals_by book command fit.removals new.removals;
 }
 
 -- ── the order of the rows ──
@@ -105,51 +73,94 @@ rising-append key [] [] low mid high a b = omega arith
 rising-append key [] (y ∷ ys) low mid high a b = (omega arith, b.1)
 rising-append key (x ∷ xs) ys low mid high a b = (a.0, rising-append key xs ys (key x + 1) mid high a.1 b)
 
--- the rows of a register rise, where those of each entry have its number
-gives-rising : {Row : Type 0} (key : Row → ℕ) (added : List Entry → Entry → List Row)
-    → ((before : List Entry) (entry : Entry) → IsRising key (length before + 1) (added before entry) (length before + 1 + 1))
-    → (before book : List Entry) → IsRising key (length before + 1) (gives added before book) (length before + length book + 1)
-gives-rising key added each before [] = omega arith
-gives-rising key added each before (entry ∷ book) =
+-- the rows of a register rise, where those of each entry are between the bound of its number and that of the next
+gives-rising : {Row : Type 0} (key : Row → ℕ) (bound : ℕ → ℕ) (added : List Entry → Entry → List Row)
+    → ((before : List Entry) (entry : Entry) → has_shape entry ≡ true → IsRising key (bound (length before + 1)) (added before entry) (bound (length before + 1 + 1)))
+    → (before book : List Entry) → list_all has_shape book ≡ true → IsRising key (bound (length before + 1)) (gives added before book) (bound (length before + length book + 1))
+gives-rising key bound added each before [] shaped = let same : length before + 0 + 1 ≡ length before + 1 = omega arith in let e = ap bound same in omega arith
+gives-rising key bound added each before (entry ∷ book) shaped =
+    let shape = both_true (has_shape entry) (list_all has_shape book) shaped in
     let one : length (before ++ entry ∷ []) ≡ length before + 1 = length-append before (entry ∷ []) in
     let sum : length before + 1 + length book + 1 ≡ length before + length (entry ∷ book) + 1 = omega arith in
-    let later = gives-rising key added each (before ++ entry ∷ []) book in
-    rising-append key (added before entry) (gives added (before ++ entry ∷ []) book) _ (length before + 1 + 1) _ (each before entry)
-    (subst (λ n. IsRising key (length before + 1 + 1) (gives added (before ++ entry ∷ []) book) n) sum (subst (λ n. IsRising key (n + 1) (gives added (before ++ entry ∷ []) book) (n + length book + 1)) one later))
+    let later = gives-rising key bound added each (before ++ entry ∷ []) book shape.1 in
+    rising-append key (added before entry) (gives added (before ++ entry ∷ []) book) _ (bound (length before + 1 + 1)) _ (each before entry shape.0)
+    (subst (λ n. IsRising key (bound (length before + 1 + 1)) (gives added (before ++ entry ∷ []) book) (bound n)) sum (subst (λ n. IsRising key (bound (n + 1)) (gives added (before ++ entry ∷ []) book) (bound (n + length book + 1))) one later))
 
-aircraft_by_rises : (n : ℕ) (act : Act) → IsRising (λ (row : AircraftRow). row.seq) (n + 1) (aircraft_by (n + 1) act) (n + 1 + 1)
-aircraft_by_rises n (Added a positions) = (omega arith, omega arith)
-aircraft_by_rises n (Flown s) = omega arith
+from_one : {Row : Type 0} (key : Row → ℕ) (bound : ℕ → ℕ) (added : List Entry → Entry → List Row)
+    → ((before : List Entry) (entry : Entry) → has_shape entry ≡ true → IsRising key (bound (length before + 1)) (added before entry) (bound (length before + 1 + 1)))
+    → (book : List Entry) → list_all has_shape book ≡ true → IsRising key (bound 1) (gives added [] book) (bound (length book + 1))
+from_one key bound added each book shaped = let e : 0 + length book + 1 ≡ length book + 1 = omega arith in subst (λ n. IsRising key (bound 1) (gives added [] book) (bound n)) e (gives-rising key bound added each [] book shaped)
 
-sector_by_rises : (before : List Entry) (act : Act) → IsRising (λ (row : SectorRow). row.seq) (length before + 1) (sector_by before act) (length before + 1 + 1)
-sector_by_rises before (Added a positions) = omega arith
-sector_by_rises before (Flown s) = (omega arith, omega arith)
+-- a row with the number of its entry, where there is one
+one_rises : {X Row : Type 0} (key : Row → ℕ) (n : ℕ) (row : X → Row) → ((x : X) → key (row x) ≡ n) → (o : Option X) → IsRising key n (if_any row o) (n + 1)
+one_rises key n row same None = omega arith
+one_rises key n row same (Some x) = let e = same x in (omega arith, omega arith)
 
-from_one : {Row : Type 0} (key : Row → ℕ) (added : List Entry → Entry → List Row)
-    → ((before : List Entry) (entry : Entry) → IsRising key (length before + 1) (added before entry) (length before + 1 + 1))
-    → (book : List Entry) → IsRising key 1 (gives added [] book) (length book + 1)
-from_one key added each book = let e : 0 + length book + 1 ≡ length book + 1 = omega arith in subst (λ n. IsRising key 1 (gives added [] book) n) e (gives-rising key added each [] book)
+by_number : ℕ → ℕ
+by_number n = n
 
 -- the numbers of the entries rise from 1 to the length of the book
-pub entry_rows-rising : (book : List Entry) → IsRising (λ (row : EntryRow). row.seq) 1 (entry_rows book) (length book + 1)
-entry_rows-rising = from_one (λ (row : EntryRow). row.seq) entry_added (λ before entry. (omega arith, omega arith))
+pub entry_rows-rising : (book : List Entry) → list_all has_shape book ≡ true → IsRising (λ (row : EntryRow). row.seq) 1 (entry_rows book) (length book + 1)
+unfolding by_number
+entry_rows-rising = from_one (λ (row : EntryRow). row.seq) by_number entry_added (λ before entry _. (omega arith, omega arith))
 
 -- the numbers of the aircraft rise, none above the length of the book
-pub aircraft_rows-rising : (book : List Entry) → IsRising (λ (row : AircraftRow). row.seq) 1 (aircraft_rows book) (length book + 1)
-aircraft_rows-rising = from_one (λ (row : AircraftRow). row.seq) aircraft_added (λ before entry. aircraft_by_rises (length before) entry.act)
+pub aircraft_rows-rising : (book : List Entry) → list_all has_shape book ≡ true → IsRising (λ (row : AircraftRow). row.seq) 1 (aircraft_rows book) (length book + 1)
+unfolding by_number
+aircraft_rows-rising = from_one (λ (row : AircraftRow). row.seq) by_number (λ before entry. aircraft_by before entry.act) (λ before entry _. one_rises (λ (row : AircraftRow). row.seq) (next before) (aircraft_row (next before)) (λ a. refl) (aircraft_of entry.act))
+
+-- the numbers of the components rise, none above the length of the book
+pub component_rows-rising : (book : List Entry) → list_all has_shape book ≡ true → IsRising (λ (row : ComponentRow). row.seq) 1 (component_rows book) (length book + 1)
+unfolding by_number
+component_rows-rising = from_one (λ (row : ComponentRow). row.seq) by_number (λ before entry. components_by before entry.act) (λ before entry _. one_rises (λ (row : ComponentRow). row.seq) (next before) (component_row (next before)) (λ c. refl) (component_of entry.act))
 
 -- the numbers of the sectors rise, none above the length of the book
-pub sector_rows-rising : (book : List Entry) → IsRising (λ (row : SectorRow). row.seq) 1 (sector_rows book) (length book + 1)
-sector_rows-rising = from_one (λ (row : SectorRow). row.seq) sector_added (λ before entry. sector_by_rises before entry.act)
+pub sector_rows-rising : (book : List Entry) → list_all has_shape book ≡ true → IsRising (λ (row : SectorRow). row.seq) 1 (sector_rows book) (length book + 1)
+unfolding by_number
+sector_rows-rising = from_one (λ (row : SectorRow). row.seq) by_number (λ before entry. sectors_by before entry.act)
+    (λ before entry _. one_rises (λ (row : SectorRow). row.seq) (next before) (λ (s : Sector). sector_row (next before) (or_zero (seq_of_tail before s.tail)) s) (λ s. refl) (sector_of entry.act))
 
--- no entry has a number above the length of the book
-pub entry_rows-below : (book : List Entry) → All (λ (row : EntryRow). row.seq < length book + 1) (entry_rows book)
-entry_rows-below book = keys_below (λ (row : EntryRow). row.seq) 1 (length book + 1) (entry_rows book) (entry_rows-rising book)
+-- the numbers of the fittings rise, none above the length of the book
+pub fitting_rows-rising : (book : List Entry) → list_all has_shape book ≡ true → IsRising (λ (row : FittingRow). row.seq) 1 (fitting_rows book) (length book + 1)
+unfolding by_number
+fitting_rows-rising = from_one (λ (row : FittingRow). row.seq) by_number (λ before entry. fittings_by before entry.act)
+    (λ before entry _. one_rises (λ (row : FittingRow). row.seq) (next before) (λ (f : Fitting). fitting_row (next before) (or_zero (seq_of_serial before f.serial)) (or_zero (seq_of_tail before f.tail)) f) (λ f. refl) (fitting_of entry.act))
 
--- no aircraft has a number above the length of the book
-pub aircraft_rows-below : (book : List Entry) → All (λ (row : AircraftRow). row.seq < length book + 1) (aircraft_rows book)
-aircraft_rows-below book = keys_below (λ (row : AircraftRow). row.seq) 1 (length book + 1) (aircraft_rows book) (aircraft_rows-rising book)
+-- the numbers of the removals rise, none above the length of the book
+pub removal_rows-rising : (book : List Entry) → list_all has_shape book ≡ true → IsRising (λ (row : RemovalRow). row.seq) 1 (removal_rows book) (length book + 1)
+unfolding by_number
+removal_rows-rising = from_one (λ (row : RemovalRow). row.seq) by_number (λ before entry. removals_by before entry.act)
+    (λ before entry _. one_rises (λ (row : RemovalRow). row.seq) (next before) (λ (r : Removal). removal_row (next before) (or_zero (seq_of_serial before r.serial)) r) (λ r. refl) (removal_of entry.act))
 
--- no sector has a number above the length of the book
-pub sector_rows-below : (book : List Entry) → All (λ (row : SectorRow). row.seq < length book + 1) (sector_rows book)
-sector_rows-below book = keys_below (λ (row : SectorRow). row.seq) 1 (length book + 1) (sector_rows book) (sector_rows-rising book)
+by_line : ℕ → ℕ
+by_line n = n * 2 ^ 32
+
+-- the positions of one aircraft rise by their lines
+places_rise : (seq line : ℕ) (positions : List (List ℕ × List ℕ)) → line + length positions ≤ 2 ^ 32 → IsRising place_key (seq * 2 ^ 32 + line) (places_from seq line positions) ((seq + 1) * 2 ^ 32)
+places_rise seq line [] h = omega arith
+places_rise seq line (p ∷ positions) h =
+    (omega arith, subst (λ n. IsRising place_key n (places_from seq (line + 1) positions) ((seq + 1) * 2 ^ 32)) (let e : seq * 2 ^ 32 + (line + 1) ≡ seq * 2 ^ 32 + line + 1 = omega arith in e) (places_rise seq (line + 1) positions (omega arith)))
+
+few_positions : (positions : List (List ℕ × List ℕ)) → positions_shape positions ≡ true → length positions ≤ 40
+few_positions positions h = let few = (both_true (nat_le (length positions) 40) _ h).0 in grind (arith, nat_tests)
+
+positions_few : (doc : List ℕ) (act : Act) → has_shape (record { doc = doc; act = act }) ≡ true → length (positions_of act) ≤ 40
+positions_few doc (Added a positions) h =
+    let shape = both_true (act_shape (Added a positions)) (doc_shape doc (Added a positions)) h in
+    few_positions positions (both_true (opening_shape a.birth a.opening a.as_of) (positions_shape positions) shape.0).1
+positions_few doc (Listed c) h = omega arith
+positions_few doc (Flown s) h = omega arith
+positions_few doc (Fitted f) h = omega arith
+positions_few doc (Removed r) h = omega arith
+
+rising-lower : {Row : Type 0} (key : Row → ℕ) (low more high : ℕ) (xs : List Row) → low ≤ more → IsRising key more xs high → IsRising key low xs high
+rising-lower key low more high [] h up = omega arith
+rising-lower key low more high (x ∷ xs) h up = (omega arith, up.1)
+
+-- the positions of all aircraft rise by the numbers of their entries and then by their lines
+pub place_rows-rising : (book : List Entry) → list_all has_shape book ≡ true → IsRising place_key (1 * 2 ^ 32) (place_rows book) ((length book + 1) * 2 ^ 32)
+unfolding by_line
+place_rows-rising = from_one place_key by_line (λ before entry. places_by before entry.act)
+    (λ before entry shape. let few = positions_few entry.doc entry.act shape in
+    rising-lower place_key (next before * 2 ^ 32) (next before * 2 ^ 32 + 1) ((next before + 1) * 2 ^ 32) (places_by before entry.act) (omega arith)
+    (places_rise (next before) 1 (positions_of entry.act) (omega arith)))

@@ -1,168 +1,260 @@
 -- The rows from which a merge gives a book are the registers of that book.
 use Rattle.std.proofs.Common.{◌≡◌, ℕ, ◌+◌, ◌==◌, ◌&&◌, Bool, cond, true, false, List, [], ◌∷◌, ◌++◌, length, Option, Some, None, refl, sym, ap, subst, ◌∙◌, arith, append_assoc, append-nil}
-use Rattle.std.specs.Prelude.{unwrap_or, Result, Ok, Err, IfOk, IfSome}
+use Rattle.std.specs.Prelude.{Result, Ok, Err, IfOk, IfSome}
 use Rattle.std.specs.Option.{option_and_then, option_map}
 use Rattle.std.proofs.lemmas.Bool.{eqb-true}
 use Rattle.std.proofs.lemmas.Option.{option_and_then_some}
-use Rattle.mx_command.specs.Act.{Entry}
+use Rattle.mx_command.specs.Act.{Act, Entry}
 use Rattle.mx_command.specs.Shape.{has_shape}
 use Rattle.mx_book.specs.Judge.{judge}
 use Rattle.mx_book.specs.Book.{is_new, IsBook}
 use Rattle.mx_book.proofs.JudgeLemmas.{both_true, is_new-New, IsBook-entered}
+use Rattle.mx_register.specs.declared.merge.Registers.{Registers}
 use Rattle.mx_register.specs.declared.rows.EntryKind.{EntryKind}
 use Rattle.mx_register.specs.declared.rows.EntryKind.TheVariants as kind
 use Rattle.mx_register.specs.declared.rows.EntryRow.{EntryRow}
 use Rattle.mx_register.specs.declared.rows.AircraftRow.{AircraftRow}
+use Rattle.mx_register.specs.declared.rows.PlaceRow.{PlaceRow}
+use Rattle.mx_register.specs.declared.rows.ComponentRow.{ComponentRow}
 use Rattle.mx_register.specs.declared.rows.SectorRow.{SectorRow}
-use Rattle.mx_register.specs.Registers.{gives, entry_row, entry_added, aircraft_by, aircraft_added, sector_by, sector_added, entry_rows, aircraft_rows, sector_rows, seq_of_tail, tail_at}
-use Rattle.mx_register.specs.Merge.{Rest, aircraft_said, sector_said, command_of, with_rest, take_aircraft, take_sector, take_by, take_command, is_next, is_empty, merged}
+use Rattle.mx_register.specs.declared.rows.FittingRow.{FittingRow}
+use Rattle.mx_register.specs.declared.rows.RemovalRow.{RemovalRow}
+use Rattle.mx_register.specs.Names.{tail_at, serial_at, seq_of_tail, seq_of_serial, or_zero}
+use Rattle.mx_register.specs.Registers.{gives, gives_by, next, kind_of, entry_row, entry_added, aircraft_by, places_by, components_by, sectors_by, fittings_by, removals_by, AreRegistersOf}
+use Rattle.mx_register.specs.Merge.{Rest, aircraft_said, component_said, sector_said, fitting_said, removal_said, command_of, first_of_entry, take_places, take_by, take_command, is_next, is_empty, are_taken, merged}
+use Rattle.mx_register.specs.Left.{all_rows}
 use Rattle.mx_register.proofs.MergeLemmas.{same_some}
-use Rattle.mx_register.proofs.AdderLemmas.{seq_of_tail-tail_at}
+use Rattle.mx_register.proofs.NameLemmas.{tail_number, serial_number}
+use Rattle.mx_register.proofs.TakeLemmas.{rows_taken}
 
 when_some : {X : Type 0} (b : Bool) (o : Option X) (x : X) → cond b o None ≡ Some x → (b ≡ true) × (o ≡ Some x)
 when_some true o x h = (refl, h)
 when_some false o x h = (cc)
 
--- a command and its rest, where the command was made
-made_with : (made : Option Entry) (rest left : Rest) (command : Entry) → option_map (with_rest rest) made ≡ Some (command, left) → (made ≡ Some command) × (rest ≡ left)
-made_with None rest left command h = (cc)
-made_with (Some c) rest left command h =
-    let both : (c, rest) ≡ (command, left) = same_some h in
-    (ap (λ (n : Entry × Rest). Some n.0) both, ap (λ (n : Entry × Rest). n.1) both)
+option_map_some : {X Y Z : Type 0} (f : X → Y) (o : Option X) (y : Y) → option_map f o ≡ Some y → ((x : X) → o ≡ Some x → f x ≡ y → Z) → Z
+option_map_some f None y h goal = absurd cc
+option_map_some f (Some x) y h goal = goal x refl (same_some h)
 
--- the rows of one entry: the command has its document and shape, and stands in front of the rows that are left
-record Takes (before : List Entry) (entry : EntryRow) (rest : Rest) (command : Entry) (left : Rest) : Type 0 where
-  row : entry ≡ entry_row (length before + 1) command
-  shape : has_shape command ≡ true
-  aircraft : rest.aircraft ≡ aircraft_by (length before + 1) command.act ++ left.aircraft
-  sectors : rest.sectors ≡ sector_by before command.act ++ left.sectors
+first_is : {Row : Type 0} (seq_of : Row → ℕ) (seq : ℕ) (rows : List Row) (row : Row) (more : List Row) → first_of_entry seq_of seq rows ≡ Some (row, more) → (seq_of row ≡ seq) × (rows ≡ row ∷ more)
+first_is seq_of seq [] row more h = (cc)
+first_is seq_of seq (r ∷ rows) row more h =
+    let one = when_some (seq_of r == seq) (Some (r, rows)) (row, more) h in
+    let both : (r, rows) ≡ (row, more) = same_some one.1 in
+    let here : r ≡ row = ap (λ p. p.0) both in
+    let there : rows ≡ more = ap (λ p. p.1) both in
+    (sym (ap seq_of here) ∙ eqb-true (seq_of r) seq one.0, ap (λ x. x ∷ rows) here ∙ ap (λ xs. row ∷ xs) there)
 
--- an entry of this number, document and kind
-entry_is : (entry : EntryRow) (seq : ℕ) (k : EntryKind) → entry.seq ≡ seq → entry.kind ≡ k → entry ≡ record { seq = seq; doc = entry.doc; kind = k }
-entry_is entry seq k one two = ap (λ (n : ℕ). record { seq = n; doc = entry.doc; kind = entry.kind }) one ∙ ap (λ (x : EntryKind). record { seq = seq; doc = entry.doc; kind = x }) two
+-- the rows of an entry of this kind stand in front of those that are left
+record Takes (before : List Entry) (k : EntryKind) (rest : Rest) (act : Act) (left : Rest) : Type 0 where
+  kind_is : k ≡ kind_of act
+  aircraft : rest.aircraft ≡ aircraft_by before act ++ left.aircraft
+  places : rest.places ≡ places_by before act ++ left.places
+  components : rest.components ≡ components_by before act ++ left.components
+  sectors : rest.sectors ≡ sectors_by before act ++ left.sectors
+  fittings : rest.fittings ≡ fittings_by before act ++ left.fittings
+  removals : rest.removals ≡ removals_by before act ++ left.removals
 
-took_aircraft : (before : List Entry) (entry : EntryRow) (row : AircraftRow) (aircraft : List AircraftRow) (sectors : List SectorRow) → entry.seq ≡ length before + 1 → entry.kind ≡ kind.AddAircraft → row.seq ≡ entry.seq
-    → has_shape (record { doc = entry.doc; act = aircraft_said row }) ≡ true
-    → Takes before entry (record { aircraft = row ∷ aircraft; sectors = sectors }) (record { doc = entry.doc; act = aircraft_said row }) (record { aircraft = aircraft; sectors = sectors })
-took_aircraft before entry row aircraft sectors seq is same shape = record {
-  row = entry_is entry (length before + 1) kind.AddAircraft seq is;
-  shape = shape;
-  aircraft = ap (λ (n : ℕ). record { seq = n; tail = row.tail; kind = row.kind; birth = row.birth; minutes = row.minutes; cycles = row.cycles; as_of = row.as_of } ∷ aircraft) (same ∙ seq);
+-- the same where other names stand for what is said and for what is left
+takes_as : (before : List Entry) (k : EntryKind) (rest : Rest) (said taken : Act × Rest) → said ≡ taken → Takes before k rest said.0 said.1 → Takes before k rest taken.0 taken.1
+takes_as before k rest said taken same h = subst (λ (t : Act × Rest). Takes before k rest t.0 t.1) same h
+
+took_aircraft : (before : List Entry) (rest : Rest) (row : AircraftRow) (more : List AircraftRow) → row.seq ≡ next before → rest.aircraft ≡ row ∷ more
+    → Takes before kind.AddAircraft rest (aircraft_said row (take_places (next before) 1 rest.places).0) (record rest { aircraft = more; places = (take_places (next before) 1 rest.places).1 })
+took_aircraft before rest row more same is = record {
+  kind_is = refl;
+  aircraft = is ∙ ap (λ (n : ℕ). record { seq = n; tail = row.tail; kind = row.kind; birth = row.birth; minutes = row.minutes; cycles = row.cycles; as_of = row.as_of } ∷ more) same;
+  places = rows_taken (next before) 1 rest.places;
+  components = refl;
   sectors = refl;
+  fittings = refl;
+  removals = refl;
 }
 
-took_sector : (before : List Entry) (entry : EntryRow) (row : SectorRow) (tail : List ℕ) (aircraft : List AircraftRow) (sectors : List SectorRow) → IsBook before → entry.seq ≡ length before + 1 → entry.kind ≡ kind.Sector → row.seq ≡ entry.seq
-    → tail_at before row.aircraft ≡ Some tail → has_shape (record { doc = entry.doc; act = sector_said row tail }) ≡ true
-    → Takes before entry (record { aircraft = aircraft; sectors = row ∷ sectors }) (record { doc = entry.doc; act = sector_said row tail }) (record { aircraft = aircraft; sectors = sectors })
-took_sector before entry row tail aircraft sectors is seq said_kind same found shape =
-    let adder : row.aircraft ≡ unwrap_or (seq_of_tail tail (aircraft_rows before)) 0 = ap (λ (o : Option ℕ). unwrap_or o 0) (sym (seq_of_tail-tail_at before tail row.aircraft is.judged found)) in
-    record {
-      row = entry_is entry (length before + 1) kind.Sector seq said_kind;
-      shape = shape;
-      aircraft = refl;
-      sectors = ap (λ (n : ℕ). record { seq = n; aircraft = row.aircraft; page = row.page; line = row.line; took_off = row.took_off; landed = row.landed; cycles = row.cycles } ∷ sectors) (same ∙ seq)
-          ∙ ap (λ (n : ℕ). record { seq = length before + 1; aircraft = n; page = row.page; line = row.line; took_off = row.took_off; landed = row.landed; cycles = row.cycles } ∷ sectors) adder;
-    }
+took_component : (before : List Entry) (rest : Rest) (row : ComponentRow) (more : List ComponentRow) → row.seq ≡ next before → rest.components ≡ row ∷ more
+    → Takes before kind.AddComponent rest (component_said row) (record rest { components = more })
+took_component before rest row more same is = record {
+  kind_is = refl;
+  aircraft = refl;
+  places = refl;
+  components = is ∙ ap (λ (n : ℕ). record { seq = n; serial = row.serial; part = row.part; birth = row.birth; minutes = row.minutes; cycles = row.cycles; as_of = row.as_of } ∷ more) same;
+  sectors = refl;
+  fittings = refl;
+  removals = refl;
+}
 
--- the same where another name stands for the command and for what is left
-takes_as : (before : List Entry) (entry : EntryRow) (rest : Rest) (c command : Entry) (r left : Rest) → c ≡ command → r ≡ left → Takes before entry rest c r → Takes before entry rest command left
-takes_as before entry rest c command r left one two h = subst (λ (x : Rest). Takes before entry rest command x) two (subst (λ (x : Entry). Takes before entry rest x r) one h)
+took_sector : (before : List Entry) (rest : Rest) (row : SectorRow) (more : List SectorRow) (tail : List ℕ) → IsBook before → row.seq ≡ next before → rest.sectors ≡ row ∷ more → tail_at before row.aircraft ≡ Some tail
+    → Takes before kind.Sector rest (sector_said row tail) (record rest { sectors = more })
+took_sector before rest row more tail book same is found = record {
+  kind_is = refl;
+  aircraft = refl;
+  places = refl;
+  components = refl;
+  sectors = is ∙ ap (λ (n : ℕ). record { seq = n; aircraft = row.aircraft; page = row.page; line = row.line; took_off = row.took_off; landed = row.landed; cycles = row.cycles } ∷ more) same
+      ∙ ap (λ (n : ℕ). record { seq = next before; aircraft = n; page = row.page; line = row.line; took_off = row.took_off; landed = row.landed; cycles = row.cycles } ∷ more) (tail_number before tail row.aircraft book.judged found);
+  fittings = refl;
+  removals = refl;
+}
 
-takes_aircraft : (before : List Entry) (entry : EntryRow) (aircraft : List AircraftRow) (sectors : List SectorRow) (command : Entry) (left : Rest) → entry.seq ≡ length before + 1 → entry.kind ≡ kind.AddAircraft
-    → take_aircraft entry aircraft sectors ≡ Some (command, left) → Takes before entry (record { aircraft = aircraft; sectors = sectors }) command left
-takes_aircraft before entry [] sectors command left seq is h = (cc)
-takes_aircraft before entry (row ∷ aircraft) sectors command left seq is h =
-    let rest : Rest = record { aircraft = aircraft; sectors = sectors } in
-    let said : Entry = record { doc = entry.doc; act = aircraft_said row } in
-    let one = when_some (row.seq == entry.seq) (option_map (with_rest rest) (command_of entry.doc (aircraft_said row))) (command, left) h in
-    let made = made_with (command_of entry.doc (aircraft_said row)) rest left command one.1 in
-    let shaped = when_some (has_shape said) (Some said) command made.0 in
-    takes_as before entry (record { aircraft = row ∷ aircraft; sectors = sectors }) said command rest left (same_some shaped.1) made.1
-    (took_aircraft before entry row aircraft sectors seq is (eqb-true row.seq entry.seq one.0) shaped.0)
+took_fitting : (before : List Entry) (rest : Rest) (row : FittingRow) (more : List FittingRow) (serial tail : List ℕ) → IsBook before → row.seq ≡ next before → rest.fittings ≡ row ∷ more
+    → serial_at before row.component ≡ Some serial → tail_at before row.aircraft ≡ Some tail → Takes before kind.Fit rest (fitting_said row serial tail) (record rest { fittings = more })
+took_fitting before rest row more serial tail book same is component found = record {
+  kind_is = refl;
+  aircraft = refl;
+  places = refl;
+  components = refl;
+  sectors = refl;
+  fittings = is ∙ ap (λ (n : ℕ). record { seq = n; component = row.component; aircraft = row.aircraft; position = row.position; moment = row.moment } ∷ more) same
+      ∙ ap (λ (n : ℕ). record { seq = next before; component = n; aircraft = row.aircraft; position = row.position; moment = row.moment } ∷ more) (serial_number before serial row.component book.judged component)
+      ∙ ap (λ (n : ℕ). record { seq = next before; component = or_zero (seq_of_serial before serial); aircraft = n; position = row.position; moment = row.moment } ∷ more) (tail_number before tail row.aircraft book.judged found);
+  removals = refl;
+}
 
-takes_flown : (before : List Entry) (entry : EntryRow) (row : SectorRow) (o : Option (List ℕ)) (aircraft : List AircraftRow) (sectors : List SectorRow) (command : Entry) (left : Rest) → IsBook before → entry.seq ≡ length before + 1
-    → entry.kind ≡ kind.Sector → row.seq ≡ entry.seq → tail_at before row.aircraft ≡ o
-    → option_map (with_rest (record { aircraft = aircraft; sectors = sectors })) (option_and_then (λ tail. command_of entry.doc (sector_said row tail)) o) ≡ Some (command, left)
-    → Takes before entry (record { aircraft = aircraft; sectors = row ∷ sectors }) command left
-takes_flown before entry row None aircraft sectors command left is seq said_kind same found h = (cc)
-takes_flown before entry row (Some tail) aircraft sectors command left is seq said_kind same found h =
-    let rest : Rest = record { aircraft = aircraft; sectors = sectors } in
-    let said : Entry = record { doc = entry.doc; act = sector_said row tail } in
-    let made = made_with (command_of entry.doc (sector_said row tail)) rest left command h in
-    let shaped = when_some (has_shape said) (Some said) command made.0 in
-    takes_as before entry (record { aircraft = aircraft; sectors = row ∷ sectors }) said command rest left (same_some shaped.1) made.1
-    (took_sector before entry row tail aircraft sectors is seq said_kind same found shaped.0)
+took_removal : (before : List Entry) (rest : Rest) (row : RemovalRow) (more : List RemovalRow) (serial : List ℕ) → IsBook before → row.seq ≡ next before → rest.removals ≡ row ∷ more
+    → serial_at before row.component ≡ Some serial → Takes before kind.Remove rest (removal_said row serial) (record rest { removals = more })
+took_removal before rest row more serial book same is component = record {
+  kind_is = refl;
+  aircraft = refl;
+  places = refl;
+  components = refl;
+  sectors = refl;
+  fittings = refl;
+  removals = is ∙ ap (λ (n : ℕ). record { seq = n; component = row.component; moment = row.moment } ∷ more) same
+      ∙ ap (λ (n : ℕ). record { seq = next before; component = n; moment = row.moment } ∷ more) (serial_number before serial row.component book.judged component);
+}
 
-takes_sector : (before : List Entry) (entry : EntryRow) (aircraft : List AircraftRow) (sectors : List SectorRow) (command : Entry) (left : Rest) → IsBook before → entry.seq ≡ length before + 1 → entry.kind ≡ kind.Sector
-    → take_sector before entry aircraft sectors ≡ Some (command, left) → Takes before entry (record { aircraft = aircraft; sectors = sectors }) command left
-takes_sector before entry aircraft [] command left is seq said_kind h = (cc)
-takes_sector before entry aircraft (row ∷ sectors) command left is seq said_kind h =
-    let rest : Rest = record { aircraft = aircraft; sectors = sectors } in
-    let one = when_some (row.seq == entry.seq) (option_map (with_rest rest) (option_and_then (λ tail. command_of entry.doc (sector_said row tail)) (tail_at before row.aircraft))) (command, left) h in
-    takes_flown before entry row (tail_at before row.aircraft) aircraft sectors command left is seq said_kind (eqb-true row.seq entry.seq one.0) refl one.1
+takes_by : (before : List Entry) (rest : Rest) (k : EntryKind) (taken : Act × Rest) → IsBook before → take_by before (next before) rest k ≡ Some taken → Takes before k rest taken.0 taken.1
+takes_by before rest kind.AddAircraft taken book h =
+    option_map_some (λ (t : AircraftRow × List AircraftRow). (aircraft_said t.0 (take_places (next before) 1 rest.places).0, record rest { aircraft = t.1; places = (take_places (next before) 1 rest.places).1 })) (first_of_entry (λ (r : AircraftRow). r.seq) (next before) rest.aircraft) taken h
+    (λ t found said. let first = first_is (λ (r : AircraftRow). r.seq) (next before) rest.aircraft t.0 t.1 found in takes_as before kind.AddAircraft rest _ taken said (took_aircraft before rest t.0 t.1 first.0 first.1))
+takes_by before rest kind.AddComponent taken book h =
+    option_map_some (λ (t : ComponentRow × List ComponentRow). (component_said t.0, record rest { components = t.1 })) (first_of_entry (λ (r : ComponentRow). r.seq) (next before) rest.components) taken h
+    (λ t found said. let first = first_is (λ (r : ComponentRow). r.seq) (next before) rest.components t.0 t.1 found in takes_as before kind.AddComponent rest _ taken said (took_component before rest t.0 t.1 first.0 first.1))
+takes_by before rest kind.Sector taken book h =
+    option_and_then_some (λ (t : SectorRow × List SectorRow). option_map (λ tail. (sector_said t.0 tail, record rest { sectors = t.1 })) (tail_at before t.0.aircraft)) (first_of_entry (λ (r : SectorRow). r.seq) (next before) rest.sectors) taken h
+    (λ t found more. option_map_some (λ tail. (sector_said t.0 tail, record rest { sectors = t.1 })) (tail_at before t.0.aircraft) taken more
+    (λ tail at said. let first = first_is (λ (r : SectorRow). r.seq) (next before) rest.sectors t.0 t.1 found in takes_as before kind.Sector rest _ taken said (took_sector before rest t.0 t.1 tail book first.0 first.1 at)))
+takes_by before rest kind.Fit taken book h =
+    option_and_then_some (λ (t : FittingRow × List FittingRow). option_and_then (λ serial. option_map (λ tail. (fitting_said t.0 serial tail, record rest { fittings = t.1 })) (tail_at before t.0.aircraft)) (serial_at before t.0.component)) (first_of_entry (λ (r : FittingRow). r.seq) (next before) rest.fittings) taken h
+    (λ t found more. option_and_then_some (λ serial. option_map (λ tail. (fitting_said t.0 serial tail, record rest { fittings = t.1 })) (tail_at before t.0.aircraft)) (serial_at before t.0.component) taken more
+    (λ serial component last. option_map_some (λ tail. (fitting_said t.0 serial tail, record rest { fittings = t.1 })) (tail_at before t.0.aircraft) taken last
+    (λ tail at said. let first = first_is (λ (r : FittingRow). r.seq) (next before) rest.fittings t.0 t.1 found in takes_as before kind.Fit rest _ taken said (took_fitting before rest t.0 t.1 serial tail book first.0 first.1 component at))))
+takes_by before rest kind.Remove taken book h =
+    option_and_then_some (λ (t : RemovalRow × List RemovalRow). option_map (λ serial. (removal_said t.0 serial, record rest { removals = t.1 })) (serial_at before t.0.component)) (first_of_entry (λ (r : RemovalRow). r.seq) (next before) rest.removals) taken h
+    (λ t found more. option_map_some (λ serial. (removal_said t.0 serial, record rest { removals = t.1 })) (serial_at before t.0.component) taken more
+    (λ serial component said. let first = first_is (λ (r : RemovalRow). r.seq) (next before) rest.removals t.0 t.1 found in takes_as before kind.Remove rest _ taken said (took_removal before rest t.0 t.1 serial book first.0 first.1 component)))
 
-takes_by : (before : List Entry) (entry : EntryRow) (rest : Rest) (k : EntryKind) (command : Entry) (left : Rest) → IsBook before → entry.seq ≡ length before + 1 → entry.kind ≡ k
-    → take_by before entry rest k ≡ Some (command, left) → Takes before entry rest command left
-takes_by before entry rest kind.AddAircraft command left is seq same h = takes_aircraft before entry rest.aircraft rest.sectors command left seq same h
-takes_by before entry rest kind.Sector command left is seq same h = takes_sector before entry rest.aircraft rest.sectors command left is seq same h
+-- ── the command of an entry ──
+
+-- the command has the document, kind and number of the entry, and its shape, and its rows stand in front of those that are left
+record Gives (before : List Entry) (entry : EntryRow) (rest : Rest) (command : Entry) (left : Rest) : Type 0 where
+  row : entry ≡ entry_row (next before) command
+  shape : has_shape command ≡ true
+  rows : Takes before entry.kind rest command.act left
+
+gives_as : (before : List Entry) (entry : EntryRow) (rest : Rest) (said next : Entry × Rest) → said ≡ next → Gives before entry rest said.0 said.1 → Gives before entry rest next.0 next.1
+gives_as before entry rest said next same h = subst (λ (t : Entry × Rest). Gives before entry rest t.0 t.1) same h
+
+made : (before : List Entry) (entry : EntryRow) (rest left : Rest) (act : Act) → entry.seq ≡ next before → Takes before entry.kind rest act left → has_shape (record { doc = entry.doc; act = act }) ≡ true
+    → Gives before entry rest (record { doc = entry.doc; act = act }) left
+made before entry rest left act seq takes shape = record {
+  row = ap (λ (n : ℕ). record { seq = n; doc = entry.doc; kind = entry.kind }) seq ∙ ap (λ (x : EntryKind). record { seq = next before; doc = entry.doc; kind = x }) takes.kind_is;
+  shape = shape;
+  rows = takes;
+}
+
+takes_command : (before : List Entry) (entry : EntryRow) (rest : Rest) (next_one : Entry × Rest) → IsBook before → entry.seq ≡ next before → take_command before entry rest ≡ Some next_one → Gives before entry rest next_one.0 next_one.1
+takes_command before entry rest next_one book seq h =
+    option_and_then_some (λ (taken : Act × Rest). option_map (λ (command : Entry). (command, taken.1)) (command_of entry.doc taken.0)) (take_by before entry.seq rest entry.kind) next_one h
+    (λ taken by more. option_map_some (λ (command : Entry). (command, taken.1)) (command_of entry.doc taken.0) next_one more
+    (λ command is said.
+    let shaped = when_some (has_shape (record { doc = entry.doc; act = taken.0 })) (Some (record { doc = entry.doc; act = taken.0 })) command is in
+    let takes = takes_by before rest entry.kind taken book (sym (ap (λ (n : ℕ). take_by before n rest entry.kind) seq) ∙ by) in
+    gives_as before entry rest (record { doc = entry.doc; act = taken.0 }, taken.1) next_one (ap (λ (c : Entry). (c, taken.1)) (same_some shaped.1) ∙ said) (made before entry rest taken.1 taken.0 seq takes shaped.0)))
+
+-- ── the book ──
 
 -- a book goes on behind its first entries, and the rows are those of what follows
 record GoesOn (before : List Entry) (entries : List EntryRow) (rest : Rest) (book : List Entry) : Type 0 where
   later : List Entry
   whole : book ≡ before ++ later
   entries_are : entries ≡ gives entry_added before later
-  aircraft_are : rest.aircraft ≡ gives aircraft_added before later
-  sectors_are : rest.sectors ≡ gives sector_added before later
+  aircraft : rest.aircraft ≡ gives_by aircraft_by before later
+  places : rest.places ≡ gives_by places_by before later
+  components : rest.components ≡ gives_by components_by before later
+  sectors : rest.sectors ≡ gives_by sectors_by before later
+  fittings : rest.fittings ≡ gives_by fittings_by before later
+  removals : rest.removals ≡ gives_by removals_by before later
 
 no_rows : {Row : Type 0} (rows : List Row) → is_empty rows ≡ true → rows ≡ []
 no_rows [] h = refl
 no_rows (row ∷ rows) h = (cc)
 
-merged_goes_on : (before : List Entry) (entries : List EntryRow) (rest : Rest) (book : List Entry) → IsBook before → merged before entries rest ≡ Some book → GoesOn before entries rest book
-merged_goes_on before [] rest book is h =
-    let one = when_some (is_empty rest.aircraft && is_empty rest.sectors) (Some before) book h in
-    let both = both_true (is_empty rest.aircraft) (is_empty rest.sectors) one.0 in
+ends : (before : List Entry) (rest : Rest) (book : List Entry) → are_taken rest ≡ true → before ≡ book → GoesOn before [] rest book
+ends before rest book h same =
+    let one = both_true (is_empty rest.aircraft) _ h in
+    let two = both_true (is_empty rest.places) _ one.1 in
+    let three = both_true (is_empty rest.components) _ two.1 in
+    let four = both_true (is_empty rest.sectors) _ three.1 in
+    let five = both_true (is_empty rest.fittings) _ four.1 in
     record {
       later = [];
-      whole = sym (same_some one.1) ∙ sym (append-nil before);
+      whole = sym same ∙ sym (append-nil before);
       entries_are = refl;
-      aircraft_are = no_rows rest.aircraft both.0;
-      sectors_are = no_rows rest.sectors both.1;
+      aircraft = no_rows rest.aircraft one.0;
+      places = no_rows rest.places two.0;
+      components = no_rows rest.components three.0;
+      sectors = no_rows rest.sectors four.0;
+      fittings = no_rows rest.fittings five.0;
+      removals = no_rows rest.removals five.1;
     }
+
+goes_further : (before : List Entry) (entry : EntryRow) (entries : List EntryRow) (rest left : Rest) (command : Entry) (book : List Entry) → Gives before entry rest command left → GoesOn (before ++ command ∷ []) entries left book → GoesOn before (entry ∷ entries) rest book
+goes_further before entry entries rest left command book gave goes = record {
+  later = command ∷ goes.later;
+  whole = goes.whole ∙ append_assoc before (command ∷ []) goes.later;
+  entries_are = ap (λ (e : EntryRow). e ∷ entries) gave.row ∙ ap (λ (es : List EntryRow). entry_row (next before) command ∷ es) goes.entries_are;
+  aircraft = gave.rows.aircraft ∙ ap (λ (rows : List AircraftRow). aircraft_by before command.act ++ rows) goes.aircraft;
+  places = gave.rows.places ∙ ap (λ (rows : List PlaceRow). places_by before command.act ++ rows) goes.places;
+  components = gave.rows.components ∙ ap (λ (rows : List ComponentRow). components_by before command.act ++ rows) goes.components;
+  sectors = gave.rows.sectors ∙ ap (λ (rows : List SectorRow). sectors_by before command.act ++ rows) goes.sectors;
+  fittings = gave.rows.fittings ∙ ap (λ (rows : List FittingRow). fittings_by before command.act ++ rows) goes.fittings;
+  removals = gave.rows.removals ∙ ap (λ (rows : List RemovalRow). removals_by before command.act ++ rows) goes.removals;
+}
+
+merged_goes_on : (before : List Entry) (entries : List EntryRow) (rest : Rest) (book : List Entry) → IsBook before → merged before entries rest ≡ Some book → GoesOn before entries rest book
+merged_goes_on before [] rest book is h = let one = when_some (are_taken rest) (Some before) book h in ends before rest book one.0 (same_some one.1)
 merged_goes_on before (entry ∷ entries) rest book is h =
     option_and_then_some (λ (next : Entry × Rest). cond (is_next before entry next.0) (merged (before ++ next.0 ∷ []) entries next.1) None) (take_command before entry rest) book h
-    (λ next taken more.
-    let one = when_some (is_next before entry next.0) (merged (before ++ next.0 ∷ []) entries next.1) book more in
-    let both = both_true (entry.seq == length before + 1) (is_new (judge before next.0)) one.0 in
-    let took = takes_by before entry rest entry.kind next.0 next.1 is (eqb-true entry.seq (length before + 1) both.0) refl taken in
-    let goes = merged_goes_on (before ++ next.0 ∷ []) entries next.1 book (IsBook-entered before next.0 is took.shape (is_new-New (judge before next.0) both.1)) one.1 in
-    record {
-      later = next.0 ∷ goes.later;
-      whole = goes.whole ∙ append_assoc before (next.0 ∷ []) goes.later;
-      entries_are = ap (λ (e : EntryRow). e ∷ entries) took.row ∙ ap (λ (es : List EntryRow). entry_row (length before + 1) next.0 ∷ es) goes.entries_are;
-      aircraft_are = took.aircraft ∙ ap (λ (rows : List AircraftRow). aircraft_by (length before + 1) next.0.act ++ rows) goes.aircraft_are;
-      sectors_are = took.sectors ∙ ap (λ (rows : List SectorRow). sector_by before next.0.act ++ rows) goes.sectors_are;
-    })
+    (λ taken by more.
+    let one = when_some (is_next before entry taken.0) (merged (before ++ taken.0 ∷ []) entries taken.1) book more in
+    let both = both_true (entry.seq == length before + 1) (is_new (judge before taken.0)) one.0 in
+    let gave = takes_command before entry rest taken is (eqb-true entry.seq (length before + 1) both.0) by in
+    goes_further before entry entries rest taken.1 taken.0 book gave (merged_goes_on (before ++ taken.0 ∷ []) entries taken.1 book (IsBook-entered before taken.0 is gave.shape (is_new-New (judge before taken.0) both.1)) one.1))
 
 empty_book : IsBook []
 empty_book = record { few = omega arith; shaped = refl; judged = refl }
 
 -- the rows from which the merge gives a book are its registers
-pub merged_sound : (entries : List EntryRow) (aircraft : List AircraftRow) (sectors : List SectorRow) (book : List Entry) → merged [] entries (record { aircraft = aircraft; sectors = sectors }) ≡ Some book
-    → (entries ≡ entry_rows book) × (aircraft ≡ aircraft_rows book) × (sectors ≡ sector_rows book)
-merged_sound entries aircraft sectors book h =
-    let goes = merged_goes_on [] entries (record { aircraft = aircraft; sectors = sectors }) book empty_book h in
+merged_sound : (registers : Registers) (book : List Entry) → merged [] registers.entries.items (all_rows registers) ≡ Some book → AreRegistersOf registers book
+merged_sound registers book h =
+    let goes = merged_goes_on [] registers.entries.items (all_rows registers) book empty_book h in
     let same = sym goes.whole in
-    (goes.entries_are ∙ ap entry_rows same, goes.aircraft_are ∙ ap aircraft_rows same, goes.sectors_are ∙ ap sector_rows same)
+    record {
+      entries = goes.entries_are ∙ ap (gives entry_added []) same;
+      aircraft = goes.aircraft ∙ ap (gives_by aircraft_by []) same;
+      places = goes.places ∙ ap (gives_by places_by []) same;
+      components = goes.components ∙ ap (gives_by components_by []) same;
+      sectors = goes.sectors ∙ ap (gives_by sectors_by []) same;
+      fittings = goes.fittings ∙ ap (gives_by fittings_by []) same;
+      removals = goes.removals ∙ ap (gives_by removals_by []) same;
+    }
 
-sound_if : (entries : List EntryRow) (aircraft : List AircraftRow) (sectors : List SectorRow) (found : Option (List Entry)) → found ≡ merged [] entries (record { aircraft = aircraft; sectors = sectors })
-    → IfSome found (λ book. (entries ≡ entry_rows book) × (aircraft ≡ aircraft_rows book) × (sectors ≡ sector_rows book))
-sound_if entries aircraft sectors None h = tt
-sound_if entries aircraft sectors (Some book) h = merged_sound entries aircraft sectors book (sym h)
+sound_if : (registers : Registers) (found : Option (List Entry)) → found ≡ merged [] registers.entries.items (all_rows registers) → IfSome found (λ book. AreRegistersOf registers book)
+sound_if registers None h = tt
+sound_if registers (Some book) h = merged_sound registers book (sym h)
 
 -- a book that is what the merge gives has these registers
-pub found_sound : {Fault : Type 0} (entries : List EntryRow) (aircraft : List AircraftRow) (sectors : List SectorRow) (result : Result (Option (List Entry)) Fault)
-    → IfOk result (λ found. found ≡ merged [] entries (record { aircraft = aircraft; sectors = sectors }))
-    → IfOk result (λ found. IfSome found (λ book. (entries ≡ entry_rows book) × (aircraft ≡ aircraft_rows book) × (sectors ≡ sector_rows book)))
-found_sound entries aircraft sectors (Ok found) h = sound_if entries aircraft sectors found h
-found_sound entries aircraft sectors (Err fault) h = tt
+pub found_sound : {Fault : Type 0} (registers : Registers) (result : Result (Option (List Entry)) Fault) → IfOk result (λ found. found ≡ merged [] registers.entries.items (all_rows registers))
+    → IfOk result (λ found. IfSome found (λ book. AreRegistersOf registers book))
+found_sound registers (Ok found) h = sound_if registers found h
+found_sound registers (Err fault) h = tt

@@ -1,11 +1,21 @@
 -- The rows that the code has left, as lists.
-use Rattle.mx_command.specs.Act.{Entry}
-use Rattle.mx_register.specs.declared.merge.Left.{Left}
+use Rattle.mx_command.specs.Act.{Act, Entry, act_of}
+use Rattle.mx_command.specs.declared.body.Body.{Body}
+use Rattle.mx_register.specs.declared.taking.Left.{Left}
+use Rattle.mx_register.specs.declared.merge.Registers.{Registers}
 use Rattle.mx_register.specs.Merge.{Rest}
 
 -- the rows that are left
 abbrev pub rest_of : Left → Rest
-rest_of rows = record { aircraft = rows.aircraft.now; sectors = rows.sectors.now }
+rest_of rows = record { aircraft = rows.aircraft.now; places = rows.places.now; components = rows.components.now; sectors = rows.sectors.now; fittings = rows.fittings.now; removals = rows.removals.now }
+
+-- the rows of all registers but that of the entries
+abbrev pub all_rows : Registers → Rest
+all_rows r = record { aircraft = r.aircraft.items; places = r.places.items; components = r.components.items; sectors = r.sectors.items; fittings = r.fittings.items; removals = r.removals.items }
+
+-- what was said, and the rows that are left
+abbrev pub said : Body × Left → Act × Rest
+said next = (act_of next.0, rest_of next.1)
 
 -- a command and the rows that are left
 abbrev pub taken : Entry × Left → Entry × Rest

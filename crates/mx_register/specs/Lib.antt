@@ -1,4 +1,5 @@
 pub mod Rows
+pub mod Names
 pub mod Registers
 pub mod Rising
 pub mod Merge

@@ -1,58 +1,114 @@
 -- The book that registers are those of.
 use Rattle.std.specs.Prelude.{ℕ, ◌+◌, Bool, true, false, ◌&&◌, List, [], ◌∷◌, ◌++◌, length, Option, Some, None, nat_eq, if◌then◌else◌}
 use Rattle.std.specs.Option.{option_and_then, option_map}
-use Rattle.mx_command.specs.Act.{Act, Entry, Added, Flown}
+use Rattle.mx_command.specs.Act.{Act, Entry, Added, Listed, Flown, Fitted, Removed}
 use Rattle.mx_command.specs.Shape.{has_shape}
 use Rattle.mx_book.specs.Judge.{judge}
 use Rattle.mx_book.specs.Book.{is_new}
 use Rattle.mx_register.specs.declared.rows.EntryKind.{EntryKind}
-use Rattle.mx_register.specs.declared.rows.EntryKind.TheVariants.{AddAircraft, Sector}
+use Rattle.mx_register.specs.declared.rows.EntryKind.TheVariants.{AddAircraft, AddComponent, Sector, Fit, Remove}
 use Rattle.mx_register.specs.declared.rows.EntryRow.{EntryRow}
 use Rattle.mx_register.specs.declared.rows.AircraftRow.{AircraftRow}
+use Rattle.mx_register.specs.declared.rows.PlaceRow.{PlaceRow}
+use Rattle.mx_register.specs.declared.rows.ComponentRow.{ComponentRow}
 use Rattle.mx_register.specs.declared.rows.SectorRow.{SectorRow}
-use Rattle.mx_register.specs.Registers.{tail_at}
+use Rattle.mx_register.specs.declared.rows.FittingRow.{FittingRow}
+use Rattle.mx_register.specs.declared.rows.RemovalRow.{RemovalRow}
+use Rattle.mx_register.specs.Names.{tail_at, serial_at}
 
 -- the rows that no entry has taken
 pub record Rest : Type 0 where
   pub aircraft : List AircraftRow
+  pub places : List PlaceRow
+  pub components : List ComponentRow
   pub sectors : List SectorRow
+  pub fittings : List FittingRow
+  pub removals : List RemovalRow
 
--- what the row of an aircraft says
-abbrev pub aircraft_said : AircraftRow → Act
-aircraft_said row = Added (record { tail = row.tail; kind = row.kind; birth = row.birth; opening = record { minutes = row.minutes; cycles = row.cycles }; as_of = row.as_of }) []
+-- ── what rows say ──
+
+-- what the row of an aircraft says, with these positions
+abbrev pub aircraft_said : AircraftRow → List (List ℕ × List ℕ) → Act
+aircraft_said row positions = Added (record { tail = row.tail; kind = row.kind; birth = row.birth; opening = record { minutes = row.minutes; cycles = row.cycles }; as_of = row.as_of }) positions
+
+-- what the row of a component says
+abbrev pub component_said : ComponentRow → Act
+component_said row = Listed (record { serial = row.serial; part = row.part; birth = row.birth; opening = record { minutes = row.minutes; cycles = row.cycles }; as_of = row.as_of })
 
 -- what the row of a sector says, where the aircraft has this registration
 abbrev pub sector_said : SectorRow → List ℕ → Act
 sector_said row tail = Flown (record { tail = tail; page = row.page; line = row.line; off = row.took_off; on = row.landed; cycles = row.cycles })
 
+-- what the row of a fitting says, where the component has this serial number and the aircraft this registration
+abbrev pub fitting_said : FittingRow → List ℕ → List ℕ → Act
+fitting_said row serial tail = Fitted (record { serial = serial; tail = tail; position = row.position; moment = row.moment })
+
+-- what the row of a removal says, where the component has this serial number
+abbrev pub removal_said : RemovalRow → List ℕ → Act
+removal_said row serial = Removed (record { serial = serial; moment = row.moment })
+
+-- ── the rows that an entry takes ──
+
+-- the first row and those behind it, where it is of the entry with this number
+abbrev pub first_of_entry : {Row : Type 0} → (Row → ℕ) → ℕ → List Row → Option (Row × List Row)
+first_of_entry seq_of seq [] = None
+first_of_entry seq_of seq (row ∷ rows) = if nat_eq (seq_of row) seq then Some (row, rows) else None
+
+-- the row is on this line of the entry with this number
+abbrev pub is_on_line : ℕ → ℕ → PlaceRow → Bool
+is_on_line seq line row = nat_eq row.seq seq && nat_eq row.line line
+
+-- the first position, and what the rows behind it are taken for
+abbrev pub with_position : PlaceRow → List (List ℕ × List ℕ) × List PlaceRow → List (List ℕ × List ℕ) × List PlaceRow
+with_position row taken = ((row.position, row.part) ∷ taken.0, taken.1)
+
+-- the positions of the entry with this number, from this line on, and the rows behind them
+abbrev pub take_places : ℕ → ℕ → List PlaceRow → List (List ℕ × List ℕ) × List PlaceRow
+take_places seq line [] = ([], [])
+take_places seq line (row ∷ rows) = if is_on_line seq line row then with_position row (take_places seq (line + 1) rows) else ([], row ∷ rows)
+
+-- what an entry that added an aircraft says: the first aircraft's row and the first positions, if they are of this entry
+abbrev pub take_aircraft : ℕ → Rest → Option (Act × Rest)
+take_aircraft seq rest =
+    option_map (λ taken. (aircraft_said taken.0 (take_places seq 1 rest.places).0, record rest { aircraft = taken.1; places = (take_places seq 1 rest.places).1 })) (first_of_entry (λ row. row.seq) seq rest.aircraft)
+
+-- what an entry that added a component says: the first component's row, if it is of this entry
+abbrev pub take_component : ℕ → Rest → Option (Act × Rest)
+take_component seq rest = option_map (λ taken. (component_said taken.0, record rest { components = taken.1 })) (first_of_entry (λ row. row.seq) seq rest.components)
+
+-- what a sector's entry says: the first sector's row, if it is of this entry and names an aircraft
+abbrev pub take_sector : List Entry → ℕ → Rest → Option (Act × Rest)
+take_sector before seq rest =
+    option_and_then (λ taken. option_map (λ tail. (sector_said taken.0 tail, record rest { sectors = taken.1 })) (tail_at before taken.0.aircraft)) (first_of_entry (λ row. row.seq) seq rest.sectors)
+
+-- what a fitting's entry says: the first fitting's row, if it is of this entry and names a component and an aircraft
+abbrev pub take_fitting : List Entry → ℕ → Rest → Option (Act × Rest)
+take_fitting before seq rest =
+    option_and_then (λ taken. option_and_then (λ serial. option_map (λ tail. (fitting_said taken.0 serial tail, record rest { fittings = taken.1 })) (tail_at before taken.0.aircraft)) (serial_at before taken.0.component)) (first_of_entry (λ row. row.seq) seq rest.fittings)
+
+-- what a removal's entry says: the first removal's row, if it is of this entry and names a component
+abbrev pub take_removal : List Entry → ℕ → Rest → Option (Act × Rest)
+take_removal before seq rest =
+    option_and_then (λ taken. option_map (λ serial. (removal_said taken.0 serial, record rest { removals = taken.1 })) (serial_at before taken.0.component)) (first_of_entry (λ row. row.seq) seq rest.removals)
+
+-- what an entry of this kind says, and the rows behind it
+abbrev pub take_by : List Entry → ℕ → Rest → EntryKind → Option (Act × Rest)
+take_by before seq rest AddAircraft = take_aircraft seq rest
+take_by before seq rest AddComponent = take_component seq rest
+take_by before seq rest Sector = take_sector before seq rest
+take_by before seq rest Fit = take_fitting before seq rest
+take_by before seq rest Remove = take_removal before seq rest
+
 -- the command with this document that says this, where it has its shape
 abbrev pub command_of : List ℕ → Act → Option Entry
 command_of doc act = if has_shape (record { doc = doc; act = act }) then Some (record { doc = doc; act = act }) else None
 
--- the command and the rows behind it
-abbrev pub with_rest : Rest → Entry → Entry × Rest
-with_rest rest command = (command, rest)
-
--- the command of an entry that added an aircraft: the first aircraft's row, if it is of this entry
-abbrev pub take_aircraft : EntryRow → List AircraftRow → List SectorRow → Option (Entry × Rest)
-take_aircraft entry [] sectors = None
-take_aircraft entry (row ∷ aircraft) sectors =
-    if nat_eq row.seq entry.seq then option_map (with_rest (record { aircraft = aircraft; sectors = sectors })) (command_of entry.doc (aircraft_said row)) else None
-
--- the command of a sector's entry: the first sector's row, if it is of this entry and names an aircraft
-abbrev pub take_sector : List Entry → EntryRow → List AircraftRow → List SectorRow → Option (Entry × Rest)
-take_sector before entry aircraft [] = None
-take_sector before entry aircraft (row ∷ sectors) =
-    if nat_eq row.seq entry.seq then option_map (with_rest (record { aircraft = aircraft; sectors = sectors })) (option_and_then (λ tail. command_of entry.doc (sector_said row tail)) (tail_at before row.aircraft)) else None
-
--- the command of an entry of this kind, and the rows behind it
-abbrev pub take_by : List Entry → EntryRow → Rest → EntryKind → Option (Entry × Rest)
-take_by before entry rest AddAircraft = take_aircraft entry rest.aircraft rest.sectors
-take_by before entry rest Sector = take_sector before entry rest.aircraft rest.sectors
-
--- the command that an entry and the first row of its kind say, and the rows behind it
+-- the command that an entry and the first rows of its kind say, and the rows behind it
 abbrev pub take_command : List Entry → EntryRow → Rest → Option (Entry × Rest)
-take_command before entry rest = take_by before entry rest entry.kind
+take_command before entry rest =
+    option_and_then (λ taken. option_map (λ command. (command, taken.1)) (command_of entry.doc taken.0)) (take_by before entry.seq rest entry.kind)
+
+-- ── the merge ──
 
 -- the entry has the next number, and its command is new
 abbrev pub is_next : List Entry → EntryRow → Entry → Bool
@@ -63,8 +119,12 @@ abbrev pub is_empty : {Row : Type 0} → List Row → Bool
 is_empty [] = true
 is_empty (row ∷ rows) = false
 
+-- every row is taken
+abbrev pub are_taken : Rest → Bool
+are_taken rest = is_empty rest.aircraft && (is_empty rest.places && (is_empty rest.components && (is_empty rest.sectors && (is_empty rest.fittings && is_empty rest.removals))))
+
 -- the book that goes on with these rows, where they are those of one
 abbrev pub merged : List Entry → List EntryRow → Rest → Option (List Entry)
-merged before [] rest = if is_empty rest.aircraft && is_empty rest.sectors then Some before else None
+merged before [] rest = if are_taken rest then Some before else None
 merged before (entry ∷ entries) rest =
     option_and_then (λ (next : Entry × Rest). if is_next before entry next.0 then merged (before ++ next.0 ∷ []) entries next.1 else None) (take_command before entry rest)

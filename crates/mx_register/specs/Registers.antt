@@ -1,24 +1,35 @@
 -- The registers of a book: the rows that its entries give to each table.
-use Rattle.std.specs.Prelude.{ℕ, ◌+◌, List, [], ◌∷◌, ◌++◌, length, Option, find, unwrap_or, All}
-use Rattle.std.specs.Option.{option_and_then, option_map}
-use Rattle.mx_command.specs.Act.{Act, Entry, Added, Flown, aircraft_of}
-use Rattle.mx_command.specs.Same.{same_text}
+use Rattle.std.specs.Prelude.{◌≡◌, ℕ, ◌+◌, List, [], ◌∷◌, ◌++◌, length, Option, All}
+use Rattle.std.specs.List.{cons_option}
+use Rattle.std.specs.Option.{option_map}
+use Rattle.mx_command.specs.Act.{Act, Entry, Added, Listed, Flown, Fitted, Removed, aircraft_of, component_of, sector_of, fitting_of, removal_of, positions_of}
 use Rattle.mx_command.specs.declared.aircraft.Aircraft.{Aircraft}
+use Rattle.mx_command.specs.declared.component.Component.{Component}
 use Rattle.mx_command.specs.declared.sector.Sector.{Sector as Flight}
-use Rattle.mx_book.specs.Book.{entry_at}
+use Rattle.mx_command.specs.declared.fitting.Fitting.{Fitting}
+use Rattle.mx_command.specs.declared.fitting.Removal.{Removal}
 use Rattle.mx_register.specs.declared.rows.EntryKind.{EntryKind}
-use Rattle.mx_register.specs.declared.rows.EntryKind.TheVariants.{AddAircraft, Sector}
+use Rattle.mx_register.specs.declared.rows.EntryKind.TheVariants.{AddAircraft, AddComponent, Sector, Fit, Remove}
 use Rattle.mx_register.specs.declared.rows.EntryRow.{EntryRow}
 use Rattle.mx_register.specs.declared.rows.AircraftRow.{AircraftRow}
+use Rattle.mx_register.specs.declared.rows.PlaceRow.{PlaceRow}
+use Rattle.mx_register.specs.declared.rows.ComponentRow.{ComponentRow}
 use Rattle.mx_register.specs.declared.rows.SectorRow.{SectorRow}
-use Rattle.mx_register.specs.Rows.{FitsEntry, FitsAircraft, FitsSector}
+use Rattle.mx_register.specs.declared.rows.FittingRow.{FittingRow}
+use Rattle.mx_register.specs.declared.rows.RemovalRow.{RemovalRow}
+use Rattle.mx_register.specs.declared.merge.Registers.{Registers}
+use Rattle.mx_register.specs.Rows.{FitsEntry, FitsAircraft, FitsPlace, FitsComponent, FitsSector, FitsFitting, FitsRemoval}
+use Rattle.mx_register.specs.Names.{seq_of_tail, seq_of_serial, or_zero}
 
--- ── the rows of one entry ──
+-- ── a row ──
 
 -- the kind of an entry
 abbrev pub kind_of : Act → EntryKind
 kind_of (Added aircraft positions) = AddAircraft
+kind_of (Listed component) = AddComponent
 kind_of (Flown sector) = Sector
+kind_of (Fitted fitting) = Fit
+kind_of (Removed removal) = Remove
 
 -- the row of an entry with this number
 abbrev pub entry_row : ℕ → Entry → EntryRow
@@ -28,9 +39,68 @@ entry_row seq entry = record { seq = seq; doc = entry.doc; kind = kind_of entry.
 abbrev pub aircraft_row : ℕ → Aircraft → AircraftRow
 aircraft_row seq a = record { seq = seq; tail = a.tail; kind = a.kind; birth = a.birth; minutes = a.opening.minutes; cycles = a.opening.cycles; as_of = a.as_of }
 
+-- the row of a position, on this line of the aircraft that the entry with this number added
+abbrev pub place_row : ℕ → ℕ → List ℕ × List ℕ → PlaceRow
+place_row seq line p = record { seq = seq; line = line; position = p.0; part = p.1 }
+
+-- the row of a component that the entry with this number added
+abbrev pub component_row : ℕ → Component → ComponentRow
+component_row seq c = record { seq = seq; serial = c.serial; part = c.part; birth = c.birth; minutes = c.opening.minutes; cycles = c.opening.cycles; as_of = c.as_of }
+
 -- the row of a sector that the entry with this number says, of the aircraft that another entry added
 abbrev pub sector_row : ℕ → ℕ → Flight → SectorRow
 sector_row seq aircraft s = record { seq = seq; aircraft = aircraft; page = s.page; line = s.line; took_off = s.off; landed = s.on; cycles = s.cycles }
+
+-- the row of a fitting that the entry with this number says, of the component and to the aircraft that other entries added
+abbrev pub fitting_row : ℕ → ℕ → ℕ → Fitting → FittingRow
+fitting_row seq component aircraft f = record { seq = seq; component = component; aircraft = aircraft; position = f.position; moment = f.moment }
+
+-- the row of a removal that the entry with this number says, of the component that another entry added
+abbrev pub removal_row : ℕ → ℕ → Removal → RemovalRow
+removal_row seq component r = record { seq = seq; component = component; moment = r.moment }
+
+-- ── the rows of an entry, behind the entries before it ──
+
+-- the number of the entry that comes behind these
+abbrev pub next : List Entry → ℕ
+next before = length before + 1
+
+-- the row, where there is one
+abbrev pub if_any : {X Row : Type 0} → (X → Row) → Option X → List Row
+if_any row said = cons_option (option_map row said) []
+
+-- the rows of positions, from this line on
+abbrev pub places_from : ℕ → ℕ → List (List ℕ × List ℕ) → List PlaceRow
+places_from seq line [] = []
+places_from seq line (p ∷ positions) = place_row seq line p ∷ places_from seq (line + 1) positions
+
+-- the row that an entry adds to the entries
+abbrev pub entry_added : List Entry → Entry → List EntryRow
+entry_added before entry = entry_row (next before) entry ∷ []
+
+-- the row of the aircraft that an entry adds
+abbrev pub aircraft_by : List Entry → Act → List AircraftRow
+aircraft_by before act = if_any (aircraft_row (next before)) (aircraft_of act)
+
+-- the rows of the positions of the aircraft that an entry adds, numbered from 1
+abbrev pub places_by : List Entry → Act → List PlaceRow
+places_by before act = places_from (next before) 1 (positions_of act)
+
+-- the row of the component that an entry adds
+abbrev pub components_by : List Entry → Act → List ComponentRow
+components_by before act = if_any (component_row (next before)) (component_of act)
+
+-- the row of the sector that an entry says
+abbrev pub sectors_by : List Entry → Act → List SectorRow
+sectors_by before act = if_any (λ s. sector_row (next before) (or_zero (seq_of_tail before s.tail)) s) (sector_of act)
+
+-- the row of the fitting that an entry says
+abbrev pub fittings_by : List Entry → Act → List FittingRow
+fittings_by before act = if_any (λ f. fitting_row (next before) (or_zero (seq_of_serial before f.serial)) (or_zero (seq_of_tail before f.tail)) f) (fitting_of act)
+
+-- the row of the removal that an entry says
+abbrev pub removals_by : List Entry → Act → List RemovalRow
+removals_by before act = if_any (λ r. removal_row (next before) (or_zero (seq_of_serial before r.serial)) r) (removal_of act)
 
 -- ── the registers ──
 
@@ -39,18 +109,9 @@ abbrev pub gives : {Row : Type 0} → (List Entry → Entry → List Row) → Li
 gives added before [] = []
 gives added before (entry ∷ later) = added before entry ++ gives added (before ++ entry ∷ []) later
 
--- the row that an entry adds to the entries
-abbrev pub entry_added : List Entry → Entry → List EntryRow
-entry_added before entry = entry_row (length before + 1) entry ∷ []
-
--- the row that an entry adds to the aircraft, where it adds one
-abbrev pub aircraft_by : ℕ → Act → List AircraftRow
-aircraft_by seq (Added a positions) = aircraft_row seq a ∷ []
-aircraft_by seq (Flown s) = []
-
--- the row that an entry adds to the aircraft, behind the entries before it
-abbrev pub aircraft_added : List Entry → Entry → List AircraftRow
-aircraft_added before entry = aircraft_by (length before + 1) entry.act
+-- the rows that entries give by what they say
+abbrev pub gives_by : {Row : Type 0} → (List Entry → Act → List Row) → List Entry → List Entry → List Row
+gives_by by before later = gives (λ earlier entry. by earlier entry.act) before later
 
 -- the entries of a book, numbered from 1
 abbrev pub entry_rows : List Entry → List EntryRow
@@ -58,31 +119,56 @@ entry_rows book = gives entry_added [] book
 
 -- the aircraft of a book, each with the number of the entry that added it
 abbrev pub aircraft_rows : List Entry → List AircraftRow
-aircraft_rows book = gives aircraft_added [] book
+aircraft_rows book = gives_by aircraft_by [] book
 
--- the number of the entry that added the aircraft with this registration
-abbrev pub seq_of_tail : List ℕ → List AircraftRow → Option ℕ
-seq_of_tail tail rows = option_map (λ row. row.seq) (find (λ row. same_text row.tail tail) rows)
+-- the positions of the aircraft of a book
+abbrev pub place_rows : List Entry → List PlaceRow
+place_rows book = gives_by places_by [] book
 
--- the registration of the aircraft that the entry with this number added
-abbrev pub tail_at : List Entry → ℕ → Option (List ℕ)
-tail_at book seq = option_and_then (λ entry. option_map (λ a. a.tail) (aircraft_of entry.act)) (entry_at book seq)
-
--- the row that an entry adds to the sectors, where it says one
-abbrev pub sector_by : List Entry → Act → List SectorRow
-sector_by before (Added a positions) = []
-sector_by before (Flown s) = sector_row (length before + 1) (unwrap_or (seq_of_tail s.tail (aircraft_rows before)) 0) s ∷ []
-
--- the row that an entry adds to the sectors, behind the entries before it
-abbrev pub sector_added : List Entry → Entry → List SectorRow
-sector_added before entry = sector_by before entry.act
+-- the components of a book, each with the number of the entry that added it
+abbrev pub component_rows : List Entry → List ComponentRow
+component_rows book = gives_by components_by [] book
 
 -- the sectors of a book, each with the number of its entry
 abbrev pub sector_rows : List Entry → List SectorRow
-sector_rows book = gives sector_added [] book
+sector_rows book = gives_by sectors_by [] book
 
--- each row of the registers can be kept in columns
+-- the fittings of a book, each with the number of its entry
+abbrev pub fitting_rows : List Entry → List FittingRow
+fitting_rows book = gives_by fittings_by [] book
+
+-- the removals of a book, each with the number of its entry
+abbrev pub removal_rows : List Entry → List RemovalRow
+removal_rows book = gives_by removals_by [] book
+
+-- the registers are those of the book
+pub record AreRegistersOf (r : Registers) (book : List Entry) : Type 0 where
+  pub entries : r.entries.items ≡ entry_rows book
+  pub aircraft : r.aircraft.items ≡ aircraft_rows book
+  pub places : r.places.items ≡ place_rows book
+  pub components : r.components.items ≡ component_rows book
+  pub sectors : r.sectors.items ≡ sector_rows book
+  pub fittings : r.fittings.items ≡ fitting_rows book
+  pub removals : r.removals.items ≡ removal_rows book
+
+-- ── rows that can be kept in columns ──
+
+-- each row of the registers can be kept in its columns
 pub record FitBook (book : List Entry) : Type 0 where
   pub entries : All FitsEntry (entry_rows book)
   pub aircraft : All FitsAircraft (aircraft_rows book)
+  pub places : All FitsPlace (place_rows book)
+  pub components : All FitsComponent (component_rows book)
   pub sectors : All FitsSector (sector_rows book)
+  pub fittings : All FitsFitting (fitting_rows book)
+  pub removals : All FitsRemoval (removal_rows book)
+
+-- each row of an entry, behind the entries before it, can be kept in its columns
+pub record FitsNext (before : List Entry) (entry : Entry) : Type 0 where
+  pub entries : All FitsEntry (entry_added before entry)
+  pub aircraft : All FitsAircraft (aircraft_by before entry.act)
+  pub places : All FitsPlace (places_by before entry.act)
+  pub components : All FitsComponent (components_by before entry.act)
+  pub sectors : All FitsSector (sectors_by before entry.act)
+  pub fittings : All FitsFitting (fittings_by before entry.act)
+  pub removals : All FitsRemoval (removals_by before entry.act)

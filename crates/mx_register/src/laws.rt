@@ -2,9 +2,10 @@
 ghost use Rattle.std.specs.Prelude.{◌≡◌, List};
 ghost use Rattle.mx_command.specs.Act.{Entry};
 ghost use Rattle.mx_book.specs.Book.{IsBook};
-ghost use Rattle.mx_register.specs.Registers.{aircraft_rows, entry_rows, sector_rows};
+ghost use Rattle.mx_register.specs.declared.merge.Registers.{Registers};
+ghost use Rattle.mx_register.specs.Registers.{AreRegistersOf};
 
 /// Registers are those of at most one book.
 pub fn registers_decide_the_book()
-    ensures { (one other : List Entry) → entry_rows one ≡ entry_rows other → aircraft_rows one ≡ aircraft_rows other → sector_rows one ≡ sector_rows other → IsBook one → IsBook other → one ≡ other }
+    ensures { (registers : Registers) (one other : List Entry) → AreRegistersOf registers one → AreRegistersOf registers other → IsBook one → IsBook other → one ≡ other }
 {}

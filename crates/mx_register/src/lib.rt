@@ -3,10 +3,15 @@
 
 pub mod laws;
 pub mod merge;
+pub mod names;
 pub mod registers;
 pub mod rows;
+mod taking;
 
+pub use names::{seq_of_serial, seq_of_tail, serial_of_component, tail_of_aircraft};
 pub use registers::{
-    aircraft_row, entry_row, sector_row, seq_of_aircraft, seq_of_tail, tail_of_aircraft,
+    aircraft_row, component_row, entry_row, fitting_row, place_row, removal_row, sector_row,
 };
-pub use rows::{AircraftRow, EntryKind, EntryRow, SectorRow};
+pub use rows::{
+    AircraftRow, ComponentRow, EntryKind, EntryRow, FittingRow, PlaceRow, RemovalRow, SectorRow,
+};

@@ -3,53 +3,55 @@ ghost use Rattle.std.specs.Prelude.{◌≡◌, List, [], IfOk, IfSome, Some};
 ghost use Rattle.std.specs.Option.{option_map};
 ghost use Rattle.mx_command.specs.Act.{act_of, Entry};
 ghost use Rattle.mx_book.specs.Book.{IsBook};
-ghost use Rattle.mx_register.specs.Registers.{aircraft_rows, entry_rows, sector_rows};
-ghost use Rattle.mx_register.specs.Merge.{aircraft_said, command_of, is_next, merged, sector_said, take_command};
-ghost use Rattle.mx_register.specs.Left.{rest_of, taken};
+ghost use Rattle.mx_register.specs.Registers.{AreRegistersOf};
+ghost use Rattle.mx_register.specs.Merge.{are_taken, command_of, is_next, merged, take_command};
+ghost use Rattle.mx_register.specs.Left.{all_rows, rest_of, taken};
 
-use crate::registers::tail_of_aircraft;
-use crate::rows::{AircraftRow, EntryKind, EntryRow, SectorRow};
-use mx_base::{Doc, Tail, Use};
+use crate::rows::{
+    AircraftRow, ComponentRow, EntryRow, FittingRow, PlaceRow, RemovalRow, SectorRow,
+};
+use crate::taking::{Left, take_said};
+use mx_base::Doc;
 use mx_book::{Book, NoMemory, Verdict};
 use mx_command::{Body, Command, MakeFault};
 use std::alloc::Global;
 
-// The rows that no entry has taken.
-#[derive(Clone, Copy)]
-pub(crate) struct Left<'a> {
-    pub(crate) aircraft: &'a [AircraftRow],
-    pub(crate) sectors: &'a [SectorRow],
+/// The rows of every register, each in the order of its key.
+#[derive(Drop)]
+pub struct Registers {
+    pub entries: Vec<EntryRow>,
+    pub aircraft: Vec<AircraftRow>,
+    pub places: Vec<PlaceRow>,
+    pub components: Vec<ComponentRow>,
+    pub sectors: Vec<SectorRow>,
+    pub fittings: Vec<FittingRow>,
+    pub removals: Vec<RemovalRow>,
 }
 
-// What the row of an aircraft says.
-fn body_of_aircraft(alloc: Global, row: &AircraftRow) -> Body
-    ensures { act_of result ≡ aircraft_said row.now }
+// All rows but those of the entries.
+fn rows_of(registers: &Registers) -> Left<'_>
+    ensures { rest_of result ≡ all_rows registers.now }
 {
-    Body::AddAircraft {
-        tail: row.tail,
-        kind: row.kind,
-        birth: row.birth,
-        opening: Use {
-            minutes: row.minutes,
-            cycles: row.cycles,
-        },
-        as_of: row.as_of,
-        positions: Vec::new(alloc),
+    Left {
+        aircraft: registers.aircraft.as_slice(),
+        places: registers.places.as_slice(),
+        components: registers.components.as_slice(),
+        sectors: registers.sectors.as_slice(),
+        fittings: registers.fittings.as_slice(),
+        removals: registers.removals.as_slice(),
     }
 }
 
-// What the row of a sector says, where the aircraft has this registration.
-fn body_of_sector(row: &SectorRow, tail: Tail) -> Body
-    ensures { act_of result ≡ sector_said row.now tail }
+// Whether every row is taken.
+fn are_all_taken(rows: Left<'_>) -> bool
+    ensures { result ≡ are_taken (rest_of rows.entry) }
 {
-    Body::Sector {
-        tail,
-        page: row.page,
-        line: row.line,
-        off: row.took_off,
-        on: row.landed,
-        cycles: row.cycles,
-    }
+    rows.aircraft.is_empty()
+        && rows.places.is_empty()
+        && rows.components.is_empty()
+        && rows.sectors.is_empty()
+        && rows.fittings.is_empty()
+        && rows.removals.is_empty()
 }
 
 // The command of a document and a body, or `None` where they lack the shape.
@@ -63,7 +65,7 @@ fn command_with(alloc: Global, doc: Doc, body: Body) -> Result<Option<Command>, 
     }
 }
 
-// The command that an entry and the first row of its kind say, and the rows behind it.
+// The command that an entry and the first rows of its kind say, and the rows behind them.
 fn next_command<'a>(
     alloc: Global,
     book: &Book,
@@ -72,43 +74,13 @@ fn next_command<'a>(
 ) -> Result<Option<(Command, Left<'a>)>, NoMemory>
     ensures { IfOk result (λ found. option_map taken found ≡ take_command book.now entry.now (rest_of rows.entry)) }
 {
-    match entry.kind {
-        EntryKind::AddAircraft => {
-            let Some((row, aircraft)) = rows.aircraft.split_first() else {
-                return Ok(None);
-            };
-            if row.seq != entry.seq {
-                return Ok(None);
-            }
-            let Some(command) = command_with(alloc, entry.doc, body_of_aircraft(alloc, row))? else {
-                return Ok(None);
-            };
-            let rest = Left {
-                aircraft,
-                sectors: rows.sectors,
-            };
-            Ok(Some((command, rest)))
-        }
-        EntryKind::Sector => {
-            let Some((row, sectors)) = rows.sectors.split_first() else {
-                return Ok(None);
-            };
-            if row.seq != entry.seq {
-                return Ok(None);
-            }
-            let Some(tail) = tail_of_aircraft(book, row.aircraft) else {
-                return Ok(None);
-            };
-            let Some(command) = command_with(alloc, entry.doc, body_of_sector(row, tail))? else {
-                return Ok(None);
-            };
-            let rest = Left {
-                aircraft: rows.aircraft,
-                sectors,
-            };
-            Ok(Some((command, rest)))
-        }
-    }
+    let Some((body, rest)) = take_said(alloc, book, entry, rows)? else {
+        return Ok(None);
+    };
+    let Some(command) = command_with(alloc, entry.doc, body)? else {
+        return Ok(None);
+    };
+    Ok(Some((command, rest)))
 }
 
 // Whether an entry has the next number, and its command is new.
@@ -122,14 +94,13 @@ fn is_next_of(book: &Book, entry: &EntryRow, command: &Command) -> bool
 fn merged_book(
     alloc: Global,
     entries: &[EntryRow],
-    aircraft: &[AircraftRow],
-    sectors: &[SectorRow],
+    all: Left<'_>,
 ) -> Result<Option<Book>, NoMemory>
-    ensures { IfOk result (λ found. found ≡ merged [] entries.now (record { aircraft = aircraft.now; sectors = sectors.now })) }
+    ensures { IfOk result (λ found. found ≡ merged [] entries.now (rest_of all.entry)) }
 {
     let mut book = Book::new(alloc);
     let mut coming = entries;
-    let mut rows = Left { aircraft, sectors };
+    let mut rows = all;
     while let Some((entry, later)) = coming.split_first() {
         let Some((command, rest)) = next_command(alloc, &book, entry, rows)? else {
             return Ok(None);
@@ -144,23 +115,18 @@ fn merged_book(
         rows = rest;
         coming = later;
     }
-    if rows.aircraft.is_empty() && rows.sectors.is_empty() {
+    if are_all_taken(rows) {
         Ok(Some(book))
     } else {
         Ok(None)
     }
 }
 
-/// The book that the rows are those of, or `None` where they are those of no book. `NoMemory` where memory
-/// runs out. The rows of each register come in the order of their numbers.
-pub fn merge(
-    alloc: Global,
-    entries: &[EntryRow],
-    aircraft: &[AircraftRow],
-    sectors: &[SectorRow],
-) -> Result<Option<Book>, NoMemory>
-    ensures exact { (book : List Entry) → IsBook book → entries.now ≡ entry_rows book → aircraft.now ≡ aircraft_rows book → sectors.now ≡ sector_rows book → IfOk result (λ found. found ≡ Some book) }
-    ensures sound { IfOk result (λ found. IfSome found (λ book. (entries.now ≡ entry_rows book) × (aircraft.now ≡ aircraft_rows book) × (sectors.now ≡ sector_rows book))) }
+/// The book that the registers are those of, or `None` where they are those of no book. `NoMemory` where
+/// memory runs out.
+pub fn merge(alloc: Global, registers: &Registers) -> Result<Option<Book>, NoMemory>
+    ensures exact { (book : List Entry) → IsBook book → AreRegistersOf registers.now book → IfOk result (λ found. found ≡ Some book) }
+    ensures sound { IfOk result (λ found. IfSome found (λ book. AreRegistersOf registers.now book)) }
 {
-    merged_book(alloc, entries, aircraft, sectors)
+    merged_book(alloc, registers.entries.as_slice(), rows_of(registers))
 }

@@ -1,14 +1,15 @@
-//! The rows that a command gives, and finding an aircraft by its registration.
+//! The rows that a command gives.
 ghost use Rattle.std.specs.Prelude.{◌≡◌, true};
-ghost use Rattle.mx_register.specs.Rows.{FitsAircraft, FitsEntry, FitsSector};
-ghost use Rattle.mx_register.specs.Registers.{aircraft_row, aircraft_rows, entry_row, kind_of, sector_row, seq_of_tail, tail_at};
+ghost use Rattle.mx_register.specs.Rows.{FitsAircraft, FitsComponent, FitsEntry, FitsFitting, FitsPlace, FitsRemoval, FitsSector};
+ghost use Rattle.mx_register.specs.Registers.{aircraft_row, component_row, entry_row, fitting_row, kind_of, place_row, removal_row, sector_row};
 ghost use Rattle.mx_command.specs.Act.{act_of};
 ghost use Rattle.mx_command.specs.Shape.{has_shape};
 
-use crate::rows::{AircraftRow, EntryKind, EntryRow, SectorRow};
-use mx_base::Tail;
-use mx_book::Book;
-use mx_command::{Aircraft, Body, Command, Sector};
+use crate::rows::{
+    AircraftRow, ComponentRow, EntryKind, EntryRow, FittingRow, PlaceRow, RemovalRow, SectorRow,
+};
+use mx_base::{Part, Position};
+use mx_command::{Aircraft, Body, Command, Component, Fitting, Removal, Sector};
 
 // The kind of entry that a body makes.
 fn kind_of_body(body: &Body) -> EntryKind
@@ -16,7 +17,10 @@ fn kind_of_body(body: &Body) -> EntryKind
 {
     match body {
         Body::AddAircraft { .. } => EntryKind::AddAircraft,
+        Body::AddComponent { .. } => EntryKind::AddComponent,
         Body::Sector { .. } => EntryKind::Sector,
+        Body::Fit { .. } => EntryKind::Fit,
+        Body::Remove { .. } => EntryKind::Remove,
     }
 }
 
@@ -57,6 +61,43 @@ pub fn aircraft_row(seq: u32, aircraft: Aircraft) -> AircraftRow
     }
 }
 
+/// The row of a position, on this line of the aircraft that is entered with a number.
+pub fn place_row(seq: u32, line: u32, place: &(Position, Part)) -> PlaceRow
+    ensures row { result ≡ place_row seq line place.now }
+    ensures fits { FitsPlace result }
+{
+    // The texts of identifiers fit their columns.
+    let _ = place.0.as_str();
+    let _ = place.1.as_str();
+    PlaceRow {
+        seq,
+        line,
+        position: place.0,
+        part: place.1,
+    }
+}
+
+/// The row of a component that is entered with a number.
+pub fn component_row(seq: u32, component: Component) -> ComponentRow
+    ensures row { result ≡ component_row seq component }
+    ensures fits { FitsComponent result }
+{
+    // The texts of identifiers, and the numbers of days and moments, fit their columns.
+    let _ = component.serial.as_str();
+    let _ = component.part.as_str();
+    let _ = component.birth.number();
+    let _ = component.as_of.number();
+    ComponentRow {
+        seq,
+        serial: component.serial,
+        part: component.part,
+        birth: component.birth,
+        minutes: component.opening.minutes,
+        cycles: component.opening.cycles,
+        as_of: component.as_of,
+    }
+}
+
 /// The row of a sector that is entered with a number, where another number is that of the entry that added
 /// its aircraft.
 pub fn sector_row(seq: u32, aircraft: u32, sector: Sector) -> SectorRow
@@ -77,34 +118,35 @@ pub fn sector_row(seq: u32, aircraft: u32, sector: Sector) -> SectorRow
     }
 }
 
-/// The number of the entry that added the aircraft with this registration, by the rows of the aircraft.
-pub fn seq_of_tail(rows: &[AircraftRow], tail: &Tail) -> Option<u32>
-    ensures { result ≡ seq_of_tail tail.now rows.now }
+/// The row of a fitting that is entered with a number, where other numbers are those of the entries that
+/// added the component and the aircraft.
+pub fn fitting_row(seq: u32, component: u32, aircraft: u32, fitting: Fitting) -> FittingRow
+    ensures row { result ≡ fitting_row seq component aircraft fitting }
+    ensures fits { FitsFitting result }
 {
-    let row = rows.iter().find(|row| row.tail == *tail)?;
-    Some(row.seq)
-}
-
-/// The registration of the aircraft that the entry with a number added.
-pub fn tail_of_aircraft(book: &Book, seq: u32) -> Option<Tail>
-    ensures { result ≡ tail_at book.now seq }
-{
-    let entry = book.entry(seq)?;
-    let aircraft = entry.added_aircraft()?;
-    Some(aircraft.tail)
-}
-
-/// The number of the entry that added the aircraft with this registration, by the book.
-pub fn seq_of_aircraft(book: &Book, tail: &Tail) -> Option<u32>
-    ensures { result ≡ seq_of_tail tail.now (aircraft_rows book.now) }
-{
-    for place in 0..book.len() {
-        let seq = place + 1;
-        if let Some(found) = tail_of_aircraft(book, seq)
-            && found == *tail
-        {
-            return Some(seq);
-        }
+    // The text of an identifier, and the number of a moment, fit their columns.
+    let _ = fitting.position.as_str();
+    let _ = fitting.moment.number();
+    FittingRow {
+        seq,
+        component,
+        aircraft,
+        position: fitting.position,
+        moment: fitting.moment,
     }
-    None
+}
+
+/// The row of a removal that is entered with a number, where another number is that of the entry that added
+/// the component.
+pub fn removal_row(seq: u32, component: u32, removal: Removal) -> RemovalRow
+    ensures row { result ≡ removal_row seq component removal }
+    ensures fits { FitsRemoval result }
+{
+    // The number of a moment fits its column.
+    let _ = removal.moment.number();
+    RemovalRow {
+        seq,
+        component,
+        moment: removal.moment,
+    }
 }

@@ -5,7 +5,7 @@ use Rattle.mx_register.proofs.merge.merged_book.Given as goal
 
 -- the rows that are coming give, behind the book so far, what all the rows give
 abbrev pub invariant-loop-entry : goal.invariant-loop-entry
-invariant-loop-entry l = merged l.book l.coming (rest_of l.rows) ≡ merged [] l.entries (record { aircraft = l.aircraft; sectors = l.sectors })
+invariant-loop-entry l = merged l.book l.coming (rest_of l.rows) ≡ merged [] l.entries (rest_of l.all)
 
 abbrev pub decreases-loop-entry : goal.decreases-loop-entry
 decreases-loop-entry l = length l.coming

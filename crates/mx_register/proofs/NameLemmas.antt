@@ -1,0 +1,175 @@
+-- The entry that added a thing: its number by the name, and the name by its number.
+use Rattle.std.proofs.Common.{arith, ◌≡◌, ◌<◌, ◌≤◌, ℕ, ◌+◌, zero, suc, List, [], ◌∷◌, ◌++◌, length, Bool, true, false, cond, Option, Some, None, refl, sym, ap, ◌∙◌, append_assoc, length-append, add-one}
+use Rattle.std.specs.Prelude.{is_some, find}
+use Rattle.std.specs.List.{slice_get, cons_option}
+use Rattle.std.specs.Option.{option_map, option_map_or, option_and_then}
+use Rattle.mx_command.specs.Act.{Act, Entry, Added, Listed, Flown, Fitted, Removed, aircraft_of, component_of}
+use Rattle.mx_command.specs.Same.{same_text}
+use Rattle.mx_command.specs.declared.aircraft.Aircraft.{Aircraft}
+use Rattle.mx_command.specs.declared.component.Component.{Component}
+use Rattle.mx_command.proofs.SameLemmas.{text_same}
+use Rattle.mx_book.specs.Register.{register, aircraft, component}
+use Rattle.mx_book.specs.Judge.{judge}
+use Rattle.mx_book.specs.Book.{is_new, is_book_from}
+use Rattle.mx_book.proofs.JudgeLemmas.{both_true}
+use Rattle.mx_register.specs.Names.{adds_named, number_from, name_at, tail_added, serial_added, seq_of_tail, seq_of_serial, tail_at, serial_at, or_zero}
+use Rattle.mx_register.proofs.NewLemmas.{added_is_unknown, listed_is_unknown}
+
+named : (o : Option (List ℕ)) (name : List ℕ) → option_map_or (λ added. same_text added name) o false ≡ true → o ≡ Some name
+named None name h = (cc)
+named (Some added) name h = ap (λ (t : List ℕ). Some t) ((text_same added name).0 h)
+
+names : (o : Option (List ℕ)) (name : List ℕ) → o ≡ Some name → option_map_or (λ added. same_text added name) o false ≡ true
+names o name h = ap (λ (p : Option (List ℕ)). option_map_or (λ added. same_text added name) p false) h ∙ (text_same name name).1 refl
+
+none_of : (o : Option ℕ) → is_some o ≡ false → o ≡ None
+none_of None h = refl
+none_of (Some seq) h = (cc)
+
+some_of : (o : Option ℕ) → is_some o ≡ true → o ≡ Some (or_zero o)
+some_of None h = (cc)
+some_of (Some seq) h = refl
+
+module _ (name_of : Act → Option (List ℕ)) where
+  -- ── the entry whose number is found added the thing ──
+
+  slice_get_seam : (before : List Entry) (entry : Entry) (later : List Entry) → slice_get (before ++ entry ∷ later) (length before) ≡ Some entry
+  slice_get_seam [] entry later = refl
+  slice_get_seam (e ∷ before) entry later = slice_get_seam before entry later
+
+  name_at_seam : (before : List Entry) (entry : Entry) (later : List Entry) → name_at name_of (before ++ entry ∷ later) (length before + 1) ≡ name_of entry.act
+  name_at_seam before entry later =
+      ap (name_at name_of (before ++ entry ∷ later)) (add-one (length before)) ∙ ap (option_and_then (λ (e : Entry). name_of e.act)) (slice_get_seam before entry later)
+
+  at_if : (b : Bool) (k seq : ℕ) (later : Option ℕ) (goal : ℕ → Option (List ℕ)) (name : List ℕ) → (b ≡ true → goal k ≡ Some name) → (later ≡ Some seq → goal seq ≡ Some name)
+      → cond b (Some k) later ≡ Some seq → goal seq ≡ Some name
+  at_if true k seq later goal name here there h = let same : k ≡ seq = cc in sym (ap goal same) ∙ here refl
+  at_if false k seq later goal name here there h = there h
+
+  name_at_from : (name : List ℕ) (seq : ℕ) (before later : List Entry) → number_from name_of name (length before + 1) later ≡ Some seq → name_at name_of (before ++ later) seq ≡ Some name
+  name_at_from name seq before [] h = (cc)
+  name_at_from name seq before (entry ∷ later) h =
+      let one : length (before ++ entry ∷ []) ≡ length before + 1 = length-append before (entry ∷ []) in
+      at_if (adds_named name_of name entry.act) (length before + 1) seq (number_from name_of name (length before + 1 + 1) later) (name_at name_of (before ++ entry ∷ later)) name
+      (λ this. name_at_seam before entry later ∙ named (name_of entry.act) name this)
+      (λ g. ap (λ (es : List Entry). name_at name_of es seq) (sym (append_assoc before (entry ∷ []) later))
+      ∙ name_at_from name seq (before ++ entry ∷ []) later (ap (λ (n : ℕ). number_from name_of name (n + 1) later) one ∙ g)) h
+
+  -- the entry whose number is found added the thing with this name
+  pub name_at-number : (book : List Entry) (name : List ℕ) (seq : ℕ) → number_from name_of name 1 book ≡ Some seq → name_at name_of book seq ≡ Some name
+  name_at-number book name seq h = name_at_from name seq [] book h
+
+  -- ── in a book the entry that added the thing is the one that is found ──
+
+  stays_if : (b : Bool) (k : ℕ) (o p : Option ℕ) → (is_some o ≡ true → is_some p ≡ true) → is_some (cond b (Some k) o) ≡ true → is_some (cond b (Some k) p) ≡ true
+  stays_if true k o p f h = refl
+  stays_if false k o p f h = f h
+
+  -- a name that is found stays so
+  stays : (name : List ℕ) (k : ℕ) (before more : List Entry) → is_some (number_from name_of name k before) ≡ true → is_some (number_from name_of name k (before ++ more)) ≡ true
+  stays name k [] more h = (cc)
+  stays name k (e ∷ before) more h =
+      stays_if (adds_named name_of name e.act) k (number_from name_of name (k + 1) before) (number_from name_of name (k + 1) (before ++ more)) (stays name (k + 1) before more) h
+
+  becomes_if : (b : Bool) (k : ℕ) (o : Option ℕ) → is_some o ≡ true → is_some (cond b (Some k) o) ≡ true
+  becomes_if true k o h = refl
+  becomes_if false k o h = h
+
+  added_if : (b : Bool) (k : ℕ) → b ≡ true → is_some (cond b (Some k) None) ≡ true
+  added_if true k h = refl
+  added_if false k h = (cc)
+
+  -- a name is found once an entry adds it
+  becomes : (name : List ℕ) (k : ℕ) (before : List Entry) (entry : Entry) → adds_named name_of name entry.act ≡ true → is_some (number_from name_of name k (before ++ entry ∷ [])) ≡ true
+  becomes name k [] entry h = added_if (adds_named name_of name entry.act) k h
+  becomes name k (e ∷ before) entry h = becomes_if (adds_named name_of name e.act) k (number_from name_of name (k + 1) (before ++ entry ∷ [])) (becomes name (k + 1) before entry h)
+
+  -- a command that is new adds no name that is there
+  abbrev AddsNew : Type 0
+  AddsNew = (before : List Entry) (entry : Entry) (name : List ℕ) → is_new (judge before entry) ≡ true → name_of entry.act ≡ Some name → is_some (number_from name_of name 1 before) ≡ false
+
+  no_second : AddsNew → (name : List ℕ) (before later : List Entry) (k : ℕ) → is_some (number_from name_of name 1 before) ≡ true → is_book_from before later ≡ true → name_at name_of later (suc k) ≡ Some name → ⊥
+  no_second fresh name before [] k h judged e = (cc)
+  no_second fresh name before (entry ∷ later) zero h judged e =
+      let both = both_true (is_new (judge before entry)) (is_book_from (before ++ entry ∷ []) later) judged in
+      let free = fresh before entry name both.0 e in (cc)
+  no_second fresh name before (entry ∷ later) (suc k) h judged e =
+      let both = both_true (is_new (judge before entry)) (is_book_from (before ++ entry ∷ []) later) judged in
+      no_second fresh name (before ++ entry ∷ []) later k (stays name 1 before (entry ∷ []) h) both.1 e
+
+  later_if : (b : Bool) (k seq : ℕ) (o : Option ℕ) → (b ≡ true → ⊥) → o ≡ Some seq → cond b (Some k) o ≡ Some seq
+  later_if true k seq o other h = absurd (other refl)
+  later_if false k seq o other h = h
+
+  number_at : AddsNew → (name : List ℕ) (before later : List Entry) (k : ℕ) → is_book_from before later ≡ true → name_at name_of later (suc k) ≡ Some name → number_from name_of name (length before + 1) later ≡ Some (length before + suc k)
+  number_at fresh name before [] k judged e = (cc)
+  number_at fresh name before (entry ∷ later) zero judged e =
+      ap (λ b. cond b (Some (length before + 1)) (number_from name_of name (length before + 1 + 1) later)) (names (name_of entry.act) name e)
+  number_at fresh name before (entry ∷ later) (suc k) judged e =
+      let both = both_true (is_new (judge before entry)) (is_book_from (before ++ entry ∷ []) later) judged in
+      let one : length (before ++ entry ∷ []) ≡ length before + 1 = length-append before (entry ∷ []) in
+      let sum : length (before ++ entry ∷ []) + suc k ≡ length before + suc (suc k) = omega arith in
+      let rest = ap (λ (n : ℕ). number_from name_of name (n + 1) later) (sym one) ∙ number_at fresh name (before ++ entry ∷ []) later k both.1 e ∙ ap (λ (n : ℕ). Some n) sum in
+      later_if (adds_named name_of name entry.act) (length before + 1) (length before + suc (suc k)) (number_from name_of name (length before + 1 + 1) later)
+      (λ again. no_second fresh name (before ++ entry ∷ []) later k (becomes name 1 before entry again) both.1 e) rest
+
+  -- the entry of a book that added the thing with this name is the one whose number is found
+  pub number-name_at : AddsNew → (book : List Entry) (name : List ℕ) (seq : ℕ) → is_book_from [] book ≡ true → name_at name_of book seq ≡ Some name → number_from name_of name 1 book ≡ Some seq
+  number-name_at fresh book name zero judged e = (cc)
+  number-name_at fresh book name (suc k) judged e = number_at fresh name [] book k judged e ∙ let same : 0 + suc k ≡ suc k = omega arith in ap (λ (n : ℕ). Some n) same
+
+-- ── a thing that the book has is found by its number ──
+
+module _ {X : Type 0} (pick : Act → Option X) (name : X → List ℕ) where
+  found_if : (b : Bool) (x : X) (k : ℕ) (o : Option X) (p : Option ℕ) → is_some o ≡ is_some p → is_some (cond b (Some x) o) ≡ is_some (cond b (Some k) p)
+  found_if true x k o p h = refl
+  found_if false x k o p h = h
+
+  found_step : (text : List ℕ) (k : ℕ) (o : Option X) (rest : List X) (p : Option ℕ) → is_some (find (λ x. same_text (name x) text) rest) ≡ is_some p
+      → is_some (find (λ x. same_text (name x) text) (cons_option o rest)) ≡ is_some (cond (option_map_or (λ added. same_text added text) (option_map name o) false) (Some k) p)
+  found_step text k None rest p h = h
+  found_step text k (Some x) rest p h = found_if (same_text (name x) text) x k (find (λ x. same_text (name x) text) rest) p h
+
+  found_from : (text : List ℕ) (k : ℕ) (book : List Entry) → is_some (find (λ x. same_text (name x) text) (register pick book)) ≡ is_some (number_from (λ act. option_map name (pick act)) text k book)
+  found_from text k [] = refl
+  found_from text k (e ∷ book) = found_step text k (pick e.act) (register pick book) (number_from (λ act. option_map name (pick act)) text (k + 1) book) (found_from text (k + 1) book)
+
+aircraft_found : (book : List Entry) (tail : List ℕ) → is_some (aircraft book tail) ≡ is_some (seq_of_tail book tail)
+aircraft_found book tail = found_from aircraft_of (λ (a : Aircraft). a.tail) tail 1 book
+
+component_found : (book : List Entry) (serial : List ℕ) → is_some (component book serial) ≡ is_some (seq_of_serial book serial)
+component_found book serial = found_from component_of (λ (c : Component). c.serial) serial 1 book
+
+-- an aircraft that the book has is the one that the entry of its number added
+pub tail_known : (book : List Entry) (tail : List ℕ) → is_some (aircraft book tail) ≡ true → tail_at book (or_zero (seq_of_tail book tail)) ≡ Some tail
+tail_known book tail h = name_at-number tail_added book tail (or_zero (seq_of_tail book tail)) (some_of (seq_of_tail book tail) (sym (aircraft_found book tail) ∙ h))
+
+-- a component that the book has is the one that the entry of its number added
+pub serial_known : (book : List Entry) (serial : List ℕ) → is_some (component book serial) ≡ true → serial_at book (or_zero (seq_of_serial book serial)) ≡ Some serial
+serial_known book serial h = name_at-number serial_added book serial (or_zero (seq_of_serial book serial)) (some_of (seq_of_serial book serial) (sym (component_found book serial) ∙ h))
+
+tail_by : (before : List Entry) (doc : List ℕ) (act : Act) (tail : List ℕ) → is_new (judge before (record { doc = doc; act = act })) ≡ true → tail_added act ≡ Some tail → is_some (seq_of_tail before tail) ≡ false
+tail_by before doc (Added a positions) tail new e =
+    let same : a.tail ≡ tail = cc in
+    sym (aircraft_found before tail) ∙ ap (λ (t : List ℕ). is_some (aircraft before t)) (sym same) ∙ added_is_unknown before doc a positions new
+tail_by before doc (Listed c) tail new e = (cc)
+tail_by before doc (Flown s) tail new e = (cc)
+tail_by before doc (Fitted f) tail new e = (cc)
+tail_by before doc (Removed r) tail new e = (cc)
+
+serial_by : (before : List Entry) (doc : List ℕ) (act : Act) (serial : List ℕ) → is_new (judge before (record { doc = doc; act = act })) ≡ true → serial_added act ≡ Some serial → is_some (seq_of_serial before serial) ≡ false
+serial_by before doc (Listed c) serial new e =
+    let same : c.serial ≡ serial = cc in
+    sym (component_found before serial) ∙ ap (λ (t : List ℕ). is_some (component before t)) (sym same) ∙ listed_is_unknown before doc c new
+serial_by before doc (Added a positions) serial new e = (cc)
+serial_by before doc (Flown s) serial new e = (cc)
+serial_by before doc (Fitted f) serial new e = (cc)
+serial_by before doc (Removed r) serial new e = (cc)
+
+-- in a book the entry that added an aircraft is the one whose number is found
+pub tail_number : (book : List Entry) (tail : List ℕ) (seq : ℕ) → is_book_from [] book ≡ true → tail_at book seq ≡ Some tail → seq ≡ or_zero (seq_of_tail book tail)
+tail_number book tail seq judged e = sym (ap or_zero (number-name_at tail_added (λ before entry name new is. tail_by before entry.doc entry.act name new is) book tail seq judged e))
+
+-- in a book the entry that added a component is the one whose number is found
+pub serial_number : (book : List Entry) (serial : List ℕ) (seq : ℕ) → is_book_from [] book ≡ true → serial_at book seq ≡ Some serial → seq ≡ or_zero (seq_of_serial book serial)
+serial_number book serial seq judged e = sym (ap or_zero (number-name_at serial_added (λ before entry name new is. serial_by before entry.doc entry.act name new is) book serial seq judged e))

@@ -1,0 +1,47 @@
+-- The things that entries add, by name and by number: which entry added the aircraft with a registration, or the component with a serial number.
+use Rattle.std.specs.Prelude.{ℕ, ◌+◌, List, [], ◌∷◌, Bool, false, Option, Some, None, unwrap_or, if◌then◌else◌}
+use Rattle.std.specs.Option.{option_and_then, option_map, option_map_or}
+use Rattle.mx_command.specs.Act.{Act, Entry, aircraft_of, component_of}
+use Rattle.mx_command.specs.Same.{same_text}
+use Rattle.mx_book.specs.Book.{entry_at}
+
+-- the registration of the aircraft that an entry adds, where it adds one
+abbrev pub tail_added : Act → Option (List ℕ)
+tail_added act = option_map (λ a. a.tail) (aircraft_of act)
+
+-- the serial number of the component that an entry adds, where it adds one
+abbrev pub serial_added : Act → Option (List ℕ)
+serial_added act = option_map (λ c. c.serial) (component_of act)
+
+-- the entry adds the thing with this name
+abbrev pub adds_named : (Act → Option (List ℕ)) → List ℕ → Act → Bool
+adds_named name_of name act = option_map_or (λ added. same_text added name) (name_of act) false
+
+-- the number of the first entry that adds the thing with this name, where the entries are numbered from k
+abbrev pub number_from : (Act → Option (List ℕ)) → List ℕ → ℕ → List Entry → Option ℕ
+number_from name_of name k [] = None
+number_from name_of name k (entry ∷ later) = if adds_named name_of name entry.act then Some k else number_from name_of name (k + 1) later
+
+-- the number of the entry that added the aircraft with this registration
+abbrev pub seq_of_tail : List Entry → List ℕ → Option ℕ
+seq_of_tail book tail = number_from tail_added tail 1 book
+
+-- the number of the entry that added the component with this serial number
+abbrev pub seq_of_serial : List Entry → List ℕ → Option ℕ
+seq_of_serial book serial = number_from serial_added serial 1 book
+
+-- the number, or 0, which no entry has
+abbrev pub or_zero : Option ℕ → ℕ
+or_zero number = unwrap_or number 0
+
+-- the name of the thing that the entry with this number added
+abbrev pub name_at : (Act → Option (List ℕ)) → List Entry → ℕ → Option (List ℕ)
+name_at name_of book seq = option_and_then (λ entry. name_of entry.act) (entry_at book seq)
+
+-- the registration of the aircraft that the entry with this number added
+abbrev pub tail_at : List Entry → ℕ → Option (List ℕ)
+tail_at book seq = name_at tail_added book seq
+
+-- the serial number of the component that the entry with this number added
+abbrev pub serial_at : List Entry → ℕ → Option (List ℕ)
+serial_at book seq = name_at serial_added book seq

@@ -1,0 +1,95 @@
+//! Which entry added an aircraft or a component, by name and by number.
+ghost use Rattle.std.specs.Prelude.{◌≡◌, ◌≤◌, ℕ, length};
+ghost use Rattle.mx_register.specs.Names.{adds_named, name_at, number_from, seq_of_serial, seq_of_tail, serial_added, serial_at, tail_added, tail_at};
+
+use mx_base::{Serial, Tail};
+use mx_book::Book;
+use mx_command::Command;
+
+// Whether an entry adds the aircraft with this registration.
+fn adds_aircraft(entry: &Command, tail: &Tail) -> bool
+    ensures { result ≡ adds_named tail_added tail.now entry.now.act }
+{
+    match entry.added_aircraft() {
+        Some(aircraft) => aircraft.tail == *tail,
+        None => false,
+    }
+}
+
+// Whether an entry adds the component with this serial number.
+fn adds_component(entry: &Command, serial: &Serial) -> bool
+    ensures { result ≡ adds_named serial_added serial.now entry.now.act }
+{
+    match entry.added_component() {
+        Some(component) => component.serial == *serial,
+        None => false,
+    }
+}
+
+// The number of the first entry that adds the aircraft.
+fn number_of_tail(entries: &[Command], tail: &Tail) -> Option<u32>
+    requires few { length entries.now ≤ 1000000 }
+    ensures { result ≡ number_from tail_added tail.now 1 entries.now }
+{
+    let mut seq = 1u32;
+    let mut rest = entries;
+    while let Some((entry, later)) = rest.split_first() {
+        if adds_aircraft(entry, tail) {
+            return Some(seq);
+        }
+        seq += 1;
+        rest = later;
+    }
+    None
+}
+
+// The number of the first entry that adds the component.
+fn number_of_serial(entries: &[Command], serial: &Serial) -> Option<u32>
+    requires few { length entries.now ≤ 1000000 }
+    ensures { result ≡ number_from serial_added serial.now 1 entries.now }
+{
+    let mut seq = 1u32;
+    let mut rest = entries;
+    while let Some((entry, later)) = rest.split_first() {
+        if adds_component(entry, serial) {
+            return Some(seq);
+        }
+        seq += 1;
+        rest = later;
+    }
+    None
+}
+
+/// The number of the entry that added the aircraft with this registration.
+pub fn seq_of_tail(book: &Book, tail: &Tail) -> Option<u32>
+    ensures { result ≡ seq_of_tail book.now tail.now }
+{
+    let _ = book.len();
+    number_of_tail(book.as_slice(), tail)
+}
+
+/// The number of the entry that added the component with this serial number.
+pub fn seq_of_serial(book: &Book, serial: &Serial) -> Option<u32>
+    ensures { result ≡ seq_of_serial book.now serial.now }
+{
+    let _ = book.len();
+    number_of_serial(book.as_slice(), serial)
+}
+
+/// The registration of the aircraft that the entry with a number added.
+pub fn tail_of_aircraft(book: &Book, seq: u32) -> Option<Tail>
+    ensures { result ≡ tail_at book.now seq }
+{
+    let entry = book.entry(seq)?;
+    let aircraft = entry.added_aircraft()?;
+    Some(aircraft.tail)
+}
+
+/// The serial number of the component that the entry with a number added.
+pub fn serial_of_component(book: &Book, seq: u32) -> Option<Serial>
+    ensures { result ≡ serial_at book.now seq }
+{
+    let entry = book.entry(seq)?;
+    let component = entry.added_component()?;
+    Some(component.serial)
+}
