@@ -1,14 +1,14 @@
 -- Finding positions and parts, entry by entry.
-use Rattle.std.proofs.Common.{refl, sym, ap, subst, ◌∙◌, ◌≡◌, ℕ, List, [], ◌∷◌, ◌++◌, Bool, true, false, cond, Option, Some, None, append_assoc}
+use Rattle.std.proofs.Common.{refl, sym, ap, ◌∙◌, ◌≡◌, ℕ, List, [], ◌∷◌, ◌++◌, Bool, true, false, cond, Some, None, append_assoc}
 use Rattle.std.specs.Prelude.{find, filter}
-use Rattle.std.specs.List.{filter_map, flat_map, cons_option}
+use Rattle.std.specs.List.{filter_map, flat_map}
 use Rattle.std.specs.Option.{option_map}
 use Rattle.std.proofs.lemmas.List.Elements.{filter-append, filter_map-append}
 use Rattle.mx_command.specs.Act.{Entry}
 use Rattle.mx_command.specs.Same.{same_text}
 use Rattle.mx_book.specs.declared.life_list.FittedPart.{FittedPart}
 use Rattle.mx_book.specs.Register.{part_among, part_at, positions_added}
-use Rattle.mx_book.specs.Span.{Span, span_begun, spans, is_open_on}
+use Rattle.mx_book.specs.Span.{span_begun, spans, is_open_on}
 use Rattle.mx_book.specs.Lists.{part_of, parts_from, parts_begun}
 
 -- ── positions ──

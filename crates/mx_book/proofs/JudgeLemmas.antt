@@ -1,17 +1,19 @@
 -- What a verdict says of the book, and that a book stays one.
 use Rattle.std.proofs.Common.{arith, refl, sym, subst, ap, ◌∙◌, ◌≡◌, ℕ, ◌+◌, ◌≤◌, length, List, [], ◌∷◌, ◌++◌, Bool, true, false, cond, ◌&&◌, ◌||◌, Option, Some, None, append_assoc, append-nil, length-append}
 use Rattle.std.proofs.lemmas.Bool.Decides.{nat_tests}
-use Rattle.std.specs.Prelude.{nat_le}
+use Rattle.std.specs.Prelude.{nat_le, is_some}
 use Rattle.std.specs.List.{list_all}
-use Rattle.mx_command.specs.Act.{Act, Entry, Added, Listed, aircraft_of}
+use Rattle.mx_command.specs.Act.{Act, Entry, Added, Listed, Fitted, aircraft_of}
 use Rattle.mx_command.specs.Same.{same_entry}
 use Rattle.mx_command.specs.Shape.{has_shape}
 use Rattle.mx_command.specs.declared.aircraft.Aircraft.{Aircraft}
+use Rattle.mx_command.specs.declared.fitting.Fitting.{Fitting}
 use Rattle.mx_book.specs.declared.verdict.Refusal.{Refusal}
-use Rattle.mx_book.specs.declared.verdict.Refusal.TheVariants.{Full, Conflict}
+use Rattle.mx_book.specs.declared.verdict.Refusal.TheVariants.{Full, Conflict, UnknownAircraft, UnknownComponent, UnknownPosition, AircraftExists, ComponentExists, PositionTaken, AlreadyFitted}
 use Rattle.mx_book.specs.declared.verdict.Verdict.{Verdict}
 use Rattle.mx_book.specs.declared.verdict.Verdict.TheVariants.{New, Already, Refused}
-use Rattle.mx_book.specs.Judge.{judge, judge_by, known_from, refusals, first_of, when, is_full, verdict_of}
+use Rattle.mx_book.specs.Judge.{judge, judge_by, known_from, refusals, first_of, when, is_full, names_unknown_aircraft, names_unknown_component, names_unknown_position, aircraft_exists, component_exists, verdict_of}
+use Rattle.mx_book.specs.Span.{fitted, is_taken}
 use Rattle.mx_book.specs.Book.{is_new, is_book_from, IsBook}
 
 -- what refuses an aircraft refuses the command that adds it
@@ -43,6 +45,30 @@ known_old false seq r h = (cc)
 new_by : (book : List Entry) (command : Entry) (o : Option (ℕ × Entry)) → judge_by book command o ≡ New → first_of (refusals book command.act) ≡ None
 new_by book command (Some known) h = known_old (same_entry known.1 command) known.0 _ h
 new_by book command None h = unrefused (first_of (refusals book command.act)) h
+
+-- a command that is new is not refused
+pub new-unrefused : (book : List Entry) (command : Entry) → judge book command ≡ New → first_of (refusals book command.act) ≡ None
+new-unrefused book command h = new_by book command (known_from command.doc 1 book) h
+
+-- where none of eight refusals and others applies, the last two of the eight do not
+last_of_eight : (a b c d e f g h : Bool) (others : List (Option Refusal)) → first_of (when a Full ∷ when b UnknownAircraft ∷ when c UnknownComponent ∷ when d UnknownPosition
+    ∷ when e AircraftExists ∷ when f ComponentExists ∷ when g PositionTaken ∷ when h AlreadyFitted ∷ others) ≡ None → (g ≡ false) × (h ≡ false)
+last_of_eight true b c d e f g h others n = (cc)
+last_of_eight false true c d e f g h others n = (cc)
+last_of_eight false false true d e f g h others n = (cc)
+last_of_eight false false false true e f g h others n = (cc)
+last_of_eight false false false false true f g h others n = (cc)
+last_of_eight false false false false false true g h others n = (cc)
+last_of_eight false false false false false false true h others n = (cc)
+last_of_eight false false false false false false false true others n = (cc)
+last_of_eight false false false false false false false false others n = (refl, refl)
+
+-- a fitting that is new finds the position free, and the component fitted nowhere
+pub new-fitting : (book : List Entry) (command : Entry) (f : Fitting) → judge book command ≡ New → command.act ≡ Fitted f → (is_taken book f.tail f.position ≡ false) × (is_some (fitted book f.serial) ≡ false)
+new-fitting book command f new says =
+    last_of_eight (is_full book (Fitted f)) (names_unknown_aircraft book (Fitted f)) (names_unknown_component book (Fitted f)) (names_unknown_position book (Fitted f))
+    (aircraft_exists book (Fitted f)) (component_exists book (Fitted f)) (is_taken book f.tail f.position) (is_some (fitted book f.serial)) _
+    (subst (λ act. first_of (refusals book act) ≡ None) says (new-unrefused book command new))
 
 room_for : (n : ℕ) → nat_le 1000000 n ≡ false → n + 1 ≤ 1000000
 room_for n h = grind (arith, nat_tests)

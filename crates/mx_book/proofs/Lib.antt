@@ -4,5 +4,6 @@ pub mod JudgeLemmas
 pub mod KnownLemmas
 pub mod LifeLemmas
 pub mod OrderLaws
+pub mod SpanLemmas
 pub mod Worked
 pub mod WorkedFittings

@@ -185,8 +185,13 @@ removed_at_the_clock = refl
 -- ── lists ──
 
 -- the part in its position
-listed_part : life_list replaced abcd ≡ Some (record { tail = abcd; kind = codes "C172"; life = used 60090 801; parts =
-    record { position = engine; serial = e2; part = codes "IO360"; life = used 1000 100 } ∷ [] })
+listed_part : life_list replaced abcd ≡ Some (record {
+  tail = abcd;
+  kind = codes "C172";
+  life = used 60090 801;
+  parts =
+      record { position = engine; serial = e2; part = codes "IO360"; life = used 1000 100 } ∷ [];
+})
 listed_part = refl
 
 -- two parts, fitted in the other order than that of their positions
@@ -198,7 +203,12 @@ two_parts = first_aircraft ∷ logged (codes "C3") (Listed (record { serial = co
 two_parts-book : is_book two_parts ≡ true
 two_parts-book = refl
 
-listed_by_position : life_list two_parts abcd ≡ Some (record { tail = abcd; kind = codes "C172"; life = used 60090 801; parts =
-    record { position = engine; serial = e1; part = codes "IO360"; life = used 1090 101 }
-    ∷ record { position = propeller; serial = codes "P1"; part = codes "HC2"; life = used 590 51 } ∷ [] })
+listed_by_position : life_list two_parts abcd ≡ Some (record {
+  tail = abcd;
+  kind = codes "C172";
+  life = used 60090 801;
+  parts =
+      record { position = engine; serial = e1; part = codes "IO360"; life = used 1090 101 }
+      ∷ record { position = propeller; serial = codes "P1"; part = codes "HC2"; life = used 590 51 } ∷ [];
+})
 listed_by_position = refl

@@ -1,5 +1,5 @@
 -- Which sectors an item is credited with, its life, and its clock.
-use Rattle.std.specs.Prelude.{ℕ, ◌+◌, ◌-◌, max, nat_le, List, [], ◌∷◌, Bool, true, false, ◌&&◌, Option, Some, None, if◌then◌else◌, filter}
+use Rattle.std.specs.Prelude.{ℕ, ◌+◌, ◌-◌, max, nat_le, List, [], ◌∷◌, Bool, true, ◌&&◌, Option, Some, None, if◌then◌else◌, filter}
 use Rattle.std.specs.List.{filter_map, flat_map, list_any}
 use Rattle.std.specs.Option.{option_map, option_map_or}
 use Rattle.mx_base.specs.declared.amounts.Use.{Use}
@@ -91,10 +91,6 @@ component_moments serial _ = []
 abbrev pub removals_from : List Entry → List ℕ → List ℕ
 removals_from book tail = filter_map (λ s. s.to) (filter (λ s. same_text s.tail tail) (spans book))
 
--- the moment at which the component of the span that an entry begins was removed from an aircraft
-abbrev pub removals_begun : Entry → List Entry → List ℕ → List ℕ
-removals_begun entry later tail = filter_map (λ s. s.to) (filter (λ s. same_text s.tail tail) (span_begun entry.act later))
-
 -- the clock of an item: the latest moment that the book has of it
 abbrev pub clock : List Entry → Item → ℕ
 clock book (Airframe tail) = max (latest (flat_map (λ entry. airframe_moments tail entry.act) book)) (latest (removals_from book tail))
@@ -111,3 +107,9 @@ abbrev pub share : List Entry → Item → Option ℕ → Act → Use
 share book item until (Flown s) =
     if is_credited book item s && has_landed_by until s then record { minutes = minutes_flown s; cycles = s.cycles } else record { minutes = 0; cycles = 0 }
 share book item until _ = record { minutes = 0; cycles = 0 }
+
+-- ── how the plain program finds removals: entry by entry ──
+
+-- the moment at which the component of the span that an entry begins was removed from an aircraft
+abbrev pub removals_begun : Entry → List Entry → List ℕ → List ℕ
+removals_begun entry later tail = filter_map (λ s. s.to) (filter (λ s. same_text s.tail tail) (span_begun entry.act later))

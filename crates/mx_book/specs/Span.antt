@@ -1,5 +1,5 @@
 -- Where components were fitted, and from when to when.
-use Rattle.std.specs.Prelude.{ℕ, List, [], ◌∷◌, ◌++◌, Bool, false, ◌&&◌, Option, None, is_none, find, filter}
+use Rattle.std.specs.Prelude.{ℕ, List, [], ◌∷◌, ◌++◌, Bool, ◌&&◌, Option, is_none, find, filter}
 use Rattle.std.specs.List.{list_any}
 use Rattle.std.specs.Option.{option_map}
 use Rattle.mx_command.specs.Act.{Act, Entry, Fitted, removal_of}
@@ -47,6 +47,14 @@ is_open_on tail s = same_text s.tail tail && is_none s.to
 -- a component is fitted to the position of the aircraft
 abbrev pub is_taken : List Entry → List ℕ → List ℕ → Bool
 is_taken book tail position = list_any (λ s. is_open_on tail s && same_text s.position position) (spans book)
+
+-- the open spans of a component
+abbrev pub open_spans_of : List Entry → List ℕ → List Span
+open_spans_of book serial = filter (λ s. same_text s.serial serial && is_none s.to) (spans book)
+
+-- the open spans in a position of an aircraft
+abbrev pub open_spans_at : List Entry → List ℕ → List ℕ → List Span
+open_spans_at book tail position = filter (λ s. is_open_on tail s && same_text s.position position) (spans book)
 
 -- ── how the plain program finds the spans: entry by entry ──
 

@@ -1,10 +1,13 @@
 //! Laws of books and runs: what the definitions give, in the subject's own words. Each function does
 //! nothing; its contract is the law, and the checker proves it.
-ghost use Rattle.std.specs.Prelude.{◌≡◌, ◌≢◌, ◌+◌, ◌≤◌, ℕ, List, [], ◌∷◌, ◌++◌, length, true, IfSome, IsSomeAnd};
+ghost use Rattle.std.specs.Prelude.{◌≡◌, ◌≢◌, ◌+◌, ◌≤◌, ℕ, List, [], ◌∷◌, ◌++◌, length, true, None, IfSome, IsSomeAnd};
 ghost use Rattle.std.specs.List.{AllPairs, list_all};
-ghost use Rattle.mx_command.specs.Act.{Entry};
+ghost use Rattle.mx_command.specs.Act.{Entry, Fitted, Removed};
 ghost use Rattle.mx_command.specs.Shape.{has_shape};
 ghost use Rattle.mx_command.specs.declared.item.Item.TheVariants.{Airframe};
+ghost use Rattle.mx_command.specs.declared.fitting.Fitting.{Fitting};
+ghost use Rattle.mx_command.specs.declared.fitting.Removal.{Removal};
+ghost use Rattle.mx_book.specs.Span.{fitted, is_taken, open_spans_of, open_spans_at};
 ghost use Rattle.mx_book.specs.Life.{life_now};
 ghost use Rattle.mx_book.specs.Judge.{judge};
 ghost use Rattle.mx_book.specs.Book.{IsBook};
@@ -26,6 +29,26 @@ pub fn documents_are_distinct()
 /// The life of an airframe never falls as entries are added.
 pub fn life_never_falls()
     ensures { (book more : List Entry) (tail : List ℕ) → IfSome (life_now book (Airframe tail)) (λ before. IsSomeAnd (life_now (book ++ more) (Airframe tail)) (λ after. (before.minutes ≤ after.minutes) × (before.cycles ≤ after.cycles))) }
+{}
+
+/// A component is fitted in at most one place.
+pub fn one_place_for_a_component()
+    ensures { (book : List Entry) (serial : List ℕ) → IsBook book → length (open_spans_of book serial) ≤ 1 }
+{}
+
+/// A position of an aircraft has at most one component.
+pub fn one_component_in_a_position()
+    ensures { (book : List Entry) (tail position : List ℕ) → IsBook book → length (open_spans_at book tail position) ≤ 1 }
+{}
+
+/// A component that was just removed is fitted nowhere.
+pub fn removed_is_fitted_nowhere()
+    ensures { (book : List Entry) (doc : List ℕ) (removal : Removal) → fitted (book ++ record { doc = doc; act = Removed removal } ∷ []) removal.serial ≡ None }
+{}
+
+/// A component that was just fitted takes its position.
+pub fn fitted_takes_its_position()
+    ensures { (book : List Entry) (doc : List ℕ) (fitting : Fitting) → is_taken (book ++ record { doc = doc; act = Fitted fitting } ∷ []) fitting.tail fitting.position ≡ true }
 {}
 
 /// A run over two lists joined is the run over the first and then over the second.

@@ -37,7 +37,7 @@ impl Placed for FittedPart {
 }
 
 /// The life of an aircraft's airframe, and that of each component fitted to it.
-#[derive(Drop)]
+#[derive(Debug, Drop, PartialEq, Eq)]
 pub struct LifeList {
     /// The registration of the aircraft.
     pub tail: Tail,

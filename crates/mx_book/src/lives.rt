@@ -32,7 +32,9 @@ fn opening_use(entries: &[Command], item: &Item) -> Option<Use>
 {
     match item {
         Item::Airframe(tail) => { aircraft_of_tail(entries, tail).map(|aircraft| aircraft.opening) }
-        Item::Component(serial) => { component_of_serial(entries, serial).map(|component| component.opening) }
+        Item::Component(serial) => {
+            component_of_serial(entries, serial).map(|component| component.opening)
+        }
     }
 }
 
@@ -167,7 +169,10 @@ fn moment_of_component(serial: &Serial, entry: &Command) -> Moment
             moment,
             ..
         } => moment_if(*fitted == *serial, *moment),
-        Body::Remove { serial: removed, moment } => moment_if(*removed == *serial, *moment),
+        Body::Remove {
+            serial: removed,
+            moment,
+        } => moment_if(*removed == *serial, *moment),
         _ => Moment::FIRST,
     }
 }

@@ -2,6 +2,8 @@
 ghost use Rattle.std.specs.Prelude.{◌≡◌, Bool, IfOk};
 ghost use Rattle.std.specs.List.Sorted.{IsPermutation, IsSortedBy, IsStableBy};
 ghost use Rattle.std.specs.Cmp.{IsStrictWeakOrder};
+ghost use Rattle.std.specs.Cmp.Lexicographic.{pointwise, lists_per};
+ghost use Rattle.std.proofs.lemmas.Cmp.{lists_equiv};
 ghost use Rattle.std.specs.Ordering.{is_lt};
 ghost use Rattle.mx_book.specs.Order.{in_order};
 
@@ -21,7 +23,7 @@ pub trait Placed: Copy {
 }
 
 /// Rows in their order. Contracts see the list of the rows.
-#[derive(Drop)]
+#[derive(Debug, Drop)]
 pub struct Rows<T: Placed> {
     items: Vec<T>,
 }
@@ -41,6 +43,20 @@ impl<T: Placed> Rows<T> {
     {
         self.items.as_slice()
     }
+}
+
+impl<T: Placed + PartialEq> PartialEq for Rows<T> {
+    ghost eq = { pointwise T.eq };
+
+    ghost laws = { lists_per T.PartialEq.laws };
+
+    fn eq(&self, other: &Self) -> bool {
+        self.as_slice() == other.as_slice()
+    }
+}
+
+impl<T: Placed + Eq> Eq for Rows<T> {
+    ghost laws = { lists_equiv T.Eq.laws };
 }
 
 // How two rows compare.

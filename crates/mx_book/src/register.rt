@@ -83,7 +83,11 @@ fn part_of_position(positions: &[(Position, Part)], position: &Position) -> Opti
 }
 
 /// The part that a position of an aircraft takes, or `None` where the aircraft does not have the position.
-pub(crate) fn part_at_position(entries: &[Command], tail: &Tail, position: &Position) -> Option<Part>
+pub(crate) fn part_at_position(
+    entries: &[Command],
+    tail: &Tail,
+    position: &Position,
+) -> Option<Part>
     ensures { result ≡ part_at entries.now tail.now position.now }
 {
     let mut rest = entries;

@@ -72,7 +72,7 @@ pub(crate) fn fitted_to(entries: &[Command], serial: &Serial) -> Option<Tail>
     while let Some((entry, later)) = rest.split_first() {
         if let Some(fitting) = entry.fitting()
             && fitting.serial == *serial
-            && removed_at(later, &fitting.serial).is_none()
+            && removed_at(later, serial).is_none()
         {
             return Some(fitting.tail);
         }

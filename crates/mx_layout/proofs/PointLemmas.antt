@@ -17,13 +17,13 @@ use Rattle.mx_layout.specs.declared.points.Point.{Point}
 use Rattle.mx_layout.specs.declared.fault.TableFault.{TableFault}
 use Rattle.mx_layout.specs.Contents.{rows_in}
 use Rattle.mx_layout.specs.Point.{point_cells, FitsPoint, IsPoint, HoldsBelow, IsStop, IsNoPoint, HoldsPoint, ReadsPoint, ReadsExactly, point_text}
-use Rattle.mx_layout.specs.Reading.{AreAll}
+use Rattle.mx_layout.specs.Reading.{AreAll, by_first}
 use Rattle.mx_layout.specs.Tables.{layout_1, office, HasOffice}
 use Rattle.sqlite.specs.Schema.{Schema}
 use Rattle.sqlite.specs.Table.{Table}
 use Rattle.sqlite_schema.specs.declared.schema.Index.{Index}
 use Rattle.sqlite_schema.specs.declared.schema.View.{View}
-use Rattle.mx_layout.proofs.ReadLemmas.{scan, reads_all, reads_unchanged, reads_input, other_in}
+use Rattle.mx_layout.proofs.ReadLemmas.{scan, first_key, Sorts, sorts_by_first, reads_all, reads_unchanged, reads_input, other_in}
 
 abbrev pub project : List Term
 project = col 1 0 ∷ col 1 2 ∷ col 1 3 ∷ col 1 4 ∷ []
@@ -54,14 +54,17 @@ module _ (old new : State) (has : HasOffice old.now.schema) where
   means : (command_of (understood schema point_text) ≡ Select (record { lets = []; body = scan 0 project }) names) × (reads_listing schema point_text ≡ false) × IsPlain (understood schema point_text)
   means = select_is has.0 old.now.schema.indexes old.now.schema.views
 
+  sorts : Sorts first_key project by_first
+  sorts = sorts_by_first project (λ _. refl)
+
   pub office_rows : (rows : List Row) → Shown point_text [] old new rows → AreAll office old.now.trees rows
-  office_rows = reads_all schema point_text office project names refl (λ _. refl) means.0 means.1 means.2 (λ _. refl) old new (is_with_office old.now.schema has)
+  office_rows = reads_all first_key by_first schema point_text office project names refl sorts means.0 means.1 means.2 (λ _. refl) old new (is_with_office old.now.schema has)
 
   pub office_same : (rows : List Row) → Shown point_text [] old new rows → IsUnchanged old new
-  office_same = reads_unchanged schema point_text office project names refl (λ _. refl) means.0 means.1 means.2 (λ _. refl) old new (is_with_office old.now.schema has)
+  office_same = reads_unchanged first_key by_first schema point_text office project names refl sorts means.0 means.1 means.2 (λ _. refl) old new (is_with_office old.now.schema has)
 
   pub office_input : (fault : CompileError) → FailsToQuery point_text [] old new (SqlInputError fault) → ⊥
-  office_input = reads_input schema point_text office project names refl (λ _. refl) means.0 means.1 means.2 (λ _. refl) old new (is_with_office old.now.schema has)
+  office_input = reads_input first_key by_first schema point_text office project names refl sorts means.0 means.1 means.2 (λ _. refl) old new (is_with_office old.now.schema has)
 
 -- one row is the table
 only_row : (trees : Trees) (row : Row) → AreAll office trees (row ∷ []) → rows_in office trees ≡ row ∷ []

@@ -1,8 +1,8 @@
--- What SELECT .. FROM table ORDER BY its first column answers, whatever the schema is.
-use Rattle.std.proofs.Common.{◌≡◌, inl, inr, ℕ, ◌+◌, ◌<◌, pos, negsuc, List, [], ◌∷◌, map, length, slice_index_or, false, None, Ok, Err, Result, OnOk, OnErr, refl, sym, ap, subst, ◌∙◌, All, arith}
+-- What SELECT .. FROM table ORDER BY its first column, or its first two, answers, whatever the schema is.
+use Rattle.std.proofs.Common.{◌≡◌, inl, inr, ℕ, ◌+◌, ◌<◌, pos, negsuc, List, [], ◌∷◌, map, length, slice_index_or, false, None, Ok, Err, Result, OnOk, OnErr, refl, sym, ap, ap₂, subst, ◌∙◌, All, arith}
 use Rattle.std.specs.declared.cmp.Ordering.{Ordering}
 use Rattle.std.specs.declared.cmp.Ordering.TheVariants.{Less, Equal, Greater}
-use Rattle.std.specs.Ordering.{is_lt, on, ordering_then}
+use Rattle.std.specs.Ordering.{is_lt, ordering_then}
 use Rattle.std.specs.List.Sorted.{IsPermutation, IsSorted}
 use Rattle.std.proofs.lemmas.List.Sorted.{IsPermutation-map, IsPermutation-sym, All-permutation, Contains-permutation}
 use Rattle.std.proofs.lemmas.List.Concat.{flat_map_single}
@@ -17,8 +17,9 @@ use Rattle.sqlite.specs.Query.{Query, inner, end, IsAnswer, output, output_cmp, 
 use Rattle.sqlite.specs.Tree.{Trees}
 use Rattle.sqlite.specs.Table.{Table}
 use Rattle.sqlite_value.specs.Keys.{ascending}
+use Rattle.sqlite_value.specs.declared.keys.Key.{Key}
 use Rattle.mx_layout.specs.Contents.{cells, rows_in}
-use Rattle.mx_layout.specs.Reading.{AreAll, HasOther}
+use Rattle.mx_layout.specs.Reading.{AreAllBy, by_first, by_two, HasOther}
 use Rattle.sqlite.specs.Listing.{understood}
 use Rattle.sqlite.specs.Clock.{timed}
 use Rattle.sqlite.specs.declared.error.Error.{Error}
@@ -38,54 +39,80 @@ use Rattle.sqlite.specs.State.{store_error}
 use Rattle.sqlite.proofs.StateLemmas.{survives_weaker}
 use Rattle.mx_layout.specs.Writing.{Stops}
 
-abbrev pub scan : ℕ → List Term → Query
-scan tree project = record {
+-- all rows of a table, sorted by these keys
+abbrev pub scan_by : List (Term × Key) → ℕ → List Term → Query
+scan_by keys tree project = record {
   from = inner tree end;
   filter = [];
   group = None;
   project = project;
   distinct = false;
   collations = [];
-  order = (col 1 0, ascending Binary) ∷ [];
+  order = keys;
   limit = lit (Int (negsuc 0));
   offset = lit (Int (pos 0));
 }
 
-or_equal : (o : Ordering) → is_lt (ordering_then o Equal) ≡ is_lt o
+-- the key of a table whose first column is the rowid
+abbrev pub first_key : List (Term × Key)
+first_key = (col 1 0, ascending Binary) ∷ []
+
+-- the key of the first two columns of a table whose rows are stored behind a rowid
+abbrev pub two_keys : List (Term × Key)
+two_keys = (col 1 1, ascending Binary) ∷ (col 1 2, ascending Binary) ∷ []
+
+-- all rows of a table, sorted by its rowid
+abbrev pub scan : ℕ → List Term → Query
+scan = scan_by first_key
+
+-- rows that are sorted by these keys are shown in this order
+abbrev pub Sorts : List (Term × Key) → List Term → (Row → Row → Ordering) → Type 0
+Sorts keys project order =
+    (x y : Row) → is_lt (output_cmp (scan_by keys 0 project) (output (scan_by keys 0 project) ([] ∷ x ∷ [])) (output (scan_by keys 0 project) ([] ∷ y ∷ [])))
+    ≡ is_lt (order (eval_all project ([] ∷ x ∷ [])) (eval_all project ([] ∷ y ∷ [])))
+
+or_equal : (o : Ordering) → ordering_then o Equal ≡ o
 or_equal Less = refl
 or_equal Equal = refl
 or_equal Greater = refl
 
--- the output of a row is ordered by its first column
-abbrev IsKeyed : Output → Type 0
-IsKeyed o = o.0 ≡ column o.1 0 ∷ []
+pub sorts_by_first : (project : List Term) → ((r : Row) → column r 0 ≡ column (eval_all project ([] ∷ r ∷ [])) 0) → Sorts first_key project by_first
+sorts_by_first project first x y = ap is_lt (or_equal _ ∙ ap₂ value_cmp (first x) (first y))
 
-module _ (table : Table) (project : List Term) (shows : (λ (r : Row). eval_all project ([] ∷ r ∷ [])) ≡ cells table) (keyed : (r : Row) → column r 0 ≡ column (eval_all project ([] ∷ r ∷ [])) 0) where
+pub sorts_by_two : (project : List Term) → ((r : Row) → column r 1 ≡ column (eval_all project ([] ∷ r ∷ [])) 0) → ((r : Row) → column r 2 ≡ column (eval_all project ([] ∷ r ∷ [])) 1) → Sorts two_keys project by_two
+sorts_by_two project first second x y = ap is_lt (ap₂ ordering_then (ap₂ value_cmp (first x) (first y)) (or_equal _ ∙ ap₂ value_cmp (second x) (second y)))
+
+module _ (keys : List (Term × Key)) (order : Row → Row → Ordering) (table : Table) (project : List Term)
+    (shows : (λ (r : Row). eval_all project ([] ∷ r ∷ [])) ≡ cells table) (sorts : Sorts keys project order) where
   abbrev q : Query
-  q = scan table.tree project
-
-  step : (x y : Output) → IsKeyed x → IsKeyed y → is_lt (output_cmp q x y) ≡ false → is_lt (value_cmp (column x.1 0) (column y.1 0)) ≡ false
-  step x y p s h = sym (or_equal _) ∙ (rw (p, s) at h)
+  q = scan_by keys table.tree project
 
   abbrev out : Row → Output
   out r = output q ([] ∷ r ∷ [])
 
-  pub scanned : (db : Trees) (rows : List Row) → IsAnswer q db [] rows → AreAll table db rows
+  -- the output is that of a row
+  abbrev IsOut : Output → Type 0
+  IsOut o = (r : Row) × (o ≡ out r)
+
+  step : (x y : Output) → IsOut x → IsOut y → is_lt (output_cmp q x y) ≡ false → is_lt (order x.1 y.1) ≡ false
+  step x y p s h = rw (p.1, s.1) (sym (sorts p.0 s.0) ∙ (rw (p.1, s.1) at h))
+
+  pub scanned : (db : Trees) (rows : List Row) → IsAnswer q db [] rows → AreAllBy order table db rows
   scanned db rows a =
       let kept : a.kept ≡ map out (db table.tree) = a.distinct ∙ ap (map (output q)) (a.grouped ∙ flat_map_single (λ r. [] ∷ r ∷ []) (db table.tree)) ∙ map-map (output q) (λ r. [] ∷ r ∷ []) (db table.tree) in
       let seen : map (λ (o : Output). o.1) a.kept ≡ rows_in table db =
       ap (map (λ (o : Output). o.1)) kept ∙ map-map (λ (o : Output). o.1) out (db table.tree) ∙ ap (λ (f : Row → Row). map f (db table.tree)) shows in
-      let keys : All IsKeyed a.ordered = All-permutation IsKeyed a.kept a.ordered a.same (subst (All IsKeyed) (sym kept) (All-map IsKeyed out (db table.tree) (λ i d low. ap (λ v. v ∷ []) (keyed _)))) in
+      let outs : All IsOut a.ordered = All-permutation IsOut a.kept a.ordered a.same (subst (All IsOut) (sym kept) (All-map IsOut out (db table.tree) (λ i d low. (_, refl)))) in
       let xs = map (λ (o : Output). o.1) a.ordered in
-      let sorted : IsSorted (on (λ r. column r 0) value_cmp) xs = (λ k d low high.
+      let sorted : IsSorted order xs = (λ k d low high.
       let e : Output = ([], []) in
       let within : k + 1 < length a.ordered = omega (arith, high, length-map a.ordered (λ (o : Output). o.1)) in
       let one = get_or-map (λ (o : Output). o.1) a.ordered k e d (omega arith) in
       let two = get_or-map (λ (o : Output). o.1) a.ordered (k + 1) e d within in
-      rw (one, two) (step (slice_index_or a.ordered (k + 1) e) (slice_index_or a.ordered k e) (keys (k + 1) e within) (keys k e (omega arith)) (a.sorted k e low within))) in
+      rw (one, two) (step (slice_index_or a.ordered (k + 1) e) (slice_index_or a.ordered k e) (outs (k + 1) e within) (outs k e (omega arith)) (a.sorted k e low within))) in
       let all : IsPermutation (rows_in table db) xs = subst (λ ys. IsPermutation ys xs) seen (IsPermutation-map (λ (o : Output). o.1) a.kept a.ordered a.same) in
       let given : xs ≡ rows = sym a.shown in
-      subst (AreAll table db) given (record { all = all; sorted = sorted })
+      subst (AreAllBy order table db) given (record { all = all; sorted = sorted })
 
 pub shown_unchanged : (sql : List ℕ) (params : Row) (old new : State) (rows : List Row) → IsPlain (understood old.now.schema sql) → Shown sql params old new rows → IsUnchanged old new
 unfolding Shown
@@ -113,7 +140,7 @@ on_err (Ok x) p = tt
 on_err (Err e) p = p
 
 -- a row of an answer is one of the table
-pub other_in : (IsGood : Row → Type 0) (table : Table) (trees : Trees) (rows : List Row) → AreAll table trees rows → HasOther IsGood rows → HasOther IsGood (rows_in table trees)
+pub other_in : (IsGood : Row → Type 0) {order : Row → Row → Ordering} (table : Table) (trees : Trees) (rows : List Row) → AreAllBy order table trees rows → HasOther IsGood rows → HasOther IsGood (rows_in table trees)
 other_in IsGood table trees rows all it = (it.0, Contains-permutation rows (rows_in table trees) it.0 (IsPermutation-sym _ _ all.all) it.1, it.2)
 
 pub not_store : (fault : CompileError) (cause : StoreError) → SqlInputError fault ≡ store_error cause → ⊥
@@ -147,18 +174,18 @@ no_input text params old new q names fault is plain (inr ran) =
     ]
 
 -- the whole of a table, by a text that is written out
-module _ (schema : Schema) (text : List ℕ) (table : Table) (project : List Term) (names : List (List ℕ))
-    (shows : (λ (r : Row). eval_all project ([] ∷ r ∷ [])) ≡ cells table) (keyed : (r : Row) → column r 0 ≡ column (eval_all project ([] ∷ r ∷ [])) 0)
-    (is : command_of (understood schema text) ≡ Select (record { lets = []; body = scan table.tree project }) names) (unlisted : reads_listing schema text ≡ false)
+module _ (keys : List (Term × Key)) (order : Row → Row → Ordering) (schema : Schema) (text : List ℕ) (table : Table) (project : List Term) (names : List (List ℕ))
+    (shows : (λ (r : Row). eval_all project ([] ∷ r ∷ [])) ≡ cells table) (sorts : Sorts keys project order)
+    (is : command_of (understood schema text) ≡ Select (record { lets = []; body = scan_by keys table.tree project }) names) (unlisted : reads_listing schema text ≡ false)
     (plain : IsPlain (understood schema text)) (low : (db : Trees) → overlay db [] table.tree ≡ db table.tree)
     (old new : State) (has : old.now.schema ≡ schema) where
   plain_now : IsPlain (understood old.now.schema text)
   plain_now = subst (λ s. IsPlain (understood s text)) (sym has) plain
 
-  pub reads_all : (rows : List Row) → Shown text [] old new rows → AreAll table old.now.trees rows
+  pub reads_all : (rows : List Row) → Shown text [] old new rows → AreAllBy order table old.now.trees rows
   reads_all rows h =
-      let read = reads_as text [] old new schema has (Select (record { lets = []; body = scan table.tree project }) names) is plain unlisted rows h in
-      let it = scanned table project shows keyed (overlay old.now.trees []) rows (read.answer Null) in
+      let read = reads_as text [] old new schema has (Select (record { lets = []; body = scan_by keys table.tree project }) names) is plain unlisted rows h in
+      let it = scanned keys order table project shows sorts (overlay old.now.trees []) rows (read.answer Null) in
       record { all = subst (λ rs. IsPermutation (map (cells table) rs) rows) (low old.now.trees) it.all; sorted = it.sorted }
 
   pub reads_unchanged : (rows : List Row) → Shown text [] old new rows → IsUnchanged old new
@@ -172,4 +199,4 @@ module _ (schema : Schema) (text : List ℕ) (table : Table) (project : List Ter
 
   -- the text itself is not refused
   pub reads_input : (fault : CompileError) → FailsToQuery text [] old new (SqlInputError fault) → ⊥
-  reads_input fault h = no_input text [] old new (record { lets = []; body = scan table.tree project }) names fault (ap (λ s. command_of (understood s text)) has ∙ is) plain_now h
+  reads_input fault h = no_input text [] old new (record { lets = []; body = scan_by keys table.tree project }) names fault (ap (λ s. command_of (understood s text)) has ∙ is) plain_now h

@@ -1,5 +1,7 @@
--- The names of the tables.
+-- The tables by their names.
 use Rattle.std.specs.Prelude.{ℕ, List, codes}
+use Rattle.sqlite.specs.Table.{Table as SqlTable}
+use Rattle.mx_layout.specs.Tables.{office, entry, aircraft, place, component, programme, task, opening, crs, crs_line, extension, defect, sector1, fit1, removal1}
 use Rattle.mx_layout.specs.declared.fault.Table.{Table}
 use Rattle.mx_layout.specs.declared.fault.Table.TheVariants.{Office, Entry, Aircraft, Place, Component, Programme, Task, Opening, Crs, CrsLine, Extension, Defect, Sector1, Fit1, Removal1}
 
@@ -20,3 +22,21 @@ table_name Defect = codes "defect"
 table_name Sector1 = codes "sector1"
 table_name Fit1 = codes "fit1"
 table_name Removal1 = codes "removal1"
+
+-- the table with a name, in layout 1
+abbrev pub table_named : Table → SqlTable
+table_named Office = office
+table_named Entry = entry
+table_named Aircraft = aircraft
+table_named Place = place
+table_named Component = component
+table_named Programme = programme
+table_named Task = task
+table_named Opening = opening
+table_named Crs = crs
+table_named CrsLine = crs_line
+table_named Extension = extension
+table_named Defect = defect
+table_named Sector1 = sector1
+table_named Fit1 = fit1
+table_named Removal1 = removal1

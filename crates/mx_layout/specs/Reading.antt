@@ -1,16 +1,33 @@
 -- What a query over a whole table answers.
 use Rattle.std.specs.Prelude.{◌≡◌, ℕ, List, length, map, All, Contains, IsPermutation, IsSorted, Option, MatchOption}
-use Rattle.std.specs.Ordering.{on}
+use Rattle.std.specs.declared.cmp.Ordering.{Ordering}
+use Rattle.std.specs.Ordering.{on, then_cmp}
 use Rattle.sqlite.specs.Order.{Row, column, value_cmp}
 use Rattle.sqlite.specs.Table.{Table}
 use Rattle.sqlite.specs.Tree.{Trees}
 use Rattle.sqlite.specs.State.{State, IsUnchanged}
 use Rattle.mx_layout.specs.Contents.{rows_in}
 
--- exactly the rows of the table, in the order of the first column
-pub record AreAll (table : Table) (trees : Trees) (rows : List Row) : Type 0 where
+-- exactly the rows of the table, in this order
+pub record AreAllBy (order : Row → Row → Ordering) (table : Table) (trees : Trees) (rows : List Row) : Type 0 where
   pub all : IsPermutation (rows_in table trees) rows
-  pub sorted : IsSorted (on (λ r. column r 0) value_cmp) rows
+  pub sorted : IsSorted order rows
+
+-- the order of the first column
+abbrev pub by_first : Row → Row → Ordering
+by_first = on (λ r. column r 0) value_cmp
+
+-- the order of the first column and, where that is the same, of the second
+abbrev pub by_two : Row → Row → Ordering
+by_two = then_cmp (on (λ r. column r 0) value_cmp) (on (λ r. column r 1) value_cmp)
+
+-- exactly the rows of the table, in the order of the first column
+abbrev pub AreAll : Table → Trees → List Row → Type 0
+AreAll = AreAllBy by_first
+
+-- exactly the rows of the table, in the order of the first two columns
+abbrev pub AreAllByTwo : Table → Trees → List Row → Type 0
+AreAllByTwo = AreAllBy by_two
 
 -- some row of the table is none of those
 abbrev pub HasOther : (Row → Type 0) → List Row → Type 0

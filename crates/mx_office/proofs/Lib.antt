@@ -1,3 +1,4 @@
+pub mod NamedLemmas
 pub mod LoadLemmas
 pub mod OfficeLemmas
 pub mod ReopenLemmas

@@ -1,62 +1,78 @@
 -- The tables of layout 1 that stand for a book.
-use Rattle.std.specs.Prelude.{◌≡◌, ◌⊎◌, List, [], ◌∷◌, map, IsPermutation}
+use Rattle.std.specs.Prelude.{◌≡◌, ◌⊎◌, List, [], ◌∷◌, ◌++◌, map, IsPermutation, IsTrue, nat_eq, if◌then◌else◌}
 use Rattle.sqlite.specs.Order.{Row}
-use Rattle.sqlite.specs.Table.{Table}
 use Rattle.sqlite.specs.Tree.{Trees}
-use Rattle.sqlite.specs.Effect.{Database}
+use Rattle.sqlite.specs.Effect.{Database, IsDatabase}
 use Rattle.sqlite.specs.State.{State}
 use Rattle.sqlite_catalog.specs.Listing.{IsSound}
-use Rattle.mx_command.specs.Act.{Entry}
+use Rattle.mx_command.specs.Act.{Entry as Command}
 use Rattle.mx_book.specs.Book.{IsBook}
-use Rattle.mx_register.specs.Registers.{entry_rows, aircraft_rows, sector_rows, FitBook}
+use Rattle.mx_register.specs.Registers.{entry_rows, aircraft_rows, place_rows, component_rows, sector_rows, fitting_rows, removal_rows, entry_added, aircraft_by, places_by, components_by, sectors_by, fittings_by, removals_by, FitBook}
+use Rattle.mx_layout.specs.declared.fault.Table.{Table as Name}
+use Rattle.mx_layout.specs.declared.fault.Table.TheVariants.{Office, Entry, Aircraft, Place, Component, Sector1, Fit1, Removal1}
 use Rattle.mx_layout.specs.Contents.{rows_in}
-use Rattle.mx_layout.specs.Writing.{Gains}
 use Rattle.mx_layout.specs.Crash.{RestsAs}
 use Rattle.mx_layout.specs.Making.{first_point}
+use Rattle.mx_layout.specs.Names.{table_named}
 use Rattle.mx_layout.specs.Point.{point_cells}
-use Rattle.mx_layout.specs.Tables.{layout_1, office, entry, aircraft, place, component, programme, task, opening, crs, crs_line, extension, defect, sector1, fit1, removal1}
-use Rattle.mx_tables.specs.Cells.{entry_cells, aircraft_cells, sector_cells}
+use Rattle.mx_layout.specs.Tables.{layout_1}
+use Rattle.mx_tables.specs.Cells.{entry_cells, aircraft_cells, place_cells, component_cells, sector_cells, fitting_cells, removal_cells}
 
--- the table has exactly the rows of the register, in some order
-abbrev pub Shows : {X : Type 0} → (X → Row) → List X → Table → Trees → Type 0
-Shows as_cells register table trees = IsPermutation (map as_cells register) (rows_in table trees)
+-- the rows that a book gives to each table: its registers, the settled point of layout 1, and to the tables of commands to come none
+abbrev pub rows_given : List Command → Name → List Row
+rows_given book Office = point_cells first_point ∷ []
+rows_given book Entry = map entry_cells (entry_rows book)
+rows_given book Aircraft = map aircraft_cells (aircraft_rows book)
+rows_given book Place = map place_cells (place_rows book)
+rows_given book Component = map component_cells (component_rows book)
+rows_given book Sector1 = map sector_cells (sector_rows book)
+rows_given book Fit1 = map fitting_cells (fitting_rows book)
+rows_given book Removal1 = map removal_cells (removal_rows book)
+rows_given book _ = []
 
--- the tables of the commands to come have no row
-pub record HasNoneOfOthers (trees : Trees) : Type 0 where
-  pub places : rows_in place trees ≡ []
-  pub components : rows_in component trees ≡ []
-  pub programmes : rows_in programme trees ≡ []
-  pub tasks : rows_in task trees ≡ []
-  pub openings : rows_in opening trees ≡ []
-  pub releases : rows_in crs trees ≡ []
-  pub release_lines : rows_in crs_line trees ≡ []
-  pub extensions : rows_in extension trees ≡ []
-  pub defects : rows_in defect trees ≡ []
-  pub fittings : rows_in fit1 trees ≡ []
-  pub removals : rows_in removal1 trees ≡ []
-
--- the trees are the tables of layout 1 and no others; the point is settled at layout 1; and the rows are the registers of this book, each of which
--- can be kept in its columns
-pub record Stands (trees : Trees) (book : List Entry) : Type 0 where
+-- the trees are the tables of layout 1 and no others, each table has exactly the rows that this book gives it, and each row can be kept in its columns
+pub record Stands (trees : Trees) (book : List Command) : Type 0 where
   pub sound : IsSound layout_1 trees
   pub is_book : IsBook book
-  pub point : rows_in office trees ≡ point_cells first_point ∷ []
   pub fit : FitBook book
-  pub entries : Shows entry_cells (entry_rows book) entry trees
-  pub aircraft_rows : Shows aircraft_cells (aircraft_rows book) aircraft trees
-  pub sectors : Shows sector_cells (sector_rows book) sector1 trees
-  pub others : HasNoneOfOthers trees
+  pub tables : (name : Name) → IsPermutation (rows_given book name) (rows_in (table_named name) trees)
 
 -- no transaction is open, and the tables, and each state of them that a crash may leave, stand for the book
-abbrev pub Rests : State → List Entry → Type 0
+abbrev pub Rests : State → List Command → Type 0
 Rests s book = RestsAs s layout_1 (λ trees. Stands trees book)
 
 -- the tables stand for one of two books
-abbrev pub IsEither : List Entry → List Entry → Trees → Type 0
+abbrev pub IsEither : List Command → List Command → Trees → Type 0
 IsEither one other trees = Stands trees one ⊎ Stands trees other
 
--- one row in one table, and then one in another
-pub record GainsTwo (one : Table) (first : Row) (two : Table) (second : Row) (old new : Database) : Type 0 where
-  pub mid : Database
-  pub gains_first : Gains one first old mid
-  pub gains_second : Gains two second mid new
+-- ── the rows of one command ──
+
+-- the rows that a command adds to each table, behind the entries before it
+abbrev pub rows_added : List Command → Command → Name → List Row
+rows_added before command Entry = map entry_cells (entry_added before command)
+rows_added before command Aircraft = map aircraft_cells (aircraft_by before command.act)
+rows_added before command Place = map place_cells (places_by before command.act)
+rows_added before command Component = map component_cells (components_by before command.act)
+rows_added before command Sector1 = map sector_cells (sectors_by before command.act)
+rows_added before command Fit1 = map fitting_cells (fittings_by before command.act)
+rows_added before command Removal1 = map removal_cells (removals_by before command.act)
+rows_added before command _ = []
+
+-- those rows of a table that are added where the tables with these names are written
+abbrev pub among : List Name → (Name → List Row) → Name → List Row
+among [] rows name = []
+among (one ∷ names) rows name = (if nat_eq (table_named one).tree (table_named name).tree then rows one else []) ++ among names rows name
+
+-- the tables that a command may write
+abbrev pub written : List Name
+written = Entry ∷ Aircraft ∷ Place ∷ Component ∷ Sector1 ∷ Fit1 ∷ Removal1 ∷ []
+
+-- the tables with these names gained their rows, and each other table is as it was
+pub record GainsAmong (names : List Name) (rows : Name → List Row) (old new : Database) : Type 0 where
+  pub schema : new.schema ≡ old.schema
+  pub sound : IsDatabase old → IsDatabase new
+  pub tables : (name : Name) → IsPermutation (among names rows name ++ rows_in (table_named name) old.trees) (rows_in (table_named name) new.trees)
+
+-- a transaction is open, and so is the connection
+abbrev pub IsInside : State → Type 0
+IsInside s = IsTrue s.in_transaction × IsTrue s.is_open

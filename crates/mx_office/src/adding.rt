@@ -5,52 +5,14 @@ ghost use Rattle.sqlite.specs.Held.{state};
 ghost use Rattle.sqlite_trees.specs.View.{doubt};
 ghost use Rattle.mx_book.specs.Judge.{judge};
 ghost use Rattle.mx_layout.specs.Crash.{Leaves, StaysInside, IsWithin};
-ghost use Rattle.mx_layout.specs.Tables.{layout_1, entry, aircraft, sector1};
-ghost use Rattle.mx_tables.specs.Cells.{entry_cells, aircraft_cells, sector_cells};
-ghost use Rattle.mx_office.specs.Stands.{Stands, Rests, IsEither, GainsTwo};
+ghost use Rattle.mx_layout.specs.Tables.{layout_1};
+ghost use Rattle.mx_office.specs.Stands.{Stands, Rests, IsEither};
 
+use crate::rows::add_rows;
 use mx_book::{Book, Verdict};
 use mx_command::Command;
 use mx_layout::TableFault;
-use mx_register::{
-    AircraftRow, EntryRow, SectorRow, aircraft_row, entry_row, sector_row, seq_of_aircraft,
-};
-use mx_tables::{insert_aircraft, insert_entry, insert_sector1};
 use sqlite::{Alter, Connection, Transaction};
-
-// Adds the rows of an aircraft.
-fn add_aircraft<S: Alter>(
-    tx: &mut Transaction<'_, S>,
-    entered: &EntryRow,
-    added: &AircraftRow,
-) -> Result<(), TableFault>
-    ensures same_reference { tx.new.conn.ghost_name ≡ tx.old.conn.ghost_name }
-    ensures inside { HasCleanDisk (state S.Store tx.new.conn.now) → IsTrue (state S.Store tx.old.conn.now).in_transaction
-        → OnOk result (StaysInside (state S.Store tx.old.conn.now) (state S.Store tx.new.conn.now)) }
-    ensures adds { HasCleanDisk (state S.Store tx.new.conn.now) → IsTrue (state S.Store tx.old.conn.now).in_transaction → (state S.Store tx.old.conn.now).now.schema ≡ layout_1
-        → OnOk result (GainsTwo entry (entry_cells entered.now) aircraft (aircraft_cells added.now) (state S.Store tx.old.conn.now).now (state S.Store tx.new.conn.now).now) }
-    ensures within { IsWithin (state S.Store tx.old.conn.now) (state S.Store tx.new.conn.now) }
-{
-    insert_entry(tx, entered)?;
-    insert_aircraft(tx, added)
-}
-
-// Adds the rows of a sector.
-fn add_sector<S: Alter>(
-    tx: &mut Transaction<'_, S>,
-    entered: &EntryRow,
-    flown: &SectorRow,
-) -> Result<(), TableFault>
-    ensures same_reference { tx.new.conn.ghost_name ≡ tx.old.conn.ghost_name }
-    ensures inside { HasCleanDisk (state S.Store tx.new.conn.now) → IsTrue (state S.Store tx.old.conn.now).in_transaction
-        → OnOk result (StaysInside (state S.Store tx.old.conn.now) (state S.Store tx.new.conn.now)) }
-    ensures adds { HasCleanDisk (state S.Store tx.new.conn.now) → IsTrue (state S.Store tx.old.conn.now).in_transaction → (state S.Store tx.old.conn.now).now.schema ≡ layout_1
-        → OnOk result (GainsTwo entry (entry_cells entered.now) sector1 (sector_cells flown.now) (state S.Store tx.old.conn.now).now (state S.Store tx.new.conn.now).now) }
-    ensures within { IsWithin (state S.Store tx.old.conn.now) (state S.Store tx.new.conn.now) }
-{
-    insert_entry(tx, entered)?;
-    insert_sector1(tx, flown)
-}
 
 // Adds the rows of a command that was judged new against the book.
 fn add<S: Alter>(
@@ -66,16 +28,7 @@ fn add<S: Alter>(
         → OnOk result (((state S.Store tx.new.conn.now).now.schema ≡ layout_1) × Stands (state S.Store tx.new.conn.now).now.trees (book.now ++ command.now ∷ [])) }
     ensures within { IsWithin (state S.Store tx.old.conn.now) (state S.Store tx.new.conn.now) }
 {
-    let seq = book.len() + 1;
-    let entered = entry_row(seq, command);
-    if let Some(aircraft) = command.added_aircraft() {
-        return add_aircraft(tx, &entered, &aircraft_row(seq, aircraft));
-    }
-    if let Some(sector) = command.flown_sector() {
-        let adder = seq_of_aircraft(book, &sector.tail).unwrap_or(0);
-        return add_sector(tx, &entered, &sector_row(seq, adder, sector));
-    }
-    unreachable!()
+    add_rows(tx, book, command)
 }
 
 /// Enters a command that was judged new, in one commit. Whatever is answered, a crash leaves the book from

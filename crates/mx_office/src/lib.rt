@@ -8,6 +8,7 @@ pub mod laws;
 mod loading;
 pub mod office;
 pub mod power;
+mod rows;
 
 pub use fault::{Ask, Fault, OpenFault, Outcomes};
 pub use mx_book::Reply;

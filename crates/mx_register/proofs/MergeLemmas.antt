@@ -18,7 +18,7 @@ use Rattle.mx_register.specs.declared.rows.SectorRow.{SectorRow}
 use Rattle.mx_register.specs.declared.rows.FittingRow.{FittingRow}
 use Rattle.mx_register.specs.declared.rows.RemovalRow.{RemovalRow}
 use Rattle.mx_register.specs.Names.{tail_at, serial_at, seq_of_tail, seq_of_serial, or_zero}
-use Rattle.mx_register.specs.Registers.{gives, gives_by, next, kind_of, entry_row, aircraft_row, component_row, sector_row, fitting_row, removal_row, places_from, entry_added, aircraft_by, places_by, components_by, sectors_by, fittings_by, removals_by, entry_rows, AreRegistersOf}
+use Rattle.mx_register.specs.Registers.{gives, gives_by, next, kind_of, entry_row, aircraft_row, component_row, sector_row, fitting_row, removal_row, places_from, entry_added, aircraft_by, places_by, components_by, sectors_by, fittings_by, removals_by, entry_rows, aircraft_rows, place_rows, component_rows, sector_rows, fitting_rows, removal_rows, AreRegistersOf}
 use Rattle.mx_register.specs.Merge.{Rest, aircraft_said, component_said, sector_said, fitting_said, removal_said, command_of, first_of_entry, take_places, take_by, take_command, merged}
 use Rattle.mx_register.specs.Left.{all_rows}
 use Rattle.mx_register.proofs.NewLemmas.{flown_is_known, fitted_is_known, removed_is_known}
@@ -129,6 +129,25 @@ merged_from registers book is are =
 -- equal options have equal values
 pub same_some : {X : Type 0} {a b : X} → Some a ≡ Some b → a ≡ b
 same_some e = cc
+
+-- two books have the same registers
+pub record HaveSameRegisters (one other : List Entry) : Type 0 where
+  pub entries : entry_rows one ≡ entry_rows other
+  pub aircraft : aircraft_rows one ≡ aircraft_rows other
+  pub places : place_rows one ≡ place_rows other
+  pub components : component_rows one ≡ component_rows other
+  pub sectors : sector_rows one ≡ sector_rows other
+  pub fittings : fitting_rows one ≡ fitting_rows other
+  pub removals : removal_rows one ≡ removal_rows other
+
+same_later : (one other : List Entry) → HaveSameRegisters one other → all_later [] one ≡ all_later [] other
+unfolding rest_with
+same_later one other same = same_rest _ _ _ _ _ _ _ _ _ _ _ _ same.aircraft same.places same.components same.sectors same.fittings same.removals
+
+-- books with the same registers are one
+pub book_once : (one other : List Entry) → HaveSameRegisters one other → IsBook one → IsBook other → one ≡ other
+book_once one other same is was =
+    same_some (sym (merged_gives [] one is.judged is.shaped) ∙ ap (λ (rows : List EntryRow). merged [] rows (all_later [] one)) same.entries ∙ ap (merged [] (entry_rows other)) (same_later one other same) ∙ merged_gives [] other was.judged was.shaped)
 
 -- registers are those of at most one book
 pub one_book : (registers : Registers) (one other : List Entry) → AreRegistersOf registers one → AreRegistersOf registers other → IsBook one → IsBook other → one ≡ other

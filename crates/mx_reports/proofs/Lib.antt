@@ -1,1 +1,2 @@
 pub mod StartsLemmas
+pub mod Worked

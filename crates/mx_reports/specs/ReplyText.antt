@@ -3,7 +3,7 @@ use Rattle.std.specs.Prelude.{ℕ, List, [], ◌∷◌, ◌++◌, codes}
 use Rattle.std.specs.Fmt.{decimal}
 use Rattle.mx_base.specs.Texts.{moment_text}
 use Rattle.mx_book.specs.declared.verdict.Refusal.{Refusal}
-use Rattle.mx_book.specs.declared.verdict.Refusal.TheVariants.{Conflict, Full, UnknownAircraft, UnknownComponent, AircraftExists, OutOfOrder}
+use Rattle.mx_book.specs.declared.verdict.Refusal.TheVariants.{Conflict, Full, UnknownAircraft, UnknownComponent, UnknownPosition, AircraftExists, ComponentExists, PositionTaken, AlreadyFitted, NotFitted, WrongPart, OutOfOrder}
 use Rattle.mx_book.specs.declared.verdict.Reply.{Reply}
 use Rattle.mx_book.specs.declared.verdict.Reply.TheVariants.{Accepted, Already, Refused}
 use Rattle.mx_book.specs.Judge.{refusal_number}
@@ -16,7 +16,13 @@ carried_words (OutOfOrder clock) = spaced (moment_text clock)
 carried_words Full = []
 carried_words UnknownAircraft = []
 carried_words UnknownComponent = []
+carried_words UnknownPosition = []
 carried_words AircraftExists = []
+carried_words ComponentExists = []
+carried_words PositionTaken = []
+carried_words AlreadyFitted = []
+carried_words NotFitted = []
+carried_words WrongPart = []
 
 -- the number of a refusal, and what it carries
 abbrev pub refusal_words : Refusal → List ℕ

@@ -19,7 +19,13 @@ fn append_carried(out: &mut Vec<u8>, refusal: &Refusal) -> Result<(), AllocError
         Refusal::Full
         | Refusal::UnknownAircraft
         | Refusal::UnknownComponent
-        | Refusal::AircraftExists => Ok(()),
+        | Refusal::UnknownPosition
+        | Refusal::AircraftExists
+        | Refusal::ComponentExists
+        | Refusal::PositionTaken
+        | Refusal::AlreadyFitted
+        | Refusal::NotFitted
+        | Refusal::WrongPart => Ok(()),
     }
 }
 

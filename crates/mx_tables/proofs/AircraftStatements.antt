@@ -4,6 +4,7 @@ use Rattle.sqlite.specs.Listing.{understood}
 use Rattle.sqlite.specs.State.{State}
 use Rattle.sqlite_tied.specs.Compute.{everything}
 use Rattle.mx_register.specs.declared.rows.AircraftRow.{AircraftRow}
+use Rattle.mx_layout.specs.Reading.{by_first}
 use Rattle.mx_layout.specs.Tables.{layout_1, aircraft}
 use Rattle.mx_layout.proofs.RowLemmas.{cast_int, cast_null}
 use Rattle.mx_tables.specs.Cells.{aircraft_cells, insert_aircraft_text, rows_aircraft_text}
@@ -24,5 +25,5 @@ select_is : Scans layout_1 rows_aircraft_text aircraft
 unfolding understood everything
 select_is = (refl, refl, (refl, refl))
 
-pub aircraft_shows : (old new : State) → old.now.schema ≡ layout_1 → ShowsAll rows_aircraft_text aircraft old new
+pub aircraft_shows : (old new : State) → old.now.schema ≡ layout_1 → ShowsAll rows_aircraft_text aircraft by_first old new
 aircraft_shows = shows_all layout_1 rows_aircraft_text aircraft select_is refl (λ _. refl) (λ _. refl)

@@ -1,21 +1,33 @@
 -- The cells of rows that fit determine the rows.
-use Rattle.std.proofs.Common.{◌≡◌, List, [], ◌∷◌, map, All, refl, ap₂, arith}
+use Rattle.std.proofs.Common.{◌≡◌, ◌∙◌, ◌==◌, cond, ℕ, List, [], ◌∷◌, map, All, refl, sym, ap, ap₂}
 use Rattle.std.proofs.lemmas.List.Elements.{All-head, All-tail}
 use Rattle.sqlite.specs.Order.{Row}
 use Rattle.mx_base.proofs.RoundTrips.{moment_text_injective}
 use Rattle.mx_register.specs.declared.rows.EntryKind.{EntryKind}
-use Rattle.mx_register.specs.declared.rows.EntryKind.TheVariants.{AddAircraft, Sector}
+use Rattle.mx_register.specs.declared.rows.EntryKind.TheVariants.{AddAircraft, AddComponent, Sector, Fit, Remove}
 use Rattle.mx_register.specs.declared.rows.EntryRow.{EntryRow}
 use Rattle.mx_register.specs.declared.rows.AircraftRow.{AircraftRow}
+use Rattle.mx_register.specs.declared.rows.PlaceRow.{PlaceRow}
+use Rattle.mx_register.specs.declared.rows.ComponentRow.{ComponentRow}
 use Rattle.mx_register.specs.declared.rows.SectorRow.{SectorRow}
-use Rattle.mx_register.specs.Rows.{kind_number, FitsEntry, FitsAircraft, FitsSector}
-use Rattle.mx_tables.specs.Cells.{entry_cells, aircraft_cells, sector_cells}
+use Rattle.mx_register.specs.declared.rows.FittingRow.{FittingRow}
+use Rattle.mx_register.specs.declared.rows.RemovalRow.{RemovalRow}
+use Rattle.mx_register.specs.Rows.{kind_number, FitsEntry, FitsAircraft, FitsPlace, FitsComponent, FitsSector, FitsFitting, FitsRemoval}
+use Rattle.mx_tables.specs.Cells.{entry_cells, aircraft_cells, place_cells, component_cells, sector_cells, fitting_cells, removal_cells}
+
+-- the kind of a number, and Remove of any that is none
+abbrev kind_of : ℕ → EntryKind
+kind_of n = cond (n == 1) AddAircraft (cond (n == 2) AddComponent (cond (n == 5) Sector (cond (n == 6) Fit Remove)))
+
+kind_back : (k : EntryKind) → kind_of (kind_number k) ≡ k
+kind_back AddAircraft = refl
+kind_back AddComponent = refl
+kind_back Sector = refl
+kind_back Fit = refl
+kind_back Remove = refl
 
 kind_once : (a b : EntryKind) → kind_number a ≡ kind_number b → a ≡ b
-kind_once AddAircraft AddAircraft e = refl
-kind_once AddAircraft Sector e = absurd (omega arith)
-kind_once Sector AddAircraft e = absurd (omega arith)
-kind_once Sector Sector e = refl
+kind_once a b e = sym (kind_back a) ∙ ap kind_of e ∙ kind_back b
 
 same_entry : (a b : EntryRow) → a.seq ≡ b.seq → a.doc ≡ b.doc → a.kind ≡ b.kind → a ≡ b
 same_entry a b seq doc kind i = record { seq = seq i; doc = doc i; kind = kind i }
@@ -36,6 +48,30 @@ same_sector a b seq aircraft page line took_off landed cycles i =
 pub sector_once : (a b : SectorRow) → FitsSector a → FitsSector b → sector_cells a ≡ sector_cells b → a ≡ b
 sector_once a b fits_a fits_b e =
     same_sector a b (cc) (cc) (cc) (cc) (moment_text_injective _ _ fits_a.took_off fits_b.took_off (cc)) (moment_text_injective _ _ fits_a.landed fits_b.landed (cc)) (cc)
+
+same_place : (a b : PlaceRow) → a.seq ≡ b.seq → a.line ≡ b.line → a.position ≡ b.position → a.part ≡ b.part → a ≡ b
+same_place a b seq line position part i = record { seq = seq i; line = line i; position = position i; part = part i }
+
+pub place_once : (a b : PlaceRow) → FitsPlace a → FitsPlace b → place_cells a ≡ place_cells b → a ≡ b
+place_once a b fits_a fits_b e = same_place a b (cc) (cc) (cc) (cc)
+
+same_component : (a b : ComponentRow) → a.seq ≡ b.seq → a.serial ≡ b.serial → a.part ≡ b.part → a.birth ≡ b.birth → a.minutes ≡ b.minutes → a.cycles ≡ b.cycles → a.as_of ≡ b.as_of → a ≡ b
+same_component a b seq serial part birth minutes cycles as_of i = record { seq = seq i; serial = serial i; part = part i; birth = birth i; minutes = minutes i; cycles = cycles i; as_of = as_of i }
+
+pub component_once : (a b : ComponentRow) → FitsComponent a → FitsComponent b → component_cells a ≡ component_cells b → a ≡ b
+component_once a b fits_a fits_b e = same_component a b (cc) (cc) (cc) (cc) (cc) (cc) (cc)
+
+same_fitting : (a b : FittingRow) → a.seq ≡ b.seq → a.component ≡ b.component → a.aircraft ≡ b.aircraft → a.position ≡ b.position → a.moment ≡ b.moment → a ≡ b
+same_fitting a b seq component aircraft position moment i = record { seq = seq i; component = component i; aircraft = aircraft i; position = position i; moment = moment i }
+
+pub fitting_once : (a b : FittingRow) → FitsFitting a → FitsFitting b → fitting_cells a ≡ fitting_cells b → a ≡ b
+fitting_once a b fits_a fits_b e = same_fitting a b (cc) (cc) (cc) (cc) (moment_text_injective _ _ fits_a.moment fits_b.moment (cc))
+
+same_removal : (a b : RemovalRow) → a.seq ≡ b.seq → a.component ≡ b.component → a.moment ≡ b.moment → a ≡ b
+same_removal a b seq component moment i = record { seq = seq i; component = component i; moment = moment i }
+
+pub removal_once : (a b : RemovalRow) → FitsRemoval a → FitsRemoval b → removal_cells a ≡ removal_cells b → a ≡ b
+removal_once a b fits_a fits_b e = same_removal a b (cc) (cc) (moment_text_injective _ _ fits_a.moment fits_b.moment (cc))
 
 module _ {X : Type 0} (as_cells : X → Row) (Fits : X → Type 0) (once : (a b : X) → Fits a → Fits b → as_cells a ≡ as_cells b → a ≡ b) where
   -- lists of rows that fit, with the same cells, are one list

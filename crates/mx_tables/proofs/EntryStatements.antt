@@ -4,6 +4,7 @@ use Rattle.sqlite.specs.Listing.{understood}
 use Rattle.sqlite.specs.State.{State}
 use Rattle.sqlite_tied.specs.Compute.{everything}
 use Rattle.mx_register.specs.declared.rows.EntryRow.{EntryRow}
+use Rattle.mx_layout.specs.Reading.{by_first}
 use Rattle.mx_layout.specs.Tables.{layout_1, entry}
 use Rattle.mx_layout.proofs.RowLemmas.{cast_int, cast_null}
 use Rattle.mx_tables.specs.Cells.{entry_cells, insert_entry_text, rows_entry_text}
@@ -24,5 +25,5 @@ select_is : Scans layout_1 rows_entry_text entry
 unfolding understood everything
 select_is = (refl, refl, (refl, refl))
 
-pub entry_shows : (old new : State) → old.now.schema ≡ layout_1 → ShowsAll rows_entry_text entry old new
+pub entry_shows : (old new : State) → old.now.schema ≡ layout_1 → ShowsAll rows_entry_text entry by_first old new
 entry_shows = shows_all layout_1 rows_entry_text entry select_is refl (λ _. refl) (λ _. refl)

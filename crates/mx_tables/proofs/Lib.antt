@@ -4,3 +4,9 @@ pub mod ColumnLemmas
 pub mod EntryStatements
 pub mod AircraftStatements
 pub mod SectorStatements
+pub mod ComponentStatements
+pub mod FittingStatements
+pub mod RemovalStatements
+pub mod CompoundLemmas
+pub mod PlaceStatements
+pub mod PlaceLemmas

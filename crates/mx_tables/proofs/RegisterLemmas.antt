@@ -19,11 +19,11 @@ use Rattle.mx_layout.specs.declared.fault.Table.{Table as Name}
 use Rattle.mx_layout.specs.declared.fault.TableFault.{TableFault}
 use Rattle.mx_layout.specs.declared.fault.TableFault.TheVariants.{Memory, Store, NotOurs, Exists, Damaged}
 use Rattle.mx_layout.specs.Contents.{cells}
-use Rattle.mx_layout.specs.Reading.{HasOther, IsRowOf}
+use Rattle.mx_layout.specs.Reading.{HasOther, IsRowOf, by_first}
 use Rattle.std.specs.List.Sorted.{IsPermutation}
 use Rattle.std.proofs.lemmas.List.Sorted.{All-permutation}
 use Rattle.std.proofs.lemmas.List.Elements.{All-map, All-weaker, All-contains}
-use Rattle.mx_layout.proofs.ReadLemmas.{scan, reads_all, reads_unchanged}
+use Rattle.mx_layout.proofs.ReadLemmas.{scan, first_key, sorts_by_first, reads_all, reads_unchanged}
 use Rattle.mx_layout.proofs.WriteLemmas.{added, inserts, uncounted}
 use Rattle.mx_layout.proofs.InsideLemmas.{gains}
 use Rattle.mx_tables.specs.Registers.{ShowsAll, AddsRow, OnDamaged, OnRead}
@@ -63,10 +63,10 @@ StoresOne table row = (db : Trees) → (added db table (added_terms table) (suc 
 
 pub shows_all : (schema : Schema) (text : List ℕ) (table : Table) → Scans schema text table
     → (λ (r : Row). eval_all (shown_terms table) ([] ∷ r ∷ [])) ≡ cells table → ((r : Row) → column r 0 ≡ column (eval_all (shown_terms table) ([] ∷ r ∷ [])) 0)
-    → ((db : Trees) → overlay db [] table.tree ≡ db table.tree) → (old new : State) → old.now.schema ≡ schema → ShowsAll text table old new
+    → ((db : Trees) → overlay db [] table.tree ≡ db table.tree) → (old new : State) → old.now.schema ≡ schema → ShowsAll text table by_first old new
 shows_all schema text table is shows keyed low old new has = record {
-  all = reads_all schema text table (shown_terms table) (map (λ (c : Column). c.name) table.columns) shows keyed is.0 is.1 is.2 low old new has;
-  same = reads_unchanged schema text table (shown_terms table) (map (λ (c : Column). c.name) table.columns) shows keyed is.0 is.1 is.2 low old new has;
+  all = reads_all first_key by_first schema text table (shown_terms table) (map (λ (c : Column). c.name) table.columns) shows (sorts_by_first (shown_terms table) keyed) is.0 is.1 is.2 low old new has;
+  same = reads_unchanged first_key by_first schema text table (shown_terms table) (map (λ (c : Column). c.name) table.columns) shows (sorts_by_first (shown_terms table) keyed) is.0 is.1 is.2 low old new has;
 }
 
 pub adds_row : (schema : Schema) (at : ℕ) (table : Table) (text : List ℕ) (row : Row) → AddsOne schema text at (uncounted table)

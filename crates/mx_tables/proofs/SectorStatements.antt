@@ -4,6 +4,7 @@ use Rattle.sqlite.specs.Listing.{understood}
 use Rattle.sqlite.specs.State.{State}
 use Rattle.sqlite_tied.specs.Compute.{everything}
 use Rattle.mx_register.specs.declared.rows.SectorRow.{SectorRow}
+use Rattle.mx_layout.specs.Reading.{by_first}
 use Rattle.mx_layout.specs.Tables.{layout_1, sector1}
 use Rattle.mx_layout.proofs.RowLemmas.{cast_int, cast_null}
 use Rattle.mx_tables.specs.Cells.{sector_cells, insert_sector1_text, rows_sector1_text}
@@ -24,5 +25,5 @@ select_is : Scans layout_1 rows_sector1_text sector1
 unfolding understood everything
 select_is = (refl, refl, (refl, refl))
 
-pub sector1_shows : (old new : State) → old.now.schema ≡ layout_1 → ShowsAll rows_sector1_text sector1 old new
+pub sector1_shows : (old new : State) → old.now.schema ≡ layout_1 → ShowsAll rows_sector1_text sector1 by_first old new
 sector1_shows = shows_all layout_1 rows_sector1_text sector1 select_is refl (λ _. refl) (λ _. refl)

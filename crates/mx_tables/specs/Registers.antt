@@ -1,17 +1,18 @@
 -- What a text does to a table: it shows all of its rows, or it adds one row.
 use Rattle.std.specs.Prelude.{ℕ, List, [], Result, Ok, Err, OnOk}
+use Rattle.std.specs.declared.cmp.Ordering.{Ordering}
 use Rattle.sqlite.specs.Order.{Row}
 use Rattle.sqlite.specs.Table.{Table}
 use Rattle.sqlite.specs.State.{State, Shown, IsUnchanged, ExecutesInside}
 use Rattle.sqlite.specs.declared.error.Error.{Error}
 use Rattle.mx_layout.specs.declared.fault.TableFault.{TableFault}
 use Rattle.mx_layout.specs.declared.fault.TableFault.TheVariants.{Damaged}
-use Rattle.mx_layout.specs.Reading.{AreAll}
+use Rattle.mx_layout.specs.Reading.{AreAllBy}
 use Rattle.mx_layout.specs.Writing.{Gains}
 
--- between these states the text shows all rows of the table, in the order of the first column, and changes nothing
-pub record ShowsAll (text : List ℕ) (table : Table) (old new : State) : Type 0 where
-  pub all : (rows : List Row) → Shown text [] old new rows → AreAll table old.now.trees rows
+-- between these states the text shows all rows of the table, in this order, and changes nothing
+pub record ShowsAll (text : List ℕ) (table : Table) (order : Row → Row → Ordering) (old new : State) : Type 0 where
+  pub all : (rows : List Row) → Shown text [] old new rows → AreAllBy order table old.now.trees rows
   pub same : (rows : List Row) → Shown text [] old new rows → IsUnchanged old new
 
 -- between these states the text, with these values, adds the row to the table

@@ -1,6 +1,6 @@
 //! The tables as sets of typed rows. SQL for rows is in this crate and in no crate above it: there a table
-//! is what `rows_*` gives, in the order of its first column, and `insert_*` adds one row to it. Each call
-//! is made inside a `Transaction`, which the caller commits or drops.
+//! is what `rows_*` gives, in the order of its key, and `insert_*` adds one row to it. Each call is made
+//! inside a `Transaction`, which the caller commits or drops.
 //!
 //! # What is promised
 //!
@@ -12,15 +12,16 @@
 //!
 //! # To add a table
 //!
-//! For a table whose first column is its `INTEGER PRIMARY KEY`, and whose row type stands in `mx_register`
-//! with its `Fits`:
+//! For a table whose row type stands in `mx_register` with its `Fits`. Its key is its first column, an
+//! `INTEGER PRIMARY KEY`, or its first two, a `PRIMARY KEY` of both; where it is two, the last paragraph
+//! says what differs.
 //!
 //! 1. In `specs/Cells.antt`: the cells of a row, in the order of the columns, and the two texts.
 //! 2. `src/NOUN.rt`, from one that is there: the `Register` of the row type, whose `read` tests the number of
 //!    columns and takes each by a function of `column.rt`; `rows_TABLE`, with the text that shows all in the
-//!    order of the first column; `insert_TABLE`, which takes the row apart and passes each value in the
-//!    order of the columns. A kind of value that no table has had needs a function in `column.rt`, whose
-//!    contract says of what values it gives `None`.
+//!    order of the key; `insert_TABLE`, which takes the row apart and passes each value in the order of the
+//!    columns. A kind of value that no table has had needs a function in `column.rt`, whose contract says
+//!    of what values it gives `None`.
 //! 3. `proofs/NOUNStatements.antt`, from one that is there, with the names changed and the place of the
 //!    table in the layout: what the two texts mean there, computed by `refl`, and the two lemmas
 //!    `TABLE_adds` and `TABLE_shows`. Where a `refl` is refused, the text and the table differ.
@@ -30,20 +31,32 @@
 //! 6. Must-fail edits: two columns swapped in either text, two values swapped in `insert_TABLE` or `read`, a
 //!    text with no ORDER BY or with a LIMIT, the name of another table.
 //!
-//! Each of the first three tables cost 110 lines of code, most of them clauses, 11 of definitions and 67 of
-//! proofs, and 7 seconds of a check from nothing, which took 37 seconds and 1.2 GB for the three.
+//! Each of the first seven tables cost 90 to 110 lines of code, most of them clauses, 11 of definitions and
+//! 60 to 70 of proofs, and 7 seconds of a check from nothing, which took 66 seconds and 1.2 GB for the seven.
 //!
-//! A table with a compound key, or with columns that may be NULL, needs more: `RegisterLemmas` states what
-//! an insert stores and what a reader shows where the first column is the rowid, and sorts by that column.
+//! Where the key is the first two columns, as of `place`, a row is stored behind a rowid that the database
+//! chooses. `src/NOUN.rt` says ORDER BY both columns, and `AreAllByTwo` where the others say `AreAll`;
+//! `PlaceStatements` is the one to start from, over `CompoundLemmas` where the others have `RegisterLemmas`.
+//! The layers above identify a list by one number a row, so a key is added to `specs/Cells.antt`
+//! (`place_key`), and `PlaceLemmas` shows that the rows that were read ascend by it. That costs 3 lines of
+//! definitions and 54 of proofs beside the others.
+//!
+//! A table with columns that may be NULL needs more: no function of `column.rt` reads one.
 #![tactic(auto)]
 
 mod aircraft;
 mod column;
+mod component;
 mod entry;
+mod fitting;
+mod place;
 mod register;
 mod sector;
 
 pub use aircraft::{insert_aircraft, rows_aircraft};
+pub use component::{insert_component, rows_component};
 pub use entry::{insert_entry, rows_entry};
+pub use fitting::{insert_fit1, insert_removal1, rows_fit1, rows_removal1};
+pub use place::{insert_place, rows_place};
 pub use register::Register;
 pub use sector::{insert_sector1, rows_sector1};

@@ -1,5 +1,6 @@
 //! A table as a set of rows of one type: all of them are read, and one is added.
 ghost use Rattle.std.specs.Prelude.{◌≡◌, ◌≢◌, ◌⊎◌, [], List, map, All, IsTrue, OnOk, IfOk, IfErr, MatchOption};
+ghost use Rattle.std.specs.declared.cmp.Ordering.{Ordering};
 ghost use Rattle.sqlite.specs.declared.types.Value.{Value};
 ghost use Rattle.sqlite.specs.Table.{Table as SqlTable};
 ghost use Rattle.sqlite.specs.Values.{bound};
@@ -7,7 +8,7 @@ ghost use Rattle.sqlite.specs.State.{HasCleanDisk, IsUnchanged};
 ghost use Rattle.sqlite.specs.Held.{state};
 ghost use Rattle.mx_layout.specs.Contents.{rows_in};
 ghost use Rattle.mx_layout.specs.Crash.{StaysInside, IsWithin};
-ghost use Rattle.mx_layout.specs.Reading.{AreAll, HasOther, IsRowOf};
+ghost use Rattle.mx_layout.specs.Reading.{AreAllBy, HasOther, IsRowOf};
 ghost use Rattle.mx_layout.specs.Writing.{Gains};
 ghost use Rattle.mx_tables.specs.Registers.{ShowsAll, AddsRow, OnRead};
 
@@ -51,8 +52,7 @@ fn typed<R: Register + Drop>(
     Ok(rows)
 }
 
-/// All rows of a table, by a text that shows them in the order of the first column. `Damaged` with the
-/// table where a row is none of the type.
+/// All rows of a table, by a text that shows them. `Damaged` with the table where a row is none of the type.
 pub(crate) fn read_rows<S: Alter, R: Register + Drop>(
     alloc: Global,
     tx: &mut Transaction<'_, S>,
@@ -62,13 +62,13 @@ pub(crate) fn read_rows<S: Alter, R: Register + Drop>(
     ensures same_reference { tx.new.conn.ghost_name ≡ tx.old.conn.ghost_name }
     ensures inside { HasCleanDisk (state S.Store tx.new.conn.now) → IsTrue (state S.Store tx.old.conn.now).in_transaction
         → OnRead result (StaysInside (state S.Store tx.old.conn.now) (state S.Store tx.new.conn.now)) }
-    ensures rows { (shown : SqlTable) → ShowsAll sql.now shown (state S.Store tx.old.conn.now) (state S.Store tx.new.conn.now) → HasCleanDisk (state S.Store tx.new.conn.now)
-        → IfOk result (λ rows. AreAll shown (state S.Store tx.old.conn.now).now.trees (map R.cells rows.items)) }
+    ensures rows { (shown : SqlTable) (order : List Value → List Value → Ordering) → ShowsAll sql.now shown order (state S.Store tx.old.conn.now) (state S.Store tx.new.conn.now) → HasCleanDisk (state S.Store tx.new.conn.now)
+        → IfOk result (λ rows. AreAllBy order shown (state S.Store tx.old.conn.now).now.trees (map R.cells rows.items)) }
     ensures fits { IfOk result (λ rows. All R.Fits rows.items) }
-    ensures unchanged { (shown : SqlTable) → ShowsAll sql.now shown (state S.Store tx.old.conn.now) (state S.Store tx.new.conn.now) → HasCleanDisk (state S.Store tx.new.conn.now)
+    ensures unchanged { (shown : SqlTable) (order : List Value → List Value → Ordering) → ShowsAll sql.now shown order (state S.Store tx.old.conn.now) (state S.Store tx.new.conn.now) → HasCleanDisk (state S.Store tx.new.conn.now)
         → OnRead result (IsUnchanged (state S.Store tx.old.conn.now) (state S.Store tx.new.conn.now)) }
     ensures cause { IfErr result (λ e. (e ≡ TableFault.Memory) ⊎ ((e ≡ TableFault.Store) ⊎ (e ≡ TableFault.Damaged table))) }
-    ensures damaged { (shown : SqlTable) → ShowsAll sql.now shown (state S.Store tx.old.conn.now) (state S.Store tx.new.conn.now) → HasCleanDisk (state S.Store tx.new.conn.now)
+    ensures damaged { (shown : SqlTable) (order : List Value → List Value → Ordering) → ShowsAll sql.now shown order (state S.Store tx.old.conn.now) (state S.Store tx.new.conn.now) → HasCleanDisk (state S.Store tx.new.conn.now)
         → result ≡ Err (TableFault.Damaged table) → HasOther (IsRowOf R.cells R.Fits) (rows_in shown (state S.Store tx.old.conn.now).now.trees) }
     ensures within { IsWithin (state S.Store tx.old.conn.now) (state S.Store tx.new.conn.now) }
 {

@@ -4,10 +4,10 @@ use Rattle.mx_tables.proofs.EntryStatements.{entry_shows}
 use Rattle.mx_tables.proofs.entry.rows_entry.Goals as goal
 
 pub returns-clause-rows : goal.returns-clause-rows
-returns-clause-rows g c clean has = c.read_rows.ensures.rows entry (entry_shows (state g.S.Store c.args.tx.now.conn.now) (state g.S.Store c.read_rows.new.tx.conn.now) has) clean
+returns-clause-rows g c clean has = c.read_rows.ensures.rows entry _ (entry_shows (state g.S.Store c.args.tx.now.conn.now) (state g.S.Store c.read_rows.new.tx.conn.now) has) clean
 
 pub returns-clause-unchanged : goal.returns-clause-unchanged
-returns-clause-unchanged g c clean has = c.read_rows.ensures.unchanged entry (entry_shows (state g.S.Store c.args.tx.now.conn.now) (state g.S.Store c.read_rows.new.tx.conn.now) has) clean
+returns-clause-unchanged g c clean has = c.read_rows.ensures.unchanged entry _ (entry_shows (state g.S.Store c.args.tx.now.conn.now) (state g.S.Store c.read_rows.new.tx.conn.now) has) clean
 
 pub returns-clause-damaged : goal.returns-clause-damaged
-returns-clause-damaged g c clean has = c.read_rows.ensures.damaged entry (entry_shows (state g.S.Store c.args.tx.now.conn.now) (state g.S.Store c.read_rows.new.tx.conn.now) has) clean
+returns-clause-damaged g c clean has = c.read_rows.ensures.damaged entry _ (entry_shows (state g.S.Store c.args.tx.now.conn.now) (state g.S.Store c.read_rows.new.tx.conn.now) has) clean

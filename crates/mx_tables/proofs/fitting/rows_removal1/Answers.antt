@@ -1,0 +1,13 @@
+use Rattle.sqlite.specs.Held.{state}
+use Rattle.mx_layout.specs.Tables.{removal1}
+use Rattle.mx_tables.proofs.RemovalStatements.{removal1_shows}
+use Rattle.mx_tables.proofs.fitting.rows_removal1.Goals as goal
+
+pub returns-clause-rows : goal.returns-clause-rows
+returns-clause-rows g c clean has = c.read_rows.ensures.rows removal1 _ (removal1_shows (state g.S.Store c.args.tx.now.conn.now) (state g.S.Store c.read_rows.new.tx.conn.now) has) clean
+
+pub returns-clause-unchanged : goal.returns-clause-unchanged
+returns-clause-unchanged g c clean has = c.read_rows.ensures.unchanged removal1 _ (removal1_shows (state g.S.Store c.args.tx.now.conn.now) (state g.S.Store c.read_rows.new.tx.conn.now) has) clean
+
+pub returns-clause-damaged : goal.returns-clause-damaged
+returns-clause-damaged g c clean has = c.read_rows.ensures.damaged removal1 _ (removal1_shows (state g.S.Store c.args.tx.now.conn.now) (state g.S.Store c.read_rows.new.tx.conn.now) has) clean

@@ -1,0 +1,13 @@
+use Rattle.sqlite.specs.Held.{state}
+use Rattle.mx_layout.specs.Tables.{place}
+use Rattle.mx_tables.proofs.PlaceStatements.{place_shows}
+use Rattle.mx_tables.proofs.place.rows_place.Goals as goal
+
+pub returns-clause-rows : goal.returns-clause-rows
+returns-clause-rows g c clean has = c.read_rows.ensures.rows place _ (place_shows (state g.S.Store c.args.tx.now.conn.now) (state g.S.Store c.read_rows.new.tx.conn.now) has) clean
+
+pub returns-clause-unchanged : goal.returns-clause-unchanged
+returns-clause-unchanged g c clean has = c.read_rows.ensures.unchanged place _ (place_shows (state g.S.Store c.args.tx.now.conn.now) (state g.S.Store c.read_rows.new.tx.conn.now) has) clean
+
+pub returns-clause-damaged : goal.returns-clause-damaged
+returns-clause-damaged g c clean has = c.read_rows.ensures.damaged place _ (place_shows (state g.S.Store c.args.tx.now.conn.now) (state g.S.Store c.read_rows.new.tx.conn.now) has) clean
