@@ -1,0 +1,164 @@
+#!/usr/bin/env python3
+"""Kills the built program at random moments of its run, and looks at the file that each kill leaves.
+
+Run by hand: scripts/kill.py [KILLS], with 50 kills of each word where no number is given, and the program in
+./office at the top of the repository or at the path in OFFICE. After each kill SQLite itself (Python's module
+sqlite3) reads a copy of the file with its log, and then the program is asked on the file itself. A kill counts where
+it ended a process that was still running. The last line says how many did; the status is 1 where one left a file
+that is neither the one from before nor the one from after, or lost what was acknowledged.
+"""
+import os
+import random
+import shutil
+import sqlite3
+import subprocess
+import sys
+import tempfile
+import time
+from pathlib import Path
+
+PROGRAM = os.path.abspath(os.environ.get("OFFICE", Path(__file__).parent.parent / "office"))
+
+TABLES = {
+    "office", "entry", "aircraft", "place", "component", "programme", "task", "opening", "crs", "crs_line",
+    "extension", "defect", "sector1", "fit1", "removal1",
+}
+
+
+class Bad(Exception):
+    """What a kill left that it may not leave."""
+
+
+def want(what, wanted, found):
+    if wanted != found:
+        raise Bad(f"{what}: wanted {wanted!r}, found {found!r}")
+
+
+def run(*words):
+    """The status, standard output and standard error of the program on these words."""
+    done = subprocess.run([PROGRAM, *map(str, words)], capture_output=True, text=True, timeout=60)
+    return done.returncode, done.stdout, done.stderr
+
+
+def is_half_made(file):
+    """Whether the file is the first page of a database whose first letter is still to be written. The program makes
+    such a file anew; SQLite itself refuses it, since it does not know the mark in the log beside it."""
+    content = file.read_bytes()
+    return 0 < len(content) <= 4096 and content[0] == 0
+
+
+def tables_by_sqlite(file):
+    """The tables that SQLite finds in a sound copy of the file and its log."""
+    copy = file.with_name("copy.db")
+    log, log_copy = Path(f"{file}-wal"), Path(f"{copy}-wal")
+    shutil.copyfile(file, copy)
+    if log.exists():
+        shutil.copyfile(log, log_copy)
+    conn = sqlite3.connect(copy)
+    try:
+        want("integrity_check", [("ok",)], conn.execute("PRAGMA integrity_check").fetchall())
+        return {name for (name,) in conn.execute("SELECT name FROM sqlite_schema WHERE type = 'table'")}
+    except sqlite3.Error as error:
+        raise Bad(f"SQLite: {error}") from error
+    finally:
+        conn.close()
+        for left in (copy, log_copy, Path(f"{copy}-shm")):
+            left.unlink(missing_ok=True)
+
+
+class Init:
+    """`init FILE`: the file is without our tables, or has those of the empty book."""
+
+    name = "init"
+
+    def before(self, file):
+        """What the file holds before the word: it isn't there."""
+
+    def words(self, file):
+        return ["init", file]
+
+    def after(self, file, printed):
+        """Looks at the file that a kill left, after the program printed this. Answers what it is."""
+        if not file.exists():
+            found, tables = "no file", set()
+        elif is_half_made(file):
+            found, tables = "a first page without its first letter", set()
+        else:
+            tables = tables_by_sqlite(file)
+            found = "the whole book" if tables else "a file without tables"
+        if tables not in (set(), TABLES):
+            raise Bad(f"half of the tables: {sorted(tables)}")
+        if printed == "created\n" and not tables:
+            raise Bad("an acknowledged book is lost")
+        again = (5, "", "fault exists\n") if tables else (0, "created\n", "")
+        want("init once more", again, run("init", file))
+        want("the tables then", TABLES, tables_by_sqlite(file))
+        want("life", (1, "refused 20\n", ""), run("life", file, "D-ABCD"))
+        return found
+
+
+# A word that enters commands has a class beside Init: `before` makes the file and enters what it holds, `words` are
+# the words that are killed, and `after` compares the entries with those that were acknowledged.
+WORDS = [Init()]
+
+
+def seconds_of(word, folder):
+    """How long the word runs where nothing stops it: the longest of five."""
+    longest = 0.0
+    for nth in range(5):
+        file = folder / f"whole{nth}.db"
+        word.before(file)
+        begun = time.monotonic()
+        want(f"the status of {word.name}", 0, run(*word.words(file))[0])
+        longest = max(longest, time.monotonic() - begun)
+    return longest
+
+
+def kill_once(word, file, longest):
+    """Runs the word and kills it. Answers what it printed, and whether it was still running."""
+    child = subprocess.Popen(
+        [PROGRAM, *map(str, word.words(file))], stdout=subprocess.PIPE, stderr=subprocess.DEVNULL, text=True
+    )
+    time.sleep(random.uniform(0.0, longest))
+    child.kill()
+    printed, _ = child.communicate()
+    return printed, child.returncode == -9
+
+
+def kill_often(word, folder, kills):
+    """Kills the word until so many kills have hit a running process. Answers how often each thing was left."""
+    longest = seconds_of(word, folder)
+    left, hits, runs = {}, 0, 0
+    while hits < kills:
+        runs += 1
+        if runs > 20 * kills:
+            raise Bad(f"only {hits} of {runs} kills hit a running process")
+        file = folder / f"{word.name}{runs}.db"
+        word.before(file)
+        printed, was_running = kill_once(word, file, longest)
+        found = word.after(file, printed)
+        if was_running:
+            hits += 1
+            left[found] = left.get(found, 0) + 1
+    return left, hits, runs
+
+
+def main():
+    kills = int(sys.argv[1]) if len(sys.argv) > 1 else 50
+    total = 0
+    with tempfile.TemporaryDirectory() as folder:
+        for word in WORDS:
+            try:
+                left, hits, runs = kill_often(word, Path(folder), kills)
+            except Bad as bad:
+                print(f"{word.name}: {bad}")
+                return 1
+            total += hits
+            found = ", ".join(f"{count} left {what}" for what, count in sorted(left.items()))
+            print(f"{word.name}: {runs} runs, {hits} killed while running: {found}")
+    print(f"{total} kills, none lost")
+    return 0
+
+
+if __name__ == "__main__":
+    sys.exit(main())
