@@ -73,11 +73,11 @@ stands_entered old new book command has stands shape is_new fits gains =
         is_book = IsBook-entered book command stands.is_book shape is_new;
         fit = FitBook-more book command stands.fit fits;
         tables = λ name.
-          let before = rows_given book name in
-          let added = rows_added book command name in
-          let stored = rows_in (table_named name) old.trees in
-          let gained = subst (λ rows. IsPermutation (rows ++ stored) (rows_in (table_named name) new.trees)) (among_all book command name) (gains.tables name) in
-          subst (λ rows. IsPermutation rows (rows_in (table_named name) new.trees)) (sym (rows_given-more book command name))
-          (IsPermutation-trans (before ++ added) (added ++ before) _ (IsPermutation-append_comm before added) (IsPermutation-trans (added ++ before) (added ++ stored) _ (IsPermutation-append_right added before stored (stands.tables name)) gained));
+            let before = rows_given book name in
+            let added = rows_added book command name in
+            let stored = rows_in (table_named name) old.trees in
+            let gained = subst (λ rows. IsPermutation (rows ++ stored) (rows_in (table_named name) new.trees)) (among_all book command name) (gains.tables name) in
+            subst (λ rows. IsPermutation rows (rows_in (table_named name) new.trees)) (sym (rows_given-more book command name))
+            (IsPermutation-trans (before ++ added) (added ++ before) _ (IsPermutation-append_comm before added) (IsPermutation-trans (added ++ before) (added ++ stored) _ (IsPermutation-append_right added before stored (stands.tables name)) gained));
       },
     )

@@ -148,7 +148,10 @@ fn add_fitting<S: Alter>(
         Some(fitting) => {
             let component = seq_of_serial(book, &fitting.serial).unwrap_or(0);
             let aircraft = seq_of_tail(book, &fitting.tail).unwrap_or(0);
-            insert_fit1(tx, &fitting_row(book.len() + 1, component, aircraft, fitting))
+            insert_fit1(
+                tx,
+                &fitting_row(book.len() + 1, component, aircraft, fitting),
+            )
         }
     }
 }
