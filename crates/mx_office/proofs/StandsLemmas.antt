@@ -12,7 +12,7 @@ use Rattle.mx_command.specs.Shape.{has_shape}
 use Rattle.mx_book.specs.declared.verdict.Verdict.TheVariants.{New}
 use Rattle.mx_book.specs.Judge.{judge}
 use Rattle.mx_book.proofs.JudgeLemmas.{IsBook-entered}
-use Rattle.mx_register.specs.Registers.{gives_by, entry_rows, aircraft_rows, place_rows, component_rows, sector_rows, fitting_rows, removal_rows, entry_added, aircraft_by, places_by, components_by, sectors_by, fittings_by, removals_by, FitsNext}
+use Rattle.mx_register.specs.Registers.{gives_by, entry_rows, entry_added, aircraft_by, places_by, components_by, sectors_by, fittings_by, removals_by, FitsNext}
 use Rattle.mx_register.proofs.RegisterLemmas.{entry_rows-more, gives_by-more, FitBook-more}
 use Rattle.mx_layout.specs.declared.fault.Table.{Table as Name}
 use Rattle.mx_layout.specs.declared.fault.Table.TheVariants.{Office, Entry, Aircraft, Place, Component, Programme, Task, Opening, Crs, CrsLine, Extension, Defect, Sector1, Fit1, Removal1}

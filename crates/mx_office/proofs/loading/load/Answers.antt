@@ -1,4 +1,3 @@
-use Rattle.sqlite.specs.Held.{state}
 use Rattle.mx_office.proofs.LoadLemmas.{found_book, found_none, stops_loading}
 use Rattle.mx_office.proofs.loading.load.Goals as goal
 

@@ -1,5 +1,4 @@
-use Rattle.std.proofs.Common.{ℕ, ◌+◌, [], ◌∷◌, ap, sym, ◌∙◌}
-use Rattle.sqlite.specs.Held.{state}
+use Rattle.std.proofs.Common.{◌+◌, [], ◌∷◌, ap, sym, ◌∙◌}
 use Rattle.mx_layout.specs.declared.fault.Table.TheVariants as named
 use Rattle.mx_register.specs.Registers.{entry_row}
 use Rattle.mx_tables.specs.Cells.{entry_cells}

@@ -1,5 +1,3 @@
-use Rattle.std.proofs.Common.{ℕ, ◌+◌, ap, sym, ◌∙◌}
-use Rattle.sqlite.specs.Held.{state}
 use Rattle.mx_layout.specs.declared.fault.Table.TheVariants as named
 use Rattle.mx_register.specs.Names.{or_zero, seq_of_serial, seq_of_tail}
 use Rattle.mx_register.specs.Registers.{fitting_row}
