@@ -5,3 +5,4 @@ pub mod ReopenLemmas
 pub mod RunLemmas
 pub mod StandsLemmas
 pub mod AnswerLemmas
+pub mod Worked

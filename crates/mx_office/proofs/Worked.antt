@@ -1,0 +1,84 @@
+-- Worked examples: the rows that the tables of the worked book have, and what opening answers over a point.
+use Rattle.std.proofs.Common.{refl, ◌≡◌, ℕ, pos, List, [], ◌∷◌, Some, None}
+use Rattle.std.specs.Prelude.{codes}
+use Rattle.std.specs.Fmt.{digits}
+use Rattle.sqlite.specs.Order.{Row}
+use Rattle.sqlite.specs.declared.types.Value.{Value}
+use Rattle.sqlite.specs.declared.types.Value.TheVariants.{Int, Text}
+use Rattle.mx_base.specs.Calendar.{date_of}
+use Rattle.mx_base.specs.Texts.{moment_text, day_text}
+use Rattle.mx_command.specs.declared.item.Item.TheVariants as item
+use Rattle.mx_book.specs.declared.verdict.Refusal.TheVariants.{UnknownAircraft, UnknownComponent}
+use Rattle.mx_book.proofs.WorkedFittings.{replaced}
+use Rattle.mx_layout.specs.declared.fault.Table.TheVariants.{Office, Entry, Aircraft, Place, Component, Programme, Sector1, Fit1, Removal1}
+use Rattle.mx_office.specs.declared.fault.OpenFault.TheVariants as unopened
+use Rattle.mx_office.specs.Faults.{open_answer, unknown}
+use Rattle.mx_office.specs.Stands.{rows_given}
+
+number : ℕ → Value
+number n = Int (pos n)
+
+-- ── D-ABCD with two engines, one of them replaced after a sector ──
+
+at_the_first_point : rows_given replaced Office ≡ (number 1 ∷ number 1 ∷ number 0 ∷ number 0 ∷ []) ∷ []
+unfolding number
+at_the_first_point = refl
+
+seven_entries : rows_given replaced Entry
+    ≡ (number 1 ∷ Text (codes "A1") ∷ number 1 ∷ []) ∷ (number 2 ∷ Text (codes "C1") ∷ number 2 ∷ []) ∷ (number 3 ∷ Text (codes "C2") ∷ number 2 ∷ []) ∷ (number 4 ∷ Text (codes "F1") ∷ number 6 ∷ [])
+    ∷ (number 5 ∷ Text (codes "TL/D-ABCD/12/1") ∷ number 5 ∷ []) ∷ (number 6 ∷ Text (codes "R1") ∷ number 7 ∷ []) ∷ (number 7 ∷ Text (codes "F2") ∷ number 6 ∷ []) ∷ []
+unfolding number
+seven_entries = refl
+
+one_aircraft : rows_given replaced Aircraft ≡ (number 1 ∷ Text (codes "D-ABCD") ∷ Text (codes "C172") ∷ number 10957 ∷ number 60000 ∷ number 800 ∷ number 28401120 ∷ []) ∷ []
+unfolding number
+one_aircraft = refl
+
+two_positions : rows_given replaced Place ≡ (number 1 ∷ number 1 ∷ Text (codes "ENG") ∷ Text (codes "IO360") ∷ []) ∷ (number 1 ∷ number 2 ∷ Text (codes "PROP") ∷ Text (codes "HC2") ∷ []) ∷ []
+unfolding number
+two_positions = refl
+
+two_engines : rows_given replaced Component
+    ≡ (number 2 ∷ Text (codes "E1") ∷ Text (codes "IO360") ∷ number 14610 ∷ number 1000 ∷ number 100 ∷ number 28401120 ∷ [])
+    ∷ (number 3 ∷ Text (codes "E2") ∷ Text (codes "IO360") ∷ number 14610 ∷ number 1000 ∷ number 100 ∷ number 28401120 ∷ []) ∷ []
+unfolding number
+two_engines = refl
+
+one_sector : rows_given replaced Sector1 ≡ (number 5 ∷ number 1 ∷ number 12 ∷ number 1 ∷ Text (codes "2024-03-01T08:00") ∷ Text (codes "2024-03-01T09:30") ∷ number 1 ∷ []) ∷ []
+unfolding number digits moment_text day_text date_of
+one_sector = refl
+
+two_fittings : rows_given replaced Fit1
+    ≡ (number 4 ∷ number 2 ∷ number 1 ∷ Text (codes "ENG") ∷ Text (codes "2024-02-01T00:00") ∷ []) ∷ (number 7 ∷ number 3 ∷ number 1 ∷ Text (codes "ENG") ∷ Text (codes "2024-03-01T09:30") ∷ []) ∷ []
+unfolding number digits moment_text day_text date_of
+two_fittings = refl
+
+one_removal : rows_given replaced Removal1 ≡ (number 6 ∷ number 2 ∷ Text (codes "2024-03-01T09:30") ∷ []) ∷ []
+unfolding number digits moment_text day_text date_of
+one_removal = refl
+
+no_programme : rows_given replaced Programme ≡ []
+no_programme = refl
+
+-- ── what opening answers ──
+
+opens_at_the_first_point : open_answer (record { layout = 1; step = 0; mark = 0 }) ≡ None
+opens_at_the_first_point = refl
+
+newer : open_answer (record { layout = 9; step = 7; mark = 3 }) ≡ Some (unopened.NewerLayout 9)
+newer = refl
+
+on_the_way : open_answer (record { layout = 1; step = 1; mark = 67 }) ≡ Some (unopened.Damaged Office)
+on_the_way = refl
+
+no_layout : open_answer (record { layout = 0; step = 0; mark = 0 }) ≡ Some (unopened.Damaged Office)
+no_layout = refl
+
+a_mark_at_no_step : open_answer (record { layout = 1; step = 0; mark = 1 }) ≡ Some (unopened.Damaged Office)
+a_mark_at_no_step = refl
+
+unknown_tail : unknown (item.Airframe (codes "D-NONE")) ≡ UnknownAircraft
+unknown_tail = refl
+
+unknown_serial : unknown (item.Component (codes "E9")) ≡ UnknownComponent
+unknown_serial = refl
