@@ -3,3 +3,4 @@ pub mod CalendarLemmas
 pub mod IdentifierLemmas
 pub mod RoundTrips
 pub mod TextLemmas
+pub mod Worked
