@@ -1,2 +1,3 @@
 pub mod DocumentLemmas
 pub mod SameLemmas
+pub mod Worked

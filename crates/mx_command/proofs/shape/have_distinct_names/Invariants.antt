@@ -1,4 +1,4 @@
-use Rattle.std.proofs.Common.{◌≡◌, ℕ, length}
+use Rattle.std.proofs.Common.{◌≡◌, length}
 use Rattle.mx_command.specs.Shape.{are_distinct, same_name}
 use Rattle.mx_command.proofs.shape.have_distinct_names.Given as goal
 
