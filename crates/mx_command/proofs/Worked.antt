@@ -1,11 +1,12 @@
 -- Worked commands: at the ends of their shapes, with their documents, and what bodies say, computed from the definitions.
 use Rattle.std.proofs.Common.{refl, ◌≡◌, ℕ, suc, zero, ◌+◌, List, [], ◌∷◌, true, false, Some, None}
-use Rattle.std.specs.Prelude.{codes}
+use Rattle.std.specs.Prelude.{codes, is_some}
 use Rattle.std.specs.Fmt.{digits}
 use Rattle.std.specs.List.{list_all, list_any}
 use Rattle.mx_base.specs.declared.amounts.Use.{Use}
-use Rattle.mx_command.specs.Act.{Act, Entry, Added, Listed, Flown, Fitted, Removed}
+use Rattle.mx_command.specs.Act.{Act, Entry, act_of, Added, Listed, Flown, Fitted, Removed, aircraft_of, positions_of, component_of, sector_of, fitting_of, removal_of}
 use Rattle.mx_command.specs.Shape.{opening_shape, sector_shape, positions_shape, act_shape, is_log_doc, sector_doc, has_shape, is_sector_shaped, sector_entry}
+use Rattle.mx_command.specs.declared.body.Body.TheVariants.{AddComponent, Sector as FlewSector, Fit, Remove}
 use Rattle.mx_command.specs.declared.sector.Sector.{Sector}
 
 abbrev abcd : List ℕ
@@ -144,3 +145,53 @@ sectors_alone = refl
 
 sector_is_shaped : is_sector_shaped (Flown (sector 12 1 90 1)) ≡ true
 sector_is_shaped = refl
+
+-- ── what is said ──
+
+-- each is shown of its own kind of command, and of no other
+aircraft_added : aircraft_of (aircraft_with 800) ≡ Some (record { tail = abcd; kind = codes "C172"; birth = 10957; opening = used 60000 800; as_of = 28_401_120 })
+aircraft_added = refl
+
+positions_added : positions_of (aircraft_with 800) ≡ (34 ∷ [], codes "IO360") ∷ (33 ∷ [], codes "IO360") ∷ []
+unfolding places
+positions_added = refl
+
+component_listed : component_of (engine_with 100) ≡ Some (record { serial = codes "E1"; part = codes "IO360"; birth = 14610; opening = used 1000 100; as_of = 28_401_120 })
+component_listed = refl
+
+sector_flown : sector_of (Flown (sector 12 1 90 1)) ≡ Some (sector 12 1 90 1)
+sector_flown = refl
+
+component_fitted : fitting_of fit ≡ Some (record { serial = codes "E1"; tail = abcd; position = codes "ENG"; moment = 28_445_760 })
+component_fitted = refl
+
+component_removed : removal_of remove ≡ Some (record { serial = codes "E1"; moment = 28_488_090 })
+component_removed = refl
+
+no_aircraft : list_any (λ act. is_some (aircraft_of act)) (engine_with 100 ∷ Flown (sector 12 1 90 1) ∷ fit ∷ remove ∷ []) ≡ false
+no_aircraft = refl
+
+no_component : list_any (λ act. is_some (component_of act)) (aircraft_with 800 ∷ Flown (sector 12 1 90 1) ∷ fit ∷ remove ∷ []) ≡ false
+no_component = refl
+
+no_sector_flown : list_any (λ act. is_some (sector_of act)) (aircraft_with 800 ∷ engine_with 100 ∷ fit ∷ remove ∷ []) ≡ false
+no_sector_flown = refl
+
+no_fitting : list_any (λ act. is_some (fitting_of act)) (aircraft_with 800 ∷ engine_with 100 ∷ Flown (sector 12 1 90 1) ∷ remove ∷ []) ≡ false
+no_fitting = refl
+
+no_removal : list_any (λ act. is_some (removal_of act)) (aircraft_with 800 ∷ engine_with 100 ∷ Flown (sector 12 1 90 1) ∷ fit ∷ []) ≡ false
+no_removal = refl
+
+-- the body of a removal, and of a fitting
+body_of_a_removal : act_of (Remove (codes "E1") 28_488_090) ≡ remove
+body_of_a_removal = refl
+
+body_of_a_fitting : act_of (Fit (codes "E1") abcd (codes "ENG") 28_445_760) ≡ fit
+body_of_a_fitting = refl
+
+body_of_a_sector : act_of (FlewSector abcd 12 1 28_488_000 28_488_090 1) ≡ Flown (sector 12 1 90 1)
+body_of_a_sector = refl
+
+body_of_a_component : act_of (AddComponent (codes "E1") (codes "IO360") 14610 (used 1000 100) 28_401_120) ≡ engine_with 100
+body_of_a_component = refl
