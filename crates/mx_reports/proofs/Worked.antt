@@ -2,10 +2,14 @@
 use Rattle.std.proofs.Common.{refl, ◌≡◌, [], ◌∷◌}
 use Rattle.std.specs.Prelude.{codes}
 use Rattle.std.specs.Fmt.{digits}
-use Rattle.mx_book.specs.declared.verdict.Refusal.TheVariants.{WrongPart}
-use Rattle.mx_book.specs.declared.verdict.Reply.TheVariants.{Refused}
+use Rattle.std.specs.List.{flat_map}
+use Rattle.mx_base.specs.Calendar.{date_of}
+use Rattle.mx_base.specs.Texts.{day_text, moment_text}
+use Rattle.mx_book.specs.declared.verdict.Refusal.TheVariants.{Conflict, Full, UnknownAircraft, UnknownComponent, UnknownPosition, AircraftExists, ComponentExists, PositionTaken, AlreadyFitted, NotFitted, WrongPart, OutOfOrder}
+use Rattle.mx_book.specs.declared.verdict.Reply.TheVariants.{Accepted, Already, Refused}
 use Rattle.mx_reports.specs.LifeText.{life_lines}
 use Rattle.mx_reports.specs.ReplyText.{reply_line}
+use Rattle.mx_reports.specs.Words.{StartsWith}
 
 -- a list without parts, and one with a part
 airframe_alone : life_lines (record { tail = codes "D-ABCD"; kind = codes "C172"; life = record { minutes = 60090; cycles = 801 }; parts = [] })
@@ -24,7 +28,47 @@ with_part : life_lines (record {
 unfolding digits
 with_part = refl
 
--- a refusal that carries nothing
-wrong_part : reply_line (Refused WrongPart) ≡ codes "refused 36\n"
+-- parts stand in the order of the list, and two of them are counted
+with_two_parts : life_lines (record {
+  tail = codes "D-ABCD";
+  kind = codes "C172";
+  life = record { minutes = 59; cycles = 0 };
+  parts =
+      record { position = codes "ENG"; serial = codes "E2"; part = codes "IO360"; life = record { minutes = 60; cycles = 1 } }
+      ∷ record { position = codes "PROP"; serial = codes "P1"; part = codes "HC2"; life = record { minutes = 0; cycles = 2 } } ∷ [];
+})
+    ≡ codes "life D-ABCD\nairframe C172 0:59 0\npart ENG E2 IO360 1:00 1\npart PROP P1 HC2 0:00 2\nend 3\n"
 unfolding digits
-wrong_part = refl
+with_two_parts = refl
+
+-- commands that were entered, now or before
+entered : flat_map reply_line (Accepted 1 ∷ Accepted 1000000 ∷ Already 12 ∷ []) ≡ codes "accepted 1\naccepted 1000000\nalready 12\n"
+unfolding digits
+entered = refl
+
+-- refusals that carry nothing
+refused : flat_map (λ refusal. reply_line (Refused refusal)) (Full ∷ UnknownAircraft ∷ UnknownComponent ∷ UnknownPosition ∷ AircraftExists
+    ∷ ComponentExists ∷ PositionTaken ∷ AlreadyFitted ∷ NotFitted ∷ WrongPart ∷ [])
+    ≡ codes "refused 11\nrefused 20\nrefused 21\nrefused 22\nrefused 30\nrefused 31\nrefused 33\nrefused 34\nrefused 35\nrefused 36\n"
+unfolding digits
+refused = refl
+
+-- a conflict carries the number of the entry
+conflict : reply_line (Refused (Conflict 4)) ≡ codes "refused 10 4\n"
+unfolding digits
+conflict = refl
+
+-- a command out of order carries the clock, here in minutes from 1970-01-01
+out_of_order : reply_line (Refused (OutOfOrder 2010)) ≡ codes "refused 41 1970-01-02T09:30\n"
+unfolding digits date_of day_text moment_text
+out_of_order = refl
+
+-- a text begins with itself and with a shorter one, and not with another
+begins : StartsWith (codes "end") (codes "end 1")
+begins = refl
+
+begins_with_itself : StartsWith (codes "end") (codes "end")
+begins_with_itself = refl
+
+begins_otherwise : StartsWith (codes "end 1") (codes "end") → ⊥
+begins_otherwise h = (cc)
