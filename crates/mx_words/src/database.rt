@@ -1,10 +1,18 @@
 //! Making and opening the office that a database holds, and what is asked of it.
-ghost use Rattle.std.specs.Prelude.{◌≡◌, ◌≢◌, ◌≤◌, true, false, Contains, OnOk, IfOk, IfErr};
+ghost use Rattle.std.specs.Prelude.{◌≡◌, ◌≢◌, ◌≤◌, ◌++◌, false, IsTrue, OnOk, IfOk, IsErr, IfErr};
+ghost use Rattle.std.specs.List.{flat_map, list_any};
 ghost use Rattle.sqlite.specs.Held.{state};
+ghost use Rattle.sqlite.specs.State.{HasCleanDisk};
+ghost use Rattle.sqlite_catalog.specs.Listing.{IsSound};
+ghost use Rattle.mx_book.specs.Lists.{life_list};
+ghost use Rattle.mx_book.specs.Run.{book_run, replies as replies_of};
 ghost use Rattle.mx_layout.specs.Crash.{RestsAs, ChangesNothing};
 ghost use Rattle.mx_layout.specs.Making.{IsEmptyBook};
-ghost use Rattle.mx_layout.specs.Tables.{layout_1, no_schema};
-ghost use Rattle.sqlite_catalog.specs.Listing.{IsSound};
+ghost use Rattle.mx_layout.specs.Tables.{layout_1, no_schema, HasOffice};
+ghost use Rattle.mx_office.specs.Stands.{Rests};
+ghost use Rattle.mx_reports.specs.ReplyText.{reply_line};
+ghost use Rattle.mx_words.specs.Printed.{life_answer, life_status};
+ghost use Rattle.mx_words.specs.Status.{stop_status, is_refusal, run_status};
 
 use crate::fault::{DONE, REFUSED, Stop};
 use mx_base::Tail;
@@ -20,7 +28,9 @@ pub(crate) fn make<S: Alter>(conn: &mut Connection<S>) -> Result<(), Stop>
     requires { conn.old.in_transaction ≡ false }
     ensures idle { conn.new.in_transaction ≡ false }
     ensures made { RestsAs (state S.Store conn.old) no_schema (IsSound no_schema) → OnOk result (RestsAs (state S.Store conn.new) layout_1 IsEmptyBook) }
+    ensures taken { HasCleanDisk (state S.Store conn.new) → (IsTrue (state S.Store conn.old).is_open → HasOffice (state S.Store conn.old).now.schema) → IsErr result }
     ensures unchanged { IfErr result (λ stop. stop ≢ Stop.Create TableFault.Store → ChangesNothing (state S.Store conn.old) (state S.Store conn.new)) }
+    ensures status { IfErr result (λ stop. stop_status stop ≡ 5) }
 {
     match create(conn, Layout(1)) {
         Ok(()) => Ok(()),
@@ -34,6 +44,8 @@ pub(crate) fn open<S: Alter + Drop>(conn: Connection<S>) -> Result<Office<S>, St
     requires { conn.in_transaction ≡ false }
     ensures ready { IfOk result (λ office. office.needs_reopen ≡ false) }
     ensures unchanged { IfOk result (λ office. ChangesNothing (state S.Store conn) (state S.Store office.conn)) }
+    ensures kept { (book : _) → Rests (state S.Store conn) book → IfOk result (λ office. Rests (state S.Store office.conn) book) }
+    ensures status { IfErr result (λ stop. stop_status stop ≡ 5) }
 {
     match open_office(conn) {
         Ok(office) => Ok(office),
@@ -42,8 +54,7 @@ pub(crate) fn open<S: Alter + Drop>(conn: Connection<S>) -> Result<Office<S>, St
 }
 
 fn is_refused(reply: &Reply) -> bool
-    ensures refused { (refusal : _) → reply.now ≡ Reply.Refused refusal → result ≡ true }
-    ensures entered { ((refusal : _) → reply.now ≢ Reply.Refused refusal) → result ≡ false }
+    ensures { result ≡ is_refusal reply.now }
 {
     match reply {
         Reply::Refused(_) => true,
@@ -51,12 +62,17 @@ fn is_refused(reply: &Reply) -> bool
     }
 }
 
+fn has_refusal(replies: &[Reply]) -> bool
+    ensures { result ≡ list_any is_refusal replies.now }
+{
+    replies.iter().any(|reply| is_refused(reply))
+}
+
 // The status of a run with these replies.
 fn status_of(replies: &[Reply]) -> u8
-    ensures refused { (refusal : _) → Contains replies.now (Reply.Refused refusal) → result ≡ 1 }
-    ensures bound { result ≤ 1 }
+    ensures { result ≡ run_status replies.now }
 {
-    if replies.iter().any(is_refused) {
+    if has_refusal(replies) {
         REFUSED
     } else {
         DONE
@@ -64,7 +80,10 @@ fn status_of(replies: &[Reply]) -> u8
 }
 
 // Appends a line for each reply.
-fn print_replies(out: &mut Vec<u8>, replies: &[Reply]) -> Result<(), Stop> {
+fn print_replies(out: &mut Vec<u8>, replies: &[Reply]) -> Result<(), Stop>
+    ensures printed { OnOk result (out.new.items ≡ out.old.items ++ flat_map reply_line replies.now) }
+    ensures memory { IfErr result (λ stop. stop ≡ Stop.Office Fault.Memory) }
+{
     for reply in replies {
         if reply_text(out, reply).is_err() {
             return Err(Stop::Office(Fault::Memory));
@@ -81,6 +100,13 @@ pub(crate) fn enter_all<S: Alter>(
     out: &mut Vec<u8>,
 ) -> Result<u8, Stop>
     ensures bound { IfOk result (λ status. status ≤ 1) }
+    ensures printed { (book : _) → Rests (state S.Store office.old.conn) book → HasCleanDisk (state S.Store office.new.conn)
+        → OnOk result (out.new.items ≡ out.old.items ++ flat_map reply_line (replies_of book commands.now)) }
+    ensures answered { (book : _) → Rests (state S.Store office.old.conn) book → HasCleanDisk (state S.Store office.new.conn)
+        → IfOk result (λ status. status ≡ run_status (replies_of book commands.now)) }
+    ensures kept { (book : _) → Rests (state S.Store office.old.conn) book → OnOk result (Rests (state S.Store office.new.conn) (book_run book commands.now)) }
+    ensures usable { office.old.needs_reopen ≡ false → OnOk result (office.new.needs_reopen ≡ false) }
+    ensures status { IfErr result (λ stop. stop_status stop ≡ 4) }
 {
     let outcomes = office.run(alloc, commands);
     print_replies(out, outcomes.replies.as_slice())?;
@@ -98,6 +124,12 @@ pub(crate) fn print_life<S: Alter>(
     out: &mut Vec<u8>,
 ) -> Result<u8, Stop>
     ensures bound { IfOk result (λ status. status ≤ 1) }
+    ensures printed { (book : _) → office.old.needs_reopen ≡ false → Rests (state S.Store office.old.conn) book → HasCleanDisk (state S.Store office.new.conn)
+        → OnOk result (out.new.items ≡ out.old.items ++ life_answer (life_list book tail.now)) }
+    ensures answered { (book : _) → office.old.needs_reopen ≡ false → Rests (state S.Store office.old.conn) book → HasCleanDisk (state S.Store office.new.conn)
+        → IfOk result (λ status. status ≡ life_status (life_list book tail.now)) }
+    ensures untouched { office.old.needs_reopen ≡ false → ChangesNothing (state S.Store office.old.conn) (state S.Store office.new.conn) }
+    ensures status { IfErr result (λ stop. stop_status stop ≡ 4) }
 {
     let (printed, status) = match office.life_rows(alloc, tail) {
         Ok(list) => (life_text(out, &list), DONE),

@@ -1,6 +1,7 @@
 //! Why the program ends before its work is done: the status, and the line on standard error.
 
-ghost use Rattle.std.specs.Prelude.{◌≡◌, ◌≢◌, ◌≤◌};
+ghost use Rattle.std.specs.Prelude.{◌≡◌};
+ghost use Rattle.mx_words.specs.Status.{stop_status};
 
 use mx_layout::{Table, TableFault};
 use mx_office::{Fault, OpenFault};
@@ -36,14 +37,7 @@ pub(crate) enum Stop {
 impl Stop {
     /// The status that the program ends with.
     pub(crate) fn status(self) -> u8
-        ensures bound { result ≤ 5 }
-        ensures named { result ≢ 3 }
-        ensures words { self ≡ Stop.Words → result ≡ 2 }
-        ensures shape { self ≡ Stop.Shape → result ≡ 2 }
-        ensures memory { self ≡ Stop.MakeMemory → result ≡ 5 }
-        ensures create { (fault : _) → self ≡ Stop.Create fault → result ≡ 5 }
-        ensures open { (fault : _) → self ≡ Stop.Open fault → result ≡ 5 }
-        ensures office { (fault : _) → self ≡ Stop.Office fault → result ≡ 4 }
+        ensures { result ≡ stop_status self }
     {
         match self {
             Stop::Words | Stop::Shape => BAD_WORDS,

@@ -1,5 +1,14 @@
 //! The program on its words.
-ghost use Rattle.std.specs.Prelude.{◌≡◌, ◌≢◌, ◌↔◌, ◌⊎◌, ◌≤◌, false, IfOk};
+ghost use Rattle.std.specs.Prelude.{◌≡◌, ◌≢◌, ◌↔◌, ◌⊎◌, ◌≤◌, ◌++◌, max, false, OnOk, IfOk, IfErr};
+ghost use Rattle.std.specs.List.{flat_map};
+ghost use Rattle.sqlite.specs.Held.{state};
+ghost use Rattle.sqlite.specs.State.{HasCleanDisk};
+ghost use Rattle.mx_book.specs.Lists.{life_list};
+ghost use Rattle.mx_book.specs.Run.{book_run, replies};
+ghost use Rattle.mx_office.specs.Stands.{Rests};
+ghost use Rattle.mx_reports.specs.ReplyText.{reply_line};
+ghost use Rattle.mx_words.specs.Printed.{life_answer, life_status};
+ghost use Rattle.mx_words.specs.Status.{stop_status, run_status};
 
 use crate::database::{enter_all, make, open, print_life};
 use crate::fault::{BAD_WORDS, DONE, STOPPED, Stop};
@@ -25,6 +34,11 @@ fn try_commands<S: Alter>(
     out: &mut Vec<u8>,
 ) -> Result<u8, Stop>
     ensures bound { IfOk result (λ status. status ≤ 1) }
+    ensures printed { (book : _) → office.old.needs_reopen ≡ false → Rests (state S.Store office.old.conn) book → HasCleanDisk (state S.Store office.new.conn)
+        → OnOk result (out.new.items ≡ (out.old.items ++ flat_map reply_line (replies book commands.now)) ++ life_answer (life_list (book_run book commands.now) tail.now)) }
+    ensures answered { (book : _) → office.old.needs_reopen ≡ false → Rests (state S.Store office.old.conn) book → HasCleanDisk (state S.Store office.new.conn)
+        → IfOk result (λ status. status ≡ max (run_status (replies book commands.now)) (life_status (life_list (book_run book commands.now) tail.now))) }
+    ensures status { IfErr result (λ stop. stop_status stop ≡ 4) }
 {
     let entered = enter_all(alloc, office, commands, out)?;
     let asked = print_life(alloc, office, tail, out)?;
@@ -129,6 +143,8 @@ fn print_done<O: Write, E: Write>(
     requires { IfOk done (λ status. status ≤ 1) }
     ensures bound { result ≤ 5 }
     ensures named { result ≢ 3 }
+    ensures done { IfOk done (λ status. (result ≡ status) ⊎ (result ≡ 4)) }
+    ensures stopped { IfErr done (λ stop. (result ≡ stop_status stop) ⊎ (result ≡ max (stop_status stop) 4)) }
 {
     let printed = out.write_all(text);
     let (reported, status) = match done {

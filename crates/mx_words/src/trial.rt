@@ -1,6 +1,8 @@
 //! The trial: an aircraft and one sector, entered into a store in memory.
 
-ghost use Rattle.std.specs.Prelude.{◌≡◌, ◌↔◌, length, IfOk};
+ghost use Rattle.std.specs.Prelude.{◌≡◌, ◌↔◌, [], ◌∷◌, Some, false, map, IfOk};
+ghost use Rattle.mx_command.specs.Shape.{has_shape, is_sector_shaped, sector_entry};
+ghost use Rattle.mx_words.specs.Trial.{trial_aircraft, trial_sector};
 
 use crate::fault::Stop;
 use crate::words::Trial;
@@ -18,7 +20,9 @@ fn stop_of(fault: MakeFault) -> Stop
     }
 }
 
-fn aircraft_of(alloc: Global, trial: &Trial) -> Result<Command, Stop> {
+fn aircraft_of(alloc: Global, trial: &Trial) -> Result<Command, Stop>
+    ensures made { IfOk result (λ command. command ≡ trial_aircraft trial.now) }
+{
     let (Ok(doc), Ok(kind), Some(birth)) = (Doc::read("A1"), Kind::read("TRY"), Day::of_number(0))
     else {
         return Err(Stop::Shape);
@@ -37,7 +41,10 @@ fn aircraft_of(alloc: Global, trial: &Trial) -> Result<Command, Stop> {
     Command::make(alloc, doc, body).map_err(stop_of)
 }
 
-fn sector_of(alloc: Global, trial: &Trial) -> Result<Command, Stop> {
+fn sector_of(alloc: Global, trial: &Trial) -> Result<Command, Stop>
+    ensures made { IfOk result (λ command. Some command ≡ sector_entry (trial_sector trial.now)) }
+    ensures shape { result ≡ Err Stop.Shape → is_sector_shaped (trial_sector trial.now) ≡ false }
+{
     let body = Body::Sector {
         tail: trial.tail,
         page: 1,
@@ -52,7 +59,7 @@ fn sector_of(alloc: Global, trial: &Trial) -> Result<Command, Stop> {
 /// The two commands of a trial: the aircraft `A1` of kind `TRY`, built and as of the first moment, and the
 /// sector of page 1 line 1. `Shape` where one of them lacks its shape.
 pub(crate) fn commands_of(alloc: Global, trial: &Trial) -> Result<Vec<Command>, Stop>
-    ensures two { IfOk result (λ commands. length commands.items ≡ 2) }
+    ensures made { IfOk result (λ commands. map Some commands.items ≡ Some (trial_aircraft trial.now) ∷ sector_entry (trial_sector trial.now) ∷ []) }
 {
     let aircraft = aircraft_of(alloc, trial)?;
     let sector = sector_of(alloc, trial)?;

@@ -1,0 +1,3 @@
+pub mod Printed
+pub mod Status
+pub mod Trial
