@@ -5,3 +5,4 @@ pub mod MergeLemmas
 pub mod SoundLemmas
 pub mod SortedLemmas
 pub mod RegisterLemmas
+pub mod Worked

@@ -1,0 +1,192 @@
+-- Worked examples: the rows that the entries of a book give, and the book that rows give.
+use Rattle.std.proofs.Common.{refl, ◌≡◌, ℕ, ◌+◌, ◌*◌, ◌^◌, List, [], ◌∷◌, Option, Some, None}
+use Rattle.std.specs.Prelude.{codes}
+use Rattle.std.specs.Fmt.{digits}
+use Rattle.mx_command.specs.Act.{Entry}
+use Rattle.mx_book.proofs.Worked.{at, abcd}
+use Rattle.mx_book.proofs.WorkedFittings.{efgh, engine, propeller, e1, e2, on_another}
+use Rattle.mx_register.specs.declared.rows.EntryKind.{EntryKind}
+use Rattle.mx_register.specs.declared.rows.EntryKind.TheVariants.{AddAircraft, AddComponent, Sector, Fit, Remove}
+use Rattle.mx_register.specs.declared.rows.EntryRow.{EntryRow}
+use Rattle.mx_register.specs.declared.rows.AircraftRow.{AircraftRow}
+use Rattle.mx_register.specs.declared.rows.PlaceRow.{PlaceRow}
+use Rattle.mx_register.specs.declared.rows.ComponentRow.{ComponentRow}
+use Rattle.mx_register.specs.declared.rows.SectorRow.{SectorRow}
+use Rattle.mx_register.specs.declared.rows.FittingRow.{FittingRow}
+use Rattle.mx_register.specs.declared.rows.RemovalRow.{RemovalRow}
+use Rattle.mx_register.specs.Rows.{kind_number, place_key}
+use Rattle.mx_register.specs.Names.{seq_of_tail, seq_of_serial, tail_at, serial_at}
+use Rattle.mx_register.specs.Registers.{next, entry_rows, aircraft_rows, place_rows, component_rows, sector_rows, fitting_rows, removal_rows}
+use Rattle.mx_register.specs.Merge.{Rest, merged}
+
+-- ── the rows of a book: two aircraft, two engines, fitted and removed, and three sectors ──
+
+abbrev entry : ℕ → List ℕ → EntryKind → EntryRow
+entry seq doc kind = record { seq = seq; doc = doc; kind = kind }
+
+abbrev first_entries : List EntryRow
+first_entries =
+    entry 1 (codes "A1") AddAircraft ∷ entry 2 (codes "C1") AddComponent ∷ entry 3 (codes "C2") AddComponent ∷ entry 4 (codes "F1") Fit
+    ∷ entry 5 (codes "TL/D-ABCD/12/1") Sector ∷ entry 6 (codes "R1") Remove ∷ entry 7 (codes "F2") Fit ∷ entry 8 (codes "R2") Remove
+    ∷ entry 9 (codes "TL/D-ABCD/12/2") Sector ∷ entry 10 (codes "A2") AddAircraft ∷ entry 11 (codes "F3") Fit ∷ []
+
+abbrev last_entry : EntryRow
+last_entry = entry 12 (codes "TL/D-EFGH/1/1") Sector
+
+abbrev entries : List EntryRow
+entries =
+    entry 1 (codes "A1") AddAircraft ∷ entry 2 (codes "C1") AddComponent ∷ entry 3 (codes "C2") AddComponent ∷ entry 4 (codes "F1") Fit
+    ∷ entry 5 (codes "TL/D-ABCD/12/1") Sector ∷ entry 6 (codes "R1") Remove ∷ entry 7 (codes "F2") Fit ∷ entry 8 (codes "R2") Remove
+    ∷ entry 9 (codes "TL/D-ABCD/12/2") Sector ∷ entry 10 (codes "A2") AddAircraft ∷ entry 11 (codes "F3") Fit ∷ last_entry ∷ []
+
+abbrev first_aircraft_row : AircraftRow
+first_aircraft_row = record { seq = 1; tail = abcd; kind = codes "C172"; birth = 10957; minutes = 60000; cycles = 800; as_of = at 19723 0 0 }
+
+abbrev second_aircraft_row : AircraftRow
+second_aircraft_row = record { seq = 10; tail = efgh; kind = codes "C172"; birth = 19509; minutes = 0; cycles = 0; as_of = at 19723 0 0 }
+
+-- a position on a line of an aircraft, from 1
+abbrev place : ℕ → ℕ → List ℕ → List ℕ → PlaceRow
+place seq line position part = record { seq = seq; line = line; position = position; part = part }
+
+abbrev component_with : ℕ → List ℕ → ComponentRow
+component_with seq serial = record { seq = seq; serial = serial; part = codes "IO360"; birth = 14610; minutes = 1000; cycles = 100; as_of = at 19723 0 0 }
+
+abbrev first_sector_row : SectorRow
+first_sector_row = record { seq = 5; aircraft = 1; page = 12; line = 1; took_off = at 19783 8 0; landed = at 19783 9 30; cycles = 1 }
+
+abbrev second_sector_row : SectorRow
+second_sector_row = record { seq = 9; aircraft = 1; page = 12; line = 2; took_off = at 19784 8 0; landed = at 19784 9 0; cycles = 1 }
+
+abbrev last_sector_row : SectorRow
+last_sector_row = record { seq = 12; aircraft = 10; page = 1; line = 1; took_off = at 19787 10 0; landed = at 19787 12 0; cycles = 2 }
+
+abbrev fitted_row : ℕ → ℕ → ℕ → ℕ → FittingRow
+fitted_row seq component aircraft moment = record { seq = seq; component = component; aircraft = aircraft; position = engine; moment = moment }
+
+abbrev removed_row : ℕ → ℕ → RemovalRow
+removed_row seq component = record { seq = seq; component = component; moment = at 19783 9 30 }
+
+-- the rows of every register but that of the entries
+abbrev rows : Rest
+rows = record {
+  aircraft = first_aircraft_row ∷ second_aircraft_row ∷ [];
+  places = place 1 1 engine (codes "IO360") ∷ place 1 2 propeller (codes "HC2") ∷ place 10 1 engine (codes "IO360") ∷ [];
+  components = component_with 2 e1 ∷ component_with 3 e2 ∷ [];
+  sectors = first_sector_row ∷ second_sector_row ∷ last_sector_row ∷ [];
+  fittings = fitted_row 4 2 1 (at 19754 0 0) ∷ fitted_row 7 3 1 (at 19783 9 30) ∷ fitted_row 11 2 10 (at 19787 0 0) ∷ [];
+  removals = removed_row 6 2 ∷ removed_row 8 3 ∷ [];
+}
+
+entries_listed : entry_rows on_another ≡ entries
+entries_listed = refl
+
+aircraft_listed : aircraft_rows on_another ≡ rows.aircraft
+aircraft_listed = refl
+
+-- the positions of each aircraft have their lines from 1
+places_listed : place_rows on_another ≡ rows.places
+places_listed = refl
+
+components_listed : component_rows on_another ≡ rows.components
+components_listed = refl
+
+-- each sector has the number of the entry that added its aircraft
+sectors_listed : sector_rows on_another ≡ rows.sectors
+sectors_listed = refl
+
+fittings_listed : fitting_rows on_another ≡ rows.fittings
+fittings_listed = refl
+
+removals_listed : removal_rows on_another ≡ rows.removals
+removals_listed = refl
+
+-- ── names and numbers ──
+
+numbers_of_tails : seq_of_tail on_another abcd ≡ Some 1
+numbers_of_tails = refl
+
+number_of_second_tail : seq_of_tail on_another efgh ≡ Some 10
+number_of_second_tail = refl
+
+no_number_of_tail : seq_of_tail on_another (codes "D-NONE") ≡ None
+no_number_of_tail = refl
+
+number_of_second_serial : seq_of_serial on_another e2 ≡ Some 3
+number_of_second_serial = refl
+
+-- a serial number is no registration
+no_number_of_serial : seq_of_serial on_another abcd ≡ None
+no_number_of_serial = refl
+
+second_tail : tail_at on_another 10 ≡ Some efgh
+second_tail = refl
+
+-- an entry that adds no aircraft, and numbers that no entry has
+no_tail_of_component : tail_at on_another 2 ≡ None
+no_tail_of_component = refl
+
+no_tail_at_zero : tail_at on_another 0 ≡ None
+no_tail_at_zero = refl
+
+no_tail_past_the_last : tail_at on_another 13 ≡ None
+no_tail_past_the_last = refl
+
+second_serial : serial_at on_another 3 ≡ Some e2
+second_serial = refl
+
+no_serial_of_aircraft : serial_at on_another 1 ≡ None
+no_serial_of_aircraft = refl
+
+-- ── the book that rows give ──
+
+given_back : merged [] entries rows ≡ Some on_another
+unfolding digits
+given_back = refl
+
+no_rows_no_entries : merged [] [] (record { aircraft = []; places = []; components = []; sectors = []; fittings = []; removals = [] }) ≡ Some []
+no_rows_no_entries = refl
+
+-- a row of any register that no entry takes is of no book
+aircraft_left : merged [] [] (record { aircraft = first_aircraft_row ∷ []; places = []; components = []; sectors = []; fittings = []; removals = [] }) ≡ None
+aircraft_left = refl
+
+place_left : merged [] [] (record { aircraft = []; places = place 1 1 engine (codes "IO360") ∷ []; components = []; sectors = []; fittings = []; removals = [] }) ≡ None
+place_left = refl
+
+component_left : merged [] [] (record { aircraft = []; places = []; components = component_with 1 e1 ∷ []; sectors = []; fittings = []; removals = [] }) ≡ None
+component_left = refl
+
+sector_left : merged [] [] (record { aircraft = []; places = []; components = []; sectors = first_sector_row ∷ []; fittings = []; removals = [] }) ≡ None
+sector_left = refl
+
+fitting_left : merged [] [] (record { aircraft = []; places = []; components = []; sectors = []; fittings = fitted_row 1 1 1 0 ∷ []; removals = [] }) ≡ None
+fitting_left = refl
+
+removal_left : merged [] [] (record { aircraft = []; places = []; components = []; sectors = []; fittings = []; removals = removed_row 1 1 ∷ [] }) ≡ None
+removal_left = refl
+
+-- the rows of an aircraft with one position, and its entry with this number, by this kind
+abbrev of_aircraft : ℕ → EntryKind → ℕ → Option (List Entry)
+of_aircraft seq kind line = merged [] (entry seq (codes "A1") kind ∷ []) (record { aircraft = record first_aircraft_row { seq = seq } ∷ []; places = place seq line engine (codes "IO360") ∷ []; components = []; sectors = []; fittings = []; removals = [] })
+
+-- an entry has the next number, its own kind, and lines from 1
+number_left_out : of_aircraft 2 AddAircraft 1 ≡ None
+number_left_out = refl
+
+other_kind : of_aircraft 1 AddComponent 1 ≡ None
+other_kind = refl
+
+line_from_two : of_aircraft 1 AddAircraft 2 ≡ None
+line_from_two = refl
+
+-- ── keys ──
+
+kinds_numbered : kind_number AddAircraft ∷ kind_number AddComponent ∷ kind_number Sector ∷ kind_number Fit ∷ kind_number Remove ∷ [] ≡ 1 ∷ 2 ∷ 5 ∷ 6 ∷ 7 ∷ []
+kinds_numbered = refl
+
+second_place_key : place_key (place 10 2 engine (codes "IO360")) ≡ 42949672962
+second_place_key = refl
+
+first_number : next [] ≡ 1
+first_number = refl
