@@ -1,7 +1,7 @@
 //! The book that registers are those of.
-ghost use Rattle.std.specs.Prelude.{◌≡◌, List, [], IfOk, IfSome, Some};
+ghost use Rattle.std.specs.Prelude.{◌≡◌, List, [], IfOk, IfSome, IsSome, OnErr, Some};
 ghost use Rattle.std.specs.Option.{option_map};
-ghost use Rattle.mx_command.specs.Act.{act_of, Entry};
+ghost use Rattle.mx_command.specs.Act.{act_of, Entry, sector_of};
 ghost use Rattle.mx_book.specs.Book.{IsBook};
 ghost use Rattle.mx_register.specs.Registers.{AreRegistersOf};
 ghost use Rattle.mx_register.specs.Merge.{are_taken, command_of, is_next, merged, take_command};
@@ -54,9 +54,10 @@ fn are_all_taken(rows: Left<'_>) -> bool
         && rows.removals.is_empty()
 }
 
-// The command of a document and a body, or `None` where they lack the shape.
+// The command of a document and a body, or `None` where they lack the shape. `NoMemory` for a sector alone.
 fn command_with(alloc: Global, doc: Doc, body: Body) -> Result<Option<Command>, NoMemory>
-    ensures { IfOk result (λ found. found ≡ command_of doc (act_of body)) }
+    ensures command { IfOk result (λ found. found ≡ command_of doc (act_of body)) }
+    ensures memory { OnErr result (IsSome (sector_of (act_of body))) }
 {
     match Command::make(alloc, doc, body) {
         Ok(command) => Ok(Some(command)),
