@@ -7,3 +7,4 @@ pub mod OrderLaws
 pub mod SpanLemmas
 pub mod Worked
 pub mod WorkedFittings
+pub mod WorkedBounds
