@@ -1,6 +1,6 @@
 //! The commands of the tests: an aircraft that the file holds already, and ten that are run over it.
 
-use mx_base::{Day, Doc, Kind, Moment, Tail, Use};
+use mx_base::{Day, Doc, Kind, Moment, Part, Position, Serial, Tail, Use};
 use mx_command::{Body, Command, MakeFault};
 use std::alloc::Global;
 
@@ -19,12 +19,29 @@ pub fn moment(text: &str) -> Result<Moment, &'static str> {
     Moment::read(text).or(Err("no moment"))
 }
 
-/// An aircraft of kind C172, built on 2000-01-01, with 60,000 minutes and 800 cycles on 2024-01-01.
+fn doc(text: &str) -> Result<Doc, &'static str> {
+    Doc::read(text).or(Err("no document"))
+}
+
+fn engine() -> Result<(Position, Part), &'static str> {
+    let position = Position::read("ENG").or(Err("no position"))?;
+    let part = Part::read("IO360").or(Err("no part"))?;
+    Ok((position, part))
+}
+
+fn first_serial() -> Result<Serial, &'static str> {
+    Serial::read("E1").or(Err("no serial number"))
+}
+
+/// An aircraft of kind C172, built on 2000-01-01, with 60,000 minutes and 800 cycles on 2024-01-01, and a position
+/// for its engine.
 pub fn aircraft(
     alloc: Global,
     document: &str,
     registration: &str,
 ) -> Result<Command, &'static str> {
+    let mut positions = Vec::new(alloc);
+    positions.push(engine()?).or(Err("no memory"))?;
     let body = Body::AddAircraft {
         tail: tail(registration)?,
         kind: Kind::read("C172").or(Err("no kind"))?,
@@ -34,10 +51,46 @@ pub fn aircraft(
             cycles: 800,
         },
         as_of: moment("2024-01-01T00:00")?,
-        positions: Vec::new(alloc),
+        positions,
     };
-    let document = Doc::read(document).or(Err("no document"))?;
-    Command::make(alloc, document, body).map_err(why)
+    Command::make(alloc, doc(document)?, body).map_err(why)
+}
+
+// The engine E1, built on 2010-01-01, with 1,000 minutes and 100 cycles on 2024-01-01.
+fn component(alloc: Global) -> Result<Command, &'static str> {
+    let (_, part) = engine()?;
+    let body = Body::AddComponent {
+        serial: first_serial()?,
+        part,
+        birth: Day::read("2010-01-01").or(Err("no day"))?,
+        opening: Use {
+            minutes: 1000,
+            cycles: 100,
+        },
+        as_of: moment("2024-01-01T00:00")?,
+    };
+    Command::make(alloc, doc("C1")?, body).map_err(why)
+}
+
+// E1 fitted to the engine's position of D-ABCD.
+fn fitting(alloc: Global, document: &str, at: &str) -> Result<Command, &'static str> {
+    let (position, _) = engine()?;
+    let body = Body::Fit {
+        serial: first_serial()?,
+        tail: tail("D-ABCD")?,
+        position,
+        moment: moment(at)?,
+    };
+    Command::make(alloc, doc(document)?, body).map_err(why)
+}
+
+// E1 removed from where it is fitted.
+fn removal(alloc: Global, document: &str, at: &str) -> Result<Command, &'static str> {
+    let body = Body::Remove {
+        serial: first_serial()?,
+        moment: moment(at)?,
+    };
+    Command::make(alloc, doc(document)?, body).map_err(why)
 }
 
 /// A sector of one cycle, on page 12 of the log.
@@ -68,19 +121,19 @@ pub fn first_aircraft(alloc: Global) -> Result<Command, &'static str> {
 fn command_at(alloc: Global, place: u32) -> Result<Option<Command>, &'static str> {
     Ok(Some(match place {
         0 => sector(alloc, "D-ABCD", 1, "2024-03-01T08:00", "2024-03-01T09:30")?,
-        1 => aircraft(alloc, "A2", "D-EFGH")?,
+        1 => component(alloc)?,
         // The first once more.
         2 => sector(alloc, "D-ABCD", 1, "2024-03-01T08:00", "2024-03-01T09:30")?,
-        // Of no aircraft.
-        3 => sector(alloc, "D-NONE", 1, "2024-03-01T08:00", "2024-03-01T09:30")?,
+        3 => fitting(alloc, "F1", "2024-03-01T09:30")?,
         4 => sector(alloc, "D-ABCD", 2, "2024-03-01T10:00", "2024-03-01T11:00")?,
         // Before the clock of its aircraft.
         5 => sector(alloc, "D-ABCD", 3, "2024-03-01T10:59", "2024-03-01T12:00")?,
-        6 => sector(alloc, "D-ABCD", 3, "2024-03-01T23:45", "2024-03-02T00:15")?,
+        // To a position that is taken.
+        6 => fitting(alloc, "F2", "2024-03-01T11:00")?,
         // The second once more.
-        7 => aircraft(alloc, "A2", "D-EFGH")?,
-        8 => aircraft(alloc, "A3", "D-IJKL")?,
-        9 => sector(alloc, "D-EFGH", 1, "2024-03-02T08:00", "2024-03-02T08:20")?,
+        7 => component(alloc)?,
+        8 => removal(alloc, "R1", "2024-03-01T11:00")?,
+        9 => aircraft(alloc, "A2", "D-EFGH")?,
         _ => return Ok(None),
     }))
 }

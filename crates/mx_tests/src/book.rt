@@ -112,7 +112,13 @@ fn refusals_have_their_numbers(rt: HostRuntime) -> Result<(), Fail> {
         (Refusal::Full, 11),
         (Refusal::UnknownAircraft, 20),
         (Refusal::UnknownComponent, 21),
+        (Refusal::UnknownPosition, 22),
         (Refusal::AircraftExists, 30),
+        (Refusal::ComponentExists, 31),
+        (Refusal::PositionTaken, 33),
+        (Refusal::AlreadyFitted, 34),
+        (Refusal::NotFitted, 35),
+        (Refusal::WrongPart, 36),
         (Refusal::OutOfOrder(moment("2024-03-01T09:30")?), 41),
     ] {
         assert_eq!(rt; refusal.number(), number);

@@ -1,7 +1,7 @@
 //! Commands at the ends of their shapes, and their documents.
 
 use crate::samples::{aircraft, aircraft_body, day, doc, kind, moment, sector, sector_body, tail};
-use mx_base::{Part, Position, Use};
+use mx_base::Use;
 use mx_command::{Body, Command, MakeFault};
 use std::alloc::Global;
 use std::test::Fail;
@@ -138,23 +138,7 @@ fn aircraft_at_the_ends_of_their_shape(rt: HostRuntime) -> Result<(), Fail> {
 }
 
 #[test]
-fn an_aircraft_has_no_positions_so_far(rt: HostRuntime) -> Result<(), Fail> {
-    let mut positions = Vec::new(rt.alloc());
-    let engine = Position::read("ENG").or(Err("no position"))?;
-    positions.push((engine, Part::read("IO360").or(Err("no part"))?))?;
-    let body = Body::AddAircraft {
-        tail: tail("D-ABCD")?,
-        kind: kind("C172")?,
-        birth: day("2000-01-01")?,
-        opening: Use {
-            minutes: 0,
-            cycles: 0,
-        },
-        as_of: moment("2024-01-01T00:00")?,
-        positions,
-    };
-    let made = Command::make(rt.alloc(), doc("A1")?, body);
-    assert_eq!(rt; made.err(), Some(MakeFault::BadShape));
+fn an_aircraft_is_no_sector(rt: HostRuntime) -> Result<(), Fail> {
     let not_a_sector = Command::sector(rt.alloc(), aircraft_body(rt.alloc(), "D-ABCD")?);
     assert_eq!(rt; not_a_sector.err(), Some(MakeFault::BadShape));
     Ok(())

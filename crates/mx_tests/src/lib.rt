@@ -9,11 +9,25 @@ mod calendar;
 #[cfg(test)]
 mod commands;
 #[cfg(test)]
+mod component_commands;
+#[cfg(test)]
+mod component_registers;
+#[cfg(test)]
+mod component_tables;
+#[cfg(test)]
+mod fitting_samples;
+#[cfg(test)]
+mod fittings;
+#[cfg(test)]
 mod identifiers;
 #[cfg(test)]
 mod layout;
 #[cfg(test)]
 mod office;
+#[cfg(test)]
+mod office_damage;
+#[cfg(test)]
+mod office_fittings;
 #[cfg(test)]
 mod office_memory;
 #[cfg(test)]
@@ -24,7 +38,6 @@ mod registers;
 mod reports;
 #[cfg(test)]
 mod samples;
-#[cfg(test)]
 #[cfg(test)]
 mod tables;
 #[cfg(test)]

@@ -1,23 +1,23 @@
 //! The office on the worked examples of an aircraft and its sectors, over a database in memory.
 
-use crate::samples::{after, are_same, empty_office, moment, opened, sector, tail, two_commands};
+use crate::fitting_samples::used;
+use crate::samples::{are_same, empty_office, moment, opened, sector, tail, two_commands};
 use mx_base::{Serial, Use};
 use mx_book::{Refusal, Reply};
 use mx_command::{Command, Item};
-use mx_layout::Table;
-use mx_office::{Ask, Fault, Office, OpenFault};
-use sqlite::{Connection, MemStore};
+use mx_office::{Ask, Office};
+use sqlite::MemStore;
 use std::alloc::Global;
 use std::process::Abort;
 use std::slice;
 use std::test::Fail;
 
-fn used(minutes: u32, cycles: u32) -> Use {
-    Use { minutes, cycles }
-}
-
-// Applies the two commands, which are to be accepted.
-fn enter_two(rt: &impl Abort, alloc: Global, office: &mut Office<MemStore>) -> Result<(), Fail> {
+/// Applies the two commands, which are to be accepted.
+pub fn enter_two(
+    rt: &impl Abort,
+    alloc: Global,
+    office: &mut Office<MemStore>,
+) -> Result<(), Fail> {
     let mut seq: u32 = 0;
     for command in &two_commands(alloc)? {
         seq = seq.saturating_add(1);
@@ -225,112 +225,4 @@ fn an_office_that_is_opened_again_has_the_same_book(rt: HostRuntime) -> Result<(
     let done = has_the_two(&rt, rt.alloc(), &mut again);
     let _ = again.close();
     done
-}
-
-// Why the office of this database is not opened, if it is not.
-fn unopened(conn: Connection<MemStore>) -> Option<OpenFault> {
-    match opened(conn) {
-        Ok(office) => {
-            let _ = office.close();
-            None
-        }
-        Err(fault) => fault,
-    }
-}
-
-#[test]
-fn other_databases_are_no_office(rt: HostRuntime) -> Result<(), Fail> {
-    let bare = Connection::open_in_memory(rt.alloc())?;
-    assert_eq!(rt; unopened(bare), Some(OpenFault::NotOurs));
-    for (sql, fault) in [
-        ("UPDATE office SET mark = 0", None),
-        (
-            "UPDATE office SET layout = 9",
-            Some(OpenFault::NewerLayout(9)),
-        ),
-        (
-            "UPDATE office SET step = 7",
-            Some(OpenFault::Damaged(Table::Office)),
-        ),
-        (
-            "UPDATE office SET mark = 1",
-            Some(OpenFault::Damaged(Table::Office)),
-        ),
-        (
-            "UPDATE office SET layout = 256",
-            Some(OpenFault::Damaged(Table::Office)),
-        ),
-        ("DELETE FROM office", Some(OpenFault::NotOurs)),
-    ] {
-        let conn = after(rt.alloc(), sql)?;
-        assert_eq!(rt; unopened(conn), fault, "at {sql}");
-    }
-    Ok(())
-}
-
-// The office of the two commands whose tables this text then changed.
-fn changed_by(rt: &impl Abort, alloc: Global, sql: &str) -> Result<Office<MemStore>, Fail> {
-    let mut office = empty_office(alloc)?;
-    let entered = enter_two(rt, alloc, &mut office);
-    let mut conn = office.close();
-    entered?;
-    conn.execute(sql, &[])?;
-    match opened(conn) {
-        Ok(office) => Ok(office),
-        Err(_) => Err("not opened again")?,
-    }
-}
-
-// The rows of the tables that the two commands write, as one text.
-fn written(alloc: Global, conn: &mut Connection<MemStore>) -> Result<String, Fail> {
-    let mut all = String::new(alloc);
-    for sql in [
-        "SELECT layout || ' ' || step || ' ' || mark FROM office",
-        "SELECT seq || ' ' || doc || ' ' || kind FROM entry ORDER BY seq",
-        "SELECT seq || ' ' || tail || ' ' || kind || ' ' || minutes FROM aircraft ORDER BY seq",
-        "SELECT seq || ' ' || aircraft || ' ' || landed FROM sector1 ORDER BY seq",
-    ] {
-        for row in &conn.query_all(sql, &[])? {
-            let text: String = row.get(0)?;
-            all.push_str(text.as_str())?;
-            all.push_str("; ")?;
-        }
-    }
-    Ok(all)
-}
-
-#[test]
-fn a_damaged_aircraft_stops_each_call(rt: HostRuntime) -> Result<(), Fail> {
-    let command = sector(rt.alloc(), 2, "2024-03-01T23:45", "2024-03-02T00:15", 1)?;
-    let mut office = changed_by(&rt, rt.alloc(), "UPDATE aircraft SET tail = 'd-abcd'")?;
-    let damaged = Fault::Damaged(Table::Aircraft);
-    assert_eq!(rt; office.apply(rt.alloc(), &command), Err(damaged));
-    assert_eq!(rt; office.entries(rt.alloc(), 1, 10).err(), Some(damaged));
-    assert!(rt; !office.needs_reopen());
-    let mut conn = office.close();
-    let text = written(rt.alloc(), &mut conn)?;
-    assert_eq!(rt;
-        text.as_str(),
-        "1 0 0; 1 A1 1; 2 TL/D-ABCD/12/1 5; 1 d-abcd C172 60000; 2 1 2024-03-01T09:30; "
-    );
-    Ok(())
-}
-
-#[test]
-fn an_entry_with_no_row_is_damage(rt: HostRuntime) -> Result<(), Fail> {
-    let registration = tail("D-ABCD")?;
-    for sql in [
-        "DELETE FROM sector1 WHERE seq = 2",
-        "DELETE FROM aircraft WHERE seq = 1",
-        "DELETE FROM entry WHERE seq = 2",
-        "UPDATE sector1 SET aircraft = 2",
-        "UPDATE entry SET doc = 'TL/D-ABCD/12/2' WHERE seq = 2",
-    ] {
-        let mut office = changed_by(&rt, rt.alloc(), sql)?;
-        let list = office.life_rows(rt.alloc(), &registration);
-        let _ = office.close();
-        let damaged = Ask::Failed(Fault::Damaged(Table::Entry));
-        assert_eq!(rt; list.err(), Some(damaged), "at {sql}");
-    }
-    Ok(())
 }

@@ -1,7 +1,8 @@
 //! The office where memory runs out. These tests pass whichever allocation fails:
 //! `scripts/fail-allocations.sh` runs them with each one failing in turn.
 
-use crate::samples::{are_same, number, opened, tail, two_commands};
+use crate::fitting_samples::{serial, used, worked_commands};
+use crate::samples::{are_same, number, opened, tail};
 use mx_base::Use;
 use mx_book::Reply;
 use mx_command::{Command, Item};
@@ -12,18 +13,21 @@ use std::alloc::Global;
 use std::process::Abort;
 use std::test::Fail;
 
-// The life of D-ABCD after so many of the two commands, if it is known then.
+// The life of D-ABCD after so many of the seven commands, if it is known then.
 fn life_after(kept: usize) -> Option<Use> {
     match kept {
         0 => None,
-        1 => Some(Use {
-            minutes: 60_000,
-            cycles: 800,
-        }),
-        _ => Some(Use {
-            minutes: 60_090,
-            cycles: 801,
-        }),
+        1 | 2 | 3 | 4 => Some(used(60_000, 800)),
+        _ => Some(used(60_090, 801)),
+    }
+}
+
+// The life of E1 then.
+fn engine_life_after(kept: usize) -> Option<Use> {
+    match kept {
+        0 | 1 => None,
+        2 | 3 | 4 => Some(used(1000, 100)),
+        _ => Some(used(1090, 101)),
     }
 }
 
@@ -32,7 +36,7 @@ fn is_want_of_memory(fault: Fault) -> bool {
     matches!(fault, Fault::Memory | Fault::Store | Fault::NeedsReopen)
 }
 
-// How many of the two commands a book may hold.
+// How many of the seven commands a book may hold.
 #[derive(Clone, Copy)]
 struct Bounds {
     least: usize,
@@ -62,7 +66,7 @@ fn opened_or_none(rt: &impl Abort, conn: Connection<MemStore>) -> Option<Office<
     }
 }
 
-// The answers of an office of one of the books within these bounds: the entries, and the life of D-ABCD.
+// The answers of an office of one of the books within these bounds: the entries, and the lives of D-ABCD and E1.
 fn answers_of(
     rt: &impl Abort,
     alloc: Global,
@@ -90,6 +94,11 @@ fn answers_of(
         Err(Ask::Refused(_)) => assert!(rt; is_life_within(None, bounds)),
         Err(Ask::Failed(fault)) => assert!(rt; is_want_of_memory(fault)),
     }
+    match office.life(alloc, &Item::Component(serial("E1")?)) {
+        Ok(life) => assert!(rt; is_engine_life_within(Some(life), bounds)),
+        Err(Ask::Refused(_)) => assert!(rt; is_engine_life_within(None, bounds)),
+        Err(Ask::Failed(fault)) => assert!(rt; is_want_of_memory(fault)),
+    }
     match office.life_rows(alloc, &registration) {
         Ok(list) => assert!(rt; is_life_within(Some(list.life), bounds)),
         Err(Ask::Refused(_)) => assert!(rt; is_life_within(None, bounds)),
@@ -100,6 +109,10 @@ fn answers_of(
 
 fn is_life_within(life: Option<Use>, bounds: Bounds) -> bool {
     life == life_after(bounds.least) || life == life_after(bounds.most)
+}
+
+fn is_engine_life_within(life: Option<Use>, bounds: Bounds) -> bool {
+    life == engine_life_after(bounds.least) || life == engine_life_after(bounds.most)
 }
 
 // Applies the commands in turn, and gives the bounds of the book that was answered for.
@@ -186,7 +199,7 @@ fn is_answered_for(
 
 #[test]
 fn each_command_is_kept_as_it_was_answered(rt: HostRuntime) -> Result<(), Fail> {
-    let Ok(commands) = two_commands(rt.alloc()) else {
+    let Ok(commands) = worked_commands(rt.alloc(), 1, 7) else {
         return Ok(());
     };
     let Some(mut office) = empty_or_none(&rt, rt.alloc()) else {
@@ -198,7 +211,7 @@ fn each_command_is_kept_as_it_was_answered(rt: HostRuntime) -> Result<(), Fail> 
 
 #[test]
 fn a_list_is_kept_as_it_was_answered(rt: HostRuntime) -> Result<(), Fail> {
-    let Ok(commands) = two_commands(rt.alloc()) else {
+    let Ok(commands) = worked_commands(rt.alloc(), 1, 7) else {
         return Ok(());
     };
     let Some(mut office) = empty_or_none(&rt, rt.alloc()) else {

@@ -1,5 +1,6 @@
 //! Replies and life lists as text.
 
+use crate::fitting_samples::book_of_two_parts;
 use crate::samples::{first_two, moment, tail};
 use mx_book::{Refusal, Reply};
 use mx_reports::{life_text, reply_text};
@@ -14,7 +15,13 @@ fn replies_are_printed(rt: HostRuntime) -> Result<(), Fail> {
         (Reply::Refused(Refusal::Full), "refused 11\n"),
         (Reply::Refused(Refusal::UnknownAircraft), "refused 20\n"),
         (Reply::Refused(Refusal::UnknownComponent), "refused 21\n"),
+        (Reply::Refused(Refusal::UnknownPosition), "refused 22\n"),
         (Reply::Refused(Refusal::AircraftExists), "refused 30\n"),
+        (Reply::Refused(Refusal::ComponentExists), "refused 31\n"),
+        (Reply::Refused(Refusal::PositionTaken), "refused 33\n"),
+        (Reply::Refused(Refusal::AlreadyFitted), "refused 34\n"),
+        (Reply::Refused(Refusal::NotFitted), "refused 35\n"),
+        (Reply::Refused(Refusal::WrongPart), "refused 36\n"),
         (
             Reply::Refused(Refusal::OutOfOrder(moment("2024-03-01T09:30")?)),
             "refused 41 2024-03-01T09:30\n",
@@ -35,6 +42,19 @@ fn a_life_list_is_printed(rt: HostRuntime) -> Result<(), Fail> {
     let mut out = Vec::new(rt.alloc());
     life_text(&mut out, &list)?;
     let text = "life D-ABCD\nairframe C172 1001:30 801\nend 1\n";
+    assert_eq!(rt; out.as_slice(), text.as_bytes());
+    Ok(())
+}
+
+#[test]
+fn parts_are_printed_by_position(rt: HostRuntime) -> Result<(), Fail> {
+    let book = book_of_two_parts(rt.alloc())?;
+    let list = book.life_list(rt.alloc(), &tail("D-ABCD")?);
+    let list = list.or(Err("no memory"))?.ok_or("no list")?;
+    let mut out = Vec::new(rt.alloc());
+    life_text(&mut out, &list)?;
+    let text =
+        "life D-ABCD\nairframe C172 1001:30 801\npart ENG E1 IO360 16:40 100\npart PROP P1 HC2 18:10 101\nend 3\n";
     assert_eq!(rt; out.as_slice(), text.as_bytes());
     Ok(())
 }

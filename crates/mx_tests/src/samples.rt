@@ -29,7 +29,8 @@ pub fn moment(text: &str) -> Result<Moment, &'static str> {
     Moment::read(text).or(Err("no moment"))
 }
 
-fn why(fault: MakeFault) -> &'static str {
+/// Why no command was made, in words.
+pub fn why(fault: MakeFault) -> &'static str {
     match fault {
         MakeFault::Memory => "no memory",
         MakeFault::BadShape => "bad shape",
@@ -80,6 +81,26 @@ pub fn sector(
     cycles: u32,
 ) -> Result<Command, &'static str> {
     Command::sector(alloc, sector_body(line, off, on, cycles)?).map_err(why)
+}
+
+/// A sector of an aircraft, on a page and line of its log.
+pub fn sector_of(
+    alloc: Global,
+    place: (&str, u32, u32),
+    off: &str,
+    on: &str,
+    cycles: u32,
+) -> Result<Command, &'static str> {
+    let (registration, page, line) = place;
+    let body = Body::Sector {
+        tail: tail(registration)?,
+        page,
+        line,
+        off: moment(off)?,
+        on: moment(on)?,
+        cycles,
+    };
+    Command::sector(alloc, body).map_err(why)
 }
 
 /// Enters a command that is to be new, and gives its number.

@@ -1,4 +1,4 @@
-//! The first three tables by their rows.
+//! The tables of entries, aircraft and sectors by their rows.
 ghost use Rattle.std.specs.Prelude.{◌≡◌, false, IfOk};
 
 use crate::samples::{day, doc, kind, moment, tail};
@@ -44,7 +44,8 @@ fn sector(seq: u32, line: u32) -> Result<SectorRow, &'static str> {
     })
 }
 
-fn made(alloc: Global) -> Result<Connection<MemStore>, &'static str>
+/// The tables of an empty book in memory, with no transaction open.
+pub fn made(alloc: Global) -> Result<Connection<MemStore>, &'static str>
     ensures { IfOk result (λ conn. conn.in_transaction ≡ false) }
 {
     let mut conn = Connection::open_in_memory(alloc).or(Err("no memory"))?;

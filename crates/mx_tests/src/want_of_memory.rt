@@ -1,10 +1,13 @@
 //! What is left where memory runs out. These tests pass whichever allocation fails:
 //! `scripts/fail-allocations.sh` runs them with each one failing in turn.
 
-use crate::samples::{aircraft, doc, first_two, moment, sector, sector_body, tail};
+use crate::fitting_samples::{book_of_two_parts, first_aircraft, used, worked_book};
+use crate::registers::rows_of;
+use crate::samples::{aircraft, are_same, doc, first_two, moment, sector, sector_body, tail};
 use mx_base::{Day, Moment, print_day, print_day_number, print_hours, print_moment};
 use mx_book::{Refusal, Reply, Verdict};
 use mx_command::{Command, Item, MakeFault};
+use mx_register::merge::merge;
 use mx_reports::{life_text, reply_text};
 use mx_words::run_words;
 use std::alloc::{AllocError, Global};
@@ -114,6 +117,52 @@ fn a_command_is_made_or_memory_ran_out(rt: HostRuntime) -> Result<(), Fail> {
     if let Ok(copy) = added.copy(rt.alloc()) {
         assert!(rt; copy.is_same(&added));
     }
+    if let Ok(with_positions) = first_aircraft(rt.alloc())
+        && let Ok(copy) = with_positions.copy(rt.alloc())
+    {
+        assert!(rt; copy.is_same(&with_positions));
+        assert_eq!(rt; copy.positions().len(), 2);
+    }
+    Ok(())
+}
+
+// What a book answers of its parts, the entries that it gives and its copy are whole, or memory ran out.
+#[test]
+fn a_book_with_parts_answers_or_memory_ran_out(rt: HostRuntime) -> Result<(), Fail> {
+    let Ok(book) = book_of_two_parts(rt.alloc()) else {
+        return Ok(());
+    };
+    if let Ok(list) = book.life_list(rt.alloc(), &tail("D-ABCD")?) {
+        let list = list.ok_or("no list")?;
+        let lives = [used(1000, 100), used(1090, 101)];
+        let parts = list.parts.as_slice();
+        assert_eq!(rt; parts.len(), 2);
+        for (part, life) in parts.iter().zip(lives) {
+            assert_eq!(rt; part.life, life);
+        }
+    }
+    if let Ok(entries) = book.entries(rt.alloc(), 1, 10) {
+        assert!(rt; are_same(&entries, book.as_slice()));
+    }
+    if let Ok(copy) = book.copy(rt.alloc()) {
+        assert!(rt; are_same(copy.as_slice(), book.as_slice()));
+    }
+    Ok(())
+}
+
+// The registers give their book, or memory ran out.
+#[test]
+fn registers_give_their_book_or_memory_ran_out(rt: HostRuntime) -> Result<(), Fail> {
+    let Ok(book) = worked_book(rt.alloc(), 12) else {
+        return Ok(());
+    };
+    let Ok(rows) = rows_of(rt.alloc(), &book) else {
+        return Ok(());
+    };
+    if let Ok(merged) = merge(rt.alloc(), &rows) {
+        let merged = merged.ok_or("no book")?;
+        assert!(rt; are_same(merged.as_slice(), book.as_slice()));
+    }
     Ok(())
 }
 
@@ -171,6 +220,23 @@ fn texts_are_whole_or_nothing(rt: HostRuntime) -> Result<(), Fail> {
     if let Ok(mut out) = Vec::from_slice(rt.alloc(), b"=") {
         let printed = life_text(&mut out, &list);
         let text = b"life D-ABCD\nairframe C172 1001:30 801\nend 1\n";
+        is_printed_or_unchanged(&rt, &out, printed, b"=", text);
+    }
+    Ok(())
+}
+
+#[test]
+fn a_list_of_parts_is_whole_or_nothing(rt: HostRuntime) -> Result<(), Fail> {
+    let Ok(book) = book_of_two_parts(rt.alloc()) else {
+        return Ok(());
+    };
+    let Ok(Some(list)) = book.life_list(rt.alloc(), &tail("D-ABCD")?) else {
+        return Ok(());
+    };
+    if let Ok(mut out) = Vec::from_slice(rt.alloc(), b"=") {
+        let printed = life_text(&mut out, &list);
+        let text =
+            b"life D-ABCD\nairframe C172 1001:30 801\npart ENG E1 IO360 16:40 100\npart PROP P1 HC2 18:10 101\nend 3\n";
         is_printed_or_unchanged(&rt, &out, printed, b"=", text);
     }
     Ok(())
