@@ -7,13 +7,14 @@ use Rattle.mx_command.specs.declared.component.Component.{Component as Listing}
 use Rattle.mx_command.specs.declared.sector.Sector.{Sector}
 use Rattle.mx_command.specs.declared.item.Item.TheVariants.{Airframe, Component}
 use Rattle.mx_book.specs.declared.verdict.Refusal.TheVariants.{Conflict, Full, UnknownAircraft, UnknownComponent, UnknownPosition, AircraftExists, ComponentExists, PositionTaken, AlreadyFitted, NotFitted, WrongPart, OutOfOrder}
-use Rattle.mx_book.specs.declared.verdict.Verdict.TheVariants.{Refused}
+use Rattle.mx_book.specs.declared.verdict.Verdict.TheVariants.{New, Refused}
 use Rattle.mx_book.specs.Register.{register}
+use Rattle.mx_book.specs.Span.{tail_fitted}
 use Rattle.mx_book.specs.Life.{life_now, clock}
 use Rattle.mx_book.specs.Judge.{judge, is_full, refusal_number}
 use Rattle.mx_book.specs.Book.{entry_at, entries_from}
 use Rattle.mx_book.proofs.Worked.{at, used, abcd, a1, logged, first_sector, first_two}
-use Rattle.mx_book.proofs.WorkedFittings.{efgh, engine, propeller, e1, e2, engine_with, fit, remove, first_aircraft, replaced, without_engine, on_another}
+use Rattle.mx_book.proofs.WorkedFittings.{efgh, engine, propeller, e1, e2, engine_with, fit, remove, first_aircraft, replaced, without_engine, on_another, two_parts}
 
 -- ── the ends of a span ──
 
@@ -33,6 +34,18 @@ landed_behind = refl
 -- a second removal ends the second span, and not the first: what was flown in between counts for neither
 removed_twice : life_now (on_another ++ logged (codes "R3") (remove e1 (at 19790 0 0)) ∷ []) (Component e1) ≡ Some (used 1210 103)
 removed_twice = refl
+
+-- a removal of another component ends no span
+removal_of_another : tail_fitted (two_parts ++ logged (codes "R4") (remove (codes "P1") (at 19783 9 30)) ∷ []) e1 ≡ Some abcd
+removal_of_another = refl
+
+-- E1 is fitted to D-EFGH while D-ABCD flies
+sector_of_another : life_now (on_another ++ logged (codes "TL/D-ABCD/12/3") (Flown (record { tail = abcd; page = 12; line = 3; off = at 19788 8 0; on = at 19788 9 0; cycles = 1 })) ∷ []) (Component e1) ≡ Some (used 1210 103)
+sector_of_another = refl
+
+-- a position of this name is taken on another aircraft alone
+taken_on_another : judge on_another (logged (codes "F5") (fit e2 abcd engine (at 19787 12 0))) ≡ New
+taken_on_another = refl
 
 -- ── clocks ──
 

@@ -92,11 +92,7 @@ fn is_next_of(book: &Book, entry: &EntryRow, command: &Command) -> bool
 }
 
 // The book that the rows are those of, as it is computed.
-fn merged_book(
-    alloc: Global,
-    entries: &[EntryRow],
-    all: Left<'_>,
-) -> Result<Option<Book>, NoMemory>
+fn merged_book(alloc: Global, entries: &[EntryRow], all: Left<'_>) -> Result<Option<Book>, NoMemory>
     ensures { IfOk result (λ found. found ≡ merged [] entries.now (rest_of all.entry)) }
 {
     let mut book = Book::new(alloc);
