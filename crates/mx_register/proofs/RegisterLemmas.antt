@@ -1,21 +1,17 @@
 -- Registers as a book grows by a command, and the order of their rows.
-use Rattle.std.proofs.Common.{◌≡◌, ℕ, ◌+◌, ◌*◌, ◌^◌, ◌<◌, ◌≤◌, List, [], ◌∷◌, ◌++◌, length, Bool, true, Option, Some, None, refl, sym, ap, subst, ◌∙◌, arith, All, append_assoc, append-nil, length-append}
+use Rattle.std.proofs.Common.{◌≡◌, ℕ, ◌+◌, ◌*◌, ◌^◌, ◌≤◌, List, [], ◌∷◌, ◌++◌, length, true, Option, Some, None, refl, sym, ap, subst, ◌∙◌, arith, All, append_assoc, append-nil, length-append}
 use Rattle.std.specs.Prelude.{nat_le}
-use Rattle.std.specs.List.{cons_option, list_all}
-use Rattle.std.specs.Option.{option_map}
+use Rattle.std.specs.List.{list_all}
 use Rattle.std.proofs.lemmas.Bool.Decides.{nat_tests}
 use Rattle.std.proofs.lemmas.List.Elements.{All-append, All-nil}
 use Rattle.mx_command.specs.Act.{Act, Entry, Added, Listed, Flown, Fitted, Removed, positions_of, aircraft_of, component_of, sector_of, fitting_of, removal_of}
 use Rattle.mx_command.specs.Shape.{has_shape, act_shape, doc_shape, opening_shape, positions_shape}
-use Rattle.mx_command.specs.declared.aircraft.Aircraft.{Aircraft}
-use Rattle.mx_command.specs.declared.component.Component.{Component}
 use Rattle.mx_command.specs.declared.sector.Sector.{Sector}
 use Rattle.mx_command.specs.declared.fitting.Fitting.{Fitting}
 use Rattle.mx_command.specs.declared.fitting.Removal.{Removal}
 use Rattle.mx_book.proofs.JudgeLemmas.{both_true}
 use Rattle.mx_register.specs.declared.rows.EntryRow.{EntryRow}
 use Rattle.mx_register.specs.declared.rows.AircraftRow.{AircraftRow}
-use Rattle.mx_register.specs.declared.rows.PlaceRow.{PlaceRow}
 use Rattle.mx_register.specs.declared.rows.ComponentRow.{ComponentRow}
 use Rattle.mx_register.specs.declared.rows.SectorRow.{SectorRow}
 use Rattle.mx_register.specs.declared.rows.FittingRow.{FittingRow}
@@ -23,7 +19,7 @@ use Rattle.mx_register.specs.declared.rows.RemovalRow.{RemovalRow}
 use Rattle.mx_register.specs.Names.{seq_of_tail, seq_of_serial, or_zero}
 use Rattle.mx_register.specs.Rows.{FitsEntry, FitsAircraft, FitsPlace, FitsComponent, FitsSector, FitsFitting, FitsRemoval, place_key}
 use Rattle.mx_register.specs.Rising.{IsRising}
-use Rattle.mx_register.specs.Registers.{gives, gives_by, next, if_any, places_from, entry_row, aircraft_row, component_row, sector_row, fitting_row, removal_row, entry_added, aircraft_by, places_by, components_by, sectors_by, fittings_by, removals_by, entry_rows, aircraft_rows, place_rows, component_rows, sector_rows, fitting_rows, removal_rows, FitBook, FitsNext}
+use Rattle.mx_register.specs.Registers.{gives, gives_by, next, if_any, places_from, aircraft_row, component_row, sector_row, fitting_row, removal_row, entry_added, aircraft_by, places_by, components_by, sectors_by, fittings_by, removals_by, entry_rows, aircraft_rows, place_rows, component_rows, sector_rows, fitting_rows, removal_rows, FitBook, FitsNext}
 
 -- ── one command more ──
 
