@@ -14,7 +14,7 @@ use Rattle.mx_book.specs.Life.{life_now, clock}
 use Rattle.mx_book.specs.Judge.{judge, is_full, refusal_number}
 use Rattle.mx_book.specs.Book.{entry_at, entries_from}
 use Rattle.mx_book.proofs.Worked.{at, used, abcd, a1, logged, first_sector, first_two}
-use Rattle.mx_book.proofs.WorkedFittings.{efgh, engine, propeller, e1, e2, engine_with, fit, remove, first_aircraft, replaced, without_engine, on_another, two_parts}
+use Rattle.mx_book.proofs.WorkedFittings.{engine, propeller, e1, e2, engine_with, fit, remove, first_aircraft, replaced, without_engine, on_another, two_parts}
 
 -- ── the ends of a span ──
 
