@@ -21,7 +21,7 @@ not_graphic = refl
 of_a_registration : list_all is_tail_character (codes "AZ09-") ≡ true
 of_a_registration = refl
 
-not_of_a_registration : list_any is_tail_character (codes "@[/:,.az !" ) ≡ false
+not_of_a_registration : list_any is_tail_character (codes "@[/:,.az !") ≡ false
 not_of_a_registration = refl
 
 registration : IsIdentifier is_tail_character 8 (codes "D-ABCD12")

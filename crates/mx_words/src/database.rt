@@ -72,11 +72,7 @@ fn has_refusal(replies: &[Reply]) -> bool
 fn status_of(replies: &[Reply]) -> u8
     ensures { result ≡ run_status replies.now }
 {
-    if has_refusal(replies) {
-        REFUSED
-    } else {
-        DONE
-    }
+    if has_refusal(replies) { REFUSED } else { DONE }
 }
 
 // Appends a line for each reply.

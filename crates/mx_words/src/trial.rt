@@ -1,7 +1,7 @@
 //! The trial: an aircraft and one sector, entered into a store in memory.
 
 ghost use Rattle.std.specs.Prelude.{◌≡◌, ◌↔◌, [], ◌∷◌, Some, false, map, IfOk};
-ghost use Rattle.mx_command.specs.Shape.{has_shape, is_sector_shaped, sector_entry};
+ghost use Rattle.mx_command.specs.Shape.{is_sector_shaped, sector_entry};
 ghost use Rattle.mx_words.specs.Trial.{trial_aircraft, trial_sector};
 
 use crate::fault::Stop;
