@@ -160,16 +160,3 @@ fn fittings_and_removals_come_after_the_clocks(rt: HostRuntime) -> Result<(), Fa
     );
     Ok(())
 }
-
-#[test]
-fn the_last_component_has_room(rt: HostRuntime) -> Result<(), Fail> {
-    let mut book = Book::new(rt.alloc());
-    for count in 1..=5000 {
-        let name = format!(in rt.alloc(); "E{count}")?;
-        let added = component(rt.alloc(), name.as_str(), name.as_str(), "IO360")?;
-        assert_eq!(rt; enter_new(&mut book, added)?, count);
-    }
-    let one_more = component(rt.alloc(), "E5001", "E5001", "IO360")?;
-    refuses(&rt, &book, &one_more, Refusal::Full);
-    Ok(())
-}
