@@ -37,7 +37,7 @@
 //! Where the key is the first two columns, as of `place`, a row is stored behind a rowid that the database
 //! chooses. `src/NOUN.rt` says ORDER BY both columns, and `AreAllByTwo` where the others say `AreAll`;
 //! `PlaceStatements` is the one to start from, over `CompoundLemmas` where the others have `RegisterLemmas`.
-//! The layers above identify a list by one number a row, so a key is added to `specs/Cells.antt`
+//! The layers above identify a list by one number a row, so a key stands beside the row in `mx_register`
 //! (`place_key`), and `PlaceLemmas` shows that the rows that were read ascend by it. That costs 3 lines of
 //! definitions and 54 of proofs beside the others.
 //!
