@@ -128,8 +128,8 @@ fn command_at(alloc: Global, place: u32) -> Result<Option<Command>, &'static str
         4 => sector(alloc, "D-ABCD", 2, "2024-03-01T10:00", "2024-03-01T11:00")?,
         // Before the clock of its aircraft.
         5 => sector(alloc, "D-ABCD", 3, "2024-03-01T10:59", "2024-03-01T12:00")?,
-        // To a position that is taken.
-        6 => fitting(alloc, "F2", "2024-03-01T11:00")?,
+        // To a position that is taken, and once that is free before the clock.
+        6 => fitting(alloc, "F2", "2024-03-01T10:59")?,
         // The second once more.
         7 => component(alloc)?,
         8 => removal(alloc, "R1", "2024-03-01T11:00")?,
