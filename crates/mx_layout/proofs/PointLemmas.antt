@@ -110,14 +110,14 @@ reads_exactly rows p fits is (Err fault) (inl stop) = stop
 reads_exactly rows p fits is (Err fault) (inr (inl none)) = absurd (none.1 (ap length is))
 reads_exactly rows p fits is (Err fault) (inr (inr bad)) = absurd (bad.2.2 (p, fits, contained (point_cells p) bad.2.0 (subst (λ rs. Contains rs bad.2.0) is bad.2.1)))
 
-pub no_layout : (row : Row) → ¬ HoldsBelow (2 ^ 8) (column row 1) → ¬ IsPoint row
-no_layout row h it = h (it.0.layout, ap (λ x. column x 1) it.2, it.1.0)
+pub no_layout : (values : Row) → ¬ HoldsBelow (2 ^ 8) (column values 1) → ¬ IsPoint values
+no_layout values h it = h (it.0.layout, ap (λ x. column x 1) it.2, it.1.0)
 
-pub no_step : (row : Row) → ¬ HoldsBelow (2 ^ 8) (column row 2) → ¬ IsPoint row
-no_step row h it = h (it.0.step, ap (λ x. column x 2) it.2, it.1.1)
+pub no_step : (values : Row) → ¬ HoldsBelow (2 ^ 8) (column values 2) → ¬ IsPoint values
+no_step values h it = h (it.0.step, ap (λ x. column x 2) it.2, it.1.1)
 
-pub no_mark : (row : Row) → ¬ HoldsBelow (2 ^ 32) (column row 3) → ¬ IsPoint row
-no_mark row h it = h (it.0.mark, ap (λ x. column x 3) it.2, it.1.2)
+pub no_mark : (values : Row) → ¬ HoldsBelow (2 ^ 32) (column values 3) → ¬ IsPoint values
+no_mark values h it = h (it.0.mark, ap (λ x. column x 3) it.2, it.1.2)
 
 -- a call that answered, or was refused because of its text, found the connection open
 pub open_either : {T : Type 0} {P : Type 0} (r : Result T TableFault) → P → MatchResult r (λ _. P) (λ fault. IsStop fault ⊎ P)
