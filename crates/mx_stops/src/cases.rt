@@ -2,10 +2,11 @@
 
 use crate::disks::{Pair, WHOLE, closed, connected, empty_files, left_by, opened_again};
 use crate::plain::{Plain, plain_run};
-use crate::samples::{first_aircraft, ten_commands};
+use crate::samples::ten_commands;
 use mx_book::Reply;
 use mx_command::Command;
 use mx_layout::{Layout, create};
+use mx_samples::fittings::first_aircraft;
 use std::alloc::Global;
 use std::slice;
 use std::test::Fail;

@@ -76,8 +76,3 @@ pub fn plain_run(
 pub fn is_start(found: &[Command], wanted: &[Command]) -> bool {
     found.len() <= wanted.len() && found.iter().zip(wanted.iter()).all(|(a, b)| a.is_same(b))
 }
-
-/// Whether these are the commands that are wanted, in their order.
-pub fn are_same(found: &[Command], wanted: &[Command]) -> bool {
-    found.len() == wanted.len() && is_start(found, wanted)
-}

@@ -2,11 +2,11 @@
 
 use crate::cases::{Case, prepared};
 use crate::disks::{Fused, LONG, Pair, SHORT, Stopping, files_of, opened, opened_again};
-use crate::plain::{are_same, is_start, plain_run};
-use crate::samples::{moment, tail};
+use crate::plain::{is_start, plain_run};
 use mx_book::{Refusal, Reply};
 use mx_command::{Command, Item};
 use mx_office::{Ask, Fault, Office, Outcomes};
+use mx_samples::words::{are_same, moment, tail};
 use sqlite_disk::Crash;
 use std::alloc::Global;
 use std::process::Abort;

@@ -1,5 +1,5 @@
-//! Tests over the public calls of the crates, with expected values from outside: the calendar of another
-//! program, the worked examples, and the texts as they are to be printed.
+//! Tests over the words of the program, its texts and what they are made of, with expected values from
+//! outside: the calendar of another program, the worked examples, and the texts as they are to be printed.
 #![tactic(auto)]
 
 #[cfg(test)]
@@ -8,5 +8,9 @@ mod calendar;
 mod identifiers;
 #[cfg(test)]
 mod printers;
+#[cfg(test)]
+mod reports;
+#[cfg(test)]
+mod want_of_memory;
 #[cfg(test)]
 mod words;
