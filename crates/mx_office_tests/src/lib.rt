@@ -3,7 +3,11 @@
 #![tactic(auto)]
 
 #[cfg(test)]
+mod answers;
+#[cfg(test)]
 mod component_tables;
+#[cfg(test)]
+mod kept;
 #[cfg(test)]
 mod layout;
 #[cfg(test)]

@@ -1,6 +1,7 @@
 //! The office where memory runs out. These tests pass whichever allocation fails:
 //! `scripts/fail-allocations.sh` runs them with each one failing in turn.
 
+use crate::answers::{airframe, list_of, numbered};
 use crate::samples::opened;
 use mx_base::Use;
 use mx_book::Reply;
@@ -8,11 +9,10 @@ use mx_command::{Command, Item};
 use mx_layout::{Layout, TableFault, create};
 use mx_office::{Ask, Fault, Office, OpenFault};
 use mx_samples::fittings::worked_commands;
-use mx_samples::words::{are_same, number, serial, tail, used};
+use mx_samples::words::{are_same, number, used};
 use sqlite::{Connection, MemStore};
 use std::alloc::Global;
 use std::process::Abort;
-use std::test::Fail;
 
 // The life of D-ABCD after so many of the seven commands, if it is known then.
 fn life_after(kept: usize) -> Option<Use> {
@@ -44,26 +44,76 @@ struct Bounds {
     most: usize,
 }
 
-// The office of an empty book, if memory was enough. Else the tables were not made, or can't be opened.
-fn empty_or_none(rt: &impl Abort, alloc: Global) -> Option<Office<MemStore>> {
+impl Bounds {
+    // The bounds of a book that holds so many, or one more where a commit is in doubt.
+    fn from_kept(kept: usize, in_doubt: bool) -> Bounds {
+        let most = if in_doubt {
+            kept.saturating_add(1)
+        } else {
+            kept
+        };
+        Bounds { least: kept, most }
+    }
+}
+
+// The tables of an empty book, if memory was enough.
+fn made_or_none(rt: &impl Abort, alloc: Global) -> Option<Connection<MemStore>> {
     let Ok(mut conn) = Connection::open_in_memory(alloc) else {
         return None;
     };
-    if let Err(fault) = create(&mut conn, Layout(1)) {
-        assert!(rt; fault == TableFault::Memory || fault == TableFault::Store);
-        return None;
-    }
-    opened_or_none(rt, conn)
-}
-
-fn opened_or_none(rt: &impl Abort, conn: Connection<MemStore>) -> Option<Office<MemStore>> {
-    match opened(conn) {
-        Ok(office) => Some(office),
+    match create(&mut conn, Layout(1)) {
+        Ok(()) => Some(conn),
         Err(fault) => {
-            let memory = fault == Some(OpenFault::Memory);
-            assert!(rt; memory || fault == Some(OpenFault::Store));
+            assert!(rt; fault == TableFault::Memory || fault == TableFault::Store);
             None
         }
+    }
+}
+
+// The office over these tables, if memory was enough.
+fn opened_or_none(rt: &impl Abort, conn: Connection<MemStore>) -> Option<Office<MemStore>> {
+    match opened(rt, conn) {
+        Ok(office) => Some(office),
+        Err(fault) => {
+            assert!(rt; fault == OpenFault::Memory || fault == OpenFault::Store);
+            None
+        }
+    }
+}
+
+fn empty_or_none(rt: &impl Abort, alloc: Global) -> Option<Office<MemStore>> {
+    opened_or_none(rt, made_or_none(rt, alloc)?)
+}
+
+// The entries are those of one of the books within these bounds. Gives the bounds that are known then.
+fn bounds_of(
+    rt: &impl Abort,
+    alloc: Global,
+    office: &mut Office<MemStore>,
+    commands: &[Command],
+    bounds: Bounds,
+) -> Bounds {
+    match office.entries(alloc, 1, 10) {
+        Ok(found) => {
+            let kept = found.len();
+            assert!(rt; bounds.least <= kept && kept <= bounds.most);
+            assert!(rt; kept <= commands.len());
+            assert!(rt; are_same(&found, &commands[..kept]));
+            Bounds::from_kept(kept, false)
+        }
+        Err(fault) => {
+            assert!(rt; is_want_of_memory(fault));
+            bounds
+        }
+    }
+}
+
+// One of these lives was answered, where none stands for an item that is unknown; or memory ran out.
+fn is_one_of(rt: &impl Abort, answered: Result<Use, Ask>, lives: [Option<Use>; 2]) {
+    match answered {
+        Ok(life) => assert!(rt; lives.contains(&Some(life))),
+        Err(Ask::Refused(_)) => assert!(rt; lives.contains(&None)),
+        Err(Ask::Failed(fault)) => assert!(rt; is_want_of_memory(fault)),
     }
 }
 
@@ -74,46 +124,20 @@ fn answers_of(
     office: &mut Office<MemStore>,
     commands: &[Command],
     bounds: Bounds,
-) -> Result<Bounds, Fail> {
-    let registration = tail("D-ABCD")?;
-    let mut bounds = bounds;
-    match office.entries(alloc, 1, 10) {
-        Ok(found) => {
-            let kept = found.len();
-            assert!(rt; bounds.least <= kept && kept <= bounds.most);
-            assert!(rt; kept <= commands.len());
-            assert!(rt; are_same(&found, &commands[..kept]));
-            bounds = Bounds {
-                least: kept,
-                most: kept,
-            };
-        }
-        Err(fault) => assert!(rt; is_want_of_memory(fault)),
-    }
-    match office.life(alloc, &Item::Airframe(registration)) {
-        Ok(life) => assert!(rt; is_life_within(Some(life), bounds)),
-        Err(Ask::Refused(_)) => assert!(rt; is_life_within(None, bounds)),
-        Err(Ask::Failed(fault)) => assert!(rt; is_want_of_memory(fault)),
-    }
-    match office.life(alloc, &Item::Component(serial("E1")?)) {
-        Ok(life) => assert!(rt; is_engine_life_within(Some(life), bounds)),
-        Err(Ask::Refused(_)) => assert!(rt; is_engine_life_within(None, bounds)),
-        Err(Ask::Failed(fault)) => assert!(rt; is_want_of_memory(fault)),
-    }
-    match office.life_rows(alloc, &registration) {
-        Ok(list) => assert!(rt; is_life_within(Some(list.life), bounds)),
-        Err(Ask::Refused(_)) => assert!(rt; is_life_within(None, bounds)),
-        Err(Ask::Failed(fault)) => assert!(rt; is_want_of_memory(fault)),
-    }
-    Ok(bounds)
-}
-
-fn is_life_within(life: Option<Use>, bounds: Bounds) -> bool {
-    life == life_after(bounds.least) || life == life_after(bounds.most)
-}
-
-fn is_engine_life_within(life: Option<Use>, bounds: Bounds) -> bool {
-    life == engine_life_after(bounds.least) || life == engine_life_after(bounds.most)
+) -> Bounds {
+    let bounds = bounds_of(rt, alloc, office, commands, bounds);
+    let lives = [life_after(bounds.least), life_after(bounds.most)];
+    let engine_lives = [
+        engine_life_after(bounds.least),
+        engine_life_after(bounds.most),
+    ];
+    let life = office.life(alloc, &airframe(rt, "D-ABCD"));
+    is_one_of(rt, life, lives);
+    let life = office.life(alloc, &numbered(rt, "E1"));
+    is_one_of(rt, life, engine_lives);
+    let list = list_of(rt, alloc, office, "D-ABCD");
+    is_one_of(rt, list.map(|list| list.life), lives);
+    bounds
 }
 
 // Applies the commands in turn, and gives the bounds of the book that was answered for.
@@ -131,20 +155,19 @@ fn apply_each(
                 assert_eq!(rt; reply, Reply::Accepted(number(kept)));
             }
             Err(fault) => {
-                assert_ne!(rt; fault, Fault::NeedsReopen);
+                assert!(rt; fault == Fault::Memory || fault == Fault::Store);
                 assert_eq!(rt; office.needs_reopen(), fault == Fault::Store);
-                let most = if fault == Fault::Store {
-                    kept.saturating_add(1)
-                } else {
-                    kept
-                };
-                return Bounds { least: kept, most };
+                return Bounds::from_kept(kept, fault == Fault::Store);
             }
         }
     }
-    Bounds {
-        least: kept,
-        most: kept,
+    Bounds::from_kept(kept, false)
+}
+
+// The commands were accepted, each under its number.
+fn are_accepted(rt: &impl Abort, replies: &[Reply]) {
+    for (place, reply) in replies.iter().enumerate() {
+        assert_eq!(rt; *reply, Reply::Accepted(number(place).saturating_add(1)));
     }
 }
 
@@ -158,24 +181,14 @@ fn run_all(
     let outcomes = office.run(alloc, commands);
     let kept = outcomes.replies.len();
     assert!(rt; kept <= commands.len());
-    for (place, reply) in outcomes.replies.iter().enumerate() {
-        assert_eq!(rt; *reply, Reply::Accepted(number(place).saturating_add(1)));
-    }
-    assert_eq!(rt;
-        office.needs_reopen(),
-        outcomes.stopped == Some(Fault::Store)
-    );
+    are_accepted(rt, &outcomes.replies);
     match outcomes.stopped {
         None => assert_eq!(rt; kept, commands.len()),
         Some(fault) => assert!(rt; fault == Fault::Memory || fault == Fault::Store),
     }
     let in_doubt = outcomes.stopped == Some(Fault::Store);
-    let most = if in_doubt {
-        kept.saturating_add(1)
-    } else {
-        kept
-    };
-    Bounds { least: kept, most }
+    assert_eq!(rt; office.needs_reopen(), in_doubt);
+    Bounds::from_kept(kept, in_doubt)
 }
 
 // Asks the office, closes it, opens it again and asks anew.
@@ -185,39 +198,35 @@ fn is_answered_for(
     mut office: Office<MemStore>,
     commands: &[Command],
     bounds: Bounds,
-) -> Result<(), Fail> {
-    let answered = answers_of(rt, alloc, &mut office, commands, bounds);
-    let conn = office.close();
-    let bounds = answered?;
-    let Some(mut again) = opened_or_none(rt, conn) else {
-        return Ok(());
+) {
+    let bounds = answers_of(rt, alloc, &mut office, commands, bounds);
+    let Some(mut again) = opened_or_none(rt, office.close()) else {
+        return;
     };
-    let answered = answers_of(rt, alloc, &mut again, commands, bounds);
+    let _ = answers_of(rt, alloc, &mut again, commands, bounds);
     let _ = again.close();
-    answered?;
-    Ok(())
 }
 
 #[test]
-fn each_command_is_kept_as_it_was_answered(rt: HostRuntime) -> Result<(), Fail> {
+fn each_command_is_kept_as_it_was_answered(rt: HostRuntime) {
     let Ok(commands) = worked_commands(rt.alloc(), 1, 7) else {
-        return Ok(());
+        return;
     };
     let Some(mut office) = empty_or_none(&rt, rt.alloc()) else {
-        return Ok(());
+        return;
     };
     let bounds = apply_each(&rt, rt.alloc(), &mut office, &commands);
-    is_answered_for(&rt, rt.alloc(), office, &commands, bounds)
+    is_answered_for(&rt, rt.alloc(), office, &commands, bounds);
 }
 
 #[test]
-fn a_list_is_kept_as_it_was_answered(rt: HostRuntime) -> Result<(), Fail> {
+fn a_list_is_kept_as_it_was_answered(rt: HostRuntime) {
     let Ok(commands) = worked_commands(rt.alloc(), 1, 7) else {
-        return Ok(());
+        return;
     };
     let Some(mut office) = empty_or_none(&rt, rt.alloc()) else {
-        return Ok(());
+        return;
     };
     let bounds = run_all(&rt, rt.alloc(), &mut office, &commands);
-    is_answered_for(&rt, rt.alloc(), office, &commands, bounds)
+    is_answered_for(&rt, rt.alloc(), office, &commands, bounds);
 }

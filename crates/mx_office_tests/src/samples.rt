@@ -1,41 +1,48 @@
 //! Databases in memory: the tables of an empty book, and the office over them.
+ghost use Rattle.std.specs.Prelude.{◌≡◌, false};
 
 use mx_layout::{Layout, create};
 use mx_office::{Office, OpenFault, open_office};
 use sqlite::{Connection, MemStore};
 use std::alloc::Global;
+use std::process::Abort;
+
+/// The tables of an empty book in memory, with no transaction open.
+pub fn made(rt: &impl Abort, alloc: Global) -> Connection<MemStore>
+    ensures { result.in_transaction ≡ false }
+{
+    let mut conn = Connection::open_in_memory(alloc).expect(rt, "a database");
+    create(&mut conn, Layout(1)).expect(rt, "the tables");
+    conn
+}
+
+/// Runs a text, which is to be taken.
+pub fn change(rt: &impl Abort, conn: &mut Connection<MemStore>, sql: &str) {
+    assert!(rt; conn.execute(sql, &[]).is_ok(), "{sql}");
+}
 
 /// The tables of an empty book in memory, after this text.
-pub fn after(alloc: Global, sql: &str) -> Result<Connection<MemStore>, &'static str> {
-    let mut conn = Connection::open_in_memory(alloc).or(Err("no memory"))?;
-    if create(&mut conn, Layout(1)).is_err() {
-        return Err("no tables");
-    }
-    match conn.execute(sql, &[]) {
-        Ok(_) => Ok(conn),
-        Err(_) => Err("the text is refused"),
+pub fn after(rt: &impl Abort, alloc: Global, sql: &str) -> Connection<MemStore> {
+    let mut conn = made(rt, alloc);
+    change(rt, &mut conn, sql);
+    conn
+}
+
+/// The office that a database in memory holds, or why it is not opened.
+pub fn opened(rt: &impl Abort, conn: Connection<MemStore>) -> Result<Office<MemStore>, OpenFault> {
+    assert!(rt; conn.is_autocommit());
+    match open_office(conn) {
+        Ok(office) => Ok(office),
+        Err((_, fault)) => Err(fault),
     }
 }
 
-/// The office that a database in memory holds, or what is answered in its place.
-pub fn opened(conn: Connection<MemStore>) -> Result<Office<MemStore>, Option<OpenFault>> {
-    if !conn.is_autocommit() {
-        return Err(None);
-    }
-    match open_office(conn) {
-        Ok(office) => Ok(office),
-        Err((_, fault)) => Err(Some(fault)),
-    }
+/// The office of a database in memory that holds one.
+pub fn reopened(rt: &impl Abort, conn: Connection<MemStore>) -> Office<MemStore> {
+    opened(rt, conn).expect(rt, "an office")
 }
 
 /// An office of the empty book, in memory.
-pub fn empty_office(alloc: Global) -> Result<Office<MemStore>, &'static str> {
-    let mut conn = Connection::open_in_memory(alloc).or(Err("no memory"))?;
-    if create(&mut conn, Layout(1)).is_err() {
-        return Err("no tables");
-    }
-    match open_office(conn) {
-        Ok(office) => Ok(office),
-        Err((_, _)) => Err("no office"),
-    }
+pub fn empty_office(rt: &impl Abort, alloc: Global) -> Office<MemStore> {
+    reopened(rt, made(rt, alloc))
 }

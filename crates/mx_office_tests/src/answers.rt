@@ -1,0 +1,83 @@
+//! What an office is to answer. Each call is compared in a function of its own, which says nothing of the
+//! tables, so that the functions above are lists of answers.
+
+use mx_base::Use;
+use mx_book::{LifeList, Reply};
+use mx_command::{Command, Item};
+use mx_office::{Ask, Office};
+use mx_samples::words::{are_same, serial, tail};
+use sqlite::MemStore;
+use std::alloc::Global;
+use std::process::Abort;
+
+/// The office answers the command in this way.
+pub fn answers(
+    rt: &impl Abort,
+    alloc: Global,
+    office: &mut Office<MemStore>,
+    command: &Command,
+    reply: Reply,
+) {
+    let document = command.doc();
+    assert_eq!(rt; office.apply(alloc, command), Ok(reply), "to {document}");
+}
+
+/// The office accepts the commands, the first under this number and the others behind it.
+pub fn accepts_all(
+    rt: &impl Abort,
+    alloc: Global,
+    office: &mut Office<MemStore>,
+    commands: &[Command],
+    first: u32,
+) {
+    let mut seq = first;
+    for command in commands {
+        answers(rt, alloc, office, command, Reply::Accepted(seq));
+        seq = seq.saturating_add(1);
+    }
+}
+
+/// The office gives these commands as its entries from a number on, where at most so many are asked for.
+pub fn gives(
+    rt: &impl Abort,
+    alloc: Global,
+    office: &mut Office<MemStore>,
+    range: (u32, u32),
+    wanted: &[Command],
+) {
+    let (from, at_most) = range;
+    let found = office.entries(alloc, from, at_most).expect(rt, "entries");
+    assert!(rt; are_same(&found, wanted), "{at_most} from {from}");
+}
+
+/// The airframe with this registration.
+pub fn airframe(rt: &impl Abort, registration: &str) -> Item {
+    Item::Airframe(tail(registration).expect(rt, registration))
+}
+
+/// The component with this serial number.
+pub fn numbered(rt: &impl Abort, number: &str) -> Item {
+    Item::Component(serial(number).expect(rt, number))
+}
+
+/// The office answers this to the question for the life of an item.
+pub fn tells(
+    rt: &impl Abort,
+    alloc: Global,
+    office: &mut Office<MemStore>,
+    item: Item,
+    wanted: Result<Use, Ask>,
+) {
+    assert_eq!(rt; office.life(alloc, &item), wanted, "of {item:?}");
+}
+
+/// The life list of the aircraft with this registration, or why there is none.
+pub fn list_of(
+    rt: &impl Abort,
+    alloc: Global,
+    office: &mut Office<MemStore>,
+    registration: &str,
+) -> Result<LifeList, Ask> {
+    let registration = tail(registration).expect(rt, registration);
+    office.life_rows(alloc, &registration)
+}
