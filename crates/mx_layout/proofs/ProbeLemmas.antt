@@ -16,6 +16,7 @@ use Rattle.sqlite.specs.State.{State, Shown, FailsToQuery}
 use Rattle.sqlite.proofs.Callers.{IsPlain, command_of}
 use Rattle.sqlite_tied.specs.Compute.{everything}
 use Rattle.mx_layout.specs.Making.{probe_text}
+use Rattle.mx_layout.specs.Point.{point_text}
 use Rattle.mx_layout.specs.Tables.{no_schema, HasOffice}
 use Rattle.mx_layout.proofs.PointLemmas.{with_office, is_with_office}
 use Rattle.mx_layout.proofs.ReadLemmas.{no_input, scan}
@@ -27,10 +28,22 @@ none_is = refl
 never : (c : Compiled) → ◌≡◌ {A = Result Compiled CompileError} (Err NoSuchTable) (Ok c) → ⊥
 never c e = cc
 
+point_none_is : understood no_schema point_text ≡ Err NoSuchTable
+unfolding understood listing_schema everything
+point_none_is = refl
+
+-- a text that names a table has no answer with no table
+not_shown : (sql : List ℕ) → understood no_schema sql ≡ Err NoSuchTable → (old new : State) (rows : List Row) → old.now.schema ≡ no_schema → Shown sql [] old new rows → ⊥
+unfolding Shown
+not_shown sql is old new rows has h = never h.0 (sym is ∙ ap (λ s. understood s sql) (sym has) ∙ h.1.is)
+
 -- with no table the text has no answer
 pub absent_shows : (old new : State) (rows : List Row) → old.now.schema ≡ no_schema → Shown probe_text [] old new rows → ⊥
-unfolding Shown
-absent_shows old new rows has h = never h.0 (sym none_is ∙ ap (λ s. understood s probe_text) (sym has) ∙ h.1.is)
+absent_shows = not_shown probe_text none_is
+
+-- nor has the text that reads the point
+pub absent_point : (old new : State) (rows : List Row) → old.now.schema ≡ no_schema → Shown point_text [] old new rows → ⊥
+absent_point = not_shown point_text point_none_is
 
 abbrev program_of : Command → Program
 program_of (Select q names) = q

@@ -48,6 +48,10 @@ ReadsPoint rows answer = MatchResult answer (λ p. rows ≡ point_cells p ∷ []
 abbrev pub ReadsExactly : Point → Result Point TableFault → Type 0
 ReadsExactly p answer = MatchResult answer (λ q. q ≡ p) IsStop
 
+-- the answer over a store without our tables: not ours, or that the call stopped
+abbrev pub ReadsNone : Result Point TableFault → Type 0
+ReadsNone answer = MatchResult answer (λ _. ⊥) (λ fault. IsStop fault ⊎ (fault ≡ NotOurs))
+
 -- the text that reads the point
 abbrev pub point_text : List ℕ
 point_text = codes "SELECT id, layout, step, mark FROM office ORDER BY id"

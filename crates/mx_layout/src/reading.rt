@@ -7,8 +7,8 @@ ghost use Rattle.sqlite.specs.State.{HasCleanDisk, IsUnchanged};
 ghost use Rattle.sqlite.specs.Held.{state};
 ghost use Rattle.mx_layout.specs.Contents.{rows_in};
 ghost use Rattle.mx_layout.specs.Crash.{StaysInside, IsWithin, ChangesNothing};
-ghost use Rattle.mx_layout.specs.Point.{point_cells, FitsPoint, IsPoint, HoldsBelow, IsStop, IsNoPoint, HoldsPoint, ReadsPoint, ReadsExactly};
-ghost use Rattle.mx_layout.specs.Tables.{office, HasOffice};
+ghost use Rattle.mx_layout.specs.Point.{point_cells, FitsPoint, IsPoint, HoldsBelow, IsStop, IsNoPoint, HoldsPoint, ReadsPoint, ReadsExactly, ReadsNone};
+ghost use Rattle.mx_layout.specs.Tables.{no_schema, office, HasOffice};
 
 use crate::fault::{Table, TableFault, fault_of};
 use crate::points::Point;
@@ -88,6 +88,8 @@ pub fn point_in<S: Alter>(tx: &mut Transaction<'_, S>) -> Result<Point, TableFau
         → ReadsPoint (rows_in office (state S.Store tx.old.conn.now).now.trees) result }
     ensures exact { (p : Point) → HasCleanDisk (state S.Store tx.new.conn.now) → (IsTrue (state S.Store tx.old.conn.now).is_open → HoldsPoint p (state S.Store tx.old.conn.now).now)
         → FitsPoint p → ReadsExactly p result }
+    ensures absent { HasCleanDisk (state S.Store tx.new.conn.now) → (IsTrue (state S.Store tx.old.conn.now).is_open → (state S.Store tx.old.conn.now).now.schema ≡ no_schema)
+        → ReadsNone result }
     ensures open { HasCleanDisk (state S.Store tx.new.conn.now)
         → MatchResult result (λ _. IsTrue (state S.Store tx.old.conn.now).is_open) (λ fault. IsStop fault ⊎ IsTrue (state S.Store tx.old.conn.now).is_open) }
     ensures within { IsWithin (state S.Store tx.old.conn.now) (state S.Store tx.new.conn.now) }
@@ -112,6 +114,8 @@ pub fn point<S: Alter>(conn: &mut Connection<S>) -> Result<Point, TableFault>
         → ReadsPoint (rows_in office (state S.Store conn.old).now.trees) result }
     ensures exact { (p : Point) → HasCleanDisk (state S.Store conn.new) → (IsTrue (state S.Store conn.old).is_open → HoldsPoint p (state S.Store conn.old).now)
         → FitsPoint p → ReadsExactly p result }
+    ensures absent { HasCleanDisk (state S.Store conn.new) → (IsTrue (state S.Store conn.old).is_open → (state S.Store conn.old).now.schema ≡ no_schema)
+        → ReadsNone result }
     ensures open { HasCleanDisk (state S.Store conn.new)
         → MatchResult result (λ _. IsTrue (state S.Store conn.old).is_open) (λ fault. IsStop fault ⊎ IsTrue (state S.Store conn.old).is_open) }
 {

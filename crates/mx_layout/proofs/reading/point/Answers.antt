@@ -28,6 +28,14 @@ returns-clause-exact g c p clean holds fits =
     let early : HasCleanDisk (state g.S.Store c.point_in.new.tx.conn.now) = omega (arith, c.drop-tx.ensures.survives.clean) in
     c.point_in.ensures.exact p early (rw c.transaction-tx.ensures.begun holds) fits
 
+pub returns-clause-absent : goal.returns-clause-absent
+returns-clause-absent g c clean none =
+    let end = c.drop-tx.new.self.0 in
+    let same : end ≡ c.conn-1.given.0 = search rules in
+    let late : HasCleanDisk (state g.S.Store end) = rw same clean in
+    let early : HasCleanDisk (state g.S.Store c.point_in.new.tx.conn.now) = omega (arith, c.drop-tx.ensures.survives.clean) in
+    c.point_in.ensures.absent early (rw c.transaction-tx.ensures.begun none)
+
 pub returns-clause-open : goal.returns-clause-open
 returns-clause-open g c clean =
     let end = c.drop-tx.new.self.0 in

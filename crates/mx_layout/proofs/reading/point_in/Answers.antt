@@ -7,6 +7,7 @@ use Rattle.mx_layout.specs.Tables.{office}
 use Rattle.mx_layout.specs.Point.{point_text, point_cells, IsNoPoint}
 use Rattle.mx_layout.proofs.InsideLemmas.{shown_keeps, query_keeps, shown_stays}
 use Rattle.mx_layout.proofs.ReadLemmas.{on_ok}
+use Rattle.mx_layout.proofs.ProbeLemmas.{absent_point}
 use Rattle.mx_layout.proofs.QueryLemmas.{refused_unchanged, refused_query, shown_open}
 use Rattle.mx_layout.proofs.PointLemmas.{office_rows, office_same, office_input, reads_point, reads_exactly, open_either}
 use Rattle.mx_layout.proofs.reading.point_in.Goals as goal
@@ -72,6 +73,13 @@ returns-clause-exact g c p clean holds fits =
     let all = office_rows old new held.0 c.in-Ok.found.items shown in
     let found = subst (λ (rows : List Row). MatchResult c.only_point.result (λ p. rows ≡ point_cells p ∷ []) (IsNoPoint rows)) c.deref.ensures.value c.only_point.ensures in
     reads_exactly (rows_in office old.now.trees) p fits held.1 c.only_point.result (reads_point old.now.trees c.in-Ok.found.items all c.only_point.result found)
+
+pub returns-clause-absent : goal.returns-clause-absent
+returns-clause-absent g c clean none =
+    let old = state g.S.Store c.args.tx.now.conn.now in
+    let new = state g.S.Store c.query_all.new.self.conn.now in
+    let shown = c.in-Ok.ensures.ok clean in
+    absurd (absent_point old new c.in-Ok.found.items (none (shown_open old new point_text [] c.in-Ok.found.items shown)) shown)
 
 pub returns-clause-open : goal.returns-clause-open
 returns-clause-open g c clean =
