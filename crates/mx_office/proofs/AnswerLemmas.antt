@@ -1,5 +1,5 @@
 -- The exits of a question.
-use Rattle.std.proofs.Common.{◌≡◌, ◌⊎◌, inl, inr, Option, Some, None, Result, Ok, Err, ap, ◌∙◌}
+use Rattle.std.proofs.Common.{◌≡◌, ◌≢◌, ◌⊎◌, inl, inr, List, Option, Some, None, Result, Ok, Err, sym, ap, ◌∙◌}
 use Rattle.std.specs.Result.{IsErr, IsErrAnd, MatchResult}
 use Rattle.mx_book.specs.declared.verdict.Refusal.{Refusal}
 use Rattle.mx_office.specs.declared.fault.Fault.{Fault}
@@ -10,8 +10,10 @@ use Rattle.mx_office.specs.declared.fault.Ask.TheVariants.{Refused, Failed}
 use Rattle.mx_office.specs.declared.fault.OpenFault.{OpenFault}
 use Rattle.mx_office.specs.declared.fault.OpenFault.TheVariants as unopened
 use Rattle.mx_layout.specs.declared.fault.TableFault.{TableFault}
-use Rattle.mx_layout.specs.Point.{IsStop}
-use Rattle.mx_office.specs.Faults.{open_fault_from, found_or, IsAnswer}
+use Rattle.mx_layout.specs.declared.fault.TableFault.TheVariants.{NotOurs}
+use Rattle.mx_layout.specs.Point.{IsStop, IsNoPoint}
+use Rattle.sqlite.specs.Order.{Row}
+use Rattle.mx_office.specs.Faults.{open_fault_from, found_or, IsAnswer, IsReason, IsUnopened}
 
 -- want of memory or the store stopped reading the book
 pub stopped : {V : Type 0} (P : V → Type 0) (result : Result V Fault) (f : Fault) → IsErr result × IsErrAnd result (λ it. it ≡ f) → (f ≡ Memory) ⊎ (f ≡ Store) → MatchResult result P (λ it. (it ≡ Memory) ⊎ (it ≡ Store))
@@ -37,3 +39,19 @@ open_stops f answered is why = elim why [ inl memory ↦ inl (is ∙ ap open_fau
 pub no_damage : {V : Type 0} (result : Result V Fault) (f : Fault) (table : Table) → IsErr result × IsErrAnd result (λ it. it ≡ f) → (f ≡ Memory) ⊎ (f ≡ Store) → result ≡ Err (Damaged table) → ⊥
 no_damage (Ok v) f table is why same = cc
 no_damage (Err it) f table is why same = let said : it ≡ f = is.1 in elim why [ inl memory ↦ cc | inr store ↦ cc ]
+
+-- a question that is stopped is not answered
+pub not_stopped : {X : Type 0} {P : Type 0} (result : Result X Ask) (f : Fault) → IsErr result × IsErrAnd result (λ it. it ≡ Failed f) → ((fault : Fault) → result ≢ Err (Failed fault)) → P
+not_stopped (Ok x) f is goes = cc
+not_stopped (Err it) f is goes = absurd (goes f (ap Err is.1))
+
+-- why the point could not be read is why no office was opened
+pub open_reason : (rows : List Row) (f : TableFault) (answered : OpenFault) → answered ≡ open_fault_from f → IsStop f ⊎ IsNoPoint rows f → IsReason rows answered
+open_reason rows f answered is (inl stop) = inl (open_stops f answered is stop)
+open_reason rows f answered is (inr (inl none)) = inr (inl (is ∙ ap open_fault_from none.0, none.1))
+open_reason rows f answered is (inr (inr bad)) = inr (inr (inl (is ∙ ap open_fault_from bad.0, bad.1, bad.2)))
+
+-- a store without our tables is not ours
+pub open_absent : (f : TableFault) (answered : OpenFault) → answered ≡ open_fault_from f → IsStop f ⊎ (f ≡ NotOurs) → IsUnopened (Some unopened.NotOurs) answered
+open_absent f answered is (inl stop) = inr (open_stops f answered is stop)
+open_absent f answered is (inr none) = inl (ap Some (sym (is ∙ ap open_fault_from none)))

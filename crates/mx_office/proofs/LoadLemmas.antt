@@ -47,7 +47,10 @@ use Rattle.mx_layout.specs.declared.fault.TableFault.TheVariants as table
 use Rattle.mx_office.specs.declared.fault.Fault.{Fault}
 use Rattle.mx_office.specs.declared.fault.Fault.TheVariants as fault
 use Rattle.mx_office.specs.Faults.{fault_from}
-use Rattle.mx_office.specs.Stands.{Stands, rows_given}
+use Rattle.mx_office.specs.Stands.{Stands, HoldsBook, HaveRowsOf, rows_given}
+use Rattle.mx_book.specs.Book.{IsBook}
+use Rattle.mx_register.specs.declared.merge.Registers.{Registers}
+use Rattle.mx_register.specs.Registers.{AreRegistersOf}
 
 -- the number in a column of a row
 abbrev number_of : Value → ℕ
@@ -202,6 +205,28 @@ on_weaker (Err e) f h = tt
 pub on_both : {T E P Q R : Type 0} (r : Result T E) → (P → Q → R) → OnOk r P → OnOk r Q → OnOk r R
 on_both (Ok x) f p q = f p q
 on_both (Err e) f p q = tt
+
+-- registers that have the rows of their tables and are those of a book
+pub holds_read : (trees : Trees) (r : Registers) (book : List Command) → IsBook book → HaveRowsOf trees r → AreRegistersOf r book → HoldsBook trees book
+holds_read trees r book is_book rows of = record {
+  is_book = is_book;
+  entries = subst (λ xs. IsPermutation (map entry_cells xs) (rows_in entry trees)) of.entries rows.entries;
+  aircraft = subst (λ xs. IsPermutation (map aircraft_cells xs) (rows_in aircraft trees)) of.aircraft rows.aircraft;
+  places = subst (λ xs. IsPermutation (map place_cells xs) (rows_in place trees)) of.places rows.places;
+  components = subst (λ xs. IsPermutation (map component_cells xs) (rows_in component trees)) of.components rows.components;
+  sectors = subst (λ xs. IsPermutation (map sector_cells xs) (rows_in sector1 trees)) of.sectors rows.sectors;
+  fittings = subst (λ xs. IsPermutation (map fitting_cells xs) (rows_in fit1 trees)) of.fittings rows.fittings;
+  removals = subst (λ xs. IsPermutation (map removal_cells xs) (rows_in removal1 trees)) of.removals rows.removals;
+}
+
+-- what was read after calls that changed nothing is in the tables from before them
+pub read_before : {X : Type 0} (as_cells : X → Row) (at : Table) (old new : Database) (read : List X) → new ≡ old → IsPermutation (rows_in at new.trees) (map as_cells read)
+    → IsPermutation (map as_cells read) (rows_in at old.trees)
+read_before as_cells at old new read same all = subst (λ (d : Database). IsPermutation (map as_cells read) (rows_in at d.trees)) same (IsPermutation-sym _ _ all)
+
+-- the tables are those of layout 1 still
+pub has_still : (old new : Database) → new ≡ old → old.schema ≡ layout_1 → new.schema ≡ layout_1
+has_still old new same has = ap (λ (d : Database). d.schema) same ∙ has
 
 -- ── what tables stand for ──
 

@@ -26,6 +26,10 @@ after_new book c h = ap (λ v. cond (is_new v) (book ++ c ∷ []) book) h
 pub after_old : (book : List Entry) (c : Entry) (v : Verdict) → judge book c ≡ v → is_new v ≡ false → book_after book c ≡ book
 after_old book c v h old = ap (λ w. cond (is_new w) (book ++ c ∷ []) book) h ∙ ap (λ b. cond b (book ++ c ∷ []) book) old
 
+-- the reply that the verdict on a command makes
+pub said_reply : (book : List Entry) (c : Entry) (v : Verdict) → v ≡ judge book c → reply_to (length book + 1) v ≡ reply book c
+said_reply book c v is = ap (reply_to (length book + 1)) is
+
 -- `loaded` is what the code read, and it is the book where the disk is clean
 module _ (mid : State) (book loaded : List Entry) (c : Entry) (exact : HasCleanDisk mid → loaded ≡ book) (rests : Rests mid book) where
   pub old_reply : (v : Verdict) → judge loaded c ≡ v → HasCleanDisk mid → reply book c ≡ reply_to (length loaded + 1) v

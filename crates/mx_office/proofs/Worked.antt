@@ -1,8 +1,7 @@
 -- Worked examples: the rows that the tables of the worked book have, and what opening answers over a point.
-use Rattle.std.proofs.Common.{refl, ◌≡◌, ℕ, pos, List, [], ◌∷◌, Some, None}
+use Rattle.std.proofs.Common.{refl, ◌≡◌, ℕ, pos, [], ◌∷◌, Some, None}
 use Rattle.std.specs.Prelude.{codes}
 use Rattle.std.specs.Fmt.{digits}
-use Rattle.sqlite.specs.Order.{Row}
 use Rattle.sqlite.specs.declared.types.Value.{Value}
 use Rattle.sqlite.specs.declared.types.Value.TheVariants.{Int, Text}
 use Rattle.mx_base.specs.Calendar.{date_of}

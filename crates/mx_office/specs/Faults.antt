@@ -1,5 +1,5 @@
 -- The faults of the office that faults of the tables are, and the answers to a question.
-use Rattle.std.specs.Prelude.{◌≡◌, ◌⊎◌, nat_lt, nat_eq, ◌&&◌, if◌then◌else◌, Bool, Option, Some, None, Result, Ok, Err}
+use Rattle.std.specs.Prelude.{◌≡◌, ◌≢◌, ◌⊎◌, List, [], ◌∷◌, length, nat_lt, nat_eq, ◌&&◌, if◌then◌else◌, Bool, Option, Some, None, Result, Ok, Err}
 use Rattle.mx_command.specs.declared.item.Item.{Item}
 use Rattle.mx_command.specs.declared.item.Item.TheVariants.{Airframe, Component}
 use Rattle.mx_book.specs.declared.verdict.Refusal.{Refusal}
@@ -8,6 +8,9 @@ use Rattle.mx_layout.specs.declared.fault.Table.TheVariants.{Office}
 use Rattle.mx_layout.specs.declared.fault.TableFault.{TableFault}
 use Rattle.mx_layout.specs.declared.fault.TableFault.TheVariants as table
 use Rattle.mx_layout.specs.declared.points.Point.{Point}
+use Rattle.mx_layout.specs.Point.{point_cells, IsPoint}
+use Rattle.mx_layout.specs.Reading.{HasOther}
+use Rattle.sqlite.specs.Order.{Row}
 use Rattle.mx_office.specs.declared.fault.Fault.{Fault}
 use Rattle.mx_office.specs.declared.fault.Fault.TheVariants.{Memory, Store, Damaged}
 use Rattle.mx_office.specs.declared.fault.OpenFault.{OpenFault}
@@ -56,3 +59,9 @@ IsAnswer said result = (result ≡ said) ⊎ ((result ≡ Err (Failed Memory)) �
 -- no office was opened: for this reason, or memory or the store failed
 abbrev pub IsUnopened : Option OpenFault → OpenFault → Type 0
 IsUnopened said fault = (said ≡ Some fault) ⊎ ((fault ≡ unopened.Memory) ⊎ (fault ≡ unopened.Store))
+
+-- why no office was opened, by the rows of its table `office`: memory or the store failed; there is not exactly one row; the one is no point; or the point that it is says so
+abbrev pub IsReason : List Row → OpenFault → Type 0
+IsReason rows fault =
+    ((fault ≡ unopened.Memory) ⊎ (fault ≡ unopened.Store)) ⊎ (((fault ≡ unopened.NotOurs) × (length rows ≢ 1)) ⊎ (((fault ≡ unopened.Damaged Office) × (length rows ≡ 1) × HasOther IsPoint rows)
+    ⊎ ((p : Point) × (rows ≡ point_cells p ∷ []) × (open_answer p ≡ Some fault))))

@@ -7,6 +7,7 @@ use Rattle.sqlite.specs.State.{State}
 use Rattle.sqlite_catalog.specs.Listing.{IsSound}
 use Rattle.mx_command.specs.Act.{Entry as Command}
 use Rattle.mx_book.specs.Book.{IsBook}
+use Rattle.mx_register.specs.declared.merge.Registers.{Registers}
 use Rattle.mx_register.specs.Registers.{entry_rows, aircraft_rows, place_rows, component_rows, sector_rows, fitting_rows, removal_rows, entry_added, aircraft_by, places_by, components_by, sectors_by, fittings_by, removals_by, FitBook}
 use Rattle.mx_layout.specs.declared.fault.Table.{Table as Name}
 use Rattle.mx_layout.specs.declared.fault.Table.TheVariants.{Office, Entry, Aircraft, Place, Component, Sector1, Fit1, Removal1}
@@ -36,6 +37,27 @@ pub record Stands (trees : Trees) (book : List Command) : Type 0 where
   pub is_book : IsBook book
   pub fit : FitBook book
   pub tables : (name : Name) → IsPermutation (rows_given book name) (rows_in (table_named name) trees)
+
+-- the registers have exactly the rows of their tables
+pub record HaveRowsOf (trees : Trees) (r : Registers) : Type 0 where
+  pub entries : IsPermutation (map entry_cells r.entries.items) (rows_in (table_named Entry) trees)
+  pub aircraft : IsPermutation (map aircraft_cells r.aircraft.items) (rows_in (table_named Aircraft) trees)
+  pub places : IsPermutation (map place_cells r.places.items) (rows_in (table_named Place) trees)
+  pub components : IsPermutation (map component_cells r.components.items) (rows_in (table_named Component) trees)
+  pub sectors : IsPermutation (map sector_cells r.sectors.items) (rows_in (table_named Sector1) trees)
+  pub fittings : IsPermutation (map fitting_cells r.fittings.items) (rows_in (table_named Fit1) trees)
+  pub removals : IsPermutation (map removal_cells r.removals.items) (rows_in (table_named Removal1) trees)
+
+-- the tables that a command may write have exactly the rows that this book gives them, whatever the other tables have
+pub record HoldsBook (trees : Trees) (book : List Command) : Type 0 where
+  pub is_book : IsBook book
+  pub entries : IsPermutation (rows_given book Entry) (rows_in (table_named Entry) trees)
+  pub aircraft : IsPermutation (rows_given book Aircraft) (rows_in (table_named Aircraft) trees)
+  pub places : IsPermutation (rows_given book Place) (rows_in (table_named Place) trees)
+  pub components : IsPermutation (rows_given book Component) (rows_in (table_named Component) trees)
+  pub sectors : IsPermutation (rows_given book Sector1) (rows_in (table_named Sector1) trees)
+  pub fittings : IsPermutation (rows_given book Fit1) (rows_in (table_named Fit1) trees)
+  pub removals : IsPermutation (rows_given book Removal1) (rows_in (table_named Removal1) trees)
 
 -- no transaction is open, and the tables, and each state of them that a crash may leave, stand for the book
 abbrev pub Rests : State → List Command → Type 0

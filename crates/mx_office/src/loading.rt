@@ -1,12 +1,12 @@
 //! Reading the book that the tables hold.
-ghost use Rattle.std.specs.Prelude.{◌≡◌, ◌≢◌, ◌⊎◌, false, IsTrue, MatchResult};
+ghost use Rattle.std.specs.Prelude.{◌≡◌, ◌≢◌, ◌⊎◌, false, IfOk, IsTrue, MatchResult};
 ghost use Rattle.sqlite.specs.State.{HasCleanDisk};
 ghost use Rattle.sqlite.specs.Held.{state};
 ghost use Rattle.mx_register.specs.Registers.{AreRegistersOf};
 ghost use Rattle.mx_layout.specs.Crash.{StaysInside, IsWithin, ChangesNothing};
 ghost use Rattle.mx_layout.specs.Tables.{layout_1};
 ghost use Rattle.mx_tables.specs.Registers.{OnRead};
-ghost use Rattle.mx_office.specs.Stands.{Stands, Rests};
+ghost use Rattle.mx_office.specs.Stands.{HaveRowsOf, HoldsBook, Stands, Rests};
 
 use crate::fault::{Fault, fault_of};
 use mx_book::Book;
@@ -28,6 +28,8 @@ fn read_registers<S: Alter>(
         → OnRead result (StaysInside (state S.Store tx.old.conn.now) (state S.Store tx.new.conn.now)) }
     ensures exact { (book : _) → HasCleanDisk (state S.Store tx.new.conn.now) → (state S.Store tx.old.conn.now).now.schema ≡ layout_1 → Stands (state S.Store tx.old.conn.now).now.trees book
         → MatchResult result (λ registers. AreRegistersOf registers book) (λ fault. (fault ≡ TableFault.Memory) ⊎ (fault ≡ TableFault.Store)) }
+    ensures rows { HasCleanDisk (state S.Store tx.new.conn.now) → (state S.Store tx.old.conn.now).now.schema ≡ layout_1
+        → IfOk result (HaveRowsOf (state S.Store tx.old.conn.now).now.trees) }
     ensures within { IsWithin (state S.Store tx.old.conn.now) (state S.Store tx.new.conn.now) }
 {
     let entries = rows_entry(alloc, tx)?;
@@ -56,6 +58,8 @@ fn load<S: Alter>(alloc: Global, tx: &mut Transaction<'_, S>) -> Result<Book, Fa
         → result ≢ Err Fault.Memory → result ≢ Err Fault.Store → StaysInside (state S.Store tx.old.conn.now) (state S.Store tx.new.conn.now) }
     ensures exact { (book : _) → HasCleanDisk (state S.Store tx.new.conn.now) → (state S.Store tx.old.conn.now).now.schema ≡ layout_1 → Stands (state S.Store tx.old.conn.now).now.trees book
         → MatchResult result (λ b. b ≡ book) (λ fault. (fault ≡ Fault.Memory) ⊎ (fault ≡ Fault.Store)) }
+    ensures sound { HasCleanDisk (state S.Store tx.new.conn.now) → (state S.Store tx.old.conn.now).now.schema ≡ layout_1
+        → IfOk result (HoldsBook (state S.Store tx.old.conn.now).now.trees) }
     ensures within { IsWithin (state S.Store tx.old.conn.now) (state S.Store tx.new.conn.now) }
 {
     let registers = match read_registers(alloc, tx) {
@@ -63,7 +67,11 @@ fn load<S: Alter>(alloc: Global, tx: &mut Transaction<'_, S>) -> Result<Book, Fa
         Err(fault) => return Err(fault_of(fault)),
     };
     match merge(alloc, &registers) {
-        Ok(Some(book)) => Ok(book),
+        Ok(Some(book)) => {
+            // Each entry of a book was judged new.
+            let _ = book.len();
+            Ok(book)
+        }
         Ok(None) => Err(Fault::Damaged(Table::Entry)),
         Err(_) => Err(Fault::Memory),
     }
@@ -77,6 +85,8 @@ pub(crate) fn load_book<S: Alter>(alloc: Global, conn: &mut Connection<S>) -> Re
     ensures unchanged { ChangesNothing (state S.Store conn.old) (state S.Store conn.new) }
     ensures exact { (book : _) → Rests (state S.Store conn.old) book → HasCleanDisk (state S.Store conn.new)
         → MatchResult result (λ b. b ≡ book) (λ fault. (fault ≡ Fault.Memory) ⊎ (fault ≡ Fault.Store)) }
+    ensures sound { HasCleanDisk (state S.Store conn.new) → (state S.Store conn.old).now.schema ≡ layout_1
+        → IfOk result (HoldsBook (state S.Store conn.old).now.trees) }
 {
     let mut tx = conn.transaction();
     load(alloc, &mut tx)

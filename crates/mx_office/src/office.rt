@@ -12,9 +12,9 @@ ghost use Rattle.mx_layout.specs.Contents.{rows_in};
 ghost use Rattle.mx_layout.specs.Crash.{Leaves, ChangesNothing};
 ghost use Rattle.mx_layout.specs.Making.{first_point};
 ghost use Rattle.mx_layout.specs.Point.{point_cells, FitsPoint, HoldsPoint};
-ghost use Rattle.mx_layout.specs.Tables.{office, HasOffice};
-ghost use Rattle.mx_office.specs.Faults.{found_or, unknown, open_answer, IsAnswer, IsUnopened};
-ghost use Rattle.mx_office.specs.Stands.{Rests, IsEither};
+ghost use Rattle.mx_layout.specs.Tables.{layout_1, no_schema, office, HasOffice};
+ghost use Rattle.mx_office.specs.Faults.{found_or, unknown, open_answer, IsAnswer, IsReason, IsUnopened};
+ghost use Rattle.mx_office.specs.Stands.{HoldsBook, Rests, IsEither};
 
 use crate::adding::enter;
 use crate::fault::{Ask, Fault, OpenFault, Outcomes, open_fault_of};
@@ -43,6 +43,8 @@ fn answer<S: Alter>(
     ensures kept { (book : _) → Rests (state S.Store conn.old) book → OnOk result (Rests (state S.Store conn.new) (book_after book command.now)) }
     ensures untouched { ((seq : _) → result ≢ Ok (Reply.Accepted seq)) → result ≢ Err Fault.Store → ChangesNothing (state S.Store conn.old) (state S.Store conn.new) }
     ensures whole { (book : _) → Rests (state S.Store conn.old) book → HasCleanDisk (state S.Store conn.new) → (table : _) → result ≢ Err (Fault.Damaged table) }
+    ensures sound { HasCleanDisk (state S.Store conn.new) → (state S.Store conn.old).now.schema ≡ layout_1
+        → IfOk result (λ r. (book : _) × HoldsBook (state S.Store conn.old).now.trees book × (r ≡ reply book command.now)) }
     ensures crash { (book : _) → Rests (state S.Store conn.old) book → Leaves (state S.Store conn.new) (IsEither book (book_after book command.now)) }
 {
     let book = load_book(alloc, conn)?;
@@ -92,6 +94,10 @@ pub fn open_office<S: Alter>(
         → MatchResult result (λ at. HasCleanDisk (state S.Store at.conn) → open_answer p ≡ None) (λ e. HasCleanDisk (state S.Store e.0) → IsUnopened (open_answer p) e.1) }
     ensures not_ours { (IsTrue (state S.Store conn).is_open → HasOffice (state S.Store conn).now.schema)
         → IfErr result (λ e. HasCleanDisk (state S.Store e.0) → e.1 ≡ OpenFault.NotOurs → length (rows_in office (state S.Store conn).now.trees) ≢ 1) }
+    ensures reason { (IsTrue (state S.Store conn).is_open → HasOffice (state S.Store conn).now.schema)
+        → IfErr result (λ e. HasCleanDisk (state S.Store e.0) → IsReason (rows_in office (state S.Store conn).now.trees) e.1) }
+    ensures absent { (IsTrue (state S.Store conn).is_open → (state S.Store conn).now.schema ≡ no_schema)
+        → MatchResult result (λ at. ¬ HasCleanDisk (state S.Store at.conn)) (λ e. HasCleanDisk (state S.Store e.0) → IsUnopened (Some OpenFault.NotOurs) e.1) }
     ensures whole { (book : _) → Rests (state S.Store conn) book → IfErr result (λ e. HasCleanDisk (state S.Store e.0) → (e.1 ≡ OpenFault.Memory) ⊎ (e.1 ≡ OpenFault.Store)) }
 {
     match point(&mut conn) {
@@ -143,6 +149,8 @@ impl<S: Alter> Office<S> {
         ensures same { (book : _) → Rests (state S.Store self.old.conn) book → IfErr result (λ fault. fault ≢ Fault.Store → Rests (state S.Store self.new.conn) book) }
         ensures untouched { self.old.needs_reopen ≡ false → ((seq : _) → result ≢ Ok (Reply.Accepted seq)) → result ≢ Err Fault.Store → ChangesNothing (state S.Store self.old.conn) (state S.Store self.new.conn) }
         ensures whole { (book : _) → Rests (state S.Store self.old.conn) book → HasCleanDisk (state S.Store self.new.conn) → (table : _) → result ≢ Err (Fault.Damaged table) }
+        ensures sound { HasCleanDisk (state S.Store self.new.conn) → (state S.Store self.old.conn).now.schema ≡ layout_1
+            → IfOk result (λ r. (book : _) × HoldsBook (state S.Store self.old.conn).now.trees book × (r ≡ reply book command.now)) }
         ensures crash { (book : _) → Rests (state S.Store self.old.conn) book → Leaves (state S.Store self.new.conn) (IsEither book (book_after book command.now)) }
     {
         if self.needs_reopen {
@@ -206,6 +214,8 @@ impl<S: Alter> Office<S> {
         ensures untouched { self.old.needs_reopen ≡ false → ChangesNothing (state S.Store self.old.conn) (state S.Store self.new.conn) }
         ensures exact { (book : _) → self.old.needs_reopen ≡ false → Rests (state S.Store self.old.conn) book → HasCleanDisk (state S.Store self.new.conn)
             → MatchResult result (λ b. b ≡ book) (λ fault. (fault ≡ Fault.Memory) ⊎ (fault ≡ Fault.Store)) }
+        ensures sound { HasCleanDisk (state S.Store self.new.conn) → (state S.Store self.old.conn).now.schema ≡ layout_1
+            → IfOk result (HoldsBook (state S.Store self.old.conn).now.trees) }
     {
         if self.needs_reopen {
             return Err(Fault::NeedsReopen);
@@ -216,6 +226,7 @@ impl<S: Alter> Office<S> {
         }
         book
     }
+
     /// The life list of an aircraft. `Refused(UnknownAircraft)` where no aircraft has the registration.
     /// No table changes.
     pub fn life_rows(&mut self, alloc: Global, tail: &Tail) -> Result<LifeList, Ask>
@@ -226,6 +237,8 @@ impl<S: Alter> Office<S> {
         ensures untouched { self.old.needs_reopen ≡ false → ChangesNothing (state S.Store self.old.conn) (state S.Store self.new.conn) }
         ensures exact { (book : _) → self.old.needs_reopen ≡ false → Rests (state S.Store self.old.conn) book → HasCleanDisk (state S.Store self.new.conn)
             → IsAnswer (found_or Refusal.UnknownAircraft (life_list book tail.now)) result }
+        ensures sound { HasCleanDisk (state S.Store self.new.conn) → (state S.Store self.old.conn).now.schema ≡ layout_1 → ((fault : _) → result ≢ Err (Ask.Failed fault))
+            → (book : _) × HoldsBook (state S.Store self.old.conn).now.trees book × (result ≡ found_or Refusal.UnknownAircraft (life_list book tail.now)) }
     {
         let book = self.book(alloc)?;
         match book.life_list(alloc, tail)? {
@@ -244,6 +257,8 @@ impl<S: Alter> Office<S> {
         ensures untouched { self.old.needs_reopen ≡ false → ChangesNothing (state S.Store self.old.conn) (state S.Store self.new.conn) }
         ensures exact { (book : _) → self.old.needs_reopen ≡ false → Rests (state S.Store self.old.conn) book → HasCleanDisk (state S.Store self.new.conn)
             → IsAnswer (found_or (unknown item.now) (life_now book item.now)) result }
+        ensures sound { HasCleanDisk (state S.Store self.new.conn) → (state S.Store self.old.conn).now.schema ≡ layout_1 → ((fault : _) → result ≢ Err (Ask.Failed fault))
+            → (book : _) × HoldsBook (state S.Store self.old.conn).now.trees book × (result ≡ found_or (unknown item.now) (life_now book item.now)) }
     {
         let book = self.book(alloc)?;
         match book.life_now(item) {
@@ -262,6 +277,8 @@ impl<S: Alter> Office<S> {
         ensures untouched { self.old.needs_reopen ≡ false → ChangesNothing (state S.Store self.old.conn) (state S.Store self.new.conn) }
         ensures exact { (book : _) → self.old.needs_reopen ≡ false → Rests (state S.Store self.old.conn) book → HasCleanDisk (state S.Store self.new.conn)
             → MatchResult result (λ v. v.items ≡ entries_from from at_most book) (λ fault. (fault ≡ Fault.Memory) ⊎ (fault ≡ Fault.Store)) }
+        ensures sound { HasCleanDisk (state S.Store self.new.conn) → (state S.Store self.old.conn).now.schema ≡ layout_1
+            → IfOk result (λ v. (book : _) × HoldsBook (state S.Store self.old.conn).now.trees book × (v.items ≡ entries_from from at_most book)) }
     {
         let book = self.book(alloc)?;
         Ok(book.entries(alloc, from, at_most)?)

@@ -1,4 +1,5 @@
-use Rattle.mx_office.proofs.LoadLemmas.{found_book, found_none, stops_loading}
+use Rattle.sqlite.specs.Held.{state}
+use Rattle.mx_office.proofs.LoadLemmas.{found_book, found_none, stops_loading, holds_read}
 use Rattle.mx_office.proofs.loading.load.Goals as goal
 
 pub returns-in-Err-clause-exact : goal.returns-in-Err-clause-exact
@@ -13,3 +14,7 @@ pub returns-in-Ok-None-clause-exact : goal.returns-in-Ok-None-clause-exact
 returns-in-Ok-None-clause-exact g c book clean has stands =
     let found = c.in-Ok-None.ensures.exact book stands.is_book (c.in-Ok.ensures.exact book clean has stands) in
     absurd (found_none book (rw c.in-Ok-None.field-0-is at found))
+
+pub returns-in-Ok-Some-clause-sound : goal.returns-in-Ok-Some-clause-sound
+returns-in-Ok-Some-clause-sound g c clean has =
+    holds_read (state g.S.Store c.args.tx.now.conn.now).now.trees c.in-Ok.registers c.in-Ok-Some.book c.len.ensures.book (c.in-Ok.ensures.rows clean has) (rw c.in-Ok-Some.field-0-is at c.in-Ok-Some.ensures.sound)

@@ -1,9 +1,11 @@
-use Rattle.std.proofs.Common.{arith, ap, Err}
+use Rattle.std.proofs.Common.{◌≡◌, ◌∙◌, arith, ap, refl, Err}
 use Rattle.sqlite.specs.Held.{state}
 use Rattle.sqlite.specs.State.{HasCleanDisk}
 use Rattle.mx_register.specs.Registers.{AreRegistersOf}
+use Rattle.mx_layout.specs.Tables.{entry, aircraft, place, component, sector1, fit1, removal1}
+use Rattle.mx_tables.specs.Cells.{entry_cells, aircraft_cells, place_cells, component_cells, sector_cells, fitting_cells, removal_cells}
 use Rattle.mx_layout.specs.declared.fault.Table.TheVariants as named
-use Rattle.mx_office.proofs.LoadLemmas.{after_read, not_damaged, stops_reading, entries_read, aircraft_read, places_read, components_read, sectors_read, fittings_read, removals_read, entries_good, aircraft_good, places_good, components_good, sectors_good, fittings_good, removals_good}
+use Rattle.mx_office.proofs.LoadLemmas.{after_read, read_before, has_still, not_damaged, stops_reading, entries_read, aircraft_read, places_read, components_read, sectors_read, fittings_read, removals_read, entries_good, aircraft_good, places_good, components_good, sectors_good, fittings_good, removals_good}
 use Rattle.mx_office.proofs.loading.read_registers.Goals as goal
 
 pub returns-in_err-entries-clause-exact : goal.returns-in_err-entries-clause-exact
@@ -140,4 +142,41 @@ returns-clause-exact g c book clean has stands =
       sectors = sectors_read s4.now.trees book at4.1 c.in_ok-sectors.sectors.items c.in_ok-sectors.ensures.fits (c.in_ok-sectors.ensures.rows clean5 at4.0);
       fittings = fittings_read s5.now.trees book at5.1 c.in_ok-fittings.fittings.items c.in_ok-fittings.ensures.fits (c.in_ok-fittings.ensures.rows clean6 at5.0);
       removals = removals_read s6.now.trees book at6.1 c.in_ok-removals.removals.items c.in_ok-removals.ensures.fits (c.in_ok-removals.ensures.rows clean at6.0);
+    }
+
+pub returns-clause-rows : goal.returns-clause-rows
+returns-clause-rows g c clean has =
+    let s0 = state g.S.Store c.args.tx.now.conn.now in
+    let s1 = state g.S.Store c.rows_entry.new.tx.conn.now in
+    let s2 = state g.S.Store c.rows_aircraft.new.tx.conn.now in
+    let s3 = state g.S.Store c.rows_place.new.tx.conn.now in
+    let s4 = state g.S.Store c.rows_component.new.tx.conn.now in
+    let s5 = state g.S.Store c.rows_sector1.new.tx.conn.now in
+    let s6 = state g.S.Store c.rows_fit1.new.tx.conn.now in
+    let clean6 : HasCleanDisk s6 = omega (arith, c.rows_removal1.ensures.within.survives.clean) in
+    let clean5 : HasCleanDisk s5 = omega (arith, c.rows_fit1.ensures.within.survives.clean) in
+    let clean4 : HasCleanDisk s4 = omega (arith, c.rows_sector1.ensures.within.survives.clean) in
+    let clean3 : HasCleanDisk s3 = omega (arith, c.rows_component.ensures.within.survives.clean) in
+    let clean2 : HasCleanDisk s2 = omega (arith, c.rows_place.ensures.within.survives.clean) in
+    let clean1 : HasCleanDisk s1 = omega (arith, c.rows_aircraft.ensures.within.survives.clean) in
+    let same1 : s1.now ≡ s0.now = (c.in_ok-entries.ensures.unchanged clean1 has).0.now_is in
+    let has1 = has_still s0.now s1.now same1 has in
+    let same2 : s2.now ≡ s0.now = (c.in_ok-aircraft.ensures.unchanged clean2 has1).0.now_is ∙ same1 in
+    let has2 = has_still s0.now s2.now same2 has in
+    let same3 : s3.now ≡ s0.now = (c.in_ok-places.ensures.unchanged clean3 has2).0.now_is ∙ same2 in
+    let has3 = has_still s0.now s3.now same3 has in
+    let same4 : s4.now ≡ s0.now = (c.in_ok-components.ensures.unchanged clean4 has3).0.now_is ∙ same3 in
+    let has4 = has_still s0.now s4.now same4 has in
+    let same5 : s5.now ≡ s0.now = (c.in_ok-sectors.ensures.unchanged clean5 has4).0.now_is ∙ same4 in
+    let has5 = has_still s0.now s5.now same5 has in
+    let same6 : s6.now ≡ s0.now = (c.in_ok-fittings.ensures.unchanged clean6 has5).0.now_is ∙ same5 in
+    let has6 = has_still s0.now s6.now same6 has in
+    record {
+      entries = read_before entry_cells entry s0.now s0.now c.in_ok-entries.entries.items refl (c.in_ok-entries.ensures.rows clean1 has).all;
+      aircraft = read_before aircraft_cells aircraft s0.now s1.now c.in_ok-aircraft.aircraft.items same1 (c.in_ok-aircraft.ensures.rows clean2 has1).all;
+      places = read_before place_cells place s0.now s2.now c.in_ok-places.places.items same2 (c.in_ok-places.ensures.rows clean3 has2).all;
+      components = read_before component_cells component s0.now s3.now c.in_ok-components.components.items same3 (c.in_ok-components.ensures.rows clean4 has3).all;
+      sectors = read_before sector_cells sector1 s0.now s4.now c.in_ok-sectors.sectors.items same4 (c.in_ok-sectors.ensures.rows clean5 has4).all;
+      fittings = read_before fitting_cells fit1 s0.now s5.now c.in_ok-fittings.fittings.items same5 (c.in_ok-fittings.ensures.rows clean6 has5).all;
+      removals = read_before removal_cells removal1 s0.now s6.now c.in_ok-removals.removals.items same6 (c.in_ok-removals.ensures.rows clean has6).all;
     }

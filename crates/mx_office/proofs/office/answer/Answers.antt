@@ -7,8 +7,21 @@ use Rattle.mx_layout.specs.Tables.{layout_1}
 use Rattle.mx_layout.proofs.CrashLemmas.{rests_kept}
 use Rattle.mx_office.specs.Stands.{Stands}
 use Rattle.mx_office.proofs.AnswerLemmas.{no_damage}
-use Rattle.mx_office.proofs.OfficeLemmas.{old_reply, loaded_rests, new_kept, new_crash}
+use Rattle.mx_office.proofs.OfficeLemmas.{old_reply, loaded_rests, new_kept, new_crash, said_reply}
 use Rattle.mx_office.proofs.office.answer.Goals as goal
+
+pub returns-in-Already-clause-sound : goal.returns-in-Already-clause-sound
+returns-in-Already-clause-sound g c clean has =
+    (c.in_ok-book.book, c.in_ok-book.ensures.sound clean has, said_reply c.in_ok-book.book c.args.command.now (Already c.in-Already.seq) c.in-Already.ensures)
+
+pub returns-in-Refused-clause-sound : goal.returns-in-Refused-clause-sound
+returns-in-Refused-clause-sound g c clean has =
+    (c.in_ok-book.book, c.in_ok-book.ensures.sound clean has, said_reply c.in_ok-book.book c.args.command.now (Refused c.in-Refused.refusal) c.in-Refused.ensures)
+
+pub returns-in-Ok-clause-sound : goal.returns-in-Ok-clause-sound
+returns-in-Ok-clause-sound g c clean has =
+    let early : HasCleanDisk (state g.S.Store c.load_book.new.conn) = omega (arith, c.enter.ensures.clean) in
+    (c.in_ok-book.book, c.in_ok-book.ensures.sound early has, ap (λ n. reply.Accepted (n + 1)) c.len-seq.ensures.len ∙ said_reply c.in_ok-book.book c.args.command.now New c.in-New.ensures)
 
 pub returns-in_err-book-clause-whole : goal.returns-in_err-book-clause-whole
 returns-in_err-book-clause-whole g c book rests clean table same =

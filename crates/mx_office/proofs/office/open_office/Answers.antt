@@ -4,7 +4,7 @@ use Rattle.sqlite.specs.State.{HasCleanDisk}
 use Rattle.mx_layout.specs.Making.{first_point}
 use Rattle.mx_layout.proofs.PointLemmas.{rests_holds}
 use Rattle.mx_office.specs.Stands.{Stands}
-use Rattle.mx_office.proofs.AnswerLemmas.{open_stops}
+use Rattle.mx_office.proofs.AnswerLemmas.{open_stops, open_reason, open_absent}
 use Rattle.mx_office.proofs.LoadLemmas.{stands_point}
 use Rattle.mx_layout.specs.declared.points.Point.{Point}
 use Rattle.mx_office.proofs.office.open_office.Goals.{then-at-ne-NEWEST_LAYOUT-via-then-at-ne-NEWEST_LAYOUT, then-at-ne-NEWEST_LAYOUT-via-else-at-ne-NEWEST_LAYOUT+then-at-ne0, then-at-ne-NEWEST_LAYOUT-via-else-at-ne-NEWEST_LAYOUT+else-at-ne0+then-at-ne0-2}
@@ -41,3 +41,9 @@ returns-then-at-ne-NEWEST_LAYOUT-clause-whole g c book rests clean =
       | then-at-ne-NEWEST_LAYOUT-via-else-at-ne-NEWEST_LAYOUT+then-at-ne0 w ↦ absurd (w.if-at-ne0.true step)
       | then-at-ne-NEWEST_LAYOUT-via-else-at-ne-NEWEST_LAYOUT+else-at-ne0+then-at-ne0-2 w ↦ absurd (w.if-at-ne0-2.true mark)
     ]
+
+pub returns-in-Err-clause-reason : goal.returns-in-Err-clause-reason
+returns-in-Err-clause-reason g c has clean = open_reason _ c.in-Err.fault c.open_fault_of.result c.open_fault_of.ensures (c.in-Err.ensures.reads clean has)
+
+pub returns-in-Err-clause-absent : goal.returns-in-Err-clause-absent
+returns-in-Err-clause-absent g c none clean = open_absent c.in-Err.fault c.open_fault_of.result c.open_fault_of.ensures (c.in-Err.ensures.absent clean none)

@@ -1,7 +1,7 @@
 use Rattle.std.proofs.Common.{◌∙◌, ap}
 use Rattle.mx_book.specs.Life.{life_now}
 use Rattle.mx_office.specs.Faults.{found_or, unknown}
-use Rattle.mx_office.proofs.AnswerLemmas.{stopped_answer, some_answer, none_answer}
+use Rattle.mx_office.proofs.AnswerLemmas.{stopped_answer, some_answer, none_answer, not_stopped}
 use Rattle.mx_office.proofs.office.Office.life.Goals as goal
 
 pub returns-in_err-book-clause-exact : goal.returns-in_err-book-clause-exact
@@ -15,3 +15,13 @@ returns-in-Some-clause-exact g c book works rests clean =
 pub returns-clause-exact : goal.returns-clause-exact
 returns-clause-exact g c book works rests clean =
     rw c.unknown_of.ensures (none_answer (unknown c.args.item.now) (life_now book c.args.item.now) (c.in-None.ensures ∙ ap (λ b. life_now b c.args.item.now) (c.in_ok-book.ensures.exact book works rests clean)))
+
+pub returns-in_err-book-clause-sound : goal.returns-in_err-book-clause-sound
+returns-in_err-book-clause-sound g c clean has goes = not_stopped c.from_residual.result c.in_err-book.field-0.0 c.from_residual.ensures goes
+
+pub returns-in-Some-clause-sound : goal.returns-in-Some-clause-sound
+returns-in-Some-clause-sound g c clean has goes = (c.in_ok-book.book, c.in_ok-book.ensures.sound clean has, ap (found_or (unknown c.args.item.now)) c.in-Some.ensures)
+
+pub returns-clause-sound : goal.returns-clause-sound
+returns-clause-sound g c clean has goes =
+    (c.in_ok-book.book, c.in_ok-book.ensures.sound clean has, rw c.unknown_of.ensures (ap (found_or (unknown c.args.item.now)) c.in-None.ensures))

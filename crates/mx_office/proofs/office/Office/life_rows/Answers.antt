@@ -2,7 +2,7 @@ use Rattle.std.proofs.Common.{◌∙◌, ap, sym}
 use Rattle.mx_book.specs.Lists.{life_list}
 use Rattle.mx_book.specs.declared.verdict.Refusal.TheVariants.{UnknownAircraft}
 use Rattle.mx_office.specs.Faults.{found_or}
-use Rattle.mx_office.proofs.AnswerLemmas.{stopped_answer, some_answer, none_answer}
+use Rattle.mx_office.proofs.AnswerLemmas.{stopped_answer, some_answer, none_answer, not_stopped}
 use Rattle.mx_office.proofs.office.Office.life_rows.Goals as goal
 
 pub returns-in_err-book-clause-exact : goal.returns-in_err-book-clause-exact
@@ -16,3 +16,14 @@ returns-in-Some-clause-exact g c book works rests clean =
 pub returns-clause-exact : goal.returns-clause-exact
 returns-clause-exact g c book works rests clean =
     none_answer UnknownAircraft (life_list book c.args.tail.now) (sym c.in-None.is ∙ c.in_ok-list.ensures ∙ ap (λ b. life_list b c.args.tail.now) (c.in_ok-book.ensures.exact book works rests clean))
+
+pub returns-in_err-book-clause-sound : goal.returns-in_err-book-clause-sound
+returns-in_err-book-clause-sound g c clean has goes = not_stopped c.from_residual.result c.in_err-book.field-0.0 c.from_residual.ensures goes
+
+pub returns-in-Some-clause-sound : goal.returns-in-Some-clause-sound
+returns-in-Some-clause-sound g c clean has goes =
+    (c.in_ok-book.book, c.in_ok-book.ensures.sound clean has, ap (found_or UnknownAircraft) (sym c.in-Some.is ∙ c.in_ok-list.ensures))
+
+pub returns-clause-sound : goal.returns-clause-sound
+returns-clause-sound g c clean has goes =
+    (c.in_ok-book.book, c.in_ok-book.ensures.sound clean has, ap (found_or UnknownAircraft) (sym c.in-None.is ∙ c.in_ok-list.ensures))
