@@ -55,3 +55,12 @@ open_reason rows f answered is (inr (inr bad)) = inr (inr (inl (is ∙ ap open_f
 pub open_absent : (f : TableFault) (answered : OpenFault) → answered ≡ open_fault_from f → IsStop f ⊎ (f ≡ NotOurs) → IsUnopened (Some unopened.NotOurs) answered
 open_absent f answered is (inl stop) = inr (open_stops f answered is stop)
 open_absent f answered is (inr none) = inl (ap Some (sym (is ∙ ap open_fault_from none)))
+
+-- the fault that is answered is the one that stopped the call
+pub same_fault : {V : Type 0} (result : Result V Fault) (f said : Fault) → IsErr result × IsErrAnd result (λ it. it ≡ f) → result ≡ Err said → f ≡ said
+same_fault (Ok v) f said is same = cc
+same_fault (Err it) f said is same = let one : it ≡ f = is.1 in cc
+
+pub same_asked : {X : Type 0} (result : Result X Ask) (f said : Fault) → IsErr result × IsErrAnd result (λ it. it ≡ Failed f) → result ≡ Err (Failed said) → f ≡ said
+same_asked (Ok x) f said is same = cc
+same_asked (Err it) f said is same = let one : it ≡ Failed f = is.1 in cc

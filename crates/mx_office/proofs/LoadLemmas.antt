@@ -285,3 +285,27 @@ empty_stands trees made = record {
   fit = FitBook-empty;
   tables = empty_tables trees made;
 }
+
+-- the table that the reader names is the one that it read, and that one has the damage
+pub damage_of : {V : Type 0} (P : Name → Type 0) (result : Result V TableFault) (stop : TableFault) (at name : Name) → IsErr result × IsErrAnd result (λ it. it ≡ stop)
+    → (stop ≡ table.Memory) ⊎ ((stop ≡ table.Store) ⊎ (stop ≡ table.Damaged at)) → (stop ≡ table.Damaged at → P at) → result ≡ Err (table.Damaged name) → P name
+damage_of P (Ok v) stop at name is cause has same = cc
+damage_of P (Err it) stop at name is cause has same =
+    let said : it ≡ stop = is.1 in
+    elim cause [
+      | inl memory ↦ absurd cc
+      | inr (inl store) ↦ absurd cc
+      | inr (inr damaged) ↦ let names : at ≡ name = cc in subst P names (has damaged)
+    ]
+
+-- a fault that is damage was damage of the same table
+pub damage_from : (stop : TableFault) (name : Name) → fault_from stop ≡ fault.Damaged name → stop ≡ table.Damaged name
+damage_from table.Memory name is = cc
+damage_from table.Store name is = cc
+damage_from table.NotOurs name is = cc
+damage_from table.Exists name is = cc
+damage_from (table.Damaged at) name is = cc
+
+-- damage that was there after calls that changed nothing was there before them
+pub damaged_before : {X : Type 0} (as_cells : X → Row) (Fits : X → Type 0) (at : Table) (old new : Database) → new ≡ old → HasOther (IsRowOf as_cells Fits) (rows_in at new.trees) → HasOther (IsRowOf as_cells Fits) (rows_in at old.trees)
+damaged_before as_cells Fits at old new same h = subst (λ (d : Database). HasOther (IsRowOf as_cells Fits) (rows_in at d.trees)) same h

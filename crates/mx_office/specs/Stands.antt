@@ -11,7 +11,9 @@ use Rattle.mx_register.specs.declared.merge.Registers.{Registers}
 use Rattle.mx_register.specs.Registers.{entry_rows, aircraft_rows, place_rows, component_rows, sector_rows, fitting_rows, removal_rows, entry_added, aircraft_by, places_by, components_by, sectors_by, fittings_by, removals_by, FitBook}
 use Rattle.mx_layout.specs.declared.fault.Table.{Table as Name}
 use Rattle.mx_layout.specs.declared.fault.Table.TheVariants.{Office, Entry, Aircraft, Place, Component, Sector1, Fit1, Removal1}
+use Rattle.mx_register.specs.Rows.{FitsEntry, FitsAircraft, FitsPlace, FitsComponent, FitsSector, FitsFitting, FitsRemoval}
 use Rattle.mx_layout.specs.Contents.{rows_in}
+use Rattle.mx_layout.specs.Reading.{HasOther, IsRowOf}
 use Rattle.mx_layout.specs.Crash.{RestsAs}
 use Rattle.mx_layout.specs.Making.{first_point}
 use Rattle.mx_layout.specs.Names.{table_named}
@@ -58,6 +60,17 @@ pub record HoldsBook (trees : Trees) (book : List Command) : Type 0 where
   pub sectors : IsPermutation (rows_given book Sector1) (rows_in (table_named Sector1) trees)
   pub fittings : IsPermutation (rows_given book Fit1) (rows_in (table_named Fit1) trees)
   pub removals : IsPermutation (rows_given book Removal1) (rows_in (table_named Removal1) trees)
+
+-- some row of the table is none of its type
+abbrev pub IsDamaged : Trees → Name → Type 0
+IsDamaged trees Entry = HasOther (IsRowOf entry_cells FitsEntry) (rows_in (table_named Entry) trees)
+IsDamaged trees Aircraft = HasOther (IsRowOf aircraft_cells FitsAircraft) (rows_in (table_named Aircraft) trees)
+IsDamaged trees Place = HasOther (IsRowOf place_cells FitsPlace) (rows_in (table_named Place) trees)
+IsDamaged trees Component = HasOther (IsRowOf component_cells FitsComponent) (rows_in (table_named Component) trees)
+IsDamaged trees Sector1 = HasOther (IsRowOf sector_cells FitsSector) (rows_in (table_named Sector1) trees)
+IsDamaged trees Fit1 = HasOther (IsRowOf fitting_cells FitsFitting) (rows_in (table_named Fit1) trees)
+IsDamaged trees Removal1 = HasOther (IsRowOf removal_cells FitsRemoval) (rows_in (table_named Removal1) trees)
+IsDamaged trees _ = ⊥
 
 -- no transaction is open, and the tables, and each state of them that a crash may leave, stand for the book
 abbrev pub Rests : State → List Command → Type 0

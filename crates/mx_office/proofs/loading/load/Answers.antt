@@ -1,5 +1,7 @@
+use Rattle.std.proofs.Common.{◌≡◌, Err, inr, sym, ap, ◌∙◌}
 use Rattle.sqlite.specs.Held.{state}
-use Rattle.mx_office.proofs.LoadLemmas.{found_book, found_none, stops_loading, holds_read}
+use Rattle.mx_office.specs.declared.fault.Fault.TheVariants as fault
+use Rattle.mx_office.proofs.LoadLemmas.{found_book, found_none, stops_loading, holds_read, damage_from}
 use Rattle.mx_office.proofs.loading.load.Goals as goal
 
 pub returns-in-Err-clause-exact : goal.returns-in-Err-clause-exact
@@ -18,3 +20,8 @@ returns-in-Ok-None-clause-exact g c book clean has stands =
 pub returns-in-Ok-Some-clause-sound : goal.returns-in-Ok-Some-clause-sound
 returns-in-Ok-Some-clause-sound g c clean has =
     holds_read (state g.S.Store c.args.tx.now.conn.now).now.trees c.in-Ok.registers c.in-Ok-Some.book c.len.ensures.book (c.in-Ok.ensures.rows clean has) (rw c.in-Ok-Some.field-0-is at c.in-Ok-Some.ensures.sound)
+
+pub returns-in-Err-clause-damaged : goal.returns-in-Err-clause-damaged
+returns-in-Err-clause-damaged g c clean has table said =
+    let same : c.fault_of.result ≡ fault.Damaged table = cc in
+    inr (c.in-Err.ensures.damaged clean has table (ap Err (damage_from c.in-Err.fault table (sym c.fault_of.ensures ∙ same))))

@@ -5,7 +5,9 @@ use Rattle.mx_register.specs.Registers.{AreRegistersOf}
 use Rattle.mx_layout.specs.Tables.{entry, aircraft, place, component, sector1, fit1, removal1}
 use Rattle.mx_tables.specs.Cells.{entry_cells, aircraft_cells, place_cells, component_cells, sector_cells, fitting_cells, removal_cells}
 use Rattle.mx_layout.specs.declared.fault.Table.TheVariants as named
-use Rattle.mx_office.proofs.LoadLemmas.{after_read, read_before, has_still, not_damaged, stops_reading, entries_read, aircraft_read, places_read, components_read, sectors_read, fittings_read, removals_read, entries_good, aircraft_good, places_good, components_good, sectors_good, fittings_good, removals_good}
+use Rattle.mx_register.specs.Rows.{FitsEntry, FitsAircraft, FitsPlace, FitsComponent, FitsSector, FitsFitting, FitsRemoval}
+use Rattle.mx_office.specs.Stands.{IsDamaged}
+use Rattle.mx_office.proofs.LoadLemmas.{after_read, read_before, has_still, damage_of, damaged_before, not_damaged, stops_reading, entries_read, aircraft_read, places_read, components_read, sectors_read, fittings_read, removals_read, entries_good, aircraft_good, places_good, components_good, sectors_good, fittings_good, removals_good}
 use Rattle.mx_office.proofs.loading.read_registers.Goals as goal
 
 pub returns-in_err-entries-clause-exact : goal.returns-in_err-entries-clause-exact
@@ -180,3 +182,129 @@ returns-clause-rows g c clean has =
       fittings = read_before fitting_cells fit1 s0.now s5.now c.in_ok-fittings.fittings.items same5 (c.in_ok-fittings.ensures.rows clean6 has5).all;
       removals = read_before removal_cells removal1 s0.now s6.now c.in_ok-removals.removals.items same6 (c.in_ok-removals.ensures.rows clean has6).all;
     }
+
+pub returns-in_err-entries-clause-damaged : goal.returns-in_err-entries-clause-damaged
+returns-in_err-entries-clause-damaged g c clean has name said =
+    let s0 = state g.S.Store c.args.tx.now.conn.now in
+    damage_of (IsDamaged s0.now.trees) c.from_residual.result c.in_err-entries.field-0.0 named.Entry name c.from_residual.ensures c.in_err-entries.ensures.cause
+    (λ e. damaged_before entry_cells FitsEntry entry s0.now s0.now refl (c.in_err-entries.ensures.damaged clean has (ap Err e))) said
+
+pub returns-in_err-aircraft-clause-damaged : goal.returns-in_err-aircraft-clause-damaged
+returns-in_err-aircraft-clause-damaged g c clean has name said =
+    let s0 = state g.S.Store c.args.tx.now.conn.now in
+    let s1 = state g.S.Store c.rows_entry.new.tx.conn.now in
+    let clean1 : HasCleanDisk s1 = omega (arith, c.rows_aircraft.ensures.within.survives.clean) in
+    let same1 : s1.now ≡ s0.now = (c.in_ok-entries.ensures.unchanged clean1 has).0.now_is in
+    let has1 = has_still s0.now s1.now same1 has in
+    damage_of (IsDamaged s0.now.trees) c.from_residual-in_err-aircraft.result c.in_err-aircraft.field-0.0 named.Aircraft name c.from_residual-in_err-aircraft.ensures c.in_err-aircraft.ensures.cause
+    (λ e. damaged_before aircraft_cells FitsAircraft aircraft s0.now s1.now same1 (c.in_err-aircraft.ensures.damaged clean has1 (ap Err e))) said
+
+pub returns-in_err-places-clause-damaged : goal.returns-in_err-places-clause-damaged
+returns-in_err-places-clause-damaged g c clean has name said =
+    let s0 = state g.S.Store c.args.tx.now.conn.now in
+    let s1 = state g.S.Store c.rows_entry.new.tx.conn.now in
+    let s2 = state g.S.Store c.rows_aircraft.new.tx.conn.now in
+    let clean2 : HasCleanDisk s2 = omega (arith, c.rows_place.ensures.within.survives.clean) in
+    let clean1 : HasCleanDisk s1 = omega (arith, c.rows_aircraft.ensures.within.survives.clean) in
+    let same1 : s1.now ≡ s0.now = (c.in_ok-entries.ensures.unchanged clean1 has).0.now_is in
+    let has1 = has_still s0.now s1.now same1 has in
+    let same2 : s2.now ≡ s0.now = (c.in_ok-aircraft.ensures.unchanged clean2 has1).0.now_is ∙ same1 in
+    let has2 = has_still s0.now s2.now same2 has in
+    damage_of (IsDamaged s0.now.trees) c.from_residual-in_err-places.result c.in_err-places.field-0.0 named.Place name c.from_residual-in_err-places.ensures c.in_err-places.ensures.cause
+    (λ e. damaged_before place_cells FitsPlace place s0.now s2.now same2 (c.in_err-places.ensures.damaged clean has2 (ap Err e))) said
+
+pub returns-in_err-components-clause-damaged : goal.returns-in_err-components-clause-damaged
+returns-in_err-components-clause-damaged g c clean has name said =
+    let s0 = state g.S.Store c.args.tx.now.conn.now in
+    let s1 = state g.S.Store c.rows_entry.new.tx.conn.now in
+    let s2 = state g.S.Store c.rows_aircraft.new.tx.conn.now in
+    let s3 = state g.S.Store c.rows_place.new.tx.conn.now in
+    let clean3 : HasCleanDisk s3 = omega (arith, c.rows_component.ensures.within.survives.clean) in
+    let clean2 : HasCleanDisk s2 = omega (arith, c.rows_place.ensures.within.survives.clean) in
+    let clean1 : HasCleanDisk s1 = omega (arith, c.rows_aircraft.ensures.within.survives.clean) in
+    let same1 : s1.now ≡ s0.now = (c.in_ok-entries.ensures.unchanged clean1 has).0.now_is in
+    let has1 = has_still s0.now s1.now same1 has in
+    let same2 : s2.now ≡ s0.now = (c.in_ok-aircraft.ensures.unchanged clean2 has1).0.now_is ∙ same1 in
+    let has2 = has_still s0.now s2.now same2 has in
+    let same3 : s3.now ≡ s0.now = (c.in_ok-places.ensures.unchanged clean3 has2).0.now_is ∙ same2 in
+    let has3 = has_still s0.now s3.now same3 has in
+    damage_of (IsDamaged s0.now.trees) c.from_residual-in_err-components.result c.in_err-components.field-0.0 named.Component name c.from_residual-in_err-components.ensures c.in_err-components.ensures.cause
+    (λ e. damaged_before component_cells FitsComponent component s0.now s3.now same3 (c.in_err-components.ensures.damaged clean has3 (ap Err e))) said
+
+pub returns-in_err-sectors-clause-damaged : goal.returns-in_err-sectors-clause-damaged
+returns-in_err-sectors-clause-damaged g c clean has name said =
+    let s0 = state g.S.Store c.args.tx.now.conn.now in
+    let s1 = state g.S.Store c.rows_entry.new.tx.conn.now in
+    let s2 = state g.S.Store c.rows_aircraft.new.tx.conn.now in
+    let s3 = state g.S.Store c.rows_place.new.tx.conn.now in
+    let s4 = state g.S.Store c.rows_component.new.tx.conn.now in
+    let clean4 : HasCleanDisk s4 = omega (arith, c.rows_sector1.ensures.within.survives.clean) in
+    let clean3 : HasCleanDisk s3 = omega (arith, c.rows_component.ensures.within.survives.clean) in
+    let clean2 : HasCleanDisk s2 = omega (arith, c.rows_place.ensures.within.survives.clean) in
+    let clean1 : HasCleanDisk s1 = omega (arith, c.rows_aircraft.ensures.within.survives.clean) in
+    let same1 : s1.now ≡ s0.now = (c.in_ok-entries.ensures.unchanged clean1 has).0.now_is in
+    let has1 = has_still s0.now s1.now same1 has in
+    let same2 : s2.now ≡ s0.now = (c.in_ok-aircraft.ensures.unchanged clean2 has1).0.now_is ∙ same1 in
+    let has2 = has_still s0.now s2.now same2 has in
+    let same3 : s3.now ≡ s0.now = (c.in_ok-places.ensures.unchanged clean3 has2).0.now_is ∙ same2 in
+    let has3 = has_still s0.now s3.now same3 has in
+    let same4 : s4.now ≡ s0.now = (c.in_ok-components.ensures.unchanged clean4 has3).0.now_is ∙ same3 in
+    let has4 = has_still s0.now s4.now same4 has in
+    damage_of (IsDamaged s0.now.trees) c.from_residual-in_err-sectors.result c.in_err-sectors.field-0.0 named.Sector1 name c.from_residual-in_err-sectors.ensures c.in_err-sectors.ensures.cause
+    (λ e. damaged_before sector_cells FitsSector sector1 s0.now s4.now same4 (c.in_err-sectors.ensures.damaged clean has4 (ap Err e))) said
+
+pub returns-in_err-fittings-clause-damaged : goal.returns-in_err-fittings-clause-damaged
+returns-in_err-fittings-clause-damaged g c clean has name said =
+    let s0 = state g.S.Store c.args.tx.now.conn.now in
+    let s1 = state g.S.Store c.rows_entry.new.tx.conn.now in
+    let s2 = state g.S.Store c.rows_aircraft.new.tx.conn.now in
+    let s3 = state g.S.Store c.rows_place.new.tx.conn.now in
+    let s4 = state g.S.Store c.rows_component.new.tx.conn.now in
+    let s5 = state g.S.Store c.rows_sector1.new.tx.conn.now in
+    let clean5 : HasCleanDisk s5 = omega (arith, c.rows_fit1.ensures.within.survives.clean) in
+    let clean4 : HasCleanDisk s4 = omega (arith, c.rows_sector1.ensures.within.survives.clean) in
+    let clean3 : HasCleanDisk s3 = omega (arith, c.rows_component.ensures.within.survives.clean) in
+    let clean2 : HasCleanDisk s2 = omega (arith, c.rows_place.ensures.within.survives.clean) in
+    let clean1 : HasCleanDisk s1 = omega (arith, c.rows_aircraft.ensures.within.survives.clean) in
+    let same1 : s1.now ≡ s0.now = (c.in_ok-entries.ensures.unchanged clean1 has).0.now_is in
+    let has1 = has_still s0.now s1.now same1 has in
+    let same2 : s2.now ≡ s0.now = (c.in_ok-aircraft.ensures.unchanged clean2 has1).0.now_is ∙ same1 in
+    let has2 = has_still s0.now s2.now same2 has in
+    let same3 : s3.now ≡ s0.now = (c.in_ok-places.ensures.unchanged clean3 has2).0.now_is ∙ same2 in
+    let has3 = has_still s0.now s3.now same3 has in
+    let same4 : s4.now ≡ s0.now = (c.in_ok-components.ensures.unchanged clean4 has3).0.now_is ∙ same3 in
+    let has4 = has_still s0.now s4.now same4 has in
+    let same5 : s5.now ≡ s0.now = (c.in_ok-sectors.ensures.unchanged clean5 has4).0.now_is ∙ same4 in
+    let has5 = has_still s0.now s5.now same5 has in
+    damage_of (IsDamaged s0.now.trees) c.from_residual-in_err-fittings.result c.in_err-fittings.field-0.0 named.Fit1 name c.from_residual-in_err-fittings.ensures c.in_err-fittings.ensures.cause
+    (λ e. damaged_before fitting_cells FitsFitting fit1 s0.now s5.now same5 (c.in_err-fittings.ensures.damaged clean has5 (ap Err e))) said
+
+pub returns-in_err-removals-clause-damaged : goal.returns-in_err-removals-clause-damaged
+returns-in_err-removals-clause-damaged g c clean has name said =
+    let s0 = state g.S.Store c.args.tx.now.conn.now in
+    let s1 = state g.S.Store c.rows_entry.new.tx.conn.now in
+    let s2 = state g.S.Store c.rows_aircraft.new.tx.conn.now in
+    let s3 = state g.S.Store c.rows_place.new.tx.conn.now in
+    let s4 = state g.S.Store c.rows_component.new.tx.conn.now in
+    let s5 = state g.S.Store c.rows_sector1.new.tx.conn.now in
+    let s6 = state g.S.Store c.rows_fit1.new.tx.conn.now in
+    let clean6 : HasCleanDisk s6 = omega (arith, c.rows_removal1.ensures.within.survives.clean) in
+    let clean5 : HasCleanDisk s5 = omega (arith, c.rows_fit1.ensures.within.survives.clean) in
+    let clean4 : HasCleanDisk s4 = omega (arith, c.rows_sector1.ensures.within.survives.clean) in
+    let clean3 : HasCleanDisk s3 = omega (arith, c.rows_component.ensures.within.survives.clean) in
+    let clean2 : HasCleanDisk s2 = omega (arith, c.rows_place.ensures.within.survives.clean) in
+    let clean1 : HasCleanDisk s1 = omega (arith, c.rows_aircraft.ensures.within.survives.clean) in
+    let same1 : s1.now ≡ s0.now = (c.in_ok-entries.ensures.unchanged clean1 has).0.now_is in
+    let has1 = has_still s0.now s1.now same1 has in
+    let same2 : s2.now ≡ s0.now = (c.in_ok-aircraft.ensures.unchanged clean2 has1).0.now_is ∙ same1 in
+    let has2 = has_still s0.now s2.now same2 has in
+    let same3 : s3.now ≡ s0.now = (c.in_ok-places.ensures.unchanged clean3 has2).0.now_is ∙ same2 in
+    let has3 = has_still s0.now s3.now same3 has in
+    let same4 : s4.now ≡ s0.now = (c.in_ok-components.ensures.unchanged clean4 has3).0.now_is ∙ same3 in
+    let has4 = has_still s0.now s4.now same4 has in
+    let same5 : s5.now ≡ s0.now = (c.in_ok-sectors.ensures.unchanged clean5 has4).0.now_is ∙ same4 in
+    let has5 = has_still s0.now s5.now same5 has in
+    let same6 : s6.now ≡ s0.now = (c.in_ok-fittings.ensures.unchanged clean6 has5).0.now_is ∙ same5 in
+    let has6 = has_still s0.now s6.now same6 has in
+    damage_of (IsDamaged s0.now.trees) c.from_residual-in_err-removals.result c.in_err-removals.field-0.0 named.Removal1 name c.from_residual-in_err-removals.ensures c.in_err-removals.ensures.cause
+    (λ e. damaged_before removal_cells FitsRemoval removal1 s0.now s6.now same6 (c.in_err-removals.ensures.damaged clean has6 (ap Err e))) said

@@ -1,12 +1,13 @@
-use Rattle.std.proofs.Common.{◌+◌, sym, ap, ◌∙◌, arith}
+use Rattle.std.proofs.Common.{◌+◌, Err, sym, ap, ◌∙◌, arith}
 use Rattle.sqlite.specs.Held.{state}
 use Rattle.sqlite.specs.State.{HasCleanDisk}
 use Rattle.mx_book.specs.declared.verdict.Verdict.TheVariants.{New, Already, Refused}
 use Rattle.mx_book.specs.declared.verdict.Reply.TheVariants as reply
+use Rattle.mx_office.specs.declared.fault.Fault.TheVariants.{Damaged}
 use Rattle.mx_layout.specs.Tables.{layout_1}
 use Rattle.mx_layout.proofs.CrashLemmas.{rests_kept}
 use Rattle.mx_office.specs.Stands.{Stands}
-use Rattle.mx_office.proofs.AnswerLemmas.{no_damage}
+use Rattle.mx_office.proofs.AnswerLemmas.{no_damage, same_fault}
 use Rattle.mx_office.proofs.OfficeLemmas.{old_reply, loaded_rests, new_kept, new_crash, said_reply}
 use Rattle.mx_office.proofs.office.answer.Goals as goal
 
@@ -26,6 +27,10 @@ returns-in-Ok-clause-sound g c clean has =
 pub returns-in_err-book-clause-whole : goal.returns-in_err-book-clause-whole
 returns-in_err-book-clause-whole g c book rests clean table same =
     no_damage c.from_residual.result c.in_err-book.field-0.0 table c.from_residual.ensures (c.in_err-book.ensures.exact book rests clean) same
+
+pub returns-in_err-book-clause-damaged : goal.returns-in_err-book-clause-damaged
+returns-in_err-book-clause-damaged g c clean has table same =
+    c.in_err-book.ensures.damaged clean has table (ap Err (same_fault c.from_residual.result c.in_err-book.field-0.0 (Damaged table) c.from_residual.ensures same))
 
 pub returns-in-Already-clause-reply : goal.returns-in-Already-clause-reply
 returns-in-Already-clause-reply g c book rests clean =

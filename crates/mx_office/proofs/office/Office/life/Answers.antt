@@ -1,7 +1,8 @@
-use Rattle.std.proofs.Common.{◌∙◌, ap}
+use Rattle.std.proofs.Common.{Err, ◌∙◌, ap}
 use Rattle.mx_book.specs.Life.{life_now}
+use Rattle.mx_office.specs.declared.fault.Fault.TheVariants.{Damaged}
 use Rattle.mx_office.specs.Faults.{found_or, unknown}
-use Rattle.mx_office.proofs.AnswerLemmas.{stopped_answer, some_answer, none_answer, not_stopped}
+use Rattle.mx_office.proofs.AnswerLemmas.{stopped_answer, some_answer, none_answer, not_stopped, same_asked}
 use Rattle.mx_office.proofs.office.Office.life.Goals as goal
 
 pub returns-in_err-book-clause-exact : goal.returns-in_err-book-clause-exact
@@ -25,3 +26,7 @@ returns-in-Some-clause-sound g c clean has goes = (c.in_ok-book.book, c.in_ok-bo
 pub returns-clause-sound : goal.returns-clause-sound
 returns-clause-sound g c clean has goes =
     (c.in_ok-book.book, c.in_ok-book.ensures.sound clean has, rw c.unknown_of.ensures (ap (found_or (unknown c.args.item.now)) c.in-None.ensures))
+
+pub returns-in_err-book-clause-damaged : goal.returns-in_err-book-clause-damaged
+returns-in_err-book-clause-damaged g c clean has table same =
+    c.in_err-book.ensures.damaged clean has table (ap Err (same_asked c.from_residual.result c.in_err-book.field-0.0 (Damaged table) c.from_residual.ensures same))

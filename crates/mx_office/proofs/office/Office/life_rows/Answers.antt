@@ -1,8 +1,9 @@
-use Rattle.std.proofs.Common.{◌∙◌, ap, sym}
+use Rattle.std.proofs.Common.{Err, ◌∙◌, ap, sym}
 use Rattle.mx_book.specs.Lists.{life_list}
 use Rattle.mx_book.specs.declared.verdict.Refusal.TheVariants.{UnknownAircraft}
+use Rattle.mx_office.specs.declared.fault.Fault.TheVariants.{Damaged}
 use Rattle.mx_office.specs.Faults.{found_or}
-use Rattle.mx_office.proofs.AnswerLemmas.{stopped_answer, some_answer, none_answer, not_stopped}
+use Rattle.mx_office.proofs.AnswerLemmas.{stopped_answer, some_answer, none_answer, not_stopped, same_asked}
 use Rattle.mx_office.proofs.office.Office.life_rows.Goals as goal
 
 pub returns-in_err-book-clause-exact : goal.returns-in_err-book-clause-exact
@@ -27,3 +28,7 @@ returns-in-Some-clause-sound g c clean has goes =
 pub returns-clause-sound : goal.returns-clause-sound
 returns-clause-sound g c clean has goes =
     (c.in_ok-book.book, c.in_ok-book.ensures.sound clean has, ap (found_or UnknownAircraft) (sym c.in-None.is ∙ c.in_ok-list.ensures))
+
+pub returns-in_err-book-clause-damaged : goal.returns-in_err-book-clause-damaged
+returns-in_err-book-clause-damaged g c clean has table same =
+    c.in_err-book.ensures.damaged clean has table (ap Err (same_asked c.from_residual.result c.in_err-book.field-0.0 (Damaged table) c.from_residual.ensures same))
