@@ -1,5 +1,5 @@
 -- The tables of layout 1 that stand for a book.
-use Rattle.std.specs.Prelude.{◌≡◌, ◌⊎◌, List, [], ◌∷◌, ◌++◌, map, IsPermutation, IsTrue, nat_eq, if◌then◌else◌}
+use Rattle.std.specs.Prelude.{◌≡◌, ◌⊎◌, List, [], ◌∷◌, ◌++◌, map, All, IsPermutation, IsTrue, nat_eq, if◌then◌else◌}
 use Rattle.sqlite.specs.Order.{Row}
 use Rattle.sqlite.specs.Tree.{Trees}
 use Rattle.sqlite.specs.Effect.{Database, IsDatabase}
@@ -8,7 +8,7 @@ use Rattle.sqlite_catalog.specs.Listing.{IsSound}
 use Rattle.mx_command.specs.Act.{Entry as Command}
 use Rattle.mx_book.specs.Book.{IsBook}
 use Rattle.mx_register.specs.declared.merge.Registers.{Registers}
-use Rattle.mx_register.specs.Registers.{entry_rows, aircraft_rows, place_rows, component_rows, sector_rows, fitting_rows, removal_rows, entry_added, aircraft_by, places_by, components_by, sectors_by, fittings_by, removals_by, FitBook}
+use Rattle.mx_register.specs.Registers.{entry_rows, aircraft_rows, place_rows, component_rows, sector_rows, fitting_rows, removal_rows, entry_added, aircraft_by, places_by, components_by, sectors_by, fittings_by, removals_by, FitBook, AreRegistersOf}
 use Rattle.mx_layout.specs.declared.fault.Table.{Table as Name}
 use Rattle.mx_layout.specs.declared.fault.Table.TheVariants.{Office, Entry, Aircraft, Place, Component, Sector1, Fit1, Removal1}
 use Rattle.mx_register.specs.Rows.{FitsEntry, FitsAircraft, FitsPlace, FitsComponent, FitsSector, FitsFitting, FitsRemoval}
@@ -40,7 +40,7 @@ pub record Stands (trees : Trees) (book : List Command) : Type 0 where
   pub fit : FitBook book
   pub tables : (name : Name) → IsPermutation (rows_given book name) (rows_in (table_named name) trees)
 
--- the registers have exactly the rows of their tables
+-- the registers have exactly the rows of their tables, each a row of its type
 pub record HaveRowsOf (trees : Trees) (r : Registers) : Type 0 where
   pub entries : IsPermutation (map entry_cells r.entries.items) (rows_in (table_named Entry) trees)
   pub aircraft : IsPermutation (map aircraft_cells r.aircraft.items) (rows_in (table_named Aircraft) trees)
@@ -49,6 +49,13 @@ pub record HaveRowsOf (trees : Trees) (r : Registers) : Type 0 where
   pub sectors : IsPermutation (map sector_cells r.sectors.items) (rows_in (table_named Sector1) trees)
   pub fittings : IsPermutation (map fitting_cells r.fittings.items) (rows_in (table_named Fit1) trees)
   pub removals : IsPermutation (map removal_cells r.removals.items) (rows_in (table_named Removal1) trees)
+  pub entries_fit : All FitsEntry r.entries.items
+  pub aircraft_fit : All FitsAircraft r.aircraft.items
+  pub places_fit : All FitsPlace r.places.items
+  pub components_fit : All FitsComponent r.components.items
+  pub sectors_fit : All FitsSector r.sectors.items
+  pub fittings_fit : All FitsFitting r.fittings.items
+  pub removals_fit : All FitsRemoval r.removals.items
 
 -- the tables that a command may write have exactly the rows that this book gives them, whatever the other tables have
 pub record HoldsBook (trees : Trees) (book : List Command) : Type 0 where
@@ -71,6 +78,14 @@ IsDamaged trees Sector1 = HasOther (IsRowOf sector_cells FitsSector) (rows_in (t
 IsDamaged trees Fit1 = HasOther (IsRowOf fitting_cells FitsFitting) (rows_in (table_named Fit1) trees)
 IsDamaged trees Removal1 = HasOther (IsRowOf removal_cells FitsRemoval) (rows_in (table_named Removal1) trees)
 IsDamaged trees _ = ⊥
+
+-- all rows of the registers can be read, and they are those of no book
+abbrev pub IsOfNoBook : Trees → Type 0
+IsOfNoBook trees = (r : Registers) × HaveRowsOf trees r × ((book : List Command) → IsBook book → AreRegistersOf r book → ⊥)
+
+-- why a table is answered damaged: some row of it is none of its type; and the entries, also where the rows are those of no book
+abbrev pub IsReasonFor : Trees → Name → Type 0
+IsReasonFor trees name = IsDamaged trees name ⊎ ((name ≡ Entry) × IsOfNoBook trees)
 
 -- no transaction is open, and the tables, and each state of them that a crash may leave, stand for the book
 abbrev pub Rests : State → List Command → Type 0

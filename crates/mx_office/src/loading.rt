@@ -6,7 +6,7 @@ ghost use Rattle.mx_register.specs.Registers.{AreRegistersOf};
 ghost use Rattle.mx_layout.specs.Crash.{StaysInside, IsWithin, ChangesNothing};
 ghost use Rattle.mx_layout.specs.Tables.{layout_1};
 ghost use Rattle.mx_tables.specs.Registers.{OnRead};
-ghost use Rattle.mx_office.specs.Stands.{HaveRowsOf, HoldsBook, IsDamaged, Stands, Rests};
+ghost use Rattle.mx_office.specs.Stands.{HaveRowsOf, HoldsBook, IsDamaged, IsReasonFor, Stands, Rests};
 
 use crate::fault::{Fault, fault_of};
 use mx_book::Book;
@@ -63,7 +63,7 @@ fn load<S: Alter>(alloc: Global, tx: &mut Transaction<'_, S>) -> Result<Book, Fa
     ensures sound { HasCleanDisk (state S.Store tx.new.conn.now) → (state S.Store tx.old.conn.now).now.schema ≡ layout_1
         → IfOk result (HoldsBook (state S.Store tx.old.conn.now).now.trees) }
     ensures damaged { HasCleanDisk (state S.Store tx.new.conn.now) → (state S.Store tx.old.conn.now).now.schema ≡ layout_1
-        → (table : _) → result ≡ Err (Fault.Damaged table) → (table ≡ Table.Entry) ⊎ IsDamaged (state S.Store tx.old.conn.now).now.trees table }
+        → (table : _) → result ≡ Err (Fault.Damaged table) → IsReasonFor (state S.Store tx.old.conn.now).now.trees table }
     ensures within { IsWithin (state S.Store tx.old.conn.now) (state S.Store tx.new.conn.now) }
 {
     let registers = match read_registers(alloc, tx) {
@@ -92,7 +92,7 @@ pub(crate) fn load_book<S: Alter>(alloc: Global, conn: &mut Connection<S>) -> Re
     ensures sound { HasCleanDisk (state S.Store conn.new) → (state S.Store conn.old).now.schema ≡ layout_1
         → IfOk result (HoldsBook (state S.Store conn.old).now.trees) }
     ensures damaged { HasCleanDisk (state S.Store conn.new) → (state S.Store conn.old).now.schema ≡ layout_1
-        → (table : _) → result ≡ Err (Fault.Damaged table) → (table ≡ Table.Entry) ⊎ IsDamaged (state S.Store conn.old).now.trees table }
+        → (table : _) → result ≡ Err (Fault.Damaged table) → IsReasonFor (state S.Store conn.old).now.trees table }
 {
     let mut tx = conn.transaction();
     load(alloc, &mut tx)

@@ -14,7 +14,7 @@ ghost use Rattle.mx_layout.specs.Making.{first_point};
 ghost use Rattle.mx_layout.specs.Point.{point_cells, FitsPoint, HoldsPoint};
 ghost use Rattle.mx_layout.specs.Tables.{layout_1, no_schema, office, HasOffice};
 ghost use Rattle.mx_office.specs.Faults.{found_or, unknown, open_answer, IsAnswer, IsReason, IsUnopened};
-ghost use Rattle.mx_office.specs.Stands.{HoldsBook, IsDamaged, Rests, IsEither};
+ghost use Rattle.mx_office.specs.Stands.{HoldsBook, IsReasonFor, Rests, IsEither};
 
 use crate::adding::enter;
 use crate::fault::{Ask, Fault, OpenFault, Outcomes, open_fault_of};
@@ -46,7 +46,7 @@ fn answer<S: Alter>(
     ensures sound { HasCleanDisk (state S.Store conn.new) → (state S.Store conn.old).now.schema ≡ layout_1
         → IfOk result (λ r. (book : _) × HoldsBook (state S.Store conn.old).now.trees book × (r ≡ reply book command.now)) }
     ensures damaged { HasCleanDisk (state S.Store conn.new) → (state S.Store conn.old).now.schema ≡ layout_1
-        → (table : _) → result ≡ Err (Fault.Damaged table) → (table ≡ Table.Entry) ⊎ IsDamaged (state S.Store conn.old).now.trees table }
+        → (table : _) → result ≡ Err (Fault.Damaged table) → IsReasonFor (state S.Store conn.old).now.trees table }
     ensures crash { (book : _) → Rests (state S.Store conn.old) book → Leaves (state S.Store conn.new) (IsEither book (book_after book command.now)) }
 {
     let book = load_book(alloc, conn)?;
@@ -154,7 +154,7 @@ impl<S: Alter> Office<S> {
         ensures sound { HasCleanDisk (state S.Store self.new.conn) → (state S.Store self.old.conn).now.schema ≡ layout_1
             → IfOk result (λ r. (book : _) × HoldsBook (state S.Store self.old.conn).now.trees book × (r ≡ reply book command.now)) }
         ensures damaged { HasCleanDisk (state S.Store self.new.conn) → (state S.Store self.old.conn).now.schema ≡ layout_1
-            → (table : _) → result ≡ Err (Fault.Damaged table) → (table ≡ Table.Entry) ⊎ IsDamaged (state S.Store self.old.conn).now.trees table }
+            → (table : _) → result ≡ Err (Fault.Damaged table) → IsReasonFor (state S.Store self.old.conn).now.trees table }
         ensures crash { (book : _) → Rests (state S.Store self.old.conn) book → Leaves (state S.Store self.new.conn) (IsEither book (book_after book command.now)) }
     {
         if self.needs_reopen {
@@ -221,7 +221,7 @@ impl<S: Alter> Office<S> {
         ensures sound { HasCleanDisk (state S.Store self.new.conn) → (state S.Store self.old.conn).now.schema ≡ layout_1
             → IfOk result (HoldsBook (state S.Store self.old.conn).now.trees) }
         ensures damaged { HasCleanDisk (state S.Store self.new.conn) → (state S.Store self.old.conn).now.schema ≡ layout_1
-            → (table : _) → result ≡ Err (Fault.Damaged table) → (table ≡ Table.Entry) ⊎ IsDamaged (state S.Store self.old.conn).now.trees table }
+            → (table : _) → result ≡ Err (Fault.Damaged table) → IsReasonFor (state S.Store self.old.conn).now.trees table }
     {
         if self.needs_reopen {
             return Err(Fault::NeedsReopen);
@@ -246,7 +246,7 @@ impl<S: Alter> Office<S> {
         ensures sound { HasCleanDisk (state S.Store self.new.conn) → (state S.Store self.old.conn).now.schema ≡ layout_1 → ((fault : _) → result ≢ Err (Ask.Failed fault))
             → (book : _) × HoldsBook (state S.Store self.old.conn).now.trees book × (result ≡ found_or Refusal.UnknownAircraft (life_list book tail.now)) }
         ensures damaged { HasCleanDisk (state S.Store self.new.conn) → (state S.Store self.old.conn).now.schema ≡ layout_1
-            → (table : _) → result ≡ Err (Ask.Failed (Fault.Damaged table)) → (table ≡ Table.Entry) ⊎ IsDamaged (state S.Store self.old.conn).now.trees table }
+            → (table : _) → result ≡ Err (Ask.Failed (Fault.Damaged table)) → IsReasonFor (state S.Store self.old.conn).now.trees table }
     {
         let book = self.book(alloc)?;
         match book.life_list(alloc, tail)? {
@@ -268,7 +268,7 @@ impl<S: Alter> Office<S> {
         ensures sound { HasCleanDisk (state S.Store self.new.conn) → (state S.Store self.old.conn).now.schema ≡ layout_1 → ((fault : _) → result ≢ Err (Ask.Failed fault))
             → (book : _) × HoldsBook (state S.Store self.old.conn).now.trees book × (result ≡ found_or (unknown item.now) (life_now book item.now)) }
         ensures damaged { HasCleanDisk (state S.Store self.new.conn) → (state S.Store self.old.conn).now.schema ≡ layout_1
-            → (table : _) → result ≡ Err (Ask.Failed (Fault.Damaged table)) → (table ≡ Table.Entry) ⊎ IsDamaged (state S.Store self.old.conn).now.trees table }
+            → (table : _) → result ≡ Err (Ask.Failed (Fault.Damaged table)) → IsReasonFor (state S.Store self.old.conn).now.trees table }
     {
         let book = self.book(alloc)?;
         match book.life_now(item) {
@@ -290,7 +290,7 @@ impl<S: Alter> Office<S> {
         ensures sound { HasCleanDisk (state S.Store self.new.conn) → (state S.Store self.old.conn).now.schema ≡ layout_1
             → IfOk result (λ v. (book : _) × HoldsBook (state S.Store self.old.conn).now.trees book × (v.items ≡ entries_from from at_most book)) }
         ensures damaged { HasCleanDisk (state S.Store self.new.conn) → (state S.Store self.old.conn).now.schema ≡ layout_1
-            → (table : _) → result ≡ Err (Fault.Damaged table) → (table ≡ Table.Entry) ⊎ IsDamaged (state S.Store self.old.conn).now.trees table }
+            → (table : _) → result ≡ Err (Fault.Damaged table) → IsReasonFor (state S.Store self.old.conn).now.trees table }
     {
         let book = self.book(alloc)?;
         Ok(book.entries(alloc, from, at_most)?)

@@ -1,5 +1,6 @@
-use Rattle.std.proofs.Common.{◌≡◌, Err, inr, sym, ap, ◌∙◌}
+use Rattle.std.proofs.Common.{◌≡◌, Err, inl, inr, sym, ap, ◌∙◌}
 use Rattle.sqlite.specs.Held.{state}
+use Rattle.mx_layout.specs.declared.fault.Table.TheVariants as named
 use Rattle.mx_office.specs.declared.fault.Fault.TheVariants as fault
 use Rattle.mx_office.proofs.LoadLemmas.{found_book, found_none, stops_loading, holds_read, damage_from}
 use Rattle.mx_office.proofs.loading.load.Goals as goal
@@ -24,4 +25,9 @@ returns-in-Ok-Some-clause-sound g c clean has =
 pub returns-in-Err-clause-damaged : goal.returns-in-Err-clause-damaged
 returns-in-Err-clause-damaged g c clean has table said =
     let same : c.fault_of.result ≡ fault.Damaged table = cc in
-    inr (c.in-Err.ensures.damaged clean has table (ap Err (damage_from c.in-Err.fault table (sym c.fault_of.ensures ∙ same))))
+    inl (c.in-Err.ensures.damaged clean has table (ap Err (damage_from c.in-Err.fault table (sym c.fault_of.ensures ∙ same))))
+
+pub returns-in-Ok-None-clause-damaged : goal.returns-in-Ok-None-clause-damaged
+returns-in-Ok-None-clause-damaged g c clean has table said =
+    let same : table ≡ named.Entry = cc in
+    inr (same, (c.in-Ok.registers, c.in-Ok.ensures.rows clean has, λ book is of. found_none book (rw c.in-Ok-None.field-0-is at (c.in-Ok-None.ensures.exact book is of))))

@@ -181,6 +181,13 @@ returns-clause-rows g c clean has =
       sectors = read_before sector_cells sector1 s0.now s4.now c.in_ok-sectors.sectors.items same4 (c.in_ok-sectors.ensures.rows clean5 has4).all;
       fittings = read_before fitting_cells fit1 s0.now s5.now c.in_ok-fittings.fittings.items same5 (c.in_ok-fittings.ensures.rows clean6 has5).all;
       removals = read_before removal_cells removal1 s0.now s6.now c.in_ok-removals.removals.items same6 (c.in_ok-removals.ensures.rows clean has6).all;
+      entries_fit = c.in_ok-entries.ensures.fits;
+      aircraft_fit = c.in_ok-aircraft.ensures.fits;
+      places_fit = c.in_ok-places.ensures.fits;
+      components_fit = c.in_ok-components.ensures.fits;
+      sectors_fit = c.in_ok-sectors.ensures.fits;
+      fittings_fit = c.in_ok-fittings.ensures.fits;
+      removals_fit = c.in_ok-removals.ensures.fits;
     }
 
 pub returns-in_err-entries-clause-damaged : goal.returns-in_err-entries-clause-damaged
