@@ -1,3 +1,6 @@
+pub mod Asked
+pub mod Done
+pub mod FaultLine
 pub mod Printed
 pub mod Status
 pub mod Trial

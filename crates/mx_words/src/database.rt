@@ -1,5 +1,5 @@
 //! Making and opening the office that a database holds, and what is asked of it.
-ghost use Rattle.std.specs.Prelude.{◌≡◌, ◌≢◌, ◌≤◌, ◌++◌, false, IsTrue, OnOk, IfOk, IsErr, IfErr};
+ghost use Rattle.std.specs.Prelude.{◌≡◌, ◌≢◌, ◌≤◌, ◌++◌, true, false, IsTrue, OnOk, IfOk, IsErr, IfErr};
 ghost use Rattle.std.specs.List.{flat_map, list_any};
 ghost use Rattle.sqlite.specs.Held.{state};
 ghost use Rattle.sqlite.specs.State.{HasCleanDisk};
@@ -11,7 +11,7 @@ ghost use Rattle.mx_layout.specs.Making.{IsEmptyBook};
 ghost use Rattle.mx_layout.specs.Tables.{layout_1, no_schema, HasOffice};
 ghost use Rattle.mx_office.specs.Stands.{Rests};
 ghost use Rattle.mx_reports.specs.ReplyText.{reply_line};
-ghost use Rattle.mx_words.specs.Printed.{life_answer, life_status};
+ghost use Rattle.mx_words.specs.Printed.{life_answer, life_status, IsLifeAnswer};
 ghost use Rattle.mx_words.specs.Status.{stop_status, is_refusal, run_status};
 
 use crate::fault::{DONE, REFUSED, Stop};
@@ -103,13 +103,18 @@ pub(crate) fn enter_all<S: Alter>(
     ensures kept { (book : _) → Rests (state S.Store office.old.conn) book → OnOk result (Rests (state S.Store office.new.conn) (book_run book commands.now)) }
     ensures usable { office.old.needs_reopen ≡ false → OnOk result (office.new.needs_reopen ≡ false) }
     ensures status { IfErr result (λ stop. stop_status stop ≡ 4) }
+    ensures reopen { office.old.needs_reopen ≡ false → IfErr result (λ stop. stop ≢ Stop.Office Fault.NeedsReopen) }
+    ensures goes_on { office.old.needs_reopen ≡ false → result ≢ Err (Stop.Office Fault.Store) → office.new.needs_reopen ≡ false }
+    ensures stopped { result ≡ Err (Stop.Office Fault.Store) → office.new.needs_reopen ≡ true }
+    ensures whole { (book : _) → Rests (state S.Store office.old.conn) book → HasCleanDisk (state S.Store office.new.conn) → (table : _) → result ≢ Err (Stop.Office (Fault.Damaged table)) }
 {
     let outcomes = office.run(alloc, commands);
-    print_replies(out, outcomes.replies.as_slice())?;
-    match outcomes.stopped {
-        Some(fault) => Err(Stop::Office(fault)),
-        None => Ok(status_of(outcomes.replies.as_slice())),
+    let printed = print_replies(out, outcomes.replies.as_slice());
+    if let Some(fault) = outcomes.stopped {
+        return Err(Stop::Office(fault));
     }
+    printed?;
+    Ok(status_of(outcomes.replies.as_slice()))
 }
 
 /// Appends the life list of an aircraft, or `refused NUMBER`. Answers the status.
@@ -125,7 +130,11 @@ pub(crate) fn print_life<S: Alter>(
     ensures answered { (book : _) → office.old.needs_reopen ≡ false → Rests (state S.Store office.old.conn) book → HasCleanDisk (state S.Store office.new.conn)
         → IfOk result (λ status. status ≡ life_status (life_list book tail.now)) }
     ensures untouched { office.old.needs_reopen ≡ false → ChangesNothing (state S.Store office.old.conn) (state S.Store office.new.conn) }
+    ensures shown { IfOk result (λ status. (text : _) × (out.new.items ≡ out.old.items ++ text) × IsLifeAnswer text status) }
     ensures status { IfErr result (λ stop. stop_status stop ≡ 4) }
+    ensures reopen { office.old.needs_reopen ≡ false → IfErr result (λ stop. stop ≢ Stop.Office Fault.NeedsReopen) }
+    ensures goes_on { office.old.needs_reopen ≡ false → result ≢ Err (Stop.Office Fault.Store) → office.new.needs_reopen ≡ false }
+    ensures stopped { result ≡ Err (Stop.Office Fault.Store) → office.new.needs_reopen ≡ true }
 {
     let (printed, status) = match office.life_rows(alloc, tail) {
         Ok(list) => (life_text(out, &list), DONE),

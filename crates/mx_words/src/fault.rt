@@ -1,6 +1,9 @@
 //! Why the program ends before its work is done: the status, and the line on standard error.
 
-ghost use Rattle.std.specs.Prelude.{◌≡◌};
+ghost use Rattle.std.specs.Prelude.{◌≡◌, ◌++◌, codes, OnOk};
+ghost use Rattle.std.specs.Io.KnownBytes.{Appends};
+ghost use Rattle.mx_layout.specs.Names.{table_name};
+ghost use Rattle.mx_words.specs.FaultLine.{fault_line, line_of, create_words, open_words, office_words};
 ghost use Rattle.mx_words.specs.Status.{stop_status};
 
 use mx_layout::{Table, TableFault};
@@ -47,7 +50,9 @@ impl Stop {
     }
 
     /// Writes its line.
-    pub(crate) fn write<W: Write>(self, err: &mut W) -> io::Result<()> {
+    pub(crate) fn write<W: Write>(self, err: &mut W) -> io::Result<()>
+        ensures { OnOk result (Appends (W.contents err.old) (W.contents err.new) (fault_line self)) }
+    {
         match self {
             Stop::Words => err.write_all(b"fault words\n"),
             Stop::Shape => err.write_all(b"fault shape\n"),
@@ -59,12 +64,16 @@ impl Stop {
     }
 }
 
-fn write_damaged<W: Write>(err: &mut W, table: Table) -> io::Result<()> {
+fn write_damaged<W: Write>(err: &mut W, table: Table) -> io::Result<()>
+    ensures { OnOk result (Appends (W.contents err.old) (W.contents err.new) (line_of (codes "damaged " ++ table_name table))) }
+{
     let name = table.name();
     writeln!(err, "fault damaged {name}")
 }
 
-fn write_create<W: Write>(err: &mut W, fault: TableFault) -> io::Result<()> {
+fn write_create<W: Write>(err: &mut W, fault: TableFault) -> io::Result<()>
+    ensures { OnOk result (Appends (W.contents err.old) (W.contents err.new) (line_of (create_words fault))) }
+{
     match fault {
         TableFault::Memory => err.write_all(b"fault memory\n"),
         TableFault::Store => err.write_all(b"fault store\n"),
@@ -74,7 +83,9 @@ fn write_create<W: Write>(err: &mut W, fault: TableFault) -> io::Result<()> {
     }
 }
 
-fn write_open<W: Write>(err: &mut W, fault: OpenFault) -> io::Result<()> {
+fn write_open<W: Write>(err: &mut W, fault: OpenFault) -> io::Result<()>
+    ensures { OnOk result (Appends (W.contents err.old) (W.contents err.new) (line_of (open_words fault))) }
+{
     match fault {
         OpenFault::Memory => err.write_all(b"fault memory\n"),
         OpenFault::Store => err.write_all(b"fault store\n"),
@@ -85,7 +96,9 @@ fn write_open<W: Write>(err: &mut W, fault: OpenFault) -> io::Result<()> {
     }
 }
 
-fn write_office<W: Write>(err: &mut W, fault: Fault) -> io::Result<()> {
+fn write_office<W: Write>(err: &mut W, fault: Fault) -> io::Result<()>
+    ensures { OnOk result (Appends (W.contents err.old) (W.contents err.new) (line_of (office_words fault))) }
+{
     match fault {
         Fault::Memory => err.write_all(b"fault memory\n"),
         Fault::Store => err.write_all(b"fault store\n"),

@@ -1,14 +1,15 @@
 //! The program on its words.
-ghost use Rattle.std.specs.Prelude.{◌≡◌, ◌≢◌, ◌↔◌, ◌⊎◌, ◌≤◌, ◌++◌, max, false, OnOk, IfOk, IfErr};
-ghost use Rattle.std.specs.List.{flat_map};
+ghost use Rattle.std.specs.Prelude.{◌≡◌, ◌≢◌, ◌↔◌, ◌⊎◌, ◌<◌, ◌≤◌, [], ◌++◌, max, true, false, codes, OnOk, OnErr, IfOk, IfErr};
+ghost use Rattle.std.specs.Io.KnownBytes.{Appends};
 ghost use Rattle.sqlite.specs.Held.{state};
 ghost use Rattle.sqlite.specs.State.{HasCleanDisk};
-ghost use Rattle.mx_book.specs.Lists.{life_list};
-ghost use Rattle.mx_book.specs.Run.{book_run, replies};
+ghost use Rattle.sqlite.specs.Steps.{over_memory};
 ghost use Rattle.mx_office.specs.Stands.{Rests};
-ghost use Rattle.mx_reports.specs.ReplyText.{reply_line};
-ghost use Rattle.mx_words.specs.Printed.{life_answer, life_status};
-ghost use Rattle.mx_words.specs.Status.{stop_status, run_status};
+ghost use Rattle.mx_words.specs.Done.{IsDone, IsRequest, LacksShape};
+ghost use Rattle.mx_words.specs.FaultLine.{fault_line};
+ghost use Rattle.mx_words.specs.Printed.{IsLifeAnswer};
+ghost use Rattle.mx_words.specs.Status.{stop_status};
+ghost use Rattle.mx_words.specs.Trial.{is_trial_shaped, run_text, run_answer, trial_text, trial_status};
 
 use crate::database::{enter_all, make, open, print_life};
 use crate::fault::{BAD_WORDS, DONE, STOPPED, Stop};
@@ -20,7 +21,7 @@ use mx_base::Tail;
 use mx_command::Command;
 use mx_layout::TableFault;
 use mx_office::{Fault, Office, OpenFault};
-use sqlite::{Alter, Connection, Error, ErrorCode, FileFrom, FileStore, Wary};
+use sqlite::{Alter, Connection, Error, ErrorCode, FileFrom, FileStore, MemStore, Wary};
 use std::alloc::Global;
 use std::fs;
 use std::io::Write;
@@ -35,9 +36,9 @@ fn try_commands<S: Alter>(
 ) -> Result<u8, Stop>
     ensures bound { IfOk result (λ status. status ≤ 1) }
     ensures printed { (book : _) → office.old.needs_reopen ≡ false → Rests (state S.Store office.old.conn) book → HasCleanDisk (state S.Store office.new.conn)
-        → OnOk result (out.new.items ≡ (out.old.items ++ flat_map reply_line (replies book commands.now)) ++ life_answer (life_list (book_run book commands.now) tail.now)) }
+        → OnOk result (out.new.items ≡ out.old.items ++ run_text book commands.now tail.now) }
     ensures answered { (book : _) → office.old.needs_reopen ≡ false → Rests (state S.Store office.old.conn) book → HasCleanDisk (state S.Store office.new.conn)
-        → IfOk result (λ status. status ≡ max (run_status (replies book commands.now)) (life_status (life_list (book_run book commands.now) tail.now))) }
+        → IfOk result (λ status. status ≡ run_answer book commands.now tail.now) }
     ensures status { IfErr result (λ stop. stop_status stop ≡ 4) }
 {
     let entered = enter_all(alloc, office, commands, out)?;
@@ -45,16 +46,30 @@ fn try_commands<S: Alter>(
     Ok(entered.max(asked))
 }
 
-// Enters an aircraft and one sector into a store in memory, and appends the replies and the life.
-fn try_out(alloc: Global, trial: &Trial, out: &mut Vec<u8>) -> Result<u8, Stop>
-    ensures bound { IfOk result (λ status. status ≤ 1) }
+// An office in memory, which rests as the book with no entry.
+fn new_office(alloc: Global) -> Result<Office<MemStore>, Stop>
+    ensures ready { IfOk result (λ office. office.needs_reopen ≡ false) }
+    ensures empty { IfOk result (λ office. Rests (state over_memory office.conn) []) }
+    ensures status { IfErr result (λ stop. stop_status stop ≡ 5) }
 {
-    let commands = commands_of(alloc, trial)?;
     let Ok(mut conn) = Connection::open_in_memory(alloc) else {
         return Err(Stop::Open(OpenFault::Memory));
     };
     make(&mut conn)?;
-    let mut office = open(conn)?;
+    open(conn)
+}
+
+// Enters an aircraft and one sector into a store in memory, and appends the replies and the life.
+fn try_out(alloc: Global, trial: &Trial, out: &mut Vec<u8>) -> Result<u8, Stop>
+    ensures bound { IfOk result (λ status. status ≤ 1) }
+    ensures shaped { OnOk result (is_trial_shaped trial.now ≡ true) }
+    ensures printed { OnOk result (out.new.items ≡ out.old.items ++ trial_text trial.now) }
+    ensures answered { IfOk result (λ status. status ≡ trial_status trial.now) }
+    ensures shape { result ≡ Err Stop.Shape → (is_trial_shaped trial.now ≡ false) × (out.new ≡ out.old) }
+    ensures words { result ≢ Err Stop.Words }
+{
+    let commands = commands_of(alloc, trial)?;
+    let mut office = new_office(alloc)?;
     let tried = try_commands(alloc, &mut office, commands.as_slice(), &trial.tail, out);
     drop(office.close());
     tried
@@ -74,6 +89,7 @@ fn open_fault_of(error: Error) -> OpenFault
 // Opens the database in a file, which is made where it isn't there.
 fn open_file(rt: &HostRuntime, file: &str) -> Result<Connection<FileStore<FileFrom<Wary>>>, Stop>
     ensures idle { IfOk result (λ conn. conn.in_transaction ≡ false) }
+    ensures stops { IfErr result (λ stop. (stop ≡ Stop.Open OpenFault.Memory) ⊎ (stop ≡ Stop.Open OpenFault.Store)) }
 {
     match Connection::open_from(rt, file, false, Wary) {
         Ok(conn) => Ok(conn),
@@ -83,7 +99,9 @@ fn open_file(rt: &HostRuntime, file: &str) -> Result<Connection<FileStore<FileFr
 
 // Makes an empty book in a file.
 fn init(rt: &HostRuntime, file: &str, out: &mut Vec<u8>) -> Result<u8, Stop>
-    ensures done { IfOk result (λ status. status ≡ 0) }
+    ensures done { IfOk result (λ status. (status ≡ 0) × (out.new.items ≡ out.old.items ++ codes "created\n")) }
+    ensures unprinted { OnErr result (out.new.items ≡ out.old.items) }
+    ensures status { IfErr result (λ stop. stop_status stop ≡ 5) }
 {
     let mut conn = open_file(rt, file)?;
     make(&mut conn)?;
@@ -99,6 +117,8 @@ fn init(rt: &HostRuntime, file: &str, out: &mut Vec<u8>) -> Result<u8, Stop>
 // Appends the life of an aircraft. A file that isn't there is no office, and is not made.
 fn life(rt: &HostRuntime, file: &str, tail: &Tail, out: &mut Vec<u8>) -> Result<u8, Stop>
     ensures bound { IfOk result (λ status. status ≤ 1) }
+    ensures shown { IfOk result (λ status. (text : _) × (out.new.items ≡ out.old.items ++ text) × IsLifeAnswer text status) }
+    ensures status { IfErr result (λ stop. 4 ≤ stop_status stop) }
 {
     if let Ok(false) = fs::exists(rt, file) {
         return Err(Stop::Open(OpenFault::NotOurs));
@@ -113,6 +133,9 @@ fn life(rt: &HostRuntime, file: &str, tail: &Tail, out: &mut Vec<u8>) -> Result<
 
 fn perform(rt: &HostRuntime, words: &Words<'_>, out: &mut Vec<u8>) -> Result<u8, Stop>
     ensures bound { IfOk result (λ status. status ≤ 1) }
+    ensures done { IfOk result (λ status. (text : _) × (out.new.items ≡ out.old.items ++ text) × IsDone words.now text status) }
+    ensures shape { result ≡ Err Stop.Shape → LacksShape words.now × (out.new ≡ out.old) }
+    ensures words { result ≢ Err Stop.Words }
 {
     match words {
         Words::Try(trial) => try_out(rt.alloc(), trial, out),
@@ -123,6 +146,8 @@ fn perform(rt: &HostRuntime, words: &Words<'_>, out: &mut Vec<u8>) -> Result<u8,
 
 // Prints clap's text of help or of a fault, and answers the status.
 fn print_usage<O: Write, E: Write>(error: &WordsError, out: &mut O, err: &mut E) -> u8
+    ensures asked { IsRequest error.now → ((result ≡ 0) ⊎ (result ≡ 4)) × (err.new ≡ err.old) }
+    ensures refused { ¬ IsRequest error.now → ((result ≡ 2) ⊎ (result ≡ 4)) × (out.new ≡ out.old) }
     ensures named { (result ≡ 0) ⊎ ((result ≡ 2) ⊎ (result ≡ 4)) }
 {
     let (written, status) = if error.use_stderr() {
@@ -145,6 +170,9 @@ fn print_done<O: Write, E: Write>(
     ensures named { result ≢ 3 }
     ensures done { IfOk done (λ status. (result ≡ status) ⊎ (result ≡ 4)) }
     ensures stopped { IfErr done (λ stop. (result ≡ stop_status stop) ⊎ (result ≡ max (stop_status stop) 4)) }
+    ensures printed { result < 4 → Appends (O.contents out.old) (O.contents out.new) text.now }
+    ensures reported { result < 4 → IfErr done (λ stop. Appends (E.contents err.old) (E.contents err.new) (fault_line stop)) }
+    ensures quiet { OnOk done (err.new ≡ err.old) }
 {
     let printed = out.write_all(text);
     let (reported, status) = match done {

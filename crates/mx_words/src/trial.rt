@@ -1,8 +1,8 @@
 //! The trial: an aircraft and one sector, entered into a store in memory.
 
-ghost use Rattle.std.specs.Prelude.{◌≡◌, ◌↔◌, [], ◌∷◌, Some, false, map, IfOk};
-ghost use Rattle.mx_command.specs.Shape.{is_sector_shaped, sector_entry};
-ghost use Rattle.mx_words.specs.Trial.{trial_aircraft, trial_sector};
+ghost use Rattle.std.specs.Prelude.{◌≡◌, ◌↔◌, ◌⊎◌, true, false, Some, codes, IfOk, IfErr, OnOk};
+ghost use Rattle.mx_command.specs.Shape.{has_shape, is_sector_shaped, sector_entry};
+ghost use Rattle.mx_words.specs.Trial.{trial_aircraft, trial_sector, trial_commands, is_trial_shaped};
 
 use crate::fault::Stop;
 use crate::words::Trial;
@@ -20,17 +20,29 @@ fn stop_of(fault: MakeFault) -> Stop
     }
 }
 
+// The document of the aircraft.
+fn trial_document() -> Doc
+    ensures { result ≡ codes "A1" }
+{
+    Doc::read("A1").unwrap()
+}
+
+// The kind of the aircraft.
+fn trial_kind() -> Kind
+    ensures { result ≡ codes "TRY" }
+{
+    Kind::read("TRY").unwrap()
+}
+
 fn aircraft_of(alloc: Global, trial: &Trial) -> Result<Command, Stop>
     ensures made { IfOk result (λ command. command ≡ trial_aircraft trial.now) }
+    ensures shaped { OnOk result (has_shape (trial_aircraft trial.now) ≡ true) }
+    ensures shape { IfErr result (λ stop. (stop ≡ Stop.Shape) × (has_shape (trial_aircraft trial.now) ≡ false)) }
 {
-    let (Ok(doc), Ok(kind), Some(birth)) = (Doc::read("A1"), Kind::read("TRY"), Day::of_number(0))
-    else {
-        return Err(Stop::Shape);
-    };
     let body = Body::AddAircraft {
         tail: trial.tail,
-        kind,
-        birth,
+        kind: trial_kind(),
+        birth: Day::of_number(0).unwrap(),
         opening: Use {
             minutes: trial.minutes,
             cycles: trial.cycles,
@@ -38,12 +50,14 @@ fn aircraft_of(alloc: Global, trial: &Trial) -> Result<Command, Stop>
         as_of: Moment::FIRST,
         positions: Vec::new(alloc),
     };
-    Command::make(alloc, doc, body).map_err(stop_of)
+    Command::make(alloc, trial_document(), body).map_err(stop_of)
 }
 
 fn sector_of(alloc: Global, trial: &Trial) -> Result<Command, Stop>
     ensures made { IfOk result (λ command. Some command ≡ sector_entry (trial_sector trial.now)) }
     ensures shape { result ≡ Err Stop.Shape → is_sector_shaped (trial_sector trial.now) ≡ false }
+    ensures memory { result ≡ Err Stop.MakeMemory → is_sector_shaped (trial_sector trial.now) ≡ true }
+    ensures stops { IfErr result (λ stop. (stop ≡ Stop.Shape) ⊎ (stop ≡ Stop.MakeMemory)) }
 {
     let body = Body::Sector {
         tail: trial.tail,
@@ -59,7 +73,10 @@ fn sector_of(alloc: Global, trial: &Trial) -> Result<Command, Stop>
 /// The two commands of a trial: the aircraft `A1` of kind `TRY`, built and as of the first moment, and the
 /// sector of page 1 line 1. `Shape` where one of them lacks its shape.
 pub(crate) fn commands_of(alloc: Global, trial: &Trial) -> Result<Vec<Command>, Stop>
-    ensures made { IfOk result (λ commands. map Some commands.items ≡ Some (trial_aircraft trial.now) ∷ sector_entry (trial_sector trial.now) ∷ []) }
+    ensures made { IfOk result (λ commands. commands.items ≡ trial_commands trial.now) }
+    ensures shaped { OnOk result (is_trial_shaped trial.now ≡ true) }
+    ensures shape { result ≡ Err Stop.Shape → is_trial_shaped trial.now ≡ false }
+    ensures stops { IfErr result (λ stop. (stop ≡ Stop.Shape) ⊎ (stop ≡ Stop.MakeMemory)) }
 {
     let aircraft = aircraft_of(alloc, trial)?;
     let sector = sector_of(alloc, trial)?;

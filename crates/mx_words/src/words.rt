@@ -1,5 +1,12 @@
 //! The words that the program takes, read with `clap`. Every value is taken as it is written, also one that
 //! begins with `-`, and read by the readers of the office.
+ghost use Rattle.std.specs.Prelude.{◌≡◌, None, MatchOption, codes, option_map};
+ghost use Rattle.std.specs.Char.{is_ascii_digit};
+ghost use Rattle.std.specs.List.{list_all};
+ghost use Rattle.clap.specs.Matches.{found_of};
+ghost use Rattle.clap.specs.Walk.{rows_of};
+ghost use Rattle.clap.specs.Simple.{subcommand_rows_of};
+ghost use Rattle.mx_words.specs.Asked.{value_in, number_in, Says, WritesNumber, WritesTail, WritesMoment, WritesTrial, Asks, Finds};
 
 use clap::{Arg, ArgAction, ArgMatches, Command};
 use mx_base::{Moment, Tail};
@@ -69,24 +76,50 @@ pub(crate) fn command<'a>(alloc: Global) -> Result<Command<'a>, AllocError> {
         .subcommand(life_command(alloc)?)
 }
 
-// A number in digits alone that 32 bits hold.
-fn number_of(matches: &ArgMatches<'_>, name: &str) -> Option<u32> {
-    let text = matches.get_str(name)?;
-    if !text.bytes().all(|byte| byte.is_ascii_digit()) {
+// What was written for an argument.
+fn text_of<'a>(matches: &ArgMatches<'a>, name: &str) -> Option<&'a str>
+    ensures { option_map (λ text. text.now) result ≡ value_in (rows_of (found_of matches.now)) name.now }
+{
+    matches.get_str(name)
+}
+
+fn has_digits_alone(text: &str) -> bool
+    ensures { result ≡ list_all is_ascii_digit text.now }
+{
+    text.bytes().all(|byte| byte.is_ascii_digit())
+}
+
+// The number that a text writes in digits alone, where 32 bits hold it.
+fn number(text: &str) -> Option<u32>
+    ensures { result ≡ number_in text.now }
+{
+    if !has_digits_alone(text) {
         return None;
     }
     text.parse::<u32>().ok()
 }
 
-fn tail_of(matches: &ArgMatches<'_>) -> Option<Tail> {
-    Tail::read(matches.get_str("TAIL")?).ok()
+fn number_of(matches: &ArgMatches<'_>, name: &str) -> Option<u32>
+    ensures { Finds (Says WritesNumber (value_in (rows_of (found_of matches.now)) name.now)) result }
+{
+    number(text_of(matches, name)?)
 }
 
-fn moment_of(matches: &ArgMatches<'_>, name: &str) -> Option<Moment> {
-    Moment::read(matches.get_str(name)?).ok()
+fn tail_of(matches: &ArgMatches<'_>) -> Option<Tail>
+    ensures { Finds (Says WritesTail (value_in (rows_of (found_of matches.now)) (codes "TAIL"))) result }
+{
+    Tail::read(text_of(matches, "TAIL")?).ok()
 }
 
-fn trial_of(matches: &ArgMatches<'_>) -> Option<Trial> {
+fn moment_of(matches: &ArgMatches<'_>, name: &str) -> Option<Moment>
+    ensures { Finds (Says WritesMoment (value_in (rows_of (found_of matches.now)) name.now)) result }
+{
+    Moment::read(text_of(matches, name)?).ok()
+}
+
+fn trial_of(matches: &ArgMatches<'_>) -> Option<Trial>
+    ensures { Finds (WritesTrial (value_in (rows_of (found_of matches.now)))) result }
+{
     Some(Trial {
         tail: tail_of(matches)?,
         minutes: number_of(matches, "MINUTES")?,
@@ -97,18 +130,27 @@ fn trial_of(matches: &ArgMatches<'_>) -> Option<Trial> {
     })
 }
 
-/// What the words ask for, or `None` where one of them can't be read.
-pub(crate) fn words_of<'a>(matches: &ArgMatches<'a>) -> Option<Words<'a>> {
-    let (name, inner) = matches.subcommand()?;
+// What the word of this name asks for with these values.
+fn asked_by<'a>(name: &str, values: &ArgMatches<'a>) -> Option<Words<'a>>
+    ensures { Finds (Asks name.now (value_in (rows_of (found_of values.now)))) result }
+{
     match name {
-        "try" => Some(Words::Try(trial_of(inner)?)),
+        "try" => Some(Words::Try(trial_of(values)?)),
         "init" => Some(Words::Init {
-            file: inner.get_str("FILE")?,
+            file: text_of(values, "FILE")?,
         }),
         "life" => Some(Words::Life {
-            file: inner.get_str("FILE")?,
-            tail: tail_of(inner)?,
+            file: text_of(values, "FILE")?,
+            tail: tail_of(values)?,
         }),
         _ => None,
     }
+}
+
+/// What the words ask for, or `None` where one of them can't be read.
+pub(crate) fn words_of<'a>(matches: &ArgMatches<'a>) -> Option<Words<'a>>
+    ensures { MatchOption (subcommand_rows_of matches.now) (result ≡ None) (λ met. Finds (Asks met.0 (value_in met.1)) result) }
+{
+    let (name, values) = matches.subcommand()?;
+    asked_by(name, values)
 }

@@ -1,0 +1,6 @@
+pub mod AskedLemmas
+pub mod StatusLemmas
+pub mod TrialLemmas
+mod WorkedTrial
+mod WorkedStatus
+mod WorkedFaults
