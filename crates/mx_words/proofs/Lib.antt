@@ -1,4 +1,6 @@
 pub mod AskedLemmas
+pub mod CommandLineLemmas
+pub mod PrintLemmas
 pub mod StatusLemmas
 pub mod TrialLemmas
 mod WorkedTrial

@@ -1,5 +1,6 @@
 -- What is printed where all that the words ask for was done, and the status.
-use Rattle.std.specs.Prelude.{◌≡◌, ◌⊎◌, ℕ, List, false, codes}
+use Rattle.std.specs.Prelude.{◌≡◌, ◌⊎◌, ℕ, List, Option, false, codes}
+use Rattle.std.specs.Io.KnownBytes.{Appends}
 use Rattle.clap.specs.Values.{kind_of}
 use Rattle.clap.specs.declared.error.Error.{Error}
 use Rattle.clap.specs.declared.error.kind.ErrorKind.TheVariants.{DisplayHelp, DisplayVersion}
@@ -22,3 +23,7 @@ LacksShape _ = ⊥
 -- the words ask for help or for the version
 abbrev pub IsRequest : Error → Type 0
 IsRequest error = (kind_of error ≡ DisplayHelp) ⊎ (kind_of error ≡ DisplayVersion)
+
+-- what some words ask for was done, with a refusal, and its text printed
+abbrev pub IsRefusal : Option (List ℕ) → Option (List ℕ) → Type 0
+IsRefusal old new = (words : Words) × (text : List ℕ) × IsDone words text 1 × Appends old new text

@@ -1,4 +1,5 @@
 pub mod Asked
+pub mod CommandLine
 pub mod Done
 pub mod FaultLine
 pub mod Printed

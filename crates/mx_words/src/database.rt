@@ -1,5 +1,5 @@
 //! Making and opening the office that a database holds, and what is asked of it.
-ghost use Rattle.std.specs.Prelude.{◌≡◌, ◌≢◌, ◌≤◌, ◌++◌, true, false, IsTrue, OnOk, IfOk, IsErr, IfErr};
+ghost use Rattle.std.specs.Prelude.{◌≡◌, ◌≢◌, ◌⊎◌, ◌≤◌, ◌++◌, true, false, IsTrue, OnOk, IfOk, IsErr, IfErr};
 ghost use Rattle.std.specs.List.{flat_map, list_any};
 ghost use Rattle.sqlite.specs.Held.{state};
 ghost use Rattle.sqlite.specs.State.{HasCleanDisk};
@@ -9,6 +9,9 @@ ghost use Rattle.mx_book.specs.Run.{book_run, replies as replies_of};
 ghost use Rattle.mx_layout.specs.Crash.{RestsAs, ChangesNothing};
 ghost use Rattle.mx_layout.specs.Making.{IsEmptyBook};
 ghost use Rattle.mx_layout.specs.Tables.{layout_1, no_schema, HasOffice};
+ghost use Rattle.mx_layout.specs.declared.points.Point.{Point};
+ghost use Rattle.mx_layout.specs.Point.{FitsPoint, HoldsPoint};
+ghost use Rattle.mx_office.specs.Faults.{open_answer, IsUnopened};
 ghost use Rattle.mx_office.specs.Stands.{Rests};
 ghost use Rattle.mx_reports.specs.ReplyText.{reply_line};
 ghost use Rattle.mx_words.specs.Printed.{life_answer, life_status, IsLifeAnswer};
@@ -18,7 +21,7 @@ use crate::fault::{DONE, REFUSED, Stop};
 use mx_base::Tail;
 use mx_command::Command;
 use mx_layout::{Layout, TableFault, create};
-use mx_office::{Ask, Fault, Office, Reply, open_office};
+use mx_office::{Ask, Fault, Office, OpenFault, Reply, open_office};
 use mx_reports::{life_text, reply_text};
 use sqlite::{Alter, Connection};
 use std::alloc::Global;
@@ -30,6 +33,9 @@ pub(crate) fn make<S: Alter>(conn: &mut Connection<S>) -> Result<(), Stop>
     ensures made { RestsAs (state S.Store conn.old) no_schema (IsSound no_schema) → OnOk result (RestsAs (state S.Store conn.new) layout_1 IsEmptyBook) }
     ensures taken { HasCleanDisk (state S.Store conn.new) → (IsTrue (state S.Store conn.old).is_open → HasOffice (state S.Store conn.old).now.schema) → IsErr result }
     ensures unchanged { IfErr result (λ stop. stop ≢ Stop.Create TableFault.Store → ChangesNothing (state S.Store conn.old) (state S.Store conn.new)) }
+    ensures kept { (IsTrue (state S.Store conn.old).is_open → HasOffice (state S.Store conn.old).now.schema) → ChangesNothing (state S.Store conn.old) (state S.Store conn.new) }
+    ensures not_here { RestsAs (state S.Store conn.old) no_schema (IsSound no_schema) → HasCleanDisk (state S.Store conn.new) → result ≢ Err (Stop.Create TableFault.Exists) }
+    ensures stops { IfErr result (λ stop. (stop ≡ Stop.Create TableFault.Memory) ⊎ ((stop ≡ Stop.Create TableFault.Store) ⊎ (stop ≡ Stop.Create TableFault.Exists))) }
     ensures status { IfErr result (λ stop. stop_status stop ≡ 5) }
 {
     match create(conn, Layout(1)) {
@@ -45,6 +51,10 @@ pub(crate) fn open<S: Alter + Drop>(conn: Connection<S>) -> Result<Office<S>, St
     ensures ready { IfOk result (λ office. office.needs_reopen ≡ false) }
     ensures unchanged { IfOk result (λ office. ChangesNothing (state S.Store conn) (state S.Store office.conn)) }
     ensures kept { (book : _) → Rests (state S.Store conn) book → IfOk result (λ office. Rests (state S.Store office.conn) book) }
+    ensures exact { (p : Point) → (IsTrue (state S.Store conn).is_open → HoldsPoint p (state S.Store conn).now) → FitsPoint p
+        → IfErr result (λ stop. (left : _) × (HasCleanDisk (state S.Store left) → (fault : _) × (stop ≡ Stop.Open fault) × IsUnopened (open_answer p) fault)) }
+    ensures whole { (book : _) → Rests (state S.Store conn) book
+        → IfErr result (λ stop. (left : _) × (HasCleanDisk (state S.Store left) → (stop ≡ Stop.Open OpenFault.Memory) ⊎ (stop ≡ Stop.Open OpenFault.Store))) }
     ensures status { IfErr result (λ stop. stop_status stop ≡ 5) }
 {
     match open_office(conn) {

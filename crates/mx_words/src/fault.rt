@@ -1,6 +1,6 @@
 //! Why the program ends before its work is done: the status, and the line on standard error.
 
-ghost use Rattle.std.specs.Prelude.{◌≡◌, ◌++◌, codes, OnOk};
+ghost use Rattle.std.specs.Prelude.{◌≡◌, ◌≤◌, ◌++◌, codes, OnOk};
 ghost use Rattle.std.specs.Io.KnownBytes.{Appends};
 ghost use Rattle.mx_layout.specs.Names.{table_name};
 ghost use Rattle.mx_words.specs.FaultLine.{fault_line, line_of, create_words, open_words, office_words};
@@ -40,7 +40,8 @@ pub(crate) enum Stop {
 impl Stop {
     /// The status that the program ends with.
     pub(crate) fn status(self) -> u8
-        ensures { result ≡ stop_status self }
+        ensures named { result ≡ stop_status self }
+        ensures bound { 2 ≤ result }
     {
         match self {
             Stop::Words | Stop::Shape => BAD_WORDS,

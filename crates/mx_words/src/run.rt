@@ -1,11 +1,11 @@
 //! The program on its words.
 ghost use Rattle.std.specs.Prelude.{◌≡◌, ◌≢◌, ◌↔◌, ◌⊎◌, ◌<◌, ◌≤◌, [], ◌++◌, max, true, false, codes, OnOk, OnErr, IfOk, IfErr};
-ghost use Rattle.std.specs.Io.KnownBytes.{Appends};
+ghost use Rattle.std.specs.Io.KnownBytes.{Appends, Keeps};
 ghost use Rattle.sqlite.specs.Held.{state};
 ghost use Rattle.sqlite.specs.State.{HasCleanDisk};
 ghost use Rattle.sqlite.specs.Steps.{over_memory};
 ghost use Rattle.mx_office.specs.Stands.{Rests};
-ghost use Rattle.mx_words.specs.Done.{IsDone, IsRequest, LacksShape};
+ghost use Rattle.mx_words.specs.Done.{IsDone, IsRefusal, IsRequest, LacksShape};
 ghost use Rattle.mx_words.specs.FaultLine.{fault_line};
 ghost use Rattle.mx_words.specs.Printed.{IsLifeAnswer};
 ghost use Rattle.mx_words.specs.Status.{stop_status};
@@ -15,8 +15,8 @@ use crate::database::{enter_all, make, open, print_life};
 use crate::fault::{BAD_WORDS, DONE, STOPPED, Stop};
 use crate::trial::commands_of;
 use crate::words::{Trial, Words, command, words_of};
-use clap::Error as WordsError;
 use clap::error::ErrorKind as WordsKind;
+use clap::{ArgMatches, Error as WordsError};
 use mx_base::Tail;
 use mx_command::Command;
 use mx_layout::TableFault;
@@ -136,6 +136,7 @@ fn perform(rt: &HostRuntime, words: &Words<'_>, out: &mut Vec<u8>) -> Result<u8,
     ensures done { IfOk result (λ status. (text : _) × (out.new.items ≡ out.old.items ++ text) × IsDone words.now text status) }
     ensures shape { result ≡ Err Stop.Shape → LacksShape words.now × (out.new ≡ out.old) }
     ensures words { result ≢ Err Stop.Words }
+    ensures unprinted { IfErr result (λ stop. stop_status stop ≡ 2 → out.new ≡ out.old) }
 {
     match words {
         Words::Try(trial) => try_out(rt.alloc(), trial, out),
@@ -149,6 +150,8 @@ fn print_usage<O: Write, E: Write>(error: &WordsError, out: &mut O, err: &mut E)
     ensures asked { IsRequest error.now → ((result ≡ 0) ⊎ (result ≡ 4)) × (err.new ≡ err.old) }
     ensures refused { ¬ IsRequest error.now → ((result ≡ 2) ⊎ (result ≡ 4)) × (out.new ≡ out.old) }
     ensures named { (result ≡ 0) ⊎ ((result ≡ 2) ⊎ (result ≡ 4)) }
+    ensures quiet { result ≡ 0 → err.new ≡ err.old }
+    ensures unprinted { result ≡ 2 → out.new ≡ out.old }
 {
     let (written, status) = if error.use_stderr() {
         (write!(err, "{error}"), BAD_WORDS)
@@ -173,6 +176,7 @@ fn print_done<O: Write, E: Write>(
     ensures printed { result < 4 → Appends (O.contents out.old) (O.contents out.new) text.now }
     ensures reported { result < 4 → IfErr done (λ stop. Appends (E.contents err.old) (E.contents err.new) (fault_line stop)) }
     ensures quiet { OnOk done (err.new ≡ err.old) }
+    ensures fault { OnErr done (2 ≤ result) }
 {
     let printed = out.write_all(text);
     let (reported, status) = match done {
@@ -183,6 +187,36 @@ fn print_done<O: Write, E: Write>(
         return status.max(STOPPED);
     }
     status
+}
+
+// Does what the words ask for, if they can be read, and appends what that prints.
+fn perform_all(rt: &HostRuntime, matches: &ArgMatches<'_>, out: &mut Vec<u8>) -> Result<u8, Stop>
+    ensures bound { IfOk result (λ status. status ≤ 1) }
+    ensures done { IfOk result (λ status. (words : _) × (text : _) × (out.new.items ≡ out.old.items ++ text) × IsDone words text status) }
+    ensures unprinted { IfErr result (λ stop. stop_status stop ≡ 2 → out.new ≡ out.old) }
+{
+    match words_of(matches) {
+        Some(words) => perform(rt, &words, out),
+        None => Err(Stop::Words),
+    }
+}
+
+// Does what the words ask for, prints it, and answers the status.
+fn answer<O: Write, E: Write>(
+    rt: &HostRuntime,
+    matches: &ArgMatches<'_>,
+    out: &mut O,
+    err: &mut E,
+) -> u8
+    ensures bound { result ≤ 5 }
+    ensures named { result ≢ 3 }
+    ensures refused { result ≡ 1 → IsRefusal (O.contents out.old) (O.contents out.new) }
+    ensures quiet { result ≤ 1 → err.new ≡ err.old }
+    ensures unprinted { result ≡ 2 → Keeps (O.contents out.old) (O.contents out.new) }
+{
+    let mut text = Vec::new(rt.alloc());
+    let done = perform_all(rt, matches, &mut text);
+    print_done(&text, done, out, err)
 }
 
 /// Runs the program on its words, the first of which is its name. Prints replies, reports and help to `out`,
@@ -197,6 +231,9 @@ pub fn run_words<O: Write, E: Write>(
 ) -> u8
     ensures bound { result ≤ 5 }
     ensures named { result ≢ 3 }
+    ensures refused { result ≡ 1 → IsRefusal (O.contents out.old) (O.contents out.new) }
+    ensures quiet { result ≤ 1 → err.new ≡ err.old }
+    ensures unprinted { result ≡ 2 → Keeps (O.contents out.old) (O.contents out.new) }
 {
     let Ok(command) = command(rt.alloc()) else {
         return print_done(&[], Err(Stop::MakeMemory), out, err);
@@ -206,13 +243,6 @@ pub fn run_words<O: Write, E: Write>(
             print_done(&[], Err(Stop::MakeMemory), out, err)
         }
         Err(error) => print_usage(&error, out, err),
-        Ok(matches) => {
-            let mut text = Vec::new(rt.alloc());
-            let done = match words_of(&matches) {
-                Some(words) => perform(rt, &words, &mut text),
-                None => Err(Stop::Words),
-            };
-            print_done(&text, done, out, err)
-        }
+        Ok(matches) => answer(rt, &matches, out, err),
     }
 }

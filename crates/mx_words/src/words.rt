@@ -1,11 +1,12 @@
 //! The words that the program takes, read with `clap`. Every value is taken as it is written, also one that
 //! begins with `-`, and read by the readers of the office.
-ghost use Rattle.std.specs.Prelude.{◌≡◌, None, MatchOption, codes, option_map};
+ghost use Rattle.std.specs.Prelude.{◌≡◌, false, None, IfOk, MatchOption, codes, option_map};
 ghost use Rattle.std.specs.Char.{is_ascii_digit};
 ghost use Rattle.std.specs.List.{list_all};
 ghost use Rattle.clap.specs.Matches.{found_of};
-ghost use Rattle.clap.specs.Walk.{rows_of};
-ghost use Rattle.clap.specs.Simple.{subcommand_rows_of};
+ghost use Rattle.clap.specs.Walk.{rows_of, rule_of};
+ghost use Rattle.clap.specs.Simple.{app_of, subcommand_rows_of};
+ghost use Rattle.mx_words.specs.CommandLine.{argument, has_globals, with_arguments, word_app, opening_arguments, sector_arguments, try_arguments, init_arguments, life_arguments, bare_office, office_app};
 ghost use Rattle.mx_words.specs.Asked.{value_in, number_in, Says, WritesNumber, WritesTail, WritesMoment, WritesTrial, Asks, Finds};
 
 use clap::{Arg, ArgAction, ArgMatches, Command};
@@ -31,7 +32,10 @@ pub(crate) enum Words<'a> {
     Life { file: &'a str, tail: Tail },
 }
 
-fn value<'a>(alloc: Global, name: &'a str, help: &'a str) -> Arg<'a> {
+fn value<'a>(alloc: Global, name: &'a str, help: &'a str) -> Arg<'a>
+    ensures rule { rule_of result ≡ argument name.entry.now }
+    ensures local { result.global ≡ false }
+{
     Arg::new(alloc, name)
         .required(true)
         .action(ArgAction::Set)
@@ -39,38 +43,74 @@ fn value<'a>(alloc: Global, name: &'a str, help: &'a str) -> Arg<'a> {
         .help(help)
 }
 
-fn try_command<'a>(alloc: Global) -> Result<Command<'a>, AllocError> {
-    Command::new(alloc, "try")
-        .about(
-            "Enters an aircraft and one sector into a store in memory, and prints the replies and the life",
-        )
+// What the aircraft of a trial comes with.
+fn with_opening<'a>(alloc: Global, command: Command<'a>) -> Result<Command<'a>, AllocError>
+    ensures app { IfOk result (λ more. app_of more ≡ with_arguments (app_of command.entry) opening_arguments) }
+    ensures local { IfOk result (λ more. has_globals more ≡ has_globals command.entry) }
+{
+    command
         .arg(value(alloc, "TAIL", "The registration"))?
         .arg(value(alloc, "MINUTES", "The flight minutes that it comes with"))?
-        .arg(value(alloc, "CYCLES", "The cycles that it comes with"))?
+        .arg(value(alloc, "CYCLES", "The cycles that it comes with"))
+}
+
+// The sector of a trial.
+fn with_sector<'a>(alloc: Global, command: Command<'a>) -> Result<Command<'a>, AllocError>
+    ensures app { IfOk result (λ more. app_of more ≡ with_arguments (app_of command.entry) sector_arguments) }
+    ensures local { IfOk result (λ more. has_globals more ≡ has_globals command.entry) }
+{
+    command
         .arg(value(alloc, "OFF", "Take-off, YYYY-MM-DDTHH:MM"))?
         .arg(value(alloc, "ON", "Landing, YYYY-MM-DDTHH:MM"))?
         .arg(value(alloc, "SECTOR_CYCLES", "The cycles of the sector"))
 }
 
-fn init_command<'a>(alloc: Global) -> Result<Command<'a>, AllocError> {
+fn try_command<'a>(alloc: Global) -> Result<Command<'a>, AllocError>
+    ensures app { IfOk result (λ command. app_of command ≡ word_app (codes "try") try_arguments) }
+    ensures local { IfOk result (λ command. has_globals command ≡ false) }
+{
+    let command = Command::new(alloc, "try").about(
+        "Enters an aircraft and one sector into a store in memory, and prints the replies and the life",
+    );
+    with_sector(alloc, with_opening(alloc, command)?)
+}
+
+fn init_command<'a>(alloc: Global) -> Result<Command<'a>, AllocError>
+    ensures app { IfOk result (λ command. app_of command ≡ word_app (codes "init") init_arguments) }
+    ensures local { IfOk result (λ command. has_globals command ≡ false) }
+{
     Command::new(alloc, "init")
         .about("Makes an empty book")
         .arg(value(alloc, "FILE", "The database file"))
 }
 
-fn life_command<'a>(alloc: Global) -> Result<Command<'a>, AllocError> {
+fn life_command<'a>(alloc: Global) -> Result<Command<'a>, AllocError>
+    ensures app { IfOk result (λ command. app_of command ≡ word_app (codes "life") life_arguments) }
+    ensures local { IfOk result (λ command. has_globals command ≡ false) }
+{
     Command::new(alloc, "life")
         .about("Prints the life of an aircraft")
         .arg(value(alloc, "FILE", "The database file"))?
         .arg(value(alloc, "TAIL", "The registration"))
 }
 
+// The program without its words.
+fn office_command<'a>(alloc: Global) -> Result<Command<'a>, AllocError>
+    ensures { IfOk result (λ command. app_of command ≡ bare_office) }
+{
+    Ok(
+        Command::new(alloc, "office")
+            .bin_name("office")?
+            .about("Keeps the continuing airworthiness records of a small operator")
+            .subcommand_required(true),
+    )
+}
+
 /// The command line of the program.
-pub(crate) fn command<'a>(alloc: Global) -> Result<Command<'a>, AllocError> {
-    Command::new(alloc, "office")
-        .bin_name("office")?
-        .about("Keeps the continuing airworthiness records of a small operator")
-        .subcommand_required(true)
+pub(crate) fn command<'a>(alloc: Global) -> Result<Command<'a>, AllocError>
+    ensures { IfOk result (λ command. app_of command ≡ office_app) }
+{
+    office_command(alloc)?
         .subcommand(try_command(alloc)?)?
         .subcommand(init_command(alloc)?)?
         .subcommand(life_command(alloc)?)
