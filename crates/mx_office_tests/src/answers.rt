@@ -1,14 +1,43 @@
-//! What an office is to answer. Each call is compared in a function of its own, which says nothing of the
-//! tables, so that the functions above are lists of answers.
+//! What an office answers, and is to answer. Each call stands in a function of its own that says nothing of the
+//! tables: so the proofs above carry none of what the office promises of them.
 
 use mx_base::Use;
 use mx_book::{LifeList, Reply};
 use mx_command::{Command, Item};
-use mx_office::{Ask, Office};
+use mx_office::{Ask, Fault, Office, Outcomes};
 use mx_samples::words::{are_same, serial, tail};
 use sqlite::MemStore;
 use std::alloc::Global;
 use std::process::Abort;
+
+/// What the office answers to the command.
+pub fn applied(
+    alloc: Global,
+    office: &mut Office<MemStore>,
+    command: &Command,
+) -> Result<Reply, Fault> {
+    office.apply(alloc, command)
+}
+
+/// What the office answers to a list of commands.
+pub fn ran(alloc: Global, office: &mut Office<MemStore>, commands: &[Command]) -> Outcomes {
+    office.run(alloc, commands)
+}
+
+/// At most so many entries of the office, from a number on.
+pub fn entries_of(
+    alloc: Global,
+    office: &mut Office<MemStore>,
+    from: u32,
+    at_most: u32,
+) -> Result<Vec<Command>, Fault> {
+    office.entries(alloc, from, at_most)
+}
+
+/// The life of an item.
+pub fn life_of(alloc: Global, office: &mut Office<MemStore>, item: &Item) -> Result<Use, Ask> {
+    office.life(alloc, item)
+}
 
 /// The office answers the command in this way.
 pub fn answers(
@@ -19,7 +48,8 @@ pub fn answers(
     reply: Reply,
 ) {
     let document = command.doc();
-    assert_eq!(rt; office.apply(alloc, command), Ok(reply), "to {document}");
+    let answered = applied(alloc, office, command);
+    assert_eq!(rt; answered, Ok(reply), "to {document}");
 }
 
 /// The office accepts the commands, the first under this number and the others behind it.
@@ -46,7 +76,7 @@ pub fn gives(
     wanted: &[Command],
 ) {
     let (from, at_most) = range;
-    let found = office.entries(alloc, from, at_most).expect(rt, "entries");
+    let found = entries_of(alloc, office, from, at_most).expect(rt, "entries");
     assert!(rt; are_same(&found, wanted), "{at_most} from {from}");
 }
 
@@ -68,7 +98,7 @@ pub fn tells(
     item: Item,
     wanted: Result<Use, Ask>,
 ) {
-    assert_eq!(rt; office.life(alloc, &item), wanted, "of {item:?}");
+    assert_eq!(rt; life_of(alloc, office, &item), wanted, "of {item:?}");
 }
 
 /// The life list of the aircraft with this registration, or why there is none.

@@ -30,9 +30,8 @@ pub struct Trial<'a, R> {
     pub table: Table,
 }
 
-fn come_in_order<R: Kept>(
+fn are_added<R: Kept>(
     rt: &impl Abort,
-    alloc: Global,
     tx: &mut Transaction<'_, MemStore>,
     rows: &[R],
     order: &[usize],
@@ -42,6 +41,14 @@ fn come_in_order<R: Kept>(
         let row = rows.get(*at).expect(rt, "a row");
         assert_eq!(rt; R::add(tx, row), Ok(()), "{row:?}");
     }
+}
+
+fn are_read<R: Kept>(
+    rt: &impl Abort,
+    alloc: Global,
+    tx: &mut Transaction<'_, MemStore>,
+    rows: &[R],
+) {
     let found = R::all(alloc, tx).expect(rt, "the rows");
     assert_eq!(rt; found.as_slice(), rows);
 }
@@ -68,7 +75,8 @@ fn is_damaged<R: Kept>(
 pub fn is_kept<R: Kept>(rt: &impl Abort, alloc: Global, trial: &Trial<'_, R>) {
     let mut conn = made(rt, alloc);
     let mut tx = conn.transaction();
-    come_in_order(rt, alloc, &mut tx, trial.rows, trial.order);
+    are_added(rt, &mut tx, trial.rows, trial.order);
+    are_read(rt, alloc, &mut tx, trial.rows);
     are_refused(rt, &mut tx, trial.refused);
     is_damaged::<R>(rt, alloc, &mut tx, trial.damage, trial.table);
 }

@@ -1,6 +1,6 @@
 //! The office on the worked examples of an aircraft and its sectors, over a database in memory.
 
-use crate::answers::{accepts_all, airframe, answers, gives, list_of, numbered, tells};
+use crate::answers::{accepts_all, airframe, answers, gives, list_of, numbered, ran, tells};
 use crate::samples::{empty_office, reopened};
 use mx_base::Use;
 use mx_book::{Refusal, Reply};
@@ -159,9 +159,9 @@ fn unknown_things_are_refused(rt: HostRuntime) {
 // The two commands, the second again as it was and with other cycles, and a sector past midnight.
 fn five_commands(rt: &impl Abort, alloc: Global) -> Vec<Command> {
     let mut commands = two_commands(alloc).expect(rt, "two commands");
-    for flown in [FIRST, Flown { cycles: 2, ..FIRST }, OVER_MIDNIGHT] {
+    for flown in &[FIRST, Flown { cycles: 2, ..FIRST }, OVER_MIDNIGHT] {
         commands
-            .push(command_of(rt, alloc, flown))
+            .push(command_of(rt, alloc, *flown))
             .expect(rt, "memory");
     }
     commands
@@ -177,7 +177,7 @@ const REPLIES: [Reply; 5] = [
 
 fn runs_a_list(rt: &impl Abort, alloc: Global, office: &mut Office<MemStore>) {
     let commands = five_commands(rt, alloc);
-    let outcomes = office.run(alloc, &commands);
+    let outcomes = ran(alloc, office, &commands);
     assert_eq!(rt; outcomes.replies.as_slice(), REPLIES.as_slice());
     assert_eq!(rt; outcomes.stopped, None);
 }

@@ -1,6 +1,6 @@
 //! Databases that are no office, and tables that are those of no book.
 
-use crate::answers::list_of;
+use crate::answers::{applied, entries_of, list_of, ran};
 use crate::office::enter_two;
 use crate::samples::{after, change, empty_office, opened, reopened};
 use mx_book::Reply;
@@ -99,8 +99,9 @@ fn stops_each_call(rt: &impl Abort, alloc: Global, office: &mut Office<MemStore>
     let command = sector(alloc, 2, "2024-03-01T23:45", "2024-03-02T00:15", 1);
     let command = command.expect(rt, "a sector");
     let damaged = Fault::Damaged(Table::Aircraft);
-    assert_eq!(rt; office.apply(alloc, &command), Err(damaged));
-    assert_eq!(rt; office.entries(alloc, 1, 10).err(), Some(damaged));
+    assert_eq!(rt; applied(alloc, office, &command), Err(damaged));
+    let entries = entries_of(alloc, office, 1, 10);
+    assert_eq!(rt; entries.err(), Some(damaged));
     assert!(rt; !office.needs_reopen());
 }
 
@@ -144,7 +145,7 @@ fn an_entry_with_no_row_is_damage(rt: HostRuntime) {
 
 fn enter_eight(rt: &impl Abort, alloc: Global, office: &mut Office<MemStore>) {
     let commands = worked_commands(alloc, 1, 8).expect(rt, "eight commands");
-    let outcomes = office.run(alloc, &commands);
+    let outcomes = ran(alloc, office, &commands);
     assert!(rt; outcomes.replies.last() == Some(&Reply::Accepted(8)));
 }
 

@@ -1,7 +1,7 @@
 //! The office where memory runs out. These tests pass whichever allocation fails:
 //! `scripts/fail-allocations.sh` runs them with each one failing in turn.
 
-use crate::answers::{airframe, list_of, numbered};
+use crate::answers::{airframe, applied, entries_of, life_of, list_of, numbered, ran};
 use crate::samples::opened;
 use mx_base::Use;
 use mx_book::Reply;
@@ -93,7 +93,7 @@ fn bounds_of(
     commands: &[Command],
     bounds: Bounds,
 ) -> Bounds {
-    match office.entries(alloc, 1, 10) {
+    match entries_of(alloc, office, 1, 10) {
         Ok(found) => {
             let kept = found.len();
             assert!(rt; bounds.least <= kept && kept <= bounds.most);
@@ -131,9 +131,9 @@ fn answers_of(
         engine_life_after(bounds.least),
         engine_life_after(bounds.most),
     ];
-    let life = office.life(alloc, &airframe(rt, "D-ABCD"));
+    let life = life_of(alloc, office, &airframe(rt, "D-ABCD"));
     is_one_of(rt, life, lives);
-    let life = office.life(alloc, &numbered(rt, "E1"));
+    let life = life_of(alloc, office, &numbered(rt, "E1"));
     is_one_of(rt, life, engine_lives);
     let list = list_of(rt, alloc, office, "D-ABCD");
     is_one_of(rt, list.map(|list| list.life), lives);
@@ -149,7 +149,7 @@ fn apply_each(
 ) -> Bounds {
     let mut kept: usize = 0;
     for command in commands {
-        match office.apply(alloc, command) {
+        match applied(alloc, office, command) {
             Ok(reply) => {
                 kept = kept.saturating_add(1);
                 assert_eq!(rt; reply, Reply::Accepted(number(kept)));
@@ -178,7 +178,7 @@ fn run_all(
     office: &mut Office<MemStore>,
     commands: &[Command],
 ) -> Bounds {
-    let outcomes = office.run(alloc, commands);
+    let outcomes = ran(alloc, office, commands);
     let kept = outcomes.replies.len();
     assert!(rt; kept <= commands.len());
     are_accepted(rt, &outcomes.replies);
