@@ -14,15 +14,62 @@ struct Done {
     status: u8,
 }
 
-fn run(rt: &HostRuntime, words: &[&str]) -> Result<Done, Fail> {
+fn owned(rt: &HostRuntime, words: &[&str]) -> Result<Vec<String>, Fail> {
     let mut all = Vec::new(rt.alloc());
     for word in words {
         all.push(String::from_str(rt.alloc(), word)?)?;
     }
+    Ok(all)
+}
+
+fn run(rt: &HostRuntime, words: &[&str]) -> Result<Done, Fail> {
+    let all = owned(rt, words)?;
     let mut out = Vec::new(rt.alloc());
     let mut err = Vec::new(rt.alloc());
     let status = run_words(rt, all.as_slice(), &mut out, &mut err);
     Ok(Done { out, err, status })
+}
+
+// A writer that fails once it holds so many bytes.
+#[derive(Drop)]
+struct Short {
+    text: Vec<u8>,
+    room: usize,
+}
+
+impl io::Write for Short {
+    fn write(&mut self, bytes: &[u8]) -> io::Result<usize> {
+        let left = self.room.saturating_sub(self.text.len());
+        if left == 0 {
+            return Err(io::Error::from(io::ErrorKind::StorageFull));
+        }
+        let most = bytes.len().min(left);
+        self.text.extend_from_slice(&bytes[..most])?;
+        Ok(most)
+    }
+
+    fn flush(&mut self) -> io::Result<()> {
+        Ok(())
+    }
+}
+
+// Runs the program where each stream has room for so many bytes.
+fn run_short(rt: &HostRuntime, words: &[&str], room: usize) -> Result<Done, Fail> {
+    let all = owned(rt, words)?;
+    let mut out = Short {
+        text: Vec::new(rt.alloc()),
+        room,
+    };
+    let mut err = Short {
+        text: Vec::new(rt.alloc()),
+        room,
+    };
+    let status = run_words(rt, all.as_slice(), &mut out, &mut err);
+    Ok(Done {
+        out: out.text,
+        err: err.text,
+        status,
+    })
 }
 
 impl Done {
@@ -72,6 +119,22 @@ fn a_trial_prints_the_replies_and_the_life(rt: HostRuntime) -> Result<(), Fail> 
     let text = "accepted 1\naccepted 2\nlife D-ABCD\nairframe TRY 1001:30 801\nend 1\n";
     let words = ["office", "try", "D-ABCD", "60000", "800", off, on, "1"];
     run(&rt, &words)?.is(&rt, text, "", 0);
+    Ok(())
+}
+
+#[test]
+fn where_a_stream_fails_the_status_is_4_or_the_faults(rt: HostRuntime) -> Result<(), Fail> {
+    let (off, on) = ("2024-03-01T08:00", "2024-03-01T09:30");
+    let trial = ["office", "try", "D-ABCD", "60000", "800", off, on, "1"];
+    let text = "accepted 1\naccepted 2\nlife D-ABCD\nairframe TRY 1001:30 801\nend 1\n";
+    run_short(&rt, &trial, text.len())?.is(&rt, text, "", 0);
+    run_short(&rt, &trial, 14)?.is(&rt, "accepted 1\nacc", "", 4);
+    let bad_words = ["office", "try", "D ABCD", "60000", "800", off, on, "1"];
+    run_short(&rt, &bad_words, 8)?.is(&rt, "", "fault wo", 4);
+    run_short(&rt, &["office", "life", "book.db"], 6)?.is(&rt, "", "error:", 4);
+    run_short(&rt, &["office", "--help"], 0)?.is(&rt, "", "", 4);
+    let path = new_path(&rt, "unwritten.db")?;
+    run_short(&rt, &["office", "life", path.as_str(), "D-ABCD"], 8)?.is(&rt, "", "fault no", 5);
     Ok(())
 }
 
