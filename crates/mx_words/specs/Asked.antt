@@ -56,6 +56,11 @@ Asks name value (Try trial) = (name ≡ codes "try") × WritesTrial value trial
 Asks name value (Init file) = (name ≡ codes "init") × (value (codes "FILE") ≡ Some file.now)
 Asks name value (Life file tail) = (name ≡ codes "life") × (value (codes "FILE") ≡ Some file.now) × Says WritesTail (value (codes "TAIL")) tail
 
+-- the word that was met, with its values, asks for this
+abbrev pub IsAskedIn : Option (List ℕ × List Row) → Words → Type 0
+IsAskedIn None words = ⊥
+IsAskedIn (Some met) words = Asks met.0 (value_in met.1) words
+
 -- an x with P was found, or no x has P
 abbrev pub Finds : {X : Type 0} → (X → Type 0) → Option X → Type 0
 Finds P None = (x : _) → ¬ P x

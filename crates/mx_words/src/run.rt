@@ -5,6 +5,8 @@ ghost use Rattle.sqlite.specs.Held.{state};
 ghost use Rattle.sqlite.specs.State.{HasCleanDisk};
 ghost use Rattle.sqlite.specs.Steps.{over_memory};
 ghost use Rattle.mx_office.specs.Stands.{Rests};
+ghost use Rattle.clap.specs.Simple.{subcommand_rows_of};
+ghost use Rattle.mx_words.specs.Asked.{IsAskedIn};
 ghost use Rattle.mx_words.specs.Done.{IsDone, IsRefusal, IsRequest, LacksShape};
 ghost use Rattle.mx_words.specs.FaultLine.{fault_line};
 ghost use Rattle.mx_words.specs.Printed.{IsLifeAnswer};
@@ -193,6 +195,8 @@ fn print_done<O: Write, E: Write>(
 fn perform_all(rt: &HostRuntime, matches: &ArgMatches<'_>, out: &mut Vec<u8>) -> Result<u8, Stop>
     ensures bound { IfOk result (λ status. status ≤ 1) }
     ensures done { IfOk result (λ status. (words : _) × (text : _) × (out.new.items ≡ out.old.items ++ text) × IsDone words text status) }
+    ensures asked { IfOk result (λ status. (words : _) × IsAskedIn (subcommand_rows_of matches.now) words × ((text : _) × (out.new.items ≡ out.old.items ++ text) × IsDone words text status)) }
+    ensures words { result ≡ Err Stop.Words → (words : _) → ¬ IsAskedIn (subcommand_rows_of matches.now) words }
     ensures unprinted { IfErr result (λ stop. stop_status stop ≡ 2 → out.new ≡ out.old) }
 {
     match words_of(matches) {
