@@ -2,7 +2,9 @@
 
 use mx_base::{Part, Position};
 use mx_command::{Body, Command, Component, Fitting, MakeFault, Removal};
-use mx_samples::fittings::{component, first_aircraft, fitting, positions, removal, second_aircraft};
+use mx_samples::fittings::{
+    component, first_aircraft, fitting, positions, removal, second_aircraft,
+};
 use mx_samples::sectors::aircraft;
 use mx_samples::words::{day, doc, kind, moment, part, position, serial, tail, used};
 use std::alloc::Global;

@@ -2,7 +2,9 @@
 
 use mx_book::{Book, FittedPart, Refusal, Verdict};
 use mx_command::{Command, Item};
-use mx_samples::fittings::{component, enter_all, fitting, removal, second_aircraft, worked_book, worked_commands};
+use mx_samples::fittings::{
+    component, enter_all, fitting, removal, second_aircraft, worked_book, worked_commands,
+};
 use mx_samples::sectors::{enter_new, sector_of};
 use mx_samples::words::{moment, part, position, serial, tail, used};
 use std::process::Abort;

@@ -57,4 +57,3 @@ pub fn number(count: usize) -> u32 {
 pub fn are_same(found: &[Command], wanted: &[Command]) -> bool {
     found.len() == wanted.len() && found.iter().zip(wanted.iter()).all(|(a, b)| a.is_same(b))
 }
-
