@@ -12,10 +12,12 @@ run:
 	echo "not built yet: running unproved (make office builds the proved program)" >&2; \
 	cd crates/mx_cli && $(RT) try -- $(EXAMPLE); fi
 
-# the gate, from nothing; where it passes, the program that it proved and ran is left as ./office
+# the gate, from nothing; where it passes, the program that it proved and ran is left as ./office, and its process
+# is tried on words that end with each status
 test:
 	@$(RT) ci
 	@install -m 755 crates/mx_cli/out/mx_cli office
+	@scripts/check-process.sh
 
 # the proved program alone
 office: $(SOURCES)
