@@ -1,5 +1,5 @@
 -- Worked examples: the rows that the tables of the worked book have, and what opening answers over a point.
-use Rattle.std.proofs.Common.{refl, ◌≡◌, ℕ, pos, [], ◌∷◌, Some, None}
+use Rattle.std.proofs.Common.{refl, ◌≡◌, ℕ, pos, [], ◌∷◌, Some, None, Ok, Err, map}
 use Rattle.std.specs.Prelude.{codes}
 use Rattle.std.specs.Fmt.{digits}
 use Rattle.sqlite.specs.declared.types.Value.{Value}
@@ -10,8 +10,11 @@ use Rattle.mx_command.specs.declared.item.Item.TheVariants as item
 use Rattle.mx_book.specs.declared.verdict.Refusal.TheVariants.{UnknownAircraft, UnknownComponent}
 use Rattle.mx_book.proofs.WorkedFittings.{replaced}
 use Rattle.mx_layout.specs.declared.fault.Table.TheVariants.{Office, Entry, Aircraft, Place, Component, Programme, Sector1, Fit1, Removal1}
+use Rattle.mx_layout.specs.declared.fault.TableFault.TheVariants as table
+use Rattle.mx_office.specs.declared.fault.Ask.TheVariants.{Refused}
+use Rattle.mx_office.specs.declared.fault.Fault.TheVariants as fault
 use Rattle.mx_office.specs.declared.fault.OpenFault.TheVariants as unopened
-use Rattle.mx_office.specs.Faults.{open_answer, unknown}
+use Rattle.mx_office.specs.Faults.{fault_from, found_or, open_answer, open_fault_from, unknown}
 use Rattle.mx_office.specs.Stands.{rows_given}
 
 number : ℕ → Value
@@ -67,6 +70,9 @@ opens_at_the_first_point = refl
 newer : open_answer (record { layout = 9; step = 7; mark = 3 }) ≡ Some (unopened.NewerLayout 9)
 newer = refl
 
+next_layout : open_answer (record { layout = 2; step = 0; mark = 0 }) ≡ Some (unopened.NewerLayout 2)
+next_layout = refl
+
 on_the_way : open_answer (record { layout = 1; step = 1; mark = 67 }) ≡ Some (unopened.Damaged Office)
 on_the_way = refl
 
@@ -81,3 +87,21 @@ unknown_tail = refl
 
 unknown_serial : unknown (item.Component (codes "E9")) ≡ UnknownComponent
 unknown_serial = refl
+
+-- ── what a fault of the tables is to the office ──
+
+faults : map fault_from (table.Memory ∷ table.Store ∷ table.NotOurs ∷ table.Exists ∷ table.Damaged Place ∷ [])
+    ≡ fault.Memory ∷ fault.Store ∷ fault.Store ∷ fault.Store ∷ fault.Damaged Place ∷ []
+faults = refl
+
+faults_of_opening : map open_fault_from (table.Memory ∷ table.Store ∷ table.NotOurs ∷ table.Exists ∷ table.Damaged Office ∷ [])
+    ≡ unopened.Memory ∷ unopened.Store ∷ unopened.NotOurs ∷ unopened.Store ∷ unopened.Damaged Office ∷ []
+faults_of_opening = refl
+
+-- ── what is answered to a question ──
+
+found : found_or {X = ℕ} UnknownAircraft (Some 1) ≡ Ok 1
+found = refl
+
+none_found : found_or {X = ℕ} UnknownAircraft None ≡ Err (Refused UnknownAircraft)
+none_found = refl
