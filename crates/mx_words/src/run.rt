@@ -197,6 +197,7 @@ fn perform_all(rt: &HostRuntime, matches: &ArgMatches<'_>, out: &mut Vec<u8>) ->
     ensures done { IfOk result (λ status. (words : _) × (text : _) × (out.new.items ≡ out.old.items ++ text) × IsDone words text status) }
     ensures asked { IfOk result (λ status. (words : _) × IsAskedIn (subcommand_rows_of matches.now) words × ((text : _) × (out.new.items ≡ out.old.items ++ text) × IsDone words text status)) }
     ensures words { result ≡ Err Stop.Words → (words : _) → ¬ IsAskedIn (subcommand_rows_of matches.now) words }
+    ensures shape { result ≡ Err Stop.Shape → (words : _) × IsAskedIn (subcommand_rows_of matches.now) words × LacksShape words }
     ensures unprinted { IfErr result (λ stop. stop_status stop ≡ 2 → out.new ≡ out.old) }
 {
     match words_of(matches) {
