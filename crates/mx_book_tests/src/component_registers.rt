@@ -21,7 +21,7 @@ fn registers_give_their_book(rt: HostRuntime) -> Result<(), Fail> {
         let book = worked_book(rt.alloc(), last)?;
         let rows = rows_of(rt.alloc(), &book)?;
         let again = merged(rt.alloc(), &rows)?.ok_or("no book")?;
-        let wanted = worked_commands(rt.alloc(), 1, last)?;
+        let wanted = worked_commands(rt.alloc(), 0, last)?;
         assert!(rt; are_same(again.as_slice(), &wanted), "after {last}");
     }
     Ok(())

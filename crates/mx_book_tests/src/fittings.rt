@@ -38,9 +38,9 @@ fn an_engine_lives_by_the_sectors_that_it_flew(rt: HostRuntime) -> Result<(), Fa
     let at_landing = book.life(&engine("E1")?, moment("2024-03-01T09:30")?);
     assert_eq!(rt; at_landing, Some(used(1090, 101)));
     assert_eq!(rt; book.life_now(&engine("E9")?), None);
-    enter_all(&mut book, worked_commands(rt.alloc(), 8, 9)?)?;
+    enter_all(&mut book, worked_commands(rt.alloc(), 7, 2)?)?;
     engines_have(&rt, &book, (1090, 101), (1000, 100))?;
-    enter_all(&mut book, worked_commands(rt.alloc(), 10, 12)?)?;
+    enter_all(&mut book, worked_commands(rt.alloc(), 9, 3)?)?;
     assert_eq!(rt; book.len(), 12);
     engines_have(&rt, &book, (1210, 103), (1000, 100))?;
     let airframe = Item::Airframe(tail("D-ABCD")?);
@@ -131,7 +131,7 @@ fn fittings_and_removals_come_after_the_clocks(rt: HostRuntime) -> Result<(), Fa
     let mut book = worked_book(rt.alloc(), 7)?;
     let early = removal(rt.alloc(), "R2", "E2", "2024-03-01T09:29")?;
     refuses(&rt, &book, &early, clock);
-    enter_all(&mut book, worked_commands(rt.alloc(), 8, 8)?)?;
+    enter_all(&mut book, worked_commands(rt.alloc(), 7, 1)?)?;
     let engine = ("D-ABCD", "ENG");
     let early = fitting(rt.alloc(), "F3", "E2", engine, "2024-03-01T09:29")?;
     refuses(&rt, &book, &early, clock);

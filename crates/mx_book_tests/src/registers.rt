@@ -12,7 +12,7 @@ use std::alloc::Global;
 use std::test::Fail;
 
 /// Registers without rows.
-pub fn no_rows(alloc: Global) -> Registers {
+pub(crate) fn no_rows(alloc: Global) -> Registers {
     Registers {
         entries: Vec::new(alloc),
         aircraft: Vec::new(alloc),
@@ -75,7 +75,7 @@ fn push_done(rows: &mut Registers, book: &Book, seq: u32) -> Result<(), &'static
 }
 
 /// The registers of a book, as an office keeps them.
-pub fn rows_of(alloc: Global, book: &Book) -> Result<Registers, &'static str> {
+pub(crate) fn rows_of(alloc: Global, book: &Book) -> Result<Registers, &'static str> {
     let mut rows = no_rows(alloc);
     for place in 0..book.len() {
         let seq = place.saturating_add(1);

@@ -11,7 +11,7 @@ use std::alloc::Global;
 use std::process::Abort;
 
 /// What the office answers to the command.
-pub fn applied(
+pub(crate) fn applied(
     alloc: Global,
     office: &mut Office<MemStore>,
     command: &Command,
@@ -20,12 +20,12 @@ pub fn applied(
 }
 
 /// What the office answers to a list of commands.
-pub fn ran(alloc: Global, office: &mut Office<MemStore>, commands: &[Command]) -> Outcomes {
+pub(crate) fn ran(alloc: Global, office: &mut Office<MemStore>, commands: &[Command]) -> Outcomes {
     office.run(alloc, commands)
 }
 
 /// At most so many entries of the office, from a number on.
-pub fn entries_of(
+pub(crate) fn entries_of(
     alloc: Global,
     office: &mut Office<MemStore>,
     from: u32,
@@ -35,12 +35,16 @@ pub fn entries_of(
 }
 
 /// The life of an item.
-pub fn life_of(alloc: Global, office: &mut Office<MemStore>, item: &Item) -> Result<Use, Ask> {
+pub(crate) fn life_of(
+    alloc: Global,
+    office: &mut Office<MemStore>,
+    item: &Item,
+) -> Result<Use, Ask> {
     office.life(alloc, item)
 }
 
 /// The office answers the command in this way.
-pub fn answers(
+pub(crate) fn answers(
     rt: &impl Abort,
     alloc: Global,
     office: &mut Office<MemStore>,
@@ -53,7 +57,7 @@ pub fn answers(
 }
 
 /// The office accepts the commands, the first under this number and the others behind it.
-pub fn accepts_all(
+pub(crate) fn accepts_all(
     rt: &impl Abort,
     alloc: Global,
     office: &mut Office<MemStore>,
@@ -68,7 +72,7 @@ pub fn accepts_all(
 }
 
 /// The office gives these commands as its entries from a number on, where at most so many are asked for.
-pub fn gives(
+pub(crate) fn gives(
     rt: &impl Abort,
     alloc: Global,
     office: &mut Office<MemStore>,
@@ -81,17 +85,17 @@ pub fn gives(
 }
 
 /// The airframe with this registration.
-pub fn airframe(rt: &impl Abort, registration: &str) -> Item {
+pub(crate) fn airframe(rt: &impl Abort, registration: &str) -> Item {
     Item::Airframe(tail(registration).expect(rt, registration))
 }
 
 /// The component with this serial number.
-pub fn numbered(rt: &impl Abort, number: &str) -> Item {
+pub(crate) fn numbered(rt: &impl Abort, number: &str) -> Item {
     Item::Component(serial(number).expect(rt, number))
 }
 
 /// The office answers this to the question for the life of an item.
-pub fn tells(
+pub(crate) fn tells(
     rt: &impl Abort,
     alloc: Global,
     office: &mut Office<MemStore>,
@@ -102,7 +106,7 @@ pub fn tells(
 }
 
 /// The life list of the aircraft with this registration, or why there is none.
-pub fn list_of(
+pub(crate) fn list_of(
     rt: &impl Abort,
     alloc: Global,
     office: &mut Office<MemStore>,

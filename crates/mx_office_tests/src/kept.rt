@@ -9,7 +9,7 @@ use std::fmt::Debug;
 use std::process::Abort;
 
 /// A row of a table, with the calls that add one and read all.
-pub trait Kept: Copy + Debug + PartialEq {
+pub(crate) trait Kept: Copy + Debug + PartialEq {
     fn add(tx: &mut Transaction<'_, MemStore>, row: &Self) -> Result<(), TableFault>;
 
     fn all(alloc: Global, tx: &mut Transaction<'_, MemStore>) -> Result<Vec<Self>, TableFault>;
@@ -17,7 +17,7 @@ pub trait Kept: Copy + Debug + PartialEq {
 
 /// What a table is tried with.
 #[derive(Drop)]
-pub struct Trial<'a, R> {
+pub(crate) struct Trial<'a, R> {
     /// Rows in the order of the key.
     pub rows: &'a [R],
     /// The places of these rows, in the order in which they are added.
@@ -72,7 +72,7 @@ fn is_damaged<R: Kept>(
 }
 
 /// Tries a table that is empty.
-pub fn is_kept<R: Kept>(rt: &impl Abort, alloc: Global, trial: &Trial<'_, R>) {
+pub(crate) fn is_kept<R: Kept>(rt: &impl Abort, alloc: Global, trial: &Trial<'_, R>) {
     let mut conn = made(rt, alloc);
     let mut tx = conn.transaction();
     are_added(rt, &mut tx, trial.rows, trial.order);

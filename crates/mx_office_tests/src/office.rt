@@ -14,7 +14,7 @@ use std::process::Abort;
 use std::slice;
 
 /// Applies the two commands, which are to be accepted.
-pub fn enter_two(rt: &impl Abort, alloc: Global, office: &mut Office<MemStore>) {
+pub(crate) fn enter_two(rt: &impl Abort, alloc: Global, office: &mut Office<MemStore>) {
     let commands = two_commands(alloc).expect(rt, "two commands");
     accepts_all(rt, alloc, office, &commands, 1);
 }

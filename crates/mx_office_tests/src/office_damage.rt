@@ -144,7 +144,7 @@ fn an_entry_with_no_row_is_damage(rt: HostRuntime) {
 }
 
 fn enter_eight(rt: &impl Abort, alloc: Global, office: &mut Office<MemStore>) {
-    let commands = worked_commands(alloc, 1, 8).expect(rt, "eight commands");
+    let commands = worked_commands(alloc, 0, 8).expect(rt, "eight commands");
     let outcomes = ran(alloc, office, &commands);
     assert!(rt; outcomes.replies.last() == Some(&Reply::Accepted(8)));
 }

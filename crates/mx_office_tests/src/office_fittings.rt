@@ -13,9 +13,10 @@ use sqlite::MemStore;
 use std::alloc::Global;
 use std::process::Abort;
 
-// The commands of the worked example with these numbers.
+// The commands of the worked example that make the entries with these numbers.
 fn worked(rt: &impl Abort, alloc: Global, first: u32, last: u32) -> Vec<Command> {
-    worked_commands(alloc, first, last).expect(rt, "the worked example")
+    let before = first.saturating_sub(1);
+    worked_commands(alloc, before, last.saturating_sub(before)).expect(rt, "the worked example")
 }
 
 // Applies the commands of the worked example with these numbers, each of which is to be accepted.

@@ -209,7 +209,7 @@ fn is_answered_for(
 
 #[test]
 fn each_command_is_kept_as_it_was_answered(rt: HostRuntime) {
-    let Ok(commands) = worked_commands(rt.alloc(), 1, 7) else {
+    let Ok(commands) = worked_commands(rt.alloc(), 0, 7) else {
         return;
     };
     let Some(mut office) = empty_or_none(&rt, rt.alloc()) else {
@@ -221,7 +221,7 @@ fn each_command_is_kept_as_it_was_answered(rt: HostRuntime) {
 
 #[test]
 fn a_list_is_kept_as_it_was_answered(rt: HostRuntime) {
-    let Ok(commands) = worked_commands(rt.alloc(), 1, 7) else {
+    let Ok(commands) = worked_commands(rt.alloc(), 0, 7) else {
         return;
     };
     let Some(mut office) = empty_or_none(&rt, rt.alloc()) else {

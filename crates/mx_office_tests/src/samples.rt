@@ -8,7 +8,7 @@ use std::alloc::Global;
 use std::process::Abort;
 
 /// The tables of an empty book in memory, with no transaction open.
-pub fn made(rt: &impl Abort, alloc: Global) -> Connection<MemStore>
+pub(crate) fn made(rt: &impl Abort, alloc: Global) -> Connection<MemStore>
     ensures { result.in_transaction ≡ false }
 {
     let mut conn = Connection::open_in_memory(alloc).expect(rt, "a database");
@@ -17,19 +17,22 @@ pub fn made(rt: &impl Abort, alloc: Global) -> Connection<MemStore>
 }
 
 /// Runs a text, which is to be taken.
-pub fn change(rt: &impl Abort, conn: &mut Connection<MemStore>, sql: &str) {
+pub(crate) fn change(rt: &impl Abort, conn: &mut Connection<MemStore>, sql: &str) {
     assert!(rt; conn.execute(sql, &[]).is_ok(), "{sql}");
 }
 
 /// The tables of an empty book in memory, after this text.
-pub fn after(rt: &impl Abort, alloc: Global, sql: &str) -> Connection<MemStore> {
+pub(crate) fn after(rt: &impl Abort, alloc: Global, sql: &str) -> Connection<MemStore> {
     let mut conn = made(rt, alloc);
     change(rt, &mut conn, sql);
     conn
 }
 
 /// The office that a database in memory holds, or why it is not opened.
-pub fn opened(rt: &impl Abort, conn: Connection<MemStore>) -> Result<Office<MemStore>, OpenFault> {
+pub(crate) fn opened(
+    rt: &impl Abort,
+    conn: Connection<MemStore>,
+) -> Result<Office<MemStore>, OpenFault> {
     assert!(rt; conn.is_autocommit());
     match open_office(conn) {
         Ok(office) => Ok(office),
@@ -38,11 +41,11 @@ pub fn opened(rt: &impl Abort, conn: Connection<MemStore>) -> Result<Office<MemS
 }
 
 /// The office of a database in memory that holds one.
-pub fn reopened(rt: &impl Abort, conn: Connection<MemStore>) -> Office<MemStore> {
+pub(crate) fn reopened(rt: &impl Abort, conn: Connection<MemStore>) -> Office<MemStore> {
     opened(rt, conn).expect(rt, "an office")
 }
 
 /// An office of the empty book, in memory.
-pub fn empty_office(rt: &impl Abort, alloc: Global) -> Office<MemStore> {
+pub(crate) fn empty_office(rt: &impl Abort, alloc: Global) -> Office<MemStore> {
     reopened(rt, made(rt, alloc))
 }

@@ -12,7 +12,7 @@ use std::slice;
 use std::test::Fail;
 
 #[derive(Drop)]
-pub struct Case {
+pub(crate) struct Case {
     pub files: Pair,
     pub commands: Vec<Command>,
     pub plain: Plain,
@@ -43,7 +43,7 @@ fn files_with_aircraft(alloc: Global, added: &Command) -> Result<Pair, Fail> {
 }
 
 /// The aircraft, and the ten commands over it.
-pub fn prepared(alloc: Global) -> Result<Case, Fail> {
+pub(crate) fn prepared(alloc: Global) -> Result<Case, Fail> {
     let added = first_aircraft(alloc)?;
     let commands = ten_commands(alloc)?;
     let plain = plain_run(alloc, slice::from_ref(&added), &commands)?;

@@ -9,14 +9,14 @@ use sqlite_disk::{Disk, Fuse, Memory};
 use std::alloc::Global;
 use std::test::Fail;
 
-pub type Fused = FileStore<Fuse<Memory>>;
+pub(crate) type Fused = FileStore<Fuse<Memory>>;
 
 /// A database file and its log, each of which fails after so many calls.
-pub type Pair = Files<Fuse<Memory>>;
+pub(crate) type Pair = Files<Fuse<Memory>>;
 
 /// How files are opened.
 #[derive(Clone, Copy)]
-pub struct Setting {
+pub(crate) struct Setting {
     /// The number of calls after which the log fails.
     log: u64,
     /// The number of calls after which the database file fails.
@@ -26,28 +26,28 @@ pub struct Setting {
 }
 
 /// Neither file fails.
-pub const WHOLE: Setting = Setting {
+pub(crate) const WHOLE: Setting = Setting {
     log: u64::MAX,
     db: u64::MAX,
     pages: LONG,
 };
 
 /// The length of the log of a real file, which the tests do not reach.
-pub const LONG: usize = 1000;
+pub(crate) const LONG: usize = 1000;
 
 /// A log that is copied into the database file every few commits.
-pub const SHORT: usize = 8;
+pub(crate) const SHORT: usize = 8;
 
 /// The file that stops.
 #[derive(Clone, Copy)]
-pub enum Stopping {
+pub(crate) enum Stopping {
     Log,
     Db,
 }
 
 impl Stopping {
     /// It alone fails, after so many calls.
-    pub fn after(self, calls: u64, pages: usize) -> Setting {
+    pub(crate) fn after(self, calls: u64, pages: usize) -> Setting {
         match self {
             Stopping::Log => Setting {
                 log: calls,
@@ -74,7 +74,7 @@ fn file(alloc: Global, bytes: &[u8], calls: u64) -> Result<Fuse<Memory>, Fail>
 }
 
 /// Files of their own that hold the bytes of these.
-pub fn copied(alloc: Global, files: &Pair, setting: Setting) -> Result<Pair, Fail>
+pub(crate) fn copied(alloc: Global, files: &Pair, setting: Setting) -> Result<Pair, Fail>
     ensures log { IfOk result (λ f. IsTrue (memory_is_usable (inner_of f.log)) × IsFresh f.log) }
     ensures db { IfOk result (λ f. IsTrue (memory_is_usable (inner_of f.db)) × IsFresh f.db) }
 {
@@ -84,7 +84,7 @@ pub fn copied(alloc: Global, files: &Pair, setting: Setting) -> Result<Pair, Fai
 }
 
 /// Files that hold nothing.
-pub fn empty_files(alloc: Global) -> Pair {
+pub(crate) fn empty_files(alloc: Global) -> Pair {
     let log = Fuse::new(Memory::new(alloc), u64::MAX);
     let db = Fuse::new(Memory::new(alloc), u64::MAX);
     Files { log, db }
@@ -99,7 +99,7 @@ fn options(setting: Setting) -> Options {
 }
 
 /// The database whose bytes files hold, over a copy of them, or what is left of the copy where it isn't opened.
-pub fn connected(
+pub(crate) fn connected(
     alloc: Global,
     files: &Pair,
     setting: Setting,
@@ -114,17 +114,17 @@ pub fn connected(
 }
 
 /// What is left of the files of a database where the process ends.
-pub fn left_by<D: Disk + Drop>(conn: Connection<FileStore<D>>) -> Files<D> {
+pub(crate) fn left_by<D: Disk + Drop>(conn: Connection<FileStore<D>>) -> Files<D> {
     conn.into_store().close()
 }
 
 /// What is left of the files of an office where the process ends.
-pub fn files_of(office: Office<Fused>) -> Pair {
+pub(crate) fn files_of(office: Office<Fused>) -> Pair {
     left_by(office.close())
 }
 
 /// The files of an office that is closed as the program closes it: the log is copied into the database file.
-pub fn closed(office: Office<Fused>) -> Pair {
+pub(crate) fn closed(office: Office<Fused>) -> Pair {
     match office.close().close_files() {
         Ok(files) => files,
         Err((_, store)) => store.close(),
@@ -132,7 +132,7 @@ pub fn closed(office: Office<Fused>) -> Pair {
 }
 
 /// The office of a database, or what is left of the files where there is none.
-pub fn office_of(conn: Connection<Fused>) -> Result<Office<Fused>, Pair> {
+pub(crate) fn office_of(conn: Connection<Fused>) -> Result<Office<Fused>, Pair> {
     if !conn.is_autocommit() {
         return Err(left_by(conn));
     }
@@ -143,7 +143,7 @@ pub fn office_of(conn: Connection<Fused>) -> Result<Office<Fused>, Pair> {
 }
 
 /// The office whose bytes files hold, over a copy of them.
-pub fn opened(
+pub(crate) fn opened(
     alloc: Global,
     files: &Pair,
     setting: Setting,
@@ -155,7 +155,7 @@ pub fn opened(
 }
 
 /// The same, where the files are to hold an office.
-pub fn opened_again(alloc: Global, files: &Pair) -> Result<Office<Fused>, Fail> {
+pub(crate) fn opened_again(alloc: Global, files: &Pair) -> Result<Office<Fused>, Fail> {
     match opened(alloc, files, WHOLE)? {
         Ok(office) => Ok(office),
         Err(_) => Err("it does not open again")?,

@@ -6,7 +6,7 @@ use std::alloc::Global;
 
 /// What a list of commands gives over a book.
 #[derive(Drop)]
-pub struct Plain {
+pub(crate) struct Plain {
     /// The replies, one for each command.
     pub replies: Vec<Reply>,
     /// How many entries there are before each command, and behind the last.
@@ -17,7 +17,7 @@ pub struct Plain {
 
 impl Plain {
     /// How many entries there are after so many of the commands.
-    pub fn kept_after(&self, commands: usize) -> usize {
+    pub(crate) fn kept_after(&self, commands: usize) -> usize {
         match self.kept.get(commands) {
             Some(kept) => *kept,
             None => self.entries.len(),
@@ -50,7 +50,7 @@ fn book_of(alloc: Global, entries: &[Command]) -> Result<Book, &'static str> {
 }
 
 /// What the commands give over the book of these entries.
-pub fn plain_run(
+pub(crate) fn plain_run(
     alloc: Global,
     entries: &[Command],
     commands: &[Command],
@@ -73,6 +73,6 @@ pub fn plain_run(
 }
 
 /// Whether these are the first of the commands that are wanted, in their order.
-pub fn is_start(found: &[Command], wanted: &[Command]) -> bool {
+pub(crate) fn is_start(found: &[Command], wanted: &[Command]) -> bool {
     found.len() <= wanted.len() && found.iter().zip(wanted.iter()).all(|(a, b)| a.is_same(b))
 }

@@ -30,7 +30,7 @@ fn command_at(alloc: Global, place: u32) -> Result<Option<Command>, &'static str
 
 /// The ten commands over the aircraft D-ABCD: six that are new, two that are refused, and two that an earlier
 /// one equals.
-pub fn ten_commands(alloc: Global) -> Result<Vec<Command>, &'static str> {
+pub(crate) fn ten_commands(alloc: Global) -> Result<Vec<Command>, &'static str> {
     let mut commands = Vec::new(alloc);
     for place in 0..10u32 {
         let Some(command) = command_at(alloc, place)? else {
