@@ -14,3 +14,5 @@ mod reports;
 mod want_of_memory;
 #[cfg(test)]
 mod words;
+#[cfg(test)]
+mod words_damage;
