@@ -188,8 +188,24 @@ fn a_table_that_is_lost_is_a_fault_of_the_store(rt: HostRuntime) -> Result<(), F
     each_is_answered(&rt, &rt, "lost.db", LOST_TABLES)
 }
 
-// Statements that change the row of `office`, and the line that says why the file is then not opened.
-const OTHER_POINTS: &[(&str, &str)] = &[
+// Each statement, run on a new file, is answered by its line, since no office is opened.
+fn each_is_unopened(
+    rt: &HostRuntime,
+    abort: &impl Abort,
+    name: &str,
+    cases: &[(&str, &str)],
+) -> Result<(), Fail> {
+    let path = made(rt, abort, name)?;
+    let file = path.as_str();
+    for (sql, line) in cases {
+        execute(rt, file, sql)?;
+        has_no_life(rt, abort, file, (line, 5), sql)?;
+    }
+    remove(rt, file)
+}
+
+// Statements that change the row of `office` to a point that no file can be at.
+const NO_POINTS: &[(&str, &str)] = &[
     (
         "UPDATE office SET layout = 1, step = 7, mark = 0",
         "fault damaged office\n",
@@ -206,6 +222,15 @@ const OTHER_POINTS: &[(&str, &str)] = &[
         "UPDATE office SET layout = 256, step = 0, mark = 0",
         "fault damaged office\n",
     ),
+];
+
+#[test]
+fn a_point_that_no_file_can_be_at_is_damage(rt: HostRuntime) -> Result<(), Fail> {
+    each_is_unopened(&rt, &rt, "no-points.db", NO_POINTS)
+}
+
+// Statements that change the row of `office` to a point of a newer layout.
+const NEWER_POINTS: &[(&str, &str)] = &[
     (
         "UPDATE office SET layout = 2, step = 0, mark = 0",
         "fault newer 2\n",
@@ -217,14 +242,8 @@ const OTHER_POINTS: &[(&str, &str)] = &[
 ];
 
 #[test]
-fn a_file_at_another_point_is_not_opened(rt: HostRuntime) -> Result<(), Fail> {
-    let path = made(&rt, &rt, "point.db")?;
-    let file = path.as_str();
-    for (sql, line) in OTHER_POINTS {
-        execute(&rt, file, sql)?;
-        has_no_life(&rt, &rt, file, (line, 5), sql)?;
-    }
-    remove(&rt, file)
+fn each_newer_layout_is_told_by_its_number(rt: HostRuntime) -> Result<(), Fail> {
+    each_is_unopened(&rt, &rt, "newer-points.db", NEWER_POINTS)
 }
 
 #[test]
