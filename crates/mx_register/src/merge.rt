@@ -4,7 +4,7 @@ ghost use Rattle.std.specs.Option.{option_map};
 ghost use Rattle.mx_command.specs.Act.{act_of, Entry, sector_of};
 ghost use Rattle.mx_book.specs.Book.{IsBook};
 ghost use Rattle.mx_register.specs.Registers.{AreRegistersOf};
-ghost use Rattle.mx_register.specs.Merge.{are_taken, command_of, is_next, merged, take_command};
+ghost use Rattle.mx_register.specs.Merge.{are_taken, command_of, is_next, merged, take_by, take_command};
 ghost use Rattle.mx_register.specs.Left.{all_rows, rest_of, taken};
 
 use crate::rows::{
@@ -66,14 +66,16 @@ fn command_with(alloc: Global, doc: Doc, body: Body) -> Result<Option<Command>, 
     }
 }
 
-// The command that an entry and the first rows of its kind say, and the rows behind them.
+// The command that an entry and the first rows of its kind say, and the rows behind them. Memory is asked for only where
+// they say something.
 fn next_command<'a>(
     alloc: Global,
     book: &Book,
     entry: &EntryRow,
     rows: Left<'a>,
 ) -> Result<Option<(Command, Left<'a>)>, NoMemory>
-    ensures { IfOk result (λ found. option_map taken found ≡ take_command book.now entry.now (rest_of rows.entry)) }
+    ensures found { IfOk result (λ found. option_map taken found ≡ take_command book.now entry.now (rest_of rows.entry)) }
+    ensures memory { OnErr result (IsSome (take_by book.now entry.now.seq (rest_of rows.entry) entry.now.kind)) }
 {
     let Some((body, rest)) = take_said(alloc, book, entry, rows)? else {
         return Ok(None);

@@ -1,5 +1,5 @@
 //! What an entry says, by the first rows of its kind.
-ghost use Rattle.std.specs.Prelude.{◌≡◌, IfOk};
+ghost use Rattle.std.specs.Prelude.{◌≡◌, IfOk, IsSome, OnErr};
 ghost use Rattle.std.specs.Option.{option_map};
 ghost use Rattle.mx_command.specs.Act.{act_of};
 ghost use Rattle.mx_register.specs.Merge.{aircraft_said, component_said, fitting_said, removal_said, sector_said, take_aircraft, take_by, take_component, take_fitting, take_places, take_removal, take_sector};
@@ -116,13 +116,14 @@ fn take_positions(
     Ok((positions, rest))
 }
 
-// What an entry that added an aircraft says.
+// What an entry that added an aircraft says. Memory is asked for only where the first row is of the entry.
 fn take_aircraft<'a>(
     alloc: Global,
     seq: u32,
     rows: Left<'a>,
 ) -> Result<Option<(Body, Left<'a>)>, AllocError>
-    ensures { IfOk result (λ found. option_map said found ≡ take_aircraft seq (rest_of rows.entry)) }
+    ensures found { IfOk result (λ found. option_map said found ≡ take_aircraft seq (rest_of rows.entry)) }
+    ensures memory { OnErr result (IsSome (take_aircraft seq (rest_of rows.entry))) }
 {
     let Some((row, aircraft)) = rows.aircraft.split_first() else {
         return Ok(None);
@@ -191,14 +192,16 @@ fn take_removal<'a>(book: &Book, seq: u32, rows: Left<'a>) -> Option<(Body, Left
     Some((body_of_removal(row, serial), rest))
 }
 
-/// What an entry and the first rows of its kind say, and the rows behind them.
+/// What an entry and the first rows of its kind say, and the rows behind them. Memory is asked for only where they say
+/// something.
 pub(crate) fn take_said<'a>(
     alloc: Global,
     book: &Book,
     entry: &EntryRow,
     rows: Left<'a>,
 ) -> Result<Option<(Body, Left<'a>)>, AllocError>
-    ensures { IfOk result (λ found. option_map said found ≡ take_by book.now entry.now.seq (rest_of rows.entry) entry.now.kind) }
+    ensures found { IfOk result (λ found. option_map said found ≡ take_by book.now entry.now.seq (rest_of rows.entry) entry.now.kind) }
+    ensures memory { OnErr result (IsSome (take_by book.now entry.now.seq (rest_of rows.entry) entry.now.kind)) }
 {
     match entry.kind {
         EntryKind::AddAircraft => take_aircraft(alloc, entry.seq, rows),
