@@ -1,5 +1,5 @@
 //! The book that registers are those of.
-ghost use Rattle.std.specs.Prelude.{◌≡◌, List, [], IfOk, IfSome, IsSome, OnErr, Some};
+ghost use Rattle.std.specs.Prelude.{◌≡◌, ◌≢◌, List, [], IfOk, IfSome, IsSome, OnErr, Some};
 ghost use Rattle.std.specs.Option.{option_map};
 ghost use Rattle.mx_command.specs.Act.{act_of, Entry, sector_of};
 ghost use Rattle.mx_book.specs.Book.{IsBook};
@@ -93,9 +93,10 @@ fn is_next_of(book: &Book, entry: &EntryRow, command: &Command) -> bool
     entry.seq == book.len() + 1 && book.judge(command) == Verdict::New
 }
 
-// The book that the rows are those of, as it is computed.
+// The book that the rows are those of, as it is computed. Memory is asked for only where there is an entry.
 fn merged_book(alloc: Global, entries: &[EntryRow], all: Left<'_>) -> Result<Option<Book>, NoMemory>
-    ensures { IfOk result (λ found. found ≡ merged [] entries.now (rest_of all.entry)) }
+    ensures found { IfOk result (λ found. found ≡ merged [] entries.now (rest_of all.entry)) }
+    ensures memory { OnErr result (entries.now ≢ []) }
 {
     let mut book = Book::new(alloc);
     let mut coming = entries;
