@@ -123,10 +123,11 @@ fn merged_book(alloc: Global, entries: &[EntryRow], all: Left<'_>) -> Result<Opt
 }
 
 /// The book that the registers are those of, or `None` where they are those of no book. `NoMemory` where
-/// memory runs out.
+/// memory runs out, which comes only where there is an entry.
 pub fn merge(alloc: Global, registers: &Registers) -> Result<Option<Book>, NoMemory>
     ensures exact { (book : List Entry) → IsBook book → AreRegistersOf registers.now book → IfOk result (λ found. found ≡ Some book) }
     ensures sound { IfOk result (λ found. IfSome found (λ book. AreRegistersOf registers.now book)) }
+    ensures memory { OnErr result (registers.now.entries.items ≢ []) }
 {
     merged_book(alloc, registers.entries.as_slice(), rows_of(registers))
 }
