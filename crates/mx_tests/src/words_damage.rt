@@ -309,13 +309,26 @@ fn a_book_is_made_beside_the_tables_of_others(rt: HostRuntime) -> Result<(), Fai
 }
 
 #[test]
-fn an_empty_file_is_not_ours_and_a_book_is_made_in_it(rt: HostRuntime) -> Result<(), Fail> {
+fn an_empty_file_is_left_so_until_a_book_is_made_in_it(rt: HostRuntime) -> Result<(), Fail> {
     let path = new_path(&rt, "empty.db")?;
     let file = path.as_str();
     fs::write(&rt, file, "")?;
-    run(&rt, &["office", "life", file, "D-ABCD"])?.is(&rt, "", "fault not-ours\n", 5);
+    has_no_life(&rt, &rt, file, ("fault not-ours\n", 5), "an empty file")?;
     run(&rt, &["office", "init", file])?.is(&rt, "created\n", "", 0);
     run(&rt, &["office", "life", file, "D-ABCD"])?.is(&rt, "refused 20\n", "", 1);
+    remove(&rt, file)
+}
+
+#[test]
+fn the_log_of_an_emptied_file_is_left_as_it_is(rt: HostRuntime) -> Result<(), Fail> {
+    let path = new_path(&rt, "emptied.db")?;
+    let file = path.as_str();
+    let log = format!(in rt.alloc(); "{path}-wal")?;
+    fs::write(&rt, file, "")?;
+    fs::write(&rt, log.as_str(), "entries")?;
+    has_no_life(&rt, &rt, file, ("fault not-ours\n", 5), "an emptied file")?;
+    let after = fs::read(&rt, log.as_str())?;
+    assert_eq!(&rt; str::from_utf8(after.as_slice())?, "entries");
     remove(&rt, file)
 }
 

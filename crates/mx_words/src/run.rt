@@ -26,7 +26,7 @@ use mx_office::{Fault, Office, OpenFault};
 use sqlite::{Alter, Connection, Error, ErrorCode, FileFrom, FileStore, MemStore, Wary};
 use std::alloc::Global;
 use std::fs;
-use std::io::Write;
+use std::io::{ErrorKind, Write};
 
 // Applies the commands of a trial, and appends the replies and the life of its aircraft.
 fn try_commands<S: Alter>(
@@ -116,13 +116,21 @@ fn init(rt: &HostRuntime, file: &str, out: &mut Vec<u8>) -> Result<u8, Stop>
     Ok(DONE)
 }
 
-// Appends the life of an aircraft. A file that isn't there is no office, and is not made.
+// Whether there is nothing to be opened: no file of that name, or an empty one.
+fn is_nothing(rt: &HostRuntime, file: &str) -> bool {
+    match fs::metadata(rt, file) {
+        Ok(about) => about.is_file() && about.len() == 0,
+        Err(error) => error.kind() == ErrorKind::NotFound,
+    }
+}
+
+// Appends the life of an aircraft. A file that isn't there or has no bytes is no office, and is left so.
 fn life(rt: &HostRuntime, file: &str, tail: &Tail, out: &mut Vec<u8>) -> Result<u8, Stop>
     ensures bound { IfOk result (λ status. status ≤ 1) }
     ensures shown { IfOk result (λ status. (text : _) × (out.new.items ≡ out.old.items ++ text) × IsLifeAnswer text status) }
     ensures status { IfErr result (λ stop. 4 ≤ stop_status stop) }
 {
-    if let Ok(false) = fs::exists(rt, file) {
+    if is_nothing(rt, file) {
         return Err(Stop::Open(OpenFault::NotOurs));
     }
     let mut office = open(open_file(rt, file)?)?;
