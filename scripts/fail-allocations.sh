@@ -1,32 +1,109 @@
 #!/usr/bin/env bash
-# Runs each test that is to bear want of memory with each of its requests for memory refused in turn: all tests
-# of the modules want_of_memory and office_memory. Run by hand, after the gate or `rt test` in the crates of tests
-# has linked them; needs a C compiler. Prints a line a test, and ends with the count.
+# Runs the programs that play cases, and the program office, with each of their requests for memory refused in turn.
+# A player must print what it prints with memory, since it asks a question once more where memory ran out, or end with
+# status 4 and `no memory` where the request was for its own lists. The program office must print what it prints
+# with memory, or its first lines and a fault. Run by hand, after the gate or `rt run` in the crates of the
+# programs has built them; needs a C compiler. Prints a line a program, and ends with the count.
 set -u
 cd "$(dirname "$0")/.." || exit 2
+root=$PWD
 folder=$(mktemp -d) || exit 2
 trap 'rm -rf "$folder"' EXIT
 shim=$folder/fail_allocation.so
 ${CC:-cc} -O1 -shared -fPIC -o "$shim" scripts/fail_allocation.c || exit 2
 runs=0
-for name in mx_tests mx_book_tests mx_office_tests; do
-    tests=crates/$name/out/${name}_tests
-    if [ ! -x "$tests" ]; then
-        echo "the tests of $name are not linked yet: run the gate, or rt test in crates/$name"
-        exit 2
+
+stop() { # why, and what was printed
+    echo "$1"
+    cat "$folder/found" "$folder/said"
+    exit 1
+}
+
+is_built() { # the path of a program
+    [ -x "$1" ] && return
+    echo "$1 is not built yet: run the gate, or rt run in its crate"
+    exit 2
+}
+
+# What a program prints with memory goes to `wanted`, and how many requests it makes to `most`.
+count_requests() { # the program and its words
+    if ! "$@" > "$folder/wanted" 2> "$folder/said" < /dev/null; then
+        cp "$folder/wanted" "$folder/found"
+        stop "$* fails with memory"
     fi
-    for test in $("$tests" --list | sed -n 's/^\(\(want_of_memory\|office_memory\)::.*\): test$/\1/p'); do
-        most=$(COUNT_ALLOCATIONS=1 LD_PRELOAD=$shim "$tests" "$test" 2>&1 > /dev/null | tail -n 1)
-        for ((nth = 1; nth <= most; nth++)); do
-            if ! FAIL_AT=$nth LD_PRELOAD=$shim "$tests" "$test" > "$folder/log" 2>&1; then
-                cat "$folder/log"
-                echo "$test fails where request $nth of $most is refused"
-                exit 1
-            fi
-        done
-        echo "$test: $most requests, each refused in turn"
-        runs=$((runs + most))
+    most=$(COUNT_ALLOCATIONS=1 LD_PRELOAD=$shim "$@" 2>&1 > /dev/null < /dev/null | tail -n 1)
+}
+
+# Runs a program with one request refused; its status goes to `status`.
+refuse() { # the number of the request, the program and its words
+    local nth=$1
+    shift
+    FAIL_AT=$nth LD_PRELOAD=$shim "$@" > "$folder/found" 2> "$folder/said" < /dev/null
+    status=$?
+}
+
+is_whole() {
+    [ "$status" = 0 ] && [ ! -s "$folder/said" ] && cmp -s "$folder/found" "$folder/wanted"
+}
+
+is_own_want() {
+    [ "$status" = 4 ] && [ "$(cat "$folder/said")" = "no memory" ]
+}
+
+# Whether the first lines, or a part of them, and a fault were printed.
+is_fault() {
+    case "$status $(cat "$folder/said")" in
+        "4 fault memory" | "4 fault store" | "5 fault memory" | "5 fault store") ;;
+        *) return 1 ;;
+    esac
+    head -c "$(wc -c < "$folder/found")" "$folder/wanted" | cmp -s - "$folder/found"
+}
+
+counted() { # the name of the program, and how many of its runs were answered as with memory
+    if [ "$2" = 0 ]; then
+        echo "$1: no run was answered as with memory"
+        exit 1
+    fi
+    echo "$1: $most requests, each refused in turn, and $2 answered as with memory"
+    runs=$((runs + most))
+}
+
+for name in mx_book_player mx_office_player; do
+    [ -d "crates/$name" ] || continue
+    player=$root/crates/$name/out/$name
+    is_built "$player"
+    cd "$root/crates/$name/data" || exit 2
+    words=(memory.cases)
+    # The office meets want of memory in its files too, and then has to be opened again.
+    if [ "$name" = mx_office_player ]; then words=(--again memory.cases); fi
+    count_requests "$player" "${words[@]}"
+    whole=0
+    for ((nth = 1; nth <= most; nth++)); do
+        refuse "$nth" "$player" "${words[@]}"
+        if is_whole; then
+            whole=$((whole + 1))
+        elif ! is_own_want; then
+            stop "$name: status $status where request $nth of $most is refused"
+        fi
     done
+    counted "$name" "$whole"
+    cd "$root" || exit 2
 done
-if [ "$runs" = 0 ]; then echo "no test made a request"; exit 1; fi
+
+office=$root/crates/mx_cli/out/mx_cli
+is_built "$office"
+words=(try D-ABCD 60000 800 2024-03-01T08:00 2024-03-01T09:30 1)
+count_requests "$office" "${words[@]}"
+whole=0
+for ((nth = 1; nth <= most; nth++)); do
+    refuse "$nth" "$office" "${words[@]}"
+    if is_whole; then
+        whole=$((whole + 1))
+    elif ! is_fault; then
+        stop "office: status $status where request $nth of $most is refused"
+    fi
+done
+counted office "$whole"
+
+if [ "$runs" = 0 ]; then echo "no program made a request"; exit 1; fi
 echo "$runs runs passed"

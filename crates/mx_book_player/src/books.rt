@@ -1,0 +1,132 @@
+//! Questions on the book: verdicts, entries, lives and lists.
+
+use mx_base::{Moment, Serial, Tail, Use};
+use mx_book::Book;
+use mx_cases::{
+    Unmade, append_number, begin_print, command_of, number_text, printed, verdict_text, yes_or_no,
+};
+use mx_command::{Command, Item};
+use mx_reports::life_text;
+use std::alloc::{AllocError, Global};
+
+/// The first command that isn't the one in its place among others.
+pub fn first_other<'a>(found: &'a [Command], wanted: &[Command]) -> Option<&'a Command> {
+    for (one, other) in found.iter().zip(wanted.iter()) {
+        if !one.is_same(other) {
+            return Some(one);
+        }
+    }
+    None
+}
+
+/// Whether these are the same commands, in the same order.
+pub fn are_same(found: &[Command], wanted: &[Command]) -> bool {
+    found.len() == wanted.len() && first_other(found, wanted).is_none()
+}
+
+// judge COMMAND: the verdict on it, where nothing is entered.
+fn judge(alloc: Global, book: &Book, words: &[&str]) -> Result<String, Unmade> {
+    let command = command_of(alloc, words)?;
+    Ok(verdict_text(alloc, &book.judge(&command))?)
+}
+
+// copied judge COMMAND: the verdict of a copy of the book.
+fn judge_by_copy(alloc: Global, book: &Book, words: &[&str]) -> Result<String, Unmade> {
+    let copy = book.copy(alloc)?;
+    judge(alloc, &copy, words)
+}
+
+// copied: whether a copy of the book has the same entries.
+fn copied(alloc: Global, book: &Book) -> Result<String, Unmade> {
+    let copy = book.copy(alloc)?;
+    Ok(yes_or_no(alloc, are_same(copy.as_slice(), book.as_slice()))?)
+}
+
+// length: how many entries there are.
+fn length(alloc: Global, book: &Book) -> Result<String, Unmade> {
+    let len = book.len();
+    if book.is_empty() != (len == 0) {
+        return Ok(String::from_str(alloc, "is_empty has it otherwise")?);
+    }
+    Ok(number_text(alloc, len)?)
+}
+
+// entry N: the document of the entry with that number.
+fn entry(alloc: Global, book: &Book, seq: &str) -> Result<String, Unmade> {
+    match book.entry(seq.parse::<u32>()?) {
+        Some(command) => Ok(String::from_str(alloc, command.doc().as_str())?),
+        None => Ok(String::from_str(alloc, "none")?),
+    }
+}
+
+// The documents of commands, joined by ` / `.
+fn documents(alloc: Global, commands: &[Command]) -> Result<String, AllocError> {
+    let mut text = String::new(alloc);
+    for command in commands {
+        if !text.is_empty() {
+            text.push_str(" / ")?;
+        }
+        text.push_str(command.doc().as_str())?;
+    }
+    Ok(text)
+}
+
+// entries FROM AT_MOST: the documents of the entries from a number on, at most so many.
+fn entries(alloc: Global, book: &Book, from: &str, at_most: &str) -> Result<String, Unmade> {
+    let from = from.parse::<u32>()?;
+    let entries = book.entries(alloc, from, at_most.parse::<u32>()?)?;
+    if entries.is_empty() {
+        return Ok(String::from_str(alloc, "none")?);
+    }
+    Ok(documents(alloc, entries.as_slice())?)
+}
+
+// A life as MINUTES CYCLES, or `unknown`.
+fn life_of(alloc: Global, life: Option<Use>) -> Result<String, Unmade> {
+    match life {
+        Some(life) => {
+            let mut text = number_text(alloc, life.minutes)?;
+            append_number(&mut text, life.cycles)?;
+            Ok(text)
+        }
+        None => Ok(String::from_str(alloc, "unknown")?),
+    }
+}
+
+// life TAIL [MOMENT], component-life SERIAL [MOMENT]: the life of an item, now or up to a moment.
+fn life(alloc: Global, book: &Book, item: &Item, until: &[&str]) -> Result<String, Unmade> {
+    match until {
+        [] => life_of(alloc, book.life_now(item)),
+        [moment] => life_of(alloc, book.life(item, Moment::read(moment)?)),
+        _ => Err(Unmade::NoSuchLine),
+    }
+}
+
+// list TAIL: the lines of the life list.
+fn list(alloc: Global, book: &Book, tail: &str) -> Result<String, Unmade> {
+    let Some(list) = book.life_list(alloc, &Tail::read(tail)?)? else {
+        return Ok(String::from_str(alloc, "unknown")?);
+    };
+    let mut out = begin_print(alloc)?;
+    let done = life_text(&mut out, &list);
+    Ok(printed(alloc, &out, done)?)
+}
+
+/// The answer to a question on the book, or `None` where it is none.
+pub fn answer(alloc: Global, book: &Book, words: &[&str]) -> Result<Option<String>, Unmade> {
+    let answer = match words {
+        ["judge", command @ ..] => judge(alloc, book, command),
+        ["copied", "judge", command @ ..] => judge_by_copy(alloc, book, command),
+        ["copied"] => copied(alloc, book),
+        ["length"] => length(alloc, book),
+        ["entry", seq] => entry(alloc, book, seq),
+        ["entries", from, at_most] => entries(alloc, book, from, at_most),
+        ["life", tail, until @ ..] => life(alloc, book, &Item::Airframe(Tail::read(tail)?), until),
+        ["component-life", serial, until @ ..] => {
+            life(alloc, book, &Item::Component(Serial::read(serial)?), until)
+        }
+        ["list", tail] => list(alloc, book, tail),
+        _ => return Ok(None),
+    };
+    Ok(Some(answer?))
+}

@@ -1,0 +1,21 @@
+//! Plays files of cases on a book in memory: commands that are handed in, and questions on commands, books,
+//! registers, days, moments and identifiers. The files say in their first lines what each shows.
+#![tactic(auto)]
+
+mod books;
+mod calendar;
+mod commands;
+mod identifiers;
+mod player;
+mod registers;
+mod rows;
+mod shown;
+
+use mx_cases::run;
+use player::BookPlayer;
+use std::process::ExitCode;
+
+fn main(rt: HostRuntime) -> ExitCode {
+    let mut player = BookPlayer::new(rt.alloc());
+    ExitCode::from(run(&rt, &mut player))
+}

@@ -1,0 +1,188 @@
+//! The rows of the registers of a book, as an office keeps them, and their texts.
+
+use crate::shown::{append_moment, append_opening};
+use mx_base::Use;
+use mx_book::Book;
+use mx_cases::{Unmade, append_number, append_word};
+use mx_command::Command;
+use mx_register::merge::Registers;
+use mx_register::{
+    AircraftRow, ComponentRow, EntryKind, EntryRow, FittingRow, PlaceRow, RemovalRow, SectorRow,
+    aircraft_row, component_row, entry_row, fitting_row, place_row, removal_row, sector_row,
+    seq_of_serial, seq_of_tail,
+};
+use std::alloc::{AllocError, Global};
+
+// Registers without rows.
+fn no_rows(alloc: Global) -> Registers {
+    Registers {
+        entries: Vec::new(alloc),
+        aircraft: Vec::new(alloc),
+        places: Vec::new(alloc),
+        components: Vec::new(alloc),
+        sectors: Vec::new(alloc),
+        fittings: Vec::new(alloc),
+        removals: Vec::new(alloc),
+    }
+}
+
+// Adds the rows of what an entry with this number adds to the records.
+fn push_added(rows: &mut Registers, seq: u32, entry: &Command) -> Result<(), Unmade> {
+    rows.entries.push(entry_row(seq, entry))?;
+    if let Some(aircraft) = entry.added_aircraft() {
+        rows.aircraft.push(aircraft_row(seq, aircraft))?;
+    }
+    let mut line = 0u32;
+    for place in entry.positions() {
+        line = line.saturating_add(1);
+        rows.places.push(place_row(seq, line, place))?;
+    }
+    if let Some(component) = entry.added_component() {
+        rows.components.push(component_row(seq, component))?;
+    }
+    Ok(())
+}
+
+// Adds the rows of what an entry with this number says was done.
+fn push_done(rows: &mut Registers, book: &Book, seq: u32, entry: &Command) -> Result<(), Unmade> {
+    if let Some(sector) = entry.flown_sector() {
+        let aircraft = seq_of_tail(book, &sector.tail).unwrap_or(0);
+        rows.sectors.push(sector_row(seq, aircraft, sector))?;
+    }
+    if let Some(fitting) = entry.fitting() {
+        let component = seq_of_serial(book, &fitting.serial).unwrap_or(0);
+        let aircraft = seq_of_tail(book, &fitting.tail).unwrap_or(0);
+        let row = fitting_row(seq, component, aircraft, fitting);
+        rows.fittings.push(row)?;
+    }
+    if let Some(removal) = entry.removal() {
+        let component = seq_of_serial(book, &removal.serial).unwrap_or(0);
+        rows.removals.push(removal_row(seq, component, removal))?;
+    }
+    Ok(())
+}
+
+/// The registers of a book.
+pub fn rows_of(alloc: Global, book: &Book) -> Result<Registers, Unmade> {
+    let mut rows = no_rows(alloc);
+    let mut seq = 0u32;
+    for entry in book.as_slice() {
+        seq = seq.saturating_add(1);
+        push_added(&mut rows, seq, entry)?;
+        push_done(&mut rows, book, seq, entry)?;
+    }
+    Ok(rows)
+}
+
+// The word of a kind of entry, as a command is written.
+fn kind_word(kind: EntryKind) -> &'static str {
+    match kind {
+        EntryKind::AddAircraft => "aircraft",
+        EntryKind::AddComponent => "component",
+        EntryKind::Sector => "sector",
+        EntryKind::Fit => "fit",
+        EntryKind::Remove => "remove",
+    }
+}
+
+// Begins a row with the number of its entry, behind what divides it from the row before.
+fn begin_row(text: &mut String, seq: u32) -> Result<(), AllocError> {
+    if !text.is_empty() {
+        text.push_str(" / ")?;
+    }
+    append_number(text, seq)
+}
+
+/// The rows of the entries: SEQ DOC KIND.
+pub fn entries_text(alloc: Global, rows: &[EntryRow]) -> Result<String, AllocError> {
+    let mut text = String::new(alloc);
+    for row in rows {
+        begin_row(&mut text, row.seq)?;
+        append_word(&mut text, row.doc.as_str())?;
+        append_word(&mut text, kind_word(row.kind))?;
+    }
+    Ok(text)
+}
+
+/// The rows of the aircraft: SEQ TAIL KIND BIRTH MINUTES CYCLES AS_OF.
+pub fn aircraft_text(alloc: Global, rows: &[AircraftRow]) -> Result<String, AllocError> {
+    let mut text = String::new(alloc);
+    for row in rows {
+        begin_row(&mut text, row.seq)?;
+        append_word(&mut text, row.tail.as_str())?;
+        append_word(&mut text, row.kind.as_str())?;
+        let opening = Use {
+            minutes: row.minutes,
+            cycles: row.cycles,
+        };
+        append_opening(alloc, &mut text, row.birth, &opening, row.as_of)?;
+    }
+    Ok(text)
+}
+
+/// The rows of the positions: SEQ LINE POSITION PART.
+pub fn places_text(alloc: Global, rows: &[PlaceRow]) -> Result<String, AllocError> {
+    let mut text = String::new(alloc);
+    for row in rows {
+        begin_row(&mut text, row.seq)?;
+        append_number(&mut text, row.line)?;
+        append_word(&mut text, row.position.as_str())?;
+        append_word(&mut text, row.part.as_str())?;
+    }
+    Ok(text)
+}
+
+/// The rows of the components: SEQ SERIAL PART BIRTH MINUTES CYCLES AS_OF.
+pub fn components_text(alloc: Global, rows: &[ComponentRow]) -> Result<String, AllocError> {
+    let mut text = String::new(alloc);
+    for row in rows {
+        begin_row(&mut text, row.seq)?;
+        append_word(&mut text, row.serial.as_str())?;
+        append_word(&mut text, row.part.as_str())?;
+        let opening = Use {
+            minutes: row.minutes,
+            cycles: row.cycles,
+        };
+        append_opening(alloc, &mut text, row.birth, &opening, row.as_of)?;
+    }
+    Ok(text)
+}
+
+/// The rows of the sectors: SEQ AIRCRAFT PAGE LINE OFF ON CYCLES.
+pub fn sectors_text(alloc: Global, rows: &[SectorRow]) -> Result<String, AllocError> {
+    let mut text = String::new(alloc);
+    for row in rows {
+        begin_row(&mut text, row.seq)?;
+        append_number(&mut text, row.aircraft)?;
+        append_number(&mut text, row.page)?;
+        append_number(&mut text, row.line)?;
+        append_moment(&mut text, row.took_off)?;
+        append_moment(&mut text, row.landed)?;
+        append_number(&mut text, row.cycles)?;
+    }
+    Ok(text)
+}
+
+/// The rows of the fittings: SEQ COMPONENT AIRCRAFT POSITION MOMENT.
+pub fn fittings_text(alloc: Global, rows: &[FittingRow]) -> Result<String, AllocError> {
+    let mut text = String::new(alloc);
+    for row in rows {
+        begin_row(&mut text, row.seq)?;
+        append_number(&mut text, row.component)?;
+        append_number(&mut text, row.aircraft)?;
+        append_word(&mut text, row.position.as_str())?;
+        append_moment(&mut text, row.moment)?;
+    }
+    Ok(text)
+}
+
+/// The rows of the removals: SEQ COMPONENT MOMENT.
+pub fn removals_text(alloc: Global, rows: &[RemovalRow]) -> Result<String, AllocError> {
+    let mut text = String::new(alloc);
+    for row in rows {
+        begin_row(&mut text, row.seq)?;
+        append_number(&mut text, row.component)?;
+        append_moment(&mut text, row.moment)?;
+    }
+    Ok(text)
+}

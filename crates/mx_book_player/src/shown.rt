@@ -1,0 +1,126 @@
+//! Commands as text: what their accessors show.
+
+use crate::calendar::day_text;
+use mx_base::{Day, Moment, Part, Position, Use};
+use mx_cases::{append_number, append_word};
+use mx_command::{Aircraft, Command, Component, Fitting, Removal, Sector};
+use std::alloc::{AllocError, Global};
+
+/// Appends a moment as a word.
+pub fn append_moment(text: &mut String, moment: Moment) -> Result<(), AllocError> {
+    append_word(text, moment.text().as_str())
+}
+
+/// Appends what an item brings with it: BIRTH MINUTES CYCLES AS_OF.
+pub fn append_opening(
+    alloc: Global,
+    text: &mut String,
+    birth: Day,
+    opening: &Use,
+    as_of: Moment,
+) -> Result<(), AllocError> {
+    append_word(text, day_text(alloc, birth)?.as_str())?;
+    append_number(text, opening.minutes)?;
+    append_number(text, opening.cycles)?;
+    append_moment(text, as_of)
+}
+
+fn append_aircraft(
+    alloc: Global,
+    text: &mut String,
+    aircraft: &Aircraft,
+) -> Result<(), AllocError> {
+    append_word(text, "aircraft")?;
+    append_word(text, aircraft.tail.as_str())?;
+    append_word(text, aircraft.kind.as_str())?;
+    append_opening(
+        alloc,
+        text,
+        aircraft.birth,
+        &aircraft.opening,
+        aircraft.as_of,
+    )
+}
+
+fn append_position(text: &mut String, place: &(Position, Part)) -> Result<(), AllocError> {
+    append_word(text, place.0.as_str())?;
+    text.push('=')?;
+    text.push_str(place.1.as_str())
+}
+
+fn append_component(
+    alloc: Global,
+    text: &mut String,
+    component: &Component,
+) -> Result<(), AllocError> {
+    append_word(text, "component")?;
+    append_word(text, component.serial.as_str())?;
+    append_word(text, component.part.as_str())?;
+    append_opening(
+        alloc,
+        text,
+        component.birth,
+        &component.opening,
+        component.as_of,
+    )
+}
+
+fn append_sector(text: &mut String, sector: &Sector) -> Result<(), AllocError> {
+    append_word(text, "sector")?;
+    append_word(text, sector.tail.as_str())?;
+    append_number(text, sector.page)?;
+    append_number(text, sector.line)?;
+    append_moment(text, sector.off)?;
+    append_moment(text, sector.on)?;
+    append_number(text, sector.cycles)
+}
+
+fn append_fitting(text: &mut String, fitting: &Fitting) -> Result<(), AllocError> {
+    append_word(text, "fit")?;
+    append_word(text, fitting.serial.as_str())?;
+    append_word(text, fitting.tail.as_str())?;
+    append_word(text, fitting.position.as_str())?;
+    append_moment(text, fitting.moment)
+}
+
+fn append_removal(text: &mut String, removal: &Removal) -> Result<(), AllocError> {
+    append_word(text, "remove")?;
+    append_word(text, removal.serial.as_str())?;
+    append_moment(text, removal.moment)
+}
+
+// Appends what a command adds to the records.
+fn append_added(alloc: Global, text: &mut String, command: &Command) -> Result<(), AllocError> {
+    if let Some(aircraft) = command.added_aircraft() {
+        append_aircraft(alloc, text, &aircraft)?;
+    }
+    for place in command.positions() {
+        append_position(text, place)?;
+    }
+    if let Some(component) = command.added_component() {
+        append_component(alloc, text, &component)?;
+    }
+    Ok(())
+}
+
+// Appends what a command says was done.
+fn append_done(text: &mut String, command: &Command) -> Result<(), AllocError> {
+    if let Some(sector) = command.flown_sector() {
+        append_sector(text, &sector)?;
+    }
+    if let Some(fitting) = command.fitting() {
+        append_fitting(text, &fitting)?;
+    }
+    if let Some(removal) = command.removal() {
+        append_removal(text, &removal)?;
+    }
+    Ok(())
+}
+
+/// The document of a command, and what each of its accessors shows, in the words of a case.
+pub fn command_text(alloc: Global, command: &Command) -> Result<String, AllocError> {
+    let mut text = String::from_str(alloc, command.doc().as_str())?;
+    append_added(alloc, &mut text, command)?;
+    append_done(&mut text, command)?;
+    Ok(text)
+}

@@ -1,0 +1,193 @@
+//! The commands that the words of a case name: the form and its parts, each written out.
+
+use mx_base::{BadText, Day, Doc, Kind, Moment, Part, Position, Serial, Tail, Use};
+use mx_book::NoMemory;
+use mx_command::{Body, Command, MakeFault};
+use std::alloc::{AllocError, AllocFailed, Global};
+use std::num::ParseIntError;
+
+/// Why words name nothing that can be made or asked.
+#[derive(Clone, Copy, Debug, PartialEq, Eq)]
+pub enum Unmade {
+    /// The words have no known form.
+    NoSuchLine,
+    /// A word is not the identifier, day, moment or number that its place wants.
+    Unread,
+    /// What is written lacks the shape of a command.
+    BadShape,
+    /// Memory ran out.
+    Memory,
+}
+
+impl From<AllocError> for Unmade {
+    fn from(_error: AllocError) -> Unmade {
+        Unmade::Memory
+    }
+}
+
+impl<T: Drop> From<AllocFailed<T>> for Unmade {
+    fn from(_error: AllocFailed<T>) -> Unmade {
+        Unmade::Memory
+    }
+}
+
+impl From<NoMemory> for Unmade {
+    fn from(_error: NoMemory) -> Unmade {
+        Unmade::Memory
+    }
+}
+
+impl From<BadText> for Unmade {
+    fn from(_error: BadText) -> Unmade {
+        Unmade::Unread
+    }
+}
+
+impl From<ParseIntError> for Unmade {
+    fn from(_error: ParseIntError) -> Unmade {
+        Unmade::Unread
+    }
+}
+
+impl From<MakeFault> for Unmade {
+    fn from(fault: MakeFault) -> Unmade {
+        match fault {
+            MakeFault::Memory => Unmade::Memory,
+            MakeFault::BadShape => Unmade::BadShape,
+        }
+    }
+}
+
+// A use of so many minutes and cycles.
+fn use_of(minutes: &str, cycles: &str) -> Result<Use, Unmade> {
+    let minutes = minutes.parse::<u32>()?;
+    let cycles = cycles.parse::<u32>()?;
+    Ok(Use { minutes, cycles })
+}
+
+// Positions, each written as POSITION=PART.
+fn positions_of(alloc: Global, places: &[&str]) -> Result<Vec<(Position, Part)>, Unmade> {
+    let mut positions = Vec::new(alloc);
+    for place in places {
+        let Some((position, part)) = place.split_once('=') else {
+            return Err(Unmade::Unread);
+        };
+        let place = (Position::read(position)?, Part::read(part)?);
+        positions.push(place)?;
+    }
+    Ok(positions)
+}
+
+// TAIL KIND BIRTH MINUTES CYCLES AS_OF [POSITION=PART ..]
+fn aircraft_of(alloc: Global, parts: &[&str]) -> Result<Body, Unmade> {
+    let [tail, kind, birth, minutes, cycles, as_of, places @ ..] = parts else {
+        return Err(Unmade::NoSuchLine);
+    };
+    Ok(Body::AddAircraft {
+        tail: Tail::read(tail)?,
+        kind: Kind::read(kind)?,
+        birth: Day::read(birth)?,
+        opening: use_of(minutes, cycles)?,
+        as_of: Moment::read(as_of)?,
+        positions: positions_of(alloc, places)?,
+    })
+}
+
+// SERIAL PART BIRTH MINUTES CYCLES AS_OF
+fn component_of(parts: &[&str]) -> Result<Body, Unmade> {
+    let [serial, part, birth, minutes, cycles, as_of] = parts else {
+        return Err(Unmade::NoSuchLine);
+    };
+    Ok(Body::AddComponent {
+        serial: Serial::read(serial)?,
+        part: Part::read(part)?,
+        birth: Day::read(birth)?,
+        opening: use_of(minutes, cycles)?,
+        as_of: Moment::read(as_of)?,
+    })
+}
+
+// TAIL PAGE LINE OFF ON CYCLES
+fn sector_of(parts: &[&str]) -> Result<Body, Unmade> {
+    let [tail, page, line, off, on, cycles] = parts else {
+        return Err(Unmade::NoSuchLine);
+    };
+    Ok(Body::Sector {
+        tail: Tail::read(tail)?,
+        page: page.parse::<u32>()?,
+        line: line.parse::<u32>()?,
+        off: Moment::read(off)?,
+        on: Moment::read(on)?,
+        cycles: cycles.parse::<u32>()?,
+    })
+}
+
+// SERIAL TAIL POSITION MOMENT
+fn fitting_of(parts: &[&str]) -> Result<Body, Unmade> {
+    let [serial, tail, position, moment] = parts else {
+        return Err(Unmade::NoSuchLine);
+    };
+    Ok(Body::Fit {
+        serial: Serial::read(serial)?,
+        tail: Tail::read(tail)?,
+        position: Position::read(position)?,
+        moment: Moment::read(moment)?,
+    })
+}
+
+// SERIAL MOMENT
+fn removal_of(parts: &[&str]) -> Result<Body, Unmade> {
+    let [serial, moment] = parts else {
+        return Err(Unmade::NoSuchLine);
+    };
+    Ok(Body::Remove {
+        serial: Serial::read(serial)?,
+        moment: Moment::read(moment)?,
+    })
+}
+
+/// What a command says, by its form and the parts behind it, without a document. The forms are
+/// `aircraft TAIL KIND BIRTH MINUTES CYCLES AS_OF [POSITION=PART ..]`,
+/// `component SERIAL PART BIRTH MINUTES CYCLES AS_OF`, `sector TAIL PAGE LINE OFF ON CYCLES`,
+/// `fit SERIAL TAIL POSITION MOMENT` and `remove SERIAL MOMENT`.
+pub fn body_of(alloc: Global, form: &str, parts: &[&str]) -> Result<Body, Unmade> {
+    match form {
+        "aircraft" => aircraft_of(alloc, parts),
+        "component" => component_of(parts),
+        "sector" => sector_of(parts),
+        "fit" => fitting_of(parts),
+        "remove" => removal_of(parts),
+        _ => Err(Unmade::NoSuchLine),
+    }
+}
+
+// The command of a document and what it says.
+fn with_document(
+    alloc: Global,
+    document: &str,
+    form: &str,
+    parts: &[&str],
+) -> Result<Command, Unmade> {
+    let doc = Doc::read(document)?;
+    let body = body_of(alloc, form, parts)?;
+    Ok(Command::make(alloc, doc, body)?)
+}
+
+// The command that makes its own document, as a sector does.
+fn with_own_document(alloc: Global, form: &str, parts: &[&str]) -> Result<Command, Unmade> {
+    let body = body_of(alloc, form, parts)?;
+    Ok(Command::sector(alloc, body)?)
+}
+
+/// The command that words name: `FORM DOC ..` with the parts that `body_of` reads, as `fit F1 E1 D-ABCD ENG
+/// 2024-02-01T00:00`; for a sector `sector ..` alone, which makes its own document; `as DOC FORM ..` for any
+/// form, also a sector, with a document; `own FORM ..` for a form that is to make its own document.
+pub fn command_of(alloc: Global, words: &[&str]) -> Result<Command, Unmade> {
+    match words {
+        ["sector", parts @ ..] => with_own_document(alloc, "sector", parts),
+        ["own", form, parts @ ..] => with_own_document(alloc, form, parts),
+        ["as", document, form, parts @ ..] => with_document(alloc, document, form, parts),
+        [form, document, parts @ ..] => with_document(alloc, document, form, parts),
+        _ => Err(Unmade::NoSuchLine),
+    }
+}

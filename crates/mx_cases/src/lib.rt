@@ -1,0 +1,21 @@
+//! Cases as data: files of lines that ask something and say what is to be answered, the commands that their
+//! words name, and the texts of answers. A program that plays files of cases says how a question is answered;
+//! the rest is here.
+#![tactic(auto)]
+
+pub mod answers;
+pub mod commands;
+pub mod files;
+pub mod playing;
+pub mod program;
+pub mod quoted;
+
+pub use answers::{
+    answer_of, append_number, append_word, begin_print, joined_lines, number_text, printed,
+    reply_in, room_for_reply, verdict_text, yes_or_no,
+};
+pub use commands::{Unmade, body_of, command_of};
+pub use files::{Played, play_file};
+pub use playing::{Plays, answered};
+pub use program::run;
+pub use quoted::text_of;

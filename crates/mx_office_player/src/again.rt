@@ -1,0 +1,61 @@
+//! A player that bears want of memory, for runs in which requests for memory are refused: a line that a fault
+//! stopped is played once more.
+
+use crate::player::Player;
+use crate::texts::append_joined;
+use mx_cases::Plays;
+use std::alloc::{AllocError, Global};
+
+/// The player, and whether lines are played once more.
+pub(crate) struct Again {
+    pub alloc: Global,
+    pub player: Player,
+    pub is_again: bool,
+}
+
+// Appends a part of the answer to a line that may have been done before it was played once more: what is known by
+// now is what was accepted, and the tables that are there by now are those that were made.
+fn append_as_first(out: &mut String, part: &str) -> Result<(), AllocError> {
+    if part == "fault exists" {
+        return append_joined(out, "ok");
+    }
+    match part.strip_prefix("already ") {
+        Some(seq) => {
+            append_joined(out, "accepted ")?;
+            out.push_str(seq)
+        }
+        None => append_joined(out, part),
+    }
+}
+
+fn as_first(alloc: Global, answer: &str) -> Result<String, AllocError> {
+    let mut text = String::new(alloc);
+    for part in answer.split(" / ") {
+        append_as_first(&mut text, part)?;
+    }
+    Ok(text)
+}
+
+impl Again {
+    // Plays a line that a fault stopped once more. Where the store failed, and for a list, of which a part may have
+    // been accepted, what is known by now counts as accepted.
+    fn play_again(&mut self, words: &[&str], first: &str) -> Result<String, AllocError> {
+        self.player.open_again().or(Err(AllocError))?;
+        let answer = self.player.play(words)?;
+        if first.ends_with("fault store") || matches!(words, ["run"]) {
+            return as_first(self.alloc, answer.as_str());
+        }
+        Ok(answer)
+    }
+}
+
+impl Plays for Again {
+    fn play(&mut self, words: &[&str]) -> Result<String, AllocError> {
+        let first = self.player.play(words)?;
+        let is_stopped = first.ends_with("fault memory") || first.ends_with("fault store");
+        if self.is_again && is_stopped {
+            return self.play_again(words, first.as_str());
+        }
+        Ok(first)
+    }
+}

@@ -1,0 +1,60 @@
+//! The calls of an office, each in a function of its own that says nothing of the tables: so the proofs above
+//! carry none of what the office promises of them.
+
+use mx_base::{Tail, Use};
+use mx_book::{LifeList, Reply};
+use mx_command::{Command, Item};
+use mx_office::{Ask, Fault, Office, Outcomes};
+use sqlite::Alter;
+use std::alloc::Global;
+
+/// What the office answers to the command.
+pub(crate) fn applied<S: Alter>(
+    alloc: Global,
+    office: &mut Office<S>,
+    command: &Command,
+) -> Result<Reply, Fault> {
+    office.apply(alloc, command)
+}
+
+/// What the office answers to a list of commands.
+pub(crate) fn ran<S: Alter>(
+    alloc: Global,
+    office: &mut Office<S>,
+    commands: &[Command],
+) -> Outcomes {
+    office.run(alloc, commands)
+}
+
+/// At most so many entries of the office, from a number on.
+pub(crate) fn entries_of<S: Alter>(
+    alloc: Global,
+    office: &mut Office<S>,
+    from: u32,
+    at_most: u32,
+) -> Result<Vec<Command>, Fault> {
+    office.entries(alloc, from, at_most)
+}
+
+/// The life of an item.
+pub(crate) fn life_of<S: Alter>(
+    alloc: Global,
+    office: &mut Office<S>,
+    item: &Item,
+) -> Result<Use, Ask> {
+    office.life(alloc, item)
+}
+
+/// The life list of an aircraft.
+pub(crate) fn list_of<S: Alter>(
+    alloc: Global,
+    office: &mut Office<S>,
+    tail: &Tail,
+) -> Result<LifeList, Ask> {
+    office.life_rows(alloc, tail)
+}
+
+/// Whether the office has to be opened again.
+pub(crate) fn is_in_doubt<S: Alter>(office: &Office<S>) -> bool {
+    office.needs_reopen()
+}

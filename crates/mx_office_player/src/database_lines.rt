@@ -1,0 +1,125 @@
+//! What is asked of the database that files hold, without an office.
+ghost use Rattle.std.specs.Prelude.{◌≡◌, false};
+
+use crate::texts::{append_error, append_joined, append_table_fault, room};
+use mx_cases::Unmade;
+use mx_layout::point;
+use sqlite::types::ValueRef;
+use sqlite::{Alter, Connection, Row};
+use std::alloc::{AllocError, Global};
+use std::str;
+
+fn append_value(out: &mut String, value: ValueRef<'_>) -> Result<(), AllocError> {
+    match value {
+        ValueRef::Null => out.push_str("null"),
+        ValueRef::Int(number) => write!(out, "{number}"),
+        ValueRef::Text(bytes) => out.push_str(str::from_utf8(bytes).unwrap_or("no text")),
+        ValueRef::Real(_) | ValueRef::Blob(_) => out.push_str("neither number nor text"),
+    }
+}
+
+// Appends the values of a row, with a space between two of them.
+fn append_row(out: &mut String, row: &Row) -> Result<(), AllocError> {
+    for at in 0..row.column_count() {
+        if at > 0 {
+            out.push_str(" ")?;
+        }
+        if let Ok(value) = row.get_ref(at) {
+            append_value(out, value)?;
+        }
+    }
+    Ok(())
+}
+
+fn rows_text(alloc: Global, rows: &[Row]) -> Result<String, AllocError> {
+    let mut text = String::new(alloc);
+    for row in rows {
+        append_joined(&mut text, "")?;
+        append_row(&mut text, row)?;
+    }
+    if text.is_empty() {
+        text.push_str("none")?;
+    }
+    Ok(text)
+}
+
+// The rows that a query gives, joined by ` / `, each with its values.
+fn asked<S: Alter>(
+    alloc: Global,
+    conn: &mut Connection<S>,
+    sql: &str,
+) -> Result<String, AllocError> {
+    match conn.query_all(sql, &[]) {
+        Ok(rows) => rows_text(alloc, &rows),
+        Err(error) => {
+            let mut text = room(alloc)?;
+            append_error(&mut text, error)?;
+            Ok(text)
+        }
+    }
+}
+
+// Runs a statement: `ok`, or why it was not run.
+fn changed<S: Alter>(
+    alloc: Global,
+    conn: &mut Connection<S>,
+    sql: &str,
+) -> Result<String, AllocError> {
+    let mut text = room(alloc)?;
+    match conn.execute(sql, &[]) {
+        Ok(_) => text.push_str("ok")?,
+        Err(error) => append_error(&mut text, error)?,
+    }
+    Ok(text)
+}
+
+// The point that the file is at: its layout, step and mark.
+fn point_text<S: Alter>(alloc: Global, conn: &mut Connection<S>) -> Result<String, AllocError>
+    requires { conn.old.in_transaction ≡ false }
+{
+    let mut text = room(alloc)?;
+    match point(conn) {
+        Ok(found) => {
+            let layout = found.layout;
+            let step = found.step;
+            let mark = found.mark;
+            write!(text, "{layout} {step} {mark}")?;
+        }
+        Err(fault) => append_table_fault(&mut text, fault)?,
+    }
+    Ok(text)
+}
+
+// The words of a statement as its text.
+fn statement_of(alloc: Global, words: &[&str]) -> Result<String, AllocError> {
+    let mut sql = String::new(alloc);
+    for word in words {
+        if !sql.is_empty() {
+            sql.push_str(" ")?;
+        }
+        sql.push_str(word)?;
+    }
+    Ok(sql)
+}
+
+/// What a database is answered: `point`, `ask QUERY` or `sql STATEMENT`.
+pub(crate) fn answer_of_database<S: Alter>(
+    alloc: Global,
+    conn: &mut Connection<S>,
+    words: &[&str],
+) -> Result<String, Unmade>
+    requires { conn.old.in_transaction ≡ false }
+{
+    match words {
+        ["point"] => Ok(point_text(alloc, conn)?),
+        ["ask", query @ ..] => {
+            let sql = statement_of(alloc, query)?;
+            Ok(asked(alloc, conn, sql.as_str())?)
+        }
+        ["sql", statement @ ..] => {
+            let sql = statement_of(alloc, statement)?;
+            Ok(changed(alloc, conn, sql.as_str())?)
+        }
+        _ => Err(Unmade::NoSuchLine),
+    }
+}

@@ -1,0 +1,135 @@
+//! What is asked of an open office.
+
+use crate::calls::{applied, entries_of, is_in_doubt, life_of, list_of, ran};
+use crate::texts::{append_fault, append_joined, ask_text, replies_in, room, room_for_replies};
+use mx_base::{Serial, Tail};
+use mx_cases::{Unmade, command_of, joined_lines, yes_or_no};
+use mx_command::{Command, Item};
+use mx_office::{Fault, Office};
+use mx_reports::life_text;
+use sqlite::Alter;
+use std::alloc::Global;
+use std::slice;
+
+// Why the office was stopped.
+fn fault_text(alloc: Global, fault: Fault) -> Result<String, Unmade> {
+    let mut text = room(alloc)?;
+    append_fault(&mut text, fault)?;
+    Ok(text)
+}
+
+// Hands in a command.
+fn apply<S: Alter>(
+    alloc: Global,
+    office: &mut Office<S>,
+    words: &[&str],
+) -> Result<String, Unmade> {
+    let command = command_of(alloc, words)?;
+    let space = room_for_replies(alloc, 1)?;
+    match applied(alloc, office, &command) {
+        Ok(reply) => Ok(replies_in(alloc, space, slice::from_ref(&reply), None)?),
+        Err(fault) => Ok(replies_in(alloc, space, &[], Some(fault))?),
+    }
+}
+
+// Hands in the list of commands.
+fn run<S: Alter>(
+    alloc: Global,
+    office: &mut Office<S>,
+    list: &[Command],
+) -> Result<String, Unmade> {
+    let space = room_for_replies(alloc, list.len())?;
+    let outcomes = ran(alloc, office, list);
+    Ok(replies_in(alloc, space, &outcomes.replies, outcomes.stopped)?)
+}
+
+// The life list of the aircraft with this registration.
+fn life_list<S: Alter>(
+    alloc: Global,
+    office: &mut Office<S>,
+    registration: &str,
+) -> Result<String, Unmade> {
+    let tail = Tail::read(registration)?;
+    match list_of(alloc, office, &tail) {
+        Ok(list) => {
+            let mut lines = Vec::new(alloc);
+            life_text(&mut lines, &list)?;
+            Ok(joined_lines(alloc, &lines)?)
+        }
+        Err(ask) => Ok(ask_text(alloc, ask)?),
+    }
+}
+
+// The life of an item, in minutes and cycles.
+fn life<S: Alter>(alloc: Global, office: &mut Office<S>, item: &Item) -> Result<String, Unmade> {
+    match life_of(alloc, office, item) {
+        Ok(life) => {
+            let minutes = life.minutes;
+            let cycles = life.cycles;
+            Ok(format!(in alloc; "{minutes} {cycles}")?)
+        }
+        Err(ask) => Ok(ask_text(alloc, ask)?),
+    }
+}
+
+// The documents of these entries.
+fn documents(alloc: Global, entries: &[Command]) -> Result<String, Unmade> {
+    let mut text = String::new(alloc);
+    for entry in entries {
+        append_joined(&mut text, entry.doc().as_str())?;
+    }
+    if text.is_empty() {
+        text.push_str("none")?;
+    }
+    Ok(text)
+}
+
+// The documents of at most so many entries, from a number on.
+fn entries<S: Alter>(
+    alloc: Global,
+    office: &mut Office<S>,
+    from: &str,
+    at_most: &str,
+) -> Result<String, Unmade> {
+    let from = from.parse::<u32>()?;
+    let at_most = at_most.parse::<u32>()?;
+    match entries_of(alloc, office, from, at_most) {
+        Ok(found) => documents(alloc, &found),
+        Err(fault) => fault_text(alloc, fault),
+    }
+}
+
+// Whether the entry with a number is the command that the words name.
+fn is_entry<S: Alter>(
+    alloc: Global,
+    office: &mut Office<S>,
+    seq: &str,
+    words: &[&str],
+) -> Result<String, Unmade> {
+    let seq = seq.parse::<u32>()?;
+    let wanted = command_of(alloc, words)?;
+    match entries_of(alloc, office, seq, 1) {
+        Ok(found) => Ok(yes_or_no(alloc, found.iter().any(|entry| entry.is_same(&wanted)))?),
+        Err(fault) => fault_text(alloc, fault),
+    }
+}
+
+/// What an open office answers. The words are one of the questions below, or a command, which is handed in. The
+/// list of commands is the one that `run` hands in.
+pub(crate) fn answer_of_office<S: Alter>(
+    alloc: Global,
+    office: &mut Office<S>,
+    list: &[Command],
+    words: &[&str],
+) -> Result<String, Unmade> {
+    match words {
+        ["run"] => run(alloc, office, list),
+        ["life", tail] => life_list(alloc, office, tail),
+        ["airframe", tail] => life(alloc, office, &Item::Airframe(Tail::read(tail)?)),
+        ["component", serial] => life(alloc, office, &Item::Component(Serial::read(serial)?)),
+        ["entries", from, at_most] => entries(alloc, office, from, at_most),
+        ["entry", seq, command @ ..] => is_entry(alloc, office, seq, command),
+        ["needs-reopen"] => Ok(yes_or_no(alloc, is_in_doubt(office))?),
+        _ => apply(alloc, office, words),
+    }
+}

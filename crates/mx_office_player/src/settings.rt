@@ -1,0 +1,51 @@
+//! How files are opened and stopped, as words write it.
+
+use crate::disks::{Setting, Stopping, WHOLE};
+use crate::sweep::End;
+use mx_cases::Unmade;
+
+// The setting with one more limit: the calls after which a file fails, or the pages that the log holds.
+fn limited(setting: Setting, limit: &[&str]) -> Result<Setting, Unmade> {
+    match limit {
+        ["log", calls] => Ok(Setting {
+            log: calls.parse::<u64>()?,
+            ..setting
+        }),
+        ["db", calls] => Ok(Setting {
+            db: calls.parse::<u64>()?,
+            ..setting
+        }),
+        ["pages", pages] => Ok(Setting {
+            pages: pages.parse::<usize>()?,
+            ..setting
+        }),
+        _ => Err(Unmade::NoSuchLine),
+    }
+}
+
+/// The setting of the words `log CALLS`, `db CALLS` and `pages PAGES`, each of which may be left out.
+pub(crate) fn setting_of(words: &[&str]) -> Result<Setting, Unmade> {
+    let mut setting = WHOLE;
+    for limit in words.chunks(2) {
+        setting = limited(setting, limit)?;
+    }
+    Ok(setting)
+}
+
+/// The file that stops: `log` or `db`.
+pub(crate) fn stopping_of(word: &str) -> Result<Stopping, Unmade> {
+    match word {
+        "log" => Ok(Stopping::Log),
+        "db" => Ok(Stopping::Db),
+        _ => Err(Unmade::NoSuchLine),
+    }
+}
+
+/// The end of a program: `process` or `power`.
+pub(crate) fn end_of(word: &str) -> Result<End, Unmade> {
+    match word {
+        "process" => Ok(End::Process),
+        "power" => Ok(End::Power),
+        _ => Err(Unmade::NoSuchLine),
+    }
+}

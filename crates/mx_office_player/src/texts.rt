@@ -1,0 +1,135 @@
+//! Answers as text. The answer to what changes something is written into room that was taken before, so that
+//! nothing is done and left without its answer.
+
+use mx_book::Reply;
+use mx_layout::{Table, TableFault};
+use mx_office::{Ask, Fault, OpenFault};
+use mx_reports::reply_text;
+use sqlite::{Constraint, Error, ErrorCode};
+use std::alloc::{AllocError, Global};
+
+/// Room for one answer.
+pub(crate) fn room(alloc: Global) -> Result<String, AllocError> {
+    String::with_capacity(alloc, 64)
+}
+
+fn append_damaged(out: &mut String, table: Table) -> Result<(), AllocError> {
+    out.push_str("fault damaged ")?;
+    out.push_str(table.name())
+}
+
+/// Appends why a call of an office was stopped.
+pub(crate) fn append_fault(out: &mut String, fault: Fault) -> Result<(), AllocError> {
+    match fault {
+        Fault::Memory => out.push_str("fault memory"),
+        Fault::Store => out.push_str("fault store"),
+        Fault::NeedsReopen => out.push_str("fault reopen"),
+        Fault::Damaged(table) => append_damaged(out, table),
+    }
+}
+
+/// Appends why no office was opened.
+pub(crate) fn append_open_fault(out: &mut String, fault: OpenFault) -> Result<(), AllocError> {
+    match fault {
+        OpenFault::Memory => out.push_str("fault memory"),
+        OpenFault::Store => out.push_str("fault store"),
+        OpenFault::NotOurs => out.push_str("fault not-ours"),
+        OpenFault::NewerLayout(layout) => write!(out, "fault newer {layout}"),
+        OpenFault::OlderLayout(layout) => write!(out, "fault older {layout}"),
+        OpenFault::Damaged(table) => append_damaged(out, table),
+    }
+}
+
+/// Appends why a call on the tables did not do its work.
+pub(crate) fn append_table_fault(out: &mut String, fault: TableFault) -> Result<(), AllocError> {
+    match fault {
+        TableFault::Memory => out.push_str("fault memory"),
+        TableFault::Store => out.push_str("fault store"),
+        TableFault::NotOurs => out.push_str("fault not-ours"),
+        TableFault::Exists => out.push_str("fault exists"),
+        TableFault::Damaged(table) => append_damaged(out, table),
+    }
+}
+
+// The constraint of a table that refused a row.
+fn constraint_name(constraint: Constraint) -> &'static str {
+    match constraint {
+        Constraint::Datatype => "refused datatype",
+        Constraint::NotNull => "refused not null",
+        Constraint::Check => "refused check",
+        Constraint::PrimaryKey => "refused primary key",
+        Constraint::Unique => "refused unique",
+        Constraint::ForeignKey => "refused foreign key",
+    }
+}
+
+/// Appends why a statement was not run: the constraint that refused its row, what is wrong with its text, or the
+/// fault that stopped it.
+pub(crate) fn append_error(out: &mut String, error: Error) -> Result<(), AllocError> {
+    match error {
+        Error::SqliteFailure(ErrorCode::ConstraintViolation(constraint)) => out.push_str(
+            constraint_name(constraint),
+        ),
+        Error::SqliteFailure(ErrorCode::OutOfMemory) => out.push_str("fault memory"),
+        Error::SqlInputError(wrong) => write!(out, "error {wrong}"),
+        _ => out.push_str("fault store"),
+    }
+}
+
+// Appends a reply, behind ` / ` where there is something before it.
+fn append_reply(out: &mut Vec<u8>, reply: &Reply) -> Result<(), AllocError> {
+    if !out.is_empty() {
+        out.extend_from_slice(b" / ")?;
+    }
+    reply_text(out, reply)?;
+    // The end of its line.
+    out.pop();
+    Ok(())
+}
+
+/// Room for the replies to so many commands.
+pub(crate) fn room_for_replies(alloc: Global, count: usize) -> Result<Vec<u8>, AllocError> {
+    Vec::with_capacity(alloc, count.saturating_add(2).saturating_mul(64))
+}
+
+/// The replies, and behind them what stopped the office, joined by ` / `; `none` where there is neither. Where
+/// the room is for as many, it takes no more memory.
+pub(crate) fn replies_in(
+    alloc: Global,
+    space: Vec<u8>,
+    replies: &[Reply],
+    stopped: Option<Fault>,
+) -> Result<String, AllocError> {
+    let mut out = space;
+    for reply in replies {
+        append_reply(&mut out, reply)?;
+    }
+    let Ok(mut text) = String::from_utf8(out) else {
+        return Ok(String::new(alloc));
+    };
+    if let Some(fault) = stopped {
+        append_joined(&mut text, "")?;
+        append_fault(&mut text, fault)?;
+    }
+    if text.is_empty() {
+        text.push_str("none")?;
+    }
+    Ok(text)
+}
+
+/// Appends a part of an answer, behind ` / ` where there is something before it.
+pub(crate) fn append_joined(out: &mut String, part: &str) -> Result<(), AllocError> {
+    if !out.is_empty() {
+        out.push_str(" / ")?;
+    }
+    out.push_str(part)
+}
+
+/// `refused N`, or why the office was stopped.
+pub(crate) fn ask_text(alloc: Global, ask: Ask) -> Result<String, AllocError> {
+    let space = room_for_replies(alloc, 1)?;
+    match ask {
+        Ask::Refused(refusal) => replies_in(alloc, space, &[Reply::Refused(refusal)], None),
+        Ask::Failed(fault) => replies_in(alloc, space, &[], Some(fault)),
+    }
+}
