@@ -1,6 +1,6 @@
-# The two commands of this repository, and the program alone. README.md says what they need and print.
+# The commands of this repository. README.md says what they need and print.
 .DEFAULT_GOAL := run
-.PHONY: run test
+.PHONY: run test plants
 
 RT      ?= rt
 EXAMPLE  = try D-ABCD 60000 800 2024-03-01T08:00 2024-03-01T09:30 1
@@ -12,12 +12,17 @@ run:
 	echo "not built yet: running unproved (make office builds the proved program)" >&2; \
 	cd crates/mx_cli && $(RT) try -- $(EXAMPLE); fi
 
-# the gate, from nothing; where it passes, the program that it proved and ran is left as ./office, and its process
-# is tried on words that end with each status
+# the gate, from nothing; where it passes, the program that it proved and ran is left as ./office, and the transcripts
+# are compared with what that prints
 test:
+	@scripts/definitions --check
 	@$(RT) ci
 	@install -m 755 crates/mx_cli/out/mx_cli office
-	@scripts/check-process.sh
+	@scripts/check-transcripts
+
+# the wrong bodies that are kept outside the gate: the checker has to refuse each, in rounds over a copy of the crates
+plants:
+	@scripts/try-plants
 
 # the proved program alone
 office: $(SOURCES)

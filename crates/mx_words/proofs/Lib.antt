@@ -1,6 +1,4 @@
-pub mod AskedLemmas
-pub mod CommandLineLemmas
-pub mod PrintLemmas
+pub mod NumberLemmas
 pub mod StatusLemmas
 pub mod TrialLemmas
 mod WorkedTrial

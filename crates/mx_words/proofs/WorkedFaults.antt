@@ -7,10 +7,10 @@ use Rattle.mx_layout.specs.declared.fault.Table.TheVariants as name
 use Rattle.mx_layout.specs.declared.fault.TableFault.TheVariants as table
 use Rattle.mx_office.specs.declared.fault.Fault.TheVariants as office
 use Rattle.mx_office.specs.declared.fault.OpenFault.TheVariants as opening
-use Rattle.mx_words.specs.declared.fault.Stop.TheVariants.{Words, Shape, MakeMemory, Create, Open, Office}
+use Rattle.mx_words.specs.declared.fault.Stop.TheVariants.{Words, Shape, MakeMemory, Create, Open, Office, Print}
 use Rattle.mx_words.specs.FaultLine.{fault_line}
 
-words_alone : flat_map fault_line (Words ∷ Shape ∷ MakeMemory ∷ []) ≡ codes "fault words\nfault shape\nfault memory\n"
+words_alone : flat_map fault_line (Words ∷ Shape ∷ MakeMemory ∷ Print ∷ []) ≡ codes "fault words\nfault shape\nfault memory\nfault memory\n"
 words_alone = refl
 
 made : flat_map (λ fault. fault_line (Create fault)) (table.Memory ∷ table.Store ∷ table.NotOurs ∷ table.Exists ∷ table.Damaged name.Office ∷ [])

@@ -6,10 +6,12 @@ use Rattle.mx_layout.specs.declared.fault.TableFault.TheVariants as table
 use Rattle.mx_office.specs.declared.fault.Fault.TheVariants as office
 use Rattle.mx_office.specs.declared.fault.OpenFault.TheVariants as opening
 use Rattle.mx_book.specs.declared.verdict.Refusal.TheVariants.{UnknownAircraft, Full}
-use Rattle.mx_book.specs.declared.verdict.Reply.TheVariants.{Accepted, Already, Refused}
-use Rattle.mx_words.specs.declared.fault.Stop.TheVariants.{Words, Shape, MakeMemory, Create, Open, Office}
-use Rattle.mx_words.specs.Printed.{life_answer, life_status}
-use Rattle.mx_words.specs.Status.{stop_status, is_refusal, run_status}
+use Rattle.mx_book.specs.declared.verdict.Reply.TheVariants.{Accepted, Already}
+use Rattle.mx_book.specs.declared.verdict.Reply.TheVariants as reply
+use Rattle.mx_words.specs.declared.fault.Ending.TheVariants.{Done, Refused}
+use Rattle.mx_words.specs.declared.fault.Stop.TheVariants.{Words, Shape, MakeMemory, Create, Open, Office, Print}
+use Rattle.mx_words.specs.Printed.{life_answer, life_ending}
+use Rattle.mx_words.specs.Status.{stop_status, ending_status, graver, is_refusal, run_ending}
 
 -- words that the program does not take
 bad_words : map stop_status (Words ∷ Shape ∷ []) ≡ 2 ∷ 2 ∷ []
@@ -21,27 +23,27 @@ not_opened : map stop_status (MakeMemory ∷ Create table.Exists ∷ Create tabl
 not_opened = refl
 
 -- a call was stopped
-stopped : map stop_status (Office office.Memory ∷ Office office.Store ∷ Office office.NeedsReopen ∷ []) ≡ 4 ∷ 4 ∷ 4 ∷ []
+stopped : map stop_status (Office office.Memory ∷ Office office.Store ∷ Office office.NeedsReopen ∷ Print ∷ []) ≡ 4 ∷ 4 ∷ 4 ∷ 4 ∷ []
 stopped = refl
 
 -- a refusal alone is one
-refusals : map is_refusal (Accepted 1 ∷ Already 1 ∷ Refused Full ∷ []) ≡ false ∷ false ∷ true ∷ []
+refusals : map is_refusal (Accepted 1 ∷ Already 1 ∷ reply.Refused Full ∷ []) ≡ false ∷ false ∷ true ∷ []
 refusals = refl
 
 -- a run without a refusal, and one with a refusal among others
-no_reply : run_status [] ≡ 0
+no_reply : run_ending [] ≡ Done
 no_reply = refl
 
-none_refused : run_status (Accepted 1 ∷ Already 1 ∷ Accepted 2 ∷ []) ≡ 0
+none_refused : run_ending (Accepted 1 ∷ Already 1 ∷ Accepted 2 ∷ []) ≡ Done
 none_refused = refl
 
-first_refused : run_status (Refused UnknownAircraft ∷ Accepted 1 ∷ []) ≡ 1
+first_refused : run_ending (reply.Refused UnknownAircraft ∷ Accepted 1 ∷ []) ≡ Refused
 first_refused = refl
 
-one_refused : run_status (Accepted 1 ∷ Refused UnknownAircraft ∷ Accepted 2 ∷ []) ≡ 1
+one_refused : run_ending (Accepted 1 ∷ reply.Refused UnknownAircraft ∷ Accepted 2 ∷ []) ≡ Refused
 one_refused = refl
 
-last_refused : run_status (Accepted 1 ∷ Refused Full ∷ []) ≡ 1
+last_refused : run_ending (Accepted 1 ∷ reply.Refused Full ∷ []) ≡ Refused
 last_refused = refl
 
 -- a question about an aircraft that is there, and about one that is not
@@ -50,12 +52,25 @@ known : life_answer (Some (record { tail = codes "D-ABCD"; kind = codes "TRY"; l
 unfolding digits
 known = refl
 
-known_status : life_status (Some (record { tail = codes "D-ABCD"; kind = codes "TRY"; life = record { minutes = 60090; cycles = 801 }; parts = [] })) ≡ 0
-known_status = refl
+known_ending : life_ending (Some (record { tail = codes "D-ABCD"; kind = codes "TRY"; life = record { minutes = 60090; cycles = 801 }; parts = [] })) ≡ Done
+known_ending = refl
 
 unknown : life_answer None ≡ codes "refused 20\n"
 unfolding digits
 unknown = refl
 
-unknown_status : life_status None ≡ 1
-unknown_status = refl
+unknown_ending : life_ending None ≡ Refused
+unknown_ending = refl
+
+-- the statuses of endings, and the graver of two
+endings : map ending_status (Done ∷ Refused ∷ []) ≡ 0 ∷ 1 ∷ []
+endings = refl
+
+refused_first : graver Refused Done ≡ Refused
+refused_first = refl
+
+refused_last : graver Done Refused ≡ Refused
+refused_last = refl
+
+none_is_refused : graver Done Done ≡ Done
+none_is_refused = refl

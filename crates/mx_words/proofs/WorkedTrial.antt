@@ -5,9 +5,10 @@ use Rattle.std.specs.Fmt.{digits}
 use Rattle.mx_base.specs.Calendar.{date_of}
 use Rattle.mx_base.specs.Texts.{day_text, moment_text}
 use Rattle.mx_command.specs.Act.{Added, Flown}
-use Rattle.mx_words.specs.declared.words.Trial.{Trial}
-use Rattle.mx_words.specs.Asked.{number_in}
-use Rattle.mx_words.specs.Trial.{trial_aircraft, trial_sector, trial_commands, trial_text, trial_status, run_text, run_answer, is_trial_shaped}
+use Rattle.mx_words.specs.declared.trial.Trial.{Trial}
+use Rattle.mx_words.specs.declared.fault.Ending.TheVariants.{Done, Refused}
+use Rattle.mx_words.specs.Number.{number_in}
+use Rattle.mx_words.specs.Trial.{trial_aircraft, trial_sector, trial_commands, run_text, run_answer, is_trial_shaped}
 
 -- ── its values ──
 
@@ -78,11 +79,11 @@ too_many_cycles = refl
 
 -- ── what it prints ──
 
-printed : trial_text worked ≡ codes "accepted 1\naccepted 2\nlife D-ABCD\nairframe TRY 1001:30 801\nend 1\n"
+printed : run_text [] (trial_commands worked) (codes "D-ABCD") ≡ codes "accepted 1\naccepted 2\nlife D-ABCD\nairframe TRY 1001:30 801\nend 1\n"
 unfolding digits
 printed = refl
 
-all_done : trial_status worked ≡ 0
+all_done : run_answer [] (trial_commands worked) (codes "D-ABCD") ≡ Done
 unfolding digits
 all_done = refl
 
@@ -96,6 +97,6 @@ another : run_text [] (trial_commands worked) (codes "D-NONE") ≡ codes "accept
 unfolding digits
 another = refl
 
-another_refused : run_answer [] (trial_commands worked) (codes "D-NONE") ≡ 1
+another_refused : run_answer [] (trial_commands worked) (codes "D-NONE") ≡ Refused
 unfolding digits
 another_refused = refl

@@ -9,7 +9,7 @@ use Rattle.mx_office.specs.declared.fault.Fault.TheVariants as office
 use Rattle.mx_office.specs.declared.fault.OpenFault.{OpenFault}
 use Rattle.mx_office.specs.declared.fault.OpenFault.TheVariants as opening
 use Rattle.mx_words.specs.declared.fault.Stop.{Stop}
-use Rattle.mx_words.specs.declared.fault.Stop.TheVariants.{Words, Shape, MakeMemory, Create, Open, Office}
+use Rattle.mx_words.specs.declared.fault.Stop.TheVariants.{Words, Shape, MakeMemory, Create, Open, Office, Print}
 
 -- why no book was made, in a word or two
 abbrev pub create_words : TableFault → List ℕ
@@ -40,6 +40,7 @@ abbrev pub stop_words : Stop → List ℕ
 stop_words Words = codes "words"
 stop_words Shape = codes "shape"
 stop_words MakeMemory = codes "memory"
+stop_words Print = codes "memory"
 stop_words (Create fault) = create_words fault
 stop_words (Open fault) = open_words fault
 stop_words (Office fault) = office_words fault

@@ -1,7 +1,7 @@
-pub mod Asked
-pub mod CommandLine
 pub mod Done
+pub mod Entered
 pub mod FaultLine
+pub mod Number
 pub mod Printed
 pub mod Status
 pub mod Trial

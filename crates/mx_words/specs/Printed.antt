@@ -1,22 +1,33 @@
--- What a question prints, and what is printed where all of a word was done.
-use Rattle.std.specs.Prelude.{◌≡◌, ◌⊎◌, ℕ, List, Option, Some, None}
+-- What the question for a life prints.
+use Rattle.std.specs.Prelude.{◌≡◌, ◌⊎◌, ℕ, List, ◌++◌, Option, Some, None}
+use Rattle.mx_command.specs.Act.{Entry}
+use Rattle.mx_book.specs.Lists.{life_list}
 use Rattle.mx_book.specs.declared.life_list.LifeList.{LifeList}
 use Rattle.mx_book.specs.declared.verdict.Refusal.{Refusal}
 use Rattle.mx_book.specs.declared.verdict.Refusal.TheVariants.{UnknownAircraft}
-use Rattle.mx_book.specs.declared.verdict.Reply.TheVariants.{Refused}
+use Rattle.mx_book.specs.declared.verdict.Reply.TheVariants as reply
 use Rattle.mx_reports.specs.LifeText.{life_lines}
 use Rattle.mx_reports.specs.ReplyText.{reply_line}
+use Rattle.mx_words.specs.declared.fault.Ending.{Ending}
+use Rattle.mx_words.specs.declared.fault.Ending.TheVariants.{Done, Refused}
 
 -- the text of a life list, or of the refusal where the registration is unknown
 abbrev pub life_answer : Option LifeList → List ℕ
 life_answer (Some list) = life_lines list
-life_answer None = reply_line (Refused UnknownAircraft)
+life_answer None = reply_line (reply.Refused UnknownAircraft)
 
--- the status of that answer: 1 where it is the refusal
-abbrev pub life_status : Option LifeList → ℕ
-life_status (Some list) = 0
-life_status None = 1
+-- how the question ends: refused where the registration is unknown
+abbrev pub life_ending : Option LifeList → Ending
+life_ending (Some list) = Done
+life_ending None = Refused
 
--- the text is a life list with status 0, or a refusal with status 1
-abbrev pub IsLifeAnswer : List ℕ → ℕ → Type 0
-IsLifeAnswer text status = ((list : LifeList) × (text ≡ life_lines list) × (status ≡ 0)) ⊎ ((refusal : Refusal) × (text ≡ reply_line (Refused refusal)) × (status ≡ 1))
+-- the life list of the aircraft in the book, or the refusal, was appended, and the ending is its
+pub record TellsLife (book : List Entry) (tail old new : List ℕ) (ending : Ending) : Type 0 where
+  pub text : new ≡ old ++ life_answer (life_list book tail)
+  pub ending_is : ending ≡ life_ending (life_list book tail)
+
+-- the text is some life list and all was done, or some refusal
+abbrev pub IsLifeAnswer : List ℕ → Ending → Type 0
+IsLifeAnswer text ending =
+    ((list : LifeList) × (text ≡ life_lines list) × (ending ≡ Done))
+    ⊎ ((refusal : Refusal) × (text ≡ reply_line (reply.Refused refusal)) × (ending ≡ Refused))

@@ -1,10 +1,12 @@
--- The status that the program ends with.
-use Rattle.std.specs.Prelude.{ℕ, List, Bool, true, false, if◌then◌else◌}
+-- How a word ends, and the status that the program ends with.
+use Rattle.std.specs.Prelude.{ℕ, List, Bool, true, false, Result, Ok, Err, if◌then◌else◌}
 use Rattle.std.specs.List.{list_any}
 use Rattle.mx_book.specs.declared.verdict.Reply.{Reply}
-use Rattle.mx_book.specs.declared.verdict.Reply.TheVariants.{Accepted, Already, Refused}
+use Rattle.mx_book.specs.declared.verdict.Reply.TheVariants as reply
+use Rattle.mx_words.specs.declared.fault.Ending.{Ending}
+use Rattle.mx_words.specs.declared.fault.Ending.TheVariants.{Done, Refused}
 use Rattle.mx_words.specs.declared.fault.Stop.{Stop}
-use Rattle.mx_words.specs.declared.fault.Stop.TheVariants.{Words, Shape, MakeMemory, Create, Open, Office}
+use Rattle.mx_words.specs.declared.fault.Stop.TheVariants.{Words, Shape, MakeMemory, Create, Open, Office, Print}
 
 -- the status of a stop: 2 for the words, 5 where no office was opened or made, 4 after it was opened
 abbrev pub stop_status : Stop → ℕ
@@ -14,13 +16,29 @@ stop_status MakeMemory = 5
 stop_status (Create fault) = 5
 stop_status (Open fault) = 5
 stop_status (Office fault) = 4
+stop_status Print = 4
+
+-- the status of an ending: 0 where all was done, 1 where something was refused
+abbrev pub ending_status : Ending → ℕ
+ending_status Done = 0
+ending_status Refused = 1
+
+-- the status of a word
+abbrev pub done_status : Result Ending Stop → ℕ
+done_status (Ok ending) = ending_status ending
+done_status (Err stop) = stop_status stop
+
+-- the graver of two endings
+abbrev pub graver : Ending → Ending → Ending
+graver Done other = other
+graver Refused other = Refused
 
 -- the command was refused
 abbrev pub is_refusal : Reply → Bool
-is_refusal (Accepted seq) = false
-is_refusal (Already seq) = false
-is_refusal (Refused refusal) = true
+is_refusal (reply.Accepted seq) = false
+is_refusal (reply.Already seq) = false
+is_refusal (reply.Refused refusal) = true
 
--- the status of a run with these replies: 1 where one of them is a refusal
-abbrev pub run_status : List Reply → ℕ
-run_status replies = if list_any is_refusal replies then 1 else 0
+-- how a run with these replies ended
+abbrev pub run_ending : List Reply → Ending
+run_ending replies = if list_any is_refusal replies then Refused else Done

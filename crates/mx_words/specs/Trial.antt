@@ -1,14 +1,14 @@
 -- The commands of a trial, and what it prints.
-use Rattle.std.specs.Prelude.{ℕ, List, [], ◌∷◌, ◌++◌, Bool, ◌&&◌, codes, max, option_to_list}
-use Rattle.std.specs.List.{flat_map}
+use Rattle.std.specs.Prelude.{◌≡◌, ℕ, List, [], ◌∷◌, ◌++◌, Bool, ◌&&◌, codes, option_to_list}
 use Rattle.mx_command.specs.Act.{Act, Entry, Added, Flown}
 use Rattle.mx_command.specs.Shape.{has_shape, is_sector_shaped, sector_entry}
 use Rattle.mx_book.specs.Lists.{life_list}
 use Rattle.mx_book.specs.Run.{book_run, replies}
-use Rattle.mx_reports.specs.ReplyText.{reply_line}
-use Rattle.mx_words.specs.Printed.{life_answer, life_status}
-use Rattle.mx_words.specs.Status.{run_status}
-use Rattle.mx_words.specs.declared.words.Trial.{Trial}
+use Rattle.mx_words.specs.Entered.{reply_lines}
+use Rattle.mx_words.specs.Printed.{life_answer, life_ending}
+use Rattle.mx_words.specs.Status.{graver, run_ending}
+use Rattle.mx_words.specs.declared.fault.Ending.{Ending}
+use Rattle.mx_words.specs.declared.trial.Trial.{Trial}
 
 -- the aircraft: by document A1, of kind TRY, built and as of the first moment, without positions
 abbrev pub trial_aircraft : Trial → Entry
@@ -31,16 +31,13 @@ trial_commands t = trial_aircraft t ∷ option_to_list (sector_entry (trial_sect
 
 -- the replies to the commands behind a book, and the life of the aircraft after them
 abbrev pub run_text : List Entry → List Entry → List ℕ → List ℕ
-run_text book commands tail = flat_map reply_line (replies book commands) ++ life_answer (life_list (book_run book commands) tail)
+run_text book commands tail = reply_lines book commands ++ life_answer (life_list (book_run book commands) tail)
 
--- its status: 1 where a command or the question is refused
-abbrev pub run_answer : List Entry → List Entry → List ℕ → ℕ
-run_answer book commands tail = max (run_status (replies book commands)) (life_status (life_list (book_run book commands) tail))
+-- how that ends: refused where a command or the question is
+abbrev pub run_answer : List Entry → List Entry → List ℕ → Ending
+run_answer book commands tail = graver (run_ending (replies book commands)) (life_ending (life_list (book_run book commands) tail))
 
--- what a trial prints, from no entry on
-abbrev pub trial_text : Trial → List ℕ
-trial_text t = run_text [] (trial_commands t) t.tail
-
--- its status
-abbrev pub trial_status : Trial → ℕ
-trial_status t = run_answer [] (trial_commands t) t.tail
+-- the replies and the life were appended, and the ending is theirs
+pub record TellsTrial (book commands : List Entry) (tail old new : List ℕ) (ending : Ending) : Type 0 where
+  pub text : new ≡ old ++ run_text book commands tail
+  pub ending_is : ending ≡ run_answer book commands tail

@@ -1,63 +1,100 @@
-//! Why the program ends before its work is done: the status, and the line on standard error.
+//! How a word of the program ends: the status, and the line on standard error where something
+//! stopped it.
 
-ghost use Rattle.std.specs.Prelude.{◌≡◌, ◌≤◌, ◌++◌, codes, OnOk};
+ghost use Rattle.std.specs.Prelude.{◌≡◌, ◌≢◌, ◌≤◌, ◌++◌, codes, OnOk};
 ghost use Rattle.std.specs.Io.KnownBytes.{Appends};
 ghost use Rattle.mx_layout.specs.Names.{table_name};
 ghost use Rattle.mx_words.specs.FaultLine.{fault_line, line_of, create_words, open_words, office_words};
-ghost use Rattle.mx_words.specs.Status.{stop_status};
+ghost use Rattle.mx_words.specs.Status.{done_status, ending_status, graver, stop_status};
 
 use mx_layout::{Table, TableFault};
 use mx_office::{Fault, OpenFault};
 use std::io;
 use std::io::Write;
 
-/// Everything was done.
-pub(crate) const DONE: u8 = 0;
-
-/// A reply or a question was refused.
-pub(crate) const REFUSED: u8 = 1;
-
 /// The words are none that the program takes.
 pub(crate) const BAD_WORDS: u8 = 2;
 
-/// The office was opened, and a call of it was stopped.
+/// The office was opened, and something stopped the program then.
 pub(crate) const STOPPED: u8 = 4;
 
 /// The database was not opened or made.
-pub(crate) const NOT_OPENED: u8 = 5;
+const NOT_OPENED: u8 = 5;
 
-/// Why the program ends before its work is done.
+/// How a word ends that nothing stopped.
+#[derive(Clone, Copy)]
+pub(crate) enum Ending {
+    /// All was done.
+    Done,
+    /// A reply or a question was refused.
+    Refused,
+}
+
+impl Ending {
+    /// The status: 0 where all was done, 1 where something was refused.
+    pub(crate) fn status(self) -> u8
+        ensures named { result ≡ ending_status self }
+        ensures bound { result ≤ 1 }
+    {
+        match self {
+            Ending::Done => 0,
+            Ending::Refused => 1,
+        }
+    }
+
+    /// The graver of two endings: all was done where both times all was done.
+    pub(crate) fn or(self, other: Ending) -> Ending
+        ensures { result ≡ graver self other }
+    {
+        match self {
+            Ending::Done => other,
+            Ending::Refused => Ending::Refused,
+        }
+    }
+}
+
+/// Why a word ends before its work is done.
 #[derive(Clone, Copy)]
 pub(crate) enum Stop {
+    /// The words are none that the program takes.
     Words,
+    /// A command that they say lacks its shape.
     Shape,
+    /// Memory ran out before a database was opened.
     MakeMemory,
+    /// No book was made in the database.
     Create(TableFault),
+    /// No office was opened.
     Open(OpenFault),
+    /// A call of the office was stopped.
     Office(Fault),
+    /// Memory ran out for what was to be printed. What was entered before stands.
+    Print,
 }
 
 impl Stop {
     /// The status that the program ends with.
     pub(crate) fn status(self) -> u8
         ensures named { result ≡ stop_status self }
-        ensures bound { 2 ≤ result }
+        ensures bound { result ≤ 5 }
+        ensures other { result ≢ 3 }
     {
         match self {
             Stop::Words | Stop::Shape => BAD_WORDS,
             Stop::MakeMemory | Stop::Create(_) | Stop::Open(_) => NOT_OPENED,
-            Stop::Office(_) => STOPPED,
+            Stop::Office(_) | Stop::Print => STOPPED,
         }
     }
 
     /// Writes its line.
     pub(crate) fn write<W: Write>(self, err: &mut W) -> io::Result<()>
-        ensures { OnOk result (Appends (W.contents err.old) (W.contents err.new) (fault_line self)) }
+        ensures { OnOk result (Appends (W.contents err.old) (W.contents err.new) (fault_line
+            self)) }
     {
         match self {
             Stop::Words => err.write_all(b"fault words\n"),
             Stop::Shape => err.write_all(b"fault shape\n"),
-            Stop::MakeMemory => err.write_all(b"fault memory\n"),
+            Stop::MakeMemory | Stop::Print => err.write_all(b"fault memory\n"),
             Stop::Create(fault) => write_create(err, fault),
             Stop::Open(fault) => write_open(err, fault),
             Stop::Office(fault) => write_office(err, fault),
@@ -65,15 +102,29 @@ impl Stop {
     }
 }
 
+/// The status of a word that ended so.
+pub(crate) fn status_of(done: Result<Ending, Stop>) -> u8
+    ensures named { result ≡ done_status done }
+    ensures bound { result ≤ 5 }
+    ensures other { result ≢ 3 }
+{
+    match done {
+        Ok(ending) => ending.status(),
+        Err(stop) => stop.status(),
+    }
+}
+
 fn write_damaged<W: Write>(err: &mut W, table: Table) -> io::Result<()>
-    ensures { OnOk result (Appends (W.contents err.old) (W.contents err.new) (line_of (codes "damaged " ++ table_name table))) }
+    ensures { OnOk result (Appends (W.contents err.old) (W.contents err.new)
+        (line_of (codes "damaged " ++ table_name table))) }
 {
     let name = table.name();
     writeln!(err, "fault damaged {name}")
 }
 
 fn write_create<W: Write>(err: &mut W, fault: TableFault) -> io::Result<()>
-    ensures { OnOk result (Appends (W.contents err.old) (W.contents err.new) (line_of (create_words fault))) }
+    ensures { OnOk result (Appends (W.contents err.old) (W.contents err.new) (line_of
+        (create_words fault))) }
 {
     match fault {
         TableFault::Memory => err.write_all(b"fault memory\n"),
@@ -85,7 +136,8 @@ fn write_create<W: Write>(err: &mut W, fault: TableFault) -> io::Result<()>
 }
 
 fn write_open<W: Write>(err: &mut W, fault: OpenFault) -> io::Result<()>
-    ensures { OnOk result (Appends (W.contents err.old) (W.contents err.new) (line_of (open_words fault))) }
+    ensures { OnOk result (Appends (W.contents err.old) (W.contents err.new) (line_of (open_words
+        fault))) }
 {
     match fault {
         OpenFault::Memory => err.write_all(b"fault memory\n"),
@@ -98,7 +150,8 @@ fn write_open<W: Write>(err: &mut W, fault: OpenFault) -> io::Result<()>
 }
 
 fn write_office<W: Write>(err: &mut W, fault: Fault) -> io::Result<()>
-    ensures { OnOk result (Appends (W.contents err.old) (W.contents err.new) (line_of (office_words fault))) }
+    ensures { OnOk result (Appends (W.contents err.old) (W.contents err.new) (line_of
+        (office_words fault))) }
 {
     match fault {
         Fault::Memory => err.write_all(b"fault memory\n"),

@@ -1,0 +1,137 @@
+//! The words that the program takes, read with `clap`. Every value is taken as it is written, also
+//! one that begins with `-`, and read by the readers of the office. Which words ask for what no
+//! contract says: `transcripts/` shows it.
+ghost use Rattle.std.specs.Prelude.{◌≡◌};
+ghost use Rattle.std.specs.Char.{is_ascii_digit};
+ghost use Rattle.std.specs.List.{list_all};
+ghost use Rattle.mx_words.specs.Number.{number_in};
+
+use crate::trial::Trial;
+use clap::{Arg, ArgAction, ArgMatches, Command};
+use mx_base::{Moment, Tail};
+use std::alloc::{AllocError, Global};
+
+/// What the program is asked to do.
+#[derive(Drop)]
+pub(crate) enum Words<'a> {
+    Try(Trial),
+    Init { file: &'a str },
+    Life { file: &'a str, tail: Tail },
+}
+
+fn value<'a>(alloc: Global, name: &'a str, help: &'a str) -> Arg<'a> {
+    Arg::new(alloc, name)
+        .required(true)
+        .action(ArgAction::Set)
+        .allow_hyphen_values(true)
+        .help(help)
+}
+
+// What the aircraft of a trial comes with.
+fn with_opening<'a>(alloc: Global, command: Command<'a>) -> Result<Command<'a>, AllocError> {
+    command
+        .arg(value(alloc, "TAIL", "The registration"))?
+        .arg(value(alloc, "MINUTES", "The flight minutes that it comes with"))?
+        .arg(value(alloc, "CYCLES", "The cycles that it comes with"))
+}
+
+// The sector of a trial.
+fn with_sector<'a>(alloc: Global, command: Command<'a>) -> Result<Command<'a>, AllocError> {
+    command
+        .arg(value(alloc, "OFF", "Take-off, YYYY-MM-DDTHH:MM"))?
+        .arg(value(alloc, "ON", "Landing, YYYY-MM-DDTHH:MM"))?
+        .arg(value(alloc, "SECTOR_CYCLES", "The cycles of the sector"))
+}
+
+fn try_command<'a>(alloc: Global) -> Result<Command<'a>, AllocError> {
+    let command = Command::new(alloc, "try").about(
+        "Enters an aircraft and one sector into a store in memory, and prints the replies and the life",
+    );
+    with_sector(alloc, with_opening(alloc, command)?)
+}
+
+fn init_command<'a>(alloc: Global) -> Result<Command<'a>, AllocError> {
+    Command::new(alloc, "init")
+        .about("Makes an empty book")
+        .arg(value(alloc, "FILE", "The database file"))
+}
+
+fn life_command<'a>(alloc: Global) -> Result<Command<'a>, AllocError> {
+    Command::new(alloc, "life")
+        .about("Prints the life of an aircraft")
+        .arg(value(alloc, "FILE", "The database file"))?
+        .arg(value(alloc, "TAIL", "The registration"))
+}
+
+// The program without its words.
+fn office_command<'a>(alloc: Global) -> Result<Command<'a>, AllocError> {
+    Ok(
+        Command::new(alloc, "office")
+            .bin_name("office")?
+            .about("Keeps the continuing airworthiness records of a small operator")
+            .subcommand_required(true),
+    )
+}
+
+/// The command line of the program.
+pub(crate) fn command<'a>(alloc: Global) -> Result<Command<'a>, AllocError> {
+    office_command(alloc)?
+        .subcommand(try_command(alloc)?)?
+        .subcommand(init_command(alloc)?)?
+        .subcommand(life_command(alloc)?)
+}
+
+fn has_digits_alone(text: &str) -> bool
+    ensures { result ≡ list_all is_ascii_digit text.now }
+{
+    text.bytes().all(|byte| byte.is_ascii_digit())
+}
+
+// The number that a text writes in digits alone, where 32 bits hold it.
+fn number(text: &str) -> Option<u32>
+    ensures { result ≡ number_in text.now }
+{
+    if !has_digits_alone(text) {
+        return None;
+    }
+    text.parse::<u32>().ok()
+}
+
+fn number_of(matches: &ArgMatches<'_>, name: &str) -> Option<u32> {
+    number(matches.get_str(name)?)
+}
+
+fn tail_of(matches: &ArgMatches<'_>) -> Option<Tail> {
+    Tail::read(matches.get_str("TAIL")?).ok()
+}
+
+fn moment_of(matches: &ArgMatches<'_>, name: &str) -> Option<Moment> {
+    Moment::read(matches.get_str(name)?).ok()
+}
+
+fn trial_of(matches: &ArgMatches<'_>) -> Option<Trial> {
+    Some(Trial {
+        tail: tail_of(matches)?,
+        minutes: number_of(matches, "MINUTES")?,
+        cycles: number_of(matches, "CYCLES")?,
+        off: moment_of(matches, "OFF")?,
+        on: moment_of(matches, "ON")?,
+        sector_cycles: number_of(matches, "SECTOR_CYCLES")?,
+    })
+}
+
+/// What the words ask for, or `None` where one of them can't be read.
+pub(crate) fn words_of<'a>(matches: &ArgMatches<'a>) -> Option<Words<'a>> {
+    let (name, values) = matches.subcommand()?;
+    match name {
+        "try" => Some(Words::Try(trial_of(values)?)),
+        "init" => Some(Words::Init {
+            file: values.get_str("FILE")?,
+        }),
+        "life" => Some(Words::Life {
+            file: values.get_str("FILE")?,
+            tail: tail_of(values)?,
+        }),
+        _ => None,
+    }
+}
