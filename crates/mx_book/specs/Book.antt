@@ -7,6 +7,7 @@ use Rattle.mx_book.specs.declared.verdict.Verdict.{Verdict}
 use Rattle.mx_book.specs.declared.verdict.Verdict.TheVariants.{New, Already, Refused}
 use Rattle.mx_book.specs.Judge.{judge}
 
+-- the verdict is that the command is new
 abbrev pub is_new : Verdict → Bool
 is_new New = true
 is_new (Already seq) = false

@@ -1,6 +1,7 @@
 -- The texts that make the tables of layout 1.
 use Rattle.std.specs.Prelude.{ℕ, List, codes}
 
+-- the text that makes the table of this name
 abbrev pub office_text : List ℕ
 office_text = codes "CREATE TABLE office (id INTEGER PRIMARY KEY CHECK (id = 1), layout INTEGER NOT NULL, step INTEGER NOT NULL, mark INTEGER NOT NULL) STRICT"
 
