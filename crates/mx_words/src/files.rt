@@ -1,6 +1,7 @@
 //! The words over a database file: each opens it, hands it to the word over an open database, and
 //! closes it. What a file holds no contract can say; `transcripts/` shows it.
-ghost use Rattle.std.specs.Prelude.{◌≡◌, ◌↔◌, ◌⊎◌, ◌≤◌, ◌++◌, false, codes, OnOk, OnErr, IfOk, IfErr};
+ghost use Rattle.std.specs.Prelude.{◌≡◌, ◌↔◌, ◌⊎◌, ◌+◌, ◌≤◌, ◌++◌, false, codes, OnOk, OnErr, IfOk, IfErr, vec_len};
+ghost use Rattle.std.specs.Vec.{vec_capacity};
 ghost use Rattle.mx_words.specs.Printed.{IsLifeAnswer};
 ghost use Rattle.mx_words.specs.Status.{stop_status};
 
@@ -10,7 +11,8 @@ use crate::making::{CREATED, make_book};
 use mx_base::Tail;
 use mx_layout::TableFault;
 use mx_office::{Fault, OpenFault};
-use sqlite::{Connection, Error, ErrorCode, FileFrom, FileStore, Wary};
+use sqlite::{Alter, Connection, Error, ErrorCode, FileFrom, FileStore, Wary};
+use std::alloc::Global;
 use std::fs;
 use std::io::ErrorKind;
 
@@ -40,6 +42,42 @@ fn open_file(rt: &HostRuntime, file: &str) -> Result<Connection<File>, Stop>
     }
 }
 
+// Makes the tables of an empty book, and hands the database back: where none are made it is let go
+// as it is. It says what is printed alone, so that the proof of `init` carries nothing of the
+// tables.
+fn made_in<S: Alter + Drop>(
+    mut conn: Connection<S>,
+    out: &mut Vec<u8>,
+) -> Result<Connection<S>, Stop>
+    requires idle { conn.in_transaction ≡ false }
+    requires room { vec_len out.old + 8 ≤ vec_capacity out.old }
+    ensures printed { OnOk result (out.new.items ≡ out.old.items ++ codes "created\n") }
+    ensures unprinted { OnErr result (out.new.items ≡ out.old.items) }
+    ensures status { IfErr result (λ stop. stop_status stop ≡ 5) }
+{
+    make_book(&mut conn, out)?;
+    Ok(conn)
+}
+
+// Appends the life of an aircraft in the office that a database holds, and hands the database back.
+// It says what is printed alone, as `made_in`.
+fn shown_in<S: Alter + Drop>(
+    alloc: Global,
+    conn: Connection<S>,
+    tail: &Tail,
+    out: &mut Vec<u8>,
+) -> Result<(Connection<S>, Result<Ending, Stop>), Stop>
+    requires { conn.in_transaction ≡ false }
+    ensures shown { IfOk result (λ found. IfOk found.1 (λ ending. (text : _)
+        × (out.new.items ≡ out.old.items ++ text) × IsLifeAnswer text ending)) }
+    ensures status { IfOk result (λ found. IfErr found.1 (λ stop. stop_status stop ≡ 4)) }
+    ensures opening { IfErr result (λ stop. stop_status stop ≡ 5) }
+{
+    let mut office = open(conn)?;
+    let printed = print_life(alloc, &mut office, tail, out);
+    Ok((office.close(), printed))
+}
+
 /// Makes an empty book in a file, and appends `created`.
 pub(crate) fn init(rt: &HostRuntime, file: &str, out: &mut Vec<u8>) -> Result<Ending, Stop>
     ensures done { IfOk result (λ ending. (ending ≡ Ending.Done)
@@ -51,8 +89,7 @@ pub(crate) fn init(rt: &HostRuntime, file: &str, out: &mut Vec<u8>) -> Result<En
     if out.reserve(CREATED.len()).is_err() {
         return Err(Stop::MakeMemory);
     }
-    let mut conn = open_file(rt, file)?;
-    make_book(&mut conn, out)?;
+    let conn = made_in(open_file(rt, file)?, out)?;
     if conn.close().is_err() {
         out.truncate(before);
         return Err(Stop::Create(TableFault::Store));
@@ -83,9 +120,9 @@ pub(crate) fn life(
     if is_nothing(rt, file) {
         return Err(Stop::Open(OpenFault::NotOurs));
     }
-    let mut office = open(open_file(rt, file)?)?;
-    let printed = print_life(rt.alloc(), &mut office, tail, out);
-    if office.close().close().is_err() && printed.is_ok() {
+    let conn = open_file(rt, file)?;
+    let (conn, printed) = shown_in(rt.alloc(), conn, tail, out)?;
+    if conn.close().is_err() && printed.is_ok() {
         return Err(Stop::Office(Fault::Store));
     }
     printed
