@@ -5,6 +5,8 @@
 RT      ?= rt
 EXAMPLE  = try D-ABCD 60000 800 2024-03-01T08:00 2024-03-01T09:30 1
 SOURCES  = crates.txt $(shell find crates -type f -not -path '*/out/*')
+# how many checks the gate runs side by side, each with one job: one a processor, of which each has 5 GB of memory
+JOBS     = $(shell awk -v n="$$(nproc)" '/^MemAvailable/ { m = int($$2 / 5000000); print m < 1 ? 1 : m < n ? m : n }' /proc/meminfo)
 
 # the example: by the proved program where it is built, else unproved in a minute or two, and it says which
 run:
@@ -16,7 +18,7 @@ run:
 # are compared with what that prints
 test:
 	@scripts/definitions --check
-	@$(RT) ci
+	@RT_JOBS=$${RT_JOBS:-$(JOBS)} $(RT) ci
 	@install -m 755 crates/mx_cli/out/mx_cli office
 	@scripts/check-transcripts
 
