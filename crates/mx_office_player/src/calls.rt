@@ -1,12 +1,21 @@
 //! The calls of an office, each in a function of its own that says nothing of the tables: so the proofs above
 //! carry none of what the office promises of them.
+ghost use Rattle.std.specs.Prelude.{◌≡◌, false};
 
 use mx_base::{Tail, Use};
 use mx_book::{LifeList, Reply};
 use mx_command::{Command, Item};
+use mx_layout::{Layout, TableFault, create};
 use mx_office::{Ask, Fault, Office, Outcomes};
-use sqlite::Alter;
+use sqlite::{Alter, Connection};
 use std::alloc::Global;
+
+/// Makes an empty book.
+pub(crate) fn created<S: Alter>(conn: &mut Connection<S>) -> Result<(), TableFault>
+    requires { conn.old.in_transaction ≡ false }
+{
+    create(conn, Layout(1))
+}
 
 /// What the office answers to the command.
 pub(crate) fn applied<S: Alter>(

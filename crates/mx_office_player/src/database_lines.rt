@@ -2,6 +2,7 @@
 ghost use Rattle.std.specs.Prelude.{◌≡◌, false};
 
 use crate::texts::{append_error, append_joined, append_table_fault, room};
+use crate::visiting::Uses;
 use mx_cases::Unmade;
 use mx_layout::point;
 use sqlite::types::ValueRef;
@@ -102,8 +103,8 @@ fn statement_of(alloc: Global, words: &[&str]) -> Result<String, AllocError> {
     Ok(sql)
 }
 
-/// What a database is answered: `point`, `ask QUERY` or `sql STATEMENT`.
-pub(crate) fn answer_of_database<S: Alter>(
+// What a database is answered.
+fn answer_of_database<S: Alter>(
     alloc: Global,
     conn: &mut Connection<S>,
     words: &[&str],
@@ -121,5 +122,20 @@ pub(crate) fn answer_of_database<S: Alter>(
             Ok(changed(alloc, conn, sql.as_str())?)
         }
         _ => Err(Unmade::NoSuchLine),
+    }
+}
+
+/// What is asked of a database: `point`, `ask QUERY` or `sql STATEMENT`.
+#[derive(Clone, Copy)]
+pub(crate) struct DatabaseLine<'a> {
+    pub alloc: Global,
+    pub words: &'a [&'a str],
+}
+
+impl<'a> Uses for DatabaseLine<'a> {
+    type Seen = Result<String, Unmade>;
+
+    fn work<S: Alter>(self, conn: &mut Connection<S>) -> Result<String, Unmade> {
+        answer_of_database(self.alloc, conn, self.words)
     }
 }

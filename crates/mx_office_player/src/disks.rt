@@ -1,12 +1,12 @@
 //! A database file and its log in memory. Each fails after so many calls, and loses what was not synced where the
-//! power is lost. Here alone they are copied, opened and closed.
+//! power is lost. Here alone they are copied, opened and closed, each in a function of its own: what calls a
+//! function for any store at this one is dear to prove.
 ghost use Rattle.std.specs.Prelude.{◌≡◌, false, IsTrue, IfOk};
 ghost use Rattle.sqlite_disk.specs.Memory.{memory_is_usable};
 ghost use Rattle.sqlite_disk.specs.Fuse.{inner_of, IsFresh};
 
 use mx_layout::TableFault;
 use mx_layout::fault::fault_of;
-use mx_office::power::reopen;
 use mx_office::{Office, OpenFault, open_office};
 use sqlite::{Connection, Error, FileStore, Files, Options};
 use sqlite_disk::{Crash, Disk, Fuse, Memory};
@@ -139,21 +139,13 @@ fn open_fault_of(error: Error) -> OpenFault {
     }
 }
 
-// The office of a database.
-fn office_of(conn: Connection<Fused>) -> Result<Office<Fused>, Unopened> {
-    if !conn.is_autocommit() {
-        return Err(Unopened {
-            fault: OpenFault::Store,
-            files: left_by(conn),
-        });
-    }
-    match open_office(conn) {
-        Ok(office) => Ok(office),
-        Err((conn, fault)) => Err(Unopened {
-            fault,
-            files: left_by(conn),
-        }),
-    }
+/// The office of a database, or the database and why it holds none.
+pub(crate) fn office_of(
+    conn: Connection<Fused>,
+) -> Result<Office<Fused>, (Connection<Fused>, OpenFault)>
+    requires { conn.in_transaction ≡ false }
+{
+    open_office(conn)
 }
 
 /// The office that a copy of the files holds.
@@ -164,7 +156,13 @@ pub(crate) fn opened(
 ) -> Result<Result<Office<Fused>, Unopened>, AllocError> {
     let files = copied(alloc, files, setting)?;
     match connected(alloc, files, setting.pages) {
-        Ok(conn) => Ok(office_of(conn)),
+        Ok(conn) => match office_of(conn) {
+            Ok(office) => Ok(Ok(office)),
+            Err((conn, fault)) => Ok(Err(Unopened {
+                fault,
+                files: left_by(conn),
+            })),
+        },
         Err(Unread { error, files }) => Ok(Err(Unopened {
             fault: open_fault_of(error),
             files,
@@ -172,32 +170,24 @@ pub(crate) fn opened(
     }
 }
 
-/// The office in the files of this one, opened again after the power is lost.
-pub(crate) fn opened_after_power(alloc: Global, office: Office<Fused>) -> Option<Office<Fused>> {
-    let Ok(conn) = reopen(alloc, office.close(), Options::new(7)) else {
-        return None;
-    };
-    match office_of(conn) {
-        Ok(office) => Some(office),
-        Err(_) => None,
-    }
-}
-
 /// What is left of the files of a database where the process ends.
-pub(crate) fn left_by<D: Disk + Drop>(conn: Connection<FileStore<D>>) -> Files<D> {
+pub(crate) fn left_by(conn: Connection<Fused>) -> Pair {
     conn.into_store().close()
 }
 
 /// What is left of the files of an office where the process ends.
 pub(crate) fn files_of(office: Office<Fused>) -> Pair {
-    left_by(office.close())
+    left_by(connection_of(office))
+}
+
+/// The database of an office.
+pub(crate) fn connection_of(office: Office<Fused>) -> Connection<Fused> {
+    office.close()
 }
 
 /// The files of a database that is closed as the program closes it, so that the log is copied into the database
 /// file, and what stopped that.
-pub(crate) fn closed<D: Disk + Drop>(
-    conn: Connection<FileStore<D>>,
-) -> (Files<D>, Result<(), Error>) {
+pub(crate) fn closed(conn: Connection<Fused>) -> (Pair, Result<(), Error>) {
     match conn.close_files() {
         Ok(files) => (files, Ok(())),
         Err((error, store)) => (store.close(), Err(error)),

@@ -2,10 +2,11 @@
 //! again the command is accepted where it was not kept, and known where it was.
 
 use crate::calls::applied;
-use crate::disks::{Fused, LONG, Stopping, files_of, opened, opened_after_power};
+use crate::disks::{LONG, Pair, Stopping, lose_power};
 use crate::plain::{Told, is_start};
-use crate::stops_of_commands::{Case, all_entries, opened_again};
+use crate::stops_of_commands::{Case, all_entries, seen_again};
 use crate::sweep::{Amiss, End, Stops, Wrong, must};
+use crate::visiting::{Visits, visited};
 use mx_book::Reply;
 use mx_command::Command;
 use mx_office::{Fault, Office};
@@ -25,17 +26,6 @@ enum Outcome {
     Accepted,
 }
 
-// The office in the files of this one, opened again after its end.
-fn opened_after(alloc: Global, office: Office<Fused>, end: End) -> Result<Office<Fused>, Wrong> {
-    match end {
-        End::Process => opened_again(alloc, &files_of(office)),
-        End::Power => match opened_after_power(alloc, office) {
-            Some(office) => Ok(office),
-            None => Err(Wrong::Found("files that are not opened again")),
-        },
-    }
-}
-
 // What the office answers to the command handed in twice, and its entries then.
 #[derive(Drop)]
 struct Twice {
@@ -44,19 +34,26 @@ struct Twice {
     found: Vec<Command>,
 }
 
-fn handed_in_twice<S: Alter>(
+// A command is handed in twice, and then the entries are read.
+#[derive(Clone, Copy)]
+struct HandsInTwice<'a> {
     alloc: Global,
-    office: &mut Office<S>,
-    command: &Command,
-) -> Result<Twice, Wrong> {
-    let first = applied(alloc, office, command);
-    let second = applied(alloc, office, command);
-    let found = all_entries(alloc, office)?;
-    Ok(Twice {
-        first,
-        second,
-        found,
-    })
+    command: &'a Command,
+}
+
+impl<'a> Visits for HandsInTwice<'a> {
+    type Seen = Result<Twice, Wrong>;
+
+    fn visit<S: Alter>(self, office: &mut Office<S>) -> Result<Twice, Wrong> {
+        let first = applied(self.alloc, office, self.command);
+        let second = applied(self.alloc, office, self.command);
+        let found = all_entries(self.alloc, office)?;
+        Ok(Twice {
+            first,
+            second,
+            found,
+        })
+    }
 }
 
 // Whether a command that is to be the entry with this number had been kept: then it is known, and else it is accepted
@@ -79,22 +76,14 @@ fn was_kept(case: &Case<'_>, seq: u32, twice: &Twice) -> Result<bool, Wrong> {
     Ok(twice.first == known)
 }
 
-// Opens the files of the office again after its end, and hands the command in twice.
-fn is_kept(
-    alloc: Global,
-    case: &Case<'_>,
-    command: &Command,
-    office: Office<Fused>,
-    end: End,
-) -> Result<bool, Wrong> {
+// Opens the files again after the end of the office, and hands the command in twice.
+fn is_kept(alloc: Global, case: &Case<'_>, command: &Command, files: &Pair) -> Result<bool, Wrong> {
     let seq = match case.plain.told.first() {
         Some(Told::Accepted(seq)) => *seq,
         _ => 0,
     };
-    let mut again = opened_after(alloc, office, end)?;
-    let twice = handed_in_twice(alloc, &mut again, command);
-    let _files = files_of(again);
-    was_kept(case, seq, &twice?)
+    let twice = seen_again(alloc, files, HandsInTwice { alloc, command })?;
+    was_kept(case, seq, &twice)
 }
 
 // What came of the command, by what was answered to it, to the next call, and after the end.
@@ -124,6 +113,31 @@ fn outcome_of(
     Ok(Outcome::Accepted)
 }
 
+// What is answered to a command, and to the same once more.
+#[derive(Drop)]
+struct Answered {
+    answered: Result<Reply, Fault>,
+    next: Result<Reply, Fault>,
+}
+
+// A command is handed in, and once more.
+#[derive(Clone, Copy)]
+struct HandsIn<'a> {
+    alloc: Global,
+    command: &'a Command,
+}
+
+impl<'a> Visits for HandsIn<'a> {
+    type Seen = Answered;
+
+    fn visit<S: Alter>(self, office: &mut Office<S>) -> Answered {
+        Answered {
+            answered: applied(self.alloc, office, self.command),
+            next: applied(self.alloc, office, self.command),
+        }
+    }
+}
+
 // Hands in the command over files of which the log stops after so many calls, ends the program and opens them again.
 fn stopped_once(
     alloc: Global,
@@ -132,11 +146,15 @@ fn stopped_once(
     calls: u64,
     end: End,
 ) -> Result<Outcome, Wrong> {
-    match opened(alloc, case.files, Stopping::Log.after(calls, LONG))? {
-        Ok(mut office) => {
-            let answered = applied(alloc, &mut office, command);
-            let next = applied(alloc, &mut office, command);
-            let is_known = is_kept(alloc, case, command, office, end)?;
+    let setting = Stopping::Log.after(calls, LONG);
+    let (seen, mut files) = visited(alloc, case.files, setting, HandsIn { alloc, command })?;
+    match end {
+        End::Process => {}
+        End::Power => lose_power(&mut files),
+    }
+    match seen {
+        Ok(Answered { answered, next }) => {
+            let is_known = is_kept(alloc, case, command, &files)?;
             outcome_of(case, answered, next, is_known)
         }
         Err(_) => Ok(Outcome::Unopened),

@@ -29,6 +29,7 @@ mod stops_of_making;
 mod sweep;
 mod sweep_lines;
 mod texts;
+mod visiting;
 
 use again::Again;
 use player::Player;

@@ -1,10 +1,9 @@
 //! The player: a pair of files in memory, and an office that may be open over a copy of them.
 
-use crate::calls::is_in_doubt;
-use crate::database_lines::answer_of_database;
+use crate::database_lines::DatabaseLine;
 use crate::disks::{
-    Fused, LONG, Pair, Unopened, Unread, WHOLE, closed, connected, copied, empty_files, files_of,
-    lose_power, opened,
+    Fused, Pair, Unopened, WHOLE, closed, connection_of, copied, empty_files, files_of, lose_power,
+    opened,
 };
 use crate::office_lines::answer_of_office;
 use crate::settings::setting_of;
@@ -12,6 +11,7 @@ use crate::stops_of_making::made_in;
 use crate::sweep::End;
 use crate::sweep_lines::answer_of_sweep;
 use crate::texts::{append_error, append_open_fault, append_table_fault, room};
+use crate::visiting::used;
 use mx_cases::{Plays, Unmade, answer_of, command_of};
 use mx_command::Command;
 use mx_office::Office;
@@ -127,20 +127,21 @@ impl Player {
         Ok(text)
     }
 
-    // Asks or changes the database in a copy of the files, and closes it. The copy is taken where that is said and a
-    // statement was run.
+    // Asks or changes the database in a copy of the files, which is taken where that is said and a statement was run.
     fn use_database(&mut self, words: &[&str], is_taken: bool) -> Result<String, Unmade> {
-        let files = copied(self.alloc, &self.files, WHOLE)?;
-        match connected(self.alloc, files, LONG) {
-            Ok(mut conn) => {
-                let text = answer_of_database(self.alloc, &mut conn, words);
-                let (files, _) = closed(conn);
+        let line = DatabaseLine {
+            alloc: self.alloc,
+            words,
+        };
+        let (seen, files) = used(self.alloc, &self.files, WHOLE, line)?;
+        match seen {
+            Ok(text) => {
                 if is_taken && is_done(&text) {
                     self.files = files;
                 }
                 text
             }
-            Err(Unread { error, files: _ }) => {
+            Err(error) => {
                 let mut text = room(self.alloc)?;
                 append_error(&mut text, error)?;
                 Ok(text)
@@ -178,7 +179,7 @@ impl Player {
         let Some(office) = self.office.take() else {
             return Err(Unmade::NoSuchLine);
         };
-        let (files, closing) = closed(office.close());
+        let (files, closing) = closed(connection_of(office));
         self.files = files;
         match closing {
             Ok(()) => text.push_str("ok")?,
@@ -189,11 +190,7 @@ impl Player {
 
     /// Where a commit of the open office is in doubt, its process ends and the office is opened again.
     pub(crate) fn open_again(&mut self) -> Result<(), Unmade> {
-        let is_stopped = match &self.office {
-            Some(office) => is_in_doubt(office),
-            None => false,
-        };
-        if is_stopped {
+        if self.office.is_some() && self.in_office(&["needs-reopen"])?.as_str() == "yes" {
             self.end_process();
             self.open(&[])?;
         }

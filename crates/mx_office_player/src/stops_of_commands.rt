@@ -2,9 +2,10 @@
 //! one more.
 
 use crate::calls::{applied, entries_of, is_in_doubt, life_of, list_of, ran};
-use crate::disks::{Fused, Pair, Setting, Stopping, Unopened, WHOLE, files_of, lose_power, opened};
+use crate::disks::{Pair, Setting, Stopping, WHOLE, lose_power};
 use crate::plain::{Plain, Told, all_told, is_start, plain_run};
 use crate::sweep::{Amiss, End, Stops, Wrong, must};
+use crate::visiting::{Visits, visited};
 use mx_base::Tail;
 use mx_command::{Command, Item};
 use mx_office::{Ask, Fault, Office, OpenFault, Outcomes};
@@ -28,20 +29,31 @@ pub(crate) fn all_entries<S: Alter>(
     entries.or(Err(Wrong::Found("an office whose entries are not read")))
 }
 
-/// The office that a copy of the files holds.
-pub(crate) fn opened_again(alloc: Global, files: &Pair) -> Result<Office<Fused>, Wrong> {
-    match opened(alloc, files, WHOLE)? {
-        Ok(office) => Ok(office),
-        Err(_) => Err(Wrong::Found("files that are not opened again")),
+/// All entries are read.
+#[derive(Clone, Copy)]
+pub(crate) struct AllEntries {
+    pub alloc: Global,
+}
+
+impl Visits for AllEntries {
+    type Seen = Result<Vec<Command>, Wrong>;
+
+    fn visit<S: Alter>(self, office: &mut Office<S>) -> Result<Vec<Command>, Wrong> {
+        all_entries(self.alloc, office)
     }
 }
 
-// The entries that the files hold.
-fn entries_in(alloc: Global, files: &Pair) -> Result<Vec<Command>, Wrong> {
-    let mut office = opened_again(alloc, files)?;
-    let entries = all_entries(alloc, &mut office);
-    let _files = files_of(office);
-    entries
+/// What a visit of the office in a copy of the files shows, where it is opened.
+pub(crate) fn seen_again<T: Drop, V: Visits<Seen = Result<T, Wrong>>>(
+    alloc: Global,
+    files: &Pair,
+    visit: V,
+) -> Result<T, Wrong> {
+    let (seen, _files) = visited(alloc, files, WHOLE, visit)?;
+    match seen {
+        Ok(seen) => seen,
+        Err(_) => Err(Wrong::Found("files that are not opened again")),
+    }
 }
 
 /// The case of these commands over the office that the files hold.
@@ -50,7 +62,7 @@ pub(crate) fn case_of<'a>(
     files: &'a Pair,
     commands: &'a [Command],
 ) -> Result<Case<'a>, Wrong> {
-    let entries = entries_in(alloc, files)?;
+    let entries = seen_again(alloc, files, AllEntries { alloc })?;
     let plain = plain_run(alloc, &entries, commands)?;
     Ok(Case {
         files,
@@ -159,23 +171,42 @@ fn run_through<S: Alter>(
     Ok(outcomes)
 }
 
+// The commands are run.
+#[derive(Clone, Copy)]
+struct Runs<'a> {
+    alloc: Global,
+    commands: &'a [Command],
+}
+
+impl<'a> Visits for Runs<'a> {
+    type Seen = Result<Outcomes, Wrong>;
+
+    fn visit<S: Alter>(self, office: &mut Office<S>) -> Result<Outcomes, Wrong> {
+        run_through(self.alloc, office, self.commands)
+    }
+}
+
+// What is known where the office was not opened. What stopped that is the store's.
+fn known_before(plain: &Plain, fault: OpenFault) -> Result<Known, Wrong> {
+    must(
+        fault == OpenFault::Store,
+        "a fault of an opening that is not the store's",
+    )?;
+    Ok(Known::before(plain))
+}
+
 // Runs the commands over files of which one stops: what is known then, and the files where the process ends.
 fn run_stopped(alloc: Global, case: &Case<'_>, setting: Setting) -> Result<(Known, Pair), Wrong> {
-    match opened(alloc, case.files, setting)? {
-        Ok(mut office) => {
-            let outcomes = run_through(alloc, &mut office, case.commands);
-            let files = files_of(office);
-            let known = Known::after(alloc, &case.plain, &outcomes?)?;
-            Ok((known, files))
-        }
-        Err(Unopened { fault, files }) => {
-            must(
-                fault == OpenFault::Store,
-                "a fault of an opening that is not the store's",
-            )?;
-            Ok((Known::before(&case.plain), files))
-        }
-    }
+    let runs = Runs {
+        alloc,
+        commands: case.commands,
+    };
+    let (seen, files) = visited(alloc, case.files, setting, runs)?;
+    let known = match seen {
+        Ok(outcomes) => Known::after(alloc, &case.plain, &outcomes?)?,
+        Err(fault) => known_before(&case.plain, fault)?,
+    };
+    Ok((known, files))
 }
 
 // What an office answers after a stop: its entries, the commands handed in again, and its entries then.
@@ -186,19 +217,26 @@ struct Again {
     last: Vec<Command>,
 }
 
-fn handed_in_again<S: Alter>(
+// The commands are handed in again.
+#[derive(Clone, Copy)]
+struct HandsInAgain<'a> {
     alloc: Global,
-    office: &mut Office<S>,
-    commands: &[Command],
-) -> Result<Again, Wrong> {
-    let found = all_entries(alloc, office)?;
-    let outcomes = ran(alloc, office, commands);
-    let last = all_entries(alloc, office)?;
-    Ok(Again {
-        found,
-        outcomes,
-        last,
-    })
+    commands: &'a [Command],
+}
+
+impl<'a> Visits for HandsInAgain<'a> {
+    type Seen = Result<Again, Wrong>;
+
+    fn visit<S: Alter>(self, office: &mut Office<S>) -> Result<Again, Wrong> {
+        let found = all_entries(self.alloc, office)?;
+        let outcomes = ran(self.alloc, office, self.commands);
+        let last = all_entries(self.alloc, office)?;
+        Ok(Again {
+            found,
+            outcomes,
+            last,
+        })
+    }
 }
 
 // Each command that was kept is answered with its number.
@@ -253,10 +291,8 @@ fn leaves_a_prefix(
     known: Known,
     files: &Pair,
 ) -> Result<(), Wrong> {
-    let mut office = opened_again(alloc, files)?;
-    let again = handed_in_again(alloc, &mut office, case.commands);
-    let _files = files_of(office);
-    let again = again?;
+    let commands = case.commands;
+    let again = seen_again(alloc, files, HandsInAgain { alloc, commands })?;
     is_prefix(case, known, &again)?;
     is_answered_again(alloc, case, &again)
 }

@@ -1,14 +1,13 @@
 //! The making of an empty book, and what each stop of it leaves in the files: nothing, or the whole of it.
 ghost use Rattle.std.specs.Prelude.{◌≡◌, false};
 
-use crate::calls::entries_of;
-use crate::disks::{
-    LONG, Pair, Setting, Stopping, Unread, WHOLE, connected, copied, empty_files, files_of,
-    left_by, lose_power, opened,
-};
+use crate::calls::created;
+use crate::disks::{LONG, Pair, Setting, Stopping, WHOLE, empty_files, lose_power};
+use crate::stops_of_commands::AllEntries;
 use crate::sweep::{Amiss, End, Stops, Wrong, must};
+use crate::visiting::{Uses, used, visited};
 use mx_layout::fault::fault_of;
-use mx_layout::{Layout, Point, TableFault, create, point};
+use mx_layout::{Point, TableFault, point};
 use sqlite::{Alter, Connection};
 use std::alloc::{AllocError, Global};
 
@@ -25,22 +24,26 @@ pub(crate) struct Making {
     pub files: Pair,
 }
 
+// An empty book is made.
+#[derive(Clone, Copy)]
+struct Makes;
+
+impl Uses for Makes {
+    type Seen = Result<(), TableFault>;
+
+    fn work<S: Alter>(self, conn: &mut Connection<S>) -> Result<(), TableFault> {
+        created(conn)
+    }
+}
+
 /// Makes an empty book in a copy of the files.
 pub(crate) fn made_in(alloc: Global, files: &Pair, setting: Setting) -> Result<Making, AllocError> {
-    let files = copied(alloc, files, setting)?;
-    match connected(alloc, files, setting.pages) {
-        Ok(mut conn) => {
-            let made = create(&mut conn, Layout(1));
-            Ok(Making {
-                made,
-                files: left_by(conn),
-            })
-        }
-        Err(Unread { error, files }) => Ok(Making {
-            made: Err(fault_of(error)),
-            files,
-        }),
-    }
+    let (made, files) = used(alloc, files, setting, Makes)?;
+    let made = match made {
+        Ok(made) => made,
+        Err(error) => Err(fault_of(error)),
+    };
+    Ok(Making { made, files })
 }
 
 // What a database holds.
@@ -68,31 +71,32 @@ fn held_by<S: Alter>(conn: &mut Connection<S>) -> Result<Contents, Wrong>
     }
 }
 
+// What a database holds is asked.
+#[derive(Clone, Copy)]
+struct Looks;
+
+impl Uses for Looks {
+    type Seen = Result<Contents, Wrong>;
+
+    fn work<S: Alter>(self, conn: &mut Connection<S>) -> Result<Contents, Wrong> {
+        held_by(conn)
+    }
+}
+
 // What the files hold.
 fn found_in(alloc: Global, files: &Pair) -> Result<Contents, Wrong> {
-    let files = copied(alloc, files, WHOLE)?;
-    match connected(alloc, files, LONG) {
-        Ok(mut conn) => {
-            let found = held_by(&mut conn);
-            let _files = left_by(conn);
-            found
-        }
+    let (found, _files) = used(alloc, files, WHOLE, Looks)?;
+    match found {
+        Ok(found) => found,
         Err(_) => Err(Wrong::Found("files that are not opened again")),
     }
 }
 
 // The number of entries in the office that the files hold.
 fn entries_in(alloc: Global, files: &Pair) -> Result<usize, Wrong> {
-    match opened(alloc, files, WHOLE)? {
-        Ok(mut office) => {
-            let entries = entries_of(alloc, &mut office, 1, 10);
-            let _files = files_of(office);
-            Ok(
-                entries
-                    .or(Err(Wrong::Found("an office whose entries are not read")))?
-                    .len(),
-            )
-        }
+    let (entries, _files) = visited(alloc, files, WHOLE, AllEntries { alloc })?;
+    match entries {
+        Ok(entries) => Ok(entries?.len()),
         Err(_) => Err(Wrong::Found("files that hold no office once they are made again")),
     }
 }
