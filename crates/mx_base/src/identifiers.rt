@@ -149,6 +149,13 @@ impl<A: Alphabet, const N: usize> Identifier<A, N> {
     {
         str::from_utf8(&self.bytes[..self.len]).unwrap()
     }
+
+    // The bytes of the text: what comparisons read, which need not see again that they are text.
+    fn as_bytes(&self) -> &[u8]
+        ensures { result.now ≡ self.now }
+    {
+        &self.bytes[..self.len]
+    }
 }
 
 // Whether these bytes are an identifier of at most `most` characters.
@@ -186,7 +193,7 @@ impl<A: Alphabet, const N: usize> PartialEq for Identifier<A, N> {
     ghost laws = { partial_equiv_from_equiv nat_list_eq_equiv };
 
     fn eq(&self, other: &Self) -> bool {
-        self.as_str() == other.as_str()
+        self.as_bytes() == other.as_bytes()
     }
 }
 
@@ -214,7 +221,7 @@ impl<A: Alphabet, const N: usize> Ord for Identifier<A, N> {
     ghost matches_eq = { texts_ties };
 
     fn cmp(&self, other: &Self) -> Ordering {
-        self.as_str().cmp(other.as_str())
+        self.as_bytes().cmp(other.as_bytes())
     }
 }
 

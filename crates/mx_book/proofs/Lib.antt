@@ -1,3 +1,4 @@
+pub mod AcceptedLemmas
 pub mod FindLemmas
 pub mod GrowthLemmas
 pub mod JudgeLemmas

@@ -14,6 +14,7 @@ use Rattle.mx_book.specs.Book.{is_book, entry_at}
 use Rattle.mx_book.specs.declared.verdict.Reply.TheVariants.{Accepted, Already as AlreadyEntered, Refused as NotEntered}
 use Rattle.mx_book.specs.Run.{replies, book_run}
 use Rattle.mx_book.specs.Lists.{life_list}
+use Rattle.mx_book.specs.Accepted.{accepted}
 
 -- a moment: a day from 1970, hours and minutes; 2024-01-01 is day 19,723
 abbrev pub at : ℕ → ℕ → ℕ → ℕ
@@ -73,6 +74,10 @@ run_again = refl
 
 run_again-replies : replies [] (a1 ∷ first_sector 1 ∷ first_sector 1 ∷ first_sector 2 ∷ []) ≡ Accepted 1 ∷ Accepted 2 ∷ AlreadyEntered 2 ∷ NotEntered (Conflict 2) ∷ []
 run_again-replies = refl
+
+-- the first two of these are accepted, the sector entered again and the one with other cycles are not
+run_again-accepted : accepted [] (a1 ∷ first_sector 1 ∷ first_sector 1 ∷ first_sector 2 ∷ []) ≡ first_two
+run_again-accepted = refl
 
 -- 90 minutes and one cycle more, from the landing on
 life_after : life_now first_two (Airframe abcd) ≡ Some (used 60090 801)

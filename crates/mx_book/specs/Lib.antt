@@ -1,3 +1,4 @@
+pub mod Accepted
 pub mod Register
 pub mod Span
 pub mod Life

@@ -12,6 +12,7 @@ ghost use Rattle.mx_book.specs.Life.{life_now};
 ghost use Rattle.mx_book.specs.Judge.{judge};
 ghost use Rattle.mx_book.specs.Book.{IsBook};
 ghost use Rattle.mx_book.specs.Run.{book_after, book_run, replies};
+ghost use Rattle.mx_book.specs.Accepted.{accepted, HasAcknowledged};
 
 use crate::verdict::Verdict;
 
@@ -55,6 +56,14 @@ pub fn fitted_takes_its_position()
 pub fn runs_join()
     ensures book { (book commands more : List Entry) → book_run book (commands ++ more) ≡ book_run (book_run book commands) more }
     ensures replies { (book commands more : List Entry) → replies book (commands ++ more) ≡ replies book commands ++ replies (book_run book commands) more }
+{}
+
+/// A run appends the commands that it accepts, and each that it acknowledges is the entry with its number from then on.
+pub fn runs_append_the_accepted()
+    ensures book { (book commands : List Entry)
+        → book_run book commands ≡ book ++ accepted book commands }
+    ensures acknowledged { (book commands more : List Entry)
+        → HasAcknowledged (book_run book commands ++ more) (replies book commands) commands }
 {}
 
 /// A run over commands, each of its shape, makes a book of a book.

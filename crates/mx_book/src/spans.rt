@@ -6,7 +6,7 @@ ghost use Rattle.mx_command.specs.Act.{removal_of};
 ghost use Rattle.mx_command.specs.Same.{same_text};
 ghost use Rattle.mx_book.specs.Register.{register};
 ghost use Rattle.mx_book.specs.Span.{first_removal, spans_of, spans_begun_of, tail_fitted, is_taken};
-ghost use Rattle.mx_book.specs.Life.{is_within, latest, removals_from, removals_begun};
+ghost use Rattle.mx_book.specs.Life.{has_landed_by, is_within, latest, removals_from, removals_begun};
 
 use mx_base::{Moment, Position, Serial, Tail};
 use mx_command::{Command, Removal, Sector};
@@ -31,6 +31,16 @@ pub(crate) fn removed_at(entries: &[Command], serial: &Serial) -> Option<u32>
     }
 }
 
+// Whether a sector has landed by the first removal of a component.
+fn has_landed(entries: &[Command], serial: &Serial, sector: &Sector) -> bool
+    ensures { result ≡ has_landed_by (first_removal serial.now entries.now) sector.now }
+{
+    match removed_at(entries, serial) {
+        None => true,
+        Some(to) => sector.on.number() <= to,
+    }
+}
+
 // Whether a sector is flown within the span that an entry begins for a component.
 fn is_within_begun(entry: &Command, later: &[Command], serial: &Serial, sector: &Sector) -> bool
     ensures { result ≡ list_any (is_within sector.now) (spans_begun_of entry.now later.now serial.now) }
@@ -38,14 +48,10 @@ fn is_within_begun(entry: &Command, later: &[Command], serial: &Serial, sector: 
     match entry.fitting() {
         None => false,
         Some(fitting) => {
-            let has_landed = match removed_at(later, &fitting.serial) {
-                None => true,
-                Some(to) => sector.on.number() <= to,
-            };
             fitting.serial == *serial
                 && fitting.tail == sector.tail
                 && fitting.moment <= sector.off
-                && has_landed
+                && has_landed(later, serial, sector)
         }
     }
 }
