@@ -1,0 +1,5 @@
+pub mod KeptLemmas
+pub mod Lawful
+pub mod OntoLemmas
+pub mod OrderLemmas
+pub mod SchemaLemmas

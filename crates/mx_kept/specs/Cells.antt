@@ -1,0 +1,115 @@
+-- How the rows of each table are kept.
+use Rattle.std.specs.Prelude.{pos, [], ◌∷◌, codes}
+use Rattle.sqlite.specs.declared.types.Value.TheVariants.{Int, Text}
+use Rattle.mx_base.specs.Texts.{moment_text}
+use Rattle.mx_layout.specs.Reading.{by_first, by_two}
+use Rattle.mx_layout.specs.declared.fault.Table.TheVariants.{Entry, Aircraft, Place, Component, Sector1, Fit1, Removal1}
+use Rattle.mx_register.specs.declared.rows.EntryRow.{EntryRow}
+use Rattle.mx_register.specs.declared.rows.AircraftRow.{AircraftRow}
+use Rattle.mx_register.specs.declared.rows.PlaceRow.{PlaceRow}
+use Rattle.mx_register.specs.declared.rows.RemovalRow.{RemovalRow}
+use Rattle.mx_register.specs.declared.rows.ComponentRow.{ComponentRow}
+use Rattle.mx_register.specs.declared.rows.SectorRow.{SectorRow}
+use Rattle.mx_register.specs.declared.rows.FittingRow.{FittingRow}
+use Rattle.mx_register.specs.Rows.{kind_number, place_key, FitsEntry, FitsAircraft, FitsPlace, FitsComponent, FitsSector, FitsFitting, FitsRemoval}
+use Rattle.mx_kept.specs.Keys.{one_key, two_key}
+use Rattle.mx_kept.specs.Kept.{Kept}
+use Rattle.mx_kept.specs.Schemas.{HasPermanent, HasOwn1}
+
+-- entries, as the rows of `entry`
+abbrev pub kept_entry : Kept EntryRow
+kept_entry = record {
+  name = Entry;
+  IsIn = HasPermanent;
+  select = codes "SELECT seq, doc, kind FROM entry ORDER BY seq";
+  insert = codes "INSERT INTO entry (seq, doc, kind) VALUES (?1, ?2, ?3)";
+  order = by_first;
+  as_cells = λ r. Int (pos r.seq) ∷ Text r.doc ∷ Int (pos (kind_number r.kind)) ∷ [];
+  Fits = FitsEntry;
+  key = λ r. r.seq;
+  cells_key = one_key;
+}
+
+-- aircraft, as the rows of `aircraft`
+abbrev pub kept_aircraft : Kept AircraftRow
+kept_aircraft = record {
+  name = Aircraft;
+  IsIn = HasPermanent;
+  select = codes "SELECT seq, tail, kind, birth, minutes, cycles, as_of FROM aircraft ORDER BY seq";
+  insert = codes "INSERT INTO aircraft (seq, tail, kind, birth, minutes, cycles, as_of) VALUES (?1, ?2, ?3, ?4, ?5, ?6, ?7)";
+  order = by_first;
+  as_cells = λ r. Int (pos r.seq) ∷ Text r.tail ∷ Text r.kind ∷ Int (pos r.birth) ∷ Int (pos r.minutes) ∷ Int (pos r.cycles) ∷ Int (pos r.as_of) ∷ [];
+  Fits = FitsAircraft;
+  key = λ r. r.seq;
+  cells_key = one_key;
+}
+
+-- positions of aircraft, as the rows of `place`
+abbrev pub kept_place : Kept PlaceRow
+kept_place = record {
+  name = Place;
+  IsIn = HasPermanent;
+  select = codes "SELECT seq, line, position, part FROM place ORDER BY seq, line";
+  insert = codes "INSERT INTO place (seq, line, position, part) VALUES (?1, ?2, ?3, ?4)";
+  order = by_two;
+  as_cells = λ r. Int (pos r.seq) ∷ Int (pos r.line) ∷ Text r.position ∷ Text r.part ∷ [];
+  Fits = FitsPlace;
+  key = place_key;
+  cells_key = two_key;
+}
+
+-- components, as the rows of `component`
+abbrev pub kept_component : Kept ComponentRow
+kept_component = record {
+  name = Component;
+  IsIn = HasPermanent;
+  select = codes "SELECT seq, serial, part, birth, minutes, cycles, as_of FROM component ORDER BY seq";
+  insert = codes "INSERT INTO component (seq, serial, part, birth, minutes, cycles, as_of) VALUES (?1, ?2, ?3, ?4, ?5, ?6, ?7)";
+  order = by_first;
+  as_cells = λ r. Int (pos r.seq) ∷ Text r.serial ∷ Text r.part ∷ Int (pos r.birth) ∷ Int (pos r.minutes) ∷ Int (pos r.cycles) ∷ Int (pos r.as_of) ∷ [];
+  Fits = FitsComponent;
+  key = λ r. r.seq;
+  cells_key = one_key;
+}
+
+-- sectors, as the rows of `sector1`
+abbrev pub kept_sector1 : Kept SectorRow
+kept_sector1 = record {
+  name = Sector1;
+  IsIn = HasOwn1;
+  select = codes "SELECT seq, aircraft, page, line, took_off, landed, cycles FROM sector1 ORDER BY seq";
+  insert = codes "INSERT INTO sector1 (seq, aircraft, page, line, took_off, landed, cycles) VALUES (?1, ?2, ?3, ?4, ?5, ?6, ?7)";
+  order = by_first;
+  as_cells = λ r. Int (pos r.seq) ∷ Int (pos r.aircraft) ∷ Int (pos r.page) ∷ Int (pos r.line) ∷ Text (moment_text r.took_off) ∷ Text (moment_text r.landed) ∷ Int (pos r.cycles) ∷ [];
+  Fits = FitsSector;
+  key = λ r. r.seq;
+  cells_key = one_key;
+}
+
+-- fittings, as the rows of `fit1`
+abbrev pub kept_fit1 : Kept FittingRow
+kept_fit1 = record {
+  name = Fit1;
+  IsIn = HasOwn1;
+  select = codes "SELECT seq, component, aircraft, position, moment FROM fit1 ORDER BY seq";
+  insert = codes "INSERT INTO fit1 (seq, component, aircraft, position, moment) VALUES (?1, ?2, ?3, ?4, ?5)";
+  order = by_first;
+  as_cells = λ r. Int (pos r.seq) ∷ Int (pos r.component) ∷ Int (pos r.aircraft) ∷ Text r.position ∷ Text (moment_text r.moment) ∷ [];
+  Fits = FitsFitting;
+  key = λ r. r.seq;
+  cells_key = one_key;
+}
+
+-- removals, as the rows of `removal1`
+abbrev pub kept_removal1 : Kept RemovalRow
+kept_removal1 = record {
+  name = Removal1;
+  IsIn = HasOwn1;
+  select = codes "SELECT seq, component, moment FROM removal1 ORDER BY seq";
+  insert = codes "INSERT INTO removal1 (seq, component, moment) VALUES (?1, ?2, ?3)";
+  order = by_first;
+  as_cells = λ r. Int (pos r.seq) ∷ Int (pos r.component) ∷ Text (moment_text r.moment) ∷ [];
+  Fits = FitsRemoval;
+  key = λ r. r.seq;
+  cells_key = one_key;
+}

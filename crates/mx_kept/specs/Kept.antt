@@ -1,0 +1,18 @@
+-- A table as rows of one type: where it stands, its two texts, and how a row is kept.
+use Rattle.std.specs.Prelude.{ℕ, List}
+use Rattle.std.specs.declared.cmp.Ordering.{Ordering}
+use Rattle.sqlite.specs.Order.{Row}
+use Rattle.sqlite.specs.Schema.{Schema}
+use Rattle.mx_layout.specs.TableName.{TableName}
+
+-- how things of a type are kept as the rows of a table: its name; the schemas that have it; the text that shows all rows, and the one that adds a row; the order in which all are shown; the values of a row, in the order of the columns; what can be kept in the columns; and its key, by the thing and by its values
+pub record Kept (X : Type 0) : Type 1 where
+  pub name : TableName
+  pub IsIn : Schema → Type 0
+  pub select : List ℕ
+  pub insert : List ℕ
+  pub order : Row → Row → Ordering
+  pub as_cells : X → Row
+  pub Fits : X → Type 0
+  pub key : X → ℕ
+  pub cells_key : Row → ℕ

@@ -1,0 +1,37 @@
+-- The schemas that have a table, whatever else they have: every layout, and every point between two.
+use Rattle.std.specs.Prelude.{◌≡◌, List, [], ◌∷◌, ◌++◌, codes}
+use Rattle.sqlite.specs.Table.{Table}
+use Rattle.sqlite.specs.Schema.{Schema}
+use Rattle.sqlite_schema.specs.declared.schema.Index.{Index}
+use Rattle.mx_layout.specs.Tables.{office, entry, aircraft, place, component, programme, task, opening, crs, crs_line, extension, defect, sector1, fit1, removal1, unique}
+
+-- the permanent tables and then any others, and their indexes
+abbrev pub permanent : List Table → List Index → Schema
+permanent rest more = record {
+  tables = office ∷ entry ∷ aircraft ∷ place ∷ component ∷ programme ∷ task ∷ opening ∷ crs ∷ crs_line ∷ extension ∷ defect ∷ rest;
+  indexes = unique (codes "sqlite_autoindex_entry_1") 2 1 (2 ∷ [])
+      ∷ unique (codes "sqlite_autoindex_aircraft_1") 4 3 (2 ∷ [])
+      ∷ unique (codes "sqlite_autoindex_place_1") 6 5 (1 ∷ 2 ∷ [])
+      ∷ unique (codes "sqlite_autoindex_component_1") 8 7 (2 ∷ [])
+      ∷ unique (codes "sqlite_autoindex_task_1") 11 10 (1 ∷ 2 ∷ [])
+      ∷ unique (codes "sqlite_autoindex_crs_line_1") 15 14 (1 ∷ 2 ∷ []) ∷ more;
+  views = [];
+}
+
+-- the tables of layout 1 that stand behind the permanent ones
+abbrev pub own_1 : List Table
+own_1 = sector1 ∷ fit1 ∷ removal1 ∷ []
+
+-- the schema has the permanent tables, behind them these, and then any others
+pub record HasBehind (own : List Table) (schema : Schema) : Type 0 where
+  pub rest : List Table
+  pub more : List Index
+  pub is : schema ≡ permanent (own ++ rest) more
+
+-- the schema has the permanent tables
+abbrev pub HasPermanent : Schema → Type 0
+HasPermanent = HasBehind []
+
+-- the schema has the permanent tables and those of layout 1
+abbrev pub HasOwn1 : Schema → Type 0
+HasOwn1 = HasBehind own_1
