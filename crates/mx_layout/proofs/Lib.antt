@@ -2,6 +2,7 @@ pub mod CrashLemmas
 pub mod CreateLemmas
 pub mod CreateTextLemmas
 pub mod FillLemmas
+pub mod FoundLemmas
 pub mod InsideLemmas
 pub mod PointLemmas
 pub mod ProbeLemmas

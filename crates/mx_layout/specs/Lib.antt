@@ -1,9 +1,11 @@
 pub mod Contents
 pub mod CreateTexts
 pub mod Crash
+pub mod Found
 pub mod Making
 pub mod Point
 pub mod Reading
 pub mod Tables
 pub mod Writing
 pub mod Names
+pub mod TableName

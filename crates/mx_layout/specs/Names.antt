@@ -1,12 +1,12 @@
 -- The tables by their names.
 use Rattle.std.specs.Prelude.{ℕ, List, codes}
-use Rattle.sqlite.specs.Table.{Table as SqlTable}
+use Rattle.sqlite.specs.Table.{Table}
 use Rattle.mx_layout.specs.Tables.{office, entry, aircraft, place, component, programme, task, opening, crs, crs_line, extension, defect, sector1, fit1, removal1}
-use Rattle.mx_layout.specs.declared.fault.Table.{Table}
+use Rattle.mx_layout.specs.TableName.{TableName}
 use Rattle.mx_layout.specs.declared.fault.Table.TheVariants.{Office, Entry, Aircraft, Place, Component, Programme, Task, Opening, Crs, CrsLine, Extension, Defect, Sector1, Fit1, Removal1}
 
 -- the name of a table in the file
-abbrev pub table_name : Table → List ℕ
+abbrev pub table_name : TableName → List ℕ
 table_name Office = codes "office"
 table_name Entry = codes "entry"
 table_name Aircraft = codes "aircraft"
@@ -24,7 +24,7 @@ table_name Fit1 = codes "fit1"
 table_name Removal1 = codes "removal1"
 
 -- the table with a name, in layout 1
-abbrev pub table_named : Table → SqlTable
+abbrev pub table_named : TableName → Table
 table_named Office = office
 table_named Entry = entry
 table_named Aircraft = aircraft

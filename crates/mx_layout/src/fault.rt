@@ -94,7 +94,8 @@ impl<T: Drop> From<AllocFailed<T>> for TableFault {
 /// The fault that an error of `sqlite` is: want of memory, or the store's.
 pub fn fault_of(error: Error) -> TableFault
     ensures stop { IsStop result }
-    ensures memory { (result ≡ TableFault.Memory) ↔ (error ≡ Error.SqliteFailure ErrorCode.OutOfMemory) }
+    ensures memory { (result ≡ TableFault.Memory) ↔ (error ≡ Error.SqliteFailure
+        ErrorCode.OutOfMemory) }
 {
     match error {
         Error::SqliteFailure(ErrorCode::OutOfMemory) => TableFault::Memory,

@@ -1,13 +1,15 @@
-//! The layouts of the database file: their tables, the point that a file is at, and making the tables of an
-//! empty book in one commit.
+//! The layouts of the database file: their tables, the point that a file is at, making the tables of an empty book
+//! in one commit, and opening a file again after a stop.
 #![tactic(auto)]
 
 pub mod fault;
 pub mod making;
 pub mod points;
+pub mod power;
 pub mod reading;
 
 pub use fault::{Table, TableFault};
 pub use making::create;
 pub use points::{Layout, Point};
+pub use power::{end_process, reopen, reopen_file};
 pub use reading::{point, point_in};

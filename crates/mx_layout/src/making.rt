@@ -58,9 +58,12 @@ fn create_text(at: u8) -> &'static str
 /// Makes the tables of layout 1 in the open transaction, one after another.
 fn make_tables<S: Alter>(tx: &mut Transaction<'_, S>) -> Result<(), Error>
     ensures same_reference { tx.new.conn.ghost_name ≡ tx.old.conn.ghost_name }
-    ensures mode { HasCleanDisk (state S.Store tx.new.conn.now) → IsTrue (state S.Store tx.old.conn.now).in_transaction
+    ensures mode { HasCleanDisk (state S.Store tx.new.conn.now)
+        → IsTrue (state S.Store tx.old.conn.now).in_transaction
         → OnOk result (IsTrue (state S.Store tx.new.conn.now).in_transaction) }
-    ensures makes { HasCleanDisk (state S.Store tx.new.conn.now) → IsTrue (state S.Store tx.old.conn.now).in_transaction → IsBlank no_schema (state S.Store tx.old.conn.now).now
+    ensures makes { HasCleanDisk (state S.Store tx.new.conn.now)
+        → IsTrue (state S.Store tx.old.conn.now).in_transaction
+        → IsBlank no_schema (state S.Store tx.old.conn.now).now
         → OnOk result (IsBlank layout_1 (state S.Store tx.new.conn.now).now) }
     ensures within { IsWithin (state S.Store tx.old.conn.now) (state S.Store tx.new.conn.now) }
 {
@@ -73,10 +76,15 @@ fn make_tables<S: Alter>(tx: &mut Transaction<'_, S>) -> Result<(), Error>
 /// Adds the row of the point.
 fn insert_office<S: Alter>(tx: &mut Transaction<'_, S>, point: &Point) -> Result<usize, Error>
     ensures same_reference { tx.new.conn.ghost_name ≡ tx.old.conn.ghost_name }
-    ensures inside { HasCleanDisk (state S.Store tx.new.conn.now) → IsTrue (state S.Store tx.old.conn.now).in_transaction
-        → OnOk result (StaysInside (state S.Store tx.old.conn.now) (state S.Store tx.new.conn.now)) }
-    ensures adds { HasCleanDisk (state S.Store tx.new.conn.now) → IsTrue (state S.Store tx.old.conn.now).in_transaction → (state S.Store tx.old.conn.now).now.schema ≡ layout_1
-        → OnOk result (Gains office (point_cells point.now) (state S.Store tx.old.conn.now).now (state S.Store tx.new.conn.now).now) }
+    ensures inside { HasCleanDisk (state S.Store tx.new.conn.now)
+        → IsTrue (state S.Store tx.old.conn.now).in_transaction
+        → OnOk result (StaysInside (state S.Store tx.old.conn.now) (state S.Store
+        tx.new.conn.now)) }
+    ensures adds { HasCleanDisk (state S.Store tx.new.conn.now)
+        → IsTrue (state S.Store tx.old.conn.now).in_transaction
+        → (state S.Store tx.old.conn.now).now.schema ≡ layout_1
+        → OnOk result (Gains office (point_cells point.now) (state S.Store tx.old.conn.now).now
+        (state S.Store tx.new.conn.now).now) }
     ensures within { IsWithin (state S.Store tx.old.conn.now) (state S.Store tx.new.conn.now) }
 {
     tx.execute(
@@ -89,10 +97,15 @@ fn insert_office<S: Alter>(tx: &mut Transaction<'_, S>, point: &Point) -> Result
 fn fill<S: Alter>(tx: &mut Transaction<'_, S>, layout: Layout) -> Result<(), Error>
     requires { layout.0 ≡ 1 }
     ensures same_reference { tx.new.conn.ghost_name ≡ tx.old.conn.ghost_name }
-    ensures inside { HasCleanDisk (state S.Store tx.new.conn.now) → IsTrue (state S.Store tx.old.conn.now).in_transaction
-        → OnOk result (StaysInside (state S.Store tx.old.conn.now) (state S.Store tx.new.conn.now)) }
-    ensures makes { HasCleanDisk (state S.Store tx.new.conn.now) → IsTrue (state S.Store tx.old.conn.now).in_transaction → IsBlank no_schema (state S.Store tx.old.conn.now).now
-        → OnOk result (((state S.Store tx.new.conn.now).now.schema ≡ layout_1) × IsEmptyBook (state S.Store tx.new.conn.now).now.trees) }
+    ensures inside { HasCleanDisk (state S.Store tx.new.conn.now)
+        → IsTrue (state S.Store tx.old.conn.now).in_transaction
+        → OnOk result (StaysInside (state S.Store tx.old.conn.now) (state S.Store
+        tx.new.conn.now)) }
+    ensures makes { HasCleanDisk (state S.Store tx.new.conn.now)
+        → IsTrue (state S.Store tx.old.conn.now).in_transaction
+        → IsBlank no_schema (state S.Store tx.old.conn.now).now
+        → OnOk result (((state S.Store tx.new.conn.now).now.schema ≡ layout_1)
+        × IsEmptyBook (state S.Store tx.new.conn.now).now.trees) }
     ensures within { IsWithin (state S.Store tx.old.conn.now) (state S.Store tx.new.conn.now) }
 {
     make_tables(tx)?;
@@ -109,11 +122,16 @@ fn fill<S: Alter>(tx: &mut Transaction<'_, S>, layout: Layout) -> Result<(), Err
 fn has_office<S: Alter>(tx: &mut Transaction<'_, S>) -> Result<bool, TableFault>
     ensures same_reference { tx.new.conn.ghost_name ≡ tx.old.conn.ghost_name }
     ensures absent { HasCleanDisk (state S.Store tx.new.conn.now)
-        → (IsTrue (state S.Store tx.old.conn.now).is_open → (state S.Store tx.old.conn.now).now.schema ≡ no_schema) → IfOk result (λ there. there ≡ false) }
+        → (IsTrue (state S.Store tx.old.conn.now).is_open
+        → (state S.Store tx.old.conn.now).now.schema ≡ no_schema) → IfOk result
+        (λ there. there ≡ false) }
     ensures present { HasCleanDisk (state S.Store tx.new.conn.now)
-        → (IsTrue (state S.Store tx.old.conn.now).is_open → HasOffice (state S.Store tx.old.conn.now).now.schema) → IfOk result (λ there. IsTrue there) }
-    ensures unchanged { HasCleanDisk (state S.Store tx.new.conn.now)
-        → IfOk result (λ there. there ≡ false → IsUnchanged (state S.Store tx.old.conn.now) (state S.Store tx.new.conn.now)) }
+        → (IsTrue (state S.Store tx.old.conn.now).is_open
+        → HasOffice (state S.Store tx.old.conn.now).now.schema) → IfOk result
+        (λ there. IsTrue there) }
+    ensures unchanged { HasCleanDisk (state S.Store tx.new.conn.now) → IfOk result
+        (λ there. there ≡ false
+        → IsUnchanged (state S.Store tx.old.conn.now) (state S.Store tx.new.conn.now)) }
     ensures stopped { IfErr result IsStop }
     ensures within { IsWithin (state S.Store tx.old.conn.now) (state S.Store tx.new.conn.now) }
 {
@@ -128,14 +146,22 @@ fn has_office<S: Alter>(tx: &mut Transaction<'_, S>) -> Result<bool, TableFault>
 fn fill_new<S: Alter>(tx: &mut Transaction<'_, S>, layout: Layout) -> Result<(), TableFault>
     requires { layout.0 ≡ 1 }
     ensures same_reference { tx.new.conn.ghost_name ≡ tx.old.conn.ghost_name }
-    ensures inside { HasCleanDisk (state S.Store tx.new.conn.now) → IsTrue (state S.Store tx.old.conn.now).in_transaction
-        → OnOk result (StaysInside (state S.Store tx.old.conn.now) (state S.Store tx.new.conn.now)) }
-    ensures makes { HasCleanDisk (state S.Store tx.new.conn.now) → IsTrue (state S.Store tx.old.conn.now).in_transaction → IsBlank no_schema (state S.Store tx.old.conn.now).now
-        → OnOk result (((state S.Store tx.new.conn.now).now.schema ≡ layout_1) × IsEmptyBook (state S.Store tx.new.conn.now).now.trees) }
+    ensures inside { HasCleanDisk (state S.Store tx.new.conn.now)
+        → IsTrue (state S.Store tx.old.conn.now).in_transaction
+        → OnOk result (StaysInside (state S.Store tx.old.conn.now) (state S.Store
+        tx.new.conn.now)) }
+    ensures makes { HasCleanDisk (state S.Store tx.new.conn.now)
+        → IsTrue (state S.Store tx.old.conn.now).in_transaction
+        → IsBlank no_schema (state S.Store tx.old.conn.now).now
+        → OnOk result (((state S.Store tx.new.conn.now).now.schema ≡ layout_1)
+        × IsEmptyBook (state S.Store tx.new.conn.now).now.trees) }
     ensures not_here { HasCleanDisk (state S.Store tx.new.conn.now)
-        → (IsTrue (state S.Store tx.old.conn.now).is_open → (state S.Store tx.old.conn.now).now.schema ≡ no_schema) → result ≢ Err TableFault.Exists }
+        → (IsTrue (state S.Store tx.old.conn.now).is_open
+        → (state S.Store tx.old.conn.now).now.schema ≡ no_schema)
+        → result ≢ Err TableFault.Exists }
     ensures taken { HasCleanDisk (state S.Store tx.new.conn.now)
-        → (IsTrue (state S.Store tx.old.conn.now).is_open → HasOffice (state S.Store tx.old.conn.now).now.schema) → IsErr result }
+        → (IsTrue (state S.Store tx.old.conn.now).is_open
+        → HasOffice (state S.Store tx.old.conn.now).now.schema) → IsErr result }
     ensures faults { IfErr result (λ fault. IsStop fault ⊎ (fault ≡ TableFault.Exists)) }
     ensures within { IsWithin (state S.Store tx.old.conn.now) (state S.Store tx.new.conn.now) }
 {
@@ -157,13 +183,22 @@ pub fn create<S: Alter>(conn: &mut Connection<S>, layout: Layout) -> Result<(), 
     requires idle { conn.old.in_transaction ≡ false }
     requires built { layout.0 ≡ 1 }
     ensures idle { conn.new.in_transaction ≡ false }
-    ensures clean { doubt (state S.Store conn.old).is_clean ≤ doubt (state S.Store conn.new).is_clean }
-    ensures made { RestsAs (state S.Store conn.old) no_schema (IsSound no_schema) → OnOk result (RestsAs (state S.Store conn.new) layout_1 IsEmptyBook) }
-    ensures crash { RestsAs (state S.Store conn.old) no_schema (IsSound no_schema) → Leaves (state S.Store conn.new) (λ db. IsSound no_schema db ⊎ IsEmptyBook db) }
-    ensures unchanged { IfErr result (λ fault. fault ≢ TableFault.Store → ChangesNothing (state S.Store conn.old) (state S.Store conn.new)) }
-    ensures not_here { RestsAs (state S.Store conn.old) no_schema (IsSound no_schema) → HasCleanDisk (state S.Store conn.new) → result ≢ Err TableFault.Exists }
-    ensures taken { HasCleanDisk (state S.Store conn.new) → (IsTrue (state S.Store conn.old).is_open → HasOffice (state S.Store conn.old).now.schema) → IsErr result }
-    ensures kept { (IsTrue (state S.Store conn.old).is_open → HasOffice (state S.Store conn.old).now.schema) → ChangesNothing (state S.Store conn.old) (state S.Store conn.new) }
+    ensures clean { doubt (state S.Store conn.old).is_clean ≤ doubt (state S.Store
+        conn.new).is_clean }
+    ensures made { RestsAs (state S.Store conn.old) no_schema (IsSound no_schema)
+        → OnOk result (RestsAs (state S.Store conn.new) layout_1 IsEmptyBook) }
+    ensures crash { RestsAs (state S.Store conn.old) no_schema (IsSound no_schema)
+        → Leaves (state S.Store conn.new) (λ db. IsSound no_schema db ⊎ IsEmptyBook db) }
+    ensures unchanged { IfErr result (λ fault. fault ≢ TableFault.Store
+        → ChangesNothing (state S.Store conn.old) (state S.Store conn.new)) }
+    ensures not_here { RestsAs (state S.Store conn.old) no_schema (IsSound no_schema)
+        → HasCleanDisk (state S.Store conn.new) → result ≢ Err TableFault.Exists }
+    ensures taken { HasCleanDisk (state S.Store conn.new)
+        → (IsTrue (state S.Store conn.old).is_open
+        → HasOffice (state S.Store conn.old).now.schema) → IsErr result }
+    ensures kept { (IsTrue (state S.Store conn.old).is_open
+        → HasOffice (state S.Store conn.old).now.schema)
+        → ChangesNothing (state S.Store conn.old) (state S.Store conn.new) }
     ensures faults { IfErr result (λ fault. IsStop fault ⊎ (fault ≡ TableFault.Exists)) }
 {
     let mut tx = conn.transaction();

@@ -18,7 +18,8 @@ use sqlite::{Alter, Connection, Error, Row, Transaction};
 /// The number in a column, if it is one of 32 bits.
 fn number_at(row: &Row, at: usize) -> Option<u32>
     requires { at < length row.now }
-    ensures { MatchOption result (¬ HoldsBelow (2 ^ 32) (column row.now at)) (λ n. (column row.now at ≡ Int (pos n)) × (n < 2 ^ 32)) }
+    ensures { MatchOption result (¬ HoldsBelow (2 ^ 32) (column row.now at))
+        (λ n. (column row.now at ≡ Int (pos n)) × (n < 2 ^ 32)) }
 {
     match row.get_ref(at) {
         Ok(ValueRef::Int(number)) => match u32::try_from(number) {
@@ -32,7 +33,8 @@ fn number_at(row: &Row, at: usize) -> Option<u32>
 /// The number in a column, if it is one of 8 bits.
 fn byte_at(row: &Row, at: usize) -> Option<u8>
     requires { at < length row.now }
-    ensures { MatchOption result (¬ HoldsBelow (2 ^ 8) (column row.now at)) (λ n. (column row.now at ≡ Int (pos n)) × (n < 2 ^ 8)) }
+    ensures { MatchOption result (¬ HoldsBelow (2 ^ 8) (column row.now at))
+        (λ n. (column row.now at ≡ Int (pos n)) × (n < 2 ^ 8)) }
 {
     match row.get_ref(at) {
         Ok(ValueRef::Int(number)) => match u8::try_from(number) {
@@ -80,18 +82,28 @@ fn only_point(found: &[Row]) -> Result<Point, TableFault>
 /// `Damaged(Table::Office)` where that row is no point; else `Memory` or `Store`.
 pub fn point_in<S: Alter>(tx: &mut Transaction<'_, S>) -> Result<Point, TableFault>
     ensures same_reference { tx.new.conn.ghost_name ≡ tx.old.conn.ghost_name }
-    ensures inside { HasCleanDisk (state S.Store tx.new.conn.now) → IsTrue (state S.Store tx.old.conn.now).in_transaction
-        → OnOk result (StaysInside (state S.Store tx.old.conn.now) (state S.Store tx.new.conn.now)) }
-    ensures unchanged { HasCleanDisk (state S.Store tx.new.conn.now) → HasOffice (state S.Store tx.old.conn.now).now.schema
-        → OnOk result (IsUnchanged (state S.Store tx.old.conn.now) (state S.Store tx.new.conn.now)) }
-    ensures reads { HasCleanDisk (state S.Store tx.new.conn.now) → (IsTrue (state S.Store tx.old.conn.now).is_open → HasOffice (state S.Store tx.old.conn.now).now.schema)
+    ensures inside { HasCleanDisk (state S.Store tx.new.conn.now)
+        → IsTrue (state S.Store tx.old.conn.now).in_transaction
+        → OnOk result (StaysInside (state S.Store tx.old.conn.now) (state S.Store
+        tx.new.conn.now)) }
+    ensures unchanged { HasCleanDisk (state S.Store tx.new.conn.now)
+        → HasOffice (state S.Store tx.old.conn.now).now.schema
+        → OnOk result (IsUnchanged (state S.Store tx.old.conn.now) (state S.Store
+        tx.new.conn.now)) }
+    ensures reads { HasCleanDisk (state S.Store tx.new.conn.now)
+        → (IsTrue (state S.Store tx.old.conn.now).is_open
+        → HasOffice (state S.Store tx.old.conn.now).now.schema)
         → ReadsPoint (rows_in office (state S.Store tx.old.conn.now).now.trees) result }
-    ensures exact { (p : Point) → HasCleanDisk (state S.Store tx.new.conn.now) → (IsTrue (state S.Store tx.old.conn.now).is_open → HoldsPoint p (state S.Store tx.old.conn.now).now)
-        → FitsPoint p → ReadsExactly p result }
-    ensures absent { HasCleanDisk (state S.Store tx.new.conn.now) → (IsTrue (state S.Store tx.old.conn.now).is_open → (state S.Store tx.old.conn.now).now.schema ≡ no_schema)
-        → ReadsNone result }
-    ensures open { HasCleanDisk (state S.Store tx.new.conn.now)
-        → MatchResult result (λ _. IsTrue (state S.Store tx.old.conn.now).is_open) (λ fault. IsStop fault ⊎ IsTrue (state S.Store tx.old.conn.now).is_open) }
+    ensures exact { (p : Point) → HasCleanDisk (state S.Store tx.new.conn.now)
+        → (IsTrue (state S.Store tx.old.conn.now).is_open
+        → HoldsPoint p (state S.Store tx.old.conn.now).now) → FitsPoint p
+        → ReadsExactly p result }
+    ensures absent { HasCleanDisk (state S.Store tx.new.conn.now)
+        → (IsTrue (state S.Store tx.old.conn.now).is_open
+        → (state S.Store tx.old.conn.now).now.schema ≡ no_schema) → ReadsNone result }
+    ensures open { HasCleanDisk (state S.Store tx.new.conn.now) → MatchResult result
+        (λ _. IsTrue (state S.Store tx.old.conn.now).is_open) (λ fault. IsStop fault
+        ⊎ IsTrue (state S.Store tx.old.conn.now).is_open) }
     ensures within { IsWithin (state S.Store tx.old.conn.now) (state S.Store tx.new.conn.now) }
 {
     let found = match tx.query_all("SELECT id, layout, step, mark FROM office ORDER BY id", &[]) {
@@ -110,14 +122,19 @@ pub fn point<S: Alter>(conn: &mut Connection<S>) -> Result<Point, TableFault>
     requires { conn.old.in_transaction ≡ false }
     ensures idle { conn.new.in_transaction ≡ false }
     ensures unchanged { ChangesNothing (state S.Store conn.old) (state S.Store conn.new) }
-    ensures reads { HasCleanDisk (state S.Store conn.new) → (IsTrue (state S.Store conn.old).is_open → HasOffice (state S.Store conn.old).now.schema)
+    ensures reads { HasCleanDisk (state S.Store conn.new)
+        → (IsTrue (state S.Store conn.old).is_open
+        → HasOffice (state S.Store conn.old).now.schema)
         → ReadsPoint (rows_in office (state S.Store conn.old).now.trees) result }
-    ensures exact { (p : Point) → HasCleanDisk (state S.Store conn.new) → (IsTrue (state S.Store conn.old).is_open → HoldsPoint p (state S.Store conn.old).now)
+    ensures exact { (p : Point) → HasCleanDisk (state S.Store conn.new)
+        → (IsTrue (state S.Store conn.old).is_open → HoldsPoint p (state S.Store conn.old).now)
         → FitsPoint p → ReadsExactly p result }
-    ensures absent { HasCleanDisk (state S.Store conn.new) → (IsTrue (state S.Store conn.old).is_open → (state S.Store conn.old).now.schema ≡ no_schema)
-        → ReadsNone result }
-    ensures open { HasCleanDisk (state S.Store conn.new)
-        → MatchResult result (λ _. IsTrue (state S.Store conn.old).is_open) (λ fault. IsStop fault ⊎ IsTrue (state S.Store conn.old).is_open) }
+    ensures absent { HasCleanDisk (state S.Store conn.new)
+        → (IsTrue (state S.Store conn.old).is_open
+        → (state S.Store conn.old).now.schema ≡ no_schema) → ReadsNone result }
+    ensures open { HasCleanDisk (state S.Store conn.new) → MatchResult result
+        (λ _. IsTrue (state S.Store conn.old).is_open) (λ fault. IsStop fault
+        ⊎ IsTrue (state S.Store conn.old).is_open) }
 {
     let mut tx = conn.transaction();
     point_in(&mut tx)
