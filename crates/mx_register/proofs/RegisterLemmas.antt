@@ -3,7 +3,6 @@ use Rattle.std.proofs.Common.{◌≡◌, ℕ, ◌+◌, ◌*◌, ◌^◌, ◌≤�
 use Rattle.std.specs.Prelude.{nat_le}
 use Rattle.std.specs.List.{list_all}
 use Rattle.std.proofs.lemmas.Bool.Decides.{nat_tests}
-use Rattle.std.proofs.lemmas.List.Elements.{All-append, All-nil}
 use Rattle.mx_command.specs.Act.{Act, Entry, Added, Listed, Flown, Fitted, Removed, positions_of, aircraft_of, component_of, sector_of, fitting_of, removal_of}
 use Rattle.mx_command.specs.Shape.{has_shape, act_shape, doc_shape, opening_shape, positions_shape}
 use Rattle.mx_command.specs.declared.sector.Sector.{Sector}
@@ -17,9 +16,9 @@ use Rattle.mx_register.specs.declared.rows.SectorRow.{SectorRow}
 use Rattle.mx_register.specs.declared.rows.FittingRow.{FittingRow}
 use Rattle.mx_register.specs.declared.rows.RemovalRow.{RemovalRow}
 use Rattle.mx_register.specs.Names.{seq_of_tail, seq_of_serial, or_zero}
-use Rattle.mx_register.specs.Rows.{FitsEntry, FitsAircraft, FitsPlace, FitsComponent, FitsSector, FitsFitting, FitsRemoval, place_key}
+use Rattle.mx_register.specs.Rows.{place_key}
 use Rattle.mx_register.specs.Rising.{IsRising}
-use Rattle.mx_register.specs.Registers.{gives, gives_by, next, if_any, places_from, aircraft_row, component_row, sector_row, fitting_row, removal_row, entry_added, aircraft_by, places_by, components_by, sectors_by, fittings_by, removals_by, entry_rows, aircraft_rows, place_rows, component_rows, sector_rows, fitting_rows, removal_rows, FitBook, FitsNext}
+use Rattle.mx_register.specs.Registers.{gives, gives_by, next, if_any, places_from, aircraft_row, component_row, sector_row, fitting_row, removal_row, entry_added, aircraft_by, places_by, components_by, sectors_by, fittings_by, removals_by, entry_rows, aircraft_rows, place_rows, component_rows, sector_rows, fitting_rows, removal_rows}
 
 -- ── one command more ──
 
@@ -32,35 +31,6 @@ gives-more added before (entry ∷ book) command =
     let later = gives-more added (before ++ entry ∷ []) book command in
     let place = ap (λ b. rest ++ added b command) (append_assoc before (entry ∷ []) book) in
     ap (λ rows. added before entry ++ rows) (later ∙ place) ∙ sym (append_assoc (added before entry) rest (added (before ++ entry ∷ book) command))
-
--- a command adds its row to the entries
-pub entry_rows-more : (book : List Entry) (command : Entry) → entry_rows (book ++ command ∷ []) ≡ entry_rows book ++ entry_added book command
-entry_rows-more book command = gives-more entry_added [] book command
-
--- a command adds to each other register the rows that it says
-pub gives_by-more : {Row : Type 0} (by : List Entry → Act → List Row) (book : List Entry) (command : Entry) → gives_by by [] (book ++ command ∷ []) ≡ gives_by by [] book ++ by book command.act
-gives_by-more by book command = gives-more (λ earlier entry. by earlier entry.act) [] book command
-
--- ── rows that fit ──
-
--- the rows of the empty book fit
-pub FitBook-empty : FitBook []
-FitBook-empty = record { entries = All-nil FitsEntry; aircraft = All-nil FitsAircraft; places = All-nil FitsPlace; components = All-nil FitsComponent; sectors = All-nil FitsSector; fittings = All-nil FitsFitting; removals = All-nil FitsRemoval }
-
-more_fit : {Row : Type 0} (P : Row → Type 0) (by : List Entry → Act → List Row) (book : List Entry) (command : Entry) → All P (gives_by by [] book) → All P (by book command.act) → All P (gives_by by [] (book ++ command ∷ []))
-more_fit P by book command all new = subst (All P) (sym (gives_by-more by book command)) (All-append P (gives_by by [] book) (by book command.act) all new)
-
--- the rows of a book with one command more fit where those of the command do
-pub FitBook-more : (book : List Entry) (command : Entry) → FitBook book → FitsNext book command → FitBook (book ++ command ∷ [])
-FitBook-more book command fit new = record {
-  entries = subst (All FitsEntry) (sym (entry_rows-more book command)) (All-append FitsEntry (entry_rows book) (entry_added book command) fit.entries new.entries);
-  aircraft = more_fit FitsAircraft aircraft_by book command fit.aircraft new.aircraft;
-  places = more_fit FitsPlace places_by book command fit.places new.places;
-  components = more_fit FitsComponent components_by book command fit.components new.components;
-  sectors = more_fit FitsSector sectors_by book command fit.sectors new.sectors;
-  fittings = more_fit FitsFitting fittings_by book command fit.fittings new.fittings;
-  removals = more_fit FitsRemoval removals_by book command fit.removals new.removals;
-}
 
 -- ── the order of the rows ──
 

@@ -4,3 +4,4 @@ pub mod Registers
 pub mod Rising
 pub mod Merge
 pub mod Left
+pub mod Added

@@ -1,5 +1,5 @@
 -- The registers of a book: the rows that its entries give to each table.
-use Rattle.std.specs.Prelude.{◌≡◌, ℕ, ◌+◌, List, [], ◌∷◌, ◌++◌, length, Option, All}
+use Rattle.std.specs.Prelude.{◌≡◌, ℕ, ◌+◌, List, [], ◌∷◌, ◌++◌, length, Option}
 use Rattle.std.specs.List.{cons_option}
 use Rattle.std.specs.Option.{option_map}
 use Rattle.mx_command.specs.Act.{Act, Entry, Added, Listed, Flown, Fitted, Removed, aircraft_of, component_of, sector_of, fitting_of, removal_of, positions_of}
@@ -18,7 +18,6 @@ use Rattle.mx_register.specs.declared.rows.SectorRow.{SectorRow}
 use Rattle.mx_register.specs.declared.rows.FittingRow.{FittingRow}
 use Rattle.mx_register.specs.declared.rows.RemovalRow.{RemovalRow}
 use Rattle.mx_register.specs.declared.merge.Registers.{Registers}
-use Rattle.mx_register.specs.Rows.{FitsEntry, FitsAircraft, FitsPlace, FitsComponent, FitsSector, FitsFitting, FitsRemoval}
 use Rattle.mx_register.specs.Names.{seq_of_tail, seq_of_serial, or_zero}
 
 -- ── a row ──
@@ -150,25 +149,3 @@ pub record AreRegistersOf (r : Registers) (book : List Entry) : Type 0 where
   pub sectors : r.sectors.items ≡ sector_rows book
   pub fittings : r.fittings.items ≡ fitting_rows book
   pub removals : r.removals.items ≡ removal_rows book
-
--- ── rows that can be kept in columns ──
-
--- each row of the registers can be kept in its columns
-pub record FitBook (book : List Entry) : Type 0 where
-  pub entries : All FitsEntry (entry_rows book)
-  pub aircraft : All FitsAircraft (aircraft_rows book)
-  pub places : All FitsPlace (place_rows book)
-  pub components : All FitsComponent (component_rows book)
-  pub sectors : All FitsSector (sector_rows book)
-  pub fittings : All FitsFitting (fitting_rows book)
-  pub removals : All FitsRemoval (removal_rows book)
-
--- each row of an entry, behind the entries before it, can be kept in its columns
-pub record FitsNext (before : List Entry) (entry : Entry) : Type 0 where
-  pub entries : All FitsEntry (entry_added before entry)
-  pub aircraft : All FitsAircraft (aircraft_by before entry.act)
-  pub places : All FitsPlace (places_by before entry.act)
-  pub components : All FitsComponent (components_by before entry.act)
-  pub sectors : All FitsSector (sectors_by before entry.act)
-  pub fittings : All FitsFitting (fittings_by before entry.act)
-  pub removals : All FitsRemoval (removals_by before entry.act)

@@ -7,5 +7,6 @@ ghost use Rattle.mx_register.specs.Registers.{AreRegistersOf};
 
 /// Registers are those of at most one book.
 pub fn registers_decide_the_book()
-    ensures { (registers : Registers) (one other : List Entry) → AreRegistersOf registers one → AreRegistersOf registers other → IsBook one → IsBook other → one ≡ other }
+    ensures { (registers : Registers) (one other : List Entry) → AreRegistersOf registers one
+        → AreRegistersOf registers other → IsBook one → IsBook other → one ≡ other }
 {}

@@ -1,6 +1,7 @@
 //! The registers of a book: the rows that its entries give to each table, and the book that rows give.
 #![tactic(auto)]
 
+pub mod added;
 pub mod laws;
 pub mod merge;
 pub mod names;
@@ -8,6 +9,7 @@ pub mod registers;
 pub mod rows;
 mod taking;
 
+pub use added::{AddedRows, added_rows};
 pub use names::{seq_of_serial, seq_of_tail, serial_of_component, tail_of_aircraft};
 pub use registers::{
     aircraft_row, component_row, entry_row, fitting_row, place_row, removal_row, sector_row,

@@ -74,8 +74,11 @@ fn next_command<'a>(
     entry: &EntryRow,
     rows: Left<'a>,
 ) -> Result<Option<(Command, Left<'a>)>, NoMemory>
-    ensures found { IfOk result (λ found. option_map taken found ≡ take_command book.now entry.now (rest_of rows.entry)) }
-    ensures memory { OnErr result (IsSome (take_by book.now entry.now.seq (rest_of rows.entry) entry.now.kind)) }
+    ensures found { IfOk result
+        (λ found. option_map taken found ≡ take_command book.now entry.now (rest_of
+        rows.entry)) }
+    ensures memory { OnErr result (IsSome (take_by book.now entry.now.seq (rest_of rows.entry)
+        entry.now.kind)) }
 {
     let Some((body, rest)) = take_said(alloc, book, entry, rows)? else {
         return Ok(None);
@@ -125,8 +128,10 @@ fn merged_book(alloc: Global, entries: &[EntryRow], all: Left<'_>) -> Result<Opt
 /// The book that the registers are those of, or `None` where they are those of no book. `NoMemory` where
 /// memory runs out, which comes only where there is an entry.
 pub fn merge(alloc: Global, registers: &Registers) -> Result<Option<Book>, NoMemory>
-    ensures exact { (book : List Entry) → IsBook book → AreRegistersOf registers.now book → IfOk result (λ found. found ≡ Some book) }
-    ensures sound { IfOk result (λ found. IfSome found (λ book. AreRegistersOf registers.now book)) }
+    ensures exact { (book : List Entry) → IsBook book → AreRegistersOf registers.now book
+        → IfOk result (λ found. found ≡ Some book) }
+    ensures sound { IfOk result (λ found. IfSome found
+        (λ book. AreRegistersOf registers.now book)) }
     ensures memory { OnErr result (registers.now.entries.items ≢ []) }
 {
     merged_book(alloc, registers.entries.as_slice(), rows_of(registers))

@@ -122,7 +122,8 @@ fn take_aircraft<'a>(
     seq: u32,
     rows: Left<'a>,
 ) -> Result<Option<(Body, Left<'a>)>, AllocError>
-    ensures found { IfOk result (λ found. option_map said found ≡ take_aircraft seq (rest_of rows.entry)) }
+    ensures found { IfOk result
+        (λ found. option_map said found ≡ take_aircraft seq (rest_of rows.entry)) }
     ensures memory { OnErr result (IsSome (take_aircraft seq (rest_of rows.entry))) }
 {
     let Some((row, aircraft)) = rows.aircraft.split_first() else {
@@ -200,8 +201,11 @@ pub(crate) fn take_said<'a>(
     entry: &EntryRow,
     rows: Left<'a>,
 ) -> Result<Option<(Body, Left<'a>)>, AllocError>
-    ensures found { IfOk result (λ found. option_map said found ≡ take_by book.now entry.now.seq (rest_of rows.entry) entry.now.kind) }
-    ensures memory { OnErr result (IsSome (take_by book.now entry.now.seq (rest_of rows.entry) entry.now.kind)) }
+    ensures found { IfOk result
+        (λ found. option_map said found ≡ take_by book.now entry.now.seq (rest_of rows.entry)
+        entry.now.kind) }
+    ensures memory { OnErr result (IsSome (take_by book.now entry.now.seq (rest_of rows.entry)
+        entry.now.kind)) }
 {
     match entry.kind {
         EntryKind::AddAircraft => take_aircraft(alloc, entry.seq, rows),

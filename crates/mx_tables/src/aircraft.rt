@@ -1,30 +1,31 @@
 //! The table `aircraft`: every aircraft, and the use that its airframe brought with it.
-ghost use Rattle.std.specs.Prelude.{◌≡◌, ◌⊎◌, map, All, IsTrue, OnOk, IfOk, IfErr};
-ghost use Rattle.sqlite.specs.State.{HasCleanDisk, IsUnchanged};
+ghost use Rattle.std.specs.Prelude.{◌≡◌};
 ghost use Rattle.sqlite.specs.Held.{state};
-ghost use Rattle.mx_register.specs.Rows.{FitsAircraft};
-ghost use Rattle.mx_layout.specs.Contents.{rows_in};
-ghost use Rattle.mx_layout.specs.Crash.{StaysInside, IsWithin};
-ghost use Rattle.mx_layout.specs.Reading.{AreAll, HasOther, IsRowOf};
-ghost use Rattle.mx_layout.specs.Tables.{layout_1, aircraft as fleet};
-ghost use Rattle.mx_layout.specs.Writing.{Gains};
-ghost use Rattle.mx_tables.specs.Cells.{aircraft_cells};
-ghost use Rattle.mx_tables.specs.Registers.{OnRead};
+ghost use Rattle.mx_kept.specs.Cells.{kept_aircraft};
+ghost use Rattle.mx_tables.specs.Calls.{InsertsRow, ReadsRows};
 
 use crate::column::{day_at, graphic_at, moment_at, number_at, tail_at};
-use crate::register::{Register, insert_row, read_rows};
+use crate::stored::{Insert, Stored, Texts, insert_values, rows};
 use mx_layout::{Table, TableFault};
 use mx_register::AircraftRow;
 use sqlite::{Alter, Row, Transaction, params};
 use std::alloc::Global;
 
-impl Register for AircraftRow {
-    ghost use Rattle.mx_register.specs.Rows.{FitsAircraft};
-    ghost use Rattle.mx_tables.specs.Cells.{aircraft_cells};
+impl Stored for AircraftRow {
+    ghost use Rattle.mx_kept.specs.Cells.{kept_aircraft};
+    ghost use Rattle.mx_kept.proofs.Lawful.{aircraft_lawful};
 
-    ghost cells = { aircraft_cells };
+    ghost kept = { kept_aircraft };
 
-    ghost Fits = { FitsAircraft };
+    ghost lawful = { aircraft_lawful };
+
+    fn texts() -> Texts {
+        Texts {
+            table: Table::Aircraft,
+            select: "SELECT seq, tail, kind, birth, minutes, cycles, as_of FROM aircraft ORDER BY seq",
+            insert: "INSERT INTO aircraft (seq, tail, kind, birth, minutes, cycles, as_of) VALUES (?1, ?2, ?3, ?4, ?5, ?6, ?7)",
+        }
+    }
 
     fn read(row: &Row) -> Option<AircraftRow> {
         if row.column_count() != 7 {
@@ -42,6 +43,24 @@ impl Register for AircraftRow {
     }
 }
 
+impl Insert for AircraftRow {
+    fn insert<S: Alter>(&self, tx: &mut Transaction<'_, S>) -> Result<(), TableFault> {
+        insert_values(
+            tx,
+            self,
+            params![
+                self.seq,
+                self.tail.as_str(),
+                self.kind.as_str(),
+                self.birth.number(),
+                self.minutes,
+                self.cycles,
+                self.as_of.number(),
+            ],
+        )
+    }
+}
+
 /// The aircraft, in the order of their numbers. `Memory` for want of memory, `Store` for an error of the
 /// store, and `Damaged` where a row is no aircraft.
 pub fn rows_aircraft<S: Alter>(
@@ -49,24 +68,10 @@ pub fn rows_aircraft<S: Alter>(
     tx: &mut Transaction<'_, S>,
 ) -> Result<Vec<AircraftRow>, TableFault>
     ensures same_reference { tx.new.conn.ghost_name ≡ tx.old.conn.ghost_name }
-    ensures inside { HasCleanDisk (state S.Store tx.new.conn.now) → IsTrue (state S.Store tx.old.conn.now).in_transaction
-        → OnRead result (StaysInside (state S.Store tx.old.conn.now) (state S.Store tx.new.conn.now)) }
-    ensures rows { HasCleanDisk (state S.Store tx.new.conn.now) → (state S.Store tx.old.conn.now).now.schema ≡ layout_1
-        → IfOk result (λ rows. AreAll fleet (state S.Store tx.old.conn.now).now.trees (map aircraft_cells rows.items)) }
-    ensures fits { IfOk result (λ rows. All FitsAircraft rows.items) }
-    ensures unchanged { HasCleanDisk (state S.Store tx.new.conn.now) → (state S.Store tx.old.conn.now).now.schema ≡ layout_1
-        → OnRead result (IsUnchanged (state S.Store tx.old.conn.now) (state S.Store tx.new.conn.now)) }
-    ensures cause { IfErr result (λ e. (e ≡ TableFault.Memory) ⊎ ((e ≡ TableFault.Store) ⊎ (e ≡ TableFault.Damaged Table.Aircraft))) }
-    ensures damaged { HasCleanDisk (state S.Store tx.new.conn.now) → (state S.Store tx.old.conn.now).now.schema ≡ layout_1
-        → result ≡ Err (TableFault.Damaged Table.Aircraft) → HasOther (IsRowOf aircraft_cells FitsAircraft) (rows_in fleet (state S.Store tx.old.conn.now).now.trees) }
-    ensures within { IsWithin (state S.Store tx.old.conn.now) (state S.Store tx.new.conn.now) }
+    ensures reads { ReadsRows kept_aircraft (λ rows. rows.items)
+        (state S.Store tx.old.conn.now) (state S.Store tx.new.conn.now) result }
 {
-    read_rows(
-        alloc,
-        tx,
-        Table::Aircraft,
-        "SELECT seq, tail, kind, birth, minutes, cycles, as_of FROM aircraft ORDER BY seq",
-    )
+    rows(alloc, tx)
 }
 
 /// Adds an aircraft. `Memory` for want of memory, and `Store` for an error of the store, a number or a
@@ -76,34 +81,9 @@ pub fn insert_aircraft<S: Alter>(
     row: &AircraftRow,
 ) -> Result<(), TableFault>
     ensures same_reference { tx.new.conn.ghost_name ≡ tx.old.conn.ghost_name }
-    ensures inside { HasCleanDisk (state S.Store tx.new.conn.now) → IsTrue (state S.Store tx.old.conn.now).in_transaction
-        → OnOk result (StaysInside (state S.Store tx.old.conn.now) (state S.Store tx.new.conn.now)) }
-    ensures adds { HasCleanDisk (state S.Store tx.new.conn.now) → IsTrue (state S.Store tx.old.conn.now).in_transaction → (state S.Store tx.old.conn.now).now.schema ≡ layout_1
-        → OnOk result (Gains fleet (aircraft_cells row.now) (state S.Store tx.old.conn.now).now (state S.Store tx.new.conn.now).now) }
-    ensures fits { FitsAircraft row.now }
-    ensures cause { IfErr result (λ e. (e ≡ TableFault.Memory) ⊎ (e ≡ TableFault.Store)) }
-    ensures within { IsWithin (state S.Store tx.old.conn.now) (state S.Store tx.new.conn.now) }
+    ensures inserts { InsertsRow kept_aircraft row.now
+        (state S.Store tx.old.conn.now) (state S.Store tx.new.conn.now) result }
+    ensures fits { kept_aircraft.Fits row.now }
 {
-    let AircraftRow {
-        seq,
-        tail,
-        kind,
-        birth,
-        minutes,
-        cycles,
-        as_of,
-    } = *row;
-    insert_row(
-        tx,
-        "INSERT INTO aircraft (seq, tail, kind, birth, minutes, cycles, as_of) VALUES (?1, ?2, ?3, ?4, ?5, ?6, ?7)",
-        params![
-            seq,
-            tail.as_str(),
-            kind.as_str(),
-            birth.number(),
-            minutes,
-            cycles,
-            as_of.number()
-        ],
-    )
+    row.insert(tx)
 }

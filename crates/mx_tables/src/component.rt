@@ -1,30 +1,31 @@
 //! The table `component`: every component, and the use that it brought with it.
-ghost use Rattle.std.specs.Prelude.{◌≡◌, ◌⊎◌, map, All, IsTrue, OnOk, IfOk, IfErr};
-ghost use Rattle.sqlite.specs.State.{HasCleanDisk, IsUnchanged};
+ghost use Rattle.std.specs.Prelude.{◌≡◌};
 ghost use Rattle.sqlite.specs.Held.{state};
-ghost use Rattle.mx_register.specs.Rows.{FitsComponent};
-ghost use Rattle.mx_layout.specs.Contents.{rows_in};
-ghost use Rattle.mx_layout.specs.Crash.{StaysInside, IsWithin};
-ghost use Rattle.mx_layout.specs.Reading.{AreAll, HasOther, IsRowOf};
-ghost use Rattle.mx_layout.specs.Tables.{layout_1, component as stock};
-ghost use Rattle.mx_layout.specs.Writing.{Gains};
-ghost use Rattle.mx_tables.specs.Cells.{component_cells};
-ghost use Rattle.mx_tables.specs.Registers.{OnRead};
+ghost use Rattle.mx_kept.specs.Cells.{kept_component};
+ghost use Rattle.mx_tables.specs.Calls.{InsertsRow, ReadsRows};
 
 use crate::column::{day_at, graphic_at, moment_at, number_at};
-use crate::register::{Register, insert_row, read_rows};
+use crate::stored::{Insert, Stored, Texts, insert_values, rows};
 use mx_layout::{Table, TableFault};
 use mx_register::ComponentRow;
 use sqlite::{Alter, Row, Transaction, params};
 use std::alloc::Global;
 
-impl Register for ComponentRow {
-    ghost use Rattle.mx_register.specs.Rows.{FitsComponent};
-    ghost use Rattle.mx_tables.specs.Cells.{component_cells};
+impl Stored for ComponentRow {
+    ghost use Rattle.mx_kept.specs.Cells.{kept_component};
+    ghost use Rattle.mx_kept.proofs.Lawful.{component_lawful};
 
-    ghost cells = { component_cells };
+    ghost kept = { kept_component };
 
-    ghost Fits = { FitsComponent };
+    ghost lawful = { component_lawful };
+
+    fn texts() -> Texts {
+        Texts {
+            table: Table::Component,
+            select: "SELECT seq, serial, part, birth, minutes, cycles, as_of FROM component ORDER BY seq",
+            insert: "INSERT INTO component (seq, serial, part, birth, minutes, cycles, as_of) VALUES (?1, ?2, ?3, ?4, ?5, ?6, ?7)",
+        }
+    }
 
     fn read(row: &Row) -> Option<ComponentRow> {
         if row.column_count() != 7 {
@@ -42,6 +43,24 @@ impl Register for ComponentRow {
     }
 }
 
+impl Insert for ComponentRow {
+    fn insert<S: Alter>(&self, tx: &mut Transaction<'_, S>) -> Result<(), TableFault> {
+        insert_values(
+            tx,
+            self,
+            params![
+                self.seq,
+                self.serial.as_str(),
+                self.part.as_str(),
+                self.birth.number(),
+                self.minutes,
+                self.cycles,
+                self.as_of.number(),
+            ],
+        )
+    }
+}
+
 /// The components, in the order of their numbers. `Memory` for want of memory, `Store` for an error of the
 /// store, and `Damaged` where a row is no component.
 pub fn rows_component<S: Alter>(
@@ -49,24 +68,10 @@ pub fn rows_component<S: Alter>(
     tx: &mut Transaction<'_, S>,
 ) -> Result<Vec<ComponentRow>, TableFault>
     ensures same_reference { tx.new.conn.ghost_name ≡ tx.old.conn.ghost_name }
-    ensures inside { HasCleanDisk (state S.Store tx.new.conn.now) → IsTrue (state S.Store tx.old.conn.now).in_transaction
-        → OnRead result (StaysInside (state S.Store tx.old.conn.now) (state S.Store tx.new.conn.now)) }
-    ensures rows { HasCleanDisk (state S.Store tx.new.conn.now) → (state S.Store tx.old.conn.now).now.schema ≡ layout_1
-        → IfOk result (λ rows. AreAll stock (state S.Store tx.old.conn.now).now.trees (map component_cells rows.items)) }
-    ensures fits { IfOk result (λ rows. All FitsComponent rows.items) }
-    ensures unchanged { HasCleanDisk (state S.Store tx.new.conn.now) → (state S.Store tx.old.conn.now).now.schema ≡ layout_1
-        → OnRead result (IsUnchanged (state S.Store tx.old.conn.now) (state S.Store tx.new.conn.now)) }
-    ensures cause { IfErr result (λ e. (e ≡ TableFault.Memory) ⊎ ((e ≡ TableFault.Store) ⊎ (e ≡ TableFault.Damaged Table.Component))) }
-    ensures damaged { HasCleanDisk (state S.Store tx.new.conn.now) → (state S.Store tx.old.conn.now).now.schema ≡ layout_1
-        → result ≡ Err (TableFault.Damaged Table.Component) → HasOther (IsRowOf component_cells FitsComponent) (rows_in stock (state S.Store tx.old.conn.now).now.trees) }
-    ensures within { IsWithin (state S.Store tx.old.conn.now) (state S.Store tx.new.conn.now) }
+    ensures reads { ReadsRows kept_component (λ rows. rows.items)
+        (state S.Store tx.old.conn.now) (state S.Store tx.new.conn.now) result }
 {
-    read_rows(
-        alloc,
-        tx,
-        Table::Component,
-        "SELECT seq, serial, part, birth, minutes, cycles, as_of FROM component ORDER BY seq",
-    )
+    rows(alloc, tx)
 }
 
 /// Adds a component. `Memory` for want of memory, and `Store` for an error of the store, a number or a
@@ -76,34 +81,9 @@ pub fn insert_component<S: Alter>(
     row: &ComponentRow,
 ) -> Result<(), TableFault>
     ensures same_reference { tx.new.conn.ghost_name ≡ tx.old.conn.ghost_name }
-    ensures inside { HasCleanDisk (state S.Store tx.new.conn.now) → IsTrue (state S.Store tx.old.conn.now).in_transaction
-        → OnOk result (StaysInside (state S.Store tx.old.conn.now) (state S.Store tx.new.conn.now)) }
-    ensures adds { HasCleanDisk (state S.Store tx.new.conn.now) → IsTrue (state S.Store tx.old.conn.now).in_transaction → (state S.Store tx.old.conn.now).now.schema ≡ layout_1
-        → OnOk result (Gains stock (component_cells row.now) (state S.Store tx.old.conn.now).now (state S.Store tx.new.conn.now).now) }
-    ensures fits { FitsComponent row.now }
-    ensures cause { IfErr result (λ e. (e ≡ TableFault.Memory) ⊎ (e ≡ TableFault.Store)) }
-    ensures within { IsWithin (state S.Store tx.old.conn.now) (state S.Store tx.new.conn.now) }
+    ensures inserts { InsertsRow kept_component row.now
+        (state S.Store tx.old.conn.now) (state S.Store tx.new.conn.now) result }
+    ensures fits { kept_component.Fits row.now }
 {
-    let ComponentRow {
-        seq,
-        serial,
-        part,
-        birth,
-        minutes,
-        cycles,
-        as_of,
-    } = *row;
-    insert_row(
-        tx,
-        "INSERT INTO component (seq, serial, part, birth, minutes, cycles, as_of) VALUES (?1, ?2, ?3, ?4, ?5, ?6, ?7)",
-        params![
-            seq,
-            serial.as_str(),
-            part.as_str(),
-            birth.number(),
-            minutes,
-            cycles,
-            as_of.number()
-        ],
-    )
+    row.insert(tx)
 }

@@ -1,0 +1,146 @@
+//! The rows that a command adds beside its entry, register by register, behind the entries of a book.
+ghost use Rattle.std.specs.Prelude.{◌≡◌, [], ◌∷◌, IfOk};
+ghost use Rattle.mx_register.specs.Registers.{aircraft_by, components_by, fittings_by, places_by, removals_by, sectors_by};
+ghost use Rattle.mx_register.specs.Added.{AreAdded, AreAddedRows};
+ghost use Rattle.mx_register.specs.Rows.{FitsAircraft, FitsComponent, FitsFitting, FitsPlace, FitsRemoval, FitsSector};
+
+use crate::names::{seq_of_serial, seq_of_tail};
+use crate::registers::{
+    aircraft_row, component_row, fitting_row, place_row, removal_row, sector_row,
+};
+use crate::rows::{AircraftRow, ComponentRow, FittingRow, PlaceRow, RemovalRow, SectorRow};
+use mx_book::{Book, NoMemory};
+use mx_command::Command;
+use std::alloc::Global;
+
+/// The rows that a command adds beside its entry, to each register.
+#[derive(Drop)]
+pub struct AddedRows {
+    pub aircraft: Vec<AircraftRow>,
+    pub places: Vec<PlaceRow>,
+    pub components: Vec<ComponentRow>,
+    pub sectors: Vec<SectorRow>,
+    pub fittings: Vec<FittingRow>,
+    pub removals: Vec<RemovalRow>,
+}
+
+// A register with one row.
+fn one<R: Drop>(alloc: Global, row: R) -> Result<Vec<R>, NoMemory>
+    ensures { IfOk result (λ rows. rows.items ≡ row ∷ []) }
+{
+    let mut rows = Vec::new(alloc);
+    match rows.push(row) {
+        Ok(()) => Ok(rows),
+        Err(_) => Err(NoMemory),
+    }
+}
+
+// The row of an aircraft, where the command says one.
+fn aircraft_rows(
+    alloc: Global,
+    book: &Book,
+    command: &Command,
+) -> Result<Vec<AircraftRow>, NoMemory>
+    ensures { IfOk result (λ rows.
+        AreAdded FitsAircraft aircraft_by rows.items book.now command.now) }
+{
+    match command.added_aircraft() {
+        None => Ok(Vec::new(alloc)),
+        Some(aircraft) => one(alloc, aircraft_row(book.len() + 1, aircraft)),
+    }
+}
+
+// The rows of the positions of an aircraft, where the command adds one.
+fn place_rows(alloc: Global, book: &Book, command: &Command) -> Result<Vec<PlaceRow>, NoMemory>
+    ensures { IfOk result (λ rows. AreAdded FitsPlace places_by rows.items book.now command.now) }
+{
+    // A command of its shape has few positions.
+    let _ = command.doc();
+    let seq = book.len() + 1;
+    let mut rows = Vec::new(alloc);
+    let mut line = 1u32;
+    let mut rest = command.positions();
+    while let Some((place, later)) = rest.split_first() {
+        match rows.push(place_row(seq, line, place)) {
+            Ok(()) => {}
+            Err(_) => return Err(NoMemory),
+        }
+        line += 1;
+        rest = later;
+    }
+    Ok(rows)
+}
+
+// The row of a component, where the command says one.
+fn component_rows(
+    alloc: Global,
+    book: &Book,
+    command: &Command,
+) -> Result<Vec<ComponentRow>, NoMemory>
+    ensures { IfOk result (λ rows.
+        AreAdded FitsComponent components_by rows.items book.now command.now) }
+{
+    match command.added_component() {
+        None => Ok(Vec::new(alloc)),
+        Some(component) => one(alloc, component_row(book.len() + 1, component)),
+    }
+}
+
+// The row of a sector, where the command says one.
+fn sector_rows(alloc: Global, book: &Book, command: &Command) -> Result<Vec<SectorRow>, NoMemory>
+    ensures { IfOk result (λ rows. AreAdded FitsSector sectors_by rows.items book.now command.now) }
+{
+    match command.flown_sector() {
+        None => Ok(Vec::new(alloc)),
+        Some(sector) => {
+            let aircraft = seq_of_tail(book, &sector.tail).unwrap_or(0);
+            one(alloc, sector_row(book.len() + 1, aircraft, sector))
+        }
+    }
+}
+
+// The row of a fitting, where the command says one.
+fn fitting_rows(alloc: Global, book: &Book, command: &Command) -> Result<Vec<FittingRow>, NoMemory>
+    ensures { IfOk result (λ rows.
+        AreAdded FitsFitting fittings_by rows.items book.now command.now) }
+{
+    match command.fitting() {
+        None => Ok(Vec::new(alloc)),
+        Some(fitting) => {
+            let component = seq_of_serial(book, &fitting.serial).unwrap_or(0);
+            let aircraft = seq_of_tail(book, &fitting.tail).unwrap_or(0);
+            one(
+                alloc,
+                fitting_row(book.len() + 1, component, aircraft, fitting),
+            )
+        }
+    }
+}
+
+// The row of a removal, where the command says one.
+fn removal_rows(alloc: Global, book: &Book, command: &Command) -> Result<Vec<RemovalRow>, NoMemory>
+    ensures { IfOk result (λ rows.
+        AreAdded FitsRemoval removals_by rows.items book.now command.now) }
+{
+    match command.removal() {
+        None => Ok(Vec::new(alloc)),
+        Some(removal) => {
+            let component = seq_of_serial(book, &removal.serial).unwrap_or(0);
+            one(alloc, removal_row(book.len() + 1, component, removal))
+        }
+    }
+}
+
+/// The rows that a command adds beside its entry, behind the entries of a book.
+pub fn added_rows(alloc: Global, book: &Book, command: &Command) -> Result<AddedRows, NoMemory>
+    ensures { IfOk result (AreAddedRows book.now command.now) }
+{
+    Ok(AddedRows {
+        aircraft: aircraft_rows(alloc, book, command)?,
+        places: place_rows(alloc, book, command)?,
+        components: component_rows(alloc, book, command)?,
+        sectors: sector_rows(alloc, book, command)?,
+        fittings: fitting_rows(alloc, book, command)?,
+        removals: removal_rows(alloc, book, command)?,
+    })
+}
