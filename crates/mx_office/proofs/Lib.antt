@@ -1,8 +1,7 @@
-pub mod NamedLemmas
+pub mod FamilyLemmas
 pub mod LoadLemmas
-pub mod OfficeLemmas
-pub mod ReopenLemmas
-pub mod RunLemmas
 pub mod StandsLemmas
+pub mod OfficeLemmas
+pub mod RunLemmas
 pub mod AnswerLemmas
 pub mod Worked

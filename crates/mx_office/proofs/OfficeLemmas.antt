@@ -1,16 +1,21 @@
 -- The exits of a call of the office, over states.
-use Rattle.std.proofs.Common.{◌≡◌, inl, inr, ◌+◌, ◌≤◌, false, cond, List, [], ◌∷◌, ◌++◌, length, sym, ap, subst, ◌∙◌, arith}
+use Rattle.std.proofs.Common.{◌≡◌, ◌≢◌, inl, inr, ℕ, Result, Ok, Err, ◌+◌, ◌≤◌, false, cond, List, [], ◌∷◌, ◌++◌, length, sym, ap, subst, ◌∙◌, arith}
+use Rattle.std.specs.Prelude.{IfErr}
 use Rattle.sqlite.specs.State.{State, HasCleanDisk}
 use Rattle.sqlite_trees.specs.View.{doubt}
 use Rattle.mx_command.specs.Act.{Entry}
+use Rattle.mx_book.specs.declared.verdict.Reply.{Reply}
+use Rattle.mx_book.specs.declared.verdict.Reply.TheVariants.{Accepted}
 use Rattle.mx_book.specs.declared.verdict.Verdict.{Verdict}
 use Rattle.mx_book.specs.declared.verdict.Verdict.TheVariants.{New}
 use Rattle.mx_book.specs.Judge.{judge}
 use Rattle.mx_book.specs.Book.{is_new}
 use Rattle.mx_book.specs.Run.{book_after, reply, reply_to}
 use Rattle.mx_layout.specs.Tables.{layout_1}
-use Rattle.mx_layout.specs.Crash.{Leaves}
-use Rattle.mx_layout.proofs.CrashLemmas.{rests_same, leaves_same}
+use Rattle.mx_layout.specs.Crash.{Leaves, ChangesNothing}
+use Rattle.mx_layout.proofs.CrashLemmas.{rests_kept, rests_same, leaves_same}
+use Rattle.mx_office.specs.declared.fault.Fault.{Fault}
+use Rattle.mx_office.specs.declared.fault.Fault.TheVariants.{Store}
 use Rattle.mx_office.specs.Stands.{Stands, Rests, IsEither}
 
 pub rests_as : (s : State) (one other : List Entry) → (HasCleanDisk s → one ≡ other) → Rests s one → Rests s other
@@ -53,3 +58,8 @@ module _ (mid : State) (book loaded : List Entry) (c : Entry) (exact : HasCleanD
     new_crash h = leaves_same end (IsEither loaded (loaded ++ c ∷ [])) (IsEither book (book_after book c)) (λ clean db is.
         let early : HasCleanDisk mid = omega arith in
         elim is [ inl one ↦ inl (subst (Stands db) (exact early) one) | inr other ↦ inr (subst (Stands db) (after clean) other) ]) h
+
+-- a call that stopped, but not for the store, left the book as it was
+pub same_stopped : (result : Result Reply Fault) (old new : State) (book : List Entry) → Rests old book → (((seq : ℕ) → result ≢ Ok (Accepted seq)) → result ≢ Err Store → ChangesNothing old new) → IfErr result (λ fault. fault ≢ Store → Rests new book)
+same_stopped (Ok r) old new book rests untouched = tt
+same_stopped (Err fault) old new book rests untouched = λ other. rests_kept layout_1 (λ trees. Stands trees book) old new (untouched (λ seq is. cc) (λ is. other (cc))) rests

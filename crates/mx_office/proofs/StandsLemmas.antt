@@ -1,83 +1,146 @@
 -- The tables after one command more.
-use Rattle.std.proofs.Common.{◌≡◌, true, List, [], ◌∷◌, ◌++◌, map, refl, sym, ap, subst, ◌∙◌, append-nil}
+use Rattle.std.proofs.Common.{◌≡◌, List, [], ◌∷◌, ◌++◌, map, All, true, refl, sym, ap, subst, ◌∙◌, append_assoc, append-nil}
+use Rattle.std.specs.Prelude.{⊤, Contains}
+use Rattle.std.specs.List.{AllByRecursion}
 use Rattle.std.specs.List.Sorted.{IsPermutation}
-use Rattle.std.proofs.lemmas.List.{map-append}
 use Rattle.std.proofs.lemmas.List.Sorted.{IsPermutation-trans, IsPermutation-append_comm, IsPermutation-append_right}
 use Rattle.sqlite.specs.Order.{Row}
 use Rattle.sqlite.specs.Schema.{Schema}
+use Rattle.sqlite.specs.Tree.{Trees}
 use Rattle.sqlite.specs.Effect.{Database}
 use Rattle.sqlite_catalog.specs.Listing.{IsSound}
-use Rattle.mx_command.specs.Act.{Act, Entry as Command}
+use Rattle.mx_command.specs.Act.{Entry}
 use Rattle.mx_command.specs.Shape.{has_shape}
 use Rattle.mx_book.specs.declared.verdict.Verdict.TheVariants.{New}
 use Rattle.mx_book.specs.Judge.{judge}
 use Rattle.mx_book.proofs.JudgeLemmas.{IsBook-entered}
-use Rattle.mx_register.specs.Registers.{gives_by, entry_rows, entry_added, aircraft_by, places_by, components_by, sectors_by, fittings_by, removals_by, FitsNext}
-use Rattle.mx_register.proofs.RegisterLemmas.{entry_rows-more, gives_by-more, FitBook-more}
-use Rattle.mx_layout.specs.declared.fault.Table.{Table as Name}
-use Rattle.mx_layout.specs.declared.fault.Table.TheVariants.{Office, Entry, Aircraft, Place, Component, Programme, Task, Opening, Crs, CrsLine, Extension, Defect, Sector1, Fit1, Removal1}
+use Rattle.mx_register.specs.declared.rows.EntryRow.{EntryRow}
+use Rattle.mx_register.specs.declared.rows.AircraftRow.{AircraftRow}
+use Rattle.mx_register.specs.declared.rows.PlaceRow.{PlaceRow}
+use Rattle.mx_register.specs.declared.rows.ComponentRow.{ComponentRow}
+use Rattle.mx_register.specs.declared.rows.SectorRow.{SectorRow}
+use Rattle.mx_register.specs.declared.rows.FittingRow.{FittingRow}
+use Rattle.mx_register.specs.declared.rows.RemovalRow.{RemovalRow}
+use Rattle.mx_register.specs.Registers.{gives, entry_added, aircraft_by, places_by, components_by, sectors_by, fittings_by, removals_by}
+use Rattle.mx_register.specs.Rows.{FitsEntry, FitsAircraft, FitsPlace, FitsComponent, FitsSector, FitsFitting, FitsRemoval}
+use Rattle.mx_register.proofs.RegisterLemmas.{gives-more}
+use Rattle.mx_layout.specs.TableName.{TableName}
+use Rattle.mx_layout.specs.declared.fault.Table.TheVariants as table
+use Rattle.mx_layout.specs.declared.points.Point.{Point}
 use Rattle.mx_layout.specs.Contents.{rows_in}
+use Rattle.mx_layout.specs.Making.{first_point}
 use Rattle.mx_layout.specs.Names.{table_named}
 use Rattle.mx_layout.specs.Tables.{layout_1}
-use Rattle.mx_tables.specs.Cells.{entry_cells, aircraft_cells, place_cells, component_cells, sector_cells, fitting_cells, removal_cells}
-use Rattle.mx_office.specs.Stands.{Stands, rows_given, rows_added, among, written, GainsAmong}
+use Rattle.mx_kept.specs.Family.{on_top}
+use Rattle.mx_kept.specs.Schemas.{HasOwn1, HasPermanent}
+use Rattle.mx_kept.proofs.OntoLemmas.{on_top_keeps}
+use Rattle.mx_kept.specs.Cells.{kept_entry, kept_aircraft, kept_place, kept_component, kept_sector1, kept_fit1, kept_removal1}
+use Rattle.mx_tables.specs.Sets.{GainsRows}
+use Rattle.mx_office.specs.Family.{Register, of, none, register_of, registers_1, added, rows_by, AreGiven, FitsAt}
+use Rattle.mx_office.specs.Stands.{Stands, StandsIn, HoldsBook, Enters, rows_given, first_rows, with_command, FitsNext, EachHas}
+use Rattle.mx_office.proofs.FamilyLemmas.{Facts, facts, each_weaker, each_with, in_schema}
+use Rattle.mx_office.proofs.LoadLemmas.{all_in}
 
-more_by : {X : Type 0} (as_cells : X → Row) (by : List Command → Act → List X) (book : List Command) (command : Command)
-    → map as_cells (gives_by by [] (book ++ command ∷ [])) ≡ map as_cells (gives_by by [] book) ++ map as_cells (by book command.act)
-more_by as_cells by book command = ap (map as_cells) (gives_by-more by book command) ∙ map-append as_cells (gives_by by [] book) (by book command.act)
+-- ── one line for each table ──
 
--- a book with one command more gives each table the rows of the book, and then those of the command
-rows_given-more : (book : List Command) (command : Command) (name : Name) → rows_given (book ++ command ∷ []) name ≡ rows_given book name ++ rows_added book command name
-rows_given-more book command Office = refl
-rows_given-more book command Entry = ap (map entry_cells) (entry_rows-more book command) ∙ map-append entry_cells (entry_rows book) (entry_added book command)
-rows_given-more book command Aircraft = more_by aircraft_cells aircraft_by book command
-rows_given-more book command Place = more_by place_cells places_by book command
-rows_given-more book command Component = more_by component_cells components_by book command
-rows_given-more book command Sector1 = more_by sector_cells sectors_by book command
-rows_given-more book command Fit1 = more_by fitting_cells fittings_by book command
-rows_given-more book command Removal1 = more_by removal_cells removals_by book command
-rows_given-more book command Programme = refl
-rows_given-more book command Task = refl
-rows_given-more book command Opening = refl
-rows_given-more book command Crs = refl
-rows_given-more book command CrsLine = refl
-rows_given-more book command Extension = refl
-rows_given-more book command Defect = refl
+-- the rows of a command beside its entry, table on table
+abbrev pub onto_rest : List AircraftRow → List PlaceRow → List ComponentRow → List SectorRow → List FittingRow → List RemovalRow → TableName → List Row → List Row
+onto_rest a p c s f r name rows =
+    on_top kept_removal1 r name (on_top kept_fit1 f name (on_top kept_sector1 s name (on_top kept_component c name (on_top kept_place p name (on_top kept_aircraft a name rows)))))
 
--- among them are all the rows that a command adds
-among_all : (book : List Command) (command : Command) (name : Name) → among written (rows_added book command) name ≡ rows_added book command name
-among_all book command Entry = append-nil (rows_added book command Entry)
-among_all book command Aircraft = append-nil (rows_added book command Aircraft)
-among_all book command Place = append-nil (rows_added book command Place)
-among_all book command Component = append-nil (rows_added book command Component)
-among_all book command Sector1 = append-nil (rows_added book command Sector1)
-among_all book command Fit1 = append-nil (rows_added book command Fit1)
-among_all book command Removal1 = append-nil (rows_added book command Removal1)
-among_all book command Office = refl
-among_all book command Programme = refl
-among_all book command Task = refl
-among_all book command Opening = refl
-among_all book command Crs = refl
-among_all book command CrsLine = refl
-among_all book command Extension = refl
-among_all book command Defect = refl
+pub keeps_rest : (a : List AircraftRow) (p : List PlaceRow) (c : List ComponentRow) (s : List SectorRow) (f : List FittingRow) (r : List RemovalRow) (name : TableName) (xs ys : List Row) → IsPermutation xs ys → IsPermutation (onto_rest a p c s f r name xs) (onto_rest a p c s f r name ys)
+keeps_rest a p c s f r name xs ys same =
+    on_top_keeps kept_removal1 r name _ _ (on_top_keeps kept_fit1 f name _ _ (on_top_keeps kept_sector1 s name _ _ (on_top_keeps kept_component c name _ _ (on_top_keeps kept_place p name _ _ (on_top_keeps kept_aircraft a name xs ys same)))))
 
--- the tables of a book that gained the rows of a command that is new stand for the book with it
-pub stands_entered : (old new : Database) (book : List Command) (command : Command) → old.schema ≡ layout_1 → Stands old.trees book → has_shape command ≡ true → judge book command ≡ New → FitsNext book command
-    → GainsAmong written (rows_added book command) old new → (new.schema ≡ layout_1) × Stands new.trees (book ++ command ∷ [])
-stands_entered old new book command has stands shape is_new fits gains =
+-- the rows of a command, table on table
+abbrev pub onto_all : List EntryRow → List AircraftRow → List PlaceRow → List ComponentRow → List SectorRow → List FittingRow → List RemovalRow → TableName → List Row → List Row
+onto_all e a p c s f r name rows = onto_rest a p c s f r name (on_top kept_entry e name rows)
+
+pub rest_in : (schema : Schema) → HasOwn1 schema → HasPermanent schema × (HasPermanent schema × (HasPermanent schema × (HasOwn1 schema × (HasOwn1 schema × HasOwn1 schema))))
+rest_in schema has = (all_in schema has).1
+
+onto_is : (before : List Entry) (c : Entry) (name : TableName) (rows : List Row)
+    → onto_all (entry_added before c) (aircraft_by before c.act) (places_by before c.act) (components_by before c.act) (sectors_by before c.act) (fittings_by before c.act) (removals_by before c.act) name rows ≡ with_command before c name rows
+onto_is before c table.Office rows = refl
+onto_is before c _ rows = refl
+
+-- tables that gained those rows gained the rows of the command
+pub gains_command : (before : List Entry) (command : Entry) (old new : Database) (e : List EntryRow) (a : List AircraftRow) (p : List PlaceRow) (c : List ComponentRow) (s : List SectorRow) (f : List FittingRow) (r : List RemovalRow)
+    → e ≡ entry_added before command → a ≡ aircraft_by before command.act → p ≡ places_by before command.act → c ≡ components_by before command.act → s ≡ sectors_by before command.act → f ≡ fittings_by before command.act → r ≡ removals_by before command.act
+    → GainsRows (onto_all e a p c s f r) old new → GainsRows (with_command before command) old new
+gains_command before command old new e a p c s f r e_is a_is p_is c_is s_is f_is r_is gains = record {
+  schema = gains.schema;
+  sound = gains.sound;
+  tables = λ name at. subst (λ rows. IsPermutation rows (rows_in (table_named name) new.trees))
+      (same name (rows_in (table_named name) old.trees) ∙ onto_is before command name (rows_in (table_named name) old.trees)) (gains.tables name at);
+}
+  where
+    same : (name : TableName) (rows : List Row) → onto_all e a p c s f r name rows ≡ onto_all (entry_added before command) (aircraft_by before command.act) (places_by before command.act) (components_by before command.act) (sectors_by before command.act) (fittings_by before command.act) (removals_by before command.act) name rows
+    same name rows i = onto_all (e_is i) (a_is i) (p_is i) (c_is i) (s_is i) (f_is i) (r_is i) name rows
+
+-- the rows of a command fit
+pub fits_next : (before : List Entry) (c : Entry) → All FitsEntry (entry_added before c) → All FitsAircraft (aircraft_by before c.act) → All FitsPlace (places_by before c.act) → All FitsComponent (components_by before c.act)
+    → All FitsSector (sectors_by before c.act) → All FitsFitting (fittings_by before c.act) → All FitsRemoval (removals_by before c.act) → FitsNext before c
+fits_next before command e a p c s f r table.Entry = e
+fits_next before command e a p c s f r table.Aircraft = a
+fits_next before command e a p c s f r table.Place = p
+fits_next before command e a p c s f r table.Component = c
+fits_next before command e a p c s f r table.Sector1 = s
+fits_next before command e a p c s f r table.Fit1 = f
+fits_next before command e a p c s f r table.Removal1 = r
+fits_next before command e a p c s f r _ = tt
+
+-- ── for all tables alike ──
+
+each_more : (P : List Entry → Entry → Type 0) (before book : List Entry) (c : Entry) → EachHas P before book → P (before ++ book) c → EachHas P before (book ++ c ∷ [])
+each_more P before [] c each last = (subst (λ b. P b c) (append-nil before) last, tt)
+each_more P before (d ∷ book) c each last = (each.0, each_more P (before ++ d ∷ []) book c each.1 (subst (λ b. P b c) (sym (append_assoc before (d ∷ []) book)) last))
+
+-- rows that were those of the book before, and have those of the command on top, are those of the book with it
+more_rows : (given more stored new : List Row) → IsPermutation given stored → IsPermutation (more ++ stored) new → IsPermutation (given ++ more) new
+more_rows given more stored new is gained =
+    IsPermutation-trans (given ++ more) (more ++ given) _ (IsPermutation-append_comm given more) (IsPermutation-trans (more ++ given) (more ++ stored) _ (IsPermutation-append_right more given stored is) gained)
+
+-- the tables of a schema that stood for a book and gained the rows of a command that is new stand for the book with it
+stands_on : (schema : Schema) (at : Point) (old new : Database) (book : List Entry) (command : Entry) → old.schema ≡ schema → StandsIn schema at old.trees book → has_shape command ≡ true → judge book command ≡ New → FitsNext book command
+    → GainsRows (with_command book command) old new → (new.schema ≡ schema) × StandsIn schema at new.trees (book ++ command ∷ [])
+stands_on schema at old new book command has stands shape is_new fits gains =
     let new_has = gains.schema ∙ has in (
       new_has,
       record {
         sound = subst (λ (s : Schema). IsSound s new.trees) new_has (gains.sound (subst (λ (s : Schema). IsSound s old.trees) (sym has) stands.sound));
         is_book = IsBook-entered book command stands.is_book shape is_new;
-        fit = FitBook-more book command stands.fit fits;
-        tables = λ name.
-            let before = rows_given book name in
-            let added = rows_added book command name in
-            let stored = rows_in (table_named name) old.trees in
-            let gained = subst (λ rows. IsPermutation (rows ++ stored) (rows_in (table_named name) new.trees)) (among_all book command name) (gains.tables name) in
-            subst (λ rows. IsPermutation rows (rows_in (table_named name) new.trees)) (sym (rows_given-more book command name))
-            (IsPermutation-trans (before ++ added) (added ++ before) _ (IsPermutation-append_comm before added) (IsPermutation-trans (added ++ before) (added ++ stored) _ (IsPermutation-append_right added before stored (stands.tables name)) gained));
+        fit = λ name. each_more (FitsAt name) [] book command (stands.fit name) (fits name);
+        tables = λ name there.
+            let is : rows_given at (book ++ command ∷ []) name ≡ rows_given at book name ++ added name book command = ap (λ rows. first_rows at name ++ rows) (gives-more (added name) [] book command) ∙ sym (append_assoc (first_rows at name) (gives (added name) [] book) (added name book command)) in
+            subst (λ rows. IsPermutation rows (rows_in (table_named name) new.trees)) (sym is)
+            (more_rows (rows_given at book name) (added name book command) (rows_in (table_named name) old.trees) (rows_in (table_named name) new.trees) (stands.tables name there) (gains.tables name (subst (λ (s : Schema). Contains s.tables (table_named name)) (sym has) there)));
       },
     )
+
+pub stands_entered : (old new : Database) (book : List Entry) (command : Entry) → old.schema ≡ layout_1 → Stands old.trees book → has_shape command ≡ true → judge book command ≡ New → FitsNext book command
+    → GainsRows (with_command book command) old new → (new.schema ≡ layout_1) × Stands new.trees (book ++ command ∷ [])
+stands_entered old new book command has stands shape is_new fits gains =
+    let on = stands_on layout_1 first_point old new book command has stands.is shape is_new fits gains in (on.0, record { is = on.1 })
+
+-- a register that gained the rows of the command
+more_at : (name : TableName) (f : Register) → Facts name f → (old new : Trees) (book : List Entry) (command : Entry) → AreGiven f old book → IsPermutation (rows_by f book command ++ rows_in (table_named name) old) (rows_in (table_named name) new)
+    → AreGiven f new (book ++ command ∷ [])
+more_at name (of k by read) facts old new book command is gained =
+    let cells = λ (b : List Entry) (c : Entry). map k.as_cells (by b c) in
+    let gained_here = subst (λ n. IsPermutation (cells book command ++ rows_in (table_named n) old) (rows_in (table_named n) new)) (sym facts.is_named) gained in
+    subst (λ rows. IsPermutation rows (rows_in (table_named k.name) new)) (sym (gives-more cells [] book command)) (more_rows (gives cells [] book) (cells book command) (rows_in (table_named k.name) old) (rows_in (table_named k.name) new) is gained_here)
+more_at name none facts old new book command is gained = tt
+
+-- the tables that held a book and gained the rows of a command that is new hold the book with it
+pub enters : (old new : Database) (book : List Entry) (command : Entry) → HasOwn1 old.schema → HoldsBook old.trees book → has_shape command ≡ true → judge book command ≡ New → FitsNext book command
+    → GainsRows (with_command book command) old new → Enters book command old new
+enters old new book command has holds shape is_new fits gains = record {
+  gains = gains;
+  holds = record {
+    is_book = IsBook-entered book command holds.is_book shape is_new;
+    fit = each_weaker (λ name. EachHas (FitsAt name) [] book) (λ name. EachHas (FitsAt name) [] (book ++ command ∷ [])) (λ name fit. each_more (FitsAt name) [] book command fit (fits name)) registers_1 holds.fit;
+    tables = each_with (λ name. Contains old.schema.tables (table_named name)) (λ name. AreGiven (register_of name) old.trees book) (λ name. AreGiven (register_of name) new.trees (book ++ command ∷ []))
+        (λ name there given. more_at name (register_of name) (facts name) old.trees new.trees book command given (gains.tables name there)) registers_1 (in_schema old.schema has) holds.tables;
+  };
+}

@@ -1,2 +1,4 @@
 pub mod Faults
+pub mod Family
+pub mod Office
 pub mod Stands

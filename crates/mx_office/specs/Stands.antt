@@ -1,128 +1,143 @@
--- The tables of layout 1 that stand for a book.
-use Rattle.std.specs.Prelude.{◌≡◌, ◌⊎◌, List, [], ◌∷◌, ◌++◌, map, All, IsPermutation, IsTrue, nat_eq, if◌then◌else◌}
+-- The tables that stand for a book. No definition here names a table but that of the point.
+use Rattle.std.specs.Prelude.{⊤, ◌≡◌, ◌⊎◌, ℕ, IsTrue, List, [], ◌∷◌, ◌++◌, All, Contains, IsPermutation}
+use Rattle.std.specs.List.{AllByRecursion}
 use Rattle.sqlite.specs.Order.{Row}
+use Rattle.sqlite.specs.Schema.{Schema}
 use Rattle.sqlite.specs.Tree.{Trees}
-use Rattle.sqlite.specs.Effect.{Database, IsDatabase}
+use Rattle.sqlite.specs.Effect.{Database}
 use Rattle.sqlite.specs.State.{State}
 use Rattle.sqlite_catalog.specs.Listing.{IsSound}
-use Rattle.mx_command.specs.Act.{Entry as Command}
+use Rattle.mx_command.specs.Act.{Entry}
 use Rattle.mx_book.specs.Book.{IsBook}
+use Rattle.mx_book.specs.Judge.{judge}
+use Rattle.mx_book.specs.Run.{book_run, reply, replies}
+use Rattle.mx_book.specs.declared.verdict.Reply.{Reply}
+use Rattle.mx_book.specs.declared.verdict.Reply.TheVariants.{Accepted}
+use Rattle.mx_book.specs.declared.verdict.Verdict.TheVariants.{New}
 use Rattle.mx_register.specs.declared.merge.Registers.{Registers}
-use Rattle.mx_register.specs.Registers.{entry_rows, aircraft_rows, place_rows, component_rows, sector_rows, fitting_rows, removal_rows, entry_added, aircraft_by, places_by, components_by, sectors_by, fittings_by, removals_by, FitBook, AreRegistersOf}
-use Rattle.mx_layout.specs.declared.fault.Table.{Table as Name}
-use Rattle.mx_layout.specs.declared.fault.Table.TheVariants.{Office, Entry, Aircraft, Place, Component, Sector1, Fit1, Removal1}
-use Rattle.mx_register.specs.Rows.{FitsEntry, FitsAircraft, FitsPlace, FitsComponent, FitsSector, FitsFitting, FitsRemoval}
+use Rattle.mx_register.specs.Registers.{gives}
+use Rattle.mx_layout.specs.TableName.{TableName}
+use Rattle.mx_layout.specs.declared.fault.Table.TheVariants as table
+use Rattle.mx_layout.specs.declared.points.Point.{Point}
 use Rattle.mx_layout.specs.Contents.{rows_in}
-use Rattle.mx_layout.specs.Reading.{HasOther, IsRowOf}
 use Rattle.mx_layout.specs.Crash.{RestsAs}
 use Rattle.mx_layout.specs.Making.{first_point}
 use Rattle.mx_layout.specs.Names.{table_named}
 use Rattle.mx_layout.specs.Point.{point_cells}
 use Rattle.mx_layout.specs.Tables.{layout_1}
-use Rattle.mx_tables.specs.Cells.{entry_cells, aircraft_cells, place_cells, component_cells, sector_cells, fitting_cells, removal_cells}
+use Rattle.mx_kept.specs.Family.{IsReadable}
+use Rattle.mx_kept.specs.Schemas.{HasOwn1}
+use Rattle.mx_tables.specs.Sets.{GainsRows, IsDamaged}
+use Rattle.mx_office.specs.Family.{added, register_of, registers_1, AreGiven, AreRead, FitsAt}
 
--- the rows that a book gives to each table: its registers, the settled point of layout 1, and to the tables of commands to come none
-abbrev pub rows_given : List Command → Name → List Row
-rows_given book Office = point_cells first_point ∷ []
-rows_given book Entry = map entry_cells (entry_rows book)
-rows_given book Aircraft = map aircraft_cells (aircraft_rows book)
-rows_given book Place = map place_cells (place_rows book)
-rows_given book Component = map component_cells (component_rows book)
-rows_given book Sector1 = map sector_cells (sector_rows book)
-rows_given book Fit1 = map fitting_cells (fitting_rows book)
-rows_given book Removal1 = map removal_cells (removal_rows book)
-rows_given book _ = []
+-- ── the rows of a book ──
 
--- the trees are the tables of layout 1 and no others, each table has exactly the rows that this book gives it, and each row can be kept in its columns
-pub record Stands (trees : Trees) (book : List Command) : Type 0 where
-  pub sound : IsSound layout_1 trees
+-- the rows of each table before any command, where the file is at this point
+abbrev pub first_rows : Point → TableName → List Row
+first_rows at table.Office = point_cells at ∷ []
+first_rows at _ = []
+
+-- the rows that a book gives to each table of a file that is at this point
+abbrev pub rows_given : Point → List Entry → TableName → List Row
+rows_given at book name = first_rows at name ++ gives (added name) [] book
+
+-- each entry has P, behind the entries before it
+abbrev pub EachHas : (List Entry → Entry → Type 0) → List Entry → List Entry → Type 0
+EachHas P before [] = ⊤
+EachHas P before (entry ∷ later) = P before entry × EachHas P (before ++ entry ∷ []) later
+
+-- the rows of a command, behind the entries before it, can be kept in their columns
+abbrev pub FitsNext : List Entry → Entry → Type 0
+FitsNext before command = (name : TableName) → FitsAt name before command
+
+-- the rows of the book can be kept in their columns
+abbrev pub FitBook : List Entry → Type 0
+FitBook book = (name : TableName) → EachHas (FitsAt name) [] book
+
+-- ── the tables of a book ──
+
+-- the trees are the tables of this schema and no others, each table has exactly the rows that this book gives it at this point, and each row can be kept in its columns
+pub record StandsIn (schema : Schema) (at : Point) (trees : Trees) (book : List Entry) : Type 0 where
+  pub sound : IsSound schema trees
   pub is_book : IsBook book
   pub fit : FitBook book
-  pub tables : (name : Name) → IsPermutation (rows_given book name) (rows_in (table_named name) trees)
+  pub tables : (name : TableName) → Contains schema.tables (table_named name) → IsPermutation (rows_given at book name) (rows_in (table_named name) trees)
 
--- the registers have exactly the rows of their tables, each a row of its type
-pub record HaveRowsOf (trees : Trees) (r : Registers) : Type 0 where
-  pub entries : IsPermutation (map entry_cells r.entries.items) (rows_in (table_named Entry) trees)
-  pub aircraft : IsPermutation (map aircraft_cells r.aircraft.items) (rows_in (table_named Aircraft) trees)
-  pub places : IsPermutation (map place_cells r.places.items) (rows_in (table_named Place) trees)
-  pub components : IsPermutation (map component_cells r.components.items) (rows_in (table_named Component) trees)
-  pub sectors : IsPermutation (map sector_cells r.sectors.items) (rows_in (table_named Sector1) trees)
-  pub fittings : IsPermutation (map fitting_cells r.fittings.items) (rows_in (table_named Fit1) trees)
-  pub removals : IsPermutation (map removal_cells r.removals.items) (rows_in (table_named Removal1) trees)
-  pub entries_fit : All FitsEntry r.entries.items
-  pub aircraft_fit : All FitsAircraft r.aircraft.items
-  pub places_fit : All FitsPlace r.places.items
-  pub components_fit : All FitsComponent r.components.items
-  pub sectors_fit : All FitsSector r.sectors.items
-  pub fittings_fit : All FitsFitting r.fittings.items
-  pub removals_fit : All FitsRemoval r.removals.items
+-- the trees are the tables of layout 1, settled there, and stand for this book
+pub record Stands (trees : Trees) (book : List Entry) : Type 0 where
+  pub is : StandsIn layout_1 first_point trees book
 
--- the tables that a command may write have exactly the rows that this book gives them, whatever the other tables have
-pub record HoldsBook (trees : Trees) (book : List Command) : Type 0 where
+-- each of these tables has exactly the rows that this book gives it, whatever the other tables have, and each row can be kept in its columns
+pub record HoldsIn (registers : List TableName) (trees : Trees) (book : List Entry) : Type 0 where
   pub is_book : IsBook book
-  pub entries : IsPermutation (rows_given book Entry) (rows_in (table_named Entry) trees)
-  pub aircraft : IsPermutation (rows_given book Aircraft) (rows_in (table_named Aircraft) trees)
-  pub places : IsPermutation (rows_given book Place) (rows_in (table_named Place) trees)
-  pub components : IsPermutation (rows_given book Component) (rows_in (table_named Component) trees)
-  pub sectors : IsPermutation (rows_given book Sector1) (rows_in (table_named Sector1) trees)
-  pub fittings : IsPermutation (rows_given book Fit1) (rows_in (table_named Fit1) trees)
-  pub removals : IsPermutation (rows_given book Removal1) (rows_in (table_named Removal1) trees)
+  pub fit : AllByRecursion (λ name. EachHas (FitsAt name) [] book) registers
+  pub tables : AllByRecursion (λ name. AreGiven (register_of name) trees book) registers
 
--- some row of the table is none of its type
-abbrev pub IsDamaged : Trees → Name → Type 0
-IsDamaged trees Entry = HasOther (IsRowOf entry_cells FitsEntry) (rows_in (table_named Entry) trees)
-IsDamaged trees Aircraft = HasOther (IsRowOf aircraft_cells FitsAircraft) (rows_in (table_named Aircraft) trees)
-IsDamaged trees Place = HasOther (IsRowOf place_cells FitsPlace) (rows_in (table_named Place) trees)
-IsDamaged trees Component = HasOther (IsRowOf component_cells FitsComponent) (rows_in (table_named Component) trees)
-IsDamaged trees Sector1 = HasOther (IsRowOf sector_cells FitsSector) (rows_in (table_named Sector1) trees)
-IsDamaged trees Fit1 = HasOther (IsRowOf fitting_cells FitsFitting) (rows_in (table_named Fit1) trees)
-IsDamaged trees Removal1 = HasOther (IsRowOf removal_cells FitsRemoval) (rows_in (table_named Removal1) trees)
-IsDamaged trees _ = ⊥
+-- the tables of layout 1 that commands write hold the rows of this book, whatever the other tables have
+abbrev pub HoldsBook : Trees → List Entry → Type 0
+HoldsBook = HoldsIn registers_1
 
--- all rows of the registers can be read, and they are those of no book
-abbrev pub IsOfNoBook : Trees → Type 0
-IsOfNoBook trees = (r : Registers) × HaveRowsOf trees r × ((book : List Command) → IsBook book → AreRegistersOf r book → ⊥)
+-- ── what was read ──
+
+-- the registers that were read have exactly the rows of their tables, in their order
+abbrev pub HaveRowsOf : Trees → Registers → Type 0
+HaveRowsOf trees r = AllByRecursion (λ name. AreRead (register_of name) trees r) registers_1
+
+-- each row of the tables that commands write is of its table's type, and no book has these rows
+pub record IsOfNoBook (trees : Trees) : Type 0 where
+  pub readable : AllByRecursion (λ name. All (IsReadable name) (rows_in (table_named name) trees)) registers_1
+  pub no_book : (book : List Entry) → HoldsBook trees book → ⊥
 
 -- why a table is answered damaged: some row of it is none of its type; and the entries, also where the rows are those of no book
-abbrev pub IsReasonFor : Trees → Name → Type 0
-IsReasonFor trees name = IsDamaged trees name ⊎ ((name ≡ Entry) × IsOfNoBook trees)
+abbrev pub IsReasonFor : Trees → TableName → Type 0
+IsReasonFor trees name = IsDamaged trees name ⊎ ((name ≡ table.Entry) × IsOfNoBook trees)
+
+-- ── one command ──
+
+-- the rows of a command, on top of those that a table has
+abbrev pub with_command : List Entry → Entry → TableName → List Row → List Row
+with_command before command name rows = added name before command ++ rows
+
+-- a command was entered behind the entries of a book: each table has the rows of the command on top of those from before, so that a table that it does not write is as it was, and the tables hold the book with the command
+pub record Enters (book : List Entry) (command : Entry) (old new : Database) : Type 0 where
+  pub gains : GainsRows (with_command book command) old new
+  pub holds : HoldsBook new.trees (book ++ command ∷ [])
+
+-- ── between two calls ──
 
 -- no transaction is open, and the tables, and each state of them that a crash may leave, stand for the book
-abbrev pub Rests : State → List Command → Type 0
+abbrev pub Rests : State → List Entry → Type 0
 Rests s book = RestsAs s layout_1 (λ trees. Stands trees book)
 
 -- the tables stand for one of two books
-abbrev pub IsEither : List Command → List Command → Trees → Type 0
+abbrev pub IsEither : List Entry → List Entry → Trees → Type 0
 IsEither one other trees = Stands trees one ⊎ Stands trees other
 
--- ── the rows of one command ──
+-- ── one call, over tables that hold a book and whatever else ──
 
--- the rows that a command adds to each table, behind the entries before it
-abbrev pub rows_added : List Command → Command → Name → List Row
-rows_added before command Entry = map entry_cells (entry_added before command)
-rows_added before command Aircraft = map aircraft_cells (aircraft_by before command.act)
-rows_added before command Place = map place_cells (places_by before command.act)
-rows_added before command Component = map component_cells (components_by before command.act)
-rows_added before command Sector1 = map sector_cells (sectors_by before command.act)
-rows_added before command Fit1 = map fitting_cells (fittings_by before command.act)
-rows_added before command Removal1 = map removal_cells (removals_by before command.act)
-rows_added before command _ = []
+-- a command that is new behind this book was entered in a commit of its own: the connection was open, the tables are those of the last commit, and where they held the book they hold it with the command
+pub record IsEntered (book : List Entry) (command : Entry) (old new : State) : Type 0 where
+  pub was_open : IsTrue old.is_open
+  pub settled : new.now ≡ new.committed
+  pub enters : HasOwn1 old.now.schema → HoldsBook old.now.trees book → judge book command ≡ New → Enters book command old.now new.now
 
--- those rows of a table that are added where the tables with these names are written
-abbrev pub among : List Name → (Name → List Row) → Name → List Row
-among [] rows name = []
-among (one ∷ names) rows name = (if nat_eq (table_named one).tree (table_named name).tree then rows one else []) ++ among names rows name
+-- the tables held a book to which this is the reply, and the command was entered behind its entries, in the last commit
+pub record WasEntered (command : Entry) (said : Reply) (old new : State) : Type 0 where
+  pub book : List Entry
+  pub held : HoldsBook old.now.trees book
+  pub is_reply : said ≡ reply book command
+  pub enters : Enters book command old.now new.now
+  pub settled : new.now ≡ new.committed
 
--- the tables that a command may write
-abbrev pub written : List Name
-written = Entry ∷ Aircraft ∷ Place ∷ Component ∷ Sector1 ∷ Fit1 ∷ Removal1 ∷ []
+-- the tables held a book to which these are the replies, and while the connection is open they hold the book after the commands, in the last commit
+pub record RanOver (commands : List Entry) (said : List Reply) (old new : State) : Type 0 where
+  pub book : List Entry
+  pub held : HoldsBook old.now.trees book
+  pub are_replies : said ≡ replies book commands
+  pub holds : IsTrue new.is_open → HoldsBook new.now.trees (book_run book commands)
+  pub has : IsTrue new.is_open → HasOwn1 new.now.schema
+  pub settled : IsTrue new.is_open → new.now ≡ new.committed
 
--- the tables with these names gained their rows, and each other table is as it was
-pub record GainsAmong (names : List Name) (rows : Name → List Row) (old new : Database) : Type 0 where
-  pub schema : new.schema ≡ old.schema
-  pub sound : IsDatabase old → IsDatabase new
-  pub tables : (name : Name) → IsPermutation (among names rows name ++ rows_in (table_named name) old.trees) (rows_in (table_named name) new.trees)
-
--- a transaction is open, and so is the connection
-abbrev pub IsInside : State → Type 0
-IsInside s = IsTrue s.in_transaction × IsTrue s.is_open
+-- no command was accepted
+abbrev pub NoneAccepted : List Reply → Type 0
+NoneAccepted said = (seq : ℕ) → Contains said (Accepted seq) → ⊥

@@ -4,31 +4,87 @@ ghost use Rattle.sqlite.specs.State.{HasCleanDisk};
 ghost use Rattle.sqlite.specs.Held.{state};
 ghost use Rattle.sqlite_trees.specs.View.{doubt};
 ghost use Rattle.mx_book.specs.Judge.{judge};
+ghost use Rattle.mx_register.specs.Added.{AreAddedRows};
 ghost use Rattle.mx_layout.specs.Crash.{Leaves, StaysInside, IsWithin};
 ghost use Rattle.mx_layout.specs.Tables.{layout_1};
-ghost use Rattle.mx_office.specs.Stands.{Stands, Rests, IsEither};
+ghost use Rattle.mx_kept.specs.Schemas.{HasOwn1};
+ghost use Rattle.mx_tables.specs.Sets.{GainsRows};
+ghost use Rattle.mx_office.specs.Stands.{Enters, FitsNext, HoldsBook, IsEntered, Stands, Rests, IsEither, with_command};
 
-use crate::rows::add_rows;
 use mx_book::{Book, Verdict};
 use mx_command::Command;
 use mx_layout::TableFault;
+use mx_register::{AddedRows, entry_row};
+use mx_tables::{Insert, Tables};
 use sqlite::{Alter, Connection, Transaction};
+
+// Adds the rows of a command, in every table that it has rows in.
+fn add_rows<S: Alter>(
+    tx: &mut Transaction<'_, S>,
+    book: &Book,
+    command: &Command,
+    rows: AddedRows,
+) -> Result<(), TableFault>
+    requires { AreAddedRows book.now command.now rows }
+    ensures same_reference { tx.new.conn.ghost_name ≡ tx.old.conn.ghost_name }
+    ensures inside { let old = state S.Store tx.old.conn.now in
+        let new = state S.Store tx.new.conn.now in
+        HasCleanDisk new → IsTrue old.in_transaction
+        → OnOk result (StaysInside old new) }
+    ensures adds { let old = state S.Store tx.old.conn.now in
+        let new = state S.Store tx.new.conn.now in
+        HasCleanDisk new → IsTrue old.in_transaction
+        → HasOwn1 old.now.schema
+        → OnOk result (GainsRows (with_command book.now command.now) old.now new.now) }
+    ensures fits { FitsNext book.now command.now }
+    ensures within { IsWithin (state S.Store tx.old.conn.now) (state S.Store tx.new.conn.now) }
+{
+    let AddedRows {
+        aircraft,
+        places,
+        components,
+        sectors,
+        fittings,
+        removals,
+    } = rows;
+    let beside = (
+        aircraft,
+        (places, (components, (sectors, (fittings, removals)))),
+    );
+    let entry = entry_row(book.len() + 1, command);
+    entry.insert(tx)?;
+    beside.write(tx)
+}
 
 // Adds the rows of a command that was judged new against the book.
 fn add<S: Alter>(
     tx: &mut Transaction<'_, S>,
     book: &Book,
     command: &Command,
+    rows: AddedRows,
 ) -> Result<(), TableFault>
+    requires { AreAddedRows book.now command.now rows }
     ensures same_reference { tx.new.conn.ghost_name ≡ tx.old.conn.ghost_name }
-    ensures inside { HasCleanDisk (state S.Store tx.new.conn.now) → IsTrue (state S.Store tx.old.conn.now).in_transaction
-        → OnOk result (StaysInside (state S.Store tx.old.conn.now) (state S.Store tx.new.conn.now)) }
-    ensures adds { HasCleanDisk (state S.Store tx.new.conn.now) → IsTrue (state S.Store tx.old.conn.now).in_transaction → (state S.Store tx.old.conn.now).now.schema ≡ layout_1
-        → Stands (state S.Store tx.old.conn.now).now.trees book.now → judge book.now command.now ≡ Verdict.New
-        → OnOk result (((state S.Store tx.new.conn.now).now.schema ≡ layout_1) × Stands (state S.Store tx.new.conn.now).now.trees (book.now ++ command.now ∷ [])) }
+    ensures inside { let old = state S.Store tx.old.conn.now in
+        let new = state S.Store tx.new.conn.now in
+        HasCleanDisk new → IsTrue old.in_transaction
+        → OnOk result (StaysInside old new) }
+    ensures enters { let old = state S.Store tx.old.conn.now in
+        let new = state S.Store tx.new.conn.now in
+        HasCleanDisk new → IsTrue old.in_transaction → HasOwn1 old.now.schema
+        → HoldsBook old.now.trees book.now → judge book.now command.now ≡ Verdict.New
+        → OnOk result (Enters book.now command.now old.now new.now) }
+    ensures stands { let old = state S.Store tx.old.conn.now in
+        let new = state S.Store tx.new.conn.now in
+        HasCleanDisk new → IsTrue old.in_transaction → old.now.schema ≡ layout_1
+        → Stands old.now.trees book.now → judge book.now command.now ≡ Verdict.New
+        → OnOk result ((new.now.schema ≡ layout_1)
+        × Stands new.now.trees (book.now ++ command.now ∷ [])) }
     ensures within { IsWithin (state S.Store tx.old.conn.now) (state S.Store tx.new.conn.now) }
 {
-    add_rows(tx, book, command)
+    // A command has its shape.
+    let _ = command.doc();
+    add_rows(tx, book, command, rows)
 }
 
 /// Enters a command that was judged new, in one commit. Whatever is answered, a crash leaves the book from
@@ -37,17 +93,25 @@ pub(crate) fn enter<S: Alter>(
     conn: &mut Connection<S>,
     book: &Book,
     command: &Command,
+    rows: AddedRows,
 ) -> Result<(), TableFault>
-    requires { conn.old.in_transaction ≡ false }
+    requires idle { conn.old.in_transaction ≡ false }
+    requires added { AreAddedRows book.now command.now rows }
     ensures idle { conn.new.in_transaction ≡ false }
-    ensures clean { doubt (state S.Store conn.old).is_clean ≤ doubt (state S.Store conn.new).is_clean }
-    ensures kept { Rests (state S.Store conn.old) book.now → judge book.now command.now ≡ Verdict.New
+    ensures clean { doubt (state S.Store conn.old).is_clean
+        ≤ doubt (state S.Store conn.new).is_clean }
+    ensures entered { HasCleanDisk (state S.Store conn.new)
+        → OnOk result (IsEntered book.now command.now (state S.Store conn.old) (state S.Store
+        conn.new)) }
+    ensures kept { Rests (state S.Store conn.old) book.now
+        → judge book.now command.now ≡ Verdict.New
         → OnOk result (Rests (state S.Store conn.new) (book.now ++ command.now ∷ [])) }
-    ensures crash { Rests (state S.Store conn.old) book.now → judge book.now command.now ≡ Verdict.New
+    ensures crash { Rests (state S.Store conn.old) book.now
+        → judge book.now command.now ≡ Verdict.New
         → Leaves (state S.Store conn.new) (IsEither book.now (book.now ++ command.now ∷ [])) }
 {
     let mut tx = conn.transaction();
-    add(&mut tx, book, command)?;
+    add(&mut tx, book, command, rows)?;
     match tx.commit() {
         Ok(_) => Ok(()),
         Err(_) => Err(TableFault::Store),

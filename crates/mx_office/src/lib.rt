@@ -3,12 +3,11 @@
 #![tactic(auto)]
 
 mod adding;
+mod answering;
 pub mod fault;
 pub mod laws;
 mod loading;
 pub mod office;
-pub mod power;
-mod rows;
 
 pub use fault::{Ask, Fault, OpenFault, Outcomes};
 pub use mx_book::Reply;

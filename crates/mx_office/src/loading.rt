@@ -5,18 +5,36 @@ ghost use Rattle.sqlite.specs.Held.{state};
 ghost use Rattle.mx_register.specs.Registers.{AreRegistersOf};
 ghost use Rattle.mx_layout.specs.Crash.{StaysInside, IsWithin, ChangesNothing};
 ghost use Rattle.mx_layout.specs.Tables.{layout_1};
-ghost use Rattle.mx_tables.specs.Registers.{OnRead};
-ghost use Rattle.mx_office.specs.Stands.{HaveRowsOf, HoldsBook, IsDamaged, IsReasonFor, Stands, Rests};
+ghost use Rattle.mx_kept.specs.Schemas.{HasOwn1};
+ghost use Rattle.mx_tables.specs.Calls.{OnRead};
+ghost use Rattle.mx_tables.specs.Sets.{IsDamaged};
+ghost use Rattle.mx_office.specs.Stands.{HaveRowsOf, HoldsBook, IsReasonFor, Stands, Rests};
 
 use crate::fault::{Fault, fault_of};
 use mx_book::Book;
 use mx_layout::{Table, TableFault};
 use mx_register::merge::{Registers, merge};
-use mx_tables::{
-    rows_aircraft, rows_component, rows_entry, rows_fit1, rows_place, rows_removal1, rows_sector1,
+use mx_register::{
+    AircraftRow, ComponentRow, EntryRow, FittingRow, PlaceRow, RemovalRow, SectorRow,
 };
+use mx_tables::Tables;
 use sqlite::{Alter, Connection, Transaction};
 use std::alloc::Global;
+
+// The rows of every register: each with those behind it.
+type Rows = (
+    Vec<EntryRow>,
+    (
+        Vec<AircraftRow>,
+        (
+            Vec<PlaceRow>,
+            (
+                Vec<ComponentRow>,
+                (Vec<SectorRow>, (Vec<FittingRow>, Vec<RemovalRow>)),
+            ),
+        ),
+    ),
+);
 
 // The rows of every register, read inside a transaction.
 fn read_registers<S: Alter>(
@@ -24,23 +42,28 @@ fn read_registers<S: Alter>(
     tx: &mut Transaction<'_, S>,
 ) -> Result<Registers, TableFault>
     ensures same_reference { tx.new.conn.ghost_name ≡ tx.old.conn.ghost_name }
-    ensures inside { HasCleanDisk (state S.Store tx.new.conn.now) → IsTrue (state S.Store tx.old.conn.now).in_transaction
-        → OnRead result (StaysInside (state S.Store tx.old.conn.now) (state S.Store tx.new.conn.now)) }
-    ensures exact { (book : _) → HasCleanDisk (state S.Store tx.new.conn.now) → (state S.Store tx.old.conn.now).now.schema ≡ layout_1 → Stands (state S.Store tx.old.conn.now).now.trees book
-        → MatchResult result (λ registers. AreRegistersOf registers book) (λ fault. (fault ≡ TableFault.Memory) ⊎ (fault ≡ TableFault.Store)) }
-    ensures rows { HasCleanDisk (state S.Store tx.new.conn.now) → (state S.Store tx.old.conn.now).now.schema ≡ layout_1
-        → IfOk result (HaveRowsOf (state S.Store tx.old.conn.now).now.trees) }
-    ensures damaged { HasCleanDisk (state S.Store tx.new.conn.now) → (state S.Store tx.old.conn.now).now.schema ≡ layout_1
-        → (table : _) → result ≡ Err (TableFault.Damaged table) → IsDamaged (state S.Store tx.old.conn.now).now.trees table }
+    ensures inside { let old = state S.Store tx.old.conn.now in
+        let new = state S.Store tx.new.conn.now in
+        HasCleanDisk new → IsTrue old.in_transaction
+        → OnRead result (StaysInside old new) }
+    ensures exact { let old = state S.Store tx.old.conn.now in
+        let new = state S.Store tx.new.conn.now in (book : _) → HasCleanDisk new
+        → HasOwn1 old.now.schema → Stands old.now.trees book → MatchResult result
+        (λ registers. AreRegistersOf registers book) (λ fault. (fault ≡ TableFault.Memory)
+        ⊎ (fault ≡ TableFault.Store)) }
+    ensures rows { let old = state S.Store tx.old.conn.now in
+        let new = state S.Store tx.new.conn.now in
+        HasCleanDisk new → HasOwn1 old.now.schema
+        → IfOk result (HaveRowsOf old.now.trees) }
+    ensures damaged { let old = state S.Store tx.old.conn.now in
+        let new = state S.Store tx.new.conn.now in
+        HasCleanDisk new → HasOwn1 old.now.schema
+        → (table : _) → result ≡ Err (TableFault.Damaged table) → IsDamaged old.now.trees table }
     ensures within { IsWithin (state S.Store tx.old.conn.now) (state S.Store tx.new.conn.now) }
 {
-    let entries = rows_entry(alloc, tx)?;
-    let aircraft = rows_aircraft(alloc, tx)?;
-    let places = rows_place(alloc, tx)?;
-    let components = rows_component(alloc, tx)?;
-    let sectors = rows_sector1(alloc, tx)?;
-    let fittings = rows_fit1(alloc, tx)?;
-    let removals = rows_removal1(alloc, tx)?;
+    let (entries, (aircraft, (places, (components, (sectors, (fittings, removals)))))) = Rows::read(
+        alloc, tx,
+    )?;
     Ok(Registers {
         entries,
         aircraft,
@@ -56,14 +79,22 @@ fn read_registers<S: Alter>(
 fn load<S: Alter>(alloc: Global, tx: &mut Transaction<'_, S>) -> Result<Book, Fault>
     ensures same_reference { tx.new.conn.ghost_name ≡ tx.old.conn.ghost_name }
     ensures usable { result ≢ Err Fault.NeedsReopen }
-    ensures inside { HasCleanDisk (state S.Store tx.new.conn.now) → IsTrue (state S.Store tx.old.conn.now).in_transaction
-        → result ≢ Err Fault.Memory → result ≢ Err Fault.Store → StaysInside (state S.Store tx.old.conn.now) (state S.Store tx.new.conn.now) }
-    ensures exact { (book : _) → HasCleanDisk (state S.Store tx.new.conn.now) → (state S.Store tx.old.conn.now).now.schema ≡ layout_1 → Stands (state S.Store tx.old.conn.now).now.trees book
-        → MatchResult result (λ b. b ≡ book) (λ fault. (fault ≡ Fault.Memory) ⊎ (fault ≡ Fault.Store)) }
-    ensures sound { HasCleanDisk (state S.Store tx.new.conn.now) → (state S.Store tx.old.conn.now).now.schema ≡ layout_1
-        → IfOk result (HoldsBook (state S.Store tx.old.conn.now).now.trees) }
-    ensures damaged { HasCleanDisk (state S.Store tx.new.conn.now) → (state S.Store tx.old.conn.now).now.schema ≡ layout_1
-        → (table : _) → result ≡ Err (Fault.Damaged table) → IsReasonFor (state S.Store tx.old.conn.now).now.trees table }
+    ensures inside { let old = state S.Store tx.old.conn.now in
+        let new = state S.Store tx.new.conn.now in
+        HasCleanDisk new → IsTrue old.in_transaction
+        → result ≢ Err Fault.Memory → result ≢ Err Fault.Store → StaysInside old new }
+    ensures exact { let old = state S.Store tx.old.conn.now in
+        let new = state S.Store tx.new.conn.now in (book : _) → HasCleanDisk new
+        → old.now.schema ≡ layout_1 → Stands old.now.trees book → MatchResult result (λ b. b ≡ book)
+        (λ fault. (fault ≡ Fault.Memory) ⊎ (fault ≡ Fault.Store)) }
+    ensures sound { let old = state S.Store tx.old.conn.now in
+        let new = state S.Store tx.new.conn.now in
+        HasCleanDisk new → HasOwn1 old.now.schema
+        → IfOk result (HoldsBook old.now.trees) }
+    ensures damaged { let old = state S.Store tx.old.conn.now in
+        let new = state S.Store tx.new.conn.now in
+        HasCleanDisk new → HasOwn1 old.now.schema
+        → (table : _) → result ≡ Err (Fault.Damaged table) → IsReasonFor old.now.trees table }
     ensures within { IsWithin (state S.Store tx.old.conn.now) (state S.Store tx.new.conn.now) }
 {
     let registers = match read_registers(alloc, tx) {
@@ -87,12 +118,19 @@ pub(crate) fn load_book<S: Alter>(alloc: Global, conn: &mut Connection<S>) -> Re
     ensures idle { conn.new.in_transaction ≡ false }
     ensures usable { result ≢ Err Fault.NeedsReopen }
     ensures unchanged { ChangesNothing (state S.Store conn.old) (state S.Store conn.new) }
-    ensures exact { (book : _) → Rests (state S.Store conn.old) book → HasCleanDisk (state S.Store conn.new)
-        → MatchResult result (λ b. b ≡ book) (λ fault. (fault ≡ Fault.Memory) ⊎ (fault ≡ Fault.Store)) }
-    ensures sound { HasCleanDisk (state S.Store conn.new) → (state S.Store conn.old).now.schema ≡ layout_1
+    ensures was_open { HasCleanDisk (state S.Store conn.new)
+        → result ≢ Err Fault.Memory → result ≢ Err Fault.Store
+        → IsTrue (state S.Store conn.old).is_open }
+    ensures exact { (book : _) → Rests (state S.Store conn.old) book
+        → HasCleanDisk (state S.Store conn.new) → MatchResult result (λ b. b ≡ book)
+        (λ fault. (fault ≡ Fault.Memory) ⊎ (fault ≡ Fault.Store)) }
+    ensures sound { HasCleanDisk (state S.Store conn.new)
+        → HasOwn1 (state S.Store conn.old).now.schema
         → IfOk result (HoldsBook (state S.Store conn.old).now.trees) }
-    ensures damaged { HasCleanDisk (state S.Store conn.new) → (state S.Store conn.old).now.schema ≡ layout_1
-        → (table : _) → result ≡ Err (Fault.Damaged table) → IsReasonFor (state S.Store conn.old).now.trees table }
+    ensures damaged { HasCleanDisk (state S.Store conn.new)
+        → HasOwn1 (state S.Store conn.old).now.schema
+        → (table : _) → result ≡ Err (Fault.Damaged table)
+        → IsReasonFor (state S.Store conn.old).now.trees table }
 {
     let mut tx = conn.transaction();
     load(alloc, &mut tx)

@@ -12,15 +12,16 @@ ghost use Rattle.mx_layout.specs.Contents.{rows_in};
 ghost use Rattle.mx_layout.specs.Crash.{Leaves, ChangesNothing};
 ghost use Rattle.mx_layout.specs.Making.{first_point};
 ghost use Rattle.mx_layout.specs.Point.{point_cells, FitsPoint, HoldsPoint};
-ghost use Rattle.mx_layout.specs.Tables.{layout_1, no_schema, office, HasOffice};
+ghost use Rattle.mx_layout.specs.Tables.{no_schema, office, HasOffice};
+ghost use Rattle.mx_kept.specs.Schemas.{HasOwn1};
 ghost use Rattle.mx_office.specs.Faults.{found_or, unknown, open_answer, IsAnswer, IsReason, IsUnopened};
-ghost use Rattle.mx_office.specs.Stands.{HoldsBook, IsReasonFor, Rests, IsEither};
+ghost use Rattle.mx_office.specs.Stands.{HoldsBook, IsReasonFor, NoneAccepted, RanOver, Rests, IsEither, WasEntered};
 
-use crate::adding::enter;
+use crate::answering::answer;
 use crate::fault::{Ask, Fault, OpenFault, Outcomes, open_fault_of};
 use crate::loading::load_book;
 use mx_base::{Tail, Use};
-use mx_book::{Book, LifeList, Refusal, Reply, Verdict};
+use mx_book::{Book, LifeList, Refusal, Reply};
 use mx_command::{Command, Item};
 use mx_layout::{Table, point};
 use sqlite::{Alter, Connection};
@@ -28,40 +29,6 @@ use std::alloc::Global;
 
 /// The newest layout of the tables.
 pub const NEWEST_LAYOUT: u8 = 1;
-
-// Judges a command against the book that the tables hold, and enters it in one commit where it is new.
-fn answer<S: Alter>(
-    alloc: Global,
-    conn: &mut Connection<S>,
-    command: &Command,
-) -> Result<Reply, Fault>
-    requires { conn.old.in_transaction ≡ false }
-    ensures idle { conn.new.in_transaction ≡ false }
-    ensures clean { doubt (state S.Store conn.old).is_clean ≤ doubt (state S.Store conn.new).is_clean }
-    ensures usable { result ≢ Err Fault.NeedsReopen }
-    ensures reply { (book : _) → Rests (state S.Store conn.old) book → HasCleanDisk (state S.Store conn.new) → IfOk result (λ r. r ≡ reply book command.now) }
-    ensures kept { (book : _) → Rests (state S.Store conn.old) book → OnOk result (Rests (state S.Store conn.new) (book_after book command.now)) }
-    ensures untouched { ((seq : _) → result ≢ Ok (Reply.Accepted seq)) → result ≢ Err Fault.Store → ChangesNothing (state S.Store conn.old) (state S.Store conn.new) }
-    ensures whole { (book : _) → Rests (state S.Store conn.old) book → HasCleanDisk (state S.Store conn.new) → (table : _) → result ≢ Err (Fault.Damaged table) }
-    ensures sound { HasCleanDisk (state S.Store conn.new) → (state S.Store conn.old).now.schema ≡ layout_1
-        → IfOk result (λ r. (book : _) × HoldsBook (state S.Store conn.old).now.trees book × (r ≡ reply book command.now)) }
-    ensures damaged { HasCleanDisk (state S.Store conn.new) → (state S.Store conn.old).now.schema ≡ layout_1
-        → (table : _) → result ≡ Err (Fault.Damaged table) → IsReasonFor (state S.Store conn.old).now.trees table }
-    ensures crash { (book : _) → Rests (state S.Store conn.old) book → Leaves (state S.Store conn.new) (IsEither book (book_after book command.now)) }
-{
-    let book = load_book(alloc, conn)?;
-    match book.judge(command) {
-        Verdict::Already(seq) => Ok(Reply::Already(seq)),
-        Verdict::Refused(refusal) => Ok(Reply::Refused(refusal)),
-        Verdict::New => {
-            let seq = book.len() + 1;
-            match enter(conn, &book, command) {
-                Ok(()) => Ok(Reply::Accepted(seq)),
-                Err(_) => Err(Fault::Store),
-            }
-        }
-    }
-}
 
 // Why an item is unknown.
 fn unknown_of(item: &Item) -> Refusal
@@ -88,19 +55,34 @@ pub fn open_office<S: Alter>(
 ) -> Result<Office<S>, (Connection<S>, OpenFault)>
     requires { conn.in_transaction ≡ false }
     ensures ready { IfOk result (λ office. office.needs_reopen ≡ false) }
-    ensures unchanged { MatchResult result (λ office. ChangesNothing (state S.Store conn) (state S.Store office.conn)) (λ e. ChangesNothing (state S.Store conn) (state S.Store e.0)) }
-    ensures kept { (book : _) → Rests (state S.Store conn) book → MatchResult result (λ office. Rests (state S.Store office.conn) book) (λ e. Rests (state S.Store e.0) book) }
-    ensures opened { (IsTrue (state S.Store conn).is_open → HasOffice (state S.Store conn).now.schema)
-        → IfOk result (λ at. HasCleanDisk (state S.Store at.conn) → rows_in office (state S.Store conn).now.trees ≡ point_cells first_point ∷ []) }
-    ensures exact { (p : Point) → (IsTrue (state S.Store conn).is_open → HoldsPoint p (state S.Store conn).now) → FitsPoint p
-        → MatchResult result (λ at. HasCleanDisk (state S.Store at.conn) → open_answer p ≡ None) (λ e. HasCleanDisk (state S.Store e.0) → IsUnopened (open_answer p) e.1) }
-    ensures not_ours { (IsTrue (state S.Store conn).is_open → HasOffice (state S.Store conn).now.schema)
-        → IfErr result (λ e. HasCleanDisk (state S.Store e.0) → e.1 ≡ OpenFault.NotOurs → length (rows_in office (state S.Store conn).now.trees) ≢ 1) }
-    ensures reason { (IsTrue (state S.Store conn).is_open → HasOffice (state S.Store conn).now.schema)
-        → IfErr result (λ e. HasCleanDisk (state S.Store e.0) → IsReason (rows_in office (state S.Store conn).now.trees) e.1) }
-    ensures absent { (IsTrue (state S.Store conn).is_open → (state S.Store conn).now.schema ≡ no_schema)
-        → MatchResult result (λ at. ¬ HasCleanDisk (state S.Store at.conn)) (λ e. HasCleanDisk (state S.Store e.0) → IsUnopened (Some OpenFault.NotOurs) e.1) }
-    ensures whole { (book : _) → Rests (state S.Store conn) book → IfErr result (λ e. HasCleanDisk (state S.Store e.0) → (e.1 ≡ OpenFault.Memory) ⊎ (e.1 ≡ OpenFault.Store)) }
+    ensures unchanged { MatchResult result
+        (λ office. ChangesNothing (state S.Store conn) (state S.Store office.conn))
+        (λ e. ChangesNothing (state S.Store conn) (state S.Store e.0)) }
+    ensures kept { (book : _) → Rests (state S.Store conn) book → MatchResult result
+        (λ office. Rests (state S.Store office.conn) book) (λ e. Rests (state S.Store e.0) book) }
+    ensures opened { (IsTrue (state S.Store conn).is_open
+        → HasOffice (state S.Store conn).now.schema) → IfOk result
+        (λ at. HasCleanDisk (state S.Store at.conn)
+        → rows_in office (state S.Store conn).now.trees ≡ point_cells first_point ∷ []) }
+    ensures exact { (p : Point) → (IsTrue (state S.Store conn).is_open
+        → HoldsPoint p (state S.Store conn).now) → FitsPoint p → MatchResult result
+        (λ at. HasCleanDisk (state S.Store at.conn) → open_answer p ≡ None)
+        (λ e. HasCleanDisk (state S.Store e.0) → IsUnopened (open_answer p) e.1) }
+    ensures not_ours { (IsTrue (state S.Store conn).is_open
+        → HasOffice (state S.Store conn).now.schema) → IfErr result
+        (λ e. HasCleanDisk (state S.Store e.0) → e.1 ≡ OpenFault.NotOurs
+        → length (rows_in office (state S.Store conn).now.trees) ≢ 1) }
+    ensures reason { (IsTrue (state S.Store conn).is_open
+        → HasOffice (state S.Store conn).now.schema) → IfErr result
+        (λ e. HasCleanDisk (state S.Store e.0)
+        → IsReason (rows_in office (state S.Store conn).now.trees) e.1) }
+    ensures absent { (IsTrue (state S.Store conn).is_open
+        → (state S.Store conn).now.schema ≡ no_schema) → MatchResult result
+        (λ at. ¬ HasCleanDisk (state S.Store at.conn)) (λ e. HasCleanDisk (state S.Store e.0)
+        → IsUnopened (Some OpenFault.NotOurs) e.1) }
+    ensures whole { (book : _) → Rests (state S.Store conn) book → IfErr result
+        (λ e. HasCleanDisk (state S.Store e.0) → (e.1 ≡ OpenFault.Memory)
+        ⊎ (e.1 ≡ OpenFault.Store)) }
 {
     match point(&mut conn) {
         Ok(at) => {
@@ -141,21 +123,45 @@ impl<S: Alter> Office<S> {
     /// Judges a command, and enters it in one commit where it is new. A command that is known or refused writes
     /// nothing. After `Store` the command may be kept or not, and each later call answers `NeedsReopen`.
     pub fn apply(&mut self, alloc: Global, command: &Command) -> Result<Reply, Fault>
-        ensures reopen { self.old.needs_reopen ≡ true → (result ≡ Err Fault.NeedsReopen) × (self.new ≡ self.old) }
+        ensures reopen { self.old.needs_reopen ≡ true → (result ≡ Err Fault.NeedsReopen)
+            × (self.new ≡ self.old) }
         ensures usable { self.old.needs_reopen ≡ false → result ≢ Err Fault.NeedsReopen }
-        ensures goes_on { self.old.needs_reopen ≡ false → result ≢ Err Fault.Store → self.new.needs_reopen ≡ false }
+        ensures goes_on { self.old.needs_reopen ≡ false → result ≢ Err Fault.Store
+            → self.new.needs_reopen ≡ false }
         ensures stopped { result ≡ Err Fault.Store → self.new.needs_reopen ≡ true }
-        ensures clean { doubt (state S.Store self.old.conn).is_clean ≤ doubt (state S.Store self.new.conn).is_clean }
-        ensures reply { (book : _) → Rests (state S.Store self.old.conn) book → HasCleanDisk (state S.Store self.new.conn) → IfOk result (λ r. r ≡ reply book command.now) }
-        ensures kept { (book : _) → Rests (state S.Store self.old.conn) book → OnOk result (Rests (state S.Store self.new.conn) (book_after book command.now)) }
-        ensures same { (book : _) → Rests (state S.Store self.old.conn) book → IfErr result (λ fault. fault ≢ Fault.Store → Rests (state S.Store self.new.conn) book) }
-        ensures untouched { self.old.needs_reopen ≡ false → ((seq : _) → result ≢ Ok (Reply.Accepted seq)) → result ≢ Err Fault.Store → ChangesNothing (state S.Store self.old.conn) (state S.Store self.new.conn) }
-        ensures whole { (book : _) → Rests (state S.Store self.old.conn) book → HasCleanDisk (state S.Store self.new.conn) → (table : _) → result ≢ Err (Fault.Damaged table) }
-        ensures sound { HasCleanDisk (state S.Store self.new.conn) → (state S.Store self.old.conn).now.schema ≡ layout_1
-            → IfOk result (λ r. (book : _) × HoldsBook (state S.Store self.old.conn).now.trees book × (r ≡ reply book command.now)) }
-        ensures damaged { HasCleanDisk (state S.Store self.new.conn) → (state S.Store self.old.conn).now.schema ≡ layout_1
-            → (table : _) → result ≡ Err (Fault.Damaged table) → IsReasonFor (state S.Store self.old.conn).now.trees table }
-        ensures crash { (book : _) → Rests (state S.Store self.old.conn) book → Leaves (state S.Store self.new.conn) (IsEither book (book_after book command.now)) }
+        ensures clean { doubt (state S.Store self.old.conn).is_clean
+            ≤ doubt (state S.Store self.new.conn).is_clean }
+        ensures reply { (book : _) → Rests (state S.Store self.old.conn) book
+            → HasCleanDisk (state S.Store self.new.conn) → IfOk result
+            (λ r. r ≡ reply book command.now) }
+        ensures kept { (book : _) → Rests (state S.Store self.old.conn) book
+            → OnOk result (Rests (state S.Store self.new.conn) (book_after book command.now)) }
+        ensures same { (book : _) → Rests (state S.Store self.old.conn) book → IfErr result
+            (λ fault. fault ≢ Fault.Store → Rests (state S.Store self.new.conn) book) }
+        ensures untouched { self.old.needs_reopen ≡ false → ((seq : _)
+            → result ≢ Ok (Reply.Accepted seq)) → result ≢ Err Fault.Store
+            → ChangesNothing (state S.Store self.old.conn) (state S.Store self.new.conn) }
+        ensures whole { (book : _) → Rests (state S.Store self.old.conn) book
+            → HasCleanDisk (state S.Store self.new.conn) → (table : _)
+            → result ≢ Err (Fault.Damaged table) }
+        ensures sound { HasCleanDisk (state S.Store self.new.conn)
+            → HasOwn1 (state S.Store self.old.conn).now.schema → IfOk result (λ r. (book : _)
+            × HoldsBook (state S.Store self.old.conn).now.trees book
+            × (r ≡ reply book command.now)) }
+        ensures damaged { HasCleanDisk (state S.Store self.new.conn)
+            → HasOwn1 (state S.Store self.old.conn).now.schema → (table : _)
+            → result ≡ Err (Fault.Damaged table)
+            → IsReasonFor (state S.Store self.old.conn).now.trees table }
+        ensures was_open { self.old.needs_reopen ≡ false
+            → HasCleanDisk (state S.Store self.new.conn) → result ≢ Err Fault.Memory
+            → result ≢ Err Fault.Store → IsTrue (state S.Store self.old.conn).is_open }
+        ensures entered { let old = state S.Store self.old.conn in
+            let new = state S.Store self.new.conn in
+            HasCleanDisk new → HasOwn1 old.now.schema
+            → old.now ≡ old.committed → IfOk result (λ said. (seq : _) → said ≡ Reply.Accepted seq
+            → WasEntered command.now said old new) }
+        ensures crash { (book : _) → Rests (state S.Store self.old.conn) book
+            → Leaves (state S.Store self.new.conn) (IsEither book (book_after book command.now)) }
     {
         if self.needs_reopen {
             return Err(Fault::NeedsReopen);
@@ -168,24 +174,65 @@ impl<S: Alter> Office<S> {
     }
 
     /// Applies commands in their order, each in a commit of its own, and stops at the first fault. Room for all
-    /// replies is made first; where it is refused there is no reply, and the run stopped at `Memory`.
+    /// replies is made first; where it is refused there is no reply, and the run stopped at `Memory`. In an office
+    /// that has to be opened again it stops at `NeedsReopen`, also where there is no command.
     pub fn run(&mut self, alloc: Global, commands: &[Command]) -> Outcomes
         ensures counted { length result.replies.items ≤ length commands.now }
         ensures done { result.stopped ≡ None → length result.replies.items ≡ length commands.now }
-        ensures cut { result.stopped ≢ None → result.stopped ≢ Some Fault.Memory → length result.replies.items < length commands.now }
-        ensures reopen { self.old.needs_reopen ≡ true → (result.replies.items ≡ []) × (self.new ≡ self.old) }
+        ensures cut { self.old.needs_reopen ≡ false → result.stopped ≢ None
+            → (length result.replies.items < length commands.now)
+            ⊎ ((commands.now ≡ []) × (result.stopped ≡ Some Fault.Memory) × (self.new ≡ self.old)) }
+        ensures reopen { self.old.needs_reopen ≡ true → (result.replies.items ≡ [])
+            × (result.stopped ≡ Some Fault.NeedsReopen) × (self.new ≡ self.old) }
         ensures usable { self.old.needs_reopen ≡ false → result.stopped ≢ Some Fault.NeedsReopen }
-        ensures goes_on { self.old.needs_reopen ≡ false → result.stopped ≢ Some Fault.Store → self.new.needs_reopen ≡ false }
+        ensures goes_on { self.old.needs_reopen ≡ false → result.stopped ≢ Some Fault.Store
+            → self.new.needs_reopen ≡ false }
         ensures stopped { result.stopped ≡ Some Fault.Store → self.new.needs_reopen ≡ true }
-        ensures whole { (book : _) → Rests (state S.Store self.old.conn) book → HasCleanDisk (state S.Store self.new.conn) → (table : _) → result.stopped ≢ Some (Fault.Damaged table) }
-        ensures clean { doubt (state S.Store self.old.conn).is_clean ≤ doubt (state S.Store self.new.conn).is_clean }
-        ensures replies { (book : _) → Rests (state S.Store self.old.conn) book → HasCleanDisk (state S.Store self.new.conn)
-            → result.replies.items ≡ replies book (take (length result.replies.items) commands.now) }
-        ensures kept { (book : _) → Rests (state S.Store self.old.conn) book → result.stopped ≢ Some Fault.Store
-            → Rests (state S.Store self.new.conn) (book_run book (take (length result.replies.items) commands.now)) }
+        ensures whole { (book : _) → Rests (state S.Store self.old.conn) book
+            → HasCleanDisk (state S.Store self.new.conn) → (table : _)
+            → result.stopped ≢ Some (Fault.Damaged table) }
+        ensures clean { doubt (state S.Store self.old.conn).is_clean
+            ≤ doubt (state S.Store self.new.conn).is_clean }
+        ensures untouched { self.old.needs_reopen ≡ false → NoneAccepted result.replies.items
+            → result.stopped ≢ Some Fault.Store → (self.new ≡ self.old)
+            ⊎ ChangesNothing (state S.Store self.old.conn) (state S.Store self.new.conn) }
+        ensures told { let old = state S.Store self.old.conn in
+            let new = state S.Store self.new.conn in
+            HasCleanDisk new → HasOwn1 old.now.schema
+            → old.now ≡ old.committed → result.replies.items ≢ [] → (book : _)
+            × HoldsBook old.now.trees book × (result.replies.items
+            ≡ replies book (take (length result.replies.items) commands.now)) }
+        ensures sound { let old = state S.Store self.old.conn in
+            let new = state S.Store self.new.conn in
+            HasCleanDisk new → HasOwn1 old.now.schema
+            → old.now ≡ old.committed → result.replies.items ≢ []
+            → result.stopped ≢ Some Fault.Store
+            → RanOver (take (length result.replies.items) commands.now)
+            result.replies.items old new }
+        ensures damaged { let old = state S.Store self.old.conn in
+            let new = state S.Store self.new.conn in
+            HasCleanDisk new → HasOwn1 old.now.schema → old.now ≡ old.committed
+            → (table : _) → result.stopped ≡ Some (Fault.Damaged table)
+            → (result.replies.items ≡ []) × IsReasonFor old.now.trees table }
+        ensures replies { (book : _) → Rests (state S.Store self.old.conn) book
+            → HasCleanDisk (state S.Store self.new.conn)
+            → result.replies.items
+            ≡ replies book (take (length result.replies.items) commands.now) }
+        ensures kept { (book : _) → Rests (state S.Store self.old.conn) book
+            → result.stopped ≢ Some Fault.Store
+            → Rests (state S.Store self.new.conn)
+            (book_run book (take (length result.replies.items) commands.now)) }
         ensures crash { (book : _) → Rests (state S.Store self.old.conn) book
-            → Leaves (state S.Store self.new.conn) (IsEither (book_run book (take (length result.replies.items) commands.now)) (book_run book (take (length result.replies.items + 1) commands.now))) }
+            → Leaves (state S.Store self.new.conn) (IsEither
+            (book_run book (take (length result.replies.items) commands.now))
+            (book_run book (take (length result.replies.items + 1) commands.now))) }
     {
+        if self.needs_reopen {
+            return Outcomes {
+                replies: Vec::new(alloc),
+                stopped: Some(Fault::NeedsReopen),
+            };
+        }
         let Ok(mut replies) = Vec::with_capacity(alloc, commands.len()) else {
             return Outcomes {
                 replies: Vec::new(alloc),
@@ -211,17 +258,25 @@ impl<S: Alter> Office<S> {
 
     // The book that the tables hold.
     fn book(&mut self, alloc: Global) -> Result<Book, Fault>
-        ensures reopen { self.old.needs_reopen ≡ true → (result ≡ Err Fault.NeedsReopen) × (self.new ≡ self.old) }
+        ensures reopen { self.old.needs_reopen ≡ true → (result ≡ Err Fault.NeedsReopen)
+            × (self.new ≡ self.old) }
         ensures usable { self.old.needs_reopen ≡ false → result ≢ Err Fault.NeedsReopen }
-        ensures goes_on { self.old.needs_reopen ≡ false → result ≢ Err Fault.Store → self.new.needs_reopen ≡ false }
+        ensures goes_on { self.old.needs_reopen ≡ false → result ≢ Err Fault.Store
+            → self.new.needs_reopen ≡ false }
         ensures stopped { result ≡ Err Fault.Store → self.new.needs_reopen ≡ true }
-        ensures untouched { self.old.needs_reopen ≡ false → ChangesNothing (state S.Store self.old.conn) (state S.Store self.new.conn) }
-        ensures exact { (book : _) → self.old.needs_reopen ≡ false → Rests (state S.Store self.old.conn) book → HasCleanDisk (state S.Store self.new.conn)
-            → MatchResult result (λ b. b ≡ book) (λ fault. (fault ≡ Fault.Memory) ⊎ (fault ≡ Fault.Store)) }
-        ensures sound { HasCleanDisk (state S.Store self.new.conn) → (state S.Store self.old.conn).now.schema ≡ layout_1
+        ensures untouched { self.old.needs_reopen ≡ false
+            → ChangesNothing (state S.Store self.old.conn) (state S.Store self.new.conn) }
+        ensures exact { (book : _) → self.old.needs_reopen ≡ false
+            → Rests (state S.Store self.old.conn) book → HasCleanDisk (state S.Store self.new.conn)
+            → MatchResult result (λ b. b ≡ book) (λ fault. (fault ≡ Fault.Memory)
+            ⊎ (fault ≡ Fault.Store)) }
+        ensures sound { HasCleanDisk (state S.Store self.new.conn)
+            → HasOwn1 (state S.Store self.old.conn).now.schema
             → IfOk result (HoldsBook (state S.Store self.old.conn).now.trees) }
-        ensures damaged { HasCleanDisk (state S.Store self.new.conn) → (state S.Store self.old.conn).now.schema ≡ layout_1
-            → (table : _) → result ≡ Err (Fault.Damaged table) → IsReasonFor (state S.Store self.old.conn).now.trees table }
+        ensures damaged { HasCleanDisk (state S.Store self.new.conn)
+            → HasOwn1 (state S.Store self.old.conn).now.schema → (table : _)
+            → result ≡ Err (Fault.Damaged table)
+            → IsReasonFor (state S.Store self.old.conn).now.trees table }
     {
         if self.needs_reopen {
             return Err(Fault::NeedsReopen);
@@ -236,17 +291,27 @@ impl<S: Alter> Office<S> {
     /// The life list of an aircraft. `Refused(UnknownAircraft)` where no aircraft has the registration.
     /// No table changes.
     pub fn life_rows(&mut self, alloc: Global, tail: &Tail) -> Result<LifeList, Ask>
-        ensures reopen { self.old.needs_reopen ≡ true → (result ≡ Err (Ask.Failed Fault.NeedsReopen)) × (self.new ≡ self.old) }
-        ensures usable { self.old.needs_reopen ≡ false → result ≢ Err (Ask.Failed Fault.NeedsReopen) }
-        ensures goes_on { self.old.needs_reopen ≡ false → result ≢ Err (Ask.Failed Fault.Store) → self.new.needs_reopen ≡ false }
+        ensures reopen { self.old.needs_reopen ≡ true
+            → (result ≡ Err (Ask.Failed Fault.NeedsReopen)) × (self.new ≡ self.old) }
+        ensures usable { self.old.needs_reopen ≡ false
+            → result ≢ Err (Ask.Failed Fault.NeedsReopen) }
+        ensures goes_on { self.old.needs_reopen ≡ false → result ≢ Err (Ask.Failed Fault.Store)
+            → self.new.needs_reopen ≡ false }
         ensures stopped { result ≡ Err (Ask.Failed Fault.Store) → self.new.needs_reopen ≡ true }
-        ensures untouched { self.old.needs_reopen ≡ false → ChangesNothing (state S.Store self.old.conn) (state S.Store self.new.conn) }
-        ensures exact { (book : _) → self.old.needs_reopen ≡ false → Rests (state S.Store self.old.conn) book → HasCleanDisk (state S.Store self.new.conn)
+        ensures untouched { self.old.needs_reopen ≡ false
+            → ChangesNothing (state S.Store self.old.conn) (state S.Store self.new.conn) }
+        ensures exact { (book : _) → self.old.needs_reopen ≡ false
+            → Rests (state S.Store self.old.conn) book → HasCleanDisk (state S.Store self.new.conn)
             → IsAnswer (found_or Refusal.UnknownAircraft (life_list book tail.now)) result }
-        ensures sound { HasCleanDisk (state S.Store self.new.conn) → (state S.Store self.old.conn).now.schema ≡ layout_1 → ((fault : _) → result ≢ Err (Ask.Failed fault))
-            → (book : _) × HoldsBook (state S.Store self.old.conn).now.trees book × (result ≡ found_or Refusal.UnknownAircraft (life_list book tail.now)) }
-        ensures damaged { HasCleanDisk (state S.Store self.new.conn) → (state S.Store self.old.conn).now.schema ≡ layout_1
-            → (table : _) → result ≡ Err (Ask.Failed (Fault.Damaged table)) → IsReasonFor (state S.Store self.old.conn).now.trees table }
+        ensures sound { HasCleanDisk (state S.Store self.new.conn)
+            → HasOwn1 (state S.Store self.old.conn).now.schema → ((fault : _)
+            → result ≢ Err (Ask.Failed fault)) → (book : _)
+            × HoldsBook (state S.Store self.old.conn).now.trees book
+            × (result ≡ found_or Refusal.UnknownAircraft (life_list book tail.now)) }
+        ensures damaged { HasCleanDisk (state S.Store self.new.conn)
+            → HasOwn1 (state S.Store self.old.conn).now.schema → (table : _)
+            → result ≡ Err (Ask.Failed (Fault.Damaged table))
+            → IsReasonFor (state S.Store self.old.conn).now.trees table }
     {
         let book = self.book(alloc)?;
         match book.life_list(alloc, tail)? {
@@ -258,17 +323,27 @@ impl<S: Alter> Office<S> {
     /// The life of an item with all of its sectors. `Refused(UnknownAircraft)` or `Refused(UnknownComponent)`
     /// where the item is unknown. No table changes.
     pub fn life(&mut self, alloc: Global, item: &Item) -> Result<Use, Ask>
-        ensures reopen { self.old.needs_reopen ≡ true → (result ≡ Err (Ask.Failed Fault.NeedsReopen)) × (self.new ≡ self.old) }
-        ensures usable { self.old.needs_reopen ≡ false → result ≢ Err (Ask.Failed Fault.NeedsReopen) }
-        ensures goes_on { self.old.needs_reopen ≡ false → result ≢ Err (Ask.Failed Fault.Store) → self.new.needs_reopen ≡ false }
+        ensures reopen { self.old.needs_reopen ≡ true
+            → (result ≡ Err (Ask.Failed Fault.NeedsReopen)) × (self.new ≡ self.old) }
+        ensures usable { self.old.needs_reopen ≡ false
+            → result ≢ Err (Ask.Failed Fault.NeedsReopen) }
+        ensures goes_on { self.old.needs_reopen ≡ false → result ≢ Err (Ask.Failed Fault.Store)
+            → self.new.needs_reopen ≡ false }
         ensures stopped { result ≡ Err (Ask.Failed Fault.Store) → self.new.needs_reopen ≡ true }
-        ensures untouched { self.old.needs_reopen ≡ false → ChangesNothing (state S.Store self.old.conn) (state S.Store self.new.conn) }
-        ensures exact { (book : _) → self.old.needs_reopen ≡ false → Rests (state S.Store self.old.conn) book → HasCleanDisk (state S.Store self.new.conn)
+        ensures untouched { self.old.needs_reopen ≡ false
+            → ChangesNothing (state S.Store self.old.conn) (state S.Store self.new.conn) }
+        ensures exact { (book : _) → self.old.needs_reopen ≡ false
+            → Rests (state S.Store self.old.conn) book → HasCleanDisk (state S.Store self.new.conn)
             → IsAnswer (found_or (unknown item.now) (life_now book item.now)) result }
-        ensures sound { HasCleanDisk (state S.Store self.new.conn) → (state S.Store self.old.conn).now.schema ≡ layout_1 → ((fault : _) → result ≢ Err (Ask.Failed fault))
-            → (book : _) × HoldsBook (state S.Store self.old.conn).now.trees book × (result ≡ found_or (unknown item.now) (life_now book item.now)) }
-        ensures damaged { HasCleanDisk (state S.Store self.new.conn) → (state S.Store self.old.conn).now.schema ≡ layout_1
-            → (table : _) → result ≡ Err (Ask.Failed (Fault.Damaged table)) → IsReasonFor (state S.Store self.old.conn).now.trees table }
+        ensures sound { HasCleanDisk (state S.Store self.new.conn)
+            → HasOwn1 (state S.Store self.old.conn).now.schema → ((fault : _)
+            → result ≢ Err (Ask.Failed fault)) → (book : _)
+            × HoldsBook (state S.Store self.old.conn).now.trees book
+            × (result ≡ found_or (unknown item.now) (life_now book item.now)) }
+        ensures damaged { HasCleanDisk (state S.Store self.new.conn)
+            → HasOwn1 (state S.Store self.old.conn).now.schema → (table : _)
+            → result ≡ Err (Ask.Failed (Fault.Damaged table))
+            → IsReasonFor (state S.Store self.old.conn).now.trees table }
     {
         let book = self.book(alloc)?;
         match book.life_now(item) {
@@ -280,17 +355,26 @@ impl<S: Alter> Office<S> {
     /// The first commands, at most `at_most`, of those whose number is at least `from`, in their order. No table
     /// changes.
     pub fn entries(&mut self, alloc: Global, from: u32, at_most: u32) -> Result<Vec<Command>, Fault>
-        ensures reopen { self.old.needs_reopen ≡ true → (result ≡ Err Fault.NeedsReopen) × (self.new ≡ self.old) }
+        ensures reopen { self.old.needs_reopen ≡ true → (result ≡ Err Fault.NeedsReopen)
+            × (self.new ≡ self.old) }
         ensures usable { self.old.needs_reopen ≡ false → result ≢ Err Fault.NeedsReopen }
-        ensures goes_on { self.old.needs_reopen ≡ false → result ≢ Err Fault.Store → self.new.needs_reopen ≡ false }
+        ensures goes_on { self.old.needs_reopen ≡ false → result ≢ Err Fault.Store
+            → self.new.needs_reopen ≡ false }
         ensures stopped { result ≡ Err Fault.Store → self.new.needs_reopen ≡ true }
-        ensures untouched { self.old.needs_reopen ≡ false → ChangesNothing (state S.Store self.old.conn) (state S.Store self.new.conn) }
-        ensures exact { (book : _) → self.old.needs_reopen ≡ false → Rests (state S.Store self.old.conn) book → HasCleanDisk (state S.Store self.new.conn)
-            → MatchResult result (λ v. v.items ≡ entries_from from at_most book) (λ fault. (fault ≡ Fault.Memory) ⊎ (fault ≡ Fault.Store)) }
-        ensures sound { HasCleanDisk (state S.Store self.new.conn) → (state S.Store self.old.conn).now.schema ≡ layout_1
-            → IfOk result (λ v. (book : _) × HoldsBook (state S.Store self.old.conn).now.trees book × (v.items ≡ entries_from from at_most book)) }
-        ensures damaged { HasCleanDisk (state S.Store self.new.conn) → (state S.Store self.old.conn).now.schema ≡ layout_1
-            → (table : _) → result ≡ Err (Fault.Damaged table) → IsReasonFor (state S.Store self.old.conn).now.trees table }
+        ensures untouched { self.old.needs_reopen ≡ false
+            → ChangesNothing (state S.Store self.old.conn) (state S.Store self.new.conn) }
+        ensures exact { (book : _) → self.old.needs_reopen ≡ false
+            → Rests (state S.Store self.old.conn) book → HasCleanDisk (state S.Store self.new.conn)
+            → MatchResult result (λ v. v.items ≡ entries_from from at_most book)
+            (λ fault. (fault ≡ Fault.Memory) ⊎ (fault ≡ Fault.Store)) }
+        ensures sound { HasCleanDisk (state S.Store self.new.conn)
+            → HasOwn1 (state S.Store self.old.conn).now.schema → IfOk result (λ v. (book : _)
+            × HoldsBook (state S.Store self.old.conn).now.trees book
+            × (v.items ≡ entries_from from at_most book)) }
+        ensures damaged { HasCleanDisk (state S.Store self.new.conn)
+            → HasOwn1 (state S.Store self.old.conn).now.schema → (table : _)
+            → result ≡ Err (Fault.Damaged table)
+            → IsReasonFor (state S.Store self.old.conn).now.trees table }
     {
         let book = self.book(alloc)?;
         Ok(book.entries(alloc, from, at_most)?)

@@ -9,7 +9,7 @@ use Rattle.mx_layout.proofs.CrashLemmas.{rests_kept}
 use Rattle.mx_office.specs.Stands.{Stands}
 use Rattle.mx_office.proofs.AnswerLemmas.{no_damage, same_fault}
 use Rattle.mx_office.proofs.OfficeLemmas.{old_reply, loaded_rests, new_kept, new_crash, said_reply}
-use Rattle.mx_office.proofs.office.answer.Goals as goal
+use Rattle.mx_office.proofs.answering.answer.Goals as goal
 
 pub returns-in-Already-clause-sound : goal.returns-in-Already-clause-sound
 returns-in-Already-clause-sound g c clean has =

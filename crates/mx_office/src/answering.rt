@@ -1,0 +1,69 @@
+//! Answering a command: judged against the book that the tables hold, and entered where it is new.
+ghost use Rattle.std.specs.Prelude.{◌≡◌, ◌≢◌, ◌≤◌, false, IsTrue, OnOk, IfOk};
+ghost use Rattle.sqlite.specs.State.{HasCleanDisk};
+ghost use Rattle.sqlite.specs.Held.{state};
+ghost use Rattle.sqlite_trees.specs.View.{doubt};
+ghost use Rattle.mx_book.specs.Run.{book_after, reply};
+ghost use Rattle.mx_layout.specs.Crash.{Leaves, ChangesNothing};
+ghost use Rattle.mx_kept.specs.Schemas.{HasOwn1};
+ghost use Rattle.mx_office.specs.Stands.{HoldsBook, IsReasonFor, Rests, IsEither, WasEntered};
+
+use crate::adding::enter;
+use crate::fault::Fault;
+use crate::loading::load_book;
+use mx_book::{Reply, Verdict};
+use mx_command::Command;
+use mx_register::added_rows;
+use sqlite::{Alter, Connection};
+use std::alloc::Global;
+
+/// Judges a command against the book that the tables hold, and enters it in one commit where it is new.
+pub(crate) fn answer<S: Alter>(
+    alloc: Global,
+    conn: &mut Connection<S>,
+    command: &Command,
+) -> Result<Reply, Fault>
+    requires { conn.old.in_transaction ≡ false }
+    ensures idle { conn.new.in_transaction ≡ false }
+    ensures clean { doubt (state S.Store conn.old).is_clean
+        ≤ doubt (state S.Store conn.new).is_clean }
+    ensures usable { result ≢ Err Fault.NeedsReopen }
+    ensures reply { (book : _) → Rests (state S.Store conn.old) book
+        → HasCleanDisk (state S.Store conn.new) → IfOk result (λ r. r ≡ reply book command.now) }
+    ensures kept { (book : _) → Rests (state S.Store conn.old) book
+        → OnOk result (Rests (state S.Store conn.new) (book_after book command.now)) }
+    ensures untouched { ((seq : _) → result ≢ Ok (Reply.Accepted seq)) → result ≢ Err Fault.Store
+        → ChangesNothing (state S.Store conn.old) (state S.Store conn.new) }
+    ensures whole { (book : _) → Rests (state S.Store conn.old) book
+        → HasCleanDisk (state S.Store conn.new) → (table : _) → result ≢ Err (Fault.Damaged table) }
+    ensures sound { HasCleanDisk (state S.Store conn.new)
+        → HasOwn1 (state S.Store conn.old).now.schema → IfOk result (λ r. (book : _)
+        × HoldsBook (state S.Store conn.old).now.trees book × (r ≡ reply book command.now)) }
+    ensures damaged { HasCleanDisk (state S.Store conn.new)
+        → HasOwn1 (state S.Store conn.old).now.schema → (table : _)
+        → result ≡ Err (Fault.Damaged table)
+        → IsReasonFor (state S.Store conn.old).now.trees table }
+    ensures was_open { HasCleanDisk (state S.Store conn.new)
+        → result ≢ Err Fault.Memory → result ≢ Err Fault.Store
+        → IsTrue (state S.Store conn.old).is_open }
+    ensures entered { let old = state S.Store conn.old in let new = state S.Store conn.new in
+        HasCleanDisk new → HasOwn1 old.now.schema → old.now ≡ old.committed
+        → IfOk result (λ said. (seq : _) → said ≡ Reply.Accepted seq
+        → WasEntered command.now said old new) }
+    ensures crash { (book : _) → Rests (state S.Store conn.old) book
+        → Leaves (state S.Store conn.new) (IsEither book (book_after book command.now)) }
+{
+    let book = load_book(alloc, conn)?;
+    match book.judge(command) {
+        Verdict::Already(seq) => Ok(Reply::Already(seq)),
+        Verdict::Refused(refusal) => Ok(Reply::Refused(refusal)),
+        Verdict::New => {
+            let seq = book.len() + 1;
+            let rows = added_rows(alloc, &book, command)?;
+            match enter(conn, &book, command, rows) {
+                Ok(()) => Ok(Reply::Accepted(seq)),
+                Err(_) => Err(Fault::Store),
+            }
+        }
+    }
+}
