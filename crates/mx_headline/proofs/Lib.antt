@@ -1,0 +1,3 @@
+pub mod KeptLemmas
+pub mod CreatedLemmas
+pub mod ReopenedLemmas

@@ -1,0 +1,83 @@
+-- The headline, from what the run, the reopening and the printing answer.
+use Rattle.std.proofs.Common.{◌≡◌, ◌≢◌, ℕ, List, length, take, ◌+◌, Some, Result, Ok, Err, IfOk, subst, sym}
+use Rattle.std.proofs.Math.Logic.{∥∥₁_elim, ∥∥₁_map, ∥∥₁_prop}
+use Rattle.sqlite_disk.specs.declared.Disk as disk
+use Rattle.sqlite_store.specs.declared.store.FileStore.{FileStore}
+use Rattle.sqlite.specs.Store.{Ghosts}
+use Rattle.sqlite.specs.Held.{Held}
+use Rattle.sqlite.specs.Files.{file_state}
+use Rattle.sqlite.specs.Tree.{Trees}
+use Rattle.sqlite.specs.State.{State, HasCleanDisk}
+use Rattle.mx_command.specs.Act.{Entry}
+use Rattle.mx_book.specs.Accepted.{accepted, HasAcknowledged}
+use Rattle.mx_book.specs.Run.{book_run, replies}
+use Rattle.mx_book.proofs.AcceptedLemmas.{acknowledged_stays}
+use Rattle.mx_layout.specs.declared.fault.Table.{Table}
+use Rattle.mx_layout.specs.Crash.{Leaves}
+use Rattle.mx_layout.specs.Found.{IsEndOf}
+use Rattle.mx_office.specs.declared.fault.Fault.TheVariants.{Store, Damaged}
+use Rattle.mx_office.specs.declared.fault.OpenFault.{OpenFault}
+use Rattle.mx_office.specs.declared.fault.Outcomes.{Outcomes}
+use Rattle.mx_office.specs.Office.{office_state, StandsFor}
+use Rattle.mx_office.specs.Stands.{IsEither, Rests, Stands}
+use Rattle.mx_headline.specs.declared.running.Reopened.{Reopened}
+use Rattle.mx_headline.specs.declared.running.Unopened.{Unopened}
+use Rattle.mx_headline.specs.declared.running.Unopened.TheVariants.{Database, Office}
+use Rattle.mx_headline.specs.Kept.{IsBookKept}
+use Rattle.mx_headline.specs.Ended.{IsEnded}
+use Rattle.mx_headline.specs.Reopened.{FindsUnopened, IsUnopened, KeepsUnopened, IsKeptUnopened, IsReopened, Reopens, IsReopenedTwice, ReopensTwice}
+use Rattle.mx_headline.proofs.KeptLemmas.{rests_as, book_left, is_book_kept}
+
+-- what a run answered, and what it leaves
+pub record IsRun (before commands : List Entry) (outcomes : Outcomes) (end : State) : Type 0 where
+  pub clean : HasCleanDisk end
+  pub undamaged : (table : Table) → outcomes.stopped ≢ Some (Damaged table)
+  pub answered : outcomes.replies.items ≡ replies before (take (length outcomes.replies.items) commands)
+  pub kept : outcomes.stopped ≢ Some Store → Rests end (book_run before (take (length outcomes.replies.items) commands))
+  pub crash : Leaves end (IsEither (book_run before (take (length outcomes.replies.items) commands)) (book_run before (take (length outcomes.replies.items + 1) commands)))
+
+-- the book of tables that a crash leaves
+pub record IsKeptIn (before commands : List Entry) (outcomes : Outcomes) (db : Trees) : Type 0 where
+  pub book : List Entry
+  pub kept : IsBookKept before commands outcomes book
+  pub stands : Stands db book
+
+pub is_kept_in : (before commands : List Entry) (outcomes : Outcomes) (end : State) → IsRun before commands outcomes end → (db : Trees) → end.may_leave db → IsKeptIn before commands outcomes db
+is_kept_in before commands outcomes end run db left =
+    let one = book_left end before commands outcomes run.kept run.crash run.clean db left in
+    record { book = book_run before (take one.0 commands); kept = is_book_kept before commands outcomes one.0 one.1 run.answered run.undamaged; stands = one.2 }
+
+is_kept_unopened : (before commands : List Entry) (outcomes : Outcomes) (end now : State) (fault : OpenFault) → IsRun before commands outcomes end → IsUnopened end fault now → IsKeptUnopened before commands outcomes fault now
+is_kept_unopened before commands outcomes end now fault run left =
+    let it = is_kept_in before commands outcomes end run left.found.tables left.found.left in
+    record { book = it.book; kept = it.kept; tables = rests_as end.may_leave now it.book left.found it.stands; reason = left.reason it.book it.stands }
+
+pub keeps_unopened : {D : Type 0} {g : disk.Ghosts D} (before commands : List Entry) (outcomes : Outcomes) (end : State) → (HasCleanDisk end → IsRun before commands outcomes end)
+    → (why : Unopened (FileStore D g)) → FindsUnopened end why → KeepsUnopened before commands outcomes why
+keeps_unopened before commands outcomes end run (Database error) left = tt
+keeps_unopened before commands outcomes end run (Office conn fault) left = λ clean. ∥∥₁_map (left clean) (λ one. is_kept_unopened before commands outcomes end (file_state conn) fault (run one.clean) one)
+
+-- two runs, one after the other
+is_reopened_twice : {S : Type 0} {g : Ghosts S} (before commands more : List Entry) (tail : List ℕ) (first second : Outcomes) (again : Reopened S g) (between : List Entry)
+    → IsBookKept before commands first between → IsReopened between more tail second again → IsReopenedTwice before commands more tail first second again
+is_reopened_twice before commands more tail first second again between kept it =
+    let added = take it.kept.kept (accepted between more) in
+    let still = acknowledged_stays between added first.replies.items commands kept.acknowledged in
+    record { between = between; before_it = kept; after_it = it; still = subst (λ (book : List Entry). HasAcknowledged book first.replies.items commands) (sym it.kept.prefix) still }
+
+pub reopens_twice : {S E : Type 0} {g : Ghosts S} (before commands more : List Entry) (tail : List ℕ) (first second : Outcomes) (one : Reopened S g) (again : Result (Reopened S g) E) → Reopens before commands tail first one
+    → ((between : List Entry) → StandsFor one.office between → IfOk again (Reopens between more tail second)) → IfOk again (λ it. HasCleanDisk (office_state it.office) → HasCleanDisk (office_state one.office))
+    → IfOk again (ReopensTwice before commands more tail first second)
+reopens_twice before commands more tail first second one (Ok it) found next sure = λ clean.
+    ∥∥₁_elim (found (sure clean)) ∥∥₁_prop (λ left. ∥∥₁_map (next left.book left.tables clean) (λ last. is_reopened_twice before commands more tail first second it left.book left.kept last))
+reopens_twice before commands more tail first second one (Err why) found next sure = tt
+
+-- ── a process that ends ──
+
+pub is_ended : {D : Type 0} {g : disk.Ghosts D} (before commands : List Entry) (outcomes : Outcomes) (conn : Held (FileStore D g)) (store : FileStore D g) → (HasCleanDisk (file_state conn) → IsRun before commands outcomes (file_state conn))
+    → IsEndOf conn store → IsEnded before commands (record { outcomes = outcomes; store = store })
+is_ended before commands outcomes conn store run left = record {
+  conn = conn;
+  left = left;
+  books = λ clean db may. let it = is_kept_in before commands outcomes (file_state conn) (run clean) db may in (it.book, it.kept, it.stands);
+}

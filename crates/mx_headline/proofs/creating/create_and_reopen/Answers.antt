@@ -1,0 +1,20 @@
+use Rattle.std.proofs.Math.Logic.{∥∥₁_map}
+use Rattle.sqlite.specs.Files.{file_state}
+use Rattle.mx_headline.proofs.CreatedLemmas.{is_made, if_opened, finds_before, unless_store}
+use Rattle.mx_headline.proofs.creating.create_and_reopen.Goals as goal
+
+pub returns-clause-headline : goal.returns-clause-headline
+returns-clause-headline g c bare =
+    let old = file_state c.args.conn in
+    let end = file_state c.create-answer.new.conn in
+    let made = c.create-answer.ensures in
+    if_opened c.reopen-again.result c.reopen-again.ensures.clean c.reopen-again.ensures.found (λ again sure found clean.
+    ∥∥₁_map (found clean) (λ one. is_made old end (file_state again) (sure clean) bare (made.crash bare) one c.create-answer.result (made.made bare) made.unchanged))
+
+pub returns-clause-kept : goal.returns-clause-kept
+returns-clause-kept g c office =
+    finds_before file_state (file_state c.args.conn) (file_state c.create-answer.new.conn) c.reopen-again.result (c.create-answer.ensures.kept office) c.reopen-again.ensures.clean c.reopen-again.ensures.found
+
+pub returns-clause-unchanged : goal.returns-clause-unchanged
+returns-clause-unchanged g c =
+    unless_store file_state (file_state c.args.conn) (file_state c.create-answer.new.conn) c.create-answer.result c.reopen-again.result c.create-answer.ensures.unchanged c.reopen-again.ensures.clean c.reopen-again.ensures.found

@@ -1,0 +1,15 @@
+use Rattle.std.proofs.lemmas.Result.{IfOk-at_ok}
+use Rattle.mx_headline.proofs.ReopenedLemmas.{reopens_twice}
+use Rattle.mx_headline.specs.Reopened.{Reopens}
+use Rattle.mx_headline.proofs.second_stop.run_and_reopen_twice.Goals as goal
+
+pub returns-in-Ok : goal.returns-in-Ok
+returns-in-Ok g c = record {
+  headline = λ before rests.
+      let commands = c.args.commands.now in
+      let tail = c.args.tail.now in
+      let first = c.run_and_reopen-first.result.outcomes in
+      let second = c.run_and_reopen-second in
+      reopens_twice before commands c.args.more.now tail first second.result.outcomes _ second.result.again
+      (IfOk-at_ok (Reopens before commands tail first) c.in-Ok.is (c.run_and_reopen-first.ensures.headline before rests)) second.ensures.headline second.ensures.clean;
+}

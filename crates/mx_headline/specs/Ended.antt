@@ -1,0 +1,18 @@
+-- What a process leaves of a run as it ends.
+use Rattle.std.specs.Prelude.{List}
+use Rattle.sqlite_disk.specs.declared.Disk.{Ghosts}
+use Rattle.sqlite_store.specs.declared.store.FileStore.{FileStore}
+use Rattle.sqlite.specs.Files.{file_state}
+use Rattle.sqlite.specs.Held.{Held}
+use Rattle.mx_command.specs.Act.{Entry}
+use Rattle.mx_layout.specs.Crash.{Leaves}
+use Rattle.mx_layout.specs.Found.{IsEndOf}
+use Rattle.mx_office.specs.Stands.{Stands}
+use Rattle.mx_headline.specs.Kept.{IsBookKept}
+use Rattle.mx_headline.specs.declared.next_process.Ended.{Ended}
+
+-- The store is what the process left of a connection, and each state of the tables that a crash of it may leave stands for the book from before and the first of the commands accepted since, with every acknowledged command in it.
+pub record IsEnded {D : Type 0} {g : Ghosts D} (before commands : List Entry) (ended : Ended D g) : Type 0 where
+  pub conn : Held (FileStore D g)
+  pub left : IsEndOf conn ended.store
+  pub books : Leaves (file_state conn) (λ db. (book : List Entry) × IsBookKept before commands ended.outcomes book × Stands db book)

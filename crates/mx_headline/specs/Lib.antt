@@ -1,0 +1,4 @@
+pub mod Kept
+pub mod Reopened
+pub mod Created
+pub mod Ended
