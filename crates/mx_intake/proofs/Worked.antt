@@ -1,0 +1,133 @@
+-- Worked texts: the commands that they state, or their faults, computed from the definitions.
+use Rattle.std.proofs.Common.{refl, ◌≡◌, ℕ, List, [], ◌∷◌, Some, None, Ok, Err, length, replicate, arith}
+use Rattle.std.specs.Prelude.{codes, ⊤}
+use Rattle.std.specs.Str.{is_utf8, chars}
+use Rattle.jiff_core.specs.Calendar.{days_from_civil, day_count, days_of_years, days_of_months}
+use Rattle.serde_json.proofs.OnLiterals.{serde_json_on_literals}
+use Rattle.mx_base.specs.Calendar.{date_of}
+use Rattle.mx_base.specs.Texts.{day_text, moment_text}
+use Rattle.mx_command.specs.Act.{Removed}
+use Rattle.mx_intake.specs.Fault.{fault}
+use Rattle.mx_intake.specs.Entries.{value_of_text, entries_of_value, entries_from, entries_of_text}
+use Rattle.mx_intake.proofs.EntriesLemmas.{value_of_text-long}
+use Rattle.serde_json.specs.Data.{Items, array}
+use Rattle.serde_json.specs.Events.{items_len}
+use Rattle.serde_json.specs.Read.{read}
+use Rattle.mx_intake.specs.Vocabulary.{named_day, day_of_text, named_moment, moment_of_text}
+
+-- what is unfolded to compute the commands of a text
+unfoldable pub intake_on_literals : ⊤
+unfolding value_of_text is_utf8 chars serde_json_on_literals day_of_text moment_of_text named_moment named_day days_from_civil day_count days_of_years days_of_months moment_text day_text date_of
+intake_on_literals = tt
+
+-- ── days and moments ──
+
+second_day : moment_of_text (codes "1970-01-02T23:59") ≡ Some 2879
+unfolding intake_on_literals
+second_day = refl
+
+thirtieth_of_february : day_of_text (codes "1972-02-30") ≡ None
+unfolding intake_on_literals
+thirtieth_of_february = refl
+
+past_the_last_minute : moment_of_text (codes "1970-01-02T24:00") ≡ None
+unfolding intake_on_literals
+past_the_last_minute = refl
+
+seconds_behind : moment_of_text (codes "1970-01-02T23:59:00") ≡ None
+unfolding intake_on_literals
+seconds_behind = refl
+
+a_day_of_2024 : day_of_text (codes "2024-03-01") ≡ Some 19783
+unfolding intake_on_literals
+a_day_of_2024 = refl
+
+-- ── whole texts ──
+
+no_text : entries_of_text [] ≡ Err (fault 61 0)
+unfolding intake_on_literals
+no_text = refl
+
+not_utf8 : entries_of_text (91 ∷ 255 ∷ 93 ∷ []) ≡ Err (fault 61 0)
+unfolding intake_on_literals
+not_utf8 = refl
+
+no_commands : entries_of_text (codes "[]") ≡ Ok []
+unfolding intake_on_literals
+no_commands = refl
+
+no_list : entries_of_text (codes "{}") ≡ Err (fault 63 0)
+unfolding intake_on_literals
+no_list = refl
+
+no_object : entries_of_text (codes "[1]") ≡ Err (fault 63 1)
+unfolding intake_on_literals
+no_object = refl
+
+no_word : entries_of_text (codes "[{}]") ≡ Err (fault 62 1)
+unfolding intake_on_literals
+no_word = refl
+
+unknown_word : entries_of_text (codes "[{\"do\":\"fly\"}]") ≡ Err (fault 63 1)
+unfolding intake_on_literals
+unknown_word = refl
+
+-- ── removals ──
+
+removal_without_moment : entries_of_text (codes "[{\"do\":\"remove\",\"doc\":\"R9\",\"serial\":\"E9\"}]") ≡ Err (fault 62 1)
+unfolding intake_on_literals
+removal_without_moment = refl
+
+removal : entries_of_text (codes "[{\"do\":\"remove\",\"doc\":\"R9\",\"serial\":\"E9\",\"moment\":\"1970-01-02T23:59\"}]")
+    ≡ Ok (record { doc = codes "R9"; act = Removed (record { serial = codes "E9"; moment = 2879 }) } ∷ [])
+unfolding intake_on_literals
+removal = refl
+
+removal_on_no_day : entries_of_text (codes "[{\"do\":\"remove\",\"doc\":\"R9\",\"serial\":\"E9\",\"moment\":\"2024-02-30T00:00\"}]") ≡ Err (fault 63 1)
+unfolding intake_on_literals
+removal_on_no_day = refl
+
+-- a document of the technical log, which no removal has
+removal_by_a_page : entries_of_text (codes "[{\"do\":\"remove\",\"doc\":\"TL/D/1/1\",\"serial\":\"E9\",\"moment\":\"1970-01-02T23:59\"}]") ≡ Err (fault 65 1)
+unfolding intake_on_literals
+removal_by_a_page = refl
+
+-- ── the first faulty entry, and its least fault ──
+
+first_of_two : entries_of_text (codes "[{\"do\":\"fly\"},{}]") ≡ Err (fault 63 1)
+unfolding intake_on_literals
+first_of_two = refl
+
+second_alone : entries_of_text (codes "[{\"do\":\"remove\",\"doc\":\"R9\",\"serial\":\"E9\",\"moment\":\"1970-01-02T23:59\"},{}]") ≡ Err (fault 62 2)
+unfolding intake_on_literals
+second_alone = refl
+
+-- a key that is missing, before a value that can't be read and a key that is unknown
+missing_first : entries_of_text (codes "[{\"do\":\"remove\",\"doc\":\"\",\"serial\":\"E9\",\"note\":1}]") ≡ Err (fault 62 1)
+unfolding intake_on_literals
+missing_first = refl
+
+-- a value that can't be read, before a key that is unknown
+unread_first : entries_of_text (codes "[{\"do\":\"remove\",\"doc\":\"\",\"serial\":\"E9\",\"moment\":\"1970-01-02T23:59\",\"note\":1}]") ≡ Err (fault 63 1)
+unfolding intake_on_literals
+unread_first = refl
+
+-- a key that is unknown, before the shape
+unknown_first : entries_of_text (codes "[{\"do\":\"remove\",\"doc\":\"TL/D/1/1\",\"serial\":\"E9\",\"moment\":\"1970-01-02T23:59\",\"note\":1}]") ≡ Err (fault 64 1)
+unfolding intake_on_literals
+unknown_first = refl
+
+-- ── limits ──
+
+one_byte_too_many : (bytes : List ℕ) → length bytes ≡ 8388609 → entries_of_text bytes ≡ Err (fault 67 0)
+one_byte_too_many bytes h = rw (value_of_text-long bytes (omega arith))
+
+one_entry_too_many : (ds : Items) → items_len ds ≡ 10001 → entries_of_value (array ds) ≡ Err (fault 67 0)
+one_entry_too_many ds h = rw h
+
+as_many_entries_as_are_taken : (ds : Items) → items_len ds ≡ 10000 → entries_of_value (array ds) ≡ entries_from 1 ds
+as_many_entries_as_are_taken ds h = rw h
+
+deep_lists : read (replicate 200 91) ≡ None
+unfolding intake_on_literals
+deep_lists = refl

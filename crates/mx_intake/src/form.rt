@@ -1,0 +1,38 @@
+//! The least fault of an entry by its form, or its command.
+ghost use Rattle.std.specs.Prelude.{◌≡◌, ◌≢◌, Ok, Err, IfOk, IfErr, option_map};
+ghost use Rattle.mx_intake.specs.declared.fault.TheConstants.{MEMORY};
+ghost use Rattle.mx_intake.specs.Form.{entry_by_form, entry_of};
+
+use crate::fault::{BAD_SHAPE, BAD_VALUE, MEMORY, MISSING, UNKNOWN_KEY};
+use mx_base::Doc;
+use mx_command::{Body, Command, MakeFault};
+use std::alloc::Global;
+
+/// The command of a form: from whether a key is missing, the document and the body where every value can be read, and
+/// whether there is another key.
+pub(crate) fn command_by_form(
+    alloc: Global,
+    lacks: bool,
+    stated: Option<(Doc, Body)>,
+    has_other: bool,
+) -> Result<Command, u8>
+    ensures ok { IfOk result (λ c.
+        entry_by_form lacks (option_map entry_of stated) has_other ≡ Ok c) }
+    ensures err { IfErr result (λ n. n ≢ MEMORY
+        → entry_by_form lacks (option_map entry_of stated) has_other ≡ Err n) }
+{
+    if lacks {
+        return Err(MISSING);
+    }
+    let Some((doc, body)) = stated else {
+        return Err(BAD_VALUE);
+    };
+    if has_other {
+        return Err(UNKNOWN_KEY);
+    }
+    match Command::make(alloc, doc, body) {
+        Ok(command) => Ok(command),
+        Err(MakeFault::BadShape) => Err(BAD_SHAPE),
+        Err(MakeFault::Memory) => Err(MEMORY),
+    }
+}

@@ -1,0 +1,27 @@
+//! What comes in from outside: all bytes of a reader, and the commands that a JSON text states, or the fault of the
+//! text or of its first faulty entry.
+//!
+//! A further command adds its form in one place: a file of `src/` and a part of `specs/Forms.antt`, each with a
+//! line where the word at `do` chooses the form (`forms.rt`, `entry_by_word`).
+#![tactic(auto)]
+
+mod aircraft;
+mod component;
+mod fault;
+mod fitting;
+mod form;
+mod forms;
+mod input;
+mod json;
+mod object;
+mod positions;
+mod removal;
+mod sector;
+mod vocabulary;
+
+pub use fault::{
+    BAD_SHAPE, BAD_VALUE, IntakeFault, MEMORY, MISSING, NOT_TEXT, READ_FAILED, TOO_LONG,
+    UNKNOWN_KEY,
+};
+pub use input::read_all;
+pub use json::{MOST_BYTES, MOST_COMMANDS, commands_of_json};

@@ -1,0 +1,75 @@
+//! What an object has at its keys.
+ghost use Rattle.std.specs.Prelude.{◌≡◌, map, is_some, option_map};
+ghost use Rattle.serde_json.specs.Find.{get};
+ghost use Rattle.serde_json.specs.View.{view, items_view};
+ghost use Rattle.mx_intake.specs.Object.{lacks_key, is_key, has_other_key, number_at_key, text_at_key, list_at_key};
+
+use serde_json::Value;
+
+/// Whether the value is an object that has the key.
+fn has(object: &Value, key: &str) -> bool
+    ensures { result ≡ is_some (get key.now (view object.now)) }
+{
+    object.get(key).is_some()
+}
+
+/// Whether one of the keys is missing.
+pub(crate) fn lacks(object: &Value, keys: &[&str]) -> bool
+    ensures { result ≡ lacks_key (map (λ k. k.now) keys.now) (view object.now) }
+{
+    for key in keys {
+        if !has(object, key) {
+            return true;
+        }
+    }
+    false
+}
+
+fn is_one_of(keys: &[&str], key: &str) -> bool
+    ensures { result ≡ is_key (map (λ k. k.now) keys.now) key.now }
+{
+    for known in keys {
+        if *known == key {
+            return true;
+        }
+    }
+    false
+}
+
+/// Whether there is a key that is none of these.
+pub(crate) fn has_other(object: &Value, keys: &[&str]) -> bool
+    ensures { result ≡ has_other_key (map (λ k. k.now) keys.now) (view object.now) }
+{
+    let Some(members) = object.as_object() else {
+        return false;
+    };
+    for key in members.keys() {
+        if !is_one_of(keys, key.as_str()) {
+            return true;
+        }
+    }
+    false
+}
+
+/// The whole number at a key, up to 4,294,967,295.
+pub(crate) fn number_at(object: &Value, key: &str) -> Option<u32>
+    ensures { result ≡ number_at_key key.now (view object.now) }
+{
+    let number = object.get(key)?.as_u64()?;
+    u32::try_from(number).ok()
+}
+
+/// The text at a key.
+pub(crate) fn text_at<'v>(object: &'v Value, key: &str) -> Option<&'v str>
+    ensures { option_map (λ t. t.now) result ≡ text_at_key key.now (view object.now) }
+{
+    object.get(key)?.as_str()
+}
+
+/// The values of the list at a key.
+pub(crate) fn list_at<'v>(object: &'v Value, key: &str) -> Option<&'v [Value]>
+    ensures { option_map (λ l. items_view l.now) result ≡ list_at_key key.now (view object.now) }
+{
+    let list = object.get(key)?.as_array()?;
+    Some(list.as_slice())
+}
