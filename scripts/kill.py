@@ -7,6 +7,7 @@ sqlite3) reads a copy of the file with its log, and then the program is asked on
 it ended a process that was still running. The last line says how many did; the status is 1 where one left a file
 that is neither the one from before nor the one from after, or lost what was acknowledged.
 """
+import json
 import os
 import random
 import shutil
@@ -97,16 +98,66 @@ class Init:
         return found
 
 
-# A word that enters commands has a class beside Init: `before` makes the file and enters what it holds, `words` are
-# the words that are killed, and `after` compares the entries with those that were acknowledged.
-WORDS = [Init()]
+def sector(line):
+    """The sector with this line of the log: half an hour, one a day."""
+    day = f"2024-02-{line:02}"
+    return {
+        "do": "sector", "tail": "D-ABCD", "page": 1, "line": line, "off": f"{day}T10:00", "on": f"{day}T10:30", "cycles": 1,
+    }
+
+
+class Enter:
+    """`enter FILE ENTRIES`: the file has the book of a prefix of the commands, with each whose reply was printed."""
+
+    name = "enter"
+    aircraft = {
+        "do": "add-aircraft", "doc": "A1", "tail": "D-ABCD", "kind": "C172", "birth": "2000-01-01", "minutes": 600,
+        "cycles": 10, "as_of": "2024-01-01T00:00", "positions": [],
+    }
+    commands = [aircraft, *(sector(line) for line in range(1, 10))]
+
+    def entries(self, file):
+        return file.with_name("commands.json")
+
+    def before(self, file):
+        """An empty book, and the file of commands."""
+        want("init", (0, "created\n", ""), run("init", file))
+        self.entries(file).write_text(json.dumps(self.commands), encoding="utf-8")
+
+    def words(self, file):
+        return ["enter", file, self.entries(file)]
+
+    def life(self, entries):
+        """What `life` answers of the book of the first commands, so many."""
+        if entries == 0:
+            return 1, "refused 20\n", ""
+        minutes, cycles = 600 + 30 * (entries - 1), 10 + entries - 1
+        return 0, f"life D-ABCD\nairframe C172 {minutes // 60}:{minutes % 60:02} {cycles}\nend 1\n", ""
+
+    def after(self, file, printed):
+        """Looks at the file that a kill left, after the program printed this. Answers what it is."""
+        want("the tables", TABLES, tables_by_sqlite(file))
+        kept = next((n for n in range(len(self.commands) + 1) if run("life", file, "D-ABCD") == self.life(n)), None)
+        if kept is None:
+            raise Bad("the book of no prefix of the commands")
+        if kept < len(printed.splitlines()):
+            raise Bad(f"{kept} entries, and these replies: {printed!r}")
+        replies = [f"{'already' if seq <= kept else 'accepted'} {seq}\n" for seq in range(1, len(self.commands) + 1)]
+        want("the same commands once more", (0, "".join(replies), ""), run(*self.words(file)))
+        want("life then", self.life(len(self.commands)), run("life", file, "D-ABCD"))
+        return f"{kept} entries"
+
+
+# A further word that writes has a class beside these: `before` makes the file and enters what it holds, `words` are the
+# words that are killed, and `after` compares what the file holds with what was acknowledged.
+WORDS = [Init(), Enter()]
 
 
 def seconds_of(word, folder):
     """How long the word runs where nothing stops it: the longest of five."""
     longest = 0.0
     for nth in range(5):
-        file = folder / f"whole{nth}.db"
+        file = folder / f"{word.name}-whole{nth}.db"
         word.before(file)
         begun = time.monotonic()
         want(f"the status of {word.name}", 0, run(*word.words(file))[0])

@@ -3,7 +3,7 @@ use Rattle.std.proofs.Common.{◌≡◌, ◌≤◌, ℕ, Result, Ok, Err, IfErr,
 use Rattle.mx_words.specs.declared.fault.Ending.{Ending}
 use Rattle.mx_words.specs.declared.fault.Ending.TheVariants.{Done, Refused}
 use Rattle.mx_words.specs.declared.fault.Stop.{Stop}
-use Rattle.mx_words.specs.declared.fault.Stop.TheVariants.{Words, Shape, MakeMemory, Create, Open, Office, Print}
+use Rattle.mx_words.specs.declared.fault.Stop.TheVariants.{Words, Shape, Intake, MakeMemory, Create, Open, Office, Print}
 use Rattle.mx_words.specs.Status.{ending_status, stop_status}
 
 -- a stop of status 4 has a status of 4 or more
@@ -18,6 +18,7 @@ one_at_most Refused = lit≤ tt
 pub two_at_least : (stop : Stop) → 2 ≤ stop_status stop
 two_at_least Words = lit≤ tt
 two_at_least Shape = lit≤ tt
+two_at_least (Intake fault) = lit≤ tt
 two_at_least MakeMemory = lit≤ tt
 two_at_least (Create fault) = lit≤ tt
 two_at_least (Open fault) = lit≤ tt

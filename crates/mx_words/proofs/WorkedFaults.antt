@@ -7,11 +7,15 @@ use Rattle.mx_layout.specs.declared.fault.Table.TheVariants as name
 use Rattle.mx_layout.specs.declared.fault.TableFault.TheVariants as table
 use Rattle.mx_office.specs.declared.fault.Fault.TheVariants as office
 use Rattle.mx_office.specs.declared.fault.OpenFault.TheVariants as opening
-use Rattle.mx_words.specs.declared.fault.Stop.TheVariants.{Words, Shape, MakeMemory, Create, Open, Office, Print}
+use Rattle.mx_words.specs.declared.fault.Stop.TheVariants.{Words, Shape, Intake, MakeMemory, Create, Open, Office, Print}
 use Rattle.mx_words.specs.FaultLine.{fault_line}
 
 words_alone : flat_map fault_line (Words ∷ Shape ∷ MakeMemory ∷ Print ∷ []) ≡ codes "fault words\nfault shape\nfault memory\nfault memory\n"
 words_alone = refl
+
+read : fault_line (Intake (record { number = 62; entry = 1 })) ≡ codes "fault 62 entry 1\n"
+unfolding digits
+read = refl
 
 made : flat_map (λ fault. fault_line (Create fault)) (table.Memory ∷ table.Store ∷ table.NotOurs ∷ table.Exists ∷ table.Damaged name.Office ∷ [])
     ≡ codes "fault memory\nfault store\nfault not-ours\nfault exists\nfault damaged office\n"

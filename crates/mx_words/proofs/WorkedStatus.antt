@@ -9,13 +9,17 @@ use Rattle.mx_book.specs.declared.verdict.Refusal.TheVariants.{UnknownAircraft, 
 use Rattle.mx_book.specs.declared.verdict.Reply.TheVariants.{Accepted, Already}
 use Rattle.mx_book.specs.declared.verdict.Reply.TheVariants as reply
 use Rattle.mx_words.specs.declared.fault.Ending.TheVariants.{Done, Refused}
-use Rattle.mx_words.specs.declared.fault.Stop.TheVariants.{Words, Shape, MakeMemory, Create, Open, Office, Print}
+use Rattle.mx_words.specs.declared.fault.Stop.TheVariants.{Words, Shape, Intake, MakeMemory, Create, Open, Office, Print}
 use Rattle.mx_words.specs.Printed.{life_answer, life_ending}
 use Rattle.mx_words.specs.Status.{stop_status, ending_status, graver, is_refusal, run_ending}
 
 -- words that the program does not take
 bad_words : map stop_status (Words ∷ Shape ∷ []) ≡ 2 ∷ 2 ∷ []
 bad_words = refl
+
+-- an input file that gives no commands
+bad_input : stop_status (Intake (record { number = 62; entry = 1 })) ≡ 3
+bad_input = refl
 
 -- nothing was opened or made
 not_opened : map stop_status (MakeMemory ∷ Create table.Exists ∷ Create table.Memory ∷ Create table.Store ∷ Open opening.NotOurs ∷ Open opening.Store ∷ Open (opening.NewerLayout 9) ∷ [])

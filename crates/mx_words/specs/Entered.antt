@@ -4,6 +4,7 @@ use Rattle.std.specs.List.{flat_map}
 use Rattle.sqlite.specs.State.{State}
 use Rattle.mx_command.specs.Act.{Entry}
 use Rattle.mx_book.specs.Run.{book_run, replies}
+use Rattle.mx_book.specs.declared.verdict.Reply.{Reply}
 use Rattle.mx_layout.specs.Crash.{Leaves}
 use Rattle.mx_office.specs.Stands.{Rests, IsEither}
 use Rattle.mx_office.specs.declared.fault.Fault.{Fault}
@@ -15,6 +16,10 @@ use Rattle.mx_words.specs.Status.{run_ending}
 -- the lines of the replies to commands over a book
 abbrev pub reply_lines : List Entry → List Entry → List ℕ
 reply_lines book commands = flat_map reply_line (replies book commands)
+
+-- the text is a line for each of some replies, and the ending is theirs
+abbrev pub AreReplyLines : List ℕ → Ending → Type 0
+AreReplyLines text ending = (replies : List Reply) × (text ≡ flat_map reply_line replies) × (ending ≡ run_ending replies)
 
 -- the lines of all replies were appended, and the ending is theirs
 pub record TellsReplies (book commands : List Entry) (old new : List ℕ) (ending : Ending) : Type 0 where

@@ -8,8 +8,9 @@ use Rattle.mx_office.specs.declared.fault.Fault.{Fault}
 use Rattle.mx_office.specs.declared.fault.Fault.TheVariants as office
 use Rattle.mx_office.specs.declared.fault.OpenFault.{OpenFault}
 use Rattle.mx_office.specs.declared.fault.OpenFault.TheVariants as opening
+use Rattle.mx_intake.specs.declared.fault.IntakeFault.{IntakeFault}
 use Rattle.mx_words.specs.declared.fault.Stop.{Stop}
-use Rattle.mx_words.specs.declared.fault.Stop.TheVariants.{Words, Shape, MakeMemory, Create, Open, Office, Print}
+use Rattle.mx_words.specs.declared.fault.Stop.TheVariants.{Words, Shape, Intake, MakeMemory, Create, Open, Office, Print}
 
 -- why no book was made, in a word or two
 abbrev pub create_words : TableFault → List ℕ
@@ -35,10 +36,15 @@ office_words office.Store = codes "store"
 office_words office.NeedsReopen = codes "reopen"
 office_words (office.Damaged name) = codes "damaged " ++ table_name name
 
+-- why a file gives no commands: the number of the fault, and the entry that has it
+abbrev pub intake_words : IntakeFault → List ℕ
+intake_words fault = decimal fault.number ++ (codes " entry " ++ decimal fault.entry)
+
 -- why the program ends
 abbrev pub stop_words : Stop → List ℕ
 stop_words Words = codes "words"
 stop_words Shape = codes "shape"
+stop_words (Intake fault) = intake_words fault
 stop_words MakeMemory = codes "memory"
 stop_words Print = codes "memory"
 stop_words (Create fault) = create_words fault

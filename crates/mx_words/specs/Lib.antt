@@ -1,3 +1,4 @@
+pub mod Asked
 pub mod Done
 pub mod Entered
 pub mod FaultLine

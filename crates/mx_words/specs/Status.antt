@@ -6,12 +6,13 @@ use Rattle.mx_book.specs.declared.verdict.Reply.TheVariants as reply
 use Rattle.mx_words.specs.declared.fault.Ending.{Ending}
 use Rattle.mx_words.specs.declared.fault.Ending.TheVariants.{Done, Refused}
 use Rattle.mx_words.specs.declared.fault.Stop.{Stop}
-use Rattle.mx_words.specs.declared.fault.Stop.TheVariants.{Words, Shape, MakeMemory, Create, Open, Office, Print}
+use Rattle.mx_words.specs.declared.fault.Stop.TheVariants.{Words, Shape, Intake, MakeMemory, Create, Open, Office, Print}
 
--- the status of a stop: 2 for the words, 5 where no office was opened or made, 4 after it was opened
+-- the status of a stop: 2 for the words, 3 for the input file, 5 where no office was opened or made, 4 after it was opened
 abbrev pub stop_status : Stop → ℕ
 stop_status Words = 2
 stop_status Shape = 2
+stop_status (Intake fault) = 3
 stop_status MakeMemory = 5
 stop_status (Create fault) = 5
 stop_status (Open fault) = 5

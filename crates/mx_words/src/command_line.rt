@@ -17,6 +17,7 @@ pub(crate) enum Words<'a> {
     Try(Trial),
     Init { file: &'a str },
     Life { file: &'a str, tail: Tail },
+    Enter { file: &'a str, entries: &'a str },
 }
 
 fn value<'a>(alloc: Global, name: &'a str, help: &'a str) -> Arg<'a> {
@@ -63,6 +64,13 @@ fn life_command<'a>(alloc: Global) -> Result<Command<'a>, AllocError> {
         .arg(value(alloc, "TAIL", "The registration"))
 }
 
+fn enter_command<'a>(alloc: Global) -> Result<Command<'a>, AllocError> {
+    Command::new(alloc, "enter")
+        .about("Enters the commands of a file, and prints a reply for each")
+        .arg(value(alloc, "FILE", "The database file"))?
+        .arg(value(alloc, "ENTRIES", "The file of commands, a list in JSON"))
+}
+
 // The program without its words.
 fn office_command<'a>(alloc: Global) -> Result<Command<'a>, AllocError> {
     Ok(
@@ -78,7 +86,8 @@ pub(crate) fn command<'a>(alloc: Global) -> Result<Command<'a>, AllocError> {
     office_command(alloc)?
         .subcommand(try_command(alloc)?)?
         .subcommand(init_command(alloc)?)?
-        .subcommand(life_command(alloc)?)
+        .subcommand(life_command(alloc)?)?
+        .subcommand(enter_command(alloc)?)
 }
 
 fn has_digits_alone(text: &str) -> bool
@@ -131,6 +140,10 @@ pub(crate) fn words_of<'a>(matches: &ArgMatches<'a>) -> Option<Words<'a>> {
         "life" => Some(Words::Life {
             file: values.get_str("FILE")?,
             tail: tail_of(values)?,
+        }),
+        "enter" => Some(Words::Enter {
+            file: values.get_str("FILE")?,
+            entries: values.get_str("ENTRIES")?,
         }),
         _ => None,
     }

@@ -7,7 +7,7 @@ ghost use Rattle.mx_book.specs.Run.{book_run};
 ghost use Rattle.mx_layout.specs.Crash.{Leaves};
 ghost use Rattle.mx_office.specs.Stands.{Rests, IsEither};
 ghost use Rattle.mx_reports.specs.ReplyText.{reply_line};
-ghost use Rattle.mx_words.specs.Entered.{TellsReplies, StopsBehind};
+ghost use Rattle.mx_words.specs.Entered.{AreReplyLines, TellsReplies, StopsBehind};
 ghost use Rattle.mx_words.specs.Status.{stop_status, is_refusal, run_ending};
 
 use crate::fault::{Ending, Stop};
@@ -72,6 +72,9 @@ pub(crate) fn enter_all<S: Alter>(
         → IfOk result (TellsReplies book commands.now out.old.items out.new.items) }
     ensures kept { (book : _) → Rests (state S.Store office.old.conn) book
         → OnOk result (Rests (state S.Store office.new.conn) (book_run book commands.now)) }
+
+    ensures shown { IfOk result (λ ending. (text : _) × (out.new.items ≡ out.old.items ++ text)
+        × AreReplyLines text ending) }
 
     // A fault stopped it: the replies before it were printed, and the tables are those of their
     // commands.

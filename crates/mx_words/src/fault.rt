@@ -4,9 +4,10 @@
 ghost use Rattle.std.specs.Prelude.{◌≡◌, ◌≢◌, ◌≤◌, ◌++◌, codes, OnOk};
 ghost use Rattle.std.specs.Io.KnownBytes.{Appends};
 ghost use Rattle.mx_layout.specs.Names.{table_name};
-ghost use Rattle.mx_words.specs.FaultLine.{fault_line, line_of, create_words, open_words, office_words};
+ghost use Rattle.mx_words.specs.FaultLine.{fault_line, line_of, create_words, intake_words, open_words, office_words};
 ghost use Rattle.mx_words.specs.Status.{done_status, ending_status, graver, stop_status};
 
+use mx_intake::IntakeFault;
 use mx_layout::{Table, TableFault};
 use mx_office::{Fault, OpenFault};
 use std::io;
@@ -14,6 +15,9 @@ use std::io::Write;
 
 /// The words are none that the program takes.
 pub(crate) const BAD_WORDS: u8 = 2;
+
+/// The input file can't be opened, or gives no commands.
+const BAD_INPUT: u8 = 3;
 
 /// The office was opened, and something stopped the program then.
 pub(crate) const STOPPED: u8 = 4;
@@ -60,6 +64,8 @@ pub(crate) enum Stop {
     Words,
     /// A command that they say lacks its shape.
     Shape,
+    /// The input file can't be opened, or gives no commands.
+    Intake(IntakeFault),
     /// Memory ran out before a database was opened.
     MakeMemory,
     /// No book was made in the database.
@@ -77,10 +83,10 @@ impl Stop {
     pub(crate) fn status(self) -> u8
         ensures named { result ≡ stop_status self }
         ensures bound { result ≤ 5 }
-        ensures other { result ≢ 3 }
     {
         match self {
             Stop::Words | Stop::Shape => BAD_WORDS,
+            Stop::Intake(_) => BAD_INPUT,
             Stop::MakeMemory | Stop::Create(_) | Stop::Open(_) => NOT_OPENED,
             Stop::Office(_) | Stop::Print => STOPPED,
         }
@@ -94,6 +100,7 @@ impl Stop {
         match self {
             Stop::Words => err.write_all(b"fault words\n"),
             Stop::Shape => err.write_all(b"fault shape\n"),
+            Stop::Intake(fault) => write_intake(err, fault),
             Stop::MakeMemory | Stop::Print => err.write_all(b"fault memory\n"),
             Stop::Create(fault) => write_create(err, fault),
             Stop::Open(fault) => write_open(err, fault),
@@ -106,12 +113,20 @@ impl Stop {
 pub(crate) fn status_of(done: Result<Ending, Stop>) -> u8
     ensures named { result ≡ done_status done }
     ensures bound { result ≤ 5 }
-    ensures other { result ≢ 3 }
 {
     match done {
         Ok(ending) => ending.status(),
         Err(stop) => stop.status(),
     }
+}
+
+fn write_intake<W: Write>(err: &mut W, fault: IntakeFault) -> io::Result<()>
+    ensures { OnOk result (Appends (W.contents err.old) (W.contents err.new) (line_of
+        (intake_words fault))) }
+{
+    let number = fault.number;
+    let entry = fault.entry;
+    writeln!(err, "fault {number} entry {entry}")
 }
 
 fn write_damaged<W: Write>(err: &mut W, table: Table) -> io::Result<()>

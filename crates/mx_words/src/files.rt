@@ -2,15 +2,20 @@
 //! closes it. What a file holds no contract can say; `transcripts/` shows it.
 ghost use Rattle.std.specs.Prelude.{◌≡◌, ◌↔◌, ◌⊎◌, ◌+◌, ◌≤◌, ◌++◌, false, codes, OnOk, OnErr, IfOk, IfErr, vec_len};
 ghost use Rattle.std.specs.Vec.{vec_capacity};
+ghost use Rattle.mx_words.specs.Asked.{IsAnswer};
+ghost use Rattle.mx_words.specs.Entered.{AreReplyLines};
 ghost use Rattle.mx_words.specs.Printed.{IsLifeAnswer};
 ghost use Rattle.mx_words.specs.Status.{stop_status};
 
+use crate::entering::enter_all;
 use crate::fault::{Ending, Stop};
 use crate::life::{open, print_life};
 use crate::making::{CREATED, make_book};
 use mx_base::Tail;
+use mx_command::Command;
+use mx_intake::{IntakeFault, MOST_BYTES, READ_FAILED, commands_of_json, read_all};
 use mx_layout::TableFault;
-use mx_office::{Fault, OpenFault};
+use mx_office::{Fault, Office, OpenFault};
 use sqlite::{Alter, Connection, Error, ErrorCode, FileFrom, FileStore, Wary};
 use std::alloc::Global;
 use std::fs;
@@ -59,23 +64,48 @@ fn made_in<S: Alter + Drop>(
     Ok(conn)
 }
 
-// Appends the life of an aircraft in the office that a database holds, and hands the database back.
-// It says what is printed alone, as `made_in`.
-fn shown_in<S: Alter + Drop>(
+/// What is asked of the office in a file.
+#[derive(Clone, Copy)]
+pub(crate) enum Asked<'a> {
+    /// The life of an aircraft.
+    Life(&'a Tail),
+    /// The replies to commands, which are entered.
+    Enter(&'a [Command]),
+}
+
+// Appends what an office answers. It says what is printed alone, as `made_in`.
+fn answer<S: Alter>(
+    alloc: Global,
+    office: &mut Office<S>,
+    asked: Asked<'_>,
+    out: &mut Vec<u8>,
+) -> Result<Ending, Stop>
+    ensures shown { IfOk result (λ ending. (text : _) × (out.new.items ≡ out.old.items ++ text)
+        × IsAnswer asked.entry text ending) }
+    ensures status { IfErr result (λ stop. stop_status stop ≡ 4) }
+{
+    match asked {
+        Asked::Life(tail) => print_life(alloc, office, tail, out),
+        Asked::Enter(commands) => enter_all(alloc, office, commands, out),
+    }
+}
+
+// Appends what the office that a database holds answers, and hands the database back.
+fn answer_in<S: Alter + Drop>(
     alloc: Global,
     conn: Connection<S>,
-    tail: &Tail,
+    asked: Asked<'_>,
     out: &mut Vec<u8>,
 ) -> Result<(Connection<S>, Result<Ending, Stop>), Stop>
     requires { conn.in_transaction ≡ false }
     ensures shown { IfOk result (λ found. IfOk found.1 (λ ending. (text : _)
-        × (out.new.items ≡ out.old.items ++ text) × IsLifeAnswer text ending)) }
+        × (out.new.items ≡ out.old.items ++ text) × IsAnswer asked.entry text ending)) }
     ensures status { IfOk result (λ found. IfErr found.1 (λ stop. stop_status stop ≡ 4)) }
     ensures opening { IfErr result (λ stop. stop_status stop ≡ 5) }
 {
     let mut office = open(conn)?;
-    let printed = print_life(alloc, &mut office, tail, out);
-    Ok((office.close(), printed))
+    let answered = answer(alloc, &mut office, asked, out);
+    Ok((office.close(), answered))
 }
 
 /// Makes an empty book in a file, and appends `created`.
@@ -105,8 +135,30 @@ fn is_nothing(rt: &HostRuntime, file: &str) -> bool {
     }
 }
 
-/// Appends the life of an aircraft. A file that isn't there, is empty or has one byte is no office,
-/// and is left as it is: opening it would make a database of it.
+// Appends what the office in a file answers. A file that isn't there, is empty or has one byte is no
+// office, and is left as it is: opening it would make a database of it.
+fn answer_file(
+    rt: &HostRuntime,
+    file: &str,
+    asked: Asked<'_>,
+    out: &mut Vec<u8>,
+) -> Result<Ending, Stop>
+    ensures shown { IfOk result (λ ending. (text : _) × (out.new.items ≡ out.old.items ++ text)
+        × IsAnswer asked.entry text ending) }
+    ensures status { IfErr result (λ stop. 4 ≤ stop_status stop) }
+{
+    if is_nothing(rt, file) {
+        return Err(Stop::Open(OpenFault::NotOurs));
+    }
+    let conn = open_file(rt, file)?;
+    let (conn, answered) = answer_in(rt.alloc(), conn, asked, out)?;
+    if conn.close().is_err() && answered.is_ok() {
+        return Err(Stop::Office(Fault::Store));
+    }
+    answered
+}
+
+/// Appends the life of an aircraft.
 pub(crate) fn life(
     rt: &HostRuntime,
     file: &str,
@@ -117,13 +169,37 @@ pub(crate) fn life(
         × IsLifeAnswer text ending) }
     ensures status { IfErr result (λ stop. 4 ≤ stop_status stop) }
 {
-    if is_nothing(rt, file) {
-        return Err(Stop::Open(OpenFault::NotOurs));
+    answer_file(rt, file, Asked::Life(tail), out)
+}
+
+// The commands of a file.
+fn commands_in(rt: &HostRuntime, entries: &str) -> Result<Vec<Command>, IntakeFault> {
+    let Ok(mut file) = fs::open(rt, entries) else {
+        return Err(IntakeFault {
+            number: READ_FAILED,
+            entry: 0,
+        });
+    };
+    let text = read_all(rt.alloc(), &mut file, MOST_BYTES)?;
+    commands_of_json(rt.alloc(), &text)
+}
+
+/// Enters the commands of a file, and appends a line for each reply. Nothing is opened where the file
+/// gives no commands.
+pub(crate) fn enter(
+    rt: &HostRuntime,
+    file: &str,
+    entries: &str,
+    out: &mut Vec<u8>,
+) -> Result<Ending, Stop>
+    ensures shown { IfOk result (λ ending. (text : _) × (out.new.items ≡ out.old.items ++ text)
+        × AreReplyLines text ending) }
+    ensures status { IfErr result (λ stop. 3 ≤ stop_status stop) }
+    ensures unread { IfErr result (λ stop. stop_status stop ≡ 3
+        → out.new.items ≡ out.old.items) }
+{
+    match commands_in(rt, entries) {
+        Ok(commands) => answer_file(rt, file, Asked::Enter(&commands), out),
+        Err(fault) => Err(Stop::Intake(fault)),
     }
-    let conn = open_file(rt, file)?;
-    let (conn, printed) = shown_in(rt.alloc(), conn, tail, out)?;
-    if conn.close().is_err() && printed.is_ok() {
-        return Err(Stop::Office(Fault::Store));
-    }
-    printed
 }

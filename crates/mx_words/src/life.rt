@@ -3,7 +3,7 @@ ghost use Rattle.std.specs.Prelude.{◌≡◌, ◌≢◌, ◌⊎◌, ◌++◌, t
 ghost use Rattle.sqlite.specs.Held.{state};
 ghost use Rattle.sqlite.specs.State.{HasCleanDisk};
 ghost use Rattle.mx_layout.specs.Crash.{ChangesNothing};
-ghost use Rattle.mx_layout.specs.Tables.{layout_1};
+ghost use Rattle.mx_kept.specs.Schemas.{HasOwn1};
 ghost use Rattle.mx_layout.specs.declared.points.Point.{Point};
 ghost use Rattle.mx_layout.specs.Point.{FitsPoint, HoldsPoint};
 ghost use Rattle.mx_office.specs.Faults.{open_answer, IsUnopened};
@@ -88,7 +88,7 @@ pub(crate) fn print_life<S: Alter>(
         → HasCleanDisk (state S.Store office.new.conn)
         → IfOk result (TellsLife book tail.now out.old.items out.new.items) }
     ensures sound { HasCleanDisk (state S.Store office.new.conn)
-        → (state S.Store office.old.conn).now.schema ≡ layout_1
+        → HasOwn1 (state S.Store office.old.conn).now.schema
         → IfOk result (λ ending. (book : _)
         × HoldsBook (state S.Store office.old.conn).now.trees book
         × TellsLife book tail.now out.old.items out.new.items ending) }
@@ -100,7 +100,7 @@ pub(crate) fn print_life<S: Alter>(
     ensures untouched { office.old.needs_reopen ≡ false
         → ChangesNothing (state S.Store office.old.conn) (state S.Store office.new.conn) }
     ensures damaged { HasCleanDisk (state S.Store office.new.conn)
-        → (state S.Store office.old.conn).now.schema ≡ layout_1
+        → HasOwn1 (state S.Store office.old.conn).now.schema
         → (table : _) → result ≡ Err (Stop.Office (Fault.Damaged table))
         → IsReasonFor (state S.Store office.old.conn).now.trees table }
     ensures status { IfErr result (λ stop. stop_status stop ≡ 4) }

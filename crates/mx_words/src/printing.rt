@@ -34,7 +34,6 @@ pub(crate) fn print_done<O: Write, E: Write>(
         → IfErr done (λ stop. Appends (E.contents err.old) (E.contents err.new) (fault_line stop)) }
     ensures quiet { OnOk done (err.new ≡ err.old) }
     ensures bound { result.status ≤ 5 }
-    ensures other { result.status ≢ 3 }
 {
     let status = status_of(done);
     let printed = out.write_all(text);

@@ -6,7 +6,7 @@ ghost use Rattle.mx_words.specs.Status.{stop_status};
 
 use crate::command_line::{Words, command, words_of};
 use crate::fault::{Ending, Stop};
-use crate::files::{init, life};
+use crate::files::{enter, init, life};
 use crate::printing::{print_done, print_usage};
 use crate::trial::try_out;
 use clap::ArgMatches;
@@ -19,11 +19,14 @@ fn perform(rt: &HostRuntime, words: &Words<'_>, out: &mut Vec<u8>) -> Result<End
     ensures shape { result ≡ Err Stop.Shape → LacksShape words.now × (out.new ≡ out.old) }
     ensures words { result ≢ Err Stop.Words }
     ensures unprinted { IfErr result (λ stop. stop_status stop ≡ 2 → out.new ≡ out.old) }
+    ensures unread { IfErr result (λ stop. stop_status stop ≡ 3
+        → out.new.items ≡ out.old.items) }
 {
     match words {
         Words::Try(trial) => try_out(rt.alloc(), trial, out),
         Words::Init { file } => init(rt, file, out),
         Words::Life { file, tail } => life(rt, file, tail, out),
+        Words::Enter { file, entries } => enter(rt, file, entries, out),
     }
 }
 
@@ -38,6 +41,8 @@ fn perform_all(
         × IsDone words text ending) }
     ensures shape { result ≡ Err Stop.Shape → (words : _) × LacksShape words }
     ensures unprinted { IfErr result (λ stop. stop_status stop ≡ 2 → out.new ≡ out.old) }
+    ensures unread { IfErr result (λ stop. stop_status stop ≡ 3
+        → out.new.items ≡ out.old.items) }
 {
     match words_of(matches) {
         Some(words) => perform(rt, &words, out),
@@ -53,12 +58,12 @@ fn answer<O: Write, E: Write>(
     err: &mut E,
 ) -> u8
     ensures bound { result ≤ 5 }
-    ensures named { result ≢ 3 }
     ensures done { result ≡ 0 → IsEnded Ending.Done (O.contents out.old) (O.contents out.new) }
     ensures refused { result ≡ 1
         → IsEnded Ending.Refused (O.contents out.old) (O.contents out.new) }
     ensures quiet { result ≤ 1 → err.new ≡ err.old }
     ensures unprinted { result ≡ 2 → Keeps (O.contents out.old) (O.contents out.new) }
+    ensures unread { result ≡ 3 → Keeps (O.contents out.old) (O.contents out.new) }
 {
     let mut text = Vec::new(rt.alloc());
     let done = perform_all(rt, matches, &mut text);
@@ -67,8 +72,8 @@ fn answer<O: Write, E: Write>(
 
 /// Runs the program on its words, the first of which is its name. Prints replies, reports and help
 /// to `out`, faults and usage to `err`, and answers the status: 0 where all was done; 1 where a
-/// reply or a question was refused; 2 for words that it does not take; 4 for a fault after the
-/// database was opened; 5 where it could not be opened or made.
+/// reply or a question was refused; 2 for words that it does not take; 3 for an input file that gives
+/// no commands; 4 for a fault after the database was opened; 5 where it could not be opened or made.
 pub fn run_words<O: Write, E: Write>(
     rt: &HostRuntime,
     words: &[String],
@@ -76,12 +81,12 @@ pub fn run_words<O: Write, E: Write>(
     err: &mut E,
 ) -> u8
     ensures bound { result ≤ 5 }
-    ensures named { result ≢ 3 }
     ensures done { result ≡ 0 → IsAnswered (O.contents out.old) (O.contents out.new) }
     ensures refused { result ≡ 1
         → IsEnded Ending.Refused (O.contents out.old) (O.contents out.new) }
     ensures quiet { result ≤ 1 → err.new ≡ err.old }
     ensures unprinted { result ≡ 2 → Keeps (O.contents out.old) (O.contents out.new) }
+    ensures unread { result ≡ 3 → Keeps (O.contents out.old) (O.contents out.new) }
 {
     let Ok(command) = command(rt.alloc()) else {
         return print_done(&[], Err(Stop::MakeMemory), out, err).status;

@@ -153,6 +153,7 @@ pub(crate) fn try_out(alloc: Global, trial: &Trial, out: &mut Vec<u8>) -> Result
     ensures shape { result ≡ Err Stop.Shape → (is_trial_shaped trial.now ≡ false)
         × (out.new ≡ out.old) }
     ensures words { result ≢ Err Stop.Words }
+    ensures status { IfErr result (λ stop. stop_status stop ≢ 3) }
 {
     let commands = commands_of(alloc, trial)?;
     let mut office = new_office(alloc)?;

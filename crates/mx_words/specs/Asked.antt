@@ -1,0 +1,12 @@
+-- What is asked of the office in a file, and its answer.
+use Rattle.std.specs.Prelude.{ℕ, List}
+use Rattle.mx_words.specs.Entered.{AreReplyLines}
+use Rattle.mx_words.specs.Printed.{IsLifeAnswer}
+use Rattle.mx_words.specs.declared.files.Asked.{Asked}
+use Rattle.mx_words.specs.declared.files.Asked.TheVariants.{Life, Enter}
+use Rattle.mx_words.specs.declared.fault.Ending.{Ending}
+
+-- the text and the ending are those of some life, or of the replies to commands
+abbrev pub IsAnswer : Asked → List ℕ → Ending → Type 0
+IsAnswer (Life tail) text ending = IsLifeAnswer text ending
+IsAnswer (Enter commands) text ending = AreReplyLines text ending
