@@ -2,11 +2,25 @@
 #![tactic(auto)]
 
 use mx_words::run_words;
+use std::io::Write;
 use std::process::ExitCode;
 use std::{env, io};
 
-fn main(rt: HostRuntime) -> io::Result<ExitCode> {
-    let words: Vec<String> = env::args(&rt)?.collect(rt.alloc())?;
-    let status = run_words(&rt, words.as_slice(), &mut rt.stdout(), &mut rt.stderr());
-    Ok(ExitCode::from(status))
+/// The status where the words of the process could not be gathered, as where no database was opened.
+const NOT_OPENED: u8 = 5;
+
+// The words that the process was started with.
+fn words_of(rt: &HostRuntime) -> io::Result<Vec<String>> {
+    Ok(env::args(rt)?.collect(rt.alloc())?)
+}
+
+fn main(rt: HostRuntime) -> ExitCode {
+    let status = match words_of(&rt) {
+        Ok(words) => run_words(&rt, words.as_slice(), &mut rt.stdout(), &mut rt.stderr()),
+        Err(_) => {
+            let _ = rt.stderr().write_all(b"fault memory\n");
+            NOT_OPENED
+        }
+    };
+    ExitCode::from(status)
 }
