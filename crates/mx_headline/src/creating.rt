@@ -1,8 +1,8 @@
-//! An empty book that is made in a file with no table, a loss of power at whatever exit, and the file opened again.
+//! An empty book that is made in an empty database, a loss of power at whatever exit, and the file opened again.
 ghost use Rattle.std.specs.Prelude.{◌≡◌, ◌≢◌, false, IsTrue, IfOk, IfErr};
 ghost use Rattle.sqlite.specs.Files.{file_state};
 ghost use Rattle.mx_layout.specs.Found.{Finds};
-ghost use Rattle.mx_layout.specs.Tables.{HasOffice};
+ghost use Rattle.mx_layout.specs.Tables.{no_schema};
 ghost use Rattle.mx_headline.specs.Created.{FindsMade, IsBare};
 
 use mx_layout::{Layout, TableFault, create, reopen};
@@ -18,7 +18,7 @@ pub struct Made<S: Alter> {
     pub again: Result<Connection<S>, Error>,
 }
 
-/// Makes an empty book in a file with no table, until it is made or something stops it; then the power is lost and the
+/// Makes an empty book in an empty database, until it is made or something stops it; then the power is lost and the
 /// file is opened again.
 pub fn create_and_reopen<D: Crash + Drop>(
     alloc: Global,
@@ -32,8 +32,9 @@ pub fn create_and_reopen<D: Crash + Drop>(
     ensures headline { IsBare (file_state conn)
         → IfOk result.again (λ again. FindsMade result.answer (file_state again)) }
 
-    // Over any database: one that holds an office keeps it, and so does any where nothing was made.
-    ensures kept { (IsTrue (file_state conn).is_open → HasOffice (file_state conn).now.schema)
+    // Over any database: one that is not empty keeps what it holds, an office or another program's tables, and so does
+    // any where nothing was made.
+    ensures kept { (IsTrue (file_state conn).is_open → (file_state conn).now.schema ≢ no_schema)
         → IfOk result.again (λ again. Finds (file_state conn).may_leave (file_state again)) }
     ensures unchanged { IfErr result.answer (λ fault. fault ≢ TableFault.Store
         → IfOk result.again (λ again. Finds (file_state conn).may_leave (file_state again))) }

@@ -54,7 +54,7 @@ pub(crate) fn print_life<S: Alter>(
     ensures printed { (book : _) → IsReady office.old → StandsFor office.old book
         → HasCleanDisk (office_state office.new) → IsPrintOf book tail.now result }
 {
-    let list = office.life_rows(alloc, tail)?;
+    let list = office.life_rows(alloc, *tail)?;
     let mut text = Vec::new(alloc);
     match life_text(&mut text, &list) {
         Ok(()) => Ok(text),

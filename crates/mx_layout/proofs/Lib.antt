@@ -1,11 +1,13 @@
+pub mod AbsentLemmas
+pub mod AnswerLemmas
 pub mod CrashLemmas
 pub mod CreateLemmas
 pub mod CreateTextLemmas
 pub mod FillLemmas
 pub mod FoundLemmas
 pub mod InsideLemmas
+pub mod ListedLemmas
 pub mod PointLemmas
-pub mod ProbeLemmas
 pub mod QueryLemmas
 pub mod ReadLemmas
 pub mod RowLemmas

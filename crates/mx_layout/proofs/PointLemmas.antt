@@ -119,7 +119,7 @@ no_step values h it = h (it.0.step, ap (λ x. column x 2) it.2, it.1.1)
 pub no_mark : (values : Row) → ¬ HoldsBelow (2 ^ 32) (column values 3) → ¬ IsPoint values
 no_mark values h it = h (it.0.mark, ap (λ x. column x 3) it.2, it.1.2)
 
--- a call that answered, or was refused because of its text, found the connection open
+-- a call that answered found the connection open
 pub open_either : {T : Type 0} {P : Type 0} (r : Result T TableFault) → P → MatchResult r (λ _. P) (λ fault. IsStop fault ⊎ P)
 open_either (Ok x) p = p
 open_either (Err e) p = inr p

@@ -2,6 +2,7 @@ pub mod Contents
 pub mod CreateTexts
 pub mod Crash
 pub mod Found
+pub mod Listed
 pub mod Making
 pub mod Point
 pub mod Reading

@@ -1,5 +1,5 @@
 -- The tables of an empty book, and how they come to be made.
-use Rattle.std.specs.Prelude.{◌≡◌, ℕ, false, List, [], ◌∷◌, codes}
+use Rattle.std.specs.Prelude.{◌≡◌, ◌≢◌, ℕ, false, List, [], ◌∷◌, codes}
 use Rattle.std.specs.List.{AllByRecursion}
 use Rattle.sqlite.specs.Schema.{Schema}
 use Rattle.sqlite.specs.Tree.{Trees}
@@ -8,16 +8,19 @@ use Rattle.sqlite_catalog.specs.Listing.{IsSound}
 use Rattle.mx_layout.specs.declared.points.Point.{Point}
 use Rattle.mx_layout.specs.Contents.{rows_in}
 use Rattle.mx_layout.specs.Point.{point_cells}
-use Rattle.mx_layout.specs.Tables.{layout_1, office, entry, aircraft, place, component, programme, task, opening, crs, crs_line, extension, defect, sector1, fit1, removal1}
+use Rattle.mx_layout.specs.Names.{table_named}
+use Rattle.mx_layout.specs.TableName.{TableName}
+use Rattle.mx_layout.specs.declared.fault.Table.TheVariants as table
+use Rattle.mx_layout.specs.Tables.{layout_1, office}
 use Rattle.mx_layout.specs.CreateTexts.{office_text, entry_text, aircraft_text, place_text, component_text, programme_text, task_text, opening_text, crs_text, crs_line_text, extension_text, defect_text, sector1_text, fit1_text, removal1_text}
 
 -- the texts that make the tables of layout 1, in the order in which they run
 abbrev pub create_texts : List (List ℕ)
 create_texts = office_text ∷ entry_text ∷ aircraft_text ∷ place_text ∷ component_text ∷ programme_text ∷ task_text ∷ opening_text ∷ crs_text ∷ crs_line_text ∷ extension_text ∷ defect_text ∷ sector1_text ∷ fit1_text ∷ removal1_text ∷ []
 
--- the text that finds out whether there is a table office
-abbrev pub probe_text : List ℕ
-probe_text = codes "SELECT 1 FROM office LIMIT 1"
+-- the text that asks for a row of no table
+abbrev pub ask_text : List ℕ
+ask_text = codes "SELECT 1"
 
 -- the database has the tables of this schema, none with AUTOINCREMENT, and none has a row
 pub record IsBlank (schema : Schema) (db : Database) : Type 0 where
@@ -34,17 +37,4 @@ first_point = record { layout = 1; step = 0; mark = 0 }
 pub record IsEmptyBook (trees : Trees) : Type 0 where
   pub sound : IsSound layout_1 trees
   pub points : rows_in office trees ≡ point_cells first_point ∷ []
-  pub entries : rows_in entry trees ≡ []
-  pub airframes : rows_in aircraft trees ≡ []
-  pub places : rows_in place trees ≡ []
-  pub components : rows_in component trees ≡ []
-  pub programmes : rows_in programme trees ≡ []
-  pub tasks : rows_in task trees ≡ []
-  pub openings : rows_in opening trees ≡ []
-  pub releases : rows_in crs trees ≡ []
-  pub release_lines : rows_in crs_line trees ≡ []
-  pub extensions : rows_in extension trees ≡ []
-  pub defects : rows_in defect trees ≡ []
-  pub sectors : rows_in sector1 trees ≡ []
-  pub fittings : rows_in fit1 trees ≡ []
-  pub removals : rows_in removal1 trees ≡ []
+  pub others : (name : TableName) → name ≢ table.Office → rows_in (table_named name) trees ≡ []

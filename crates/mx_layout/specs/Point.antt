@@ -1,5 +1,5 @@
 -- The point of a file as the one row of office, and why rows are not those of one point.
-use Rattle.std.specs.Prelude.{◌≡◌, ◌≢◌, ◌⊎◌, ◌<◌, ◌^◌, ℕ, pos, List, [], ◌∷◌, length, codes, Result, MatchResult}
+use Rattle.std.specs.Prelude.{◌≡◌, ◌≢◌, ◌⊎◌, ◌↔◌, ◌<◌, ◌^◌, ℕ, pos, List, [], ◌∷◌, length, codes, Result, Err, MatchResult}
 use Rattle.sqlite.specs.declared.types.Value.{Value}
 use Rattle.sqlite.specs.declared.types.Value.TheVariants.{Int}
 use Rattle.sqlite.specs.Order.{Row}
@@ -7,6 +7,9 @@ use Rattle.mx_layout.specs.declared.points.Point.{Point}
 use Rattle.mx_layout.specs.declared.fault.TableFault.{TableFault}
 use Rattle.mx_layout.specs.declared.fault.TableFault.TheVariants.{Memory, Store, NotOurs, Damaged}
 use Rattle.mx_layout.specs.declared.fault.Table.TheVariants.{Office}
+use Rattle.sqlite.specs.declared.error.Error.{Error}
+use Rattle.sqlite.specs.declared.error.Error.TheVariants.{SqliteFailure, SqlInputError}
+use Rattle.sqlite.specs.declared.error.ErrorCode.TheVariants.{OutOfMemory}
 use Rattle.sqlite.specs.Effect.{Database}
 use Rattle.mx_layout.specs.Contents.{rows_in}
 use Rattle.mx_layout.specs.Reading.{HasOther, IsRowOf}
@@ -32,6 +35,15 @@ HoldsBelow limit value = (n : ℕ) × (value ≡ Int (pos n)) × (n < limit)
 abbrev pub IsStop : TableFault → Type 0
 IsStop fault = (fault ≡ Memory) ⊎ (fault ≡ Store)
 
+-- the fault is the one that an error of sqlite is: want of memory exactly where that was the error, else the store's
+abbrev pub IsFaultOf : Error → TableFault → Type 0
+IsFaultOf error fault = IsStop fault × ((fault ≡ Memory) ↔ (error ≡ SqliteFailure OutOfMemory))
+
+-- why no point was read, where the query of office had this error: its text was refused, or the call stopped
+abbrev pub IsUnread : Error → TableFault → Type 0
+IsUnread (SqlInputError refused) fault = fault ≡ NotOurs
+IsUnread error fault = IsFaultOf error fault
+
 -- why rows are not those of one point: there is not exactly one, or the one is no point
 abbrev pub IsNoPoint : List Row → TableFault → Type 0
 IsNoPoint rows fault = ((fault ≡ NotOurs) × (length rows ≢ 1)) ⊎ ((fault ≡ Damaged Office) × (length rows ≡ 1) × HasOther IsPoint rows)
@@ -48,7 +60,13 @@ ReadsPoint rows answer = MatchResult answer (λ p. rows ≡ point_cells p ∷ []
 abbrev pub ReadsExactly : Point → Result Point TableFault → Type 0
 ReadsExactly p answer = MatchResult answer (λ q. q ≡ p) IsStop
 
--- the answer over a store without our tables: not ours, or that the call stopped
+-- why no point is answered where no table is named `office`: the call stopped, or not ours, whatever was read
+abbrev pub unnamed : Result Point TableFault → TableFault
+unnamed (Err Memory) = Memory
+unnamed (Err Store) = Store
+unnamed _ = NotOurs
+
+-- the answer where no table is ours: not ours, or that the call stopped
 abbrev pub ReadsNone : Result Point TableFault → Type 0
 ReadsNone answer = MatchResult answer (λ _. ⊥) (λ fault. IsStop fault ⊎ (fault ≡ NotOurs))
 

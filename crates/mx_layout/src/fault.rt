@@ -59,8 +59,8 @@ pub enum TableFault {
     Memory,
     /// A call of `sqlite` answered an error that is no want of memory.
     Store,
-    /// The statement that reads the table `office` is refused because of its text, or its answer is not
-    /// exactly one row.
+    /// There is no table `office`, the statement that reads it is refused because of its text, or its answer is not
+    /// exactly one row. Where tables are to be made: there is no table `office`, and the database is not empty.
     NotOurs,
     /// The table `office` is there already.
     Exists,

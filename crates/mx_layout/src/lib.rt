@@ -3,6 +3,7 @@
 #![tactic(auto)]
 
 pub mod fault;
+mod listed;
 pub mod making;
 pub mod points;
 pub mod power;

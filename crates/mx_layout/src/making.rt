@@ -1,19 +1,21 @@
 //! Making the tables of an empty book, in one commit.
 
-ghost use Rattle.std.specs.Prelude.{◌≡◌, ◌≢◌, ◌⊎◌, ◌<◌, ◌≤◌, [], ◌∷◌, true, false, Some, slice_get, IsTrue, IfOk, IfErr, OnOk, IsErr};
+ghost use Rattle.std.specs.Prelude.{◌≡◌, ◌≢◌, ◌⊎◌, ◌<◌, ◌≤◌, [], ◌∷◌, true, false, Some, None, slice_get, IsTrue, IfOk, IfErr, OnOk, IsOk, IsErr, IsErrAnd, MatchResult};
 ghost use Rattle.sqlite.specs.State.{HasCleanDisk, IsUnchanged};
 ghost use Rattle.sqlite.specs.Held.{state};
 ghost use Rattle.sqlite_catalog.specs.Listing.{IsSound};
 ghost use Rattle.sqlite_trees.specs.View.{doubt};
 ghost use Rattle.mx_layout.specs.Crash.{Leaves, RestsAs, StaysInside, IsWithin, ChangesNothing};
+ghost use Rattle.mx_layout.specs.Listed.{IsRefusal};
 ghost use Rattle.mx_layout.specs.Making.{create_texts, IsBlank, IsEmptyBook};
-ghost use Rattle.mx_layout.specs.Point.{point_cells, IsStop};
-ghost use Rattle.mx_layout.specs.Tables.{layout_1, no_schema, office, HasOffice};
+ghost use Rattle.mx_layout.specs.Point.{point_cells, IsFaultOf, IsStop};
+ghost use Rattle.mx_layout.specs.Tables.{layout_1, no_schema, office};
 ghost use Rattle.mx_layout.specs.Writing.{Gains};
 
 use crate::fault::{TableFault, fault_of};
+use crate::listed::refusal_of;
 use crate::points::{Layout, Point};
-use sqlite::{Alter, Connection, Error, Transaction, params};
+use sqlite::{Alter, Connection, Error, Row, Transaction, params};
 
 /// The text that makes the table at this place of layout 1.
 fn create_text(at: u8) -> &'static str
@@ -118,32 +120,38 @@ fn fill<S: Alter>(tx: &mut Transaction<'_, S>, layout: Layout) -> Result<(), Err
     Ok(())
 }
 
-/// Whether there is a table `office`.
-fn has_office<S: Alter>(tx: &mut Transaction<'_, S>) -> Result<bool, TableFault>
-    ensures same_reference { tx.new.conn.ghost_name ≡ tx.old.conn.ghost_name }
-    ensures absent { HasCleanDisk (state S.Store tx.new.conn.now)
-        → (IsTrue (state S.Store tx.old.conn.now).is_open
-        → (state S.Store tx.old.conn.now).now.schema ≡ no_schema) → IfOk result
-        (λ there. there ≡ false) }
-    ensures present { HasCleanDisk (state S.Store tx.new.conn.now)
-        → (IsTrue (state S.Store tx.old.conn.now).is_open
-        → HasOffice (state S.Store tx.old.conn.now).now.schema) → IfOk result
-        (λ there. IsTrue there) }
-    ensures unchanged { HasCleanDisk (state S.Store tx.new.conn.now) → IfOk result
-        (λ there. there ≡ false
-        → IsUnchanged (state S.Store tx.old.conn.now) (state S.Store tx.new.conn.now)) }
-    ensures stopped { IfErr result IsStop }
-    ensures within { IsWithin (state S.Store tx.old.conn.now) (state S.Store tx.new.conn.now) }
+/// What a query of no table answered: nothing, or the fault that its error is.
+fn answered(answer: Result<Vec<Row>, Error>) -> Result<(), TableFault>
+    ensures ok { IfOk answer (λ _. IsOk result) }
+    ensures stopped { IfErr answer (λ error. IsErrAnd result (IsFaultOf error)) }
 {
-    match tx.query_all("SELECT 1 FROM office LIMIT 1", &[]) {
-        Ok(_) => Ok(true),
-        Err(Error::SqlInputError(_)) => Ok(false),
+    match answer {
+        Ok(_) => Ok(()),
         Err(error) => Err(fault_of(error)),
     }
 }
 
-/// Makes the tables of the layout and the row of its point, unless there is a table `office`.
-fn fill_new<S: Alter>(tx: &mut Transaction<'_, S>, layout: Layout) -> Result<(), TableFault>
+/// Asks for a row of no table, so that it is known whether the connection answers at all.
+fn ask<S: Alter>(tx: &mut Transaction<'_, S>) -> Result<(), TableFault>
+    ensures same_reference { tx.new.conn.ghost_name ≡ tx.old.conn.ghost_name }
+    ensures open { HasCleanDisk (state S.Store tx.new.conn.now)
+        → OnOk result (IsTrue (state S.Store tx.old.conn.now).is_open) }
+    ensures unchanged { HasCleanDisk (state S.Store tx.new.conn.now)
+        → OnOk result (IsUnchanged (state S.Store tx.old.conn.now) (state S.Store
+        tx.new.conn.now)) }
+    ensures stopped { IfErr result IsStop }
+    ensures within { IsWithin (state S.Store tx.old.conn.now) (state S.Store tx.new.conn.now) }
+{
+    let answer = tx.query_all("SELECT 1", &[]);
+    answered(answer)
+}
+
+/// Makes the tables of the layout and the row of its point, unless there is a reason to make none.
+fn fill_new<S: Alter>(
+    tx: &mut Transaction<'_, S>,
+    layout: Layout,
+    refusal: Option<TableFault>,
+) -> Result<(), TableFault>
     requires { layout.0 ≡ 1 }
     ensures same_reference { tx.new.conn.ghost_name ≡ tx.old.conn.ghost_name }
     ensures inside { HasCleanDisk (state S.Store tx.new.conn.now)
@@ -155,18 +163,16 @@ fn fill_new<S: Alter>(tx: &mut Transaction<'_, S>, layout: Layout) -> Result<(),
         → IsBlank no_schema (state S.Store tx.old.conn.now).now
         → OnOk result (((state S.Store tx.new.conn.now).now.schema ≡ layout_1)
         × IsEmptyBook (state S.Store tx.new.conn.now).now.trees) }
-    ensures not_here { HasCleanDisk (state S.Store tx.new.conn.now)
-        → (IsTrue (state S.Store tx.old.conn.now).is_open
-        → (state S.Store tx.old.conn.now).now.schema ≡ no_schema)
-        → result ≢ Err TableFault.Exists }
-    ensures taken { HasCleanDisk (state S.Store tx.new.conn.now)
-        → (IsTrue (state S.Store tx.old.conn.now).is_open
-        → HasOffice (state S.Store tx.old.conn.now).now.schema) → IsErr result }
-    ensures faults { IfErr result (λ fault. IsStop fault ⊎ (fault ≡ TableFault.Exists)) }
+    ensures open { HasCleanDisk (state S.Store tx.new.conn.now) → MatchResult result
+        (λ _. IsTrue (state S.Store tx.old.conn.now).is_open) (λ fault. IsStop fault
+        ⊎ IsTrue (state S.Store tx.old.conn.now).is_open) }
+    ensures unless { OnOk result (refusal ≡ None) }
+    ensures faults { IfErr result (λ fault. IsStop fault ⊎ (refusal ≡ Some fault)) }
     ensures within { IsWithin (state S.Store tx.old.conn.now) (state S.Store tx.new.conn.now) }
 {
-    if has_office(tx)? {
-        return Err(TableFault::Exists);
+    ask(tx)?;
+    if let Some(fault) = refusal {
+        return Err(fault);
     }
     match fill(tx, layout) {
         Ok(()) => Ok(()),
@@ -174,11 +180,13 @@ fn fill_new<S: Alter>(tx: &mut Transaction<'_, S>, layout: Layout) -> Result<(),
     }
 }
 
-/// Makes the tables of an empty book in this layout, in one commit. Whatever the answer is, a crash leaves no table or all of them.
+/// Makes the tables of an empty book in this layout, in one commit, where the database has no table, no index and no
+/// view. Whatever the answer is, a crash leaves no table or all of them.
 ///
 /// # Errors
-/// `Exists` where there is a table `office` already, and `Memory` where memory ran out before the first table: then nothing changed.
-/// `Store` for each other error, also of the commit, which may have been made.
+/// `Exists` where there is a table `office` already, `NotOurs` where there is none and the database is not empty, and
+/// `Memory` where memory ran out before the first table: then nothing changed. `Store` for each other error, also of
+/// the commit, which may have been made.
 pub fn create<S: Alter>(conn: &mut Connection<S>, layout: Layout) -> Result<(), TableFault>
     requires idle { conn.old.in_transaction ≡ false }
     requires built { layout.0 ≡ 1 }
@@ -192,17 +200,19 @@ pub fn create<S: Alter>(conn: &mut Connection<S>, layout: Layout) -> Result<(), 
     ensures unchanged { IfErr result (λ fault. fault ≢ TableFault.Store
         → ChangesNothing (state S.Store conn.old) (state S.Store conn.new)) }
     ensures not_here { RestsAs (state S.Store conn.old) no_schema (IsSound no_schema)
-        → HasCleanDisk (state S.Store conn.new) → result ≢ Err TableFault.Exists }
+        → HasCleanDisk (state S.Store conn.new) → IfErr result IsStop }
     ensures taken { HasCleanDisk (state S.Store conn.new)
         → (IsTrue (state S.Store conn.old).is_open
-        → HasOffice (state S.Store conn.old).now.schema) → IsErr result }
+        → (state S.Store conn.old).now.schema ≢ no_schema) → IsErr result }
     ensures kept { (IsTrue (state S.Store conn.old).is_open
-        → HasOffice (state S.Store conn.old).now.schema)
+        → (state S.Store conn.old).now.schema ≢ no_schema)
         → ChangesNothing (state S.Store conn.old) (state S.Store conn.new) }
-    ensures faults { IfErr result (λ fault. IsStop fault ⊎ (fault ≡ TableFault.Exists)) }
+    ensures faults { IfErr result (λ fault. IsStop fault
+        ⊎ IsRefusal (state S.Store conn.old).now.schema fault) }
 {
+    let refusal = refusal_of(conn);
     let mut tx = conn.transaction();
-    if let Err(fault) = fill_new(&mut tx, layout) {
+    if let Err(fault) = fill_new(&mut tx, layout, refusal) {
         return Err(fault);
     }
     match tx.commit() {

@@ -1,16 +1,18 @@
 //! Reading the point that a file is at.
 
-ghost use Rattle.std.specs.Prelude.{◌≡◌, ◌⊎◌, ◌<◌, ◌^◌, [], ◌∷◌, ℕ, pos, false, true, length, IsTrue, OnOk, MatchOption, MatchResult};
+ghost use Rattle.std.specs.Prelude.{◌≡◌, ◌⊎◌, ◌<◌, ◌^◌, [], ◌∷◌, ℕ, pos, false, true, length, IsTrue, OnOk, IfOk, IfErr, IsErrAnd, MatchOption, MatchResult};
 ghost use Rattle.sqlite.specs.declared.types.Value.TheVariants.{Int};
 ghost use Rattle.sqlite.specs.Order.{column};
 ghost use Rattle.sqlite.specs.State.{HasCleanDisk, IsUnchanged};
 ghost use Rattle.sqlite.specs.Held.{state};
 ghost use Rattle.mx_layout.specs.Contents.{rows_in};
 ghost use Rattle.mx_layout.specs.Crash.{StaysInside, IsWithin, ChangesNothing};
-ghost use Rattle.mx_layout.specs.Point.{point_cells, FitsPoint, IsPoint, HoldsBelow, IsStop, IsNoPoint, HoldsPoint, ReadsPoint, ReadsExactly, ReadsNone};
-ghost use Rattle.mx_layout.specs.Tables.{no_schema, office, HasOffice};
+ghost use Rattle.mx_layout.specs.Listed.{FindsNoOffice, LacksOffice};
+ghost use Rattle.mx_layout.specs.Point.{point_cells, FitsPoint, IsPoint, HoldsBelow, IsStop, IsUnread, IsNoPoint, HoldsPoint, ReadsPoint, ReadsExactly, ReadsNone, unnamed};
+ghost use Rattle.mx_layout.specs.Tables.{office, HasOffice};
 
 use crate::fault::{Table, TableFault, fault_of};
+use crate::listed::has_office;
 use crate::points::Point;
 use sqlite::types::ValueRef;
 use sqlite::{Alter, Connection, Error, Row, Transaction};
@@ -75,7 +77,21 @@ fn only_point(found: &[Row]) -> Result<Point, TableFault>
     }
 }
 
-/// The point that the file is at, read inside a transaction.
+/// The point that a query of `office` answered, or why there is none: `NotOurs` where its text was refused.
+fn point_found(answer: Result<Vec<Row>, Error>) -> Result<Point, TableFault>
+    ensures found { IfOk answer (λ rows. MatchResult result
+        (λ p. rows.items ≡ point_cells p ∷ []) (IsNoPoint rows.items)) }
+    ensures stopped { IfErr answer (λ error. IsErrAnd result (IsUnread error)) }
+{
+    match answer {
+        Ok(found) => only_point(&found),
+        Err(Error::SqlInputError(_)) => Err(TableFault::NotOurs),
+        Err(error) => Err(fault_of(error)),
+    }
+}
+
+/// The point that the file is at, read inside a transaction. A view `office` is read as the table is: [`point`] tells
+/// the two apart.
 ///
 /// # Errors
 /// `NotOurs` where the file's tables have no such statement, or `office` has not exactly one row;
@@ -100,24 +116,31 @@ pub fn point_in<S: Alter>(tx: &mut Transaction<'_, S>) -> Result<Point, TableFau
         → ReadsExactly p result }
     ensures absent { HasCleanDisk (state S.Store tx.new.conn.now)
         → (IsTrue (state S.Store tx.old.conn.now).is_open
-        → (state S.Store tx.old.conn.now).now.schema ≡ no_schema) → ReadsNone result }
+        → FindsNoOffice (state S.Store tx.old.conn.now).now.schema) → ReadsNone result }
     ensures open { HasCleanDisk (state S.Store tx.new.conn.now) → MatchResult result
         (λ _. IsTrue (state S.Store tx.old.conn.now).is_open) (λ fault. IsStop fault
         ⊎ IsTrue (state S.Store tx.old.conn.now).is_open) }
     ensures within { IsWithin (state S.Store tx.old.conn.now) (state S.Store tx.new.conn.now) }
 {
-    let found = match tx.query_all("SELECT id, layout, step, mark FROM office ORDER BY id", &[]) {
-        Ok(found) => found,
-        Err(Error::SqlInputError(_)) => return Err(TableFault::NotOurs),
-        Err(error) => return Err(fault_of(error)),
-    };
-    only_point(&found)
+    let answer = tx.query_all("SELECT id, layout, step, mark FROM office ORDER BY id", &[]);
+    point_found(answer)
+}
+
+/// What is answered where no table is named `office`, whatever a view of that name showed.
+fn unnamed(read: Result<Point, TableFault>) -> TableFault
+    ensures { result ≡ unnamed read }
+{
+    match read {
+        Err(TableFault::Memory) => TableFault::Memory,
+        Err(TableFault::Store) => TableFault::Store,
+        _ => TableFault::NotOurs,
+    }
 }
 
 /// The point that the file is at. Nothing is changed, whatever the answer is.
 ///
 /// # Errors
-/// Those of [`point_in`].
+/// `NotOurs` where no table is named `office`, whatever else there is; and those of [`point_in`].
 pub fn point<S: Alter>(conn: &mut Connection<S>) -> Result<Point, TableFault>
     requires { conn.old.in_transaction ≡ false }
     ensures idle { conn.new.in_transaction ≡ false }
@@ -131,11 +154,13 @@ pub fn point<S: Alter>(conn: &mut Connection<S>) -> Result<Point, TableFault>
         → FitsPoint p → ReadsExactly p result }
     ensures absent { HasCleanDisk (state S.Store conn.new)
         → (IsTrue (state S.Store conn.old).is_open
-        → (state S.Store conn.old).now.schema ≡ no_schema) → ReadsNone result }
+        → LacksOffice (state S.Store conn.old).now.schema) → ReadsNone result }
     ensures open { HasCleanDisk (state S.Store conn.new) → MatchResult result
         (λ _. IsTrue (state S.Store conn.old).is_open) (λ fault. IsStop fault
         ⊎ IsTrue (state S.Store conn.old).is_open) }
 {
+    let named = has_office(conn);
     let mut tx = conn.transaction();
-    point_in(&mut tx)
+    let read = point_in(&mut tx);
+    if named { read } else { Err(unnamed(read)) }
 }

@@ -112,7 +112,7 @@ pub(crate) fn print_life<S: Alter>(
         → office.new.needs_reopen ≡ false }
     ensures stopped { result ≡ Err (Stop.Office Fault.Store) → office.new.needs_reopen ≡ true }
 {
-    match office.life_rows(alloc, tail) {
+    match office.life_rows(alloc, *tail) {
         Ok(list) => append_list(out, &list),
         Err(Ask::Refused(refusal)) => append_refusal(out, refusal),
         Err(Ask::Failed(fault)) => Err(Stop::Office(fault)),

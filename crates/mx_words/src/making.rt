@@ -5,8 +5,10 @@ ghost use Rattle.sqlite.specs.Held.{state};
 ghost use Rattle.sqlite.specs.State.{HasCleanDisk};
 ghost use Rattle.sqlite_catalog.specs.Listing.{IsSound};
 ghost use Rattle.mx_layout.specs.Crash.{Leaves, RestsAs, ChangesNothing};
+ghost use Rattle.mx_layout.specs.Listed.{IsRefusal};
 ghost use Rattle.mx_layout.specs.Making.{IsEmptyBook};
-ghost use Rattle.mx_layout.specs.Tables.{layout_1, no_schema, HasOffice};
+ghost use Rattle.mx_layout.specs.Point.{IsStop};
+ghost use Rattle.mx_layout.specs.Tables.{layout_1, no_schema};
 ghost use Rattle.mx_words.specs.Status.{stop_status};
 
 use crate::fault::Stop;
@@ -27,8 +29,8 @@ fn append_created(out: &mut Vec<u8>)
     }
 }
 
-/// Makes the tables of an empty book at the newest layout, in one commit, and appends `created`,
-/// for which the caller made room: so memory can't run out behind the commit.
+/// Makes the tables of an empty book at the newest layout in an empty database, in one commit, and
+/// appends `created`, for which the caller made room: so memory can't run out behind the commit.
 pub(crate) fn make_book<S: Alter>(conn: &mut Connection<S>, out: &mut Vec<u8>) -> Result<(), Stop>
     requires idle { conn.old.in_transaction ≡ false }
     requires room { vec_len out.old + 8 ≤ vec_capacity out.old }
@@ -44,19 +46,20 @@ pub(crate) fn make_book<S: Alter>(conn: &mut Connection<S>, out: &mut Vec<u8>) -
     ensures unchanged { IfErr result (λ stop. stop ≢ Stop.Create TableFault.Store
         → ChangesNothing (state S.Store conn.old) (state S.Store conn.new)) }
 
-    // Over an office nothing is made and nothing changes.
+    // Where the database is not empty nothing is made and nothing changes.
     ensures taken { HasCleanDisk (state S.Store conn.new)
-        → (IsTrue (state S.Store conn.old).is_open → HasOffice (state S.Store conn.old).now.schema)
-        → IsErr result }
+        → (IsTrue (state S.Store conn.old).is_open
+        → (state S.Store conn.old).now.schema ≢ no_schema) → IsErr result }
     ensures kept { (IsTrue (state S.Store conn.old).is_open
-        → HasOffice (state S.Store conn.old).now.schema)
+        → (state S.Store conn.old).now.schema ≢ no_schema)
         → ChangesNothing (state S.Store conn.old) (state S.Store conn.new) }
 
     // Why nothing was made.
     ensures not_here { RestsAs (state S.Store conn.old) no_schema (IsSound no_schema)
-        → HasCleanDisk (state S.Store conn.new) → result ≢ Err (Stop.Create TableFault.Exists) }
-    ensures stops { IfErr result (λ stop. (stop ≡ Stop.Create TableFault.Memory)
-        ⊎ ((stop ≡ Stop.Create TableFault.Store) ⊎ (stop ≡ Stop.Create TableFault.Exists))) }
+        → HasCleanDisk (state S.Store conn.new) → IfErr result
+        (λ stop. (fault : _) × (stop ≡ Stop.Create fault) × IsStop fault) }
+    ensures stops { IfErr result (λ stop. (fault : _) × (stop ≡ Stop.Create fault)
+        × (IsStop fault ⊎ IsRefusal (state S.Store conn.old).now.schema fault)) }
     ensures status { IfErr result (λ stop. stop_status stop ≡ 5) }
 {
     match create(conn, Layout(1)) {

@@ -12,8 +12,8 @@ returns-clause-headline g c bare =
     ∥∥₁_map (found clean) (λ one. is_made old end (file_state again) (sure clean) bare (made.crash bare) one c.create-answer.result (made.made bare) made.unchanged))
 
 pub returns-clause-kept : goal.returns-clause-kept
-returns-clause-kept g c office =
-    finds_before file_state (file_state c.args.conn) (file_state c.create-answer.new.conn) c.reopen-again.result (c.create-answer.ensures.kept office) c.reopen-again.ensures.clean c.reopen-again.ensures.found
+returns-clause-kept g c taken =
+    finds_before file_state (file_state c.args.conn) (file_state c.create-answer.new.conn) c.reopen-again.result (c.create-answer.ensures.kept taken) c.reopen-again.ensures.clean c.reopen-again.ensures.found
 
 pub returns-clause-unchanged : goal.returns-clause-unchanged
 returns-clause-unchanged g c =

@@ -1,11 +1,10 @@
-use Rattle.std.proofs.Common.{rules, ◌≡◌, ◌⊎◌, subst, arith}
-use Rattle.sqlite.specs.State.{HasCleanDisk}
+use Rattle.std.proofs.Common.{rules, ◌≡◌, ◌⊎◌, subst}
 use Rattle.sqlite.specs.Held.{state}
 use Rattle.sqlite_catalog.specs.Listing.{IsSound}
-use Rattle.mx_layout.specs.Crash.{Leaves, RestsAs, ChangesNothing}
+use Rattle.mx_layout.specs.Crash.{Leaves, RestsAs}
 use Rattle.mx_layout.specs.Making.{IsEmptyBook}
 use Rattle.mx_layout.specs.Tables.{no_schema, layout_1}
-use Rattle.mx_layout.proofs.CrashLemmas.{commits_either, commits_ok, unclean_changes_nothing}
+use Rattle.mx_layout.proofs.CrashLemmas.{commits_either, commits_ok}
 use Rattle.mx_layout.proofs.FillLemmas.{bare_blank}
 use Rattle.mx_layout.proofs.making.create.Goals as goal
 
@@ -37,29 +36,3 @@ returns-in-Err-commit-clause-crash g c bare =
     subst (λ h. Leaves (state g.S.Store h) (λ db. IsSound no_schema db ⊎ IsEmptyBook db)) same
     (commits_either g.S.Store no_schema layout_1 (IsSound no_schema) IsEmptyBook c.args.conn.now c.transaction-tx.result.conn.now c.fill_new.new.tx.conn.now c.transaction-tx.ensures.begun bare
     c.fill_new.ensures.within c.in_default.ensures.inside (λ clean within schema sound. c.in_default.ensures.makes clean within (bare_blank tx.now schema sound)) end c.commit.ensures.survives)
-
-pub returns-in-Ok-clause-kept : goal.returns-in-Ok-clause-kept
-returns-in-Ok-clause-kept g c taken =
-    let last = state g.S.Store c.fill_new.new.tx.conn.now in
-    let end = c.commit.new.self.0 in
-    let same : end ≡ c.conn-2-1.given.0 = search rules in
-    let never : HasCleanDisk (state g.S.Store end) → ⊥ = λ clean.
-    let early : HasCleanDisk last = omega (arith, c.commit.ensures.survives.clean) in
-    let refused = c.in_default.ensures.taken early (rw c.transaction-tx.ensures.begun taken) in
-    cc
-    in
-    subst (λ h. ChangesNothing (state g.S.Store c.args.conn.now) (state g.S.Store h)) same
-    (unclean_changes_nothing g.S.Store c.args.conn.now c.fill_new.new.tx.conn.now end c.transaction-tx.result.conn.now c.transaction-tx.ensures.begun c.fill_new.ensures.within c.commit.ensures.survives never)
-
-pub returns-in-Err-commit-clause-kept : goal.returns-in-Err-commit-clause-kept
-returns-in-Err-commit-clause-kept g c taken =
-    let last = state g.S.Store c.fill_new.new.tx.conn.now in
-    let end = c.commit.new.self.0 in
-    let same : end ≡ c.conn-2-1.given.0 = search rules in
-    let never : HasCleanDisk (state g.S.Store end) → ⊥ = λ clean.
-    let early : HasCleanDisk last = omega (arith, c.commit.ensures.survives.clean) in
-    let refused = c.in_default.ensures.taken early (rw c.transaction-tx.ensures.begun taken) in
-    cc
-    in
-    subst (λ h. ChangesNothing (state g.S.Store c.args.conn.now) (state g.S.Store h)) same
-    (unclean_changes_nothing g.S.Store c.args.conn.now c.fill_new.new.tx.conn.now end c.transaction-tx.result.conn.now c.transaction-tx.ensures.begun c.fill_new.ensures.within c.commit.ensures.survives never)
