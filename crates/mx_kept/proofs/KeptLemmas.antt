@@ -54,6 +54,10 @@ abbrev pub AddsOne : Schema → List ℕ → ℕ → Table → Type 0
 AddsOne schema text at table =
     (command_of (understood schema text) ≡ Insert at (Values (added_terms table) (suc (length table.columns)))) × IsPlain (understood schema text)
 
+-- the two texts of a table, which stands at a place of the schema
+abbrev pub HasTexts : {X : Type 0} → Kept X → Schema → ℕ → Table → Type 0
+HasTexts k schema at table = Scans schema k.select table × AddsOne schema k.insert at table
+
 abbrev pub StoresOne : Table → Row → Type 0
 StoresOne table row = (db : Trees) → (added db table (added_terms table) (suc (length table.columns)) row).news ≡ stored_row row ∷ []
 
@@ -74,6 +78,10 @@ abbrev pub AddsNext : Schema → List ℕ → ℕ → Table → Type 0
 AddsNext schema text at table =
     (command_of (understood schema text) ≡ Insert at (Values (next_terms table) (suc (length table.columns)))) × IsPlain (understood schema text)
 
+-- the two texts of such a table
+abbrev pub HasTextsByTwo : {X : Type 0} → Kept X → Schema → ℕ → Table → Type 0
+HasTextsByTwo k schema at table = ScansByTwo schema k.select table × AddsNext schema k.insert at table
+
 abbrev pub StoresNext : Table → Row → Type 0
 StoresNext table row = (db : Trees) → (added db table (next_terms table) (suc (length table.columns)) row).news ≡ (Int (next_rowid (db table.tree)) ∷ row) ∷ []
 
@@ -89,15 +97,14 @@ module _ {X : Type 0} (k : Kept X) (own : List Table) (behind : (schema : Schema
 
   -- the first column is the rowid
   pub first_keyed : k.order ≡ by_first
-      → ((rest : List Table) (more : List Index) → Scans (permanent (own ++ rest) more) k.select table)
+      → ((rest : List Table) (more : List Index) → HasTexts k (permanent (own ++ rest) more) at table)
       → (λ (r : Row). eval_all (shown_terms table) ([] ∷ r ∷ [])) ≡ cells table → ((r : Row) → column r 0 ≡ column (eval_all (shown_terms table) ([] ∷ r ∷ [])) 0)
-      → ((rest : List Table) (more : List Index) → AddsOne (permanent (own ++ rest) more) k.insert at table)
       → ((x : X) → StoresOne table (k.as_cells x)) → ((x : X) → cells table (stored_row (k.as_cells x)) ≡ k.as_cells x) → ((x : X) → column (k.as_cells x) 0 ≡ Int (pos (k.key x))) → IsLawful k
-  first_keyed ordered scans shows at_first adds stores shown first = record {
-    shows = λ schema h. (let has = behind schema h in let is = scans has.rest has.more in
+  first_keyed ordered texts shows at_first stores shown first = record {
+    shows = λ schema h. (let has = behind schema h in let is = (texts has.rest has.more).0 in
         subst (λ s. MeansAll s k.select table k.order) (sym has.is) (subst (MeansAll (permanent (own ++ has.rest) has.more) k.select table) (sym ordered)
         (record { keys = first_key; project = shown_terms table; names = map (λ (c : Column). c.name) table.columns; is = is.0; unlisted = is.1; plain = is.2; shows = shows; sorts = sorts_by_first (shown_terms table) at_first; low = low })));
-    adds = λ schema h x. (let has = behind schema h in let is = adds has.rest has.more in
+    adds = λ schema h x. (let has = behind schema h in let is = (texts has.rest has.more).1 in
         subst (λ s. MeansAdded s k.insert table (k.as_cells x)) (sym has.is)
         (record { at = at; terms = added_terms table; width = suc (length table.columns); stored = λ _. stored_row (k.as_cells x); same = same; there = there has.rest has.more; is = is.0; plain = is.1; news = stores x; shown = λ _. shown x }));
     once = once;
@@ -108,15 +115,14 @@ module _ {X : Type 0} (k : Kept X) (own : List Table) (behind : (schema : Schema
 
   -- the key is the first two columns, and a row is stored behind a rowid of its own
   pub two_keyed : k.order ≡ by_two
-      → ((rest : List Table) (more : List Index) → ScansByTwo (permanent (own ++ rest) more) k.select table)
+      → ((rest : List Table) (more : List Index) → HasTextsByTwo k (permanent (own ++ rest) more) at table)
       → (λ (r : Row). eval_all (behind_terms table) ([] ∷ r ∷ [])) ≡ cells table → ((r : Row) → column r 1 ≡ column (eval_all (behind_terms table) ([] ∷ r ∷ [])) 0) → ((r : Row) → column r 2 ≡ column (eval_all (behind_terms table) ([] ∷ r ∷ [])) 1)
-      → ((rest : List Table) (more : List Index) → AddsNext (permanent (own ++ rest) more) k.insert at table)
       → ((x : X) → StoresNext table (k.as_cells x)) → ((n : ℤ) (x : X) → cells table (Int n ∷ k.as_cells x) ≡ k.as_cells x) → ((xs : List X) → All k.Fits xs → IsSorted by_two (map k.as_cells xs) → IsFrom k.key 0 xs) → IsLawful k
-  two_keyed ordered scans shows first second adds stores shown ascend = record {
-    shows = λ schema h. (let has = behind schema h in let is = scans has.rest has.more in
+  two_keyed ordered texts shows first second stores shown ascend = record {
+    shows = λ schema h. (let has = behind schema h in let is = (texts has.rest has.more).0 in
         subst (λ s. MeansAll s k.select table k.order) (sym has.is) (subst (MeansAll (permanent (own ++ has.rest) has.more) k.select table) (sym ordered)
         (record { keys = two_keys; project = behind_terms table; names = map (λ (c : Column). c.name) table.columns; is = is.0; unlisted = is.1; plain = is.2; shows = shows; sorts = sorts_by_two (behind_terms table) first second; low = low })));
-    adds = λ schema h x. (let has = behind schema h in let is = adds has.rest has.more in
+    adds = λ schema h x. (let has = behind schema h in let is = (texts has.rest has.more).1 in
         subst (λ s. MeansAdded s k.insert table (k.as_cells x)) (sym has.is)
         (record { at = at; terms = next_terms table; width = suc (length table.columns); stored = λ db. Int (next_rowid (db table.tree)) ∷ k.as_cells x; same = same; there = there has.rest has.more; is = is.0; plain = is.1; news = stores x; shown = λ db. shown _ x }));
     once = once;

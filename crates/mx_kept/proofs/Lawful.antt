@@ -21,7 +21,7 @@ use Rattle.mx_kept.specs.Cells.{kept_component, kept_sector1, kept_fit1, kept_en
 use Rattle.mx_kept.specs.Meanings.{IsLawful}
 use Rattle.mx_kept.specs.Schemas.{permanent, own_1}
 use Rattle.mx_kept.proofs.OrderLemmas.{two_ascend}
-use Rattle.mx_kept.proofs.KeptLemmas.{Scans, ScansByTwo, AddsOne, AddsNext, StoresOne, StoresNext, first_keyed, two_keyed}
+use Rattle.mx_kept.proofs.KeptLemmas.{HasTexts, HasTextsByTwo, StoresOne, StoresNext, first_keyed, two_keyed}
 
 -- the kind of a number, and Remove of any that is none
 abbrev kind_of : ℕ → EntryKind
@@ -43,19 +43,15 @@ same_entry a b seq doc kind i = record { seq = seq i; doc = doc i; kind = kind i
 entry_once : (a b : EntryRow) → FitsEntry a → FitsEntry b → kept_entry.as_cells a ≡ kept_entry.as_cells b → a ≡ b
 entry_once a b fits_a fits_b e = same_entry a b (cc) (cc) (kind_once _ _ (cc))
 
-entry_shown : (rest : List Table) (more : List Index) → Scans (permanent rest more) kept_entry.select entry
+entry_texts : (rest : List Table) (more : List Index) → HasTexts kept_entry (permanent rest more) 1 entry
 unfolding understood everything
-entry_shown rest more = (refl, refl, (refl, refl))
-
-entry_added : (rest : List Table) (more : List Index) → AddsOne (permanent rest more) kept_entry.insert 1 entry
-unfolding understood everything
-entry_added rest more = (refl, (refl, refl))
+entry_texts rest more = ((refl, refl, (refl, refl)), (refl, (refl, refl)))
 
 entry_stores : (r : EntryRow) → StoresOne entry (kept_entry.as_cells r)
 entry_stores r db = simp (cast_int, cast_null) refl
 
 pub entry_lawful : IsLawful kept_entry
-entry_lawful = first_keyed kept_entry [] (λ _ has. has) 1 refl (λ _ _. refl) (λ _. refl) entry_once (λ _ h. h) (λ _. refl) refl entry_shown refl (λ _. refl) entry_added entry_stores (λ _. refl) (λ _. refl)
+entry_lawful = first_keyed kept_entry [] (λ _ has. has) 1 refl (λ _ _. refl) (λ _. refl) entry_once (λ _ h. h) (λ _. refl) refl entry_texts refl (λ _. refl) entry_stores (λ _. refl) (λ _. refl)
 
 same_aircraft : (a b : AircraftRow) → a.seq ≡ b.seq → a.tail ≡ b.tail → a.kind ≡ b.kind → a.birth ≡ b.birth → a.minutes ≡ b.minutes → a.cycles ≡ b.cycles → a.as_of ≡ b.as_of → a ≡ b
 same_aircraft a b seq tail kind birth minutes cycles as_of i = record { seq = seq i; tail = tail i; kind = kind i; birth = birth i; minutes = minutes i; cycles = cycles i; as_of = as_of i }
@@ -63,19 +59,15 @@ same_aircraft a b seq tail kind birth minutes cycles as_of i = record { seq = se
 aircraft_once : (a b : AircraftRow) → FitsAircraft a → FitsAircraft b → kept_aircraft.as_cells a ≡ kept_aircraft.as_cells b → a ≡ b
 aircraft_once a b fits_a fits_b e = same_aircraft a b (cc) (cc) (cc) (cc) (cc) (cc) (cc)
 
-aircraft_shown : (rest : List Table) (more : List Index) → Scans (permanent rest more) kept_aircraft.select aircraft
+aircraft_texts : (rest : List Table) (more : List Index) → HasTexts kept_aircraft (permanent rest more) 2 aircraft
 unfolding understood everything
-aircraft_shown rest more = (refl, refl, (refl, refl))
-
-aircraft_added : (rest : List Table) (more : List Index) → AddsOne (permanent rest more) kept_aircraft.insert 2 aircraft
-unfolding understood everything
-aircraft_added rest more = (refl, (refl, refl))
+aircraft_texts rest more = ((refl, refl, (refl, refl)), (refl, (refl, refl)))
 
 aircraft_stores : (r : AircraftRow) → StoresOne aircraft (kept_aircraft.as_cells r)
 aircraft_stores r db = simp (cast_int, cast_null) refl
 
 pub aircraft_lawful : IsLawful kept_aircraft
-aircraft_lawful = first_keyed kept_aircraft [] (λ _ has. has) 2 refl (λ _ _. refl) (λ _. refl) aircraft_once (λ _ h. h) (λ _. refl) refl aircraft_shown refl (λ _. refl) aircraft_added aircraft_stores (λ _. refl) (λ _. refl)
+aircraft_lawful = first_keyed kept_aircraft [] (λ _ has. has) 2 refl (λ _ _. refl) (λ _. refl) aircraft_once (λ _ h. h) (λ _. refl) refl aircraft_texts refl (λ _. refl) aircraft_stores (λ _. refl) (λ _. refl)
 
 same_place : (a b : PlaceRow) → a.seq ≡ b.seq → a.line ≡ b.line → a.position ≡ b.position → a.part ≡ b.part → a ≡ b
 same_place a b seq line position part i = record { seq = seq i; line = line i; position = position i; part = part i }
@@ -83,19 +75,15 @@ same_place a b seq line position part i = record { seq = seq i; line = line i; p
 place_once : (a b : PlaceRow) → FitsPlace a → FitsPlace b → kept_place.as_cells a ≡ kept_place.as_cells b → a ≡ b
 place_once a b fits_a fits_b e = same_place a b (cc) (cc) (cc) (cc)
 
-place_shown : (rest : List Table) (more : List Index) → ScansByTwo (permanent rest more) kept_place.select place
+place_texts : (rest : List Table) (more : List Index) → HasTextsByTwo kept_place (permanent rest more) 3 place
 unfolding understood everything
-place_shown rest more = (refl, refl, (refl, refl))
-
-place_added : (rest : List Table) (more : List Index) → AddsNext (permanent rest more) kept_place.insert 3 place
-unfolding understood everything
-place_added rest more = (refl, (refl, refl))
+place_texts rest more = ((refl, refl, (refl, refl)), (refl, (refl, refl)))
 
 place_stores : (r : PlaceRow) → StoresNext place (kept_place.as_cells r)
 place_stores r db = simp (cast_int, cast_null) refl
 
 pub place_lawful : IsLawful kept_place
-place_lawful = two_keyed kept_place [] (λ _ has. has) 3 refl (λ _ _. refl) (λ _. refl) place_once (λ _ h. h) (λ _. refl) refl place_shown refl (λ _. refl) (λ _. refl) place_added place_stores (λ _ _. refl) (two_ascend kept_place.as_cells FitsPlace place_key (λ (r : PlaceRow). r.seq) (λ (r : PlaceRow). r.line) (λ _. refl) (λ _. refl) (λ _. refl) (λ _ fits. fits.line))
+place_lawful = two_keyed kept_place [] (λ _ has. has) 3 refl (λ _ _. refl) (λ _. refl) place_once (λ _ h. h) (λ _. refl) refl place_texts refl (λ _. refl) (λ _. refl) place_stores (λ _ _. refl) (two_ascend kept_place.as_cells FitsPlace place_key (λ (r : PlaceRow). r.seq) (λ (r : PlaceRow). r.line) (λ _. refl) (λ _. refl) (λ _. refl) (λ _ fits. fits.line))
 
 same_removal : (a b : RemovalRow) → a.seq ≡ b.seq → a.component ≡ b.component → a.moment ≡ b.moment → a ≡ b
 same_removal a b seq component moment i = record { seq = seq i; component = component i; moment = moment i }
@@ -103,19 +91,15 @@ same_removal a b seq component moment i = record { seq = seq i; component = comp
 removal_once : (a b : RemovalRow) → FitsRemoval a → FitsRemoval b → kept_removal1.as_cells a ≡ kept_removal1.as_cells b → a ≡ b
 removal_once a b fits_a fits_b e = same_removal a b (cc) (cc) (moment_text_injective _ _ fits_a.moment fits_b.moment (cc))
 
-removal1_shown : (rest : List Table) (more : List Index) → Scans (permanent (own_1 ++ rest) more) kept_removal1.select removal1
+removal1_texts : (rest : List Table) (more : List Index) → HasTexts kept_removal1 (permanent (own_1 ++ rest) more) 14 removal1
 unfolding understood everything
-removal1_shown rest more = (refl, refl, (refl, refl))
-
-removal1_added : (rest : List Table) (more : List Index) → AddsOne (permanent (own_1 ++ rest) more) kept_removal1.insert 14 removal1
-unfolding understood everything
-removal1_added rest more = (refl, (refl, refl))
+removal1_texts rest more = ((refl, refl, (refl, refl)), (refl, (refl, refl)))
 
 removal1_stores : (r : RemovalRow) → StoresOne removal1 (kept_removal1.as_cells r)
 removal1_stores r db = simp (cast_int, cast_null) refl
 
 pub removal1_lawful : IsLawful kept_removal1
-removal1_lawful = first_keyed kept_removal1 own_1 (λ _ has. has) 14 refl (λ _ _. refl) (λ _. refl) removal_once (λ _ h. h) (λ _. refl) refl removal1_shown refl (λ _. refl) removal1_added removal1_stores (λ _. refl) (λ _. refl)
+removal1_lawful = first_keyed kept_removal1 own_1 (λ _ has. has) 14 refl (λ _ _. refl) (λ _. refl) removal_once (λ _ h. h) (λ _. refl) refl removal1_texts refl (λ _. refl) removal1_stores (λ _. refl) (λ _. refl)
 
 same_component : (a b : ComponentRow) → a.seq ≡ b.seq → a.serial ≡ b.serial → a.part ≡ b.part → a.birth ≡ b.birth → a.minutes ≡ b.minutes → a.cycles ≡ b.cycles → a.as_of ≡ b.as_of → a ≡ b
 same_component a b seq serial part birth minutes cycles as_of i = record { seq = seq i; serial = serial i; part = part i; birth = birth i; minutes = minutes i; cycles = cycles i; as_of = as_of i }
@@ -123,19 +107,15 @@ same_component a b seq serial part birth minutes cycles as_of i = record { seq =
 component_once : (a b : ComponentRow) → FitsComponent a → FitsComponent b → kept_component.as_cells a ≡ kept_component.as_cells b → a ≡ b
 component_once a b fits_a fits_b e = same_component a b (cc) (cc) (cc) (cc) (cc) (cc) (cc)
 
-component_shown : (rest : List Table) (more : List Index) → Scans (permanent rest more) kept_component.select component
+component_texts : (rest : List Table) (more : List Index) → HasTexts kept_component (permanent rest more) 4 component
 unfolding understood everything
-component_shown rest more = (refl, refl, (refl, refl))
-
-component_added : (rest : List Table) (more : List Index) → AddsOne (permanent rest more) kept_component.insert 4 component
-unfolding understood everything
-component_added rest more = (refl, (refl, refl))
+component_texts rest more = ((refl, refl, (refl, refl)), (refl, (refl, refl)))
 
 component_stores : (r : ComponentRow) → StoresOne component (kept_component.as_cells r)
 component_stores r db = simp (cast_int, cast_null) refl
 
 pub component_lawful : IsLawful kept_component
-component_lawful = first_keyed kept_component [] (λ _ has. has) 4 refl (λ _ _. refl) (λ _. refl) component_once (λ _ h. h) (λ _. refl) refl component_shown refl (λ _. refl) component_added component_stores (λ _. refl) (λ _. refl)
+component_lawful = first_keyed kept_component [] (λ _ has. has) 4 refl (λ _ _. refl) (λ _. refl) component_once (λ _ h. h) (λ _. refl) refl component_texts refl (λ _. refl) component_stores (λ _. refl) (λ _. refl)
 
 same_sector : (a b : SectorRow) → a.seq ≡ b.seq → a.aircraft ≡ b.aircraft → a.page ≡ b.page → a.line ≡ b.line → a.took_off ≡ b.took_off → a.landed ≡ b.landed → a.cycles ≡ b.cycles → a ≡ b
 same_sector a b seq aircraft page line took_off landed cycles i =
@@ -145,19 +125,15 @@ sector_once : (a b : SectorRow) → FitsSector a → FitsSector b → kept_secto
 sector_once a b fits_a fits_b e =
     same_sector a b (cc) (cc) (cc) (cc) (moment_text_injective _ _ fits_a.took_off fits_b.took_off (cc)) (moment_text_injective _ _ fits_a.landed fits_b.landed (cc)) (cc)
 
-sector1_shown : (rest : List Table) (more : List Index) → Scans (permanent (own_1 ++ rest) more) kept_sector1.select sector1
+sector1_texts : (rest : List Table) (more : List Index) → HasTexts kept_sector1 (permanent (own_1 ++ rest) more) 12 sector1
 unfolding understood everything
-sector1_shown rest more = (refl, refl, (refl, refl))
-
-sector1_added : (rest : List Table) (more : List Index) → AddsOne (permanent (own_1 ++ rest) more) kept_sector1.insert 12 sector1
-unfolding understood everything
-sector1_added rest more = (refl, (refl, refl))
+sector1_texts rest more = ((refl, refl, (refl, refl)), (refl, (refl, refl)))
 
 sector1_stores : (r : SectorRow) → StoresOne sector1 (kept_sector1.as_cells r)
 sector1_stores r db = simp (cast_int, cast_null) refl
 
 pub sector1_lawful : IsLawful kept_sector1
-sector1_lawful = first_keyed kept_sector1 own_1 (λ _ has. has) 12 refl (λ _ _. refl) (λ _. refl) sector_once (λ _ h. h) (λ _. refl) refl sector1_shown refl (λ _. refl) sector1_added sector1_stores (λ _. refl) (λ _. refl)
+sector1_lawful = first_keyed kept_sector1 own_1 (λ _ has. has) 12 refl (λ _ _. refl) (λ _. refl) sector_once (λ _ h. h) (λ _. refl) refl sector1_texts refl (λ _. refl) sector1_stores (λ _. refl) (λ _. refl)
 
 same_fitting : (a b : FittingRow) → a.seq ≡ b.seq → a.component ≡ b.component → a.aircraft ≡ b.aircraft → a.position ≡ b.position → a.moment ≡ b.moment → a ≡ b
 same_fitting a b seq component aircraft position moment i = record { seq = seq i; component = component i; aircraft = aircraft i; position = position i; moment = moment i }
@@ -165,16 +141,12 @@ same_fitting a b seq component aircraft position moment i = record { seq = seq i
 fitting_once : (a b : FittingRow) → FitsFitting a → FitsFitting b → kept_fit1.as_cells a ≡ kept_fit1.as_cells b → a ≡ b
 fitting_once a b fits_a fits_b e = same_fitting a b (cc) (cc) (cc) (cc) (moment_text_injective _ _ fits_a.moment fits_b.moment (cc))
 
-fit1_shown : (rest : List Table) (more : List Index) → Scans (permanent (own_1 ++ rest) more) kept_fit1.select fit1
+fit1_texts : (rest : List Table) (more : List Index) → HasTexts kept_fit1 (permanent (own_1 ++ rest) more) 13 fit1
 unfolding understood everything
-fit1_shown rest more = (refl, refl, (refl, refl))
-
-fit1_added : (rest : List Table) (more : List Index) → AddsOne (permanent (own_1 ++ rest) more) kept_fit1.insert 13 fit1
-unfolding understood everything
-fit1_added rest more = (refl, (refl, refl))
+fit1_texts rest more = ((refl, refl, (refl, refl)), (refl, (refl, refl)))
 
 fit1_stores : (r : FittingRow) → StoresOne fit1 (kept_fit1.as_cells r)
 fit1_stores r db = simp (cast_int, cast_null) refl
 
 pub fit1_lawful : IsLawful kept_fit1
-fit1_lawful = first_keyed kept_fit1 own_1 (λ _ has. has) 13 refl (λ _ _. refl) (λ _. refl) fitting_once (λ _ h. h) (λ _. refl) refl fit1_shown refl (λ _. refl) fit1_added fit1_stores (λ _. refl) (λ _. refl)
+fit1_lawful = first_keyed kept_fit1 own_1 (λ _ has. has) 13 refl (λ _ _. refl) (λ _. refl) fitting_once (λ _ h. h) (λ _. refl) refl fit1_texts refl (λ _. refl) fit1_stores (λ _. refl) (λ _. refl)

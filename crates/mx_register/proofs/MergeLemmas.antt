@@ -111,15 +111,8 @@ merged_gives before (entry ∷ later) judged shaped =
     rw (take_gives before entry.doc entry.act (all_later (before ++ entry ∷ []) later) shape.0 new.0 behind, same-eq (length before + 1), new.0)
     (merged_gives (before ++ entry ∷ []) later new.1 shape.1 ∙ ap (λ (book : List Entry). Some book) (append_assoc before (entry ∷ []) later))
 
-rest_with : List AircraftRow → List PlaceRow → List ComponentRow → List SectorRow → List FittingRow → List RemovalRow → Rest
-rest_with a p c s f r = record { aircraft = a; places = p; components = c; sectors = s; fittings = f; removals = r }
-
-same_rest : (a a' : List AircraftRow) (p p' : List PlaceRow) (c c' : List ComponentRow) (s s' : List SectorRow) (f f' : List FittingRow) (r r' : List RemovalRow) → a ≡ a' → p ≡ p' → c ≡ c' → s ≡ s' → f ≡ f' → r ≡ r' → rest_with a p c s f r ≡ rest_with a' p' c' s' f' r'
-same_rest a a' p p' c c' s s' f f' r r' one two three four five six = cc
-
 registers_rest : (registers : Registers) (book : List Entry) → AreRegistersOf registers book → all_rows registers ≡ all_later [] book
-unfolding rest_with
-registers_rest registers book are = same_rest _ _ _ _ _ _ _ _ _ _ _ _ are.aircraft are.places are.components are.sectors are.fittings are.removals
+registers_rest registers book are i = record { aircraft = are.aircraft i; places = are.places i; components = are.components i; sectors = are.sectors i; fittings = are.fittings i; removals = are.removals i }
 
 -- from the registers of a book the merge gives the book
 pub merged_from : (registers : Registers) (book : List Entry) → IsBook book → AreRegistersOf registers book → merged [] registers.entries.items (all_rows registers) ≡ Some book
@@ -141,8 +134,7 @@ pub record HaveSameRegisters (one other : List Entry) : Type 0 where
   pub removals : removal_rows one ≡ removal_rows other
 
 same_later : (one other : List Entry) → HaveSameRegisters one other → all_later [] one ≡ all_later [] other
-unfolding rest_with
-same_later one other same = same_rest _ _ _ _ _ _ _ _ _ _ _ _ same.aircraft same.places same.components same.sectors same.fittings same.removals
+same_later one other same i = record { aircraft = same.aircraft i; places = same.places i; components = same.components i; sectors = same.sectors i; fittings = same.fittings i; removals = same.removals i }
 
 -- books with the same registers are one
 pub book_once : (one other : List Entry) → HaveSameRegisters one other → IsBook one → IsBook other → one ≡ other

@@ -3,7 +3,7 @@ use Rattle.std.proofs.Common.{arith, ◌≡◌, ℕ, ◌+◌, zero, suc, List, [
 use Rattle.std.specs.Prelude.{is_some, find}
 use Rattle.std.specs.List.{slice_get, cons_option}
 use Rattle.std.specs.Option.{option_map, option_map_or, option_and_then}
-use Rattle.mx_command.specs.Act.{Act, Entry, Added, Listed, Flown, Fitted, Removed, aircraft_of, component_of}
+use Rattle.mx_command.specs.Act.{Act, Entry, Added, Listed, aircraft_of, component_of}
 use Rattle.mx_command.specs.Same.{same_text}
 use Rattle.mx_command.specs.declared.aircraft.Aircraft.{Aircraft}
 use Rattle.mx_command.specs.declared.component.Component.{Component}
@@ -152,19 +152,13 @@ tail_by : (before : List Entry) (doc : List ℕ) (act : Act) (tail : List ℕ) �
 tail_by before doc (Added a positions) tail new e =
     let same : a.tail ≡ tail = cc in
     sym (aircraft_found before tail) ∙ ap (λ (t : List ℕ). is_some (aircraft before t)) (sym same) ∙ added_is_unknown before doc a positions new
-tail_by before doc (Listed c) tail new e = (cc)
-tail_by before doc (Flown s) tail new e = (cc)
-tail_by before doc (Fitted f) tail new e = (cc)
-tail_by before doc (Removed r) tail new e = (cc)
+tail_by before doc _ tail new e = (cc)
 
 serial_by : (before : List Entry) (doc : List ℕ) (act : Act) (serial : List ℕ) → is_new (judge before (record { doc = doc; act = act })) ≡ true → serial_added act ≡ Some serial → is_some (seq_of_serial before serial) ≡ false
 serial_by before doc (Listed c) serial new e =
     let same : c.serial ≡ serial = cc in
     sym (component_found before serial) ∙ ap (λ (t : List ℕ). is_some (component before t)) (sym same) ∙ listed_is_unknown before doc c new
-serial_by before doc (Added a positions) serial new e = (cc)
-serial_by before doc (Flown s) serial new e = (cc)
-serial_by before doc (Fitted f) serial new e = (cc)
-serial_by before doc (Removed r) serial new e = (cc)
+serial_by before doc _ serial new e = (cc)
 
 -- in a book the entry that added an aircraft is the one whose number is found
 pub tail_number : (book : List Entry) (tail : List ℕ) (seq : ℕ) → is_book_from [] book ≡ true → tail_at book seq ≡ Some tail → seq ≡ or_zero (seq_of_tail book tail)

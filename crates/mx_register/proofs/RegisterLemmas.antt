@@ -3,7 +3,7 @@ use Rattle.std.proofs.Common.{◌≡◌, ℕ, ◌+◌, ◌*◌, ◌^◌, ◌≤�
 use Rattle.std.specs.Prelude.{nat_le}
 use Rattle.std.specs.List.{list_all}
 use Rattle.std.proofs.lemmas.Bool.Decides.{nat_tests}
-use Rattle.mx_command.specs.Act.{Act, Entry, Added, Listed, Flown, Fitted, Removed, positions_of, aircraft_of, component_of, sector_of, fitting_of, removal_of}
+use Rattle.mx_command.specs.Act.{Act, Entry, Added, positions_of, aircraft_of, component_of, sector_of, fitting_of, removal_of}
 use Rattle.mx_command.specs.Shape.{has_shape, act_shape, doc_shape, opening_shape, positions_shape}
 use Rattle.mx_command.specs.declared.sector.Sector.{Sector}
 use Rattle.mx_command.specs.declared.fitting.Fitting.{Fitting}
@@ -114,10 +114,7 @@ positions_few : (doc : List ℕ) (act : Act) → has_shape (record { doc = doc; 
 positions_few doc (Added a positions) h =
     let shape = both_true (act_shape (Added a positions)) (doc_shape doc (Added a positions)) h in
     few_positions positions (both_true (opening_shape a.birth a.opening a.as_of) (positions_shape positions) shape.0).1
-positions_few doc (Listed c) h = omega arith
-positions_few doc (Flown s) h = omega arith
-positions_few doc (Fitted f) h = omega arith
-positions_few doc (Removed r) h = omega arith
+positions_few doc _ h = omega arith
 
 rising-lower : {Row : Type 0} (key : Row → ℕ) (low more high : ℕ) (xs : List Row) → low ≤ more → IsRising key more xs high → IsRising key low xs high
 rising-lower key low more high [] h up = omega arith

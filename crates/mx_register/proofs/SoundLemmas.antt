@@ -20,10 +20,10 @@ use Rattle.mx_register.specs.declared.rows.SectorRow.{SectorRow}
 use Rattle.mx_register.specs.declared.rows.FittingRow.{FittingRow}
 use Rattle.mx_register.specs.declared.rows.RemovalRow.{RemovalRow}
 use Rattle.mx_register.specs.Names.{tail_at, serial_at, seq_of_serial, or_zero}
-use Rattle.mx_register.specs.Registers.{gives, gives_by, next, kind_of, entry_row, entry_added, aircraft_by, places_by, components_by, sectors_by, fittings_by, removals_by, AreRegistersOf}
+use Rattle.mx_register.specs.Registers.{gives, next, kind_of, entry_row, entry_added, AreRegistersOf}
 use Rattle.mx_register.specs.Merge.{Rest, aircraft_said, component_said, sector_said, fitting_said, removal_said, command_of, first_of_entry, take_places, take_by, take_command, is_next, is_empty, are_taken, merged}
 use Rattle.mx_register.specs.Left.{all_rows}
-use Rattle.mx_register.proofs.MergeLemmas.{same_some}
+use Rattle.mx_register.proofs.MergeLemmas.{same_some, in_front, all_later}
 use Rattle.mx_register.proofs.NameLemmas.{tail_number, serial_number}
 use Rattle.mx_register.proofs.TakeLemmas.{rows_taken}
 
@@ -47,12 +47,7 @@ first_is seq_of seq (r ∷ rows) row more h =
 -- the rows of an entry of this kind stand in front of those that are left
 record Takes (before : List Entry) (k : EntryKind) (rest : Rest) (act : Act) (left : Rest) : Type 0 where
   kind_is : k ≡ kind_of act
-  aircraft : rest.aircraft ≡ aircraft_by before act ++ left.aircraft
-  places : rest.places ≡ places_by before act ++ left.places
-  components : rest.components ≡ components_by before act ++ left.components
-  sectors : rest.sectors ≡ sectors_by before act ++ left.sectors
-  fittings : rest.fittings ≡ fittings_by before act ++ left.fittings
-  removals : rest.removals ≡ removals_by before act ++ left.removals
+  rows : rest ≡ in_front before act left
 
 -- the same where other names stand for what is said and for what is left
 takes_as : (before : List Entry) (k : EntryKind) (rest : Rest) (said taken : Act × Rest) → said ≡ taken → Takes before k rest said.0 said.1 → Takes before k rest taken.0 taken.1
@@ -62,64 +57,44 @@ took_aircraft : (before : List Entry) (rest : Rest) (row : AircraftRow) (more : 
     → Takes before kind.AddAircraft rest (aircraft_said row (take_places (next before) 1 rest.places).0) (record rest { aircraft = more; places = (take_places (next before) 1 rest.places).1 })
 took_aircraft before rest row more same is = record {
   kind_is = refl;
-  aircraft = is ∙ ap (λ (n : ℕ). record { seq = n; tail = row.tail; kind = row.kind; birth = row.birth; minutes = row.minutes; cycles = row.cycles; as_of = row.as_of } ∷ more) same;
-  places = rows_taken (next before) 1 rest.places;
-  components = refl;
-  sectors = refl;
-  fittings = refl;
-  removals = refl;
+  rows = ap (λ (rows : List AircraftRow). record rest { aircraft = rows }) (is ∙ ap (λ (n : ℕ). record { seq = n; tail = row.tail; kind = row.kind; birth = row.birth; minutes = row.minutes; cycles = row.cycles; as_of = row.as_of } ∷ more) same)
+      ∙ ap (λ (rows : List PlaceRow). record rest { aircraft = record { seq = next before; tail = row.tail; kind = row.kind; birth = row.birth; minutes = row.minutes; cycles = row.cycles; as_of = row.as_of } ∷ more; places = rows }) (rows_taken (next before) 1 rest.places);
 }
 
 took_component : (before : List Entry) (rest : Rest) (row : ComponentRow) (more : List ComponentRow) → row.seq ≡ next before → rest.components ≡ row ∷ more
     → Takes before kind.AddComponent rest (component_said row) (record rest { components = more })
 took_component before rest row more same is = record {
   kind_is = refl;
-  aircraft = refl;
-  places = refl;
-  components = is ∙ ap (λ (n : ℕ). record { seq = n; serial = row.serial; part = row.part; birth = row.birth; minutes = row.minutes; cycles = row.cycles; as_of = row.as_of } ∷ more) same;
-  sectors = refl;
-  fittings = refl;
-  removals = refl;
+  rows = ap (λ (rows : List ComponentRow). record rest { components = rows })
+      (is ∙ ap (λ (n : ℕ). record { seq = n; serial = row.serial; part = row.part; birth = row.birth; minutes = row.minutes; cycles = row.cycles; as_of = row.as_of } ∷ more) same);
 }
 
 took_sector : (before : List Entry) (rest : Rest) (row : SectorRow) (more : List SectorRow) (tail : List ℕ) → IsBook before → row.seq ≡ next before → rest.sectors ≡ row ∷ more → tail_at before row.aircraft ≡ Some tail
     → Takes before kind.Sector rest (sector_said row tail) (record rest { sectors = more })
 took_sector before rest row more tail book same is found = record {
   kind_is = refl;
-  aircraft = refl;
-  places = refl;
-  components = refl;
-  sectors = is ∙ ap (λ (n : ℕ). record { seq = n; aircraft = row.aircraft; page = row.page; line = row.line; took_off = row.took_off; landed = row.landed; cycles = row.cycles } ∷ more) same
-      ∙ ap (λ (n : ℕ). record { seq = next before; aircraft = n; page = row.page; line = row.line; took_off = row.took_off; landed = row.landed; cycles = row.cycles } ∷ more) (tail_number before tail row.aircraft book.judged found);
-  fittings = refl;
-  removals = refl;
+  rows = ap (λ (rows : List SectorRow). record rest { sectors = rows })
+      (is ∙ ap (λ (n : ℕ). record { seq = n; aircraft = row.aircraft; page = row.page; line = row.line; took_off = row.took_off; landed = row.landed; cycles = row.cycles } ∷ more) same
+      ∙ ap (λ (n : ℕ). record { seq = next before; aircraft = n; page = row.page; line = row.line; took_off = row.took_off; landed = row.landed; cycles = row.cycles } ∷ more) (tail_number before tail row.aircraft book.judged found));
 }
 
 took_fitting : (before : List Entry) (rest : Rest) (row : FittingRow) (more : List FittingRow) (serial tail : List ℕ) → IsBook before → row.seq ≡ next before → rest.fittings ≡ row ∷ more
     → serial_at before row.component ≡ Some serial → tail_at before row.aircraft ≡ Some tail → Takes before kind.Fit rest (fitting_said row serial tail) (record rest { fittings = more })
 took_fitting before rest row more serial tail book same is component found = record {
   kind_is = refl;
-  aircraft = refl;
-  places = refl;
-  components = refl;
-  sectors = refl;
-  fittings = is ∙ ap (λ (n : ℕ). record { seq = n; component = row.component; aircraft = row.aircraft; position = row.position; moment = row.moment } ∷ more) same
+  rows = ap (λ (rows : List FittingRow). record rest { fittings = rows })
+      (is ∙ ap (λ (n : ℕ). record { seq = n; component = row.component; aircraft = row.aircraft; position = row.position; moment = row.moment } ∷ more) same
       ∙ ap (λ (n : ℕ). record { seq = next before; component = n; aircraft = row.aircraft; position = row.position; moment = row.moment } ∷ more) (serial_number before serial row.component book.judged component)
-      ∙ ap (λ (n : ℕ). record { seq = next before; component = or_zero (seq_of_serial before serial); aircraft = n; position = row.position; moment = row.moment } ∷ more) (tail_number before tail row.aircraft book.judged found);
-  removals = refl;
+      ∙ ap (λ (n : ℕ). record { seq = next before; component = or_zero (seq_of_serial before serial); aircraft = n; position = row.position; moment = row.moment } ∷ more) (tail_number before tail row.aircraft book.judged found));
 }
 
 took_removal : (before : List Entry) (rest : Rest) (row : RemovalRow) (more : List RemovalRow) (serial : List ℕ) → IsBook before → row.seq ≡ next before → rest.removals ≡ row ∷ more
     → serial_at before row.component ≡ Some serial → Takes before kind.Remove rest (removal_said row serial) (record rest { removals = more })
 took_removal before rest row more serial book same is component = record {
   kind_is = refl;
-  aircraft = refl;
-  places = refl;
-  components = refl;
-  sectors = refl;
-  fittings = refl;
-  removals = is ∙ ap (λ (n : ℕ). record { seq = n; component = row.component; moment = row.moment } ∷ more) same
-      ∙ ap (λ (n : ℕ). record { seq = next before; component = n; moment = row.moment } ∷ more) (serial_number before serial row.component book.judged component);
+  rows = ap (λ (rows : List RemovalRow). record rest { removals = rows })
+      (is ∙ ap (λ (n : ℕ). record { seq = n; component = row.component; moment = row.moment } ∷ more) same
+      ∙ ap (λ (n : ℕ). record { seq = next before; component = n; moment = row.moment } ∷ more) (serial_number before serial row.component book.judged component));
 }
 
 takes_by : (before : List Entry) (rest : Rest) (k : EntryKind) (taken : Act × Rest) → IsBook before → take_by before (next before) rest k ≡ Some taken → Takes before k rest taken.0 taken.1
@@ -178,12 +153,7 @@ record GoesOn (before : List Entry) (entries : List EntryRow) (rest : Rest) (boo
   later : List Entry
   whole : book ≡ before ++ later
   entries_are : entries ≡ gives entry_added before later
-  aircraft : rest.aircraft ≡ gives_by aircraft_by before later
-  places : rest.places ≡ gives_by places_by before later
-  components : rest.components ≡ gives_by components_by before later
-  sectors : rest.sectors ≡ gives_by sectors_by before later
-  fittings : rest.fittings ≡ gives_by fittings_by before later
-  removals : rest.removals ≡ gives_by removals_by before later
+  rows : rest ≡ all_later before later
 
 no_rows : {Row : Type 0} (rows : List Row) → is_empty rows ≡ true → rows ≡ []
 no_rows [] h = refl
@@ -200,12 +170,14 @@ ends before rest book h same =
       later = [];
       whole = sym same ∙ sym (append-nil before);
       entries_are = refl;
-      aircraft = no_rows rest.aircraft one.0;
-      places = no_rows rest.places two.0;
-      components = no_rows rest.components three.0;
-      sectors = no_rows rest.sectors four.0;
-      fittings = no_rows rest.fittings five.0;
-      removals = no_rows rest.removals five.1;
+      rows = λ i. record {
+        aircraft = no_rows rest.aircraft one.0 i;
+        places = no_rows rest.places two.0 i;
+        components = no_rows rest.components three.0 i;
+        sectors = no_rows rest.sectors four.0 i;
+        fittings = no_rows rest.fittings five.0 i;
+        removals = no_rows rest.removals five.1 i;
+      };
     }
 
 goes_further : (before : List Entry) (entry : EntryRow) (entries : List EntryRow) (rest left : Rest) (command : Entry) (book : List Entry) → Gives before entry rest command left → GoesOn (before ++ command ∷ []) entries left book → GoesOn before (entry ∷ entries) rest book
@@ -213,12 +185,7 @@ goes_further before entry entries rest left command book gave goes = record {
   later = command ∷ goes.later;
   whole = goes.whole ∙ append_assoc before (command ∷ []) goes.later;
   entries_are = ap (λ (e : EntryRow). e ∷ entries) gave.row ∙ ap (λ (es : List EntryRow). entry_row (next before) command ∷ es) goes.entries_are;
-  aircraft = gave.rows.aircraft ∙ ap (λ (rows : List AircraftRow). aircraft_by before command.act ++ rows) goes.aircraft;
-  places = gave.rows.places ∙ ap (λ (rows : List PlaceRow). places_by before command.act ++ rows) goes.places;
-  components = gave.rows.components ∙ ap (λ (rows : List ComponentRow). components_by before command.act ++ rows) goes.components;
-  sectors = gave.rows.sectors ∙ ap (λ (rows : List SectorRow). sectors_by before command.act ++ rows) goes.sectors;
-  fittings = gave.rows.fittings ∙ ap (λ (rows : List FittingRow). fittings_by before command.act ++ rows) goes.fittings;
-  removals = gave.rows.removals ∙ ap (λ (rows : List RemovalRow). removals_by before command.act ++ rows) goes.removals;
+  rows = gave.rows.rows ∙ ap (in_front before command.act) goes.rows;
 }
 
 merged_goes_on : (before : List Entry) (entries : List EntryRow) (rest : Rest) (book : List Entry) → IsBook before → merged before entries rest ≡ Some book → GoesOn before entries rest book
@@ -239,14 +206,15 @@ merged_sound : (registers : Registers) (book : List Entry) → merged [] registe
 merged_sound registers book h =
     let goes = merged_goes_on [] registers.entries.items (all_rows registers) book empty_book h in
     let same = sym goes.whole in
+    let rows = goes.rows ∙ ap (all_later []) same in
     record {
       entries = goes.entries_are ∙ ap (gives entry_added []) same;
-      aircraft = goes.aircraft ∙ ap (gives_by aircraft_by []) same;
-      places = goes.places ∙ ap (gives_by places_by []) same;
-      components = goes.components ∙ ap (gives_by components_by []) same;
-      sectors = goes.sectors ∙ ap (gives_by sectors_by []) same;
-      fittings = goes.fittings ∙ ap (gives_by fittings_by []) same;
-      removals = goes.removals ∙ ap (gives_by removals_by []) same;
+      aircraft = ap (λ (r : Rest). r.aircraft) rows;
+      places = ap (λ (r : Rest). r.places) rows;
+      components = ap (λ (r : Rest). r.components) rows;
+      sectors = ap (λ (r : Rest). r.sectors) rows;
+      fittings = ap (λ (r : Rest). r.fittings) rows;
+      removals = ap (λ (r : Rest). r.removals) rows;
     }
 
 sound_if : (registers : Registers) (found : Option (List Entry)) → found ≡ merged [] registers.entries.items (all_rows registers) → IfSome found (λ book. AreRegistersOf registers book)

@@ -11,12 +11,13 @@ use Rattle.mx_layout.specs.TableName.{TableName}
 use Rattle.mx_layout.specs.declared.fault.TableFault.{TableFault}
 use Rattle.mx_layout.specs.declared.fault.TableFault.TheVariants.{Memory, Store, NotOurs, Exists, Damaged}
 use Rattle.mx_layout.specs.Contents.{rows_in}
+use Rattle.mx_layout.specs.Point.{IsFaultOf}
 use Rattle.mx_layout.specs.Reading.{AreAllBy, HasOther, IsRowOf}
 use Rattle.mx_layout.proofs.ReadLemmas.{other_in}
 use Rattle.std.specs.List.Sorted.{IsPermutation}
 use Rattle.std.proofs.lemmas.List.Sorted.{All-permutation}
 use Rattle.std.proofs.lemmas.List.Elements.{All-map, All-weaker, All-contains}
-use Rattle.mx_tables.specs.Calls.{IsFaultOf, OnDamaged, OnRead}
+use Rattle.mx_tables.specs.Calls.{OnDamaged, OnRead}
 
 pub on_read : {T P : Type 0} (r : Result T TableFault) → P → OnRead r P
 on_read (Ok rows) p = p

@@ -1,18 +1,15 @@
 -- What a reader and an insert do to a connection, whatever the table.
-use Rattle.std.specs.Prelude.{◌≡◌, ◌⊎◌, ◌↔◌, ℕ, List, [], map, All, Result, Ok, Err, OnOk, IfOk, IfErr, IsTrue}
+use Rattle.std.specs.Prelude.{◌≡◌, ◌⊎◌, ℕ, List, [], map, All, Result, Ok, Err, OnOk, IfOk, IfErr, IsTrue}
 use Rattle.std.specs.declared.cmp.Ordering.{Ordering}
 use Rattle.sqlite.specs.Order.{Row}
 use Rattle.sqlite.specs.Table.{Table}
 use Rattle.sqlite.specs.State.{State, HasCleanDisk, Shown, IsUnchanged, ExecutesInside}
 use Rattle.sqlite.specs.declared.error.Error.{Error}
-use Rattle.sqlite.specs.declared.error.Error.TheVariants.{SqliteFailure}
-use Rattle.sqlite.specs.declared.error.ErrorCode.TheVariants.{OutOfMemory}
 use Rattle.mx_layout.specs.declared.fault.TableFault.{TableFault}
 use Rattle.mx_layout.specs.declared.fault.TableFault.TheVariants.{Memory, Store, Damaged}
 use Rattle.mx_layout.specs.Contents.{rows_in}
 use Rattle.mx_layout.specs.Crash.{StaysInside, IsWithin}
 use Rattle.mx_layout.specs.Names.{table_named}
-use Rattle.mx_layout.specs.Point.{IsStop}
 use Rattle.mx_layout.specs.Reading.{AreAllBy, HasOther}
 use Rattle.mx_layout.specs.Writing.{Gains}
 use Rattle.mx_kept.specs.Kept.{Kept}
@@ -26,10 +23,6 @@ pub record ShowsAll (text : List ℕ) (table : Table) (order : Row → Row → O
 -- between these states the text, with these values, adds the row to the table
 pub record AddsRow (text : List ℕ) (table : Table) (row : Row) (old new : State) : Type 0 where
   pub gains : (ran : Result ℕ Error) → ExecutesInside 0 text row old new ran → OnOk ran (Gains table row old.now new.now)
-
--- the fault is the one that an error of sqlite is: want of memory exactly where that was the error, else the store's
-abbrev pub IsFaultOf : Error → TableFault → Type 0
-IsFaultOf error fault = IsStop fault × ((fault ≡ Memory) ↔ (error ≡ SqliteFailure OutOfMemory))
 
 -- a damaged table is an answer, and the other faults are none
 abbrev pub OnDamaged : TableFault → Type 0 → Type 0

@@ -1,15 +1,10 @@
 //! The table `aircraft`: every aircraft, and the use that its airframe brought with it.
-ghost use Rattle.std.specs.Prelude.{◌≡◌};
-ghost use Rattle.sqlite.specs.Held.{state};
-ghost use Rattle.mx_kept.specs.Cells.{kept_aircraft};
-ghost use Rattle.mx_tables.specs.Calls.{InsertsRow, ReadsRows};
 
 use crate::column::{day_at, graphic_at, moment_at, number_at, tail_at};
-use crate::stored::{Insert, Stored, Texts, insert_values, rows};
+use crate::stored::{Insert, Stored, Texts, insert_values};
 use mx_layout::{Table, TableFault};
 use mx_register::AircraftRow;
 use sqlite::{Alter, Row, Transaction, params};
-use std::alloc::Global;
 
 impl Stored for AircraftRow {
     ghost use Rattle.mx_kept.specs.Cells.{kept_aircraft};
@@ -59,31 +54,4 @@ impl Insert for AircraftRow {
             ],
         )
     }
-}
-
-/// The aircraft, in the order of their numbers. `Memory` for want of memory, `Store` for an error of the
-/// store, and `Damaged` where a row is no aircraft.
-pub fn rows_aircraft<S: Alter>(
-    alloc: Global,
-    tx: &mut Transaction<'_, S>,
-) -> Result<Vec<AircraftRow>, TableFault>
-    ensures same_reference { tx.new.conn.ghost_name ≡ tx.old.conn.ghost_name }
-    ensures reads { ReadsRows kept_aircraft (λ rows. rows.items)
-        (state S.Store tx.old.conn.now) (state S.Store tx.new.conn.now) result }
-{
-    rows(alloc, tx)
-}
-
-/// Adds an aircraft. `Memory` for want of memory, and `Store` for an error of the store, a number or a
-/// registration that is taken among them.
-pub fn insert_aircraft<S: Alter>(
-    tx: &mut Transaction<'_, S>,
-    row: &AircraftRow,
-) -> Result<(), TableFault>
-    ensures same_reference { tx.new.conn.ghost_name ≡ tx.old.conn.ghost_name }
-    ensures inserts { InsertsRow kept_aircraft row.now
-        (state S.Store tx.old.conn.now) (state S.Store tx.new.conn.now) result }
-    ensures fits { kept_aircraft.Fits row.now }
-{
-    row.insert(tx)
 }

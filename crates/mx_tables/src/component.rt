@@ -1,15 +1,10 @@
 //! The table `component`: every component, and the use that it brought with it.
-ghost use Rattle.std.specs.Prelude.{◌≡◌};
-ghost use Rattle.sqlite.specs.Held.{state};
-ghost use Rattle.mx_kept.specs.Cells.{kept_component};
-ghost use Rattle.mx_tables.specs.Calls.{InsertsRow, ReadsRows};
 
 use crate::column::{day_at, graphic_at, moment_at, number_at};
-use crate::stored::{Insert, Stored, Texts, insert_values, rows};
+use crate::stored::{Insert, Stored, Texts, insert_values};
 use mx_layout::{Table, TableFault};
 use mx_register::ComponentRow;
 use sqlite::{Alter, Row, Transaction, params};
-use std::alloc::Global;
 
 impl Stored for ComponentRow {
     ghost use Rattle.mx_kept.specs.Cells.{kept_component};
@@ -59,31 +54,4 @@ impl Insert for ComponentRow {
             ],
         )
     }
-}
-
-/// The components, in the order of their numbers. `Memory` for want of memory, `Store` for an error of the
-/// store, and `Damaged` where a row is no component.
-pub fn rows_component<S: Alter>(
-    alloc: Global,
-    tx: &mut Transaction<'_, S>,
-) -> Result<Vec<ComponentRow>, TableFault>
-    ensures same_reference { tx.new.conn.ghost_name ≡ tx.old.conn.ghost_name }
-    ensures reads { ReadsRows kept_component (λ rows. rows.items)
-        (state S.Store tx.old.conn.now) (state S.Store tx.new.conn.now) result }
-{
-    rows(alloc, tx)
-}
-
-/// Adds a component. `Memory` for want of memory, and `Store` for an error of the store, a number or a
-/// serial number that is taken among them.
-pub fn insert_component<S: Alter>(
-    tx: &mut Transaction<'_, S>,
-    row: &ComponentRow,
-) -> Result<(), TableFault>
-    ensures same_reference { tx.new.conn.ghost_name ≡ tx.old.conn.ghost_name }
-    ensures inserts { InsertsRow kept_component row.now
-        (state S.Store tx.old.conn.now) (state S.Store tx.new.conn.now) result }
-    ensures fits { kept_component.Fits row.now }
-{
-    row.insert(tx)
 }

@@ -4,16 +4,12 @@ ghost use Rattle.sqlite.specs.declared.types.Value.TheVariants.{Int};
 ghost use Rattle.sqlite.specs.Order.{column};
 ghost use Rattle.mx_register.specs.Rows.{kind_number};
 ghost use Rattle.mx_register.specs.declared.rows.EntryKind.{EntryKind};
-ghost use Rattle.sqlite.specs.Held.{state};
-ghost use Rattle.mx_kept.specs.Cells.{kept_entry};
-ghost use Rattle.mx_tables.specs.Calls.{InsertsRow, ReadsRows};
 
 use crate::column::{graphic_at, number_at};
-use crate::stored::{Insert, Stored, Texts, insert_values, rows};
+use crate::stored::{Insert, Stored, Texts, insert_values};
 use mx_layout::{Table, TableFault};
 use mx_register::{EntryKind, EntryRow};
 use sqlite::{Alter, Row, Transaction, params};
-use std::alloc::Global;
 
 // The number that stands for a kind in its column.
 fn number_of(kind: EntryKind) -> u32
@@ -80,28 +76,4 @@ impl Insert for EntryRow {
             params![self.seq, self.doc.as_str(), number_of(self.kind),],
         )
     }
-}
-
-/// The entries, in the order of their numbers. `Memory` for want of memory, `Store` for an error of the
-/// store, and `Damaged` where a row is no entry.
-pub fn rows_entry<S: Alter>(
-    alloc: Global,
-    tx: &mut Transaction<'_, S>,
-) -> Result<Vec<EntryRow>, TableFault>
-    ensures same_reference { tx.new.conn.ghost_name ≡ tx.old.conn.ghost_name }
-    ensures reads { ReadsRows kept_entry (λ rows. rows.items)
-        (state S.Store tx.old.conn.now) (state S.Store tx.new.conn.now) result }
-{
-    rows(alloc, tx)
-}
-
-/// Adds an entry. `Memory` for want of memory, and `Store` for an error of the store, a number or a
-/// document that is taken among them.
-pub fn insert_entry<S: Alter>(tx: &mut Transaction<'_, S>, row: &EntryRow) -> Result<(), TableFault>
-    ensures same_reference { tx.new.conn.ghost_name ≡ tx.old.conn.ghost_name }
-    ensures inserts { InsertsRow kept_entry row.now
-        (state S.Store tx.old.conn.now) (state S.Store tx.new.conn.now) result }
-    ensures fits { kept_entry.Fits row.now }
-{
-    row.insert(tx)
 }

@@ -1,5 +1,5 @@
 //! The tables as sets of typed rows. SQL for rows is in this crate and in no crate above it: there a table
-//! is what `rows_*` gives, in the order of its key, and `insert_*` adds one row to it. Each call is made
+//! is what `rows` gives for its type, in the order of its key, and `insert` adds one row to it. Each call is made
 //! inside a `Transaction`, which the caller commits or drops.
 //!
 //! # What is promised
@@ -21,12 +21,13 @@
 //!
 //! 1. `mx_kept/specs/Cells.antt`: how its rows are kept, and its line in `specs/Family.antt`.
 //! 2. `mx_kept/proofs/Lawful.antt`, from one that is there: rows with the same values are one, what the two
-//!    texts are understood as, by `refl`, and `TABLE_lawful`, with `first_keyed` or `two_keyed` and the place of
-//!    the table in the schema. Where a `refl` is refused, the text and the table differ.
-//! 3. `src/NOUN.rt`, from one that is there: `Stored`, whose `read` tests the number of columns and takes each by
-//!    a function of `column.rt`; `Insert`, which passes each value in the order of the columns; `rows_TABLE` and
-//!    `insert_TABLE`, which are those two with their clauses. A kind of value that no table has had needs a
-//!    function in `column.rt`, whose contract says of what values it gives `None`.
+//!    texts are understood as, by `refl`, what a row is stored as, and `TABLE_lawful`, with `first_keyed` or
+//!    `two_keyed` and the place of the table in the schema, from 0. Where a `refl` is refused, the text and the
+//!    table differ. A table of a layout stands behind `own_1`, a permanent one behind nothing.
+//! 3. `src/NOUN.rt`, from one that is there, with its line here: `Stored`, whose `read` tests the number of
+//!    columns and takes each by a function of `column.rt`; `Insert`, which passes each value in the order of the
+//!    columns. A kind of value that no table has had needs a function in `column.rt`, whose contract says of what
+//!    values it gives `None`.
 //! 4. The answer of `read` where there are more than three columns, alike for all but its name.
 //! 5. Plants: two columns swapped in either text, two values swapped in `insert` or `read`, a text with no
 //!    ORDER BY, the name of another table.
@@ -45,12 +46,6 @@ mod sector;
 pub mod sets;
 pub mod stored;
 
-pub use aircraft::{insert_aircraft, rows_aircraft};
-pub use component::{insert_component, rows_component};
-pub use entry::{insert_entry, rows_entry};
-pub use fitting::{insert_fit1, rows_fit1};
-pub use place::{insert_place, rows_place};
-pub use removal::{insert_removal1, rows_removal1};
-pub use sector::{insert_sector1, rows_sector1};
+pub use mx_layout::{Layout, Point, Table, TableFault, create, point};
 pub use sets::Tables;
 pub use stored::{Insert, Stored, rows};

@@ -1,15 +1,10 @@
 //! The table `place`: every position of an aircraft.
-ghost use Rattle.std.specs.Prelude.{◌≡◌};
-ghost use Rattle.sqlite.specs.Held.{state};
-ghost use Rattle.mx_kept.specs.Cells.{kept_place};
-ghost use Rattle.mx_tables.specs.Calls.{InsertsRow, ReadsRows};
 
 use crate::column::{graphic_at, number_at};
-use crate::stored::{Insert, Stored, Texts, insert_values, rows};
+use crate::stored::{Insert, Stored, Texts, insert_values};
 use mx_layout::{Table, TableFault};
 use mx_register::PlaceRow;
 use sqlite::{Alter, Row, Transaction, params};
-use std::alloc::Global;
 
 impl Stored for PlaceRow {
     ghost use Rattle.mx_kept.specs.Cells.{kept_place};
@@ -53,28 +48,4 @@ impl Insert for PlaceRow {
             ],
         )
     }
-}
-
-/// The positions, in the order of their entries and lines. `Memory` for want of memory, `Store` for an error of the
-/// store, and `Damaged` where a row is no position.
-pub fn rows_place<S: Alter>(
-    alloc: Global,
-    tx: &mut Transaction<'_, S>,
-) -> Result<Vec<PlaceRow>, TableFault>
-    ensures same_reference { tx.new.conn.ghost_name ≡ tx.old.conn.ghost_name }
-    ensures reads { ReadsRows kept_place (λ rows. rows.items)
-        (state S.Store tx.old.conn.now) (state S.Store tx.new.conn.now) result }
-{
-    rows(alloc, tx)
-}
-
-/// Adds a position. `Memory` for want of memory, and `Store` for an error of the store, a line of its entry
-/// that is taken among them.
-pub fn insert_place<S: Alter>(tx: &mut Transaction<'_, S>, row: &PlaceRow) -> Result<(), TableFault>
-    ensures same_reference { tx.new.conn.ghost_name ≡ tx.old.conn.ghost_name }
-    ensures inserts { InsertsRow kept_place row.now
-        (state S.Store tx.old.conn.now) (state S.Store tx.new.conn.now) result }
-    ensures fits { kept_place.Fits row.now }
-{
-    row.insert(tx)
 }

@@ -1,15 +1,10 @@
 //! The table `sector1`: every sector, its moments as text.
-ghost use Rattle.std.specs.Prelude.{◌≡◌};
-ghost use Rattle.sqlite.specs.Held.{state};
-ghost use Rattle.mx_kept.specs.Cells.{kept_sector1};
-ghost use Rattle.mx_tables.specs.Calls.{InsertsRow, ReadsRows};
 
 use crate::column::{number_at, text_of, written_moment_at};
-use crate::stored::{Insert, Stored, Texts, insert_values, rows};
+use crate::stored::{Insert, Stored, Texts, insert_values};
 use mx_layout::{Table, TableFault};
 use mx_register::SectorRow;
 use sqlite::{Alter, Row, Transaction, params};
-use std::alloc::Global;
 
 impl Stored for SectorRow {
     ghost use Rattle.mx_kept.specs.Cells.{kept_sector1};
@@ -59,31 +54,4 @@ impl Insert for SectorRow {
             ],
         )
     }
-}
-
-/// The sectors, in the order of their numbers. `Memory` for want of memory, `Store` for an error of the
-/// store, and `Damaged` where a row is no sector.
-pub fn rows_sector1<S: Alter>(
-    alloc: Global,
-    tx: &mut Transaction<'_, S>,
-) -> Result<Vec<SectorRow>, TableFault>
-    ensures same_reference { tx.new.conn.ghost_name ≡ tx.old.conn.ghost_name }
-    ensures reads { ReadsRows kept_sector1 (λ rows. rows.items)
-        (state S.Store tx.old.conn.now) (state S.Store tx.new.conn.now) result }
-{
-    rows(alloc, tx)
-}
-
-/// Adds a sector. `Memory` for want of memory, and `Store` for an error of the store, a number that is
-/// taken among them.
-pub fn insert_sector1<S: Alter>(
-    tx: &mut Transaction<'_, S>,
-    row: &SectorRow,
-) -> Result<(), TableFault>
-    ensures same_reference { tx.new.conn.ghost_name ≡ tx.old.conn.ghost_name }
-    ensures inserts { InsertsRow kept_sector1 row.now
-        (state S.Store tx.old.conn.now) (state S.Store tx.new.conn.now) result }
-    ensures fits { kept_sector1.Fits row.now }
-{
-    row.insert(tx)
 }

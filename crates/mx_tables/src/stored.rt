@@ -8,12 +8,13 @@ ghost use Rattle.sqlite.specs.State.{HasCleanDisk, IsUnchanged};
 ghost use Rattle.sqlite.specs.Held.{state};
 ghost use Rattle.mx_layout.specs.Contents.{rows_in};
 ghost use Rattle.mx_layout.specs.Crash.{StaysInside, IsWithin};
+ghost use Rattle.mx_layout.specs.Point.{IsFaultOf};
 ghost use Rattle.mx_layout.specs.Reading.{AreAllBy, HasOther};
 ghost use Rattle.mx_layout.specs.Writing.{Gains};
 ghost use Rattle.mx_kept.specs.Kept.{Kept};
 ghost use Rattle.mx_kept.specs.Family.{IsReadableAs};
 ghost use Rattle.mx_kept.specs.Meanings.{IsLawful};
-ghost use Rattle.mx_tables.specs.Calls.{ShowsAll, AddsRow, IsFaultOf, OnRead, ReadsRows, InsertsRow};
+ghost use Rattle.mx_tables.specs.Calls.{ShowsAll, AddsRow, OnRead, ReadsRows, InsertsRow};
 
 use mx_layout::TableFault;
 use mx_layout::fault::fault_of;
