@@ -1,11 +1,11 @@
 -- What holds of each register of the family, and what follows for all of them alike.
-use Rattle.std.proofs.Common.{◌≡◌, ℕ, ◌+◌, ◌*◌, ◌^◌, Bool, true, List, [], ◌∷◌, ◌++◌, map, length, All, refl, sym, ap, ap₂, subst, ◌∙◌, slice_index_or, arith}
+use Rattle.std.proofs.Common.{◌≡◌, ℕ, ◌+◌, ◌*◌, ◌^◌, true, List, [], ◌∷◌, ◌++◌, map, length, All, refl, sym, ap, ap₂, subst, ◌∙◌, slice_index_or}
 use Rattle.std.specs.Prelude.{⊤, Contains}
 use Rattle.std.specs.List.{list_all, AllByRecursion}
 use Rattle.std.specs.List.Sorted.{IsPermutation}
 use Rattle.std.proofs.lemmas.List.{map-append}
 use Rattle.std.proofs.lemmas.List.Sorted.{IsPermutation-trans, IsPermutation-sym, All-permutation}
-use Rattle.std.proofs.lemmas.List.Elements.{All-map, All-head, All-tail, All-nil, All-append, All-cons, All-weaker, All-same}
+use Rattle.std.proofs.lemmas.List.Elements.{All-map, All-head, All-tail, All-nil, All-append, All-cons, All-weaker, Contains-append_left}
 use Rattle.sqlite.specs.Order.{Row}
 use Rattle.sqlite.specs.Schema.{Schema}
 use Rattle.sqlite.specs.Table.{Table}
@@ -23,10 +23,12 @@ use Rattle.mx_layout.specs.declared.fault.Table.TheVariants as table
 use Rattle.mx_layout.specs.declared.points.Point.{Point}
 use Rattle.mx_layout.specs.Contents.{rows_in}
 use Rattle.mx_layout.specs.Names.{table_named}
+use Rattle.mx_layout.specs.Tables.{layout_1}
 use Rattle.mx_kept.specs.Kept.{Kept}
 use Rattle.mx_kept.specs.Family.{IsReadable, IsReadableAs}
 use Rattle.mx_kept.specs.Meanings.{IsLawful}
 use Rattle.mx_kept.specs.Schemas.{HasOwn1, permanent, own_1}
+use Rattle.mx_kept.proofs.SchemaLemmas.{in_layout_1, permanent_too}
 use Rattle.mx_kept.proofs.Lawful.{entry_lawful, aircraft_lawful, place_lawful, component_lawful, sector1_lawful, fit1_lawful, removal1_lawful}
 use Rattle.mx_tables.specs.Sets.{AreRowsOf}
 use Rattle.mx_office.specs.Family.{Register, of, none, register_of, registers_1, rows_by, FitBy, AreGiven, AreRead}
@@ -45,27 +47,21 @@ pub record AreFacts {X : Type 0} (name : TableName) (k : Kept X) (by : List Entr
   pub is_named : k.name ≡ name
   pub readable : (row : Row) → IsReadableAs k row → IsReadable name row
   pub no_first : (at : Point) → first_rows at name ≡ []
+  pub is_in : (schema : Schema) → HasOwn1 schema → k.IsIn schema
 
 abbrev pub Facts : TableName → Register → Type 0
 Facts name (of k by read) = AreFacts name k by
 Facts name none = (row : Row) → IsReadable name row
 
 pub facts : (name : TableName) → Facts name (register_of name)
-facts table.Entry = record { law = entry_lawful; rise = λ book shaped. (1, length book + 1, entry_rows-rising book shaped); is_named = refl; readable = λ _ h. h; no_first = λ _. refl }
-facts table.Aircraft = record { law = aircraft_lawful; rise = λ book shaped. (1, length book + 1, aircraft_rows-rising book shaped); is_named = refl; readable = λ _ h. h; no_first = λ _. refl }
-facts table.Place = record { law = place_lawful; rise = λ book shaped. (1 * 2 ^ 32, (length book + 1) * 2 ^ 32, place_rows-rising book shaped); is_named = refl; readable = λ _ h. h; no_first = λ _. refl }
-facts table.Component = record { law = component_lawful; rise = λ book shaped. (1, length book + 1, component_rows-rising book shaped); is_named = refl; readable = λ _ h. h; no_first = λ _. refl }
-facts table.Sector1 = record { law = sector1_lawful; rise = λ book shaped. (1, length book + 1, sector_rows-rising book shaped); is_named = refl; readable = λ _ h. h; no_first = λ _. refl }
-facts table.Fit1 = record { law = fit1_lawful; rise = λ book shaped. (1, length book + 1, fitting_rows-rising book shaped); is_named = refl; readable = λ _ h. h; no_first = λ _. refl }
-facts table.Removal1 = record { law = removal1_lawful; rise = λ book shaped. (1, length book + 1, removal_rows-rising book shaped); is_named = refl; readable = λ _ h. h; no_first = λ _. refl }
+facts table.Entry = record { law = entry_lawful; rise = λ book shaped. (1, length book + 1, entry_rows-rising book shaped); is_named = refl; readable = λ _ h. h; no_first = λ _. refl; is_in = permanent_too }
+facts table.Aircraft = record { law = aircraft_lawful; rise = λ book shaped. (1, length book + 1, aircraft_rows-rising book shaped); is_named = refl; readable = λ _ h. h; no_first = λ _. refl; is_in = permanent_too }
+facts table.Place = record { law = place_lawful; rise = λ book shaped. (1 * 2 ^ 32, (length book + 1) * 2 ^ 32, place_rows-rising book shaped); is_named = refl; readable = λ _ h. h; no_first = λ _. refl; is_in = permanent_too }
+facts table.Component = record { law = component_lawful; rise = λ book shaped. (1, length book + 1, component_rows-rising book shaped); is_named = refl; readable = λ _ h. h; no_first = λ _. refl; is_in = permanent_too }
+facts table.Sector1 = record { law = sector1_lawful; rise = λ book shaped. (1, length book + 1, sector_rows-rising book shaped); is_named = refl; readable = λ _ h. h; no_first = λ _. refl; is_in = λ _ has. has }
+facts table.Fit1 = record { law = fit1_lawful; rise = λ book shaped. (1, length book + 1, fitting_rows-rising book shaped); is_named = refl; readable = λ _ h. h; no_first = λ _. refl; is_in = λ _ has. has }
+facts table.Removal1 = record { law = removal1_lawful; rise = λ book shaped. (1, length book + 1, removal_rows-rising book shaped); is_named = refl; readable = λ _ h. h; no_first = λ _. refl; is_in = λ _ has. has }
 facts _ = λ _. tt
-
--- a schema with the tables of layout 1 has each that a command writes
-in_own : (rest : List Table) (more : List Index) → AllByRecursion (λ name. Contains (permanent (own_1 ++ rest) more).tables (table_named name)) registers_1
-in_own rest more = ((1, omega arith, refl), ((2, omega arith, refl), ((3, omega arith, refl), ((4, omega arith, refl), ((12, omega arith, refl), ((13, omega arith, refl), ((14, omega arith, refl), tt)))))))
-
-pub in_schema : (schema : Schema) → HasOwn1 schema → AllByRecursion (λ name. Contains schema.tables (table_named name)) registers_1
-in_schema schema has = subst (λ (s : Schema). AllByRecursion (λ name. Contains s.tables (table_named name)) registers_1) (sym has.is) (in_own has.rest has.more)
 
 -- ── tables by name ──
 
@@ -80,6 +76,31 @@ each_weaker P Q h (name ∷ names) each = (h name each.0, each_weaker P Q h name
 pub each_with : (P Q R : TableName → Type 0) → ((name : TableName) → P name → Q name → R name) → (names : List TableName) → AllByRecursion P names → AllByRecursion Q names → AllByRecursion R names
 each_with P Q R h [] each other = tt
 each_with P Q R h (name ∷ names) each other = (h name each.0 other.0, each_with P Q R h names each.1 other.1)
+
+-- P of each name of a list, as a set of tables has it: the last stands alone
+abbrev pub AllOf : (TableName → Type 0) → List TableName → Type 0
+AllOf P [] = ⊤
+AllOf P (name ∷ []) = P name
+AllOf P (name ∷ other ∷ names) = P name × AllOf P (other ∷ names)
+
+pub all_of : (P : TableName → Type 0) → ((name : TableName) → P name) → (names : List TableName) → AllOf P names
+all_of P h [] = tt
+all_of P h (name ∷ []) = h name
+all_of P h (name ∷ other ∷ names) = (h name, all_of P h (other ∷ names))
+
+pub each_from : (P : TableName → Type 0) → (names : List TableName) → AllOf P names → AllByRecursion P names
+each_from P [] all = tt
+each_from P (name ∷ []) all = (all, tt)
+each_from P (name ∷ other ∷ names) all = (all.0, each_from P (other ∷ names) all.1)
+
+-- ── which schemas have the tables ──
+
+-- a schema with the tables of layout 1 has each table with a name
+in_own : (rest : List Table) (more : List Index) (name : TableName) → Contains (permanent (own_1 ++ rest) more).tables (table_named name)
+in_own rest more name = Contains-append_left layout_1.tables rest (table_named name) (in_layout_1 name)
+
+pub in_schema : (schema : Schema) → HasOwn1 schema → AllByRecursion (λ name. Contains schema.tables (table_named name)) registers_1
+in_schema schema has = each_of (λ name. Contains schema.tables (table_named name)) (λ name. subst (λ (s : Schema). Contains s.tables (table_named name)) (sym has.is) (in_own has.rest has.more name)) registers_1
 
 -- ── what entries give, and whether it fits ──
 
@@ -149,6 +170,19 @@ module _ {X : Type 0} (k : Kept X) (law : IsLawful k) where
       (IsRising-map k.as_cells k.key k.cells_key law.keyed low high (gives by [] one) up) (IsFrom-map k.as_cells k.key k.cells_key law.keyed least (gives by [] other) (IsFrom-rising k.key least most (gives by [] other) ups)) same)
 
 -- ── each register of the family ──
+
+-- the schema has the table of the register
+abbrev pub HasIn : Schema → Register → Type 0
+HasIn schema (of k by read) = k.IsIn schema
+HasIn schema none = ⊤
+
+has_in : (schema : Schema) → HasOwn1 schema → (name : TableName) (f : Register) → Facts name f → HasIn schema f
+has_in schema has name (of k by read) facts = facts.is_in schema has
+has_in schema has name none facts = tt
+
+-- a schema with the tables of layout 1 has those of the registers
+pub all_in : (schema : Schema) → HasOwn1 schema → (names : List TableName) → AllOf (λ name. HasIn schema (register_of name)) names
+all_in schema has names = all_of (λ name. HasIn schema (register_of name)) (λ name. has_in schema has name (register_of name) (facts name)) names
 
 -- what was read of the register is what the book gives it
 abbrev pub IsReadOf : Register → Registers → List Entry → Type 0

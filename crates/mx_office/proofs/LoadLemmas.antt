@@ -1,13 +1,11 @@
 -- What is read from the tables, and what they stand for.
-use Rattle.std.proofs.Common.{◌≡◌, ◌⊎◌, inl, inr, Some, None, List, [], ◌∷◌, ◌++◌, All, refl, sym, ap, subst, ◌∙◌, arith, Result, Ok, Err, OnOk}
-use Rattle.std.specs.Prelude.{⊤, IfErr}
+use Rattle.std.proofs.Common.{◌≡◌, ◌⊎◌, inl, inr, Some, None, List, [], ◌∷◌, ◌++◌, All, refl, sym, ap, subst, ◌∙◌, arith, Result, Ok, Err}
 use Rattle.std.specs.List.{AllByRecursion}
 use Rattle.std.specs.Result.{IsErr, IsErrAnd, MatchResult}
 use Rattle.std.specs.List.Sorted.{IsPermutation}
 use Rattle.std.proofs.lemmas.List.Sorted.{IsPermutation-refl, All-permutation}
 use Rattle.std.proofs.lemmas.List.Elements.{All-append, All-contains, All-cons, All-nil}
 use Rattle.sqlite.specs.Order.{Row}
-use Rattle.sqlite.specs.Schema.{Schema}
 use Rattle.sqlite.specs.Tree.{Trees}
 use Rattle.mx_command.specs.Act.{Entry}
 use Rattle.mx_book.specs.Book.{IsBook}
@@ -27,33 +25,20 @@ use Rattle.mx_layout.specs.Names.{table_named}
 use Rattle.mx_layout.specs.Point.{point_cells}
 use Rattle.mx_layout.specs.Tables.{office}
 use Rattle.mx_kept.specs.Family.{IsReadable}
-use Rattle.mx_kept.specs.Schemas.{HasOwn1, HasPermanent}
-use Rattle.mx_kept.specs.Cells.{kept_entry, kept_aircraft, kept_place, kept_component, kept_sector1, kept_fit1, kept_removal1}
-use Rattle.mx_kept.proofs.SchemaLemmas.{in_layout_1, permanent_too}
-use Rattle.mx_tables.specs.Sets.{AreRowsOf, IsDamaged}
+use Rattle.mx_kept.proofs.SchemaLemmas.{in_layout_1}
+use Rattle.mx_tables.specs.Sets.{IsDamaged}
 use Rattle.mx_office.specs.declared.fault.Fault.{Fault}
 use Rattle.mx_office.specs.declared.fault.Fault.TheVariants as fault
 use Rattle.mx_office.specs.Faults.{fault_from}
-use Rattle.mx_office.specs.Family.{none, register_of, registers_1, rows_by, added, AreGiven, AreRead, FitsAt}
+use Rattle.mx_office.specs.Family.{none, register_of, registers_1, rows_by, AreGiven, AreRead, FitsAt}
 use Rattle.mx_office.specs.Stands.{Stands, HoldsBook, HaveRowsOf, IsOfNoBook, IsReasonFor, EachHas, first_rows, rows_given}
-use Rattle.mx_office.proofs.FamilyLemmas.{facts, each_of, each_weaker, each_with, IsReadOf, AreSame, read_at, given_at, fit_at, same_at, given_from, none_fits, readable_read, readable_given, readable_table}
+use Rattle.mx_office.proofs.FamilyLemmas.{facts, AllOf, each_from, each_of, each_weaker, each_with, IsReadOf, AreSame, read_at, given_at, fit_at, same_at, given_from, none_fits, readable_read, readable_given, readable_table}
 
 -- ── one line for each table ──
 
--- what the registers of layout 1 are in every schema that has its tables
-pub all_in : (schema : Schema) → HasOwn1 schema → HasPermanent schema × (HasPermanent schema × (HasPermanent schema × (HasPermanent schema × (HasOwn1 schema × (HasOwn1 schema × HasOwn1 schema)))))
-all_in schema has = let p = permanent_too schema has in (p, (p, (p, (p, (has, (has, has))))))
-
 -- what is read of all tables is the rows of each
-pub have_rows : (trees : Trees) (r : Registers)
-    → AreRowsOf kept_entry trees r.entries.items
-    × (AreRowsOf kept_aircraft trees r.aircraft.items
-    × (AreRowsOf kept_place trees r.places.items
-    × (AreRowsOf kept_component trees r.components.items
-    × (AreRowsOf kept_sector1 trees r.sectors.items
-    × (AreRowsOf kept_fit1 trees r.fittings.items
-    × AreRowsOf kept_removal1 trees r.removals.items))))) → HaveRowsOf trees r
-have_rows trees r are = (are.0, (are.1.0, (are.1.1.0, (are.1.1.1.0, (are.1.1.1.1.0, (are.1.1.1.1.1.0, (are.1.1.1.1.1.1, tt)))))))
+pub have_rows : (trees : Trees) (r : Registers) → AllOf (λ name. AreRead (register_of name) trees r) registers_1 → HaveRowsOf trees r
+have_rows trees r are = each_from (λ name. AreRead (register_of name) trees r) registers_1 are
 
 from_each : (r : Registers) (book : List Entry) → AllByRecursion (λ name. IsReadOf (register_of name) r book) registers_1 → AreRegistersOf r book
 from_each r book each = record { entries = each.0; aircraft = each.1.0; places = each.1.1.0; components = each.1.1.1.0; sectors = each.1.1.1.1.0; fittings = each.1.1.1.1.1.0; removals = each.1.1.1.1.1.1.0 }
@@ -201,20 +186,7 @@ has_just name trees rows same = subst (IsPermutation rows) (sym same) (IsPermuta
 
 empty_tables : (trees : Trees) → IsEmptyBook trees → (name : TableName) → IsPermutation (rows_given first_point [] name) (rows_in (table_named name) trees)
 empty_tables trees made table.Office = has_just table.Office trees (point_cells first_point ∷ []) made.points
-empty_tables trees made table.Entry = has_just table.Entry trees [] made.entries
-empty_tables trees made table.Aircraft = has_just table.Aircraft trees [] made.airframes
-empty_tables trees made table.Place = has_just table.Place trees [] made.places
-empty_tables trees made table.Component = has_just table.Component trees [] made.components
-empty_tables trees made table.Programme = has_just table.Programme trees [] made.programmes
-empty_tables trees made table.Task = has_just table.Task trees [] made.tasks
-empty_tables trees made table.Opening = has_just table.Opening trees [] made.openings
-empty_tables trees made table.Crs = has_just table.Crs trees [] made.releases
-empty_tables trees made table.CrsLine = has_just table.CrsLine trees [] made.release_lines
-empty_tables trees made table.Extension = has_just table.Extension trees [] made.extensions
-empty_tables trees made table.Defect = has_just table.Defect trees [] made.defects
-empty_tables trees made table.Sector1 = has_just table.Sector1 trees [] made.sectors
-empty_tables trees made table.Fit1 = has_just table.Fit1 trees [] made.fittings
-empty_tables trees made table.Removal1 = has_just table.Removal1 trees [] made.removals
+empty_tables trees made name = has_just name trees [] (made.others name (λ is. cc))
 
 -- tables that were just made are those of no entry
 pub empty_stands : (trees : Trees) → IsEmptyBook trees → Stands trees []

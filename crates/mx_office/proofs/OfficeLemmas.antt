@@ -1,6 +1,6 @@
 -- The exits of a call of the office, over states.
 use Rattle.std.proofs.Common.{◌≡◌, ◌≢◌, inl, inr, ℕ, Result, Ok, Err, ◌+◌, ◌≤◌, false, cond, List, [], ◌∷◌, ◌++◌, length, sym, ap, subst, ◌∙◌, arith}
-use Rattle.std.specs.Prelude.{IfErr}
+use Rattle.std.specs.Prelude.{IfErr, IfOk, OnOk}
 use Rattle.sqlite.specs.State.{State, HasCleanDisk}
 use Rattle.sqlite_trees.specs.View.{doubt}
 use Rattle.mx_command.specs.Act.{Entry}
@@ -36,28 +36,30 @@ pub said_reply : (book : List Entry) (c : Entry) (v : Verdict) → v ≡ judge b
 said_reply book c v is = ap (reply_to (length book + 1)) is
 
 -- `loaded` is what the code read, and it is the book where the disk is clean
-module _ (mid : State) (book loaded : List Entry) (c : Entry) (exact : HasCleanDisk mid → loaded ≡ book) (rests : Rests mid book) where
-  pub old_reply : (v : Verdict) → judge loaded c ≡ v → HasCleanDisk mid → reply book c ≡ reply_to (length loaded + 1) v
-  old_reply v is clean = ap (λ b. reply b c) (sym (exact clean)) ∙ ap (reply_to (length loaded + 1)) is
+module _ (mid end : State) (book loaded : List Entry) (later : doubt mid.is_clean ≤ doubt end.is_clean) (exact : HasCleanDisk mid → loaded ≡ book) where
+  same_at : HasCleanDisk end → loaded ≡ book
+  same_at clean = let early : HasCleanDisk mid = omega arith in exact early
 
-  -- the verdict is not New
-  pub old_kept : (v : Verdict) → judge loaded c ≡ v → is_new v ≡ false → Rests mid (book_after book c)
-  old_kept v is old = rests_as mid book (book_after book c) (λ clean. sym (after_old book c v (ap (λ b. judge b c) (sym (exact clean)) ∙ is) old)) rests
+  pub loaded_rests : Rests mid book → Rests mid loaded
+  loaded_rests = rests_as mid book loaded (λ clean. sym (exact clean))
 
-  pub loaded_rests : Rests mid loaded
-  loaded_rests = rests_as mid book loaded (λ clean. sym (exact clean)) rests
+  -- what rests as a book made of what was read rests as the one made of the book
+  pub rests_made : (f : List Entry → List Entry) → Rests end (f loaded) → Rests end (f book)
+  rests_made f = rests_as end (f loaded) (f book) (λ clean. ap f (same_at clean))
 
-  module _ (new : judge loaded c ≡ New) (end : State) (later : doubt mid.is_clean ≤ doubt end.is_clean) where
-    after : HasCleanDisk end → loaded ++ c ∷ [] ≡ book_after book c
-    after clean = let early : HasCleanDisk mid = omega arith in sym (after_new loaded c new) ∙ ap (λ b. book_after b c) (exact early)
+  pub either_made : (f g : List Entry → List Entry) → Leaves end (IsEither (f loaded) (g loaded)) → Leaves end (IsEither (f book) (g book))
+  either_made f g h = leaves_same end (IsEither (f loaded) (g loaded)) (IsEither (f book) (g book)) (λ clean db is.
+      elim is [ inl one ↦ inl (subst (λ b. Stands db (f b)) (same_at clean) one) | inr other ↦ inr (subst (λ b. Stands db (g b)) (same_at clean) other) ]) h
 
-    pub new_kept : Rests end (loaded ++ c ∷ []) → Rests end (book_after book c)
-    new_kept r = rests_as end (loaded ++ c ∷ []) (book_after book c) after r
+-- ── what an answer that was given has ──
 
-    pub new_crash : Leaves end (IsEither loaded (loaded ++ c ∷ [])) → Leaves end (IsEither book (book_after book c))
-    new_crash h = leaves_same end (IsEither loaded (loaded ++ c ∷ [])) (IsEither book (book_after book c)) (λ clean db is.
-        let early : HasCleanDisk mid = omega arith in
-        elim is [ inl one ↦ inl (subst (Stands db) (exact early) one) | inr other ↦ inr (subst (Stands db) (after clean) other) ]) h
+pub ok_then : {V E : Type 0} {P Q : Type 0} (result : Result V E) → OnOk result P → (P → Q) → OnOk result Q
+ok_then (Ok v) p f = f p
+ok_then (Err e) p f = tt
+
+pub if_ok_then : {V E : Type 0} {P Q : V → Type 0} (result : Result V E) → IfOk result P → ((v : V) → P v → Q v) → IfOk result Q
+if_ok_then (Ok v) p f = f v p
+if_ok_then (Err e) p f = tt
 
 -- a call that stopped, but not for the store, left the book as it was
 pub same_stopped : (result : Result Reply Fault) (old new : State) (book : List Entry) → Rests old book → (((seq : ℕ) → result ≢ Ok (Accepted seq)) → result ≢ Err Store → ChangesNothing old new) → IfErr result (λ fault. fault ≢ Store → Rests new book)

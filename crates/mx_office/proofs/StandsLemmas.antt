@@ -1,7 +1,6 @@
 -- The tables after one command more.
-use Rattle.std.proofs.Common.{◌≡◌, List, [], ◌∷◌, ◌++◌, map, All, true, refl, sym, ap, subst, ◌∙◌, append_assoc, append-nil}
-use Rattle.std.specs.Prelude.{⊤, Contains}
-use Rattle.std.specs.List.{AllByRecursion}
+use Rattle.std.proofs.Common.{◌≡◌, List, [], ◌∷◌, ◌++◌, map, true, refl, sym, ap, subst, ◌∙◌, append_assoc, append-nil}
+use Rattle.std.specs.Prelude.{Contains}
 use Rattle.std.specs.List.Sorted.{IsPermutation}
 use Rattle.std.proofs.lemmas.List.Sorted.{IsPermutation-trans, IsPermutation-append_comm, IsPermutation-append_right}
 use Rattle.sqlite.specs.Order.{Row}
@@ -15,14 +14,9 @@ use Rattle.mx_book.specs.declared.verdict.Verdict.TheVariants.{New}
 use Rattle.mx_book.specs.Judge.{judge}
 use Rattle.mx_book.proofs.JudgeLemmas.{IsBook-entered}
 use Rattle.mx_register.specs.declared.rows.EntryRow.{EntryRow}
-use Rattle.mx_register.specs.declared.rows.AircraftRow.{AircraftRow}
-use Rattle.mx_register.specs.declared.rows.PlaceRow.{PlaceRow}
-use Rattle.mx_register.specs.declared.rows.ComponentRow.{ComponentRow}
-use Rattle.mx_register.specs.declared.rows.SectorRow.{SectorRow}
-use Rattle.mx_register.specs.declared.rows.FittingRow.{FittingRow}
-use Rattle.mx_register.specs.declared.rows.RemovalRow.{RemovalRow}
-use Rattle.mx_register.specs.Registers.{gives, entry_added, aircraft_by, places_by, components_by, sectors_by, fittings_by, removals_by}
-use Rattle.mx_register.specs.Rows.{FitsEntry, FitsAircraft, FitsPlace, FitsComponent, FitsSector, FitsFitting, FitsRemoval}
+use Rattle.mx_register.specs.declared.added.AddedRows.{AddedRows}
+use Rattle.mx_register.specs.Added.{AreAddedRows}
+use Rattle.mx_register.specs.Registers.{gives, entry_added}
 use Rattle.mx_register.proofs.RegisterLemmas.{gives-more}
 use Rattle.mx_layout.specs.TableName.{TableName}
 use Rattle.mx_layout.specs.declared.fault.Table.TheVariants as table
@@ -32,63 +26,48 @@ use Rattle.mx_layout.specs.Making.{first_point}
 use Rattle.mx_layout.specs.Names.{table_named}
 use Rattle.mx_layout.specs.Tables.{layout_1}
 use Rattle.mx_kept.specs.Family.{on_top}
-use Rattle.mx_kept.specs.Schemas.{HasOwn1, HasPermanent}
+use Rattle.mx_kept.specs.Schemas.{HasOwn1}
 use Rattle.mx_kept.proofs.OntoLemmas.{on_top_keeps}
 use Rattle.mx_kept.specs.Cells.{kept_entry, kept_aircraft, kept_place, kept_component, kept_sector1, kept_fit1, kept_removal1}
 use Rattle.mx_tables.specs.Sets.{GainsRows}
 use Rattle.mx_office.specs.Family.{Register, of, none, register_of, registers_1, added, rows_by, AreGiven, FitsAt}
 use Rattle.mx_office.specs.Stands.{Stands, StandsIn, HoldsBook, Enters, rows_given, first_rows, with_command, FitsNext, EachHas}
 use Rattle.mx_office.proofs.FamilyLemmas.{Facts, facts, each_weaker, each_with, in_schema}
-use Rattle.mx_office.proofs.LoadLemmas.{all_in}
 
 -- ── one line for each table ──
 
 -- the rows of a command beside its entry, table on table
-abbrev pub onto_rest : List AircraftRow → List PlaceRow → List ComponentRow → List SectorRow → List FittingRow → List RemovalRow → TableName → List Row → List Row
-onto_rest a p c s f r name rows =
-    on_top kept_removal1 r name (on_top kept_fit1 f name (on_top kept_sector1 s name (on_top kept_component c name (on_top kept_place p name (on_top kept_aircraft a name rows)))))
+abbrev pub onto_rest : AddedRows → TableName → List Row → List Row
+onto_rest v name rows =
+    on_top kept_removal1 v.removals.items name (on_top kept_fit1 v.fittings.items name (on_top kept_sector1 v.sectors.items name (on_top kept_component v.components.items name (on_top kept_place v.places.items name (on_top kept_aircraft v.aircraft.items name rows)))))
 
-pub keeps_rest : (a : List AircraftRow) (p : List PlaceRow) (c : List ComponentRow) (s : List SectorRow) (f : List FittingRow) (r : List RemovalRow) (name : TableName) (xs ys : List Row) → IsPermutation xs ys → IsPermutation (onto_rest a p c s f r name xs) (onto_rest a p c s f r name ys)
-keeps_rest a p c s f r name xs ys same =
-    on_top_keeps kept_removal1 r name _ _ (on_top_keeps kept_fit1 f name _ _ (on_top_keeps kept_sector1 s name _ _ (on_top_keeps kept_component c name _ _ (on_top_keeps kept_place p name _ _ (on_top_keeps kept_aircraft a name xs ys same)))))
+pub keeps_rest : (v : AddedRows) (name : TableName) (xs ys : List Row) → IsPermutation xs ys → IsPermutation (onto_rest v name xs) (onto_rest v name ys)
+keeps_rest v name xs ys same =
+    on_top_keeps kept_removal1 _ name _ _ (on_top_keeps kept_fit1 _ name _ _ (on_top_keeps kept_sector1 _ name _ _ (on_top_keeps kept_component _ name _ _ (on_top_keeps kept_place _ name _ _ (on_top_keeps kept_aircraft _ name xs ys same)))))
 
 -- the rows of a command, table on table
-abbrev pub onto_all : List EntryRow → List AircraftRow → List PlaceRow → List ComponentRow → List SectorRow → List FittingRow → List RemovalRow → TableName → List Row → List Row
-onto_all e a p c s f r name rows = onto_rest a p c s f r name (on_top kept_entry e name rows)
+abbrev pub onto_all : List EntryRow → AddedRows → TableName → List Row → List Row
+onto_all e v name rows = onto_rest v name (on_top kept_entry e name rows)
 
-pub rest_in : (schema : Schema) → HasOwn1 schema → HasPermanent schema × (HasPermanent schema × (HasPermanent schema × (HasOwn1 schema × (HasOwn1 schema × HasOwn1 schema))))
-rest_in schema has = (all_in schema has).1
-
-onto_is : (before : List Entry) (c : Entry) (name : TableName) (rows : List Row)
-    → onto_all (entry_added before c) (aircraft_by before c.act) (places_by before c.act) (components_by before c.act) (sectors_by before c.act) (fittings_by before c.act) (removals_by before c.act) name rows ≡ with_command before c name rows
-onto_is before c table.Office rows = refl
-onto_is before c _ rows = refl
+onto_is : (before : List Entry) (c : Entry) (e : List EntryRow) (v : AddedRows) → e ≡ entry_added before c → AreAddedRows before c v → (name : TableName) (rows : List Row) → onto_all e v name rows ≡ with_command before c name rows
+onto_is before c e v entry are table.Entry rows = λ i. map kept_entry.as_cells (entry i) ++ rows
+onto_is before c e v entry are table.Aircraft rows = λ i. map kept_aircraft.as_cells (are.aircraft.0 i) ++ rows
+onto_is before c e v entry are table.Place rows = λ i. map kept_place.as_cells (are.places.0 i) ++ rows
+onto_is before c e v entry are table.Component rows = λ i. map kept_component.as_cells (are.components.0 i) ++ rows
+onto_is before c e v entry are table.Sector1 rows = λ i. map kept_sector1.as_cells (are.sectors.0 i) ++ rows
+onto_is before c e v entry are table.Fit1 rows = λ i. map kept_fit1.as_cells (are.fittings.0 i) ++ rows
+onto_is before c e v entry are table.Removal1 rows = λ i. map kept_removal1.as_cells (are.removals.0 i) ++ rows
+onto_is before c e v entry are table.Office rows = refl
+onto_is before c e v entry are _ rows = refl
 
 -- tables that gained those rows gained the rows of the command
-pub gains_command : (before : List Entry) (command : Entry) (old new : Database) (e : List EntryRow) (a : List AircraftRow) (p : List PlaceRow) (c : List ComponentRow) (s : List SectorRow) (f : List FittingRow) (r : List RemovalRow)
-    → e ≡ entry_added before command → a ≡ aircraft_by before command.act → p ≡ places_by before command.act → c ≡ components_by before command.act → s ≡ sectors_by before command.act → f ≡ fittings_by before command.act → r ≡ removals_by before command.act
-    → GainsRows (onto_all e a p c s f r) old new → GainsRows (with_command before command) old new
-gains_command before command old new e a p c s f r e_is a_is p_is c_is s_is f_is r_is gains = record {
+pub gains_command : (before : List Entry) (command : Entry) (old new : Database) (e : List EntryRow) (v : AddedRows) → e ≡ entry_added before command → AreAddedRows before command v
+    → GainsRows (onto_all e v) old new → GainsRows (with_command before command) old new
+gains_command before command old new e v entry are gains = record {
   schema = gains.schema;
   sound = gains.sound;
-  tables = λ name at. subst (λ rows. IsPermutation rows (rows_in (table_named name) new.trees))
-      (same name (rows_in (table_named name) old.trees) ∙ onto_is before command name (rows_in (table_named name) old.trees)) (gains.tables name at);
+  tables = λ name at. subst (λ rows. IsPermutation rows (rows_in (table_named name) new.trees)) (onto_is before command e v entry are name (rows_in (table_named name) old.trees)) (gains.tables name at);
 }
-  where
-    same : (name : TableName) (rows : List Row) → onto_all e a p c s f r name rows ≡ onto_all (entry_added before command) (aircraft_by before command.act) (places_by before command.act) (components_by before command.act) (sectors_by before command.act) (fittings_by before command.act) (removals_by before command.act) name rows
-    same name rows i = onto_all (e_is i) (a_is i) (p_is i) (c_is i) (s_is i) (f_is i) (r_is i) name rows
-
--- the rows of a command fit
-pub fits_next : (before : List Entry) (c : Entry) → All FitsEntry (entry_added before c) → All FitsAircraft (aircraft_by before c.act) → All FitsPlace (places_by before c.act) → All FitsComponent (components_by before c.act)
-    → All FitsSector (sectors_by before c.act) → All FitsFitting (fittings_by before c.act) → All FitsRemoval (removals_by before c.act) → FitsNext before c
-fits_next before command e a p c s f r table.Entry = e
-fits_next before command e a p c s f r table.Aircraft = a
-fits_next before command e a p c s f r table.Place = p
-fits_next before command e a p c s f r table.Component = c
-fits_next before command e a p c s f r table.Sector1 = s
-fits_next before command e a p c s f r table.Fit1 = f
-fits_next before command e a p c s f r table.Removal1 = r
-fits_next before command e a p c s f r _ = tt
 
 -- ── for all tables alike ──
 

@@ -129,14 +129,18 @@ pub record WasEntered (command : Entry) (said : Reply) (old new : State) : Type 
   pub enters : Enters book command old.now new.now
   pub settled : new.now ≡ new.committed
 
--- the tables held a book to which these are the replies, and while the connection is open they hold the book after the commands, in the last commit
+-- while the connection is open, its tables are those of the last commit and hold this book
+pub record Holds (s : State) (book : List Entry) : Type 0 where
+  pub has : IsTrue s.is_open → HasOwn1 s.now.schema
+  pub holds : IsTrue s.is_open → HoldsBook s.now.trees book
+  pub settled : IsTrue s.is_open → s.now ≡ s.committed
+
+-- the tables held a book to which these are the replies, and they hold the book after the commands
 pub record RanOver (commands : List Entry) (said : List Reply) (old new : State) : Type 0 where
   pub book : List Entry
   pub held : HoldsBook old.now.trees book
   pub are_replies : said ≡ replies book commands
-  pub holds : IsTrue new.is_open → HoldsBook new.now.trees (book_run book commands)
-  pub has : IsTrue new.is_open → HasOwn1 new.now.schema
-  pub settled : IsTrue new.is_open → new.now ≡ new.committed
+  pub after : Holds new (book_run book commands)
 
 -- no command was accepted
 abbrev pub NoneAccepted : List Reply → Type 0

@@ -14,27 +14,9 @@ use crate::fault::{Fault, fault_of};
 use mx_book::Book;
 use mx_layout::{Table, TableFault};
 use mx_register::merge::{Registers, merge};
-use mx_register::{
-    AircraftRow, ComponentRow, EntryRow, FittingRow, PlaceRow, RemovalRow, SectorRow,
-};
 use mx_tables::Tables;
 use sqlite::{Alter, Connection, Transaction};
 use std::alloc::Global;
-
-// The rows of every register: each with those behind it.
-type Rows = (
-    Vec<EntryRow>,
-    (
-        Vec<AircraftRow>,
-        (
-            Vec<PlaceRow>,
-            (
-                Vec<ComponentRow>,
-                (Vec<SectorRow>, (Vec<FittingRow>, Vec<RemovalRow>)),
-            ),
-        ),
-    ),
-);
 
 // The rows of every register, read inside a transaction.
 fn read_registers<S: Alter>(
@@ -61,9 +43,8 @@ fn read_registers<S: Alter>(
         → (table : _) → result ≡ Err (TableFault.Damaged table) → IsDamaged old.now.trees table }
     ensures within { IsWithin (state S.Store tx.old.conn.now) (state S.Store tx.new.conn.now) }
 {
-    let (entries, (aircraft, (places, (components, (sectors, (fittings, removals)))))) = Rows::read(
-        alloc, tx,
-    )?;
+    let (entries, (aircraft, (places, (components, (sectors, (fittings, removals)))))) =
+        Tables::read(alloc, tx)?;
     Ok(Registers {
         entries,
         aircraft,

@@ -10,9 +10,10 @@ ghost use Rattle.mx_book.specs.Run.{book_after, book_run, reply, replies};
 ghost use Rattle.mx_layout.specs.declared.points.Point.{Point};
 ghost use Rattle.mx_layout.specs.Contents.{rows_in};
 ghost use Rattle.mx_layout.specs.Crash.{Leaves, ChangesNothing};
+ghost use Rattle.mx_layout.specs.Listed.{LacksOffice};
 ghost use Rattle.mx_layout.specs.Making.{first_point};
 ghost use Rattle.mx_layout.specs.Point.{point_cells, FitsPoint, HoldsPoint};
-ghost use Rattle.mx_layout.specs.Tables.{no_schema, office, HasOffice};
+ghost use Rattle.mx_layout.specs.Tables.{office, HasOffice};
 ghost use Rattle.mx_kept.specs.Schemas.{HasOwn1};
 ghost use Rattle.mx_office.specs.Faults.{found_or, unknown, open_answer, IsAnswer, IsReason, IsUnopened};
 ghost use Rattle.mx_office.specs.Stands.{HoldsBook, IsReasonFor, NoneAccepted, RanOver, Rests, IsEither, WasEntered};
@@ -20,6 +21,7 @@ ghost use Rattle.mx_office.specs.Stands.{HoldsBook, IsReasonFor, NoneAccepted, R
 use crate::answering::answer;
 use crate::fault::{Ask, Fault, OpenFault, Outcomes, open_fault_of};
 use crate::loading::load_book;
+use crate::running::run_by;
 use mx_base::{Tail, Use};
 use mx_book::{Book, LifeList, Refusal, Reply};
 use mx_command::{Command, Item};
@@ -77,7 +79,7 @@ pub fn open_office<S: Alter>(
         (λ e. HasCleanDisk (state S.Store e.0)
         → IsReason (rows_in office (state S.Store conn).now.trees) e.1) }
     ensures absent { (IsTrue (state S.Store conn).is_open
-        → (state S.Store conn).now.schema ≡ no_schema) → MatchResult result
+        → LacksOffice (state S.Store conn).now.schema) → MatchResult result
         (λ at. ¬ HasCleanDisk (state S.Store at.conn)) (λ e. HasCleanDisk (state S.Store e.0)
         → IsUnopened (Some OpenFault.NotOurs) e.1) }
     ensures whole { (book : _) → Rests (state S.Store conn) book → IfErr result
@@ -233,27 +235,30 @@ impl<S: Alter> Office<S> {
                 stopped: Some(Fault::NeedsReopen),
             };
         }
-        let Ok(mut replies) = Vec::with_capacity(alloc, commands.len()) else {
+        let Ok(replies) = Vec::with_capacity(alloc, commands.len()) else {
             return Outcomes {
                 replies: Vec::new(alloc),
                 stopped: Some(Fault::Memory),
             };
         };
-        for command in commands {
-            match self.apply(alloc, command) {
-                Ok(reply) => replies.push_reserved(reply),
-                Err(fault) => {
-                    return Outcomes {
-                        replies,
-                        stopped: Some(fault),
-                    };
-                }
+        if commands.is_empty() {
+            return Outcomes {
+                replies,
+                stopped: None,
+            };
+        }
+        let book = match self.book(alloc) {
+            Ok(book) => book,
+            Err(fault) => {
+                return Outcomes {
+                    replies,
+                    stopped: Some(fault),
+                };
             }
-        }
-        Outcomes {
-            replies,
-            stopped: None,
-        }
+        };
+        let outcomes = run_by(alloc, &mut self.conn, book, commands, replies);
+        self.needs_reopen = outcomes.stopped == Some(Fault::Store);
+        outcomes
     }
 
     // The book that the tables hold.
@@ -290,7 +295,7 @@ impl<S: Alter> Office<S> {
 
     /// The life list of an aircraft. `Refused(UnknownAircraft)` where no aircraft has the registration.
     /// No table changes.
-    pub fn life_rows(&mut self, alloc: Global, tail: &Tail) -> Result<LifeList, Ask>
+    pub fn life_rows(&mut self, alloc: Global, tail: Tail) -> Result<LifeList, Ask>
         ensures reopen { self.old.needs_reopen ≡ true
             → (result ≡ Err (Ask.Failed Fault.NeedsReopen)) × (self.new ≡ self.old) }
         ensures usable { self.old.needs_reopen ≡ false
@@ -302,19 +307,19 @@ impl<S: Alter> Office<S> {
             → ChangesNothing (state S.Store self.old.conn) (state S.Store self.new.conn) }
         ensures exact { (book : _) → self.old.needs_reopen ≡ false
             → Rests (state S.Store self.old.conn) book → HasCleanDisk (state S.Store self.new.conn)
-            → IsAnswer (found_or Refusal.UnknownAircraft (life_list book tail.now)) result }
+            → IsAnswer (found_or Refusal.UnknownAircraft (life_list book tail)) result }
         ensures sound { HasCleanDisk (state S.Store self.new.conn)
             → HasOwn1 (state S.Store self.old.conn).now.schema → ((fault : _)
             → result ≢ Err (Ask.Failed fault)) → (book : _)
             × HoldsBook (state S.Store self.old.conn).now.trees book
-            × (result ≡ found_or Refusal.UnknownAircraft (life_list book tail.now)) }
+            × (result ≡ found_or Refusal.UnknownAircraft (life_list book tail)) }
         ensures damaged { HasCleanDisk (state S.Store self.new.conn)
             → HasOwn1 (state S.Store self.old.conn).now.schema → (table : _)
             → result ≡ Err (Ask.Failed (Fault.Damaged table))
             → IsReasonFor (state S.Store self.old.conn).now.trees table }
     {
         let book = self.book(alloc)?;
-        match book.life_list(alloc, tail)? {
+        match book.life_list(alloc, &tail)? {
             Some(list) => Ok(list),
             None => Err(Ask::Refused(Refusal::UnknownAircraft)),
         }

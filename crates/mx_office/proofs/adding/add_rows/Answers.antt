@@ -1,12 +1,12 @@
-use Rattle.std.proofs.Common.{◌+◌, [], ◌∷◌, ap, ◌∙◌, All, subst, sym}
-use Rattle.std.proofs.lemmas.List.Elements.{All-cons, All-nil}
+use Rattle.std.proofs.Common.{◌+◌, [], ◌∷◌, ap, ◌∙◌}
 use Rattle.sqlite.specs.Held.{state}
-use Rattle.mx_register.specs.Registers.{entry_row, aircraft_by, places_by, components_by, sectors_by, fittings_by, removals_by, entry_added}
-use Rattle.mx_register.specs.Rows.{FitsEntry, FitsAircraft, FitsPlace, FitsComponent, FitsSector, FitsFitting, FitsRemoval}
+use Rattle.mx_register.specs.Registers.{entry_row}
 use Rattle.mx_kept.specs.Cells.{kept_entry}
 use Rattle.mx_kept.proofs.SchemaLemmas.{permanent_too}
 use Rattle.mx_tables.proofs.SetLemmas.{one_then, on_weaker}
-use Rattle.mx_office.proofs.StandsLemmas.{fits_next, gains_command, keeps_rest, onto_rest, rest_in}
+use Rattle.mx_office.specs.Family.{registers_1}
+use Rattle.mx_office.proofs.FamilyLemmas.{all_in}
+use Rattle.mx_office.proofs.StandsLemmas.{gains_command, keeps_rest, onto_rest}
 use Rattle.mx_office.proofs.adding.add_rows.Goals as goal
 
 pub returns-clause-adds : goal.returns-clause-adds
@@ -15,10 +15,8 @@ returns-clause-adds g c clean begun has =
     let s1 = state g.S.Store c.insert.new.tx.conn.now in
     let s2 = state g.S.Store c.write.new.tx.conn.now in
     let v = c.args.rows in
-    let of = c.requires in
-    let a = v.aircraft.items in let p = v.places.items in let co = v.components.items in let s = v.sectors.items in let f = v.fittings.items in let r = v.removals.items in
     let x = c.entry_row-entry.result in
     let entry = ap (λ e. e ∷ []) (c.entry_row-entry.ensures.row ∙ ap (λ n. entry_row (n + 1) c.args.command.now) c.len.ensures.len) in
-    let it = one_then kept_entry x _ (onto_rest a p co s f r) (keeps_rest a p co s f r) s0 s1 s2 c.in_ok-insert.field-0 c.write.result c.in_ok-insert.ensures.inserts c.write.ensures.writes in
-    on_weaker c.write.result (gains_command c.args.book.now c.args.command.now s0.now s2.now (x ∷ []) a p co s f r entry of.aircraft.0 of.places.0 of.components.0 of.sectors.0 of.fittings.0 of.removals.0)
-    (it.gains clean begun (permanent_too _ has) (rest_in _ has))
+    let it = one_then kept_entry x _ (onto_rest v) (keeps_rest v) s0 s1 s2 c.in_ok-insert.field-0 c.write.result c.in_ok-insert.ensures.inserts c.write.ensures.writes in
+    on_weaker c.write.result (gains_command c.args.book.now c.args.command.now s0.now s2.now (x ∷ []) v entry c.requires)
+    (it.gains clean begun (permanent_too _ has) (all_in _ has registers_1).1)

@@ -8,15 +8,15 @@ use Rattle.mx_office.proofs.office.Office.life_rows.Goals as goal
 
 pub returns-in_err-book-clause-exact : goal.returns-in_err-book-clause-exact
 returns-in_err-book-clause-exact g c book works rests clean =
-    stopped_answer (found_or UnknownAircraft (life_list book c.args.tail.now)) c.from_residual.result c.in_err-book.field-0.0 c.from_residual.ensures (c.in_err-book.ensures.exact book works rests clean)
+    stopped_answer (found_or UnknownAircraft (life_list book c.args.tail)) c.from_residual.result c.in_err-book.field-0.0 c.from_residual.ensures (c.in_err-book.ensures.exact book works rests clean)
 
 pub returns-in-Some-clause-exact : goal.returns-in-Some-clause-exact
 returns-in-Some-clause-exact g c book works rests clean =
-    some_answer UnknownAircraft c.in-Some.list (life_list book c.args.tail.now) (sym c.in-Some.is ∙ c.in_ok-list.ensures ∙ ap (λ b. life_list b c.args.tail.now) (c.in_ok-book.ensures.exact book works rests clean))
+    some_answer UnknownAircraft c.in-Some.list (life_list book c.args.tail) (sym c.in-Some.is ∙ c.in_ok-list.ensures ∙ ap (λ b. life_list b c.args.tail) (c.in_ok-book.ensures.exact book works rests clean))
 
 pub returns-clause-exact : goal.returns-clause-exact
 returns-clause-exact g c book works rests clean =
-    none_answer UnknownAircraft (life_list book c.args.tail.now) (sym c.in-None.is ∙ c.in_ok-list.ensures ∙ ap (λ b. life_list b c.args.tail.now) (c.in_ok-book.ensures.exact book works rests clean))
+    none_answer UnknownAircraft (life_list book c.args.tail) (sym c.in-None.is ∙ c.in_ok-list.ensures ∙ ap (λ b. life_list b c.args.tail) (c.in_ok-book.ensures.exact book works rests clean))
 
 pub returns-in_err-book-clause-sound : goal.returns-in_err-book-clause-sound
 returns-in_err-book-clause-sound g c clean has goes = not_stopped c.from_residual.result c.in_err-book.field-0.0 c.from_residual.ensures goes
