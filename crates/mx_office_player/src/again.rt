@@ -1,9 +1,10 @@
 //! A player that bears want of memory, for runs in which requests for memory are refused: a line that a fault
-//! stopped is played once more.
+//! stopped is played once more. Here it is also decided whether a line is a sweep.
 
 use crate::player::Player;
+use crate::sweep_lines::{answer_of_sweep, is_sweep};
 use crate::texts::append_joined;
-use mx_cases::Plays;
+use mx_cases::{Plays, answer_of};
 use std::alloc::{AllocError, Global};
 
 /// The player, and whether lines are played once more.
@@ -37,11 +38,21 @@ fn as_first(alloc: Global, answer: &str) -> Result<String, AllocError> {
 }
 
 impl Again {
+    // The answer to a line.
+    fn play_once(&mut self, words: &[&str]) -> Result<String, AllocError> {
+        let answer = if is_sweep(words) && !self.player.is_open() {
+            answer_of_sweep(self.alloc, &self.player, words)
+        } else {
+            self.player.answer(words)
+        };
+        answer_of(self.alloc, answer)
+    }
+
     // Plays a line that a fault stopped once more. Where the store failed, and for a list, of which a part may have
     // been accepted, what is known by now counts as accepted.
     fn play_again(&mut self, words: &[&str], first: &str) -> Result<String, AllocError> {
         self.player.open_again().or(Err(AllocError))?;
-        let answer = self.player.play(words)?;
+        let answer = self.play_once(words)?;
         if first.ends_with("fault store") || matches!(words, ["run"]) {
             return as_first(self.alloc, answer.as_str());
         }
@@ -51,7 +62,7 @@ impl Again {
 
 impl Plays for Again {
     fn play(&mut self, words: &[&str]) -> Result<String, AllocError> {
-        let first = self.player.play(words)?;
+        let first = self.play_once(words)?;
         let is_stopped = first.ends_with("fault memory") || first.ends_with("fault store");
         if self.is_again && is_stopped {
             return self.play_again(words, first.as_str());

@@ -60,7 +60,7 @@ pub(crate) fn list_of<S: Alter>(
     office: &mut Office<S>,
     tail: &Tail,
 ) -> Result<LifeList, Ask> {
-    office.life_rows(alloc, tail)
+    office.life_rows(alloc, *tail)
 }
 
 /// Whether the office has to be opened again.

@@ -1,8 +1,8 @@
 //! What is asked of the database that files hold, without an office.
 ghost use Rattle.std.specs.Prelude.{◌≡◌, false};
 
-use crate::texts::{append_error, append_joined, append_table_fault, room};
-use crate::visiting::Uses;
+use crate::calls::created;
+use crate::texts::{append_error, append_joined, append_table_fault, error_text, room};
 use mx_cases::Unmade;
 use mx_layout::point;
 use sqlite::types::ValueRef;
@@ -45,18 +45,10 @@ fn rows_text(alloc: Global, rows: &[Row]) -> Result<String, AllocError> {
 }
 
 // The rows that a query gives, joined by ` / `, each with its values.
-fn asked<S: Alter>(
-    alloc: Global,
-    conn: &mut Connection<S>,
-    sql: &str,
-) -> Result<String, AllocError> {
+fn asked<S: Alter>(alloc: Global, conn: &mut Connection<S>, sql: &str) -> Result<String, Unmade> {
     match conn.query_all(sql, &[]) {
-        Ok(rows) => rows_text(alloc, &rows),
-        Err(error) => {
-            let mut text = room(alloc)?;
-            append_error(&mut text, error)?;
-            Ok(text)
-        }
+        Ok(rows) => Ok(rows_text(alloc, &rows)?),
+        Err(error) => error_text(alloc, error),
     }
 }
 
@@ -91,6 +83,18 @@ fn point_text<S: Alter>(alloc: Global, conn: &mut Connection<S>) -> Result<Strin
     Ok(text)
 }
 
+// Makes an empty book: `ok`, or why it was not made.
+fn made<S: Alter>(alloc: Global, conn: &mut Connection<S>) -> Result<String, AllocError>
+    requires { conn.old.in_transaction ≡ false }
+{
+    let mut text = room(alloc)?;
+    match created(conn) {
+        Ok(()) => text.push_str("ok")?,
+        Err(fault) => append_table_fault(&mut text, fault)?,
+    }
+    Ok(text)
+}
+
 // The words of a statement as its text.
 fn statement_of(alloc: Global, words: &[&str]) -> Result<String, AllocError> {
     let mut sql = String::new(alloc);
@@ -103,8 +107,8 @@ fn statement_of(alloc: Global, words: &[&str]) -> Result<String, AllocError> {
     Ok(sql)
 }
 
-// What a database is answered.
-fn answer_of_database<S: Alter>(
+/// What a database answers to a line: `make`, `point`, `ask QUERY` or `sql STATEMENT`.
+pub(crate) fn answer_of_database<S: Alter>(
     alloc: Global,
     conn: &mut Connection<S>,
     words: &[&str],
@@ -112,30 +116,16 @@ fn answer_of_database<S: Alter>(
     requires { conn.old.in_transaction ≡ false }
 {
     match words {
+        ["make"] => Ok(made(alloc, conn)?),
         ["point"] => Ok(point_text(alloc, conn)?),
         ["ask", query @ ..] => {
             let sql = statement_of(alloc, query)?;
-            Ok(asked(alloc, conn, sql.as_str())?)
+            asked(alloc, conn, sql.as_str())
         }
         ["sql", statement @ ..] => {
             let sql = statement_of(alloc, statement)?;
             Ok(changed(alloc, conn, sql.as_str())?)
         }
         _ => Err(Unmade::NoSuchLine),
-    }
-}
-
-/// What is asked of a database: `point`, `ask QUERY` or `sql STATEMENT`.
-#[derive(Clone, Copy)]
-pub(crate) struct DatabaseLine<'a> {
-    pub alloc: Global,
-    pub words: &'a [&'a str],
-}
-
-impl<'a> Uses for DatabaseLine<'a> {
-    type Seen = Result<String, Unmade>;
-
-    fn work<S: Alter>(self, conn: &mut Connection<S>) -> Result<String, Unmade> {
-        answer_of_database(self.alloc, conn, self.words)
     }
 }

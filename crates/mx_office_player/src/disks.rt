@@ -1,13 +1,15 @@
 //! A database file and its log in memory. Each fails after so many calls, and loses what was not synced where the
-//! power is lost. Here alone they are copied, opened and closed, each in a function of its own: what calls a
-//! function for any store at this one is dear to prove.
-ghost use Rattle.std.specs.Prelude.{◌≡◌, false, IsTrue, IfOk};
+//! power is lost. Here alone a store is named. Each call of a function for any store at this one is dear to prove, so
+//! there are three: a database is asked, an office is asked, and it is left.
+ghost use Rattle.std.specs.Prelude.{IsTrue, IfOk};
 ghost use Rattle.sqlite_disk.specs.Memory.{memory_is_usable};
 ghost use Rattle.sqlite_disk.specs.Fuse.{inner_of, IsFresh};
 
-use mx_layout::TableFault;
-use mx_layout::fault::fault_of;
-use mx_office::{Office, OpenFault, open_office};
+use crate::asking::{Leaving, ask_database, leave};
+use crate::office_lines::{Asked, answer_of_office};
+use crate::texts::error_text;
+use mx_cases::Unmade;
+use mx_office::Office;
 use sqlite::{Connection, Error, FileStore, Files, Options};
 use sqlite_disk::{Crash, Disk, Fuse, Memory};
 use std::alloc::{AllocError, Global};
@@ -18,7 +20,7 @@ pub(crate) type Fused = FileStore<Fuse<Memory>>;
 pub(crate) type Pair = Files<Fuse<Memory>>;
 
 /// The length of the log of a real file, in pages.
-pub(crate) const LONG: usize = 1000;
+const LONG: usize = 1000;
 
 /// How files are opened.
 #[derive(Clone, Copy)]
@@ -38,43 +40,10 @@ pub(crate) const WHOLE: Setting = Setting {
     pages: LONG,
 };
 
-/// The file that stops.
-#[derive(Clone, Copy)]
-pub(crate) enum Stopping {
-    Log,
-    Db,
-}
-
-impl Stopping {
-    /// It alone fails, after so many calls.
-    pub(crate) fn after(self, calls: u64, pages: usize) -> Setting {
-        match self {
-            Stopping::Log => Setting {
-                log: calls,
-                db: u64::MAX,
-                pages,
-            },
-            Stopping::Db => Setting {
-                log: u64::MAX,
-                db: calls,
-                pages,
-            },
-        }
-    }
-}
-
-/// Why files hold no database that can be read, and what is left of them.
-#[derive(Drop)]
-pub(crate) struct Unread {
-    pub error: Error,
-    pub files: Pair,
-}
-
-/// Why files hold no office that can be opened, and what is left of them.
-#[derive(Drop)]
-pub(crate) struct Unopened {
-    pub fault: OpenFault,
-    pub files: Pair,
+/// What files leave that were asked a line: files, or an office that is open over them.
+pub(crate) enum Held {
+    Files(Pair),
+    Office(Office<Fused>),
 }
 
 // A file that holds these bytes, on the disk.
@@ -112,85 +81,41 @@ fn options(pages: usize) -> Options {
     }
 }
 
-/// The database that files hold.
-pub(crate) fn connected(
-    alloc: Global,
-    files: Pair,
-    pages: usize,
-) -> Result<Connection<Fused>, Unread>
-    requires log { IsTrue (memory_is_usable (inner_of files.log)) × IsFresh files.log }
-    requires db { IsTrue (memory_is_usable (inner_of files.db)) × IsFresh files.db }
-    ensures idle { IfOk result (λ conn. conn.in_transaction ≡ false) }
-{
-    match Connection::open_files(alloc, files, options(pages)) {
-        Ok(conn) => Ok(conn),
-        Err((error, left)) => Err(Unread {
-            error,
-            files: left.into_files(),
-        }),
-    }
-}
-
-// Why no office is opened where the database can't be read.
-fn open_fault_of(error: Error) -> OpenFault {
-    match fault_of(error) {
-        TableFault::Memory => OpenFault::Memory,
-        _ => OpenFault::Store,
-    }
-}
-
-/// The office of a database, or the database and why it holds none.
-pub(crate) fn office_of(
-    conn: Connection<Fused>,
-) -> Result<Office<Fused>, (Connection<Fused>, OpenFault)>
-    requires { conn.in_transaction ≡ false }
-{
-    open_office(conn)
-}
-
-/// The office that a copy of the files holds.
-pub(crate) fn opened(
+/// Opens the database that a copy of the files holds, and asks it a line: the answer, or why it was not opened, and
+/// what is left.
+pub(crate) fn asked_of_files(
     alloc: Global,
     files: &Pair,
     setting: Setting,
-) -> Result<Result<Office<Fused>, Unopened>, AllocError> {
+    words: &[&str],
+) -> Result<(Result<String, Unmade>, Held), AllocError> {
     let files = copied(alloc, files, setting)?;
-    match connected(alloc, files, setting.pages) {
-        Ok(conn) => match office_of(conn) {
-            Ok(office) => Ok(Ok(office)),
-            Err((conn, fault)) => Ok(Err(Unopened {
-                fault,
-                files: left_by(conn),
-            })),
+    match Connection::open_files(alloc, files, options(setting.pages)) {
+        Ok(conn) => match ask_database(alloc, conn, words) {
+            (answer, Ok(office)) => Ok((answer, Held::Office(office))),
+            (answer, Err(store)) => Ok((answer, Held::Files(store.close()))),
         },
-        Err(Unread { error, files }) => Ok(Err(Unopened {
-            fault: open_fault_of(error),
-            files,
-        })),
+        Err((error, left)) => Ok((error_text(alloc, error), Held::Files(left.into_files()))),
     }
 }
 
-/// What is left of the files of a database where the process ends.
-pub(crate) fn left_by(conn: Connection<Fused>) -> Pair {
-    conn.into_store().close()
+/// What the office answers to a line.
+pub(crate) fn asked_of_office(
+    office: &mut Office<Fused>,
+    asked: Asked<'_>,
+) -> Result<String, Unmade> {
+    answer_of_office(office, asked)
 }
 
-/// What is left of the files of an office where the process ends.
-pub(crate) fn files_of(office: Office<Fused>) -> Pair {
-    left_by(connection_of(office))
-}
-
-/// The database of an office.
-pub(crate) fn connection_of(office: Office<Fused>) -> Connection<Fused> {
-    office.close()
-}
-
-/// The files of a database that is closed as the program closes it, so that the log is copied into the database
-/// file, and what stopped that.
-pub(crate) fn closed(conn: Connection<Fused>) -> (Pair, Result<(), Error>) {
-    match conn.close_files() {
-        Ok(files) => (files, Ok(())),
-        Err((error, store)) => (store.close(), Err(error)),
+/// What is left of the files of an office where its process ends. Where it is closed as the program closes it, so that
+/// the log is copied into the database file, also what stopped that.
+pub(crate) fn left_by(office: Office<Fused>, is_closed: bool) -> (Pair, Result<(), Error>) {
+    match leave(office, is_closed) {
+        Leaving::Ended(store) => (store.close(), Ok(())),
+        Leaving::Closing(conn) => match conn.close_files() {
+            Ok(files) => (files, Ok(())),
+            Err((error, store)) => (store.close(), Err(error)),
+        },
     }
 }
 

@@ -10,12 +10,13 @@
 //! - `keep`, `restore`: keeps a copy of the files, and takes it back;
 //! - `open [log CALLS] [db CALLS] [pages PAGES]`: opens the office; the log holds so many pages before it is copied;
 //! - `list COMMAND`, `list`: puts a command behind those of the list, or empties it;
-//! - `stops-of-making`, `stops-of-commands`, `doubts`: sweeps (`sweep_lines`).
+//! - `stops-of-making`, `stops-of-commands`, `doubts`: sweeps, which play such lines over copies (`sweep_lines`).
 //!
 //! Lines in the open office: commands, and the questions of `office_lines`; `close`, `end` and `power` leave it.
 #![tactic(auto)]
 
 mod again;
+mod asking;
 mod calls;
 mod database_lines;
 mod disks;
@@ -29,7 +30,6 @@ mod stops_of_making;
 mod sweep;
 mod sweep_lines;
 mod texts;
-mod visiting;
 
 use again::Again;
 use player::Player;

@@ -22,11 +22,10 @@ fn fault_text(alloc: Global, fault: Fault) -> Result<String, Unmade> {
 fn apply<S: Alter>(
     alloc: Global,
     office: &mut Office<S>,
-    words: &[&str],
+    command: &Command,
 ) -> Result<String, Unmade> {
-    let command = command_of(alloc, words)?;
     let space = room_for_replies(alloc, 1)?;
-    match applied(alloc, office, &command) {
+    match applied(alloc, office, command) {
         Ok(reply) => Ok(replies_in(alloc, space, slice::from_ref(&reply), None)?),
         Err(fault) => Ok(replies_in(alloc, space, &[], Some(fault))?),
     }
@@ -84,18 +83,22 @@ fn documents(alloc: Global, entries: &[Command]) -> Result<String, Unmade> {
     Ok(text)
 }
 
-// The documents of at most so many entries, from a number on.
+// The documents of at most so many entries, from a number on. The entries themselves are put where `asked` says.
 fn entries<S: Alter>(
-    alloc: Global,
     office: &mut Office<S>,
+    asked: Asked<'_>,
     from: &str,
     at_most: &str,
 ) -> Result<String, Unmade> {
     let from = from.parse::<u32>()?;
     let at_most = at_most.parse::<u32>()?;
-    match entries_of(alloc, office, from, at_most) {
-        Ok(found) => documents(alloc, &found),
-        Err(fault) => fault_text(alloc, fault),
+    match entries_of(asked.alloc, office, from, at_most) {
+        Ok(found) => {
+            let text = documents(asked.alloc, &found)?;
+            *asked.entries = found;
+            Ok(text)
+        }
+        Err(fault) => fault_text(asked.alloc, fault),
     }
 }
 
@@ -114,22 +117,45 @@ fn is_entry<S: Alter>(
     }
 }
 
-/// What an open office answers. The words are one of the questions below, or a command, which is handed in. The
-/// list of commands is the one that `run` hands in.
-pub(crate) fn answer_of_office<S: Alter>(
+// Hands in the first command of the list.
+fn apply_first<S: Alter>(
     alloc: Global,
     office: &mut Office<S>,
     list: &[Command],
-    words: &[&str],
 ) -> Result<String, Unmade> {
-    match words {
-        ["run"] => run(alloc, office, list),
+    match list.first() {
+        Some(command) => apply(alloc, office, command),
+        None => Err(Unmade::NoSuchLine),
+    }
+}
+
+/// What an open office is asked.
+#[derive(Drop)]
+pub(crate) struct Asked<'a> {
+    pub alloc: Global,
+    /// One of the questions below, or a command, which is handed in.
+    pub words: &'a [&'a str],
+    /// The commands that `run` hands in, and `first` the first of them.
+    pub list: &'a [Command],
+    /// Where the entries are put that `entries` finds.
+    pub entries: &'a mut Vec<Command>,
+}
+
+/// What an open office answers.
+pub(crate) fn answer_of_office<S: Alter>(
+    office: &mut Office<S>,
+    asked: Asked<'_>,
+) -> Result<String, Unmade> {
+    let alloc = asked.alloc;
+    match asked.words {
+        ["run"] => run(alloc, office, asked.list),
+        ["first"] => apply_first(alloc, office, asked.list),
         ["life", tail] => life_list(alloc, office, tail),
         ["airframe", tail] => life(alloc, office, &Item::Airframe(Tail::read(tail)?)),
         ["component", serial] => life(alloc, office, &Item::Component(Serial::read(serial)?)),
-        ["entries", from, at_most] => entries(alloc, office, from, at_most),
+        ["entries", from, at_most] => entries(office, asked, from, at_most),
         ["entry", seq, command @ ..] => is_entry(alloc, office, seq, command),
         ["needs-reopen"] => Ok(yes_or_no(alloc, is_in_doubt(office))?),
-        _ => apply(alloc, office, words),
+        command => apply(alloc, office, &command_of(alloc, command)?),
     }
 }

@@ -1,21 +1,18 @@
 //! The player: a pair of files in memory, and an office that may be open over a copy of them.
 
-use crate::database_lines::DatabaseLine;
 use crate::disks::{
-    Fused, Pair, Unopened, WHOLE, closed, connection_of, copied, empty_files, files_of, lose_power,
-    opened,
+    Fused, Held, Pair, Setting, WHOLE, asked_of_files, asked_of_office, copied, empty_files,
+    left_by, lose_power,
 };
-use crate::office_lines::answer_of_office;
+use crate::office_lines::Asked;
 use crate::settings::setting_of;
-use crate::stops_of_making::made_in;
 use crate::sweep::End;
-use crate::sweep_lines::answer_of_sweep;
-use crate::texts::{append_error, append_open_fault, append_table_fault, room};
-use crate::visiting::used;
-use mx_cases::{Plays, Unmade, answer_of, command_of};
+use crate::texts::{append_error, room};
+use mx_cases::{Unmade, command_of};
 use mx_command::Command;
 use mx_office::Office;
-use std::alloc::{AllocError, Global};
+use std::alloc::Global;
+use std::mem;
 
 /// What stands between two lines.
 pub(crate) struct Player {
@@ -27,13 +24,17 @@ pub(crate) struct Player {
     office: Option<Office<Fused>>,
     // The commands that `run` and the sweeps hand in.
     list: Vec<Command>,
+    // The entries that were asked for last.
+    entries: Vec<Command>,
 }
 
-// Whether a statement was run.
-fn is_done(text: &Result<String, Unmade>) -> bool {
-    match text {
-        Ok(text) => text.as_str() == "ok",
-        Err(_) => false,
+// Whether files that answered so are taken: where a book was made or an office was opened, or could not be, and where a
+// statement that changes them was run.
+fn is_taken(words: &[&str], answer: &Result<String, Unmade>) -> bool {
+    match (words, answer) {
+        (["make"] | ["open"], Ok(_)) => true,
+        (["sql", ..], Ok(text)) => text.as_str() == "ok",
+        _ => false,
     }
 }
 
@@ -46,7 +47,34 @@ impl Player {
             kept: empty_files(alloc),
             office: None,
             list: Vec::new(alloc),
+            entries: Vec::new(alloc),
         }
+    }
+
+    /// A player with copies of the files, which it also keeps, and of the list, and with no office.
+    pub(crate) fn trial(&self) -> Result<Player, Unmade> {
+        let mut list = Vec::new(self.alloc);
+        for command in &self.list {
+            list.push(command.copy(self.alloc)?)?;
+        }
+        Ok(Player {
+            alloc: self.alloc,
+            files: copied(self.alloc, &self.files, WHOLE)?,
+            kept: copied(self.alloc, &self.files, WHOLE)?,
+            office: None,
+            list,
+            entries: Vec::new(self.alloc),
+        })
+    }
+
+    /// The list of commands.
+    pub(crate) fn list(&self) -> &[Command] {
+        self.list.as_slice()
+    }
+
+    /// The entries that were asked for last.
+    pub(crate) fn take_entries(&mut self) -> Vec<Command> {
+        mem::replace(&mut self.entries, Vec::new(self.alloc))
     }
 
     /// Lets go of everything.
@@ -57,21 +85,23 @@ impl Player {
             kept: _,
             office,
             list: _,
+            entries: _,
         } = self;
         if let Some(office) = office {
-            let _files = files_of(office);
+            let (_files, _) = left_by(office, false);
         }
     }
 
     // The process of an open office ends: the files are as it left them.
     fn end_process(&mut self) {
         if let Some(office) = self.office.take() {
-            self.files = files_of(office);
+            let (files, _) = left_by(office, false);
+            self.files = files;
         }
     }
 
-    // The program ends, if an office is open, and the power is lost or not.
-    fn stop(&mut self, end: End) -> Result<String, Unmade> {
+    /// The program ends, if an office is open, and the power is lost or not.
+    pub(crate) fn stop(&mut self, end: End) -> Result<String, Unmade> {
         let text = String::from_str(self.alloc, "ok")?;
         self.end_process();
         match end {
@@ -114,62 +144,24 @@ impl Player {
         Ok(text)
     }
 
-    // Makes an empty book in the files.
-    fn make(&mut self, limits: &[&str]) -> Result<String, Unmade> {
-        let setting = setting_of(limits)?;
-        let mut text = room(self.alloc)?;
-        let making = made_in(self.alloc, &self.files, setting)?;
-        self.files = making.files;
-        match making.made {
-            Ok(()) => text.push_str("ok")?,
-            Err(fault) => append_table_fault(&mut text, fault)?,
-        }
-        Ok(text)
-    }
-
-    // Asks or changes the database in a copy of the files, which is taken where that is said and a statement was run.
-    fn use_database(&mut self, words: &[&str], is_taken: bool) -> Result<String, Unmade> {
-        let line = DatabaseLine {
-            alloc: self.alloc,
-            words,
-        };
-        let (seen, files) = used(self.alloc, &self.files, WHOLE, line)?;
-        match seen {
-            Ok(text) => {
-                if is_taken && is_done(&text) {
+    // Asks the database in a copy of the files, which is taken where it was changed, and the office that was opened.
+    fn ask_files(&mut self, setting: Setting, words: &[&str]) -> Result<String, Unmade> {
+        let (answer, held) = asked_of_files(self.alloc, &self.files, setting, words)?;
+        match held {
+            Held::Office(office) => self.hold(office),
+            Held::Files(files) => {
+                if is_taken(words, &answer) {
                     self.files = files;
                 }
-                text
-            }
-            Err(error) => {
-                let mut text = room(self.alloc)?;
-                append_error(&mut text, error)?;
-                Ok(text)
             }
         }
-    }
-
-    // Opens the office that the files hold. Where it is not opened, the files are what that left.
-    fn open(&mut self, limits: &[&str]) -> Result<String, Unmade> {
-        let setting = setting_of(limits)?;
-        let mut text = room(self.alloc)?;
-        match opened(self.alloc, &self.files, setting)? {
-            Ok(office) => {
-                self.hold(office);
-                text.push_str("opened")?;
-            }
-            Err(Unopened { fault, files }) => {
-                self.files = files;
-                append_open_fault(&mut text, fault)?;
-            }
-        }
-        Ok(text)
+        answer
     }
 
     // Holds an open office.
     fn hold(&mut self, office: Office<Fused>) {
         if let Some(before) = self.office.replace(office) {
-            let _files = files_of(before);
+            let (_files, _) = left_by(before, false);
         }
     }
 
@@ -179,7 +171,7 @@ impl Player {
         let Some(office) = self.office.take() else {
             return Err(Unmade::NoSuchLine);
         };
-        let (files, closing) = closed(connection_of(office));
+        let (files, closing) = left_by(office, true);
         self.files = files;
         match closing {
             Ok(()) => text.push_str("ok")?,
@@ -190,9 +182,9 @@ impl Player {
 
     /// Where a commit of the open office is in doubt, its process ends and the office is opened again.
     pub(crate) fn open_again(&mut self) -> Result<(), Unmade> {
-        if self.office.is_some() && self.in_office(&["needs-reopen"])?.as_str() == "yes" {
+        if self.is_open() && self.says("needs-reopen", "yes")? {
             self.end_process();
-            self.open(&[])?;
+            self.over_files(&["open"])?;
         }
         Ok(())
     }
@@ -203,12 +195,25 @@ impl Player {
             ["keep"] => self.keep(),
             ["restore"] => self.restore(),
             ["power"] => self.stop(End::Power),
-            ["make", limits @ ..] => self.make(limits),
-            ["open", limits @ ..] => self.open(limits),
-            ["point"] | ["ask", ..] => self.use_database(words, false),
-            ["sql", ..] => self.use_database(words, true),
-            _ => answer_of_sweep(self.alloc, &self.files, &self.list, words),
+            ["make", limits @ ..] => self.ask_files(setting_of(limits)?, &["make"]),
+            ["open", limits @ ..] => self.ask_files(setting_of(limits)?, &["open"]),
+            ["point"] | ["ask", ..] | ["sql", ..] => self.ask_files(WHOLE, words),
+            _ => Err(Unmade::NoSuchLine),
         }
+    }
+
+    // A question to the open office.
+    fn ask_office(&mut self, words: &[&str]) -> Result<String, Unmade> {
+        let Some(office) = &mut self.office else {
+            return Err(Unmade::NoSuchLine);
+        };
+        let asked = Asked {
+            alloc: self.alloc,
+            words,
+            list: &self.list,
+            entries: &mut self.entries,
+        };
+        asked_of_office(office, asked)
     }
 
     // A line in the open office.
@@ -217,19 +222,22 @@ impl Player {
             ["close"] => self.close(),
             ["end"] => self.stop(End::Process),
             ["power"] => self.stop(End::Power),
-            _ => match &mut self.office {
-                Some(office) => answer_of_office(self.alloc, office, &self.list, words),
-                None => Err(Unmade::NoSuchLine),
-            },
+            _ => self.ask_office(words),
         }
     }
 
-    fn answer(&mut self, words: &[&str]) -> Result<String, Unmade> {
+    /// Whether an office is open.
+    pub(crate) fn is_open(&self) -> bool {
+        self.office.is_some()
+    }
+
+    /// The answer to a line that is no sweep.
+    pub(crate) fn answer(&mut self, words: &[&str]) -> Result<String, Unmade> {
         match words {
             ["disk"] => self.begin(),
             ["list", command @ ..] => self.lengthen(command),
             _ => {
-                if self.office.is_some() {
+                if self.is_open() {
                     self.in_office(words)
                 } else {
                     self.over_files(words)
@@ -237,10 +245,15 @@ impl Player {
             }
         }
     }
-}
 
-impl Plays for Player {
-    fn play(&mut self, words: &[&str]) -> Result<String, AllocError> {
-        answer_of(self.alloc, self.answer(words))
+    /// The answer to a line as it is written.
+    pub(crate) fn line(&mut self, line: &str) -> Result<String, Unmade> {
+        let words: Vec<&str> = line.split_whitespace().collect(self.alloc)?;
+        self.answer(&words)
+    }
+
+    /// Whether a line is answered so.
+    pub(crate) fn says(&mut self, line: &str, answer: &str) -> Result<bool, Unmade> {
+        Ok(self.line(line)?.as_str() == answer)
     }
 }

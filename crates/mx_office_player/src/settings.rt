@@ -1,6 +1,6 @@
 //! How files are opened and stopped, as words write it.
 
-use crate::disks::{Setting, Stopping, WHOLE};
+use crate::disks::{Setting, WHOLE};
 use crate::sweep::End;
 use mx_cases::Unmade;
 
@@ -30,15 +30,6 @@ pub(crate) fn setting_of(words: &[&str]) -> Result<Setting, Unmade> {
         setting = limited(setting, limit)?;
     }
     Ok(setting)
-}
-
-/// The file that stops: `log` or `db`.
-pub(crate) fn stopping_of(word: &str) -> Result<Stopping, Unmade> {
-    match word {
-        "log" => Ok(Stopping::Log),
-        "db" => Ok(Stopping::Db),
-        _ => Err(Unmade::NoSuchLine),
-    }
 }
 
 /// The end of a program: `process` or `power`.

@@ -1,6 +1,10 @@
 //! A sweep: one file is stopped at each of its calls in turn, until the work ends without a stop; and what is said
-//! of the stops.
+//! of the stops. What it does and looks at are lines of the player.
 
+use crate::player::Player;
+use crate::texts::append_joined;
+use mx_cases::Unmade;
+use mx_command::Command;
 use std::alloc::{AllocError, Global};
 
 /// The number of calls past which the work is to end.
@@ -9,15 +13,21 @@ const MOST_CALLS: u64 = 10_000;
 /// Why something is not as it must be.
 #[derive(Clone, Copy)]
 pub(crate) enum Wrong {
-    /// Memory ran out.
-    NoMemory,
+    /// A line can't be played.
+    Unmade(Unmade),
     /// What was found, in words.
     Found(&'static str),
 }
 
+impl From<Unmade> for Wrong {
+    fn from(error: Unmade) -> Wrong {
+        Wrong::Unmade(error)
+    }
+}
+
 impl From<AllocError> for Wrong {
     fn from(_error: AllocError) -> Wrong {
-        Wrong::NoMemory
+        Wrong::Unmade(Unmade::Memory)
     }
 }
 
@@ -30,31 +40,6 @@ pub(crate) enum End {
     Power,
 }
 
-/// What is wrong with a stop, and behind which end it was seen.
-#[derive(Clone, Copy)]
-pub(crate) struct Amiss {
-    end: Option<End>,
-    wrong: Wrong,
-}
-
-impl Wrong {
-    /// It was seen before the program ended.
-    pub(crate) fn while_it_ran(self) -> Amiss {
-        Amiss {
-            end: None,
-            wrong: self,
-        }
-    }
-
-    /// It was seen when the files were opened again after this end.
-    pub(crate) fn after(self, end: End) -> Amiss {
-        Amiss {
-            end: Some(end),
-            wrong: self,
-        }
-    }
-}
-
 /// What must hold, or what was found where it doesn't.
 pub(crate) fn must(holds: bool, otherwise: &'static str) -> Result<(), Wrong> {
     if holds {
@@ -64,62 +49,90 @@ pub(crate) fn must(holds: bool, otherwise: &'static str) -> Result<(), Wrong> {
     }
 }
 
+/// The answers to lines, joined by ` / `.
+pub(crate) fn answers(
+    alloc: Global,
+    player: &mut Player,
+    lines: &[&str],
+) -> Result<String, Unmade> {
+    let mut text = String::new(alloc);
+    for line in lines {
+        append_joined(&mut text, player.line(line)?.as_str())?;
+    }
+    Ok(text)
+}
+
+/// All entries of the open office.
+pub(crate) fn all_entries(player: &mut Player) -> Result<Vec<Command>, Wrong> {
+    let text = player.line("entries 1 4294967295")?;
+    must(
+        !text.starts_with("fault "),
+        "an office whose entries are not read",
+    )?;
+    Ok(player.take_entries())
+}
+
 /// Work over files of which one stops.
 pub(crate) trait Stops {
-    /// Does the work where the file stops after so many calls, and looks at what that left. Answers whether the
-    /// work was stopped.
-    fn stop(&mut self, calls: u64) -> Result<bool, Amiss>;
+    /// Does the work where the file stops after so many calls, ends the program, and looks at what that left. Answers
+    /// whether the work was stopped.
+    fn stop(&mut self, player: &mut Player, calls: u64, end: End) -> Result<bool, Wrong>;
 
     /// What is answered where every stop left what it must, or what no stop has shown.
     fn verdict(&self) -> Result<&'static str, Wrong>;
 }
 
-/// What is wrong, in words.
-pub(crate) fn wrong_text(alloc: Global, wrong: Wrong) -> Result<String, AllocError> {
+// What is wrong with a stop.
+fn amiss_text(alloc: Global, calls: u64, end: End, wrong: Wrong) -> Result<String, Unmade> {
+    let when = match end {
+        End::Process => "after the process ended",
+        End::Power => "after the power was lost",
+    };
     match wrong {
-        Wrong::NoMemory => Err(AllocError),
-        Wrong::Found(what) => String::from_str(alloc, what),
+        Wrong::Unmade(error) => Err(error),
+        Wrong::Found(what) => {
+            Ok(format!(in alloc; "the stop after {calls} calls, {when}: {what}")?)
+        }
     }
 }
 
-fn amiss_text(alloc: Global, calls: u64, amiss: Amiss) -> Result<String, AllocError> {
-    let what = wrong_text(alloc, amiss.wrong)?;
-    let when = match amiss.end {
-        None => "while it ran",
-        Some(End::Process) => "after the process ended",
-        Some(End::Power) => "after the power was lost",
-    };
-    format!(in alloc; "the stop after {calls} calls, {when}: {what}")
-}
-
+// What all stops show.
 fn ended_text<W: Stops>(
     alloc: Global,
     work: &W,
     stops: u64,
     at_least: u64,
-) -> Result<String, AllocError> {
+) -> Result<String, Unmade> {
     if stops < at_least {
-        return format!(in alloc; "fewer than {at_least} stops");
+        return Ok(format!(in alloc; "fewer than {at_least} stops")?);
     }
     match work.verdict() {
-        Ok(held) => String::from_str(alloc, held),
-        Err(wrong) => wrong_text(alloc, wrong),
+        Ok(what) | Err(Wrong::Found(what)) => Ok(String::from_str(alloc, what)?),
+        Err(Wrong::Unmade(error)) => Err(error),
     }
 }
 
-/// Stops a file at each of its calls in turn, until the work ends without a stop: what is answered where all stops
-/// left what they must and there were at least so many, and else the first that did not, and what it left.
+/// Stops a file at each of its calls in turn, until the work ends without a stop, and ends the program in each of these
+/// ways: what is answered where all stops left what they must and there were at least so many, and else the first that
+/// did not, and what it left.
 pub(crate) fn swept<W: Stops>(
     alloc: Global,
+    player: &mut Player,
     work: &mut W,
+    ends: &[End],
     at_least: u64,
-) -> Result<String, AllocError> {
+) -> Result<String, Unmade> {
     for calls in 0..MOST_CALLS {
-        match work.stop(calls) {
-            Ok(true) => {}
-            Ok(false) => return ended_text(alloc, work, calls, at_least),
-            Err(amiss) => return amiss_text(alloc, calls, amiss),
+        let mut is_stopped = false;
+        for end in ends {
+            match work.stop(player, calls, *end) {
+                Ok(stopped) => is_stopped = stopped,
+                Err(wrong) => return amiss_text(alloc, calls, *end, wrong),
+            }
+        }
+        if !is_stopped {
+            return ended_text(alloc, work, calls, at_least);
         }
     }
-    String::from_str(alloc, "every run was stopped")
+    Ok(String::from_str(alloc, "every run was stopped")?)
 }

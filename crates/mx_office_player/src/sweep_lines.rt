@@ -1,87 +1,105 @@
 //! The sweeps, by their words.
 
-use crate::disks::Pair;
 use crate::doubts::Doubts;
-use crate::settings::{end_of, stopping_of};
-use crate::stops_of_commands::{CommandStops, case_of};
+use crate::player::Player;
+use crate::settings::end_of;
+use crate::stops_of_commands::{CommandStops, plain_of};
 use crate::stops_of_making::MakingStops;
-use crate::sweep::{swept, wrong_text};
+use crate::sweep::{End, Wrong, swept};
 use mx_cases::Unmade;
-use mx_command::Command;
 use std::alloc::Global;
 
-fn stops_of_making(alloc: Global, file: &str, at_least: &str) -> Result<String, Unmade> {
-    let mut stops = MakingStops {
-        alloc,
-        stopping: stopping_of(file)?,
-    };
-    Ok(swept(alloc, &mut stops, at_least.parse::<u64>()?)?)
+const BOTH_ENDS: [End; 2] = [End::Process, End::Power];
+
+// What is wrong before a sweep begins.
+fn unbegun(alloc: Global, wrong: Wrong) -> Result<String, Unmade> {
+    match wrong {
+        Wrong::Unmade(error) => Err(error),
+        Wrong::Found(what) => Ok(String::from_str(alloc, what)?),
+    }
+}
+
+fn stops_of_making(
+    alloc: Global,
+    player: &mut Player,
+    file: &str,
+    at_least: &str,
+) -> Result<String, Unmade> {
+    let at_least = at_least.parse::<u64>()?;
+    let mut stops = MakingStops { alloc, file };
+    swept(alloc, player, &mut stops, &BOTH_ENDS, at_least)
 }
 
 fn stops_of_commands(
     alloc: Global,
-    files: &Pair,
-    list: &[Command],
+    player: &mut Player,
     (file, pages, at_least): (&str, &str, &str),
 ) -> Result<String, Unmade> {
-    let stopping = stopping_of(file)?;
-    let pages = pages.parse::<usize>()?;
     let at_least = at_least.parse::<u64>()?;
-    match case_of(alloc, files, list) {
-        Ok(case) => {
+    match plain_of(alloc, player) {
+        Ok(plain) => {
             let mut stops = CommandStops {
                 alloc,
-                case,
-                stopping,
+                plain,
+                file,
                 pages,
             };
-            Ok(swept(alloc, &mut stops, at_least)?)
+            swept(alloc, player, &mut stops, &BOTH_ENDS, at_least)
         }
-        Err(wrong) => Ok(wrong_text(alloc, wrong)?),
+        Err(wrong) => unbegun(alloc, wrong),
     }
 }
 
-fn doubts(
-    alloc: Global,
-    files: &Pair,
-    list: &[Command],
-    end: &str,
-    at_least: &str,
-) -> Result<String, Unmade> {
+fn doubts(alloc: Global, player: &mut Player, end: &str, at_least: &str) -> Result<String, Unmade> {
     let end = end_of(end)?;
     let at_least = at_least.parse::<u64>()?;
-    match case_of(alloc, files, list) {
-        Ok(case) => {
+    match plain_of(alloc, player) {
+        Ok(plain) => {
             let mut work = Doubts {
                 alloc,
-                case,
+                plain,
                 end,
                 lost: 0,
                 kept: 0,
             };
-            Ok(swept(alloc, &mut work, at_least)?)
+            swept(alloc, player, &mut work, &[end], at_least)
         }
-        Err(wrong) => Ok(wrong_text(alloc, wrong)?),
+        Err(wrong) => unbegun(alloc, wrong),
     }
 }
 
-/// What a sweep is answered: `stops-of-making FILE AT_LEAST`, `stops-of-commands FILE pages PAGES AT_LEAST` or
-/// `doubts END AT_LEAST`. The two last hand the list of commands in to the office that the files hold.
-pub(crate) fn answer_of_sweep(
-    alloc: Global,
-    files: &Pair,
-    list: &[Command],
-    words: &[&str],
-) -> Result<String, Unmade> {
+// Plays a sweep over files and a list that it may change.
+fn played(alloc: Global, player: &mut Player, words: &[&str]) -> Result<String, Unmade> {
     match words {
-        ["stops-of-making", file, at_least] => stops_of_making(alloc, file, at_least),
+        ["stops-of-making", file, at_least] => stops_of_making(alloc, player, file, at_least),
         ["stops-of-commands", file, "pages", pages, at_least] => stops_of_commands(
             alloc,
-            files,
-            list,
+            player,
             (*file, *pages, *at_least),
         ),
-        ["doubts", end, at_least] => doubts(alloc, files, list, end, at_least),
+        ["doubts", end, at_least] => doubts(alloc, player, end, at_least),
         _ => Err(Unmade::NoSuchLine),
     }
+}
+
+/// Whether the words are those of a sweep.
+pub(crate) fn is_sweep(words: &[&str]) -> bool {
+    matches!(
+        words,
+        ["stops-of-making" | "stops-of-commands" | "doubts", ..]
+    )
+}
+
+/// What a sweep is answered: `stops-of-making FILE AT_LEAST`, `stops-of-commands FILE pages PAGES AT_LEAST` or
+/// `doubts END AT_LEAST`. The two last hand the list of commands in to the office that the files hold. It plays its lines
+/// over copies, so that the player stays as it is.
+pub(crate) fn answer_of_sweep(
+    alloc: Global,
+    player: &Player,
+    words: &[&str],
+) -> Result<String, Unmade> {
+    let mut trial = player.trial()?;
+    let answer = played(alloc, &mut trial, words);
+    trial.let_go();
+    answer
 }

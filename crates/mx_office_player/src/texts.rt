@@ -2,6 +2,7 @@
 //! nothing is done and left without its answer.
 
 use mx_book::Reply;
+use mx_cases::Unmade;
 use mx_layout::{Table, TableFault};
 use mx_office::{Ask, Fault, OpenFault};
 use mx_reports::reply_text;
@@ -76,8 +77,15 @@ pub(crate) fn append_error(out: &mut String, error: Error) -> Result<(), AllocEr
     }
 }
 
-// Appends a reply, behind ` / ` where there is something before it.
-fn append_reply(out: &mut Vec<u8>, reply: &Reply) -> Result<(), AllocError> {
+/// Why a statement was not run, or a database not opened.
+pub(crate) fn error_text(alloc: Global, error: Error) -> Result<String, Unmade> {
+    let mut text = room(alloc)?;
+    append_error(&mut text, error)?;
+    Ok(text)
+}
+
+/// Appends a reply, behind ` / ` where there is something before it.
+pub(crate) fn append_reply(out: &mut Vec<u8>, reply: &Reply) -> Result<(), AllocError> {
     if !out.is_empty() {
         out.extend_from_slice(b" / ")?;
     }
