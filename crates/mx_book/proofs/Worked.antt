@@ -11,7 +11,7 @@ use Rattle.mx_book.specs.declared.verdict.Verdict.TheVariants.{New, Already, Ref
 use Rattle.mx_book.specs.Life.{life_at, life_now, clock}
 use Rattle.mx_book.specs.Judge.{judge}
 use Rattle.mx_book.specs.Book.{is_book, entry_at}
-use Rattle.mx_book.specs.declared.verdict.Reply.TheVariants.{Accepted, Already as AlreadyEntered, Refused as NotEntered}
+use Rattle.mx_book.specs.declared.verdict.Reply.TheVariants as answers
 use Rattle.mx_book.specs.Run.{replies, book_run}
 use Rattle.mx_book.specs.Lists.{life_list}
 use Rattle.mx_book.specs.Accepted.{accepted}
@@ -55,7 +55,7 @@ first_sector-shape : has_shape (first_sector 1) ≡ true
 unfolding digits
 first_sector-shape = refl
 
-first_two-replies : replies [] first_two ≡ Accepted 1 ∷ Accepted 2 ∷ []
+first_two-replies : replies [] first_two ≡ answers.Accepted 1 ∷ answers.Accepted 2 ∷ []
 first_two-replies = refl
 
 first_two-book : is_book first_two ≡ true
@@ -72,7 +72,7 @@ other_cycles = refl
 run_again : book_run [] (a1 ∷ first_sector 1 ∷ first_sector 1 ∷ []) ≡ first_two
 run_again = refl
 
-run_again-replies : replies [] (a1 ∷ first_sector 1 ∷ first_sector 1 ∷ first_sector 2 ∷ []) ≡ Accepted 1 ∷ Accepted 2 ∷ AlreadyEntered 2 ∷ NotEntered (Conflict 2) ∷ []
+run_again-replies : replies [] (a1 ∷ first_sector 1 ∷ first_sector 1 ∷ first_sector 2 ∷ []) ≡ answers.Accepted 1 ∷ answers.Accepted 2 ∷ answers.Already 2 ∷ answers.Refused (Conflict 2) ∷ []
 run_again-replies = refl
 
 -- the first two of these are accepted, the sector entered again and the one with other cycles are not

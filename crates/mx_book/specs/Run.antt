@@ -4,7 +4,7 @@ use Rattle.mx_command.specs.Act.{Entry}
 use Rattle.mx_book.specs.declared.verdict.Verdict.{Verdict}
 use Rattle.mx_book.specs.declared.verdict.Verdict.TheVariants.{New, Already, Refused}
 use Rattle.mx_book.specs.declared.verdict.Reply.{Reply}
-use Rattle.mx_book.specs.declared.verdict.Reply.TheVariants.{Accepted, Already as AlreadyEntered, Refused as NotEntered}
+use Rattle.mx_book.specs.declared.verdict.Reply.TheVariants as answers
 use Rattle.mx_book.specs.Judge.{judge}
 use Rattle.mx_book.specs.Book.{is_new}
 
@@ -14,9 +14,9 @@ book_after book command = if is_new (judge book command) then book ++ command �
 
 -- the reply that a verdict makes, where the next entry has this number
 abbrev pub reply_to : ℕ → Verdict → Reply
-reply_to next New = Accepted next
-reply_to next (Already seq) = AlreadyEntered seq
-reply_to next (Refused refusal) = NotEntered refusal
+reply_to next New = answers.Accepted next
+reply_to next (Already seq) = answers.Already seq
+reply_to next (Refused refusal) = answers.Refused refusal
 
 -- the reply to a command
 abbrev pub reply : List Entry → Entry → Reply

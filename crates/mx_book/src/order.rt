@@ -37,6 +37,13 @@ impl<T: Placed> Model for Rows<T> {
 }
 
 impl<T: Placed> Rows<T> {
+    /// The rows of a vector, in the order that it has.
+    pub fn new(items: Vec<T>) -> Rows<T>
+        ensures { result ≡ items.items }
+    {
+        Rows { items }
+    }
+
     /// The rows.
     pub fn as_slice(&self) -> &[T]
         ensures { result.now ≡ self.now }

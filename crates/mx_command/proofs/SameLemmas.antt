@@ -6,7 +6,7 @@ use Rattle.std.proofs.lemmas.Slice.Eq.{slice_eq-Decides}
 use Rattle.mx_command.specs.Act.{Act, Entry, act_of, Added, Listed, Flown, Fitted, Removed}
 use Rattle.mx_command.specs.Same.{same_act, same_entry, same_text, same_position}
 use Rattle.mx_command.specs.declared.body.Body.{Body}
-use Rattle.mx_command.specs.declared.body.Body.TheVariants.{AddAircraft, AddComponent, Sector as FlewSector, Fit, Remove}
+use Rattle.mx_command.specs.declared.body.Body.TheVariants as bodies
 use Rattle.mx_command.specs.declared.aircraft.Aircraft.{Aircraft}
 use Rattle.mx_command.specs.declared.sector.Sector.{Sector}
 use Rattle.mx_command.specs.contracts.body.BodyPartialEq.TheImpl as body
@@ -15,11 +15,11 @@ use Rattle.mx_command.specs.contracts.aircraft.AircraftPartialEq.TheImpl as airc
 
 -- the derived test of two bodies is that of what they say
 pub body_same : (a b : Body) → (body.ghosts).eq a b ≡ same_act (act_of a) (act_of b)
-body_same (AddAircraft tail kind birth opening as_of positions) (AddAircraft tail' kind' birth' opening' as_of' positions') = refl
-body_same (AddComponent serial part birth opening as_of) (AddComponent serial' part' birth' opening' as_of') = refl
-body_same (FlewSector tail page line off on cycles) (FlewSector tail' page' line' off' on' cycles') = refl
-body_same (Fit serial tail position moment) (Fit serial' tail' position' moment') = refl
-body_same (Remove serial moment) (Remove serial' moment') = refl
+body_same (bodies.AddAircraft tail kind birth opening as_of positions) (bodies.AddAircraft tail' kind' birth' opening' as_of' positions') = refl
+body_same (bodies.AddComponent serial part birth opening as_of) (bodies.AddComponent serial' part' birth' opening' as_of') = refl
+body_same (bodies.Sector tail page line off on cycles) (bodies.Sector tail' page' line' off' on' cycles') = refl
+body_same (bodies.Fit serial tail position moment) (bodies.Fit serial' tail' position' moment') = refl
+body_same (bodies.Remove serial moment) (bodies.Remove serial' moment') = refl
 body_same _ _ = refl
 
 pub text_same : (a b : List ℕ) → Decides (same_text a b) (a ≡ b)

@@ -6,7 +6,7 @@ use Rattle.std.specs.List.{list_all, list_any}
 use Rattle.mx_base.specs.declared.amounts.Use.{Use}
 use Rattle.mx_command.specs.Act.{Act, Entry, act_of, Added, Listed, Flown, Fitted, Removed, aircraft_of, positions_of, component_of, sector_of, fitting_of, removal_of}
 use Rattle.mx_command.specs.Shape.{opening_shape, sector_shape, positions_shape, act_shape, is_log_doc, sector_doc, has_shape, is_sector_shaped, sector_entry}
-use Rattle.mx_command.specs.declared.body.Body.TheVariants.{AddComponent, Sector as FlewSector, Fit, Remove}
+use Rattle.mx_command.specs.declared.body.Body.TheVariants as bodies
 use Rattle.mx_command.specs.declared.sector.Sector.{Sector}
 
 abbrev abcd : List ℕ
@@ -184,14 +184,14 @@ no_removal : list_any (λ act. is_some (removal_of act)) (aircraft_with 800 ∷ 
 no_removal = refl
 
 -- the body of a removal, and of a fitting
-body_of_a_removal : act_of (Remove (codes "E1") 28_488_090) ≡ remove
+body_of_a_removal : act_of (bodies.Remove (codes "E1") 28_488_090) ≡ remove
 body_of_a_removal = refl
 
-body_of_a_fitting : act_of (Fit (codes "E1") abcd (codes "ENG") 28_445_760) ≡ fit
+body_of_a_fitting : act_of (bodies.Fit (codes "E1") abcd (codes "ENG") 28_445_760) ≡ fit
 body_of_a_fitting = refl
 
-body_of_a_sector : act_of (FlewSector abcd 12 1 28_488_000 28_488_090 1) ≡ Flown (sector 12 1 90 1)
+body_of_a_sector : act_of (bodies.Sector abcd 12 1 28_488_000 28_488_090 1) ≡ Flown (sector 12 1 90 1)
 body_of_a_sector = refl
 
-body_of_a_component : act_of (AddComponent (codes "E1") (codes "IO360") 14610 (used 1000 100) 28_401_120) ≡ engine_with 100
+body_of_a_component : act_of (bodies.AddComponent (codes "E1") (codes "IO360") 14610 (used 1000 100) 28_401_120) ≡ engine_with 100
 body_of_a_component = refl

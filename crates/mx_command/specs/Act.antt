@@ -6,7 +6,7 @@ use Rattle.mx_command.specs.declared.sector.Sector.{Sector}
 use Rattle.mx_command.specs.declared.fitting.Fitting.{Fitting}
 use Rattle.mx_command.specs.declared.fitting.Removal.{Removal}
 use Rattle.mx_command.specs.declared.body.Body.{Body}
-use Rattle.mx_command.specs.declared.body.Body.TheVariants.{AddAircraft, AddComponent, Sector as FlewSector, Fit, Remove}
+use Rattle.mx_command.specs.declared.body.Body.TheVariants as bodies
 
 -- what a command says, a case for each kind of command: an aircraft with its positions was added, a component was listed, a sector was flown, a component was fitted or removed
 pub data Act : Type 0 where
@@ -23,11 +23,11 @@ pub record Entry : Type 0 where
 
 -- what a body says
 abbrev pub act_of : Body → Act
-act_of (AddAircraft tail kind birth opening as_of positions) = Added (record { tail = tail; kind = kind; birth = birth; opening = opening; as_of = as_of }) positions.items
-act_of (AddComponent serial part birth opening as_of) = Listed (record { serial = serial; part = part; birth = birth; opening = opening; as_of = as_of })
-act_of (FlewSector tail page line off on cycles) = Flown (record { tail = tail; page = page; line = line; off = off; on = on; cycles = cycles })
-act_of (Fit serial tail position moment) = Fitted (record { serial = serial; tail = tail; position = position; moment = moment })
-act_of (Remove serial moment) = Removed (record { serial = serial; moment = moment })
+act_of (bodies.AddAircraft tail kind birth opening as_of positions) = Added (record { tail = tail; kind = kind; birth = birth; opening = opening; as_of = as_of }) positions.items
+act_of (bodies.AddComponent serial part birth opening as_of) = Listed (record { serial = serial; part = part; birth = birth; opening = opening; as_of = as_of })
+act_of (bodies.Sector tail page line off on cycles) = Flown (record { tail = tail; page = page; line = line; off = off; on = on; cycles = cycles })
+act_of (bodies.Fit serial tail position moment) = Fitted (record { serial = serial; tail = tail; position = position; moment = moment })
+act_of (bodies.Remove serial moment) = Removed (record { serial = serial; moment = moment })
 
 -- the aircraft, where one was added
 abbrev pub aircraft_of : Act → Option Aircraft
