@@ -3,7 +3,8 @@
 # A player must print what it prints with memory, since it asks a question once more where memory ran out, or end with
 # status 4 and `no memory` where the request was for its own lists. The program office must print what it prints
 # with memory, or its first lines and a fault. Run by hand, after the gate or `rt run` in the crates of the
-# programs has built them; needs a C compiler. Prints a line a program, and ends with the count.
+# programs has built them; needs a C compiler. Prints a line a program, and ends with the count. With FIRST and STEP only
+# each STEP-th request is refused, from the one with the number FIRST on: so several can share the work.
 set -u
 cd "$(dirname "$0")/.." || exit 2
 root=$PWD
@@ -12,6 +13,8 @@ trap 'rm -rf "$folder"' EXIT
 shim=$folder/fail_allocation.so
 ${CC:-cc} -O1 -shared -fPIC -o "$shim" scripts/fail_allocation.c || exit 2
 runs=0
+first=${FIRST:-1}
+step=${STEP:-1}
 
 stop() { # why, and what was printed
     echo "$1"
@@ -59,13 +62,13 @@ is_fault() {
     head -c "$(wc -c < "$folder/found")" "$folder/wanted" | cmp -s - "$folder/found"
 }
 
-counted() { # the name of the program, and how many of its runs were answered as with memory
-    if [ "$2" = 0 ]; then
+counted() { # the name of the program, how many requests were refused, and how many runs were answered as with memory
+    if [ "$3" = 0 ]; then
         echo "$1: no run was answered as with memory"
         exit 1
     fi
-    echo "$1: $most requests, each refused in turn, and $2 answered as with memory"
-    runs=$((runs + most))
+    echo "$1: $most requests, $2 of them refused in turn, and $3 runs answered as with memory"
+    runs=$((runs + $2))
 }
 
 for name in mx_book_player mx_office_player; do
@@ -77,8 +80,10 @@ for name in mx_book_player mx_office_player; do
     # The office meets want of memory in its files too, and then has to be opened again.
     if [ "$name" = mx_office_player ]; then words=(--again memory.cases); fi
     count_requests "$player" "${words[@]}"
+    refused=0
     whole=0
-    for ((nth = 1; nth <= most; nth++)); do
+    for ((nth = first; nth <= most; nth += step)); do
+        refused=$((refused + 1))
         refuse "$nth" "$player" "${words[@]}"
         if is_whole; then
             whole=$((whole + 1))
@@ -86,7 +91,7 @@ for name in mx_book_player mx_office_player; do
             stop "$name: status $status where request $nth of $most is refused"
         fi
     done
-    counted "$name" "$whole"
+    counted "$name" "$refused" "$whole"
     cd "$root" || exit 2
 done
 
@@ -94,8 +99,10 @@ office=$root/crates/mx_cli/out/mx_cli
 is_built "$office"
 words=(try D-ABCD 60000 800 2024-03-01T08:00 2024-03-01T09:30 1)
 count_requests "$office" "${words[@]}"
+refused=0
 whole=0
-for ((nth = 1; nth <= most; nth++)); do
+for ((nth = first; nth <= most; nth += step)); do
+    refused=$((refused + 1))
     refuse "$nth" "$office" "${words[@]}"
     if is_whole; then
         whole=$((whole + 1))
@@ -103,7 +110,7 @@ for ((nth = 1; nth <= most; nth++)); do
         stop "office: status $status where request $nth of $most is refused"
     fi
 done
-counted office "$whole"
+counted office "$refused" "$whole"
 
 if [ "$runs" = 0 ]; then echo "no program made a request"; exit 1; fi
 echo "$runs runs passed"
