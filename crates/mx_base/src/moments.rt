@@ -98,7 +98,8 @@ impl Moment {
     /// refuses, or with a time past 23:59.
     pub fn read(text: &str) -> Result<Moment, BadText>
         ensures ok { IfOk result (λ m. (m ≤ last_moment) × (moment_text m ≡ text.now)) }
-        ensures only { IfOk result (λ m. (n : ℕ) → n ≤ last_moment → moment_text n ≡ text.now → n ≡ m) }
+        ensures only { IfOk result (λ m. (n : ℕ) → n ≤ last_moment → moment_text n ≡ text.now
+            → n ≡ m) }
         ensures err { OnErr result ((m : ℕ) → m ≤ last_moment → moment_text m ≢ text.now) }
     {
         match read_moment(text.as_bytes()) {

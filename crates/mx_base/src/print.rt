@@ -55,7 +55,8 @@ pub fn print_hours(out: &mut Vec<u8>, minutes: i64) -> Result<(), AllocError>
 
 // Appends three texts, or none of them.
 fn append(out: &mut Vec<u8>, first: &[u8], middle: &[u8], last: &[u8]) -> Result<(), AllocError>
-    ensures printed { OnOk result (out.new.items ≡ out.old.items ++ (first.now ++ (middle.now ++ last.now))) }
+    ensures printed { OnOk result (out.new.items
+        ≡ out.old.items ++ (first.now ++ (middle.now ++ last.now))) }
     ensures unchanged { OnErr result (out.new.items ≡ out.old.items) }
 {
     let len = out.len();
@@ -68,7 +69,8 @@ fn append(out: &mut Vec<u8>, first: &[u8], middle: &[u8], last: &[u8]) -> Result
 
 // Appends three texts, or as many as there was memory for.
 fn append_all(out: &mut Vec<u8>, first: &[u8], middle: &[u8], last: &[u8]) -> Result<(), AllocError>
-    ensures printed { OnOk result (out.new.items ≡ out.old.items ++ (first.now ++ (middle.now ++ last.now))) }
+    ensures printed { OnOk result (out.new.items
+        ≡ out.old.items ++ (first.now ++ (middle.now ++ last.now))) }
     ensures kept { OnErr result (take (vec_len out.old) out.new.items ≡ out.old.items) }
 {
     out.extend_from_slice(first)?;

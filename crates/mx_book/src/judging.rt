@@ -22,7 +22,8 @@ pub const MOST_COMPONENTS: usize = 5_000;
 // The number of the entry with the document of a command, and whether it is the same.
 fn known(entries: &[Command], command: &Command) -> Option<(u32, bool)>
     requires few { length entries.now ≤ 1000000 }
-    ensures { result ≡ option_map (known_same command.now) (known_from command.now.doc 1 entries.now) }
+    ensures { result ≡ option_map (known_same command.now)
+        (known_from command.now.doc 1 entries.now) }
 {
     let doc = command.doc();
     let mut seq = 1u32;
@@ -39,7 +40,8 @@ fn known(entries: &[Command], command: &Command) -> Option<(u32, bool)>
 
 // Why an aircraft is not added.
 fn refusal_of_aircraft(entries: &[Command], aircraft: &Aircraft) -> Option<Refusal>
-    ensures { (positions : List (List ℕ × List ℕ)) → result ≡ first_of (refusals entries.now (Added aircraft.now positions)) }
+    ensures { (positions : List (List ℕ × List ℕ)) → result
+        ≡ first_of (refusals entries.now (Added aircraft.now positions)) }
 {
     if entries.len() >= MOST_ENTRIES || aircraft_count(entries) >= MOST_AIRCRAFT {
         Some(Refusal::Full)

@@ -18,8 +18,12 @@ use crate::verdict::Verdict;
 
 /// A command once accepted is answered `Already` with its number by every later book, and changes nothing.
 pub fn accepted_is_known()
-    ensures known { (book more : List Entry) (command : Entry) → judge book command ≡ Verdict.New → judge (book ++ command ∷ more) command ≡ Verdict.Already (length book + 1) }
-    ensures unchanged { (book more : List Entry) (command : Entry) → judge book command ≡ Verdict.New → book_after (book ++ command ∷ more) command ≡ book ++ command ∷ more }
+    ensures known { (book more : List Entry) (command : Entry)
+        → judge book command ≡ Verdict.New
+        → judge (book ++ command ∷ more) command ≡ Verdict.Already (length book + 1) }
+    ensures unchanged { (book more : List Entry) (command : Entry)
+        → judge book command ≡ Verdict.New
+        → book_after (book ++ command ∷ more) command ≡ book ++ command ∷ more }
 {}
 
 /// No book has one document twice.
@@ -29,33 +33,42 @@ pub fn documents_are_distinct()
 
 /// The life of an airframe never falls as entries are added.
 pub fn life_never_falls()
-    ensures { (book more : List Entry) (tail : List ℕ) → IfSome (life_now book (Airframe tail)) (λ before. IsSomeAnd (life_now (book ++ more) (Airframe tail)) (λ after. (before.minutes ≤ after.minutes) × (before.cycles ≤ after.cycles))) }
+    ensures { (book more : List Entry) (tail : List ℕ) → IfSome (life_now book (Airframe tail))
+        (λ before. IsSomeAnd (life_now (book ++ more) (Airframe tail))
+        (λ after. (before.minutes ≤ after.minutes) × (before.cycles ≤ after.cycles))) }
 {}
 
 /// A component is fitted in at most one place.
 pub fn one_place_for_a_component()
-    ensures { (book : List Entry) (serial : List ℕ) → IsBook book → length (open_spans_of book serial) ≤ 1 }
+    ensures { (book : List Entry) (serial : List ℕ) → IsBook book
+        → length (open_spans_of book serial) ≤ 1 }
 {}
 
 /// A position of an aircraft has at most one component.
 pub fn one_component_in_a_position()
-    ensures { (book : List Entry) (tail position : List ℕ) → IsBook book → length (open_spans_at book tail position) ≤ 1 }
+    ensures { (book : List Entry) (tail position : List ℕ) → IsBook book
+        → length (open_spans_at book tail position) ≤ 1 }
 {}
 
 /// A component that was just removed is fitted nowhere.
 pub fn removed_is_fitted_nowhere()
-    ensures { (book : List Entry) (doc : List ℕ) (removal : Removal) → fitted (book ++ record { doc = doc; act = Removed removal } ∷ []) removal.serial ≡ None }
+    ensures { (book : List Entry) (doc : List ℕ) (removal : Removal)
+        → fitted (book ++ record { doc = doc; act = Removed removal } ∷ []) removal.serial ≡ None }
 {}
 
 /// A component that was just fitted takes its position.
 pub fn fitted_takes_its_position()
-    ensures { (book : List Entry) (doc : List ℕ) (fitting : Fitting) → is_taken (book ++ record { doc = doc; act = Fitted fitting } ∷ []) fitting.tail fitting.position ≡ true }
+    ensures { (book : List Entry) (doc : List ℕ) (fitting : Fitting)
+        → is_taken (book ++ record { doc = doc; act = Fitted fitting } ∷ [])
+        fitting.tail fitting.position ≡ true }
 {}
 
 /// A run over two lists joined is the run over the first and then over the second.
 pub fn runs_join()
-    ensures book { (book commands more : List Entry) → book_run book (commands ++ more) ≡ book_run (book_run book commands) more }
-    ensures replies { (book commands more : List Entry) → replies book (commands ++ more) ≡ replies book commands ++ replies (book_run book commands) more }
+    ensures book { (book commands more : List Entry)
+        → book_run book (commands ++ more) ≡ book_run (book_run book commands) more }
+    ensures replies { (book commands more : List Entry) → replies book (commands ++ more)
+        ≡ replies book commands ++ replies (book_run book commands) more }
 {}
 
 /// A run appends the commands that it accepts, and each that it acknowledges is the entry with its number from then on.
@@ -68,5 +81,6 @@ pub fn runs_append_the_accepted()
 
 /// A run over commands, each of its shape, makes a book of a book.
 pub fn runs_give_books()
-    ensures { (book commands : List Entry) → IsBook book → list_all has_shape commands ≡ true → IsBook (book_run book commands) }
+    ensures { (book commands : List Entry) → IsBook book → list_all has_shape commands ≡ true
+        → IsBook (book_run book commands) }
 {}

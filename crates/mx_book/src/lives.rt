@@ -136,7 +136,8 @@ fn moment_of_airframe(tail: &Tail, entry: &Command) -> Moment
 
 // The latest moment that the entries have of an airframe, removals aside.
 fn latest_of_airframe(entries: &[Command], tail: &Tail) -> Moment
-    ensures { result ≡ latest (flat_map (λ entry. airframe_moments tail.now entry.act) entries.now) }
+    ensures { result
+        ≡ latest (flat_map (λ entry. airframe_moments tail.now entry.act) entries.now) }
 {
     let mut clock = Moment::FIRST;
     let mut rest = entries;

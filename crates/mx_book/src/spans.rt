@@ -43,7 +43,8 @@ fn has_landed(entries: &[Command], serial: &Serial, sector: &Sector) -> bool
 
 // Whether a sector is flown within the span that an entry begins for a component.
 fn is_within_begun(entry: &Command, later: &[Command], serial: &Serial, sector: &Sector) -> bool
-    ensures { result ≡ list_any (is_within sector.now) (spans_begun_of entry.now later.now serial.now) }
+    ensures { result ≡ list_any (is_within sector.now)
+        (spans_begun_of entry.now later.now serial.now) }
 {
     match entry.fitting() {
         None => false,

@@ -64,7 +64,8 @@ impl Command {
     pub fn make(alloc: Global, doc: Doc, body: Body) -> Result<Command, MakeFault>
         ensures made { IfOk result (λ c. c ≡ record { doc = doc; act = act_of body }) }
         ensures shaped { OnOk result (has_shape (record { doc = doc; act = act_of body }) ≡ true) }
-        ensures bad_shape { result ≡ Err MakeFault.BadShape → has_shape (record { doc = doc; act = act_of body }) ≡ false }
+        ensures bad_shape { result ≡ Err MakeFault.BadShape
+            → has_shape (record { doc = doc; act = act_of body }) ≡ false }
         ensures memory { result ≡ Err MakeFault.Memory → IsSome (sector_of (act_of body)) }
     {
         if !body.has_shape() || !has_document_shape(alloc, &doc, &body)? {
@@ -77,7 +78,8 @@ impl Command {
     /// body is no sector or lacks a sector's shape, and `Memory` only where it has it.
     pub fn sector(alloc: Global, body: Body) -> Result<Command, MakeFault>
         ensures made { IfOk result (λ c. Some c ≡ sector_entry (act_of body)) }
-        ensures bad_shape { result ≡ Err MakeFault.BadShape → is_sector_shaped (act_of body) ≡ false }
+        ensures bad_shape { result ≡ Err MakeFault.BadShape
+            → is_sector_shaped (act_of body) ≡ false }
         ensures memory { result ≡ Err MakeFault.Memory → is_sector_shaped (act_of body) ≡ true }
     {
         let Some(sector) = body.flown_sector() else {

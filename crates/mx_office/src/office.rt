@@ -176,8 +176,9 @@ impl<S: Alter> Office<S> {
     }
 
     /// Applies commands in their order, each in a commit of its own, and stops at the first fault. Room for all
-    /// replies is made first; where it is refused there is no reply, and the run stopped at `Memory`. In an office
-    /// that has to be opened again it stops at `NeedsReopen`, also where there is no command.
+    /// replies is made first; where it is refused there is no reply, and the run stopped at `Memory`. The book is read
+    /// once, before the first command, and held; where memory runs out for that, the run stops at the next command. In
+    /// an office that has to be opened again it stops at `NeedsReopen`, also where there is no command.
     pub fn run(&mut self, alloc: Global, commands: &[Command]) -> Outcomes
         ensures counted { length result.replies.items ≤ length commands.now }
         ensures done { result.stopped ≡ None → length result.replies.items ≡ length commands.now }

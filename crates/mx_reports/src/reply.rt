@@ -31,7 +31,8 @@ fn append_carried(out: &mut Vec<u8>, refusal: &Refusal) -> Result<(), AllocError
 
 #[tactic(auto, using(crate::proofs::StartsLemmas::starts_further))]
 fn append_refusal(out: &mut Vec<u8>, refusal: &Refusal) -> Result<(), AllocError>
-    ensures words { OnOk result (out.new.items ≡ out.old.items ++ (codes "refused" ++ refusal_words refusal.now)) }
+    ensures words { OnOk result (out.new.items
+        ≡ out.old.items ++ (codes "refused" ++ refusal_words refusal.now)) }
     ensures kept { OnErr result (StartsWith out.old.items out.new.items) }
 {
     out.extend_from_slice(b"refused")?;
@@ -41,7 +42,8 @@ fn append_refusal(out: &mut Vec<u8>, refusal: &Refusal) -> Result<(), AllocError
 
 #[tactic(auto, using(crate::proofs::StartsLemmas::starts_further))]
 fn append_entered(out: &mut Vec<u8>, word: &[u8], seq: u32) -> Result<(), AllocError>
-    ensures words { OnOk result (out.new.items ≡ out.old.items ++ (word.now ++ spaced (decimal seq))) }
+    ensures words { OnOk result (out.new.items
+        ≡ out.old.items ++ (word.now ++ spaced (decimal seq))) }
     ensures kept { OnErr result (StartsWith out.old.items out.new.items) }
 {
     out.extend_from_slice(word)?;
