@@ -15,10 +15,12 @@ use Rattle.mx_register.specs.declared.rows.ComponentRow.{ComponentRow}
 use Rattle.mx_register.specs.declared.rows.SectorRow.{SectorRow}
 use Rattle.mx_register.specs.declared.rows.FittingRow.{FittingRow}
 use Rattle.mx_register.specs.Rows.{kind_number, place_key, FitsFitting, FitsSector, FitsComponent, FitsEntry, FitsAircraft, FitsPlace, FitsRemoval}
+use Rattle.mx_layout.specs.TableName.{TableName}
+use Rattle.mx_layout.specs.declared.fault.Table.TheVariants.{Entry, Aircraft, Place, Component, Sector1, Fit1, Removal1}
 use Rattle.mx_layout.specs.Tables.{component, sector1, fit1, entry, aircraft, place, removal1}
 use Rattle.mx_layout.proofs.RowLemmas.{cast_int, cast_null}
 use Rattle.mx_kept.specs.Cells.{kept_component, kept_sector1, kept_fit1, kept_entry, kept_aircraft, kept_place, kept_removal1}
-use Rattle.mx_kept.specs.Meanings.{IsLawful}
+use Rattle.mx_kept.specs.Meanings.{IsLawful, IsLawfulAt}
 use Rattle.mx_kept.specs.Schemas.{permanent, own_1}
 use Rattle.mx_kept.proofs.OrderLemmas.{two_ascend}
 use Rattle.mx_kept.proofs.KeptLemmas.{HasTexts, HasTextsByTwo, StoresOne, StoresNext, first_keyed, two_keyed}
@@ -150,3 +152,14 @@ fit1_stores r db = simp (cast_int, cast_null) refl
 
 pub fit1_lawful : IsLawful kept_fit1
 fit1_lawful = first_keyed kept_fit1 own_1 (λ _ has. has) 13 refl (λ _ _. refl) (λ _. refl) fitting_once (λ _ h. h) (λ _. refl) refl fit1_texts refl (λ _. refl) fit1_stores (λ _. refl) (λ _. refl)
+
+-- each table by its name
+pub each_lawful : (name : TableName) → IsLawfulAt name
+each_lawful Entry = entry_lawful
+each_lawful Aircraft = aircraft_lawful
+each_lawful Place = place_lawful
+each_lawful Component = component_lawful
+each_lawful Sector1 = sector1_lawful
+each_lawful Fit1 = fit1_lawful
+each_lawful Removal1 = removal1_lawful
+each_lawful _ = tt

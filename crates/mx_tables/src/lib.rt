@@ -23,7 +23,8 @@
 //! 2. `mx_kept/proofs/Lawful.antt`, from one that is there: rows with the same values are one, what the two
 //!    texts are understood as, by `refl`, what a row is stored as, and `TABLE_lawful`, with `first_keyed` or
 //!    `two_keyed` and the place of the table in the schema, from 0. Where a `refl` is refused, the text and the
-//!    table differ. A table of a layout stands behind `own_1`, a permanent one behind nothing.
+//!    table differ. A table of a layout stands behind `own_1`, a permanent one behind nothing. Its line of
+//!    `IsLawfulAt` in `specs/Meanings.antt` and of `each_lawful`.
 //! 3. `src/NOUN.rt`, from one that is there, with its line here: `Stored`, whose `read` tests the number of
 //!    columns and takes each by a function of `column.rt`; `Insert`, which passes each value in the order of the
 //!    columns. A kind of value that no table has had needs a function in `column.rt`, whose contract says of what

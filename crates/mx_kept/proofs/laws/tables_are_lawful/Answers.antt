@@ -1,0 +1,5 @@
+use Rattle.mx_kept.proofs.Lawful.{each_lawful}
+use Rattle.mx_kept.proofs.laws.tables_are_lawful.Goals as goal
+
+pub returns : goal.returns
+returns c = each_lawful
