@@ -1,4 +1,4 @@
--- A run of one command more, and what stopped it.
+-- A run of one command more, and what the tables hold after it.
 use Rattle.std.proofs.Common.{◌≡◌, ◌≢◌, ℕ, false, ◌+◌, ◌<◌, IsTrue, List, [], ◌∷◌, ◌++◌, length, get_or, take, refl, sym, ap, subst, ◌∙◌, arith, Result, Ok, Err}
 use Rattle.std.proofs.lemmas.List.{take_more}
 use Rattle.std.specs.Prelude.{Bool, Contains, IfOk, OnOk, is_err}
