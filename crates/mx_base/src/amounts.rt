@@ -21,6 +21,17 @@ pub struct Limit {
     pub days: Option<u32>,
 }
 
+/// How far a task may be done past its due in each dimension: 0 is no tolerance.
+#[derive(Clone, Copy, Debug, PartialEq, Eq)]
+pub struct Tolerance {
+    /// Flight time in minutes.
+    pub minutes: u32,
+    /// Cycles.
+    pub cycles: u32,
+    /// Calendar days.
+    pub days: u32,
+}
+
 /// The point that the next limits are counted from.
 #[derive(Clone, Copy, Debug, PartialEq, Eq)]
 pub struct Base {

@@ -10,7 +10,7 @@ pub mod moments;
 pub mod print;
 mod texts;
 
-pub use amounts::{Base, Left, Limit, Status, Use};
+pub use amounts::{Base, Left, Limit, Status, Tolerance, Use};
 pub use days::{Day, plus_days};
 pub use identifiers::{BadText, Doc, Kind, MelRef, Part, Position, Serial, Tail, TaskId};
 pub use moments::{Moment, MomentText, day_of};

@@ -1,3 +1,5 @@
 pub mod DocumentLemmas
 pub mod SameLemmas
+pub mod ShapeLemmas
 pub mod Worked
+pub mod WorkedProgrammes

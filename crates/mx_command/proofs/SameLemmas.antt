@@ -1,26 +1,77 @@
 -- The test of two commands decides whether they are equal.
-use Rattle.std.proofs.Common.{rules, ◌≡◌, refl, sym, ◌∙◌, ap, ℕ, List, Bool, true, false, ◌&&◌}
+use Rattle.std.proofs.Common.{rules, ◌≡◌, refl, sym, ◌∙◌, ap, ℕ, List, Bool, true, false, ◌&&◌, Option, nat_eq}
+use Rattle.std.proofs.Math.Path.{fun_ext}
+use mathlib.Core.Bool.{beq}
 use Rattle.std.specs.Bool.{Decides}
+use Rattle.std.specs.Option.{option_eq}
 use Rattle.std.specs.Cmp.Lexicographic.{pointwise}
 use Rattle.std.proofs.lemmas.Slice.Eq.{slice_eq-Decides}
-use Rattle.mx_command.specs.Act.{Act, Entry, act_of, Added, Listed, Flown, Fitted, Removed}
-use Rattle.mx_command.specs.Same.{same_act, same_entry, same_text, same_position}
+use Rattle.mx_base.specs.declared.amounts.Limit.{Limit}
+use Rattle.mx_base.specs.declared.amounts.Tolerance.{Tolerance}
+use Rattle.mx_base.specs.contracts.amounts.LimitPartialEq.TheImpl as limit
+use Rattle.mx_base.specs.contracts.amounts.TolerancePartialEq.TheImpl as tolerance
+use Rattle.mx_command.specs.Act.{Act, Entry, act_of, Added, Listed, Loaded, Opened, Flown, Fitted, Removed}
+use Rattle.mx_command.specs.Same.{same_act, same_entry, same_text, same_position, same_use, same_item, same_limit, same_tolerance, same_applies, same_task}
 use Rattle.mx_command.specs.declared.body.Body.{Body}
 use Rattle.mx_command.specs.declared.body.Body.TheVariants as bodies
 use Rattle.mx_command.specs.declared.aircraft.Aircraft.{Aircraft}
+use Rattle.mx_command.specs.declared.item.Item.{Item}
+use Rattle.mx_command.specs.declared.item.Item.TheVariants as items
+use Rattle.mx_command.specs.declared.opening.Opening.{Opening}
+use Rattle.mx_command.specs.declared.programme.Applies.{Applies}
+use Rattle.mx_command.specs.declared.programme.Applies.TheVariants as applied
+use Rattle.mx_command.specs.declared.programme.Programme.{Programme}
+use Rattle.mx_command.specs.declared.programme.Task.{Task}
 use Rattle.mx_command.specs.declared.sector.Sector.{Sector}
 use Rattle.mx_command.specs.contracts.body.BodyPartialEq.TheImpl as body
 use Rattle.mx_command.specs.contracts.sector.SectorPartialEq.TheImpl as sector
 use Rattle.mx_command.specs.contracts.aircraft.AircraftPartialEq.TheImpl as aircraft
+use Rattle.mx_command.specs.contracts.item.ItemPartialEq.TheImpl as item
+use Rattle.mx_command.specs.contracts.opening.OpeningPartialEq.TheImpl as opening
+use Rattle.mx_command.specs.contracts.programme.AppliesPartialEq.TheImpl as applies
+use Rattle.mx_command.specs.contracts.programme.ProgrammePartialEq.TheImpl as programme
+use Rattle.mx_command.specs.contracts.programme.TaskPartialEq.TheImpl as task
+
+-- ── the derived tests are those of the fields ──
+
+-- the derived test of two items is that of their names
+pub item_is : (a b : Item) → (item.ghosts).eq a b ≡ same_item a b
+item_is (items.Airframe a) (items.Airframe b) = refl
+item_is (items.Component a) (items.Component b) = refl
+item_is _ _ = refl
+
+opening_is : (a b : Opening) → (opening.ghosts).eq a b ≡ same_act (Opened a) (Opened b)
+opening_is a b =
+    ap (λ same. same && (same_text a.kind b.kind && (same_text a.task b.task && (same_use a.use_then b.use_then && nat_eq a.day b.day)))) (item_is a.item b.item)
+
+applies_is : (a b : Applies) → (applies.ghosts).eq a b ≡ same_applies a b
+applies_is applied.Airframe applied.Airframe = refl
+applies_is (applied.Part a) (applied.Part b) = refl
+applies_is _ _ = refl
+
+task_is : (a b : Task) → (task.ghosts).eq a b ≡ same_task a b
+task_is a b =
+    ap (λ same. same_text a.id b.id && (same && (same_limit a.first b.first && (option_eq same_limit a.repeat b.repeat && (same_tolerance a.tolerance b.tolerance && beq a.retire b.retire)))))
+    (applies_is a.applies b.applies)
+
+tasks_are : (kind kind' : List ℕ) (revision revision' : ℕ) (tasks tasks' : List Task)
+    → same_text kind kind' && (nat_eq revision revision' && pointwise (task.ghosts).eq tasks tasks') ≡ same_text kind kind' && (nat_eq revision revision' && pointwise same_task tasks tasks')
+tasks_are kind kind' revision revision' tasks tasks' =
+    ap (λ (same : Task → Task → Bool). same_text kind kind' && (nat_eq revision revision' && pointwise same tasks tasks')) (fun_ext (λ a. fun_ext (λ b. task_is a b)))
 
 -- the derived test of two bodies is that of what they say
 pub body_same : (a b : Body) → (body.ghosts).eq a b ≡ same_act (act_of a) (act_of b)
 body_same (bodies.AddAircraft tail kind birth opening as_of positions) (bodies.AddAircraft tail' kind' birth' opening' as_of' positions') = refl
 body_same (bodies.AddComponent serial part birth opening as_of) (bodies.AddComponent serial' part' birth' opening' as_of') = refl
+body_same (bodies.LoadProgramme kind revision tasks) (bodies.LoadProgramme kind' revision' tasks') = tasks_are kind kind' revision revision' tasks.items tasks'.items
+body_same (bodies.Opening item kind task use_then day) (bodies.Opening item' kind' task' use_then' day') =
+    opening_is (record { item = item; kind = kind; task = task; use_then = use_then; day = day }) (record { item = item'; kind = kind'; task = task'; use_then = use_then'; day = day' })
 body_same (bodies.Sector tail page line off on cycles) (bodies.Sector tail' page' line' off' on' cycles') = refl
 body_same (bodies.Fit serial tail position moment) (bodies.Fit serial' tail' position' moment') = refl
 body_same (bodies.Remove serial moment) (bodies.Remove serial' moment') = refl
 body_same _ _ = refl
+
+-- ── each test decides whether its things are equal ──
 
 pub text_same : (a b : List ℕ) → Decides (same_text a b) (a ≡ b)
 text_same a b = search rules
@@ -57,9 +108,62 @@ decides_along P e d = (λ h. d.0 (e ∙ h), λ x. sym e ∙ d.1 x)
 added_same : (a b : Aircraft) (ps qs : List (List ℕ × List ℕ)) → Decides ((aircraft.ghosts).eq a b && pointwise same_position ps qs) (Added a ps ≡ Added b qs)
 added_same a b ps qs = search (rules, aircraft_same, positions_same, both)
 
+-- ── programmes and openings ──
+
+limit_same : (a b : Limit) → Decides ((limit.ghosts).eq a b) (a ≡ b)
+limit_same a b = search rules
+
+tolerance_same : (a b : Tolerance) → Decides ((tolerance.ghosts).eq a b) (a ≡ b)
+tolerance_same a b = search rules
+
+repeat_same : (a b : Option Limit) → Decides (option_eq (limit.ghosts).eq a b) (a ≡ b)
+repeat_same a b = search rules
+
+applies_decides : (a b : Applies) → Decides ((applies.ghosts).eq a b) (a ≡ b)
+applies_decides a b = search rules
+
+applies_same : (a b : Applies) → Decides (same_applies a b) (a ≡ b)
+applies_same a b = decides_along _ (applies_is a b) (applies_decides a b)
+
+retire_same : (a b : Bool) → Decides (beq a b) (a ≡ b)
+retire_same a b = search rules
+
+task_with : List ℕ → Applies → Limit → Option Limit → Tolerance → Bool → Task
+task_with id applies first repeat tolerance retire = record { id = id; applies = applies; first = first; repeat = repeat; tolerance = tolerance; retire = retire }
+
+task_made : (a b : Task) → a.id ≡ b.id → a.applies ≡ b.applies → a.first ≡ b.first → a.repeat ≡ b.repeat → a.tolerance ≡ b.tolerance → a.retire ≡ b.retire
+    → task_with a.id a.applies a.first a.repeat a.tolerance a.retire ≡ task_with b.id b.applies b.first b.repeat b.tolerance b.retire
+task_made a b p q r s t u = cc
+
+task_from : (a b : Task) → a.id ≡ b.id → a.applies ≡ b.applies → a.first ≡ b.first → a.repeat ≡ b.repeat → a.tolerance ≡ b.tolerance → a.retire ≡ b.retire → a ≡ b
+unfolding task_with
+task_from a b p q r s t u = task_made a b p q r s t u
+
+task_same : (a b : Task) → Decides (same_task a b) (a ≡ b)
+task_same a b =
+    let d = both (text_same a.id b.id) (both (applies_same a.applies b.applies) (both (limit_same a.first b.first)
+    (both (repeat_same a.repeat b.repeat) (both (tolerance_same a.tolerance b.tolerance) (retire_same a.retire b.retire))))) in (
+      λ h. let f = d.0 h in task_from a b f.0 f.1.0 f.1.1.0 f.1.1.1.0 f.1.1.1.1.0 f.1.1.1.1.1,
+      λ e. d.1 (ap (λ t. t.id) e, (ap (λ t. t.applies) e, (ap (λ t. t.first) e, (ap (λ t. t.repeat) e, (ap (λ t. t.tolerance) e, ap (λ t. t.retire) e))))),
+    )
+
+tasks_same : (xs ys : List Task) → Decides (pointwise same_task xs ys) (xs ≡ ys)
+tasks_same xs ys = slice_eq-Decides task_same xs ys _ refl
+
+programme_same : (a b : Programme) → Decides ((programme.ghosts).eq a b) (a ≡ b)
+programme_same a b = search rules
+
+loaded_same : (a b : Programme) (ts us : List Task) → Decides ((programme.ghosts).eq a b && pointwise same_task ts us) (Loaded a ts ≡ Loaded b us)
+loaded_same a b ts us = search (rules, programme_same, tasks_same, both)
+
+opened_same : (a b : Opening) → Decides ((opening.ghosts).eq a b) (Opened a ≡ Opened b)
+opened_same a b = search rules
+
 act_same : (a b : Act) → Decides (same_act a b) (a ≡ b)
 act_same (Added a ps) (Added b qs) = decides_along _ (simp and_assoc) (added_same a b ps qs)
 act_same (Listed a) (Listed b) = search rules
+act_same (Loaded a ts) (Loaded b us) = decides_along _ (simp and_assoc) (loaded_same a b ts us)
+act_same (Opened a) (Opened b) = decides_along _ (opening_is a b) (opened_same a b)
 act_same (Flown a) (Flown b) = search (rules, sector_same)
 act_same (Fitted a) (Fitted b) = search rules
 act_same (Removed a) (Removed b) = search rules

@@ -9,16 +9,16 @@ use Rattle.mx_command.specs.Shape.{opening_shape, sector_shape, positions_shape,
 use Rattle.mx_command.specs.declared.body.Body.TheVariants as bodies
 use Rattle.mx_command.specs.declared.sector.Sector.{Sector}
 
-abbrev abcd : List ℕ
+abbrev pub abcd : List ℕ
 abcd = codes "D-ABCD"
 
-abbrev used : ℕ → ℕ → Use
+abbrev pub used : ℕ → ℕ → Use
 used minutes cycles = record { minutes = minutes; cycles = cycles }
 
 -- ── sectors ──
 
 -- a sector of D-ABCD that takes off on 2024-03-01 at 08:00: its page, its line, the minutes to its landing, its cycles
-abbrev sector : ℕ → ℕ → ℕ → ℕ → Sector
+abbrev pub sector : ℕ → ℕ → ℕ → ℕ → Sector
 sector page line minutes cycles = record { tail = abcd; page = page; line = line; off = 28_488_000; on = 28_488_000 + minutes; cycles = cycles }
 
 sectors_of_the_shape : list_all sector_shape (sector 1 1 1 1 ∷ sector 999999 99 1440 50 ∷ []) ≡ true
@@ -55,7 +55,7 @@ too_many_cycles = refl
 -- ── positions ──
 
 -- so many positions of distinct names, which all take one part
-places : ℕ → List (List ℕ × List ℕ)
+pub places : ℕ → List (List ℕ × List ℕ)
 places zero = []
 places (suc n) = ((33 + n) ∷ [], codes "IO360") ∷ places n
 
@@ -88,19 +88,19 @@ other_documents = refl
 
 -- ── commands ──
 
-abbrev command : List ℕ → Act → Entry
+abbrev pub command : List ℕ → Act → Entry
 command doc act = record { doc = doc; act = act }
 
-abbrev aircraft_with : ℕ → Act
+abbrev pub aircraft_with : ℕ → Act
 aircraft_with cycles = Added (record { tail = abcd; kind = codes "C172"; birth = 10957; opening = used 60000 cycles; as_of = 28_401_120 }) (places 2)
 
-abbrev engine_with : ℕ → Act
+abbrev pub engine_with : ℕ → Act
 engine_with cycles = Listed (record { serial = codes "E1"; part = codes "IO360"; birth = 14610; opening = used 1000 cycles; as_of = 28_401_120 })
 
-abbrev fit : Act
+abbrev pub fit : Act
 fit = Fitted (record { serial = codes "E1"; tail = abcd; position = codes "ENG"; moment = 28_445_760 })
 
-abbrev remove : Act
+abbrev pub remove : Act
 remove = Removed (record { serial = codes "E1"; moment = 28_488_090 })
 
 -- each kind of command, by a document that it may have

@@ -2,16 +2,21 @@
 use Rattle.std.specs.Prelude.{ℕ, List, [], Option, Some, None}
 use Rattle.mx_command.specs.declared.aircraft.Aircraft.{Aircraft}
 use Rattle.mx_command.specs.declared.component.Component.{Component}
+use Rattle.mx_command.specs.declared.programme.Programme.{Programme}
+use Rattle.mx_command.specs.declared.programme.Task.{Task}
+use Rattle.mx_command.specs.declared.opening.Opening.{Opening}
 use Rattle.mx_command.specs.declared.sector.Sector.{Sector}
 use Rattle.mx_command.specs.declared.fitting.Fitting.{Fitting}
 use Rattle.mx_command.specs.declared.fitting.Removal.{Removal}
 use Rattle.mx_command.specs.declared.body.Body.{Body}
 use Rattle.mx_command.specs.declared.body.Body.TheVariants as bodies
 
--- what a command says, a case for each kind of command: an aircraft with its positions was added, a component was listed, a sector was flown, a component was fitted or removed
+-- what a command says, a case for each kind of command: an aircraft with its positions was added, a component was listed, a programme with its tasks was loaded, a task of an item was opened, a sector was flown, a component was fitted or removed
 pub data Act : Type 0 where
   Added : Aircraft → List (List ℕ × List ℕ) → Act
   Listed : Component → Act
+  Loaded : Programme → List Task → Act
+  Opened : Opening → Act
   Flown : Sector → Act
   Fitted : Fitting → Act
   Removed : Removal → Act
@@ -25,6 +30,8 @@ pub record Entry : Type 0 where
 abbrev pub act_of : Body → Act
 act_of (bodies.AddAircraft tail kind birth opening as_of positions) = Added (record { tail = tail; kind = kind; birth = birth; opening = opening; as_of = as_of }) positions.items
 act_of (bodies.AddComponent serial part birth opening as_of) = Listed (record { serial = serial; part = part; birth = birth; opening = opening; as_of = as_of })
+act_of (bodies.LoadProgramme kind revision tasks) = Loaded (record { kind = kind; revision = revision }) tasks.items
+act_of (bodies.Opening item kind task use_then day) = Opened (record { item = item; kind = kind; task = task; use_then = use_then; day = day })
 act_of (bodies.Sector tail page line off on cycles) = Flown (record { tail = tail; page = page; line = line; off = off; on = on; cycles = cycles })
 act_of (bodies.Fit serial tail position moment) = Fitted (record { serial = serial; tail = tail; position = position; moment = moment })
 act_of (bodies.Remove serial moment) = Removed (record { serial = serial; moment = moment })
@@ -43,6 +50,21 @@ positions_of _ = []
 abbrev pub component_of : Act → Option Component
 component_of (Listed component) = Some component
 component_of _ = None
+
+-- the revision of a programme, where one was loaded
+abbrev pub programme_of : Act → Option Programme
+programme_of (Loaded programme tasks) = Some programme
+programme_of _ = None
+
+-- the tasks of the programme, where one was loaded
+abbrev pub tasks_of : Act → List Task
+tasks_of (Loaded programme tasks) = tasks
+tasks_of _ = []
+
+-- the opening, where a task was opened
+abbrev pub opening_of : Act → Option Opening
+opening_of (Opened opening) = Some opening
+opening_of _ = None
 
 -- the sector, where one was flown
 abbrev pub sector_of : Act → Option Sector

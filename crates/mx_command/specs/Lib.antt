@@ -1,3 +1,5 @@
 pub mod Act
+pub mod Bounds
 pub mod Same
 pub mod Shape
+pub mod Programme

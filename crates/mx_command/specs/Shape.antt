@@ -1,15 +1,13 @@
 -- The shape that each command has: the bounds of its amounts, and its document.
-use Rattle.std.specs.Prelude.{ℕ, ◌+◌, ◌/◌, List, [], ◌∷◌, ◌++◌, Bool, true, false, not, ◌&&◌, Option, Some, None, nat_eq, nat_le, codes, if◌then◌else◌, length}
-use Rattle.std.specs.List.{list_any, starts_with}
+use Rattle.std.specs.Prelude.{ℕ, ◌+◌, ◌/◌, List, ◌∷◌, ◌++◌, Bool, true, false, not, ◌&&◌, Option, Some, None, nat_eq, nat_le, codes, if◌then◌else◌, length}
+use Rattle.std.specs.List.{starts_with}
 use Rattle.std.specs.Fmt.{decimal}
 use Rattle.mx_base.specs.declared.amounts.Use.{Use}
-use Rattle.mx_command.specs.Act.{Act, Entry, Added, Listed, Flown, Fitted, Removed}
+use Rattle.mx_command.specs.Act.{Act, Entry, Added, Listed, Loaded, Opened, Flown, Fitted, Removed}
+use Rattle.mx_command.specs.Bounds.{within, are_distinct}
+use Rattle.mx_command.specs.Programme.{programme_shape}
 use Rattle.mx_command.specs.Same.{same_text}
 use Rattle.mx_command.specs.declared.sector.Sector.{Sector}
-
--- the number is from least to most
-abbrev pub within : ℕ → ℕ → ℕ → Bool
-within least most number = nat_le least number && nat_le number most
 
 -- the use that an item brings with it: up to 100,000,000 minutes and 1,000,000 cycles
 abbrev pub use_shape : Use → Bool
@@ -28,11 +26,6 @@ sector_shape s =
 abbrev pub same_name : List ℕ × List ℕ → List ℕ × List ℕ → Bool
 same_name a b = same_text a.0 b.0
 
--- no two are the same
-abbrev pub are_distinct : {X : Type 0} → (X → X → Bool) → List X → Bool
-are_distinct same [] = true
-are_distinct same (x ∷ xs) = not (list_any (same x) xs) && are_distinct same xs
-
 -- the positions of an aircraft: up to 40, of distinct names
 abbrev pub positions_shape : List (List ℕ × List ℕ) → Bool
 positions_shape positions = nat_le (length positions) 40 && are_distinct same_name positions
@@ -41,6 +34,8 @@ positions_shape positions = nat_le (length positions) 40 && are_distinct same_na
 abbrev pub act_shape : Act → Bool
 act_shape (Added a positions) = opening_shape a.birth a.opening a.as_of && positions_shape positions
 act_shape (Listed c) = opening_shape c.birth c.opening c.as_of
+act_shape (Loaded programme tasks) = programme_shape programme tasks
+act_shape (Opened opening) = use_shape opening.use_then
 act_shape (Flown sector) = sector_shape sector
 act_shape (Fitted fitting) = true
 act_shape (Removed removal) = true

@@ -1,12 +1,15 @@
 //! What a command says.
 ghost use Rattle.std.specs.Prelude.{◌≡◌, IfOk};
-ghost use Rattle.mx_command.specs.Act.{act_of, aircraft_of, component_of, sector_of, fitting_of, removal_of};
+ghost use Rattle.mx_command.specs.Act.{act_of, aircraft_of, component_of, programme_of, opening_of, sector_of, fitting_of, removal_of};
 
 use crate::aircraft::Aircraft;
 use crate::component::Component;
 use crate::fitting::{Fitting, Removal};
+use crate::item::Item;
+use crate::opening::Opening;
+use crate::programme::{Programme, Task};
 use crate::sector::Sector;
-use mx_base::{Day, Kind, Moment, Part, Position, Serial, Tail, Use};
+use mx_base::{Day, Kind, Moment, Part, Position, Serial, Tail, TaskId, Use};
 use std::alloc::{AllocError, Global};
 
 /// What a command says, a variant for each kind of command.
@@ -40,6 +43,28 @@ pub enum Body {
         opening: Use,
         /// The moment up to which the opening counts.
         as_of: Moment,
+    },
+    /// A revision of the maintenance programme of a kind comes into force.
+    LoadProgramme {
+        /// The kind of aircraft that it is for.
+        kind: Kind,
+        /// Its revision, 1 to 1,000,000.
+        revision: u32,
+        /// Its tasks: 1 to 500, of distinct names.
+        tasks: Vec<Task>,
+    },
+    /// How far a task had come when its item came into the records.
+    Opening {
+        /// The airframe or the component.
+        item: Item,
+        /// The kind of aircraft whose programme has the task.
+        kind: Kind,
+        /// The task.
+        task: TaskId,
+        /// The use of the item when it was last done: up to 100,000,000 minutes and 1,000,000 cycles.
+        use_then: Use,
+        /// The day on which it was last done.
+        day: Day,
     },
     /// An aircraft flew from a take-off to a landing.
     Sector {
@@ -117,6 +142,41 @@ impl Body {
                 birth: *birth,
                 opening: *opening,
                 as_of: *as_of,
+            }),
+            _ => None,
+        }
+    }
+
+    /// The revision of a programme that it loads.
+    pub fn loaded_programme(&self) -> Option<Programme>
+        ensures { result ≡ programme_of (act_of self.now) }
+    {
+        match self {
+            Body::LoadProgramme { kind, revision, .. } => Some(Programme {
+                kind: *kind,
+                revision: *revision,
+            }),
+            _ => None,
+        }
+    }
+
+    /// The opening that it states.
+    pub fn stated_opening(&self) -> Option<Opening>
+        ensures { result ≡ opening_of (act_of self.now) }
+    {
+        match self {
+            Body::Opening {
+                item,
+                kind,
+                task,
+                use_then,
+                day,
+            } => Some(Opening {
+                item: *item,
+                kind: *kind,
+                task: *task,
+                use_then: *use_then,
+                day: *day,
             }),
             _ => None,
         }
@@ -211,6 +271,28 @@ impl Body {
                 birth: *birth,
                 opening: *opening,
                 as_of: *as_of,
+            },
+            Body::LoadProgramme {
+                kind,
+                revision,
+                tasks,
+            } => Body::LoadProgramme {
+                kind: *kind,
+                revision: *revision,
+                tasks: Vec::from_slice(alloc, tasks.as_slice())?,
+            },
+            Body::Opening {
+                item,
+                kind,
+                task,
+                use_then,
+                day,
+            } => Body::Opening {
+                item: *item,
+                kind: *kind,
+                task: *task,
+                use_then: *use_then,
+                day: *day,
             },
             Body::Sector {
                 tail,

@@ -8,6 +8,8 @@ use crate::body::Body;
 use crate::component::Component;
 use crate::document::{document_of_sector, is_of_log};
 use crate::fitting::{Fitting, Removal};
+use crate::opening::Opening;
+use crate::programme::{Programme, Task};
 use crate::sector::Sector;
 use mx_base::{Doc, Part, Position};
 use std::alloc::{AllocError, Global};
@@ -54,10 +56,12 @@ impl Model for Command {
 }
 
 impl Command {
-    ghost use Rattle.std.specs.Prelude.{◌↔◌, false, IsTrue, OnOk, IfSome};
-    ghost use Rattle.mx_command.specs.Act.{aircraft_of, component_of, fitting_of, removal_of, positions_of};
+    ghost use Rattle.std.specs.Prelude.{◌↔◌, ◌≤◌, false, IsTrue, OnOk, IfSome};
+    ghost use Rattle.mx_command.specs.Act.{aircraft_of, component_of, programme_of, tasks_of, opening_of, fitting_of, removal_of, positions_of};
     ghost use Rattle.mx_command.specs.Same.{same_entry};
+    ghost use Rattle.mx_command.specs.Programme.{task_shape};
     ghost use Rattle.mx_command.specs.Shape.{has_shape, sector_shape, is_sector_shaped, sector_entry};
+    ghost use Rattle.std.specs.List.{list_all};
 
     /// The command of a document and a body. `BadShape` exactly where they lack the shape, and `Memory`
     /// only for a sector. The body is used up at every answer.
@@ -156,6 +160,32 @@ impl Command {
         ensures { result ≡ component_of self.now.act }
     {
         self.body.added_component()
+    }
+
+    /// The revision of a programme that it loads, at most 1,000,000.
+    pub fn loaded_programme(&self) -> Option<Programme>
+        ensures programme { result ≡ programme_of self.now.act }
+        ensures bounded { IfSome result (λ p. p.revision ≤ 1000000) }
+    {
+        self.body.loaded_programme()
+    }
+
+    /// The tasks of the programme that it loads, each of its shape; none where it loads no programme.
+    pub fn tasks(&self) -> &[Task]
+        ensures tasks { result.now ≡ tasks_of self.now.act }
+        ensures shape { list_all task_shape (tasks_of self.now.act) ≡ true }
+    {
+        match &self.body {
+            Body::LoadProgramme { tasks, .. } => tasks.as_slice(),
+            _ => &[],
+        }
+    }
+
+    /// The opening that it states.
+    pub fn stated_opening(&self) -> Option<Opening>
+        ensures { result ≡ opening_of self.now.act }
+    {
+        self.body.stated_opening()
     }
 
     /// The sector that was flown.

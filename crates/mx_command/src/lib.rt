@@ -9,6 +9,9 @@ pub mod component;
 mod document;
 pub mod fitting;
 pub mod item;
+pub mod opening;
+pub mod programme;
+pub mod programme_shape;
 pub mod sector;
 pub mod shape;
 
@@ -18,4 +21,6 @@ pub use command::{Command, MakeFault};
 pub use component::Component;
 pub use fitting::{Fitting, Removal};
 pub use item::Item;
+pub use opening::Opening;
+pub use programme::{Applies, Programme, Task};
 pub use sector::Sector;

@@ -2,9 +2,11 @@
 ghost use Rattle.std.specs.Prelude.{◌≡◌};
 ghost use Rattle.std.specs.List.{list_any};
 ghost use Rattle.mx_command.specs.Act.{act_of};
-ghost use Rattle.mx_command.specs.Shape.{act_shape, opening_shape, positions_shape, are_distinct, same_name, use_shape, within};
+ghost use Rattle.mx_command.specs.Bounds.{are_distinct, within};
+ghost use Rattle.mx_command.specs.Shape.{act_shape, opening_shape, positions_shape, same_name, use_shape};
 
 use crate::body::Body;
+use crate::programme::Programme;
 use mx_base::{Day, Moment, Part, Position, Use, day_of};
 
 /// The most flight minutes that an item may bring with it.
@@ -50,6 +52,18 @@ impl Body {
                 as_of,
                 ..
             } => has_opening_shape(*birth, opening, *as_of),
+            Body::LoadProgramme {
+                kind,
+                revision,
+                tasks,
+            } => {
+                let programme = Programme {
+                    kind: *kind,
+                    revision: *revision,
+                };
+                programme.has_shape(tasks.as_slice())
+            }
+            Body::Opening { use_then, .. } => has_use_shape(use_then),
             Body::Sector {
                 page,
                 line,
@@ -107,7 +121,8 @@ fn have_distinct_names(positions: &[(Position, Part)]) -> bool
     true
 }
 
-fn is_within(least: u32, most: u32, number: u32) -> bool
+/// Whether a number is from the least to the most.
+pub(crate) fn is_within(least: u32, most: u32, number: u32) -> bool
     ensures { result ≡ within least most number }
 {
     least <= number && number <= most

@@ -1,5 +1,6 @@
 use Rattle.std.proofs.Common.{◌≡◌, length}
-use Rattle.mx_command.specs.Shape.{are_distinct, same_name}
+use Rattle.mx_command.specs.Bounds.{are_distinct}
+use Rattle.mx_command.specs.Shape.{same_name}
 use Rattle.mx_command.proofs.shape.have_distinct_names.Given as goal
 
 -- what is left answers for all

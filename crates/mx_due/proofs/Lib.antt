@@ -1,0 +1,2 @@
+pub mod DueLemmas
+pub mod Worked
