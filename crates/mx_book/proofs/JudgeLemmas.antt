@@ -3,16 +3,22 @@ use Rattle.std.proofs.Common.{arith, refl, sym, subst, ap, ◌∙◌, ◌≡◌,
 use Rattle.std.proofs.lemmas.Bool.Decides.{nat_tests}
 use Rattle.std.specs.Prelude.{nat_le, is_some}
 use Rattle.std.specs.List.{list_all}
-use Rattle.mx_command.specs.Act.{Act, Entry, Added, Listed, Fitted, aircraft_of}
+use Rattle.mx_command.specs.Act.{Act, Entry, Added, Listed, Loaded, Opened, Flown, Fitted, Removed, aircraft_of, component_of, programme_of, opening_of, sector_of, fitting_of, removal_of}
 use Rattle.mx_command.specs.Same.{same_entry}
 use Rattle.mx_command.specs.Shape.{has_shape}
 use Rattle.mx_command.specs.declared.aircraft.Aircraft.{Aircraft}
+use Rattle.mx_command.specs.declared.component.Component.{Component}
 use Rattle.mx_command.specs.declared.fitting.Fitting.{Fitting}
+use Rattle.mx_command.specs.declared.fitting.Removal.{Removal}
+use Rattle.mx_command.specs.declared.opening.Opening.{Opening}
+use Rattle.mx_command.specs.declared.programme.Programme.{Programme}
+use Rattle.mx_command.specs.declared.programme.Task.{Task}
+use Rattle.mx_command.specs.declared.sector.Sector.{Sector}
 use Rattle.mx_book.specs.declared.verdict.Refusal.{Refusal}
-use Rattle.mx_book.specs.declared.verdict.Refusal.TheVariants.{Full, Conflict, UnknownAircraft, UnknownComponent, UnknownPosition, AircraftExists, ComponentExists, PositionTaken, AlreadyFitted}
+use Rattle.mx_book.specs.declared.verdict.Refusal.TheVariants.{Full, Conflict, UnknownAircraft, UnknownComponent, UnknownPosition, UnknownProgramme, UnknownTask, AircraftExists, ComponentExists, PositionTaken, AlreadyFitted}
 use Rattle.mx_book.specs.declared.verdict.Verdict.{Verdict}
 use Rattle.mx_book.specs.declared.verdict.Verdict.TheVariants.{New, Already, Refused}
-use Rattle.mx_book.specs.Judge.{judge, judge_by, known_from, refusals, first_of, when, is_full, names_unknown_aircraft, names_unknown_component, names_unknown_position, aircraft_exists, component_exists, verdict_of}
+use Rattle.mx_book.specs.Judge.{judge, judge_by, known_from, refusals, first_of, when, is_full, names_unknown_aircraft, names_unknown_component, names_unknown_position, names_unknown_programme, names_unknown_task, aircraft_exists, component_exists, verdict_of}
 use Rattle.mx_book.specs.Span.{fitted, is_taken}
 use Rattle.mx_book.specs.Book.{is_new, is_book_from, IsBook}
 
@@ -20,6 +26,36 @@ use Rattle.mx_book.specs.Book.{is_new, is_book_from, IsBook}
 pub refusals-Added : (book : List Entry) (act : Act) (a : Aircraft) (r : Option Refusal) → aircraft_of act ≡ Some a → ((ps : List (List ℕ × List ℕ)) → r ≡ first_of (refusals book (Added a ps))) → r ≡ first_of (refusals book act)
 refusals-Added book (Added b ps) a r e h = let same : a ≡ b = cc in h ps ∙ ap (λ x. first_of (refusals book (Added x ps))) same
 refusals-Added book _ a r e h = (cc)
+
+-- what refuses a programme refuses the command that loads it
+pub refusals-Loaded : (book : List Entry) (act : Act) (p : Programme) (r : Option Refusal) → programme_of act ≡ Some p → ((tasks : List Task) → r ≡ first_of (refusals book (Loaded p tasks))) → r ≡ first_of (refusals book act)
+refusals-Loaded book (Loaded q tasks) p r e h = let same : p ≡ q = cc in h tasks ∙ ap (λ x. first_of (refusals book (Loaded x tasks))) same
+refusals-Loaded book _ p r e h = (cc)
+
+-- a command that shows a thing says that thing
+pub listed_as : (act : Act) (c : Component) → component_of act ≡ Some c → act ≡ Listed c
+listed_as (Listed x) c e = cc
+listed_as _ c e = (cc)
+
+pub opened_as : (act : Act) (o : Opening) → opening_of act ≡ Some o → act ≡ Opened o
+opened_as (Opened x) o e = cc
+opened_as _ o e = (cc)
+
+pub flown_as : (act : Act) (s : Sector) → sector_of act ≡ Some s → act ≡ Flown s
+flown_as (Flown x) s e = cc
+flown_as _ s e = (cc)
+
+pub fitted_as : (act : Act) (f : Fitting) → fitting_of act ≡ Some f → act ≡ Fitted f
+fitted_as (Fitted x) f e = cc
+fitted_as _ f e = (cc)
+
+pub removed_as : (act : Act) (r : Removal) → removal_of act ≡ Some r → act ≡ Removed r
+removed_as (Removed x) r e = cc
+removed_as _ r e = (cc)
+
+-- what refuses a command refuses one that says the same
+pub refusals_of : (book : List Entry) (act same : Act) (r : Option Refusal) → act ≡ same → r ≡ first_of (refusals book same) → r ≡ first_of (refusals book act)
+refusals_of book act same r e h = h ∙ ap (λ x. first_of (refusals book x)) (sym e)
 
 when_none : (b : Bool) (refusal : Refusal) (others : List (Option Refusal)) → first_of (when b refusal ∷ others) ≡ None → b ≡ false
 when_none true refusal others h = (cc)
@@ -50,23 +86,26 @@ new_by book command None h = unrefused (first_of (refusals book command.act)) h
 pub new-unrefused : (book : List Entry) (command : Entry) → judge book command ≡ New → first_of (refusals book command.act) ≡ None
 new-unrefused book command h = new_by book command (known_from command.doc 1 book) h
 
--- where none of eight refusals and others applies, the last two of the eight do not
-last_of_eight : (a b c d e f g h : Bool) (others : List (Option Refusal)) → first_of (when a Full ∷ when b UnknownAircraft ∷ when c UnknownComponent ∷ when d UnknownPosition
-    ∷ when e AircraftExists ∷ when f ComponentExists ∷ when g PositionTaken ∷ when h AlreadyFitted ∷ others) ≡ None → (g ≡ false) × (h ≡ false)
-last_of_eight true b c d e f g h others n = (cc)
-last_of_eight false true c d e f g h others n = (cc)
-last_of_eight false false true d e f g h others n = (cc)
-last_of_eight false false false true e f g h others n = (cc)
-last_of_eight false false false false true f g h others n = (cc)
-last_of_eight false false false false false true g h others n = (cc)
-last_of_eight false false false false false false true h others n = (cc)
-last_of_eight false false false false false false false true others n = (cc)
-last_of_eight false false false false false false false false others n = (refl, refl)
+-- where none of ten refusals and others applies, the last two of the ten do not
+last_of_ten : (a b c d e f g h i j : Bool) (others : List (Option Refusal)) → first_of (when a Full ∷ when b UnknownAircraft ∷ when c UnknownComponent ∷ when d UnknownPosition ∷ when e UnknownProgramme
+    ∷ when f UnknownTask ∷ when g AircraftExists ∷ when h ComponentExists ∷ when i PositionTaken ∷ when j AlreadyFitted ∷ others) ≡ None → (i ≡ false) × (j ≡ false)
+last_of_ten true b c d e f g h i j others n = (cc)
+last_of_ten false true c d e f g h i j others n = (cc)
+last_of_ten false false true d e f g h i j others n = (cc)
+last_of_ten false false false true e f g h i j others n = (cc)
+last_of_ten false false false false true f g h i j others n = (cc)
+last_of_ten false false false false false true g h i j others n = (cc)
+last_of_ten false false false false false false true h i j others n = (cc)
+last_of_ten false false false false false false false true i j others n = (cc)
+last_of_ten false false false false false false false false true j others n = (cc)
+last_of_ten false false false false false false false false false true others n = (cc)
+last_of_ten false false false false false false false false false false others n = (refl, refl)
 
 -- a fitting that is new finds the position free, and the component fitted nowhere
 pub new-fitting : (book : List Entry) (command : Entry) (f : Fitting) → judge book command ≡ New → command.act ≡ Fitted f → (is_taken book f.tail f.position ≡ false) × (is_some (fitted book f.serial) ≡ false)
 new-fitting book command f new says =
-    last_of_eight (is_full book (Fitted f)) (names_unknown_aircraft book (Fitted f)) (names_unknown_component book (Fitted f)) (names_unknown_position book (Fitted f))
+    last_of_ten (is_full book (Fitted f)) (names_unknown_aircraft book (Fitted f)) (names_unknown_component book (Fitted f)) (names_unknown_position book (Fitted f))
+    (names_unknown_programme book (Fitted f)) (names_unknown_task book (Fitted f))
     (aircraft_exists book (Fitted f)) (component_exists book (Fitted f)) (is_taken book f.tail f.position) (is_some (fitted book f.serial)) _
     (subst (λ act. first_of (refusals book act) ≡ None) says (new-unrefused book command new))
 

@@ -9,3 +9,4 @@ pub mod SpanLemmas
 pub mod Worked
 pub mod WorkedFittings
 pub mod WorkedBounds
+pub mod WorkedProgrammes

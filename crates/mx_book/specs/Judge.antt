@@ -1,17 +1,19 @@
 -- The verdict on a command: known, refused or new.
-use Rattle.std.specs.Prelude.{ℕ, ◌+◌, max, nat_lt, nat_le, length, List, [], ◌∷◌, Bool, true, false, not, ◌||◌, Option, Some, None, is_some, is_none, if◌then◌else◌}
+use Rattle.std.specs.Prelude.{ℕ, ◌+◌, ◌/◌, max, nat_eq, nat_lt, nat_le, length, List, [], ◌∷◌, Bool, true, false, not, ◌||◌, Option, Some, None, is_some, is_none, if◌then◌else◌}
 use Rattle.std.specs.List.{list_any}
 use Rattle.std.specs.Option.{option_map, option_map_or}
-use Rattle.mx_command.specs.Act.{Act, Entry, Added, Listed, Flown, Fitted, Removed, aircraft_of, component_of}
+use Rattle.mx_command.specs.Act.{Act, Entry, Added, Listed, Loaded, Opened, Flown, Fitted, Removed, aircraft_of, component_of}
 use Rattle.mx_command.specs.Same.{same_text, same_entry}
+use Rattle.mx_command.specs.declared.item.Item.{Item}
 use Rattle.mx_command.specs.declared.item.Item.TheVariants.{Airframe, Component}
 use Rattle.mx_book.specs.declared.verdict.Refusal.{Refusal}
-use Rattle.mx_book.specs.declared.verdict.Refusal.TheVariants.{Conflict, Full, UnknownAircraft, UnknownComponent, UnknownPosition, AircraftExists, ComponentExists, PositionTaken, AlreadyFitted, NotFitted, WrongPart, OutOfOrder}
+use Rattle.mx_book.specs.declared.verdict.Refusal.TheVariants.{Conflict, Full, UnknownAircraft, UnknownComponent, UnknownPosition, UnknownProgramme, UnknownTask, AircraftExists, ComponentExists, PositionTaken, AlreadyFitted, NotFitted, WrongPart, TaskClosed, LifeLimit, OutOfOrder, WrongRevision, OtherAircraft, OpeningTooLate, OpeningTooLarge}
 use Rattle.mx_book.specs.declared.verdict.Verdict.{Verdict}
 use Rattle.mx_book.specs.declared.verdict.Verdict.TheVariants.{New, Already, Refused}
-use Rattle.mx_book.specs.Register.{register, aircraft, component, part_at}
+use Rattle.mx_book.specs.Register.{register, aircraft, component, part_at, is_of_part, as_of}
 use Rattle.mx_book.specs.Span.{fitted, tail_fitted, is_taken}
-use Rattle.mx_book.specs.Life.{clock}
+use Rattle.mx_book.specs.Life.{clock, opening_of}
+use Rattle.mx_book.specs.Programme.{tasks_in_force, task_in_force, next_revision, applies_to, is_accomplished, life_ended}
 
 -- the number of a refusal
 abbrev pub refusal_number : Refusal → ℕ
@@ -20,24 +22,44 @@ refusal_number Full = 11
 refusal_number UnknownAircraft = 20
 refusal_number UnknownComponent = 21
 refusal_number UnknownPosition = 22
+refusal_number UnknownProgramme = 23
+refusal_number UnknownTask = 24
 refusal_number AircraftExists = 30
 refusal_number ComponentExists = 31
 refusal_number PositionTaken = 33
 refusal_number AlreadyFitted = 34
 refusal_number NotFitted = 35
 refusal_number WrongPart = 36
+refusal_number TaskClosed = 38
+refusal_number LifeLimit = 39
 refusal_number (OutOfOrder clock) = 41
+refusal_number (WrongRevision expected) = 46
+refusal_number OtherAircraft = 47
+refusal_number OpeningTooLate = 48
+refusal_number OpeningTooLarge = 49
 
 -- ── when each refusal applies ──
 
+-- the registration of an item that is an airframe
+abbrev pub item_tails : Item → List (List ℕ)
+item_tails (Airframe tail) = tail ∷ []
+item_tails (Component serial) = []
+
+-- the serial number of an item that is a component
+abbrev pub item_serials : Item → List (List ℕ)
+item_serials (Airframe tail) = []
+item_serials (Component serial) = serial ∷ []
+
 -- the registrations that a command names
 abbrev pub tails_named : Act → List (List ℕ)
+tails_named (Opened o) = item_tails o.item
 tails_named (Flown s) = s.tail ∷ []
 tails_named (Fitted f) = f.tail ∷ []
 tails_named _ = []
 
 -- the serial numbers that a command names
 abbrev pub serials_named : Act → List (List ℕ)
+serials_named (Opened o) = item_serials o.item
 serials_named (Fitted f) = f.serial ∷ []
 serials_named (Removed r) = r.serial ∷ []
 serials_named _ = []
@@ -60,6 +82,16 @@ names_unknown_component book act = list_any (λ serial. is_none (component book 
 abbrev pub names_unknown_position : List Entry → Act → Bool
 names_unknown_position book (Fitted f) = is_none (part_at book f.tail f.position)
 names_unknown_position book _ = false
+
+-- an opening names a kind that has no programme
+abbrev pub names_unknown_programme : List Entry → Act → Bool
+names_unknown_programme book (Opened o) = is_none (tasks_in_force book o.kind)
+names_unknown_programme book _ = false
+
+-- an opening names a task that is not in force for the kind, or does not apply to the item
+abbrev pub names_unknown_task : List Entry → Act → Bool
+names_unknown_task book (Opened o) = not (option_map_or (applies_to book o.item) (task_in_force book o.kind o.task) false)
+names_unknown_task book _ = false
 
 -- an aircraft has the registration already
 abbrev pub aircraft_exists : List Entry → Act → Bool
@@ -86,14 +118,21 @@ abbrev pub not_fitted : List Entry → Act → Bool
 not_fitted book (Removed r) = is_none (fitted book r.serial)
 not_fitted book _ = false
 
--- the component is of this part
-abbrev pub is_of_part : List Entry → List ℕ → List ℕ → Bool
-is_of_part book serial part = option_map_or (λ c. same_text c.part part) (component book serial) false
-
 -- the position takes another part
 abbrev pub wrong_part : List Entry → Act → Bool
 wrong_part book (Fitted f) = not (option_map_or (is_of_part book f.serial) (part_at book f.tail f.position) true)
 wrong_part book _ = false
+
+-- the task of the item that is opened was accomplished already
+abbrev pub task_closed : List Entry → Act → Bool
+task_closed book (Opened o) = is_accomplished book o.item o.task
+task_closed book _ = false
+
+-- the task that is opened retires the item, or the component that is to be fitted is retired by a task in force for the aircraft's kind
+abbrev pub at_life_limit : List Entry → Act → Bool
+at_life_limit book (Opened o) = option_map_or (λ t. t.retire) (task_in_force book o.kind o.task) false
+at_life_limit book (Fitted f) = option_map_or (λ a. life_ended book a.kind (Component f.serial) (f.moment / 1440)) (aircraft book f.tail) false
+at_life_limit book _ = false
 
 -- the clock, where the moment is before it
 abbrev pub clock_passed : ℕ → ℕ → Option ℕ
@@ -110,6 +149,36 @@ too_early book (Fitted f) = clock_passed f.moment (max (clock book (Airframe f.t
 too_early book (Removed r) = clock_passed r.moment (max (clock_where_fitted book r.serial) (clock book (Component r.serial)))
 too_early book _ = None
 
+-- the expected revision, where another is loaded
+abbrev pub revision_missed : ℕ → ℕ → Option ℕ
+revision_missed revision expected = if nat_eq revision expected then None else Some expected
+
+-- the revision that is expected, where a programme of another is loaded
+abbrev pub wrong_revision : List Entry → Act → Option ℕ
+wrong_revision book (Loaded p tasks) = revision_missed p.revision (next_revision book p.kind)
+wrong_revision book _ = None
+
+-- the item is an airframe of another kind
+abbrev pub is_of_other_kind : List Entry → List ℕ → Item → Bool
+is_of_other_kind book kind (Airframe tail) = option_map_or (λ a. not (same_text a.kind kind)) (aircraft book tail) false
+is_of_other_kind book kind (Component serial) = false
+
+-- a task of an airframe is opened by the programme of another kind
+abbrev pub other_aircraft : List Entry → Act → Bool
+other_aircraft book (Opened o) = is_of_other_kind book o.kind o.item
+other_aircraft book _ = false
+
+-- the day of an opening is after that of the item's as_of
+abbrev pub opening_too_late : List Entry → Act → Bool
+opening_too_late book (Opened o) = nat_lt (as_of book o.item / 1440) o.day
+opening_too_late book _ = false
+
+-- an opening has more minutes or more cycles than the item brought with it
+abbrev pub opening_too_large : List Entry → Act → Bool
+opening_too_large book (Opened o) =
+    option_map_or (λ u. nat_lt u.minutes o.use_then.minutes || nat_lt u.cycles o.use_then.cycles) (opening_of book o.item) false
+opening_too_large book _ = false
+
 -- the refusal, where it applies
 abbrev pub when : Bool → Refusal → Option Refusal
 when true refusal = Some refusal
@@ -122,13 +191,21 @@ refusals book act =
     ∷ when (names_unknown_aircraft book act) UnknownAircraft
     ∷ when (names_unknown_component book act) UnknownComponent
     ∷ when (names_unknown_position book act) UnknownPosition
+    ∷ when (names_unknown_programme book act) UnknownProgramme
+    ∷ when (names_unknown_task book act) UnknownTask
     ∷ when (aircraft_exists book act) AircraftExists
     ∷ when (component_exists book act) ComponentExists
     ∷ when (position_taken book act) PositionTaken
     ∷ when (already_fitted book act) AlreadyFitted
     ∷ when (not_fitted book act) NotFitted
     ∷ when (wrong_part book act) WrongPart
+    ∷ when (task_closed book act) TaskClosed
+    ∷ when (at_life_limit book act) LifeLimit
     ∷ option_map OutOfOrder (too_early book act)
+    ∷ option_map WrongRevision (wrong_revision book act)
+    ∷ when (other_aircraft book act) OtherAircraft
+    ∷ when (opening_too_late book act) OpeningTooLate
+    ∷ when (opening_too_large book act) OpeningTooLarge
     ∷ []
 
 -- the first refusal that applies

@@ -1,12 +1,14 @@
 -- The registers of a book: what its entries of one kind say, and finding a row there. A book is the list of its entries, the first one first.
-use Rattle.std.specs.Prelude.{List, [], Option, find, if◌then◌else◌}
+use Rattle.std.specs.Prelude.{List, [], Bool, false, Option, find, if◌then◌else◌}
 use Prim.Native.Nat.{ℕ}
 use Rattle.std.specs.List.{filter_map, flat_map}
-use Rattle.std.specs.Option.{option_map}
+use Rattle.std.specs.Option.{option_map, option_map_or}
 use Rattle.mx_command.specs.Act.{Act, Entry, Added, aircraft_of, component_of}
 use Rattle.mx_command.specs.Same.{same_text}
 use Rattle.mx_command.specs.declared.aircraft.Aircraft.{Aircraft}
 use Rattle.mx_command.specs.declared.component.Component.{Component}
+use Rattle.mx_command.specs.declared.item.Item.{Item}
+use Rattle.mx_command.specs.declared.item.Item.TheVariants as items
 
 -- what the entries of one kind say, in their order
 abbrev pub register : {Row : Type 0} → (Act → Option Row) → List Entry → List Row
@@ -19,6 +21,20 @@ aircraft book tail = find (λ a. same_text a.tail tail) (register aircraft_of bo
 -- the component with this serial number
 abbrev pub component : List Entry → List ℕ → Option Component
 component book serial = find (λ c. same_text c.serial serial) (register component_of book)
+
+-- the component is of this part
+abbrev pub is_of_part : List Entry → List ℕ → List ℕ → Bool
+is_of_part book serial part = option_map_or (λ c. same_text c.part part) (component book serial) false
+
+-- the day on which an item was built, or day 0 where there is no such item
+abbrev pub birth : List Entry → Item → ℕ
+birth book (items.Airframe tail) = option_map_or (λ a. a.birth) (aircraft book tail) 0
+birth book (items.Component serial) = option_map_or (λ c. c.birth) (component book serial) 0
+
+-- the moment up to which the opening of an item counts, or moment 0 where there is no such item
+abbrev pub as_of : List Entry → Item → ℕ
+as_of book (items.Airframe tail) = option_map_or (λ a. a.as_of) (aircraft book tail) 0
+as_of book (items.Component serial) = option_map_or (λ c. c.as_of) (component book serial) 0
 
 -- the positions that an entry gives the aircraft with this registration, where it adds that aircraft
 abbrev pub positions_added : List ℕ → Act → List (List ℕ × List ℕ)

@@ -1,10 +1,13 @@
 //! Judging a command against the entries of a book.
-ghost use Rattle.std.specs.Prelude.{◌≡◌, ◌+◌, ◌≤◌, ℕ, List, length};
+ghost use Rattle.std.specs.Prelude.{◌≡◌, ◌+◌, ◌≤◌, ℕ, List, length, true};
+ghost use Rattle.std.specs.List.{list_all};
 ghost use Rattle.std.specs.Option.{option_map};
 ghost use Rattle.mx_command.specs.Act.{Added, Listed, Flown};
+ghost use Rattle.mx_command.specs.Shape.{has_shape};
 ghost use Rattle.mx_book.specs.Judge.{known_from, known_same, refusals, first_of, judge};
 
 use crate::judging_fittings::{refusal_of_fitting, refusal_of_removal};
+use crate::judging_programmes::{refusal_of_opening, refusal_of_programme};
 use crate::lives::clock_of_airframe;
 use crate::register::{aircraft_count, aircraft_of_tail, component_count, component_of_serial};
 use crate::verdict::{Refusal, Verdict};
@@ -85,6 +88,8 @@ fn refusal_of_sector(entries: &[Command], sector: &Sector) -> Option<Refusal>
 
 // Why a command whose document is new is refused.
 fn refusal(entries: &[Command], command: &Command) -> Option<Refusal>
+    requires few { length entries.now ≤ 1000000 }
+    requires shaped { list_all has_shape entries.now ≡ true }
     ensures { result ≡ first_of (refusals entries.now command.now.act) }
 {
     if let Some(aircraft) = command.added_aircraft() {
@@ -92,6 +97,12 @@ fn refusal(entries: &[Command], command: &Command) -> Option<Refusal>
     }
     if let Some(component) = command.added_component() {
         return refusal_of_component(entries, &component);
+    }
+    if let Some(programme) = command.loaded_programme() {
+        return refusal_of_programme(entries, &programme);
+    }
+    if let Some(opening) = command.stated_opening() {
+        return refusal_of_opening(entries, &opening);
     }
     if let Some(sector) = command.flown_sector() {
         return refusal_of_sector(entries, &sector);
@@ -108,6 +119,7 @@ fn refusal(entries: &[Command], command: &Command) -> Option<Refusal>
 /// The verdict on a command.
 pub(crate) fn verdict_on(entries: &[Command], command: &Command) -> Verdict
     requires few { length entries.now ≤ 1000000 }
+    requires shaped { list_all has_shape entries.now ≡ true }
     ensures { result ≡ judge entries.now command.now }
 {
     match known(entries, command) {

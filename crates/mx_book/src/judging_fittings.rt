@@ -1,25 +1,31 @@
 //! Judging where a component is fitted, and its removal.
-ghost use Rattle.std.specs.Prelude.{◌≡◌};
+ghost use Rattle.std.specs.Prelude.{◌≡◌, ◌≤◌, length, true};
+ghost use Rattle.std.specs.List.{list_all};
 ghost use Rattle.mx_command.specs.Act.{Fitted, Removed};
+ghost use Rattle.mx_command.specs.Shape.{has_shape};
 ghost use Rattle.mx_book.specs.Judge.{refusals, first_of};
 
 use crate::judging::MOST_ENTRIES;
 use crate::lives::{clock_of_airframe, clock_of_component};
+use crate::programmes::is_retired;
 use crate::register::{aircraft_of_tail, component_of_serial, part_at_position};
 use crate::spans::{fitted_to, is_position_taken};
 use crate::verdict::Refusal;
-use mx_command::{Command, Fitting, Removal};
+use mx_base::day_of;
+use mx_command::{Command, Fitting, Item, Removal};
 
 /// Why a component is not fitted.
 pub(crate) fn refusal_of_fitting(entries: &[Command], fitting: &Fitting) -> Option<Refusal>
+    requires few { length entries.now ≤ 1000000 }
+    requires shaped { list_all has_shape entries.now ≡ true }
     ensures { result ≡ first_of (refusals entries.now (Fitted fitting.now)) }
 {
     if entries.len() >= MOST_ENTRIES {
         return Some(Refusal::Full);
     }
-    if aircraft_of_tail(entries, &fitting.tail).is_none() {
+    let Some(aircraft) = aircraft_of_tail(entries, &fitting.tail) else {
         return Some(Refusal::UnknownAircraft);
-    }
+    };
     let Some(component) = component_of_serial(entries, &fitting.serial) else {
         return Some(Refusal::UnknownComponent);
     };
@@ -34,6 +40,10 @@ pub(crate) fn refusal_of_fitting(entries: &[Command], fitting: &Fitting) -> Opti
     }
     if component.part != part {
         return Some(Refusal::WrongPart);
+    }
+    let item = Item::Component(fitting.serial);
+    if is_retired(entries, &aircraft.kind, &item, day_of(fitting.moment)) {
+        return Some(Refusal::LifeLimit);
     }
     let airframe = clock_of_airframe(entries, &fitting.tail);
     let clock = airframe.max(clock_of_component(entries, &fitting.serial));

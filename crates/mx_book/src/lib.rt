@@ -5,10 +5,12 @@
 pub mod book;
 mod judging;
 mod judging_fittings;
+mod judging_programmes;
 pub mod laws;
 pub mod life_list;
 mod lives;
 pub mod order;
+mod programmes;
 mod register;
 mod spans;
 pub mod verdict;

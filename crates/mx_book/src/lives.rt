@@ -26,8 +26,8 @@ fn is_credited_with(entries: &[Command], item: &Item, sector: &Sector) -> bool
     }
 }
 
-// The use that an item brought with it.
-fn opening_use(entries: &[Command], item: &Item) -> Option<Use>
+/// The use that an item brought with it.
+pub(crate) fn opening_use(entries: &[Command], item: &Item) -> Option<Use>
     ensures { result ≡ opening_of entries.now item.now }
 {
     match item {

@@ -1,10 +1,10 @@
 //! Finding a row in the registers of a book.
 ghost use Rattle.std.specs.Prelude.{◌≡◌, length};
 ghost use Rattle.mx_command.specs.Act.{aircraft_of, component_of};
-ghost use Rattle.mx_book.specs.Register.{register, aircraft, component, positions_added, part_among, part_at};
+ghost use Rattle.mx_book.specs.Register.{register, aircraft, component, is_of_part, birth, as_of, positions_added, part_among, part_at};
 
-use mx_base::{Part, Position, Serial, Tail};
-use mx_command::{Aircraft, Command, Component};
+use mx_base::{Day, Moment, Part, Position, Serial, Tail, day_of};
+use mx_command::{Aircraft, Command, Component, Item};
 
 /// The aircraft with this registration.
 pub(crate) fn aircraft_of_tail(entries: &[Command], tail: &Tail) -> Option<Aircraft>
@@ -54,6 +54,48 @@ pub(crate) fn component_count(entries: &[Command]) -> usize
         rest = later;
     }
     count
+}
+
+/// Whether a component is of a part.
+pub(crate) fn is_component_of_part(entries: &[Command], serial: &Serial, part: &Part) -> bool
+    ensures { result ≡ is_of_part entries.now serial.now part.now }
+{
+    match component_of_serial(entries, serial) {
+        Some(component) => component.part == *part,
+        None => false,
+    }
+}
+
+/// The day on which an item was built, or the first of all where the item is unknown.
+pub(crate) fn birth_of(entries: &[Command], item: &Item) -> Day
+    ensures { result ≡ birth entries.now item.now }
+{
+    match item {
+        Item::Airframe(tail) => match aircraft_of_tail(entries, tail) {
+            Some(aircraft) => aircraft.birth,
+            None => day_of(Moment::FIRST),
+        },
+        Item::Component(serial) => match component_of_serial(entries, serial) {
+            Some(component) => component.birth,
+            None => day_of(Moment::FIRST),
+        },
+    }
+}
+
+/// The moment up to which the opening of an item counts, or the first of all where the item is unknown.
+pub(crate) fn as_of_item(entries: &[Command], item: &Item) -> Moment
+    ensures { result ≡ as_of entries.now item.now }
+{
+    match item {
+        Item::Airframe(tail) => match aircraft_of_tail(entries, tail) {
+            Some(aircraft) => aircraft.as_of,
+            None => Moment::FIRST,
+        },
+        Item::Component(serial) => match component_of_serial(entries, serial) {
+            Some(component) => component.as_of,
+            None => Moment::FIRST,
+        },
+    }
 }
 
 // The positions that an entry gives an aircraft, each with the part that it takes.

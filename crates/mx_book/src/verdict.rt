@@ -17,6 +17,10 @@ pub enum Refusal {
     UnknownComponent,
     /// The aircraft does not have the position that a component is fitted to.
     UnknownPosition,
+    /// The kind that an opening names has no maintenance programme.
+    UnknownProgramme,
+    /// The programme in force of the kind does not have the task, or the task does not apply to the item.
+    UnknownTask,
     /// An aircraft has the registration already.
     AircraftExists,
     /// A component has the serial number already.
@@ -29,9 +33,23 @@ pub enum Refusal {
     NotFitted,
     /// The position takes another part than the component is one of.
     WrongPart,
+    /// The task of the item was accomplished already.
+    TaskClosed,
+    /// The task that is opened retires its item, or a task in force for the kind of the aircraft retires the
+    /// component that is to be fitted by the day of the fitting.
+    LifeLimit,
     /// A sector takes off before the clock of its airframe, or a component is fitted or removed before the
     /// greater of the airframe's clock and its own: that clock.
     OutOfOrder(Moment),
+    /// The programme that is loaded has not the revision that follows the one in force: the revision that does,
+    /// which is 1 for a kind without a programme.
+    WrongRevision(u32),
+    /// The airframe whose task is opened is of another kind than the programme.
+    OtherAircraft,
+    /// The day of an opening is after the day up to which the item's own opening counts.
+    OpeningTooLate,
+    /// An opening has more minutes or cycles than the item brought with it.
+    OpeningTooLarge,
 }
 
 impl Refusal {
@@ -47,13 +65,21 @@ impl Refusal {
             Refusal::UnknownAircraft => 20,
             Refusal::UnknownComponent => 21,
             Refusal::UnknownPosition => 22,
+            Refusal::UnknownProgramme => 23,
+            Refusal::UnknownTask => 24,
             Refusal::AircraftExists => 30,
             Refusal::ComponentExists => 31,
             Refusal::PositionTaken => 33,
             Refusal::AlreadyFitted => 34,
             Refusal::NotFitted => 35,
             Refusal::WrongPart => 36,
+            Refusal::TaskClosed => 38,
+            Refusal::LifeLimit => 39,
             Refusal::OutOfOrder(_) => 41,
+            Refusal::WrongRevision(_) => 46,
+            Refusal::OtherAircraft => 47,
+            Refusal::OpeningTooLate => 48,
+            Refusal::OpeningTooLarge => 49,
         }
     }
 }
