@@ -4,9 +4,10 @@ use Rattle.sqlite.specs.Table.{Table}
 use Rattle.sqlite.specs.Listing.{understood}
 use Rattle.sqlite_schema.specs.declared.schema.Index.{Index}
 use Rattle.sqlite_tied.specs.Compute.{everything}
+use Rattle.mx_base.specs.declared.amounts.Tolerance.{Tolerance}
 use Rattle.mx_base.proofs.RoundTrips.{moment_text_injective}
 use Rattle.mx_register.specs.declared.rows.EntryKind.{EntryKind}
-use Rattle.mx_register.specs.declared.rows.EntryKind.TheVariants.{AddAircraft, AddComponent, Sector, Fit, Remove}
+use Rattle.mx_register.specs.declared.rows.EntryKind.TheVariants as kinds
 use Rattle.mx_register.specs.declared.rows.EntryRow.{EntryRow}
 use Rattle.mx_register.specs.declared.rows.AircraftRow.{AircraftRow}
 use Rattle.mx_register.specs.declared.rows.PlaceRow.{PlaceRow}
@@ -14,27 +15,35 @@ use Rattle.mx_register.specs.declared.rows.RemovalRow.{RemovalRow}
 use Rattle.mx_register.specs.declared.rows.ComponentRow.{ComponentRow}
 use Rattle.mx_register.specs.declared.rows.SectorRow.{SectorRow}
 use Rattle.mx_register.specs.declared.rows.FittingRow.{FittingRow}
-use Rattle.mx_register.specs.Rows.{kind_number, place_key, FitsFitting, FitsSector, FitsComponent, FitsEntry, FitsAircraft, FitsPlace, FitsRemoval}
+use Rattle.mx_register.specs.declared.rows.ProgrammeRow.{ProgrammeRow}
+use Rattle.mx_register.specs.declared.rows.TaskRow.{TaskRow}
+use Rattle.mx_register.specs.declared.rows.OpeningRow.{OpeningRow}
+use Rattle.mx_register.specs.Rows.{kind_number, place_key, task_key, FitsFitting, FitsSector, FitsComponent, FitsEntry, FitsAircraft, FitsPlace, FitsRemoval, FitsProgramme, FitsTask, FitsOpening}
 use Rattle.mx_layout.specs.TableName.{TableName}
-use Rattle.mx_layout.specs.declared.fault.Table.TheVariants.{Entry, Aircraft, Place, Component, Sector1, Fit1, Removal1}
-use Rattle.mx_layout.specs.Tables.{component, sector1, fit1, entry, aircraft, place, removal1}
+use Rattle.mx_layout.specs.declared.fault.Table.TheVariants.{Entry, Aircraft, Place, Component, Programme, Task, Opening, Sector1, Fit1, Removal1}
+use Rattle.mx_layout.specs.Tables.{component, sector1, fit1, entry, aircraft, place, programme, task, opening, removal1}
 use Rattle.mx_layout.proofs.RowLemmas.{cast_int, cast_null}
-use Rattle.mx_kept.specs.Cells.{kept_component, kept_sector1, kept_fit1, kept_entry, kept_aircraft, kept_place, kept_removal1}
+use Rattle.mx_kept.specs.Cells.{kept_component, kept_sector1, kept_fit1, kept_entry, kept_aircraft, kept_place, kept_programme, kept_task, kept_opening, kept_removal1}
 use Rattle.mx_kept.specs.Meanings.{IsLawful, IsLawfulAt}
 use Rattle.mx_kept.specs.Schemas.{permanent, own_1}
 use Rattle.mx_kept.proofs.OrderLemmas.{two_ascend}
+use Rattle.mx_kept.proofs.ValueLemmas.{cast-number_or_null, cast-text_or_null, text_once, flag_once, limit_once}
 use Rattle.mx_kept.proofs.KeptLemmas.{HasTexts, HasTextsByTwo, StoresOne, StoresNext, first_keyed, two_keyed}
 
 -- the kind of a number, and Remove of any that is none
 abbrev kind_of : ℕ → EntryKind
-kind_of n = cond (n == 1) AddAircraft (cond (n == 2) AddComponent (cond (n == 5) Sector (cond (n == 6) Fit Remove)))
+kind_of n =
+    cond (n == 1) kinds.AddAircraft (cond (n == 2) kinds.AddComponent (cond (n == 3) kinds.LoadProgramme (cond (n == 4) kinds.Opening
+    (cond (n == 5) kinds.Sector (cond (n == 6) kinds.Fit kinds.Remove)))))
 
 kind_back : (k : EntryKind) → kind_of (kind_number k) ≡ k
-kind_back AddAircraft = refl
-kind_back AddComponent = refl
-kind_back Sector = refl
-kind_back Fit = refl
-kind_back Remove = refl
+kind_back kinds.AddAircraft = refl
+kind_back kinds.AddComponent = refl
+kind_back kinds.LoadProgramme = refl
+kind_back kinds.Opening = refl
+kind_back kinds.Sector = refl
+kind_back kinds.Fit = refl
+kind_back kinds.Remove = refl
 
 kind_once : (a b : EntryKind) → kind_number a ≡ kind_number b → a ≡ b
 kind_once a b e = sym (kind_back a) ∙ ap kind_of e ∙ kind_back b
@@ -153,12 +162,68 @@ fit1_stores r db = simp (cast_int, cast_null) refl
 pub fit1_lawful : IsLawful kept_fit1
 fit1_lawful = first_keyed kept_fit1 own_1 (λ _ has. has) 13 refl (λ _ _. refl) (λ _. refl) fitting_once (λ _ h. h) (λ _. refl) refl fit1_texts refl (λ _. refl) fit1_stores (λ _. refl) (λ _. refl)
 
+same_programme : (a b : ProgrammeRow) → a.seq ≡ b.seq → a.kind ≡ b.kind → a.revision ≡ b.revision → a ≡ b
+same_programme a b seq kind revision i = record { seq = seq i; kind = kind i; revision = revision i }
+
+programme_once : (a b : ProgrammeRow) → FitsProgramme a → FitsProgramme b → kept_programme.as_cells a ≡ kept_programme.as_cells b → a ≡ b
+programme_once a b fits_a fits_b e = same_programme a b (cc) (cc) (cc)
+
+programme_texts : (rest : List Table) (more : List Index) → HasTexts kept_programme (permanent rest more) 5 programme
+unfolding understood everything
+programme_texts rest more = ((refl, refl, (refl, refl)), (refl, (refl, refl)))
+
+programme_stores : (r : ProgrammeRow) → StoresOne programme (kept_programme.as_cells r)
+programme_stores r db = simp (cast_int, cast_null) refl
+
+pub programme_lawful : IsLawful kept_programme
+programme_lawful = first_keyed kept_programme [] (λ _ has. has) 5 refl (λ _ _. refl) (λ _. refl) programme_once (λ _ h. h) (λ _. refl) refl programme_texts refl (λ _. refl) programme_stores (λ _. refl) (λ _. refl)
+
+same_tolerance : (a b : Tolerance) → a.minutes ≡ b.minutes → a.cycles ≡ b.cycles → a.days ≡ b.days → a ≡ b
+same_tolerance a b minutes cycles days i = record { minutes = minutes i; cycles = cycles i; days = days i }
+
+same_task : (a b : TaskRow) → a.seq ≡ b.seq → a.line ≡ b.line → a.id ≡ b.id → a.part ≡ b.part → a.retire ≡ b.retire → a.first ≡ b.first → a.repeat ≡ b.repeat → a.tolerance ≡ b.tolerance → a ≡ b
+same_task a b seq line id part retire first repeat tolerance i =
+    record { seq = seq i; line = line i; id = id i; part = part i; retire = retire i; first = first i; repeat = repeat i; tolerance = tolerance i }
+
+task_once : (a b : TaskRow) → FitsTask a → FitsTask b → kept_task.as_cells a ≡ kept_task.as_cells b → a ≡ b
+task_once a b fits_a fits_b e =
+    same_task a b (cc) (cc) (cc) (text_once _ _ (cc)) (flag_once _ _ (cc)) (limit_once _ _ (cc) (cc) (cc)) (limit_once _ _ (cc) (cc) (cc)) (same_tolerance _ _ (cc) (cc) (cc))
+
+task_texts : (rest : List Table) (more : List Index) → HasTextsByTwo kept_task (permanent rest more) 6 task
+unfolding understood everything
+task_texts rest more = ((refl, refl, (refl, refl)), (refl, (refl, refl)))
+
+task_stores : (r : TaskRow) → StoresNext task (kept_task.as_cells r)
+task_stores r db = simp (cast_int, cast_null, cast-number_or_null, cast-text_or_null) refl
+
+pub task_lawful : IsLawful kept_task
+task_lawful = two_keyed kept_task [] (λ _ has. has) 6 refl (λ _ _. refl) (λ _. refl) task_once (λ _ h. h) (λ _. refl) refl task_texts refl (λ _. refl) (λ _. refl) task_stores (λ _ _. refl) (two_ascend kept_task.as_cells FitsTask task_key (λ (r : TaskRow). r.seq) (λ (r : TaskRow). r.line) (λ _. refl) (λ _. refl) (λ _. refl) (λ _ fits. fits.line))
+
+same_opening : (a b : OpeningRow) → a.seq ≡ b.seq → a.item ≡ b.item → a.kind ≡ b.kind → a.task ≡ b.task → a.minutes ≡ b.minutes → a.cycles ≡ b.cycles → a.day ≡ b.day → a ≡ b
+same_opening a b seq item kind task minutes cycles day i = record { seq = seq i; item = item i; kind = kind i; task = task i; minutes = minutes i; cycles = cycles i; day = day i }
+
+opening_once : (a b : OpeningRow) → FitsOpening a → FitsOpening b → kept_opening.as_cells a ≡ kept_opening.as_cells b → a ≡ b
+opening_once a b fits_a fits_b e = same_opening a b (cc) (cc) (cc) (cc) (cc) (cc) (cc)
+
+opening_texts : (rest : List Table) (more : List Index) → HasTexts kept_opening (permanent rest more) 7 opening
+unfolding understood everything
+opening_texts rest more = ((refl, refl, (refl, refl)), (refl, (refl, refl)))
+
+opening_stores : (r : OpeningRow) → StoresOne opening (kept_opening.as_cells r)
+opening_stores r db = simp (cast_int, cast_null) refl
+
+pub opening_lawful : IsLawful kept_opening
+opening_lawful = first_keyed kept_opening [] (λ _ has. has) 7 refl (λ _ _. refl) (λ _. refl) opening_once (λ _ h. h) (λ _. refl) refl opening_texts refl (λ _. refl) opening_stores (λ _. refl) (λ _. refl)
+
 -- each table by its name
 pub each_lawful : (name : TableName) → IsLawfulAt name
 each_lawful Entry = entry_lawful
 each_lawful Aircraft = aircraft_lawful
 each_lawful Place = place_lawful
 each_lawful Component = component_lawful
+each_lawful Programme = programme_lawful
+each_lawful Task = task_lawful
+each_lawful Opening = opening_lawful
 each_lawful Sector1 = sector1_lawful
 each_lawful Fit1 = fit1_lawful
 each_lawful Removal1 = removal1_lawful

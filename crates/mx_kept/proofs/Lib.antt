@@ -3,3 +3,4 @@ pub mod Lawful
 pub mod OntoLemmas
 pub mod OrderLemmas
 pub mod SchemaLemmas
+pub mod ValueLemmas

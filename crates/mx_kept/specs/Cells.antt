@@ -3,7 +3,7 @@ use Rattle.std.specs.Prelude.{pos, [], ◌∷◌, codes}
 use Rattle.sqlite.specs.declared.types.Value.TheVariants.{Int, Text}
 use Rattle.mx_base.specs.Texts.{moment_text}
 use Rattle.mx_layout.specs.Reading.{by_first, by_two}
-use Rattle.mx_layout.specs.declared.fault.Table.TheVariants.{Entry, Aircraft, Place, Component, Sector1, Fit1, Removal1}
+use Rattle.mx_layout.specs.declared.fault.Table.TheVariants.{Entry, Aircraft, Place, Component, Programme, Task, Opening, Sector1, Fit1, Removal1}
 use Rattle.mx_register.specs.declared.rows.EntryRow.{EntryRow}
 use Rattle.mx_register.specs.declared.rows.AircraftRow.{AircraftRow}
 use Rattle.mx_register.specs.declared.rows.PlaceRow.{PlaceRow}
@@ -11,8 +11,12 @@ use Rattle.mx_register.specs.declared.rows.RemovalRow.{RemovalRow}
 use Rattle.mx_register.specs.declared.rows.ComponentRow.{ComponentRow}
 use Rattle.mx_register.specs.declared.rows.SectorRow.{SectorRow}
 use Rattle.mx_register.specs.declared.rows.FittingRow.{FittingRow}
-use Rattle.mx_register.specs.Rows.{kind_number, place_key, FitsEntry, FitsAircraft, FitsPlace, FitsComponent, FitsSector, FitsFitting, FitsRemoval}
+use Rattle.mx_register.specs.declared.rows.ProgrammeRow.{ProgrammeRow}
+use Rattle.mx_register.specs.declared.rows.TaskRow.{TaskRow}
+use Rattle.mx_register.specs.declared.rows.OpeningRow.{OpeningRow}
+use Rattle.mx_register.specs.Rows.{kind_number, place_key, task_key, FitsEntry, FitsAircraft, FitsPlace, FitsComponent, FitsProgramme, FitsTask, FitsOpening, FitsSector, FitsFitting, FitsRemoval}
 use Rattle.mx_kept.specs.Keys.{one_key, two_key}
+use Rattle.mx_kept.specs.Values.{number_or_null, text_or_null, flag}
 use Rattle.mx_kept.specs.Kept.{Kept}
 use Rattle.mx_kept.specs.Schemas.{HasPermanent, HasOwn1}
 
@@ -68,6 +72,51 @@ kept_component = record {
   order = by_first;
   as_cells = λ r. Int (pos r.seq) ∷ Text r.serial ∷ Text r.part ∷ Int (pos r.birth) ∷ Int (pos r.minutes) ∷ Int (pos r.cycles) ∷ Int (pos r.as_of) ∷ [];
   Fits = FitsComponent;
+  key = λ r. r.seq;
+  cells_key = one_key;
+}
+
+-- revisions of programmes, as the rows of `programme`
+abbrev pub kept_programme : Kept ProgrammeRow
+kept_programme = record {
+  name = Programme;
+  IsIn = HasPermanent;
+  select = codes "SELECT seq, kind, revision FROM programme ORDER BY seq";
+  insert = codes "INSERT INTO programme (seq, kind, revision) VALUES (?1, ?2, ?3)";
+  order = by_first;
+  as_cells = λ r. Int (pos r.seq) ∷ Text r.kind ∷ Int (pos r.revision) ∷ [];
+  Fits = FitsProgramme;
+  key = λ r. r.seq;
+  cells_key = one_key;
+}
+
+-- tasks of programmes, as the rows of `task`
+abbrev pub kept_task : Kept TaskRow
+kept_task = record {
+  name = Task;
+  IsIn = HasPermanent;
+  select = codes "SELECT seq, line, id, part, retire, first_m, first_c, first_d, rep_m, rep_c, rep_d, tol_m, tol_c, tol_d FROM task ORDER BY seq, line";
+  insert = codes "INSERT INTO task (seq, line, id, part, retire, first_m, first_c, first_d, rep_m, rep_c, rep_d, tol_m, tol_c, tol_d) VALUES (?1, ?2, ?3, ?4, ?5, ?6, ?7, ?8, ?9, ?10, ?11, ?12, ?13, ?14)";
+  order = by_two;
+  as_cells = λ r. Int (pos r.seq) ∷ Int (pos r.line) ∷ Text r.id ∷ text_or_null r.part ∷ flag r.retire
+      ∷ number_or_null r.first.minutes ∷ number_or_null r.first.cycles ∷ number_or_null r.first.days
+      ∷ number_or_null r.repeat.minutes ∷ number_or_null r.repeat.cycles ∷ number_or_null r.repeat.days
+      ∷ Int (pos r.tolerance.minutes) ∷ Int (pos r.tolerance.cycles) ∷ Int (pos r.tolerance.days) ∷ [];
+  Fits = FitsTask;
+  key = task_key;
+  cells_key = two_key;
+}
+
+-- openings of tasks, as the rows of `opening`
+abbrev pub kept_opening : Kept OpeningRow
+kept_opening = record {
+  name = Opening;
+  IsIn = HasPermanent;
+  select = codes "SELECT seq, item, kind, task, minutes, cycles, day FROM opening ORDER BY seq";
+  insert = codes "INSERT INTO opening (seq, item, kind, task, minutes, cycles, day) VALUES (?1, ?2, ?3, ?4, ?5, ?6, ?7)";
+  order = by_first;
+  as_cells = λ r. Int (pos r.seq) ∷ Int (pos r.item) ∷ Text r.kind ∷ Text r.task ∷ Int (pos r.minutes) ∷ Int (pos r.cycles) ∷ Int (pos r.day) ∷ [];
+  Fits = FitsOpening;
   key = λ r. r.seq;
   cells_key = one_key;
 }

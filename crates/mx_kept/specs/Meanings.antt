@@ -16,11 +16,11 @@ use Rattle.mx_register.specs.Rising.{IsFrom}
 use Rattle.mx_layout.specs.Contents.{cells}
 use Rattle.mx_layout.specs.Names.{table_named}
 use Rattle.mx_layout.specs.TableName.{TableName}
-use Rattle.mx_layout.specs.declared.fault.Table.TheVariants.{Entry, Aircraft, Place, Component, Sector1, Fit1, Removal1}
+use Rattle.mx_layout.specs.declared.fault.Table.TheVariants.{Entry, Aircraft, Place, Component, Programme, Task, Opening, Sector1, Fit1, Removal1}
 use Rattle.mx_layout.proofs.ReadLemmas.{scan_by, Sorts}
 use Rattle.mx_layout.proofs.WriteLemmas.{added, uncounted}
 use Rattle.mx_kept.specs.Kept.{Kept}
-use Rattle.mx_kept.specs.Cells.{kept_entry, kept_aircraft, kept_place, kept_component, kept_sector1, kept_fit1, kept_removal1}
+use Rattle.mx_kept.specs.Cells.{kept_entry, kept_aircraft, kept_place, kept_component, kept_programme, kept_task, kept_opening, kept_sector1, kept_fit1, kept_removal1}
 use Rattle.mx_kept.specs.Family.{IsReadable, IsReadableAs}
 
 -- over this schema the text is understood as the plan that shows all rows of the table in this order, and nothing else
@@ -57,12 +57,15 @@ pub record IsLawful {X : Type 0} (k : Kept X) : Type 0 where
   pub keyed : (x : X) → k.key x ≡ k.cells_key (k.as_cells x)
   pub in_order : (xs : List X) → All k.Fits xs → IsSorted k.order (map k.as_cells xs) → IsFrom k.key 0 xs
 
--- the rows of the table with this name are kept by its law; of a table that no command writes nothing is said
+-- the rows of the table with this name are kept by its law; of a table whose rows have no type nothing is said
 abbrev pub IsLawfulAt : TableName → Type 0
 IsLawfulAt Entry = IsLawful kept_entry
 IsLawfulAt Aircraft = IsLawful kept_aircraft
 IsLawfulAt Place = IsLawful kept_place
 IsLawfulAt Component = IsLawful kept_component
+IsLawfulAt Programme = IsLawful kept_programme
+IsLawfulAt Task = IsLawful kept_task
+IsLawfulAt Opening = IsLawful kept_opening
 IsLawfulAt Sector1 = IsLawful kept_sector1
 IsLawfulAt Fit1 = IsLawful kept_fit1
 IsLawfulAt Removal1 = IsLawful kept_removal1

@@ -93,35 +93,6 @@ rests_same s of P Q same r = record { schema = r.schema; tables = λ clean is_op
 pub leaves_same : (s : State) (P Q : Trees → Type 0) → (HasCleanDisk s → (db : Trees) → P db → Q db) → Leaves s P → Leaves s Q
 leaves_same s P Q same h clean db may = same clean db (h clean db may)
 
--- a transaction that is dropped, or undone by a failure, changed nothing
-module _ {S : Type 0} (g : Ghosts S) (old last end : Held S) where
-  undone : (tx : Held S) → tx ≡ record old { in_transaction = true } → IsWithin (state g tx) (state g last) → IsWithin (state g (record old { in_transaction = true })) (state g last)
-  undone tx begun run = subst (λ h. IsWithin (state g h) (state g last)) begun run
-
-  pub changes_nothing : (tx : Held S) → tx ≡ record old { in_transaction = true } → IsWithin (state g tx) (state g last) → Survives (state g last) (state g end) (λ _. ⊥)
-      → (HasCleanDisk (state g end) → IsRolledBack (state g last) (state g end)) → ChangesNothing (state g old) (state g end)
-  changes_nothing tx begun within drop back =
-      let run = undone tx begun within in
-      let mid : HasCleanDisk (state g end) → HasCleanDisk (state g last) = λ clean. omega (arith, drop.clean) in
-      record {
-        survives = survives_begin g old (state g end) (λ _. ⊥) (survives_then _ (state g last) (state g end) _ _ _ (λ _ db none. none) (λ _ db none. none) run.survives drop);
-        was_open = λ clean is_open. (run.kept (mid clean) refl).was_open ((back clean).was_open is_open);
-        now_is = λ clean is_open. ((back clean).undone is_open).0 ∙ (run.kept (mid clean) refl).committed ((back clean).was_open is_open);
-        committed_is = λ clean is_open. ((back clean).undone is_open).1 ∙ (run.kept (mid clean) refl).committed ((back clean).was_open is_open);
-      }
-
-  -- where the disk was not clean, whatever the transaction did: nothing is said of what a crash may leave
-  pub unclean_changes_nothing : {P : Trees → Type 0} (tx : Held S) → tx ≡ record old { in_transaction = true } → IsWithin (state g tx) (state g last) → Survives (state g last) (state g end) P
-      → (HasCleanDisk (state g end) → ⊥) → ChangesNothing (state g old) (state g end)
-  unclean_changes_nothing {P} tx begun within commit never =
-      let run = undone tx begun within in
-      record {
-        survives = survives_begin g old (state g end) (λ _. ⊥) (survives_then _ (state g last) (state g end) (λ _. ⊥) P _ (λ _ db none. none) (λ clean db _. never clean) run.survives commit);
-        was_open = λ clean. absurd (never clean);
-        now_is = λ clean. absurd (never clean);
-        committed_is = λ clean. absurd (never clean);
-      }
-
 -- what rested before a call that changed nothing rests after it
 pub rests_kept : (of : Schema) (P : Trees → Type 0) (old new : State) → ChangesNothing old new → RestsAs old of P → RestsAs new of P
 rests_kept of P old new nothing rests =

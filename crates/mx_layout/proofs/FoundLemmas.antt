@@ -53,10 +53,6 @@ rests_found may_leave now of P found sound has =
       crash = λ clean db may. subst P (sym (found.rests.crash clean db may)) has;
     }
 
--- Whatever each state that a crash may leave has, the tables that are found have.
-pub found_has : (before now : State) (P : Trees → Type 0) → HasCleanDisk before → Leaves before P → (found : IsFound before.may_leave now) → P found.tables
-found_has before now P clean leaves found = leaves clean found.tables found.left
-
 -- a call that changed nothing, behind the opening
 unfoldable pub found_kept : (may_leave : Trees → Type 0) (mid now : State) → ChangesNothing mid now → IsFound may_leave mid → IsFound may_leave now
 found_kept may_leave mid now nothing found = record {

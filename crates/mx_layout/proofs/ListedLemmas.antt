@@ -56,7 +56,3 @@ unrefused P Q (Some x) is none = absurd (cc)
 pub refused : {X : Type 0} (P : Type 0) (Q : X → Type 0) (refusal : Option X) (x : X) → MatchOption refusal P Q → refusal ≡ Some x → Q x
 refused P Q None x is some = absurd (cc)
 refused P Q (Some y) x is some = let same : y ≡ x = cc in rw same at is
-
-pub no_refusal : (fault : TableFault) → IsRefusal no_schema fault → ⊥
-no_refusal fault (inl exists) = let e = exists.1 in cc
-no_refusal fault (inr other) = other.2 refl

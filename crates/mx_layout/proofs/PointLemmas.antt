@@ -124,14 +124,6 @@ pub open_either : {T : Type 0} {P : Type 0} (r : Result T TableFault) → P → 
 open_either (Ok x) p = p
 open_either (Err e) p = inr p
 
--- What `point` says of a store that rests as layout 1: `open` and `reads` are its clauses, or those of `point_in`.
-pub rests_reads : (s : State) (P : Trees → Type 0) → RestsAs s layout_1 P → HasCleanDisk s → (r : Result Point TableFault) → MatchResult r (λ _. IsTrue s.is_open) (λ fault. IsStop fault ⊎ IsTrue s.is_open)
-    → ((IsTrue s.is_open → HasOffice s.now.schema) → ReadsPoint (rows_in office s.now.trees) r)
-    → MatchResult r (λ p. P s.now.trees × (rows_in office s.now.trees ≡ point_cells p ∷ [])) (λ fault. IsStop fault ⊎ (P s.now.trees × IsNoPoint (rows_in office s.now.trees) fault))
-rests_reads s P rests clean (Ok p) is_open reads = (rests.tables clean is_open, reads (λ k. layout_1_has_office s.now.schema (rests.schema clean k)))
-rests_reads s P rests clean (Err fault) (inl stop) reads = inl stop
-rests_reads s P rests clean (Err fault) (inr is_open) reads = elim (reads (λ k. layout_1_has_office s.now.schema (rests.schema clean k))) [ inl stop ↦ inl stop | inr none ↦ inr (rests.tables clean is_open, none) ]
-
 -- the premise of `exact`, where each of the tables that the store rests with has this point
 pub rests_holds : (s : State) (P : Trees → Type 0) (p : Point) → ((trees : Trees) → P trees → rows_in office trees ≡ point_cells p ∷ []) → RestsAs s layout_1 P → HasCleanDisk s → IsTrue s.is_open → HoldsPoint p s.now
 rests_holds s P p holds rests clean is_open = (layout_1_has_office s.now.schema (rests.schema clean is_open), holds s.now.trees (rests.tables clean is_open))

@@ -120,24 +120,9 @@ shown_unchanged sql params old new rows plain h =
     let none = (subst IsPlain h.1.is plain).0 in
     (subst (ShowsRows old new sql h.0 (timed params h.0.formats h.1.now) rows) none h.2).3
 
-pub query_stops : (sql : List ℕ) (params : Row) (old new : State) (e : Error) → IsPlain (understood old.now.schema sql) → FailsToQuery sql params old new e → Stops old new
-unfolding FailsToQuery IsNotRun
-query_stops sql params old new e plain (inl (inl refused)) = inl refused.1
-query_stops sql params old new e plain (inl (inr failed)) = inr failed.3
-query_stops sql params old new e plain (inr ran) =
-    let none = (subst IsPlain ran.1.is plain).0 in
-    inl (subst (FailsToShow old new sql ran.0 (timed params ran.0.formats ran.1.now) e) none ran.2).3
-
-pub query_survives : (sql : List ℕ) (params : Row) (old new : State) → IsPlain (understood old.now.schema sql) → Survives old new (CommitsShowing sql params old) → Survives old new (λ _. ⊥)
-query_survives sql params old new plain = survives_weaker old new _ _ (λ _ db. never_commits sql params old db plain)
-
 pub on_ok : {T E P : Type 0} (r : Result T E) → P → OnOk r P
 on_ok (Ok x) p = p
 on_ok (Err e) p = tt
-
-pub on_err : {T E P : Type 0} (r : Result T E) → P → OnErr r P
-on_err (Ok x) p = tt
-on_err (Err e) p = p
 
 -- a row of an answer is one of the table
 pub other_in : (IsGood : Row → Type 0) {order : Row → Row → Ordering} (table : Table) (trees : Trees) (rows : List Row) → AreAllBy order table trees rows → HasOther IsGood rows → HasOther IsGood (rows_in table trees)
@@ -190,12 +175,6 @@ module _ (keys : List (Term × Key)) (order : Row → Row → Ordering) (schema 
 
   pub reads_unchanged : (rows : List Row) → Shown text [] old new rows → IsUnchanged old new
   reads_unchanged rows h = shown_unchanged text [] old new rows plain_now h
-
-  pub reads_stops : (e : Error) → FailsToQuery text [] old new e → Stops old new
-  reads_stops e h = query_stops text [] old new e plain_now h
-
-  pub reads_survives : Survives old new (CommitsShowing text [] old) → Survives old new (λ _. ⊥)
-  reads_survives h = query_survives text [] old new plain_now h
 
   -- the text itself is not refused
   pub reads_input : (fault : CompileError) → FailsToQuery text [] old new (SqlInputError fault) → ⊥

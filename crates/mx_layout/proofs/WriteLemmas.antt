@@ -111,6 +111,3 @@ module _ (schema : Schema) (at : ℕ) (t : Table) (terms : List Term) (width : �
         | inl ends ↦ elim ends.0 [ inl commit ↦ absurd cc | inr release ↦ absurd (let e = release.2 in cc) ]
         | inr writes ↦ (writes.0, subst (Adds old.now.schema.tables (uncounted t) row old.now.trees) (sym writes.5) (made old.step_limit (mode_of old) refl writes.1 writes.2 writes.3).1)
       ]
-
-  pub inserts_survive : (new : State) → Survives old new (CommitsBy text params old) → Survives old new (MayInsert (uncounted t) row old)
-  inserts_survive new = survives_weaker old new _ _ (λ _ trees h. may trees h)

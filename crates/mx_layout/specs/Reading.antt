@@ -1,5 +1,5 @@
 -- What a query over a whole table answers.
-use Rattle.std.specs.Prelude.{◌≡◌, ℕ, List, length, map, All, Contains, IsPermutation, IsSorted, Option, MatchOption}
+use Rattle.std.specs.Prelude.{◌≡◌, List, map, Contains, IsPermutation, IsSorted, Option, MatchOption}
 use Rattle.std.specs.declared.cmp.Ordering.{Ordering}
 use Rattle.std.specs.Ordering.{on, then_cmp}
 use Rattle.sqlite.specs.Order.{Row, column, value_cmp}
@@ -25,16 +25,9 @@ by_two = then_cmp (on (λ r. column r 0) value_cmp) (on (λ r. column r 1) value
 abbrev pub AreAll : Table → Trees → List Row → Type 0
 AreAll = AreAllBy by_first
 
--- exactly the rows of the table, in the order of the first two columns
-abbrev pub AreAllByTwo : Table → Trees → List Row → Type 0
-AreAllByTwo = AreAllBy by_two
-
 -- some row of the table is none of those
 abbrev pub HasOther : (Row → Type 0) → List Row → Type 0
 HasOther IsGood rows = (row : Row) × Contains rows row × ¬ IsGood row
-
-abbrev pub AreWide : ℕ → List Row → Type 0
-AreWide width = All (λ row. length row ≡ width)
 
 -- the row is that of some X that fits
 abbrev pub IsRowOf : {X : Type 0} → (X → Row) → (X → Type 0) → Row → Type 0

@@ -1,8 +1,10 @@
 pub mod NewLemmas
 pub mod NameLemmas
 pub mod TakeLemmas
+pub mod TaskLemmas
 pub mod MergeLemmas
 pub mod SoundLemmas
 pub mod SortedLemmas
 pub mod RegisterLemmas
 pub mod Worked
+pub mod WorkedProgrammes

@@ -4,8 +4,9 @@ use Rattle.std.specs.Prelude.{Result, Ok, Err, IfOk}
 use Rattle.std.specs.List.{list_all}
 use Rattle.std.specs.Option.{option_and_then, option_map}
 use Rattle.std.proofs.lemmas.Bool.Decides.{nat_tests}
-use Rattle.mx_command.specs.Act.{Act, Entry, Added, Listed, Flown, Fitted, Removed, positions_of}
+use Rattle.mx_command.specs.Act.{Act, Entry, Added, Listed, Loaded, Opened, Flown, Fitted, Removed, positions_of, tasks_of}
 use Rattle.mx_command.specs.Shape.{has_shape}
+use Rattle.mx_command.specs.declared.programme.Task.{Task}
 use Rattle.mx_book.specs.Judge.{judge}
 use Rattle.mx_book.specs.Book.{is_new, is_book_from, IsBook}
 use Rattle.mx_book.proofs.JudgeLemmas.{both_true}
@@ -14,16 +15,21 @@ use Rattle.mx_register.specs.declared.rows.EntryRow.{EntryRow}
 use Rattle.mx_register.specs.declared.rows.AircraftRow.{AircraftRow}
 use Rattle.mx_register.specs.declared.rows.PlaceRow.{PlaceRow}
 use Rattle.mx_register.specs.declared.rows.ComponentRow.{ComponentRow}
+use Rattle.mx_register.specs.declared.rows.ProgrammeRow.{ProgrammeRow}
+use Rattle.mx_register.specs.declared.rows.TaskRow.{TaskRow}
+use Rattle.mx_register.specs.declared.rows.OpeningRow.{OpeningRow}
 use Rattle.mx_register.specs.declared.rows.SectorRow.{SectorRow}
 use Rattle.mx_register.specs.declared.rows.FittingRow.{FittingRow}
 use Rattle.mx_register.specs.declared.rows.RemovalRow.{RemovalRow}
-use Rattle.mx_register.specs.Names.{tail_at, serial_at, seq_of_tail, seq_of_serial, or_zero}
-use Rattle.mx_register.specs.Registers.{gives, gives_by, next, kind_of, entry_row, aircraft_row, component_row, sector_row, fitting_row, removal_row, places_from, entry_added, aircraft_by, places_by, components_by, sectors_by, fittings_by, removals_by, entry_rows, aircraft_rows, place_rows, component_rows, sector_rows, fitting_rows, removal_rows, AreRegistersOf}
-use Rattle.mx_register.specs.Merge.{Rest, aircraft_said, component_said, sector_said, fitting_said, removal_said, command_of, first_of_entry, take_places, take_by, take_command, merged}
+use Rattle.mx_register.specs.Names.{tail_at, serial_at, item_at, seq_of_tail, seq_of_serial, seq_of_item, or_zero}
+use Rattle.mx_register.specs.Lines.{Lines, lines_from}
+use Rattle.mx_register.specs.Registers.{gives, gives_by, next, kind_of, entry_row, aircraft_row, place_row, component_row, programme_row, task_row, opening_row, sector_row, fitting_row, removal_row, entry_added, aircraft_by, places_by, components_by, programmes_by, tasks_by, openings_by, sectors_by, fittings_by, removals_by, entry_rows, aircraft_rows, place_rows, component_rows, programme_rows, task_rows, opening_rows, sector_rows, fitting_rows, removal_rows, AreRegistersOf}
+use Rattle.mx_register.specs.Merge.{Rest, aircraft_said, component_said, programme_said, opening_said, sector_said, fitting_said, removal_said, place_lines, task_lines, command_of, first_of_entry, take_places, take_tasks, take_by, take_command, merged}
 use Rattle.mx_register.specs.Left.{all_rows}
-use Rattle.mx_register.proofs.NewLemmas.{flown_is_known, fitted_is_known, removed_is_known}
-use Rattle.mx_register.proofs.NameLemmas.{tail_known, serial_known}
-use Rattle.mx_register.proofs.TakeLemmas.{same-eq, takes_places, IsBehind}
+use Rattle.mx_register.proofs.NewLemmas.{opened_is_known, flown_is_known, fitted_is_known, removed_is_known}
+use Rattle.mx_register.proofs.NameLemmas.{tail_known, serial_known, item_known}
+use Rattle.mx_register.proofs.TakeLemmas.{same-eq, AreOfLines, IsBehind, takes_lines, place_is, places_said}
+use Rattle.mx_register.proofs.TaskLemmas.{task_is, tasks_said}
 
 -- ── the rows of one entry say it ──
 
@@ -33,6 +39,9 @@ in_front before act rest = record {
   aircraft = aircraft_by before act ++ rest.aircraft;
   places = places_by before act ++ rest.places;
   components = components_by before act ++ rest.components;
+  programmes = programmes_by before act ++ rest.programmes;
+  tasks = tasks_by before act ++ rest.tasks;
+  openings = openings_by before act ++ rest.openings;
   sectors = sectors_by before act ++ rest.sectors;
   fittings = fittings_by before act ++ rest.fittings;
   removals = removals_by before act ++ rest.removals;
@@ -41,37 +50,52 @@ in_front before act rest = record {
 first_found : {Row : Type 0} (seq_of : Row → ℕ) (row : Row) (rows : List Row) → first_of_entry seq_of (seq_of row) (row ∷ rows) ≡ Some (row, rows)
 first_found seq_of row rows = ap (λ b. cond b (Some (row, rows)) None) (same-eq (seq_of row))
 
--- a command that is new is said by its rows
-says_again : (before : List Entry) (doc : List ℕ) (act : Act) (rest : Rest) → is_new (judge before (record { doc = doc; act = act })) ≡ true → IsBehind (next before) rest.places
+-- no position and no task that comes first is of the entry with this number
+pub record AreBehind (seq : ℕ) (rest : Rest) : Type 0 where
+  pub places : IsBehind place_lines seq rest.places
+  pub tasks : IsBehind task_lines seq rest.tasks
+
+-- a command of its shape that is new is said by its rows
+says_again : (before : List Entry) (doc : List ℕ) (act : Act) (rest : Rest) → has_shape (record { doc = doc; act = act }) ≡ true → is_new (judge before (record { doc = doc; act = act })) ≡ true → AreBehind (next before) rest
     → take_by before (next before) (in_front before act rest) (kind_of act) ≡ Some (act, rest)
-says_again before doc (Added a positions) rest new behind =
+says_again before doc (Added a positions) rest shape new behind =
     let seq = next before in
-    let all = places_from seq 1 positions ++ rest.places in
+    let all = lines_from place_row seq 1 positions ++ rest.places in
     let row = aircraft_row seq a in
-    ap (option_map (λ (taken : AircraftRow × List AircraftRow). (aircraft_said taken.0 (take_places seq 1 all).0, record rest { aircraft = taken.1; places = (take_places seq 1 all).1 }))) (first_found (λ (r : AircraftRow). r.seq) row rest.aircraft)
-    ∙ ap (λ (t : List (List ℕ × List ℕ) × List PlaceRow). Some (aircraft_said row t.0, record rest { places = t.1 })) (takes_places seq 1 positions rest.places behind)
-says_again before doc (Listed c) rest new behind =
+    ap (option_map (λ (taken : AircraftRow × List AircraftRow). (aircraft_said taken.0 (take_places seq all).0, record rest { aircraft = taken.1; places = (take_places seq all).1 }))) (first_found (λ (r : AircraftRow). r.seq) row rest.aircraft)
+    ∙ ap (λ (t : List (List ℕ × List ℕ) × List PlaceRow). Some (aircraft_said row t.0, record rest { places = t.1 })) (takes_lines place_lines place_row place_is seq 1 positions rest.places (places_said positions) behind.places)
+says_again before doc (Listed c) rest shape new behind =
     ap (option_map (λ (taken : ComponentRow × List ComponentRow). (component_said taken.0, record rest { components = taken.1 }))) (first_found (λ (r : ComponentRow). r.seq) (component_row (next before) c) rest.components)
-says_again before doc (Flown s) rest new behind =
+says_again before doc (Loaded p tasks) rest shape new behind =
+    let seq = next before in
+    let all = lines_from task_row seq 1 tasks ++ rest.tasks in
+    let row = programme_row seq p in
+    ap (option_map (λ (taken : ProgrammeRow × List ProgrammeRow). (programme_said taken.0 (take_tasks seq all).0, record rest { programmes = taken.1; tasks = (take_tasks seq all).1 }))) (first_found (λ (r : ProgrammeRow). r.seq) row rest.programmes)
+    ∙ ap (λ (t : List Task × List TaskRow). Some (programme_said row t.0, record rest { tasks = t.1 })) (takes_lines task_lines task_row task_is seq 1 tasks rest.tasks (tasks_said doc p tasks shape) behind.tasks)
+says_again before doc (Opened o) rest shape new behind =
+    let row = opening_row (next before) (or_zero (seq_of_item before o.item)) o in
+    ap (option_and_then (λ (taken : OpeningRow × List OpeningRow). option_map (λ item. (opening_said taken.0 item, record rest { openings = taken.1 })) (item_at before taken.0.item))) (first_found (λ (r : OpeningRow). r.seq) row rest.openings)
+    ∙ ap (option_map (λ item. (opening_said row item, rest))) (item_known before o.item (opened_is_known before doc o new))
+says_again before doc (Flown s) rest shape new behind =
     let row = sector_row (next before) (or_zero (seq_of_tail before s.tail)) s in
     ap (option_and_then (λ (taken : SectorRow × List SectorRow). option_map (λ tail. (sector_said taken.0 tail, record rest { sectors = taken.1 })) (tail_at before taken.0.aircraft))) (first_found (λ (r : SectorRow). r.seq) row rest.sectors)
     ∙ ap (option_map (λ tail. (sector_said row tail, rest))) (tail_known before s.tail (flown_is_known before doc s new))
-says_again before doc (Fitted f) rest new behind =
+says_again before doc (Fitted f) rest shape new behind =
     let row = fitting_row (next before) (or_zero (seq_of_serial before f.serial)) (or_zero (seq_of_tail before f.tail)) f in
     let known = fitted_is_known before doc f new in
     ap (option_and_then (λ (taken : FittingRow × List FittingRow). option_and_then (λ serial. option_map (λ tail. (fitting_said taken.0 serial tail, record rest { fittings = taken.1 })) (tail_at before taken.0.aircraft)) (serial_at before taken.0.component))) (first_found (λ (r : FittingRow). r.seq) row rest.fittings)
     ∙ ap (option_and_then (λ serial. option_map (λ tail. (fitting_said row serial tail, rest)) (tail_at before row.aircraft))) (serial_known before f.serial known.1)
     ∙ ap (option_map (λ tail. (fitting_said row f.serial tail, rest))) (tail_known before f.tail known.0)
-says_again before doc (Removed r) rest new behind =
+says_again before doc (Removed r) rest shape new behind =
     let row = removal_row (next before) (or_zero (seq_of_serial before r.serial)) r in
     ap (option_and_then (λ (taken : RemovalRow × List RemovalRow). option_map (λ serial. (removal_said taken.0 serial, record rest { removals = taken.1 })) (serial_at before taken.0.component))) (first_found (λ (x : RemovalRow). x.seq) row rest.removals)
     ∙ ap (option_map (λ serial. (removal_said row serial, rest))) (serial_known before r.serial (removed_is_known before doc r new))
 
 -- the rows of a command of its shape that is new give it
-take_gives : (before : List Entry) (doc : List ℕ) (act : Act) (rest : Rest) → has_shape (record { doc = doc; act = act }) ≡ true → is_new (judge before (record { doc = doc; act = act })) ≡ true → IsBehind (next before) rest.places
+take_gives : (before : List Entry) (doc : List ℕ) (act : Act) (rest : Rest) → has_shape (record { doc = doc; act = act }) ≡ true → is_new (judge before (record { doc = doc; act = act })) ≡ true → AreBehind (next before) rest
     → take_command before (entry_row (next before) (record { doc = doc; act = act })) (in_front before act rest) ≡ Some (record { doc = doc; act = act }, rest)
 take_gives before doc act rest shape new behind =
-    ap (option_and_then (λ (taken : Act × Rest). option_map (λ (command : Entry). (command, taken.1)) (command_of doc taken.0))) (says_again before doc act rest new behind)
+    ap (option_and_then (λ (taken : Act × Rest). option_map (λ (command : Entry). (command, taken.1)) (command_of doc taken.0))) (says_again before doc act rest shape new behind)
     ∙ ap (λ b. option_map (λ (command : Entry). (command, rest)) (cond b (Some (record { doc = doc; act = act })) None)) shape
 
 -- ── the rows of a book give it ──
@@ -82,6 +106,9 @@ all_later before later = record {
   aircraft = gives_by aircraft_by before later;
   places = gives_by places_by before later;
   components = gives_by components_by before later;
+  programmes = gives_by programmes_by before later;
+  tasks = gives_by tasks_by before later;
+  openings = gives_by openings_by before later;
   sectors = gives_by sectors_by before later;
   fittings = gives_by fittings_by before later;
   removals = gives_by removals_by before later;
@@ -90,16 +117,24 @@ all_later before later = record {
 other_number : (n m : ℕ) → n ≤ m → (m + 1 == n) ≡ false
 other_number n m h = grind (arith, nat_tests)
 
-behind_if : (seq n : ℕ) (positions : List (List ℕ × List ℕ)) (rows : List PlaceRow) → seq ≤ n → IsBehind seq rows → IsBehind seq (places_from (n + 1) 1 positions ++ rows)
-behind_if seq n [] rows h rest = rest
-behind_if seq n (p ∷ positions) rows h rest = other_number seq n h
+module _ {X Row : Type 0} (lines : Lines X Row) (row_of : ℕ → ℕ → X → Row) (law : AreOfLines lines row_of) (things : Act → List X) where
+  behind_if : (seq n : ℕ) (xs : List X) (rows : List Row) → seq ≤ n → IsBehind lines seq rows → IsBehind lines seq (lines_from row_of (n + 1) 1 xs ++ rows)
+  behind_if seq n [] rows h rest = rest
+  behind_if seq n (x ∷ xs) rows h rest = ap (λ (m : ℕ). m == seq) (law.entry_is (n + 1) 1 x) ∙ other_number seq n h
 
--- the positions of later entries are of other numbers
-later_behind : (seq : ℕ) (before later : List Entry) → seq ≤ length before → IsBehind seq (gives_by places_by before later)
-later_behind seq before [] h = tt
-later_behind seq before (entry ∷ later) h =
-    behind_if seq (length before) (positions_of entry.act) (gives_by places_by (before ++ entry ∷ []) later) h
-    (later_behind seq (before ++ entry ∷ []) later (omega (arith, length-append before (entry ∷ []))))
+  -- the rows of later entries are of other numbers
+  later_behind : (seq : ℕ) (before later : List Entry) → seq ≤ length before → IsBehind lines seq (gives_by (λ earlier act. lines_from row_of (next earlier) 1 (things act)) before later)
+  later_behind seq before [] h = tt
+  later_behind seq before (entry ∷ later) h =
+      behind_if seq (length before) (things entry.act) (gives_by (λ earlier act. lines_from row_of (next earlier) 1 (things act)) (before ++ entry ∷ []) later) h
+      (later_behind seq (before ++ entry ∷ []) later (omega (arith, length-append before (entry ∷ []))))
+
+-- the positions and the tasks of later entries are of other numbers
+are_behind : (seq : ℕ) (before later : List Entry) → seq ≤ length before → AreBehind seq (all_later before later)
+are_behind seq before later h = record {
+  places = later_behind place_lines place_row place_is positions_of seq before later h;
+  tasks = later_behind task_lines task_row task_is tasks_of seq before later h;
+}
 
 -- over what later entries give to the registers the merge gives those entries behind the others
 merged_gives : (before later : List Entry) → is_book_from before later ≡ true → list_all has_shape later ≡ true → merged before (gives entry_added before later) (all_later before later) ≡ Some (before ++ later)
@@ -107,12 +142,12 @@ merged_gives before [] judged shaped = ap (λ (book : List Entry). Some book) (s
 merged_gives before (entry ∷ later) judged shaped =
     let new = both_true (is_new (judge before entry)) (is_book_from (before ++ entry ∷ []) later) judged in
     let shape = both_true (has_shape entry) (list_all has_shape later) shaped in
-    let behind = later_behind (next before) (before ++ entry ∷ []) later (omega (arith, length-append before (entry ∷ []))) in
+    let behind = are_behind (next before) (before ++ entry ∷ []) later (omega (arith, length-append before (entry ∷ []))) in
     rw (take_gives before entry.doc entry.act (all_later (before ++ entry ∷ []) later) shape.0 new.0 behind, same-eq (length before + 1), new.0)
     (merged_gives (before ++ entry ∷ []) later new.1 shape.1 ∙ ap (λ (book : List Entry). Some book) (append_assoc before (entry ∷ []) later))
 
 registers_rest : (registers : Registers) (book : List Entry) → AreRegistersOf registers book → all_rows registers ≡ all_later [] book
-registers_rest registers book are i = record { aircraft = are.aircraft i; places = are.places i; components = are.components i; sectors = are.sectors i; fittings = are.fittings i; removals = are.removals i }
+registers_rest registers book are i = record { aircraft = are.aircraft i; places = are.places i; components = are.components i; programmes = are.programmes i; tasks = are.tasks i; openings = are.openings i; sectors = are.sectors i; fittings = are.fittings i; removals = are.removals i }
 
 -- from the registers of a book the merge gives the book
 pub merged_from : (registers : Registers) (book : List Entry) → IsBook book → AreRegistersOf registers book → merged [] registers.entries.items (all_rows registers) ≡ Some book
@@ -129,12 +164,15 @@ pub record HaveSameRegisters (one other : List Entry) : Type 0 where
   pub aircraft : aircraft_rows one ≡ aircraft_rows other
   pub places : place_rows one ≡ place_rows other
   pub components : component_rows one ≡ component_rows other
+  pub programmes : programme_rows one ≡ programme_rows other
+  pub tasks : task_rows one ≡ task_rows other
+  pub openings : opening_rows one ≡ opening_rows other
   pub sectors : sector_rows one ≡ sector_rows other
   pub fittings : fitting_rows one ≡ fitting_rows other
   pub removals : removal_rows one ≡ removal_rows other
 
 same_later : (one other : List Entry) → HaveSameRegisters one other → all_later [] one ≡ all_later [] other
-same_later one other same i = record { aircraft = same.aircraft i; places = same.places i; components = same.components i; sectors = same.sectors i; fittings = same.fittings i; removals = same.removals i }
+same_later one other same i = record { aircraft = same.aircraft i; places = same.places i; components = same.components i; programmes = same.programmes i; tasks = same.tasks i; openings = same.openings i; sectors = same.sectors i; fittings = same.fittings i; removals = same.removals i }
 
 -- books with the same registers are one
 pub book_once : (one other : List Entry) → HaveSameRegisters one other → IsBook one → IsBook other → one ≡ other

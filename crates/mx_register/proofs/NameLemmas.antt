@@ -7,13 +7,15 @@ use Rattle.mx_command.specs.Act.{Act, Entry, Added, Listed, aircraft_of, compone
 use Rattle.mx_command.specs.Same.{same_text}
 use Rattle.mx_command.specs.declared.aircraft.Aircraft.{Aircraft}
 use Rattle.mx_command.specs.declared.component.Component.{Component}
+use Rattle.mx_command.specs.declared.item.Item.{Item}
+use Rattle.mx_command.specs.declared.item.Item.TheVariants as items
 use Rattle.mx_command.proofs.SameLemmas.{text_same}
 use Rattle.mx_book.specs.Register.{register, aircraft, component}
 use Rattle.mx_book.specs.Judge.{judge}
-use Rattle.mx_book.specs.Book.{is_new, is_book_from}
+use Rattle.mx_book.specs.Book.{is_new, is_book_from, entry_at}
 use Rattle.mx_book.proofs.JudgeLemmas.{both_true}
-use Rattle.mx_register.specs.Names.{adds_named, number_from, name_at, tail_added, serial_added, seq_of_tail, seq_of_serial, tail_at, serial_at, or_zero}
-use Rattle.mx_register.proofs.NewLemmas.{added_is_unknown, listed_is_unknown}
+use Rattle.mx_register.specs.Names.{adds_named, number_from, said_at, tail_added, serial_added, item_added, seq_of_tail, seq_of_serial, seq_of_item, tail_at, serial_at, item_at, or_zero}
+use Rattle.mx_register.proofs.NewLemmas.{added_is_unknown, listed_is_unknown, has_item}
 
 named : (o : Option (List ℕ)) (name : List ℕ) → option_map_or (λ added. same_text added name) o false ≡ true → o ≡ Some name
 named None name h = (cc)
@@ -37,27 +39,27 @@ module _ (name_of : Act → Option (List ℕ)) where
   slice_get_seam [] entry later = refl
   slice_get_seam (e ∷ before) entry later = slice_get_seam before entry later
 
-  name_at_seam : (before : List Entry) (entry : Entry) (later : List Entry) → name_at name_of (before ++ entry ∷ later) (length before + 1) ≡ name_of entry.act
-  name_at_seam before entry later =
-      ap (name_at name_of (before ++ entry ∷ later)) (add-one (length before)) ∙ ap (option_and_then (λ (e : Entry). name_of e.act)) (slice_get_seam before entry later)
+  said_at_seam : (before : List Entry) (entry : Entry) (later : List Entry) → said_at name_of (before ++ entry ∷ later) (length before + 1) ≡ name_of entry.act
+  said_at_seam before entry later =
+      ap (said_at name_of (before ++ entry ∷ later)) (add-one (length before)) ∙ ap (option_and_then (λ (e : Entry). name_of e.act)) (slice_get_seam before entry later)
 
   at_if : (b : Bool) (k seq : ℕ) (later : Option ℕ) (goal : ℕ → Option (List ℕ)) (name : List ℕ) → (b ≡ true → goal k ≡ Some name) → (later ≡ Some seq → goal seq ≡ Some name)
       → cond b (Some k) later ≡ Some seq → goal seq ≡ Some name
   at_if true k seq later goal name here there h = let same : k ≡ seq = cc in sym (ap goal same) ∙ here refl
   at_if false k seq later goal name here there h = there h
 
-  name_at_from : (name : List ℕ) (seq : ℕ) (before later : List Entry) → number_from name_of name (length before + 1) later ≡ Some seq → name_at name_of (before ++ later) seq ≡ Some name
-  name_at_from name seq before [] h = (cc)
-  name_at_from name seq before (entry ∷ later) h =
+  said_at_from : (name : List ℕ) (seq : ℕ) (before later : List Entry) → number_from name_of name (length before + 1) later ≡ Some seq → said_at name_of (before ++ later) seq ≡ Some name
+  said_at_from name seq before [] h = (cc)
+  said_at_from name seq before (entry ∷ later) h =
       let one : length (before ++ entry ∷ []) ≡ length before + 1 = length-append before (entry ∷ []) in
-      at_if (adds_named name_of name entry.act) (length before + 1) seq (number_from name_of name (length before + 1 + 1) later) (name_at name_of (before ++ entry ∷ later)) name
-      (λ this. name_at_seam before entry later ∙ named (name_of entry.act) name this)
-      (λ g. ap (λ (es : List Entry). name_at name_of es seq) (sym (append_assoc before (entry ∷ []) later))
-      ∙ name_at_from name seq (before ++ entry ∷ []) later (ap (λ (n : ℕ). number_from name_of name (n + 1) later) one ∙ g)) h
+      at_if (adds_named name_of name entry.act) (length before + 1) seq (number_from name_of name (length before + 1 + 1) later) (said_at name_of (before ++ entry ∷ later)) name
+      (λ this. said_at_seam before entry later ∙ named (name_of entry.act) name this)
+      (λ g. ap (λ (es : List Entry). said_at name_of es seq) (sym (append_assoc before (entry ∷ []) later))
+      ∙ said_at_from name seq (before ++ entry ∷ []) later (ap (λ (n : ℕ). number_from name_of name (n + 1) later) one ∙ g)) h
 
   -- the entry whose number is found added the thing with this name
-  pub name_at-number : (book : List Entry) (name : List ℕ) (seq : ℕ) → number_from name_of name 1 book ≡ Some seq → name_at name_of book seq ≡ Some name
-  name_at-number book name seq h = name_at_from name seq [] book h
+  pub said_at-number : (book : List Entry) (name : List ℕ) (seq : ℕ) → number_from name_of name 1 book ≡ Some seq → said_at name_of book seq ≡ Some name
+  said_at-number book name seq h = said_at_from name seq [] book h
 
   -- ── in a book the entry that added the thing is the one that is found ──
 
@@ -88,7 +90,7 @@ module _ (name_of : Act → Option (List ℕ)) where
   abbrev AddsNew : Type 0
   AddsNew = (before : List Entry) (entry : Entry) (name : List ℕ) → is_new (judge before entry) ≡ true → name_of entry.act ≡ Some name → is_some (number_from name_of name 1 before) ≡ false
 
-  no_second : AddsNew → (name : List ℕ) (before later : List Entry) (k : ℕ) → is_some (number_from name_of name 1 before) ≡ true → is_book_from before later ≡ true → name_at name_of later (suc k) ≡ Some name → ⊥
+  no_second : AddsNew → (name : List ℕ) (before later : List Entry) (k : ℕ) → is_some (number_from name_of name 1 before) ≡ true → is_book_from before later ≡ true → said_at name_of later (suc k) ≡ Some name → ⊥
   no_second fresh name before [] k h judged e = (cc)
   no_second fresh name before (entry ∷ later) zero h judged e =
       let both = both_true (is_new (judge before entry)) (is_book_from (before ++ entry ∷ []) later) judged in
@@ -101,7 +103,7 @@ module _ (name_of : Act → Option (List ℕ)) where
   later_if true k seq o other h = absurd (other refl)
   later_if false k seq o other h = h
 
-  number_at : AddsNew → (name : List ℕ) (before later : List Entry) (k : ℕ) → is_book_from before later ≡ true → name_at name_of later (suc k) ≡ Some name → number_from name_of name (length before + 1) later ≡ Some (length before + suc k)
+  number_at : AddsNew → (name : List ℕ) (before later : List Entry) (k : ℕ) → is_book_from before later ≡ true → said_at name_of later (suc k) ≡ Some name → number_from name_of name (length before + 1) later ≡ Some (length before + suc k)
   number_at fresh name before [] k judged e = (cc)
   number_at fresh name before (entry ∷ later) zero judged e =
       ap (λ b. cond b (Some (length before + 1)) (number_from name_of name (length before + 1 + 1) later)) (names (name_of entry.act) name e)
@@ -114,9 +116,9 @@ module _ (name_of : Act → Option (List ℕ)) where
       (λ again. no_second fresh name (before ++ entry ∷ []) later k (becomes name 1 before entry again) both.1 e) rest
 
   -- the entry of a book that added the thing with this name is the one whose number is found
-  pub number-name_at : AddsNew → (book : List Entry) (name : List ℕ) (seq : ℕ) → is_book_from [] book ≡ true → name_at name_of book seq ≡ Some name → number_from name_of name 1 book ≡ Some seq
-  number-name_at fresh book name zero judged e = (cc)
-  number-name_at fresh book name (suc k) judged e = number_at fresh name [] book k judged e ∙ let same : 0 + suc k ≡ suc k = omega arith in ap (λ (n : ℕ). Some n) same
+  pub number-said_at : AddsNew → (book : List Entry) (name : List ℕ) (seq : ℕ) → is_book_from [] book ≡ true → said_at name_of book seq ≡ Some name → number_from name_of name 1 book ≡ Some seq
+  number-said_at fresh book name zero judged e = (cc)
+  number-said_at fresh book name (suc k) judged e = number_at fresh name [] book k judged e ∙ let same : 0 + suc k ≡ suc k = omega arith in ap (λ (n : ℕ). Some n) same
 
 -- ── a thing that the book has is found by its number ──
 
@@ -142,11 +144,11 @@ component_found book serial = found_from component_of (λ (c : Component). c.ser
 
 -- an aircraft that the book has is the one that the entry of its number added
 pub tail_known : (book : List Entry) (tail : List ℕ) → is_some (aircraft book tail) ≡ true → tail_at book (or_zero (seq_of_tail book tail)) ≡ Some tail
-tail_known book tail h = name_at-number tail_added book tail (or_zero (seq_of_tail book tail)) (some_of (seq_of_tail book tail) (sym (aircraft_found book tail) ∙ h))
+tail_known book tail h = said_at-number tail_added book tail (or_zero (seq_of_tail book tail)) (some_of (seq_of_tail book tail) (sym (aircraft_found book tail) ∙ h))
 
 -- a component that the book has is the one that the entry of its number added
 pub serial_known : (book : List Entry) (serial : List ℕ) → is_some (component book serial) ≡ true → serial_at book (or_zero (seq_of_serial book serial)) ≡ Some serial
-serial_known book serial h = name_at-number serial_added book serial (or_zero (seq_of_serial book serial)) (some_of (seq_of_serial book serial) (sym (component_found book serial) ∙ h))
+serial_known book serial h = said_at-number serial_added book serial (or_zero (seq_of_serial book serial)) (some_of (seq_of_serial book serial) (sym (component_found book serial) ∙ h))
 
 tail_by : (before : List Entry) (doc : List ℕ) (act : Act) (tail : List ℕ) → is_new (judge before (record { doc = doc; act = act })) ≡ true → tail_added act ≡ Some tail → is_some (seq_of_tail before tail) ≡ false
 tail_by before doc (Added a positions) tail new e =
@@ -162,8 +164,52 @@ serial_by before doc _ serial new e = (cc)
 
 -- in a book the entry that added an aircraft is the one whose number is found
 pub tail_number : (book : List Entry) (tail : List ℕ) (seq : ℕ) → is_book_from [] book ≡ true → tail_at book seq ≡ Some tail → seq ≡ or_zero (seq_of_tail book tail)
-tail_number book tail seq judged e = sym (ap or_zero (number-name_at tail_added (λ before entry name new is. tail_by before entry.doc entry.act name new is) book tail seq judged e))
+tail_number book tail seq judged e = sym (ap or_zero (number-said_at tail_added (λ before entry name new is. tail_by before entry.doc entry.act name new is) book tail seq judged e))
 
 -- in a book the entry that added a component is the one whose number is found
 pub serial_number : (book : List Entry) (serial : List ℕ) (seq : ℕ) → is_book_from [] book ≡ true → serial_at book seq ≡ Some serial → seq ≡ or_zero (seq_of_serial book serial)
-serial_number book serial seq judged e = sym (ap or_zero (number-name_at serial_added (λ before entry name new is. serial_by before entry.doc entry.act name new is) book serial seq judged e))
+serial_number book serial seq judged e = sym (ap or_zero (number-said_at serial_added (λ before entry name new is. serial_by before entry.doc entry.act name new is) book serial seq judged e))
+
+-- ── items ──
+
+airframe_of : (act : Act) (tail : List ℕ) → tail_added act ≡ Some tail → item_added act ≡ Some (items.Airframe tail)
+airframe_of (Added a positions) tail h = ap (option_map (λ (t : List ℕ). items.Airframe t)) h
+airframe_of _ tail h = (cc)
+
+airframe_at : (o : Option Entry) (tail : List ℕ) → option_and_then (λ (e : Entry). tail_added e.act) o ≡ Some tail → option_and_then (λ (e : Entry). item_added e.act) o ≡ Some (items.Airframe tail)
+airframe_at None tail h = (cc)
+airframe_at (Some e) tail h = airframe_of e.act tail h
+
+component_of_serial : (act : Act) (serial : List ℕ) → serial_added act ≡ Some serial → item_added act ≡ Some (items.Component serial)
+component_of_serial (Listed c) serial h = ap (option_map (λ (s : List ℕ). items.Component s)) h
+component_of_serial _ serial h = (cc)
+
+component_at : (o : Option Entry) (serial : List ℕ) → option_and_then (λ (e : Entry). serial_added e.act) o ≡ Some serial → option_and_then (λ (e : Entry). item_added e.act) o ≡ Some (items.Component serial)
+component_at None serial h = (cc)
+component_at (Some e) serial h = component_of_serial e.act serial h
+
+-- an item that the book has is the one that the entry of its number added
+pub item_known : (book : List Entry) (item : Item) → has_item book item ≡ true → item_at book (or_zero (seq_of_item book item)) ≡ Some item
+item_known book (items.Airframe tail) h = airframe_at (entry_at book (or_zero (seq_of_tail book tail))) tail (tail_known book tail h)
+item_known book (items.Component serial) h = component_at (entry_at book (or_zero (seq_of_serial book serial))) serial (serial_known book serial h)
+
+tail_of : (act : Act) (tail : List ℕ) → item_added act ≡ Some (items.Airframe tail) → tail_added act ≡ Some tail
+tail_of (Added a positions) tail h = let same : a.tail ≡ tail = cc in ap (λ (t : List ℕ). Some t) same
+tail_of _ tail h = (cc)
+
+tail_from : (o : Option Entry) (tail : List ℕ) → option_and_then (λ (e : Entry). item_added e.act) o ≡ Some (items.Airframe tail) → option_and_then (λ (e : Entry). tail_added e.act) o ≡ Some tail
+tail_from None tail h = (cc)
+tail_from (Some e) tail h = tail_of e.act tail h
+
+serial_of : (act : Act) (serial : List ℕ) → item_added act ≡ Some (items.Component serial) → serial_added act ≡ Some serial
+serial_of (Listed c) serial h = let same : c.serial ≡ serial = cc in ap (λ (s : List ℕ). Some s) same
+serial_of _ serial h = (cc)
+
+serial_from : (o : Option Entry) (serial : List ℕ) → option_and_then (λ (e : Entry). item_added e.act) o ≡ Some (items.Component serial) → option_and_then (λ (e : Entry). serial_added e.act) o ≡ Some serial
+serial_from None serial h = (cc)
+serial_from (Some e) serial h = serial_of e.act serial h
+
+-- in a book the entry that added an item is the one whose number is found
+pub item_number : (book : List Entry) (item : Item) (seq : ℕ) → is_book_from [] book ≡ true → item_at book seq ≡ Some item → seq ≡ or_zero (seq_of_item book item)
+item_number book (items.Airframe tail) seq judged e = tail_number book tail seq judged (tail_from (entry_at book seq) tail e)
+item_number book (items.Component serial) seq judged e = serial_number book serial seq judged (serial_from (entry_at book seq) serial e)

@@ -1,17 +1,20 @@
 -- What a verdict of new says of the registrations and the serial numbers.
 use Rattle.std.proofs.Common.{◌≡◌, List, ◌∷◌, ℕ, Bool, true, false, ◌||◌, Option, Some, None, refl, sym, ap, ◌∙◌}
 use Rattle.std.specs.Prelude.{not, is_some}
-use Rattle.mx_command.specs.Act.{Act, Entry, Added, Listed, Flown, Fitted, Removed}
+use Rattle.mx_command.specs.Act.{Act, Entry, Added, Listed, Opened, Flown, Fitted, Removed}
 use Rattle.mx_command.specs.declared.aircraft.Aircraft.{Aircraft}
 use Rattle.mx_command.specs.declared.component.Component.{Component}
+use Rattle.mx_command.specs.declared.item.Item.{Item}
+use Rattle.mx_command.specs.declared.item.Item.TheVariants as items
+use Rattle.mx_command.specs.declared.opening.Opening.{Opening}
 use Rattle.mx_command.specs.declared.sector.Sector.{Sector}
 use Rattle.mx_command.specs.declared.fitting.Fitting.{Fitting}
 use Rattle.mx_command.specs.declared.fitting.Removal.{Removal}
 use Rattle.mx_book.specs.declared.verdict.Refusal.{Refusal}
-use Rattle.mx_book.specs.declared.verdict.Refusal.TheVariants.{Full, UnknownAircraft, UnknownComponent, UnknownPosition, AircraftExists, ComponentExists}
+use Rattle.mx_book.specs.declared.verdict.Refusal.TheVariants.{Full, UnknownAircraft, UnknownComponent, UnknownPosition, UnknownProgramme, UnknownTask, AircraftExists, ComponentExists}
 use Rattle.mx_book.specs.declared.verdict.Verdict.TheVariants.{New}
 use Rattle.mx_book.specs.Register.{aircraft, component}
-use Rattle.mx_book.specs.Judge.{judge, judge_by, refusals, first_of, when, verdict_of, is_full, names_unknown_aircraft, names_unknown_component, names_unknown_position, aircraft_exists, component_exists}
+use Rattle.mx_book.specs.Judge.{judge, judge_by, refusals, first_of, when, verdict_of, is_full, names_unknown_aircraft, names_unknown_component, names_unknown_position, names_unknown_programme, names_unknown_task, aircraft_exists, component_exists}
 use Rattle.mx_book.specs.Book.{is_new}
 use Rattle.mx_book.proofs.JudgeLemmas.{is_new-New}
 use Rattle.mx_book.proofs.KnownLemmas.{unknown_document}
@@ -45,9 +48,11 @@ is_fresh book command h =
     let two = first_none (names_unknown_aircraft book act) UnknownAircraft _ one.1 in
     let three = first_none (names_unknown_component book act) UnknownComponent _ two.1 in
     let four = first_none (names_unknown_position book act) UnknownPosition _ three.1 in
-    let five = first_none (aircraft_exists book act) AircraftExists _ four.1 in
-    let six = first_none (component_exists book act) ComponentExists _ five.1 in
-    record { aircraft_known = two.0; component_known = three.0; aircraft_free = five.0; component_free = six.0 }
+    let five = first_none (names_unknown_programme book act) UnknownProgramme _ four.1 in
+    let six = first_none (names_unknown_task book act) UnknownTask _ five.1 in
+    let seven = first_none (aircraft_exists book act) AircraftExists _ six.1 in
+    let eight = first_none (component_exists book act) ComponentExists _ seven.1 in
+    record { aircraft_known = two.0; component_known = three.0; aircraft_free = seven.0; component_free = eight.0 }
 
 known : (b : Bool) → not b || false ≡ false → b ≡ true
 known true h = refl
@@ -74,3 +79,18 @@ fitted_is_known book doc f h =
 -- a removal that is entered names a component
 pub removed_is_known : (book : List Entry) (doc : List ℕ) (r : Removal) → is_new (judge book (record { doc = doc; act = Removed r })) ≡ true → is_some (component book r.serial) ≡ true
 removed_is_known book doc r h = known (is_some (component book r.serial)) (is_fresh book (record { doc = doc; act = Removed r }) h).component_known
+
+-- the book has the item
+abbrev pub has_item : List Entry → Item → Bool
+has_item book (items.Airframe tail) = is_some (aircraft book tail)
+has_item book (items.Component serial) = is_some (component book serial)
+
+opened_by : (book : List Entry) (o : Opening) (item : Item) → names_unknown_aircraft book (Opened (record o { item = item })) ≡ false → names_unknown_component book (Opened (record o { item = item })) ≡ false → has_item book item ≡ true
+opened_by book o (items.Airframe tail) h g = known (is_some (aircraft book tail)) h
+opened_by book o (items.Component serial) h g = known (is_some (component book serial)) g
+
+-- an opening that is entered names an item
+pub opened_is_known : (book : List Entry) (doc : List ℕ) (o : Opening) → is_new (judge book (record { doc = doc; act = Opened o })) ≡ true → has_item book o.item ≡ true
+opened_is_known book doc o h =
+    let fresh = is_fresh book (record { doc = doc; act = Opened o }) h in
+    opened_by book o o.item fresh.aircraft_known fresh.component_known

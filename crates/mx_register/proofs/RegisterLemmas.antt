@@ -1,10 +1,11 @@
 -- Registers as a book grows by a command, and the order of their rows.
-use Rattle.std.proofs.Common.{◌≡◌, ℕ, ◌+◌, ◌*◌, ◌^◌, ◌≤◌, List, [], ◌∷◌, ◌++◌, length, true, Option, Some, None, refl, sym, ap, subst, ◌∙◌, arith, All, append_assoc, append-nil, length-append}
+use Rattle.std.proofs.Common.{◌≡◌, ℕ, ◌+◌, ◌*◌, ◌^◌, ◌≤◌, List, [], ◌∷◌, ◌++◌, length, true, Option, Some, None, refl, sym, ap, subst, ◌∙◌, arith, append_assoc, append-nil, length-append}
 use Rattle.std.specs.Prelude.{nat_le}
 use Rattle.std.specs.List.{list_all}
 use Rattle.std.proofs.lemmas.Bool.Decides.{nat_tests}
-use Rattle.mx_command.specs.Act.{Act, Entry, Added, positions_of, aircraft_of, component_of, sector_of, fitting_of, removal_of}
+use Rattle.mx_command.specs.Act.{Act, Entry, Added, positions_of, tasks_of, aircraft_of, component_of, programme_of, opening_of, sector_of, fitting_of, removal_of}
 use Rattle.mx_command.specs.Shape.{has_shape, act_shape, doc_shape, opening_shape, positions_shape}
+use Rattle.mx_command.specs.declared.opening.Opening.{Opening}
 use Rattle.mx_command.specs.declared.sector.Sector.{Sector}
 use Rattle.mx_command.specs.declared.fitting.Fitting.{Fitting}
 use Rattle.mx_command.specs.declared.fitting.Removal.{Removal}
@@ -12,13 +13,17 @@ use Rattle.mx_book.proofs.JudgeLemmas.{both_true}
 use Rattle.mx_register.specs.declared.rows.EntryRow.{EntryRow}
 use Rattle.mx_register.specs.declared.rows.AircraftRow.{AircraftRow}
 use Rattle.mx_register.specs.declared.rows.ComponentRow.{ComponentRow}
+use Rattle.mx_register.specs.declared.rows.ProgrammeRow.{ProgrammeRow}
+use Rattle.mx_register.specs.declared.rows.OpeningRow.{OpeningRow}
 use Rattle.mx_register.specs.declared.rows.SectorRow.{SectorRow}
 use Rattle.mx_register.specs.declared.rows.FittingRow.{FittingRow}
 use Rattle.mx_register.specs.declared.rows.RemovalRow.{RemovalRow}
-use Rattle.mx_register.specs.Names.{seq_of_tail, seq_of_serial, or_zero}
-use Rattle.mx_register.specs.Rows.{place_key}
+use Rattle.mx_register.specs.Names.{seq_of_tail, seq_of_serial, seq_of_item, or_zero}
+use Rattle.mx_register.specs.Lines.{lines_from}
+use Rattle.mx_register.specs.Rows.{line_key, place_key, task_key}
 use Rattle.mx_register.specs.Rising.{IsRising}
-use Rattle.mx_register.specs.Registers.{gives, gives_by, next, if_any, places_from, aircraft_row, component_row, sector_row, fitting_row, removal_row, entry_added, aircraft_by, places_by, components_by, sectors_by, fittings_by, removals_by, entry_rows, aircraft_rows, place_rows, component_rows, sector_rows, fitting_rows, removal_rows}
+use Rattle.mx_register.specs.Registers.{gives, gives_by, next, if_any, aircraft_row, place_row, component_row, programme_row, task_row, opening_row, sector_row, fitting_row, removal_row, entry_added, aircraft_by, components_by, programmes_by, openings_by, sectors_by, fittings_by, removals_by, entry_rows, aircraft_rows, place_rows, component_rows, programme_rows, task_rows, opening_rows, sector_rows, fitting_rows, removal_rows}
+use Rattle.mx_register.proofs.TaskLemmas.{tasks_few}
 
 -- ── one command more ──
 
@@ -80,6 +85,17 @@ pub component_rows-rising : (book : List Entry) → list_all has_shape book ≡ 
 unfolding by_number
 component_rows-rising = from_one (λ (row : ComponentRow). row.seq) by_number (λ before entry. components_by before entry.act) (λ before entry _. one_rises (λ (row : ComponentRow). row.seq) (next before) (component_row (next before)) (λ c. refl) (component_of entry.act))
 
+-- the numbers of the programmes rise, none above the length of the book
+pub programme_rows-rising : (book : List Entry) → list_all has_shape book ≡ true → IsRising (λ (row : ProgrammeRow). row.seq) 1 (programme_rows book) (length book + 1)
+unfolding by_number
+programme_rows-rising = from_one (λ (row : ProgrammeRow). row.seq) by_number (λ before entry. programmes_by before entry.act) (λ before entry _. one_rises (λ (row : ProgrammeRow). row.seq) (next before) (programme_row (next before)) (λ p. refl) (programme_of entry.act))
+
+-- the numbers of the openings rise, none above the length of the book
+pub opening_rows-rising : (book : List Entry) → list_all has_shape book ≡ true → IsRising (λ (row : OpeningRow). row.seq) 1 (opening_rows book) (length book + 1)
+unfolding by_number
+opening_rows-rising = from_one (λ (row : OpeningRow). row.seq) by_number (λ before entry. openings_by before entry.act)
+    (λ before entry _. one_rises (λ (row : OpeningRow). row.seq) (next before) (λ (o : Opening). opening_row (next before) (or_zero (seq_of_item before o.item)) o) (λ o. refl) (opening_of entry.act))
+
 -- the numbers of the sectors rise, none above the length of the book
 pub sector_rows-rising : (book : List Entry) → list_all has_shape book ≡ true → IsRising (λ (row : SectorRow). row.seq) 1 (sector_rows book) (length book + 1)
 unfolding by_number
@@ -101,29 +117,41 @@ removal_rows-rising = from_one (λ (row : RemovalRow). row.seq) by_number (λ be
 by_line : ℕ → ℕ
 by_line n = n * 2 ^ 32
 
--- the positions of one aircraft rise by their lines
-places_rise : (seq line : ℕ) (positions : List (List ℕ × List ℕ)) → line + length positions ≤ 2 ^ 32 → IsRising place_key (seq * 2 ^ 32 + line) (places_from seq line positions) ((seq + 1) * 2 ^ 32)
-places_rise seq line [] h = omega arith
-places_rise seq line (p ∷ positions) h =
-    (omega arith, subst (λ n. IsRising place_key n (places_from seq (line + 1) positions) ((seq + 1) * 2 ^ 32)) (let e : seq * 2 ^ 32 + (line + 1) ≡ seq * 2 ^ 32 + line + 1 = omega arith in e) (places_rise seq (line + 1) positions (omega arith)))
+rising-lower : {Row : Type 0} (key : Row → ℕ) (low more high : ℕ) (xs : List Row) → low ≤ more → IsRising key more xs high → IsRising key low xs high
+rising-lower key low more high [] h up = omega arith
+rising-lower key low more high (x ∷ xs) h up = (omega arith, up.1)
 
-few_positions : (positions : List (List ℕ × List ℕ)) → positions_shape positions ≡ true → length positions ≤ 40
+module _ {X Row : Type 0} (key : Row → ℕ) (row_of : ℕ → ℕ → X → Row) (same : (seq line : ℕ) (x : X) → key (row_of seq line x) ≡ line_key seq line) where
+  -- the rows of one entry rise by their lines
+  lines_rise : (seq line : ℕ) (xs : List X) → line + length xs ≤ 2 ^ 32 → IsRising key (seq * 2 ^ 32 + line) (lines_from row_of seq line xs) ((seq + 1) * 2 ^ 32)
+  lines_rise seq line [] h = omega arith
+  lines_rise seq line (x ∷ xs) h =
+      let here : key (row_of seq line x) ≡ seq * 2 ^ 32 + line = same seq line x in
+      let next_line : seq * 2 ^ 32 + (line + 1) ≡ key (row_of seq line x) + 1 = omega arith in
+      (omega arith, subst (λ n. IsRising key n (lines_from row_of seq (line + 1) xs) ((seq + 1) * 2 ^ 32)) next_line (lines_rise seq (line + 1) xs (omega arith)))
+
+  -- the rows of all entries rise by the numbers of the entries and then by their lines
+  lines-rising : (things : Act → List X) → ((doc : List ℕ) (act : Act) → has_shape (record { doc = doc; act = act }) ≡ true → length (things act) ≤ 500)
+      → (book : List Entry) → list_all has_shape book ≡ true → IsRising key (1 * 2 ^ 32) (gives_by (λ before act. lines_from row_of (next before) 1 (things act)) [] book) ((length book + 1) * 2 ^ 32)
+  unfolding by_line
+  lines-rising things few = from_one key by_line (λ before entry. lines_from row_of (next before) 1 (things entry.act))
+      (λ before entry shape. let most = few entry.doc entry.act shape in
+      rising-lower key (next before * 2 ^ 32) (next before * 2 ^ 32 + 1) ((next before + 1) * 2 ^ 32) (lines_from row_of (next before) 1 (things entry.act)) (omega arith)
+      (lines_rise (next before) 1 (things entry.act) (omega arith)))
+
+few_positions : (positions : List (List ℕ × List ℕ)) → positions_shape positions ≡ true → length positions ≤ 500
 few_positions positions h = let few = (both_true (nat_le (length positions) 40) _ h).0 in grind (arith, nat_tests)
 
-positions_few : (doc : List ℕ) (act : Act) → has_shape (record { doc = doc; act = act }) ≡ true → length (positions_of act) ≤ 40
+positions_few : (doc : List ℕ) (act : Act) → has_shape (record { doc = doc; act = act }) ≡ true → length (positions_of act) ≤ 500
 positions_few doc (Added a positions) h =
     let shape = both_true (act_shape (Added a positions)) (doc_shape doc (Added a positions)) h in
     few_positions positions (both_true (opening_shape a.birth a.opening a.as_of) (positions_shape positions) shape.0).1
 positions_few doc _ h = omega arith
 
-rising-lower : {Row : Type 0} (key : Row → ℕ) (low more high : ℕ) (xs : List Row) → low ≤ more → IsRising key more xs high → IsRising key low xs high
-rising-lower key low more high [] h up = omega arith
-rising-lower key low more high (x ∷ xs) h up = (omega arith, up.1)
-
 -- the positions of all aircraft rise by the numbers of their entries and then by their lines
 pub place_rows-rising : (book : List Entry) → list_all has_shape book ≡ true → IsRising place_key (1 * 2 ^ 32) (place_rows book) ((length book + 1) * 2 ^ 32)
-unfolding by_line
-place_rows-rising = from_one place_key by_line (λ before entry. places_by before entry.act)
-    (λ before entry shape. let few = positions_few entry.doc entry.act shape in
-    rising-lower place_key (next before * 2 ^ 32) (next before * 2 ^ 32 + 1) ((next before + 1) * 2 ^ 32) (places_by before entry.act) (omega arith)
-    (places_rise (next before) 1 (positions_of entry.act) (omega arith)))
+place_rows-rising = lines-rising place_key place_row (λ seq line p. refl) positions_of positions_few
+
+-- the tasks of all programmes rise by the numbers of their entries and then by their lines
+pub task_rows-rising : (book : List Entry) → list_all has_shape book ≡ true → IsRising task_key (1 * 2 ^ 32) (task_rows book) ((length book + 1) * 2 ^ 32)
+task_rows-rising = lines-rising task_key task_row (λ seq line t. refl) tasks_of tasks_few

@@ -124,15 +124,3 @@ IsFrom-adjacent key low (x ∷ y ∷ xs) bound up = (
       let all = x ∷ y ∷ xs in
       subst (λ n. key (slice_index_or all (suc k) d) ≤ key (slice_index_or all n d)) one (up (suc k) d (omega arith))),
 )
-
--- rows that were read in the order of their keys are the register whose columns they have
-pub read_once : {Row Cells : Type 0} (cells : Row → Cells) (key : Row → ℕ) (cells_key : Cells → ℕ) → ((row : Row) → key row ≡ cells_key (cells row)) → ((a b : Row) → cells a ≡ cells b → a ≡ b)
-    → (low from high : ℕ) (register read : List Row) → IsRising key low register high → IsFrom key from read → IsPermutation (map cells register) (map cells read) → read ≡ register
-read_once cells key cells_key same once low from high register read up slow perm =
-    sym (map_once cells once register read (sorted_once cells_key low from high (map cells register) (map cells read) (IsRising-map cells key cells_key same low high register up) (IsFrom-map cells key cells_key same from read slow) perm))
-
--- two registers that have the same columns in some order are one
-pub register_once : {Row Cells : Type 0} (cells : Row → Cells) (key : Row → ℕ) (cells_key : Cells → ℕ) → ((row : Row) → key row ≡ cells_key (cells row)) → ((a b : Row) → cells a ≡ cells b → a ≡ b)
-    → (low from high most : ℕ) (one other : List Row) → IsRising key low one high → IsRising key from other most → IsPermutation (map cells one) (map cells other) → one ≡ other
-register_once cells key cells_key same once low from high most one other up rise perm =
-    sym (read_once cells key cells_key same once low from high one other up (IsFrom-rising key from most other rise) perm)

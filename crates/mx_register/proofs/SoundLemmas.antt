@@ -1,11 +1,12 @@
 -- The rows from which a merge gives a book are the registers of that book.
-use Rattle.std.proofs.Common.{◌≡◌, ℕ, ◌+◌, ◌==◌, Bool, cond, true, false, List, [], ◌∷◌, ◌++◌, length, Option, Some, None, refl, sym, ap, subst, ◌∙◌, arith, append_assoc, append-nil}
+use Rattle.std.proofs.Common.{◌≡◌, ℕ, ◌+◌, ◌==◌, Bool, cond, ◌&&◌, true, false, List, [], ◌∷◌, ◌++◌, length, Option, Some, None, refl, sym, ap, subst, ◌∙◌, arith, append_assoc, append-nil}
 use Rattle.std.specs.Prelude.{Result, Ok, Err, IfOk, IfSome}
 use Rattle.std.specs.Option.{option_and_then, option_map}
 use Rattle.std.proofs.lemmas.Bool.{eqb-true}
 use Rattle.std.proofs.lemmas.Option.{option_and_then_some}
 use Rattle.mx_command.specs.Act.{Act, Entry}
 use Rattle.mx_command.specs.Shape.{has_shape}
+use Rattle.mx_command.specs.declared.item.Item.{Item}
 use Rattle.mx_book.specs.Judge.{judge}
 use Rattle.mx_book.specs.Book.{is_new, IsBook}
 use Rattle.mx_book.proofs.JudgeLemmas.{both_true, is_new-New, IsBook-entered}
@@ -16,16 +17,20 @@ use Rattle.mx_register.specs.declared.rows.EntryRow.{EntryRow}
 use Rattle.mx_register.specs.declared.rows.AircraftRow.{AircraftRow}
 use Rattle.mx_register.specs.declared.rows.PlaceRow.{PlaceRow}
 use Rattle.mx_register.specs.declared.rows.ComponentRow.{ComponentRow}
+use Rattle.mx_register.specs.declared.rows.ProgrammeRow.{ProgrammeRow}
+use Rattle.mx_register.specs.declared.rows.TaskRow.{TaskRow}
+use Rattle.mx_register.specs.declared.rows.OpeningRow.{OpeningRow}
 use Rattle.mx_register.specs.declared.rows.SectorRow.{SectorRow}
 use Rattle.mx_register.specs.declared.rows.FittingRow.{FittingRow}
 use Rattle.mx_register.specs.declared.rows.RemovalRow.{RemovalRow}
-use Rattle.mx_register.specs.Names.{tail_at, serial_at, seq_of_serial, or_zero}
-use Rattle.mx_register.specs.Registers.{gives, next, kind_of, entry_row, entry_added, AreRegistersOf}
-use Rattle.mx_register.specs.Merge.{Rest, aircraft_said, component_said, sector_said, fitting_said, removal_said, command_of, first_of_entry, take_places, take_by, take_command, is_next, is_empty, are_taken, merged}
+use Rattle.mx_register.specs.Names.{tail_at, serial_at, item_at, seq_of_serial, or_zero}
+use Rattle.mx_register.specs.Registers.{gives, next, kind_of, entry_row, place_row, task_row, entry_added, AreRegistersOf}
+use Rattle.mx_register.specs.Merge.{Rest, aircraft_said, component_said, programme_said, opening_said, sector_said, fitting_said, removal_said, place_lines, task_lines, command_of, first_of_entry, take_places, take_tasks, take_by, take_command, is_next, is_empty, are_items_taken, are_programmes_taken, are_moves_taken, are_taken, merged}
 use Rattle.mx_register.specs.Left.{all_rows}
 use Rattle.mx_register.proofs.MergeLemmas.{same_some, in_front, all_later}
-use Rattle.mx_register.proofs.NameLemmas.{tail_number, serial_number}
-use Rattle.mx_register.proofs.TakeLemmas.{rows_taken}
+use Rattle.mx_register.proofs.NameLemmas.{tail_number, serial_number, item_number}
+use Rattle.mx_register.proofs.TakeLemmas.{rows_taken, place_is}
+use Rattle.mx_register.proofs.TaskLemmas.{task_is}
 
 when_some : {X : Type 0} (b : Bool) (o : Option X) (x : X) → cond b o None ≡ Some x → (b ≡ true) × (o ≡ Some x)
 when_some true o x h = (refl, h)
@@ -54,11 +59,11 @@ takes_as : (before : List Entry) (k : EntryKind) (rest : Rest) (said taken : Act
 takes_as before k rest said taken same h = subst (λ (t : Act × Rest). Takes before k rest t.0 t.1) same h
 
 took_aircraft : (before : List Entry) (rest : Rest) (row : AircraftRow) (more : List AircraftRow) → row.seq ≡ next before → rest.aircraft ≡ row ∷ more
-    → Takes before kind.AddAircraft rest (aircraft_said row (take_places (next before) 1 rest.places).0) (record rest { aircraft = more; places = (take_places (next before) 1 rest.places).1 })
+    → Takes before kind.AddAircraft rest (aircraft_said row (take_places (next before) rest.places).0) (record rest { aircraft = more; places = (take_places (next before) rest.places).1 })
 took_aircraft before rest row more same is = record {
   kind_is = refl;
   rows = ap (λ (rows : List AircraftRow). record rest { aircraft = rows }) (is ∙ ap (λ (n : ℕ). record { seq = n; tail = row.tail; kind = row.kind; birth = row.birth; minutes = row.minutes; cycles = row.cycles; as_of = row.as_of } ∷ more) same)
-      ∙ ap (λ (rows : List PlaceRow). record rest { aircraft = record { seq = next before; tail = row.tail; kind = row.kind; birth = row.birth; minutes = row.minutes; cycles = row.cycles; as_of = row.as_of } ∷ more; places = rows }) (rows_taken (next before) 1 rest.places);
+      ∙ ap (λ (rows : List PlaceRow). record rest { aircraft = record { seq = next before; tail = row.tail; kind = row.kind; birth = row.birth; minutes = row.minutes; cycles = row.cycles; as_of = row.as_of } ∷ more; places = rows }) (rows_taken place_lines place_row place_is (next before) 1 rest.places);
 }
 
 took_component : (before : List Entry) (rest : Rest) (row : ComponentRow) (more : List ComponentRow) → row.seq ≡ next before → rest.components ≡ row ∷ more
@@ -67,6 +72,23 @@ took_component before rest row more same is = record {
   kind_is = refl;
   rows = ap (λ (rows : List ComponentRow). record rest { components = rows })
       (is ∙ ap (λ (n : ℕ). record { seq = n; serial = row.serial; part = row.part; birth = row.birth; minutes = row.minutes; cycles = row.cycles; as_of = row.as_of } ∷ more) same);
+}
+
+took_programme : (before : List Entry) (rest : Rest) (row : ProgrammeRow) (more : List ProgrammeRow) → row.seq ≡ next before → rest.programmes ≡ row ∷ more
+    → Takes before kind.LoadProgramme rest (programme_said row (take_tasks (next before) rest.tasks).0) (record rest { programmes = more; tasks = (take_tasks (next before) rest.tasks).1 })
+took_programme before rest row more same is = record {
+  kind_is = refl;
+  rows = ap (λ (rows : List ProgrammeRow). record rest { programmes = rows }) (is ∙ ap (λ (n : ℕ). record { seq = n; kind = row.kind; revision = row.revision } ∷ more) same)
+      ∙ ap (λ (rows : List TaskRow). record rest { programmes = record { seq = next before; kind = row.kind; revision = row.revision } ∷ more; tasks = rows }) (rows_taken task_lines task_row task_is (next before) 1 rest.tasks);
+}
+
+took_opening : (before : List Entry) (rest : Rest) (row : OpeningRow) (more : List OpeningRow) (item : Item) → IsBook before → row.seq ≡ next before → rest.openings ≡ row ∷ more → item_at before row.item ≡ Some item
+    → Takes before kind.Opening rest (opening_said row item) (record rest { openings = more })
+took_opening before rest row more item book same is found = record {
+  kind_is = refl;
+  rows = ap (λ (rows : List OpeningRow). record rest { openings = rows })
+      (is ∙ ap (λ (n : ℕ). record { seq = n; item = row.item; kind = row.kind; task = row.task; minutes = row.minutes; cycles = row.cycles; day = row.day } ∷ more) same
+      ∙ ap (λ (n : ℕ). record { seq = next before; item = n; kind = row.kind; task = row.task; minutes = row.minutes; cycles = row.cycles; day = row.day } ∷ more) (item_number before item row.item book.judged found));
 }
 
 took_sector : (before : List Entry) (rest : Rest) (row : SectorRow) (more : List SectorRow) (tail : List ℕ) → IsBook before → row.seq ≡ next before → rest.sectors ≡ row ∷ more → tail_at before row.aircraft ≡ Some tail
@@ -99,11 +121,18 @@ took_removal before rest row more serial book same is component = record {
 
 takes_by : (before : List Entry) (rest : Rest) (k : EntryKind) (taken : Act × Rest) → IsBook before → take_by before (next before) rest k ≡ Some taken → Takes before k rest taken.0 taken.1
 takes_by before rest kind.AddAircraft taken book h =
-    option_map_some (λ (t : AircraftRow × List AircraftRow). (aircraft_said t.0 (take_places (next before) 1 rest.places).0, record rest { aircraft = t.1; places = (take_places (next before) 1 rest.places).1 })) (first_of_entry (λ (r : AircraftRow). r.seq) (next before) rest.aircraft) taken h
+    option_map_some (λ (t : AircraftRow × List AircraftRow). (aircraft_said t.0 (take_places (next before) rest.places).0, record rest { aircraft = t.1; places = (take_places (next before) rest.places).1 })) (first_of_entry (λ (r : AircraftRow). r.seq) (next before) rest.aircraft) taken h
     (λ t found said. let first = first_is (λ (r : AircraftRow). r.seq) (next before) rest.aircraft t.0 t.1 found in takes_as before kind.AddAircraft rest _ taken said (took_aircraft before rest t.0 t.1 first.0 first.1))
 takes_by before rest kind.AddComponent taken book h =
     option_map_some (λ (t : ComponentRow × List ComponentRow). (component_said t.0, record rest { components = t.1 })) (first_of_entry (λ (r : ComponentRow). r.seq) (next before) rest.components) taken h
     (λ t found said. let first = first_is (λ (r : ComponentRow). r.seq) (next before) rest.components t.0 t.1 found in takes_as before kind.AddComponent rest _ taken said (took_component before rest t.0 t.1 first.0 first.1))
+takes_by before rest kind.LoadProgramme taken book h =
+    option_map_some (λ (t : ProgrammeRow × List ProgrammeRow). (programme_said t.0 (take_tasks (next before) rest.tasks).0, record rest { programmes = t.1; tasks = (take_tasks (next before) rest.tasks).1 })) (first_of_entry (λ (r : ProgrammeRow). r.seq) (next before) rest.programmes) taken h
+    (λ t found said. let first = first_is (λ (r : ProgrammeRow). r.seq) (next before) rest.programmes t.0 t.1 found in takes_as before kind.LoadProgramme rest _ taken said (took_programme before rest t.0 t.1 first.0 first.1))
+takes_by before rest kind.Opening taken book h =
+    option_and_then_some (λ (t : OpeningRow × List OpeningRow). option_map (λ item. (opening_said t.0 item, record rest { openings = t.1 })) (item_at before t.0.item)) (first_of_entry (λ (r : OpeningRow). r.seq) (next before) rest.openings) taken h
+    (λ t found more. option_map_some (λ item. (opening_said t.0 item, record rest { openings = t.1 })) (item_at before t.0.item) taken more
+    (λ item at said. let first = first_is (λ (r : OpeningRow). r.seq) (next before) rest.openings t.0 t.1 found in takes_as before kind.Opening rest _ taken said (took_opening before rest t.0 t.1 item book first.0 first.1 at)))
 takes_by before rest kind.Sector taken book h =
     option_and_then_some (λ (t : SectorRow × List SectorRow). option_map (λ tail. (sector_said t.0 tail, record rest { sectors = t.1 })) (tail_at before t.0.aircraft)) (first_of_entry (λ (r : SectorRow). r.seq) (next before) rest.sectors) taken h
     (λ t found more. option_map_some (λ tail. (sector_said t.0 tail, record rest { sectors = t.1 })) (tail_at before t.0.aircraft) taken more
@@ -159,24 +188,33 @@ no_rows : {Row : Type 0} (rows : List Row) → is_empty rows ≡ true → rows �
 no_rows [] h = refl
 no_rows (row ∷ rows) h = (cc)
 
+three_empty : {A B C : Type 0} (xs : List A) (ys : List B) (zs : List C) → is_empty xs && (is_empty ys && is_empty zs) ≡ true → (xs ≡ []) × (ys ≡ []) × (zs ≡ [])
+three_empty xs ys zs h =
+    let one = both_true (is_empty xs) _ h in
+    let two = both_true (is_empty ys) (is_empty zs) one.1 in
+    (no_rows xs one.0, no_rows ys two.0, no_rows zs two.1)
+
 ends : (before : List Entry) (rest : Rest) (book : List Entry) → are_taken rest ≡ true → before ≡ book → GoesOn before [] rest book
 ends before rest book h same =
-    let one = both_true (is_empty rest.aircraft) _ h in
-    let two = both_true (is_empty rest.places) _ one.1 in
-    let three = both_true (is_empty rest.components) _ two.1 in
-    let four = both_true (is_empty rest.sectors) _ three.1 in
-    let five = both_true (is_empty rest.fittings) _ four.1 in
+    let one = both_true (are_items_taken rest) _ h in
+    let two = both_true (are_programmes_taken rest) (are_moves_taken rest) one.1 in
+    let items = three_empty rest.aircraft rest.places rest.components one.0 in
+    let programmes = three_empty rest.programmes rest.tasks rest.openings two.0 in
+    let moves = three_empty rest.sectors rest.fittings rest.removals two.1 in
     record {
       later = [];
       whole = sym same ∙ sym (append-nil before);
       entries_are = refl;
       rows = λ i. record {
-        aircraft = no_rows rest.aircraft one.0 i;
-        places = no_rows rest.places two.0 i;
-        components = no_rows rest.components three.0 i;
-        sectors = no_rows rest.sectors four.0 i;
-        fittings = no_rows rest.fittings five.0 i;
-        removals = no_rows rest.removals five.1 i;
+        aircraft = items.0 i;
+        places = items.1 i;
+        components = items.2 i;
+        programmes = programmes.0 i;
+        tasks = programmes.1 i;
+        openings = programmes.2 i;
+        sectors = moves.0 i;
+        fittings = moves.1 i;
+        removals = moves.2 i;
       };
     }
 
@@ -212,6 +250,9 @@ merged_sound registers book h =
       aircraft = ap (λ (r : Rest). r.aircraft) rows;
       places = ap (λ (r : Rest). r.places) rows;
       components = ap (λ (r : Rest). r.components) rows;
+      programmes = ap (λ (r : Rest). r.programmes) rows;
+      tasks = ap (λ (r : Rest). r.tasks) rows;
+      openings = ap (λ (r : Rest). r.openings) rows;
       sectors = ap (λ (r : Rest). r.sectors) rows;
       fittings = ap (λ (r : Rest). r.fittings) rows;
       removals = ap (λ (r : Rest). r.removals) rows;

@@ -1,53 +1,84 @@
--- The positions that rows are taken for.
+-- The things that rows on lines are taken for.
 use Rattle.std.proofs.Common.{◌≡◌, ℕ, ◌+◌, ◌==◌, List, [], ◌∷◌, ◌++◌, Bool, true, false, cond, ◌&&◌, refl, ap, ◌∙◌, arith}
+use Rattle.std.specs.List.{AllByRecursion}
 use Rattle.std.proofs.lemmas.Bool.{eqb-true}
 use Rattle.std.proofs.lemmas.Bool.Decides.{nat_tests}
 use Rattle.mx_book.proofs.JudgeLemmas.{both_true}
-use Rattle.mx_register.specs.declared.rows.PlaceRow.{PlaceRow}
-use Rattle.mx_register.specs.Registers.{place_row, places_from}
-use Rattle.mx_register.specs.Merge.{is_on_line, take_places, with_position}
+use Rattle.mx_register.specs.Lines.{Lines, lines_from, is_on_line, take_lines, with_first}
+use Rattle.mx_register.specs.Registers.{place_row}
+use Rattle.mx_register.specs.Merge.{place_lines}
 
--- positions in front of those that rows are taken for
-abbrev pub behind : List (List ℕ × List ℕ) → List (List ℕ × List ℕ) × List PlaceRow → List (List ℕ × List ℕ) × List PlaceRow
-behind positions taken = (positions ++ taken.0, taken.1)
+-- things in front of those that rows are taken for
+abbrev pub behind : {X Row : Type 0} → List X → List X × List Row → List X × List Row
+behind xs taken = (xs ++ taken.0, taken.1)
 
 pub same-eq : (n : ℕ) → (n == n) ≡ true
 same-eq n = grind (arith, nat_tests)
 
--- ── the rows that are taken are those of the positions ──
+-- the row of a thing says its entry and its line, and each row is that of what it says
+pub record AreOfLines {X Row : Type 0} (lines : Lines X Row) (row_of : ℕ → ℕ → X → Row) : Type 0 where
+  pub entry_is : (seq line : ℕ) (x : X) → lines.seq (row_of seq line x) ≡ seq
+  pub line_is : (seq line : ℕ) (x : X) → lines.line (row_of seq line x) ≡ line
+  pub row_is : (row : Row) → row ≡ row_of (lines.seq row) (lines.line row) (lines.said row)
 
-row_is : (seq line : ℕ) (row : PlaceRow) → is_on_line seq line row ≡ true → row ≡ place_row seq line (row.position, row.part)
-row_is seq line row h =
-    let both = both_true (row.seq == seq) (row.line == line) h in
-    ap (λ (n : ℕ). record { seq = n; line = row.line; position = row.position; part = row.part }) (eqb-true row.seq seq both.0)
-    ∙ ap (λ (n : ℕ). record { seq = seq; line = n; position = row.position; part = row.part }) (eqb-true row.line line both.1)
+-- the row of the thing says it, on every line
+abbrev pub IsSaid : {X Row : Type 0} → Lines X Row → (ℕ → ℕ → X → Row) → X → Type 0
+IsSaid lines row_of x = (seq line : ℕ) → lines.said (row_of seq line x) ≡ x
 
-taken_if : (b : Bool) (seq line : ℕ) (row : PlaceRow) (rows : List PlaceRow) (taken : List (List ℕ × List ℕ) × List PlaceRow) → is_on_line seq line row ≡ b → rows ≡ places_from seq (line + 1) taken.0 ++ taken.1
-    → row ∷ rows ≡ places_from seq line (cond b (with_position row taken) ([], row ∷ rows)).0 ++ (cond b (with_position row taken) ([], row ∷ rows)).1
-taken_if true seq line row rows taken is h = ap (λ (r : PlaceRow). r ∷ rows) (row_is seq line row is) ∙ ap (λ (rs : List PlaceRow). place_row seq line (row.position, row.part) ∷ rs) h
-taken_if false seq line row rows taken is h = refl
+-- the first row is not of the entry with this number
+abbrev pub IsBehind : {X Row : Type 0} → Lines X Row → ℕ → List Row → Type 0
+IsBehind lines seq [] = Unit {0}
+IsBehind lines seq (row ∷ rows) = (lines.seq row == seq) ≡ false
 
--- the rows are those of the positions that are taken, and then the rows behind
-pub rows_taken : (seq line : ℕ) (rows : List PlaceRow) → rows ≡ places_from seq line (take_places seq line rows).0 ++ (take_places seq line rows).1
-rows_taken seq line [] = refl
-rows_taken seq line (row ∷ rows) = taken_if (is_on_line seq line row) seq line row rows (take_places seq (line + 1) rows) refl (rows_taken seq (line + 1) rows)
+module _ {X Row : Type 0} (lines : Lines X Row) (row_of : ℕ → ℕ → X → Row) (law : AreOfLines lines row_of) where
+  -- ── the rows that are taken are those of the things ──
 
--- ── the positions whose rows stand in front are taken ──
+  on_line_is : (seq line : ℕ) (row : Row) → is_on_line lines seq line row ≡ true → row ≡ row_of seq line (lines.said row)
+  on_line_is seq line row h =
+      let both = both_true (lines.seq row == seq) (lines.line row == line) h in
+      law.row_is row ∙ ap (λ (n : ℕ). row_of n (lines.line row) (lines.said row)) (eqb-true (lines.seq row) seq both.0)
+      ∙ ap (λ (n : ℕ). row_of seq n (lines.said row)) (eqb-true (lines.line row) line both.1)
 
--- no row is of the entry with this number
-abbrev pub IsBehind : ℕ → List PlaceRow → Type 0
-IsBehind seq [] = Unit {0}
-IsBehind seq (row ∷ rows) = (row.seq == seq) ≡ false
+  taken_if : (b : Bool) (seq line : ℕ) (row : Row) (rows : List Row) (taken : List X × List Row) → is_on_line lines seq line row ≡ b → rows ≡ lines_from row_of seq (line + 1) taken.0 ++ taken.1
+      → row ∷ rows ≡ lines_from row_of seq line (cond b (with_first (lines.said row) taken) ([], row ∷ rows)).0 ++ (cond b (with_first (lines.said row) taken) ([], row ∷ rows)).1
+  taken_if true seq line row rows taken is h = ap (λ (r : Row). r ∷ rows) (on_line_is seq line row is) ∙ ap (λ (rs : List Row). row_of seq line (lines.said row) ∷ rs) h
+  taken_if false seq line row rows taken is h = refl
 
-other_line : (b : Bool) (seq line : ℕ) (row : PlaceRow) → (row.seq == seq) ≡ b → b ≡ false → is_on_line seq line row ≡ false
-other_line true seq line row is h = (cc)
-other_line false seq line row is h = ap (λ c. c && (row.line == line)) is
+  -- the rows are those of the things that are taken, and then the rows behind
+  pub rows_taken : (seq line : ℕ) (rows : List Row) → rows ≡ lines_from row_of seq line (take_lines lines seq line rows).0 ++ (take_lines lines seq line rows).1
+  rows_taken seq line [] = refl
+  rows_taken seq line (row ∷ rows) = taken_if (is_on_line lines seq line row) seq line row rows (take_lines lines seq (line + 1) rows) refl (rows_taken seq (line + 1) rows)
 
-pub takes_places : (seq line : ℕ) (positions : List (List ℕ × List ℕ)) (rows : List PlaceRow) → IsBehind seq rows → take_places seq line (places_from seq line positions ++ rows) ≡ (positions, rows)
-takes_places seq line [] [] h = refl
-takes_places seq line [] (row ∷ rows) h = ap (λ b. cond b (with_position row (take_places seq (line + 1) rows)) ([], row ∷ rows)) (other_line (row.seq == seq) seq line row refl h)
-takes_places seq line (p ∷ positions) rows h =
-    let all = places_from seq (line + 1) positions ++ rows in
-    let on : is_on_line seq line (place_row seq line p) ≡ true = ap (λ b. b && (line == line)) (same-eq seq) ∙ same-eq line in
-    ap (λ b. cond b (with_position (place_row seq line p) (take_places seq (line + 1) all)) ([], place_row seq line p ∷ all)) on
-    ∙ ap (with_position (place_row seq line p)) (takes_places seq (line + 1) positions rows h)
+  -- ── the things whose rows stand in front are taken ──
+
+  other_line : (b : Bool) (seq line : ℕ) (row : Row) → (lines.seq row == seq) ≡ b → b ≡ false → is_on_line lines seq line row ≡ false
+  other_line true seq line row is h = (cc)
+  other_line false seq line row is h = ap (λ c. c && (lines.line row == line)) is
+
+  this_line : (seq line : ℕ) (x : X) → is_on_line lines seq line (row_of seq line x) ≡ true
+  this_line seq line x =
+      let row = row_of seq line x in
+      ap (λ (n : ℕ). (n == seq) && (lines.line row == line)) (law.entry_is seq line x)
+      ∙ ap (λ b. b && (lines.line row == line)) (same-eq seq)
+      ∙ ap (λ (n : ℕ). n == line) (law.line_is seq line x)
+      ∙ same-eq line
+
+  pub takes_lines : (seq line : ℕ) (xs : List X) (rows : List Row) → AllByRecursion (IsSaid lines row_of) xs → IsBehind lines seq rows → take_lines lines seq line (lines_from row_of seq line xs ++ rows) ≡ (xs, rows)
+  takes_lines seq line [] [] said h = refl
+  takes_lines seq line [] (row ∷ rows) said h =
+      ap (λ b. cond b (with_first (lines.said row) (take_lines lines seq (line + 1) rows)) ([], row ∷ rows)) (other_line (lines.seq row == seq) seq line row refl h)
+  takes_lines seq line (x ∷ xs) rows said h =
+      let all = lines_from row_of seq (line + 1) xs ++ rows in
+      let row = row_of seq line x in
+      ap (λ b. cond b (with_first (lines.said row) (take_lines lines seq (line + 1) all)) ([], row ∷ all)) (this_line seq line x)
+      ∙ ap (λ (y : X). with_first y (take_lines lines seq (line + 1) all)) (said.0 seq line)
+      ∙ ap (λ (taken : List X × List Row). with_first x taken) (takes_lines seq (line + 1) xs rows said.1 h)
+
+-- ── positions ──
+
+pub place_is : AreOfLines place_lines place_row
+place_is = record { entry_is = λ seq line p. refl; line_is = λ seq line p. refl; row_is = λ row. refl }
+
+pub places_said : (positions : List (List ℕ × List ℕ)) → AllByRecursion (IsSaid place_lines place_row) positions
+places_said [] = tt
+places_said (p ∷ positions) = (λ seq line. refl, places_said positions)

@@ -6,7 +6,7 @@ use Rattle.mx_command.specs.Act.{Entry}
 use Rattle.mx_book.proofs.Worked.{at, abcd}
 use Rattle.mx_book.proofs.WorkedFittings.{efgh, engine, propeller, e1, e2, on_another}
 use Rattle.mx_register.specs.declared.rows.EntryKind.{EntryKind}
-use Rattle.mx_register.specs.declared.rows.EntryKind.TheVariants.{AddAircraft, AddComponent, Sector, Fit, Remove}
+use Rattle.mx_register.specs.declared.rows.EntryKind.TheVariants.{AddAircraft, AddComponent, LoadProgramme, Opening, Sector, Fit, Remove}
 use Rattle.mx_register.specs.declared.rows.EntryRow.{EntryRow}
 use Rattle.mx_register.specs.declared.rows.AircraftRow.{AircraftRow}
 use Rattle.mx_register.specs.declared.rows.PlaceRow.{PlaceRow}
@@ -21,7 +21,7 @@ use Rattle.mx_register.specs.Merge.{Rest, merged}
 
 -- ── the rows of a book: two aircraft, two engines, fitted and removed, and three sectors ──
 
-abbrev entry : ℕ → List ℕ → EntryKind → EntryRow
+abbrev pub entry : ℕ → List ℕ → EntryKind → EntryRow
 entry seq doc kind = record { seq = seq; doc = doc; kind = kind }
 
 abbrev first_entries : List EntryRow
@@ -39,17 +39,17 @@ entries =
     ∷ entry 5 (codes "TL/D-ABCD/12/1") Sector ∷ entry 6 (codes "R1") Remove ∷ entry 7 (codes "F2") Fit ∷ entry 8 (codes "R2") Remove
     ∷ entry 9 (codes "TL/D-ABCD/12/2") Sector ∷ entry 10 (codes "A2") AddAircraft ∷ entry 11 (codes "F3") Fit ∷ last_entry ∷ []
 
-abbrev first_aircraft_row : AircraftRow
+abbrev pub first_aircraft_row : AircraftRow
 first_aircraft_row = record { seq = 1; tail = abcd; kind = codes "C172"; birth = 10957; minutes = 60000; cycles = 800; as_of = at 19723 0 0 }
 
 abbrev second_aircraft_row : AircraftRow
 second_aircraft_row = record { seq = 10; tail = efgh; kind = codes "C172"; birth = 19509; minutes = 0; cycles = 0; as_of = at 19723 0 0 }
 
 -- a position on a line of an aircraft, from 1
-abbrev place : ℕ → ℕ → List ℕ → List ℕ → PlaceRow
+abbrev pub place : ℕ → ℕ → List ℕ → List ℕ → PlaceRow
 place seq line position part = record { seq = seq; line = line; position = position; part = part }
 
-abbrev component_with : ℕ → List ℕ → ComponentRow
+abbrev pub component_with : ℕ → List ℕ → ComponentRow
 component_with seq serial = record { seq = seq; serial = serial; part = codes "IO360"; birth = 14610; minutes = 1000; cycles = 100; as_of = at 19723 0 0 }
 
 abbrev first_sector_row : SectorRow
@@ -67,9 +67,12 @@ fitted_row seq component aircraft moment = record { seq = seq; component = compo
 abbrev removed_row : ℕ → ℕ → RemovalRow
 removed_row seq component = record { seq = seq; component = component; moment = at 19783 9 30 }
 
+abbrev pub no_rows : Rest
+no_rows = record { aircraft = []; places = []; components = []; programmes = []; tasks = []; openings = []; sectors = []; fittings = []; removals = [] }
+
 -- the rows of every register but that of the entries
 abbrev rows : Rest
-rows = record {
+rows = record no_rows {
   aircraft = first_aircraft_row ∷ second_aircraft_row ∷ [];
   places = place 1 1 engine (codes "IO360") ∷ place 1 2 propeller (codes "HC2") ∷ place 10 1 engine (codes "IO360") ∷ [];
   components = component_with 2 e1 ∷ component_with 3 e2 ∷ [];
@@ -144,31 +147,31 @@ given_back : merged [] entries rows ≡ Some on_another
 unfolding digits
 given_back = refl
 
-no_rows_no_entries : merged [] [] (record { aircraft = []; places = []; components = []; sectors = []; fittings = []; removals = [] }) ≡ Some []
+no_rows_no_entries : merged [] [] no_rows ≡ Some []
 no_rows_no_entries = refl
 
 -- a row of any register that no entry takes is of no book
-aircraft_left : merged [] [] (record { aircraft = first_aircraft_row ∷ []; places = []; components = []; sectors = []; fittings = []; removals = [] }) ≡ None
+aircraft_left : merged [] [] (record no_rows { aircraft = first_aircraft_row ∷ [] }) ≡ None
 aircraft_left = refl
 
-place_left : merged [] [] (record { aircraft = []; places = place 1 1 engine (codes "IO360") ∷ []; components = []; sectors = []; fittings = []; removals = [] }) ≡ None
+place_left : merged [] [] (record no_rows { places = place 1 1 engine (codes "IO360") ∷ [] }) ≡ None
 place_left = refl
 
-component_left : merged [] [] (record { aircraft = []; places = []; components = component_with 1 e1 ∷ []; sectors = []; fittings = []; removals = [] }) ≡ None
+component_left : merged [] [] (record no_rows { components = component_with 1 e1 ∷ [] }) ≡ None
 component_left = refl
 
-sector_left : merged [] [] (record { aircraft = []; places = []; components = []; sectors = first_sector_row ∷ []; fittings = []; removals = [] }) ≡ None
+sector_left : merged [] [] (record no_rows { sectors = first_sector_row ∷ [] }) ≡ None
 sector_left = refl
 
-fitting_left : merged [] [] (record { aircraft = []; places = []; components = []; sectors = []; fittings = fitted_row 1 1 1 0 ∷ []; removals = [] }) ≡ None
+fitting_left : merged [] [] (record no_rows { fittings = fitted_row 1 1 1 0 ∷ [] }) ≡ None
 fitting_left = refl
 
-removal_left : merged [] [] (record { aircraft = []; places = []; components = []; sectors = []; fittings = []; removals = removed_row 1 1 ∷ [] }) ≡ None
+removal_left : merged [] [] (record no_rows { removals = removed_row 1 1 ∷ [] }) ≡ None
 removal_left = refl
 
 -- the rows of an aircraft with one position, and its entry with this number, by this kind
 abbrev of_aircraft : ℕ → EntryKind → ℕ → Option (List Entry)
-of_aircraft seq kind line = merged [] (entry seq (codes "A1") kind ∷ []) (record { aircraft = record first_aircraft_row { seq = seq } ∷ []; places = place seq line engine (codes "IO360") ∷ []; components = []; sectors = []; fittings = []; removals = [] })
+of_aircraft seq kind line = merged [] (entry seq (codes "A1") kind ∷ []) (record no_rows { aircraft = record first_aircraft_row { seq = seq } ∷ []; places = place seq line engine (codes "IO360") ∷ [] })
 
 -- an entry has the next number, its own kind, and lines from 1
 number_left_out : of_aircraft 2 AddAircraft 1 ≡ None
@@ -182,7 +185,9 @@ line_from_two = refl
 
 -- ── keys ──
 
-kinds_numbered : kind_number AddAircraft ∷ kind_number AddComponent ∷ kind_number Sector ∷ kind_number Fit ∷ kind_number Remove ∷ [] ≡ 1 ∷ 2 ∷ 5 ∷ 6 ∷ 7 ∷ []
+kinds_numbered :
+    kind_number AddAircraft ∷ kind_number AddComponent ∷ kind_number LoadProgramme ∷ kind_number Opening ∷ kind_number Sector ∷ kind_number Fit ∷ kind_number Remove ∷ []
+    ≡ 1 ∷ 2 ∷ 3 ∷ 4 ∷ 5 ∷ 6 ∷ 7 ∷ []
 kinds_numbered = refl
 
 second_place_key : place_key (place 10 2 engine (codes "IO360")) ≡ 42949672962

@@ -1,26 +1,39 @@
 -- The book that registers are those of.
 use Rattle.std.specs.Prelude.{ℕ, ◌+◌, Bool, true, false, ◌&&◌, List, [], ◌∷◌, ◌++◌, length, Option, Some, None, nat_eq, if◌then◌else◌}
 use Rattle.std.specs.Option.{option_and_then, option_map}
-use Rattle.mx_command.specs.Act.{Act, Entry, Added, Listed, Flown, Fitted, Removed}
+use Rattle.mx_base.specs.declared.amounts.Limit.{Limit}
+use Rattle.mx_command.specs.Act.{Act, Entry, Added, Listed, Loaded, Opened, Flown, Fitted, Removed}
+use Rattle.mx_command.specs.Programme.{has_dimension}
 use Rattle.mx_command.specs.Shape.{has_shape}
+use Rattle.mx_command.specs.declared.item.Item.{Item}
+use Rattle.mx_command.specs.declared.programme.Task.{Task}
+use Rattle.mx_command.specs.declared.programme.Applies.{Applies}
+use Rattle.mx_command.specs.declared.programme.Applies.TheVariants.{Airframe, Part}
 use Rattle.mx_book.specs.Judge.{judge}
 use Rattle.mx_book.specs.Book.{is_new}
 use Rattle.mx_register.specs.declared.rows.EntryKind.{EntryKind}
-use Rattle.mx_register.specs.declared.rows.EntryKind.TheVariants.{AddAircraft, AddComponent, Sector, Fit, Remove}
+use Rattle.mx_register.specs.declared.rows.EntryKind.TheVariants.{AddAircraft, AddComponent, LoadProgramme, Opening, Sector, Fit, Remove}
 use Rattle.mx_register.specs.declared.rows.EntryRow.{EntryRow}
 use Rattle.mx_register.specs.declared.rows.AircraftRow.{AircraftRow}
 use Rattle.mx_register.specs.declared.rows.PlaceRow.{PlaceRow}
 use Rattle.mx_register.specs.declared.rows.ComponentRow.{ComponentRow}
+use Rattle.mx_register.specs.declared.rows.ProgrammeRow.{ProgrammeRow}
+use Rattle.mx_register.specs.declared.rows.TaskRow.{TaskRow}
+use Rattle.mx_register.specs.declared.rows.OpeningRow.{OpeningRow}
 use Rattle.mx_register.specs.declared.rows.SectorRow.{SectorRow}
 use Rattle.mx_register.specs.declared.rows.FittingRow.{FittingRow}
 use Rattle.mx_register.specs.declared.rows.RemovalRow.{RemovalRow}
-use Rattle.mx_register.specs.Names.{tail_at, serial_at}
+use Rattle.mx_register.specs.Names.{tail_at, serial_at, item_at}
+use Rattle.mx_register.specs.Lines.{Lines, take_lines}
 
 -- the rows that no entry has taken
 pub record Rest : Type 0 where
   pub aircraft : List AircraftRow
   pub places : List PlaceRow
   pub components : List ComponentRow
+  pub programmes : List ProgrammeRow
+  pub tasks : List TaskRow
+  pub openings : List OpeningRow
   pub sectors : List SectorRow
   pub fittings : List FittingRow
   pub removals : List RemovalRow
@@ -34,6 +47,27 @@ aircraft_said row positions = Added (record { tail = row.tail; kind = row.kind; 
 -- what the row of a component says
 abbrev pub component_said : ComponentRow → Act
 component_said row = Listed (record { serial = row.serial; part = row.part; birth = row.birth; opening = record { minutes = row.minutes; cycles = row.cycles }; as_of = row.as_of })
+
+-- what the row of a programme says, with these tasks
+abbrev pub programme_said : ProgrammeRow → List Task → Act
+programme_said row tasks = Loaded (record { kind = row.kind; revision = row.revision }) tasks
+
+-- what a task is done on, by the part in its row
+abbrev pub applies_said : Option (List ℕ) → Applies
+applies_said None = Airframe
+applies_said (Some part) = Part part
+
+-- the limit, or none where it has no dimension
+abbrev pub limit_said : Limit → Option Limit
+limit_said limit = if has_dimension limit then Some limit else None
+
+-- the task that its row says
+abbrev pub task_said : TaskRow → Task
+task_said row = record { id = row.id; applies = applies_said row.part; first = row.first; repeat = limit_said row.repeat; tolerance = row.tolerance; retire = row.retire }
+
+-- what the row of an opening says, of this item
+abbrev pub opening_said : OpeningRow → Item → Act
+opening_said row item = Opened (record { item = item; kind = row.kind; task = row.task; use_then = record { minutes = row.minutes; cycles = row.cycles }; day = row.day })
 
 -- what the row of a sector says, where the aircraft has this registration
 abbrev pub sector_said : SectorRow → List ℕ → Act
@@ -54,27 +88,40 @@ abbrev pub first_of_entry : {Row : Type 0} → (Row → ℕ) → ℕ → List Ro
 first_of_entry seq_of seq [] = None
 first_of_entry seq_of seq (row ∷ rows) = if nat_eq (seq_of row) seq then Some (row, rows) else None
 
--- the row is on this line of the entry with this number
-abbrev pub is_on_line : ℕ → ℕ → PlaceRow → Bool
-is_on_line seq line row = nat_eq row.seq seq && nat_eq row.line line
+-- what the row of a position says, on its line
+abbrev pub place_lines : Lines (List ℕ × List ℕ) PlaceRow
+place_lines = record { seq = λ row. row.seq; line = λ row. row.line; said = λ row. (row.position, row.part) }
 
--- the first position, and what the rows behind it are taken for
-abbrev pub with_position : PlaceRow → List (List ℕ × List ℕ) × List PlaceRow → List (List ℕ × List ℕ) × List PlaceRow
-with_position row taken = ((row.position, row.part) ∷ taken.0, taken.1)
+-- what the row of a task says, on its line
+abbrev pub task_lines : Lines Task TaskRow
+task_lines = record { seq = λ row. row.seq; line = λ row. row.line; said = task_said }
 
--- the positions of the entry with this number, from this line on, and the rows behind them
-abbrev pub take_places : ℕ → ℕ → List PlaceRow → List (List ℕ × List ℕ) × List PlaceRow
-take_places seq line [] = ([], [])
-take_places seq line (row ∷ rows) = if is_on_line seq line row then with_position row (take_places seq (line + 1) rows) else ([], row ∷ rows)
+-- the positions of the entry with this number, and the rows behind them
+abbrev pub take_places : ℕ → List PlaceRow → List (List ℕ × List ℕ) × List PlaceRow
+take_places seq rows = take_lines place_lines seq 1 rows
+
+-- the tasks of the entry with this number, and the rows behind them
+abbrev pub take_tasks : ℕ → List TaskRow → List Task × List TaskRow
+take_tasks seq rows = take_lines task_lines seq 1 rows
 
 -- what an entry that added an aircraft says: the first aircraft's row and the first positions, if they are of this entry
 abbrev pub take_aircraft : ℕ → Rest → Option (Act × Rest)
 take_aircraft seq rest =
-    option_map (λ taken. (aircraft_said taken.0 (take_places seq 1 rest.places).0, record rest { aircraft = taken.1; places = (take_places seq 1 rest.places).1 })) (first_of_entry (λ row. row.seq) seq rest.aircraft)
+    option_map (λ taken. (aircraft_said taken.0 (take_places seq rest.places).0, record rest { aircraft = taken.1; places = (take_places seq rest.places).1 })) (first_of_entry (λ row. row.seq) seq rest.aircraft)
 
 -- what an entry that added a component says: the first component's row, if it is of this entry
 abbrev pub take_component : ℕ → Rest → Option (Act × Rest)
 take_component seq rest = option_map (λ taken. (component_said taken.0, record rest { components = taken.1 })) (first_of_entry (λ row. row.seq) seq rest.components)
+
+-- what an entry that loaded a programme says: the first programme's row and the first tasks, if they are of this entry
+abbrev pub take_programme : ℕ → Rest → Option (Act × Rest)
+take_programme seq rest =
+    option_map (λ taken. (programme_said taken.0 (take_tasks seq rest.tasks).0, record rest { programmes = taken.1; tasks = (take_tasks seq rest.tasks).1 })) (first_of_entry (λ row. row.seq) seq rest.programmes)
+
+-- what an opening's entry says: the first opening's row, if it is of this entry and names an item
+abbrev pub take_opening : List Entry → ℕ → Rest → Option (Act × Rest)
+take_opening before seq rest =
+    option_and_then (λ taken. option_map (λ item. (opening_said taken.0 item, record rest { openings = taken.1 })) (item_at before taken.0.item)) (first_of_entry (λ row. row.seq) seq rest.openings)
 
 -- what a sector's entry says: the first sector's row, if it is of this entry and names an aircraft
 abbrev pub take_sector : List Entry → ℕ → Rest → Option (Act × Rest)
@@ -95,6 +142,8 @@ take_removal before seq rest =
 abbrev pub take_by : List Entry → ℕ → Rest → EntryKind → Option (Act × Rest)
 take_by before seq rest AddAircraft = take_aircraft seq rest
 take_by before seq rest AddComponent = take_component seq rest
+take_by before seq rest LoadProgramme = take_programme seq rest
+take_by before seq rest Opening = take_opening before seq rest
 take_by before seq rest Sector = take_sector before seq rest
 take_by before seq rest Fit = take_fitting before seq rest
 take_by before seq rest Remove = take_removal before seq rest
@@ -119,9 +168,21 @@ abbrev pub is_empty : {Row : Type 0} → List Row → Bool
 is_empty [] = true
 is_empty (row ∷ rows) = false
 
+-- every row of aircraft, of positions and of components is taken
+abbrev pub are_items_taken : Rest → Bool
+are_items_taken rest = is_empty rest.aircraft && (is_empty rest.places && is_empty rest.components)
+
+-- every row of programmes, of tasks and of openings is taken
+abbrev pub are_programmes_taken : Rest → Bool
+are_programmes_taken rest = is_empty rest.programmes && (is_empty rest.tasks && is_empty rest.openings)
+
+-- every row of sectors, of fittings and of removals is taken
+abbrev pub are_moves_taken : Rest → Bool
+are_moves_taken rest = is_empty rest.sectors && (is_empty rest.fittings && is_empty rest.removals)
+
 -- every row is taken
 abbrev pub are_taken : Rest → Bool
-are_taken rest = is_empty rest.aircraft && (is_empty rest.places && (is_empty rest.components && (is_empty rest.sectors && (is_empty rest.fittings && is_empty rest.removals))))
+are_taken rest = are_items_taken rest && (are_programmes_taken rest && are_moves_taken rest)
 
 -- the book that goes on with these rows, where they are those of one
 abbrev pub merged : List Entry → List EntryRow → Rest → Option (List Entry)

@@ -1,8 +1,10 @@
 -- The things that entries add, by name and by number: which entry added the aircraft with a registration, or the component with a serial number.
 use Rattle.std.specs.Prelude.{ℕ, ◌+◌, List, [], ◌∷◌, Bool, false, Option, Some, None, unwrap_or, if◌then◌else◌}
 use Rattle.std.specs.Option.{option_and_then, option_map, option_map_or}
-use Rattle.mx_command.specs.Act.{Act, Entry, aircraft_of, component_of}
+use Rattle.mx_command.specs.Act.{Act, Entry, Added, Listed, aircraft_of, component_of}
 use Rattle.mx_command.specs.Same.{same_text}
+use Rattle.mx_command.specs.declared.item.Item.{Item}
+use Rattle.mx_command.specs.declared.item.Item.TheVariants.{Airframe, Component}
 use Rattle.mx_book.specs.Book.{entry_at}
 
 -- the registration of the aircraft that an entry adds, where it adds one
@@ -30,18 +32,33 @@ seq_of_tail book tail = number_from tail_added tail 1 book
 abbrev pub seq_of_serial : List Entry → List ℕ → Option ℕ
 seq_of_serial book serial = number_from serial_added serial 1 book
 
+-- the number of the entry that added the item: the aircraft of an airframe, or the component
+abbrev pub seq_of_item : List Entry → Item → Option ℕ
+seq_of_item book (Airframe tail) = seq_of_tail book tail
+seq_of_item book (Component serial) = seq_of_serial book serial
+
 -- the number, or 0, which no entry has
 abbrev pub or_zero : Option ℕ → ℕ
 or_zero number = unwrap_or number 0
 
--- the name of the thing that the entry with this number added
-abbrev pub name_at : (Act → Option (List ℕ)) → List Entry → ℕ → Option (List ℕ)
-name_at name_of book seq = option_and_then (λ entry. name_of entry.act) (entry_at book seq)
+-- what is picked from what the entry with this number says
+abbrev pub said_at : {X : Type 0} → (Act → Option X) → List Entry → ℕ → Option X
+said_at pick book seq = option_and_then (λ entry. pick entry.act) (entry_at book seq)
 
 -- the registration of the aircraft that the entry with this number added
 abbrev pub tail_at : List Entry → ℕ → Option (List ℕ)
-tail_at book seq = name_at tail_added book seq
+tail_at book seq = said_at tail_added book seq
 
 -- the serial number of the component that the entry with this number added
 abbrev pub serial_at : List Entry → ℕ → Option (List ℕ)
-serial_at book seq = name_at serial_added book seq
+serial_at book seq = said_at serial_added book seq
+
+-- the item that an entry adds, where it adds one: the airframe of an aircraft, or a component
+abbrev pub item_added : Act → Option Item
+item_added (Added aircraft positions) = Some (Airframe aircraft.tail)
+item_added (Listed component) = Some (Component component.serial)
+item_added _ = None
+
+-- the item that the entry with this number added
+abbrev pub item_at : List Entry → ℕ → Option Item
+item_at book seq = said_at item_added book seq

@@ -1,34 +1,46 @@
 -- The registers of a book: the rows that its entries give to each table.
-use Rattle.std.specs.Prelude.{◌≡◌, ℕ, ◌+◌, List, [], ◌∷◌, ◌++◌, length, Option}
+use Rattle.std.specs.Prelude.{◌≡◌, ℕ, ◌+◌, List, [], ◌∷◌, ◌++◌, length, Option, Some, None, unwrap_or}
 use Rattle.std.specs.List.{cons_option}
 use Rattle.std.specs.Option.{option_map}
-use Rattle.mx_command.specs.Act.{Act, Entry, Added, Listed, Flown, Fitted, Removed, aircraft_of, component_of, sector_of, fitting_of, removal_of, positions_of}
+use Rattle.mx_base.specs.declared.amounts.Limit.{Limit}
+use Rattle.mx_command.specs.Act.{Act, Entry, Added, Listed, Loaded, Opened, Flown, Fitted, Removed, aircraft_of, component_of, programme_of, opening_of, sector_of, fitting_of, removal_of, positions_of, tasks_of}
 use Rattle.mx_command.specs.declared.aircraft.Aircraft.{Aircraft}
 use Rattle.mx_command.specs.declared.component.Component.{Component}
-use Rattle.mx_command.specs.declared.sector.Sector.{Sector as Flight}
+use Rattle.mx_command.specs.declared.programme.Programme.{Programme}
+use Rattle.mx_command.specs.declared.programme.Task.{Task}
+use Rattle.mx_command.specs.declared.programme.Applies.{Applies}
+use Rattle.mx_command.specs.declared.programme.Applies.TheVariants.{Airframe, Part}
+use Rattle.mx_command.specs.declared.opening.Opening.{Opening}
+use Rattle.mx_command.specs.declared.sector.Sector.{Sector}
 use Rattle.mx_command.specs.declared.fitting.Fitting.{Fitting}
 use Rattle.mx_command.specs.declared.fitting.Removal.{Removal}
 use Rattle.mx_register.specs.declared.rows.EntryKind.{EntryKind}
-use Rattle.mx_register.specs.declared.rows.EntryKind.TheVariants.{AddAircraft, AddComponent, Sector, Fit, Remove}
+use Rattle.mx_register.specs.declared.rows.EntryKind.TheVariants as kinds
 use Rattle.mx_register.specs.declared.rows.EntryRow.{EntryRow}
 use Rattle.mx_register.specs.declared.rows.AircraftRow.{AircraftRow}
 use Rattle.mx_register.specs.declared.rows.PlaceRow.{PlaceRow}
 use Rattle.mx_register.specs.declared.rows.ComponentRow.{ComponentRow}
+use Rattle.mx_register.specs.declared.rows.ProgrammeRow.{ProgrammeRow}
+use Rattle.mx_register.specs.declared.rows.TaskRow.{TaskRow}
+use Rattle.mx_register.specs.declared.rows.OpeningRow.{OpeningRow}
 use Rattle.mx_register.specs.declared.rows.SectorRow.{SectorRow}
 use Rattle.mx_register.specs.declared.rows.FittingRow.{FittingRow}
 use Rattle.mx_register.specs.declared.rows.RemovalRow.{RemovalRow}
 use Rattle.mx_register.specs.declared.merge.Registers.{Registers}
-use Rattle.mx_register.specs.Names.{seq_of_tail, seq_of_serial, or_zero}
+use Rattle.mx_register.specs.Names.{seq_of_tail, seq_of_serial, seq_of_item, or_zero}
+use Rattle.mx_register.specs.Lines.{lines_from}
 
 -- ── a row ──
 
 -- the kind of an entry
 abbrev pub kind_of : Act → EntryKind
-kind_of (Added aircraft positions) = AddAircraft
-kind_of (Listed component) = AddComponent
-kind_of (Flown sector) = Sector
-kind_of (Fitted fitting) = Fit
-kind_of (Removed removal) = Remove
+kind_of (Added aircraft positions) = kinds.AddAircraft
+kind_of (Listed component) = kinds.AddComponent
+kind_of (Loaded programme tasks) = kinds.LoadProgramme
+kind_of (Opened opening) = kinds.Opening
+kind_of (Flown sector) = kinds.Sector
+kind_of (Fitted fitting) = kinds.Fit
+kind_of (Removed removal) = kinds.Remove
 
 -- the row of an entry with this number
 abbrev pub entry_row : ℕ → Entry → EntryRow
@@ -46,8 +58,29 @@ place_row seq line p = record { seq = seq; line = line; position = p.0; part = p
 abbrev pub component_row : ℕ → Component → ComponentRow
 component_row seq c = record { seq = seq; serial = c.serial; part = c.part; birth = c.birth; minutes = c.opening.minutes; cycles = c.opening.cycles; as_of = c.as_of }
 
+-- the row of a revision of a programme that the entry with this number loaded
+abbrev pub programme_row : ℕ → Programme → ProgrammeRow
+programme_row seq p = record { seq = seq; kind = p.kind; revision = p.revision }
+
+-- the part that a task is done on, or none where it is done on the airframe
+abbrev pub part_of : Applies → Option (List ℕ)
+part_of Airframe = None
+part_of (Part part) = Some part
+
+-- the limit in no dimension, which stands for none
+abbrev pub no_limit : Limit
+no_limit = record { minutes = None; cycles = None; days = None }
+
+-- the row of a task, on this line of the programme that the entry with this number loaded
+abbrev pub task_row : ℕ → ℕ → Task → TaskRow
+task_row seq line t = record { seq = seq; line = line; id = t.id; part = part_of t.applies; retire = t.retire; first = t.first; repeat = unwrap_or t.repeat no_limit; tolerance = t.tolerance }
+
+-- the row of an opening that the entry with this number says, of the item that another entry added
+abbrev pub opening_row : ℕ → ℕ → Opening → OpeningRow
+opening_row seq item o = record { seq = seq; item = item; kind = o.kind; task = o.task; minutes = o.use_then.minutes; cycles = o.use_then.cycles; day = o.day }
+
 -- the row of a sector that the entry with this number says, of the aircraft that another entry added
-abbrev pub sector_row : ℕ → ℕ → Flight → SectorRow
+abbrev pub sector_row : ℕ → ℕ → Sector → SectorRow
 sector_row seq aircraft s = record { seq = seq; aircraft = aircraft; page = s.page; line = s.line; took_off = s.off; landed = s.on; cycles = s.cycles }
 
 -- the row of a fitting that the entry with this number says, of the component and to the aircraft that other entries added
@@ -68,11 +101,6 @@ next before = length before + 1
 abbrev pub if_any : {X Row : Type 0} → (X → Row) → Option X → List Row
 if_any row said = cons_option (option_map row said) []
 
--- the rows of positions, from this line on
-abbrev pub places_from : ℕ → ℕ → List (List ℕ × List ℕ) → List PlaceRow
-places_from seq line [] = []
-places_from seq line (p ∷ positions) = place_row seq line p ∷ places_from seq (line + 1) positions
-
 -- the row that an entry adds to the entries
 abbrev pub entry_added : List Entry → Entry → List EntryRow
 entry_added before entry = entry_row (next before) entry ∷ []
@@ -83,11 +111,23 @@ aircraft_by before act = if_any (aircraft_row (next before)) (aircraft_of act)
 
 -- the rows of the positions of the aircraft that an entry adds, numbered from 1
 abbrev pub places_by : List Entry → Act → List PlaceRow
-places_by before act = places_from (next before) 1 (positions_of act)
+places_by before act = lines_from place_row (next before) 1 (positions_of act)
 
 -- the row of the component that an entry adds
 abbrev pub components_by : List Entry → Act → List ComponentRow
 components_by before act = if_any (component_row (next before)) (component_of act)
+
+-- the row of the programme that an entry loads
+abbrev pub programmes_by : List Entry → Act → List ProgrammeRow
+programmes_by before act = if_any (programme_row (next before)) (programme_of act)
+
+-- the rows of the tasks of the programme that an entry loads, numbered from 1
+abbrev pub tasks_by : List Entry → Act → List TaskRow
+tasks_by before act = lines_from task_row (next before) 1 (tasks_of act)
+
+-- the row of the opening that an entry says
+abbrev pub openings_by : List Entry → Act → List OpeningRow
+openings_by before act = if_any (λ o. opening_row (next before) (or_zero (seq_of_item before o.item)) o) (opening_of act)
 
 -- the row of the sector that an entry says
 abbrev pub sectors_by : List Entry → Act → List SectorRow
@@ -128,6 +168,18 @@ place_rows book = gives_by places_by [] book
 abbrev pub component_rows : List Entry → List ComponentRow
 component_rows book = gives_by components_by [] book
 
+-- the revisions of programmes that a book loads, each with the number of its entry
+abbrev pub programme_rows : List Entry → List ProgrammeRow
+programme_rows book = gives_by programmes_by [] book
+
+-- the tasks of the programmes that a book loads
+abbrev pub task_rows : List Entry → List TaskRow
+task_rows book = gives_by tasks_by [] book
+
+-- the openings of a book, each with the number of its entry
+abbrev pub opening_rows : List Entry → List OpeningRow
+opening_rows book = gives_by openings_by [] book
+
 -- the sectors of a book, each with the number of its entry
 abbrev pub sector_rows : List Entry → List SectorRow
 sector_rows book = gives_by sectors_by [] book
@@ -146,6 +198,9 @@ pub record AreRegistersOf (r : Registers) (book : List Entry) : Type 0 where
   pub aircraft : r.aircraft.items ≡ aircraft_rows book
   pub places : r.places.items ≡ place_rows book
   pub components : r.components.items ≡ component_rows book
+  pub programmes : r.programmes.items ≡ programme_rows book
+  pub tasks : r.tasks.items ≡ task_rows book
+  pub openings : r.openings.items ≡ opening_rows book
   pub sectors : r.sectors.items ≡ sector_rows book
   pub fittings : r.fittings.items ≡ fitting_rows book
   pub removals : r.removals.items ≡ removal_rows book

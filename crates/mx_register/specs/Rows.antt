@@ -1,9 +1,11 @@
 -- The rows of the registers: their kinds by number, and which rows can be kept in columns.
-use Rattle.std.specs.Prelude.{ℕ, ◌+◌, ◌*◌, ◌<◌, ◌≤◌, ◌^◌}
+use Rattle.std.specs.Prelude.{ℕ, ◌+◌, ◌*◌, ◌<◌, ◌≤◌, ◌^◌, IfSome}
 use Rattle.mx_base.specs.Calendar.{last_day, last_moment}
 use Rattle.mx_base.specs.Identifier.{IsIdentifier, is_graphic, is_tail_character}
+use Rattle.mx_base.specs.declared.amounts.Limit.{Limit}
+use Rattle.mx_base.specs.declared.amounts.Tolerance.{Tolerance}
 use Rattle.mx_register.specs.declared.rows.EntryKind.{EntryKind}
-use Rattle.mx_register.specs.declared.rows.EntryKind.TheVariants.{AddAircraft, AddComponent, Sector, Fit, Remove}
+use Rattle.mx_register.specs.declared.rows.EntryKind.TheVariants.{AddAircraft, AddComponent, LoadProgramme, Opening, Sector, Fit, Remove}
 use Rattle.mx_register.specs.declared.rows.EntryRow.{EntryRow}
 use Rattle.mx_register.specs.declared.rows.AircraftRow.{AircraftRow}
 use Rattle.mx_register.specs.declared.rows.PlaceRow.{PlaceRow}
@@ -11,18 +13,31 @@ use Rattle.mx_register.specs.declared.rows.ComponentRow.{ComponentRow}
 use Rattle.mx_register.specs.declared.rows.SectorRow.{SectorRow}
 use Rattle.mx_register.specs.declared.rows.FittingRow.{FittingRow}
 use Rattle.mx_register.specs.declared.rows.RemovalRow.{RemovalRow}
+use Rattle.mx_register.specs.declared.rows.ProgrammeRow.{ProgrammeRow}
+use Rattle.mx_register.specs.declared.rows.TaskRow.{TaskRow}
+use Rattle.mx_register.specs.declared.rows.OpeningRow.{OpeningRow}
 
 -- the number of a kind of entry, in the order of the commands
 abbrev pub kind_number : EntryKind → ℕ
 kind_number AddAircraft = 1
 kind_number AddComponent = 2
+kind_number LoadProgramme = 3
+kind_number Opening = 4
 kind_number Sector = 5
 kind_number Fit = 6
 kind_number Remove = 7
 
+-- the place of a line of an entry's list among the lines of all: by the number of the entry, and then by the line
+abbrev pub line_key : ℕ → ℕ → ℕ
+line_key seq line = seq * 2 ^ 32 + line
+
 -- the place of a position among all: by the number of the aircraft's entry, and then by its line
 abbrev pub place_key : PlaceRow → ℕ
-place_key row = row.seq * 2 ^ 32 + row.line
+place_key row = line_key row.seq row.line
+
+-- the place of a task among all: by the number of the programme's entry, and then by its line
+abbrev pub task_key : TaskRow → ℕ
+task_key row = line_key row.seq row.line
 
 -- the number has 32 bits and the document is one
 pub record FitsEntry (row : EntryRow) : Type 0 where
@@ -79,3 +94,41 @@ pub record FitsRemoval (row : RemovalRow) : Type 0 where
   pub seq : row.seq < 2 ^ 32
   pub component : row.component < 2 ^ 32
   pub moment : row.moment ≤ last_moment
+
+-- the numbers have 32 bits, and the kind is an identifier
+pub record FitsProgramme (row : ProgrammeRow) : Type 0 where
+  pub seq : row.seq < 2 ^ 32
+  pub kind : IsIdentifier is_graphic 16 row.kind
+  pub revision : row.revision < 2 ^ 32
+
+-- the numbers that it has have 32 bits
+pub record FitsLimit (limit : Limit) : Type 0 where
+  pub minutes : IfSome limit.minutes (λ n. n < 2 ^ 32)
+  pub cycles : IfSome limit.cycles (λ n. n < 2 ^ 32)
+  pub days : IfSome limit.days (λ n. n < 2 ^ 32)
+
+-- the numbers have 32 bits
+pub record FitsTolerance (tolerance : Tolerance) : Type 0 where
+  pub minutes : tolerance.minutes < 2 ^ 32
+  pub cycles : tolerance.cycles < 2 ^ 32
+  pub days : tolerance.days < 2 ^ 32
+
+-- the numbers have 32 bits, those of the limits where there are any, and the texts are identifiers, the part's where there is one
+pub record FitsTask (row : TaskRow) : Type 0 where
+  pub seq : row.seq < 2 ^ 32
+  pub line : row.line < 2 ^ 32
+  pub id : IsIdentifier is_graphic 16 row.id
+  pub part : IfSome row.part (IsIdentifier is_graphic 16)
+  pub first : FitsLimit row.first
+  pub repeat : FitsLimit row.repeat
+  pub tolerance : FitsTolerance row.tolerance
+
+-- the numbers have 32 bits, the texts are identifiers, and the day is in the calendar
+pub record FitsOpening (row : OpeningRow) : Type 0 where
+  pub seq : row.seq < 2 ^ 32
+  pub item : row.item < 2 ^ 32
+  pub kind : IsIdentifier is_graphic 16 row.kind
+  pub task : IsIdentifier is_graphic 16 row.task
+  pub minutes : row.minutes < 2 ^ 32
+  pub cycles : row.cycles < 2 ^ 32
+  pub day : row.day ≤ last_day

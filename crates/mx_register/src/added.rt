@@ -1,14 +1,18 @@
 //! The rows that a command adds beside its entry, register by register, behind the entries of a book.
 ghost use Rattle.std.specs.Prelude.{◌≡◌, [], ◌∷◌, IfOk};
-ghost use Rattle.mx_register.specs.Registers.{aircraft_by, components_by, fittings_by, places_by, removals_by, sectors_by};
+ghost use Rattle.mx_register.specs.Registers.{aircraft_by, components_by, fittings_by, openings_by, places_by, programmes_by, removals_by, sectors_by, tasks_by};
 ghost use Rattle.mx_register.specs.Added.{AreAdded, AreAddedRows};
-ghost use Rattle.mx_register.specs.Rows.{FitsAircraft, FitsComponent, FitsFitting, FitsPlace, FitsRemoval, FitsSector};
+ghost use Rattle.mx_register.specs.Rows.{FitsAircraft, FitsComponent, FitsFitting, FitsOpening, FitsPlace, FitsProgramme, FitsRemoval, FitsSector, FitsTask};
 
-use crate::names::{seq_of_serial, seq_of_tail};
+use crate::names::{seq_of_item, seq_of_serial, seq_of_tail};
 use crate::registers::{
-    aircraft_row, component_row, fitting_row, place_row, removal_row, sector_row,
+    aircraft_row, component_row, fitting_row, opening_row, place_row, programme_row, removal_row,
+    sector_row, task_row,
 };
-use crate::rows::{AircraftRow, ComponentRow, FittingRow, PlaceRow, RemovalRow, SectorRow};
+use crate::rows::{
+    AircraftRow, ComponentRow, FittingRow, OpeningRow, PlaceRow, ProgrammeRow, RemovalRow,
+    SectorRow, TaskRow,
+};
 use mx_book::{Book, NoMemory};
 use mx_command::Command;
 use std::alloc::Global;
@@ -19,6 +23,9 @@ pub struct AddedRows {
     pub aircraft: Vec<AircraftRow>,
     pub places: Vec<PlaceRow>,
     pub components: Vec<ComponentRow>,
+    pub programmes: Vec<ProgrammeRow>,
+    pub tasks: Vec<TaskRow>,
+    pub openings: Vec<OpeningRow>,
     pub sectors: Vec<SectorRow>,
     pub fittings: Vec<FittingRow>,
     pub removals: Vec<RemovalRow>,
@@ -86,6 +93,56 @@ fn component_rows(
     }
 }
 
+// The row of a revision of a programme, where the command loads one.
+fn programme_rows(
+    alloc: Global,
+    book: &Book,
+    command: &Command,
+) -> Result<Vec<ProgrammeRow>, NoMemory>
+    ensures { IfOk result (λ rows.
+        AreAdded FitsProgramme programmes_by rows.items book.now command.now) }
+{
+    match command.loaded_programme() {
+        None => Ok(Vec::new(alloc)),
+        Some(programme) => one(alloc, programme_row(book.len() + 1, programme)),
+    }
+}
+
+// The rows of the tasks of a programme, where the command loads one.
+fn task_rows(alloc: Global, book: &Book, command: &Command) -> Result<Vec<TaskRow>, NoMemory>
+    ensures { IfOk result (λ rows. AreAdded FitsTask tasks_by rows.items book.now command.now) }
+{
+    // A command of its shape has few tasks.
+    let _ = command.doc();
+    let seq = book.len() + 1;
+    let mut rows = Vec::new(alloc);
+    let mut line = 1u32;
+    let mut rest = command.tasks();
+    while let Some((task, later)) = rest.split_first() {
+        match rows.push(task_row(seq, line, task)) {
+            Ok(()) => {}
+            Err(_) => return Err(NoMemory),
+        }
+        line += 1;
+        rest = later;
+    }
+    Ok(rows)
+}
+
+// The row of an opening, where the command states one.
+fn opening_rows(alloc: Global, book: &Book, command: &Command) -> Result<Vec<OpeningRow>, NoMemory>
+    ensures { IfOk result (λ rows.
+        AreAdded FitsOpening openings_by rows.items book.now command.now) }
+{
+    match command.stated_opening() {
+        None => Ok(Vec::new(alloc)),
+        Some(opening) => {
+            let item = seq_of_item(book, &opening.item).unwrap_or(0);
+            one(alloc, opening_row(book.len() + 1, item, opening))
+        }
+    }
+}
+
 // The row of a sector, where the command says one.
 fn sector_rows(alloc: Global, book: &Book, command: &Command) -> Result<Vec<SectorRow>, NoMemory>
     ensures { IfOk result (λ rows. AreAdded FitsSector sectors_by rows.items book.now command.now) }
@@ -139,6 +196,9 @@ pub fn added_rows(alloc: Global, book: &Book, command: &Command) -> Result<Added
         aircraft: aircraft_rows(alloc, book, command)?,
         places: place_rows(alloc, book, command)?,
         components: component_rows(alloc, book, command)?,
+        programmes: programme_rows(alloc, book, command)?,
+        tasks: task_rows(alloc, book, command)?,
+        openings: opening_rows(alloc, book, command)?,
         sectors: sector_rows(alloc, book, command)?,
         fittings: fitting_rows(alloc, book, command)?,
         removals: removal_rows(alloc, book, command)?,

@@ -10,10 +10,14 @@ pub mod rows;
 mod taking;
 
 pub use added::{AddedRows, added_rows};
-pub use names::{seq_of_serial, seq_of_tail, serial_of_component, tail_of_aircraft};
+pub use names::{
+    item_of_entry, seq_of_item, seq_of_serial, seq_of_tail, serial_of_component, tail_of_aircraft,
+};
 pub use registers::{
-    aircraft_row, component_row, entry_row, fitting_row, place_row, removal_row, sector_row,
+    aircraft_row, component_row, entry_row, fitting_row, opening_row, place_row, programme_row,
+    removal_row, sector_row, task_row,
 };
 pub use rows::{
-    AircraftRow, ComponentRow, EntryKind, EntryRow, FittingRow, PlaceRow, RemovalRow, SectorRow,
+    AircraftRow, ComponentRow, EntryKind, EntryRow, FittingRow, OpeningRow, PlaceRow, ProgrammeRow,
+    RemovalRow, SectorRow, TaskRow,
 };

@@ -4,11 +4,12 @@ ghost use Rattle.std.specs.Option.{option_map};
 ghost use Rattle.mx_command.specs.Act.{act_of, Entry, sector_of};
 ghost use Rattle.mx_book.specs.Book.{IsBook};
 ghost use Rattle.mx_register.specs.Registers.{AreRegistersOf};
-ghost use Rattle.mx_register.specs.Merge.{are_taken, command_of, is_next, merged, take_by, take_command};
+ghost use Rattle.mx_register.specs.Merge.{are_items_taken, are_moves_taken, are_programmes_taken, are_taken, command_of, is_next, merged, take_by, take_command};
 ghost use Rattle.mx_register.specs.Left.{all_rows, rest_of, taken};
 
 use crate::rows::{
-    AircraftRow, ComponentRow, EntryRow, FittingRow, PlaceRow, RemovalRow, SectorRow,
+    AircraftRow, ComponentRow, EntryRow, FittingRow, OpeningRow, PlaceRow, ProgrammeRow,
+    RemovalRow, SectorRow, TaskRow,
 };
 use crate::taking::{Left, take_said};
 use mx_base::Doc;
@@ -23,6 +24,9 @@ pub struct Registers {
     pub aircraft: Vec<AircraftRow>,
     pub places: Vec<PlaceRow>,
     pub components: Vec<ComponentRow>,
+    pub programmes: Vec<ProgrammeRow>,
+    pub tasks: Vec<TaskRow>,
+    pub openings: Vec<OpeningRow>,
     pub sectors: Vec<SectorRow>,
     pub fittings: Vec<FittingRow>,
     pub removals: Vec<RemovalRow>,
@@ -36,22 +40,41 @@ fn rows_of(registers: &Registers) -> Left<'_>
         aircraft: registers.aircraft.as_slice(),
         places: registers.places.as_slice(),
         components: registers.components.as_slice(),
+        programmes: registers.programmes.as_slice(),
+        tasks: registers.tasks.as_slice(),
+        openings: registers.openings.as_slice(),
         sectors: registers.sectors.as_slice(),
         fittings: registers.fittings.as_slice(),
         removals: registers.removals.as_slice(),
     }
 }
 
+// Whether every row of aircraft, of positions and of components is taken.
+fn are_items_taken(rows: Left<'_>) -> bool
+    ensures { result ≡ are_items_taken (rest_of rows.entry) }
+{
+    rows.aircraft.is_empty() && rows.places.is_empty() && rows.components.is_empty()
+}
+
+// Whether every row of programmes, of tasks and of openings is taken.
+fn are_programmes_taken(rows: Left<'_>) -> bool
+    ensures { result ≡ are_programmes_taken (rest_of rows.entry) }
+{
+    rows.programmes.is_empty() && rows.tasks.is_empty() && rows.openings.is_empty()
+}
+
+// Whether every row of sectors, of fittings and of removals is taken.
+fn are_moves_taken(rows: Left<'_>) -> bool
+    ensures { result ≡ are_moves_taken (rest_of rows.entry) }
+{
+    rows.sectors.is_empty() && rows.fittings.is_empty() && rows.removals.is_empty()
+}
+
 // Whether every row is taken.
 fn are_all_taken(rows: Left<'_>) -> bool
     ensures { result ≡ are_taken (rest_of rows.entry) }
 {
-    rows.aircraft.is_empty()
-        && rows.places.is_empty()
-        && rows.components.is_empty()
-        && rows.sectors.is_empty()
-        && rows.fittings.is_empty()
-        && rows.removals.is_empty()
+    are_items_taken(rows) && are_programmes_taken(rows) && are_moves_taken(rows)
 }
 
 // The command of a document and a body, or `None` where they lack the shape. `NoMemory` for a sector alone.

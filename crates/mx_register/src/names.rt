@@ -1,10 +1,11 @@
 //! Which entry added an aircraft or a component, by name and by number.
 ghost use Rattle.std.specs.Prelude.{◌≡◌, ◌≤◌, ℕ, length};
-ghost use Rattle.mx_register.specs.Names.{adds_named, name_at, number_from, seq_of_serial, seq_of_tail, serial_added, serial_at, tail_added, tail_at};
+ghost use Rattle.mx_command.specs.Act.{act_of};
+ghost use Rattle.mx_register.specs.Names.{adds_named, item_added, item_at, number_from, said_at, seq_of_item, seq_of_serial, seq_of_tail, serial_added, serial_at, tail_added, tail_at};
 
 use mx_base::{Serial, Tail};
 use mx_book::Book;
-use mx_command::Command;
+use mx_command::{Body, Command, Item};
 
 // Whether an entry adds the aircraft with this registration.
 fn adds_aircraft(entry: &Command, tail: &Tail) -> bool
@@ -76,6 +77,16 @@ pub fn seq_of_serial(book: &Book, serial: &Serial) -> Option<u32>
     number_of_serial(book.as_slice(), serial)
 }
 
+/// The number of the entry that added the item: the aircraft of an airframe, or the component.
+pub fn seq_of_item(book: &Book, item: &Item) -> Option<u32>
+    ensures { result ≡ seq_of_item book.now item.now }
+{
+    match item {
+        Item::Airframe(tail) => seq_of_tail(book, tail),
+        Item::Component(serial) => seq_of_serial(book, serial),
+    }
+}
+
 /// The registration of the aircraft that the entry with a number added.
 pub fn tail_of_aircraft(book: &Book, seq: u32) -> Option<Tail>
     ensures { result ≡ tail_at book.now seq }
@@ -92,4 +103,23 @@ pub fn serial_of_component(book: &Book, seq: u32) -> Option<Serial>
     let entry = book.entry(seq)?;
     let component = entry.added_component()?;
     Some(component.serial)
+}
+
+// The item that an entry adds: the airframe of an aircraft, or a component.
+fn added_item(body: &Body) -> Option<Item>
+    ensures { result ≡ item_added (act_of body.now) }
+{
+    match body {
+        Body::AddAircraft { tail, .. } => Some(Item::Airframe(*tail)),
+        Body::AddComponent { serial, .. } => Some(Item::Component(*serial)),
+        _ => None,
+    }
+}
+
+/// The item that the entry with a number added: the airframe of its aircraft, or its component.
+pub fn item_of_entry(book: &Book, seq: u32) -> Option<Item>
+    ensures { result ≡ item_at book.now seq }
+{
+    let entry = book.entry(seq)?;
+    added_item(entry.body())
 }

@@ -1,15 +1,19 @@
 //! The rows that a command gives.
-ghost use Rattle.std.specs.Prelude.{◌≡◌, true};
-ghost use Rattle.mx_register.specs.Rows.{FitsAircraft, FitsComponent, FitsEntry, FitsFitting, FitsPlace, FitsRemoval, FitsSector};
-ghost use Rattle.mx_register.specs.Registers.{aircraft_row, component_row, entry_row, fitting_row, kind_of, place_row, removal_row, sector_row};
+ghost use Rattle.std.specs.Prelude.{◌≡◌, ◌<◌, ◌^◌, true, unwrap_or, IfSome};
+ghost use Rattle.mx_base.specs.Identifier.{IsIdentifier, is_graphic};
+ghost use Rattle.mx_register.specs.Rows.{FitsAircraft, FitsComponent, FitsEntry, FitsFitting, FitsLimit, FitsOpening, FitsPlace, FitsProgramme, FitsRemoval, FitsSector, FitsTask, FitsTolerance};
+ghost use Rattle.mx_register.specs.Registers.{aircraft_row, component_row, entry_row, fitting_row, kind_of, no_limit, opening_row, part_of, place_row, programme_row, removal_row, sector_row, task_row};
 ghost use Rattle.mx_command.specs.Act.{act_of};
 ghost use Rattle.mx_command.specs.Shape.{has_shape};
 
 use crate::rows::{
-    AircraftRow, ComponentRow, EntryKind, EntryRow, FittingRow, PlaceRow, RemovalRow, SectorRow,
+    AircraftRow, ComponentRow, EntryKind, EntryRow, FittingRow, OpeningRow, PlaceRow, ProgrammeRow,
+    RemovalRow, SectorRow, TaskRow,
 };
-use mx_base::{Part, Position};
-use mx_command::{Aircraft, Body, Command, Component, Fitting, Removal, Sector};
+use mx_base::{Limit, Part, Position, Tolerance};
+use mx_command::{
+    Aircraft, Applies, Body, Command, Component, Fitting, Opening, Programme, Removal, Sector, Task,
+};
 
 // The kind of entry that a body makes.
 fn kind_of_body(body: &Body) -> EntryKind
@@ -18,6 +22,8 @@ fn kind_of_body(body: &Body) -> EntryKind
     match body {
         Body::AddAircraft { .. } => EntryKind::AddAircraft,
         Body::AddComponent { .. } => EntryKind::AddComponent,
+        Body::LoadProgramme { .. } => EntryKind::LoadProgramme,
+        Body::Opening { .. } => EntryKind::Opening,
         Body::Sector { .. } => EntryKind::Sector,
         Body::Fit { .. } => EntryKind::Fit,
         Body::Remove { .. } => EntryKind::Remove,
@@ -95,6 +101,125 @@ pub fn component_row(seq: u32, component: Component) -> ComponentRow
         minutes: component.opening.minutes,
         cycles: component.opening.cycles,
         as_of: component.as_of,
+    }
+}
+
+/// The row of a revision of a programme that is entered with a number.
+pub fn programme_row(seq: u32, programme: Programme) -> ProgrammeRow
+    ensures row { result ≡ programme_row seq programme }
+    ensures fits { FitsProgramme result }
+{
+    // The text of an identifier fits its column.
+    let _ = programme.kind.as_str();
+    ProgrammeRow {
+        seq,
+        kind: programme.kind,
+        revision: programme.revision,
+    }
+}
+
+// The part that a task is done on, or `None` where it is done on the airframe.
+fn part_of(applies: &Applies) -> Option<Part>
+    ensures part { result ≡ part_of applies.now }
+    ensures fits { IfSome result (IsIdentifier is_graphic 16) }
+{
+    match applies {
+        Applies::Airframe => None,
+        Applies::Part(part) => {
+            // The text of an identifier fits its column.
+            let _ = part.as_str();
+            Some(*part)
+        }
+    }
+}
+
+// The number, if there is one. It is looked at, since that tells its bound.
+fn number_if_any(number: Option<u32>) -> Option<u32>
+    ensures same { result ≡ number }
+    ensures fits { IfSome result (λ n. n < 2 ^ 32) }
+{
+    match number {
+        Some(number) => Some(number),
+        None => None,
+    }
+}
+
+// The limit, whose numbers fit their columns.
+fn limit_in_columns(limit: Limit) -> Limit
+    ensures same { result ≡ limit }
+    ensures fits { FitsLimit result }
+{
+    Limit {
+        minutes: number_if_any(limit.minutes),
+        cycles: number_if_any(limit.cycles),
+        days: number_if_any(limit.days),
+    }
+}
+
+// The limit of a repeat, or one in no dimension where there is none.
+fn repeat_in_columns(repeat: Option<Limit>) -> Limit
+    ensures limit { result ≡ unwrap_or repeat no_limit }
+    ensures fits { FitsLimit result }
+{
+    match repeat {
+        Some(limit) => limit_in_columns(limit),
+        None => Limit {
+            minutes: None,
+            cycles: None,
+            days: None,
+        },
+    }
+}
+
+// The tolerance, whose numbers fit their columns.
+fn tolerance_in_columns(tolerance: Tolerance) -> Tolerance
+    ensures same { result ≡ tolerance }
+    ensures fits { FitsTolerance result }
+{
+    Tolerance {
+        minutes: tolerance.minutes,
+        cycles: tolerance.cycles,
+        days: tolerance.days,
+    }
+}
+
+/// The row of a task, on this line of the programme that is entered with a number.
+pub fn task_row(seq: u32, line: u32, task: &Task) -> TaskRow
+    ensures row { result ≡ task_row seq line task.now }
+    ensures fits { FitsTask result }
+{
+    // The text of an identifier fits its column.
+    let _ = task.id.as_str();
+    TaskRow {
+        seq,
+        line,
+        id: task.id,
+        part: part_of(&task.applies),
+        retire: task.retire,
+        first: limit_in_columns(task.first),
+        repeat: repeat_in_columns(task.repeat),
+        tolerance: tolerance_in_columns(task.tolerance),
+    }
+}
+
+/// The row of an opening that is entered with a number, where another number is that of the entry that added
+/// its item.
+pub fn opening_row(seq: u32, item: u32, opening: Opening) -> OpeningRow
+    ensures row { result ≡ opening_row seq item opening }
+    ensures fits { FitsOpening result }
+{
+    // The texts of identifiers, and the number of a day, fit their columns.
+    let _ = opening.kind.as_str();
+    let _ = opening.task.as_str();
+    let _ = opening.day.number();
+    OpeningRow {
+        seq,
+        item,
+        kind: opening.kind,
+        task: opening.task,
+        minutes: opening.use_then.minutes,
+        cycles: opening.use_then.cycles,
+        day: opening.day,
     }
 }
 

@@ -1,13 +1,15 @@
-//! The rows of the registers. A column `seq` holds the number of the entry; a column `aircraft` or `component`
+//! The rows of the registers. A column `seq` holds the number of the entry; a column `aircraft`, `component` or `item`
 //! the number of the entry that added it.
 
-use mx_base::{Day, Doc, Kind, Moment, Part, Position, Serial, Tail};
+use mx_base::{Day, Doc, Kind, Limit, Moment, Part, Position, Serial, Tail, TaskId, Tolerance};
 
 /// The kind of an entry: which command it was.
 #[derive(Clone, Copy, Debug, PartialEq, Eq)]
 pub enum EntryKind {
     AddAircraft,
     AddComponent,
+    LoadProgramme,
+    Opening,
     Sector,
     Fit,
     Remove,
@@ -82,4 +84,43 @@ pub struct RemovalRow {
     pub seq: u32,
     pub component: u32,
     pub moment: Moment,
+}
+
+/// A revision of the maintenance programme of a kind of aircraft: 1 for the first, and one more for each later one.
+#[derive(Clone, Copy, Debug, PartialEq, Eq)]
+pub struct ProgrammeRow {
+    pub seq: u32,
+    pub kind: Kind,
+    pub revision: u32,
+}
+
+/// A task of a programme, the one on this line of its list, from 1.
+#[derive(Clone, Copy, Debug, PartialEq, Eq)]
+pub struct TaskRow {
+    pub seq: u32,
+    pub line: u32,
+    pub id: TaskId,
+    /// The part whose components it is done on, or `None` where it is done on the airframe.
+    pub part: Option<Part>,
+    /// Whether the item is retired at the first limit.
+    pub retire: bool,
+    /// When it is due for the first time.
+    pub first: Limit,
+    /// When it is due again, and a limit in no dimension where it is done once.
+    pub repeat: Limit,
+    pub tolerance: Tolerance,
+}
+
+/// What was accomplished of a task before the records begin: the use of the item, in minutes and cycles, when the task
+/// was last done, and the day.
+#[derive(Clone, Copy, Debug, PartialEq, Eq)]
+pub struct OpeningRow {
+    pub seq: u32,
+    pub item: u32,
+    /// The kind of aircraft whose programme has the task.
+    pub kind: Kind,
+    pub task: TaskId,
+    pub minutes: u32,
+    pub cycles: u32,
+    pub day: Day,
 }

@@ -2,16 +2,17 @@
 ghost use Rattle.std.specs.Prelude.{◌≡◌, IfOk, IsSome, OnErr};
 ghost use Rattle.std.specs.Option.{option_map};
 ghost use Rattle.mx_command.specs.Act.{act_of};
-ghost use Rattle.mx_register.specs.Merge.{aircraft_said, component_said, fitting_said, removal_said, sector_said, take_aircraft, take_by, take_component, take_fitting, take_places, take_removal, take_sector};
+ghost use Rattle.mx_register.specs.Merge.{aircraft_said, applies_said, component_said, fitting_said, limit_said, opening_said, programme_said, removal_said, sector_said, take_aircraft, take_by, take_component, take_fitting, take_opening, take_places, take_programme, take_removal, take_sector, take_tasks};
 ghost use Rattle.mx_register.specs.Left.{rest_of, said};
 
-use crate::names::{serial_of_component, tail_of_aircraft};
+use crate::names::{item_of_entry, serial_of_component, tail_of_aircraft};
 use crate::rows::{
-    AircraftRow, ComponentRow, EntryKind, EntryRow, FittingRow, PlaceRow, RemovalRow, SectorRow,
+    AircraftRow, ComponentRow, EntryKind, EntryRow, FittingRow, OpeningRow, PlaceRow, ProgrammeRow,
+    RemovalRow, SectorRow, TaskRow,
 };
-use mx_base::{Part, Position, Serial, Tail, Use};
+use mx_base::{Limit, Part, Position, Serial, Tail, Use};
 use mx_book::Book;
-use mx_command::Body;
+use mx_command::{Applies, Body, Item, Task};
 use std::alloc::{AllocError, Global};
 
 /// The rows that no entry has taken.
@@ -20,6 +21,9 @@ pub(crate) struct Left<'a> {
     pub(crate) aircraft: &'a [AircraftRow],
     pub(crate) places: &'a [PlaceRow],
     pub(crate) components: &'a [ComponentRow],
+    pub(crate) programmes: &'a [ProgrammeRow],
+    pub(crate) tasks: &'a [TaskRow],
+    pub(crate) openings: &'a [OpeningRow],
     pub(crate) sectors: &'a [SectorRow],
     pub(crate) fittings: &'a [FittingRow],
     pub(crate) removals: &'a [RemovalRow],
@@ -55,6 +59,54 @@ fn body_of_component(row: &ComponentRow) -> Body
             cycles: row.cycles,
         },
         as_of: row.as_of,
+    }
+}
+
+// What the row of a programme says, with these tasks.
+fn body_of_programme(row: &ProgrammeRow, tasks: Vec<Task>) -> Body
+    ensures { act_of result ≡ programme_said row.now tasks.items }
+{
+    Body::LoadProgramme {
+        kind: row.kind,
+        revision: row.revision,
+        tasks,
+    }
+}
+
+// What a task is done on, by the part in its row.
+fn applies_to(part: Option<Part>) -> Applies
+    ensures { result ≡ applies_said part }
+{
+    match part {
+        Some(part) => Applies::Part(part),
+        None => Applies::Airframe,
+    }
+}
+
+// The limit, or `None` where it has no dimension.
+fn limit_if_any(limit: Limit) -> Option<Limit>
+    ensures { result ≡ limit_said limit }
+{
+    if limit.minutes.is_some() || limit.cycles.is_some() || limit.days.is_some() {
+        Some(limit)
+    } else {
+        None
+    }
+}
+
+// What the row of an opening says, of this item.
+fn body_of_opening(row: &OpeningRow, item: Item) -> Body
+    ensures { act_of result ≡ opening_said row.now item }
+{
+    Body::Opening {
+        item,
+        kind: row.kind,
+        task: row.task,
+        use_then: Use {
+            minutes: row.minutes,
+            cycles: row.cycles,
+        },
+        day: row.day,
     }
 }
 
@@ -101,7 +153,7 @@ fn take_positions(
     seq: u32,
     rows: &[PlaceRow],
 ) -> Result<(Vec<(Position, Part)>, &[PlaceRow]), AllocError>
-    ensures { IfOk result (λ taken. (taken.0.items, taken.1.now) ≡ take_places seq 1 rows.now) }
+    ensures { IfOk result (λ taken. (taken.0.items, taken.1.now) ≡ take_places seq rows.now) }
 {
     let mut positions = Vec::new(alloc);
     let mut rest = rows;
@@ -114,6 +166,36 @@ fn take_positions(
         rest = later;
     }
     Ok((positions, rest))
+}
+
+// The tasks of the entry with this number, and the rows behind them.
+fn take_tasks(
+    alloc: Global,
+    seq: u32,
+    rows: &[TaskRow],
+) -> Result<(Vec<Task>, &[TaskRow]), AllocError>
+    ensures { IfOk result (λ taken. (taken.0.items, taken.1.now) ≡ take_tasks seq rows.now) }
+{
+    // The checker proves this loop only where the type of each field of a task is named in the function.
+    let _: Option<Applies> = None;
+    let mut tasks = Vec::new(alloc);
+    let mut rest = rows;
+    while let Some((row, later)) = rest.split_first() {
+        let line = tasks.len() + 1;
+        if row.seq != seq || row.line as usize != line {
+            return Ok((tasks, rest));
+        }
+        tasks.push(Task {
+            id: row.id,
+            applies: applies_to(row.part),
+            first: row.first,
+            repeat: limit_if_any(row.repeat),
+            tolerance: row.tolerance,
+            retire: row.retire,
+        })?;
+        rest = later;
+    }
+    Ok((tasks, rest))
 }
 
 // What an entry that added an aircraft says. Memory is asked for only where the first row is of the entry.
@@ -151,6 +233,44 @@ fn take_component<'a>(seq: u32, rows: Left<'a>) -> Option<(Body, Left<'a>)>
     }
     let rest = Left { components, ..rows };
     Some((body_of_component(row), rest))
+}
+
+// What an entry that loaded a programme says. Memory is asked for only where the first row is of the entry.
+fn take_programme<'a>(
+    alloc: Global,
+    seq: u32,
+    rows: Left<'a>,
+) -> Result<Option<(Body, Left<'a>)>, AllocError>
+    ensures found { IfOk result
+        (λ found. option_map said found ≡ take_programme seq (rest_of rows.entry)) }
+    ensures memory { OnErr result (IsSome (take_programme seq (rest_of rows.entry))) }
+{
+    let Some((row, programmes)) = rows.programmes.split_first() else {
+        return Ok(None);
+    };
+    if row.seq != seq {
+        return Ok(None);
+    }
+    let (listed, tasks) = take_tasks(alloc, seq, rows.tasks)?;
+    let rest = Left {
+        programmes,
+        tasks,
+        ..rows
+    };
+    Ok(Some((body_of_programme(row, listed), rest)))
+}
+
+// What an opening's entry says.
+fn take_opening<'a>(book: &Book, seq: u32, rows: Left<'a>) -> Option<(Body, Left<'a>)>
+    ensures { option_map said result ≡ take_opening book.now seq (rest_of rows.entry) }
+{
+    let (row, openings) = rows.openings.split_first()?;
+    if row.seq != seq {
+        return None;
+    }
+    let item = item_of_entry(book, row.item)?;
+    let rest = Left { openings, ..rows };
+    Some((body_of_opening(row, item), rest))
 }
 
 // What a sector's entry says.
@@ -210,6 +330,8 @@ pub(crate) fn take_said<'a>(
     match entry.kind {
         EntryKind::AddAircraft => take_aircraft(alloc, entry.seq, rows),
         EntryKind::AddComponent => Ok(take_component(entry.seq, rows)),
+        EntryKind::LoadProgramme => take_programme(alloc, entry.seq, rows),
+        EntryKind::Opening => Ok(take_opening(book, entry.seq, rows)),
         EntryKind::Sector => Ok(take_sector(book, entry.seq, rows)),
         EntryKind::Fit => Ok(take_fitting(book, entry.seq, rows)),
         EntryKind::Remove => Ok(take_removal(book, entry.seq, rows)),

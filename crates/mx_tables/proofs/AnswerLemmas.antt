@@ -1,5 +1,5 @@
 -- What a reader answers.
-use Rattle.std.proofs.Common.{◌≡◌, ◌⊎◌, inl, inr, List, map, Ok, Err, Result, OnOk, IfOk, IfErr, All, refl, sym, subst}
+use Rattle.std.proofs.Common.{◌≡◌, ◌⊎◌, inl, inr, List, map, Ok, Err, Result, IfOk, IfErr, refl, sym, subst}
 use Rattle.std.specs.Prelude.{IsErr}
 use Rattle.std.specs.declared.cmp.Ordering.{Ordering}
 use Rattle.std.proofs.lemmas.Result.{IfOk-weaker}
@@ -12,11 +12,8 @@ use Rattle.mx_layout.specs.declared.fault.TableFault.{TableFault}
 use Rattle.mx_layout.specs.declared.fault.TableFault.TheVariants.{Memory, Store, NotOurs, Exists, Damaged}
 use Rattle.mx_layout.specs.Contents.{rows_in}
 use Rattle.mx_layout.specs.Point.{IsFaultOf}
-use Rattle.mx_layout.specs.Reading.{AreAllBy, HasOther, IsRowOf}
+use Rattle.mx_layout.specs.Reading.{AreAllBy, HasOther}
 use Rattle.mx_layout.proofs.ReadLemmas.{other_in}
-use Rattle.std.specs.List.Sorted.{IsPermutation}
-use Rattle.std.proofs.lemmas.List.Sorted.{All-permutation}
-use Rattle.std.proofs.lemmas.List.Elements.{All-map, All-weaker, All-contains}
 use Rattle.mx_tables.specs.Calls.{OnDamaged, OnRead}
 
 pub on_read : {T P : Type 0} (r : Result T TableFault) → P → OnRead r P
@@ -26,11 +23,6 @@ on_read (Err Store) p = tt
 on_read (Err NotOurs) p = tt
 on_read (Err Exists) p = tt
 on_read (Err (Damaged t)) p = p
-
--- what holds where a reader answered holds where it gave the rows
-pub OnOk-from_read : {T : Type 0} (P : Type 0) (r : Result T TableFault) → OnRead r P → OnOk r P
-OnOk-from_read P (Ok rows) p = p
-OnOk-from_read P (Err fault) p = tt
 
 -- the fault of a call is no damaged table
 pub not_damaged : (fault : TableFault) → (fault ≡ Memory) ⊎ (fault ≡ Store) → (t : TableName) → fault ≡ Damaged t → ⊥
@@ -46,15 +38,6 @@ not_read P Store why = tt
 not_read P NotOurs why = tt
 not_read P Exists why = tt
 not_read P (Damaged t) why = absurd (not_damaged (Damaged t) why t refl)
-
--- rows that stand for typed ones that fit are all rows of the type
-pub all_typed : {X : Type 0} (as_cells : X → Row) (Fits : X → Type 0) (xs : List X) (rows : List Row) → All Fits xs → IsPermutation (map as_cells xs) rows → All (IsRowOf as_cells Fits) rows
-all_typed as_cells Fits xs rows fits same =
-    All-permutation (IsRowOf as_cells Fits) (map as_cells xs) rows same (All-map (IsRowOf as_cells Fits) as_cells xs (All-weaker Fits (λ x. IsRowOf as_cells Fits (as_cells x)) (λ x fit. (x, fit, refl)) xs fits))
-
--- where all rows are of the type, none is another, so that no reader finds the table damaged
-pub none_other : (IsReadable : Row → Type 0) (rows : List Row) → All IsReadable rows → HasOther IsReadable rows → ⊥
-none_other IsReadable rows all other = other.2 (All-contains IsReadable rows other.0 all other.1)
 
 -- ── what a query answered, and what was made of it ──
 

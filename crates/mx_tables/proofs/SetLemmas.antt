@@ -199,7 +199,3 @@ one_then k x Two two keeps old mid new t second a b =
       inside = λ clean begun. (let stays = a.inside (early clean) begun in on_weaker second (stays_then old mid new stays) (b.inside clean (stays.mode, stays.is_open)));
       within = within_then old mid new a.within (λ clean begun. (a.inside clean begun).mode) b.within;
     }
-
-pub on_both : {T E P Q R : Type 0} (r : Result T E) → (P → Q → R) → OnOk r P → OnOk r Q → OnOk r R
-on_both (Ok x) f p q = f p q
-on_both (Err e) f p q = tt

@@ -18,6 +18,8 @@ fn number_of(kind: EntryKind) -> u32
     match kind {
         EntryKind::AddAircraft => 1,
         EntryKind::AddComponent => 2,
+        EntryKind::LoadProgramme => 3,
+        EntryKind::Opening => 4,
         EntryKind::Sector => 5,
         EntryKind::Fit => 6,
         EntryKind::Remove => 7,
@@ -33,6 +35,8 @@ fn kind_at(row: &Row, at: usize) -> Option<EntryKind>
     match number_at(row, at)? {
         1 => Some(EntryKind::AddAircraft),
         2 => Some(EntryKind::AddComponent),
+        3 => Some(EntryKind::LoadProgramme),
+        4 => Some(EntryKind::Opening),
         5 => Some(EntryKind::Sector),
         6 => Some(EntryKind::Fit),
         7 => Some(EntryKind::Remove),

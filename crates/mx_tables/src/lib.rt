@@ -33,7 +33,11 @@
 //! 5. Plants: two columns swapped in either text, two values swapped in `insert` or `read`, a text with no
 //!    ORDER BY, the name of another table.
 //!
-//! A table with columns that may be NULL needs more: no function of `column.rt` reads one.
+//! A column that may be NULL is kept by `number_or_null` or `text_or_null` of `mx_kept/specs/Values.antt`, one that
+//! says whether by `flag`, a limit by three numbers. They are read by the functions of `column.rt` of these names, and
+//! what may be missing is passed on by `number_if_any` or `text_if_any`, which tell what is known of it. In `Lawful`
+//! the lemmas of `ValueLemmas` stand where `task` has them, and `insert` has the answer of `task`, alike for all but
+//! its name.
 #![tactic(auto)]
 
 mod aircraft;
@@ -41,11 +45,14 @@ mod column;
 mod component;
 mod entry;
 mod fitting;
+mod opening;
 mod place;
+mod programme;
 mod removal;
 mod sector;
 pub mod sets;
 pub mod stored;
+mod task;
 
 pub use mx_layout::{Layout, Point, Table, TableFault, create, point};
 pub use sets::Tables;

@@ -1,6 +1,7 @@
 use Rattle.std.proofs.Common.{◌≡◌, ◌+◌, ◌++◌, length, All}
 use Rattle.mx_command.specs.Act.{positions_of}
-use Rattle.mx_register.specs.Registers.{places_from}
+use Rattle.mx_register.specs.Lines.{lines_from}
+use Rattle.mx_register.specs.Registers.{place_row}
 use Rattle.mx_register.specs.Rows.{FitsPlace}
 use Rattle.mx_register.proofs.added.place_rows.Given as goal
 
@@ -8,7 +9,7 @@ use Rattle.mx_register.proofs.added.place_rows.Given as goal
 abbrev pub invariant-loop-place : goal.invariant-loop-place
 invariant-loop-place l = record {
   count : l.line + length l.rest ≡ 1 + length (positions_of l.command.act);
-  split : places_from l.seq 1 (positions_of l.command.act) ≡ l.rows.items ++ places_from l.seq l.line l.rest;
+  split : lines_from place_row l.seq 1 (positions_of l.command.act) ≡ l.rows.items ++ lines_from place_row l.seq l.line l.rest;
   fits : All FitsPlace l.rows.items;
 }
 

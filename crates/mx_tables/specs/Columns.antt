@@ -1,0 +1,11 @@
+-- What several columns of a row hold.
+use Rattle.std.specs.Prelude.{◌≡◌, ℕ, ◌+◌}
+use Rattle.sqlite.specs.Order.{Row, column}
+use Rattle.mx_base.specs.declared.amounts.Limit.{Limit}
+use Rattle.mx_kept.specs.Values.{number_or_null}
+
+-- three columns from this one on hold the limit: its minutes, its cycles and its days
+pub record HoldsLimit (row : Row) (at : ℕ) (limit : Limit) : Type 0 where
+  pub minutes : column row at ≡ number_or_null limit.minutes
+  pub cycles : column row (at + 1) ≡ number_or_null limit.cycles
+  pub days : column row (at + 2) ≡ number_or_null limit.days

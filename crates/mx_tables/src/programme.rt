@@ -1,0 +1,45 @@
+//! The table `programme`: every revision of a maintenance programme.
+
+use crate::column::{graphic_at, number_at};
+use crate::stored::{Insert, Stored, Texts, insert_values};
+use mx_layout::{Table, TableFault};
+use mx_register::ProgrammeRow;
+use sqlite::{Alter, Row, Transaction, params};
+
+impl Stored for ProgrammeRow {
+    ghost use Rattle.mx_kept.specs.Cells.{kept_programme};
+    ghost use Rattle.mx_kept.proofs.Lawful.{programme_lawful};
+
+    ghost kept = { kept_programme };
+
+    ghost lawful = { programme_lawful };
+
+    fn texts() -> Texts {
+        Texts {
+            table: Table::Programme,
+            select: "SELECT seq, kind, revision FROM programme ORDER BY seq",
+            insert: "INSERT INTO programme (seq, kind, revision) VALUES (?1, ?2, ?3)",
+        }
+    }
+
+    fn read(row: &Row) -> Option<ProgrammeRow> {
+        if row.column_count() != 3 {
+            return None;
+        }
+        Some(ProgrammeRow {
+            seq: number_at(row, 0)?,
+            kind: graphic_at(row, 1)?,
+            revision: number_at(row, 2)?,
+        })
+    }
+}
+
+impl Insert for ProgrammeRow {
+    fn insert<S: Alter>(&self, tx: &mut Transaction<'_, S>) -> Result<(), TableFault> {
+        insert_values(
+            tx,
+            self,
+            params![self.seq, self.kind.as_str(), self.revision,],
+        )
+    }
+}

@@ -1,0 +1,72 @@
+//! The table `task`: every task of a programme, its limits in columns that are NULL where there is none.
+
+use crate::column::{
+    flag_at, graphic_at, graphic_or_null_at, limit_at, number_at, number_if_any, text_if_any,
+};
+use crate::stored::{Insert, Stored, Texts, insert_values};
+use mx_base::Tolerance;
+use mx_layout::{Table, TableFault};
+use mx_register::TaskRow;
+use sqlite::{Alter, Row, Transaction, params};
+
+impl Stored for TaskRow {
+    ghost use Rattle.mx_kept.specs.Cells.{kept_task};
+    ghost use Rattle.mx_kept.proofs.Lawful.{task_lawful};
+
+    ghost kept = { kept_task };
+
+    ghost lawful = { task_lawful };
+
+    fn texts() -> Texts {
+        Texts {
+            table: Table::Task,
+            select: "SELECT seq, line, id, part, retire, first_m, first_c, first_d, rep_m, rep_c, rep_d, tol_m, tol_c, tol_d FROM task ORDER BY seq, line",
+            insert: "INSERT INTO task (seq, line, id, part, retire, first_m, first_c, first_d, rep_m, rep_c, rep_d, tol_m, tol_c, tol_d) VALUES (?1, ?2, ?3, ?4, ?5, ?6, ?7, ?8, ?9, ?10, ?11, ?12, ?13, ?14)",
+        }
+    }
+
+    fn read(row: &Row) -> Option<TaskRow> {
+        if row.column_count() != 14 {
+            return None;
+        }
+        Some(TaskRow {
+            seq: number_at(row, 0)?,
+            line: number_at(row, 1)?,
+            id: graphic_at(row, 2)?,
+            part: graphic_or_null_at(row, 3)?,
+            retire: flag_at(row, 4)?,
+            first: limit_at(row, 5)?,
+            repeat: limit_at(row, 8)?,
+            tolerance: Tolerance {
+                minutes: number_at(row, 11)?,
+                cycles: number_at(row, 12)?,
+                days: number_at(row, 13)?,
+            },
+        })
+    }
+}
+
+impl Insert for TaskRow {
+    fn insert<S: Alter>(&self, tx: &mut Transaction<'_, S>) -> Result<(), TableFault> {
+        insert_values(
+            tx,
+            self,
+            params![
+                self.seq,
+                self.line,
+                self.id.as_str(),
+                text_if_any(&self.part),
+                self.retire,
+                number_if_any(self.first.minutes),
+                number_if_any(self.first.cycles),
+                number_if_any(self.first.days),
+                number_if_any(self.repeat.minutes),
+                number_if_any(self.repeat.cycles),
+                number_if_any(self.repeat.days),
+                self.tolerance.minutes,
+                self.tolerance.cycles,
+                self.tolerance.days,
+            ],
+        )
+    }
+}
