@@ -16,7 +16,7 @@ use Rattle.mx_command.specs.Shape.{has_shape}
 use Rattle.mx_register.specs.declared.merge.Registers.{Registers}
 use Rattle.mx_register.specs.Registers.{gives}
 use Rattle.mx_register.specs.Rising.{IsRising}
-use Rattle.mx_register.proofs.RegisterLemmas.{entry_rows-rising, aircraft_rows-rising, place_rows-rising, component_rows-rising, sector_rows-rising, fitting_rows-rising, removal_rows-rising}
+use Rattle.mx_register.proofs.RegisterLemmas.{entry_rows-rising, aircraft_rows-rising, place_rows-rising, component_rows-rising, programme_rows-rising, task_rows-rising, opening_rows-rising, sector_rows-rising, fitting_rows-rising, removal_rows-rising}
 use Rattle.mx_register.proofs.SortedLemmas.{sorted_once, IsRising-map, IsFrom-map, IsFrom-rising}
 use Rattle.mx_layout.specs.TableName.{TableName}
 use Rattle.mx_layout.specs.declared.fault.Table.TheVariants as table
@@ -29,7 +29,7 @@ use Rattle.mx_kept.specs.Family.{IsReadable, IsReadableAs}
 use Rattle.mx_kept.specs.Meanings.{IsLawful}
 use Rattle.mx_kept.specs.Schemas.{HasOwn1, permanent, own_1}
 use Rattle.mx_kept.proofs.SchemaLemmas.{in_layout_1, permanent_too}
-use Rattle.mx_kept.proofs.Lawful.{entry_lawful, aircraft_lawful, place_lawful, component_lawful, sector1_lawful, fit1_lawful, removal1_lawful}
+use Rattle.mx_kept.proofs.Lawful.{entry_lawful, aircraft_lawful, place_lawful, component_lawful, programme_lawful, task_lawful, opening_lawful, sector1_lawful, fit1_lawful, removal1_lawful}
 use Rattle.mx_tables.specs.Sets.{AreRowsOf}
 use Rattle.mx_office.specs.Family.{Register, of, none, register_of, registers_1, rows_by, FitBy, AreGiven, AreRead}
 use Rattle.mx_office.specs.Stands.{EachHas, first_rows}
@@ -51,17 +51,20 @@ pub record AreFacts {X : Type 0} (name : TableName) (k : Kept X) (by : List Entr
 
 abbrev pub Facts : TableName → Register → Type 0
 Facts name (of k by read) = AreFacts name k by
-Facts name none = (row : Row) → IsReadable name row
+Facts name none = ⊤
 
 pub facts : (name : TableName) → Facts name (register_of name)
 facts table.Entry = record { law = entry_lawful; rise = λ book shaped. (1, length book + 1, entry_rows-rising book shaped); is_named = refl; readable = λ _ h. h; no_first = λ _. refl; is_in = permanent_too }
 facts table.Aircraft = record { law = aircraft_lawful; rise = λ book shaped. (1, length book + 1, aircraft_rows-rising book shaped); is_named = refl; readable = λ _ h. h; no_first = λ _. refl; is_in = permanent_too }
 facts table.Place = record { law = place_lawful; rise = λ book shaped. (1 * 2 ^ 32, (length book + 1) * 2 ^ 32, place_rows-rising book shaped); is_named = refl; readable = λ _ h. h; no_first = λ _. refl; is_in = permanent_too }
 facts table.Component = record { law = component_lawful; rise = λ book shaped. (1, length book + 1, component_rows-rising book shaped); is_named = refl; readable = λ _ h. h; no_first = λ _. refl; is_in = permanent_too }
+facts table.Programme = record { law = programme_lawful; rise = λ book shaped. (1, length book + 1, programme_rows-rising book shaped); is_named = refl; readable = λ _ h. h; no_first = λ _. refl; is_in = permanent_too }
+facts table.Task = record { law = task_lawful; rise = λ book shaped. (1 * 2 ^ 32, (length book + 1) * 2 ^ 32, task_rows-rising book shaped); is_named = refl; readable = λ _ h. h; no_first = λ _. refl; is_in = permanent_too }
+facts table.Opening = record { law = opening_lawful; rise = λ book shaped. (1, length book + 1, opening_rows-rising book shaped); is_named = refl; readable = λ _ h. h; no_first = λ _. refl; is_in = permanent_too }
 facts table.Sector1 = record { law = sector1_lawful; rise = λ book shaped. (1, length book + 1, sector_rows-rising book shaped); is_named = refl; readable = λ _ h. h; no_first = λ _. refl; is_in = λ _ has. has }
 facts table.Fit1 = record { law = fit1_lawful; rise = λ book shaped. (1, length book + 1, fitting_rows-rising book shaped); is_named = refl; readable = λ _ h. h; no_first = λ _. refl; is_in = λ _ has. has }
 facts table.Removal1 = record { law = removal1_lawful; rise = λ book shaped. (1, length book + 1, removal_rows-rising book shaped); is_named = refl; readable = λ _ h. h; no_first = λ _. refl; is_in = λ _ has. has }
-facts _ = λ _. tt
+facts _ = tt
 
 -- ── tables by name ──
 
@@ -128,8 +131,10 @@ pub none_fits : (before book : List Entry) → EachHas (FitBy none) before book
 none_fits before [] = tt
 none_fits before (c ∷ book) = (tt, none_fits (before ++ c ∷ []) book)
 
-all_readable : (name : TableName) → ((row : Row) → IsReadable name row) → (rows : List Row) → All (IsReadable name) rows
-all_readable name good rows = λ i d low. good (slice_index_or rows i d)
+-- a book gives no row to a table that keeps no register
+none_given : (P : Row → Type 0) (before book : List Entry) → All P (gives (rows_by none) before book)
+none_given P before [] = All-nil P
+none_given P before (c ∷ book) = none_given P (before ++ c ∷ []) book
 
 -- ── a register that is kept ──
 
@@ -220,19 +225,13 @@ pub readable_read : (name : TableName) (f : Register) → Facts name f → (tree
 readable_read name (of k by read) facts trees r are =
     let good = All-permutation (IsReadableAs k) _ _ (IsPermutation-sym _ _ are.0.all) (good_rows k facts.law (read r) are.1) in
     All-weaker (IsReadableAs k) (IsReadable name) facts.readable (rows_in (table_named name) trees) (subst (λ n. All (IsReadableAs k) (rows_in (table_named n) trees)) facts.is_named good)
-readable_read name none facts trees r are = all_readable name facts (rows_in (table_named name) trees)
+readable_read name none facts trees r are = absurd are
 
 -- and so are those that a book gives
 pub readable_given : (name : TableName) (f : Register) → Facts name f → (book : List Entry) → EachHas (FitBy f) [] book → All (IsReadable name) (gives (rows_by f) [] book)
 readable_given name (of k by read) facts book fit =
     All-weaker (IsReadableAs k) (IsReadable name) facts.readable _ (subst (All (IsReadableAs k)) (sym (map-gives k.as_cells by [] book)) (good_rows k facts.law (gives by [] book) (fits_all k.Fits by [] book fit)))
-readable_given name none facts book fit = all_readable name facts _
-
--- and so are those of the table that it gives them
-pub readable_table : (name : TableName) (f : Register) → Facts name f → (trees : Trees) (book : List Entry) → EachHas (FitBy f) [] book → AreGiven f trees book → All (IsReadable name) (rows_in (table_named name) trees)
-readable_table name (of k by read) facts trees book fit given =
-    All-permutation (IsReadable name) _ _ (subst (λ n. IsPermutation (gives (λ b c. map k.as_cells (by b c)) [] book) (rows_in (table_named n) trees)) facts.is_named given) (readable_given name (of k by read) facts book fit)
-readable_table name none facts trees book fit given = all_readable name facts (rows_in (table_named name) trees)
+readable_given name none facts book fit = none_given (IsReadable name) [] book
 
 -- a table that has the rows that a book gives it, by name
 pub given_from : (name : TableName) (f : Register) → Facts name f → (at : Point) (trees : Trees) (book : List Entry) → IsPermutation (first_rows at name ++ gives (rows_by f) [] book) (rows_in (table_named name) trees) → AreGiven f trees book

@@ -31,8 +31,8 @@ use Rattle.mx_office.specs.declared.fault.Fault.{Fault}
 use Rattle.mx_office.specs.declared.fault.Fault.TheVariants as fault
 use Rattle.mx_office.specs.Faults.{fault_from}
 use Rattle.mx_office.specs.Family.{none, register_of, registers_1, rows_by, AreGiven, AreRead, FitsAt}
-use Rattle.mx_office.specs.Stands.{Stands, HoldsBook, HaveRowsOf, IsOfNoBook, IsReasonFor, EachHas, first_rows, rows_given}
-use Rattle.mx_office.proofs.FamilyLemmas.{facts, AllOf, each_from, each_of, each_weaker, each_with, IsReadOf, AreSame, read_at, given_at, fit_at, same_at, given_from, none_fits, readable_read, readable_given, readable_table}
+use Rattle.mx_office.specs.Stands.{Stands, HoldsBook, HaveRowsOf, IsOfNoBook, EachHas, first_rows, rows_given}
+use Rattle.mx_office.proofs.FamilyLemmas.{facts, AllOf, each_from, each_of, each_weaker, each_with, IsReadOf, AreSame, read_at, given_at, fit_at, same_at, given_from, readable_read, readable_given}
 
 -- ── one line for each table ──
 
@@ -41,10 +41,10 @@ pub have_rows : (trees : Trees) (r : Registers) → AllOf (λ name. AreRead (reg
 have_rows trees r are = each_from (λ name. AreRead (register_of name) trees r) registers_1 are
 
 from_each : (r : Registers) (book : List Entry) → AllByRecursion (λ name. IsReadOf (register_of name) r book) registers_1 → AreRegistersOf r book
-from_each r book each = record { entries = each.0; aircraft = each.1.0; places = each.1.1.0; components = each.1.1.1.0; sectors = each.1.1.1.1.0; fittings = each.1.1.1.1.1.0; removals = each.1.1.1.1.1.1.0 }
+from_each r book each = record { entries = each.0; aircraft = each.1.0; places = each.1.1.0; components = each.1.1.1.0; programmes = each.1.1.1.1.0; tasks = each.1.1.1.1.1.0; openings = each.1.1.1.1.1.1.0; sectors = each.1.1.1.1.1.1.1.0; fittings = each.1.1.1.1.1.1.1.1.0; removals = each.1.1.1.1.1.1.1.1.1.0 }
 
 to_each : (r : Registers) (book : List Entry) → AreRegistersOf r book → AllByRecursion (λ name. IsReadOf (register_of name) r book) registers_1
-to_each r book are = (are.entries, (are.aircraft, (are.places, (are.components, (are.sectors, (are.fittings, (are.removals, tt)))))))
+to_each r book are = (are.entries, (are.aircraft, (are.places, (are.components, (are.programmes, (are.tasks, (are.openings, (are.sectors, (are.fittings, (are.removals, tt))))))))))
 
 -- ── for all tables alike ──
 
@@ -92,7 +92,7 @@ holds_once trees one other a b =
     let firsts = each_with (Fit one) (Given one) (Has one) (λ name fit given. (fit, given)) registers_1 a.fit a.tables in
     let seconds = each_with (Fit other) (Given other) (Has other) (λ name fit given. (fit, given)) registers_1 b.fit b.tables in
     let same = each_with (Has one) (Has other) (λ name. AreSame (register_of name) one other) (λ name has had. same_at name (register_of name) (facts name) trees one other a.is_book.shaped b.is_book.shaped has.0 had.0 has.1 had.1) registers_1 firsts seconds in
-    book_once one other (record { entries = same.0; aircraft = same.1.0; places = same.1.1.0; components = same.1.1.1.0; sectors = same.1.1.1.1.0; fittings = same.1.1.1.1.1.0; removals = same.1.1.1.1.1.1.0 }) a.is_book b.is_book
+    book_once one other (record { entries = same.0; aircraft = same.1.0; places = same.1.1.0; components = same.1.1.1.0; programmes = same.1.1.1.1.0; tasks = same.1.1.1.1.1.0; openings = same.1.1.1.1.1.1.0; sectors = same.1.1.1.1.1.1.1.0; fittings = same.1.1.1.1.1.1.1.1.0; removals = same.1.1.1.1.1.1.1.1.1.0 }) a.is_book b.is_book
 
 -- tables stand for at most one book
 pub stands_once : (trees : Trees) (one other : List Entry) → Stands trees one → Stands trees other → one ≡ other
@@ -108,24 +108,6 @@ pub none_damaged : (trees : Trees) (book : List Entry) → Stands trees book →
 none_damaged trees book stands name other =
     let good = All-append (IsReadable name) (first_rows first_point name) _ (readable_first first_point name) (readable_given name (register_of name) (facts name) book (stands.is.fit name)) in
     other.2 (All-contains (IsReadable name) (rows_in (table_named name) trees) other.0 (All-permutation (IsReadable name) _ _ (stands.is.tables name (in_layout_1 name)) good) other.1)
-
--- what a book gives to each table by name, and that it fits
-given_of : (trees : Trees) (book : List Entry) → HoldsBook trees book → (name : TableName) → EachHas (FitsAt name) [] book × AreGiven (register_of name) trees book
-given_of trees book h table.Entry = (h.fit.0, h.tables.0)
-given_of trees book h table.Aircraft = (h.fit.1.0, h.tables.1.0)
-given_of trees book h table.Place = (h.fit.1.1.0, h.tables.1.1.0)
-given_of trees book h table.Component = (h.fit.1.1.1.0, h.tables.1.1.1.0)
-given_of trees book h table.Sector1 = (h.fit.1.1.1.1.0, h.tables.1.1.1.1.0)
-given_of trees book h table.Fit1 = (h.fit.1.1.1.1.1.0, h.tables.1.1.1.1.1.0)
-given_of trees book h table.Removal1 = (h.fit.1.1.1.1.1.1.0, h.tables.1.1.1.1.1.1.0)
-given_of trees book h _ = (none_fits [] book, tt)
-
--- tables that hold a book have no damage to answer
-pub no_reason : (trees : Trees) (book : List Entry) (name : TableName) → HoldsBook trees book → IsReasonFor trees name → ⊥
-no_reason trees book name holds (inl other) =
-    let given = given_of trees book holds name in
-    other.2 (All-contains (IsReadable name) (rows_in (table_named name) trees) other.0 (readable_table name (register_of name) (facts name) trees book given.0 given.1) other.1)
-no_reason trees book name holds (inr other) = other.1.no_book book holds
 
 -- a reader that stopped stops the one that calls it: over tables that stand for a book, never for damage
 pub stops_reading : {V : Type 0} (P : V → Type 0) (trees : Trees) (book : List Entry) → Stands trees book → (result : Result V TableFault) (why : TableFault) → IsErr result × IsErrAnd result (λ it. it ≡ why)

@@ -21,19 +21,12 @@ use Rattle.mx_office.specs.Stands.{Stands, Rests, IsEither}
 pub rests_as : (s : State) (one other : List Entry) → (HasCleanDisk s → one ≡ other) → Rests s one → Rests s other
 rests_as s one other same r = rests_same s layout_1 (λ db. Stands db one) (λ db. Stands db other) (λ clean db is. subst (Stands db) (same clean) is) r
 
-pub rests_either : (s : State) (one other : List Entry) → Rests s one → Leaves s (IsEither one other)
-rests_either s one other r clean db may = inl (r.crash clean db may)
-
 -- the book after a command that is new, and after any other
 pub after_new : (book : List Entry) (c : Entry) → judge book c ≡ New → book_after book c ≡ book ++ c ∷ []
 after_new book c h = ap (λ v. cond (is_new v) (book ++ c ∷ []) book) h
 
 pub after_old : (book : List Entry) (c : Entry) (v : Verdict) → judge book c ≡ v → is_new v ≡ false → book_after book c ≡ book
 after_old book c v h old = ap (λ w. cond (is_new w) (book ++ c ∷ []) book) h ∙ ap (λ b. cond b (book ++ c ∷ []) book) old
-
--- the reply that the verdict on a command makes
-pub said_reply : (book : List Entry) (c : Entry) (v : Verdict) → v ≡ judge book c → reply_to (length book + 1) v ≡ reply book c
-said_reply book c v is = ap (reply_to (length book + 1)) is
 
 -- `loaded` is what the code read, and it is the book where the disk is clean
 module _ (mid end : State) (book loaded : List Entry) (later : doubt mid.is_clean ≤ doubt end.is_clean) (exact : HasCleanDisk mid → loaded ≡ book) where

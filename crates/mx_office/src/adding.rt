@@ -43,14 +43,16 @@ fn add_rows<S: Alter>(
         aircraft,
         places,
         components,
+        programmes,
+        tasks,
+        openings,
         sectors,
         fittings,
         removals,
     } = rows;
-    let beside = (
-        aircraft,
-        (places, (components, (sectors, (fittings, removals)))),
-    );
+    let flown = (sectors, (fittings, removals));
+    let maintained = (programmes, (tasks, (openings, flown)));
+    let beside = (aircraft, (places, (components, maintained)));
     let entry = entry_row(book.len() + 1, command);
     entry.insert(tx)?;
     beside.write(tx)

@@ -43,13 +43,24 @@ fn read_registers<S: Alter>(
         → (table : _) → result ≡ Err (TableFault.Damaged table) → IsDamaged old.now.trees table }
     ensures within { IsWithin (state S.Store tx.old.conn.now) (state S.Store tx.new.conn.now) }
 {
-    let (entries, (aircraft, (places, (components, (sectors, (fittings, removals)))))) =
-        Tables::read(alloc, tx)?;
+    let (
+        entries,
+        (
+            aircraft,
+            (
+                places,
+                (components, (programmes, (tasks, (openings, (sectors, (fittings, removals)))))),
+            ),
+        ),
+    ) = Tables::read(alloc, tx)?;
     Ok(Registers {
         entries,
         aircraft,
         places,
         components,
+        programmes,
+        tasks,
+        openings,
         sectors,
         fittings,
         removals,

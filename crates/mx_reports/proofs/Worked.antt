@@ -5,7 +5,7 @@ use Rattle.std.specs.Fmt.{digits}
 use Rattle.std.specs.List.{flat_map}
 use Rattle.mx_base.specs.Calendar.{date_of}
 use Rattle.mx_base.specs.Texts.{day_text, moment_text}
-use Rattle.mx_book.specs.declared.verdict.Refusal.TheVariants.{Conflict, Full, UnknownAircraft, UnknownComponent, UnknownPosition, AircraftExists, ComponentExists, PositionTaken, AlreadyFitted, NotFitted, WrongPart, OutOfOrder}
+use Rattle.mx_book.specs.declared.verdict.Refusal.TheVariants.{Conflict, Full, UnknownAircraft, UnknownComponent, UnknownPosition, UnknownProgramme, UnknownTask, AircraftExists, ComponentExists, PositionTaken, AlreadyFitted, NotFitted, WrongPart, TaskClosed, LifeLimit, OutOfOrder, WrongRevision, OtherAircraft, OpeningTooLate, OpeningTooLarge}
 use Rattle.mx_book.specs.declared.verdict.Reply.TheVariants.{Accepted, Already, Refused}
 use Rattle.mx_reports.specs.LifeText.{life_lines}
 use Rattle.mx_reports.specs.ReplyText.{reply_line}
@@ -53,6 +53,13 @@ refused : flat_map (λ refusal. reply_line (Refused refusal)) (Full ∷ UnknownA
 unfolding digits
 refused = refl
 
+-- those of programmes and tasks that carry nothing
+refused_of_tasks : flat_map (λ refusal. reply_line (Refused refusal)) (UnknownProgramme ∷ UnknownTask ∷ TaskClosed ∷ LifeLimit ∷ OtherAircraft
+    ∷ OpeningTooLate ∷ OpeningTooLarge ∷ [])
+    ≡ codes "refused 23\nrefused 24\nrefused 38\nrefused 39\nrefused 47\nrefused 48\nrefused 49\n"
+unfolding digits
+refused_of_tasks = refl
+
 -- a conflict carries the number of the entry
 conflict : reply_line (Refused (Conflict 4)) ≡ codes "refused 10 4\n"
 unfolding digits
@@ -62,6 +69,11 @@ conflict = refl
 out_of_order : reply_line (Refused (OutOfOrder 2010)) ≡ codes "refused 41 1970-01-02T09:30\n"
 unfolding digits date_of day_text moment_text
 out_of_order = refl
+
+-- a revision of a programme that is not the next one carries the next one
+wrong_revision : reply_line (Refused (WrongRevision 2)) ≡ codes "refused 46 2\n"
+unfolding digits
+wrong_revision = refl
 
 -- a text begins with itself and with a shorter one, and not with another
 begins : StartsWith (codes "end") (codes "end 1")

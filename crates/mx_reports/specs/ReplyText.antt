@@ -3,26 +3,34 @@ use Rattle.std.specs.Prelude.{ℕ, List, [], ◌∷◌, ◌++◌, codes}
 use Rattle.std.specs.Fmt.{decimal}
 use Rattle.mx_base.specs.Texts.{moment_text}
 use Rattle.mx_book.specs.declared.verdict.Refusal.{Refusal}
-use Rattle.mx_book.specs.declared.verdict.Refusal.TheVariants.{Conflict, Full, UnknownAircraft, UnknownComponent, UnknownPosition, AircraftExists, ComponentExists, PositionTaken, AlreadyFitted, NotFitted, WrongPart, OutOfOrder}
+use Rattle.mx_book.specs.declared.verdict.Refusal.TheVariants.{Conflict, Full, UnknownAircraft, UnknownComponent, UnknownPosition, UnknownProgramme, UnknownTask, AircraftExists, ComponentExists, PositionTaken, AlreadyFitted, NotFitted, WrongPart, TaskClosed, LifeLimit, OutOfOrder, WrongRevision, OtherAircraft, OpeningTooLate, OpeningTooLarge}
 use Rattle.mx_book.specs.declared.verdict.Reply.{Reply}
 use Rattle.mx_book.specs.declared.verdict.Reply.TheVariants.{Accepted, Already, Refused}
 use Rattle.mx_book.specs.Judge.{refusal_number}
 use Rattle.mx_reports.specs.Words.{spaced}
 
--- what a refusal carries beside its number: the number of an entry, or a moment
+-- what a refusal carries beside its number: the number of an entry, a moment, or the revision that is expected
 abbrev pub carried_words : Refusal → List ℕ
 carried_words (Conflict seq) = spaced (decimal seq)
 carried_words (OutOfOrder clock) = spaced (moment_text clock)
+carried_words (WrongRevision expected) = spaced (decimal expected)
 carried_words Full = []
 carried_words UnknownAircraft = []
 carried_words UnknownComponent = []
 carried_words UnknownPosition = []
+carried_words UnknownProgramme = []
+carried_words UnknownTask = []
 carried_words AircraftExists = []
 carried_words ComponentExists = []
 carried_words PositionTaken = []
 carried_words AlreadyFitted = []
 carried_words NotFitted = []
 carried_words WrongPart = []
+carried_words TaskClosed = []
+carried_words LifeLimit = []
+carried_words OtherAircraft = []
+carried_words OpeningTooLate = []
+carried_words OpeningTooLarge = []
 
 -- the number of a refusal, and what it carries
 abbrev pub refusal_words : Refusal → List ℕ

@@ -16,16 +16,24 @@ fn append_carried(out: &mut Vec<u8>, refusal: &Refusal) -> Result<(), AllocError
     match refusal {
         Refusal::Conflict(seq) => append_number(out, *seq as usize),
         Refusal::OutOfOrder(clock) => append_moment(out, *clock),
+        Refusal::WrongRevision(expected) => append_number(out, *expected as usize),
         Refusal::Full
         | Refusal::UnknownAircraft
         | Refusal::UnknownComponent
         | Refusal::UnknownPosition
+        | Refusal::UnknownProgramme
+        | Refusal::UnknownTask
         | Refusal::AircraftExists
         | Refusal::ComponentExists
         | Refusal::PositionTaken
         | Refusal::AlreadyFitted
         | Refusal::NotFitted
-        | Refusal::WrongPart => Ok(()),
+        | Refusal::WrongPart
+        | Refusal::TaskClosed
+        | Refusal::LifeLimit
+        | Refusal::OtherAircraft
+        | Refusal::OpeningTooLate
+        | Refusal::OpeningTooLarge => Ok(()),
     }
 }
 
@@ -64,7 +72,7 @@ fn append_line(out: &mut Vec<u8>, reply: &Reply) -> Result<(), AllocError>
 }
 
 /// Appends the line of a reply: `accepted SEQ`, `already SEQ`, or `refused NUMBER` and what the refusal
-/// carries, the number of an entry or a moment.
+/// carries, the number of an entry, a moment or a revision.
 pub fn reply_text(out: &mut Vec<u8>, reply: &Reply) -> Result<(), AllocError>
     ensures printed { OnOk result (out.new.items ≡ out.old.items ++ reply_line reply.now) }
     ensures unchanged { OnErr result (out.new.items ≡ out.old.items) }
