@@ -1,6 +1,14 @@
 pub mod EntriesLemmas
 pub mod InputLemmas
+pub mod KeyLemmas
 pub mod ObjectLemmas
+pub mod ProgrammeLemmas
+pub mod ReadingLemmas
+pub mod SequenceLemmas
+pub mod TableLemmas
+pub mod TaskLemmas
 pub mod TextLemmas
 pub mod Worked
 pub mod WorkedForms
+pub mod WorkedLoading
+pub mod WorkedTasks

@@ -13,11 +13,12 @@ use Rattle.mx_intake.proofs.EntriesLemmas.{value_of_text-long}
 use Rattle.serde_json.specs.Data.{Items, array}
 use Rattle.serde_json.specs.Events.{items_len}
 use Rattle.serde_json.specs.Read.{read}
+use Rattle.mx_intake.specs.Text.{text_of_bytes}
 use Rattle.mx_intake.specs.Vocabulary.{named_day, day_of_text, named_moment, moment_of_text}
 
 -- what is unfolded to compute the commands of a text
 unfoldable pub intake_on_literals : ⊤
-unfolding value_of_text is_utf8 chars serde_json_on_literals day_of_text moment_of_text named_moment named_day days_from_civil day_count days_of_years days_of_months moment_text day_text date_of
+unfolding value_of_text text_of_bytes is_utf8 chars serde_json_on_literals day_of_text moment_of_text named_moment named_day days_from_civil day_count days_of_years days_of_months moment_text day_text date_of
 intake_on_literals = tt
 
 -- ── days and moments ──

@@ -2,7 +2,9 @@
 use Rattle.std.proofs.Common.{refl, ◌≡◌, ℕ, List, [], ◌∷◌, ◌++◌, Ok, Err}
 use Rattle.std.specs.Prelude.{codes, Result}
 use Rattle.std.specs.Fmt.{digits}
-use Rattle.mx_command.specs.Act.{Entry, Added, Listed, Flown, Fitted}
+use Rattle.mx_command.specs.Act.{Entry, Added, Listed, Opened, Flown, Fitted}
+use Rattle.mx_command.specs.declared.item.Item.{Item}
+use Rattle.mx_command.specs.declared.item.Item.TheVariants.{Airframe, Component}
 use Rattle.mx_intake.specs.declared.fault.IntakeFault.{IntakeFault}
 use Rattle.mx_intake.specs.Fault.{fault}
 use Rattle.mx_intake.specs.Entries.{entries_of_text}
@@ -118,6 +120,44 @@ component : entries_of_text (codes "[{\"do\":\"add-component\",\"doc\":\"C1\",\"
     ≡ Ok (record { doc = codes "C1"; act = Listed (record { serial = codes "E1"; part = codes "IO360"; birth = 1; opening = record { minutes = 1000; cycles = 100 }; as_of = 1440 }) } ∷ [])
 unfolding intake_on_literals
 component = refl
+
+-- ── openings ──
+
+-- what the list of one opening gives, by the keys that are written for its item
+abbrev opening_with_item : List ℕ → Result (List Entry) IntakeFault
+opening_with_item keys =
+    entries_of_text (codes "[{\"do\":\"opening\",\"doc\":\"O1\"," ++ keys
+    ++ codes "\"kind\":\"C172\",\"task\":\"ANNUAL\",\"minutes\":59000,\"cycles\":780,\"day\":\"1970-01-02\"}]")
+
+-- that opening
+abbrev opening_of_item : Item → Entry
+opening_of_item item =
+    record { doc = codes "O1"; act = Opened (record { item = item; kind = codes "C172"; task = codes "ANNUAL"; use_then = record { minutes = 59000; cycles = 780 }; day = 1 }) }
+
+opening_of_an_airframe : opening_with_item (codes "\"tail\":\"D-ABCD\",") ≡ Ok (opening_of_item (Airframe (codes "D-ABCD")) ∷ [])
+unfolding intake_on_literals
+opening_of_an_airframe = refl
+
+opening_of_a_component : opening_with_item (codes "\"serial\":\"E1\",") ≡ Ok (opening_of_item (Component (codes "E1")) ∷ [])
+unfolding intake_on_literals
+opening_of_a_component = refl
+
+opening_of_nothing : opening_with_item [] ≡ Err (fault 62 1)
+unfolding intake_on_literals
+opening_of_nothing = refl
+
+opening_of_two_items : opening_with_item (codes "\"tail\":\"D-ABCD\",\"serial\":\"E1\",") ≡ Err (fault 65 1)
+unfolding intake_on_literals
+opening_of_two_items = refl
+
+-- each of two items is read, and an unknown key is looked for, before there are too many
+opening_of_an_unread_second_item : opening_with_item (codes "\"tail\":\"d-abcd\",\"serial\":\"E1\",") ≡ Err (fault 63 1)
+unfolding intake_on_literals
+opening_of_an_unread_second_item = refl
+
+opening_of_two_items_and_a_note : opening_with_item (codes "\"tail\":\"D-ABCD\",\"serial\":\"E1\",\"note\":1,") ≡ Err (fault 64 1)
+unfolding intake_on_literals
+opening_of_two_items_and_a_note = refl
 
 -- ── fittings ──
 

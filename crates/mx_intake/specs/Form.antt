@@ -1,4 +1,4 @@
--- What an entry gives by its form: a command, or the least of its faults.
+-- What an entry gives by its form: what it states, or the least of its faults.
 use Rattle.std.specs.Prelude.{ℕ, List, Bool, true, false, Option, Some, None, option_and_then, Result, Ok, Err, if◌then◌else◌}
 use Rattle.mx_command.specs.Act.{Entry, act_of}
 use Rattle.mx_command.specs.Shape.{has_shape}
@@ -9,16 +9,20 @@ use Rattle.mx_intake.specs.declared.fault.TheConstants.{MISSING, BAD_VALUE, UNKN
 abbrev pub if_read : {A B : Type 0} → Option A → (A → Option B) → Option B
 if_read value next = option_and_then next value
 
--- the command, where it has its shape
-abbrev pub if_shaped : Entry → Result Entry ℕ
-if_shaped e = if has_shape e then Ok e else Err BAD_SHAPE
+-- what an entry states, where it has its shape
+abbrev pub if_shaped : {A : Type 0} → (A → Bool) → A → Result A ℕ
+if_shaped shape a = if shape a then Ok a else Err BAD_SHAPE
 
--- what an entry gives: whether it lacks a key, the command where all its values can be read, whether it has another key
+-- what an entry gives: whether it lacks a key, what it states where all its values can be read, whether it has another key
+abbrev pub by_form : {A : Type 0} → (A → Bool) → Bool → Option A → Bool → Result A ℕ
+by_form shape true stated other = Err MISSING
+by_form shape false None other = Err BAD_VALUE
+by_form shape false (Some a) true = Err UNKNOWN_KEY
+by_form shape false (Some a) false = if_shaped shape a
+
+-- the command that an entry gives
 abbrev pub entry_by_form : Bool → Option Entry → Bool → Result Entry ℕ
-entry_by_form true stated other = Err MISSING
-entry_by_form false None other = Err BAD_VALUE
-entry_by_form false (Some e) true = Err UNKNOWN_KEY
-entry_by_form false (Some e) false = if_shaped e
+entry_by_form = by_form has_shape
 
 -- a document and what is said by it
 abbrev pub entry_of : List ℕ × Body → Entry

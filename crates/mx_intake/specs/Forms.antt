@@ -1,15 +1,16 @@
 -- The form of each command: its keys, and how their values are read.
-use Rattle.std.specs.Prelude.{ℕ, List, [], ◌∷◌, codes, Bool, false, ◌&&◌, ◌||◌, Option, Some, None, is_some, option_map, option_and_then, Result, Err, if◌then◌else◌}
+use Rattle.std.specs.Prelude.{ℕ, List, [], ◌∷◌, codes, Bool, false, ◌&&◌, ◌||◌, Option, Some, None, is_some, option_map, option_and_then, Result, Ok, Err, if◌then◌else◌}
 use Rattle.std.specs.Option.{option_map_or}
 use Rattle.std.specs.Str.{bytes_eq}
 use Rattle.serde_json.specs.Data.{Data, Items, no_items, item}
 use Rattle.serde_json.specs.Find.{get, as_str, as_object}
 use Rattle.mx_base.specs.declared.amounts.Use.{Use}
-use Rattle.mx_command.specs.Act.{Entry, Added, Listed, Flown, Fitted, Removed}
+use Rattle.mx_command.specs.Act.{Entry, Added, Listed, Opened, Flown, Fitted, Removed}
 use Rattle.mx_command.specs.Shape.{sector_doc}
 use Rattle.mx_command.specs.declared.sector.Sector.{Sector}
-use Rattle.mx_intake.specs.declared.fault.TheConstants.{MISSING, BAD_VALUE}
+use Rattle.mx_intake.specs.declared.fault.TheConstants.{MISSING, BAD_VALUE, BAD_SHAPE}
 use Rattle.mx_intake.specs.Form.{if_read, entry_by_form}
+use Rattle.mx_intake.specs.Items.{item_at_keys, lacks_item, names_two_items}
 use Rattle.mx_intake.specs.Object.{lacks_key, has_other_key, number_at_key, list_at_key, any_item}
 use Rattle.mx_intake.specs.Vocabulary.{tail_at_key, name_at_key, document_at_key, day_at_key, moment_at_key}
 
@@ -100,6 +101,41 @@ stated_component d =
 abbrev pub component_form : Data → Result Entry ℕ
 component_form d = entry_by_form (lacks_key component_keys d) (stated_component d) (has_other_key component_keys d)
 
+-- ── opening ──
+
+-- the keys that an opening needs beside that of its item
+abbrev pub needed_opening_keys : List (List ℕ)
+needed_opening_keys =
+    codes "do" ∷ codes "doc" ∷ codes "kind" ∷ codes "task" ∷ codes "minutes" ∷ codes "cycles" ∷ codes "day" ∷ []
+
+-- the keys of an opening
+abbrev pub opening_keys : List (List ℕ)
+opening_keys =
+    codes "do" ∷ codes "doc" ∷ codes "tail" ∷ codes "serial" ∷ codes "kind" ∷ codes "task" ∷ codes "minutes" ∷ codes "cycles"
+    ∷ codes "day" ∷ []
+
+-- the opening that an object states
+abbrev pub stated_opening : Data → Option Entry
+stated_opening d =
+    if_read (document_at_key (codes "doc") d) (λ doc.
+    if_read (item_at_keys d) (λ item.
+    if_read (name_at_key (codes "kind") d) (λ kind.
+    if_read (name_at_key (codes "task") d) (λ task.
+    if_read (stated_use d) (λ use_then.
+    if_read (day_at_key (codes "day") d) (λ day.
+    Some (record { doc = doc; act = Opened (record { item = item; kind = kind; task = task; use_then = use_then; day = day }) })))))))
+
+-- the command, where it is not about two items
+abbrev pub if_about_one : Bool → Result Entry ℕ → Result Entry ℕ
+if_about_one two (Err which) = Err which
+if_about_one two (Ok e) = if two then Err BAD_SHAPE else Ok e
+
+-- the command that an object gives by the form of an opening
+abbrev pub opening_form : Data → Result Entry ℕ
+opening_form d =
+    if_about_one (names_two_items d)
+    (entry_by_form (lacks_key needed_opening_keys d || lacks_item d) (stated_opening d) (has_other_key opening_keys d))
+
 -- ── sector ──
 
 -- the keys of a sector
@@ -172,6 +208,7 @@ abbrev pub entry_by_word : List ℕ → Data → Result Entry ℕ
 entry_by_word word d =
     if bytes_eq word (codes "add-aircraft") then aircraft_form d
     else if bytes_eq word (codes "add-component") then component_form d
+    else if bytes_eq word (codes "opening") then opening_form d
     else if bytes_eq word (codes "sector") then sector_form d
     else if bytes_eq word (codes "fit") then fitting_form d
     else if bytes_eq word (codes "remove") then removal_form d

@@ -3,5 +3,13 @@ pub mod Fault
 pub mod Form
 pub mod Forms
 pub mod Input
+pub mod Items
+pub mod Keys
+pub mod Loading
 pub mod Object
+pub mod ProgrammeText
+pub mod Sequence
+pub mod Table
+pub mod Tasks
+pub mod Text
 pub mod Vocabulary

@@ -1,17 +1,13 @@
 -- What an object of JSON has at its keys.
-use Rattle.std.specs.Prelude.{ℕ, ◌^◌, List, Bool, false, not, ◌||◌, nat_lt, Option, Some, None, is_some, option_and_then, if◌then◌else◌}
+use Rattle.std.specs.Prelude.{ℕ, List, Bool, false, not, ◌||◌, Option, is_some, option_and_then}
 use Rattle.std.specs.List.{list_any}
-use Rattle.std.specs.Str.{bytes_eq}
 use Rattle.serde_json.specs.Data.{Data, null, boolean, number, string, array, object, Items, no_items, item, Members, no_members, member}
 use Rattle.serde_json.specs.Find.{get, as_number, as_u64, as_str, as_array}
+use Rattle.mx_intake.specs.Keys.{is_key, if_small}
 
 -- one of the keys is missing
 abbrev pub lacks_key : List (List ℕ) → Data → Bool
 lacks_key keys d = list_any (λ key. not (is_some (get key d))) keys
-
--- the text is one of the keys
-abbrev pub is_key : List (List ℕ) → List ℕ → Bool
-is_key keys text = list_any (λ key. bytes_eq key text) keys
 
 -- a member has a key that is none of these
 abbrev pub has_other_member : List (List ℕ) → Members → Bool
@@ -26,10 +22,6 @@ has_other_key keys (boolean b) = false
 has_other_key keys (number n) = false
 has_other_key keys (string s) = false
 has_other_key keys (array ds) = false
-
--- the number, where it is below 2 ^ 32
-abbrev pub if_small : ℕ → Option ℕ
-if_small n = if nat_lt n (2 ^ 32) then Some n else None
 
 -- the number that a value is: whole, written without a fraction or an exponent, and below 2 ^ 32
 abbrev pub number_of : Data → Option ℕ

@@ -1,15 +1,15 @@
-//! Why an input gives no commands.
+//! Why an input states nothing.
 ghost use Rattle.std.specs.Prelude.{◌≡◌};
 ghost use Rattle.mx_intake.specs.Fault.{fault};
 
 use std::alloc::AllocError;
 
-/// Why an input gives no commands: the number of the fault, and the entry that has it.
+/// Why an input gives no commands, or no programme: the number of the fault, and the entry that has it.
 #[derive(Clone, Copy, Debug, PartialEq, Eq)]
 pub struct IntakeFault {
     /// One of the numbers 60 to 69, each of which has a constant of this crate.
     pub number: u8,
-    /// The place of the entry in the list, from 1; 0 is the whole input.
+    /// The place of the entry in the list, from 1; 0 is the whole input, or the top of a programme.
     pub entry: u32,
 }
 
@@ -28,7 +28,7 @@ impl From<AllocError> for IntakeFault {
 /// Memory ran out.
 pub const MEMORY: u8 = 60;
 
-/// The input is not UTF-8, or not JSON.
+/// The input is not UTF-8, or has no reading as JSON or TOML.
 pub const NOT_TEXT: u8 = 61;
 
 /// A key that the entry needs is missing.
@@ -37,10 +37,10 @@ pub const MISSING: u8 = 62;
 /// A value is of another kind than its key wants, or can't be read.
 pub const BAD_VALUE: u8 = 63;
 
-/// The entry has a key that its command doesn't know.
+/// The entry has a key that its form doesn't have.
 pub const UNKNOWN_KEY: u8 = 64;
 
-/// The entry does not have the shape of a command.
+/// The entry does not have the shape of a command, a programme or a task.
 pub const BAD_SHAPE: u8 = 65;
 
 /// There are more bytes, or more entries, than are taken.

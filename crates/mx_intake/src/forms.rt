@@ -5,7 +5,7 @@ ghost use Rattle.mx_intake.specs.declared.fault.TheConstants.{MEMORY};
 ghost use Rattle.mx_intake.specs.Forms.{entry_by_word, entry_by_json};
 
 use crate::fault::{BAD_VALUE, MISSING};
-use crate::{aircraft, component, fitting, removal, sector};
+use crate::{aircraft, component, fitting, opening, removal, sector};
 use mx_command::Command;
 use serde_json::Value;
 use std::alloc::Global;
@@ -20,6 +20,8 @@ fn command_by_word(alloc: Global, word: &str, object: &Value) -> Result<Command,
         aircraft::command_of(alloc, object)
     } else if word == "add-component" {
         component::command_of(alloc, object)
+    } else if word == "opening" {
+        opening::command_of(alloc, object)
     } else if word == "sector" {
         sector::command_of(alloc, object)
     } else if word == "fit" {

@@ -7,13 +7,10 @@ ghost use Rattle.mx_intake.specs.Entries.{entries_from, entries_of_value, value_
 
 use crate::fault::{BAD_VALUE, IntakeFault, MEMORY, NOT_TEXT, TOO_LONG, of_whole};
 use crate::forms::command_of;
+use crate::text::text_of;
 use mx_command::Command;
 use serde_json::Value;
 use std::alloc::{AllocError, Global};
-use std::str;
-
-/// The most bytes of a text.
-pub const MOST_BYTES: usize = 8_388_608;
 
 /// The most commands of a list.
 pub const MOST_COMMANDS: usize = 10_000;
@@ -70,12 +67,7 @@ fn read_value(alloc: Global, bytes: &[u8]) -> Result<Value, IntakeFault>
     ensures err { IfErr result (λ f. f.number ≢ MEMORY → value_of_text bytes.now ≡ Err f) }
     ensures memory { IfErr result (λ f. f.number ≡ MEMORY → f.entry ≡ 0) }
 {
-    if bytes.len() > MOST_BYTES {
-        return Err(of_whole(TOO_LONG));
-    }
-    let Ok(text) = str::from_utf8(bytes) else {
-        return Err(of_whole(NOT_TEXT));
-    };
+    let text = text_of(bytes)?;
     match Value::from_str(alloc, text) {
         Ok(value) => Ok(value),
         Err(error) => {

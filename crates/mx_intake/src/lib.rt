@@ -1,5 +1,5 @@
-//! What comes in from outside: all bytes of a reader, and the commands that a JSON text states, or the fault of the
-//! text or of its first faulty entry.
+//! What comes in from outside: all bytes of a reader, the commands that a JSON text states, and the maintenance
+//! programme that a TOML text states, or the fault of the text or of its first faulty entry.
 //!
 //! A further command adds its form in one place: a file of `src/` and a part of `specs/Forms.antt`, each with a
 //! line where the word at `do` chooses the form (`forms.rt`, `entry_by_word`).
@@ -12,11 +12,20 @@ mod fitting;
 mod form;
 mod forms;
 mod input;
+mod items;
 mod json;
+mod keys;
+mod limits;
+mod loading;
 mod object;
+mod opening;
 mod positions;
+mod programme;
 mod removal;
 mod sector;
+mod table;
+mod task;
+mod text;
 mod vocabulary;
 
 pub use fault::{
@@ -24,4 +33,7 @@ pub use fault::{
     UNKNOWN_KEY,
 };
 pub use input::read_all;
-pub use json::{MOST_BYTES, MOST_COMMANDS, commands_of_json};
+pub use json::{MOST_COMMANDS, commands_of_json};
+pub use loading::programme_of;
+pub use programme::programme_of_toml;
+pub use text::MOST_BYTES;

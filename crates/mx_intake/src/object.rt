@@ -2,12 +2,13 @@
 ghost use Rattle.std.specs.Prelude.{◌≡◌, map, is_some, option_map};
 ghost use Rattle.serde_json.specs.Find.{get};
 ghost use Rattle.serde_json.specs.View.{view, items_view};
-ghost use Rattle.mx_intake.specs.Object.{lacks_key, is_key, has_other_key, number_at_key, text_at_key, list_at_key};
+ghost use Rattle.mx_intake.specs.Object.{lacks_key, has_other_key, number_at_key, text_at_key, list_at_key};
 
+use crate::keys::is_one_of;
 use serde_json::Value;
 
 /// Whether the value is an object that has the key.
-fn has(object: &Value, key: &str) -> bool
+pub(crate) fn has(object: &Value, key: &str) -> bool
     ensures { result ≡ is_some (get key.now (view object.now)) }
 {
     object.get(key).is_some()
@@ -19,17 +20,6 @@ pub(crate) fn lacks(object: &Value, keys: &[&str]) -> bool
 {
     for key in keys {
         if !has(object, key) {
-            return true;
-        }
-    }
-    false
-}
-
-fn is_one_of(keys: &[&str], key: &str) -> bool
-    ensures { result ≡ is_key (map (λ k. k.now) keys.now) key.now }
-{
-    for known in keys {
-        if *known == key {
             return true;
         }
     }

@@ -12,7 +12,7 @@ use mx_base::{Day, Moment};
 use serde_json::Value;
 
 /// The identifier that a text is.
-fn read_identifier<A: Alphabet, const N: usize>(text: &str) -> Option<Identifier<A, N>>
+pub(crate) fn read_identifier<A: Alphabet, const N: usize>(text: &str) -> Option<Identifier<A, N>>
     ensures { result ≡ identifier_of A.allows N text.now }
 {
     match Identifier::read(text) {

@@ -1,6 +1,7 @@
 use Rattle.std.proofs.Common.{◌≡◌, ◌+◌, drop}
 use Rattle.serde_json.specs.View.{items_view}
-use Rattle.mx_intake.specs.Entries.{entries_from, after}
+use Rattle.mx_intake.specs.Entries.{entries_from}
+use Rattle.mx_intake.specs.Sequence.{after}
 use Rattle.mx_intake.proofs.json.commands_of_values.Given as goal
 
 abbrev pub invariant-loop-i : goal.invariant-loop-i

@@ -1,21 +1,18 @@
-use Rattle.std.proofs.Common.{◌∙◌, ap, sym, Err, ◌≡◌, true}
+use Rattle.std.proofs.Common.{◌∙◌, ap, sym, Err, ◌≡◌, rules}
+use Rattle.std.proofs.lemmas.Bool.{false≢true}
 use Rattle.serde_json.specs.Errors.{IsMemory}
-use Rattle.serde_json.specs.Read.{read}
-use Rattle.mx_intake.proofs.EntriesLemmas.{value_of_text-long, value_of_text-no_text, value_of_text-read, value_of_text-refused}
+use Rattle.mx_intake.proofs.EntriesLemmas.{value_of_text-fault, value_of_text-read, value_of_text-refused}
 use Rattle.mx_intake.proofs.json.read_value.Goals as goal
 
-pub returns-then-bytes-gt-MOST_BYTES-clause-err : goal.returns-then-bytes-gt-MOST_BYTES-clause-err
-returns-then-bytes-gt-MOST_BYTES-clause-err c _ = value_of_text-long _ c.if-bytes-gt-MOST_BYTES.true ∙ ap Err (sym c.of_whole.ensures)
+pub returns-in_err-text-clause-err : goal.returns-in_err-text-clause-err
+returns-in_err-text-clause-err c =
+    let passed : c.from_residual.result ≡ Err c.in_err-text.field-0.0 = search rules in
+    rw passed (λ _. value_of_text-fault _ _ c.in_err-text.ensures.err)
 
-pub returns-in_default-clause-err : goal.returns-in_default-clause-err
-returns-in_default-clause-err c _ = value_of_text-no_text _ c.if-bytes-gt-MOST_BYTES.false c.in_default.ensures.cases.0 ∙ ap Err (sym c.of_whole-in_default.ensures)
-
-pub returns-in-Ok-from_str-clause-ok : goal.returns-in-Ok-from_str-clause-ok
-returns-in-Ok-from_str-clause-ok c =
-    value_of_text-read _ _ c.if-bytes-gt-MOST_BYTES.false c.in-Ok.ensures.cases.1 (ap read (sym c.in-Ok.ensures.cases.0) ∙ c.in-Ok-from_str.ensures.ok)
+pub returns-in-Ok-clause-ok : goal.returns-in-Ok-clause-ok
+returns-in-Ok-clause-ok c = value_of_text-read _ _ _ c.in_ok-text.ensures.ok c.in-Ok.ensures.ok
 
 pub returns-else-is_memory-clause-err : goal.returns-else-is_memory-clause-err
 returns-else-is_memory-clause-err c _ =
-    let other : IsMemory c.in-Err.error → ⊥ = λ m. let yes : c.is_memory.result ≡ true = c.is_memory.ensures.1 m in cc in
-    value_of_text-refused _ c.if-bytes-gt-MOST_BYTES.false c.in-Ok.ensures.cases.1 (ap read (sym c.in-Ok.ensures.cases.0) ∙ c.in-Err.ensures.err other)
-    ∙ ap Err (sym c.of_whole-in-Err.ensures)
+    let other : IsMemory c.in-Err.error → ⊥ = λ m. false≢true (sym c.if-is_memory.false ∙ c.is_memory.ensures.1 m) in
+    value_of_text-refused _ _ c.in_ok-text.ensures.ok (c.in-Err.ensures.err other) ∙ ap Err (sym c.of_whole-in-Err.ensures)

@@ -1,6 +1,6 @@
 use Rattle.std.proofs.Common.{◌≡◌, ◌∙◌, sym, rules, ap, Some, map, not, string_bytes}
 use Rattle.std.specs.List.{list_any}
-use Rattle.mx_intake.specs.Object.{is_key}
+use Rattle.mx_intake.specs.Keys.{is_key}
 use Rattle.serde_json.specs.Find.{as_object}
 use Rattle.serde_json.specs.View.{view, members_view}
 use Rattle.mx_intake.proofs.ObjectLemmas.{has_other-as_object}
