@@ -148,9 +148,40 @@ class Enter:
         return f"{kept} entries"
 
 
+class Programme:
+    """`programme FILE DOC TOML`: the file has the empty book, or the whole programme."""
+
+    name = "programme"
+    tasks = [
+        f'[[task]]\nid = "T{number}"\napplies = "airframe"\nfirst = {{ hours = {number} }}\n' for number in range(1, 101)
+    ]
+
+    def toml(self, file):
+        return file.with_name("programme.toml")
+
+    def before(self, file):
+        """An empty book, and the file of the programme."""
+        want("init", (0, "created\n", ""), run("init", file))
+        self.toml(file).write_text('kind = "C172"\nrevision = 1\n' + "".join(self.tasks), encoding="utf-8")
+
+    def words(self, file):
+        return ["programme", file, "P1", self.toml(file)]
+
+    def after(self, file, printed):
+        """Looks at the file that a kill left, after the program printed this. Answers what it is."""
+        want("the tables", TABLES, tables_by_sqlite(file))
+        status, again, fault = run(*self.words(file))
+        if (status, fault) != (0, "") or again not in ("accepted 1\n", "already 1\n"):
+            raise Bad(f"the programme once more: {again!r}, {fault!r}")
+        if printed == "accepted 1\n" and again == printed:
+            raise Bad("an acknowledged programme is lost")
+        want("the programme a third time", (0, "already 1\n", ""), run(*self.words(file)))
+        return "the programme" if again == "already 1\n" else "an empty book"
+
+
 # A further word that writes has a class beside these: `before` makes the file and enters what it holds, `words` are the
 # words that are killed, and `after` compares what the file holds with what was acknowledged.
-WORDS = [Init(), Enter()]
+WORDS = [Init(), Enter(), Programme()]
 
 
 def seconds_of(word, folder):

@@ -1,5 +1,4 @@
 pub mod NumberLemmas
-pub mod StatusLemmas
 pub mod TrialLemmas
 mod WorkedTrial
 mod WorkedStatus

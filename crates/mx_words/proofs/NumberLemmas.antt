@@ -25,9 +25,3 @@ number_decided text (Err error) digits refused = rw (number_denied text refused)
 -- digits that are parsed are read as the number that they write
 pub number_read : {E : Type 0} → (text : List ℕ) (r : Result ℕ E) → list_all is_ascii_digit text ≡ true → ParsesUnsigned 32 10 text r → result_ok r ≡ number_in text
 number_read text r digits parsed = number_decided text r digits (parse_digits digits_model 32 text r parsed digits)
-
--- other texts are no number
-pub number_refused : (text : List ℕ) → list_all is_ascii_digit text ≡ false → number_in text ≡ None
-number_refused text others =
-    elim (nat_lt 0 (length text)) as (λ some. (if some && (list_all is_ascii_digit text && nat_lt (digits_value 10 text) (2 ^ 32)) then Some (digits_value 10 text) else None) ≡ None)
-    [ true ↦ rw others refl | false ↦ refl ]

@@ -8,7 +8,7 @@ use Rattle.mx_words.specs.Entered.{AreReplyLines}
 use Rattle.mx_words.specs.Printed.{IsLifeAnswer}
 use Rattle.mx_words.specs.Trial.{is_trial_shaped, trial_commands, TellsTrial}
 use Rattle.mx_words.specs.declared.command_line.Words.{Words}
-use Rattle.mx_words.specs.declared.command_line.Words.TheVariants.{Try, Init, Life, Enter}
+use Rattle.mx_words.specs.declared.command_line.Words.TheVariants.{Try, Init, Life, Enter, Programme}
 use Rattle.mx_words.specs.declared.fault.Ending.{Ending}
 use Rattle.mx_words.specs.declared.fault.Ending.TheVariants.{Done}
 
@@ -18,6 +18,7 @@ IsDone (Try trial) text ending = TellsTrial [] (trial_commands trial) trial.tail
 IsDone (Init file) text ending = (ending ≡ Done) × (text ≡ codes "created\n")
 IsDone (Life file tail) text ending = IsLifeAnswer text ending
 IsDone (Enter file entries) text ending = AreReplyLines text ending
+IsDone (Programme file doc toml) text ending = AreReplyLines text ending
 
 -- the words are those of a trial that lacks its shape
 abbrev pub LacksShape : Words → Type 0

@@ -8,16 +8,29 @@ ghost use Rattle.mx_words.specs.Number.{number_in};
 
 use crate::trial::Trial;
 use clap::{Arg, ArgAction, ArgMatches, Command};
-use mx_base::{Moment, Tail};
+use mx_base::{Doc, Moment, Tail};
 use std::alloc::{AllocError, Global};
 
 /// What the program is asked to do.
 #[derive(Drop)]
 pub(crate) enum Words<'a> {
     Try(Trial),
-    Init { file: &'a str },
-    Life { file: &'a str, tail: Tail },
-    Enter { file: &'a str, entries: &'a str },
+    Init {
+        file: &'a str,
+    },
+    Life {
+        file: &'a str,
+        tail: Tail,
+    },
+    Enter {
+        file: &'a str,
+        entries: &'a str,
+    },
+    Programme {
+        file: &'a str,
+        doc: Doc,
+        toml: &'a str,
+    },
 }
 
 fn value<'a>(alloc: Global, name: &'a str, help: &'a str) -> Arg<'a> {
@@ -71,6 +84,14 @@ fn enter_command<'a>(alloc: Global) -> Result<Command<'a>, AllocError> {
         .arg(value(alloc, "ENTRIES", "The file of commands, a list in JSON"))
 }
 
+fn programme_command<'a>(alloc: Global) -> Result<Command<'a>, AllocError> {
+    Command::new(alloc, "programme")
+        .about("Enters the maintenance programme of a file by a document, and prints the reply")
+        .arg(value(alloc, "FILE", "The database file"))?
+        .arg(value(alloc, "DOC", "The document that it is entered by"))?
+        .arg(value(alloc, "TOML", "The file of the programme, in TOML"))
+}
+
 // The program without its words.
 fn office_command<'a>(alloc: Global) -> Result<Command<'a>, AllocError> {
     Ok(
@@ -87,7 +108,8 @@ pub(crate) fn command<'a>(alloc: Global) -> Result<Command<'a>, AllocError> {
         .subcommand(try_command(alloc)?)?
         .subcommand(init_command(alloc)?)?
         .subcommand(life_command(alloc)?)?
-        .subcommand(enter_command(alloc)?)
+        .subcommand(enter_command(alloc)?)?
+        .subcommand(programme_command(alloc)?)
 }
 
 fn has_digits_alone(text: &str) -> bool
@@ -129,6 +151,14 @@ fn trial_of(matches: &ArgMatches<'_>) -> Option<Trial> {
     })
 }
 
+fn programme_of<'a>(matches: &ArgMatches<'a>) -> Option<Words<'a>> {
+    Some(Words::Programme {
+        file: matches.get_str("FILE")?,
+        doc: Doc::read(matches.get_str("DOC")?).ok()?,
+        toml: matches.get_str("TOML")?,
+    })
+}
+
 /// What the words ask for, or `None` where one of them can't be read.
 pub(crate) fn words_of<'a>(matches: &ArgMatches<'a>) -> Option<Words<'a>> {
     let (name, values) = matches.subcommand()?;
@@ -145,6 +175,7 @@ pub(crate) fn words_of<'a>(matches: &ArgMatches<'a>) -> Option<Words<'a>> {
             file: values.get_str("FILE")?,
             entries: values.get_str("ENTRIES")?,
         }),
+        "programme" => programme_of(values),
         _ => None,
     }
 }

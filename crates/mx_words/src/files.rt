@@ -11,15 +11,15 @@ use crate::entering::enter_all;
 use crate::fault::{Ending, Stop};
 use crate::life::{open, print_life};
 use crate::making::{CREATED, make_book};
-use mx_base::Tail;
+use mx_base::{Doc, Tail};
 use mx_command::Command;
-use mx_intake::{IntakeFault, MOST_BYTES, READ_FAILED, commands_of_json, read_all};
+use mx_intake::{IntakeFault, MOST_BYTES, READ_FAILED, commands_of_json, programme_of, read_all};
 use mx_layout::TableFault;
 use mx_office::{Fault, Office, OpenFault};
 use sqlite::{Alter, Connection, Error, ErrorCode, FileFrom, FileStore, Wary};
 use std::alloc::Global;
-use std::fs;
 use std::io::ErrorKind;
+use std::{fs, slice};
 
 type File = FileStore<FileFrom<Wary>>;
 
@@ -172,16 +172,27 @@ pub(crate) fn life(
     answer_file(rt, file, Asked::Life(tail), out)
 }
 
-// The commands of a file.
-fn commands_in(rt: &HostRuntime, entries: &str) -> Result<Vec<Command>, IntakeFault> {
-    let Ok(mut file) = fs::open(rt, entries) else {
+// The bytes of an input file.
+fn input_in(rt: &HostRuntime, name: &str) -> Result<Vec<u8>, IntakeFault> {
+    let Ok(mut file) = fs::open(rt, name) else {
         return Err(IntakeFault {
             number: READ_FAILED,
             entry: 0,
         });
     };
-    let text = read_all(rt.alloc(), &mut file, MOST_BYTES)?;
+    read_all(rt.alloc(), &mut file, MOST_BYTES)
+}
+
+// The commands of a file.
+fn commands_in(rt: &HostRuntime, entries: &str) -> Result<Vec<Command>, IntakeFault> {
+    let text = input_in(rt, entries)?;
     commands_of_json(rt.alloc(), &text)
+}
+
+// The command that loads the maintenance programme of a file.
+fn programme_in(rt: &HostRuntime, doc: Doc, toml: &str) -> Result<Command, IntakeFault> {
+    let text = input_in(rt, toml)?;
+    programme_of(rt.alloc(), doc, &text)
 }
 
 /// Enters the commands of a file, and appends a line for each reply. Nothing is opened where the file
@@ -200,6 +211,27 @@ pub(crate) fn enter(
 {
     match commands_in(rt, entries) {
         Ok(commands) => answer_file(rt, file, Asked::Enter(&commands), out),
+        Err(fault) => Err(Stop::Intake(fault)),
+    }
+}
+
+/// Enters the maintenance programme of a file by a document, and appends the line of the reply. Nothing is opened where
+/// the file states none.
+pub(crate) fn programme(
+    rt: &HostRuntime,
+    file: &str,
+    doc: Doc,
+    toml: &str,
+    out: &mut Vec<u8>,
+) -> Result<Ending, Stop>
+    ensures shown { IfOk result (λ ending. (text : _) × (out.new.items ≡ out.old.items ++ text)
+        × AreReplyLines text ending) }
+    ensures status { IfErr result (λ stop. 3 ≤ stop_status stop) }
+    ensures unread { IfErr result (λ stop. stop_status stop ≡ 3
+        → out.new.items ≡ out.old.items) }
+{
+    match programme_in(rt, doc, toml) {
+        Ok(command) => answer_file(rt, file, Asked::Enter(slice::from_ref(&command)), out),
         Err(fault) => Err(Stop::Intake(fault)),
     }
 }
