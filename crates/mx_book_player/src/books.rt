@@ -3,11 +3,12 @@
 use mx_base::{Moment, Serial, Tail, Use};
 use mx_book::Book;
 use mx_cases::{
-    Unmade, append_number, begin_print, command_of, number_text, printed, verdict_text, yes_or_no,
+    Unmade, append_number, begin_print, command_of, documents, number_text, printed, verdict_text,
+    yes_or_no,
 };
 use mx_command::{Command, Item};
 use mx_reports::life_text;
-use std::alloc::{AllocError, Global};
+use std::alloc::Global;
 
 /// The first command that isn't the one in its place among others.
 pub fn first_other<'a>(found: &'a [Command], wanted: &[Command]) -> Option<&'a Command> {
@@ -59,25 +60,10 @@ fn entry(alloc: Global, book: &Book, seq: &str) -> Result<String, Unmade> {
     }
 }
 
-// The documents of commands, joined by ` / `.
-fn documents(alloc: Global, commands: &[Command]) -> Result<String, AllocError> {
-    let mut text = String::new(alloc);
-    for command in commands {
-        if !text.is_empty() {
-            text.push_str(" / ")?;
-        }
-        text.push_str(command.doc().as_str())?;
-    }
-    Ok(text)
-}
-
 // entries FROM AT_MOST: the documents of the entries from a number on, at most so many.
 fn entries(alloc: Global, book: &Book, from: &str, at_most: &str) -> Result<String, Unmade> {
     let from = from.parse::<u32>()?;
     let entries = book.entries(alloc, from, at_most.parse::<u32>()?)?;
-    if entries.is_empty() {
-        return Ok(String::from_str(alloc, "none")?);
-    }
     Ok(documents(alloc, entries.as_slice())?)
 }
 

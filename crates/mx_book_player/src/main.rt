@@ -10,6 +10,7 @@ mod player;
 mod registers;
 mod rows;
 mod shown;
+mod tasks;
 
 use mx_cases::run;
 use player::BookPlayer;

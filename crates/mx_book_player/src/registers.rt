@@ -2,8 +2,8 @@
 
 use crate::books::{are_same, first_other};
 use crate::rows::{
-    aircraft_text, components_text, entries_text, fittings_text, places_text, removals_text,
-    rows_of, sectors_text,
+    aircraft_text, components_text, entries_text, fittings_text, openings_text, places_text,
+    programmes_text, removals_text, rows_of, sectors_text, tasks_text,
 };
 use crate::shown::command_text;
 use mx_base::{Moment, Part, Position, Serial, Tail};
@@ -46,6 +46,9 @@ fn keep_first(rows: &mut Registers, table: &str, count: usize) -> Result<(), Unm
         "aircraft" => rows.aircraft.truncate(count),
         "places" => rows.places.truncate(count),
         "components" => rows.components.truncate(count),
+        "programmes" => rows.programmes.truncate(count),
+        "tasks" => rows.tasks.truncate(count),
+        "openings" => rows.openings.truncate(count),
         "sectors" => rows.sectors.truncate(count),
         "fittings" => rows.fittings.truncate(count),
         "removals" => rows.removals.truncate(count),
@@ -127,6 +130,9 @@ fn rows(alloc: Global, book: &Book, table: &str) -> Result<String, Unmade> {
         "aircraft" => aircraft_text(alloc, rows.aircraft.as_slice()),
         "places" => places_text(alloc, rows.places.as_slice()),
         "components" => components_text(alloc, rows.components.as_slice()),
+        "programmes" => programmes_text(alloc, rows.programmes.as_slice()),
+        "tasks" => tasks_text(alloc, rows.tasks.as_slice()),
+        "openings" => openings_text(alloc, rows.openings.as_slice()),
         "sectors" => sectors_text(alloc, rows.sectors.as_slice()),
         "fittings" => fittings_text(alloc, rows.fittings.as_slice()),
         "removals" => removals_text(alloc, rows.removals.as_slice()),

@@ -1,15 +1,17 @@
 //! The rows of the registers of a book, as an office keeps them, and their texts.
 
-use crate::shown::{append_moment, append_opening};
+use crate::shown::{append_day, append_moment, append_opening};
+use crate::tasks::{append_applies, append_limit, append_tolerance};
 use mx_base::Use;
 use mx_book::Book;
 use mx_cases::{Unmade, append_number, append_word};
 use mx_command::Command;
 use mx_register::merge::Registers;
 use mx_register::{
-    AircraftRow, ComponentRow, EntryKind, EntryRow, FittingRow, PlaceRow, RemovalRow, SectorRow,
-    aircraft_row, component_row, entry_row, fitting_row, place_row, removal_row, sector_row,
-    seq_of_serial, seq_of_tail,
+    AircraftRow, ComponentRow, EntryKind, EntryRow, FittingRow, OpeningRow, PlaceRow, ProgrammeRow,
+    RemovalRow, SectorRow, TaskRow, aircraft_row, component_row, entry_row, fitting_row,
+    opening_row, place_row, programme_row, removal_row, sector_row, seq_of_item, seq_of_serial,
+    seq_of_tail, task_row,
 };
 use std::alloc::{AllocError, Global};
 
@@ -20,6 +22,9 @@ fn no_rows(alloc: Global) -> Registers {
         aircraft: Vec::new(alloc),
         places: Vec::new(alloc),
         components: Vec::new(alloc),
+        programmes: Vec::new(alloc),
+        tasks: Vec::new(alloc),
+        openings: Vec::new(alloc),
         sectors: Vec::new(alloc),
         fittings: Vec::new(alloc),
         removals: Vec::new(alloc),
@@ -39,6 +44,33 @@ fn push_added(rows: &mut Registers, seq: u32, entry: &Command) -> Result<(), Unm
     }
     if let Some(component) = entry.added_component() {
         rows.components.push(component_row(seq, component))?;
+    }
+    Ok(())
+}
+
+// Adds the rows of the programme that an entry with this number loads.
+fn push_programme(rows: &mut Registers, seq: u32, entry: &Command) -> Result<(), Unmade> {
+    if let Some(programme) = entry.loaded_programme() {
+        rows.programmes.push(programme_row(seq, programme))?;
+    }
+    let mut line = 0u32;
+    for task in entry.tasks() {
+        line = line.saturating_add(1);
+        rows.tasks.push(task_row(seq, line, task))?;
+    }
+    Ok(())
+}
+
+// Adds the row of the opening that an entry with this number states.
+fn push_opening(
+    rows: &mut Registers,
+    book: &Book,
+    seq: u32,
+    entry: &Command,
+) -> Result<(), Unmade> {
+    if let Some(opening) = entry.stated_opening() {
+        let item = seq_of_item(book, &opening.item).unwrap_or(0);
+        rows.openings.push(opening_row(seq, item, opening))?;
     }
     Ok(())
 }
@@ -69,6 +101,8 @@ pub fn rows_of(alloc: Global, book: &Book) -> Result<Registers, Unmade> {
     for entry in book.as_slice() {
         seq = seq.saturating_add(1);
         push_added(&mut rows, seq, entry)?;
+        push_programme(&mut rows, seq, entry)?;
+        push_opening(&mut rows, book, seq, entry)?;
         push_done(&mut rows, book, seq, entry)?;
     }
     Ok(rows)
@@ -79,6 +113,8 @@ fn kind_word(kind: EntryKind) -> &'static str {
     match kind {
         EntryKind::AddAircraft => "aircraft",
         EntryKind::AddComponent => "component",
+        EntryKind::LoadProgramme => "programme",
+        EntryKind::Opening => "opening",
         EntryKind::Sector => "sector",
         EntryKind::Fit => "fit",
         EntryKind::Remove => "remove",
@@ -144,6 +180,65 @@ pub fn components_text(alloc: Global, rows: &[ComponentRow]) -> Result<String, A
             cycles: row.cycles,
         };
         append_opening(alloc, &mut text, row.birth, &opening, row.as_of)?;
+    }
+    Ok(text)
+}
+
+/// The rows of the programmes: SEQ KIND REVISION.
+pub fn programmes_text(alloc: Global, rows: &[ProgrammeRow]) -> Result<String, AllocError> {
+    let mut text = String::new(alloc);
+    for row in rows {
+        begin_row(&mut text, row.seq)?;
+        append_word(&mut text, row.kind.as_str())?;
+        append_number(&mut text, row.revision)?;
+    }
+    Ok(text)
+}
+
+// Appends what a row has of the limits of a task: FIRST REPEAT TOLERANCE.
+fn append_limits(text: &mut String, row: &TaskRow) -> Result<(), AllocError> {
+    append_word(text, "")?;
+    append_limit(text, &row.first)?;
+    append_word(text, "")?;
+    append_limit(text, &row.repeat)?;
+    append_word(text, "")?;
+    append_tolerance(text, &row.tolerance)
+}
+
+// Appends a row of a task.
+fn append_task_row(text: &mut String, row: &TaskRow) -> Result<(), AllocError> {
+    begin_row(text, row.seq)?;
+    append_number(text, row.line)?;
+    append_word(text, row.id.as_str())?;
+    append_word(text, "")?;
+    append_applies(text, row.part)?;
+    append_limits(text, row)?;
+    if row.retire {
+        append_word(text, "retire")?;
+    }
+    Ok(())
+}
+
+/// The rows of the tasks: SEQ LINE ID APPLIES FIRST REPEAT TOLERANCE [retire].
+pub fn tasks_text(alloc: Global, rows: &[TaskRow]) -> Result<String, AllocError> {
+    let mut text = String::new(alloc);
+    for row in rows {
+        append_task_row(&mut text, row)?;
+    }
+    Ok(text)
+}
+
+/// The rows of the openings: SEQ ITEM KIND TASK MINUTES CYCLES DAY.
+pub fn openings_text(alloc: Global, rows: &[OpeningRow]) -> Result<String, AllocError> {
+    let mut text = String::new(alloc);
+    for row in rows {
+        begin_row(&mut text, row.seq)?;
+        append_number(&mut text, row.item)?;
+        append_word(&mut text, row.kind.as_str())?;
+        append_word(&mut text, row.task.as_str())?;
+        append_number(&mut text, row.minutes)?;
+        append_number(&mut text, row.cycles)?;
+        append_day(alloc, &mut text, row.day)?;
     }
     Ok(text)
 }

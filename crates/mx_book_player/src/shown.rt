@@ -1,14 +1,22 @@
 //! Commands as text: what their accessors show.
 
 use crate::calendar::day_text;
+use crate::tasks::append_task;
 use mx_base::{Day, Moment, Part, Position, Use};
 use mx_cases::{append_number, append_word};
-use mx_command::{Aircraft, Command, Component, Fitting, Removal, Sector};
+use mx_command::{
+    Aircraft, Command, Component, Fitting, Item, Opening, Programme, Removal, Sector,
+};
 use std::alloc::{AllocError, Global};
 
 /// Appends a moment as a word.
 pub fn append_moment(text: &mut String, moment: Moment) -> Result<(), AllocError> {
     append_word(text, moment.text().as_str())
+}
+
+/// Appends a day as a word.
+pub fn append_day(alloc: Global, text: &mut String, day: Day) -> Result<(), AllocError> {
+    append_word(text, day_text(alloc, day)?.as_str())
 }
 
 /// Appends what an item brings with it: BIRTH MINUTES CYCLES AS_OF.
@@ -19,7 +27,7 @@ pub fn append_opening(
     opening: &Use,
     as_of: Moment,
 ) -> Result<(), AllocError> {
-    append_word(text, day_text(alloc, birth)?.as_str())?;
+    append_day(alloc, text, birth)?;
     append_number(text, opening.minutes)?;
     append_number(text, opening.cycles)?;
     append_moment(text, as_of)
@@ -65,6 +73,40 @@ fn append_component(
     )
 }
 
+fn append_programme(text: &mut String, programme: &Programme) -> Result<(), AllocError> {
+    append_word(text, "programme")?;
+    append_word(text, programme.kind.as_str())?;
+    append_number(text, programme.revision)
+}
+
+fn append_item(text: &mut String, item: &Item) -> Result<(), AllocError> {
+    match item {
+        Item::Airframe(tail) => {
+            append_word(text, "airframe")?;
+            append_word(text, tail.as_str())
+        }
+        Item::Component(serial) => {
+            append_word(text, "component")?;
+            append_word(text, serial.as_str())
+        }
+    }
+}
+
+// Appends the opening of a task.
+fn append_accomplished(
+    alloc: Global,
+    text: &mut String,
+    opening: &Opening,
+) -> Result<(), AllocError> {
+    append_word(text, "opening")?;
+    append_item(text, &opening.item)?;
+    append_word(text, opening.kind.as_str())?;
+    append_word(text, opening.task.as_str())?;
+    append_number(text, opening.use_then.minutes)?;
+    append_number(text, opening.use_then.cycles)?;
+    append_day(alloc, text, opening.day)
+}
+
 fn append_sector(text: &mut String, sector: &Sector) -> Result<(), AllocError> {
     append_word(text, "sector")?;
     append_word(text, sector.tail.as_str())?;
@@ -103,6 +145,20 @@ fn append_added(alloc: Global, text: &mut String, command: &Command) -> Result<(
     Ok(())
 }
 
+// Appends what a command says of programmes and their tasks.
+fn append_planned(alloc: Global, text: &mut String, command: &Command) -> Result<(), AllocError> {
+    if let Some(programme) = command.loaded_programme() {
+        append_programme(text, &programme)?;
+    }
+    for task in command.tasks() {
+        append_task(text, task)?;
+    }
+    if let Some(opening) = command.stated_opening() {
+        append_accomplished(alloc, text, &opening)?;
+    }
+    Ok(())
+}
+
 // Appends what a command says was done.
 fn append_done(text: &mut String, command: &Command) -> Result<(), AllocError> {
     if let Some(sector) = command.flown_sector() {
@@ -121,6 +177,7 @@ fn append_done(text: &mut String, command: &Command) -> Result<(), AllocError> {
 pub fn command_text(alloc: Global, command: &Command) -> Result<String, AllocError> {
     let mut text = String::from_str(alloc, command.doc().as_str())?;
     append_added(alloc, &mut text, command)?;
+    append_planned(alloc, &mut text, command)?;
     append_done(&mut text, command)?;
     Ok(text)
 }

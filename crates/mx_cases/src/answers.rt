@@ -2,9 +2,10 @@
 
 use crate::commands::Unmade;
 use mx_book::{Reply, Verdict};
+use mx_command::Command;
 use mx_reports::reply_text;
 use std::alloc::{AllocError, Global};
-use std::str;
+use std::{slice, str};
 
 /// What a question was answered, where a question that can't be asked is answered by why.
 pub fn answer_of(alloc: Global, answer: Result<String, Unmade>) -> Result<String, AllocError> {
@@ -22,6 +23,32 @@ pub fn yes_or_no(alloc: Global, is_so: bool) -> Result<String, AllocError> {
     String::from_str(alloc, if is_so { "yes" } else { "no" })
 }
 
+/// Appends a part of an answer, behind ` / ` where there is something before it.
+pub fn append_joined(out: &mut String, part: &str) -> Result<(), AllocError> {
+    if !out.is_empty() {
+        out.push_str(" / ")?;
+    }
+    out.push_str(part)
+}
+
+/// The text, or `none` where it is empty.
+pub fn or_none(text: String) -> Result<String, AllocError> {
+    let mut text = text;
+    if text.is_empty() {
+        text.push_str("none")?;
+    }
+    Ok(text)
+}
+
+/// The documents of commands, joined by ` / `; `none` where there is no command.
+pub fn documents(alloc: Global, commands: &[Command]) -> Result<String, AllocError> {
+    let mut text = String::new(alloc);
+    for command in commands {
+        append_joined(&mut text, command.doc().as_str())?;
+    }
+    or_none(text)
+}
+
 /// The lines of a printed text, joined by ` / `.
 pub fn joined_lines(alloc: Global, text: &[u8]) -> Result<String, AllocError> {
     let Ok(text) = str::from_utf8(text) else {
@@ -29,10 +56,7 @@ pub fn joined_lines(alloc: Global, text: &[u8]) -> Result<String, AllocError> {
     };
     let mut joined = String::new(alloc);
     for line in text.lines() {
-        if !joined.is_empty() {
-            joined.push_str(" / ")?;
-        }
-        joined.push_str(line)?;
+        append_joined(&mut joined, line)?;
     }
     Ok(joined)
 }
@@ -74,16 +98,39 @@ pub fn room_for_reply(alloc: Global) -> Result<Vec<u8>, AllocError> {
     Vec::with_capacity(alloc, 64)
 }
 
-/// The text of a reply without its line end, `accepted N`, `already N`, or `refused N` with what the refusal
-/// carries. It takes no memory beside the room.
-pub fn reply_in(room: Vec<u8>, alloc: Global, reply: &Reply) -> Result<String, AllocError> {
+/// Room for the replies to so many commands.
+pub fn room_for_replies(alloc: Global, count: usize) -> Result<Vec<u8>, AllocError> {
+    Vec::with_capacity(alloc, count.saturating_add(2).saturating_mul(64))
+}
+
+/// Appends the text of a reply, behind ` / ` where there is something before it.
+pub fn append_reply(out: &mut Vec<u8>, reply: &Reply) -> Result<(), AllocError> {
+    if !out.is_empty() {
+        out.extend_from_slice(b" / ")?;
+    }
+    reply_text(out, reply)?;
+    // The end of its line.
+    out.pop();
+    Ok(())
+}
+
+/// The text that the room holds, and behind it the replies, joined by ` / `. Where the room is for as many, it takes no
+/// more memory.
+pub fn replies_in(alloc: Global, room: Vec<u8>, replies: &[Reply]) -> Result<String, AllocError> {
     let mut text = room;
-    reply_text(&mut text, reply)?;
-    text.pop();
+    for reply in replies {
+        append_reply(&mut text, reply)?;
+    }
     match String::from_utf8(text) {
         Ok(text) => Ok(text),
         Err(_) => Ok(String::new(alloc)),
     }
+}
+
+/// The text of a reply without its line end, `accepted N`, `already N`, or `refused N` with what the refusal
+/// carries. It takes no memory beside the room.
+pub fn reply_in(room: Vec<u8>, alloc: Global, reply: &Reply) -> Result<String, AllocError> {
+    replies_in(alloc, room, slice::from_ref(reply))
 }
 
 /// Appends a word, with a space in front where there is text that doesn't end in one.

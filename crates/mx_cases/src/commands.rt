@@ -1,8 +1,9 @@
 //! The commands that the words of a case name: the form and its parts, each written out.
 
-use mx_base::{BadText, Day, Doc, Kind, Moment, Part, Position, Serial, Tail, Use};
+use crate::programmes::programme_of;
+use mx_base::{BadText, Day, Doc, Kind, Moment, Part, Position, Serial, Tail, TaskId, Use};
 use mx_book::NoMemory;
-use mx_command::{Body, Command, MakeFault};
+use mx_command::{Body, Command, Item, MakeFault};
 use std::alloc::{AllocError, AllocFailed, Global};
 use std::num::ParseIntError;
 
@@ -107,6 +108,29 @@ fn component_of(parts: &[&str]) -> Result<Body, Unmade> {
     })
 }
 
+// airframe TAIL, or component SERIAL
+fn item_of(word: &str, name: &str) -> Result<Item, Unmade> {
+    match word {
+        "airframe" => Ok(Item::Airframe(Tail::read(name)?)),
+        "component" => Ok(Item::Component(Serial::read(name)?)),
+        _ => Err(Unmade::NoSuchLine),
+    }
+}
+
+// airframe TAIL KIND TASK MINUTES CYCLES DAY, or component SERIAL KIND TASK MINUTES CYCLES DAY
+fn opening_of(parts: &[&str]) -> Result<Body, Unmade> {
+    let [item, name, kind, task, minutes, cycles, day] = parts else {
+        return Err(Unmade::NoSuchLine);
+    };
+    Ok(Body::Opening {
+        item: item_of(item, name)?,
+        kind: Kind::read(kind)?,
+        task: TaskId::read(task)?,
+        use_then: use_of(minutes, cycles)?,
+        day: Day::read(day)?,
+    })
+}
+
 // TAIL PAGE LINE OFF ON CYCLES
 fn sector_of(parts: &[&str]) -> Result<Body, Unmade> {
     let [tail, page, line, off, on, cycles] = parts else {
@@ -148,12 +172,15 @@ fn removal_of(parts: &[&str]) -> Result<Body, Unmade> {
 
 /// What a command says, by its form and the parts behind it, without a document. The forms are
 /// `aircraft TAIL KIND BIRTH MINUTES CYCLES AS_OF [POSITION=PART ..]`,
-/// `component SERIAL PART BIRTH MINUTES CYCLES AS_OF`, `sector TAIL PAGE LINE OFF ON CYCLES`,
-/// `fit SERIAL TAIL POSITION MOMENT` and `remove SERIAL MOMENT`.
+/// `component SERIAL PART BIRTH MINUTES CYCLES AS_OF`, `programme KIND REVISION [TASK ..]` with tasks as `programme_of`
+/// reads them, `opening airframe TAIL KIND TASK MINUTES CYCLES DAY` and `opening component SERIAL ..` alike, `sector TAIL
+/// PAGE LINE OFF ON CYCLES`, `fit SERIAL TAIL POSITION MOMENT` and `remove SERIAL MOMENT`.
 pub fn body_of(alloc: Global, form: &str, parts: &[&str]) -> Result<Body, Unmade> {
     match form {
         "aircraft" => aircraft_of(alloc, parts),
         "component" => component_of(parts),
+        "programme" => programme_of(alloc, parts),
+        "opening" => opening_of(parts),
         "sector" => sector_of(parts),
         "fit" => fitting_of(parts),
         "remove" => removal_of(parts),

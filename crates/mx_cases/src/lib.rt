@@ -8,11 +8,13 @@ pub mod commands;
 pub mod files;
 pub mod playing;
 pub mod program;
+mod programmes;
 pub mod quoted;
 
 pub use answers::{
-    answer_of, append_number, append_word, begin_print, joined_lines, number_text, printed,
-    reply_in, room_for_reply, verdict_text, yes_or_no,
+    answer_of, append_joined, append_number, append_reply, append_word, begin_print, documents,
+    joined_lines, number_text, or_none, printed, replies_in, reply_in, room_for_replies,
+    room_for_reply, verdict_text, yes_or_no,
 };
 pub use commands::{Unmade, body_of, command_of};
 pub use files::{Played, play_file};

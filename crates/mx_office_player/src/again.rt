@@ -3,8 +3,7 @@
 
 use crate::player::Player;
 use crate::sweep_lines::{answer_of_sweep, is_sweep};
-use crate::texts::append_joined;
-use mx_cases::{Plays, answer_of};
+use mx_cases::{Plays, answer_of, append_joined};
 use std::alloc::{AllocError, Global};
 
 /// The player, and whether lines are played once more.

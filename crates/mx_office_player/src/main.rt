@@ -12,16 +12,11 @@
 //! - `list COMMAND`, `list`: puts a command behind those of the list, or empties it;
 //! - `stops-of-making`, `stops-of-commands`, `doubts`: sweeps, which play such lines over copies (`sweep_lines`).
 //!
-//! Lines in the open office: commands, and the questions of `office_lines`; `close`, `end` and `power` leave it.
+//! Lines in the open office: commands, and the questions of `mx_disks`; `close`, `end` and `power` leave it.
 #![tactic(auto)]
 
 mod again;
-mod asking;
-mod calls;
-mod database_lines;
-mod disks;
 mod doubts;
-mod office_lines;
 mod plain;
 mod player;
 mod settings;
@@ -29,7 +24,6 @@ mod stops_of_commands;
 mod stops_of_making;
 mod sweep;
 mod sweep_lines;
-mod texts;
 
 use again::Again;
 use player::Player;

@@ -1,7 +1,7 @@
 //! What the plain book answers, which the office is compared with.
 
-use crate::texts::{append_reply, replies_in};
 use mx_book::{Book, Reply, Verdict};
+use mx_cases::{append_reply, or_none, replies_in};
 use mx_command::Command;
 use std::alloc::{AllocError, Global};
 
@@ -59,7 +59,7 @@ pub(crate) fn plain_run(
     append_replies(alloc, &mut replies, &mut book, commands)?;
     Ok(Plain {
         before: entries.len(),
-        replies: replies_in(alloc, replies, &[], None)?,
+        replies: or_none(replies_in(alloc, replies, &[])?)?,
         book,
     })
 }

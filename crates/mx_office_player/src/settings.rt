@@ -1,8 +1,8 @@
 //! How files are opened and stopped, as words write it.
 
-use crate::disks::{Setting, WHOLE};
 use crate::sweep::End;
 use mx_cases::Unmade;
+use mx_disks::Setting;
 
 // The setting with one more limit: the calls after which a file fails, or the pages that the log holds.
 fn limited(setting: Setting, limit: &[&str]) -> Result<Setting, Unmade> {
@@ -25,7 +25,7 @@ fn limited(setting: Setting, limit: &[&str]) -> Result<Setting, Unmade> {
 
 /// The setting of the words `log CALLS`, `db CALLS` and `pages PAGES`, each of which may be left out.
 pub(crate) fn setting_of(words: &[&str]) -> Result<Setting, Unmade> {
-    let mut setting = WHOLE;
+    let mut setting = Setting::WHOLE;
     for limit in words.chunks(2) {
         setting = limited(setting, limit)?;
     }

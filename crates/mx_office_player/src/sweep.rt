@@ -2,8 +2,7 @@
 //! of the stops. What it does and looks at are lines of the player.
 
 use crate::player::Player;
-use crate::texts::append_joined;
-use mx_cases::Unmade;
+use mx_cases::{Unmade, append_joined};
 use mx_command::Command;
 use std::alloc::{AllocError, Global};
 

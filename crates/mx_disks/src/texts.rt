@@ -2,10 +2,9 @@
 //! nothing is done and left without its answer.
 
 use mx_book::Reply;
-use mx_cases::Unmade;
+use mx_cases::{Unmade, append_joined, or_none, replies_in, room_for_replies};
 use mx_layout::{Table, TableFault};
 use mx_office::{Ask, Fault, OpenFault};
-use mx_reports::reply_text;
 use sqlite::{Constraint, Error, ErrorCode};
 use std::alloc::{AllocError, Global};
 
@@ -84,60 +83,27 @@ pub(crate) fn error_text(alloc: Global, error: Error) -> Result<String, Unmade> 
     Ok(text)
 }
 
-/// Appends a reply, behind ` / ` where there is something before it.
-pub(crate) fn append_reply(out: &mut Vec<u8>, reply: &Reply) -> Result<(), AllocError> {
-    if !out.is_empty() {
-        out.extend_from_slice(b" / ")?;
-    }
-    reply_text(out, reply)?;
-    // The end of its line.
-    out.pop();
-    Ok(())
-}
-
-/// Room for the replies to so many commands.
-pub(crate) fn room_for_replies(alloc: Global, count: usize) -> Result<Vec<u8>, AllocError> {
-    Vec::with_capacity(alloc, count.saturating_add(2).saturating_mul(64))
-}
-
 /// The replies, and behind them what stopped the office, joined by ` / `; `none` where there is neither. Where
 /// the room is for as many, it takes no more memory.
-pub(crate) fn replies_in(
+pub(crate) fn answers_in(
     alloc: Global,
     space: Vec<u8>,
     replies: &[Reply],
     stopped: Option<Fault>,
 ) -> Result<String, AllocError> {
-    let mut out = space;
-    for reply in replies {
-        append_reply(&mut out, reply)?;
-    }
-    let Ok(mut text) = String::from_utf8(out) else {
-        return Ok(String::new(alloc));
-    };
+    let mut text = replies_in(alloc, space, replies)?;
     if let Some(fault) = stopped {
         append_joined(&mut text, "")?;
         append_fault(&mut text, fault)?;
     }
-    if text.is_empty() {
-        text.push_str("none")?;
-    }
-    Ok(text)
-}
-
-/// Appends a part of an answer, behind ` / ` where there is something before it.
-pub(crate) fn append_joined(out: &mut String, part: &str) -> Result<(), AllocError> {
-    if !out.is_empty() {
-        out.push_str(" / ")?;
-    }
-    out.push_str(part)
+    or_none(text)
 }
 
 /// `refused N`, or why the office was stopped.
 pub(crate) fn ask_text(alloc: Global, ask: Ask) -> Result<String, AllocError> {
     let space = room_for_replies(alloc, 1)?;
     match ask {
-        Ask::Refused(refusal) => replies_in(alloc, space, &[Reply::Refused(refusal)], None),
-        Ask::Failed(fault) => replies_in(alloc, space, &[], Some(fault)),
+        Ask::Refused(refusal) => answers_in(alloc, space, &[Reply::Refused(refusal)], None),
+        Ask::Failed(fault) => answers_in(alloc, space, &[], Some(fault)),
     }
 }

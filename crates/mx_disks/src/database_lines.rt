@@ -2,8 +2,8 @@
 ghost use Rattle.std.specs.Prelude.{◌≡◌, false};
 
 use crate::calls::created;
-use crate::texts::{append_error, append_joined, append_table_fault, error_text, room};
-use mx_cases::Unmade;
+use crate::texts::{append_error, append_table_fault, error_text, room};
+use mx_cases::{Unmade, append_joined, append_word, or_none};
 use mx_layout::point;
 use sqlite::types::ValueRef;
 use sqlite::{Alter, Connection, Row};
@@ -38,10 +38,7 @@ fn rows_text(alloc: Global, rows: &[Row]) -> Result<String, AllocError> {
         append_joined(&mut text, "")?;
         append_row(&mut text, row)?;
     }
-    if text.is_empty() {
-        text.push_str("none")?;
-    }
-    Ok(text)
+    or_none(text)
 }
 
 // The rows that a query gives, joined by ` / `, each with its values.
@@ -99,10 +96,7 @@ fn made<S: Alter>(alloc: Global, conn: &mut Connection<S>) -> Result<String, All
 fn statement_of(alloc: Global, words: &[&str]) -> Result<String, AllocError> {
     let mut sql = String::new(alloc);
     for word in words {
-        if !sql.is_empty() {
-            sql.push_str(" ")?;
-        }
-        sql.push_str(word)?;
+        append_word(&mut sql, word)?;
     }
     Ok(sql)
 }

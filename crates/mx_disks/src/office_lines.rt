@@ -1,9 +1,9 @@
 //! What is asked of an open office.
 
 use crate::calls::{applied, entries_of, is_in_doubt, life_of, list_of, ran};
-use crate::texts::{append_fault, append_joined, ask_text, replies_in, room, room_for_replies};
+use crate::texts::{answers_in, append_fault, ask_text, room};
 use mx_base::{Serial, Tail};
-use mx_cases::{Unmade, command_of, joined_lines, yes_or_no};
+use mx_cases::{Unmade, command_of, documents, joined_lines, room_for_replies, yes_or_no};
 use mx_command::{Command, Item};
 use mx_office::{Fault, Office};
 use mx_reports::life_text;
@@ -26,8 +26,8 @@ fn apply<S: Alter>(
 ) -> Result<String, Unmade> {
     let space = room_for_replies(alloc, 1)?;
     match applied(alloc, office, command) {
-        Ok(reply) => Ok(replies_in(alloc, space, slice::from_ref(&reply), None)?),
-        Err(fault) => Ok(replies_in(alloc, space, &[], Some(fault))?),
+        Ok(reply) => Ok(answers_in(alloc, space, slice::from_ref(&reply), None)?),
+        Err(fault) => Ok(answers_in(alloc, space, &[], Some(fault))?),
     }
 }
 
@@ -39,7 +39,7 @@ fn run<S: Alter>(
 ) -> Result<String, Unmade> {
     let space = room_for_replies(alloc, list.len())?;
     let outcomes = ran(alloc, office, list);
-    Ok(replies_in(alloc, space, &outcomes.replies, outcomes.stopped)?)
+    Ok(answers_in(alloc, space, &outcomes.replies, outcomes.stopped)?)
 }
 
 // The life list of the aircraft with this registration.
@@ -69,18 +69,6 @@ fn life<S: Alter>(alloc: Global, office: &mut Office<S>, item: &Item) -> Result<
         }
         Err(ask) => Ok(ask_text(alloc, ask)?),
     }
-}
-
-// The documents of these entries.
-fn documents(alloc: Global, entries: &[Command]) -> Result<String, Unmade> {
-    let mut text = String::new(alloc);
-    for entry in entries {
-        append_joined(&mut text, entry.doc().as_str())?;
-    }
-    if text.is_empty() {
-        text.push_str("none")?;
-    }
-    Ok(text)
 }
 
 // The documents of at most so many entries, from a number on. The entries themselves are put where `asked` says.
@@ -129,11 +117,12 @@ fn apply_first<S: Alter>(
     }
 }
 
-/// What an open office is asked.
+/// What an open office is asked, or the database that files hold.
 #[derive(Drop)]
-pub(crate) struct Asked<'a> {
+pub struct Asked<'a> {
+    /// The memory of the answer.
     pub alloc: Global,
-    /// One of the questions below, or a command, which is handed in.
+    /// The words of the line.
     pub words: &'a [&'a str],
     /// The commands that `run` hands in, and `first` the first of them.
     pub list: &'a [Command],

@@ -1,14 +1,15 @@
 //! A database file and its log in memory. Each fails after so many calls, and loses what was not synced where the
 //! power is lost. Here alone a store is named. Each call of a function for any store at this one is dear to prove, so
-//! there are three: a database is asked, an office is asked, and it is left.
-ghost use Rattle.std.specs.Prelude.{IsTrue, IfOk};
+//! there are two: a database or an office is asked, and an office is left.
+ghost use Rattle.std.specs.Prelude.{◌≡◌, false, IsTrue, IfOk, IfErr};
 ghost use Rattle.sqlite_disk.specs.Memory.{memory_is_usable};
 ghost use Rattle.sqlite_disk.specs.Fuse.{inner_of, IsFresh};
 
-use crate::asking::{Leaving, ask_database, leave};
-use crate::office_lines::{Asked, answer_of_office};
+use crate::asking::ask;
+use crate::office_lines::Asked;
 use crate::texts::error_text;
 use mx_cases::Unmade;
+use mx_layout::end_process;
 use mx_office::Office;
 use sqlite::{Connection, Error, FileStore, Files, Options};
 use sqlite_disk::{Crash, Disk, Fuse, Memory};
@@ -24,7 +25,7 @@ const LONG: usize = 1000;
 
 /// How files are opened.
 #[derive(Clone, Copy)]
-pub(crate) struct Setting {
+pub struct Setting {
     /// The number of calls after which the log fails.
     pub log: u64,
     /// The number of calls after which the database file fails.
@@ -33,12 +34,14 @@ pub(crate) struct Setting {
     pub pages: usize,
 }
 
-/// Neither file fails.
-pub(crate) const WHOLE: Setting = Setting {
-    log: u64::MAX,
-    db: u64::MAX,
-    pages: LONG,
-};
+impl Setting {
+    /// Neither file fails, and the log is as long as that of a real file.
+    pub const WHOLE: Setting = Setting {
+        log: u64::MAX,
+        db: u64::MAX,
+        pages: LONG,
+    };
+}
 
 /// What files leave that were asked a line: files, or an office that is open over them.
 pub(crate) enum Held {
@@ -81,41 +84,63 @@ fn options(pages: usize) -> Options {
     }
 }
 
-/// Opens the database that a copy of the files holds, and asks it a line: the answer, or why it was not opened, and
-/// what is left.
-pub(crate) fn asked_of_files(
+// Opens the database that a copy of the files holds; or why it was not opened, and the files as they were left.
+fn opened(
     alloc: Global,
     files: &Pair,
     setting: Setting,
-    words: &[&str],
-) -> Result<(Result<String, Unmade>, Held), AllocError> {
+) -> Result<Result<Connection<Fused>, (Error, Pair)>, AllocError>
+    ensures { IfOk result (λ found. IfOk found (λ conn. conn.in_transaction ≡ false)) }
+{
     let files = copied(alloc, files, setting)?;
     match Connection::open_files(alloc, files, options(setting.pages)) {
-        Ok(conn) => match ask_database(alloc, conn, words) {
-            (answer, Ok(office)) => Ok((answer, Held::Office(office))),
-            (answer, Err(store)) => Ok((answer, Held::Files(store.close()))),
-        },
-        Err((error, left)) => Ok((error_text(alloc, error), Held::Files(left.into_files()))),
+        Ok(conn) => Ok(Ok(conn)),
+        Err((error, left)) => Ok(Err((error, left.into_files()))),
     }
 }
 
-/// What the office answers to a line.
-pub(crate) fn asked_of_office(
-    office: &mut Office<Fused>,
+// The files that a database leaves where its process ends.
+fn files_left(conn: Connection<Fused>) -> Pair {
+    end_process(conn).close()
+}
+
+/// Asks an office, or a database in which none is open, a line: the answer, and what is left.
+pub(crate) fn asked_in(
+    place: Result<Office<Fused>, Connection<Fused>>,
     asked: Asked<'_>,
-) -> Result<String, Unmade> {
-    answer_of_office(office, asked)
+) -> (Result<String, Unmade>, Held)
+    requires { IfErr place (λ conn. conn.in_transaction ≡ false) }
+{
+    match ask(place, asked) {
+        (answer, Ok(office)) => (answer, Held::Office(office)),
+        (answer, Err(conn)) => (answer, Held::Files(files_left(conn))),
+    }
+}
+
+/// Opens the database that a copy of the files holds, and asks it a line: the answer, or why it was not opened, and
+/// what is left.
+pub(crate) fn asked_of_files(
+    files: &Pair,
+    setting: Setting,
+    asked: Asked<'_>,
+) -> Result<(Result<String, Unmade>, Held), AllocError> {
+    let alloc = asked.alloc;
+    match opened(alloc, files, setting)? {
+        Ok(conn) => Ok(asked_in(Err(conn), asked)),
+        Err((error, left)) => Ok((error_text(alloc, error), Held::Files(left))),
+    }
 }
 
 /// What is left of the files of an office where its process ends. Where it is closed as the program closes it, so that
 /// the log is copied into the database file, also what stopped that.
 pub(crate) fn left_by(office: Office<Fused>, is_closed: bool) -> (Pair, Result<(), Error>) {
-    match leave(office, is_closed) {
-        Leaving::Ended(store) => (store.close(), Ok(())),
-        Leaving::Closing(conn) => match conn.close_files() {
-            Ok(files) => (files, Ok(())),
-            Err((error, store)) => (store.close(), Err(error)),
-        },
+    let conn = office.close();
+    if !is_closed {
+        return (files_left(conn), Ok(()));
+    }
+    match conn.close_files() {
+        Ok(files) => (files, Ok(())),
+        Err((error, store)) => (store.close(), Err(error)),
     }
 }
 

@@ -1,0 +1,69 @@
+//! A database over any store, or the office that is open in it, asked a line.
+ghost use Rattle.std.specs.Prelude.{◌≡◌, false, IfErr};
+
+use crate::database_lines::answer_of_database;
+use crate::office_lines::{Asked, answer_of_office};
+use crate::texts::{append_open_fault, room};
+use mx_cases::Unmade;
+use mx_office::{Office, OpenFault, open_office};
+use sqlite::{Alter, Connection};
+use std::alloc::Global;
+
+// The answer to an opening, in room that was taken for it.
+fn opening_text(space: String, fault: Option<OpenFault>) -> Result<String, Unmade> {
+    let mut text = space;
+    match fault {
+        None => text.push_str("opened")?,
+        Some(fault) => append_open_fault(&mut text, fault)?,
+    }
+    Ok(text)
+}
+
+// Opens the office that a database holds: the answer, and the office, or the database where it was not opened.
+fn open<S: Alter>(
+    alloc: Global,
+    conn: Connection<S>,
+) -> (Result<String, Unmade>, Result<Office<S>, Connection<S>>)
+    requires { conn.in_transaction ≡ false }
+{
+    let Ok(space) = room(alloc) else {
+        return (Err(Unmade::Memory), Err(conn));
+    };
+    match open_office(conn) {
+        Ok(office) => (opening_text(space, None), Ok(office)),
+        Err((conn, fault)) => (opening_text(space, Some(fault)), Err(conn)),
+    }
+}
+
+// Asks a database a line: the answer, and the office that the line opened, or else the database.
+fn ask_database<S: Alter>(
+    alloc: Global,
+    mut conn: Connection<S>,
+    words: &[&str],
+) -> (Result<String, Unmade>, Result<Office<S>, Connection<S>>)
+    requires { conn.in_transaction ≡ false }
+{
+    match words {
+        ["open"] => open(alloc, conn),
+        _ => {
+            let answer = answer_of_database(alloc, &mut conn, words);
+            (answer, Err(conn))
+        }
+    }
+}
+
+/// Asks an office, or a database in which none is open, a line: the answer, and what is open behind it.
+pub(crate) fn ask<S: Alter>(
+    place: Result<Office<S>, Connection<S>>,
+    asked: Asked<'_>,
+) -> (Result<String, Unmade>, Result<Office<S>, Connection<S>>)
+    requires { IfErr place (λ conn. conn.in_transaction ≡ false) }
+{
+    match place {
+        Ok(mut office) => {
+            let answer = answer_of_office(&mut office, asked);
+            (answer, Ok(office))
+        }
+        Err(conn) => ask_database(asked.alloc, conn, asked.words),
+    }
+}

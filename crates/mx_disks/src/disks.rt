@@ -1,0 +1,156 @@
+//! The disks: files in memory, and an office that may be open over a copy of them.
+
+use crate::files::{
+    Fused, Held, Pair, Setting, asked_in, asked_of_files, copied, empty_files, left_by, lose_power,
+};
+use crate::office_lines::Asked;
+use crate::texts::{append_error, room};
+use mx_cases::Unmade;
+use mx_office::Office;
+use std::alloc::{AllocError, Global};
+
+/// A database file and its log in memory, a copy of them that is kept, and an office that may be open.
+pub struct Disks {
+    alloc: Global,
+    // The database file and its log. While an office is open, as they were before it was opened.
+    files: Pair,
+    // The files that `restore` takes back.
+    kept: Pair,
+    office: Option<Office<Fused>>,
+}
+
+// Whether files that answered so are taken: where a book was made or an office was opened, or could not be, and where a
+// statement that changes them was run.
+fn is_taken(words: &[&str], answer: &Result<String, Unmade>) -> bool {
+    match (words, answer) {
+        (["make"] | ["open"], Ok(_)) => true,
+        (["sql", ..], Ok(text)) => text.as_str() == "ok",
+        _ => false,
+    }
+}
+
+impl Disks {
+    /// Files that hold nothing, and no office.
+    pub fn new(alloc: Global) -> Disks {
+        Disks {
+            alloc,
+            files: empty_files(alloc),
+            kept: empty_files(alloc),
+            office: None,
+        }
+    }
+
+    /// Disks with copies of the files, which they also keep, and no office.
+    pub fn copy(&self) -> Result<Disks, AllocError> {
+        Ok(Disks {
+            alloc: self.alloc,
+            files: copied(self.alloc, &self.files, Setting::WHOLE)?,
+            kept: copied(self.alloc, &self.files, Setting::WHOLE)?,
+            office: None,
+        })
+    }
+
+    /// Lets go of everything.
+    pub fn let_go(self) {
+        let Disks {
+            alloc: _,
+            files: _,
+            kept: _,
+            office,
+        } = self;
+        if let Some(office) = office {
+            let (_files, _) = left_by(office, false);
+        }
+    }
+
+    /// Whether an office is open.
+    pub fn is_open(&self) -> bool {
+        self.office.is_some()
+    }
+
+    /// The process of an open office ends: the files are as it left them.
+    pub fn end(&mut self) {
+        if let Some(office) = self.office.take() {
+            let (files, _) = left_by(office, false);
+            self.files = files;
+        }
+    }
+
+    /// The process of an open office ends, and the power is lost: the files hold what was synced.
+    pub fn lose_power(&mut self) {
+        self.end();
+        lose_power(&mut self.files);
+    }
+
+    /// The process of an open office ends, and the files hold nothing.
+    pub fn begin(&mut self) {
+        self.end();
+        self.files = empty_files(self.alloc);
+    }
+
+    /// Keeps a copy of the files. Where memory runs out, what was kept before is kept.
+    pub fn keep(&mut self) -> Result<(), AllocError> {
+        self.kept = copied(self.alloc, &self.files, Setting::WHOLE)?;
+        Ok(())
+    }
+
+    /// Takes the files back of which a copy was kept. Where memory runs out, the files stay as they are.
+    pub fn restore(&mut self) -> Result<(), AllocError> {
+        self.files = copied(self.alloc, &self.kept, Setting::WHOLE)?;
+        Ok(())
+    }
+
+    // Holds what a line left: the office that is open, or the files, where they are taken.
+    fn hold(&mut self, held: Held, are_taken: bool) {
+        match held {
+            Held::Office(office) => {
+                if let Some(before) = self.office.replace(office) {
+                    let (_files, _) = left_by(before, false);
+                }
+            }
+            Held::Files(files) => {
+                if are_taken {
+                    self.files = files;
+                }
+            }
+        }
+    }
+
+    // Asks the database in a copy of the files, which is taken where it was changed.
+    fn ask_files(&mut self, setting: Setting, asked: Asked<'_>) -> Result<String, Unmade> {
+        let words = asked.words;
+        let (answer, held) = asked_of_files(&self.files, setting, asked)?;
+        self.hold(held, is_taken(words, &answer));
+        answer
+    }
+
+    /// What the open office answers to a line. Where none is open, what the database in the files answers, which is
+    /// opened with this setting: they change where it makes a book, opens its office or runs a statement. `NoSuchLine`
+    /// where it is no line of what is asked.
+    pub fn ask(&mut self, setting: Setting, asked: Asked<'_>) -> Result<String, Unmade> {
+        match self.office.take() {
+            Some(office) => {
+                let (answer, held) = asked_in(Ok(office), asked);
+                self.hold(held, true);
+                answer
+            }
+            None => self.ask_files(setting, asked),
+        }
+    }
+
+    /// Closes the open office as the program does, so that the log is copied into the database file: `ok`, or what
+    /// stopped that. `NoSuchLine` where none is open.
+    pub fn close(&mut self) -> Result<String, Unmade> {
+        let mut text = room(self.alloc)?;
+        let Some(office) = self.office.take() else {
+            return Err(Unmade::NoSuchLine);
+        };
+        let (files, closing) = left_by(office, true);
+        self.files = files;
+        match closing {
+            Ok(()) => text.push_str("ok")?,
+            Err(error) => append_error(&mut text, error)?,
+        }
+        Ok(text)
+    }
+}

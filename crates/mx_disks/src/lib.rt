@@ -1,0 +1,28 @@
+//! An office over files in memory that stop, lose power and are opened again, asked in lines.
+//!
+//! Lines over the files, each over a database that is opened anew:
+//! - `make`: makes an empty book;
+//! - `point`: the layout, step and mark that it is at;
+//! - `ask QUERY`, `sql STATEMENT`: the rows of a query; a statement that changes the files;
+//! - `open`: opens the office.
+//!
+//! Lines in the open office:
+//! - a command, in the words that `mx_cases` reads: hands it in; `run` the commands of a list, and `first` the first;
+//! - `life TAIL`, `airframe TAIL`, `component SERIAL`: the life list; the life of one item, in minutes and cycles;
+//! - `entries FROM AT_MOST`, `entry NUMBER COMMAND`: documents of entries; whether one is this command;
+//! - `needs-reopen`: whether the files have to be opened again.
+//!
+//! A fault is answered by its name behind `fault`, and a row that a table refuses by the constraint behind `refused`.
+#![tactic(auto)]
+
+mod asking;
+mod calls;
+mod database_lines;
+pub mod disks;
+pub mod files;
+pub mod office_lines;
+mod texts;
+
+pub use disks::Disks;
+pub use files::Setting;
+pub use office_lines::Asked;
