@@ -3,3 +3,4 @@ pub mod SameLemmas
 pub mod ShapeLemmas
 pub mod Worked
 pub mod WorkedProgrammes
+pub mod WorkedReleases

@@ -10,8 +10,8 @@ use Rattle.mx_base.specs.declared.amounts.Limit.{Limit}
 use Rattle.mx_base.specs.declared.amounts.Tolerance.{Tolerance}
 use Rattle.mx_base.specs.contracts.amounts.LimitPartialEq.TheImpl as limit
 use Rattle.mx_base.specs.contracts.amounts.TolerancePartialEq.TheImpl as tolerance
-use Rattle.mx_command.specs.Act.{Act, Entry, act_of, Added, Listed, Loaded, Opened, Flown, Fitted, Removed}
-use Rattle.mx_command.specs.Same.{same_act, same_entry, same_text, same_position, same_use, same_item, same_limit, same_tolerance, same_applies, same_task}
+use Rattle.mx_command.specs.Act.{Act, Entry, act_of, Added, Listed, Loaded, Opened, Flown, Fitted, Removed, Released}
+use Rattle.mx_command.specs.Same.{same_act, same_entry, same_text, same_position, same_use, same_item, same_limit, same_tolerance, same_applies, same_task, same_place, same_line}
 use Rattle.mx_command.specs.declared.body.Body.{Body}
 use Rattle.mx_command.specs.declared.body.Body.TheVariants as bodies
 use Rattle.mx_command.specs.declared.aircraft.Aircraft.{Aircraft}
@@ -22,6 +22,11 @@ use Rattle.mx_command.specs.declared.programme.Applies.{Applies}
 use Rattle.mx_command.specs.declared.programme.Applies.TheVariants as applied
 use Rattle.mx_command.specs.declared.programme.Programme.{Programme}
 use Rattle.mx_command.specs.declared.programme.Task.{Task}
+use Rattle.mx_command.specs.declared.release.Line.{Line}
+use Rattle.mx_command.specs.declared.release.Line.TheVariants as lined
+use Rattle.mx_command.specs.declared.release.Place.{Place}
+use Rattle.mx_command.specs.declared.release.Place.TheVariants as placed
+use Rattle.mx_command.specs.declared.release.Release.{Release}
 use Rattle.mx_command.specs.declared.sector.Sector.{Sector}
 use Rattle.mx_command.specs.contracts.body.BodyPartialEq.TheImpl as body
 use Rattle.mx_command.specs.contracts.sector.SectorPartialEq.TheImpl as sector
@@ -31,6 +36,9 @@ use Rattle.mx_command.specs.contracts.opening.OpeningPartialEq.TheImpl as openin
 use Rattle.mx_command.specs.contracts.programme.AppliesPartialEq.TheImpl as applies
 use Rattle.mx_command.specs.contracts.programme.ProgrammePartialEq.TheImpl as programme
 use Rattle.mx_command.specs.contracts.programme.TaskPartialEq.TheImpl as task
+use Rattle.mx_command.specs.contracts.release.LinePartialEq.TheImpl as line
+use Rattle.mx_command.specs.contracts.release.PlacePartialEq.TheImpl as place
+use Rattle.mx_command.specs.contracts.release.ReleasePartialEq.TheImpl as release
 
 -- ── the derived tests are those of the fields ──
 
@@ -59,6 +67,21 @@ tasks_are : (kind kind' : List ℕ) (revision revision' : ℕ) (tasks tasks' : L
 tasks_are kind kind' revision revision' tasks tasks' =
     ap (λ (same : Task → Task → Bool). same_text kind kind' && (nat_eq revision revision' && pointwise same tasks tasks')) (fun_ext (λ a. fun_ext (λ b. task_is a b)))
 
+place_is : (a b : Place) → (place.ghosts).eq a b ≡ same_place a b
+place_is (placed.Aircraft a) (placed.Aircraft b) = refl
+place_is (placed.Shop a kind) (placed.Shop b kind') = refl
+place_is _ _ = refl
+
+-- the derived test of two lines is that of what they certify
+pub line_is : (a b : Line) → (line.ghosts).eq a b ≡ same_line a b
+line_is (lined.Done a task) (lined.Done b task') = ap (λ same. same && same_text task task') (item_is a b)
+
+lines_are : (p p' : Place) (moment moment' : ℕ) (lines lines' : List Line)
+    → (place.ghosts).eq p p' && (nat_eq moment moment' && pointwise (line.ghosts).eq lines lines') ≡ same_place p p' && (nat_eq moment moment' && pointwise same_line lines lines')
+lines_are p p' moment moment' lines lines' =
+    ap (λ (same : Line → Line → Bool). (place.ghosts).eq p p' && (nat_eq moment moment' && pointwise same lines lines')) (fun_ext (λ a. fun_ext (λ b. line_is a b)))
+    ∙ ap (λ same. same && (nat_eq moment moment' && pointwise same_line lines lines')) (place_is p p')
+
 -- the derived test of two bodies is that of what they say
 pub body_same : (a b : Body) → (body.ghosts).eq a b ≡ same_act (act_of a) (act_of b)
 body_same (bodies.AddAircraft tail kind birth opening as_of positions) (bodies.AddAircraft tail' kind' birth' opening' as_of' positions') = refl
@@ -69,6 +92,7 @@ body_same (bodies.Opening item kind task use_then day) (bodies.Opening item' kin
 body_same (bodies.Sector tail page line off on cycles) (bodies.Sector tail' page' line' off' on' cycles') = refl
 body_same (bodies.Fit serial tail position moment) (bodies.Fit serial' tail' position' moment') = refl
 body_same (bodies.Remove serial moment) (bodies.Remove serial' moment') = refl
+body_same (bodies.Release p moment lines) (bodies.Release p' moment' lines') = lines_are p p' moment moment' lines.items lines'.items
 body_same _ _ = refl
 
 -- ── each test decides whether its things are equal ──
@@ -159,6 +183,33 @@ loaded_same a b ts us = search (rules, programme_same, tasks_same, both)
 opened_same : (a b : Opening) → Decides ((opening.ghosts).eq a b) (Opened a ≡ Opened b)
 opened_same a b = search rules
 
+-- ── releases ──
+
+place_decides : (a b : Place) → Decides ((place.ghosts).eq a b) (a ≡ b)
+place_decides a b = search rules
+
+item_decides : (a b : Item) → Decides ((item.ghosts).eq a b) (a ≡ b)
+item_decides a b = search rules
+
+line_decides : (a b : Line) → Decides ((line.ghosts).eq a b) (a ≡ b)
+line_decides a b = search rules
+
+line_same : (a b : Line) → Decides (same_line a b) (a ≡ b)
+line_same a b = decides_along _ (line_is a b) (line_decides a b)
+
+lines_same : (xs ys : List Line) → Decides (pointwise same_line xs ys) (xs ≡ ys)
+lines_same xs ys = slice_eq-Decides line_same xs ys _ refl
+
+release_same : (a b : Release) → Decides ((release.ghosts).eq a b) (a ≡ b)
+release_same a b = search rules
+
+released_same : (a b : Release) (xs ys : List Line) → Decides ((release.ghosts).eq a b && pointwise same_line xs ys) (Released a xs ≡ Released b ys)
+released_same a b xs ys = search (rules, release_same, lines_same, both)
+
+released_is : (a b : Release) (xs ys : List Line) → (release.ghosts).eq a b && pointwise same_line xs ys ≡ same_act (Released a xs) (Released b ys)
+released_is a b xs ys = and_assoc ((place.ghosts).eq a.place b.place) (nat_eq a.moment b.moment) (pointwise same_line xs ys)
+    ∙ ap (λ same. same && (nat_eq a.moment b.moment && pointwise same_line xs ys)) (place_is a.place b.place)
+
 act_same : (a b : Act) → Decides (same_act a b) (a ≡ b)
 act_same (Added a ps) (Added b qs) = decides_along _ (simp and_assoc) (added_same a b ps qs)
 act_same (Listed a) (Listed b) = search rules
@@ -167,6 +218,7 @@ act_same (Opened a) (Opened b) = decides_along _ (opening_is a b) (opened_same a
 act_same (Flown a) (Flown b) = search (rules, sector_same)
 act_same (Fitted a) (Fitted b) = search rules
 act_same (Removed a) (Removed b) = search rules
+act_same (Released a xs) (Released b ys) = decides_along _ (released_is a b xs ys) (released_same a b xs ys)
 act_same _ _ = ((λ h. (cc)), (λ h. (cc)))
 
 entry_with : List ℕ → Act → Entry

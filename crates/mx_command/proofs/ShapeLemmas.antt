@@ -2,7 +2,7 @@
 use Rattle.std.proofs.Common.{rules, arith, ◌≡◌, ◌≤◌, refl, List, ℕ, Bool, true, false, ◌&&◌, length, IfSome}
 use Rattle.std.specs.List.{list_all}
 use Rattle.std.proofs.lemmas.Bool.Decides.{nat_tests}
-use Rattle.mx_command.specs.Act.{Act, Loaded, tasks_of, programme_of}
+use Rattle.mx_command.specs.Act.{Act, Loaded, Released, tasks_of, programme_of, lines_of}
 use Rattle.mx_command.specs.Bounds.{within, are_distinct}
 use Rattle.mx_command.specs.Programme.{task_shape, programme_shape, same_name_of_task}
 use Rattle.mx_command.specs.Shape.{has_shape, doc_shape}
@@ -39,3 +39,11 @@ programme_revision p tasks h = revision_within p.revision (and_first (within 1 1
 pub revision_small : (doc : List ℕ) (act : Act) → has_shape (record { doc = doc; act = act }) ≡ true → IfSome (programme_of act) (λ p. p.revision ≤ 1000000)
 revision_small doc (Loaded p tasks) h = programme_revision p tasks (and_first (programme_shape p tasks) (doc_shape doc (Loaded p tasks)) h)
 revision_small doc _ h = search rules
+
+count_within : (n : ℕ) → within 1 20 n ≡ true → n ≤ 20
+count_within n h = grind (arith, nat_tests)
+
+-- a command of its shape has few lines
+pub lines_few : (doc : List ℕ) (act : Act) → has_shape (record { doc = doc; act = act }) ≡ true → length (lines_of act) ≤ 20
+lines_few doc (Released r lines) h = count_within (length lines) (and_first (within 1 20 (length lines)) (doc_shape doc (Released r lines)) h)
+lines_few doc _ h = search (rules, arith)

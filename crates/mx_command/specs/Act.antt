@@ -8,10 +8,12 @@ use Rattle.mx_command.specs.declared.opening.Opening.{Opening}
 use Rattle.mx_command.specs.declared.sector.Sector.{Sector}
 use Rattle.mx_command.specs.declared.fitting.Fitting.{Fitting}
 use Rattle.mx_command.specs.declared.fitting.Removal.{Removal}
+use Rattle.mx_command.specs.declared.release.Release.{Release}
+use Rattle.mx_command.specs.declared.release.Line.{Line}
 use Rattle.mx_command.specs.declared.body.Body.{Body}
 use Rattle.mx_command.specs.declared.body.Body.TheVariants as bodies
 
--- what a command says, a case for each kind of command: an aircraft with its positions was added, a component was listed, a programme with its tasks was loaded, a task of an item was opened, a sector was flown, a component was fitted or removed
+-- what a command says, a case for each kind of command: an aircraft with its positions was added, a component was listed, a programme with its tasks was loaded, a task of an item was opened, a sector was flown, a component was fitted or removed, work was released with its lines
 pub data Act : Type 0 where
   Added : Aircraft → List (List ℕ × List ℕ) → Act
   Listed : Component → Act
@@ -20,6 +22,7 @@ pub data Act : Type 0 where
   Flown : Sector → Act
   Fitted : Fitting → Act
   Removed : Removal → Act
+  Released : Release → List Line → Act
 
 -- a command, which once accepted is an entry: its document, and what it says
 pub record Entry : Type 0 where
@@ -35,6 +38,7 @@ act_of (bodies.Opening item kind task use_then day) = Opened (record { item = it
 act_of (bodies.Sector tail page line off on cycles) = Flown (record { tail = tail; page = page; line = line; off = off; on = on; cycles = cycles })
 act_of (bodies.Fit serial tail position moment) = Fitted (record { serial = serial; tail = tail; position = position; moment = moment })
 act_of (bodies.Remove serial moment) = Removed (record { serial = serial; moment = moment })
+act_of (bodies.Release place moment lines) = Released (record { place = place; moment = moment }) lines.items
 
 -- the aircraft, where one was added
 abbrev pub aircraft_of : Act → Option Aircraft
@@ -80,3 +84,13 @@ fitting_of _ = None
 abbrev pub removal_of : Act → Option Removal
 removal_of (Removed removal) = Some removal
 removal_of _ = None
+
+-- the release, where work was released
+abbrev pub release_of : Act → Option Release
+release_of (Released release lines) = Some release
+release_of _ = None
+
+-- the lines of the release, where work was released
+abbrev pub lines_of : Act → List Line
+lines_of (Released release lines) = lines
+lines_of _ = []

@@ -6,12 +6,16 @@ use Rattle.std.specs.Cmp.Lexicographic.{pointwise}
 use Rattle.mx_base.specs.declared.amounts.Use.{Use}
 use Rattle.mx_base.specs.declared.amounts.Limit.{Limit}
 use Rattle.mx_base.specs.declared.amounts.Tolerance.{Tolerance}
-use Rattle.mx_command.specs.Act.{Act, Entry, Added, Listed, Loaded, Opened, Flown, Fitted, Removed}
+use Rattle.mx_command.specs.Act.{Act, Entry, Added, Listed, Loaded, Opened, Flown, Fitted, Removed, Released}
 use Rattle.mx_command.specs.declared.item.Item.{Item}
 use Rattle.mx_command.specs.declared.item.Item.TheVariants as items
 use Rattle.mx_command.specs.declared.programme.Applies.{Applies}
 use Rattle.mx_command.specs.declared.programme.Applies.TheVariants as applies
 use Rattle.mx_command.specs.declared.programme.Task.{Task}
+use Rattle.mx_command.specs.declared.release.Place.{Place}
+use Rattle.mx_command.specs.declared.release.Place.TheVariants as places
+use Rattle.mx_command.specs.declared.release.Line.{Line}
+use Rattle.mx_command.specs.declared.release.Line.TheVariants as lines
 
 -- the texts are the same, byte by byte
 abbrev pub same_text : List ℕ → List ℕ → Bool
@@ -51,7 +55,17 @@ same_task a b =
     same_text a.id b.id && (same_applies a.applies b.applies && (same_limit a.first b.first
     && (option_eq same_limit a.repeat b.repeat && (same_tolerance a.tolerance b.tolerance && beq a.retire b.retire))))
 
--- two commands say the same; positions and tasks count in their order
+-- the same aircraft, or the same component in a shop by the programme of the same kind
+abbrev pub same_place : Place → Place → Bool
+same_place (places.Aircraft a) (places.Aircraft b) = same_text a b
+same_place (places.Shop a kind) (places.Shop b other) = same_text a b && same_text kind other
+same_place _ _ = false
+
+-- the lines certify the same
+abbrev pub same_line : Line → Line → Bool
+same_line (lines.Done a task) (lines.Done b other) = same_item a b && same_text task other
+
+-- two commands say the same; positions, tasks and lines count in their order
 abbrev pub same_act : Act → Act → Bool
 same_act (Added a positions) (Added b others) =
     same_text a.tail b.tail && (same_text a.kind b.kind && (nat_eq a.birth b.birth
@@ -70,6 +84,8 @@ same_act (Flown a) (Flown b) =
 same_act (Fitted a) (Fitted b) =
     same_text a.serial b.serial && (same_text a.tail b.tail && (same_text a.position b.position && nat_eq a.moment b.moment))
 same_act (Removed a) (Removed b) = same_text a.serial b.serial && nat_eq a.moment b.moment
+same_act (Released a lines) (Released b others) =
+    same_place a.place b.place && (nat_eq a.moment b.moment && pointwise same_line lines others)
 same_act _ _ = false
 
 -- two commands have the same document and say the same

@@ -3,7 +3,7 @@ use Rattle.std.specs.Prelude.{ℕ, ◌+◌, ◌/◌, List, ◌∷◌, ◌++◌, 
 use Rattle.std.specs.List.{starts_with}
 use Rattle.std.specs.Fmt.{decimal}
 use Rattle.mx_base.specs.declared.amounts.Use.{Use}
-use Rattle.mx_command.specs.Act.{Act, Entry, Added, Listed, Loaded, Opened, Flown, Fitted, Removed}
+use Rattle.mx_command.specs.Act.{Act, Entry, Added, Listed, Loaded, Opened, Flown, Fitted, Removed, Released}
 use Rattle.mx_command.specs.Bounds.{within, are_distinct}
 use Rattle.mx_command.specs.Programme.{programme_shape}
 use Rattle.mx_command.specs.Same.{same_text}
@@ -39,6 +39,7 @@ act_shape (Opened opening) = use_shape opening.use_then
 act_shape (Flown sector) = sector_shape sector
 act_shape (Fitted fitting) = true
 act_shape (Removed removal) = true
+act_shape (Released release lines) = within 1 20 (length lines)
 
 -- a document of the technical log begins with TL/
 abbrev pub is_log_doc : List ℕ → Bool

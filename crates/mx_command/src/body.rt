@@ -1,6 +1,6 @@
 //! What a command says.
 ghost use Rattle.std.specs.Prelude.{◌≡◌, IfOk};
-ghost use Rattle.mx_command.specs.Act.{act_of, aircraft_of, component_of, programme_of, opening_of, sector_of, fitting_of, removal_of};
+ghost use Rattle.mx_command.specs.Act.{act_of, aircraft_of, component_of, programme_of, opening_of, sector_of, fitting_of, removal_of, release_of};
 
 use crate::aircraft::Aircraft;
 use crate::component::Component;
@@ -8,6 +8,7 @@ use crate::fitting::{Fitting, Removal};
 use crate::item::Item;
 use crate::opening::Opening;
 use crate::programme::{Programme, Task};
+use crate::release::{Line, Place, Release};
 use crate::sector::Sector;
 use mx_base::{Day, Kind, Moment, Part, Position, Serial, Tail, TaskId, Use};
 use std::alloc::{AllocError, Global};
@@ -98,6 +99,15 @@ pub enum Body {
         serial: Serial,
         /// The moment up to which the component flew with the aircraft.
         moment: Moment,
+    },
+    /// Maintenance was released to service.
+    Release {
+        /// Where the work was done.
+        place: Place,
+        /// The moment at which it was released.
+        moment: Moment,
+        /// What was done: 1 to 20 lines.
+        lines: Vec<Line>,
     },
 }
 
@@ -239,6 +249,19 @@ impl Body {
         }
     }
 
+    /// The release of maintenance, its lines aside.
+    pub fn release(&self) -> Option<Release>
+        ensures { result ≡ release_of (act_of self.now) }
+    {
+        match self {
+            Body::Release { place, moment, .. } => Some(Release {
+                place: *place,
+                moment: *moment,
+            }),
+            _ => None,
+        }
+    }
+
     /// The same body again.
     pub fn copy(&self, alloc: Global) -> Result<Body, AllocError>
         ensures { IfOk result (λ body. act_of body ≡ act_of self.now) }
@@ -323,6 +346,15 @@ impl Body {
             Body::Remove { serial, moment } => Body::Remove {
                 serial: *serial,
                 moment: *moment,
+            },
+            Body::Release {
+                place,
+                moment,
+                lines,
+            } => Body::Release {
+                place: *place,
+                moment: *moment,
+                lines: Vec::from_slice(alloc, lines.as_slice())?,
             },
         })
     }

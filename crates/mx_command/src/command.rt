@@ -10,6 +10,7 @@ use crate::document::{document_of_sector, is_of_log};
 use crate::fitting::{Fitting, Removal};
 use crate::opening::Opening;
 use crate::programme::{Programme, Task};
+use crate::release::{Line, Release};
 use crate::sector::Sector;
 use mx_base::{Doc, Part, Position};
 use std::alloc::{AllocError, Global};
@@ -56,8 +57,8 @@ impl Model for Command {
 }
 
 impl Command {
-    ghost use Rattle.std.specs.Prelude.{◌↔◌, ◌≤◌, false, IsTrue, OnOk, IfSome};
-    ghost use Rattle.mx_command.specs.Act.{aircraft_of, component_of, programme_of, tasks_of, opening_of, fitting_of, removal_of, positions_of};
+    ghost use Rattle.std.specs.Prelude.{◌↔◌, ◌≤◌, false, IsTrue, OnOk, IfSome, length};
+    ghost use Rattle.mx_command.specs.Act.{aircraft_of, component_of, programme_of, tasks_of, opening_of, fitting_of, removal_of, positions_of, release_of, lines_of};
     ghost use Rattle.mx_command.specs.Same.{same_entry};
     ghost use Rattle.mx_command.specs.Programme.{task_shape};
     ghost use Rattle.mx_command.specs.Shape.{has_shape, sector_shape, is_sector_shaped, sector_entry};
@@ -208,6 +209,24 @@ impl Command {
         ensures { result ≡ removal_of self.now.act }
     {
         self.body.removal()
+    }
+
+    /// The release of maintenance, its lines aside.
+    pub fn release(&self) -> Option<Release>
+        ensures { result ≡ release_of self.now.act }
+    {
+        self.body.release()
+    }
+
+    /// The lines of the release, at most 20; none where it releases nothing.
+    pub fn lines(&self) -> &[Line]
+        ensures lines { result.now ≡ lines_of self.now.act }
+        ensures few { length (lines_of self.now.act) ≤ 20 }
+    {
+        match &self.body {
+            Body::Release { lines, .. } => lines.as_slice(),
+            _ => &[],
+        }
     }
 }
 

@@ -18,8 +18,8 @@ pub(crate) fn document_of_sector(alloc: Global, sector: &Sector) -> Result<Doc, 
     Ok(Doc::read(text.as_str()).unwrap())
 }
 
-/// Whether a document is one of the technical log, which only a sector has.
-pub(crate) fn is_of_log(doc: &Doc) -> bool
+/// Whether a document is one of the technical log, which only a sector has: one that begins with `TL/`.
+pub fn is_of_log(doc: &Doc) -> bool
     ensures { result ≡ is_log_doc doc.now }
 {
     doc.as_str().as_bytes().starts_with(b"TL/")

@@ -12,6 +12,7 @@ pub mod item;
 pub mod opening;
 pub mod programme;
 pub mod programme_shape;
+pub mod release;
 pub mod sector;
 pub mod shape;
 
@@ -19,8 +20,10 @@ pub use aircraft::Aircraft;
 pub use body::Body;
 pub use command::{Command, MakeFault};
 pub use component::Component;
+pub use document::is_of_log;
 pub use fitting::{Fitting, Removal};
 pub use item::Item;
 pub use opening::Opening;
 pub use programme::{Applies, Programme, Task};
+pub use release::{Line, Place, Release};
 pub use sector::Sector;

@@ -30,6 +30,9 @@ pub const MOST_SECTOR_MINUTES: u32 = 1440;
 /// The most cycles of a sector.
 pub const MOST_SECTOR_CYCLES: u32 = 50;
 
+/// The most lines of a release.
+pub const MOST_LINES: usize = 20;
+
 impl Body {
     /// Whether every amount is within its bounds.
     pub fn has_shape(&self) -> bool
@@ -80,8 +83,16 @@ impl Body {
                     && is_within(1, MOST_SECTOR_CYCLES, *cycles)
             }
             Body::Fit { .. } | Body::Remove { .. } => true,
+            Body::Release { lines, .. } => is_line_count(lines.len()),
         }
     }
+}
+
+// Whether a release may have so many lines.
+fn is_line_count(count: usize) -> bool
+    ensures { result ≡ within 1 20 count }
+{
+    1 <= count && count <= MOST_LINES
 }
 
 fn has_use_shape(opening: &Use) -> bool
