@@ -3,7 +3,8 @@ use Rattle.std.proofs.Common.{arith, refl, sym, subst, ap, ◌∙◌, ◌≡◌,
 use Rattle.std.proofs.lemmas.Bool.Decides.{nat_tests}
 use Rattle.std.specs.Prelude.{nat_le, is_some}
 use Rattle.std.specs.List.{list_all}
-use Rattle.mx_command.specs.Act.{Act, Entry, Added, Listed, Loaded, Opened, Flown, Fitted, Removed, aircraft_of, component_of, programme_of, opening_of, sector_of, fitting_of, removal_of}
+use Rattle.std.specs.Option.{option_map}
+use Rattle.mx_command.specs.Act.{Act, Entry, Added, Listed, Loaded, Opened, Flown, Fitted, Removed, Released, aircraft_of, component_of, programme_of, opening_of, sector_of, fitting_of, removal_of, release_of, lines_of}
 use Rattle.mx_command.specs.Same.{same_entry}
 use Rattle.mx_command.specs.Shape.{has_shape}
 use Rattle.mx_command.specs.declared.aircraft.Aircraft.{Aircraft}
@@ -13,12 +14,13 @@ use Rattle.mx_command.specs.declared.fitting.Removal.{Removal}
 use Rattle.mx_command.specs.declared.opening.Opening.{Opening}
 use Rattle.mx_command.specs.declared.programme.Programme.{Programme}
 use Rattle.mx_command.specs.declared.programme.Task.{Task}
+use Rattle.mx_command.specs.declared.release.Release.{Release}
 use Rattle.mx_command.specs.declared.sector.Sector.{Sector}
 use Rattle.mx_book.specs.declared.verdict.Refusal.{Refusal}
 use Rattle.mx_book.specs.declared.verdict.Refusal.TheVariants.{Full, Conflict, UnknownAircraft, UnknownComponent, UnknownPosition, UnknownProgramme, UnknownTask, AircraftExists, ComponentExists, PositionTaken, AlreadyFitted}
 use Rattle.mx_book.specs.declared.verdict.Verdict.{Verdict}
 use Rattle.mx_book.specs.declared.verdict.Verdict.TheVariants.{New, Already, Refused}
-use Rattle.mx_book.specs.Judge.{judge, judge_by, known_from, refusals, first_of, when, is_full, names_unknown_aircraft, names_unknown_component, names_unknown_position, names_unknown_programme, names_unknown_task, aircraft_exists, component_exists, verdict_of}
+use Rattle.mx_book.specs.Judge.{judge, judge_by, known_from, known_same, refusals, first_of, when, is_full, names_unknown_aircraft, names_unknown_component, names_unknown_position, names_unknown_programme, names_unknown_task, aircraft_exists, component_exists, verdict_of}
 use Rattle.mx_book.specs.Span.{fitted, is_taken}
 use Rattle.mx_book.specs.Book.{is_new, is_book_from, IsBook}
 
@@ -53,9 +55,21 @@ pub removed_as : (act : Act) (r : Removal) → removal_of act ≡ Some r → act
 removed_as (Removed x) r e = cc
 removed_as _ r e = (cc)
 
+pub released_as : (act : Act) (r : Release) → release_of act ≡ Some r → act ≡ Released r (lines_of act)
+released_as (Released x lines) r e = let same : x ≡ r = cc in ap (λ y. Released y lines) same
+released_as _ r e = (cc)
+
 -- what refuses a command refuses one that says the same
 pub refusals_of : (book : List Entry) (act same : Act) (r : Option Refusal) → act ≡ same → r ≡ first_of (refusals book same) → r ≡ first_of (refusals book act)
 refusals_of book act same r e h = h ∙ ap (λ x. first_of (refusals book x)) (sym e)
+
+refused_by : (book : List Entry) (command : Entry) (why : Refusal) (o : Option (ℕ × Entry)) → None ≡ option_map (known_same command) o → Some why ≡ first_of (refusals book command.act) → Refused why ≡ judge_by book command o
+refused_by book command why None unknown h = ap verdict_of h
+refused_by book command why (Some known) unknown h = (cc)
+
+-- a command whose document is new is refused by what refuses it
+pub refused_new : (book : List Entry) (command : Entry) (why : Refusal) → None ≡ option_map (known_same command) (known_from command.doc 1 book) → Some why ≡ first_of (refusals book command.act) → Refused why ≡ judge book command
+refused_new book command why unknown h = refused_by book command why (known_from command.doc 1 book) unknown h
 
 when_none : (b : Bool) (refusal : Refusal) (others : List (Option Refusal)) → first_of (when b refusal ∷ others) ≡ None → b ≡ false
 when_none true refusal others h = (cc)

@@ -14,7 +14,9 @@ use Rattle.mx_command.specs.declared.aircraft.Aircraft.{Aircraft}
 use Rattle.mx_command.specs.declared.component.Component.{Component}
 use Rattle.mx_command.specs.Same.{same_text}
 use Rattle.mx_book.specs.Register.{register, aircraft, component}
-use Rattle.mx_book.specs.Life.{opening_of, selected, share, minutes_of, cycles_of, is_credited, has_landed_by}
+use Rattle.mx_due.specs.Due.{IsLife}
+use Rattle.mx_book.specs.Life.{opening_of, life_until, selected, share, use_after, minutes_of, cycles_of, is_credited, has_landed_by}
+use Rattle.mx_book.specs.Lists.{use_or_none}
 
 pub both_true : (p q : Bool) → p && q ≡ true → (p ≡ true) × (q ≡ true)
 both_true true true h = (refl, refl)
@@ -63,7 +65,8 @@ pub opening_small : (book : List Entry) (item : Item) (u : Use) → list_all has
 opening_small book (OfAirframe tail) u s h = aircraft_opening book tail u s (aircraft book tail) refl h
 opening_small book (OfComponent serial) u s h = component_opening book serial u s (component book serial) refl h
 
-opening_bounds : (u : Use) → use_shape u ≡ true → (u.minutes ≤ 100000000) × (u.cycles ≤ 1000000)
+-- the bounds of an opening of its shape
+pub opening_bounds : (u : Use) → use_shape u ≡ true → (u.minutes ≤ 100000000) × (u.cycles ≤ 1000000)
 opening_bounds u s = (grind (arith, nat_tests), grind (arith, nat_tests))
 
 -- ── what an entry adds ──
@@ -144,3 +147,14 @@ module _ (book : List Entry) (item : Item) (until : Option ℕ) where
       let em = ap (λ es. minutes_of (selected book item until es)) is ∙ minutes-cons e later in
       let ec = ap (λ es. cycles_of (selected book item until es)) is ∙ cycles-cons e later in
       (omega (arith, total.0, begun.0, em, m), omega (arith, total.1, begun.1, ec, c))
+
+  life_within : length book ≤ 1000000 → list_all has_shape book ≡ true → (o : Option Use) → opening_of book item ≡ o → IsLife (use_or_none (option_map (use_after (selected book item until book)) o))
+  life_within few shaped None e = record { minutes = omega arith; cycles = omega arith }
+  life_within few shaped (Some opening) e =
+      let total = selected_small book shaped in
+      let begun = opening_bounds opening (opening_small book item opening shaped e) in
+      record { minutes = omega (arith, total.0, begun.0); cycles = omega (arith, total.1, begun.1) }
+
+-- the life of an item is within the bounds of a life
+pub life_bounded : (book : List Entry) (item : Item) (until : Option ℕ) → length book ≤ 1000000 → list_all has_shape book ≡ true → IsLife (use_or_none (life_until book item until))
+life_bounded book item until few shaped = life_within book item until few shaped (opening_of book item) refl

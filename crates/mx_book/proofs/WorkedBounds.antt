@@ -6,7 +6,7 @@ use Rattle.mx_command.specs.declared.aircraft.Aircraft.{Aircraft}
 use Rattle.mx_command.specs.declared.component.Component.{Component as Listing}
 use Rattle.mx_command.specs.declared.sector.Sector.{Sector}
 use Rattle.mx_command.specs.declared.item.Item.TheVariants.{Airframe, Component}
-use Rattle.mx_book.specs.declared.verdict.Refusal.TheVariants.{Conflict, Full, UnknownAircraft, UnknownComponent, UnknownPosition, UnknownProgramme, UnknownTask, AircraftExists, ComponentExists, PositionTaken, AlreadyFitted, NotFitted, WrongPart, TaskClosed, LifeLimit, OutOfOrder, WrongRevision, OtherAircraft, OpeningTooLate, OpeningTooLarge}
+use Rattle.mx_book.specs.declared.verdict.Refusal.TheVariants.{Conflict, Full, UnknownAircraft, UnknownComponent, UnknownPosition, UnknownProgramme, UnknownTask, AircraftExists, ComponentExists, PositionTaken, AlreadyFitted, NotFitted, WrongPart, ItemElsewhere, TaskClosed, LifeLimit, OutOfOrder, WrongRevision, OtherAircraft, OpeningTooLate, OpeningTooLarge, RepeatedLine}
 use Rattle.mx_book.specs.declared.verdict.Verdict.TheVariants.{New, Refused}
 use Rattle.mx_book.specs.Register.{register}
 use Rattle.mx_book.specs.Span.{tail_fitted}
@@ -96,8 +96,8 @@ known_before_refusals = refl
 
 refusals_numbered
     : map refusal_number (Conflict 7 ∷ Full ∷ UnknownAircraft ∷ UnknownComponent ∷ UnknownPosition ∷ UnknownProgramme ∷ UnknownTask ∷ AircraftExists ∷ ComponentExists
-    ∷ PositionTaken ∷ AlreadyFitted ∷ NotFitted ∷ WrongPart ∷ TaskClosed ∷ LifeLimit ∷ OutOfOrder 7 ∷ WrongRevision 7 ∷ OtherAircraft ∷ OpeningTooLate ∷ OpeningTooLarge ∷ [])
-    ≡ 10 ∷ 11 ∷ 20 ∷ 21 ∷ 22 ∷ 23 ∷ 24 ∷ 30 ∷ 31 ∷ 33 ∷ 34 ∷ 35 ∷ 36 ∷ 38 ∷ 39 ∷ 41 ∷ 46 ∷ 47 ∷ 48 ∷ 49 ∷ []
+    ∷ PositionTaken ∷ AlreadyFitted ∷ NotFitted ∷ WrongPart ∷ ItemElsewhere ∷ TaskClosed ∷ LifeLimit ∷ OutOfOrder 7 ∷ WrongRevision 7 ∷ OtherAircraft ∷ OpeningTooLate ∷ OpeningTooLarge ∷ RepeatedLine ∷ [])
+    ≡ 10 ∷ 11 ∷ 20 ∷ 21 ∷ 22 ∷ 23 ∷ 24 ∷ 30 ∷ 31 ∷ 33 ∷ 34 ∷ 35 ∷ 36 ∷ 37 ∷ 38 ∷ 39 ∷ 41 ∷ 46 ∷ 47 ∷ 48 ∷ 49 ∷ 52 ∷ []
 refusals_numbered = refl
 
 -- ── when a book is full ──

@@ -1,5 +1,5 @@
 -- Worked examples of programmes: loaded, opened, and at the end of a component's life.
-use Rattle.std.proofs.Common.{refl, ◌≡◌, ℕ, ◌+◌, List, [], ◌∷◌, ◌++◌, true, false, Option, Some, None}
+use Rattle.std.proofs.Common.{refl, ◌≡◌, ℕ, List, [], ◌∷◌, ◌++◌, true, false, Some, None}
 use Rattle.std.specs.Prelude.{codes, map}
 use Rattle.std.specs.Fmt.{digits}
 use Rattle.std.specs.List.{list_all}
@@ -8,7 +8,6 @@ use Rattle.mx_command.specs.Act.{Act, Entry, Added, Listed, Loaded, Opened}
 use Rattle.mx_command.specs.Shape.{has_shape}
 use Rattle.mx_command.specs.declared.item.Item.{Item}
 use Rattle.mx_command.specs.declared.item.Item.TheVariants.{Airframe, Component}
-use Rattle.mx_command.specs.declared.programme.Applies.{Applies}
 use Rattle.mx_command.specs.declared.programme.Applies.TheVariants as applies
 use Rattle.mx_command.specs.declared.programme.Task.{Task}
 use Rattle.mx_book.specs.declared.verdict.Refusal.TheVariants.{Conflict, UnknownAircraft, UnknownComponent, UnknownProgramme, UnknownTask, WrongPart, TaskClosed, LifeLimit, WrongRevision, OtherAircraft, OpeningTooLate, OpeningTooLarge}
@@ -22,44 +21,44 @@ use Rattle.mx_book.specs.Run.{replies}
 use Rattle.mx_book.proofs.Worked.{at, used, abcd, logged, first_sector}
 use Rattle.mx_book.proofs.WorkedFittings.{efgh, e1, engine_with, fit, first_aircraft, second_aircraft}
 
-abbrev c172 : List ℕ
+abbrev pub c172 : List ℕ
 c172 = codes "C172"
 
-abbrev minutes_alone : ℕ → Limit
+abbrev pub minutes_alone : ℕ → Limit
 minutes_alone n = record { minutes = Some n; cycles = None; days = None }
 
-abbrev cycles_alone : ℕ → Limit
+abbrev pub cycles_alone : ℕ → Limit
 cycles_alone n = record { minutes = None; cycles = Some n; days = None }
 
-abbrev days_alone : ℕ → Limit
+abbrev pub days_alone : ℕ → Limit
 days_alone n = record { minutes = None; cycles = None; days = Some n }
 
 -- the inspection every 100 hours, first at 1,050 hours, which may be done 10 hours late
-abbrev hundred_hours : Task
+abbrev pub hundred_hours : Task
 hundred_hours = record { id = codes "100H"; applies = applies.Airframe; first = minutes_alone 63000; repeat = Some (minutes_alone 6000); tolerance = record { minutes = 600; cycles = 0; days = 0 }; retire = false }
 
 -- the yearly inspection, which may be done 30 days late
-abbrev annual : Task
+abbrev pub annual : Task
 annual = record { id = codes "ANNUAL"; applies = applies.Airframe; first = days_alone 365; repeat = Some (days_alone 365); tolerance = record { minutes = 0; cycles = 0; days = 30 }; retire = false }
 
 -- the overhaul of an engine every 2,000 hours
-abbrev overhaul : Task
+abbrev pub overhaul : Task
 overhaul = record { id = codes "OVH"; applies = applies.Part (codes "IO360"); first = minutes_alone 120000; repeat = Some (minutes_alone 120000); tolerance = record { minutes = 0; cycles = 0; days = 0 }; retire = false }
 
-abbrev load : List ℕ → ℕ → List Task → Act
+abbrev pub load : List ℕ → ℕ → List Task → Act
 load kind revision tasks = Loaded (record { kind = kind; revision = revision }) tasks
 
-abbrev open_task : Item → List ℕ → List ℕ → ℕ → ℕ → ℕ → Act
+abbrev pub open_task : Item → List ℕ → List ℕ → ℕ → ℕ → ℕ → Act
 open_task item kind task minutes cycles day = Opened (record { item = item; kind = kind; task = task; use_then = used minutes cycles; day = day })
 
-abbrev first_programme : Entry
+abbrev pub first_programme : Entry
 first_programme = logged (codes "P1") (load c172 1 (hundred_hours ∷ annual ∷ overhaul ∷ []))
 
 -- the yearly inspection of D-ABCD was last done on 2023-06-01
 abbrev first_opening : Entry
 first_opening = logged (codes "O1") (open_task (Airframe abcd) c172 (codes "ANNUAL") 59000 780 19509)
 
-abbrev first_four : List Entry
+abbrev pub first_four : List Entry
 first_four = first_aircraft ∷ first_programme ∷ first_opening ∷ first_sector 1 ∷ []
 
 -- the four have their shape, and are accepted one after the other
@@ -76,7 +75,7 @@ first_replies = refl
 
 -- ── revisions ──
 
-abbrev judged : List Entry → Act → Verdict
+abbrev pub judged : List Entry → Act → Verdict
 judged book act = judge book (logged (codes "X1") act)
 
 -- revision 2 follows revision 1, and revision 1 follows none, whatever other kinds have
@@ -162,10 +161,10 @@ inspection_of_a_component = refl
 -- ── the end of a life ──
 
 -- discs of this part are retired at this limit
-abbrev disc : List ℕ → Limit → Task
+abbrev pub disc : List ℕ → Limit → Task
 disc part first = record { id = codes "DISC"; applies = applies.Part part; first = first; repeat = None; tolerance = record { minutes = 0; cycles = 0; days = 0 }; retire = true }
 
-abbrev llp1 : List ℕ
+abbrev pub llp1 : List ℕ
 llp1 = codes "LLP1"
 
 -- D1 is a disc LLP1, built on 2010-01-01 as day 14,610, with so many cycles on 2024-01-01; D-EFGH takes it, and an engine

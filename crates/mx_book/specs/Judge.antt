@@ -1,19 +1,24 @@
 -- The verdict on a command: known, refused or new.
-use Rattle.std.specs.Prelude.{ℕ, ◌+◌, ◌/◌, max, nat_eq, nat_lt, nat_le, length, List, [], ◌∷◌, Bool, true, false, not, ◌||◌, Option, Some, None, is_some, is_none, if◌then◌else◌}
-use Rattle.std.specs.List.{list_any}
+use Rattle.std.specs.Prelude.{ℕ, ◌+◌, ◌/◌, max, nat_eq, nat_lt, nat_le, length, List, [], ◌∷◌, ◌++◌, ◌&&◌, Bool, true, false, not, ◌||◌, Option, Some, None, is_some, is_none, if◌then◌else◌}
+use Rattle.std.specs.List.{list_any, flat_map}
 use Rattle.std.specs.Option.{option_map, option_map_or}
-use Rattle.mx_command.specs.Act.{Act, Entry, Added, Listed, Loaded, Opened, Flown, Fitted, Removed, aircraft_of, component_of}
-use Rattle.mx_command.specs.Same.{same_text, same_entry}
+use Rattle.mx_command.specs.Act.{Act, Entry, Added, Listed, Loaded, Opened, Flown, Fitted, Removed, Released, aircraft_of, component_of}
+use Rattle.mx_command.specs.Bounds.{are_distinct}
+use Rattle.mx_command.specs.Same.{same_text, same_line, same_entry}
 use Rattle.mx_command.specs.declared.item.Item.{Item}
 use Rattle.mx_command.specs.declared.item.Item.TheVariants.{Airframe, Component}
+use Rattle.mx_command.specs.declared.release.Line.{Line}
+use Rattle.mx_command.specs.declared.release.Line.TheVariants.{Done}
+use Rattle.mx_command.specs.declared.release.Place.{Place}
+use Rattle.mx_command.specs.declared.release.Place.TheVariants.{Aircraft, Shop}
 use Rattle.mx_book.specs.declared.verdict.Refusal.{Refusal}
-use Rattle.mx_book.specs.declared.verdict.Refusal.TheVariants.{Conflict, Full, UnknownAircraft, UnknownComponent, UnknownPosition, UnknownProgramme, UnknownTask, AircraftExists, ComponentExists, PositionTaken, AlreadyFitted, NotFitted, WrongPart, TaskClosed, LifeLimit, OutOfOrder, WrongRevision, OtherAircraft, OpeningTooLate, OpeningTooLarge}
+use Rattle.mx_book.specs.declared.verdict.Refusal.TheVariants.{Conflict, Full, UnknownAircraft, UnknownComponent, UnknownPosition, UnknownProgramme, UnknownTask, AircraftExists, ComponentExists, PositionTaken, AlreadyFitted, NotFitted, WrongPart, ItemElsewhere, TaskClosed, LifeLimit, OutOfOrder, WrongRevision, OtherAircraft, OpeningTooLate, OpeningTooLarge, RepeatedLine}
 use Rattle.mx_book.specs.declared.verdict.Verdict.{Verdict}
 use Rattle.mx_book.specs.declared.verdict.Verdict.TheVariants.{New, Already, Refused}
 use Rattle.mx_book.specs.Register.{register, aircraft, component, part_at, is_of_part, as_of}
 use Rattle.mx_book.specs.Span.{fitted, tail_fitted, is_taken}
 use Rattle.mx_book.specs.Life.{clock, opening_of}
-use Rattle.mx_book.specs.Programme.{tasks_in_force, task_in_force, next_revision, applies_to, is_accomplished, life_ended}
+use Rattle.mx_book.specs.Programme.{tasks_in_force, task_in_force, next_revision, applies_to, tasks_at, task_at, is_accomplished, life_ended}
 
 -- the number of a refusal
 abbrev pub refusal_number : Refusal → ℕ
@@ -30,6 +35,7 @@ refusal_number PositionTaken = 33
 refusal_number AlreadyFitted = 34
 refusal_number NotFitted = 35
 refusal_number WrongPart = 36
+refusal_number ItemElsewhere = 37
 refusal_number TaskClosed = 38
 refusal_number LifeLimit = 39
 refusal_number (OutOfOrder clock) = 41
@@ -37,6 +43,7 @@ refusal_number (WrongRevision expected) = 46
 refusal_number OtherAircraft = 47
 refusal_number OpeningTooLate = 48
 refusal_number OpeningTooLarge = 49
+refusal_number RepeatedLine = 52
 
 -- ── when each refusal applies ──
 
@@ -50,11 +57,21 @@ abbrev pub item_serials : Item → List (List ℕ)
 item_serials (Airframe tail) = []
 item_serials (Component serial) = serial ∷ []
 
+-- the item whose records a release at a place goes into: the airframe of the aircraft, or the component in the shop
+abbrev pub item_at : Place → Item
+item_at (Aircraft tail) = Airframe tail
+item_at (Shop serial kind) = Component serial
+
+-- the item that a line of a release names
+abbrev pub item_of : Line → Item
+item_of (Done item task) = item
+
 -- the registrations that a command names
 abbrev pub tails_named : Act → List (List ℕ)
 tails_named (Opened o) = item_tails o.item
 tails_named (Flown s) = s.tail ∷ []
 tails_named (Fitted f) = f.tail ∷ []
+tails_named (Released r lines) = item_tails (item_at r.place) ++ flat_map (λ line. item_tails (item_of line)) lines
 tails_named _ = []
 
 -- the serial numbers that a command names
@@ -62,6 +79,7 @@ abbrev pub serials_named : Act → List (List ℕ)
 serials_named (Opened o) = item_serials o.item
 serials_named (Fitted f) = f.serial ∷ []
 serials_named (Removed r) = r.serial ∷ []
+serials_named (Released r lines) = item_serials (item_at r.place) ++ flat_map (λ line. item_serials (item_of line)) lines
 serials_named _ = []
 
 -- there is no room: 1,000,000 entries, 50 aircraft for one more, or 5,000 components for one more
@@ -83,14 +101,24 @@ abbrev pub names_unknown_position : List Entry → Act → Bool
 names_unknown_position book (Fitted f) = is_none (part_at book f.tail f.position)
 names_unknown_position book _ = false
 
--- an opening names a kind that has no programme
+-- a line certifies a task where no programme is in force
+abbrev pub line_without_programme : List Entry → Place → Line → Bool
+line_without_programme book place (Done item task) = is_none (tasks_at book place)
+
+-- an opening names a kind that has no programme, or a task is done where no programme is in force
 abbrev pub names_unknown_programme : List Entry → Act → Bool
 names_unknown_programme book (Opened o) = is_none (tasks_in_force book o.kind)
+names_unknown_programme book (Released r lines) = list_any (line_without_programme book r.place) lines
 names_unknown_programme book _ = false
 
--- an opening names a task that is not in force for the kind, or does not apply to the item
+-- a line certifies a task that is not in force at the place, or does not apply to the item
+abbrev pub line_of_unknown_task : List Entry → Place → Line → Bool
+line_of_unknown_task book place (Done item task) = not (option_map_or (applies_to book item) (task_at book place task) false)
+
+-- an opening or a line names a task that is not in force, or does not apply to the item
 abbrev pub names_unknown_task : List Entry → Act → Bool
 names_unknown_task book (Opened o) = not (option_map_or (applies_to book o.item) (task_in_force book o.kind o.task) false)
+names_unknown_task book (Released r lines) = list_any (line_of_unknown_task book r.place) lines
 names_unknown_task book _ = false
 
 -- an aircraft has the registration already
@@ -108,9 +136,15 @@ abbrev pub position_taken : List Entry → Act → Bool
 position_taken book (Fitted f) = is_taken book f.tail f.position
 position_taken book _ = false
 
--- the component that is to be fitted is fitted somewhere
+-- the place is a shop, and its component is fitted to an aircraft
+abbrev pub fitted_in_shop : List Entry → Place → Bool
+fitted_in_shop book (Aircraft tail) = false
+fitted_in_shop book (Shop serial kind) = is_some (fitted book serial)
+
+-- the component that is to be fitted, or that was worked on in a shop, is fitted somewhere
 abbrev pub already_fitted : List Entry → Act → Bool
 already_fitted book (Fitted f) = is_some (fitted book f.serial)
+already_fitted book (Released r lines) = fitted_in_shop book r.place
 already_fitted book _ = false
 
 -- the component that is to be removed is fitted nowhere
@@ -123,15 +157,41 @@ abbrev pub wrong_part : List Entry → Act → Bool
 wrong_part book (Fitted f) = not (option_map_or (is_of_part book f.serial) (part_at book f.tail f.position) true)
 wrong_part book _ = false
 
--- the task of the item that is opened was accomplished already
+-- the item is at the place: the airframe of the aircraft, a component fitted to it, or the component in the shop
+abbrev pub is_at : List Entry → Place → Item → Bool
+is_at book (Aircraft tail) (Airframe t) = same_text t tail
+is_at book (Aircraft tail) (Component serial) = option_map_or (λ t. same_text t tail) (tail_fitted book serial) false
+is_at book (Shop serial kind) (Airframe tail) = false
+is_at book (Shop serial kind) (Component s) = same_text s serial
+
+-- a line certifies work on an item that is elsewhere
+abbrev pub line_of_item_elsewhere : List Entry → Place → Line → Bool
+line_of_item_elsewhere book place (Done item task) = not (is_at book place item)
+
+-- a task is done on an item that is not at the place
+abbrev pub item_elsewhere : List Entry → Act → Bool
+item_elsewhere book (Released r lines) = list_any (line_of_item_elsewhere book r.place) lines
+item_elsewhere book _ = false
+
+-- a line certifies a task that was accomplished, and has no repeat in force at the place
+abbrev pub line_of_closed_task : List Entry → Place → Line → Bool
+line_of_closed_task book place (Done item task) = is_accomplished book item task && option_map_or (λ t. is_none t.repeat) (task_at book place task) true
+
+-- the task of the item that is opened was accomplished already, or one that is done was and is not repeated
 abbrev pub task_closed : List Entry → Act → Bool
 task_closed book (Opened o) = is_accomplished book o.item o.task
+task_closed book (Released r lines) = list_any (line_of_closed_task book r.place) lines
 task_closed book _ = false
 
--- the task that is opened retires the item, or the component that is to be fitted is retired by a task in force for the aircraft's kind
+-- a line certifies a task that retires its item
+abbrev pub line_of_retirement : List Entry → Place → Line → Bool
+line_of_retirement book place (Done item task) = option_map_or (λ t. t.retire) (task_at book place task) false
+
+-- the task that is opened or done retires the item, or the component that is to be fitted is retired by a task in force for the aircraft's kind
 abbrev pub at_life_limit : List Entry → Act → Bool
 at_life_limit book (Opened o) = option_map_or (λ t. t.retire) (task_in_force book o.kind o.task) false
 at_life_limit book (Fitted f) = option_map_or (λ a. life_ended book a.kind (Component f.serial) (f.moment / 1440)) (aircraft book f.tail) false
+at_life_limit book (Released r lines) = list_any (line_of_retirement book r.place) lines
 at_life_limit book _ = false
 
 -- the clock, where the moment is before it
@@ -142,11 +202,12 @@ clock_passed moment clock = if nat_lt moment clock then Some clock else None
 abbrev pub clock_where_fitted : List Entry → List ℕ → ℕ
 clock_where_fitted book serial = option_map_or (λ tail. clock book (Airframe tail)) (tail_fitted book serial) 0
 
--- the clock that a command comes before: a sector takes off before that of its airframe; a fitting or a removal is before the greater of the airframe's and the component's
+-- the clock that a command comes before: a sector takes off before that of its airframe; a fitting or a removal is before the greater of the airframe's and the component's; a release is before that of its place
 abbrev pub too_early : List Entry → Act → Option ℕ
 too_early book (Flown s) = clock_passed s.off (clock book (Airframe s.tail))
 too_early book (Fitted f) = clock_passed f.moment (max (clock book (Airframe f.tail)) (clock book (Component f.serial)))
 too_early book (Removed r) = clock_passed r.moment (max (clock_where_fitted book r.serial) (clock book (Component r.serial)))
+too_early book (Released r lines) = clock_passed r.moment (clock book (item_at r.place))
 too_early book _ = None
 
 -- the expected revision, where another is loaded
@@ -179,6 +240,11 @@ opening_too_large book (Opened o) =
     option_map_or (λ u. nat_lt u.minutes o.use_then.minutes || nat_lt u.cycles o.use_then.cycles) (opening_of book o.item) false
 opening_too_large book _ = false
 
+-- two lines of a release are equal
+abbrev pub repeats_line : List Entry → Act → Bool
+repeats_line book (Released r lines) = not (are_distinct same_line lines)
+repeats_line book _ = false
+
 -- the refusal, where it applies
 abbrev pub when : Bool → Refusal → Option Refusal
 when true refusal = Some refusal
@@ -199,6 +265,7 @@ refusals book act =
     ∷ when (already_fitted book act) AlreadyFitted
     ∷ when (not_fitted book act) NotFitted
     ∷ when (wrong_part book act) WrongPart
+    ∷ when (item_elsewhere book act) ItemElsewhere
     ∷ when (task_closed book act) TaskClosed
     ∷ when (at_life_limit book act) LifeLimit
     ∷ option_map OutOfOrder (too_early book act)
@@ -206,6 +273,7 @@ refusals book act =
     ∷ when (other_aircraft book act) OtherAircraft
     ∷ when (opening_too_late book act) OpeningTooLate
     ∷ when (opening_too_large book act) OpeningTooLarge
+    ∷ when (repeats_line book act) RepeatedLine
     ∷ []
 
 -- the first refusal that applies

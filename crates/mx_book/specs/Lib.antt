@@ -8,4 +8,7 @@ pub mod Book
 pub mod Run
 pub mod Order
 pub mod Lists
+pub mod DueRow
+pub mod Base
+pub mod DueList
 pub mod Ranks

@@ -3,10 +3,12 @@ use Rattle.std.specs.Prelude.{ℕ, ◌+◌, ◌-◌, max, nat_le, List, [], ◌�
 use Rattle.std.specs.List.{filter_map, flat_map, list_any}
 use Rattle.std.specs.Option.{option_map, option_map_or}
 use Rattle.mx_base.specs.declared.amounts.Use.{Use}
-use Rattle.mx_command.specs.Act.{Act, Entry, Added, Listed, Flown, Fitted, Removed, sector_of}
+use Rattle.mx_command.specs.Act.{Act, Entry, Added, Listed, Flown, Fitted, Removed, Released, sector_of}
 use Rattle.mx_command.specs.Same.{same_text}
 use Rattle.mx_command.specs.declared.item.Item.{Item}
 use Rattle.mx_command.specs.declared.item.Item.TheVariants.{Airframe, Component}
+use Rattle.mx_command.specs.declared.release.Place.{Place}
+use Rattle.mx_command.specs.declared.release.Place.TheVariants as places
 use Rattle.mx_command.specs.declared.sector.Sector.{Sector}
 use Rattle.mx_book.specs.Register.{register, aircraft, component}
 use Rattle.mx_book.specs.Span.{Span, spans, spans_of, span_begun}
@@ -73,18 +75,30 @@ latest (moment ∷ moments) = max moment (latest moments)
 abbrev pub if_same : List ℕ → List ℕ → ℕ → List ℕ
 if_same a b moment = if same_text a b then moment ∷ [] else []
 
--- the moments that an entry gives the clock of an airframe, removals aside: its as_of, each landing, each fitting to it
+-- the moment of work at a place, where that is the aircraft with a registration
+abbrev pub if_at_aircraft : List ℕ → Place → ℕ → List ℕ
+if_at_aircraft tail (places.Aircraft t) moment = if_same t tail moment
+if_at_aircraft tail (places.Shop s kind) moment = []
+
+-- the moment of work at a place, where that is a shop that has the component with a serial number
+abbrev pub if_in_shop : List ℕ → Place → ℕ → List ℕ
+if_in_shop serial (places.Aircraft t) moment = []
+if_in_shop serial (places.Shop s kind) moment = if_same s serial moment
+
+-- the moments that an entry gives the clock of an airframe, removals aside: its as_of, each landing, each fitting to it, each release at it
 abbrev pub airframe_moments : List ℕ → Act → List ℕ
 airframe_moments tail (Added a positions) = if_same a.tail tail a.as_of
 airframe_moments tail (Flown s) = if_same s.tail tail s.on
 airframe_moments tail (Fitted f) = if_same f.tail tail f.moment
+airframe_moments tail (Released r lines) = if_at_aircraft tail r.place r.moment
 airframe_moments tail _ = []
 
--- the moments that an entry gives the clock of a component: its as_of, each fitting, each removal
+-- the moments that an entry gives the clock of a component: its as_of, each fitting, each removal, each release of it in a shop
 abbrev pub component_moments : List ℕ → Act → List ℕ
 component_moments serial (Listed c) = if_same c.serial serial c.as_of
 component_moments serial (Fitted f) = if_same f.serial serial f.moment
 component_moments serial (Removed r) = if_same r.serial serial r.moment
+component_moments serial (Released r lines) = if_in_shop serial r.place r.moment
 component_moments serial _ = []
 
 -- the moments at which components were removed from an aircraft: the ends of the spans there

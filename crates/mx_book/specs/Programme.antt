@@ -1,18 +1,22 @@
 -- The programme in force of a kind, what its tasks apply to, and what was accomplished of them.
 use Rattle.std.specs.Prelude.{ℕ, ◌+◌, List, Bool, true, false, ◌&&◌, Option, Some, None, if◌then◌else◌, find, fold}
 use Rattle.std.specs.List.{list_any}
-use Rattle.std.specs.Option.{option_map_or, option_and_then}
+use Rattle.std.specs.Option.{option_map, option_map_or, option_and_then}
 use Rattle.mx_base.specs.declared.amounts.Use.{Use}
-use Rattle.mx_command.specs.Act.{Act, Entry, Loaded, Opened}
+use Rattle.mx_command.specs.Act.{Act, Entry, Loaded, Opened, Released}
 use Rattle.mx_command.specs.Same.{same_text, same_item}
 use Rattle.mx_command.specs.declared.item.Item.{Item}
 use Rattle.mx_command.specs.declared.item.Item.TheVariants.{Airframe, Component}
 use Rattle.mx_command.specs.declared.programme.Applies.{Applies}
 use Rattle.mx_command.specs.declared.programme.Applies.TheVariants.{Airframe as ToAirframe, Part as ToPart}
 use Rattle.mx_command.specs.declared.programme.Task.{Task}
+use Rattle.mx_command.specs.declared.release.Line.{Line}
+use Rattle.mx_command.specs.declared.release.Line.TheVariants.{Done}
+use Rattle.mx_command.specs.declared.release.Place.{Place}
+use Rattle.mx_command.specs.declared.release.Place.TheVariants.{Aircraft, Shop}
 use Rattle.mx_due.specs.Due.{first_due}
 use Rattle.mx_due.specs.Left.{left_of, is_used_up}
-use Rattle.mx_book.specs.Register.{register, birth, is_of_part}
+use Rattle.mx_book.specs.Register.{register, aircraft, birth, is_of_part}
 use Rattle.mx_book.specs.Life.{life_now}
 
 -- ── programmes ──
@@ -57,11 +61,31 @@ is_done_on book _ _ = false
 abbrev pub applies_to : List Entry → Item → Task → Bool
 applies_to book item t = is_done_on book item t.applies
 
+-- ── by which programme work is done ──
+
+-- the kind whose programme work at a place is done by: that of the aircraft, or the one that the shop names
+abbrev pub kind_at : List Entry → Place → Option (List ℕ)
+kind_at book (Aircraft tail) = option_map (λ a. a.kind) (aircraft book tail)
+kind_at book (Shop serial kind) = Some kind
+
+-- the tasks of the programme in force at a place
+abbrev pub tasks_at : List Entry → Place → Option (List Task)
+tasks_at book place = option_and_then (tasks_in_force book) (kind_at book place)
+
+-- the task with this name in the programme in force at a place
+abbrev pub task_at : List Entry → Place → List ℕ → Option Task
+task_at book place id = option_and_then (find (λ t. same_text t.id id)) (tasks_at book place)
+
 -- ── what was accomplished ──
 
--- the entry accomplishes the task of the item: an opening says that it was done before
+-- the line certifies that the task was done on the item
+abbrev pub is_done : Item → List ℕ → Line → Bool
+is_done item id (Done done task) = same_item done item && same_text task id
+
+-- the entry accomplishes the task of the item: an opening says that it was done before, a release has it among its lines
 abbrev pub accomplishes : Item → List ℕ → Act → Bool
 accomplishes item id (Opened o) = same_item o.item item && same_text o.task id
+accomplishes item id (Released r lines) = list_any (is_done item id) lines
 accomplishes item id _ = false
 
 -- the task of the item was accomplished

@@ -1,10 +1,22 @@
 -- The orders of rows are orders: of two, at most one comes before the other, and ties tie.
 use Rattle.std.specs.Cmp.{IsStrictWeakOrder}
 use Rattle.std.specs.Cmp.Lexicographic.{nat_list_cmp_total}
-use Rattle.std.proofs.lemmas.List.Sorted.{ranks_by}
+use Rattle.std.proofs.lemmas.List.Sorted.{ranks_by, IsStrictWeakOrder-by_number}
+use Rattle.mx_command.specs.declared.programme.Task.{Task}
+use Rattle.mx_book.specs.declared.due_row.DueRow.{DueRow}
 use Rattle.mx_book.specs.declared.life_list.FittedPart.{FittedPart}
+use Rattle.mx_book.specs.DueRow.{status_rank, row_status, row_before}
+use Rattle.mx_book.specs.DueList.{task_before}
 use Rattle.mx_book.specs.Lists.{part_before}
 
 -- the order of parts by their positions is an order
 pub parts_rank : IsStrictWeakOrder part_before
 parts_rank = ranks_by nat_list_cmp_total (λ (p : FittedPart). p.position)
+
+-- the order of tasks by their names is an order
+pub tasks_rank : IsStrictWeakOrder task_before
+tasks_rank = ranks_by nat_list_cmp_total (λ (t : Task). t.id)
+
+-- the order of rows by how they stand is an order
+pub due_rows_rank : IsStrictWeakOrder row_before
+due_rows_rank = IsStrictWeakOrder-by_number (λ (r : DueRow). status_rank (row_status r))

@@ -3,14 +3,19 @@ ghost use Rattle.std.specs.Prelude.{◌≡◌, ◌+◌, ◌↔◌, [], ◌∷◌
 ghost use Rattle.std.specs.Option.{option_copied};
 ghost use Rattle.mx_book.specs.Life.{life_now, life_at};
 ghost use Rattle.mx_book.specs.Lists.{life_list};
+ghost use Rattle.mx_book.specs.Base.{base, due};
+ghost use Rattle.mx_book.specs.DueList.{due_list};
 ghost use Rattle.mx_book.specs.Judge.{judge};
 ghost use Rattle.mx_book.specs.Book.{entry_at, entries_from, IsBook};
 
+use crate::bases::{due_of_kind, last_base};
+use crate::due_lists::list_dues;
+use crate::due_row::DueList;
 use crate::judging::verdict_on;
 use crate::life_list::{LifeList, list_lives};
 use crate::lives::life;
 use crate::verdict::Verdict;
-use mx_base::{Moment, Tail, Use};
+use mx_base::{Base, Day, Kind, Limit, Moment, Tail, TaskId, Use};
 use mx_command::{Command, Item};
 use std::alloc::{AllocError, Global};
 use std::marker::Model;
@@ -124,6 +129,35 @@ impl Book {
         ensures { result ≡ life_now self.now item.now }
     {
         life(self.entries.as_slice(), item, None)
+    }
+
+    /// The point that the next due of a task of an item is counted from: that of its last accomplishment, or `None` without
+    /// one.
+    pub fn base(&self, item: &Item, task: &TaskId) -> Option<Base>
+        ensures { result ≡ base self.now item.now task.now }
+    {
+        last_base(self.entries.as_slice(), item, task)
+    }
+
+    /// When the task with a name in the programme in force of a kind is due on an item: minutes, cycles, and a day by its
+    /// number, which may be past the last. `None` where no such task applies to the item, or it is due no more.
+    pub fn due(&self, item: &Item, kind: &Kind, task: &TaskId) -> Option<Limit>
+        ensures { result ≡ due self.now item.now kind.now task.now }
+    {
+        due_of_kind(self.entries.as_slice(), item, kind, task)
+    }
+
+    /// The due list of an aircraft on a day, or `None` where the registration is unknown. `NoMemory` where memory
+    /// runs out.
+    pub fn due_list(
+        &self,
+        alloc: Global,
+        tail: &Tail,
+        day: Day,
+    ) -> Result<Option<DueList>, NoMemory>
+        ensures { IfOk result (λ list. list ≡ due_list self.now tail.now day) }
+    {
+        Ok(list_dues(alloc, self.entries.as_slice(), tail, day)?)
     }
 
     /// The life list of an aircraft, or `None` where the registration is unknown. `NoMemory` where memory

@@ -8,6 +8,7 @@ ghost use Rattle.mx_book.specs.Judge.{known_from, known_same, refusals, first_of
 
 use crate::judging_fittings::{refusal_of_fitting, refusal_of_removal};
 use crate::judging_programmes::{refusal_of_opening, refusal_of_programme};
+use crate::judging_releases::refusal_of_release;
 use crate::lives::clock_of_airframe;
 use crate::register::{aircraft_count, aircraft_of_tail, component_count, component_of_serial};
 use crate::verdict::{Refusal, Verdict};
@@ -112,6 +113,9 @@ fn refusal(entries: &[Command], command: &Command) -> Option<Refusal>
     }
     if let Some(removal) = command.removal() {
         return refusal_of_removal(entries, &removal);
+    }
+    if let Some(release) = command.release() {
+        return refusal_of_release(entries, &release, command.lines());
     }
     unreachable!()
 }

@@ -1,18 +1,17 @@
 //! Judging the revision of a programme that is loaded, and the task of an item that is opened.
-ghost use Rattle.std.specs.Prelude.{◌≡◌, List, false, is_none};
-ghost use Rattle.std.specs.List.{list_any};
+ghost use Rattle.std.specs.Prelude.{◌≡◌, List, false};
 ghost use Rattle.std.specs.Option.{option_map_or};
 ghost use Rattle.mx_command.specs.Act.{Loaded, Opened};
 ghost use Rattle.mx_command.specs.declared.programme.Task.{Task};
-ghost use Rattle.mx_book.specs.Register.{aircraft, component};
-ghost use Rattle.mx_book.specs.Judge.{item_tails, item_serials, is_of_other_kind, opening_too_large, refusals, first_of};
+ghost use Rattle.mx_book.specs.Judge.{is_of_other_kind, opening_too_large, refusals, first_of};
 
 use crate::judging::MOST_ENTRIES;
+use crate::judging_items::{is_unknown_airframe, is_unknown_component};
 use crate::lives::opening_use;
 use crate::programmes::{
     is_task_of, programme_in_force, revision_expected, task_of_kind, was_accomplished,
 };
-use crate::register::{aircraft_of_tail, as_of_item, component_of_serial};
+use crate::register::{aircraft_of_tail, as_of_item};
 use crate::verdict::Refusal;
 use mx_base::{Kind, day_of};
 use mx_command::{Command, Item, Opening, Programme};
@@ -30,28 +29,6 @@ pub(crate) fn refusal_of_programme(entries: &[Command], programme: &Programme) -
         None
     } else {
         Some(Refusal::WrongRevision(expected))
-    }
-}
-
-// Whether an item is an airframe that is unknown.
-fn is_unknown_airframe(entries: &[Command], item: &Item) -> bool
-    ensures { result ≡ list_any (λ tail. is_none (aircraft entries.now tail))
-        (item_tails item.now) }
-{
-    match item {
-        Item::Airframe(tail) => aircraft_of_tail(entries, tail).is_none(),
-        Item::Component(_) => false,
-    }
-}
-
-// Whether an item is a component that is unknown.
-fn is_unknown_component(entries: &[Command], item: &Item) -> bool
-    ensures { result ≡ list_any (λ serial. is_none (component entries.now serial))
-        (item_serials item.now) }
-{
-    match item {
-        Item::Airframe(_) => false,
-        Item::Component(serial) => component_of_serial(entries, serial).is_none(),
     }
 }
 

@@ -1,14 +1,19 @@
 //! Laws of books and runs: what the definitions give, in the subject's own words. Each function does
 //! nothing; its contract is the law, and the checker proves it.
-ghost use Rattle.std.specs.Prelude.{◌≡◌, ◌≢◌, ◌+◌, ◌≤◌, ℕ, List, [], ◌∷◌, ◌++◌, length, true, None, IfSome, IsSomeAnd};
+ghost use Rattle.std.specs.Prelude.{◌≡◌, ◌≢◌, ◌+◌, ◌≤◌, ℕ, List, [], ◌∷◌, ◌++◌, length, true, None, is_some, IfSome, IsSomeAnd};
 ghost use Rattle.std.specs.List.{AllPairs, list_all};
 ghost use Rattle.mx_command.specs.Act.{Entry, Fitted, Removed};
 ghost use Rattle.mx_command.specs.Shape.{has_shape};
+ghost use Rattle.mx_command.specs.declared.item.Item.{Item};
 ghost use Rattle.mx_command.specs.declared.item.Item.TheVariants.{Airframe};
 ghost use Rattle.mx_command.specs.declared.fitting.Fitting.{Fitting};
 ghost use Rattle.mx_command.specs.declared.fitting.Removal.{Removal};
+ghost use Rattle.mx_book.specs.Register.{register};
 ghost use Rattle.mx_book.specs.Span.{fitted, is_taken, open_spans_of, open_spans_at};
+ghost use Rattle.mx_book.specs.Programme.{tasks_loaded, revision_in_force, next_revision};
 ghost use Rattle.mx_book.specs.Life.{life_now};
+ghost use Rattle.mx_book.specs.Programme.{is_accomplished};
+ghost use Rattle.mx_book.specs.Base.{base};
 ghost use Rattle.mx_book.specs.Judge.{judge};
 ghost use Rattle.mx_book.specs.Book.{IsBook};
 ghost use Rattle.mx_book.specs.Run.{book_after, book_run, replies};
@@ -38,6 +43,12 @@ pub fn life_never_falls()
         (λ after. (before.minutes ≤ after.minutes) × (before.cycles ≤ after.cycles))) }
 {}
 
+/// A task of an item has a base exactly where it was accomplished.
+pub fn accomplished_has_a_base()
+    ensures { (book : List Entry) (item : Item) (id : List ℕ)
+        → is_some (base book item id) ≡ is_accomplished book item id }
+{}
+
 /// A component is fitted in at most one place.
 pub fn one_place_for_a_component()
     ensures { (book : List Entry) (serial : List ℕ) → IsBook book
@@ -61,6 +72,15 @@ pub fn fitted_takes_its_position()
     ensures { (book : List Entry) (doc : List ℕ) (fitting : Fitting)
         → is_taken (book ++ record { doc = doc; act = Fitted fitting } ∷ [])
         fitting.tail fitting.position ≡ true }
+{}
+
+/// The revision in force of a kind is the number of programmes that were loaded for it, and the next is one more.
+pub fn revisions_count_the_programmes()
+    ensures in_force { (book : List Entry) (kind : List ℕ) → IsBook book
+        → IfSome (revision_in_force book kind)
+        (λ revision. revision ≡ length (register (tasks_loaded kind) book)) }
+    ensures next { (book : List Entry) (kind : List ℕ) → IsBook book
+        → next_revision book kind ≡ length (register (tasks_loaded kind) book) + 1 }
 {}
 
 /// A run over two lists joined is the run over the first and then over the second.

@@ -2,10 +2,15 @@
 //! program that computes exactly them.
 #![tactic(auto)]
 
+mod bases;
 pub mod book;
+mod due_lists;
+pub mod due_row;
 mod judging;
 mod judging_fittings;
+mod judging_items;
 mod judging_programmes;
+mod judging_releases;
 pub mod laws;
 pub mod life_list;
 mod lives;
@@ -16,6 +21,7 @@ mod spans;
 pub mod verdict;
 
 pub use book::{Book, NoMemory};
+pub use due_row::{DueList, DueRow};
 pub use life_list::{FittedPart, LifeList};
 pub use order::{Placed, Rows};
 pub use verdict::{Refusal, Reply, Verdict};

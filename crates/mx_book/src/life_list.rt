@@ -49,7 +49,8 @@ pub struct LifeList {
     pub parts: Rows<FittedPart>,
 }
 
-fn life_or_none(life: Option<Use>) -> Use
+/// The life, or none at all.
+pub(crate) fn life_or_none(life: Option<Use>) -> Use
     ensures { result ≡ use_or_none life }
 {
     match life {
@@ -122,8 +123,8 @@ fn gathered_parts(
     Ok(fitted)
 }
 
-// The components that are fitted to an aircraft, by position.
-fn parts_by_position(
+/// The components that are fitted to an aircraft, by position. An error where memory runs out.
+pub(crate) fn parts_by_position(
     alloc: Global,
     entries: &[Command],
     tail: &Tail,

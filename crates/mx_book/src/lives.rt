@@ -4,12 +4,12 @@ ghost use Rattle.std.specs.List.{flat_map, list_all};
 ghost use Rattle.mx_command.specs.Act.{Flown};
 ghost use Rattle.mx_command.specs.Shape.{has_shape, use_shape, sector_shape};
 ghost use Rattle.mx_command.specs.declared.item.Item.TheVariants.{Airframe, Component};
-ghost use Rattle.mx_book.specs.Life.{selected, is_credited, has_landed_by, share, use_after, opening_of, life_until, latest, airframe_moments, component_moments, clock};
+ghost use Rattle.mx_book.specs.Life.{selected, is_credited, has_landed_by, share, use_after, opening_of, life_until, latest, if_at_aircraft, if_in_shop, airframe_moments, component_moments, clock};
 
 use crate::register::{aircraft_of_tail, component_of_serial};
 use crate::spans::{is_within_span, latest_removal};
 use mx_base::{Moment, Serial, Tail, Use};
-use mx_command::{Body, Command, Item, Sector};
+use mx_command::{Body, Command, Item, Place, Sector};
 
 const NO_USE: Use = Use {
     minutes: 0,
@@ -110,6 +110,26 @@ fn moment_if(is_same: bool, moment: Moment) -> Moment
     if is_same { moment } else { Moment::FIRST }
 }
 
+// The moment of work at a place, where that is the aircraft with this registration, or the first of all.
+fn moment_at_aircraft(tail: &Tail, place: &Place, moment: Moment) -> Moment
+    ensures { result ≡ latest (if_at_aircraft tail.now place.now moment) }
+{
+    match place {
+        Place::Aircraft(worked_on) => moment_if(*worked_on == *tail, moment),
+        Place::Shop(..) => Moment::FIRST,
+    }
+}
+
+// The moment of work at a place, where that is a shop that has this component, or the first of all.
+fn moment_in_shop(serial: &Serial, place: &Place, moment: Moment) -> Moment
+    ensures { result ≡ latest (if_in_shop serial.now place.now moment) }
+{
+    match place {
+        Place::Aircraft(_) => Moment::FIRST,
+        Place::Shop(worked_on, _) => moment_if(*worked_on == *serial, moment),
+    }
+}
+
 // The moment that an entry gives the clock of an airframe, removals aside, or the first of all.
 fn moment_of_airframe(tail: &Tail, entry: &Command) -> Moment
     ensures { result ≡ latest (airframe_moments tail.now entry.now.act) }
@@ -130,6 +150,7 @@ fn moment_of_airframe(tail: &Tail, entry: &Command) -> Moment
             moment,
             ..
         } => moment_if(*fitted_to == *tail, *moment),
+        Body::Release { place, moment, .. } => moment_at_aircraft(tail, place, *moment),
         _ => Moment::FIRST,
     }
 }
@@ -174,6 +195,7 @@ fn moment_of_component(serial: &Serial, entry: &Command) -> Moment
             serial: removed,
             moment,
         } => moment_if(*removed == *serial, *moment),
+        Body::Release { place, moment, .. } => moment_in_shop(serial, place, *moment),
         _ => Moment::FIRST,
     }
 }

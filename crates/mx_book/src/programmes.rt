@@ -1,16 +1,16 @@
-//! The programme in force of a kind, what its tasks apply to, and what was accomplished of them.
+//! The programme in force of a kind or at a place, what its tasks apply to, and what was accomplished of them.
 ghost use Rattle.std.specs.Prelude.{◌≡◌, ◌≤◌, length, true, find, IfSome};
 ghost use Rattle.std.specs.List.{list_all, list_any};
 ghost use Rattle.std.specs.Option.{option_copied};
 ghost use Rattle.mx_command.specs.Programme.{task_shape};
 ghost use Rattle.mx_command.specs.Same.{same_text};
 ghost use Rattle.mx_command.specs.Shape.{has_shape};
-ghost use Rattle.mx_book.specs.Programme.{tasks_loaded, revision_loaded, tasks_in_force, revision_in_force, next_revision, task_in_force, applies_to, accomplishes, is_accomplished, is_at_end, is_ended_by, life_ended};
+ghost use Rattle.mx_book.specs.Programme.{tasks_loaded, revision_loaded, tasks_in_force, revision_in_force, next_revision, task_in_force, applies_to, kind_at, tasks_at, task_at, is_done, accomplishes, is_accomplished, is_at_end, is_ended_by, life_ended};
 
 use crate::lives::life;
-use crate::register::{birth_of, is_component_of_part};
+use crate::register::{aircraft_of_tail, birth_of, is_component_of_part};
 use mx_base::{Day, Kind, TaskId, Use};
-use mx_command::{Applies, Command, Item, Task};
+use mx_command::{Applies, Command, Item, Line, Place, Task};
 use mx_due::{first_due, is_used_up, left_of};
 
 // The tasks that an entry loads for a kind, each of its shape.
@@ -96,11 +96,43 @@ fn task_among(tasks: &[Task], id: &TaskId) -> Option<Task>
     tasks.iter().copied().find(|task| task.id == *id)
 }
 
-/// The task with a name in the programme in force of a kind.
+/// The task with a name in the programme in force of a kind, of its shape.
+#[tactic(auto, using(crate::proofs::ListLemmas::found_task))]
 pub(crate) fn task_of_kind(entries: &[Command], kind: &Kind, id: &TaskId) -> Option<Task>
-    ensures { result ≡ task_in_force entries.now kind.now id.now }
+    ensures task { result ≡ task_in_force entries.now kind.now id.now }
+    ensures shape { IfSome result (λ t. task_shape t ≡ true) }
 {
     match programme_in_force(entries, kind) {
+        Some(tasks) => task_among(tasks, id),
+        None => None,
+    }
+}
+
+/// The kind whose programme work at a place is done by: that of the aircraft, or the one that the shop names.
+pub(crate) fn kind_of_place(entries: &[Command], place: &Place) -> Option<Kind>
+    ensures { result ≡ kind_at entries.now place.now }
+{
+    match place {
+        Place::Aircraft(tail) => aircraft_of_tail(entries, tail).map(|aircraft| aircraft.kind),
+        Place::Shop(_, kind) => Some(*kind),
+    }
+}
+
+/// The tasks of the programme in force at a place.
+pub(crate) fn tasks_of_place<'a>(entries: &'a [Command], place: &Place) -> Option<&'a [Task]>
+    ensures { option_copied result ≡ tasks_at entries.now place.now }
+{
+    match kind_of_place(entries, place) {
+        Some(kind) => programme_in_force(entries, &kind),
+        None => None,
+    }
+}
+
+/// The task with a name in the programme in force at a place.
+pub(crate) fn task_of_place(entries: &[Command], place: &Place, id: &TaskId) -> Option<Task>
+    ensures { result ≡ task_at entries.now place.now id.now }
+{
+    match tasks_of_place(entries, place) {
         Some(tasks) => task_among(tasks, id),
         None => None,
     }
@@ -122,6 +154,23 @@ pub(crate) fn is_task_of(entries: &[Command], item: &Item, task: &Task) -> bool
     }
 }
 
+/// Whether a line certifies that the task of an item was done.
+#[tactic(auto, using(mx_command::proofs::SameLemmas::item_is))]
+pub(crate) fn is_done_by(line: &Line, item: &Item, id: &TaskId) -> bool
+    ensures { result ≡ is_done item.now id.now line.now }
+{
+    match line {
+        Line::Done(done, task) => *done == *item && *task == *id,
+    }
+}
+
+// Whether a line among these certifies that the task of an item was done.
+fn is_done_among(lines: &[Line], item: &Item, id: &TaskId) -> bool
+    ensures { result ≡ list_any (is_done item.now id.now) lines.now }
+{
+    lines.iter().any(|line| is_done_by(line, item, id))
+}
+
 // Whether an entry accomplishes the task of an item.
 #[tactic(auto, using(mx_command::proofs::SameLemmas::item_is))]
 fn is_accomplished_by(entry: &Command, item: &Item, id: &TaskId) -> bool
@@ -129,7 +178,7 @@ fn is_accomplished_by(entry: &Command, item: &Item, id: &TaskId) -> bool
 {
     match entry.stated_opening() {
         Some(opening) => opening.item == *item && opening.task == *id,
-        None => false,
+        None => is_done_among(entry.lines(), item, id),
     }
 }
 

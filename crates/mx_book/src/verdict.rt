@@ -17,9 +17,11 @@ pub enum Refusal {
     UnknownComponent,
     /// The aircraft does not have the position that a component is fitted to.
     UnknownPosition,
-    /// The kind that an opening names has no maintenance programme.
+    /// The kind that an opening names has no maintenance programme, or a release certifies a task where no programme
+    /// is in force: that of the aircraft's kind, or of the kind that a shop works by.
     UnknownProgramme,
-    /// The programme in force of the kind does not have the task, or the task does not apply to the item.
+    /// The programme in force does not have the task of an opening or of a line of a release, or the task does not
+    /// apply to the item.
     UnknownTask,
     /// An aircraft has the registration already.
     AircraftExists,
@@ -27,19 +29,24 @@ pub enum Refusal {
     ComponentExists,
     /// A component is fitted to the position already.
     PositionTaken,
-    /// The component that is to be fitted is fitted somewhere already.
+    /// The component that is to be fitted, or that was worked on in a shop, is fitted somewhere.
     AlreadyFitted,
     /// The component that is to be removed is fitted nowhere.
     NotFitted,
     /// The position takes another part than the component is one of.
     WrongPart,
-    /// The task of the item was accomplished already.
+    /// A release certifies work on an item that is not at its place: not the airframe of the aircraft, nor fitted to
+    /// it, nor the component in the shop.
+    ItemElsewhere,
+    /// The task of the item that is opened was accomplished already, or one that a release certifies was, and has no
+    /// repeat.
     TaskClosed,
-    /// The task that is opened retires its item, or a task in force for the kind of the aircraft retires the
-    /// component that is to be fitted by the day of the fitting.
+    /// The task that is opened, or that a release certifies, retires its item, or a task in force for the kind of the
+    /// aircraft retires the component that is to be fitted by the day of the fitting.
     LifeLimit,
-    /// A sector takes off before the clock of its airframe, or a component is fitted or removed before the
-    /// greater of the airframe's clock and its own: that clock.
+    /// A sector takes off before the clock of its airframe, a component is fitted or removed before the greater of
+    /// the airframe's clock and its own, or work is released before the clock of the aircraft, or of the component in
+    /// the shop: that clock.
     OutOfOrder(Moment),
     /// The programme that is loaded has not the revision that follows the one in force: the revision that does,
     /// which is 1 for a kind without a programme.
@@ -50,6 +57,8 @@ pub enum Refusal {
     OpeningTooLate,
     /// An opening has more minutes or cycles than the item brought with it.
     OpeningTooLarge,
+    /// A release has two equal lines.
+    RepeatedLine,
 }
 
 impl Refusal {
@@ -73,6 +82,7 @@ impl Refusal {
             Refusal::AlreadyFitted => 34,
             Refusal::NotFitted => 35,
             Refusal::WrongPart => 36,
+            Refusal::ItemElsewhere => 37,
             Refusal::TaskClosed => 38,
             Refusal::LifeLimit => 39,
             Refusal::OutOfOrder(_) => 41,
@@ -80,6 +90,7 @@ impl Refusal {
             Refusal::OtherAircraft => 47,
             Refusal::OpeningTooLate => 48,
             Refusal::OpeningTooLarge => 49,
+            Refusal::RepeatedLine => 52,
         }
     }
 }

@@ -1,6 +1,7 @@
-use Rattle.std.proofs.Common.{sym}
-use Rattle.mx_command.specs.Act.{Listed, Opened, Flown, Fitted, Removed}
-use Rattle.mx_book.proofs.JudgeLemmas.{refusals-Added, refusals-Loaded, refusals_of, listed_as, opened_as, flown_as, fitted_as, removed_as}
+use Rattle.std.proofs.Common.{sym, ap, ◌∙◌}
+use Rattle.mx_command.specs.Act.{Listed, Opened, Flown, Fitted, Removed, Released, lines_of}
+use Rattle.mx_book.proofs.JudgeLemmas.{refusals-Added, refusals-Loaded, refusals_of, listed_as, opened_as, flown_as, fitted_as, removed_as, released_as}
+use Rattle.mx_book.specs.Judge.{refusals, first_of}
 use Rattle.mx_book.proofs.judging.refusal.Goals as goal
 
 pub returns-in-Some : goal.returns-in-Some
@@ -35,3 +36,9 @@ pub returns-in-Some-removal : goal.returns-in-Some-removal
 returns-in-Some-removal c =
     refusals_of c.args.entries.now c.args.command.now.act (Removed c.in-Some-removal.removal) c.refusal_of_removal.result
     (removed_as c.args.command.now.act c.in-Some-removal.removal (sym c.in-Some-removal.ensures)) c.refusal_of_removal.ensures
+
+pub returns-in-Some-release : goal.returns-in-Some-release
+returns-in-Some-release c =
+    refusals_of c.args.entries.now c.args.command.now.act (Released c.in-Some-release.release (lines_of c.args.command.now.act)) c.refusal_of_release.result
+    (released_as c.args.command.now.act c.in-Some-release.release (sym c.in-Some-release.ensures))
+    (c.refusal_of_release.ensures ∙ ap (λ lines. first_of (refusals c.args.entries.now (Released c.in-Some-release.release lines))) c.lines.ensures.lines)

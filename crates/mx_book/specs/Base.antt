@@ -1,0 +1,63 @@
+-- The base that the next due of a task is counted from, by what was accomplished, and when the task is due.
+use Rattle.std.specs.Prelude.{ℕ, ◌+◌, ◌/◌, List, [], ◌∷◌, ◌++◌, Option, Some, None, if◌then◌else◌, filter, fold, map, take}
+use Rattle.std.specs.Option.{option_and_then}
+use Rattle.mx_base.specs.declared.amounts.Base.{Base}
+use Rattle.mx_base.specs.declared.amounts.Limit.{Limit}
+use Rattle.mx_command.specs.Act.{Act, Entry, Opened, Released}
+use Rattle.mx_command.specs.Same.{same_text, same_item}
+use Rattle.mx_command.specs.declared.item.Item.{Item}
+use Rattle.mx_command.specs.declared.opening.Opening.{Opening}
+use Rattle.mx_command.specs.declared.programme.Task.{Task}
+use Rattle.mx_command.specs.declared.release.Release.{Release}
+use Rattle.mx_due.specs.Due.{due_after, base_done}
+use Rattle.mx_book.specs.Register.{birth}
+use Rattle.mx_book.specs.Life.{life_at}
+use Rattle.mx_book.specs.Lists.{use_or_none}
+use Rattle.mx_book.specs.Programme.{task_in_force, applies_to, kind_at, is_done}
+
+-- an accomplishment of a task of an item: stated by an opening, or done in a release, which is the entry with a number
+pub data Accomplishment : Type 0 where
+  Stated : Opening → Accomplishment
+  DoneIn : ℕ → Release → Accomplishment
+
+-- the accomplishments of a task of an item that the entry with a number says: the opening, or each line that certifies it
+abbrev pub accomplished_by : ℕ → Item → List ℕ → Act → List Accomplishment
+accomplished_by k item id (Opened o) = if same_item o.item item then (if same_text o.task id then Stated o ∷ [] else []) else []
+accomplished_by k item id (Released r lines) = map (λ line. DoneIn k r) (filter (is_done item id) lines)
+accomplished_by k item id _ = []
+
+-- the accomplishments of a task of an item, where the entries are numbered from k
+abbrev pub accomplished_from : ℕ → Item → List ℕ → List Entry → List Accomplishment
+accomplished_from k item id [] = []
+accomplished_from k item id (entry ∷ later) = accomplished_by k item id entry.act ++ accomplished_from (k + 1) item id later
+
+-- the accomplishments of a task of an item, in the order of the entries and of their lines
+abbrev pub accomplishments : List Entry → Item → List ℕ → List Accomplishment
+accomplishments book item id = accomplished_from 1 item id book
+
+-- the task with this name that was in force where a release was made, by the programmes that were loaded among the first k entries
+abbrev pub task_then : List Entry → ℕ → Release → List ℕ → Option Task
+task_then book k r id = option_and_then (λ kind. task_in_force (take k book) kind id) (kind_at book r.place)
+
+-- the base of an accomplishment, behind one with this base, if any: what an opening states, and for work that was done what was reached at its moment or what was due then, as base_done has it
+abbrev pub base_of : List Entry → Item → List ℕ → Option Base → Accomplishment → Base
+base_of book item id before (Stated o) = record { minutes = o.use_then.minutes; cycles = o.use_then.cycles; day = o.day }
+base_of book item id before (DoneIn k r) =
+    base_done (use_or_none (life_at book item r.moment)) (r.moment / 1440)
+    (option_and_then (due_after before (birth book item)) (task_then book k r id))
+
+-- the base of the last of some accomplishments, behind one with this base, if any
+abbrev pub base_from : List Entry → Item → List ℕ → Option Base → List Accomplishment → Option Base
+base_from book item id before more = fold (λ b a. Some (base_of book item id b a)) before more
+
+-- the base of the last accomplishment of a task of an item
+abbrev pub base : List Entry → Item → List ℕ → Option Base
+base book item id = base_from book item id None (accomplishments book item id)
+
+-- when a task of a programme is due on an item, where it applies to it and is due
+abbrev pub due_by : List Entry → Item → Task → Option Limit
+due_by book item t = if applies_to book item t then due_after (base book item t.id) (birth book item) t else None
+
+-- when the task with this name in the programme in force of a kind is due on an item
+abbrev pub due : List Entry → Item → List ℕ → List ℕ → Option Limit
+due book item kind id = option_and_then (due_by book item) (task_in_force book kind id)

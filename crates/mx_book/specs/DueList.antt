@@ -1,0 +1,62 @@
+-- The due list of an aircraft: what is due on its airframe and on what is fitted to it.
+use Rattle.std.specs.Prelude.{ℕ, List, [], ◌++◌, Bool, Option, Some, None}
+use Rattle.std.specs.List.{filter_map, flat_map}
+use Rattle.std.specs.Option.{option_map, option_map_or}
+use Rattle.mx_base.specs.declared.amounts.Limit.{Limit}
+use Rattle.mx_base.specs.declared.amounts.Use.{Use}
+use Rattle.mx_command.specs.Act.{Entry}
+use Rattle.mx_command.specs.declared.item.Item.{Item}
+use Rattle.mx_command.specs.declared.item.Item.TheVariants.{Airframe, Component}
+use Rattle.mx_command.specs.declared.programme.Task.{Task}
+use Rattle.mx_due.specs.Left.{left_of}
+use Rattle.mx_due.specs.Status.{status_of}
+use Rattle.mx_book.specs.declared.due_row.DueRow.{DueRow}
+use Rattle.mx_book.specs.declared.due_row.DueRow.TheVariants.{Task as TaskRow}
+use Rattle.mx_book.specs.declared.due_row.DueList.{DueList}
+use Rattle.mx_book.specs.declared.life_list.FittedPart.{FittedPart}
+use Rattle.mx_book.specs.Register.{aircraft}
+use Rattle.mx_book.specs.Life.{life_now}
+use Rattle.mx_book.specs.Lists.{use_or_none, parts}
+use Rattle.mx_book.specs.Programme.{tasks_in_force}
+use Rattle.mx_book.specs.Base.{due_by}
+use Rattle.mx_book.specs.DueRow.{row_before}
+use Rattle.mx_book.specs.Order.{in_order, text_before}
+
+-- the row of a task that is due then, on an item with this life
+abbrev pub row_by_due : ℕ → Use → Option (List ℕ × List ℕ) → Task → Limit → DueRow
+row_by_due day life place t due = TaskRow (status_of (left_of due life day) t.tolerance) place t.id (left_of due life day)
+
+-- the row of a task of an item, where something is due; a component stands in its place, with its position and its serial number
+abbrev pub task_row : List Entry → ℕ → Item → Option (List ℕ × List ℕ) → Task → Option DueRow
+task_row book day item place t = option_map (row_by_due day (use_or_none (life_now book item)) place t) (due_by book item t)
+
+-- one task comes before another: by their names
+abbrev pub task_before : Task → Task → Bool
+task_before a b = text_before a.id b.id
+
+-- the tasks of the programme in force of a kind by name, none where it has no programme
+abbrev pub tasks_by_name : List Entry → List ℕ → List Task
+tasks_by_name book kind = in_order task_before (option_map_or (λ tasks. tasks) (tasks_in_force book kind) [])
+
+-- the rows of an item, in the order of these tasks
+abbrev pub rows_of_item : List Entry → ℕ → List Task → Item → Option (List ℕ × List ℕ) → List DueRow
+rows_of_item book day tasks item place = filter_map (task_row book day item place) tasks
+
+-- the rows of a component in its position
+abbrev pub rows_of_part : List Entry → ℕ → List Task → FittedPart → List DueRow
+rows_of_part book day tasks p = rows_of_item book day tasks (Component p.serial) (Some (p.position, p.serial))
+
+-- the rows by place: those of the airframe by task, then those of the components by position and then by task
+abbrev pub rows_by_place : List Entry → List ℕ → List ℕ → ℕ → List DueRow
+rows_by_place book tail kind day =
+    rows_of_item book day (tasks_by_name book kind) (Airframe tail) None
+    ++ flat_map (rows_of_part book day (tasks_by_name book kind)) (parts book tail)
+
+-- the rows of an aircraft of a kind: the overdue, then the due, then the others, each by place
+abbrev pub due_rows : List Entry → List ℕ → List ℕ → ℕ → List DueRow
+due_rows book tail kind day = in_order row_before (rows_by_place book tail kind day)
+
+-- the due list of an aircraft on a day: the life of its airframe, and the rows
+abbrev pub due_list : List Entry → List ℕ → ℕ → Option DueList
+due_list book tail day =
+    option_map (λ a. record { tail = tail; day = day; life = use_or_none (life_now book (Airframe tail)); rows = due_rows book tail a.kind day }) (aircraft book tail)
