@@ -2,9 +2,11 @@ pub mod NewLemmas
 pub mod NameLemmas
 pub mod TakeLemmas
 pub mod TaskLemmas
+pub mod ReleaseLemmas
 pub mod MergeLemmas
 pub mod SoundLemmas
 pub mod SortedLemmas
 pub mod RegisterLemmas
 pub mod Worked
 pub mod WorkedProgrammes
+pub mod WorkedReleases

@@ -1,7 +1,9 @@
 -- What a verdict of new says of the registrations and the serial numbers.
-use Rattle.std.proofs.Common.{◌≡◌, List, ◌∷◌, ℕ, Bool, true, false, ◌||◌, Option, Some, None, refl, sym, ap, ◌∙◌}
-use Rattle.std.specs.Prelude.{not, is_some}
-use Rattle.mx_command.specs.Act.{Act, Entry, Added, Listed, Opened, Flown, Fitted, Removed}
+use Rattle.std.proofs.Common.{◌≡◌, List, [], ◌∷◌, ◌++◌, ℕ, Bool, true, false, ◌||◌, Option, Some, None, refl, sym, ap, ◌∙◌}
+use Rattle.std.specs.Prelude.{not, is_some, is_none}
+use Rattle.std.specs.List.{list_any, flat_map, AllByRecursion}
+use Rattle.std.proofs.lemmas.List.Folds.{list_any-append}
+use Rattle.mx_command.specs.Act.{Act, Entry, Added, Listed, Opened, Flown, Fitted, Removed, Released}
 use Rattle.mx_command.specs.declared.aircraft.Aircraft.{Aircraft}
 use Rattle.mx_command.specs.declared.component.Component.{Component}
 use Rattle.mx_command.specs.declared.item.Item.{Item}
@@ -10,11 +12,13 @@ use Rattle.mx_command.specs.declared.opening.Opening.{Opening}
 use Rattle.mx_command.specs.declared.sector.Sector.{Sector}
 use Rattle.mx_command.specs.declared.fitting.Fitting.{Fitting}
 use Rattle.mx_command.specs.declared.fitting.Removal.{Removal}
+use Rattle.mx_command.specs.declared.release.Release.{Release}
+use Rattle.mx_command.specs.declared.release.Line.{Line}
 use Rattle.mx_book.specs.declared.verdict.Refusal.{Refusal}
 use Rattle.mx_book.specs.declared.verdict.Refusal.TheVariants.{Full, UnknownAircraft, UnknownComponent, UnknownPosition, UnknownProgramme, UnknownTask, AircraftExists, ComponentExists}
 use Rattle.mx_book.specs.declared.verdict.Verdict.TheVariants.{New}
 use Rattle.mx_book.specs.Register.{aircraft, component}
-use Rattle.mx_book.specs.Judge.{judge, judge_by, refusals, first_of, when, verdict_of, is_full, names_unknown_aircraft, names_unknown_component, names_unknown_position, names_unknown_programme, names_unknown_task, aircraft_exists, component_exists}
+use Rattle.mx_book.specs.Judge.{judge, judge_by, refusals, first_of, when, verdict_of, is_full, names_unknown_aircraft, names_unknown_component, names_unknown_position, names_unknown_programme, names_unknown_task, aircraft_exists, component_exists, item_tails, item_serials, item_at, item_of}
 use Rattle.mx_book.specs.Book.{is_new}
 use Rattle.mx_book.proofs.JudgeLemmas.{is_new-New}
 use Rattle.mx_book.proofs.KnownLemmas.{unknown_document}
@@ -85,12 +89,56 @@ abbrev pub has_item : List Entry → Item → Bool
 has_item book (items.Airframe tail) = is_some (aircraft book tail)
 has_item book (items.Component serial) = is_some (component book serial)
 
-opened_by : (book : List Entry) (o : Opening) (item : Item) → names_unknown_aircraft book (Opened (record o { item = item })) ≡ false → names_unknown_component book (Opened (record o { item = item })) ≡ false → has_item book item ≡ true
-opened_by book o (items.Airframe tail) h g = known (is_some (aircraft book tail)) h
-opened_by book o (items.Component serial) h g = known (is_some (component book serial)) g
+-- one of the registrations is that of no aircraft
+abbrev some_unknown_tail : List Entry → List (List ℕ) → Bool
+some_unknown_tail book tails = list_any (λ tail. is_none (aircraft book tail)) tails
+
+-- one of the serial numbers is that of no component
+abbrev some_unknown_serial : List Entry → List (List ℕ) → Bool
+some_unknown_serial book serials = list_any (λ serial. is_none (component book serial)) serials
+
+-- an item whose name is known is in the book
+item_named : (book : List Entry) (item : Item) → some_unknown_tail book (item_tails item) ≡ false → some_unknown_serial book (item_serials item) ≡ false → has_item book item ≡ true
+item_named book (items.Airframe tail) h g = known (is_some (aircraft book tail)) h
+item_named book (items.Component serial) h g = known (is_some (component book serial)) g
 
 -- an opening that is entered names an item
 pub opened_is_known : (book : List Entry) (doc : List ℕ) (o : Opening) → is_new (judge book (record { doc = doc; act = Opened o })) ≡ true → has_item book o.item ≡ true
 opened_is_known book doc o h =
     let fresh = is_fresh book (record { doc = doc; act = Opened o }) h in
-    opened_by book o o.item fresh.aircraft_known fresh.component_known
+    item_named book o.item fresh.aircraft_known fresh.component_known
+
+both_false : (a b : Bool) → a || b ≡ false → (a ≡ false) × (b ≡ false)
+both_false true b h = (cc)
+both_false false b h = (refl, h)
+
+-- where no element of two lists passes a test, none of the first does and none of the second
+none_of_both : {X : Type 0} (test : X → Bool) (xs ys : List X) → list_any test (xs ++ ys) ≡ false → (list_any test xs ≡ false) × (list_any test ys ≡ false)
+none_of_both test xs ys h = both_false (list_any test xs) (list_any test ys) (sym (list_any-append test xs ys) ∙ h)
+
+-- the registrations that lines name
+abbrev line_tails : List Line → List (List ℕ)
+line_tails lines = flat_map (λ line. item_tails (item_of line)) lines
+
+-- the serial numbers that lines name
+abbrev line_serials : List Line → List (List ℕ)
+line_serials lines = flat_map (λ line. item_serials (item_of line)) lines
+
+-- the book has the item of each line
+abbrev pub HasItems : List Entry → List Line → Type 0
+HasItems book lines = AllByRecursion (λ line. has_item book (item_of line) ≡ true) lines
+
+lines_named : (book : List Entry) (lines : List Line) → some_unknown_tail book (line_tails lines) ≡ false → some_unknown_serial book (line_serials lines) ≡ false → HasItems book lines
+lines_named book [] h g = tt
+lines_named book (line ∷ lines) h g =
+    let tails = none_of_both (λ tail. is_none (aircraft book tail)) (item_tails (item_of line)) (line_tails lines) h in
+    let serials = none_of_both (λ serial. is_none (component book serial)) (item_serials (item_of line)) (line_serials lines) g in
+    (item_named book (item_of line) tails.0 serials.0, lines_named book lines tails.1 serials.1)
+
+-- a release that is entered names an item for its place, and items in its lines
+pub released_is_known : (book : List Entry) (doc : List ℕ) (r : Release) (lines : List Line) → is_new (judge book (record { doc = doc; act = Released r lines })) ≡ true → (has_item book (item_at r.place) ≡ true) × HasItems book lines
+released_is_known book doc r lines h =
+    let fresh = is_fresh book (record { doc = doc; act = Released r lines }) h in
+    let tails = none_of_both (λ tail. is_none (aircraft book tail)) (item_tails (item_at r.place)) (line_tails lines) fresh.aircraft_known in
+    let serials = none_of_both (λ serial. is_none (component book serial)) (item_serials (item_at r.place)) (line_serials lines) fresh.component_known in
+    (item_named book (item_at r.place) tails.0 serials.0, lines_named book lines tails.1 serials.1)

@@ -3,12 +3,14 @@ use Rattle.std.proofs.Common.{◌≡◌, ℕ, ◌+◌, ◌*◌, ◌^◌, ◌≤�
 use Rattle.std.specs.Prelude.{nat_le}
 use Rattle.std.specs.List.{list_all}
 use Rattle.std.proofs.lemmas.Bool.Decides.{nat_tests}
-use Rattle.mx_command.specs.Act.{Act, Entry, Added, positions_of, tasks_of, aircraft_of, component_of, programme_of, opening_of, sector_of, fitting_of, removal_of}
+use Rattle.mx_command.specs.Act.{Act, Entry, Added, positions_of, tasks_of, lines_of, aircraft_of, component_of, programme_of, opening_of, sector_of, fitting_of, removal_of, release_of}
 use Rattle.mx_command.specs.Shape.{has_shape, act_shape, doc_shape, opening_shape, positions_shape}
 use Rattle.mx_command.specs.declared.opening.Opening.{Opening}
 use Rattle.mx_command.specs.declared.sector.Sector.{Sector}
 use Rattle.mx_command.specs.declared.fitting.Fitting.{Fitting}
 use Rattle.mx_command.specs.declared.fitting.Removal.{Removal}
+use Rattle.mx_command.specs.declared.release.Release.{Release}
+use Rattle.mx_book.specs.Judge.{item_at as item_of_place}
 use Rattle.mx_book.proofs.JudgeLemmas.{both_true}
 use Rattle.mx_register.specs.declared.rows.EntryRow.{EntryRow}
 use Rattle.mx_register.specs.declared.rows.AircraftRow.{AircraftRow}
@@ -18,12 +20,14 @@ use Rattle.mx_register.specs.declared.rows.OpeningRow.{OpeningRow}
 use Rattle.mx_register.specs.declared.rows.SectorRow.{SectorRow}
 use Rattle.mx_register.specs.declared.rows.FittingRow.{FittingRow}
 use Rattle.mx_register.specs.declared.rows.RemovalRow.{RemovalRow}
+use Rattle.mx_register.specs.declared.rows.ReleaseRow.{ReleaseRow}
 use Rattle.mx_register.specs.Names.{seq_of_tail, seq_of_serial, seq_of_item, or_zero}
 use Rattle.mx_register.specs.Lines.{lines_from}
-use Rattle.mx_register.specs.Rows.{line_key, place_key, task_key}
+use Rattle.mx_register.specs.Rows.{line_key, place_key, task_key, release_line_key}
 use Rattle.mx_register.specs.Rising.{IsRising}
-use Rattle.mx_register.specs.Registers.{gives, gives_by, next, if_any, aircraft_row, place_row, component_row, programme_row, task_row, opening_row, sector_row, fitting_row, removal_row, entry_added, aircraft_by, components_by, programmes_by, openings_by, sectors_by, fittings_by, removals_by, entry_rows, aircraft_rows, place_rows, component_rows, programme_rows, task_rows, opening_rows, sector_rows, fitting_rows, removal_rows}
+use Rattle.mx_register.specs.Registers.{gives, gives_by, next, if_any, aircraft_row, place_row, component_row, programme_row, task_row, opening_row, sector_row, fitting_row, removal_row, release_row, release_line_row, entry_added, aircraft_by, components_by, programmes_by, openings_by, sectors_by, fittings_by, removals_by, releases_by, entry_rows, aircraft_rows, place_rows, component_rows, programme_rows, task_rows, opening_rows, sector_rows, fitting_rows, removal_rows, release_rows, release_line_rows}
 use Rattle.mx_register.proofs.TaskLemmas.{tasks_few}
+use Rattle.mx_register.proofs.ReleaseLemmas.{key_of_line, lines_few_enough}
 
 -- ── one command more ──
 
@@ -114,6 +118,12 @@ unfolding by_number
 removal_rows-rising = from_one (λ (row : RemovalRow). row.seq) by_number (λ before entry. removals_by before entry.act)
     (λ before entry _. one_rises (λ (row : RemovalRow). row.seq) (next before) (λ (r : Removal). removal_row (next before) (or_zero (seq_of_serial before r.serial)) r) (λ r. refl) (removal_of entry.act))
 
+-- the numbers of the releases rise, none above the length of the book
+pub release_rows-rising : (book : List Entry) → list_all has_shape book ≡ true → IsRising (λ (row : ReleaseRow). row.seq) 1 (release_rows book) (length book + 1)
+unfolding by_number
+release_rows-rising = from_one (λ (row : ReleaseRow). row.seq) by_number (λ before entry. releases_by before entry.act)
+    (λ before entry _. one_rises (λ (row : ReleaseRow). row.seq) (next before) (λ (r : Release). release_row (next before) (or_zero (seq_of_item before (item_of_place r.place))) r) (λ r. refl) (release_of entry.act))
+
 by_line : ℕ → ℕ
 by_line n = n * 2 ^ 32
 
@@ -121,23 +131,23 @@ rising-lower : {Row : Type 0} (key : Row → ℕ) (low more high : ℕ) (xs : Li
 rising-lower key low more high [] h up = omega arith
 rising-lower key low more high (x ∷ xs) h up = (omega arith, up.1)
 
-module _ {X Row : Type 0} (key : Row → ℕ) (row_of : ℕ → ℕ → X → Row) (same : (seq line : ℕ) (x : X) → key (row_of seq line x) ≡ line_key seq line) where
+module _ {X Row : Type 0} (key : Row → ℕ) (row_of : List Entry → ℕ → ℕ → X → Row) (same : (before : List Entry) (seq line : ℕ) (x : X) → key (row_of before seq line x) ≡ line_key seq line) where
   -- the rows of one entry rise by their lines
-  lines_rise : (seq line : ℕ) (xs : List X) → line + length xs ≤ 2 ^ 32 → IsRising key (seq * 2 ^ 32 + line) (lines_from row_of seq line xs) ((seq + 1) * 2 ^ 32)
-  lines_rise seq line [] h = omega arith
-  lines_rise seq line (x ∷ xs) h =
-      let here : key (row_of seq line x) ≡ seq * 2 ^ 32 + line = same seq line x in
-      let next_line : seq * 2 ^ 32 + (line + 1) ≡ key (row_of seq line x) + 1 = omega arith in
-      (omega arith, subst (λ n. IsRising key n (lines_from row_of seq (line + 1) xs) ((seq + 1) * 2 ^ 32)) next_line (lines_rise seq (line + 1) xs (omega arith)))
+  lines_rise : (before : List Entry) (seq line : ℕ) (xs : List X) → line + length xs ≤ 2 ^ 32 → IsRising key (seq * 2 ^ 32 + line) (lines_from (row_of before) seq line xs) ((seq + 1) * 2 ^ 32)
+  lines_rise before seq line [] h = omega arith
+  lines_rise before seq line (x ∷ xs) h =
+      let here : key (row_of before seq line x) ≡ seq * 2 ^ 32 + line = same before seq line x in
+      let next_line : seq * 2 ^ 32 + (line + 1) ≡ key (row_of before seq line x) + 1 = omega arith in
+      (omega arith, subst (λ n. IsRising key n (lines_from (row_of before) seq (line + 1) xs) ((seq + 1) * 2 ^ 32)) next_line (lines_rise before seq (line + 1) xs (omega arith)))
 
   -- the rows of all entries rise by the numbers of the entries and then by their lines
   lines-rising : (things : Act → List X) → ((doc : List ℕ) (act : Act) → has_shape (record { doc = doc; act = act }) ≡ true → length (things act) ≤ 500)
-      → (book : List Entry) → list_all has_shape book ≡ true → IsRising key (1 * 2 ^ 32) (gives_by (λ before act. lines_from row_of (next before) 1 (things act)) [] book) ((length book + 1) * 2 ^ 32)
+      → (book : List Entry) → list_all has_shape book ≡ true → IsRising key (1 * 2 ^ 32) (gives_by (λ before act. lines_from (row_of before) (next before) 1 (things act)) [] book) ((length book + 1) * 2 ^ 32)
   unfolding by_line
-  lines-rising things few = from_one key by_line (λ before entry. lines_from row_of (next before) 1 (things entry.act))
+  lines-rising things few = from_one key by_line (λ before entry. lines_from (row_of before) (next before) 1 (things entry.act))
       (λ before entry shape. let most = few entry.doc entry.act shape in
-      rising-lower key (next before * 2 ^ 32) (next before * 2 ^ 32 + 1) ((next before + 1) * 2 ^ 32) (lines_from row_of (next before) 1 (things entry.act)) (omega arith)
-      (lines_rise (next before) 1 (things entry.act) (omega arith)))
+      rising-lower key (next before * 2 ^ 32) (next before * 2 ^ 32 + 1) ((next before + 1) * 2 ^ 32) (lines_from (row_of before) (next before) 1 (things entry.act)) (omega arith)
+      (lines_rise before (next before) 1 (things entry.act) (omega arith)))
 
 few_positions : (positions : List (List ℕ × List ℕ)) → positions_shape positions ≡ true → length positions ≤ 500
 few_positions positions h = let few = (both_true (nat_le (length positions) 40) _ h).0 in grind (arith, nat_tests)
@@ -150,8 +160,12 @@ positions_few doc _ h = omega arith
 
 -- the positions of all aircraft rise by the numbers of their entries and then by their lines
 pub place_rows-rising : (book : List Entry) → list_all has_shape book ≡ true → IsRising place_key (1 * 2 ^ 32) (place_rows book) ((length book + 1) * 2 ^ 32)
-place_rows-rising = lines-rising place_key place_row (λ seq line p. refl) positions_of positions_few
+place_rows-rising = lines-rising place_key (λ _. place_row) (λ _ seq line p. refl) positions_of positions_few
 
 -- the tasks of all programmes rise by the numbers of their entries and then by their lines
 pub task_rows-rising : (book : List Entry) → list_all has_shape book ≡ true → IsRising task_key (1 * 2 ^ 32) (task_rows book) ((length book + 1) * 2 ^ 32)
-task_rows-rising = lines-rising task_key task_row (λ seq line t. refl) tasks_of tasks_few
+task_rows-rising = lines-rising task_key (λ _. task_row) (λ _ seq line t. refl) tasks_of tasks_few
+
+-- the lines of all releases rise by the numbers of their entries and then by their lines
+pub release_line_rows-rising : (book : List Entry) → list_all has_shape book ≡ true → IsRising release_line_key (1 * 2 ^ 32) (release_line_rows book) ((length book + 1) * 2 ^ 32)
+release_line_rows-rising = lines-rising release_line_key release_line_row key_of_line lines_of lines_few_enough

@@ -7,7 +7,8 @@ use Rattle.std.proofs.lemmas.Option.{option_and_then_some}
 use Rattle.mx_command.specs.Act.{Act, Entry}
 use Rattle.mx_command.specs.Shape.{has_shape}
 use Rattle.mx_command.specs.declared.item.Item.{Item}
-use Rattle.mx_book.specs.Judge.{judge}
+use Rattle.mx_command.specs.declared.release.Place.{Place}
+use Rattle.mx_book.specs.Judge.{judge, item_at as item_of_place}
 use Rattle.mx_book.specs.Book.{is_new, IsBook}
 use Rattle.mx_book.proofs.JudgeLemmas.{both_true, is_new-New, IsBook-entered}
 use Rattle.mx_register.specs.declared.merge.Registers.{Registers}
@@ -23,14 +24,17 @@ use Rattle.mx_register.specs.declared.rows.OpeningRow.{OpeningRow}
 use Rattle.mx_register.specs.declared.rows.SectorRow.{SectorRow}
 use Rattle.mx_register.specs.declared.rows.FittingRow.{FittingRow}
 use Rattle.mx_register.specs.declared.rows.RemovalRow.{RemovalRow}
-use Rattle.mx_register.specs.Names.{tail_at, serial_at, item_at, seq_of_serial, or_zero}
-use Rattle.mx_register.specs.Registers.{gives, next, kind_of, entry_row, place_row, task_row, entry_added, AreRegistersOf}
-use Rattle.mx_register.specs.Merge.{Rest, aircraft_said, component_said, programme_said, opening_said, sector_said, fitting_said, removal_said, place_lines, task_lines, command_of, first_of_entry, take_places, take_tasks, take_by, take_command, is_next, is_empty, are_items_taken, are_programmes_taken, are_moves_taken, are_taken, merged}
+use Rattle.mx_register.specs.declared.rows.ReleaseRow.{ReleaseRow}
+use Rattle.mx_register.specs.declared.rows.ReleaseLineRow.{ReleaseLineRow}
+use Rattle.mx_register.specs.Names.{tail_at, serial_at, item_at, seq_of_serial, seq_of_item, or_zero}
+use Rattle.mx_register.specs.Registers.{gives, next, kind_of, entry_row, place_row, task_row, release_row, release_line_row, entry_added, AreRegistersOf}
+use Rattle.mx_register.specs.Merge.{Rest, aircraft_said, component_said, programme_said, opening_said, sector_said, fitting_said, removal_said, place_said, release_said, place_lines, task_lines, lines_of_release, command_of, first_of_entry, take_places, take_tasks, take_release_lines, take_by, take_command, is_next, is_empty, are_items_taken, are_programmes_taken, are_moves_taken, are_releases_taken, are_taken, merged}
 use Rattle.mx_register.specs.Left.{all_rows}
-use Rattle.mx_register.proofs.MergeLemmas.{same_some, in_front, all_later}
+use Rattle.mx_register.proofs.MergeLemmas.{in_front, all_later}
 use Rattle.mx_register.proofs.NameLemmas.{tail_number, serial_number, item_number}
-use Rattle.mx_register.proofs.TakeLemmas.{rows_taken, place_is}
-use Rattle.mx_register.proofs.TaskLemmas.{task_is}
+use Rattle.mx_register.proofs.TakeLemmas.{same_some, rows_taken, places_of_rows}
+use Rattle.mx_register.proofs.TaskLemmas.{tasks_of_rows}
+use Rattle.mx_register.proofs.ReleaseLemmas.{place_number, lines_of_rows}
 
 when_some : {X : Type 0} (b : Bool) (o : Option X) (x : X) → cond b o None ≡ Some x → (b ≡ true) × (o ≡ Some x)
 when_some true o x h = (refl, h)
@@ -63,7 +67,7 @@ took_aircraft : (before : List Entry) (rest : Rest) (row : AircraftRow) (more : 
 took_aircraft before rest row more same is = record {
   kind_is = refl;
   rows = ap (λ (rows : List AircraftRow). record rest { aircraft = rows }) (is ∙ ap (λ (n : ℕ). record { seq = n; tail = row.tail; kind = row.kind; birth = row.birth; minutes = row.minutes; cycles = row.cycles; as_of = row.as_of } ∷ more) same)
-      ∙ ap (λ (rows : List PlaceRow). record rest { aircraft = record { seq = next before; tail = row.tail; kind = row.kind; birth = row.birth; minutes = row.minutes; cycles = row.cycles; as_of = row.as_of } ∷ more; places = rows }) (rows_taken place_lines place_row place_is (next before) 1 rest.places);
+      ∙ ap (λ (rows : List PlaceRow). record rest { aircraft = record { seq = next before; tail = row.tail; kind = row.kind; birth = row.birth; minutes = row.minutes; cycles = row.cycles; as_of = row.as_of } ∷ more; places = rows }) (rows_taken place_lines place_row places_of_rows (next before) 1 rest.places);
 }
 
 took_component : (before : List Entry) (rest : Rest) (row : ComponentRow) (more : List ComponentRow) → row.seq ≡ next before → rest.components ≡ row ∷ more
@@ -79,7 +83,7 @@ took_programme : (before : List Entry) (rest : Rest) (row : ProgrammeRow) (more 
 took_programme before rest row more same is = record {
   kind_is = refl;
   rows = ap (λ (rows : List ProgrammeRow). record rest { programmes = rows }) (is ∙ ap (λ (n : ℕ). record { seq = n; kind = row.kind; revision = row.revision } ∷ more) same)
-      ∙ ap (λ (rows : List TaskRow). record rest { programmes = record { seq = next before; kind = row.kind; revision = row.revision } ∷ more; tasks = rows }) (rows_taken task_lines task_row task_is (next before) 1 rest.tasks);
+      ∙ ap (λ (rows : List TaskRow). record rest { programmes = record { seq = next before; kind = row.kind; revision = row.revision } ∷ more; tasks = rows }) (rows_taken task_lines task_row tasks_of_rows (next before) 1 rest.tasks);
 }
 
 took_opening : (before : List Entry) (rest : Rest) (row : OpeningRow) (more : List OpeningRow) (item : Item) → IsBook before → row.seq ≡ next before → rest.openings ≡ row ∷ more → item_at before row.item ≡ Some item
@@ -119,6 +123,21 @@ took_removal before rest row more serial book same is component = record {
       ∙ ap (λ (n : ℕ). record { seq = next before; component = n; moment = row.moment } ∷ more) (serial_number before serial row.component book.judged component));
 }
 
+took_release : (before : List Entry) (rest : Rest) (row : ReleaseRow) (more : List ReleaseRow) (place : Place) → IsBook before → row.seq ≡ next before → rest.releases ≡ row ∷ more → place_said before row ≡ Some place
+    → Takes before kind.Release rest (release_said row place (take_release_lines before (next before) rest.release_lines).0) (record rest { releases = more; release_lines = (take_release_lines before (next before) rest.release_lines).1 })
+took_release before rest row more place book same is said =
+    let number = place_number before row place book.judged said in
+    let item = or_zero (seq_of_item before (item_of_place place)) in
+    record {
+      kind_is = refl;
+      rows = ap (λ (rows : List ReleaseRow). record rest { releases = rows })
+          (is ∙ ap (λ (n : ℕ). record { seq = n; item = row.item; kind = row.kind; moment = row.moment } ∷ more) same
+          ∙ ap (λ (n : ℕ). record { seq = next before; item = n; kind = row.kind; moment = row.moment } ∷ more) number.1
+          ∙ ap (λ (shop : Option (List ℕ)). record { seq = next before; item = item; kind = shop; moment = row.moment } ∷ more) number.0)
+          ∙ ap (λ (rows : List ReleaseLineRow). record rest { releases = release_row (next before) item (record { place = place; moment = row.moment }) ∷ more; release_lines = rows })
+          (rows_taken (lines_of_release before) (release_line_row before) (lines_of_rows before book.judged) (next before) 1 rest.release_lines);
+    }
+
 takes_by : (before : List Entry) (rest : Rest) (k : EntryKind) (taken : Act × Rest) → IsBook before → take_by before (next before) rest k ≡ Some taken → Takes before k rest taken.0 taken.1
 takes_by before rest kind.AddAircraft taken book h =
     option_map_some (λ (t : AircraftRow × List AircraftRow). (aircraft_said t.0 (take_places (next before) rest.places).0, record rest { aircraft = t.1; places = (take_places (next before) rest.places).1 })) (first_of_entry (λ (r : AircraftRow). r.seq) (next before) rest.aircraft) taken h
@@ -146,6 +165,10 @@ takes_by before rest kind.Remove taken book h =
     option_and_then_some (λ (t : RemovalRow × List RemovalRow). option_map (λ serial. (removal_said t.0 serial, record rest { removals = t.1 })) (serial_at before t.0.component)) (first_of_entry (λ (r : RemovalRow). r.seq) (next before) rest.removals) taken h
     (λ t found more. option_map_some (λ serial. (removal_said t.0 serial, record rest { removals = t.1 })) (serial_at before t.0.component) taken more
     (λ serial component said. let first = first_is (λ (r : RemovalRow). r.seq) (next before) rest.removals t.0 t.1 found in takes_as before kind.Remove rest _ taken said (took_removal before rest t.0 t.1 serial book first.0 first.1 component)))
+takes_by before rest kind.Release taken book h =
+    option_and_then_some (λ (t : ReleaseRow × List ReleaseRow). option_map (λ place. (release_said t.0 place (take_release_lines before (next before) rest.release_lines).0, record rest { releases = t.1; release_lines = (take_release_lines before (next before) rest.release_lines).1 })) (place_said before t.0)) (first_of_entry (λ (r : ReleaseRow). r.seq) (next before) rest.releases) taken h
+    (λ t found more. option_map_some (λ place. (release_said t.0 place (take_release_lines before (next before) rest.release_lines).0, record rest { releases = t.1; release_lines = (take_release_lines before (next before) rest.release_lines).1 })) (place_said before t.0) taken more
+    (λ place at said. let first = first_is (λ (r : ReleaseRow). r.seq) (next before) rest.releases t.0 t.1 found in takes_as before kind.Release rest _ taken said (took_release before rest t.0 t.1 place book first.0 first.1 at)))
 
 -- ── the command of an entry ──
 
@@ -197,10 +220,12 @@ three_empty xs ys zs h =
 ends : (before : List Entry) (rest : Rest) (book : List Entry) → are_taken rest ≡ true → before ≡ book → GoesOn before [] rest book
 ends before rest book h same =
     let one = both_true (are_items_taken rest) _ h in
-    let two = both_true (are_programmes_taken rest) (are_moves_taken rest) one.1 in
+    let two = both_true (are_programmes_taken rest) _ one.1 in
+    let three = both_true (are_moves_taken rest) (are_releases_taken rest) two.1 in
     let items = three_empty rest.aircraft rest.places rest.components one.0 in
     let programmes = three_empty rest.programmes rest.tasks rest.openings two.0 in
-    let moves = three_empty rest.sectors rest.fittings rest.removals two.1 in
+    let moves = three_empty rest.sectors rest.fittings rest.removals three.0 in
+    let releases = both_true (is_empty rest.releases) (is_empty rest.release_lines) three.1 in
     record {
       later = [];
       whole = sym same ∙ sym (append-nil before);
@@ -215,6 +240,8 @@ ends before rest book h same =
         sectors = moves.0 i;
         fittings = moves.1 i;
         removals = moves.2 i;
+        releases = no_rows rest.releases releases.0 i;
+        release_lines = no_rows rest.release_lines releases.1 i;
       };
     }
 
@@ -256,6 +283,8 @@ merged_sound registers book h =
       sectors = ap (λ (r : Rest). r.sectors) rows;
       fittings = ap (λ (r : Rest). r.fittings) rows;
       removals = ap (λ (r : Rest). r.removals) rows;
+      releases = ap (λ (r : Rest). r.releases) rows;
+      release_lines = ap (λ (r : Rest). r.release_lines) rows;
     }
 
 sound_if : (registers : Registers) (found : Option (List Entry)) → found ≡ merged [] registers.entries.items (all_rows registers) → IfSome found (λ book. AreRegistersOf registers book)

@@ -1,5 +1,5 @@
 -- A task and its row: each says the other, where a repeat of the task has a dimension.
-use Rattle.std.proofs.Common.{◌≡◌, ℕ, ◌≤◌, List, [], ◌∷◌, length, true, cond, Option, Some, None, refl, ap, arith}
+use Rattle.std.proofs.Common.{◌≡◌, ℕ, ◌≤◌, List, [], ◌∷◌, length, true, cond, Option, Some, None, refl, ap, ◌∙◌, arith}
 use Rattle.std.specs.Prelude.{unwrap_or, nat_le}
 use Rattle.std.specs.List.{list_all, AllByRecursion}
 use Rattle.std.specs.Option.{option_map_or}
@@ -17,7 +17,7 @@ use Rattle.mx_book.proofs.JudgeLemmas.{both_true}
 use Rattle.mx_register.specs.declared.rows.TaskRow.{TaskRow}
 use Rattle.mx_register.specs.Registers.{no_limit, part_of, task_row}
 use Rattle.mx_register.specs.Merge.{applies_said, limit_said, task_said, task_lines}
-use Rattle.mx_register.proofs.TakeLemmas.{AreOfLines, IsSaid}
+use Rattle.mx_register.proofs.TakeLemmas.{AreOnLines, AreOfLines, IsSaid, same_some}
 
 -- ── the row of what a row says ──
 
@@ -38,8 +38,11 @@ limit_again (Some minutes) cycles days = refl
 row_again : (row : TaskRow) → row ≡ task_row row.seq row.line (task_said row)
 row_again row i = record row { part = part_again row.part i; repeat = limit_again row.repeat.minutes row.repeat.cycles row.repeat.days i }
 
-pub task_is : AreOfLines task_lines task_row
-task_is = record { entry_is = λ seq line t. refl; line_is = λ seq line t. refl; row_is = row_again }
+pub tasks_on_lines : AreOnLines task_lines task_row
+tasks_on_lines = record { entry_is = λ seq line t. refl; line_is = λ seq line t. refl }
+
+pub tasks_of_rows : AreOfLines task_lines task_row
+tasks_of_rows = record { row_is = λ row t said. row_again row ∙ ap (task_row row.seq row.line) (same_some said) }
 
 -- ── what the row of a task says ──
 
@@ -54,7 +57,7 @@ repeat_again (Some limit) h = ap (λ b. cond b (Some limit) None) (both_true (ha
 task_again : (t : Task) → task_shape t ≡ true → IsSaid task_lines task_row t
 task_again t h seq line =
     let repeats = (both_true (option_map_or limit_shape t.repeat true) _ (both_true (limit_shape t.first) _ h).1).0 in
-    λ i. record t { applies = applies_again t.applies i; repeat = repeat_again t.repeat repeats i }
+    λ i. Some (record t { applies = applies_again t.applies i; repeat = repeat_again t.repeat repeats i })
 
 -- the rows of tasks of their shape say them
 tasks_again : (tasks : List Task) → list_all task_shape tasks ≡ true → AllByRecursion (IsSaid task_lines task_row) tasks

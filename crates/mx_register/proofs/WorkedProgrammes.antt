@@ -26,7 +26,7 @@ use Rattle.mx_register.proofs.Worked.{entry, first_aircraft_row, place, componen
 
 -- ── the rows of a book: an aircraft, an engine, two revisions of a programme, and an opening of each item ──
 
-abbrev c172 : List ℕ
+abbrev pub c172 : List ℕ
 c172 = codes "C172"
 
 abbrev minutes_alone : ℕ → Limit
@@ -39,18 +39,18 @@ abbrev tolerated : ℕ → Tolerance
 tolerated minutes = record { minutes = minutes; cycles = 0; days = 0 }
 
 -- the inspection of the airframe every 100 hours, which may be done 10 hours late
-abbrev hundred_hours : Task
+abbrev pub hundred_hours : Task
 hundred_hours = record { id = codes "100H"; applies = applies.Airframe; first = minutes_alone 63000; repeat = Some (minutes_alone 6000); tolerance = tolerated 600; retire = false }
 
 -- work on an engine that is done once
-abbrev once : Task
+abbrev pub once : Task
 once = record { id = codes "SB7"; applies = applies.Part (codes "IO360"); first = record { minutes = Some 120000; cycles = None; days = Some 3650 }; repeat = None; tolerance = tolerated 0; retire = false }
 
 -- a disc that is retired at 100 cycles
 abbrev disc : Task
 disc = record { id = codes "DISC"; applies = applies.Part (codes "LLP1"); first = cycles_alone 100; repeat = None; tolerance = tolerated 0; retire = true }
 
-abbrev loaded : ℕ → List Task → Act
+abbrev pub loaded : ℕ → List Task → Act
 loaded revision tasks = Loaded (record { kind = c172; revision = revision }) tasks
 
 abbrev opened : Item → List ℕ → ℕ → ℕ → ℕ → Act
@@ -71,13 +71,13 @@ abbrev entries : List EntryRow
 entries = entry 1 (codes "A1") kinds.AddAircraft ∷ entry 2 (codes "C1") kinds.AddComponent ∷ entry 3 (codes "P1") kinds.LoadProgramme
     ∷ entry 4 (codes "O1") kinds.Opening ∷ entry 5 (codes "O2") kinds.Opening ∷ entry 6 (codes "P2") kinds.LoadProgramme ∷ []
 
-abbrev programme : ℕ → ℕ → ProgrammeRow
+abbrev pub programme : ℕ → ℕ → ProgrammeRow
 programme seq revision = record { seq = seq; kind = c172; revision = revision }
 
-abbrev hundred_hours_row : TaskRow
+abbrev pub hundred_hours_row : TaskRow
 hundred_hours_row = record { seq = 3; line = 1; id = codes "100H"; part = None; retire = false; first = minutes_alone 63000; repeat = minutes_alone 6000; tolerance = tolerated 600 }
 
-abbrev once_row : TaskRow
+abbrev pub once_row : TaskRow
 once_row = record { seq = 3; line = 2; id = codes "SB7"; part = Some (codes "IO360"); retire = false; first = record { minutes = Some 120000; cycles = None; days = Some 3650 }; repeat = no_limit; tolerance = tolerated 0 }
 
 abbrev disc_row : TaskRow

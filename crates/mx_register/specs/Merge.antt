@@ -2,17 +2,22 @@
 use Rattle.std.specs.Prelude.{ℕ, ◌+◌, Bool, true, false, ◌&&◌, List, [], ◌∷◌, ◌++◌, length, Option, Some, None, nat_eq, if◌then◌else◌}
 use Rattle.std.specs.Option.{option_and_then, option_map}
 use Rattle.mx_base.specs.declared.amounts.Limit.{Limit}
-use Rattle.mx_command.specs.Act.{Act, Entry, Added, Listed, Loaded, Opened, Flown, Fitted, Removed}
+use Rattle.mx_command.specs.Act.{Act, Entry, Added, Listed, Loaded, Opened, Flown, Fitted, Removed, Released}
 use Rattle.mx_command.specs.Programme.{has_dimension}
 use Rattle.mx_command.specs.Shape.{has_shape}
 use Rattle.mx_command.specs.declared.item.Item.{Item}
+use Rattle.mx_command.specs.declared.item.Item.TheVariants as items
 use Rattle.mx_command.specs.declared.programme.Task.{Task}
 use Rattle.mx_command.specs.declared.programme.Applies.{Applies}
 use Rattle.mx_command.specs.declared.programme.Applies.TheVariants.{Airframe, Part}
+use Rattle.mx_command.specs.declared.release.Place.{Place}
+use Rattle.mx_command.specs.declared.release.Place.TheVariants.{Aircraft as AtAircraft, Shop}
+use Rattle.mx_command.specs.declared.release.Line.{Line}
+use Rattle.mx_command.specs.declared.release.Line.TheVariants.{Done}
 use Rattle.mx_book.specs.Judge.{judge}
 use Rattle.mx_book.specs.Book.{is_new}
 use Rattle.mx_register.specs.declared.rows.EntryKind.{EntryKind}
-use Rattle.mx_register.specs.declared.rows.EntryKind.TheVariants.{AddAircraft, AddComponent, LoadProgramme, Opening, Sector, Fit, Remove}
+use Rattle.mx_register.specs.declared.rows.EntryKind.TheVariants.{AddAircraft, AddComponent, LoadProgramme, Opening, Sector, Fit, Remove, Release}
 use Rattle.mx_register.specs.declared.rows.EntryRow.{EntryRow}
 use Rattle.mx_register.specs.declared.rows.AircraftRow.{AircraftRow}
 use Rattle.mx_register.specs.declared.rows.PlaceRow.{PlaceRow}
@@ -23,6 +28,8 @@ use Rattle.mx_register.specs.declared.rows.OpeningRow.{OpeningRow}
 use Rattle.mx_register.specs.declared.rows.SectorRow.{SectorRow}
 use Rattle.mx_register.specs.declared.rows.FittingRow.{FittingRow}
 use Rattle.mx_register.specs.declared.rows.RemovalRow.{RemovalRow}
+use Rattle.mx_register.specs.declared.rows.ReleaseRow.{ReleaseRow}
+use Rattle.mx_register.specs.declared.rows.ReleaseLineRow.{ReleaseLineRow}
 use Rattle.mx_register.specs.Names.{tail_at, serial_at, item_at}
 use Rattle.mx_register.specs.Lines.{Lines, take_lines}
 
@@ -37,6 +44,8 @@ pub record Rest : Type 0 where
   pub sectors : List SectorRow
   pub fittings : List FittingRow
   pub removals : List RemovalRow
+  pub releases : List ReleaseRow
+  pub release_lines : List ReleaseLineRow
 
 -- ── what rows say ──
 
@@ -81,6 +90,32 @@ fitting_said row serial tail = Fitted (record { serial = serial; tail = tail; po
 abbrev pub removal_said : RemovalRow → List ℕ → Act
 removal_said row serial = Removed (record { serial = serial; moment = row.moment })
 
+-- the place of a release: an aircraft without a kind, or a component in a shop with one
+abbrev pub place_of : Option (List ℕ) → Item → Option Place
+place_of None (items.Airframe tail) = Some (AtAircraft tail)
+place_of None (items.Component serial) = None
+place_of (Some kind) (items.Airframe tail) = None
+place_of (Some kind) (items.Component serial) = Some (Shop serial kind)
+
+-- the place that the row of a release says, behind the entries that added its item
+abbrev pub place_said : List Entry → ReleaseRow → Option Place
+place_said before row = option_and_then (place_of row.kind) (item_at before row.item)
+
+-- what the row of a release says, at this place with these lines
+abbrev pub release_said : ReleaseRow → Place → List Line → Act
+release_said row place lines = Released (record { place = place; moment = row.moment }) lines
+
+-- the line that an item, a task and the entry of a defect state: a task that was done on the item, where there is no defect
+abbrev pub line_of : List Entry → Option ℕ → Option (List ℕ) → Option ℕ → Option Line
+line_of before None task defect = None
+line_of before (Some item) None defect = None
+line_of before (Some item) (Some task) (Some defect) = None
+line_of before (Some item) (Some task) None = option_map (λ i. Done i task) (item_at before item)
+
+-- the line that its row says, behind the entries that added its item
+abbrev pub line_said : List Entry → ReleaseLineRow → Option Line
+line_said before row = line_of before row.item row.task row.defect
+
 -- ── the rows that an entry takes ──
 
 -- the first row and those behind it, where it is of the entry with this number
@@ -90,11 +125,15 @@ first_of_entry seq_of seq (row ∷ rows) = if nat_eq (seq_of row) seq then Some 
 
 -- what the row of a position says, on its line
 abbrev pub place_lines : Lines (List ℕ × List ℕ) PlaceRow
-place_lines = record { seq = λ row. row.seq; line = λ row. row.line; said = λ row. (row.position, row.part) }
+place_lines = record { seq = λ row. row.seq; line = λ row. row.line; said = λ row. Some (row.position, row.part) }
 
 -- what the row of a task says, on its line
 abbrev pub task_lines : Lines Task TaskRow
-task_lines = record { seq = λ row. row.seq; line = λ row. row.line; said = task_said }
+task_lines = record { seq = λ row. row.seq; line = λ row. row.line; said = λ row. Some (task_said row) }
+
+-- what the row of a line of a release says, on its line
+abbrev pub lines_of_release : List Entry → Lines Line ReleaseLineRow
+lines_of_release before = record { seq = λ row. row.seq; line = λ row. row.line; said = line_said before }
 
 -- the positions of the entry with this number, and the rows behind them
 abbrev pub take_places : ℕ → List PlaceRow → List (List ℕ × List ℕ) × List PlaceRow
@@ -103,6 +142,10 @@ take_places seq rows = take_lines place_lines seq 1 rows
 -- the tasks of the entry with this number, and the rows behind them
 abbrev pub take_tasks : ℕ → List TaskRow → List Task × List TaskRow
 take_tasks seq rows = take_lines task_lines seq 1 rows
+
+-- the lines of the release of the entry with this number, and the rows behind them
+abbrev pub take_release_lines : List Entry → ℕ → List ReleaseLineRow → List Line × List ReleaseLineRow
+take_release_lines before seq rows = take_lines (lines_of_release before) seq 1 rows
 
 -- what an entry that added an aircraft says: the first aircraft's row and the first positions, if they are of this entry
 abbrev pub take_aircraft : ℕ → Rest → Option (Act × Rest)
@@ -138,6 +181,11 @@ abbrev pub take_removal : List Entry → ℕ → Rest → Option (Act × Rest)
 take_removal before seq rest =
     option_and_then (λ taken. option_map (λ serial. (removal_said taken.0 serial, record rest { removals = taken.1 })) (serial_at before taken.0.component)) (first_of_entry (λ row. row.seq) seq rest.removals)
 
+-- what a release's entry says: the first release's row and the first lines, if the row is of this entry and says a place
+abbrev pub take_release : List Entry → ℕ → Rest → Option (Act × Rest)
+take_release before seq rest =
+    option_and_then (λ taken. option_map (λ place. (release_said taken.0 place (take_release_lines before seq rest.release_lines).0, record rest { releases = taken.1; release_lines = (take_release_lines before seq rest.release_lines).1 })) (place_said before taken.0)) (first_of_entry (λ row. row.seq) seq rest.releases)
+
 -- what an entry of this kind says, and the rows behind it
 abbrev pub take_by : List Entry → ℕ → Rest → EntryKind → Option (Act × Rest)
 take_by before seq rest AddAircraft = take_aircraft seq rest
@@ -147,6 +195,7 @@ take_by before seq rest Opening = take_opening before seq rest
 take_by before seq rest Sector = take_sector before seq rest
 take_by before seq rest Fit = take_fitting before seq rest
 take_by before seq rest Remove = take_removal before seq rest
+take_by before seq rest Release = take_release before seq rest
 
 -- the command with this document that says this, where it has its shape
 abbrev pub command_of : List ℕ → Act → Option Entry
@@ -180,9 +229,13 @@ are_programmes_taken rest = is_empty rest.programmes && (is_empty rest.tasks && 
 abbrev pub are_moves_taken : Rest → Bool
 are_moves_taken rest = is_empty rest.sectors && (is_empty rest.fittings && is_empty rest.removals)
 
+-- every row of releases and of their lines is taken
+abbrev pub are_releases_taken : Rest → Bool
+are_releases_taken rest = is_empty rest.releases && is_empty rest.release_lines
+
 -- every row is taken
 abbrev pub are_taken : Rest → Bool
-are_taken rest = are_items_taken rest && (are_programmes_taken rest && are_moves_taken rest)
+are_taken rest = are_items_taken rest && (are_programmes_taken rest && (are_moves_taken rest && are_releases_taken rest))
 
 -- the book that goes on with these rows, where they are those of one
 abbrev pub merged : List Entry → List EntryRow → Rest → Option (List Entry)

@@ -3,7 +3,7 @@ use Rattle.std.specs.Prelude.{◌≡◌, ℕ, ◌+◌, List, [], ◌∷◌, ◌+
 use Rattle.std.specs.List.{cons_option}
 use Rattle.std.specs.Option.{option_map}
 use Rattle.mx_base.specs.declared.amounts.Limit.{Limit}
-use Rattle.mx_command.specs.Act.{Act, Entry, Added, Listed, Loaded, Opened, Flown, Fitted, Removed, aircraft_of, component_of, programme_of, opening_of, sector_of, fitting_of, removal_of, positions_of, tasks_of}
+use Rattle.mx_command.specs.Act.{Act, Entry, Added, Listed, Loaded, Opened, Flown, Fitted, Removed, Released, aircraft_of, component_of, programme_of, opening_of, sector_of, fitting_of, removal_of, release_of, positions_of, tasks_of, lines_of}
 use Rattle.mx_command.specs.declared.aircraft.Aircraft.{Aircraft}
 use Rattle.mx_command.specs.declared.component.Component.{Component}
 use Rattle.mx_command.specs.declared.programme.Programme.{Programme}
@@ -14,6 +14,12 @@ use Rattle.mx_command.specs.declared.opening.Opening.{Opening}
 use Rattle.mx_command.specs.declared.sector.Sector.{Sector}
 use Rattle.mx_command.specs.declared.fitting.Fitting.{Fitting}
 use Rattle.mx_command.specs.declared.fitting.Removal.{Removal}
+use Rattle.mx_command.specs.declared.release.Release.{Release}
+use Rattle.mx_command.specs.declared.release.Place.{Place}
+use Rattle.mx_command.specs.declared.release.Place.TheVariants.{Aircraft as AtAircraft, Shop}
+use Rattle.mx_command.specs.declared.release.Line.{Line}
+use Rattle.mx_command.specs.declared.release.Line.TheVariants.{Done}
+use Rattle.mx_book.specs.Judge.{item_at as item_of_place}
 use Rattle.mx_register.specs.declared.rows.EntryKind.{EntryKind}
 use Rattle.mx_register.specs.declared.rows.EntryKind.TheVariants as kinds
 use Rattle.mx_register.specs.declared.rows.EntryRow.{EntryRow}
@@ -26,6 +32,8 @@ use Rattle.mx_register.specs.declared.rows.OpeningRow.{OpeningRow}
 use Rattle.mx_register.specs.declared.rows.SectorRow.{SectorRow}
 use Rattle.mx_register.specs.declared.rows.FittingRow.{FittingRow}
 use Rattle.mx_register.specs.declared.rows.RemovalRow.{RemovalRow}
+use Rattle.mx_register.specs.declared.rows.ReleaseRow.{ReleaseRow}
+use Rattle.mx_register.specs.declared.rows.ReleaseLineRow.{ReleaseLineRow}
 use Rattle.mx_register.specs.declared.merge.Registers.{Registers}
 use Rattle.mx_register.specs.Names.{seq_of_tail, seq_of_serial, seq_of_item, or_zero}
 use Rattle.mx_register.specs.Lines.{lines_from}
@@ -41,6 +49,7 @@ kind_of (Opened opening) = kinds.Opening
 kind_of (Flown sector) = kinds.Sector
 kind_of (Fitted fitting) = kinds.Fit
 kind_of (Removed removal) = kinds.Remove
+kind_of (Released release lines) = kinds.Release
 
 -- the row of an entry with this number
 abbrev pub entry_row : ℕ → Entry → EntryRow
@@ -91,6 +100,19 @@ fitting_row seq component aircraft f = record { seq = seq; component = component
 abbrev pub removal_row : ℕ → ℕ → Removal → RemovalRow
 removal_row seq component r = record { seq = seq; component = component; moment = r.moment }
 
+-- the kind of aircraft by whose programme work was done in a shop, or none where it was done at an aircraft
+abbrev pub kind_in_shop : Place → Option (List ℕ)
+kind_in_shop (AtAircraft tail) = None
+kind_in_shop (Shop serial kind) = Some kind
+
+-- the row of a release that the entry with this number says, at the item that another entry added
+abbrev pub release_row : ℕ → ℕ → Release → ReleaseRow
+release_row seq item r = record { seq = seq; item = item; kind = kind_in_shop r.place; moment = r.moment }
+
+-- the row of a line, behind the entries that added its item, on this line of the release that the entry with this number says
+abbrev pub release_line_row : List Entry → ℕ → ℕ → Line → ReleaseLineRow
+release_line_row before seq line (Done item task) = record { seq = seq; line = line; item = Some (or_zero (seq_of_item before item)); task = Some task; defect = None }
+
 -- ── the rows of an entry, behind the entries before it ──
 
 -- the number of the entry that comes behind these
@@ -140,6 +162,14 @@ fittings_by before act = if_any (λ f. fitting_row (next before) (or_zero (seq_o
 -- the row of the removal that an entry says
 abbrev pub removals_by : List Entry → Act → List RemovalRow
 removals_by before act = if_any (λ r. removal_row (next before) (or_zero (seq_of_serial before r.serial)) r) (removal_of act)
+
+-- the row of the release that an entry says
+abbrev pub releases_by : List Entry → Act → List ReleaseRow
+releases_by before act = if_any (λ r. release_row (next before) (or_zero (seq_of_item before (item_of_place r.place))) r) (release_of act)
+
+-- the rows of the lines of the release that an entry says, numbered from 1
+abbrev pub release_lines_by : List Entry → Act → List ReleaseLineRow
+release_lines_by before act = lines_from (release_line_row before) (next before) 1 (lines_of act)
 
 -- ── the registers ──
 
@@ -192,6 +222,14 @@ fitting_rows book = gives_by fittings_by [] book
 abbrev pub removal_rows : List Entry → List RemovalRow
 removal_rows book = gives_by removals_by [] book
 
+-- the releases of a book, each with the number of its entry
+abbrev pub release_rows : List Entry → List ReleaseRow
+release_rows book = gives_by releases_by [] book
+
+-- the lines of the releases of a book
+abbrev pub release_line_rows : List Entry → List ReleaseLineRow
+release_line_rows book = gives_by release_lines_by [] book
+
 -- the registers are those of the book
 pub record AreRegistersOf (r : Registers) (book : List Entry) : Type 0 where
   pub entries : r.entries.items ≡ entry_rows book
@@ -204,3 +242,5 @@ pub record AreRegistersOf (r : Registers) (book : List Entry) : Type 0 where
   pub sectors : r.sectors.items ≡ sector_rows book
   pub fittings : r.fittings.items ≡ fitting_rows book
   pub removals : r.removals.items ≡ removal_rows book
+  pub releases : r.releases.items ≡ release_rows book
+  pub release_lines : r.release_lines.items ≡ release_line_rows book

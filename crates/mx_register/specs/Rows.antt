@@ -5,7 +5,7 @@ use Rattle.mx_base.specs.Identifier.{IsIdentifier, is_graphic, is_tail_character
 use Rattle.mx_base.specs.declared.amounts.Limit.{Limit}
 use Rattle.mx_base.specs.declared.amounts.Tolerance.{Tolerance}
 use Rattle.mx_register.specs.declared.rows.EntryKind.{EntryKind}
-use Rattle.mx_register.specs.declared.rows.EntryKind.TheVariants.{AddAircraft, AddComponent, LoadProgramme, Opening, Sector, Fit, Remove}
+use Rattle.mx_register.specs.declared.rows.EntryKind.TheVariants.{AddAircraft, AddComponent, LoadProgramme, Opening, Sector, Fit, Remove, Release}
 use Rattle.mx_register.specs.declared.rows.EntryRow.{EntryRow}
 use Rattle.mx_register.specs.declared.rows.AircraftRow.{AircraftRow}
 use Rattle.mx_register.specs.declared.rows.PlaceRow.{PlaceRow}
@@ -16,6 +16,8 @@ use Rattle.mx_register.specs.declared.rows.RemovalRow.{RemovalRow}
 use Rattle.mx_register.specs.declared.rows.ProgrammeRow.{ProgrammeRow}
 use Rattle.mx_register.specs.declared.rows.TaskRow.{TaskRow}
 use Rattle.mx_register.specs.declared.rows.OpeningRow.{OpeningRow}
+use Rattle.mx_register.specs.declared.rows.ReleaseRow.{ReleaseRow}
+use Rattle.mx_register.specs.declared.rows.ReleaseLineRow.{ReleaseLineRow}
 
 -- the number of a kind of entry, in the order of the commands
 abbrev pub kind_number : EntryKind → ℕ
@@ -26,6 +28,7 @@ kind_number Opening = 4
 kind_number Sector = 5
 kind_number Fit = 6
 kind_number Remove = 7
+kind_number Release = 8
 
 -- the place of a line of an entry's list among the lines of all: by the number of the entry, and then by the line
 abbrev pub line_key : ℕ → ℕ → ℕ
@@ -38,6 +41,10 @@ place_key row = line_key row.seq row.line
 -- the place of a task among all: by the number of the programme's entry, and then by its line
 abbrev pub task_key : TaskRow → ℕ
 task_key row = line_key row.seq row.line
+
+-- the place of a line of a release among all: by the number of the release's entry, and then by its line
+abbrev pub release_line_key : ReleaseLineRow → ℕ
+release_line_key row = line_key row.seq row.line
 
 -- the number has 32 bits and the document is one
 pub record FitsEntry (row : EntryRow) : Type 0 where
@@ -132,3 +139,18 @@ pub record FitsOpening (row : OpeningRow) : Type 0 where
   pub minutes : row.minutes < 2 ^ 32
   pub cycles : row.cycles < 2 ^ 32
   pub day : row.day ≤ last_day
+
+-- the numbers have 32 bits, the kind is an identifier where there is one, and the moment is in the calendar
+pub record FitsRelease (row : ReleaseRow) : Type 0 where
+  pub seq : row.seq < 2 ^ 32
+  pub item : row.item < 2 ^ 32
+  pub kind : IfSome row.kind (IsIdentifier is_graphic 16)
+  pub moment : row.moment ≤ last_moment
+
+-- the numbers have 32 bits, and the task is an identifier, those that there are
+pub record FitsReleaseLine (row : ReleaseLineRow) : Type 0 where
+  pub seq : row.seq < 2 ^ 32
+  pub line : row.line < 2 ^ 32
+  pub item : IfSome row.item (λ n. n < 2 ^ 32)
+  pub task : IfSome row.task (IsIdentifier is_graphic 16)
+  pub defect : IfSome row.defect (λ n. n < 2 ^ 32)

@@ -1,18 +1,19 @@
 //! The rows that a command adds beside its entry, register by register, behind the entries of a book.
 ghost use Rattle.std.specs.Prelude.{◌≡◌, [], ◌∷◌, IfOk};
-ghost use Rattle.mx_register.specs.Registers.{aircraft_by, components_by, fittings_by, openings_by, places_by, programmes_by, removals_by, sectors_by, tasks_by};
+ghost use Rattle.mx_register.specs.Registers.{aircraft_by, components_by, fittings_by, openings_by, places_by, programmes_by, release_lines_by, releases_by, removals_by, sectors_by, tasks_by};
 ghost use Rattle.mx_register.specs.Added.{AreAdded, AreAddedRows};
-ghost use Rattle.mx_register.specs.Rows.{FitsAircraft, FitsComponent, FitsFitting, FitsOpening, FitsPlace, FitsProgramme, FitsRemoval, FitsSector, FitsTask};
+ghost use Rattle.mx_register.specs.Rows.{FitsAircraft, FitsComponent, FitsFitting, FitsOpening, FitsPlace, FitsProgramme, FitsRelease, FitsReleaseLine, FitsRemoval, FitsSector, FitsTask};
 
-use crate::names::{seq_of_item, seq_of_serial, seq_of_tail};
+use crate::names::{seq_of_item, seq_of_place, seq_of_serial, seq_of_tail};
 use crate::registers::{
-    aircraft_row, component_row, fitting_row, opening_row, place_row, programme_row, removal_row,
-    sector_row, task_row,
+    aircraft_row, component_row, fitting_row, opening_row, place_row, programme_row,
+    release_line_row, release_row, removal_row, sector_row, task_row,
 };
 use crate::rows::{
-    AircraftRow, ComponentRow, FittingRow, OpeningRow, PlaceRow, ProgrammeRow, RemovalRow,
-    SectorRow, TaskRow,
+    AircraftRow, ComponentRow, FittingRow, OpeningRow, PlaceRow, ProgrammeRow, ReleaseLineRow,
+    ReleaseRow, RemovalRow, SectorRow, TaskRow,
 };
+use mx_base::Kind;
 use mx_book::{Book, NoMemory};
 use mx_command::Command;
 use std::alloc::Global;
@@ -29,6 +30,8 @@ pub struct AddedRows {
     pub sectors: Vec<SectorRow>,
     pub fittings: Vec<FittingRow>,
     pub removals: Vec<RemovalRow>,
+    pub releases: Vec<ReleaseRow>,
+    pub release_lines: Vec<ReleaseLineRow>,
 }
 
 // A register with one row.
@@ -188,6 +191,46 @@ fn removal_rows(alloc: Global, book: &Book, command: &Command) -> Result<Vec<Rem
     }
 }
 
+// The row of a release, where the command says one.
+fn release_rows(alloc: Global, book: &Book, command: &Command) -> Result<Vec<ReleaseRow>, NoMemory>
+    ensures { IfOk result (λ rows.
+        AreAdded FitsRelease releases_by rows.items book.now command.now) }
+{
+    // The checker proves this function only where the type of each field of a row is named in it.
+    let _: Option<Kind> = None;
+    match command.release() {
+        None => Ok(Vec::new(alloc)),
+        Some(release) => {
+            let item = seq_of_place(book, &release.place).unwrap_or(0);
+            one(alloc, release_row(book.len() + 1, item, release))
+        }
+    }
+}
+
+// The rows of the lines of a release, where the command says one.
+fn release_line_rows(
+    alloc: Global,
+    book: &Book,
+    command: &Command,
+) -> Result<Vec<ReleaseLineRow>, NoMemory>
+    ensures { IfOk result (λ rows.
+        AreAdded FitsReleaseLine release_lines_by rows.items book.now command.now) }
+{
+    let seq = book.len() + 1;
+    let mut rows = Vec::new(alloc);
+    let mut line = 1u32;
+    let mut rest = command.lines();
+    while let Some((certified, later)) = rest.split_first() {
+        match rows.push(release_line_row(book, seq, line, certified)) {
+            Ok(()) => {}
+            Err(_) => return Err(NoMemory),
+        }
+        line += 1;
+        rest = later;
+    }
+    Ok(rows)
+}
+
 /// The rows that a command adds beside its entry, behind the entries of a book.
 pub fn added_rows(alloc: Global, book: &Book, command: &Command) -> Result<AddedRows, NoMemory>
     ensures { IfOk result (AreAddedRows book.now command.now) }
@@ -202,5 +245,7 @@ pub fn added_rows(alloc: Global, book: &Book, command: &Command) -> Result<Added
         sectors: sector_rows(alloc, book, command)?,
         fittings: fitting_rows(alloc, book, command)?,
         removals: removal_rows(alloc, book, command)?,
+        releases: release_rows(alloc, book, command)?,
+        release_lines: release_line_rows(alloc, book, command)?,
     })
 }

@@ -4,12 +4,12 @@ ghost use Rattle.std.specs.Option.{option_map};
 ghost use Rattle.mx_command.specs.Act.{act_of, Entry, sector_of};
 ghost use Rattle.mx_book.specs.Book.{IsBook};
 ghost use Rattle.mx_register.specs.Registers.{AreRegistersOf};
-ghost use Rattle.mx_register.specs.Merge.{are_items_taken, are_moves_taken, are_programmes_taken, are_taken, command_of, is_next, merged, take_by, take_command};
+ghost use Rattle.mx_register.specs.Merge.{are_items_taken, are_moves_taken, are_programmes_taken, are_releases_taken, are_taken, command_of, is_next, merged, take_by, take_command};
 ghost use Rattle.mx_register.specs.Left.{all_rows, rest_of, taken};
 
 use crate::rows::{
     AircraftRow, ComponentRow, EntryRow, FittingRow, OpeningRow, PlaceRow, ProgrammeRow,
-    RemovalRow, SectorRow, TaskRow,
+    ReleaseLineRow, ReleaseRow, RemovalRow, SectorRow, TaskRow,
 };
 use crate::taking::{Left, take_said};
 use mx_base::Doc;
@@ -30,6 +30,8 @@ pub struct Registers {
     pub sectors: Vec<SectorRow>,
     pub fittings: Vec<FittingRow>,
     pub removals: Vec<RemovalRow>,
+    pub releases: Vec<ReleaseRow>,
+    pub release_lines: Vec<ReleaseLineRow>,
 }
 
 // All rows but those of the entries.
@@ -46,6 +48,8 @@ fn rows_of(registers: &Registers) -> Left<'_>
         sectors: registers.sectors.as_slice(),
         fittings: registers.fittings.as_slice(),
         removals: registers.removals.as_slice(),
+        releases: registers.releases.as_slice(),
+        release_lines: registers.release_lines.as_slice(),
     }
 }
 
@@ -70,11 +74,21 @@ fn are_moves_taken(rows: Left<'_>) -> bool
     rows.sectors.is_empty() && rows.fittings.is_empty() && rows.removals.is_empty()
 }
 
+// Whether every row of releases and of their lines is taken.
+fn are_releases_taken(rows: Left<'_>) -> bool
+    ensures { result ≡ are_releases_taken (rest_of rows.entry) }
+{
+    rows.releases.is_empty() && rows.release_lines.is_empty()
+}
+
 // Whether every row is taken.
 fn are_all_taken(rows: Left<'_>) -> bool
     ensures { result ≡ are_taken (rest_of rows.entry) }
 {
-    are_items_taken(rows) && are_programmes_taken(rows) && are_moves_taken(rows)
+    are_items_taken(rows)
+        && are_programmes_taken(rows)
+        && are_moves_taken(rows)
+        && are_releases_taken(rows)
 }
 
 // The command of a document and a body, or `None` where they lack the shape. `NoMemory` for a sector alone.

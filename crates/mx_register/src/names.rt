@@ -1,11 +1,12 @@
 //! Which entry added an aircraft or a component, by name and by number.
-ghost use Rattle.std.specs.Prelude.{◌≡◌, ◌≤◌, ℕ, length};
+ghost use Rattle.std.specs.Prelude.{◌≡◌, ◌≤◌, length};
 ghost use Rattle.mx_command.specs.Act.{act_of};
-ghost use Rattle.mx_register.specs.Names.{adds_named, item_added, item_at, number_from, said_at, seq_of_item, seq_of_serial, seq_of_tail, serial_added, serial_at, tail_added, tail_at};
+ghost use Rattle.mx_book.specs.Judge.{item_at as item_of_place};
+ghost use Rattle.mx_register.specs.Names.{adds_named, item_added, item_at, number_from, seq_of_item, seq_of_serial, seq_of_tail, serial_added, serial_at, tail_added, tail_at};
 
 use mx_base::{Serial, Tail};
 use mx_book::Book;
-use mx_command::{Body, Command, Item};
+use mx_command::{Body, Command, Item, Place};
 
 // Whether an entry adds the aircraft with this registration.
 fn adds_aircraft(entry: &Command, tail: &Tail) -> bool
@@ -84,6 +85,16 @@ pub fn seq_of_item(book: &Book, item: &Item) -> Option<u32>
     match item {
         Item::Airframe(tail) => seq_of_tail(book, tail),
         Item::Component(serial) => seq_of_serial(book, serial),
+    }
+}
+
+/// The number of the entry that added the item of a place: the aircraft, or the component in the shop.
+pub fn seq_of_place(book: &Book, place: &Place) -> Option<u32>
+    ensures { result ≡ seq_of_item book.now (item_of_place place.now) }
+{
+    match place {
+        Place::Aircraft(tail) => seq_of_tail(book, tail),
+        Place::Shop(serial, _) => seq_of_serial(book, serial),
     }
 }
 

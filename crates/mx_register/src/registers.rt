@@ -1,18 +1,21 @@
 //! The rows that a command gives.
 ghost use Rattle.std.specs.Prelude.{◌≡◌, ◌<◌, ◌^◌, true, unwrap_or, IfSome};
 ghost use Rattle.mx_base.specs.Identifier.{IsIdentifier, is_graphic};
-ghost use Rattle.mx_register.specs.Rows.{FitsAircraft, FitsComponent, FitsEntry, FitsFitting, FitsLimit, FitsOpening, FitsPlace, FitsProgramme, FitsRemoval, FitsSector, FitsTask, FitsTolerance};
-ghost use Rattle.mx_register.specs.Registers.{aircraft_row, component_row, entry_row, fitting_row, kind_of, no_limit, opening_row, part_of, place_row, programme_row, removal_row, sector_row, task_row};
+ghost use Rattle.mx_register.specs.Rows.{FitsAircraft, FitsComponent, FitsEntry, FitsFitting, FitsLimit, FitsOpening, FitsPlace, FitsProgramme, FitsRelease, FitsReleaseLine, FitsRemoval, FitsSector, FitsTask, FitsTolerance};
+ghost use Rattle.mx_register.specs.Registers.{aircraft_row, component_row, entry_row, fitting_row, kind_of, no_limit, opening_row, part_of, place_row, programme_row, kind_in_shop, release_line_row, release_row, removal_row, sector_row, task_row};
 ghost use Rattle.mx_command.specs.Act.{act_of};
 ghost use Rattle.mx_command.specs.Shape.{has_shape};
 
+use crate::names::seq_of_item;
 use crate::rows::{
     AircraftRow, ComponentRow, EntryKind, EntryRow, FittingRow, OpeningRow, PlaceRow, ProgrammeRow,
-    RemovalRow, SectorRow, TaskRow,
+    ReleaseLineRow, ReleaseRow, RemovalRow, SectorRow, TaskRow,
 };
-use mx_base::{Limit, Part, Position, Tolerance};
+use mx_base::{Kind, Limit, Part, Position, Tolerance};
+use mx_book::Book;
 use mx_command::{
-    Aircraft, Applies, Body, Command, Component, Fitting, Opening, Programme, Removal, Sector, Task,
+    Aircraft, Applies, Body, Command, Component, Fitting, Line, Opening, Place, Programme, Release,
+    Removal, Sector, Task,
 };
 
 // The kind of entry that a body makes.
@@ -27,6 +30,7 @@ fn kind_of_body(body: &Body) -> EntryKind
         Body::Sector { .. } => EntryKind::Sector,
         Body::Fit { .. } => EntryKind::Fit,
         Body::Remove { .. } => EntryKind::Remove,
+        Body::Release { .. } => EntryKind::Release,
     }
 }
 
@@ -273,5 +277,57 @@ pub fn removal_row(seq: u32, component: u32, removal: Removal) -> RemovalRow
         seq,
         component,
         moment: removal.moment,
+    }
+}
+
+// The kind of aircraft by whose programme work was done in a shop, or `None` where it was done at an aircraft.
+fn kind_in_shop(place: &Place) -> Option<Kind>
+    ensures kind { result ≡ kind_in_shop place.now }
+    ensures fits { IfSome result (IsIdentifier is_graphic 16) }
+{
+    match place {
+        Place::Aircraft(_) => None,
+        Place::Shop(_, kind) => {
+            // The text of an identifier fits its column.
+            let _ = kind.as_str();
+            Some(*kind)
+        }
+    }
+}
+
+/// The row of a release that is entered with a number, where another number is that of the entry that added
+/// the aircraft or the component of its place.
+pub fn release_row(seq: u32, item: u32, release: Release) -> ReleaseRow
+    ensures row { result ≡ release_row seq item release }
+    ensures fits { FitsRelease result }
+{
+    // The number of a moment fits its column.
+    let _ = release.moment.number();
+    ReleaseRow {
+        seq,
+        item,
+        kind: kind_in_shop(&release.place),
+        moment: release.moment,
+    }
+}
+
+/// The row of a line, on this line of the release that is entered with a number, behind the entries of a book.
+pub fn release_line_row(book: &Book, seq: u32, line: u32, certified: &Line) -> ReleaseLineRow
+    ensures row { result ≡ release_line_row book.now seq line certified.now }
+    ensures fits { FitsReleaseLine result }
+{
+    match certified {
+        Line::Done(item, task) => {
+            // The text of an identifier fits its column.
+            let _ = task.as_str();
+            let number = seq_of_item(book, item).unwrap_or(0);
+            ReleaseLineRow {
+                seq,
+                line,
+                item: Some(number),
+                task: Some(*task),
+                defect: None,
+            }
+        }
     }
 }

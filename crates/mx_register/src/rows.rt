@@ -13,6 +13,7 @@ pub enum EntryKind {
     Sector,
     Fit,
     Remove,
+    Release,
 }
 
 /// An entry: its document and its kind.
@@ -123,4 +124,26 @@ pub struct OpeningRow {
     pub minutes: u32,
     pub cycles: u32,
     pub day: Day,
+}
+
+/// A release of maintenance to service, its lines aside.
+#[derive(Clone, Copy, Debug, PartialEq, Eq)]
+pub struct ReleaseRow {
+    pub seq: u32,
+    /// The aircraft at which the work was done, or the component on which it was done in a shop.
+    pub item: u32,
+    /// The kind of aircraft by whose programme the work was done in a shop, or `None` at an aircraft.
+    pub kind: Option<Kind>,
+    pub moment: Moment,
+}
+
+/// What a line of a release certifies, the one on this line of its list, from 1: a task that was done on an item.
+#[derive(Clone, Copy, Debug, PartialEq, Eq)]
+pub struct ReleaseLineRow {
+    pub seq: u32,
+    pub line: u32,
+    pub item: Option<u32>,
+    pub task: Option<TaskId>,
+    /// The entry that deferred the defect that was rectified; `None`, since no line of today rectifies one.
+    pub defect: Option<u32>,
 }

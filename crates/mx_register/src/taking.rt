@@ -1,18 +1,22 @@
 //! What an entry says, by the first rows of its kind.
 ghost use Rattle.std.specs.Prelude.{◌≡◌, IfOk, IsSome, OnErr};
 ghost use Rattle.std.specs.Option.{option_map};
-ghost use Rattle.mx_command.specs.Act.{act_of};
-ghost use Rattle.mx_register.specs.Merge.{aircraft_said, applies_said, component_said, fitting_said, limit_said, opening_said, programme_said, removal_said, sector_said, take_aircraft, take_by, take_component, take_fitting, take_opening, take_places, take_programme, take_removal, take_sector, take_tasks};
+ghost use Rattle.mx_register.specs.Merge.{take_aircraft, take_by, take_component, take_fitting, take_opening, take_places, take_programme, take_release, take_release_lines, take_removal, take_sector, take_tasks};
 ghost use Rattle.mx_register.specs.Left.{rest_of, said};
 
 use crate::names::{item_of_entry, serial_of_component, tail_of_aircraft};
 use crate::rows::{
     AircraftRow, ComponentRow, EntryKind, EntryRow, FittingRow, OpeningRow, PlaceRow, ProgrammeRow,
-    RemovalRow, SectorRow, TaskRow,
+    ReleaseLineRow, ReleaseRow, RemovalRow, SectorRow, TaskRow,
 };
-use mx_base::{Limit, Part, Position, Serial, Tail, Use};
+use crate::said::{
+    applies_to, body_of_aircraft, body_of_component, body_of_fitting, body_of_opening,
+    body_of_programme, body_of_release, body_of_removal, body_of_sector, limit_if_any, line_said,
+    place_said,
+};
+use mx_base::{Part, Position};
 use mx_book::Book;
-use mx_command::{Applies, Body, Item, Task};
+use mx_command::{Applies, Body, Item, Line, Task};
 use std::alloc::{AllocError, Global};
 
 /// The rows that no entry has taken.
@@ -27,124 +31,8 @@ pub(crate) struct Left<'a> {
     pub(crate) sectors: &'a [SectorRow],
     pub(crate) fittings: &'a [FittingRow],
     pub(crate) removals: &'a [RemovalRow],
-}
-
-// What the row of an aircraft says, with these positions.
-fn body_of_aircraft(row: &AircraftRow, positions: Vec<(Position, Part)>) -> Body
-    ensures { act_of result ≡ aircraft_said row.now positions.items }
-{
-    Body::AddAircraft {
-        tail: row.tail,
-        kind: row.kind,
-        birth: row.birth,
-        opening: Use {
-            minutes: row.minutes,
-            cycles: row.cycles,
-        },
-        as_of: row.as_of,
-        positions,
-    }
-}
-
-// What the row of a component says.
-fn body_of_component(row: &ComponentRow) -> Body
-    ensures { act_of result ≡ component_said row.now }
-{
-    Body::AddComponent {
-        serial: row.serial,
-        part: row.part,
-        birth: row.birth,
-        opening: Use {
-            minutes: row.minutes,
-            cycles: row.cycles,
-        },
-        as_of: row.as_of,
-    }
-}
-
-// What the row of a programme says, with these tasks.
-fn body_of_programme(row: &ProgrammeRow, tasks: Vec<Task>) -> Body
-    ensures { act_of result ≡ programme_said row.now tasks.items }
-{
-    Body::LoadProgramme {
-        kind: row.kind,
-        revision: row.revision,
-        tasks,
-    }
-}
-
-// What a task is done on, by the part in its row.
-fn applies_to(part: Option<Part>) -> Applies
-    ensures { result ≡ applies_said part }
-{
-    match part {
-        Some(part) => Applies::Part(part),
-        None => Applies::Airframe,
-    }
-}
-
-// The limit, or `None` where it has no dimension.
-fn limit_if_any(limit: Limit) -> Option<Limit>
-    ensures { result ≡ limit_said limit }
-{
-    if limit.minutes.is_some() || limit.cycles.is_some() || limit.days.is_some() {
-        Some(limit)
-    } else {
-        None
-    }
-}
-
-// What the row of an opening says, of this item.
-fn body_of_opening(row: &OpeningRow, item: Item) -> Body
-    ensures { act_of result ≡ opening_said row.now item }
-{
-    Body::Opening {
-        item,
-        kind: row.kind,
-        task: row.task,
-        use_then: Use {
-            minutes: row.minutes,
-            cycles: row.cycles,
-        },
-        day: row.day,
-    }
-}
-
-// What the row of a sector says, where the aircraft has this registration.
-fn body_of_sector(row: &SectorRow, tail: Tail) -> Body
-    ensures { act_of result ≡ sector_said row.now tail }
-{
-    Body::Sector {
-        tail,
-        page: row.page,
-        line: row.line,
-        off: row.took_off,
-        on: row.landed,
-        cycles: row.cycles,
-    }
-}
-
-// What the row of a fitting says, where the component has this serial number and the aircraft this
-// registration.
-fn body_of_fitting(row: &FittingRow, serial: Serial, tail: Tail) -> Body
-    ensures { act_of result ≡ fitting_said row.now serial tail }
-{
-    Body::Fit {
-        serial,
-        tail,
-        position: row.position,
-        moment: row.moment,
-    }
-}
-
-// What the row of a removal says, where the component has this serial number.
-fn body_of_removal(row: &RemovalRow, serial: Serial) -> Body
-    ensures { act_of result ≡ removal_said row.now serial }
-{
-    Body::Remove {
-        serial,
-        moment: row.moment,
-    }
+    pub(crate) releases: &'a [ReleaseRow],
+    pub(crate) release_lines: &'a [ReleaseLineRow],
 }
 
 // The positions of the entry with this number, and the rows behind them.
@@ -196,6 +84,34 @@ fn take_tasks(
         rest = later;
     }
     Ok((tasks, rest))
+}
+
+// The lines of the release of the entry with this number, and the rows behind them.
+fn take_release_lines<'a>(
+    alloc: Global,
+    book: &Book,
+    seq: u32,
+    rows: &'a [ReleaseLineRow],
+) -> Result<(Vec<Line>, &'a [ReleaseLineRow]), AllocError>
+    ensures { IfOk result
+        (λ taken. (taken.0.items, taken.1.now) ≡ take_release_lines book.now seq rows.now) }
+{
+    // The checker proves this loop only where the type of each field of a line is named in the function.
+    let _: Option<Item> = None;
+    let mut lines = Vec::new(alloc);
+    let mut rest = rows;
+    while let Some((row, later)) = rest.split_first() {
+        let line = lines.len() + 1;
+        if row.seq != seq || row.line as usize != line {
+            return Ok((lines, rest));
+        }
+        let Some(certified) = line_said(book, row) else {
+            return Ok((lines, rest));
+        };
+        lines.push(certified)?;
+        rest = later;
+    }
+    Ok((lines, rest))
 }
 
 // What an entry that added an aircraft says. Memory is asked for only where the first row is of the entry.
@@ -313,6 +229,35 @@ fn take_removal<'a>(book: &Book, seq: u32, rows: Left<'a>) -> Option<(Body, Left
     Some((body_of_removal(row, serial), rest))
 }
 
+// What a release's entry says. Memory is asked for only where the first row is of the entry and says a place.
+fn take_release<'a>(
+    alloc: Global,
+    book: &Book,
+    seq: u32,
+    rows: Left<'a>,
+) -> Result<Option<(Body, Left<'a>)>, AllocError>
+    ensures found { IfOk result
+        (λ found. option_map said found ≡ take_release book.now seq (rest_of rows.entry)) }
+    ensures memory { OnErr result (IsSome (take_release book.now seq (rest_of rows.entry))) }
+{
+    let Some((row, releases)) = rows.releases.split_first() else {
+        return Ok(None);
+    };
+    if row.seq != seq {
+        return Ok(None);
+    }
+    let Some(place) = place_said(book, row) else {
+        return Ok(None);
+    };
+    let (lines, release_lines) = take_release_lines(alloc, book, seq, rows.release_lines)?;
+    let rest = Left {
+        releases,
+        release_lines,
+        ..rows
+    };
+    Ok(Some((body_of_release(row, place, lines), rest)))
+}
+
 /// What an entry and the first rows of its kind say, and the rows behind them. Memory is asked for only where they say
 /// something.
 pub(crate) fn take_said<'a>(
@@ -335,5 +280,6 @@ pub(crate) fn take_said<'a>(
         EntryKind::Sector => Ok(take_sector(book, entry.seq, rows)),
         EntryKind::Fit => Ok(take_fitting(book, entry.seq, rows)),
         EntryKind::Remove => Ok(take_removal(book, entry.seq, rows)),
+        EntryKind::Release => take_release(alloc, book, entry.seq, rows),
     }
 }
