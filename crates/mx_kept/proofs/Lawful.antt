@@ -18,23 +18,25 @@ use Rattle.mx_register.specs.declared.rows.FittingRow.{FittingRow}
 use Rattle.mx_register.specs.declared.rows.ProgrammeRow.{ProgrammeRow}
 use Rattle.mx_register.specs.declared.rows.TaskRow.{TaskRow}
 use Rattle.mx_register.specs.declared.rows.OpeningRow.{OpeningRow}
-use Rattle.mx_register.specs.Rows.{kind_number, place_key, task_key, FitsFitting, FitsSector, FitsComponent, FitsEntry, FitsAircraft, FitsPlace, FitsRemoval, FitsProgramme, FitsTask, FitsOpening}
+use Rattle.mx_register.specs.declared.rows.ReleaseRow.{ReleaseRow}
+use Rattle.mx_register.specs.declared.rows.ReleaseLineRow.{ReleaseLineRow}
+use Rattle.mx_register.specs.Rows.{kind_number, place_key, task_key, release_line_key, FitsFitting, FitsSector, FitsComponent, FitsEntry, FitsAircraft, FitsPlace, FitsRemoval, FitsProgramme, FitsTask, FitsOpening, FitsRelease, FitsReleaseLine}
 use Rattle.mx_layout.specs.TableName.{TableName}
-use Rattle.mx_layout.specs.declared.fault.Table.TheVariants.{Entry, Aircraft, Place, Component, Programme, Task, Opening, Sector1, Fit1, Removal1}
-use Rattle.mx_layout.specs.Tables.{component, sector1, fit1, entry, aircraft, place, programme, task, opening, removal1}
+use Rattle.mx_layout.specs.declared.fault.Table.TheVariants.{Entry, Aircraft, Place, Component, Programme, Task, Opening, Crs, CrsLine, Sector1, Fit1, Removal1}
+use Rattle.mx_layout.specs.Tables.{component, sector1, fit1, entry, aircraft, place, programme, task, opening, crs, crs_line, removal1}
 use Rattle.mx_layout.proofs.RowLemmas.{cast_int, cast_null}
-use Rattle.mx_kept.specs.Cells.{kept_component, kept_sector1, kept_fit1, kept_entry, kept_aircraft, kept_place, kept_programme, kept_task, kept_opening, kept_removal1}
+use Rattle.mx_kept.specs.Cells.{kept_component, kept_sector1, kept_fit1, kept_entry, kept_aircraft, kept_place, kept_programme, kept_task, kept_opening, kept_crs, kept_crs_line, kept_removal1}
 use Rattle.mx_kept.specs.Meanings.{IsLawful, IsLawfulAt}
 use Rattle.mx_kept.specs.Schemas.{permanent, own_1}
 use Rattle.mx_kept.proofs.OrderLemmas.{two_ascend}
-use Rattle.mx_kept.proofs.ValueLemmas.{cast-number_or_null, cast-text_or_null, text_once, flag_once, limit_once}
+use Rattle.mx_kept.proofs.ValueLemmas.{cast-number_or_null, cast-text_or_null, number_once, text_once, flag_once, limit_once}
 use Rattle.mx_kept.proofs.KeptLemmas.{HasTexts, HasTextsByTwo, StoresOne, StoresNext, first_keyed, two_keyed}
 
--- the kind of a number, and Remove of any that is none
+-- the kind of a number, and Release of any that is none
 abbrev kind_of : ℕ → EntryKind
 kind_of n =
     cond (n == 1) kinds.AddAircraft (cond (n == 2) kinds.AddComponent (cond (n == 3) kinds.LoadProgramme (cond (n == 4) kinds.Opening
-    (cond (n == 5) kinds.Sector (cond (n == 6) kinds.Fit kinds.Remove)))))
+    (cond (n == 5) kinds.Sector (cond (n == 6) kinds.Fit (cond (n == 7) kinds.Remove kinds.Release))))))
 
 kind_back : (k : EntryKind) → kind_of (kind_number k) ≡ k
 kind_back kinds.AddAircraft = refl
@@ -44,6 +46,7 @@ kind_back kinds.Opening = refl
 kind_back kinds.Sector = refl
 kind_back kinds.Fit = refl
 kind_back kinds.Remove = refl
+kind_back kinds.Release = refl
 
 kind_once : (a b : EntryKind) → kind_number a ≡ kind_number b → a ≡ b
 kind_once a b e = sym (kind_back a) ∙ ap kind_of e ∙ kind_back b
@@ -215,6 +218,38 @@ opening_stores r db = simp (cast_int, cast_null) refl
 pub opening_lawful : IsLawful kept_opening
 opening_lawful = first_keyed kept_opening [] (λ _ has. has) 7 refl (λ _ _. refl) (λ _. refl) opening_once (λ _ h. h) (λ _. refl) refl opening_texts refl (λ _. refl) opening_stores (λ _. refl) (λ _. refl)
 
+same_release : (a b : ReleaseRow) → a.seq ≡ b.seq → a.item ≡ b.item → a.kind ≡ b.kind → a.moment ≡ b.moment → a ≡ b
+same_release a b seq item kind moment i = record { seq = seq i; item = item i; kind = kind i; moment = moment i }
+
+release_once : (a b : ReleaseRow) → FitsRelease a → FitsRelease b → kept_crs.as_cells a ≡ kept_crs.as_cells b → a ≡ b
+release_once a b fits_a fits_b e = same_release a b (cc) (cc) (text_once _ _ (cc)) (cc)
+
+crs_texts : (rest : List Table) (more : List Index) → HasTexts kept_crs (permanent rest more) 8 crs
+unfolding understood everything
+crs_texts rest more = ((refl, refl, (refl, refl)), (refl, (refl, refl)))
+
+crs_stores : (r : ReleaseRow) → StoresOne crs (kept_crs.as_cells r)
+crs_stores r db = simp (cast_int, cast_null, cast-text_or_null) refl
+
+pub crs_lawful : IsLawful kept_crs
+crs_lawful = first_keyed kept_crs [] (λ _ has. has) 8 refl (λ _ _. refl) (λ _. refl) release_once (λ _ h. h) (λ _. refl) refl crs_texts refl (λ _. refl) crs_stores (λ _. refl) (λ _. refl)
+
+same_release_line : (a b : ReleaseLineRow) → a.seq ≡ b.seq → a.line ≡ b.line → a.item ≡ b.item → a.task ≡ b.task → a.defect ≡ b.defect → a ≡ b
+same_release_line a b seq line item task defect i = record { seq = seq i; line = line i; item = item i; task = task i; defect = defect i }
+
+release_line_once : (a b : ReleaseLineRow) → FitsReleaseLine a → FitsReleaseLine b → kept_crs_line.as_cells a ≡ kept_crs_line.as_cells b → a ≡ b
+release_line_once a b fits_a fits_b e = same_release_line a b (cc) (cc) (number_once _ _ (cc)) (text_once _ _ (cc)) (number_once _ _ (cc))
+
+crs_line_texts : (rest : List Table) (more : List Index) → HasTextsByTwo kept_crs_line (permanent rest more) 9 crs_line
+unfolding understood everything
+crs_line_texts rest more = ((refl, refl, (refl, refl)), (refl, (refl, refl)))
+
+crs_line_stores : (r : ReleaseLineRow) → StoresNext crs_line (kept_crs_line.as_cells r)
+crs_line_stores r db = simp (cast_int, cast_null, cast-number_or_null, cast-text_or_null) refl
+
+pub crs_line_lawful : IsLawful kept_crs_line
+crs_line_lawful = two_keyed kept_crs_line [] (λ _ has. has) 9 refl (λ _ _. refl) (λ _. refl) release_line_once (λ _ h. h) (λ _. refl) refl crs_line_texts refl (λ _. refl) (λ _. refl) crs_line_stores (λ _ _. refl) (two_ascend kept_crs_line.as_cells FitsReleaseLine release_line_key (λ (r : ReleaseLineRow). r.seq) (λ (r : ReleaseLineRow). r.line) (λ _. refl) (λ _. refl) (λ _. refl) (λ _ fits. fits.line))
+
 -- each table by its name
 pub each_lawful : (name : TableName) → IsLawfulAt name
 each_lawful Entry = entry_lawful
@@ -224,6 +259,8 @@ each_lawful Component = component_lawful
 each_lawful Programme = programme_lawful
 each_lawful Task = task_lawful
 each_lawful Opening = opening_lawful
+each_lawful Crs = crs_lawful
+each_lawful CrsLine = crs_line_lawful
 each_lawful Sector1 = sector1_lawful
 each_lawful Fit1 = fit1_lawful
 each_lawful Removal1 = removal1_lawful

@@ -14,7 +14,7 @@ pub cast-text_or_null : (o : Option (List ℕ)) → cast kind.Text (text_or_null
 cast-text_or_null None = refl
 cast-text_or_null (Some t) = refl
 
-number_once : (a b : Option ℕ) → number_or_null a ≡ number_or_null b → a ≡ b
+pub number_once : (a b : Option ℕ) → number_or_null a ≡ number_or_null b → a ≡ b
 number_once None None e = refl
 number_once None (Some n) e = absurd cc
 number_once (Some m) None e = absurd cc

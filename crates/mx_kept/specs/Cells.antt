@@ -3,7 +3,7 @@ use Rattle.std.specs.Prelude.{pos, [], ◌∷◌, codes}
 use Rattle.sqlite.specs.declared.types.Value.TheVariants.{Int, Text}
 use Rattle.mx_base.specs.Texts.{moment_text}
 use Rattle.mx_layout.specs.Reading.{by_first, by_two}
-use Rattle.mx_layout.specs.declared.fault.Table.TheVariants.{Entry, Aircraft, Place, Component, Programme, Task, Opening, Sector1, Fit1, Removal1}
+use Rattle.mx_layout.specs.declared.fault.Table.TheVariants.{Entry, Aircraft, Place, Component, Programme, Task, Opening, Crs, CrsLine, Sector1, Fit1, Removal1}
 use Rattle.mx_register.specs.declared.rows.EntryRow.{EntryRow}
 use Rattle.mx_register.specs.declared.rows.AircraftRow.{AircraftRow}
 use Rattle.mx_register.specs.declared.rows.PlaceRow.{PlaceRow}
@@ -14,7 +14,9 @@ use Rattle.mx_register.specs.declared.rows.FittingRow.{FittingRow}
 use Rattle.mx_register.specs.declared.rows.ProgrammeRow.{ProgrammeRow}
 use Rattle.mx_register.specs.declared.rows.TaskRow.{TaskRow}
 use Rattle.mx_register.specs.declared.rows.OpeningRow.{OpeningRow}
-use Rattle.mx_register.specs.Rows.{kind_number, place_key, task_key, FitsEntry, FitsAircraft, FitsPlace, FitsComponent, FitsProgramme, FitsTask, FitsOpening, FitsSector, FitsFitting, FitsRemoval}
+use Rattle.mx_register.specs.declared.rows.ReleaseRow.{ReleaseRow}
+use Rattle.mx_register.specs.declared.rows.ReleaseLineRow.{ReleaseLineRow}
+use Rattle.mx_register.specs.Rows.{kind_number, place_key, task_key, release_line_key, FitsEntry, FitsAircraft, FitsPlace, FitsComponent, FitsProgramme, FitsTask, FitsOpening, FitsRelease, FitsReleaseLine, FitsSector, FitsFitting, FitsRemoval}
 use Rattle.mx_kept.specs.Keys.{one_key, two_key}
 use Rattle.mx_kept.specs.Values.{number_or_null, text_or_null, flag}
 use Rattle.mx_kept.specs.Kept.{Kept}
@@ -119,6 +121,34 @@ kept_opening = record {
   Fits = FitsOpening;
   key = λ r. r.seq;
   cells_key = one_key;
+}
+
+-- releases, as the rows of `crs`
+abbrev pub kept_crs : Kept ReleaseRow
+kept_crs = record {
+  name = Crs;
+  IsIn = HasPermanent;
+  select = codes "SELECT seq, item, kind, moment FROM crs ORDER BY seq";
+  insert = codes "INSERT INTO crs (seq, item, kind, moment) VALUES (?1, ?2, ?3, ?4)";
+  order = by_first;
+  as_cells = λ r. Int (pos r.seq) ∷ Int (pos r.item) ∷ text_or_null r.kind ∷ Int (pos r.moment) ∷ [];
+  Fits = FitsRelease;
+  key = λ r. r.seq;
+  cells_key = one_key;
+}
+
+-- lines of releases, as the rows of `crs_line`
+abbrev pub kept_crs_line : Kept ReleaseLineRow
+kept_crs_line = record {
+  name = CrsLine;
+  IsIn = HasPermanent;
+  select = codes "SELECT seq, line, item, task, defect FROM crs_line ORDER BY seq, line";
+  insert = codes "INSERT INTO crs_line (seq, line, item, task, defect) VALUES (?1, ?2, ?3, ?4, ?5)";
+  order = by_two;
+  as_cells = λ r. Int (pos r.seq) ∷ Int (pos r.line) ∷ number_or_null r.item ∷ text_or_null r.task ∷ number_or_null r.defect ∷ [];
+  Fits = FitsReleaseLine;
+  key = release_line_key;
+  cells_key = two_key;
 }
 
 -- sectors, as the rows of `sector1`

@@ -23,6 +23,7 @@ fn number_of(kind: EntryKind) -> u32
         EntryKind::Sector => 5,
         EntryKind::Fit => 6,
         EntryKind::Remove => 7,
+        EntryKind::Release => 8,
     }
 }
 
@@ -40,6 +41,7 @@ fn kind_at(row: &Row, at: usize) -> Option<EntryKind>
         5 => Some(EntryKind::Sector),
         6 => Some(EntryKind::Fit),
         7 => Some(EntryKind::Remove),
+        8 => Some(EntryKind::Release),
         _ => None,
     }
 }

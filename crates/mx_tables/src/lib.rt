@@ -48,6 +48,8 @@ mod fitting;
 mod opening;
 mod place;
 mod programme;
+mod release;
+mod release_line;
 mod removal;
 mod sector;
 pub mod sets;

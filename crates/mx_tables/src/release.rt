@@ -1,0 +1,51 @@
+//! The table `crs`: every release to service, the kind of aircraft NULL where the work was done at an aircraft.
+
+use crate::column::{graphic_or_null_at, moment_at, number_at, text_if_any};
+use crate::stored::{Insert, Stored, Texts, insert_values};
+use mx_layout::{Table, TableFault};
+use mx_register::ReleaseRow;
+use sqlite::{Alter, Row, Transaction, params};
+
+impl Stored for ReleaseRow {
+    ghost use Rattle.mx_kept.specs.Cells.{kept_crs};
+    ghost use Rattle.mx_kept.proofs.Lawful.{crs_lawful};
+
+    ghost kept = { kept_crs };
+
+    ghost lawful = { crs_lawful };
+
+    fn texts() -> Texts {
+        Texts {
+            table: Table::Crs,
+            select: "SELECT seq, item, kind, moment FROM crs ORDER BY seq",
+            insert: "INSERT INTO crs (seq, item, kind, moment) VALUES (?1, ?2, ?3, ?4)",
+        }
+    }
+
+    fn read(row: &Row) -> Option<ReleaseRow> {
+        if row.column_count() != 4 {
+            return None;
+        }
+        Some(ReleaseRow {
+            seq: number_at(row, 0)?,
+            item: number_at(row, 1)?,
+            kind: graphic_or_null_at(row, 2)?,
+            moment: moment_at(row, 3)?,
+        })
+    }
+}
+
+impl Insert for ReleaseRow {
+    fn insert<S: Alter>(&self, tx: &mut Transaction<'_, S>) -> Result<(), TableFault> {
+        insert_values(
+            tx,
+            self,
+            params![
+                self.seq,
+                self.item,
+                text_if_any(&self.kind),
+                self.moment.number(),
+            ],
+        )
+    }
+}

@@ -1,0 +1,54 @@
+//! The table `crs_line`: every line of a release, what it certifies in columns that are NULL where it certifies none of
+//! that.
+
+use crate::column::{graphic_or_null_at, number_at, number_if_any, number_or_null_at, text_if_any};
+use crate::stored::{Insert, Stored, Texts, insert_values};
+use mx_layout::{Table, TableFault};
+use mx_register::ReleaseLineRow;
+use sqlite::{Alter, Row, Transaction, params};
+
+impl Stored for ReleaseLineRow {
+    ghost use Rattle.mx_kept.specs.Cells.{kept_crs_line};
+    ghost use Rattle.mx_kept.proofs.Lawful.{crs_line_lawful};
+
+    ghost kept = { kept_crs_line };
+
+    ghost lawful = { crs_line_lawful };
+
+    fn texts() -> Texts {
+        Texts {
+            table: Table::CrsLine,
+            select: "SELECT seq, line, item, task, defect FROM crs_line ORDER BY seq, line",
+            insert: "INSERT INTO crs_line (seq, line, item, task, defect) VALUES (?1, ?2, ?3, ?4, ?5)",
+        }
+    }
+
+    fn read(row: &Row) -> Option<ReleaseLineRow> {
+        if row.column_count() != 5 {
+            return None;
+        }
+        Some(ReleaseLineRow {
+            seq: number_at(row, 0)?,
+            line: number_at(row, 1)?,
+            item: number_or_null_at(row, 2)?,
+            task: graphic_or_null_at(row, 3)?,
+            defect: number_or_null_at(row, 4)?,
+        })
+    }
+}
+
+impl Insert for ReleaseLineRow {
+    fn insert<S: Alter>(&self, tx: &mut Transaction<'_, S>) -> Result<(), TableFault> {
+        insert_values(
+            tx,
+            self,
+            params![
+                self.seq,
+                self.line,
+                number_if_any(self.item),
+                text_if_any(&self.task),
+                number_if_any(self.defect),
+            ],
+        )
+    }
+}
