@@ -1,2 +1,3 @@
 pub mod StartsLemmas
 pub mod Worked
+mod WorkedDues

@@ -5,7 +5,7 @@ use Rattle.std.specs.Fmt.{digits}
 use Rattle.std.specs.List.{flat_map}
 use Rattle.mx_base.specs.Calendar.{date_of}
 use Rattle.mx_base.specs.Texts.{day_text, moment_text}
-use Rattle.mx_book.specs.declared.verdict.Refusal.TheVariants.{Conflict, Full, UnknownAircraft, UnknownComponent, UnknownPosition, UnknownProgramme, UnknownTask, AircraftExists, ComponentExists, PositionTaken, AlreadyFitted, NotFitted, WrongPart, TaskClosed, LifeLimit, OutOfOrder, WrongRevision, OtherAircraft, OpeningTooLate, OpeningTooLarge}
+use Rattle.mx_book.specs.declared.verdict.Refusal.TheVariants.{Conflict, Full, UnknownAircraft, UnknownComponent, UnknownPosition, UnknownProgramme, UnknownTask, AircraftExists, ComponentExists, PositionTaken, AlreadyFitted, NotFitted, WrongPart, ItemElsewhere, TaskClosed, LifeLimit, OutOfOrder, WrongRevision, OtherAircraft, OpeningTooLate, OpeningTooLarge, RepeatedLine}
 use Rattle.mx_book.specs.declared.verdict.Reply.TheVariants.{Accepted, Already, Refused}
 use Rattle.mx_reports.specs.LifeText.{life_lines}
 use Rattle.mx_reports.specs.ReplyText.{reply_line}
@@ -59,6 +59,11 @@ refused_of_tasks : flat_map (λ refusal. reply_line (Refused refusal)) (UnknownP
     ≡ codes "refused 23\nrefused 24\nrefused 38\nrefused 39\nrefused 47\nrefused 48\nrefused 49\n"
 unfolding digits
 refused_of_tasks = refl
+
+-- those of releases
+refused_of_releases : flat_map (λ refusal. reply_line (Refused refusal)) (ItemElsewhere ∷ RepeatedLine ∷ []) ≡ codes "refused 37\nrefused 52\n"
+unfolding digits
+refused_of_releases = refl
 
 -- a conflict carries the number of the entry
 conflict : reply_line (Refused (Conflict 4)) ≡ codes "refused 10 4\n"

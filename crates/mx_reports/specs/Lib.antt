@@ -1,3 +1,4 @@
 pub mod LifeText
+pub mod DueText
 pub mod ReplyText
 pub mod Words

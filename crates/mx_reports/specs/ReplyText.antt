@@ -3,7 +3,7 @@ use Rattle.std.specs.Prelude.{ℕ, List, [], ◌∷◌, ◌++◌, codes}
 use Rattle.std.specs.Fmt.{decimal}
 use Rattle.mx_base.specs.Texts.{moment_text}
 use Rattle.mx_book.specs.declared.verdict.Refusal.{Refusal}
-use Rattle.mx_book.specs.declared.verdict.Refusal.TheVariants.{Conflict, Full, UnknownAircraft, UnknownComponent, UnknownPosition, UnknownProgramme, UnknownTask, AircraftExists, ComponentExists, PositionTaken, AlreadyFitted, NotFitted, WrongPart, TaskClosed, LifeLimit, OutOfOrder, WrongRevision, OtherAircraft, OpeningTooLate, OpeningTooLarge}
+use Rattle.mx_book.specs.declared.verdict.Refusal.TheVariants.{Conflict, Full, UnknownAircraft, UnknownComponent, UnknownPosition, UnknownProgramme, UnknownTask, AircraftExists, ComponentExists, PositionTaken, AlreadyFitted, NotFitted, WrongPart, ItemElsewhere, TaskClosed, LifeLimit, OutOfOrder, WrongRevision, OtherAircraft, OpeningTooLate, OpeningTooLarge, RepeatedLine}
 use Rattle.mx_book.specs.declared.verdict.Reply.{Reply}
 use Rattle.mx_book.specs.declared.verdict.Reply.TheVariants.{Accepted, Already, Refused}
 use Rattle.mx_book.specs.Judge.{refusal_number}
@@ -26,11 +26,13 @@ carried_words PositionTaken = []
 carried_words AlreadyFitted = []
 carried_words NotFitted = []
 carried_words WrongPart = []
+carried_words ItemElsewhere = []
 carried_words TaskClosed = []
 carried_words LifeLimit = []
 carried_words OtherAircraft = []
 carried_words OpeningTooLate = []
 carried_words OpeningTooLarge = []
+carried_words RepeatedLine = []
 
 -- the number of a refusal, and what it carries
 abbrev pub refusal_words : Refusal → List ℕ

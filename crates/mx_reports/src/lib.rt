@@ -2,9 +2,11 @@
 //! were where memory runs out.
 #![tactic(auto)]
 
+pub mod due;
 pub mod life;
 pub mod reply;
 mod words;
 
+pub use due::due_text;
 pub use life::life_text;
 pub use reply::reply_text;

@@ -29,11 +29,13 @@ fn append_carried(out: &mut Vec<u8>, refusal: &Refusal) -> Result<(), AllocError
         | Refusal::AlreadyFitted
         | Refusal::NotFitted
         | Refusal::WrongPart
+        | Refusal::ItemElsewhere
         | Refusal::TaskClosed
         | Refusal::LifeLimit
         | Refusal::OtherAircraft
         | Refusal::OpeningTooLate
-        | Refusal::OpeningTooLarge => Ok(()),
+        | Refusal::OpeningTooLarge
+        | Refusal::RepeatedLine => Ok(()),
     }
 }
 

@@ -2,11 +2,11 @@
 //! behind it.
 ghost use Rattle.std.specs.Prelude.{◌≡◌, ◌++◌, [], ◌∷◌, OnOk, OnErr};
 ghost use Rattle.std.specs.Fmt.{decimal};
-ghost use Rattle.mx_base.specs.Texts.{hours_text, moment_text};
+ghost use Rattle.mx_base.specs.Texts.{day_text, hours_text, moment_text};
 ghost use Rattle.mx_reports.specs.Words.{spaced, use_words, end_line, StartsWith};
 
 use itoa::Buffer;
-use mx_base::{Moment, Use, print_hours, print_moment};
+use mx_base::{Day, Moment, Use, print_day, print_hours, print_moment};
 use std::alloc::AllocError;
 
 pub(crate) fn append_word(out: &mut Vec<u8>, word: &[u8]) -> Result<(), AllocError>
@@ -23,6 +23,15 @@ pub(crate) fn append_number(out: &mut Vec<u8>, number: usize) -> Result<(), Allo
 {
     let mut buffer = Buffer::new();
     append_word(out, buffer.format(number).as_bytes())
+}
+
+#[tactic(auto, using(crate::proofs::StartsLemmas::starts_further))]
+pub(crate) fn append_day(out: &mut Vec<u8>, day: Day) -> Result<(), AllocError>
+    ensures words { OnOk result (out.new.items ≡ out.old.items ++ spaced (day_text day)) }
+    ensures kept { OnErr result (StartsWith out.old.items out.new.items) }
+{
+    out.push(b' ')?;
+    print_day(out, day)
 }
 
 #[tactic(auto, using(crate::proofs::StartsLemmas::starts_further))]
