@@ -58,19 +58,19 @@ keeps_unopened before commands outcomes end run (Database error) left = tt
 keeps_unopened before commands outcomes end run (Office conn fault) left = λ clean. ∥∥₁_map (left clean) (λ one. is_kept_unopened before commands outcomes end (file_state conn) fault (run one.clean) one)
 
 -- two runs, one after the other
-is_reopened_twice : {S : Type 0} {g : Ghosts S} (before commands more : List Entry) (tail : List ℕ) (first second : Outcomes) (again : Reopened S g) (between : List Entry)
-    → IsBookKept before commands first between → IsReopened between more tail second again → IsReopenedTwice before commands more tail first second again
-is_reopened_twice before commands more tail first second again between kept it =
+is_reopened_twice : {S : Type 0} {g : Ghosts S} (before commands more : List Entry) (tail : List ℕ) (day : ℕ) (first second : Outcomes) (again : Reopened S g) (between : List Entry)
+    → IsBookKept before commands first between → IsReopened between more tail day second again → IsReopenedTwice before commands more tail day first second again
+is_reopened_twice before commands more tail day first second again between kept it =
     let added = take it.kept.kept (accepted between more) in
     let still = acknowledged_stays between added first.replies.items commands kept.acknowledged in
     record { between = between; before_it = kept; after_it = it; still = subst (λ (book : List Entry). HasAcknowledged book first.replies.items commands) (sym it.kept.prefix) still }
 
-pub reopens_twice : {S E : Type 0} {g : Ghosts S} (before commands more : List Entry) (tail : List ℕ) (first second : Outcomes) (one : Reopened S g) (again : Result (Reopened S g) E) → Reopens before commands tail first one
-    → ((between : List Entry) → StandsFor one.office between → IfOk again (Reopens between more tail second)) → IfOk again (λ it. HasCleanDisk (office_state it.office) → HasCleanDisk (office_state one.office))
-    → IfOk again (ReopensTwice before commands more tail first second)
-reopens_twice before commands more tail first second one (Ok it) found next sure = λ clean.
-    ∥∥₁_elim (found (sure clean)) ∥∥₁_prop (λ left. ∥∥₁_map (next left.book left.tables clean) (λ last. is_reopened_twice before commands more tail first second it left.book left.kept last))
-reopens_twice before commands more tail first second one (Err why) found next sure = tt
+pub reopens_twice : {S E : Type 0} {g : Ghosts S} (before commands more : List Entry) (tail : List ℕ) (day : ℕ) (first second : Outcomes) (one : Reopened S g) (again : Result (Reopened S g) E) → Reopens before commands tail day first one
+    → ((between : List Entry) → StandsFor one.office between → IfOk again (Reopens between more tail day second)) → IfOk again (λ it. HasCleanDisk (office_state it.office) → HasCleanDisk (office_state one.office))
+    → IfOk again (ReopensTwice before commands more tail day first second)
+reopens_twice before commands more tail day first second one (Ok it) found next sure = λ clean.
+    ∥∥₁_elim (found (sure clean)) ∥∥₁_prop (λ left. ∥∥₁_map (next left.book left.tables clean) (λ last. is_reopened_twice before commands more tail day first second it left.book left.kept last))
+reopens_twice before commands more tail day first second one (Err why) found next sure = tt
 
 -- ── a process that ends ──
 

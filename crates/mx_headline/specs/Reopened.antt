@@ -8,7 +8,7 @@ use Rattle.sqlite.specs.Files.{file_state}
 use Rattle.mx_command.specs.Act.{Entry}
 use Rattle.mx_book.specs.declared.verdict.Refusal.TheVariants.{UnknownAircraft}
 use Rattle.mx_book.specs.Accepted.{HasAcknowledged}
-use Rattle.mx_book.specs.Lists.{life_list}
+use Rattle.mx_book.specs.DueList.{due_list}
 use Rattle.mx_layout.specs.Found.{IsFound}
 use Rattle.mx_office.specs.declared.fault.Ask.{Ask}
 use Rattle.mx_office.specs.declared.fault.Ask.TheVariants.{Refused, Failed}
@@ -18,30 +18,30 @@ use Rattle.mx_office.specs.declared.fault.OpenFault.TheVariants as opening
 use Rattle.mx_office.specs.declared.fault.Outcomes.{Outcomes}
 use Rattle.mx_office.specs.Office.{office_state, IsReady, IsInDoubt, StandsFor}
 use Rattle.mx_office.specs.Stands.{Stands, Rests}
-use Rattle.mx_reports.specs.LifeText.{life_lines}
+use Rattle.mx_reports.specs.DueText.{due_lines}
 use Rattle.mx_headline.specs.Kept.{IsBookKept}
 use Rattle.mx_headline.specs.declared.running.Reopened.{Reopened}
 use Rattle.mx_headline.specs.declared.running.Unopened.{Unopened}
 use Rattle.mx_headline.specs.declared.running.Unopened.TheVariants.{Database, Office}
 
 -- why a list was not printed: the book has no such aircraft, or memory or the store failed
-abbrev pub IsUnprinted : List Entry → List ℕ → Ask → Type 0
-IsUnprinted book tail why = ((why ≡ Refused UnknownAircraft) × (life_list book tail ≡ None)) ⊎ ((why ≡ Failed Memory) ⊎ (why ≡ Failed Store))
+abbrev pub IsUnprinted : List Entry → List ℕ → ℕ → Ask → Type 0
+IsUnprinted book tail day why = ((why ≡ Refused UnknownAircraft) × (due_list book tail day ≡ None)) ⊎ ((why ≡ Failed Memory) ⊎ (why ≡ Failed Store))
 
--- the text is that of the book's life list, or there is a reason for none
-abbrev pub IsPrintOf : {Z : Type 0} → List Entry → List ℕ → Result (Vec ℕ Z) Ask → Type 0
-IsPrintOf book tail printed = MatchResult printed (λ text. option_map life_lines (life_list book tail) ≡ Some text.items) (IsUnprinted book tail)
+-- the text is that of the book's due list, or there is a reason for none
+abbrev pub IsPrintOf : {Z : Type 0} → List Entry → List ℕ → ℕ → Result (Vec ℕ Z) Ask → Type 0
+IsPrintOf book tail day printed = MatchResult printed (λ text. option_map due_lines (due_list book tail day) ≡ Some text.items) (IsUnprinted book tail day)
 
--- Stopped before or within any write, the file opens again to the tables of one book, which is the one from before followed by a prefix of the commands accepted since, with every acknowledged command in it; and the list that is printed from it is that book's.
-pub record IsReopened {S : Type 0} {g : Ghosts S} (before commands : List Entry) (tail : List ℕ) (outcomes : Outcomes) (again : Reopened S g) : Type 0 where
+-- Stopped before or within any write, the file opens again to the tables of one book, which is the one from before followed by a prefix of the commands accepted since, with every acknowledged command in it; and the due list that is printed from it is that book's.
+pub record IsReopened {S : Type 0} {g : Ghosts S} (before commands : List Entry) (tail : List ℕ) (day : ℕ) (outcomes : Outcomes) (again : Reopened S g) : Type 0 where
   pub book : List Entry
   pub kept : IsBookKept before commands outcomes book
   pub tables : StandsFor again.office book
-  pub printed : IsPrintOf book tail again.printed
+  pub printed : IsPrintOf book tail day again.printed
 
 -- so it is, where the disk returns what was written
-abbrev pub Reopens : {S : Type 0} {g : Ghosts S} → List Entry → List Entry → List ℕ → Outcomes → Reopened S g → Type 0
-Reopens before commands tail outcomes again = HasCleanDisk (office_state again.office) → ∥ IsReopened before commands tail outcomes again ∥₁
+abbrev pub Reopens : {S : Type 0} {g : Ghosts S} → List Entry → List Entry → List ℕ → ℕ → Outcomes → Reopened S g → Type 0
+Reopens before commands tail day outcomes again = HasCleanDisk (office_state again.office) → ∥ IsReopened before commands tail day outcomes again ∥₁
 
 -- the office that is handed back takes commands and questions, unless the store failed as the list was asked for
 pub record GoesOn {S : Type 0} {g : Ghosts S} (again : Reopened S g) : Type 0 where
@@ -80,12 +80,12 @@ KeepsUnopened before commands outcomes (Office conn fault) = HasCleanDisk (file_
 -- ── two stops ──
 
 -- The second run starts from the book that the first stop left, and each command that either run acknowledged is in the last book.
-pub record IsReopenedTwice {S : Type 0} {g : Ghosts S} (before commands more : List Entry) (tail : List ℕ) (first second : Outcomes) (again : Reopened S g) : Type 0 where
+pub record IsReopenedTwice {S : Type 0} {g : Ghosts S} (before commands more : List Entry) (tail : List ℕ) (day : ℕ) (first second : Outcomes) (again : Reopened S g) : Type 0 where
   pub between : List Entry
   pub before_it : IsBookKept before commands first between
-  pub after_it : IsReopened between more tail second again
+  pub after_it : IsReopened between more tail day second again
   pub still : HasAcknowledged after_it.book first.replies.items commands
 
 -- so it is, where the disk returns what was written
-abbrev pub ReopensTwice : {S : Type 0} {g : Ghosts S} → List Entry → List Entry → List Entry → List ℕ → Outcomes → Outcomes → Reopened S g → Type 0
-ReopensTwice before commands more tail first second again = HasCleanDisk (office_state again.office) → ∥ IsReopenedTwice before commands more tail first second again ∥₁
+abbrev pub ReopensTwice : {S : Type 0} {g : Ghosts S} → List Entry → List Entry → List Entry → List ℕ → ℕ → Outcomes → Outcomes → Reopened S g → Type 0
+ReopensTwice before commands more tail day first second again = HasCleanDisk (office_state again.office) → ∥ IsReopenedTwice before commands more tail day first second again ∥₁

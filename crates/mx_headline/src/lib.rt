@@ -1,6 +1,6 @@
 //! The headline: stopped before or within any write, the file opens again to the tables of one book, which is the one
 //! from before followed by a prefix of the commands accepted since, with every acknowledged command in it, and the
-//! list that is printed from it is that book's.
+//! due list that is printed from it is that book's.
 #![tactic(auto)]
 
 pub mod creating;

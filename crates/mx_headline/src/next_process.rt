@@ -7,8 +7,8 @@ ghost use Rattle.mx_office.specs.Office.{IsReady, StandsFor};
 ghost use Rattle.mx_headline.specs.Ended.{IsEnded};
 ghost use Rattle.mx_headline.specs.Reopened.{GoesOn, KeepsUnopened, Reopens};
 
-use crate::running::{Reopened, Stopped, Unopened, print_life};
-use mx_base::Tail;
+use crate::running::{Reopened, Stopped, Unopened, print_due};
+use mx_base::{Day, Tail};
 use mx_command::Command;
 use mx_layout::{end_process, reopen_file};
 use mx_office::{Fault, Office, Outcomes, open_office};
@@ -45,7 +45,7 @@ pub fn run_and_end<D: Disk + Drop>(
     }
 }
 
-/// The next process opens the file, and a life list is printed from it. `ended` is what the first process left; `start`
+/// The next process opens the file, and a due list is printed from it. `ended` is what the first process left; `start`
 /// says what the file and its log hold now, which is supposed to be what the first may have left of them.
 pub fn reopen_after<D: Disk + Drop, S: Start>(
     rt: &HostRuntime,
@@ -53,12 +53,13 @@ pub fn reopen_after<D: Disk + Drop, S: Start>(
     path: &str,
     start: S,
     tail: &Tail,
+    day: Day,
 ) -> Stopped<FileStore<FileFrom<S>>>
     ensures outcomes { result.outcomes ≡ ended.outcomes }
     ensures goes_on { IfOk result.again GoesOn }
     ensures headline { (before commands : _) → IsEnded before commands ended
         → WasLeft ended.store (image_at S.Start)
-        → IfOk result.again (Reopens before commands tail.now result.outcomes) }
+        → IfOk result.again (Reopens before commands tail.now day result.outcomes) }
     ensures unopened { (before commands : _) → IsEnded before commands ended
         → WasLeft ended.store (image_at S.Start)
         → IfErr result.again (KeepsUnopened before commands result.outcomes) }
@@ -67,7 +68,7 @@ pub fn reopen_after<D: Disk + Drop, S: Start>(
     match reopen_file(rt, store, path, start) {
         Ok(conn) => match open_office(conn) {
             Ok(mut office) => {
-                let printed = print_life(rt.alloc(), &mut office, tail);
+                let printed = print_due(rt.alloc(), &mut office, tail, day);
                 Stopped {
                     outcomes,
                     again: Ok(Reopened { office, printed }),

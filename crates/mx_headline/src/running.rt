@@ -7,11 +7,11 @@ ghost use Rattle.mx_layout.specs.Found.{Finds};
 ghost use Rattle.mx_office.specs.Office.{office_state, IsInDoubt, IsReady, StandsFor};
 ghost use Rattle.mx_headline.specs.Reopened.{FindsUnopened, GoesOn, IsPrintOf, KeepsUnopened, Reopens};
 
-use mx_base::Tail;
+use mx_base::{Day, Tail};
 use mx_command::Command;
 use mx_layout::reopen;
 use mx_office::{Ask, Fault, Office, OpenFault, Outcomes, open_office};
-use mx_reports::life_text;
+use mx_reports::due_text;
 use sqlite::{Alter, Connection, Error, FileStore, Options};
 use sqlite_disk::Crash;
 use std::alloc::Global;
@@ -24,7 +24,7 @@ pub enum Unopened<S: Alter> {
     Office(Connection<S>, OpenFault),
 }
 
-/// An office that was opened again, and the life list that was printed from it.
+/// An office that was opened again, and the due list that was printed from it.
 pub struct Reopened<S: Alter> {
     /// The office.
     pub office: Office<S>,
@@ -40,11 +40,12 @@ pub struct Stopped<S: Alter> {
     pub again: Result<Reopened<S>, Unopened<S>>,
 }
 
-/// The life list of an aircraft, as text. No table changes.
-pub(crate) fn print_life<S: Alter>(
+/// The due list of an aircraft on a day, as text. No table changes.
+pub(crate) fn print_due<S: Alter>(
     alloc: Global,
     office: &mut Office<S>,
     tail: &Tail,
+    day: Day,
 ) -> Result<Vec<u8>, Ask>
     ensures untouched { IsReady office.old
         → ChangesNothing (office_state office.old) (office_state office.new) }
@@ -52,11 +53,11 @@ pub(crate) fn print_life<S: Alter>(
         → IsReady office.new }
     ensures stopped { result ≡ Err (Ask.Failed Fault.Store) → IsInDoubt office.new }
     ensures printed { (book : _) → IsReady office.old → StandsFor office.old book
-        → HasCleanDisk (office_state office.new) → IsPrintOf book tail.now result }
+        → HasCleanDisk (office_state office.new) → IsPrintOf book tail.now day result }
 {
-    let list = office.life_rows(alloc, *tail)?;
+    let list = office.due_rows(alloc, *tail, day)?;
     let mut text = Vec::new(alloc);
-    match life_text(&mut text, &list) {
+    match due_text(&mut text, &list) {
         Ok(()) => Ok(text),
         Err(_) => Err(Ask::Failed(Fault::Memory)),
     }
@@ -85,16 +86,17 @@ pub fn reopen_office<D: Crash + Drop>(
 }
 
 /// Applies commands until they end or something stops them; then the power is lost, the file is opened again, and a
-/// life list is printed from it.
+/// due list is printed from it.
 pub fn run_and_reopen<D: Crash + Drop>(
     alloc: Global,
     mut office: Office<FileStore<D>>,
     commands: &[Command],
     tail: &Tail,
+    day: Day,
     options: Options,
 ) -> Stopped<FileStore<D>>
     ensures headline { (before : _) → StandsFor office before
-        → IfOk result.again (Reopens before commands.now tail.now result.outcomes) }
+        → IfOk result.again (Reopens before commands.now tail.now day result.outcomes) }
     ensures unopened { (before : _) → StandsFor office before
         → IfErr result.again (KeepsUnopened before commands.now result.outcomes) }
 
@@ -111,7 +113,7 @@ pub fn run_and_reopen<D: Crash + Drop>(
     let outcomes = office.run(alloc, commands);
     match reopen_office(alloc, office, options) {
         Ok(mut office) => {
-            let printed = print_life(alloc, &mut office, tail);
+            let printed = print_due(alloc, &mut office, tail, day);
             Stopped {
                 outcomes,
                 again: Ok(Reopened { office, printed }),

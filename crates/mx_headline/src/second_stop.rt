@@ -4,7 +4,7 @@ ghost use Rattle.mx_office.specs.Office.{StandsFor};
 ghost use Rattle.mx_headline.specs.Reopened.{ReopensTwice};
 
 use crate::running::{Reopened, Stopped, Unopened, run_and_reopen};
-use mx_base::Tail;
+use mx_base::{Day, Tail};
 use mx_command::Command;
 use mx_office::{Office, Outcomes};
 use sqlite::{Alter, FileStore, Options};
@@ -26,19 +26,20 @@ pub fn run_and_reopen_twice<D: Crash + Drop>(
     commands: &[Command],
     more: &[Command],
     tail: &Tail,
+    day: Day,
     options: Options,
 ) -> StoppedTwice<FileStore<D>>
     ensures headline { (before : _) → StandsFor office before → IfOk result.second (λ second.
-        IfOk second.again (ReopensTwice before commands.now more.now tail.now result.first
+        IfOk second.again (ReopensTwice before commands.now more.now tail.now day result.first
         second.outcomes)) }
 {
     let Stopped {
         outcomes: first,
         again,
-    } = run_and_reopen(alloc, office, commands, tail, options);
+    } = run_and_reopen(alloc, office, commands, tail, day, options);
     match again {
         Ok(Reopened { office, printed: _ }) => {
-            let second = run_and_reopen(alloc, office, more, tail, options);
+            let second = run_and_reopen(alloc, office, more, tail, day, options);
             StoppedTwice {
                 first,
                 second: Ok(second),

@@ -1,5 +1,5 @@
 -- The exits of a call of the office, over states.
-use Rattle.std.proofs.Common.{◌≡◌, ◌≢◌, inl, inr, ℕ, Result, Ok, Err, ◌+◌, ◌≤◌, false, cond, List, [], ◌∷◌, ◌++◌, length, sym, ap, subst, ◌∙◌, arith}
+use Rattle.std.proofs.Common.{◌≡◌, ◌≢◌, inl, inr, ℕ, Result, Ok, Err, ◌+◌, ◌≤◌, false, cond, List, [], ◌∷◌, ◌++◌, sym, ap, subst, ◌∙◌, arith}
 use Rattle.std.specs.Prelude.{IfErr, IfOk, OnOk}
 use Rattle.sqlite.specs.State.{State, HasCleanDisk}
 use Rattle.sqlite_trees.specs.View.{doubt}
@@ -10,7 +10,7 @@ use Rattle.mx_book.specs.declared.verdict.Verdict.{Verdict}
 use Rattle.mx_book.specs.declared.verdict.Verdict.TheVariants.{New}
 use Rattle.mx_book.specs.Judge.{judge}
 use Rattle.mx_book.specs.Book.{is_new}
-use Rattle.mx_book.specs.Run.{book_after, reply, reply_to}
+use Rattle.mx_book.specs.Run.{book_after}
 use Rattle.mx_layout.specs.Tables.{layout_1}
 use Rattle.mx_layout.specs.Crash.{Leaves, ChangesNothing}
 use Rattle.mx_layout.proofs.CrashLemmas.{rests_kept, rests_same, leaves_same}

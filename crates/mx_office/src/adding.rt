@@ -46,12 +46,15 @@ fn add_rows<S: Alter>(
         programmes,
         tasks,
         openings,
+        releases,
+        release_lines,
         sectors,
         fittings,
         removals,
     } = rows;
     let flown = (sectors, (fittings, removals));
-    let maintained = (programmes, (tasks, (openings, flown)));
+    let released = (releases, (release_lines, flown));
+    let maintained = (programmes, (tasks, (openings, released)));
     let beside = (aircraft, (places, (components, maintained)));
     let entry = entry_row(book.len() + 1, command);
     entry.insert(tx)?;

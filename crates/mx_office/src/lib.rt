@@ -8,6 +8,7 @@ pub mod fault;
 pub mod laws;
 mod loading;
 pub mod office;
+mod questions;
 mod running;
 
 pub use fault::{Ask, Fault, OpenFault, Outcomes};

@@ -49,7 +49,19 @@ fn read_registers<S: Alter>(
             aircraft,
             (
                 places,
-                (components, (programmes, (tasks, (openings, (sectors, (fittings, removals)))))),
+                (
+                    components,
+                    (
+                        programmes,
+                        (
+                            tasks,
+                            (
+                                openings,
+                                (releases, (release_lines, (sectors, (fittings, removals)))),
+                            ),
+                        ),
+                    ),
+                ),
             ),
         ),
     ) = Tables::read(alloc, tx)?;
@@ -61,6 +73,8 @@ fn read_registers<S: Alter>(
         programmes,
         tasks,
         openings,
+        releases,
+        release_lines,
         sectors,
         fittings,
         removals,

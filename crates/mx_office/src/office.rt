@@ -1,11 +1,8 @@
 //! An office over a database, from opening to closing.
-ghost use Rattle.std.specs.Prelude.{◌≡◌, ◌≢◌, ◌⊎◌, ◌≤◌, ◌<◌, ◌+◌, [], ◌∷◌, ◌++◌, length, take, drop, List, Option, Some, None, true, false, IsTrue, OnOk, OnErr, IfOk, IfErr, MatchResult};
+ghost use Rattle.std.specs.Prelude.{◌≡◌, ◌≢◌, ◌⊎◌, ◌≤◌, ◌<◌, ◌+◌, [], ◌∷◌, length, take, Some, None, true, false, IsTrue, OnOk, IfOk, IfErr, MatchResult};
 ghost use Rattle.sqlite.specs.State.{HasCleanDisk};
 ghost use Rattle.sqlite.specs.Held.{state};
 ghost use Rattle.sqlite_trees.specs.View.{doubt};
-ghost use Rattle.mx_book.specs.Book.{entries_from};
-ghost use Rattle.mx_book.specs.Life.{life_now};
-ghost use Rattle.mx_book.specs.Lists.{life_list};
 ghost use Rattle.mx_book.specs.Run.{book_after, book_run, reply, replies};
 ghost use Rattle.mx_layout.specs.declared.points.Point.{Point};
 ghost use Rattle.mx_layout.specs.Contents.{rows_in};
@@ -15,32 +12,21 @@ ghost use Rattle.mx_layout.specs.Making.{first_point};
 ghost use Rattle.mx_layout.specs.Point.{point_cells, FitsPoint, HoldsPoint};
 ghost use Rattle.mx_layout.specs.Tables.{office, HasOffice};
 ghost use Rattle.mx_kept.specs.Schemas.{HasOwn1};
-ghost use Rattle.mx_office.specs.Faults.{found_or, unknown, open_answer, IsAnswer, IsReason, IsUnopened};
+ghost use Rattle.mx_office.specs.Faults.{open_answer, IsReason, IsUnopened};
 ghost use Rattle.mx_office.specs.Stands.{HoldsBook, IsReasonFor, NoneAccepted, RanOver, Rests, IsEither, WasEntered};
 
 use crate::answering::answer;
-use crate::fault::{Ask, Fault, OpenFault, Outcomes, open_fault_of};
+use crate::fault::{Fault, OpenFault, Outcomes, open_fault_of};
 use crate::loading::load_book;
 use crate::running::run_by;
-use mx_base::{Tail, Use};
-use mx_book::{Book, LifeList, Refusal, Reply};
-use mx_command::{Command, Item};
+use mx_book::{Book, Reply};
+use mx_command::Command;
 use mx_layout::{Table, point};
 use sqlite::{Alter, Connection};
 use std::alloc::Global;
 
 /// The newest layout of the tables.
 pub const NEWEST_LAYOUT: u8 = 1;
-
-// Why an item is unknown.
-fn unknown_of(item: &Item) -> Refusal
-    ensures { result ≡ unknown item.now }
-{
-    match item {
-        Item::Airframe(_) => Refusal::UnknownAircraft,
-        Item::Component(_) => Refusal::UnknownComponent,
-    }
-}
 
 /// An office: the tables of one book in a database, and whether a commit is in doubt.
 pub struct Office<S: Alter> {
@@ -262,8 +248,8 @@ impl<S: Alter> Office<S> {
         outcomes
     }
 
-    // The book that the tables hold.
-    fn book(&mut self, alloc: Global) -> Result<Book, Fault>
+    /// The book that the tables hold.
+    pub(crate) fn book(&mut self, alloc: Global) -> Result<Book, Fault>
         ensures reopen { self.old.needs_reopen ≡ true → (result ≡ Err Fault.NeedsReopen)
             × (self.new ≡ self.old) }
         ensures usable { self.old.needs_reopen ≡ false → result ≢ Err Fault.NeedsReopen }
@@ -292,97 +278,5 @@ impl<S: Alter> Office<S> {
             self.needs_reopen = true;
         }
         book
-    }
-
-    /// The life list of an aircraft. `Refused(UnknownAircraft)` where no aircraft has the registration.
-    /// No table changes.
-    pub fn life_rows(&mut self, alloc: Global, tail: Tail) -> Result<LifeList, Ask>
-        ensures reopen { self.old.needs_reopen ≡ true
-            → (result ≡ Err (Ask.Failed Fault.NeedsReopen)) × (self.new ≡ self.old) }
-        ensures usable { self.old.needs_reopen ≡ false
-            → result ≢ Err (Ask.Failed Fault.NeedsReopen) }
-        ensures goes_on { self.old.needs_reopen ≡ false → result ≢ Err (Ask.Failed Fault.Store)
-            → self.new.needs_reopen ≡ false }
-        ensures stopped { result ≡ Err (Ask.Failed Fault.Store) → self.new.needs_reopen ≡ true }
-        ensures untouched { self.old.needs_reopen ≡ false
-            → ChangesNothing (state S.Store self.old.conn) (state S.Store self.new.conn) }
-        ensures exact { (book : _) → self.old.needs_reopen ≡ false
-            → Rests (state S.Store self.old.conn) book → HasCleanDisk (state S.Store self.new.conn)
-            → IsAnswer (found_or Refusal.UnknownAircraft (life_list book tail)) result }
-        ensures sound { HasCleanDisk (state S.Store self.new.conn)
-            → HasOwn1 (state S.Store self.old.conn).now.schema → ((fault : _)
-            → result ≢ Err (Ask.Failed fault)) → (book : _)
-            × HoldsBook (state S.Store self.old.conn).now.trees book
-            × (result ≡ found_or Refusal.UnknownAircraft (life_list book tail)) }
-        ensures damaged { HasCleanDisk (state S.Store self.new.conn)
-            → HasOwn1 (state S.Store self.old.conn).now.schema → (table : _)
-            → result ≡ Err (Ask.Failed (Fault.Damaged table))
-            → IsReasonFor (state S.Store self.old.conn).now.trees table }
-    {
-        let book = self.book(alloc)?;
-        match book.life_list(alloc, &tail)? {
-            Some(list) => Ok(list),
-            None => Err(Ask::Refused(Refusal::UnknownAircraft)),
-        }
-    }
-
-    /// The life of an item with all of its sectors. `Refused(UnknownAircraft)` or `Refused(UnknownComponent)`
-    /// where the item is unknown. No table changes.
-    pub fn life(&mut self, alloc: Global, item: &Item) -> Result<Use, Ask>
-        ensures reopen { self.old.needs_reopen ≡ true
-            → (result ≡ Err (Ask.Failed Fault.NeedsReopen)) × (self.new ≡ self.old) }
-        ensures usable { self.old.needs_reopen ≡ false
-            → result ≢ Err (Ask.Failed Fault.NeedsReopen) }
-        ensures goes_on { self.old.needs_reopen ≡ false → result ≢ Err (Ask.Failed Fault.Store)
-            → self.new.needs_reopen ≡ false }
-        ensures stopped { result ≡ Err (Ask.Failed Fault.Store) → self.new.needs_reopen ≡ true }
-        ensures untouched { self.old.needs_reopen ≡ false
-            → ChangesNothing (state S.Store self.old.conn) (state S.Store self.new.conn) }
-        ensures exact { (book : _) → self.old.needs_reopen ≡ false
-            → Rests (state S.Store self.old.conn) book → HasCleanDisk (state S.Store self.new.conn)
-            → IsAnswer (found_or (unknown item.now) (life_now book item.now)) result }
-        ensures sound { HasCleanDisk (state S.Store self.new.conn)
-            → HasOwn1 (state S.Store self.old.conn).now.schema → ((fault : _)
-            → result ≢ Err (Ask.Failed fault)) → (book : _)
-            × HoldsBook (state S.Store self.old.conn).now.trees book
-            × (result ≡ found_or (unknown item.now) (life_now book item.now)) }
-        ensures damaged { HasCleanDisk (state S.Store self.new.conn)
-            → HasOwn1 (state S.Store self.old.conn).now.schema → (table : _)
-            → result ≡ Err (Ask.Failed (Fault.Damaged table))
-            → IsReasonFor (state S.Store self.old.conn).now.trees table }
-    {
-        let book = self.book(alloc)?;
-        match book.life_now(item) {
-            Some(life) => Ok(life),
-            None => Err(Ask::Refused(unknown_of(item))),
-        }
-    }
-
-    /// The first commands, at most `at_most`, of those whose number is at least `from`, in their order. No table
-    /// changes.
-    pub fn entries(&mut self, alloc: Global, from: u32, at_most: u32) -> Result<Vec<Command>, Fault>
-        ensures reopen { self.old.needs_reopen ≡ true → (result ≡ Err Fault.NeedsReopen)
-            × (self.new ≡ self.old) }
-        ensures usable { self.old.needs_reopen ≡ false → result ≢ Err Fault.NeedsReopen }
-        ensures goes_on { self.old.needs_reopen ≡ false → result ≢ Err Fault.Store
-            → self.new.needs_reopen ≡ false }
-        ensures stopped { result ≡ Err Fault.Store → self.new.needs_reopen ≡ true }
-        ensures untouched { self.old.needs_reopen ≡ false
-            → ChangesNothing (state S.Store self.old.conn) (state S.Store self.new.conn) }
-        ensures exact { (book : _) → self.old.needs_reopen ≡ false
-            → Rests (state S.Store self.old.conn) book → HasCleanDisk (state S.Store self.new.conn)
-            → MatchResult result (λ v. v.items ≡ entries_from from at_most book)
-            (λ fault. (fault ≡ Fault.Memory) ⊎ (fault ≡ Fault.Store)) }
-        ensures sound { HasCleanDisk (state S.Store self.new.conn)
-            → HasOwn1 (state S.Store self.old.conn).now.schema → IfOk result (λ v. (book : _)
-            × HoldsBook (state S.Store self.old.conn).now.trees book
-            × (v.items ≡ entries_from from at_most book)) }
-        ensures damaged { HasCleanDisk (state S.Store self.new.conn)
-            → HasOwn1 (state S.Store self.old.conn).now.schema → (table : _)
-            → result ≡ Err (Fault.Damaged table)
-            → IsReasonFor (state S.Store self.old.conn).now.trees table }
-    {
-        let book = self.book(alloc)?;
-        Ok(book.entries(alloc, from, at_most)?)
     }
 }

@@ -13,9 +13,9 @@ pub returns-in-Ok-open_office-clause-headline : goal.returns-in-Ok-open_office-c
 returns-in-Ok-open_office-clause-headline g c before commands left was clean =
     let mid = file_state c.in-Ok.conn in
     let opened = office_state c.in-Ok-open_office.office in
-    let now = office_state c.print_life-printed.new.office in
+    let now = office_state c.print_due-printed.new.office in
     let ready = c.in-Ok-open_office.ensures.ready in
-    let unprinted = c.print_life-printed.ensures.untouched ready in
+    let unprinted = c.print_due-printed.ensures.untouched ready in
     let nothing = c.in-Ok-open_office.ensures.unchanged in
     let then : HasCleanDisk opened = omega (arith, unprinted.survives.clean) in
     let early : HasCleanDisk mid = omega (arith, nothing.survives.clean) in
@@ -27,11 +27,11 @@ returns-in-Ok-open_office-clause-headline g c before commands left was clean =
       book = one.0;
       kept = one.1;
       tables = rests_kept layout_1 (λ trees. Stands trees one.0) opened now unprinted rests;
-      printed = c.print_life-printed.ensures.printed one.0 ready rests clean;
+      printed = c.print_due-printed.ensures.printed one.0 ready rests clean;
     })
 
 pub returns-in-Ok-open_office-clause-goes_on : goal.returns-in-Ok-open_office-clause-goes_on
-returns-in-Ok-open_office-clause-goes_on g c = record { ready = c.print_life-printed.ensures.goes_on c.in-Ok-open_office.ensures.ready; stopped = c.print_life-printed.ensures.stopped }
+returns-in-Ok-open_office-clause-goes_on g c = record { ready = c.print_due-printed.ensures.goes_on c.in-Ok-open_office.ensures.ready; stopped = c.print_due-printed.ensures.stopped }
 
 pub returns-in-Err-open_office-clause-unopened : goal.returns-in-Err-open_office-clause-unopened
 returns-in-Err-open_office-clause-unopened g c before commands left was clean =

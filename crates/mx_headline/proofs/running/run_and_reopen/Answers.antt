@@ -11,13 +11,13 @@ use Rattle.mx_headline.proofs.running.run_and_reopen.Goals as goal
 
 pub returns-in-Ok-clause-clean : goal.returns-in-Ok-clause-clean
 returns-in-Ok-clause-clean g c clean =
-    let nothing = c.print_life-printed.ensures.untouched c.in-Ok.ensures.ready in
+    let nothing = c.print_due-printed.ensures.untouched c.in-Ok.ensures.ready in
     let end = office_state c.run-outcomes.new.self in
     let sure : HasCleanDisk end = c.in-Ok.ensures.clean (omega (arith, nothing.survives.clean)) in
     omega (arith, c.run-outcomes.ensures.clean)
 
 pub returns-in-Ok-clause-goes_on : goal.returns-in-Ok-clause-goes_on
-returns-in-Ok-clause-goes_on g c = record { ready = c.print_life-printed.ensures.goes_on c.in-Ok.ensures.ready; stopped = c.print_life-printed.ensures.stopped }
+returns-in-Ok-clause-goes_on g c = record { ready = c.print_due-printed.ensures.goes_on c.in-Ok.ensures.ready; stopped = c.print_due-printed.ensures.stopped }
 
 pub returns-in-Ok-clause-headline : goal.returns-in-Ok-clause-headline
 returns-in-Ok-clause-headline g c before rests clean =
@@ -26,9 +26,9 @@ returns-in-Ok-clause-headline g c before rests clean =
     let commands = c.args.commands.now in
     let end = office_state c.run-outcomes.new.self in
     let mid = office_state c.in-Ok.office in
-    let now = office_state c.print_life-printed.new.office in
+    let now = office_state c.print_due-printed.new.office in
     let ready = c.in-Ok.ensures.ready in
-    let nothing = c.print_life-printed.ensures.untouched ready in
+    let nothing = c.print_due-printed.ensures.untouched ready in
     let early : HasCleanDisk mid = omega (arith, nothing.survives.clean) in
     let sure : HasCleanDisk end = c.in-Ok.ensures.clean early in
     let run : IsRun before commands outcomes end = record { clean = sure; undamaged = ran.whole before rests sure; answered = ran.replies before rests sure; kept = ran.kept before rests; crash = ran.crash before rests } in
@@ -39,7 +39,7 @@ returns-in-Ok-clause-headline g c before rests clean =
       book = it.book;
       kept = it.kept;
       tables = rests_kept layout_1 (λ trees. Stands trees it.book) mid now nothing rests';
-      printed = c.print_life-printed.ensures.printed it.book ready rests' clean;
+      printed = c.print_due-printed.ensures.printed it.book ready rests' clean;
     })
 
 pub returns-in-Err-clause-unopened : goal.returns-in-Err-clause-unopened

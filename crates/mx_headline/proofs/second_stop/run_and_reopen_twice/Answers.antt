@@ -8,8 +8,9 @@ returns-in-Ok g c = record {
   headline = λ before rests.
       let commands = c.args.commands.now in
       let tail = c.args.tail.now in
+      let day = c.args.day in
       let first = c.run_and_reopen-first.result.outcomes in
       let second = c.run_and_reopen-second in
-      reopens_twice before commands c.args.more.now tail first second.result.outcomes _ second.result.again
-      (IfOk-at_ok (Reopens before commands tail first) c.in-Ok.is (c.run_and_reopen-first.ensures.headline before rests)) second.ensures.headline second.ensures.clean;
+      reopens_twice before commands c.args.more.now tail day first second.result.outcomes _ second.result.again
+      (IfOk-at_ok (Reopens before commands tail day first) c.in-Ok.is (c.run_and_reopen-first.ensures.headline before rests)) second.ensures.headline second.ensures.clean;
 }

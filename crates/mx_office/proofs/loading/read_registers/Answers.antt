@@ -20,7 +20,7 @@ returns-in_err-entries-clause-damaged g c clean has table said =
 abbrev read : (g : given.Over) → goal.In_ok-entries g → Registers
 read g c =
     let r = c.in_ok-entries in
-    record { entries = r.entries; aircraft = r.aircraft; places = r.places; components = r.components; programmes = r.programmes; tasks = r.tasks; openings = r.openings; sectors = r.sectors; fittings = r.fittings; removals = r.removals }
+    record { entries = r.entries; aircraft = r.aircraft; places = r.places; components = r.components; programmes = r.programmes; tasks = r.tasks; openings = r.openings; releases = r.releases; release_lines = r.release_lines; sectors = r.sectors; fittings = r.fittings; removals = r.removals }
 
 pub returns-clause-exact : goal.returns-clause-exact
 returns-clause-exact g c book clean has stands =

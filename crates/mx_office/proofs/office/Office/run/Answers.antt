@@ -1,7 +1,6 @@
-use Rattle.std.proofs.Common.{ℕ, ◌≡◌, ◌+◌, length, take, List, subst, arith}
+use Rattle.std.proofs.Common.{◌≡◌, ◌+◌, length, take, subst, arith}
 use Rattle.sqlite.specs.Held.{state}
 use Rattle.sqlite.specs.State.{HasCleanDisk}
-use Rattle.mx_command.specs.Act.{Entry}
 use Rattle.mx_book.specs.Run.{book_run, replies}
 use Rattle.mx_layout.specs.Tables.{layout_1}
 use Rattle.mx_layout.proofs.CrashLemmas.{rests_kept}
