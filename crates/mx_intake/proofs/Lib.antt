@@ -11,4 +11,5 @@ pub mod TextLemmas
 pub mod Worked
 pub mod WorkedForms
 pub mod WorkedLoading
+pub mod WorkedReleases
 pub mod WorkedTasks

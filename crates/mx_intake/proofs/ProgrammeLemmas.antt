@@ -128,11 +128,7 @@ shape_is_distinct p ds tasks top given =
     ∙ ap (λ b. b && (list_all task_shape tasks && are_distinct same_name_of_task tasks)) few
     ∙ ap (λ b. b && are_distinct same_name_of_task tasks) tasks_are.0
 
--- the programme with its tasks, by whether it has its shape
-pub if_distinct-shaped : (p : Programme) (ds : Items) (tasks : List Task) → top_shape (p, ds) ≡ true → tasks_from 1 ds ≡ Ok tasks → programme_shape p tasks ≡ true → if_distinct p (tasks_from 1 ds) ≡ Ok (p, tasks)
-if_distinct-shaped p ds tasks top given shaped =
-    ap (if_distinct p) given ∙ ap (λ b. cond b (Ok (p, tasks)) (Err (fault 65 0))) (sym (shape_is_distinct p ds tasks top given) ∙ shaped)
-
+-- tasks whose programme lacks its shape have a name twice
 pub if_distinct-not_shaped : (p : Programme) (ds : Items) (tasks : List Task) → top_shape (p, ds) ≡ true → tasks_from 1 ds ≡ Ok tasks → programme_shape p tasks ≡ false → if_distinct p (tasks_from 1 ds) ≡ Err (fault 65 0)
 if_distinct-not_shaped p ds tasks top given shaped =
     ap (if_distinct p) given ∙ ap (λ b. cond b (Ok (p, tasks)) (Err (fault 65 0))) (sym (shape_is_distinct p ds tasks top given) ∙ shaped)

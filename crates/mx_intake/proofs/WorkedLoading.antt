@@ -1,5 +1,5 @@
 -- Worked commands that load a programme, and their faults, computed from the definitions.
-use Rattle.std.proofs.Common.{refl, ◌≡◌, ℕ, List, [], ◌∷◌, Some, None, Ok, Err, false}
+use Rattle.std.proofs.Common.{refl, ◌≡◌, [], ◌∷◌, Some, None, Ok, Err, false}
 use Rattle.std.specs.Prelude.{codes}
 use Rattle.mx_command.specs.Act.{Loaded}
 use Rattle.mx_command.specs.declared.programme.Applies.TheVariants.{Part}

@@ -24,6 +24,11 @@ by_form shape false (Some a) false = if_shaped shape a
 abbrev pub entry_by_form : Bool → Option Entry → Bool → Result Entry ℕ
 entry_by_form = by_form has_shape
 
+-- the command of an entry, unless two of its keys exclude each other
+abbrev pub if_keys_agree : Bool → Result Entry ℕ → Result Entry ℕ
+if_keys_agree exclude (Err which) = Err which
+if_keys_agree exclude (Ok e) = if exclude then Err BAD_SHAPE else Ok e
+
 -- a document and what is said by it
 abbrev pub entry_of : List ℕ × Body → Entry
 entry_of stated = record { doc = stated.0; act = act_of stated.1 }

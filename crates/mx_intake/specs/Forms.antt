@@ -1,6 +1,5 @@
--- The form of each command: its keys, and how their values are read.
-use Rattle.std.specs.Prelude.{ℕ, List, [], ◌∷◌, codes, Bool, false, ◌&&◌, ◌||◌, Option, Some, None, is_some, option_map, option_and_then, Result, Ok, Err, if◌then◌else◌}
-use Rattle.std.specs.Option.{option_map_or}
+-- The form of each command, that of a release aside: its keys, and how their values are read; and the form that a word chooses.
+use Rattle.std.specs.Prelude.{ℕ, List, [], ◌∷◌, codes, Bool, ◌&&◌, ◌||◌, Option, Some, None, is_some, option_map, option_and_then, Result, Err, if◌then◌else◌}
 use Rattle.std.specs.Str.{bytes_eq}
 use Rattle.serde_json.specs.Data.{Data, Items, no_items, item}
 use Rattle.serde_json.specs.Find.{get, as_str, as_object}
@@ -8,10 +7,11 @@ use Rattle.mx_base.specs.declared.amounts.Use.{Use}
 use Rattle.mx_command.specs.Act.{Entry, Added, Listed, Opened, Flown, Fitted, Removed}
 use Rattle.mx_command.specs.Shape.{sector_doc}
 use Rattle.mx_command.specs.declared.sector.Sector.{Sector}
-use Rattle.mx_intake.specs.declared.fault.TheConstants.{MISSING, BAD_VALUE, BAD_SHAPE}
-use Rattle.mx_intake.specs.Form.{if_read, entry_by_form}
+use Rattle.mx_intake.specs.declared.fault.TheConstants.{MISSING, BAD_VALUE}
+use Rattle.mx_intake.specs.Form.{if_read, if_keys_agree, entry_by_form}
 use Rattle.mx_intake.specs.Items.{item_at_keys, lacks_item, names_two_items}
-use Rattle.mx_intake.specs.Object.{lacks_key, has_other_key, number_at_key, list_at_key, any_item}
+use Rattle.mx_intake.specs.Object.{lacks_key, has_other_key, number_at_key, list_at_key, any_at_key}
+use Rattle.mx_intake.specs.Release.{release_form}
 use Rattle.mx_intake.specs.Vocabulary.{tail_at_key, name_at_key, document_at_key, day_at_key, moment_at_key}
 
 -- ── add-aircraft ──
@@ -32,7 +32,7 @@ lacks_position_key d = is_some (as_object d) && lacks_key position_keys d
 
 -- the test holds of one of the positions
 abbrev pub any_position : (Data → Bool) → Data → Bool
-any_position test d = option_map_or (any_item test) (list_at_key (codes "positions") d) false
+any_position = any_at_key (codes "positions")
 
 -- the position that an object states, and the part that it takes
 abbrev pub stated_position : Data → Option (List ℕ × List ℕ)
@@ -125,15 +125,10 @@ stated_opening d =
     if_read (day_at_key (codes "day") d) (λ day.
     Some (record { doc = doc; act = Opened (record { item = item; kind = kind; task = task; use_then = use_then; day = day }) })))))))
 
--- the command, where it is not about two items
-abbrev pub if_about_one : Bool → Result Entry ℕ → Result Entry ℕ
-if_about_one two (Err which) = Err which
-if_about_one two (Ok e) = if two then Err BAD_SHAPE else Ok e
-
 -- the command that an object gives by the form of an opening
 abbrev pub opening_form : Data → Result Entry ℕ
 opening_form d =
-    if_about_one (names_two_items d)
+    if_keys_agree (names_two_items d)
     (entry_by_form (lacks_key needed_opening_keys d || lacks_item d) (stated_opening d) (has_other_key opening_keys d))
 
 -- ── sector ──
@@ -212,6 +207,7 @@ entry_by_word word d =
     else if bytes_eq word (codes "sector") then sector_form d
     else if bytes_eq word (codes "fit") then fitting_form d
     else if bytes_eq word (codes "remove") then removal_form d
+    else if bytes_eq word (codes "release") then release_form d
     else Err BAD_VALUE
 
 -- the command by the text at `do`, if it is one

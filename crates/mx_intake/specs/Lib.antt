@@ -8,6 +8,7 @@ pub mod Keys
 pub mod Loading
 pub mod Object
 pub mod ProgrammeText
+pub mod Release
 pub mod Sequence
 pub mod Table
 pub mod Tasks

@@ -1,6 +1,7 @@
 -- What an object of JSON has at its keys.
 use Rattle.std.specs.Prelude.{ℕ, List, Bool, false, not, ◌||◌, Option, is_some, option_and_then}
 use Rattle.std.specs.List.{list_any}
+use Rattle.std.specs.Option.{option_map_or}
 use Rattle.serde_json.specs.Data.{Data, null, boolean, number, string, array, object, Items, no_items, item, Members, no_members, member}
 use Rattle.serde_json.specs.Find.{get, as_number, as_u64, as_str, as_array}
 use Rattle.mx_intake.specs.Keys.{is_key, if_small}
@@ -43,3 +44,7 @@ list_at_key key d = option_and_then as_array (get key d)
 abbrev pub any_item : (Data → Bool) → Items → Bool
 any_item test no_items = false
 any_item test (item d ds) = test d || any_item test ds
+
+-- a value of the list at a key passes the test
+abbrev pub any_at_key : List ℕ → (Data → Bool) → Data → Bool
+any_at_key key test d = option_map_or (any_item test) (list_at_key key d) false

@@ -40,7 +40,7 @@ pub const BAD_VALUE: u8 = 63;
 /// The entry has a key that its form doesn't have.
 pub const UNKNOWN_KEY: u8 = 64;
 
-/// The entry does not have the shape of a command, a programme or a task.
+/// The entry does not have the shape of a command, a programme or a task, or two of its keys exclude each other.
 pub const BAD_SHAPE: u8 = 65;
 
 /// There are more bytes, or more entries, than are taken.

@@ -1,7 +1,7 @@
 //! The least fault of an entry by its form, or its command.
 ghost use Rattle.std.specs.Prelude.{◌≡◌, ◌≢◌, Ok, Err, IfOk, IfErr, option_map};
 ghost use Rattle.mx_intake.specs.declared.fault.TheConstants.{MEMORY};
-ghost use Rattle.mx_intake.specs.Form.{entry_by_form, entry_of};
+ghost use Rattle.mx_intake.specs.Form.{entry_by_form, if_keys_agree, entry_of};
 
 use crate::fault::{BAD_SHAPE, BAD_VALUE, MEMORY, MISSING, UNKNOWN_KEY};
 use mx_base::Doc;
@@ -35,4 +35,24 @@ pub(crate) fn command_by_form(
         Err(MakeFault::BadShape) => Err(BAD_SHAPE),
         Err(MakeFault::Memory) => Err(MEMORY),
     }
+}
+
+/// The command of a form, as `command_by_form`, unless two of its keys exclude each other.
+pub(crate) fn command_if_keys_agree(
+    alloc: Global,
+    lacks: bool,
+    stated: Option<(Doc, Body)>,
+    has_other: bool,
+    exclude: bool,
+) -> Result<Command, u8>
+    ensures ok { IfOk result (λ c. if_keys_agree exclude
+        (entry_by_form lacks (option_map entry_of stated) has_other) ≡ Ok c) }
+    ensures err { IfErr result (λ n. n ≢ MEMORY → if_keys_agree exclude
+        (entry_by_form lacks (option_map entry_of stated) has_other) ≡ Err n) }
+{
+    let command = command_by_form(alloc, lacks, stated, has_other)?;
+    if exclude {
+        return Err(BAD_SHAPE);
+    }
+    Ok(command)
 }

@@ -85,8 +85,8 @@ fn read_value(alloc: Global, bytes: &[u8]) -> Result<Value, IntakeFault>
 /// Of several faults that of the first faulty entry is answered, and of that entry the least number. Entry 0 is the
 /// whole text: 67 too many bytes, or too many entries; 61 no UTF-8, or no JSON; 63 no list. Of an entry: 63 no object;
 /// 62 no `do`; 63 another word at `do` than those of the commands; and by its form 62 a key that is missing, 63 a value
-/// that can't be read, 64 a key that the form does not have, 65 a shape that no command has. 60, of entry 0, is want of
-/// memory. A key that is written twice has its last value.
+/// that can't be read, 64 a key that the form does not have, 65 keys that exclude each other, or a shape that no command
+/// has. 60, of entry 0, is want of memory. A key that is written twice has its last value.
 pub fn commands_of_json(alloc: Global, bytes: &[u8]) -> Result<Vec<Command>, IntakeFault>
     ensures ok { IfOk result (λ v. entries_of_text bytes.now ≡ Ok v.items) }
     ensures err { IfErr result (λ f. f.number ≢ MEMORY → entries_of_text bytes.now ≡ Err f) }

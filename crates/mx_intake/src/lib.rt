@@ -1,8 +1,8 @@
 //! What comes in from outside: all bytes of a reader, the commands that a JSON text states, and the maintenance
 //! programme that a TOML text states, or the fault of the text or of its first faulty entry.
 //!
-//! A further command adds its form in one place: a file of `src/` and a part of `specs/Forms.antt`, each with a
-//! line where the word at `do` chooses the form (`forms.rt`, `entry_by_word`).
+//! A further command adds its form in one place: a file of `src/` and a part of `specs/Forms.antt`, or a file beside it,
+//! each with a line where the word at `do` chooses the form (`forms.rt`, `entry_by_word`).
 #![tactic(auto)]
 
 mod aircraft;
@@ -16,11 +16,14 @@ mod items;
 mod json;
 mod keys;
 mod limits;
+mod lines;
 mod loading;
 mod object;
 mod opening;
+mod places;
 mod positions;
 mod programme;
+mod release;
 mod removal;
 mod sector;
 mod table;

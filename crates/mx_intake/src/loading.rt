@@ -1,21 +1,13 @@
 //! The command that loads the maintenance programme of a TOML text.
 ghost use Rattle.std.specs.Prelude.{◌≡◌, ◌≢◌, Ok, Err, IfOk, IfErr};
-ghost use Rattle.mx_command.specs.Shape.{is_log_doc};
 ghost use Rattle.mx_intake.specs.declared.fault.TheConstants.{MEMORY};
 ghost use Rattle.mx_intake.specs.Loading.{entry_if_programme, entry_of_programme, fault_by_document};
 
 use crate::fault::{BAD_SHAPE, IntakeFault, MEMORY, of_whole};
 use crate::programme::programme_of_toml;
 use mx_base::Doc;
-use mx_command::{Body, Command, MakeFault, Programme, Task};
+use mx_command::{Body, Command, MakeFault, Programme, Task, is_of_log};
 use std::alloc::Global;
-
-/// Whether a document is one of the technical log, which only a sector has.
-fn is_of_log(doc: &Doc) -> bool
-    ensures { result ≡ is_log_doc doc.now }
-{
-    doc.as_str().as_bytes().starts_with(b"TL/")
-}
 
 /// The fault that is told by a document, by which no programme is loaded where it is one of the technical log.
 fn fault_by_document(doc: &Doc, fault: IntakeFault) -> IntakeFault

@@ -2,7 +2,7 @@
 ghost use Rattle.std.specs.Prelude.{◌≡◌, map, is_some, option_map};
 ghost use Rattle.serde_json.specs.Find.{get};
 ghost use Rattle.serde_json.specs.View.{view, items_view};
-ghost use Rattle.mx_intake.specs.Object.{lacks_key, has_other_key, number_at_key, text_at_key, list_at_key};
+ghost use Rattle.mx_intake.specs.Object.{lacks_key, has_other_key, number_at_key, text_at_key, list_at_key, any_item};
 
 use crate::keys::is_one_of;
 use serde_json::Value;
@@ -35,6 +35,19 @@ pub(crate) fn has_other(object: &Value, keys: &[&str]) -> bool
     };
     for key in members.keys() {
         if !is_one_of(keys, key.as_str()) {
+            return true;
+        }
+    }
+    false
+}
+
+/// Whether one of the values has a key that is none of these.
+pub(crate) fn one_has_other(values: &[Value], keys: &[&str]) -> bool
+    ensures { result ≡ any_item (has_other_key (map (λ k. k.now) keys.now))
+        (items_view values.now) }
+{
+    for value in values {
+        if has_other(value, keys) {
             return true;
         }
     }

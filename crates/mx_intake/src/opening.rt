@@ -2,12 +2,11 @@
 ghost use Rattle.std.specs.Prelude.{◌≡◌, ◌≢◌, Ok, Err, IfOk, IfErr, option_map};
 ghost use Rattle.serde_json.specs.View.{view};
 ghost use Rattle.mx_intake.specs.declared.fault.TheConstants.{MEMORY};
-ghost use Rattle.mx_intake.specs.Form.{entry_by_form, entry_of};
-ghost use Rattle.mx_intake.specs.Forms.{stated_opening, if_about_one, opening_form};
+ghost use Rattle.mx_intake.specs.Form.{entry_of};
+ghost use Rattle.mx_intake.specs.Forms.{stated_opening, opening_form};
 
 use crate::component::use_at;
-use crate::fault::BAD_SHAPE;
-use crate::form::command_by_form;
+use crate::form::command_if_keys_agree;
 use crate::items::{item_at, lacks_item, names_two_items};
 use crate::object::{has_other, lacks};
 use crate::vocabulary::{day_at, identifier_at};
@@ -36,26 +35,6 @@ fn stated(object: &Value) -> Option<(Doc, Body)>
     Some((doc, body))
 }
 
-/// The command of a form, as `command_by_form`, where it is not about two items.
-fn command_about_one(
-    alloc: Global,
-    lacks: bool,
-    stated: Option<(Doc, Body)>,
-    has_other: bool,
-    names_two: bool,
-) -> Result<Command, u8>
-    ensures ok { IfOk result (λ c. if_about_one names_two
-        (entry_by_form lacks (option_map entry_of stated) has_other) ≡ Ok c) }
-    ensures err { IfErr result (λ n. n ≢ MEMORY → if_about_one names_two
-        (entry_by_form lacks (option_map entry_of stated) has_other) ≡ Err n) }
-{
-    let command = command_by_form(alloc, lacks, stated, has_other)?;
-    if names_two {
-        return Err(BAD_SHAPE);
-    }
-    Ok(command)
-}
-
 /// The opening that an object states, or the number of its least fault.
 pub(crate) fn command_of(alloc: Global, object: &Value) -> Result<Command, u8>
     ensures ok { IfOk result (λ c. opening_form (view object.now) ≡ Ok c) }
@@ -68,5 +47,5 @@ pub(crate) fn command_of(alloc: Global, object: &Value) -> Result<Command, u8>
     let lacks = lacks(object, &needed) || lacks_item(object);
     let has_other = has_other(object, &keys);
     let names_two = names_two_items(object);
-    command_about_one(alloc, lacks, stated(object), has_other, names_two)
+    command_if_keys_agree(alloc, lacks, stated(object), has_other, names_two)
 }

@@ -4,7 +4,7 @@ ghost use Rattle.serde_json.specs.View.{view, items_view};
 ghost use Rattle.mx_intake.specs.Object.{any_item, has_other_key};
 ghost use Rattle.mx_intake.specs.Forms.{position_keys, lacks_position_key, any_position, stated_position, stated_positions, positions_at_key};
 
-use crate::object::{has_other, lacks, list_at};
+use crate::object::{lacks, list_at, one_has_other};
 use crate::vocabulary::identifier_at;
 use mx_base::{Part, Position};
 use serde_json::Value;
@@ -38,23 +38,12 @@ pub(crate) fn lack_key(object: &Value) -> bool
     }
 }
 
-fn one_has_other_key(positions: &[Value]) -> bool
-    ensures { result ≡ any_item (has_other_key position_keys) (items_view positions.now) }
-{
-    for position in positions {
-        if has_other(position, &["position", "part"]) {
-            return true;
-        }
-    }
-    false
-}
-
 /// Whether one of the positions of an object has another key than those of a position.
 pub(crate) fn have_other_key(object: &Value) -> bool
     ensures { result ≡ any_position (has_other_key position_keys) (view object.now) }
 {
     match list_at(object, "positions") {
-        Some(positions) => one_has_other_key(positions),
+        Some(positions) => one_has_other(positions, &["position", "part"]),
         None => false,
     }
 }
