@@ -17,9 +17,10 @@ use Rattle.mx_words.specs.Status.{run_ending}
 abbrev pub reply_lines : List Entry → List Entry → List ℕ
 reply_lines book commands = flat_map reply_line (replies book commands)
 
--- the text is a line for each of some replies, and the ending is theirs
-abbrev pub AreReplyLines : List ℕ → Ending → Type 0
-AreReplyLines text ending = (replies : List Reply) × (text ≡ flat_map reply_line replies) × (ending ≡ run_ending replies)
+-- the text is a line for each of so many replies, and the ending is theirs
+abbrev pub AreReplyLines : ℕ → List ℕ → Ending → Type 0
+AreReplyLines count text ending =
+    (replies : List Reply) × (length replies ≡ count) × (text ≡ flat_map reply_line replies) × (ending ≡ run_ending replies)
 
 -- the lines of all replies were appended, and the ending is theirs
 pub record TellsReplies (book commands : List Entry) (old new : List ℕ) (ending : Ending) : Type 0 where

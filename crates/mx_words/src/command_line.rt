@@ -8,7 +8,7 @@ ghost use Rattle.mx_words.specs.Number.{number_in};
 
 use crate::trial::Trial;
 use clap::{Arg, ArgAction, ArgMatches, Command};
-use mx_base::{Doc, Moment, Tail};
+use mx_base::{Day, Doc, Moment, Tail};
 use std::alloc::{AllocError, Global};
 
 /// What the program is asked to do.
@@ -21,6 +21,11 @@ pub(crate) enum Words<'a> {
     Life {
         file: &'a str,
         tail: Tail,
+    },
+    Due {
+        file: &'a str,
+        tail: Tail,
+        day: Day,
     },
     Enter {
         file: &'a str,
@@ -77,6 +82,14 @@ fn life_command<'a>(alloc: Global) -> Result<Command<'a>, AllocError> {
         .arg(value(alloc, "TAIL", "The registration"))
 }
 
+fn due_command<'a>(alloc: Global) -> Result<Command<'a>, AllocError> {
+    Command::new(alloc, "due")
+        .about("Prints what is due on an aircraft, and what is left until then on a day")
+        .arg(value(alloc, "FILE", "The database file"))?
+        .arg(value(alloc, "TAIL", "The registration"))?
+        .arg(value(alloc, "DAY", "The day, YYYY-MM-DD"))
+}
+
 fn enter_command<'a>(alloc: Global) -> Result<Command<'a>, AllocError> {
     Command::new(alloc, "enter")
         .about("Enters the commands of a file, and prints a reply for each")
@@ -108,6 +121,7 @@ pub(crate) fn command<'a>(alloc: Global) -> Result<Command<'a>, AllocError> {
         .subcommand(try_command(alloc)?)?
         .subcommand(init_command(alloc)?)?
         .subcommand(life_command(alloc)?)?
+        .subcommand(due_command(alloc)?)?
         .subcommand(enter_command(alloc)?)?
         .subcommand(programme_command(alloc)?)
 }
@@ -151,6 +165,14 @@ fn trial_of(matches: &ArgMatches<'_>) -> Option<Trial> {
     })
 }
 
+fn due_of<'a>(matches: &ArgMatches<'a>) -> Option<Words<'a>> {
+    Some(Words::Due {
+        file: matches.get_str("FILE")?,
+        tail: tail_of(matches)?,
+        day: Day::read(matches.get_str("DAY")?).ok()?,
+    })
+}
+
 fn programme_of<'a>(matches: &ArgMatches<'a>) -> Option<Words<'a>> {
     Some(Words::Programme {
         file: matches.get_str("FILE")?,
@@ -171,6 +193,7 @@ pub(crate) fn words_of<'a>(matches: &ArgMatches<'a>) -> Option<Words<'a>> {
             file: values.get_str("FILE")?,
             tail: tail_of(values)?,
         }),
+        "due" => due_of(values),
         "enter" => Some(Words::Enter {
             file: values.get_str("FILE")?,
             entries: values.get_str("ENTRIES")?,

@@ -1,5 +1,5 @@
 //! Entering commands into an open office: a line for each reply.
-ghost use Rattle.std.specs.Prelude.{◌≡◌, ◌≢◌, ◌+◌, ◌++◌, true, false, take, OnOk, IfOk, IfErr};
+ghost use Rattle.std.specs.Prelude.{◌≡◌, ◌≢◌, ◌+◌, ◌++◌, true, false, take, length, OnOk, IfOk, IfErr};
 ghost use Rattle.std.specs.List.{flat_map, list_any};
 ghost use Rattle.sqlite.specs.Held.{state};
 ghost use Rattle.sqlite.specs.State.{HasCleanDisk};
@@ -74,7 +74,7 @@ pub(crate) fn enter_all<S: Alter>(
         → OnOk result (Rests (state S.Store office.new.conn) (book_run book commands.now)) }
 
     ensures shown { IfOk result (λ ending. (text : _) × (out.new.items ≡ out.old.items ++ text)
-        × AreReplyLines text ending) }
+        × AreReplyLines (length commands.now) text ending) }
 
     // A fault stopped it: the replies before it were printed, and the tables are those of their
     // commands.

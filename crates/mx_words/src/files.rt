@@ -4,14 +4,15 @@ ghost use Rattle.std.specs.Prelude.{◌≡◌, ◌↔◌, ◌⊎◌, ◌+◌, �
 ghost use Rattle.std.specs.Vec.{vec_capacity};
 ghost use Rattle.mx_words.specs.Asked.{IsAnswer};
 ghost use Rattle.mx_words.specs.Entered.{AreReplyLines};
-ghost use Rattle.mx_words.specs.Printed.{IsLifeAnswer};
+ghost use Rattle.mx_words.specs.Printed.{IsDueAnswer, IsLifeAnswer};
 ghost use Rattle.mx_words.specs.Status.{stop_status};
 
+use crate::due::print_due;
 use crate::entering::enter_all;
 use crate::fault::{Ending, Stop};
 use crate::life::{open, print_life};
 use crate::making::{CREATED, make_book};
-use mx_base::{Doc, Tail};
+use mx_base::{Day, Doc, Tail};
 use mx_command::Command;
 use mx_intake::{IntakeFault, MOST_BYTES, READ_FAILED, commands_of_json, programme_of, read_all};
 use mx_layout::TableFault;
@@ -64,11 +65,20 @@ fn made_in<S: Alter + Drop>(
     Ok(conn)
 }
 
+/// An aircraft, and the day that its due list is for.
+#[derive(Clone, Copy)]
+pub(crate) struct OnDay {
+    tail: Tail,
+    day: Day,
+}
+
 /// What is asked of the office in a file.
 #[derive(Clone, Copy)]
 pub(crate) enum Asked<'a> {
     /// The life of an aircraft.
     Life(&'a Tail),
+    /// The due list of an aircraft on a day.
+    Due(&'a OnDay),
     /// The replies to commands, which are entered.
     Enter(&'a [Command]),
 }
@@ -86,6 +96,7 @@ fn answer<S: Alter>(
 {
     match asked {
         Asked::Life(tail) => print_life(alloc, office, tail, out),
+        Asked::Due(on) => print_due(alloc, office, &on.tail, on.day, out),
         Asked::Enter(commands) => enter_all(alloc, office, commands, out),
     }
 }
@@ -172,6 +183,22 @@ pub(crate) fn life(
     answer_file(rt, file, Asked::Life(tail), out)
 }
 
+/// Appends the due list of an aircraft on a day.
+pub(crate) fn due(
+    rt: &HostRuntime,
+    file: &str,
+    tail: &Tail,
+    day: Day,
+    out: &mut Vec<u8>,
+) -> Result<Ending, Stop>
+    ensures shown { IfOk result (λ ending. (text : _) × (out.new.items ≡ out.old.items ++ text)
+        × IsDueAnswer text ending) }
+    ensures status { IfErr result (λ stop. 4 ≤ stop_status stop) }
+{
+    let on = OnDay { tail: *tail, day };
+    answer_file(rt, file, Asked::Due(&on), out)
+}
+
 // The bytes of an input file.
 fn input_in(rt: &HostRuntime, name: &str) -> Result<Vec<u8>, IntakeFault> {
     let Ok(mut file) = fs::open(rt, name) else {
@@ -203,8 +230,8 @@ pub(crate) fn enter(
     entries: &str,
     out: &mut Vec<u8>,
 ) -> Result<Ending, Stop>
-    ensures shown { IfOk result (λ ending. (text : _) × (out.new.items ≡ out.old.items ++ text)
-        × AreReplyLines text ending) }
+    ensures shown { IfOk result (λ ending. (count : _) × (text : _)
+        × (out.new.items ≡ out.old.items ++ text) × AreReplyLines count text ending) }
     ensures status { IfErr result (λ stop. 3 ≤ stop_status stop) }
     ensures unread { IfErr result (λ stop. stop_status stop ≡ 3
         → out.new.items ≡ out.old.items) }
@@ -225,7 +252,7 @@ pub(crate) fn programme(
     out: &mut Vec<u8>,
 ) -> Result<Ending, Stop>
     ensures shown { IfOk result (λ ending. (text : _) × (out.new.items ≡ out.old.items ++ text)
-        × AreReplyLines text ending) }
+        × AreReplyLines 1 text ending) }
     ensures status { IfErr result (λ stop. 3 ≤ stop_status stop) }
     ensures unread { IfErr result (λ stop. stop_status stop ≡ 3
         → out.new.items ≡ out.old.items) }

@@ -5,6 +5,7 @@
 #![tactic(auto)]
 
 mod command_line;
+mod due;
 mod entering;
 mod fault;
 mod files;

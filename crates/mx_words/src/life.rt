@@ -59,8 +59,8 @@ fn append_list(out: &mut Vec<u8>, list: &LifeList) -> Result<Ending, Stop>
     }
 }
 
-// Appends a refusal.
-fn append_refusal(out: &mut Vec<u8>, refusal: Refusal) -> Result<Ending, Stop>
+/// Appends a refusal.
+pub(crate) fn append_refusal(out: &mut Vec<u8>, refusal: Refusal) -> Result<Ending, Stop>
     ensures printed { OnOk result (out.new.items ≡ out.old.items ++ reply_line (Reply.Refused
         refusal)) }
     ensures ending { IfOk result (λ ending. ending ≡ Ending.Refused) }
