@@ -1,6 +1,7 @@
 //! The commands that the words of a case name: the form and its parts, each written out.
 
 use crate::programmes::programme_of;
+use crate::releases::release_of;
 use mx_base::{BadText, Day, Doc, Kind, Moment, Part, Position, Serial, Tail, TaskId, Use};
 use mx_book::NoMemory;
 use mx_command::{Body, Command, Item, MakeFault};
@@ -108,8 +109,8 @@ fn component_of(parts: &[&str]) -> Result<Body, Unmade> {
     })
 }
 
-// airframe TAIL, or component SERIAL
-fn item_of(word: &str, name: &str) -> Result<Item, Unmade> {
+/// The item that two words name: `airframe TAIL`, or `component SERIAL`.
+pub fn item_of(word: &str, name: &str) -> Result<Item, Unmade> {
     match word {
         "airframe" => Ok(Item::Airframe(Tail::read(name)?)),
         "component" => Ok(Item::Component(Serial::read(name)?)),
@@ -174,7 +175,8 @@ fn removal_of(parts: &[&str]) -> Result<Body, Unmade> {
 /// `aircraft TAIL KIND BIRTH MINUTES CYCLES AS_OF [POSITION=PART ..]`,
 /// `component SERIAL PART BIRTH MINUTES CYCLES AS_OF`, `programme KIND REVISION [TASK ..]` with tasks as `programme_of`
 /// reads them, `opening airframe TAIL KIND TASK MINUTES CYCLES DAY` and `opening component SERIAL ..` alike, `sector TAIL
-/// PAGE LINE OFF ON CYCLES`, `fit SERIAL TAIL POSITION MOMENT` and `remove SERIAL MOMENT`.
+/// PAGE LINE OFF ON CYCLES`, `fit SERIAL TAIL POSITION MOMENT`, `remove SERIAL MOMENT`, and `release ..` as `release_of` reads
+/// it.
 pub fn body_of(alloc: Global, form: &str, parts: &[&str]) -> Result<Body, Unmade> {
     match form {
         "aircraft" => aircraft_of(alloc, parts),
@@ -184,6 +186,7 @@ pub fn body_of(alloc: Global, form: &str, parts: &[&str]) -> Result<Body, Unmade
         "sector" => sector_of(parts),
         "fit" => fitting_of(parts),
         "remove" => removal_of(parts),
+        "release" => release_of(alloc, parts),
         _ => Err(Unmade::NoSuchLine),
     }
 }

@@ -1,22 +1,25 @@
 //! Cases as data: files of lines that ask something and say what is to be answered, the commands that their
 //! words name, and the texts of answers. A program that plays files of cases says how a question is answered;
-//! the rest is here.
+//! the rest is here, and what the disks are that an office can be asked over.
 #![tactic(auto)]
 
 pub mod answers;
 pub mod commands;
+pub mod disks;
 pub mod files;
 pub mod playing;
 pub mod program;
 mod programmes;
 pub mod quoted;
+mod releases;
 
 pub use answers::{
     answer_of, append_joined, append_number, append_reply, append_word, begin_print, documents,
     joined_lines, number_text, or_none, printed, replies_in, reply_in, room_for_replies,
     room_for_reply, verdict_text, yes_or_no,
 };
-pub use commands::{Unmade, body_of, command_of};
+pub use commands::{Unmade, body_of, command_of, item_of};
+pub use disks::{Asked, Disks, Setting};
 pub use files::{Played, play_file};
 pub use playing::{Plays, answered};
 pub use program::run;

@@ -2,9 +2,9 @@
 ghost use Rattle.std.specs.Prelude.{◌≡◌, false, IfErr};
 
 use crate::database_lines::answer_of_database;
-use crate::office_lines::{Asked, answer_of_office};
+use crate::office_lines::answer_of_office;
 use crate::texts::{append_open_fault, room};
-use mx_cases::Unmade;
+use mx_cases::{Asked, Unmade};
 use mx_office::{Office, OpenFault, open_office};
 use sqlite::{Alter, Connection};
 use std::alloc::Global;

@@ -2,8 +2,8 @@
 //! carry none of what the office promises of them.
 ghost use Rattle.std.specs.Prelude.{◌≡◌, false};
 
-use mx_base::{Tail, Use};
-use mx_book::{LifeList, Reply};
+use mx_base::{Day, Tail, Use};
+use mx_book::{DueList, LifeList, Reply};
 use mx_command::{Command, Item};
 use mx_layout::{Layout, TableFault, create};
 use mx_office::{Ask, Fault, Office, Outcomes};
@@ -61,6 +61,16 @@ pub(crate) fn list_of<S: Alter>(
     tail: &Tail,
 ) -> Result<LifeList, Ask> {
     office.life_rows(alloc, *tail)
+}
+
+/// The due list of an aircraft on a day.
+pub(crate) fn dues_of<S: Alter>(
+    alloc: Global,
+    office: &mut Office<S>,
+    tail: &Tail,
+    day: Day,
+) -> Result<DueList, Ask> {
+    office.due_rows(alloc, *tail, day)
 }
 
 /// Whether the office has to be opened again.

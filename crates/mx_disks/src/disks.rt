@@ -1,16 +1,15 @@
-//! The disks: files in memory, and an office that may be open over a copy of them.
+//! The disks whose files are in memory, and an office that may be open over a copy of them.
 
 use crate::files::{
-    Fused, Held, Pair, Setting, asked_in, asked_of_files, copied, empty_files, left_by, lose_power,
+    Fused, Held, Pair, asked_in, asked_of_files, copied, empty_files, left_by, lose_power,
 };
-use crate::office_lines::Asked;
 use crate::texts::{append_error, room};
-use mx_cases::Unmade;
+use mx_cases::{Asked, Disks, Setting, Unmade};
 use mx_office::Office;
 use std::alloc::{AllocError, Global};
 
 /// A database file and its log in memory, a copy of them that is kept, and an office that may be open.
-pub struct Disks {
+pub struct MemoryDisks {
     alloc: Global,
     // The database file and its log. While an office is open, as they were before it was opened.
     files: Pair,
@@ -29,75 +28,15 @@ fn is_taken(words: &[&str], answer: &Result<String, Unmade>) -> bool {
     }
 }
 
-impl Disks {
+impl MemoryDisks {
     /// Files that hold nothing, and no office.
-    pub fn new(alloc: Global) -> Disks {
-        Disks {
+    pub fn new(alloc: Global) -> MemoryDisks {
+        MemoryDisks {
             alloc,
             files: empty_files(alloc),
             kept: empty_files(alloc),
             office: None,
         }
-    }
-
-    /// Disks with copies of the files, which they also keep, and no office.
-    pub fn copy(&self) -> Result<Disks, AllocError> {
-        Ok(Disks {
-            alloc: self.alloc,
-            files: copied(self.alloc, &self.files, Setting::WHOLE)?,
-            kept: copied(self.alloc, &self.files, Setting::WHOLE)?,
-            office: None,
-        })
-    }
-
-    /// Lets go of everything.
-    pub fn let_go(self) {
-        let Disks {
-            alloc: _,
-            files: _,
-            kept: _,
-            office,
-        } = self;
-        if let Some(office) = office {
-            let (_files, _) = left_by(office, false);
-        }
-    }
-
-    /// Whether an office is open.
-    pub fn is_open(&self) -> bool {
-        self.office.is_some()
-    }
-
-    /// The process of an open office ends: the files are as it left them.
-    pub fn end(&mut self) {
-        if let Some(office) = self.office.take() {
-            let (files, _) = left_by(office, false);
-            self.files = files;
-        }
-    }
-
-    /// The process of an open office ends, and the power is lost: the files hold what was synced.
-    pub fn lose_power(&mut self) {
-        self.end();
-        lose_power(&mut self.files);
-    }
-
-    /// The process of an open office ends, and the files hold nothing.
-    pub fn begin(&mut self) {
-        self.end();
-        self.files = empty_files(self.alloc);
-    }
-
-    /// Keeps a copy of the files. Where memory runs out, what was kept before is kept.
-    pub fn keep(&mut self) -> Result<(), AllocError> {
-        self.kept = copied(self.alloc, &self.files, Setting::WHOLE)?;
-        Ok(())
-    }
-
-    /// Takes the files back of which a copy was kept. Where memory runs out, the files stay as they are.
-    pub fn restore(&mut self) -> Result<(), AllocError> {
-        self.files = copied(self.alloc, &self.kept, Setting::WHOLE)?;
-        Ok(())
     }
 
     // Holds what a line left: the office that is open, or the files, where they are taken.
@@ -123,11 +62,62 @@ impl Disks {
         self.hold(held, is_taken(words, &answer));
         answer
     }
+}
 
-    /// What the open office answers to a line. Where none is open, what the database in the files answers, which is
-    /// opened with this setting: they change where it makes a book, opens its office or runs a statement. `NoSuchLine`
-    /// where it is no line of what is asked.
-    pub fn ask(&mut self, setting: Setting, asked: Asked<'_>) -> Result<String, Unmade> {
+impl Disks for MemoryDisks {
+    fn copy(&self) -> Result<MemoryDisks, AllocError> {
+        Ok(MemoryDisks {
+            alloc: self.alloc,
+            files: copied(self.alloc, &self.files, Setting::WHOLE)?,
+            kept: copied(self.alloc, &self.files, Setting::WHOLE)?,
+            office: None,
+        })
+    }
+
+    fn let_go(self) {
+        let MemoryDisks {
+            alloc: _,
+            files: _,
+            kept: _,
+            office,
+        } = self;
+        if let Some(office) = office {
+            let (_files, _) = left_by(office, false);
+        }
+    }
+
+    fn is_open(&self) -> bool {
+        self.office.is_some()
+    }
+
+    fn end(&mut self) {
+        if let Some(office) = self.office.take() {
+            let (files, _) = left_by(office, false);
+            self.files = files;
+        }
+    }
+
+    fn lose_power(&mut self) {
+        self.end();
+        lose_power(&mut self.files);
+    }
+
+    fn begin(&mut self) {
+        self.end();
+        self.files = empty_files(self.alloc);
+    }
+
+    fn keep(&mut self) -> Result<(), AllocError> {
+        self.kept = copied(self.alloc, &self.files, Setting::WHOLE)?;
+        Ok(())
+    }
+
+    fn restore(&mut self) -> Result<(), AllocError> {
+        self.files = copied(self.alloc, &self.kept, Setting::WHOLE)?;
+        Ok(())
+    }
+
+    fn ask(&mut self, setting: Setting, asked: Asked<'_>) -> Result<String, Unmade> {
         match self.office.take() {
             Some(office) => {
                 let (answer, held) = asked_in(Ok(office), asked);
@@ -138,9 +128,7 @@ impl Disks {
         }
     }
 
-    /// Closes the open office as the program does, so that the log is copied into the database file: `ok`, or what
-    /// stopped that. `NoSuchLine` where none is open.
-    pub fn close(&mut self) -> Result<String, Unmade> {
+    fn close(&mut self) -> Result<String, Unmade> {
         let mut text = room(self.alloc)?;
         let Some(office) = self.office.take() else {
             return Err(Unmade::NoSuchLine);

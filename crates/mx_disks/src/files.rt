@@ -6,9 +6,8 @@ ghost use Rattle.sqlite_disk.specs.Memory.{memory_is_usable};
 ghost use Rattle.sqlite_disk.specs.Fuse.{inner_of, IsFresh};
 
 use crate::asking::ask;
-use crate::office_lines::Asked;
 use crate::texts::error_text;
-use mx_cases::Unmade;
+use mx_cases::{Asked, Setting, Unmade};
 use mx_layout::end_process;
 use mx_office::Office;
 use sqlite::{Connection, Error, FileStore, Files, Options};
@@ -19,29 +18,6 @@ pub(crate) type Fused = FileStore<Fuse<Memory>>;
 
 /// A database file and its log, each of which fails after so many calls.
 pub(crate) type Pair = Files<Fuse<Memory>>;
-
-/// The length of the log of a real file, in pages.
-const LONG: usize = 1000;
-
-/// How files are opened.
-#[derive(Clone, Copy)]
-pub struct Setting {
-    /// The number of calls after which the log fails.
-    pub log: u64,
-    /// The number of calls after which the database file fails.
-    pub db: u64,
-    /// How many pages the log holds before it is copied into the database file.
-    pub pages: usize,
-}
-
-impl Setting {
-    /// Neither file fails, and the log is as long as that of a real file.
-    pub const WHOLE: Setting = Setting {
-        log: u64::MAX,
-        db: u64::MAX,
-        pages: LONG,
-    };
-}
 
 /// What files leave that were asked a line: files, or an office that is open over them.
 pub(crate) enum Held {

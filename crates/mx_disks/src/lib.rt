@@ -19,10 +19,8 @@ mod asking;
 mod calls;
 mod database_lines;
 pub mod disks;
-pub mod files;
-pub mod office_lines;
+mod files;
+mod office_lines;
 mod texts;
 
-pub use disks::Disks;
-pub use files::Setting;
-pub use office_lines::Asked;
+pub use disks::MemoryDisks;

@@ -1,12 +1,12 @@
 //! What is asked of an open office.
 
-use crate::calls::{applied, entries_of, is_in_doubt, life_of, list_of, ran};
+use crate::calls::{applied, dues_of, entries_of, is_in_doubt, life_of, list_of, ran};
 use crate::texts::{answers_in, append_fault, ask_text, room};
-use mx_base::{Serial, Tail};
-use mx_cases::{Unmade, command_of, documents, joined_lines, room_for_replies, yes_or_no};
+use mx_base::{Day, Serial, Tail};
+use mx_cases::{Asked, Unmade, command_of, documents, joined_lines, room_for_replies, yes_or_no};
 use mx_command::{Command, Item};
 use mx_office::{Fault, Office};
-use mx_reports::life_text;
+use mx_reports::{due_text, life_text};
 use sqlite::Alter;
 use std::alloc::Global;
 use std::slice;
@@ -53,6 +53,24 @@ fn life_list<S: Alter>(
         Ok(list) => {
             let mut lines = Vec::new(alloc);
             life_text(&mut lines, &list)?;
+            Ok(joined_lines(alloc, &lines)?)
+        }
+        Err(ask) => Ok(ask_text(alloc, ask)?),
+    }
+}
+
+// The due list of the aircraft with this registration on a day.
+fn due_list<S: Alter>(
+    alloc: Global,
+    office: &mut Office<S>,
+    registration: &str,
+    day: &str,
+) -> Result<String, Unmade> {
+    let tail = Tail::read(registration)?;
+    match dues_of(alloc, office, &tail, Day::read(day)?) {
+        Ok(list) => {
+            let mut lines = Vec::new(alloc);
+            due_text(&mut lines, &list)?;
             Ok(joined_lines(alloc, &lines)?)
         }
         Err(ask) => Ok(ask_text(alloc, ask)?),
@@ -117,19 +135,6 @@ fn apply_first<S: Alter>(
     }
 }
 
-/// What an open office is asked, or the database that files hold.
-#[derive(Drop)]
-pub struct Asked<'a> {
-    /// The memory of the answer.
-    pub alloc: Global,
-    /// The words of the line.
-    pub words: &'a [&'a str],
-    /// The commands that `run` hands in, and `first` the first of them.
-    pub list: &'a [Command],
-    /// Where the entries are put that `entries` finds.
-    pub entries: &'a mut Vec<Command>,
-}
-
 /// What an open office answers.
 pub(crate) fn answer_of_office<S: Alter>(
     office: &mut Office<S>,
@@ -140,6 +145,7 @@ pub(crate) fn answer_of_office<S: Alter>(
         ["run"] => run(alloc, office, asked.list),
         ["first"] => apply_first(alloc, office, asked.list),
         ["life", tail] => life_list(alloc, office, tail),
+        ["due", tail, day] => due_list(alloc, office, tail, day),
         ["airframe", tail] => life(alloc, office, &Item::Airframe(Tail::read(tail)?)),
         ["component", serial] => life(alloc, office, &Item::Component(Serial::read(serial)?)),
         ["entries", from, at_most] => entries(office, asked, from, at_most),

@@ -3,13 +3,13 @@
 
 use crate::player::Player;
 use crate::sweep_lines::{answer_of_sweep, is_sweep};
-use mx_cases::{Plays, answer_of, append_joined};
+use mx_cases::{Disks, Plays, answer_of, append_joined};
 use std::alloc::{AllocError, Global};
 
 /// The player, and whether lines are played once more.
-pub(crate) struct Again {
+pub(crate) struct Again<D> {
     pub alloc: Global,
-    pub player: Player,
+    pub player: Player<D>,
     pub is_again: bool,
 }
 
@@ -36,7 +36,7 @@ fn as_first(alloc: Global, answer: &str) -> Result<String, AllocError> {
     Ok(text)
 }
 
-impl Again {
+impl<D: Disks> Again<D> {
     // The answer to a line.
     fn play_once(&mut self, words: &[&str]) -> Result<String, AllocError> {
         let answer = if is_sweep(words) && !self.player.is_open() {
@@ -59,7 +59,7 @@ impl Again {
     }
 }
 
-impl Plays for Again {
+impl<D: Disks> Plays for Again<D> {
     fn play(&mut self, words: &[&str]) -> Result<String, AllocError> {
         let first = self.play_once(words)?;
         let is_stopped = first.ends_with("fault memory") || first.ends_with("fault store");

@@ -2,6 +2,7 @@
 
 use crate::player::Player;
 use crate::sweep::{End, Stops, Wrong, answers, must};
+use mx_cases::Disks;
 use std::alloc::Global;
 
 // What is asked of the files: their point and tables, the making once more, and the entries then.
@@ -29,7 +30,12 @@ pub(crate) struct MakingStops<'a> {
 }
 
 impl<'a> Stops for MakingStops<'a> {
-    fn stop(&mut self, player: &mut Player, calls: u64, end: End) -> Result<bool, Wrong> {
+    fn stop<D: Disks>(
+        &mut self,
+        player: &mut Player<D>,
+        calls: u64,
+        end: End,
+    ) -> Result<bool, Wrong> {
         let file = self.file;
         let making = format!(in self.alloc; "make {file} {calls}")?;
         player.line("disk")?;

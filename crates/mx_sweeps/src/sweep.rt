@@ -2,7 +2,7 @@
 //! of the stops. What it does and looks at are lines of the player.
 
 use crate::player::Player;
-use mx_cases::{Unmade, append_joined};
+use mx_cases::{Disks, Unmade, append_joined};
 use mx_command::Command;
 use std::alloc::{AllocError, Global};
 
@@ -49,9 +49,9 @@ pub(crate) fn must(holds: bool, otherwise: &'static str) -> Result<(), Wrong> {
 }
 
 /// The answers to lines, joined by ` / `.
-pub(crate) fn answers(
+pub(crate) fn answers<D: Disks>(
     alloc: Global,
-    player: &mut Player,
+    player: &mut Player<D>,
     lines: &[&str],
 ) -> Result<String, Unmade> {
     let mut text = String::new(alloc);
@@ -62,7 +62,7 @@ pub(crate) fn answers(
 }
 
 /// All entries of the open office.
-pub(crate) fn all_entries(player: &mut Player) -> Result<Vec<Command>, Wrong> {
+pub(crate) fn all_entries<D: Disks>(player: &mut Player<D>) -> Result<Vec<Command>, Wrong> {
     let text = player.line("entries 1 4294967295")?;
     must(
         !text.starts_with("fault "),
@@ -75,7 +75,12 @@ pub(crate) fn all_entries(player: &mut Player) -> Result<Vec<Command>, Wrong> {
 pub(crate) trait Stops {
     /// Does the work where the file stops after so many calls, ends the program, and looks at what that left. Answers
     /// whether the work was stopped.
-    fn stop(&mut self, player: &mut Player, calls: u64, end: End) -> Result<bool, Wrong>;
+    fn stop<D: Disks>(
+        &mut self,
+        player: &mut Player<D>,
+        calls: u64,
+        end: End,
+    ) -> Result<bool, Wrong>;
 
     /// What is answered where every stop left what it must, or what no stop has shown.
     fn verdict(&self) -> Result<&'static str, Wrong>;
@@ -114,9 +119,9 @@ fn ended_text<W: Stops>(
 /// Stops a file at each of its calls in turn, until the work ends without a stop, and ends the program in each of these
 /// ways: what is answered where all stops left what they must and there were at least so many, and else the first that
 /// did not, and what it left.
-pub(crate) fn swept<W: Stops>(
+pub(crate) fn swept<W: Stops, D: Disks>(
     alloc: Global,
-    player: &mut Player,
+    player: &mut Player<D>,
     work: &mut W,
     ends: &[End],
     at_least: u64,

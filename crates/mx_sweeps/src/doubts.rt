@@ -4,6 +4,7 @@
 use crate::plain::{Plain, is_start};
 use crate::player::Player;
 use crate::sweep::{End, Stops, Wrong, all_entries, must};
+use mx_cases::Disks;
 use std::alloc::Global;
 
 /// The first command of the list, which is to be new, over files of which the log stops, and one end of the program.
@@ -43,7 +44,7 @@ impl Doubts {
 
     // The command is handed in twice to the office that is opened again. Whether it had been kept: then it is known,
     // and else it is accepted now. Handed in again it is known at all events.
-    fn was_known(&self, player: &mut Player) -> Result<bool, Wrong> {
+    fn was_known<D: Disks>(&self, player: &mut Player<D>) -> Result<bool, Wrong> {
         let first = player.line("first")?;
         let second = player.line("first")?;
         let was_known = self.is_known(first.as_str());
@@ -59,7 +60,7 @@ impl Doubts {
     }
 
     // There is one entry of the command, behind those before it.
-    fn has_one_entry(&self, player: &mut Player) -> Result<(), Wrong> {
+    fn has_one_entry<D: Disks>(&self, player: &mut Player<D>) -> Result<(), Wrong> {
         let found = all_entries(player)?;
         must(
             found.len() == self.plain.before.saturating_add(1)
@@ -69,7 +70,7 @@ impl Doubts {
     }
 
     // Opens the files again and hands the command in twice. Whether it had been kept.
-    fn is_kept(&self, player: &mut Player) -> Result<bool, Wrong> {
+    fn is_kept<D: Disks>(&self, player: &mut Player<D>) -> Result<bool, Wrong> {
         must(
             player.says("open", "opened")?,
             "files that are not opened again",
@@ -95,7 +96,12 @@ impl Doubts {
 }
 
 impl Stops for Doubts {
-    fn stop(&mut self, player: &mut Player, calls: u64, end: End) -> Result<bool, Wrong> {
+    fn stop<D: Disks>(
+        &mut self,
+        player: &mut Player<D>,
+        calls: u64,
+        end: End,
+    ) -> Result<bool, Wrong> {
         let opening = format!(in self.alloc; "open log {calls}")?;
         player.line("restore")?;
         if !player.says(opening.as_str(), "opened")? {

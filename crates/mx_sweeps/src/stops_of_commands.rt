@@ -4,21 +4,22 @@
 use crate::plain::{Plain, is_start, plain_run};
 use crate::player::Player;
 use crate::sweep::{End, Stops, Wrong, all_entries, must};
-use mx_cases::Unmade;
+use mx_cases::{Disks, Unmade};
 use mx_command::Command;
 use std::alloc::{AllocError, Global};
 
 // Lines that an office answers by saying that it has to be opened again.
-const CALLS: [&str; 5] = [
+const CALLS: [&str; 6] = [
     "run",
     "first",
     "life D-ABCD",
+    "due D-ABCD 2024-03-10",
     "airframe D-ABCD",
     "entries 1 10",
 ];
 
 /// What the plain book gives for the list of commands, over the office that the files hold.
-pub(crate) fn plain_of(alloc: Global, player: &mut Player) -> Result<Plain, Wrong> {
+pub(crate) fn plain_of<D: Disks>(alloc: Global, player: &mut Player<D>) -> Result<Plain, Wrong> {
     must(player.says("open", "opened")?, "files that are not opened")?;
     let entries = all_entries(player)?;
     player.stop(End::Process)?;
@@ -88,7 +89,7 @@ fn known_after(alloc: Global, plain: &Plain, answer: &str) -> Result<Known, Wron
 }
 
 // Every call answers that the office has to be opened again.
-fn needs_reopen(player: &mut Player) -> Result<bool, Unmade> {
+fn needs_reopen<D: Disks>(player: &mut Player<D>) -> Result<bool, Unmade> {
     for call in CALLS {
         if !player.says(call, "fault reopen")? {
             return Ok(false);
@@ -99,7 +100,11 @@ fn needs_reopen(player: &mut Player) -> Result<bool, Unmade> {
 
 // Runs the commands in the open office. Where a fault stops the run, every call answers from then on that the office has
 // to be opened again.
-fn run_through(alloc: Global, plain: &Plain, player: &mut Player) -> Result<Known, Wrong> {
+fn run_through<D: Disks>(
+    alloc: Global,
+    plain: &Plain,
+    player: &mut Player<D>,
+) -> Result<Known, Wrong> {
     let answer = player.line("run")?;
     let known = known_after(alloc, plain, answer.as_str())?;
     if known.is_stopped {
@@ -143,7 +148,7 @@ pub(crate) struct CommandStops<'a> {
 
 impl<'a> CommandStops<'a> {
     // Runs the commands over files of which one stops.
-    fn run_stopped(&self, player: &mut Player, calls: u64) -> Result<Known, Wrong> {
+    fn run_stopped<D: Disks>(&self, player: &mut Player<D>, calls: u64) -> Result<Known, Wrong> {
         let file = self.file;
         let pages = self.pages;
         let opening = format!(in self.alloc; "open {file} {calls} pages {pages}")?;
@@ -163,9 +168,9 @@ impl<'a> CommandStops<'a> {
     }
 
     // The commands handed in again over the entries that were found are answered as the plain book answers them.
-    fn is_answered_again(
+    fn is_answered_again<D: Disks>(
         &self,
-        player: &mut Player,
+        player: &mut Player<D>,
         found: &[Command],
         again: &str,
     ) -> Result<(), Wrong> {
@@ -196,7 +201,7 @@ impl<'a> CommandStops<'a> {
     }
 
     // Opens what was left, hands the commands in again, and looks at the book before and after.
-    fn leaves_a_prefix(&self, player: &mut Player, known: Known) -> Result<(), Wrong> {
+    fn leaves_a_prefix<D: Disks>(&self, player: &mut Player<D>, known: Known) -> Result<(), Wrong> {
         must(
             player.says("open", "opened")?,
             "files that are not opened again",
@@ -217,7 +222,12 @@ impl<'a> CommandStops<'a> {
 }
 
 impl<'a> Stops for CommandStops<'a> {
-    fn stop(&mut self, player: &mut Player, calls: u64, end: End) -> Result<bool, Wrong> {
+    fn stop<D: Disks>(
+        &mut self,
+        player: &mut Player<D>,
+        calls: u64,
+        end: End,
+    ) -> Result<bool, Wrong> {
         player.line("restore")?;
         let known = self.run_stopped(player, calls)?;
         player.stop(end)?;

@@ -6,7 +6,7 @@ use crate::settings::end_of;
 use crate::stops_of_commands::{CommandStops, plain_of};
 use crate::stops_of_making::MakingStops;
 use crate::sweep::{End, Wrong, swept};
-use mx_cases::Unmade;
+use mx_cases::{Disks, Unmade};
 use std::alloc::Global;
 
 const BOTH_ENDS: [End; 2] = [End::Process, End::Power];
@@ -19,9 +19,9 @@ fn unbegun(alloc: Global, wrong: Wrong) -> Result<String, Unmade> {
     }
 }
 
-fn stops_of_making(
+fn stops_of_making<D: Disks>(
     alloc: Global,
-    player: &mut Player,
+    player: &mut Player<D>,
     file: &str,
     at_least: &str,
 ) -> Result<String, Unmade> {
@@ -30,9 +30,9 @@ fn stops_of_making(
     swept(alloc, player, &mut stops, &BOTH_ENDS, at_least)
 }
 
-fn stops_of_commands(
+fn stops_of_commands<D: Disks>(
     alloc: Global,
-    player: &mut Player,
+    player: &mut Player<D>,
     (file, pages, at_least): (&str, &str, &str),
 ) -> Result<String, Unmade> {
     let at_least = at_least.parse::<u64>()?;
@@ -50,7 +50,12 @@ fn stops_of_commands(
     }
 }
 
-fn doubts(alloc: Global, player: &mut Player, end: &str, at_least: &str) -> Result<String, Unmade> {
+fn doubts<D: Disks>(
+    alloc: Global,
+    player: &mut Player<D>,
+    end: &str,
+    at_least: &str,
+) -> Result<String, Unmade> {
     let end = end_of(end)?;
     let at_least = at_least.parse::<u64>()?;
     match plain_of(alloc, player) {
@@ -69,7 +74,11 @@ fn doubts(alloc: Global, player: &mut Player, end: &str, at_least: &str) -> Resu
 }
 
 // Plays a sweep over files and a list that it may change.
-fn played(alloc: Global, player: &mut Player, words: &[&str]) -> Result<String, Unmade> {
+fn played<D: Disks>(
+    alloc: Global,
+    player: &mut Player<D>,
+    words: &[&str],
+) -> Result<String, Unmade> {
     match words {
         ["stops-of-making", file, at_least] => stops_of_making(alloc, player, file, at_least),
         ["stops-of-commands", file, "pages", pages, at_least] => stops_of_commands(
@@ -93,9 +102,9 @@ pub(crate) fn is_sweep(words: &[&str]) -> bool {
 /// What a sweep is answered: `stops-of-making FILE AT_LEAST`, `stops-of-commands FILE pages PAGES AT_LEAST` or
 /// `doubts END AT_LEAST`. The two last hand the list of commands in to the office that the files hold. It plays its lines
 /// over copies, so that the player stays as it is.
-pub(crate) fn answer_of_sweep(
+pub(crate) fn answer_of_sweep<D: Disks>(
     alloc: Global,
-    player: &Player,
+    player: &Player<D>,
     words: &[&str],
 ) -> Result<String, Unmade> {
     let mut trial = player.trial()?;

@@ -2,35 +2,34 @@
 
 use crate::settings::setting_of;
 use crate::sweep::End;
-use mx_cases::{Unmade, command_of};
+use mx_cases::{Asked, Disks, Setting, Unmade, command_of};
 use mx_command::Command;
-use mx_disks::{Asked, Disks, Setting};
 use std::alloc::Global;
 use std::mem;
 
 /// What stands between two lines.
-pub(crate) struct Player {
+pub(crate) struct Player<D> {
     alloc: Global,
-    disks: Disks,
+    disks: D,
     // The commands that `run` and the sweeps hand in.
     list: Vec<Command>,
     // The entries that were asked for last.
     entries: Vec<Command>,
 }
 
-impl Player {
-    /// New disks, and no command.
-    pub(crate) fn new(alloc: Global) -> Player {
+impl<D: Disks> Player<D> {
+    /// These disks, and no command.
+    pub(crate) fn over(alloc: Global, disks: D) -> Player<D> {
         Player {
             alloc,
-            disks: Disks::new(alloc),
+            disks,
             list: Vec::new(alloc),
             entries: Vec::new(alloc),
         }
     }
 
     /// A player with copies of the disks and of the list.
-    pub(crate) fn trial(&self) -> Result<Player, Unmade> {
+    pub(crate) fn trial(&self) -> Result<Player<D>, Unmade> {
         let mut list = Vec::new(self.alloc);
         for command in &self.list {
             list.push(command.copy(self.alloc)?)?;

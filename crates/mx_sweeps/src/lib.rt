@@ -1,0 +1,28 @@
+//! Plays files of cases over disks, any that stop after so many calls, lose what was not synced, are opened again,
+//! and have rows that no office wrote.
+//!
+//! Lines over the files:
+//! - `disk`: begins with files that hold nothing;
+//! - `make [log CALLS] [db CALLS]`: makes an empty book; a file fails after so many calls;
+//! - `point`, `ask QUERY`, `sql STATEMENT`: the point, the rows of a query, and a statement that changes the files;
+//! - `power`: what was not synced is lost;
+//! - `keep`, `restore`: keeps a copy of the files, and takes it back;
+//! - `open [log CALLS] [db CALLS] [pages PAGES]`: opens the office; the log holds so many pages before it is copied;
+//! - `list COMMAND`, `list`: puts a command behind those of the list, or empties it;
+//! - `stops-of-making`, `stops-of-commands`, `doubts`: sweeps, which play such lines over copies (`sweep_lines`).
+//!
+//! Lines in the open office: commands, and the questions that the disks answer; `close`, `end` and `power` leave it.
+#![tactic(auto)]
+
+mod again;
+mod doubts;
+mod plain;
+mod player;
+pub mod program;
+mod settings;
+mod stops_of_commands;
+mod stops_of_making;
+mod sweep;
+mod sweep_lines;
+
+pub use program::play;
