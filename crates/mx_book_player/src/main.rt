@@ -1,10 +1,11 @@
 //! Plays files of cases on a book in memory: commands that are handed in, and questions on commands, books,
-//! registers, days, moments and identifiers. The files say in their first lines what each shows.
+//! what is due, registers, days, moments and identifiers. The files say in their first lines what each shows.
 #![tactic(auto)]
 
 mod books;
 mod calendar;
 mod commands;
+mod dues;
 mod identifiers;
 mod player;
 mod registers;

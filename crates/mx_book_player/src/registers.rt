@@ -3,7 +3,8 @@
 use crate::books::{are_same, first_other};
 use crate::rows::{
     aircraft_text, components_text, entries_text, fittings_text, openings_text, places_text,
-    programmes_text, removals_text, rows_of, sectors_text, tasks_text,
+    programmes_text, release_lines_text, releases_text, removals_text, rows_of, sectors_text,
+    tasks_text,
 };
 use crate::shown::command_text;
 use mx_base::{Moment, Part, Position, Serial, Tail};
@@ -52,6 +53,8 @@ fn keep_first(rows: &mut Registers, table: &str, count: usize) -> Result<(), Unm
         "sectors" => rows.sectors.truncate(count),
         "fittings" => rows.fittings.truncate(count),
         "removals" => rows.removals.truncate(count),
+        "releases" => rows.releases.truncate(count),
+        "release-lines" => rows.release_lines.truncate(count),
         _ => return Err(Unmade::NoSuchLine),
     }
     Ok(())
@@ -136,6 +139,8 @@ fn rows(alloc: Global, book: &Book, table: &str) -> Result<String, Unmade> {
         "sectors" => sectors_text(alloc, rows.sectors.as_slice()),
         "fittings" => fittings_text(alloc, rows.fittings.as_slice()),
         "removals" => removals_text(alloc, rows.removals.as_slice()),
+        "releases" => releases_text(alloc, rows.releases.as_slice()),
+        "release-lines" => release_lines_text(alloc, rows.release_lines.as_slice()),
         _ => return Err(Unmade::NoSuchLine),
     };
     Ok(text?)

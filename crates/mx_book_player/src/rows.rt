@@ -9,9 +9,9 @@ use mx_command::Command;
 use mx_register::merge::Registers;
 use mx_register::{
     AircraftRow, ComponentRow, EntryKind, EntryRow, FittingRow, OpeningRow, PlaceRow, ProgrammeRow,
-    RemovalRow, SectorRow, TaskRow, aircraft_row, component_row, entry_row, fitting_row,
-    opening_row, place_row, programme_row, removal_row, sector_row, seq_of_item, seq_of_serial,
-    seq_of_tail, task_row,
+    ReleaseLineRow, ReleaseRow, RemovalRow, SectorRow, TaskRow, aircraft_row, component_row,
+    entry_row, fitting_row, opening_row, place_row, programme_row, release_line_row, release_row,
+    removal_row, sector_row, seq_of_item, seq_of_place, seq_of_serial, seq_of_tail, task_row,
 };
 use std::alloc::{AllocError, Global};
 
@@ -28,6 +28,8 @@ fn no_rows(alloc: Global) -> Registers {
         sectors: Vec::new(alloc),
         fittings: Vec::new(alloc),
         removals: Vec::new(alloc),
+        releases: Vec::new(alloc),
+        release_lines: Vec::new(alloc),
     }
 }
 
@@ -94,6 +96,26 @@ fn push_done(rows: &mut Registers, book: &Book, seq: u32, entry: &Command) -> Re
     Ok(())
 }
 
+// Adds the rows of the release that an entry with this number says.
+fn push_release(
+    rows: &mut Registers,
+    book: &Book,
+    seq: u32,
+    entry: &Command,
+) -> Result<(), Unmade> {
+    if let Some(release) = entry.release() {
+        let item = seq_of_place(book, &release.place).unwrap_or(0);
+        rows.releases.push(release_row(seq, item, release))?;
+    }
+    let mut number = 0u32;
+    for line in entry.lines() {
+        number = number.saturating_add(1);
+        let row = release_line_row(book, seq, number, line);
+        rows.release_lines.push(row)?;
+    }
+    Ok(())
+}
+
 /// The registers of a book.
 pub fn rows_of(alloc: Global, book: &Book) -> Result<Registers, Unmade> {
     let mut rows = no_rows(alloc);
@@ -104,6 +126,7 @@ pub fn rows_of(alloc: Global, book: &Book) -> Result<Registers, Unmade> {
         push_programme(&mut rows, seq, entry)?;
         push_opening(&mut rows, book, seq, entry)?;
         push_done(&mut rows, book, seq, entry)?;
+        push_release(&mut rows, book, seq, entry)?;
     }
     Ok(rows)
 }
@@ -118,6 +141,7 @@ fn kind_word(kind: EntryKind) -> &'static str {
         EntryKind::Sector => "sector",
         EntryKind::Fit => "fit",
         EntryKind::Remove => "remove",
+        EntryKind::Release => "release",
     }
 }
 
@@ -278,6 +302,50 @@ pub fn removals_text(alloc: Global, rows: &[RemovalRow]) -> Result<String, Alloc
         begin_row(&mut text, row.seq)?;
         append_number(&mut text, row.component)?;
         append_moment(&mut text, row.moment)?;
+    }
+    Ok(text)
+}
+
+// Appends a number as a word, or `-` where there is none.
+fn append_number_or_none(text: &mut String, number: Option<u32>) -> Result<(), AllocError> {
+    match number {
+        Some(number) => append_number(text, number),
+        None => append_word(text, "-"),
+    }
+}
+
+/// The rows of the releases: SEQ ITEM KIND MOMENT, with `-` where there is no kind.
+pub fn releases_text(alloc: Global, rows: &[ReleaseRow]) -> Result<String, AllocError> {
+    let mut text = String::new(alloc);
+    for row in rows {
+        begin_row(&mut text, row.seq)?;
+        append_number(&mut text, row.item)?;
+        match row.kind {
+            Some(kind) => append_word(&mut text, kind.as_str())?,
+            None => append_word(&mut text, "-")?,
+        }
+        append_moment(&mut text, row.moment)?;
+    }
+    Ok(text)
+}
+
+// Appends what a line of a release has: ITEM TASK DEFECT, with `-` where it has none.
+fn append_certified(text: &mut String, row: &ReleaseLineRow) -> Result<(), AllocError> {
+    append_number_or_none(text, row.item)?;
+    match row.task {
+        Some(task) => append_word(text, task.as_str())?,
+        None => append_word(text, "-")?,
+    }
+    append_number_or_none(text, row.defect)
+}
+
+/// The rows of the lines of releases: SEQ LINE ITEM TASK DEFECT, with `-` where there is none.
+pub fn release_lines_text(alloc: Global, rows: &[ReleaseLineRow]) -> Result<String, AllocError> {
+    let mut text = String::new(alloc);
+    for row in rows {
+        begin_row(&mut text, row.seq)?;
+        append_number(&mut text, row.line)?;
+        append_certified(&mut text, row)?;
     }
     Ok(text)
 }

@@ -5,7 +5,8 @@ use crate::tasks::append_task;
 use mx_base::{Day, Moment, Part, Position, Use};
 use mx_cases::{append_number, append_word};
 use mx_command::{
-    Aircraft, Command, Component, Fitting, Item, Opening, Programme, Removal, Sector,
+    Aircraft, Command, Component, Fitting, Item, Line, Opening, Place, Programme, Release, Removal,
+    Sector,
 };
 use std::alloc::{AllocError, Global};
 
@@ -131,6 +132,40 @@ fn append_removal(text: &mut String, removal: &Removal) -> Result<(), AllocError
     append_moment(text, removal.moment)
 }
 
+fn append_place(text: &mut String, place: &Place) -> Result<(), AllocError> {
+    match place {
+        Place::Aircraft(tail) => {
+            append_word(text, "aircraft")?;
+            append_word(text, tail.as_str())
+        }
+        Place::Shop(serial, kind) => {
+            append_word(text, "shop")?;
+            append_word(text, serial.as_str())?;
+            append_word(text, kind.as_str())
+        }
+    }
+}
+
+fn append_release(text: &mut String, release: &Release) -> Result<(), AllocError> {
+    append_word(text, "release")?;
+    append_place(text, &release.place)?;
+    append_moment(text, release.moment)
+}
+
+// Appends a line of a release: airframe:TAIL=TASK, or component:SERIAL=TASK.
+fn append_line(text: &mut String, line: &Line) -> Result<(), AllocError> {
+    match line {
+        Line::Done(item, task) => {
+            let (kind, name) = match item {
+                Item::Airframe(tail) => ("airframe", tail.as_str()),
+                Item::Component(serial) => ("component", serial.as_str()),
+            };
+            let task = task.as_str();
+            write!(text, " {kind}:{name}={task}")
+        }
+    }
+}
+
 // Appends what a command adds to the records.
 fn append_added(alloc: Global, text: &mut String, command: &Command) -> Result<(), AllocError> {
     if let Some(aircraft) = command.added_aircraft() {
@@ -169,6 +204,12 @@ fn append_done(text: &mut String, command: &Command) -> Result<(), AllocError> {
     }
     if let Some(removal) = command.removal() {
         append_removal(text, &removal)?;
+    }
+    if let Some(release) = command.release() {
+        append_release(text, &release)?;
+    }
+    for line in command.lines() {
+        append_line(text, line)?;
     }
     Ok(())
 }
