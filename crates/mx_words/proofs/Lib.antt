@@ -1,4 +1,5 @@
 pub mod NumberLemmas
+pub mod RunLemmas
 pub mod TrialLemmas
 mod WorkedTrial
 mod WorkedStatus
