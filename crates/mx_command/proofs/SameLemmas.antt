@@ -10,11 +10,14 @@ use Rattle.mx_base.specs.declared.amounts.Limit.{Limit}
 use Rattle.mx_base.specs.declared.amounts.Tolerance.{Tolerance}
 use Rattle.mx_base.specs.contracts.amounts.LimitPartialEq.TheImpl as limit
 use Rattle.mx_base.specs.contracts.amounts.TolerancePartialEq.TheImpl as tolerance
-use Rattle.mx_command.specs.Act.{Act, Entry, act_of, Added, Listed, Loaded, Opened, Flown, Fitted, Removed, Released}
-use Rattle.mx_command.specs.Same.{same_act, same_entry, same_text, same_position, same_use, same_item, same_limit, same_tolerance, same_applies, same_task, same_place, same_line}
+use Rattle.mx_command.specs.Act.{Act, Entry, act_of, Added, Listed, Loaded, Opened, Flown, Fitted, Removed, Released, Deferred, Extended}
+use Rattle.mx_command.specs.Same.{same_act, same_entry, same_text, same_position, same_use, same_item, same_limit, same_tolerance, same_applies, same_task, same_place, same_line, same_category}
 use Rattle.mx_command.specs.declared.body.Body.{Body}
 use Rattle.mx_command.specs.declared.body.Body.TheVariants as bodies
 use Rattle.mx_command.specs.declared.aircraft.Aircraft.{Aircraft}
+use Rattle.mx_command.specs.declared.deferral.Category.{Category}
+use Rattle.mx_command.specs.declared.deferral.Category.TheVariants as categories
+use Rattle.mx_command.specs.declared.deferral.Deferral.{Deferral}
 use Rattle.mx_command.specs.declared.item.Item.{Item}
 use Rattle.mx_command.specs.declared.item.Item.TheVariants as items
 use Rattle.mx_command.specs.declared.opening.Opening.{Opening}
@@ -31,6 +34,8 @@ use Rattle.mx_command.specs.declared.sector.Sector.{Sector}
 use Rattle.mx_command.specs.contracts.body.BodyPartialEq.TheImpl as body
 use Rattle.mx_command.specs.contracts.sector.SectorPartialEq.TheImpl as sector
 use Rattle.mx_command.specs.contracts.aircraft.AircraftPartialEq.TheImpl as aircraft
+use Rattle.mx_command.specs.contracts.deferral.CategoryPartialEq.TheImpl as category
+use Rattle.mx_command.specs.contracts.deferral.DeferralPartialEq.TheImpl as deferral
 use Rattle.mx_command.specs.contracts.item.ItemPartialEq.TheImpl as item
 use Rattle.mx_command.specs.contracts.opening.OpeningPartialEq.TheImpl as opening
 use Rattle.mx_command.specs.contracts.programme.AppliesPartialEq.TheImpl as applies
@@ -75,12 +80,24 @@ place_is _ _ = refl
 -- the derived test of two lines is that of what they certify
 pub line_is : (a b : Line) → (line.ghosts).eq a b ≡ same_line a b
 line_is (lined.Done a task) (lined.Done b task') = ap (λ same. same && same_text task task') (item_is a b)
+line_is (lined.Rectified a) (lined.Rectified b) = refl
+line_is _ _ = refl
 
 lines_are : (p p' : Place) (moment moment' : ℕ) (lines lines' : List Line)
     → (place.ghosts).eq p p' && (nat_eq moment moment' && pointwise (line.ghosts).eq lines lines') ≡ same_place p p' && (nat_eq moment moment' && pointwise same_line lines lines')
 lines_are p p' moment moment' lines lines' =
     ap (λ (same : Line → Line → Bool). (place.ghosts).eq p p' && (nat_eq moment moment' && pointwise same lines lines')) (fun_ext (λ a. fun_ext (λ b. line_is a b)))
     ∙ ap (λ same. same && (nat_eq moment moment' && pointwise same_line lines lines')) (place_is p p')
+
+category_is : (a b : Category) → (category.ghosts).eq a b ≡ same_category a b
+category_is (categories.A a) (categories.A b) = refl
+category_is categories.B categories.B = refl
+category_is categories.C categories.C = refl
+category_is categories.D categories.D = refl
+category_is _ _ = refl
+
+deferral_is : (a b : Deferral) → (deferral.ghosts).eq a b ≡ same_act (Deferred a) (Deferred b)
+deferral_is a b = ap (λ same. same_text a.tail b.tail && (nat_eq a.moment b.moment && (same_text a.reference b.reference && same))) (category_is a.category b.category)
 
 -- the derived test of two bodies is that of what they say
 pub body_same : (a b : Body) → (body.ghosts).eq a b ≡ same_act (act_of a) (act_of b)
@@ -93,6 +110,9 @@ body_same (bodies.Sector tail page line off on cycles) (bodies.Sector tail' page
 body_same (bodies.Fit serial tail position moment) (bodies.Fit serial' tail' position' moment') = refl
 body_same (bodies.Remove serial moment) (bodies.Remove serial' moment') = refl
 body_same (bodies.Release p moment lines) (bodies.Release p' moment' lines') = lines_are p p' moment moment' lines.items lines'.items
+body_same (bodies.Defer tail moment reference c) (bodies.Defer tail' moment' reference' c') =
+    deferral_is (record { tail = tail; moment = moment; reference = reference; category = c }) (record { tail = tail'; moment = moment'; reference = reference'; category = c' })
+body_same (bodies.Extend defect day days) (bodies.Extend defect' day' days') = refl
 body_same _ _ = refl
 
 -- ── each test decides whether its things are equal ──
@@ -210,6 +230,14 @@ released_is : (a b : Release) (xs ys : List Line) → (release.ghosts).eq a b &&
 released_is a b xs ys = and_assoc ((place.ghosts).eq a.place b.place) (nat_eq a.moment b.moment) (pointwise same_line xs ys)
     ∙ ap (λ same. same && (nat_eq a.moment b.moment && pointwise same_line xs ys)) (place_is a.place b.place)
 
+-- ── defects ──
+
+deferral_same : (a b : Deferral) → Decides ((deferral.ghosts).eq a b) (a ≡ b)
+deferral_same a b = search rules
+
+deferred_same : (a b : Deferral) → Decides ((deferral.ghosts).eq a b) (Deferred a ≡ Deferred b)
+deferred_same a b = search rules
+
 act_same : (a b : Act) → Decides (same_act a b) (a ≡ b)
 act_same (Added a ps) (Added b qs) = decides_along _ (simp and_assoc) (added_same a b ps qs)
 act_same (Listed a) (Listed b) = search rules
@@ -219,6 +247,8 @@ act_same (Flown a) (Flown b) = search (rules, sector_same)
 act_same (Fitted a) (Fitted b) = search rules
 act_same (Removed a) (Removed b) = search rules
 act_same (Released a xs) (Released b ys) = decides_along _ (released_is a b xs ys) (released_same a b xs ys)
+act_same (Deferred a) (Deferred b) = decides_along _ (deferral_is a b) (deferred_same a b)
+act_same (Extended a) (Extended b) = search rules
 act_same _ _ = ((λ h. (cc)), (λ h. (cc)))
 
 entry_with : List ℕ → Act → Entry

@@ -2,10 +2,10 @@
 use Rattle.std.proofs.Common.{rules, arith, ◌≡◌, ◌≤◌, refl, List, ℕ, Bool, true, false, ◌&&◌, length, IfSome}
 use Rattle.std.specs.List.{list_all}
 use Rattle.std.proofs.lemmas.Bool.Decides.{nat_tests}
-use Rattle.mx_command.specs.Act.{Act, Loaded, Released, tasks_of, programme_of, lines_of}
+use Rattle.mx_command.specs.Act.{Act, Loaded, Released, Deferred, Extended, tasks_of, programme_of, lines_of, deferral_of, extension_of}
 use Rattle.mx_command.specs.Bounds.{within, are_distinct}
 use Rattle.mx_command.specs.Programme.{task_shape, programme_shape, same_name_of_task}
-use Rattle.mx_command.specs.Shape.{has_shape, doc_shape}
+use Rattle.mx_command.specs.Shape.{has_shape, category_shape, doc_shape}
 use Rattle.mx_command.specs.declared.programme.Programme.{Programme}
 use Rattle.mx_command.specs.declared.programme.Task.{Task}
 
@@ -47,3 +47,16 @@ count_within n h = grind (arith, nat_tests)
 pub lines_few : (doc : List ℕ) (act : Act) → has_shape (record { doc = doc; act = act }) ≡ true → length (lines_of act) ≤ 20
 lines_few doc (Released r lines) h = count_within (length lines) (and_first (within 1 20 (length lines)) (doc_shape doc (Released r lines)) h)
 lines_few doc _ h = search (rules, arith)
+
+-- the category of a defect that a command of its shape defers has its own
+pub category_shaped : (doc : List ℕ) (act : Act) → has_shape (record { doc = doc; act = act }) ≡ true → IfSome (deferral_of act) (λ d. category_shape d.category ≡ true)
+category_shaped doc (Deferred d) h = and_first (category_shape d.category) (doc_shape doc (Deferred d)) h
+category_shaped doc _ h = search rules
+
+days_within : (n : ℕ) → within 1 120 n ≡ true → n ≤ 120
+days_within n h = grind (arith, nat_tests)
+
+-- the days that a command of its shape extends by are within their bounds
+pub extension_small : (doc : List ℕ) (act : Act) → has_shape (record { doc = doc; act = act }) ≡ true → IfSome (extension_of act) (λ x. x.days ≤ 120)
+extension_small doc (Extended x) h = days_within x.days (and_first (within 1 120 x.days) (doc_shape doc (Extended x)) h)
+extension_small doc _ h = search rules

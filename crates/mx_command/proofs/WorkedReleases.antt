@@ -26,7 +26,7 @@ overhauled = Done (items.Component e1) (codes "OVH")
 abbrev released : Place → ℕ → List Line → Act
 released place minutes lines = Released (record { place = place; moment = 28_488_960 + minutes }) lines
 
-abbrev at_abcd : List Line → Act
+abbrev pub at_abcd : List Line → Act
 at_abcd lines = released (Aircraft abcd) 0 lines
 
 abbrev in_shop : List Line → Act
@@ -70,7 +70,7 @@ lines_shown : lines_of (at_abcd (inspected ∷ overhauled ∷ [])) ≡ inspected
 lines_shown = refl
 
 -- of no other kind of command
-abbrev others : List Act
+abbrev pub others : List Act
 others = aircraft_with 800 ∷ engine_with 100 ∷ Flown (sector 12 1 90 1) ∷ fit ∷ remove ∷ Loaded (record { kind = codes "C172"; revision = 1 }) []
     ∷ Opened (record { item = items.Airframe abcd; kind = codes "C172"; task = codes "100H"; use_then = used 0 0; day = 0 }) ∷ []
 

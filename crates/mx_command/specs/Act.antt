@@ -10,10 +10,12 @@ use Rattle.mx_command.specs.declared.fitting.Fitting.{Fitting}
 use Rattle.mx_command.specs.declared.fitting.Removal.{Removal}
 use Rattle.mx_command.specs.declared.release.Release.{Release}
 use Rattle.mx_command.specs.declared.release.Line.{Line}
+use Rattle.mx_command.specs.declared.deferral.Deferral.{Deferral}
+use Rattle.mx_command.specs.declared.deferral.Extension.{Extension}
 use Rattle.mx_command.specs.declared.body.Body.{Body}
 use Rattle.mx_command.specs.declared.body.Body.TheVariants as bodies
 
--- what a command says, a case for each kind of command: an aircraft with its positions was added, a component was listed, a programme with its tasks was loaded, a task of an item was opened, a sector was flown, a component was fitted or removed, work was released with its lines
+-- what a command says, a case for each kind of command: an aircraft with its positions was added, a component was listed, a programme with its tasks was loaded, a task of an item was opened, a sector was flown, a component was fitted or removed, work was released with its lines, a defect was deferred, the interval of one was extended
 pub data Act : Type 0 where
   Added : Aircraft → List (List ℕ × List ℕ) → Act
   Listed : Component → Act
@@ -23,6 +25,8 @@ pub data Act : Type 0 where
   Fitted : Fitting → Act
   Removed : Removal → Act
   Released : Release → List Line → Act
+  Deferred : Deferral → Act
+  Extended : Extension → Act
 
 -- a command, which once accepted is an entry: its document, and what it says
 pub record Entry : Type 0 where
@@ -39,6 +43,8 @@ act_of (bodies.Sector tail page line off on cycles) = Flown (record { tail = tai
 act_of (bodies.Fit serial tail position moment) = Fitted (record { serial = serial; tail = tail; position = position; moment = moment })
 act_of (bodies.Remove serial moment) = Removed (record { serial = serial; moment = moment })
 act_of (bodies.Release place moment lines) = Released (record { place = place; moment = moment }) lines.items
+act_of (bodies.Defer tail moment reference category) = Deferred (record { tail = tail; moment = moment; reference = reference; category = category })
+act_of (bodies.Extend defect day days) = Extended (record { defect = defect; day = day; days = days })
 
 -- the aircraft, where one was added
 abbrev pub aircraft_of : Act → Option Aircraft
@@ -94,3 +100,13 @@ release_of _ = None
 abbrev pub lines_of : Act → List Line
 lines_of (Released release lines) = lines
 lines_of _ = []
+
+-- the deferral, where a defect was deferred
+abbrev pub deferral_of : Act → Option Deferral
+deferral_of (Deferred deferral) = Some deferral
+deferral_of _ = None
+
+-- the extension, where the interval of a defect was extended
+abbrev pub extension_of : Act → Option Extension
+extension_of (Extended extension) = Some extension
+extension_of _ = None

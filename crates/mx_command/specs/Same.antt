@@ -6,7 +6,9 @@ use Rattle.std.specs.Cmp.Lexicographic.{pointwise}
 use Rattle.mx_base.specs.declared.amounts.Use.{Use}
 use Rattle.mx_base.specs.declared.amounts.Limit.{Limit}
 use Rattle.mx_base.specs.declared.amounts.Tolerance.{Tolerance}
-use Rattle.mx_command.specs.Act.{Act, Entry, Added, Listed, Loaded, Opened, Flown, Fitted, Removed, Released}
+use Rattle.mx_command.specs.Act.{Act, Entry, Added, Listed, Loaded, Opened, Flown, Fitted, Removed, Released, Deferred, Extended}
+use Rattle.mx_command.specs.declared.deferral.Category.{Category}
+use Rattle.mx_command.specs.declared.deferral.Category.TheVariants.{A, B, C, D}
 use Rattle.mx_command.specs.declared.item.Item.{Item}
 use Rattle.mx_command.specs.declared.item.Item.TheVariants as items
 use Rattle.mx_command.specs.declared.programme.Applies.{Applies}
@@ -64,6 +66,16 @@ same_place _ _ = false
 -- the lines certify the same
 abbrev pub same_line : Line → Line → Bool
 same_line (lines.Done a task) (lines.Done b other) = same_item a b && same_text task other
+same_line (lines.Rectified a) (lines.Rectified b) = same_text a b
+same_line _ _ = false
+
+-- the same category, with the same days where the item states them
+abbrev pub same_category : Category → Category → Bool
+same_category (A a) (A b) = nat_eq a b
+same_category B B = true
+same_category C C = true
+same_category D D = true
+same_category _ _ = false
 
 -- two commands say the same; positions, tasks and lines count in their order
 abbrev pub same_act : Act → Act → Bool
@@ -86,6 +98,9 @@ same_act (Fitted a) (Fitted b) =
 same_act (Removed a) (Removed b) = same_text a.serial b.serial && nat_eq a.moment b.moment
 same_act (Released a lines) (Released b others) =
     same_place a.place b.place && (nat_eq a.moment b.moment && pointwise same_line lines others)
+same_act (Deferred a) (Deferred b) =
+    same_text a.tail b.tail && (nat_eq a.moment b.moment && (same_text a.reference b.reference && same_category a.category b.category))
+same_act (Extended a) (Extended b) = same_text a.defect b.defect && (nat_eq a.day b.day && nat_eq a.days b.days)
 same_act _ _ = false
 
 -- two commands have the same document and say the same

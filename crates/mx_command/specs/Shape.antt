@@ -3,10 +3,12 @@ use Rattle.std.specs.Prelude.{ℕ, ◌+◌, ◌/◌, List, ◌∷◌, ◌++◌, 
 use Rattle.std.specs.List.{starts_with}
 use Rattle.std.specs.Fmt.{decimal}
 use Rattle.mx_base.specs.declared.amounts.Use.{Use}
-use Rattle.mx_command.specs.Act.{Act, Entry, Added, Listed, Loaded, Opened, Flown, Fitted, Removed, Released}
+use Rattle.mx_command.specs.Act.{Act, Entry, Added, Listed, Loaded, Opened, Flown, Fitted, Removed, Released, Deferred, Extended}
 use Rattle.mx_command.specs.Bounds.{within, are_distinct}
 use Rattle.mx_command.specs.Programme.{programme_shape}
 use Rattle.mx_command.specs.Same.{same_text}
+use Rattle.mx_command.specs.declared.deferral.Category.{Category}
+use Rattle.mx_command.specs.declared.deferral.Category.TheVariants.{A}
 use Rattle.mx_command.specs.declared.sector.Sector.{Sector}
 
 -- the use that an item brings with it: up to 100,000,000 minutes and 1,000,000 cycles
@@ -30,6 +32,11 @@ same_name a b = same_text a.0 b.0
 abbrev pub positions_shape : List (List ℕ × List ℕ) → Bool
 positions_shape positions = nat_le (length positions) 40 && are_distinct same_name positions
 
+-- the category of a deferred defect: where the item states the days, 1 to 365
+abbrev pub category_shape : Category → Bool
+category_shape (A days) = within 1 365 days
+category_shape _ = true
+
 -- the shape of what a command says
 abbrev pub act_shape : Act → Bool
 act_shape (Added a positions) = opening_shape a.birth a.opening a.as_of && positions_shape positions
@@ -40,6 +47,8 @@ act_shape (Flown sector) = sector_shape sector
 act_shape (Fitted fitting) = true
 act_shape (Removed removal) = true
 act_shape (Released release lines) = within 1 20 (length lines)
+act_shape (Deferred deferral) = category_shape deferral.category
+act_shape (Extended extension) = within 1 120 extension.days
 
 -- a document of the technical log begins with TL/
 abbrev pub is_log_doc : List ℕ → Bool

@@ -1,16 +1,12 @@
 //! What a command says.
 ghost use Rattle.std.specs.Prelude.{◌≡◌, IfOk};
-ghost use Rattle.mx_command.specs.Act.{act_of, aircraft_of, component_of, programme_of, opening_of, sector_of, fitting_of, removal_of, release_of};
+ghost use Rattle.mx_command.specs.Act.{act_of};
 
-use crate::aircraft::Aircraft;
-use crate::component::Component;
-use crate::fitting::{Fitting, Removal};
+use crate::deferral::Category;
 use crate::item::Item;
-use crate::opening::Opening;
-use crate::programme::{Programme, Task};
-use crate::release::{Line, Place, Release};
-use crate::sector::Sector;
-use mx_base::{Day, Kind, Moment, Part, Position, Serial, Tail, TaskId, Use};
+use crate::programme::Task;
+use crate::release::{Line, Place};
+use mx_base::{Day, Doc, Kind, MelRef, Moment, Part, Position, Serial, Tail, TaskId, Use};
 use std::alloc::{AllocError, Global};
 
 /// What a command says, a variant for each kind of command.
@@ -109,159 +105,29 @@ pub enum Body {
         /// What was done: 1 to 20 lines.
         lines: Vec<Line>,
     },
+    /// A defect was deferred: it is flown with, and rectified within the interval of its category.
+    Defer {
+        /// The registration of the aircraft.
+        tail: Tail,
+        /// The moment at which it was found.
+        moment: Moment,
+        /// The item of the minimum equipment list that allows to defer it.
+        reference: MelRef,
+        /// Its category; where the item states the days, 1 to 365.
+        category: Category,
+    },
+    /// The interval within which a deferred defect is rectified was extended.
+    Extend {
+        /// The document by which the defect was deferred.
+        defect: Doc,
+        /// The day on which it was extended.
+        day: Day,
+        /// By so many days, 1 to 120.
+        days: u32,
+    },
 }
 
 impl Body {
-    /// The aircraft that it adds.
-    pub fn added_aircraft(&self) -> Option<Aircraft>
-        ensures { result ≡ aircraft_of (act_of self.now) }
-    {
-        match self {
-            Body::AddAircraft {
-                tail,
-                kind,
-                birth,
-                opening,
-                as_of,
-                ..
-            } => Some(Aircraft {
-                tail: *tail,
-                kind: *kind,
-                birth: *birth,
-                opening: *opening,
-                as_of: *as_of,
-            }),
-            _ => None,
-        }
-    }
-
-    /// The component that it adds.
-    pub fn added_component(&self) -> Option<Component>
-        ensures { result ≡ component_of (act_of self.now) }
-    {
-        match self {
-            Body::AddComponent {
-                serial,
-                part,
-                birth,
-                opening,
-                as_of,
-            } => Some(Component {
-                serial: *serial,
-                part: *part,
-                birth: *birth,
-                opening: *opening,
-                as_of: *as_of,
-            }),
-            _ => None,
-        }
-    }
-
-    /// The revision of a programme that it loads.
-    pub fn loaded_programme(&self) -> Option<Programme>
-        ensures { result ≡ programme_of (act_of self.now) }
-    {
-        match self {
-            Body::LoadProgramme { kind, revision, .. } => Some(Programme {
-                kind: *kind,
-                revision: *revision,
-            }),
-            _ => None,
-        }
-    }
-
-    /// The opening that it states.
-    pub fn stated_opening(&self) -> Option<Opening>
-        ensures { result ≡ opening_of (act_of self.now) }
-    {
-        match self {
-            Body::Opening {
-                item,
-                kind,
-                task,
-                use_then,
-                day,
-            } => Some(Opening {
-                item: *item,
-                kind: *kind,
-                task: *task,
-                use_then: *use_then,
-                day: *day,
-            }),
-            _ => None,
-        }
-    }
-
-    /// The sector that was flown.
-    pub fn flown_sector(&self) -> Option<Sector>
-        ensures { result ≡ sector_of (act_of self.now) }
-    {
-        match self {
-            Body::Sector {
-                tail,
-                page,
-                line,
-                off,
-                on,
-                cycles,
-            } => Some(Sector {
-                tail: *tail,
-                page: *page,
-                line: *line,
-                off: *off,
-                on: *on,
-                cycles: *cycles,
-            }),
-            _ => None,
-        }
-    }
-
-    /// The fitting of a component.
-    pub fn fitting(&self) -> Option<Fitting>
-        ensures { result ≡ fitting_of (act_of self.now) }
-    {
-        match self {
-            Body::Fit {
-                serial,
-                tail,
-                position,
-                moment,
-            } => Some(Fitting {
-                serial: *serial,
-                tail: *tail,
-                position: *position,
-                moment: *moment,
-            }),
-            _ => None,
-        }
-    }
-
-    /// The removal of a component.
-    pub fn removal(&self) -> Option<Removal>
-        ensures { result ≡ removal_of (act_of self.now) }
-    {
-        match self {
-            Body::Remove { serial, moment } => Some(Removal {
-                serial: *serial,
-                moment: *moment,
-            }),
-            _ => None,
-        }
-    }
-
-    /// The release of maintenance, its lines aside.
-    pub fn release(&self) -> Option<Release>
-        ensures { result ≡ release_of (act_of self.now) }
-    {
-        match self {
-            Body::Release { place, moment, .. } => Some(Release {
-                place: *place,
-                moment: *moment,
-            }),
-            _ => None,
-        }
-    }
-
     /// The same body again.
     pub fn copy(&self, alloc: Global) -> Result<Body, AllocError>
         ensures { IfOk result (λ body. act_of body ≡ act_of self.now) }
@@ -355,6 +221,22 @@ impl Body {
                 place: *place,
                 moment: *moment,
                 lines: Vec::from_slice(alloc, lines.as_slice())?,
+            },
+            Body::Defer {
+                tail,
+                moment,
+                reference,
+                category,
+            } => Body::Defer {
+                tail: *tail,
+                moment: *moment,
+                reference: *reference,
+                category: *category,
+            },
+            Body::Extend { defect, day, days } => Body::Extend {
+                defect: *defect,
+                day: *day,
+                days: *days,
             },
         })
     }

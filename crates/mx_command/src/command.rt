@@ -6,6 +6,7 @@ ghost use Rattle.mx_command.specs.Shape.{act_shape, doc_shape};
 use crate::aircraft::Aircraft;
 use crate::body::Body;
 use crate::component::Component;
+use crate::deferral::{Deferral, Extension};
 use crate::document::{document_of_sector, is_of_log};
 use crate::fitting::{Fitting, Removal};
 use crate::opening::Opening;
@@ -58,10 +59,10 @@ impl Model for Command {
 
 impl Command {
     ghost use Rattle.std.specs.Prelude.{◌↔◌, ◌≤◌, false, IsTrue, OnOk, IfSome, length};
-    ghost use Rattle.mx_command.specs.Act.{aircraft_of, component_of, programme_of, tasks_of, opening_of, fitting_of, removal_of, positions_of, release_of, lines_of};
+    ghost use Rattle.mx_command.specs.Act.{aircraft_of, component_of, programme_of, tasks_of, opening_of, fitting_of, removal_of, positions_of, release_of, lines_of, deferral_of, extension_of};
     ghost use Rattle.mx_command.specs.Same.{same_entry};
     ghost use Rattle.mx_command.specs.Programme.{task_shape};
-    ghost use Rattle.mx_command.specs.Shape.{has_shape, sector_shape, is_sector_shaped, sector_entry};
+    ghost use Rattle.mx_command.specs.Shape.{has_shape, sector_shape, category_shape, is_sector_shaped, sector_entry};
     ghost use Rattle.std.specs.List.{list_all};
 
     /// The command of a document and a body. `BadShape` exactly where they lack the shape, and `Memory`
@@ -227,6 +228,22 @@ impl Command {
             Body::Release { lines, .. } => lines.as_slice(),
             _ => &[],
         }
+    }
+
+    /// The deferral of a defect, of at most 365 days where the item states them.
+    pub fn deferral(&self) -> Option<Deferral>
+        ensures deferral { result ≡ deferral_of self.now.act }
+        ensures shape { IfSome result (λ d. category_shape d.category ≡ true) }
+    {
+        self.body.deferral()
+    }
+
+    /// The extension of the interval of a defect, by at most 120 days.
+    pub fn extension(&self) -> Option<Extension>
+        ensures extension { result ≡ extension_of self.now.act }
+        ensures bounded { IfSome result (λ x. x.days ≤ 120) }
+    {
+        self.body.extension()
     }
 }
 

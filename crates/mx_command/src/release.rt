@@ -1,7 +1,7 @@
 //! Maintenance that was released to service.
 
 use crate::item::Item;
-use mx_base::{Kind, Moment, Serial, Tail, TaskId};
+use mx_base::{Doc, Kind, Moment, Serial, Tail, TaskId};
 
 /// Where work was done and released.
 #[derive(Clone, Copy, Debug, PartialEq, Eq)]
@@ -26,4 +26,6 @@ pub struct Release {
 pub enum Line {
     /// The task was done on the item.
     Done(Item, TaskId),
+    /// The defect that was deferred by this document was rectified.
+    Rectified(Doc),
 }

@@ -3,9 +3,10 @@ ghost use Rattle.std.specs.Prelude.{◌≡◌};
 ghost use Rattle.std.specs.List.{list_any};
 ghost use Rattle.mx_command.specs.Act.{act_of};
 ghost use Rattle.mx_command.specs.Bounds.{are_distinct, within};
-ghost use Rattle.mx_command.specs.Shape.{act_shape, opening_shape, positions_shape, same_name, use_shape};
+ghost use Rattle.mx_command.specs.Shape.{act_shape, category_shape, opening_shape, positions_shape, same_name, use_shape};
 
 use crate::body::Body;
+use crate::deferral::Category;
 use crate::programme::Programme;
 use mx_base::{Day, Moment, Part, Position, Use, day_of};
 
@@ -32,6 +33,12 @@ pub const MOST_SECTOR_CYCLES: u32 = 50;
 
 /// The most lines of a release.
 pub const MOST_LINES: usize = 20;
+
+/// The most days that an item of the minimum equipment list states.
+pub const MOST_STATED_DAYS: u32 = 365;
+
+/// The most days of an extension.
+pub const MOST_EXTENSION_DAYS: u32 = 120;
 
 impl Body {
     /// Whether every amount is within its bounds.
@@ -84,6 +91,8 @@ impl Body {
             }
             Body::Fit { .. } | Body::Remove { .. } => true,
             Body::Release { lines, .. } => is_line_count(lines.len()),
+            Body::Defer { category, .. } => has_category_shape(category),
+            Body::Extend { days, .. } => is_within(1, MOST_EXTENSION_DAYS, *days),
         }
     }
 }
@@ -93,6 +102,15 @@ fn is_line_count(count: usize) -> bool
     ensures { result ≡ within 1 20 count }
 {
     1 <= count && count <= MOST_LINES
+}
+
+fn has_category_shape(category: &Category) -> bool
+    ensures { result ≡ category_shape category.now }
+{
+    match category {
+        Category::A(days) => is_within(1, MOST_STATED_DAYS, *days),
+        Category::B | Category::C | Category::D => true,
+    }
 }
 
 fn has_use_shape(opening: &Use) -> bool
