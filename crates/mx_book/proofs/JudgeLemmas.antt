@@ -1,14 +1,16 @@
 -- What a verdict says of the book, and that a book stays one.
-use Rattle.std.proofs.Common.{arith, refl, sym, subst, ap, ◌∙◌, ◌≡◌, ℕ, ◌+◌, ◌≤◌, length, List, [], ◌∷◌, ◌++◌, Bool, true, false, cond, ◌&&◌, ◌||◌, Option, Some, None, append_assoc, append-nil, length-append}
+use Rattle.std.proofs.Common.{arith, refl, sym, subst, ap, ◌∙◌, ◌≡◌, ℕ, ◌+◌, ◌≤◌, zero, suc, length, get_or, List, [], ◌∷◌, ◌++◌, Bool, true, false, cond, ◌&&◌, ◌||◌, Option, Some, None, append_assoc, append-nil, length-append}
 use Rattle.std.proofs.lemmas.Bool.Decides.{nat_tests}
 use Rattle.std.specs.Prelude.{nat_le, is_some}
 use Rattle.std.specs.List.{list_all}
 use Rattle.std.specs.Option.{option_map}
-use Rattle.mx_command.specs.Act.{Act, Entry, Added, Listed, Loaded, Opened, Flown, Fitted, Removed, Released, aircraft_of, component_of, programme_of, opening_of, sector_of, fitting_of, removal_of, release_of, lines_of}
+use Rattle.mx_command.specs.Act.{Act, Entry, Added, Listed, Loaded, Opened, Flown, Fitted, Removed, Released, Deferred, Extended, aircraft_of, component_of, programme_of, opening_of, sector_of, fitting_of, removal_of, release_of, lines_of, deferral_of, extension_of}
 use Rattle.mx_command.specs.Same.{same_entry}
 use Rattle.mx_command.specs.Shape.{has_shape}
 use Rattle.mx_command.specs.declared.aircraft.Aircraft.{Aircraft}
 use Rattle.mx_command.specs.declared.component.Component.{Component}
+use Rattle.mx_command.specs.declared.deferral.Deferral.{Deferral}
+use Rattle.mx_command.specs.declared.deferral.Extension.{Extension}
 use Rattle.mx_command.specs.declared.fitting.Fitting.{Fitting}
 use Rattle.mx_command.specs.declared.fitting.Removal.{Removal}
 use Rattle.mx_command.specs.declared.opening.Opening.{Opening}
@@ -17,10 +19,10 @@ use Rattle.mx_command.specs.declared.programme.Task.{Task}
 use Rattle.mx_command.specs.declared.release.Release.{Release}
 use Rattle.mx_command.specs.declared.sector.Sector.{Sector}
 use Rattle.mx_book.specs.declared.verdict.Refusal.{Refusal}
-use Rattle.mx_book.specs.declared.verdict.Refusal.TheVariants.{Full, Conflict, UnknownAircraft, UnknownComponent, UnknownPosition, UnknownProgramme, UnknownTask, AircraftExists, ComponentExists, PositionTaken, AlreadyFitted}
+use Rattle.mx_book.specs.declared.verdict.Refusal.TheVariants.{Full, Conflict, PositionTaken, AlreadyFitted}
 use Rattle.mx_book.specs.declared.verdict.Verdict.{Verdict}
 use Rattle.mx_book.specs.declared.verdict.Verdict.TheVariants.{New, Already, Refused}
-use Rattle.mx_book.specs.Judge.{judge, judge_by, known_from, known_same, refusals, first_of, when, is_full, names_unknown_aircraft, names_unknown_component, names_unknown_position, names_unknown_programme, names_unknown_task, aircraft_exists, component_exists, verdict_of}
+use Rattle.mx_book.specs.Judge.{judge, judge_by, known_from, known_same, refusals, first_of, when, is_full, verdict_of}
 use Rattle.mx_book.specs.Span.{fitted, is_taken}
 use Rattle.mx_book.specs.Book.{is_new, is_book_from, IsBook}
 
@@ -58,6 +60,14 @@ removed_as _ r e = (cc)
 pub released_as : (act : Act) (r : Release) → release_of act ≡ Some r → act ≡ Released r (lines_of act)
 released_as (Released x lines) r e = let same : x ≡ r = cc in ap (λ y. Released y lines) same
 released_as _ r e = (cc)
+
+pub deferred_as : (act : Act) (d : Deferral) → deferral_of act ≡ Some d → act ≡ Deferred d
+deferred_as (Deferred x) d e = cc
+deferred_as _ d e = (cc)
+
+pub extended_as : (act : Act) (x : Extension) → extension_of act ≡ Some x → act ≡ Extended x
+extended_as (Extended y) x e = cc
+extended_as _ x e = (cc)
 
 -- what refuses a command refuses one that says the same
 pub refusals_of : (book : List Entry) (act same : Act) (r : Option Refusal) → act ≡ same → r ≡ first_of (refusals book same) → r ≡ first_of (refusals book act)
@@ -100,28 +110,26 @@ new_by book command None h = unrefused (first_of (refusals book command.act)) h
 pub new-unrefused : (book : List Entry) (command : Entry) → judge book command ≡ New → first_of (refusals book command.act) ≡ None
 new-unrefused book command h = new_by book command (known_from command.doc 1 book) h
 
--- where none of ten refusals and others applies, the last two of the ten do not
-last_of_ten : (a b c d e f g h i j : Bool) (others : List (Option Refusal)) → first_of (when a Full ∷ when b UnknownAircraft ∷ when c UnknownComponent ∷ when d UnknownPosition ∷ when e UnknownProgramme
-    ∷ when f UnknownTask ∷ when g AircraftExists ∷ when h ComponentExists ∷ when i PositionTaken ∷ when j AlreadyFitted ∷ others) ≡ None → (i ≡ false) × (j ≡ false)
-last_of_ten true b c d e f g h i j others n = (cc)
-last_of_ten false true c d e f g h i j others n = (cc)
-last_of_ten false false true d e f g h i j others n = (cc)
-last_of_ten false false false true e f g h i j others n = (cc)
-last_of_ten false false false false true f g h i j others n = (cc)
-last_of_ten false false false false false true g h i j others n = (cc)
-last_of_ten false false false false false false true h i j others n = (cc)
-last_of_ten false false false false false false false true i j others n = (cc)
-last_of_ten false false false false false false false false true j others n = (cc)
-last_of_ten false false false false false false false false false true others n = (cc)
-last_of_ten false false false false false false false false false false others n = (refl, refl)
+-- where none of some refusals applies, the one at a place does not
+none_at : (k : ℕ) (others : List (Option Refusal)) → first_of others ≡ None → get_or others k None ≡ None
+none_at k [] h = refl
+none_at k (Some refusal ∷ others) h = (cc)
+none_at zero (None ∷ others) h = refl
+none_at (suc k) (None ∷ others) h = none_at k others h
+
+-- a command that is new is not refused by the refusal at a place among all, from 0
+pub new-passes : (k : ℕ) (book : List Entry) (command : Entry) → judge book command ≡ New → get_or (refusals book command.act) k None ≡ None
+new-passes k book command h = none_at k (refusals book command.act) (new-unrefused book command h)
+
+pub when-false : (b : Bool) (refusal : Refusal) → when b refusal ≡ None → b ≡ false
+when-false true refusal h = (cc)
+when-false false refusal h = refl
 
 -- a fitting that is new finds the position free, and the component fitted nowhere
 pub new-fitting : (book : List Entry) (command : Entry) (f : Fitting) → judge book command ≡ New → command.act ≡ Fitted f → (is_taken book f.tail f.position ≡ false) × (is_some (fitted book f.serial) ≡ false)
 new-fitting book command f new says =
-    last_of_ten (is_full book (Fitted f)) (names_unknown_aircraft book (Fitted f)) (names_unknown_component book (Fitted f)) (names_unknown_position book (Fitted f))
-    (names_unknown_programme book (Fitted f)) (names_unknown_task book (Fitted f))
-    (aircraft_exists book (Fitted f)) (component_exists book (Fitted f)) (is_taken book f.tail f.position) (is_some (fitted book f.serial)) _
-    (subst (λ act. first_of (refusals book act) ≡ None) says (new-unrefused book command new))
+    let passes : (k : ℕ) → get_or (refusals book (Fitted f)) k None ≡ None = λ k. subst (λ act. get_or (refusals book act) k None ≡ None) says (new-passes k book command new) in
+    (when-false (is_taken book f.tail f.position) PositionTaken (passes 9), when-false (is_some (fitted book f.serial)) AlreadyFitted (passes 10))
 
 room_for : (n : ℕ) → nat_le 1000000 n ≡ false → n + 1 ≤ 1000000
 room_for n h = grind (arith, nat_tests)

@@ -1,5 +1,6 @@
 pub mod AcceptedLemmas
 pub mod BaseLemmas
+pub mod DefectLemmas
 pub mod FindLemmas
 pub mod GrowthLemmas
 pub mod JudgeLemmas
@@ -16,3 +17,5 @@ pub mod WorkedBounds
 pub mod WorkedProgrammes
 pub mod WorkedDues
 pub mod WorkedReleases
+pub mod WorkedDefects
+pub mod WorkedLimits

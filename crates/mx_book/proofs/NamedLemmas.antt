@@ -4,7 +4,7 @@ use Rattle.std.specs.List.{list_any, flat_map}
 use Rattle.std.proofs.lemmas.List.Folds.{list_any-append}
 
 -- something that some things name passes a test where one of them names something that does
-any_named : {X Y : Type 0} (test : Y → Bool) (named : X → List Y) (xs : List X) → list_any test (flat_map named xs) ≡ list_any (λ x. list_any test (named x)) xs
+pub any_named : {X Y : Type 0} (test : Y → Bool) (named : X → List Y) (xs : List X) → list_any test (flat_map named xs) ≡ list_any (λ x. list_any test (named x)) xs
 any_named test named [] = refl
 any_named test named (x ∷ xs) = list_any-append test (named x) (flat_map named xs) ∙ ap (λ b. list_any test (named x) || b) (any_named test named xs)
 

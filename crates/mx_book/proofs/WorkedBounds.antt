@@ -6,7 +6,7 @@ use Rattle.mx_command.specs.declared.aircraft.Aircraft.{Aircraft}
 use Rattle.mx_command.specs.declared.component.Component.{Component as Listing}
 use Rattle.mx_command.specs.declared.sector.Sector.{Sector}
 use Rattle.mx_command.specs.declared.item.Item.TheVariants.{Airframe, Component}
-use Rattle.mx_book.specs.declared.verdict.Refusal.TheVariants.{Conflict, Full, UnknownAircraft, UnknownComponent, UnknownPosition, UnknownProgramme, UnknownTask, AircraftExists, ComponentExists, PositionTaken, AlreadyFitted, NotFitted, WrongPart, ItemElsewhere, TaskClosed, LifeLimit, OutOfOrder, WrongRevision, OtherAircraft, OpeningTooLate, OpeningTooLarge, RepeatedLine}
+use Rattle.mx_book.specs.declared.verdict.Refusal.TheVariants.{Conflict, Full, UnknownAircraft, UnknownComponent, UnknownPosition, UnknownProgramme, UnknownTask, UnknownDefect, AircraftExists, ComponentExists, PositionTaken, AlreadyFitted, NotFitted, WrongPart, ItemElsewhere, TaskClosed, LifeLimit, DefectClosed, OutOfOrder, NotExtendable, AlreadyExtended, ExtensionTooLong, IntervalEnded, WrongRevision, OtherAircraft, OpeningTooLate, OpeningTooLarge, RepeatedLine}
 use Rattle.mx_book.specs.declared.verdict.Verdict.TheVariants.{New, Refused}
 use Rattle.mx_book.specs.Register.{register}
 use Rattle.mx_book.specs.Span.{tail_fitted}
@@ -95,9 +95,10 @@ known_before_refusals : judge replaced (logged (codes "F2") (fit (codes "E9") (c
 known_before_refusals = refl
 
 refusals_numbered
-    : map refusal_number (Conflict 7 ∷ Full ∷ UnknownAircraft ∷ UnknownComponent ∷ UnknownPosition ∷ UnknownProgramme ∷ UnknownTask ∷ AircraftExists ∷ ComponentExists
-    ∷ PositionTaken ∷ AlreadyFitted ∷ NotFitted ∷ WrongPart ∷ ItemElsewhere ∷ TaskClosed ∷ LifeLimit ∷ OutOfOrder 7 ∷ WrongRevision 7 ∷ OtherAircraft ∷ OpeningTooLate ∷ OpeningTooLarge ∷ RepeatedLine ∷ [])
-    ≡ 10 ∷ 11 ∷ 20 ∷ 21 ∷ 22 ∷ 23 ∷ 24 ∷ 30 ∷ 31 ∷ 33 ∷ 34 ∷ 35 ∷ 36 ∷ 37 ∷ 38 ∷ 39 ∷ 41 ∷ 46 ∷ 47 ∷ 48 ∷ 49 ∷ 52 ∷ []
+    : map refusal_number (Conflict 7 ∷ Full ∷ UnknownAircraft ∷ UnknownComponent ∷ UnknownPosition ∷ UnknownProgramme ∷ UnknownTask ∷ UnknownDefect ∷ AircraftExists ∷ ComponentExists
+    ∷ PositionTaken ∷ AlreadyFitted ∷ NotFitted ∷ WrongPart ∷ ItemElsewhere ∷ TaskClosed ∷ LifeLimit ∷ DefectClosed ∷ OutOfOrder 7 ∷ NotExtendable ∷ AlreadyExtended ∷ ExtensionTooLong 7 ∷ IntervalEnded 7
+    ∷ WrongRevision 7 ∷ OtherAircraft ∷ OpeningTooLate ∷ OpeningTooLarge ∷ RepeatedLine ∷ [])
+    ≡ 10 ∷ 11 ∷ 20 ∷ 21 ∷ 22 ∷ 23 ∷ 24 ∷ 25 ∷ 30 ∷ 31 ∷ 33 ∷ 34 ∷ 35 ∷ 36 ∷ 37 ∷ 38 ∷ 39 ∷ 40 ∷ 41 ∷ 42 ∷ 43 ∷ 44 ∷ 45 ∷ 46 ∷ 47 ∷ 48 ∷ 49 ∷ 52 ∷ []
 refusals_numbered = refl
 
 -- ── when a book is full ──

@@ -24,7 +24,7 @@ use Rattle.mx_book.proofs.Worked.{at, used, abcd, logged}
 use Rattle.mx_book.proofs.WorkedFittings.{efgh, engine, propeller, e1, e2, fit, engine_with, first_aircraft, replaced}
 use Rattle.mx_book.proofs.WorkedProgrammes.{c172, minutes_alone, cycles_alone, days_alone, hundred_hours, annual, overhaul, load, first_programme, first_four, disc, llp1}
 
-abbrev minutes_left : ℤ → Left
+abbrev pub minutes_left : ℤ → Left
 minutes_left n = record { minutes = Some n; cycles = None; days = None }
 
 abbrev cycles_left : ℤ → Left
@@ -37,7 +37,7 @@ abbrev based : ℕ → ℕ → ℕ → Base
 based minutes cycles day = record { minutes = minutes; cycles = cycles; day = day }
 
 -- a row of the airframe, and one of a component in its position
-abbrev airframe_row : Status → List ℕ → Left → DueRow
+abbrev pub airframe_row : Status → List ℕ → Left → DueRow
 airframe_row status task left = TaskRow status None task left
 
 abbrev part_row : Status → List ℕ → List ℕ → List ℕ → Left → DueRow

@@ -1,5 +1,5 @@
--- The due list of an aircraft: what is due on its airframe and on what is fitted to it.
-use Rattle.std.specs.Prelude.{ℕ, List, [], ◌++◌, Bool, Option, Some, None}
+-- The due list of an aircraft: what is due on its airframe and on what is fitted to it, and its open defects.
+use Rattle.std.specs.Prelude.{ℕ, pos, List, [], ◌++◌, map, Bool, Option, Some, None}
 use Rattle.std.specs.List.{filter_map, flat_map}
 use Rattle.std.specs.Option.{option_map, option_map_or}
 use Rattle.mx_base.specs.declared.amounts.Limit.{Limit}
@@ -9,9 +9,10 @@ use Rattle.mx_command.specs.declared.item.Item.{Item}
 use Rattle.mx_command.specs.declared.item.Item.TheVariants.{Airframe, Component}
 use Rattle.mx_command.specs.declared.programme.Task.{Task}
 use Rattle.mx_due.specs.Left.{left_of}
-use Rattle.mx_due.specs.Status.{status_of}
+use Rattle.mx_due.specs.Status.{status_by, status_of}
 use Rattle.mx_book.specs.declared.due_row.DueRow.{DueRow}
-use Rattle.mx_book.specs.declared.due_row.DueRow.TheVariants.{Task as TaskRow}
+use Rattle.mx_book.specs.declared.due_row.DueRow.TheVariants.{Task as TaskRow, Defect as DefectRow}
+use Rattle.mx_book.specs.declared.defects.Defect.{Defect}
 use Rattle.mx_book.specs.declared.due_row.DueList.{DueList}
 use Rattle.mx_book.specs.declared.life_list.FittedPart.{FittedPart}
 use Rattle.mx_book.specs.Register.{aircraft}
@@ -19,6 +20,8 @@ use Rattle.mx_book.specs.Life.{life_now}
 use Rattle.mx_book.specs.Lists.{use_or_none, parts}
 use Rattle.mx_book.specs.Programme.{tasks_in_force}
 use Rattle.mx_book.specs.Base.{due_by}
+use Rattle.mx_book.specs.Defect.{last_permitted, letter_of, open_defects}
+use Rattle.mx_book.specs.LimitList.{days_left}
 use Rattle.mx_book.specs.DueRow.{row_before}
 use Rattle.mx_book.specs.Order.{in_order, text_before}
 
@@ -46,11 +49,16 @@ rows_of_item book day tasks item place = filter_map (task_row book day item plac
 abbrev pub rows_of_part : List Entry → ℕ → List Task → FittedPart → List DueRow
 rows_of_part book day tasks p = rows_of_item book day tasks (Component p.serial) (Some (p.position, p.serial))
 
--- the rows by place: those of the airframe by task, then those of the components by position and then by task
+-- the row of an open defect
+abbrev pub defect_row : List Entry → ℕ → Defect → DueRow
+defect_row book day d = DefectRow (status_by 0 (days_left book day d)) d.doc (letter_of d.deferral.category) d.deferral.reference (pos (last_permitted book d)) (days_left book day d)
+
+-- the rows by place: those of the airframe by task, then those of the components by position and then by task, then those of the open defects in the order of their entries
 abbrev pub rows_by_place : List Entry → List ℕ → List ℕ → ℕ → List DueRow
 rows_by_place book tail kind day =
     rows_of_item book day (tasks_by_name book kind) (Airframe tail) None
-    ++ flat_map (rows_of_part book day (tasks_by_name book kind)) (parts book tail)
+    ++ (flat_map (rows_of_part book day (tasks_by_name book kind)) (parts book tail)
+    ++ map (defect_row book day) (open_defects book tail))
 
 -- the rows of an aircraft of a kind: the overdue, then the due, then the others, each by place
 abbrev pub due_rows : List Entry → List ℕ → List ℕ → ℕ → List DueRow

@@ -3,7 +3,7 @@ use Rattle.std.specs.Prelude.{ℕ, Bool, nat_lt}
 use Rattle.mx_base.specs.declared.amounts.Status.{Status}
 use Rattle.mx_base.specs.declared.amounts.Status.TheVariants as statuses
 use Rattle.mx_book.specs.declared.due_row.DueRow.{DueRow}
-use Rattle.mx_book.specs.declared.due_row.DueRow.TheVariants.{Task as TaskRow}
+use Rattle.mx_book.specs.declared.due_row.DueRow.TheVariants.{Task as TaskRow, Defect as DefectRow}
 
 -- the place of a status in a list: the worst first
 abbrev pub status_rank : Status → ℕ
@@ -14,6 +14,7 @@ status_rank statuses.Ok = 2
 -- how the row stands
 abbrev pub row_status : DueRow → Status
 row_status (TaskRow status place task left) = status
+row_status (DefectRow status doc letter reference last left) = status
 
 -- one row comes before another: by how they stand
 abbrev pub row_before : DueRow → DueRow → Bool

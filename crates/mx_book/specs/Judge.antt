@@ -1,23 +1,25 @@
 -- The verdict on a command: known, refused or new.
 use Rattle.std.specs.Prelude.{ℕ, ◌+◌, ◌/◌, max, nat_eq, nat_lt, nat_le, length, List, [], ◌∷◌, ◌++◌, ◌&&◌, Bool, true, false, not, ◌||◌, Option, Some, None, is_some, is_none, if◌then◌else◌}
 use Rattle.std.specs.List.{list_any, flat_map}
-use Rattle.std.specs.Option.{option_map, option_map_or}
-use Rattle.mx_command.specs.Act.{Act, Entry, Added, Listed, Loaded, Opened, Flown, Fitted, Removed, Released, aircraft_of, component_of}
+use Rattle.std.specs.Option.{option_map, option_map_or, option_and_then}
+use Rattle.mx_command.specs.Act.{Act, Entry, Added, Listed, Loaded, Opened, Flown, Fitted, Removed, Released, Deferred, Extended, aircraft_of, component_of}
 use Rattle.mx_command.specs.Bounds.{are_distinct}
 use Rattle.mx_command.specs.Same.{same_text, same_line, same_entry}
 use Rattle.mx_command.specs.declared.item.Item.{Item}
 use Rattle.mx_command.specs.declared.item.Item.TheVariants.{Airframe, Component}
 use Rattle.mx_command.specs.declared.release.Line.{Line}
-use Rattle.mx_command.specs.declared.release.Line.TheVariants.{Done}
+use Rattle.mx_command.specs.declared.release.Line.TheVariants.{Done, Rectified}
 use Rattle.mx_command.specs.declared.release.Place.{Place}
 use Rattle.mx_command.specs.declared.release.Place.TheVariants.{Aircraft, Shop}
 use Rattle.mx_book.specs.declared.verdict.Refusal.{Refusal}
-use Rattle.mx_book.specs.declared.verdict.Refusal.TheVariants.{Conflict, Full, UnknownAircraft, UnknownComponent, UnknownPosition, UnknownProgramme, UnknownTask, AircraftExists, ComponentExists, PositionTaken, AlreadyFitted, NotFitted, WrongPart, ItemElsewhere, TaskClosed, LifeLimit, OutOfOrder, WrongRevision, OtherAircraft, OpeningTooLate, OpeningTooLarge, RepeatedLine}
+use Rattle.mx_book.specs.declared.verdict.Refusal.TheVariants.{Conflict, Full, UnknownAircraft, UnknownComponent, UnknownPosition, UnknownProgramme, UnknownTask, UnknownDefect, AircraftExists, ComponentExists, PositionTaken, AlreadyFitted, NotFitted, WrongPart, ItemElsewhere, TaskClosed, LifeLimit, DefectClosed, OutOfOrder, NotExtendable, AlreadyExtended, ExtensionTooLong, IntervalEnded, WrongRevision, OtherAircraft, OpeningTooLate, OpeningTooLarge, RepeatedLine}
 use Rattle.mx_book.specs.declared.verdict.Verdict.{Verdict}
 use Rattle.mx_book.specs.declared.verdict.Verdict.TheVariants.{New, Already, Refused}
 use Rattle.mx_book.specs.Register.{register, aircraft, component, part_at, is_of_part, as_of}
 use Rattle.mx_book.specs.Span.{fitted, tail_fitted, is_taken}
 use Rattle.mx_book.specs.Life.{clock, opening_of}
+use Rattle.mx_book.specs.declared.defects.Defect.{Defect}
+use Rattle.mx_book.specs.Defect.{defect, day_found, extension, interval, is_rectified, is_stated, last_permitted}
 use Rattle.mx_book.specs.Programme.{tasks_in_force, task_in_force, next_revision, applies_to, tasks_at, task_at, is_accomplished, life_ended}
 
 -- the number of a refusal
@@ -29,6 +31,7 @@ refusal_number UnknownComponent = 21
 refusal_number UnknownPosition = 22
 refusal_number UnknownProgramme = 23
 refusal_number UnknownTask = 24
+refusal_number UnknownDefect = 25
 refusal_number AircraftExists = 30
 refusal_number ComponentExists = 31
 refusal_number PositionTaken = 33
@@ -38,7 +41,12 @@ refusal_number WrongPart = 36
 refusal_number ItemElsewhere = 37
 refusal_number TaskClosed = 38
 refusal_number LifeLimit = 39
+refusal_number DefectClosed = 40
 refusal_number (OutOfOrder clock) = 41
+refusal_number NotExtendable = 42
+refusal_number AlreadyExtended = 43
+refusal_number (ExtensionTooLong most) = 44
+refusal_number (IntervalEnded last) = 45
 refusal_number (WrongRevision expected) = 46
 refusal_number OtherAircraft = 47
 refusal_number OpeningTooLate = 48
@@ -62,16 +70,28 @@ abbrev pub item_at : Place → Item
 item_at (Aircraft tail) = Airframe tail
 item_at (Shop serial kind) = Component serial
 
--- the item that a line of a release names
-abbrev pub item_of : Line → Item
-item_of (Done item task) = item
+-- the registration that a line of a release names
+abbrev pub line_tails : Line → List (List ℕ)
+line_tails (Done item task) = item_tails item
+line_tails (Rectified doc) = []
+
+-- the serial number that a line of a release names
+abbrev pub line_serials : Line → List (List ℕ)
+line_serials (Done item task) = item_serials item
+line_serials (Rectified doc) = []
+
+-- the document of the defect that a line of a release names
+abbrev pub line_defects : Line → List (List ℕ)
+line_defects (Done item task) = []
+line_defects (Rectified doc) = doc ∷ []
 
 -- the registrations that a command names
 abbrev pub tails_named : Act → List (List ℕ)
 tails_named (Opened o) = item_tails o.item
 tails_named (Flown s) = s.tail ∷ []
 tails_named (Fitted f) = f.tail ∷ []
-tails_named (Released r lines) = item_tails (item_at r.place) ++ flat_map (λ line. item_tails (item_of line)) lines
+tails_named (Released r lines) = item_tails (item_at r.place) ++ flat_map line_tails lines
+tails_named (Deferred d) = d.tail ∷ []
 tails_named _ = []
 
 -- the serial numbers that a command names
@@ -79,8 +99,14 @@ abbrev pub serials_named : Act → List (List ℕ)
 serials_named (Opened o) = item_serials o.item
 serials_named (Fitted f) = f.serial ∷ []
 serials_named (Removed r) = r.serial ∷ []
-serials_named (Released r lines) = item_serials (item_at r.place) ++ flat_map (λ line. item_serials (item_of line)) lines
+serials_named (Released r lines) = item_serials (item_at r.place) ++ flat_map line_serials lines
 serials_named _ = []
+
+-- the documents of the deferred defects that a command names
+abbrev pub defects_named : Act → List (List ℕ)
+defects_named (Released r lines) = flat_map line_defects lines
+defects_named (Extended x) = x.defect ∷ []
+defects_named _ = []
 
 -- there is no room: 1,000,000 entries, 50 aircraft for one more, or 5,000 components for one more
 abbrev pub is_full : List Entry → Act → Bool
@@ -104,6 +130,7 @@ names_unknown_position book _ = false
 -- a line certifies a task where no programme is in force
 abbrev pub line_without_programme : List Entry → Place → Line → Bool
 line_without_programme book place (Done item task) = is_none (tasks_at book place)
+line_without_programme book place (Rectified doc) = false
 
 -- an opening names a kind that has no programme, or a task is done where no programme is in force
 abbrev pub names_unknown_programme : List Entry → Act → Bool
@@ -114,12 +141,17 @@ names_unknown_programme book _ = false
 -- a line certifies a task that is not in force at the place, or does not apply to the item
 abbrev pub line_of_unknown_task : List Entry → Place → Line → Bool
 line_of_unknown_task book place (Done item task) = not (option_map_or (applies_to book item) (task_at book place task) false)
+line_of_unknown_task book place (Rectified doc) = false
 
 -- an opening or a line names a task that is not in force, or does not apply to the item
 abbrev pub names_unknown_task : List Entry → Act → Bool
 names_unknown_task book (Opened o) = not (option_map_or (applies_to book o.item) (task_in_force book o.kind o.task) false)
 names_unknown_task book (Released r lines) = list_any (line_of_unknown_task book r.place) lines
 names_unknown_task book _ = false
+
+-- a defect is named that was not deferred
+abbrev pub names_unknown_defect : List Entry → Act → Bool
+names_unknown_defect book act = list_any (λ doc. is_none (defect book doc)) (defects_named act)
 
 -- an aircraft has the registration already
 abbrev pub aircraft_exists : List Entry → Act → Bool
@@ -167,6 +199,7 @@ is_at book (Shop serial kind) (Component s) = same_text s serial
 -- a line certifies work on an item that is elsewhere
 abbrev pub line_of_item_elsewhere : List Entry → Place → Line → Bool
 line_of_item_elsewhere book place (Done item task) = not (is_at book place item)
+line_of_item_elsewhere book place (Rectified doc) = false
 
 -- a task is done on an item that is not at the place
 abbrev pub item_elsewhere : List Entry → Act → Bool
@@ -176,6 +209,7 @@ item_elsewhere book _ = false
 -- a line certifies a task that was accomplished, and has no repeat in force at the place
 abbrev pub line_of_closed_task : List Entry → Place → Line → Bool
 line_of_closed_task book place (Done item task) = is_accomplished book item task && option_map_or (λ t. is_none t.repeat) (task_at book place task) true
+line_of_closed_task book place (Rectified doc) = false
 
 -- the task of the item that is opened was accomplished already, or one that is done was and is not repeated
 abbrev pub task_closed : List Entry → Act → Bool
@@ -186,6 +220,7 @@ task_closed book _ = false
 -- a line certifies a task that retires its item
 abbrev pub line_of_retirement : List Entry → Place → Line → Bool
 line_of_retirement book place (Done item task) = option_map_or (λ t. t.retire) (task_at book place task) false
+line_of_retirement book place (Rectified doc) = false
 
 -- the task that is opened or done retires the item, or the component that is to be fitted is retired by a task in force for the aircraft's kind
 abbrev pub at_life_limit : List Entry → Act → Bool
@@ -193,6 +228,10 @@ at_life_limit book (Opened o) = option_map_or (λ t. t.retire) (task_in_force bo
 at_life_limit book (Fitted f) = option_map_or (λ a. life_ended book a.kind (Component f.serial) (f.moment / 1440)) (aircraft book f.tail) false
 at_life_limit book (Released r lines) = list_any (line_of_retirement book r.place) lines
 at_life_limit book _ = false
+
+-- a defect is named that was rectified
+abbrev pub defect_closed : List Entry → Act → Bool
+defect_closed book act = list_any (is_rectified book) (defects_named act)
 
 -- the clock, where the moment is before it
 abbrev pub clock_passed : ℕ → ℕ → Option ℕ
@@ -202,13 +241,47 @@ clock_passed moment clock = if nat_lt moment clock then Some clock else None
 abbrev pub clock_where_fitted : List Entry → List ℕ → ℕ
 clock_where_fitted book serial = option_map_or (λ tail. clock book (Airframe tail)) (tail_fitted book serial) 0
 
--- the clock that a command comes before: a sector takes off before that of its airframe; a fitting or a removal is before the greater of the airframe's and the component's; a release is before that of its place
+-- the moment at which a defect was found, where that was after a day
+abbrev pub found_after : ℕ → Defect → Option ℕ
+found_after day d = if nat_lt day (day_found d) then Some d.deferral.moment else None
+
+-- the clock that a command comes before: a sector takes off before that of its airframe; a fitting or a removal is before the greater of the airframe's and the component's; a release is before that of its place, and a defect found before that of its airframe; an interval is extended before the day on which the defect was found, the moment of that
 abbrev pub too_early : List Entry → Act → Option ℕ
 too_early book (Flown s) = clock_passed s.off (clock book (Airframe s.tail))
 too_early book (Fitted f) = clock_passed f.moment (max (clock book (Airframe f.tail)) (clock book (Component f.serial)))
 too_early book (Removed r) = clock_passed r.moment (max (clock_where_fitted book r.serial) (clock book (Component r.serial)))
 too_early book (Released r lines) = clock_passed r.moment (clock book (item_at r.place))
+too_early book (Deferred d) = clock_passed d.moment (clock book (Airframe d.tail))
+too_early book (Extended x) = option_and_then (found_after x.day) (defect book x.defect)
 too_early book _ = None
+
+-- the interval of a defect whose item states the days is not extended
+abbrev pub not_extendable : List Entry → Act → Bool
+not_extendable book (Extended x) = option_map_or (λ d. is_stated d.deferral.category) (defect book x.defect) false
+not_extendable book _ = false
+
+-- the interval that is to be extended was extended before
+abbrev pub already_extended : List Entry → Act → Bool
+already_extended book (Extended x) = is_some (extension book x.defect)
+already_extended book _ = false
+
+-- the interval of a defect, where the days are more
+abbrev pub interval_exceeded : ℕ → Defect → Option ℕ
+interval_exceeded days d = if nat_lt (interval d.deferral.category) days then Some (interval d.deferral.category) else None
+
+-- an interval is extended by more days than it has: so many
+abbrev pub extension_too_long : List Entry → Act → Option ℕ
+extension_too_long book (Extended x) = option_and_then (interval_exceeded x.days) (defect book x.defect)
+extension_too_long book _ = None
+
+-- the last day of a defect, where a day is after it
+abbrev pub last_day_passed : List Entry → ℕ → Defect → Option ℕ
+last_day_passed book day d = if nat_lt (last_permitted book d) day then Some (last_permitted book d) else None
+
+-- an interval is extended after it ended: its last day
+abbrev pub interval_ended : List Entry → Act → Option ℕ
+interval_ended book (Extended x) = option_and_then (last_day_passed book x.day) (defect book x.defect)
+interval_ended book _ = None
 
 -- the expected revision, where another is loaded
 abbrev pub revision_missed : ℕ → ℕ → Option ℕ
@@ -224,9 +297,20 @@ abbrev pub is_of_other_kind : List Entry → List ℕ → Item → Bool
 is_of_other_kind book kind (Airframe tail) = option_map_or (λ a. not (same_text a.kind kind)) (aircraft book tail) false
 is_of_other_kind book kind (Component serial) = false
 
--- a task of an airframe is opened by the programme of another kind
+-- the defect is of another aircraft than the one at the place, or the place is a shop
+abbrev pub is_of_other_aircraft : List Entry → Place → List ℕ → Bool
+is_of_other_aircraft book (Aircraft tail) doc = option_map_or (λ d. not (same_text d.deferral.tail tail)) (defect book doc) false
+is_of_other_aircraft book (Shop serial kind) doc = true
+
+-- a line certifies that a defect was rectified, which is of another aircraft
+abbrev pub line_of_other_aircraft : List Entry → Place → Line → Bool
+line_of_other_aircraft book place (Done item task) = false
+line_of_other_aircraft book place (Rectified doc) = is_of_other_aircraft book place doc
+
+-- a task of an airframe is opened by the programme of another kind, or a defect of another aircraft is rectified
 abbrev pub other_aircraft : List Entry → Act → Bool
 other_aircraft book (Opened o) = is_of_other_kind book o.kind o.item
+other_aircraft book (Released r lines) = list_any (line_of_other_aircraft book r.place) lines
 other_aircraft book _ = false
 
 -- the day of an opening is after that of the item's as_of
@@ -259,6 +343,7 @@ refusals book act =
     ∷ when (names_unknown_position book act) UnknownPosition
     ∷ when (names_unknown_programme book act) UnknownProgramme
     ∷ when (names_unknown_task book act) UnknownTask
+    ∷ when (names_unknown_defect book act) UnknownDefect
     ∷ when (aircraft_exists book act) AircraftExists
     ∷ when (component_exists book act) ComponentExists
     ∷ when (position_taken book act) PositionTaken
@@ -268,7 +353,12 @@ refusals book act =
     ∷ when (item_elsewhere book act) ItemElsewhere
     ∷ when (task_closed book act) TaskClosed
     ∷ when (at_life_limit book act) LifeLimit
+    ∷ when (defect_closed book act) DefectClosed
     ∷ option_map OutOfOrder (too_early book act)
+    ∷ when (not_extendable book act) NotExtendable
+    ∷ when (already_extended book act) AlreadyExtended
+    ∷ option_map ExtensionTooLong (extension_too_long book act)
+    ∷ option_map IntervalEnded (interval_ended book act)
     ∷ option_map WrongRevision (wrong_revision book act)
     ∷ when (other_aircraft book act) OtherAircraft
     ∷ when (opening_too_late book act) OpeningTooLate

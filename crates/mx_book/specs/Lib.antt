@@ -3,6 +3,7 @@ pub mod Register
 pub mod Span
 pub mod Life
 pub mod Programme
+pub mod Defect
 pub mod Judge
 pub mod Book
 pub mod Run
@@ -10,5 +11,6 @@ pub mod Order
 pub mod Lists
 pub mod DueRow
 pub mod Base
+pub mod LimitList
 pub mod DueList
 pub mod Ranks

@@ -3,7 +3,7 @@ use Rattle.std.specs.Prelude.{ℕ, ◌+◌, ◌-◌, max, nat_le, List, [], ◌�
 use Rattle.std.specs.List.{filter_map, flat_map, list_any}
 use Rattle.std.specs.Option.{option_map, option_map_or}
 use Rattle.mx_base.specs.declared.amounts.Use.{Use}
-use Rattle.mx_command.specs.Act.{Act, Entry, Added, Listed, Flown, Fitted, Removed, Released, sector_of}
+use Rattle.mx_command.specs.Act.{Act, Entry, Added, Listed, Flown, Fitted, Removed, Released, Deferred, sector_of}
 use Rattle.mx_command.specs.Same.{same_text}
 use Rattle.mx_command.specs.declared.item.Item.{Item}
 use Rattle.mx_command.specs.declared.item.Item.TheVariants.{Airframe, Component}
@@ -85,12 +85,13 @@ abbrev pub if_in_shop : List ℕ → Place → ℕ → List ℕ
 if_in_shop serial (places.Aircraft t) moment = []
 if_in_shop serial (places.Shop s kind) moment = if_same s serial moment
 
--- the moments that an entry gives the clock of an airframe, removals aside: its as_of, each landing, each fitting to it, each release at it
+-- the moments that an entry gives the clock of an airframe, removals aside: its as_of, each landing, each fitting to it, each release at it, each defect found on it
 abbrev pub airframe_moments : List ℕ → Act → List ℕ
 airframe_moments tail (Added a positions) = if_same a.tail tail a.as_of
 airframe_moments tail (Flown s) = if_same s.tail tail s.on
 airframe_moments tail (Fitted f) = if_same f.tail tail f.moment
 airframe_moments tail (Released r lines) = if_at_aircraft tail r.place r.moment
+airframe_moments tail (Deferred d) = if_same d.tail tail d.moment
 airframe_moments tail _ = []
 
 -- the moments that an entry gives the clock of a component: its as_of, each fitting, each removal, each release of it in a shop

@@ -11,7 +11,7 @@ use Rattle.mx_command.specs.declared.programme.Applies.{Applies}
 use Rattle.mx_command.specs.declared.programme.Applies.TheVariants.{Airframe as ToAirframe, Part as ToPart}
 use Rattle.mx_command.specs.declared.programme.Task.{Task}
 use Rattle.mx_command.specs.declared.release.Line.{Line}
-use Rattle.mx_command.specs.declared.release.Line.TheVariants.{Done}
+use Rattle.mx_command.specs.declared.release.Line.TheVariants.{Done, Rectified}
 use Rattle.mx_command.specs.declared.release.Place.{Place}
 use Rattle.mx_command.specs.declared.release.Place.TheVariants.{Aircraft, Shop}
 use Rattle.mx_due.specs.Due.{first_due}
@@ -81,6 +81,7 @@ task_at book place id = option_and_then (find (λ t. same_text t.id id)) (tasks_
 -- the line certifies that the task was done on the item
 abbrev pub is_done : Item → List ℕ → Line → Bool
 is_done item id (Done done task) = same_item done item && same_text task id
+is_done item id (Rectified doc) = false
 
 -- the entry accomplishes the task of the item: an opening says that it was done before, a release has it among its lines
 abbrev pub accomplishes : Item → List ℕ → Act → Bool

@@ -4,15 +4,19 @@ ghost use Rattle.std.specs.Option.{option_copied};
 ghost use Rattle.mx_book.specs.Life.{life_now, life_at};
 ghost use Rattle.mx_book.specs.Lists.{life_list};
 ghost use Rattle.mx_book.specs.Base.{base, due};
+ghost use Rattle.mx_book.specs.Defect.{open_defects};
 ghost use Rattle.mx_book.specs.DueList.{due_list};
+ghost use Rattle.mx_book.specs.LimitList.{limits};
 ghost use Rattle.mx_book.specs.Judge.{judge};
 ghost use Rattle.mx_book.specs.Book.{entry_at, entries_from, IsBook};
 
 use crate::bases::{due_of_kind, last_base};
+use crate::defects::{Defect, list_open_defects};
 use crate::due_lists::list_dues;
 use crate::due_row::DueList;
 use crate::judging::verdict_on;
 use crate::life_list::{LifeList, list_lives};
+use crate::limit_list::{LimitList, list_limits};
 use crate::lives::life;
 use crate::verdict::Verdict;
 use mx_base::{Base, Day, Kind, Limit, Moment, Tail, TaskId, Use};
@@ -158,6 +162,27 @@ impl Book {
         ensures { IfOk result (λ list. list ≡ due_list self.now tail.now day) }
     {
         Ok(list_dues(alloc, self.entries.as_slice(), tail, day)?)
+    }
+
+    /// The open defects of an aircraft, in the order of their entries; none of an unknown registration. `NoMemory` where
+    /// memory runs out.
+    pub fn open_defects(&self, alloc: Global, tail: &Tail) -> Result<Vec<Defect>, NoMemory>
+        ensures { IfOk result (λ defects. defects.items ≡ open_defects self.now tail.now) }
+    {
+        Ok(list_open_defects(alloc, self.entries.as_slice(), tail)?)
+    }
+
+    /// The limits of an aircraft on a day, or `None` where the registration is unknown. `NoMemory` where memory
+    /// runs out.
+    pub fn limits(
+        &self,
+        alloc: Global,
+        tail: &Tail,
+        day: Day,
+    ) -> Result<Option<LimitList>, NoMemory>
+        ensures { IfOk result (λ list. list ≡ limits self.now tail.now day) }
+    {
+        Ok(list_limits(alloc, self.entries.as_slice(), tail, day)?)
     }
 
     /// The life list of an aircraft, or `None` where the registration is unknown. `NoMemory` where memory

@@ -1,14 +1,15 @@
-//! The due list of an aircraft: what is due on its airframe and on what is fitted to it.
-ghost use Rattle.std.specs.Prelude.{◌≡◌, ◌≤◌, ◌++◌, length, true, IfOk, OnOk};
+//! The due list of an aircraft: what is due on its airframe and on what is fitted to it, and its open defects.
+ghost use Rattle.std.specs.Prelude.{◌≡◌, ◌≤◌, ◌++◌, length, map, true, IfOk, OnOk};
 ghost use Rattle.std.specs.List.{flat_map, list_all};
 ghost use Rattle.mx_command.specs.Programme.{task_shape};
 ghost use Rattle.mx_command.specs.Shape.{has_shape};
 ghost use Rattle.mx_book.specs.Life.{life_now};
 ghost use Rattle.mx_book.specs.Lists.{use_or_none};
-ghost use Rattle.mx_book.specs.DueList.{row_by_due, task_row, task_before, tasks_by_name, rows_of_item, rows_of_part, rows_by_place, due_list};
+ghost use Rattle.mx_book.specs.DueList.{row_by_due, task_row, task_before, tasks_by_name, rows_of_item, rows_of_part, defect_row, rows_by_place, due_list};
 ghost use Rattle.mx_book.specs.Ranks.{tasks_rank};
 
 use crate::bases::due_of_task;
+use crate::defects::{Defect, category_letter, last_day_of, list_open_defects};
 use crate::due_row::{DueList, DueRow};
 use crate::life_list::{FittedPart, life_or_none, parts_by_position};
 use crate::lives::life;
@@ -17,7 +18,7 @@ use crate::programmes::programme_in_force;
 use crate::register::aircraft_of_tail;
 use mx_base::{Day, Kind, Limit, Position, Serial, Tail, Use};
 use mx_command::{Command, Item, Task};
-use mx_due::{left_of, status_of};
+use mx_due::{left_of, status_by, status_of};
 use std::alloc::{AllocError, Global};
 
 impl Placed for Task {
@@ -164,7 +165,42 @@ fn append_parts(
     Ok(())
 }
 
-// The rows of an aircraft by place: those of its airframe by task, then those of its components by position and task.
+// The row of an open defect.
+fn row_of_defect(entries: &[Command], day: Day, defect: &Defect) -> DueRow
+    ensures { result ≡ defect_row entries.now day defect.now }
+{
+    let last = last_day_of(entries, defect);
+    let left = last - i64::from(day.number());
+    DueRow::Defect {
+        status: status_by(0, left),
+        doc: defect.doc,
+        letter: category_letter(&defect.deferral.category),
+        reference: defect.deferral.reference,
+        last,
+        left,
+    }
+}
+
+// Appends the rows of defects, in their order.
+fn append_defects(
+    rows: &mut Vec<DueRow>,
+    entries: &[Command],
+    day: Day,
+    defects: &[Defect],
+) -> Result<(), AllocError>
+    ensures { OnOk result (rows.new.items
+        ≡ rows.old.items ++ map (defect_row entries.now day) defects.now) }
+{
+    let mut rest = defects;
+    while let Some((defect, later)) = rest.split_first() {
+        rows.push(row_of_defect(entries, day, defect))?;
+        rest = later;
+    }
+    Ok(())
+}
+
+// The rows of an aircraft by place: those of its airframe by task, then those of its components by position and task,
+// then those of its open defects.
 fn placed_rows(
     alloc: Global,
     entries: &[Command],
@@ -179,6 +215,7 @@ fn placed_rows(
 {
     let tasks = tasks_in_order(alloc, entries, kind)?;
     let parts = parts_by_position(alloc, entries, tail)?;
+    let defects = list_open_defects(alloc, entries, tail)?;
     let mut rows = Vec::new(alloc);
     append_item(
         &mut rows,
@@ -189,6 +226,7 @@ fn placed_rows(
         &None,
     )?;
     append_parts(&mut rows, entries, day, tasks.as_slice(), parts.as_slice())?;
+    append_defects(&mut rows, entries, day, defects.as_slice())?;
     Ok(rows)
 }
 

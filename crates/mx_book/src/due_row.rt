@@ -4,7 +4,7 @@ ghost use Rattle.mx_book.specs.DueRow.{status_rank, row_status, row_before};
 ghost use Rattle.mx_book.specs.Ranks.{due_rows_rank};
 
 use crate::order::{Placed, Rows};
-use mx_base::{Day, Left, Position, Serial, Status, Tail, TaskId, Use};
+use mx_base::{Day, Doc, Left, MelRef, Position, Serial, Status, Tail, TaskId, Use};
 
 /// What is due on an aircraft, and how it stands.
 #[derive(Clone, Copy, Debug, PartialEq, Eq)]
@@ -20,6 +20,21 @@ pub enum DueRow {
         task: TaskId,
         /// What is left until it is due, in each dimension that has a due.
         left: Left,
+    },
+    /// A deferred defect that is open.
+    Defect {
+        /// How it stands: there is no tolerance.
+        status: Status,
+        /// The document by which it was deferred.
+        doc: Doc,
+        /// The letter of its category.
+        letter: char,
+        /// The item of the minimum equipment list that allows to defer it.
+        reference: MelRef,
+        /// The last day on which it may be open, by its number, which may be past the last of the calendar.
+        last: i64,
+        /// The days that are left until then: negative once it is passed.
+        left: i64,
     },
 }
 
@@ -50,11 +65,12 @@ fn status_of_row(row: &DueRow) -> Status
 {
     match row {
         DueRow::Task { status, .. } => *status,
+        DueRow::Defect { status, .. } => *status,
     }
 }
 
 /// What is due on an aircraft: the overdue first, then the due, then the others, and of each the tasks of the airframe,
-/// then those of its components by position.
+/// then those of its components by position, then its open defects.
 #[derive(Debug, Drop, PartialEq, Eq)]
 pub struct DueList {
     /// The registration of the aircraft.

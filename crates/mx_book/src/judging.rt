@@ -6,6 +6,7 @@ ghost use Rattle.mx_command.specs.Act.{Added, Listed, Flown};
 ghost use Rattle.mx_command.specs.Shape.{has_shape};
 ghost use Rattle.mx_book.specs.Judge.{known_from, known_same, refusals, first_of, judge};
 
+use crate::judging_defects::{refusal_of_deferral, refusal_of_extension};
 use crate::judging_fittings::{refusal_of_fitting, refusal_of_removal};
 use crate::judging_programmes::{refusal_of_opening, refusal_of_programme};
 use crate::judging_releases::refusal_of_release;
@@ -116,6 +117,12 @@ fn refusal(entries: &[Command], command: &Command) -> Option<Refusal>
     }
     if let Some(release) = command.release() {
         return refusal_of_release(entries, &release, command.lines());
+    }
+    if let Some(deferral) = command.deferral() {
+        return refusal_of_deferral(entries, &deferral);
+    }
+    if let Some(extension) = command.extension() {
+        return refusal_of_extension(entries, &extension);
     }
     unreachable!()
 }

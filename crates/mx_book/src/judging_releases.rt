@@ -9,10 +9,11 @@ ghost use Rattle.mx_book.specs.Register.{aircraft, component};
 ghost use Rattle.mx_book.specs.Span.{tail_fitted};
 ghost use Rattle.mx_book.specs.Life.{clock};
 ghost use Rattle.mx_book.specs.Programme.{task_at};
-ghost use Rattle.mx_book.specs.Judge.{item_at, item_of, item_tails, item_serials, names_unknown_aircraft, names_unknown_component, line_without_programme, line_of_unknown_task, fitted_in_shop, is_at, line_of_item_elsewhere, line_of_closed_task, line_of_retirement, refusals, first_of};
+ghost use Rattle.mx_book.specs.Judge.{item_at, line_tails, line_serials, names_unknown_aircraft, names_unknown_component, line_without_programme, line_of_unknown_task, fitted_in_shop, is_at, line_of_item_elsewhere, line_of_closed_task, line_of_retirement, refusals, first_of};
 
 use crate::judging::MOST_ENTRIES;
 use crate::judging_items::{is_unknown_airframe, is_unknown_component};
+use crate::judging_rectified::{have_closed_defect, have_other_aircraft, have_unknown_defect};
 use crate::lives::{clock_of_airframe, clock_of_component};
 use crate::programmes::{is_task_of, task_of_place, tasks_of_place, was_accomplished};
 use crate::spans::fitted_to;
@@ -32,27 +33,21 @@ fn item_of_place(place: &Place) -> Item
     }
 }
 
-// The item that a line names.
-fn item_of_line(line: &Line) -> Item
-    ensures { result ≡ item_of line.now }
-{
-    match line {
-        Line::Done(item, _) => *item,
-    }
-}
-
 // Whether a line names an airframe that is unknown.
 fn is_line_of_unknown_airframe(entries: &[Command], line: &Line) -> bool
     ensures { result ≡ list_any (λ tail. is_none (aircraft entries.now tail))
-        (item_tails (item_of line.now)) }
+        (line_tails line.now) }
 {
-    is_unknown_airframe(entries, &item_of_line(line))
+    match line {
+        Line::Done(item, _) => is_unknown_airframe(entries, item),
+        Line::Rectified(_) => false,
+    }
 }
 
 // Whether one of some lines names an airframe that is unknown.
 fn have_unknown_airframe(entries: &[Command], lines: &[Line]) -> bool
     ensures { result ≡ list_any (λ line. list_any (λ tail. is_none (aircraft entries.now tail))
-        (item_tails (item_of line))) lines.now }
+        (line_tails line)) lines.now }
 {
     lines
         .iter()
@@ -70,15 +65,18 @@ fn is_of_unknown_aircraft(entries: &[Command], release: &Release, lines: &[Line]
 // Whether a line names a component that is unknown.
 fn is_line_of_unknown_component(entries: &[Command], line: &Line) -> bool
     ensures { result ≡ list_any (λ serial. is_none (component entries.now serial))
-        (item_serials (item_of line.now)) }
+        (line_serials line.now) }
 {
-    is_unknown_component(entries, &item_of_line(line))
+    match line {
+        Line::Done(item, _) => is_unknown_component(entries, item),
+        Line::Rectified(_) => false,
+    }
 }
 
 // Whether one of some lines names a component that is unknown.
 fn have_unknown_component(entries: &[Command], lines: &[Line]) -> bool
     ensures { result ≡ list_any (λ line. list_any (λ serial. is_none (component entries.now serial))
-        (item_serials (item_of line))) lines.now }
+        (line_serials line)) lines.now }
 {
     lines
         .iter()
@@ -101,6 +99,7 @@ fn is_line_without_programme(entries: &[Command], place: &Place, line: &Line) ->
 {
     match line {
         Line::Done(_, _) => tasks_of_place(entries, place).is_none(),
+        Line::Rectified(_) => false,
     }
 }
 
@@ -122,6 +121,7 @@ fn is_line_of_unknown_task(entries: &[Command], place: &Place, line: &Line) -> b
             Some(task) => !is_task_of(entries, item, &task),
             None => true,
         },
+        Line::Rectified(_) => false,
     }
 }
 
@@ -153,6 +153,7 @@ fn is_line_of_closed_task(entries: &[Command], place: &Place, line: &Line) -> bo
         Line::Done(item, id) => {
             was_accomplished(entries, item, id) && is_without_repeat(entries, place, id)
         }
+        Line::Rectified(_) => false,
     }
 }
 
@@ -174,6 +175,7 @@ fn is_line_of_retirement(entries: &[Command], place: &Place, line: &Line) -> boo
             Some(task) => task.retire,
             None => false,
         },
+        Line::Rectified(_) => false,
     }
 }
 
@@ -253,6 +255,7 @@ fn is_line_of_item_elsewhere(entries: &[Command], place: &Place, line: &Line) ->
 {
     match line {
         Line::Done(item, _) => !is_item_at(entries, place, item),
+        Line::Rectified(_) => false,
     }
 }
 
@@ -298,6 +301,9 @@ pub(crate) fn refusal_of_release(
     if have_unknown_task(entries, &release.place, lines) {
         return Some(Refusal::UnknownTask);
     }
+    if have_unknown_defect(entries, lines) {
+        return Some(Refusal::UnknownDefect);
+    }
     if is_shop_of_fitted(entries, &release.place) {
         return Some(Refusal::AlreadyFitted);
     }
@@ -310,9 +316,15 @@ pub(crate) fn refusal_of_release(
     if have_retirement(entries, &release.place, lines) {
         return Some(Refusal::LifeLimit);
     }
+    if have_closed_defect(entries, lines) {
+        return Some(Refusal::DefectClosed);
+    }
     let clock = clock_of_place(entries, &release.place);
     if release.moment < clock {
         return Some(Refusal::OutOfOrder(clock));
+    }
+    if have_other_aircraft(entries, &release.place, lines) {
+        return Some(Refusal::OtherAircraft);
     }
     if have_line_twice(lines) {
         return Some(Refusal::RepeatedLine);

@@ -1,20 +1,24 @@
 //! Laws of books and runs: what the definitions give, in the subject's own words. Each function does
 //! nothing; its contract is the law, and the checker proves it.
-ghost use Rattle.std.specs.Prelude.{◌≡◌, ◌≢◌, ◌+◌, ◌≤◌, ℕ, List, [], ◌∷◌, ◌++◌, length, true, None, is_some, IfSome, IsSomeAnd};
-ghost use Rattle.std.specs.List.{AllPairs, list_all};
-ghost use Rattle.mx_command.specs.Act.{Entry, Fitted, Removed};
+ghost use Rattle.std.specs.Prelude.{◌≡◌, ◌≢◌, ◌+◌, ◌*◌, ◌≤◌, ℕ, List, [], ◌∷◌, ◌++◌, length, filter, not, true, false, None, is_some, IfSome, IsSomeAnd};
+ghost use Rattle.std.specs.List.{AllPairs, flat_map, list_all, list_any};
+ghost use Rattle.mx_command.specs.Act.{Entry, Fitted, Removed, Released, Extended};
 ghost use Rattle.mx_command.specs.Shape.{has_shape};
 ghost use Rattle.mx_command.specs.declared.item.Item.{Item};
 ghost use Rattle.mx_command.specs.declared.item.Item.TheVariants.{Airframe};
 ghost use Rattle.mx_command.specs.declared.fitting.Fitting.{Fitting};
 ghost use Rattle.mx_command.specs.declared.fitting.Removal.{Removal};
+ghost use Rattle.mx_command.specs.declared.release.Line.{Line};
+ghost use Rattle.mx_command.specs.declared.release.Release.{Release};
+ghost use Rattle.mx_command.specs.declared.deferral.Extension.{Extension};
 ghost use Rattle.mx_book.specs.Register.{register};
 ghost use Rattle.mx_book.specs.Span.{fitted, is_taken, open_spans_of, open_spans_at};
 ghost use Rattle.mx_book.specs.Programme.{tasks_loaded, revision_in_force, next_revision};
 ghost use Rattle.mx_book.specs.Life.{life_now};
 ghost use Rattle.mx_book.specs.Programme.{is_accomplished};
 ghost use Rattle.mx_book.specs.Base.{base};
-ghost use Rattle.mx_book.specs.Judge.{judge};
+ghost use Rattle.mx_book.specs.Defect.{day_found, defect, interval, is_rectified, last_permitted, open_defects, rectifies};
+ghost use Rattle.mx_book.specs.Judge.{judge, line_defects};
 ghost use Rattle.mx_book.specs.Book.{IsBook};
 ghost use Rattle.mx_book.specs.Run.{book_after, book_run, replies};
 ghost use Rattle.mx_book.specs.Accepted.{accepted, HasAcknowledged};
@@ -81,6 +85,28 @@ pub fn revisions_count_the_programmes()
         (λ revision. revision ≡ length (register (tasks_loaded kind) book)) }
     ensures next { (book : List Entry) (kind : List ℕ) → IsBook book
         → next_revision book kind ≡ length (register (tasks_loaded kind) book) + 1 }
+{}
+
+/// A release leaves those defects open that were and that none of its lines rectifies; one that is new rectifies no
+/// defect a second time, and what was rectified stays so.
+pub fn rectified_is_closed()
+    ensures left { (book : List Entry) (tail doc : List ℕ) (release : Release) (lines : List Line)
+        → open_defects (book ++ record { doc = doc; act = Released release lines } ∷ []) tail
+        ≡ filter (λ d. not (list_any (rectifies d.doc) lines)) (open_defects book tail) }
+    ensures once { (book : List Entry) (doc : List ℕ) (release : Release) (lines : List Line)
+        → judge book (record { doc = doc; act = Released release lines }) ≡ Verdict.New
+        → list_any (is_rectified book) (flat_map line_defects lines) ≡ false }
+    ensures stays { (book more : List Entry) (doc : List ℕ)
+        → is_rectified book doc ≡ true → is_rectified (book ++ more) doc ≡ true }
+{}
+
+/// An extension that is new at most doubles the interval of its defect.
+pub fn extension_at_most_doubles()
+    ensures { (book : List Entry) (doc : List ℕ) (extension : Extension)
+        → judge book (record { doc = doc; act = Extended extension }) ≡ Verdict.New
+        → IsSomeAnd (defect book extension.defect) (λ d.
+        last_permitted (book ++ record { doc = doc; act = Extended extension } ∷ []) d
+        ≤ day_found d + 2 * interval d.deferral.category) }
 {}
 
 /// A run over two lists joined is the run over the first and then over the second.

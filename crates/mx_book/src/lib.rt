@@ -4,15 +4,19 @@
 
 mod bases;
 pub mod book;
+pub mod defects;
 mod due_lists;
 pub mod due_row;
 mod judging;
+mod judging_defects;
 mod judging_fittings;
 mod judging_items;
 mod judging_programmes;
+mod judging_rectified;
 mod judging_releases;
 pub mod laws;
 pub mod life_list;
+pub mod limit_list;
 mod lives;
 pub mod order;
 mod programmes;
@@ -21,7 +25,9 @@ mod spans;
 pub mod verdict;
 
 pub use book::{Book, NoMemory};
+pub use defects::Defect;
 pub use due_row::{DueList, DueRow};
 pub use life_list::{FittedPart, LifeList};
+pub use limit_list::{LimitList, LimitRow};
 pub use order::{Placed, Rows};
 pub use verdict::{Refusal, Reply, Verdict};

@@ -151,6 +151,11 @@ fn moment_of_airframe(tail: &Tail, entry: &Command) -> Moment
             ..
         } => moment_if(*fitted_to == *tail, *moment),
         Body::Release { place, moment, .. } => moment_at_aircraft(tail, place, *moment),
+        Body::Defer {
+            tail: found_on,
+            moment,
+            ..
+        } => moment_if(*found_on == *tail, *moment),
         _ => Moment::FIRST,
     }
 }

@@ -161,6 +161,7 @@ pub(crate) fn is_done_by(line: &Line, item: &Item, id: &TaskId) -> bool
 {
     match line {
         Line::Done(done, task) => *done == *item && *task == *id,
+        Line::Rectified(_) => false,
     }
 }
 

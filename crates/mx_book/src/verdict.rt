@@ -1,7 +1,7 @@
 //! The verdict on a command, why one is refused, and what is replied.
 ghost use Rattle.std.specs.Prelude.{◌≡◌};
 
-use mx_base::Moment;
+use mx_base::{Day, Moment};
 
 /// Why a command is refused.
 #[derive(Clone, Copy, Debug, PartialEq, Eq)]
@@ -23,6 +23,8 @@ pub enum Refusal {
     /// The programme in force does not have the task of an opening or of a line of a release, or the task does not
     /// apply to the item.
     UnknownTask,
+    /// No defect was deferred by the document that an extension or a line of a release names.
+    UnknownDefect,
     /// An aircraft has the registration already.
     AircraftExists,
     /// A component has the serial number already.
@@ -44,14 +46,26 @@ pub enum Refusal {
     /// The task that is opened, or that a release certifies, retires its item, or a task in force for the kind of the
     /// aircraft retires the component that is to be fitted by the day of the fitting.
     LifeLimit,
+    /// The defect whose interval is extended, or that a release certifies as rectified, was rectified already.
+    DefectClosed,
     /// A sector takes off before the clock of its airframe, a component is fitted or removed before the greater of
-    /// the airframe's clock and its own, or work is released before the clock of the aircraft, or of the component in
-    /// the shop: that clock.
+    /// the airframe's clock and its own, work is released before the clock of the aircraft, or of the component in
+    /// the shop, or a defect was found before the clock of its airframe: that clock. An interval is extended on a day
+    /// before its defect was found: the moment at which it was.
     OutOfOrder(Moment),
+    /// The defect is of category A, whose interval is not extended.
+    NotExtendable,
+    /// The interval of the defect was extended already.
+    AlreadyExtended,
+    /// The extension has more days than the interval of the category: the days of that.
+    ExtensionTooLong(u32),
+    /// The day of an extension is after the last day on which the defect may be open: that day.
+    IntervalEnded(Day),
     /// The programme that is loaded has not the revision that follows the one in force: the revision that does,
     /// which is 1 for a kind without a programme.
     WrongRevision(u32),
-    /// The airframe whose task is opened is of another kind than the programme.
+    /// The airframe whose task is opened is of another kind than the programme, or a release certifies that a defect
+    /// was rectified that is of another aircraft, or that it was in a shop.
     OtherAircraft,
     /// The day of an opening is after the day up to which the item's own opening counts.
     OpeningTooLate,
@@ -76,6 +90,7 @@ impl Refusal {
             Refusal::UnknownPosition => 22,
             Refusal::UnknownProgramme => 23,
             Refusal::UnknownTask => 24,
+            Refusal::UnknownDefect => 25,
             Refusal::AircraftExists => 30,
             Refusal::ComponentExists => 31,
             Refusal::PositionTaken => 33,
@@ -85,7 +100,12 @@ impl Refusal {
             Refusal::ItemElsewhere => 37,
             Refusal::TaskClosed => 38,
             Refusal::LifeLimit => 39,
+            Refusal::DefectClosed => 40,
             Refusal::OutOfOrder(_) => 41,
+            Refusal::NotExtendable => 42,
+            Refusal::AlreadyExtended => 43,
+            Refusal::ExtensionTooLong(_) => 44,
+            Refusal::IntervalEnded(_) => 45,
             Refusal::WrongRevision(_) => 46,
             Refusal::OtherAircraft => 47,
             Refusal::OpeningTooLate => 48,

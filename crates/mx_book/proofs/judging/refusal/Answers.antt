@@ -1,6 +1,6 @@
 use Rattle.std.proofs.Common.{sym, ap, ◌∙◌}
-use Rattle.mx_command.specs.Act.{Listed, Opened, Flown, Fitted, Removed, Released, lines_of}
-use Rattle.mx_book.proofs.JudgeLemmas.{refusals-Added, refusals-Loaded, refusals_of, listed_as, opened_as, flown_as, fitted_as, removed_as, released_as}
+use Rattle.mx_command.specs.Act.{Listed, Opened, Flown, Fitted, Removed, Released, Deferred, Extended, lines_of}
+use Rattle.mx_book.proofs.JudgeLemmas.{refusals-Added, refusals-Loaded, refusals_of, listed_as, opened_as, flown_as, fitted_as, removed_as, released_as, deferred_as, extended_as}
 use Rattle.mx_book.specs.Judge.{refusals, first_of}
 use Rattle.mx_book.proofs.judging.refusal.Goals as goal
 
@@ -42,3 +42,13 @@ returns-in-Some-release c =
     refusals_of c.args.entries.now c.args.command.now.act (Released c.in-Some-release.release (lines_of c.args.command.now.act)) c.refusal_of_release.result
     (released_as c.args.command.now.act c.in-Some-release.release (sym c.in-Some-release.ensures))
     (c.refusal_of_release.ensures ∙ ap (λ lines. first_of (refusals c.args.entries.now (Released c.in-Some-release.release lines))) c.lines.ensures.lines)
+
+pub returns-in-Some-deferral : goal.returns-in-Some-deferral
+returns-in-Some-deferral c =
+    refusals_of c.args.entries.now c.args.command.now.act (Deferred c.in-Some-deferral.deferral) c.refusal_of_deferral.result
+    (deferred_as c.args.command.now.act c.in-Some-deferral.deferral (sym c.in-Some-deferral.ensures.deferral)) c.refusal_of_deferral.ensures
+
+pub returns-in-Some-extension : goal.returns-in-Some-extension
+returns-in-Some-extension c =
+    refusals_of c.args.entries.now c.args.command.now.act (Extended c.in-Some-extension.extension) c.refusal_of_extension.result
+    (extended_as c.args.command.now.act c.in-Some-extension.extension (sym c.in-Some-extension.ensures.extension)) c.refusal_of_extension.ensures
