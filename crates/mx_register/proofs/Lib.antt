@@ -1,5 +1,6 @@
 pub mod NewLemmas
 pub mod NameLemmas
+pub mod NumberLemmas
 pub mod TakeLemmas
 pub mod TaskLemmas
 pub mod ReleaseLemmas
@@ -10,3 +11,4 @@ pub mod RegisterLemmas
 pub mod Worked
 pub mod WorkedProgrammes
 pub mod WorkedReleases
+pub mod WorkedDefects

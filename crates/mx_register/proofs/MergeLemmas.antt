@@ -4,7 +4,7 @@ use Rattle.std.specs.Prelude.{Result, Ok, Err, IfOk}
 use Rattle.std.specs.List.{list_all}
 use Rattle.std.specs.Option.{option_and_then, option_map}
 use Rattle.std.proofs.lemmas.Bool.Decides.{nat_tests}
-use Rattle.mx_command.specs.Act.{Act, Entry, Added, Listed, Loaded, Opened, Flown, Fitted, Removed, Released, positions_of, tasks_of, lines_of}
+use Rattle.mx_command.specs.Act.{Act, Entry, Added, Listed, Loaded, Opened, Flown, Fitted, Removed, Released, Deferred, Extended, positions_of, tasks_of, lines_of}
 use Rattle.mx_command.specs.Shape.{has_shape}
 use Rattle.mx_command.specs.declared.programme.Task.{Task}
 use Rattle.mx_command.specs.declared.release.Line.{Line}
@@ -25,13 +25,15 @@ use Rattle.mx_register.specs.declared.rows.FittingRow.{FittingRow}
 use Rattle.mx_register.specs.declared.rows.RemovalRow.{RemovalRow}
 use Rattle.mx_register.specs.declared.rows.ReleaseRow.{ReleaseRow}
 use Rattle.mx_register.specs.declared.rows.ReleaseLineRow.{ReleaseLineRow}
-use Rattle.mx_register.specs.Names.{tail_at, serial_at, item_at, seq_of_tail, seq_of_serial, seq_of_item, or_zero}
+use Rattle.mx_register.specs.declared.rows.DeferralRow.{DeferralRow}
+use Rattle.mx_register.specs.declared.rows.ExtensionRow.{ExtensionRow}
+use Rattle.mx_register.specs.Names.{tail_at, serial_at, defect_at, item_at, seq_of_tail, seq_of_serial, seq_of_defect, seq_of_item, or_zero}
 use Rattle.mx_register.specs.Lines.{Lines, lines_from}
-use Rattle.mx_register.specs.Registers.{gives, gives_by, next, kind_of, entry_row, aircraft_row, place_row, component_row, programme_row, task_row, opening_row, sector_row, fitting_row, removal_row, release_row, release_line_row, entry_added, aircraft_by, places_by, components_by, programmes_by, tasks_by, openings_by, sectors_by, fittings_by, removals_by, releases_by, release_lines_by, entry_rows, aircraft_rows, place_rows, component_rows, programme_rows, task_rows, opening_rows, sector_rows, fitting_rows, removal_rows, release_rows, release_line_rows, AreRegistersOf}
-use Rattle.mx_register.specs.Merge.{Rest, aircraft_said, component_said, programme_said, opening_said, sector_said, fitting_said, removal_said, place_said, release_said, place_lines, task_lines, lines_of_release, command_of, first_of_entry, take_places, take_tasks, take_release_lines, take_by, take_command, merged}
+use Rattle.mx_register.specs.Registers.{gives, gives_by, next, kind_of, entry_row, aircraft_row, place_row, component_row, programme_row, task_row, opening_row, sector_row, fitting_row, removal_row, release_row, release_line_row, deferral_row, extension_row, entry_added, aircraft_by, places_by, components_by, programmes_by, tasks_by, openings_by, sectors_by, fittings_by, removals_by, releases_by, release_lines_by, deferrals_by, extensions_by, entry_rows, aircraft_rows, place_rows, component_rows, programme_rows, task_rows, opening_rows, sector_rows, fitting_rows, removal_rows, release_rows, release_line_rows, deferral_rows, extension_rows, AreRegistersOf}
+use Rattle.mx_register.specs.Merge.{Rest, aircraft_said, component_said, programme_said, opening_said, sector_said, fitting_said, removal_said, place_said, release_said, deferral_said, extension_said, place_lines, task_lines, lines_of_release, command_of, first_of_entry, take_places, take_tasks, take_release_lines, take_by, take_command, merged}
 use Rattle.mx_register.specs.Left.{all_rows}
-use Rattle.mx_register.proofs.NewLemmas.{opened_is_known, flown_is_known, fitted_is_known, removed_is_known, released_is_known}
-use Rattle.mx_register.proofs.NameLemmas.{tail_known, serial_known, item_known}
+use Rattle.mx_register.proofs.NewLemmas.{opened_is_known, flown_is_known, fitted_is_known, removed_is_known, released_is_known, deferred_is_known, extended_is_known}
+use Rattle.mx_register.proofs.NameLemmas.{tail_known, serial_known, defect_known, item_known}
 use Rattle.mx_register.proofs.TakeLemmas.{same-eq, same_some, IsBehind, takes_lines, places_on_lines, places_said}
 use Rattle.mx_register.proofs.TaskLemmas.{tasks_on_lines, tasks_said}
 use Rattle.mx_register.proofs.ReleaseLemmas.{place_known, entry_of_line, lines_on_lines, lines_said}
@@ -52,6 +54,8 @@ in_front before act rest = record {
   removals = removals_by before act ++ rest.removals;
   releases = releases_by before act ++ rest.releases;
   release_lines = release_lines_by before act ++ rest.release_lines;
+  deferrals = deferrals_by before act ++ rest.deferrals;
+  extensions = extensions_by before act ++ rest.extensions;
 }
 
 first_found : {Row : Type 0} (seq_of : Row → ℕ) (row : Row) (rows : List Row) → first_of_entry seq_of (seq_of row) (row ∷ rows) ≡ Some (row, rows)
@@ -107,6 +111,14 @@ says_again before doc (Released r lines) rest shape new behind =
     ∙ ap (option_map (λ (place : Place). (release_said row place (take_release_lines before seq all).0, record rest { release_lines = (take_release_lines before seq all).1 }))) (place_known before r.place known.0)
     ∙ ap (λ (t : List Line × List ReleaseLineRow). Some (release_said row r.place t.0, record rest { release_lines = t.1 }))
     (takes_lines (lines_of_release before) (release_line_row before) (lines_on_lines before) seq 1 lines rest.release_lines (lines_said before lines known.1) behind.release_lines)
+says_again before doc (Deferred d) rest shape new behind =
+    let row = deferral_row (next before) (or_zero (seq_of_tail before d.tail)) d in
+    ap (option_and_then (λ (taken : DeferralRow × List DeferralRow). option_map (λ tail. (deferral_said taken.0 tail, record rest { deferrals = taken.1 })) (tail_at before taken.0.aircraft))) (first_found (λ (r : DeferralRow). r.seq) row rest.deferrals)
+    ∙ ap (option_map (λ tail. (deferral_said row tail, rest))) (tail_known before d.tail (deferred_is_known before doc d new))
+says_again before doc (Extended x) rest shape new behind =
+    let row = extension_row (next before) (or_zero (seq_of_defect before x.defect)) x in
+    ap (option_and_then (λ (taken : ExtensionRow × List ExtensionRow). option_map (λ defect. (extension_said taken.0 defect, record rest { extensions = taken.1 })) (defect_at before taken.0.defect))) (first_found (λ (r : ExtensionRow). r.seq) row rest.extensions)
+    ∙ ap (option_map (λ defect. (extension_said row defect, rest))) (defect_known before x.defect (extended_is_known before doc x new))
 
 -- the rows of a command of its shape that is new give it
 take_gives : (before : List Entry) (doc : List ℕ) (act : Act) (rest : Rest) → has_shape (record { doc = doc; act = act }) ≡ true → is_new (judge before (record { doc = doc; act = act })) ≡ true → AreBehind before rest
@@ -131,6 +143,8 @@ all_later before later = record {
   removals = gives_by removals_by before later;
   releases = gives_by releases_by before later;
   release_lines = gives_by release_lines_by before later;
+  deferrals = gives_by deferrals_by before later;
+  extensions = gives_by extensions_by before later;
 }
 
 other_number : (n m : ℕ) → n ≤ m → (m + 1 == n) ≡ false
@@ -167,7 +181,7 @@ merged_gives before (entry ∷ later) judged shaped =
     (merged_gives (before ++ entry ∷ []) later new.1 shape.1 ∙ ap (λ (book : List Entry). Some book) (append_assoc before (entry ∷ []) later))
 
 registers_rest : (registers : Registers) (book : List Entry) → AreRegistersOf registers book → all_rows registers ≡ all_later [] book
-registers_rest registers book are i = record { aircraft = are.aircraft i; places = are.places i; components = are.components i; programmes = are.programmes i; tasks = are.tasks i; openings = are.openings i; sectors = are.sectors i; fittings = are.fittings i; removals = are.removals i; releases = are.releases i; release_lines = are.release_lines i }
+registers_rest registers book are i = record { aircraft = are.aircraft i; places = are.places i; components = are.components i; programmes = are.programmes i; tasks = are.tasks i; openings = are.openings i; sectors = are.sectors i; fittings = are.fittings i; removals = are.removals i; releases = are.releases i; release_lines = are.release_lines i; deferrals = are.deferrals i; extensions = are.extensions i }
 
 -- from the registers of a book the merge gives the book
 pub merged_from : (registers : Registers) (book : List Entry) → IsBook book → AreRegistersOf registers book → merged [] registers.entries.items (all_rows registers) ≡ Some book
@@ -188,9 +202,11 @@ pub record HaveSameRegisters (one other : List Entry) : Type 0 where
   pub removals : removal_rows one ≡ removal_rows other
   pub releases : release_rows one ≡ release_rows other
   pub release_lines : release_line_rows one ≡ release_line_rows other
+  pub deferrals : deferral_rows one ≡ deferral_rows other
+  pub extensions : extension_rows one ≡ extension_rows other
 
 same_later : (one other : List Entry) → HaveSameRegisters one other → all_later [] one ≡ all_later [] other
-same_later one other same i = record { aircraft = same.aircraft i; places = same.places i; components = same.components i; programmes = same.programmes i; tasks = same.tasks i; openings = same.openings i; sectors = same.sectors i; fittings = same.fittings i; removals = same.removals i; releases = same.releases i; release_lines = same.release_lines i }
+same_later one other same i = record { aircraft = same.aircraft i; places = same.places i; components = same.components i; programmes = same.programmes i; tasks = same.tasks i; openings = same.openings i; sectors = same.sectors i; fittings = same.fittings i; removals = same.removals i; releases = same.releases i; release_lines = same.release_lines i; deferrals = same.deferrals i; extensions = same.extensions i }
 
 -- books with the same registers are one
 pub book_once : (one other : List Entry) → HaveSameRegisters one other → IsBook one → IsBook other → one ≡ other

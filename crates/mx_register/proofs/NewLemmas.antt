@@ -1,9 +1,9 @@
--- What a verdict of new says of the registrations and the serial numbers.
+-- What a verdict of new says of the registrations, the serial numbers and the defects.
 use Rattle.std.proofs.Common.{◌≡◌, List, [], ◌∷◌, ◌++◌, ℕ, Bool, true, false, ◌||◌, Option, Some, None, refl, sym, ap, ◌∙◌}
 use Rattle.std.specs.Prelude.{not, is_some, is_none}
 use Rattle.std.specs.List.{list_any, flat_map, AllByRecursion}
 use Rattle.std.proofs.lemmas.List.Folds.{list_any-append}
-use Rattle.mx_command.specs.Act.{Act, Entry, Added, Listed, Opened, Flown, Fitted, Removed, Released}
+use Rattle.mx_command.specs.Act.{Act, Entry, Added, Listed, Opened, Flown, Fitted, Removed, Released, Deferred, Extended}
 use Rattle.mx_command.specs.declared.aircraft.Aircraft.{Aircraft}
 use Rattle.mx_command.specs.declared.component.Component.{Component}
 use Rattle.mx_command.specs.declared.item.Item.{Item}
@@ -14,11 +14,15 @@ use Rattle.mx_command.specs.declared.fitting.Fitting.{Fitting}
 use Rattle.mx_command.specs.declared.fitting.Removal.{Removal}
 use Rattle.mx_command.specs.declared.release.Release.{Release}
 use Rattle.mx_command.specs.declared.release.Line.{Line}
+use Rattle.mx_command.specs.declared.release.Line.TheVariants.{Done, Rectified}
+use Rattle.mx_command.specs.declared.deferral.Deferral.{Deferral}
+use Rattle.mx_command.specs.declared.deferral.Extension.{Extension}
 use Rattle.mx_book.specs.declared.verdict.Refusal.{Refusal}
-use Rattle.mx_book.specs.declared.verdict.Refusal.TheVariants.{Full, UnknownAircraft, UnknownComponent, UnknownPosition, UnknownProgramme, UnknownTask, AircraftExists, ComponentExists}
+use Rattle.mx_book.specs.declared.verdict.Refusal.TheVariants.{Full, UnknownAircraft, UnknownComponent, UnknownPosition, UnknownProgramme, UnknownTask, UnknownDefect, AircraftExists, ComponentExists}
 use Rattle.mx_book.specs.declared.verdict.Verdict.TheVariants.{New}
 use Rattle.mx_book.specs.Register.{aircraft, component}
-use Rattle.mx_book.specs.Judge.{judge, judge_by, refusals, first_of, when, verdict_of, is_full, names_unknown_aircraft, names_unknown_component, names_unknown_position, names_unknown_programme, names_unknown_task, aircraft_exists, component_exists, item_tails, item_serials, item_at, item_of}
+use Rattle.mx_book.specs.Defect.{defect}
+use Rattle.mx_book.specs.Judge.{judge, judge_by, refusals, first_of, when, verdict_of, is_full, names_unknown_aircraft, names_unknown_component, names_unknown_position, names_unknown_programme, names_unknown_task, names_unknown_defect, aircraft_exists, component_exists, item_tails, item_serials, item_at, line_tails, line_serials, line_defects}
 use Rattle.mx_book.specs.Book.{is_new}
 use Rattle.mx_book.proofs.JudgeLemmas.{is_new-New}
 use Rattle.mx_book.proofs.KnownLemmas.{unknown_document}
@@ -42,6 +46,7 @@ first_none false refusal others h = (refl, h)
 record IsFresh (book : List Entry) (act : Act) : Type 0 where
   pub aircraft_known : names_unknown_aircraft book act ≡ false
   pub component_known : names_unknown_component book act ≡ false
+  pub defect_known : names_unknown_defect book act ≡ false
   pub aircraft_free : aircraft_exists book act ≡ false
   pub component_free : component_exists book act ≡ false
 
@@ -54,9 +59,10 @@ is_fresh book command h =
     let four = first_none (names_unknown_position book act) UnknownPosition _ three.1 in
     let five = first_none (names_unknown_programme book act) UnknownProgramme _ four.1 in
     let six = first_none (names_unknown_task book act) UnknownTask _ five.1 in
-    let seven = first_none (aircraft_exists book act) AircraftExists _ six.1 in
-    let eight = first_none (component_exists book act) ComponentExists _ seven.1 in
-    record { aircraft_known = two.0; component_known = three.0; aircraft_free = seven.0; component_free = eight.0 }
+    let seven = first_none (names_unknown_defect book act) UnknownDefect _ six.1 in
+    let eight = first_none (aircraft_exists book act) AircraftExists _ seven.1 in
+    let nine = first_none (component_exists book act) ComponentExists _ eight.1 in
+    record { aircraft_known = two.0; component_known = three.0; defect_known = seven.0; aircraft_free = eight.0; component_free = nine.0 }
 
 known : (b : Bool) → not b || false ≡ false → b ≡ true
 known true h = refl
@@ -84,6 +90,14 @@ fitted_is_known book doc f h =
 pub removed_is_known : (book : List Entry) (doc : List ℕ) (r : Removal) → is_new (judge book (record { doc = doc; act = Removed r })) ≡ true → is_some (component book r.serial) ≡ true
 removed_is_known book doc r h = known (is_some (component book r.serial)) (is_fresh book (record { doc = doc; act = Removed r }) h).component_known
 
+-- a defect that is deferred is of an aircraft
+pub deferred_is_known : (book : List Entry) (doc : List ℕ) (d : Deferral) → is_new (judge book (record { doc = doc; act = Deferred d })) ≡ true → is_some (aircraft book d.tail) ≡ true
+deferred_is_known book doc d h = known (is_some (aircraft book d.tail)) (is_fresh book (record { doc = doc; act = Deferred d }) h).aircraft_known
+
+-- an extension that is entered names a defect
+pub extended_is_known : (book : List Entry) (doc : List ℕ) (x : Extension) → is_new (judge book (record { doc = doc; act = Extended x })) ≡ true → is_some (defect book x.defect) ≡ true
+extended_is_known book doc x h = known (is_some (defect book x.defect)) (is_fresh book (record { doc = doc; act = Extended x }) h).defect_known
+
 -- the book has the item
 abbrev pub has_item : List Entry → Item → Bool
 has_item book (items.Airframe tail) = is_some (aircraft book tail)
@@ -96,6 +110,10 @@ some_unknown_tail book tails = list_any (λ tail. is_none (aircraft book tail)) 
 -- one of the serial numbers is that of no component
 abbrev some_unknown_serial : List Entry → List (List ℕ) → Bool
 some_unknown_serial book serials = list_any (λ serial. is_none (component book serial)) serials
+
+-- one of the documents is that of no defect
+abbrev some_unknown_defect : List Entry → List (List ℕ) → Bool
+some_unknown_defect book docs = list_any (λ doc. is_none (defect book doc)) docs
 
 -- an item whose name is known is in the book
 item_named : (book : List Entry) (item : Item) → some_unknown_tail book (item_tails item) ≡ false → some_unknown_serial book (item_serials item) ≡ false → has_item book item ≡ true
@@ -116,29 +134,32 @@ both_false false b h = (refl, h)
 none_of_both : {X : Type 0} (test : X → Bool) (xs ys : List X) → list_any test (xs ++ ys) ≡ false → (list_any test xs ≡ false) × (list_any test ys ≡ false)
 none_of_both test xs ys h = both_false (list_any test xs) (list_any test ys) (sym (list_any-append test xs ys) ∙ h)
 
--- the registrations that lines name
-abbrev line_tails : List Line → List (List ℕ)
-line_tails lines = flat_map (λ line. item_tails (item_of line)) lines
+-- the book has what the line is of: the item that the task was done on, or the defect that was rectified
+abbrev pub has_line : List Entry → Line → Bool
+has_line book (Done item task) = has_item book item
+has_line book (Rectified doc) = is_some (defect book doc)
 
--- the serial numbers that lines name
-abbrev line_serials : List Line → List (List ℕ)
-line_serials lines = flat_map (λ line. item_serials (item_of line)) lines
+-- the book has what each line is of
+abbrev pub HasLines : List Entry → List Line → Type 0
+HasLines book lines = AllByRecursion (λ line. has_line book line ≡ true) lines
 
--- the book has the item of each line
-abbrev pub HasItems : List Entry → List Line → Type 0
-HasItems book lines = AllByRecursion (λ line. has_item book (item_of line) ≡ true) lines
+line_named : (book : List Entry) (line : Line) → some_unknown_tail book (line_tails line) ≡ false → some_unknown_serial book (line_serials line) ≡ false → some_unknown_defect book (line_defects line) ≡ false → has_line book line ≡ true
+line_named book (Done item task) h g d = item_named book item h g
+line_named book (Rectified doc) h g d = known (is_some (defect book doc)) d
 
-lines_named : (book : List Entry) (lines : List Line) → some_unknown_tail book (line_tails lines) ≡ false → some_unknown_serial book (line_serials lines) ≡ false → HasItems book lines
-lines_named book [] h g = tt
-lines_named book (line ∷ lines) h g =
-    let tails = none_of_both (λ tail. is_none (aircraft book tail)) (item_tails (item_of line)) (line_tails lines) h in
-    let serials = none_of_both (λ serial. is_none (component book serial)) (item_serials (item_of line)) (line_serials lines) g in
-    (item_named book (item_of line) tails.0 serials.0, lines_named book lines tails.1 serials.1)
+lines_named : (book : List Entry) (lines : List Line) → some_unknown_tail book (flat_map line_tails lines) ≡ false → some_unknown_serial book (flat_map line_serials lines) ≡ false
+    → some_unknown_defect book (flat_map line_defects lines) ≡ false → HasLines book lines
+lines_named book [] h g d = tt
+lines_named book (line ∷ lines) h g d =
+    let tails = none_of_both (λ tail. is_none (aircraft book tail)) (line_tails line) (flat_map line_tails lines) h in
+    let serials = none_of_both (λ serial. is_none (component book serial)) (line_serials line) (flat_map line_serials lines) g in
+    let defects = none_of_both (λ doc. is_none (defect book doc)) (line_defects line) (flat_map line_defects lines) d in
+    (line_named book line tails.0 serials.0 defects.0, lines_named book lines tails.1 serials.1 defects.1)
 
--- a release that is entered names an item for its place, and items in its lines
-pub released_is_known : (book : List Entry) (doc : List ℕ) (r : Release) (lines : List Line) → is_new (judge book (record { doc = doc; act = Released r lines })) ≡ true → (has_item book (item_at r.place) ≡ true) × HasItems book lines
+-- a release that is entered names an item for its place, and items and defects in its lines
+pub released_is_known : (book : List Entry) (doc : List ℕ) (r : Release) (lines : List Line) → is_new (judge book (record { doc = doc; act = Released r lines })) ≡ true → (has_item book (item_at r.place) ≡ true) × HasLines book lines
 released_is_known book doc r lines h =
     let fresh = is_fresh book (record { doc = doc; act = Released r lines }) h in
-    let tails = none_of_both (λ tail. is_none (aircraft book tail)) (item_tails (item_at r.place)) (line_tails lines) fresh.aircraft_known in
-    let serials = none_of_both (λ serial. is_none (component book serial)) (item_serials (item_at r.place)) (line_serials lines) fresh.component_known in
-    (item_named book (item_at r.place) tails.0 serials.0, lines_named book lines tails.1 serials.1)
+    let tails = none_of_both (λ tail. is_none (aircraft book tail)) (item_tails (item_at r.place)) (flat_map line_tails lines) fresh.aircraft_known in
+    let serials = none_of_both (λ serial. is_none (component book serial)) (item_serials (item_at r.place)) (flat_map line_serials lines) fresh.component_known in
+    (item_named book (item_at r.place) tails.0 serials.0, lines_named book lines tails.1 serials.1 fresh.defect_known)

@@ -3,13 +3,15 @@ use Rattle.std.proofs.Common.{◌≡◌, ℕ, ◌+◌, ◌*◌, ◌^◌, ◌≤�
 use Rattle.std.specs.Prelude.{nat_le}
 use Rattle.std.specs.List.{list_all}
 use Rattle.std.proofs.lemmas.Bool.Decides.{nat_tests}
-use Rattle.mx_command.specs.Act.{Act, Entry, Added, positions_of, tasks_of, lines_of, aircraft_of, component_of, programme_of, opening_of, sector_of, fitting_of, removal_of, release_of}
+use Rattle.mx_command.specs.Act.{Act, Entry, Added, positions_of, tasks_of, lines_of, aircraft_of, component_of, programme_of, opening_of, sector_of, fitting_of, removal_of, release_of, deferral_of, extension_of}
 use Rattle.mx_command.specs.Shape.{has_shape, act_shape, doc_shape, opening_shape, positions_shape}
 use Rattle.mx_command.specs.declared.opening.Opening.{Opening}
 use Rattle.mx_command.specs.declared.sector.Sector.{Sector}
 use Rattle.mx_command.specs.declared.fitting.Fitting.{Fitting}
 use Rattle.mx_command.specs.declared.fitting.Removal.{Removal}
 use Rattle.mx_command.specs.declared.release.Release.{Release}
+use Rattle.mx_command.specs.declared.deferral.Deferral.{Deferral}
+use Rattle.mx_command.specs.declared.deferral.Extension.{Extension}
 use Rattle.mx_book.specs.Judge.{item_at as item_of_place}
 use Rattle.mx_book.proofs.JudgeLemmas.{both_true}
 use Rattle.mx_register.specs.declared.rows.EntryRow.{EntryRow}
@@ -21,11 +23,13 @@ use Rattle.mx_register.specs.declared.rows.SectorRow.{SectorRow}
 use Rattle.mx_register.specs.declared.rows.FittingRow.{FittingRow}
 use Rattle.mx_register.specs.declared.rows.RemovalRow.{RemovalRow}
 use Rattle.mx_register.specs.declared.rows.ReleaseRow.{ReleaseRow}
-use Rattle.mx_register.specs.Names.{seq_of_tail, seq_of_serial, seq_of_item, or_zero}
+use Rattle.mx_register.specs.declared.rows.DeferralRow.{DeferralRow}
+use Rattle.mx_register.specs.declared.rows.ExtensionRow.{ExtensionRow}
+use Rattle.mx_register.specs.Names.{seq_of_tail, seq_of_serial, seq_of_defect, seq_of_item, or_zero}
 use Rattle.mx_register.specs.Lines.{lines_from}
 use Rattle.mx_register.specs.Rows.{line_key, place_key, task_key, release_line_key}
 use Rattle.mx_register.specs.Rising.{IsRising}
-use Rattle.mx_register.specs.Registers.{gives, gives_by, next, if_any, aircraft_row, place_row, component_row, programme_row, task_row, opening_row, sector_row, fitting_row, removal_row, release_row, release_line_row, entry_added, aircraft_by, components_by, programmes_by, openings_by, sectors_by, fittings_by, removals_by, releases_by, entry_rows, aircraft_rows, place_rows, component_rows, programme_rows, task_rows, opening_rows, sector_rows, fitting_rows, removal_rows, release_rows, release_line_rows}
+use Rattle.mx_register.specs.Registers.{gives, gives_by, next, if_any, aircraft_row, place_row, component_row, programme_row, task_row, opening_row, sector_row, fitting_row, removal_row, release_row, release_line_row, deferral_row, extension_row, entry_added, aircraft_by, components_by, programmes_by, openings_by, sectors_by, fittings_by, removals_by, releases_by, deferrals_by, extensions_by, entry_rows, aircraft_rows, place_rows, component_rows, programme_rows, task_rows, opening_rows, sector_rows, fitting_rows, removal_rows, release_rows, release_line_rows, deferral_rows, extension_rows}
 use Rattle.mx_register.proofs.TaskLemmas.{tasks_few}
 use Rattle.mx_register.proofs.ReleaseLemmas.{key_of_line, lines_few_enough}
 
@@ -123,6 +127,18 @@ pub release_rows-rising : (book : List Entry) → list_all has_shape book ≡ tr
 unfolding by_number
 release_rows-rising = from_one (λ (row : ReleaseRow). row.seq) by_number (λ before entry. releases_by before entry.act)
     (λ before entry _. one_rises (λ (row : ReleaseRow). row.seq) (next before) (λ (r : Release). release_row (next before) (or_zero (seq_of_item before (item_of_place r.place))) r) (λ r. refl) (release_of entry.act))
+
+-- the numbers of the deferrals rise, none above the length of the book
+pub deferral_rows-rising : (book : List Entry) → list_all has_shape book ≡ true → IsRising (λ (row : DeferralRow). row.seq) 1 (deferral_rows book) (length book + 1)
+unfolding by_number
+deferral_rows-rising = from_one (λ (row : DeferralRow). row.seq) by_number (λ before entry. deferrals_by before entry.act)
+    (λ before entry _. one_rises (λ (row : DeferralRow). row.seq) (next before) (λ (d : Deferral). deferral_row (next before) (or_zero (seq_of_tail before d.tail)) d) (λ d. refl) (deferral_of entry.act))
+
+-- the numbers of the extensions rise, none above the length of the book
+pub extension_rows-rising : (book : List Entry) → list_all has_shape book ≡ true → IsRising (λ (row : ExtensionRow). row.seq) 1 (extension_rows book) (length book + 1)
+unfolding by_number
+extension_rows-rising = from_one (λ (row : ExtensionRow). row.seq) by_number (λ before entry. extensions_by before entry.act)
+    (λ before entry _. one_rises (λ (row : ExtensionRow). row.seq) (next before) (λ (x : Extension). extension_row (next before) (or_zero (seq_of_defect before x.defect)) x) (λ x. refl) (extension_of entry.act))
 
 by_line : ℕ → ℕ
 by_line n = n * 2 ^ 32

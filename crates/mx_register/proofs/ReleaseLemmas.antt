@@ -1,4 +1,4 @@
--- A release, its lines and their rows: each says the other, behind the entries that added the items.
+-- A release, its lines and their rows: each says the other, behind the entries that added the items and deferred the defects.
 use Rattle.std.proofs.Common.{◌≡◌, ℕ, ◌≤◌, List, [], ◌∷◌, length, true, Option, Some, None, refl, ap, ◌∙◌, arith}
 use Rattle.std.specs.List.{AllByRecursion}
 use Rattle.std.specs.Option.{option_and_then, option_map}
@@ -7,20 +7,20 @@ use Rattle.mx_command.specs.Shape.{has_shape}
 use Rattle.mx_command.specs.declared.item.Item.{Item}
 use Rattle.mx_command.specs.declared.item.Item.TheVariants as items
 use Rattle.mx_command.specs.declared.release.Line.{Line}
-use Rattle.mx_command.specs.declared.release.Line.TheVariants.{Done}
+use Rattle.mx_command.specs.declared.release.Line.TheVariants.{Done, Rectified}
 use Rattle.mx_command.specs.declared.release.Place.{Place}
 use Rattle.mx_command.specs.declared.release.Place.TheVariants.{Aircraft, Shop}
 use Rattle.mx_command.proofs.ShapeLemmas.{lines_few}
 use Rattle.mx_book.specs.Book.{is_book_from}
-use Rattle.mx_book.specs.Judge.{item_at as item_of_place, item_of}
+use Rattle.mx_book.specs.Judge.{item_at as item_of_place}
 use Rattle.mx_register.specs.declared.rows.ReleaseRow.{ReleaseRow}
 use Rattle.mx_register.specs.declared.rows.ReleaseLineRow.{ReleaseLineRow}
-use Rattle.mx_register.specs.Names.{item_at, seq_of_item, or_zero}
+use Rattle.mx_register.specs.Names.{item_at, defect_at, seq_of_item, or_zero}
 use Rattle.mx_register.specs.Registers.{kind_in_shop, release_line_row}
 use Rattle.mx_register.specs.Merge.{place_of, place_said, line_of, lines_of_release}
 use Rattle.mx_register.specs.Rows.{line_key, release_line_key}
-use Rattle.mx_register.proofs.NameLemmas.{item_known, item_number}
-use Rattle.mx_register.proofs.NewLemmas.{has_item, HasItems}
+use Rattle.mx_register.proofs.NameLemmas.{item_known, item_number, defect_known, defect_number}
+use Rattle.mx_register.proofs.NewLemmas.{has_item, has_line, HasLines}
 use Rattle.mx_register.proofs.TakeLemmas.{AreOnLines, AreOfLines, IsSaid, same_some}
 
 -- ── places ──
@@ -57,9 +57,11 @@ place_number book row place judged h = number_if book row.kind row.item (item_at
 
 pub entry_of_line : (book : List Entry) (seq line : ℕ) (x : Line) → (release_line_row book seq line x).seq ≡ seq
 entry_of_line book seq line (Done item task) = refl
+entry_of_line book seq line (Rectified doc) = refl
 
 line_of_line : (book : List Entry) (seq line : ℕ) (x : Line) → (release_line_row book seq line x).line ≡ line
 line_of_line book seq line (Done item task) = refl
+line_of_line book seq line (Rectified doc) = refl
 
 pub lines_on_lines : (book : List Entry) → AreOnLines (lines_of_release book) (release_line_row book)
 lines_on_lines book = record { entry_is = entry_of_line book; line_is = line_of_line book }
@@ -67,6 +69,7 @@ lines_on_lines book = record { entry_is = entry_of_line book; line_is = line_of_
 -- the place of a line's row among all is that of its entry and its line
 pub key_of_line : (book : List Entry) (seq line : ℕ) (x : Line) → release_line_key (release_line_row book seq line x) ≡ line_key seq line
 key_of_line book seq line (Done item task) = refl
+key_of_line book seq line (Rectified doc) = refl
 
 -- the row with these columns
 abbrev row_with : ℕ → ℕ → Option ℕ → Option (List ℕ) → Option ℕ → ReleaseLineRow
@@ -79,21 +82,28 @@ done_if book seq line item task (Some i) x judged is h =
     let same : Done i task ≡ x = same_some h in
     ap (λ (n : ℕ). row_with seq line (Some n) (Some task) None) (item_number book i item judged is) ∙ ap (release_line_row book seq line) same
 
+rectified_if : (book : List Entry) (seq line defect : ℕ) (o : Option (List ℕ)) (x : Line) → is_book_from [] book ≡ true → defect_at book defect ≡ o → option_map Rectified o ≡ Some x
+    → row_with seq line None None (Some defect) ≡ release_line_row book seq line x
+rectified_if book seq line defect None x judged is h = (cc)
+rectified_if book seq line defect (Some doc) x judged is h =
+    let same : Rectified doc ≡ x = same_some h in
+    ap (λ (n : ℕ). row_with seq line None None (Some n)) (defect_number book doc defect judged is) ∙ ap (release_line_row book seq line) same
+
 row_of_line : (book : List Entry) (seq line : ℕ) (item : Option ℕ) (task : Option (List ℕ)) (defect : Option ℕ) (x : Line) → is_book_from [] book ≡ true → line_of book item task defect ≡ Some x
     → row_with seq line item task defect ≡ release_line_row book seq line x
-row_of_line book seq line None task defect x judged h = (cc)
-row_of_line book seq line (Some item) None defect x judged h = (cc)
-row_of_line book seq line (Some item) (Some task) (Some defect) x judged h = (cc)
 row_of_line book seq line (Some item) (Some task) None x judged h = done_if book seq line item task (item_at book item) x judged refl h
+row_of_line book seq line None None (Some defect) x judged h = rectified_if book seq line defect (defect_at book defect) x judged refl h
+row_of_line book seq line _ _ _ x judged h = (cc)
 
 pub lines_of_rows : (book : List Entry) → is_book_from [] book ≡ true → AreOfLines (lines_of_release book) (release_line_row book)
 lines_of_rows book judged = record { row_is = λ row x said. row_of_line book row.seq row.line row.item row.task row.defect x judged said }
 
-line_again : (book : List Entry) (x : Line) → has_item book (item_of x) ≡ true → IsSaid (lines_of_release book) (release_line_row book) x
+line_again : (book : List Entry) (x : Line) → has_line book x ≡ true → IsSaid (lines_of_release book) (release_line_row book) x
 line_again book (Done item task) h seq line = ap (option_map (λ (i : Item). Done i task)) (item_known book item h)
+line_again book (Rectified doc) h seq line = ap (option_map (λ (d : List ℕ). Rectified d)) (defect_known book doc h)
 
--- the rows of lines whose items the book has say them
-pub lines_said : (book : List Entry) (lines : List Line) → HasItems book lines → AllByRecursion (IsSaid (lines_of_release book) (release_line_row book)) lines
+-- the rows of lines whose items and defects the book has say them
+pub lines_said : (book : List Entry) (lines : List Line) → HasLines book lines → AllByRecursion (IsSaid (lines_of_release book) (release_line_row book)) lines
 lines_said book [] h = tt
 lines_said book (x ∷ lines) h = (line_again book x h.0, lines_said book lines h.1)
 

@@ -26,12 +26,14 @@ use Rattle.mx_register.specs.declared.rows.FittingRow.{FittingRow}
 use Rattle.mx_register.specs.declared.rows.RemovalRow.{RemovalRow}
 use Rattle.mx_register.specs.declared.rows.ReleaseRow.{ReleaseRow}
 use Rattle.mx_register.specs.declared.rows.ReleaseLineRow.{ReleaseLineRow}
-use Rattle.mx_register.specs.Names.{tail_at, serial_at, item_at, seq_of_serial, seq_of_item, or_zero}
+use Rattle.mx_register.specs.declared.rows.DeferralRow.{DeferralRow}
+use Rattle.mx_register.specs.declared.rows.ExtensionRow.{ExtensionRow}
+use Rattle.mx_register.specs.Names.{tail_at, serial_at, defect_at, item_at, seq_of_serial, seq_of_item, or_zero}
 use Rattle.mx_register.specs.Registers.{gives, next, kind_of, entry_row, place_row, task_row, release_row, release_line_row, entry_added, AreRegistersOf}
-use Rattle.mx_register.specs.Merge.{Rest, aircraft_said, component_said, programme_said, opening_said, sector_said, fitting_said, removal_said, place_said, release_said, place_lines, task_lines, lines_of_release, command_of, first_of_entry, take_places, take_tasks, take_release_lines, take_by, take_command, is_next, is_empty, are_items_taken, are_programmes_taken, are_moves_taken, are_releases_taken, are_taken, merged}
+use Rattle.mx_register.specs.Merge.{Rest, aircraft_said, component_said, programme_said, opening_said, sector_said, fitting_said, removal_said, place_said, release_said, deferral_said, extension_said, place_lines, task_lines, lines_of_release, command_of, first_of_entry, take_places, take_tasks, take_release_lines, take_by, take_command, is_next, is_empty, are_items_taken, are_programmes_taken, are_moves_taken, are_releases_taken, are_defects_taken, are_taken, merged}
 use Rattle.mx_register.specs.Left.{all_rows}
 use Rattle.mx_register.proofs.MergeLemmas.{in_front, all_later}
-use Rattle.mx_register.proofs.NameLemmas.{tail_number, serial_number, item_number}
+use Rattle.mx_register.proofs.NameLemmas.{tail_number, serial_number, defect_number, item_number}
 use Rattle.mx_register.proofs.TakeLemmas.{same_some, rows_taken, places_of_rows}
 use Rattle.mx_register.proofs.TaskLemmas.{tasks_of_rows}
 use Rattle.mx_register.proofs.ReleaseLemmas.{place_number, lines_of_rows}
@@ -138,6 +140,24 @@ took_release before rest row more place book same is said =
           (rows_taken (lines_of_release before) (release_line_row before) (lines_of_rows before book.judged) (next before) 1 rest.release_lines);
     }
 
+took_deferral : (before : List Entry) (rest : Rest) (row : DeferralRow) (more : List DeferralRow) (tail : List ℕ) → IsBook before → row.seq ≡ next before → rest.deferrals ≡ row ∷ more
+    → tail_at before row.aircraft ≡ Some tail → Takes before kind.Defer rest (deferral_said row tail) (record rest { deferrals = more })
+took_deferral before rest row more tail book same is found = record {
+  kind_is = refl;
+  rows = ap (λ (rows : List DeferralRow). record rest { deferrals = rows })
+      (is ∙ ap (λ (n : ℕ). record { seq = n; aircraft = row.aircraft; moment = row.moment; reference = row.reference; category = row.category } ∷ more) same
+      ∙ ap (λ (n : ℕ). record { seq = next before; aircraft = n; moment = row.moment; reference = row.reference; category = row.category } ∷ more) (tail_number before tail row.aircraft book.judged found));
+}
+
+took_extension : (before : List Entry) (rest : Rest) (row : ExtensionRow) (more : List ExtensionRow) (doc : List ℕ) → IsBook before → row.seq ≡ next before → rest.extensions ≡ row ∷ more
+    → defect_at before row.defect ≡ Some doc → Takes before kind.Extend rest (extension_said row doc) (record rest { extensions = more })
+took_extension before rest row more doc book same is found = record {
+  kind_is = refl;
+  rows = ap (λ (rows : List ExtensionRow). record rest { extensions = rows })
+      (is ∙ ap (λ (n : ℕ). record { seq = n; defect = row.defect; day = row.day; days = row.days } ∷ more) same
+      ∙ ap (λ (n : ℕ). record { seq = next before; defect = n; day = row.day; days = row.days } ∷ more) (defect_number before doc row.defect book.judged found));
+}
+
 takes_by : (before : List Entry) (rest : Rest) (k : EntryKind) (taken : Act × Rest) → IsBook before → take_by before (next before) rest k ≡ Some taken → Takes before k rest taken.0 taken.1
 takes_by before rest kind.AddAircraft taken book h =
     option_map_some (λ (t : AircraftRow × List AircraftRow). (aircraft_said t.0 (take_places (next before) rest.places).0, record rest { aircraft = t.1; places = (take_places (next before) rest.places).1 })) (first_of_entry (λ (r : AircraftRow). r.seq) (next before) rest.aircraft) taken h
@@ -169,6 +189,14 @@ takes_by before rest kind.Release taken book h =
     option_and_then_some (λ (t : ReleaseRow × List ReleaseRow). option_map (λ place. (release_said t.0 place (take_release_lines before (next before) rest.release_lines).0, record rest { releases = t.1; release_lines = (take_release_lines before (next before) rest.release_lines).1 })) (place_said before t.0)) (first_of_entry (λ (r : ReleaseRow). r.seq) (next before) rest.releases) taken h
     (λ t found more. option_map_some (λ place. (release_said t.0 place (take_release_lines before (next before) rest.release_lines).0, record rest { releases = t.1; release_lines = (take_release_lines before (next before) rest.release_lines).1 })) (place_said before t.0) taken more
     (λ place at said. let first = first_is (λ (r : ReleaseRow). r.seq) (next before) rest.releases t.0 t.1 found in takes_as before kind.Release rest _ taken said (took_release before rest t.0 t.1 place book first.0 first.1 at)))
+takes_by before rest kind.Defer taken book h =
+    option_and_then_some (λ (t : DeferralRow × List DeferralRow). option_map (λ tail. (deferral_said t.0 tail, record rest { deferrals = t.1 })) (tail_at before t.0.aircraft)) (first_of_entry (λ (r : DeferralRow). r.seq) (next before) rest.deferrals) taken h
+    (λ t found more. option_map_some (λ tail. (deferral_said t.0 tail, record rest { deferrals = t.1 })) (tail_at before t.0.aircraft) taken more
+    (λ tail at said. let first = first_is (λ (r : DeferralRow). r.seq) (next before) rest.deferrals t.0 t.1 found in takes_as before kind.Defer rest _ taken said (took_deferral before rest t.0 t.1 tail book first.0 first.1 at)))
+takes_by before rest kind.Extend taken book h =
+    option_and_then_some (λ (t : ExtensionRow × List ExtensionRow). option_map (λ doc. (extension_said t.0 doc, record rest { extensions = t.1 })) (defect_at before t.0.defect)) (first_of_entry (λ (r : ExtensionRow). r.seq) (next before) rest.extensions) taken h
+    (λ t found more. option_map_some (λ doc. (extension_said t.0 doc, record rest { extensions = t.1 })) (defect_at before t.0.defect) taken more
+    (λ doc at said. let first = first_is (λ (r : ExtensionRow). r.seq) (next before) rest.extensions t.0 t.1 found in takes_as before kind.Extend rest _ taken said (took_extension before rest t.0 t.1 doc book first.0 first.1 at)))
 
 -- ── the command of an entry ──
 
@@ -221,11 +249,13 @@ ends : (before : List Entry) (rest : Rest) (book : List Entry) → are_taken res
 ends before rest book h same =
     let one = both_true (are_items_taken rest) _ h in
     let two = both_true (are_programmes_taken rest) _ one.1 in
-    let three = both_true (are_moves_taken rest) (are_releases_taken rest) two.1 in
+    let three = both_true (are_moves_taken rest) _ two.1 in
+    let four = both_true (are_releases_taken rest) (are_defects_taken rest) three.1 in
     let items = three_empty rest.aircraft rest.places rest.components one.0 in
     let programmes = three_empty rest.programmes rest.tasks rest.openings two.0 in
     let moves = three_empty rest.sectors rest.fittings rest.removals three.0 in
-    let releases = both_true (is_empty rest.releases) (is_empty rest.release_lines) three.1 in
+    let releases = both_true (is_empty rest.releases) (is_empty rest.release_lines) four.0 in
+    let defects = both_true (is_empty rest.deferrals) (is_empty rest.extensions) four.1 in
     record {
       later = [];
       whole = sym same ∙ sym (append-nil before);
@@ -242,6 +272,8 @@ ends before rest book h same =
         removals = moves.2 i;
         releases = no_rows rest.releases releases.0 i;
         release_lines = no_rows rest.release_lines releases.1 i;
+        deferrals = no_rows rest.deferrals defects.0 i;
+        extensions = no_rows rest.extensions defects.1 i;
       };
     }
 
@@ -285,6 +317,8 @@ merged_sound registers book h =
       removals = ap (λ (r : Rest). r.removals) rows;
       releases = ap (λ (r : Rest). r.releases) rows;
       release_lines = ap (λ (r : Rest). r.release_lines) rows;
+      deferrals = ap (λ (r : Rest). r.deferrals) rows;
+      extensions = ap (λ (r : Rest). r.extensions) rows;
     }
 
 sound_if : (registers : Registers) (found : Option (List Entry)) → found ≡ merged [] registers.entries.items (all_rows registers) → IfSome found (λ book. AreRegistersOf registers book)

@@ -6,7 +6,7 @@ use Rattle.mx_command.specs.Act.{Entry}
 use Rattle.mx_book.proofs.Worked.{at, abcd}
 use Rattle.mx_book.proofs.WorkedFittings.{efgh, engine, propeller, e1, e2, on_another}
 use Rattle.mx_register.specs.declared.rows.EntryKind.{EntryKind}
-use Rattle.mx_register.specs.declared.rows.EntryKind.TheVariants.{AddAircraft, AddComponent, LoadProgramme, Opening, Sector, Fit, Remove, Release}
+use Rattle.mx_register.specs.declared.rows.EntryKind.TheVariants.{AddAircraft, AddComponent, LoadProgramme, Opening, Sector, Fit, Remove, Release, Defer, Extend}
 use Rattle.mx_register.specs.declared.rows.EntryRow.{EntryRow}
 use Rattle.mx_register.specs.declared.rows.AircraftRow.{AircraftRow}
 use Rattle.mx_register.specs.declared.rows.PlaceRow.{PlaceRow}
@@ -68,7 +68,7 @@ abbrev removed_row : ℕ → ℕ → RemovalRow
 removed_row seq component = record { seq = seq; component = component; moment = at 19783 9 30 }
 
 abbrev pub no_rows : Rest
-no_rows = record { aircraft = []; places = []; components = []; programmes = []; tasks = []; openings = []; sectors = []; fittings = []; removals = []; releases = []; release_lines = [] }
+no_rows = record { aircraft = []; places = []; components = []; programmes = []; tasks = []; openings = []; sectors = []; fittings = []; removals = []; releases = []; release_lines = []; deferrals = []; extensions = [] }
 
 -- the rows of every register but that of the entries
 abbrev rows : Rest
@@ -186,8 +186,8 @@ line_from_two = refl
 -- ── keys ──
 
 kinds_numbered :
-    kind_number AddAircraft ∷ kind_number AddComponent ∷ kind_number LoadProgramme ∷ kind_number Opening ∷ kind_number Sector ∷ kind_number Fit ∷ kind_number Remove ∷ kind_number Release ∷ []
-    ≡ 1 ∷ 2 ∷ 3 ∷ 4 ∷ 5 ∷ 6 ∷ 7 ∷ 8 ∷ []
+    kind_number AddAircraft ∷ kind_number AddComponent ∷ kind_number LoadProgramme ∷ kind_number Opening ∷ kind_number Sector ∷ kind_number Fit ∷ kind_number Remove ∷ kind_number Release
+    ∷ kind_number Defer ∷ kind_number Extend ∷ [] ≡ 1 ∷ 2 ∷ 3 ∷ 4 ∷ 5 ∷ 6 ∷ 7 ∷ 8 ∷ 9 ∷ 10 ∷ []
 kinds_numbered = refl
 
 second_place_key : place_key (place 10 2 engine (codes "IO360")) ≡ 42949672962

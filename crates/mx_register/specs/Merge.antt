@@ -2,7 +2,7 @@
 use Rattle.std.specs.Prelude.{ℕ, ◌+◌, Bool, true, false, ◌&&◌, List, [], ◌∷◌, ◌++◌, length, Option, Some, None, nat_eq, if◌then◌else◌}
 use Rattle.std.specs.Option.{option_and_then, option_map}
 use Rattle.mx_base.specs.declared.amounts.Limit.{Limit}
-use Rattle.mx_command.specs.Act.{Act, Entry, Added, Listed, Loaded, Opened, Flown, Fitted, Removed, Released}
+use Rattle.mx_command.specs.Act.{Act, Entry, Added, Listed, Loaded, Opened, Flown, Fitted, Removed, Released, Deferred, Extended}
 use Rattle.mx_command.specs.Programme.{has_dimension}
 use Rattle.mx_command.specs.Shape.{has_shape}
 use Rattle.mx_command.specs.declared.item.Item.{Item}
@@ -13,11 +13,11 @@ use Rattle.mx_command.specs.declared.programme.Applies.TheVariants.{Airframe, Pa
 use Rattle.mx_command.specs.declared.release.Place.{Place}
 use Rattle.mx_command.specs.declared.release.Place.TheVariants.{Aircraft as AtAircraft, Shop}
 use Rattle.mx_command.specs.declared.release.Line.{Line}
-use Rattle.mx_command.specs.declared.release.Line.TheVariants.{Done}
+use Rattle.mx_command.specs.declared.release.Line.TheVariants.{Done, Rectified}
 use Rattle.mx_book.specs.Judge.{judge}
 use Rattle.mx_book.specs.Book.{is_new}
 use Rattle.mx_register.specs.declared.rows.EntryKind.{EntryKind}
-use Rattle.mx_register.specs.declared.rows.EntryKind.TheVariants.{AddAircraft, AddComponent, LoadProgramme, Opening, Sector, Fit, Remove, Release}
+use Rattle.mx_register.specs.declared.rows.EntryKind.TheVariants.{AddAircraft, AddComponent, LoadProgramme, Opening, Sector, Fit, Remove, Release, Defer, Extend}
 use Rattle.mx_register.specs.declared.rows.EntryRow.{EntryRow}
 use Rattle.mx_register.specs.declared.rows.AircraftRow.{AircraftRow}
 use Rattle.mx_register.specs.declared.rows.PlaceRow.{PlaceRow}
@@ -30,7 +30,9 @@ use Rattle.mx_register.specs.declared.rows.FittingRow.{FittingRow}
 use Rattle.mx_register.specs.declared.rows.RemovalRow.{RemovalRow}
 use Rattle.mx_register.specs.declared.rows.ReleaseRow.{ReleaseRow}
 use Rattle.mx_register.specs.declared.rows.ReleaseLineRow.{ReleaseLineRow}
-use Rattle.mx_register.specs.Names.{tail_at, serial_at, item_at}
+use Rattle.mx_register.specs.declared.rows.DeferralRow.{DeferralRow}
+use Rattle.mx_register.specs.declared.rows.ExtensionRow.{ExtensionRow}
+use Rattle.mx_register.specs.Names.{tail_at, serial_at, item_at, defect_at}
 use Rattle.mx_register.specs.Lines.{Lines, take_lines}
 
 -- the rows that no entry has taken
@@ -46,6 +48,8 @@ pub record Rest : Type 0 where
   pub removals : List RemovalRow
   pub releases : List ReleaseRow
   pub release_lines : List ReleaseLineRow
+  pub deferrals : List DeferralRow
+  pub extensions : List ExtensionRow
 
 -- ── what rows say ──
 
@@ -105,16 +109,23 @@ place_said before row = option_and_then (place_of row.kind) (item_at before row.
 abbrev pub release_said : ReleaseRow → Place → List Line → Act
 release_said row place lines = Released (record { place = place; moment = row.moment }) lines
 
--- the line that an item, a task and the entry of a defect state: a task that was done on the item, where there is no defect
+-- the line that the entry of an item, a task and the entry of a defect state: an item and a task without a defect, that the task was done on the item; a defect alone, that it was rectified
 abbrev pub line_of : List Entry → Option ℕ → Option (List ℕ) → Option ℕ → Option Line
-line_of before None task defect = None
-line_of before (Some item) None defect = None
-line_of before (Some item) (Some task) (Some defect) = None
 line_of before (Some item) (Some task) None = option_map (λ i. Done i task) (item_at before item)
+line_of before None None (Some defect) = option_map Rectified (defect_at before defect)
+line_of before _ _ _ = None
 
--- the line that its row says, behind the entries that added its item
+-- the line that its row says, behind the entries that added its item or deferred its defect
 abbrev pub line_said : List Entry → ReleaseLineRow → Option Line
 line_said before row = line_of before row.item row.task row.defect
+
+-- what the row of a deferral says, where the aircraft has this registration
+abbrev pub deferral_said : DeferralRow → List ℕ → Act
+deferral_said row tail = Deferred (record { tail = tail; moment = row.moment; reference = row.reference; category = row.category })
+
+-- what the row of an extension says, where the defect was deferred by this document
+abbrev pub extension_said : ExtensionRow → List ℕ → Act
+extension_said row doc = Extended (record { defect = doc; day = row.day; days = row.days })
 
 -- ── the rows that an entry takes ──
 
@@ -186,6 +197,16 @@ abbrev pub take_release : List Entry → ℕ → Rest → Option (Act × Rest)
 take_release before seq rest =
     option_and_then (λ taken. option_map (λ place. (release_said taken.0 place (take_release_lines before seq rest.release_lines).0, record rest { releases = taken.1; release_lines = (take_release_lines before seq rest.release_lines).1 })) (place_said before taken.0)) (first_of_entry (λ row. row.seq) seq rest.releases)
 
+-- what a deferral's entry says: the first deferral's row, if it is of this entry and names an aircraft
+abbrev pub take_deferral : List Entry → ℕ → Rest → Option (Act × Rest)
+take_deferral before seq rest =
+    option_and_then (λ taken. option_map (λ tail. (deferral_said taken.0 tail, record rest { deferrals = taken.1 })) (tail_at before taken.0.aircraft)) (first_of_entry (λ row. row.seq) seq rest.deferrals)
+
+-- what an extension's entry says: the first extension's row, if it is of this entry and names a defect
+abbrev pub take_extension : List Entry → ℕ → Rest → Option (Act × Rest)
+take_extension before seq rest =
+    option_and_then (λ taken. option_map (λ doc. (extension_said taken.0 doc, record rest { extensions = taken.1 })) (defect_at before taken.0.defect)) (first_of_entry (λ row. row.seq) seq rest.extensions)
+
 -- what an entry of this kind says, and the rows behind it
 abbrev pub take_by : List Entry → ℕ → Rest → EntryKind → Option (Act × Rest)
 take_by before seq rest AddAircraft = take_aircraft seq rest
@@ -196,6 +217,8 @@ take_by before seq rest Sector = take_sector before seq rest
 take_by before seq rest Fit = take_fitting before seq rest
 take_by before seq rest Remove = take_removal before seq rest
 take_by before seq rest Release = take_release before seq rest
+take_by before seq rest Defer = take_deferral before seq rest
+take_by before seq rest Extend = take_extension before seq rest
 
 -- the command with this document that says this, where it has its shape
 abbrev pub command_of : List ℕ → Act → Option Entry
@@ -233,9 +256,13 @@ are_moves_taken rest = is_empty rest.sectors && (is_empty rest.fittings && is_em
 abbrev pub are_releases_taken : Rest → Bool
 are_releases_taken rest = is_empty rest.releases && is_empty rest.release_lines
 
+-- every row of deferrals and of extensions is taken
+abbrev pub are_defects_taken : Rest → Bool
+are_defects_taken rest = is_empty rest.deferrals && is_empty rest.extensions
+
 -- every row is taken
 abbrev pub are_taken : Rest → Bool
-are_taken rest = are_items_taken rest && (are_programmes_taken rest && (are_moves_taken rest && are_releases_taken rest))
+are_taken rest = are_items_taken rest && (are_programmes_taken rest && (are_moves_taken rest && (are_releases_taken rest && are_defects_taken rest)))
 
 -- the book that goes on with these rows, where they are those of one
 abbrev pub merged : List Entry → List EntryRow → Rest → Option (List Entry)

@@ -3,7 +3,7 @@ use Rattle.std.specs.Prelude.{◌≡◌, ℕ, ◌+◌, List, [], ◌∷◌, ◌+
 use Rattle.std.specs.List.{cons_option}
 use Rattle.std.specs.Option.{option_map}
 use Rattle.mx_base.specs.declared.amounts.Limit.{Limit}
-use Rattle.mx_command.specs.Act.{Act, Entry, Added, Listed, Loaded, Opened, Flown, Fitted, Removed, Released, aircraft_of, component_of, programme_of, opening_of, sector_of, fitting_of, removal_of, release_of, positions_of, tasks_of, lines_of}
+use Rattle.mx_command.specs.Act.{Act, Entry, Added, Listed, Loaded, Opened, Flown, Fitted, Removed, Released, Deferred, Extended, aircraft_of, component_of, programme_of, opening_of, sector_of, fitting_of, removal_of, release_of, deferral_of, extension_of, positions_of, tasks_of, lines_of}
 use Rattle.mx_command.specs.declared.aircraft.Aircraft.{Aircraft}
 use Rattle.mx_command.specs.declared.component.Component.{Component}
 use Rattle.mx_command.specs.declared.programme.Programme.{Programme}
@@ -18,7 +18,9 @@ use Rattle.mx_command.specs.declared.release.Release.{Release}
 use Rattle.mx_command.specs.declared.release.Place.{Place}
 use Rattle.mx_command.specs.declared.release.Place.TheVariants.{Aircraft as AtAircraft, Shop}
 use Rattle.mx_command.specs.declared.release.Line.{Line}
-use Rattle.mx_command.specs.declared.release.Line.TheVariants.{Done}
+use Rattle.mx_command.specs.declared.release.Line.TheVariants.{Done, Rectified}
+use Rattle.mx_command.specs.declared.deferral.Deferral.{Deferral}
+use Rattle.mx_command.specs.declared.deferral.Extension.{Extension}
 use Rattle.mx_book.specs.Judge.{item_at as item_of_place}
 use Rattle.mx_register.specs.declared.rows.EntryKind.{EntryKind}
 use Rattle.mx_register.specs.declared.rows.EntryKind.TheVariants as kinds
@@ -34,8 +36,10 @@ use Rattle.mx_register.specs.declared.rows.FittingRow.{FittingRow}
 use Rattle.mx_register.specs.declared.rows.RemovalRow.{RemovalRow}
 use Rattle.mx_register.specs.declared.rows.ReleaseRow.{ReleaseRow}
 use Rattle.mx_register.specs.declared.rows.ReleaseLineRow.{ReleaseLineRow}
+use Rattle.mx_register.specs.declared.rows.DeferralRow.{DeferralRow}
+use Rattle.mx_register.specs.declared.rows.ExtensionRow.{ExtensionRow}
 use Rattle.mx_register.specs.declared.merge.Registers.{Registers}
-use Rattle.mx_register.specs.Names.{seq_of_tail, seq_of_serial, seq_of_item, or_zero}
+use Rattle.mx_register.specs.Names.{seq_of_tail, seq_of_serial, seq_of_defect, seq_of_item, or_zero}
 use Rattle.mx_register.specs.Lines.{lines_from}
 
 -- ── a row ──
@@ -50,6 +54,8 @@ kind_of (Flown sector) = kinds.Sector
 kind_of (Fitted fitting) = kinds.Fit
 kind_of (Removed removal) = kinds.Remove
 kind_of (Released release lines) = kinds.Release
+kind_of (Deferred deferral) = kinds.Defer
+kind_of (Extended extension) = kinds.Extend
 
 -- the row of an entry with this number
 abbrev pub entry_row : ℕ → Entry → EntryRow
@@ -109,9 +115,18 @@ kind_in_shop (Shop serial kind) = Some kind
 abbrev pub release_row : ℕ → ℕ → Release → ReleaseRow
 release_row seq item r = record { seq = seq; item = item; kind = kind_in_shop r.place; moment = r.moment }
 
--- the row of a line, behind the entries that added its item, on this line of the release that the entry with this number says
+-- the row of a line, behind the entries that added its item or deferred its defect, on this line of the release that the entry with this number says
 abbrev pub release_line_row : List Entry → ℕ → ℕ → Line → ReleaseLineRow
 release_line_row before seq line (Done item task) = record { seq = seq; line = line; item = Some (or_zero (seq_of_item before item)); task = Some task; defect = None }
+release_line_row before seq line (Rectified doc) = record { seq = seq; line = line; item = None; task = None; defect = Some (or_zero (seq_of_defect before doc)) }
+
+-- the row of a deferral that the entry with this number says, of the aircraft that another entry added
+abbrev pub deferral_row : ℕ → ℕ → Deferral → DeferralRow
+deferral_row seq aircraft d = record { seq = seq; aircraft = aircraft; moment = d.moment; reference = d.reference; category = d.category }
+
+-- the row of an extension that the entry with this number says, of the defect that another entry deferred
+abbrev pub extension_row : ℕ → ℕ → Extension → ExtensionRow
+extension_row seq defect x = record { seq = seq; defect = defect; day = x.day; days = x.days }
 
 -- ── the rows of an entry, behind the entries before it ──
 
@@ -170,6 +185,14 @@ releases_by before act = if_any (λ r. release_row (next before) (or_zero (seq_o
 -- the rows of the lines of the release that an entry says, numbered from 1
 abbrev pub release_lines_by : List Entry → Act → List ReleaseLineRow
 release_lines_by before act = lines_from (release_line_row before) (next before) 1 (lines_of act)
+
+-- the row of the deferral that an entry says
+abbrev pub deferrals_by : List Entry → Act → List DeferralRow
+deferrals_by before act = if_any (λ d. deferral_row (next before) (or_zero (seq_of_tail before d.tail)) d) (deferral_of act)
+
+-- the row of the extension that an entry says
+abbrev pub extensions_by : List Entry → Act → List ExtensionRow
+extensions_by before act = if_any (λ x. extension_row (next before) (or_zero (seq_of_defect before x.defect)) x) (extension_of act)
 
 -- ── the registers ──
 
@@ -230,6 +253,14 @@ release_rows book = gives_by releases_by [] book
 abbrev pub release_line_rows : List Entry → List ReleaseLineRow
 release_line_rows book = gives_by release_lines_by [] book
 
+-- the deferrals of a book, each with the number of its entry
+abbrev pub deferral_rows : List Entry → List DeferralRow
+deferral_rows book = gives_by deferrals_by [] book
+
+-- the extensions of a book, each with the number of its entry
+abbrev pub extension_rows : List Entry → List ExtensionRow
+extension_rows book = gives_by extensions_by [] book
+
 -- the registers are those of the book
 pub record AreRegistersOf (r : Registers) (book : List Entry) : Type 0 where
   pub entries : r.entries.items ≡ entry_rows book
@@ -244,3 +275,5 @@ pub record AreRegistersOf (r : Registers) (book : List Entry) : Type 0 where
   pub removals : r.removals.items ≡ removal_rows book
   pub releases : r.releases.items ≡ release_rows book
   pub release_lines : r.release_lines.items ≡ release_line_rows book
+  pub deferrals : r.deferrals.items ≡ deferral_rows book
+  pub extensions : r.extensions.items ≡ extension_rows book

@@ -1,11 +1,13 @@
--- The rows of the registers: their kinds by number, and which rows can be kept in columns.
-use Rattle.std.specs.Prelude.{ℕ, ◌+◌, ◌*◌, ◌<◌, ◌≤◌, ◌^◌, IfSome}
+-- The rows of the registers: their kinds and categories by number, and which rows can be kept in columns.
+use Rattle.std.specs.Prelude.{ℕ, ◌+◌, ◌*◌, ◌<◌, ◌≤◌, ◌^◌, Option, Some, None, IfSome}
 use Rattle.mx_base.specs.Calendar.{last_day, last_moment}
 use Rattle.mx_base.specs.Identifier.{IsIdentifier, is_graphic, is_tail_character}
 use Rattle.mx_base.specs.declared.amounts.Limit.{Limit}
 use Rattle.mx_base.specs.declared.amounts.Tolerance.{Tolerance}
+use Rattle.mx_command.specs.declared.deferral.Category.{Category}
+use Rattle.mx_command.specs.declared.deferral.Category.TheVariants.{A, B, C, D}
 use Rattle.mx_register.specs.declared.rows.EntryKind.{EntryKind}
-use Rattle.mx_register.specs.declared.rows.EntryKind.TheVariants.{AddAircraft, AddComponent, LoadProgramme, Opening, Sector, Fit, Remove, Release}
+use Rattle.mx_register.specs.declared.rows.EntryKind.TheVariants.{AddAircraft, AddComponent, LoadProgramme, Opening, Sector, Fit, Remove, Release, Defer, Extend}
 use Rattle.mx_register.specs.declared.rows.EntryRow.{EntryRow}
 use Rattle.mx_register.specs.declared.rows.AircraftRow.{AircraftRow}
 use Rattle.mx_register.specs.declared.rows.PlaceRow.{PlaceRow}
@@ -18,6 +20,8 @@ use Rattle.mx_register.specs.declared.rows.TaskRow.{TaskRow}
 use Rattle.mx_register.specs.declared.rows.OpeningRow.{OpeningRow}
 use Rattle.mx_register.specs.declared.rows.ReleaseRow.{ReleaseRow}
 use Rattle.mx_register.specs.declared.rows.ReleaseLineRow.{ReleaseLineRow}
+use Rattle.mx_register.specs.declared.rows.DeferralRow.{DeferralRow}
+use Rattle.mx_register.specs.declared.rows.ExtensionRow.{ExtensionRow}
 
 -- the number of a kind of entry, in the order of the commands
 abbrev pub kind_number : EntryKind → ℕ
@@ -29,6 +33,20 @@ kind_number Sector = 5
 kind_number Fit = 6
 kind_number Remove = 7
 kind_number Release = 8
+kind_number Defer = 9
+kind_number Extend = 10
+
+-- the number of a category, in the order of the letters
+abbrev pub category_number : Category → ℕ
+category_number (A days) = 1
+category_number B = 2
+category_number C = 3
+category_number D = 4
+
+-- the days within which a defect is rectified, where the item of the minimum equipment list states them
+abbrev pub days_stated : Category → Option ℕ
+days_stated (A days) = Some days
+days_stated _ = None
 
 -- the place of a line of an entry's list among the lines of all: by the number of the entry, and then by the line
 abbrev pub line_key : ℕ → ℕ → ℕ
@@ -154,3 +172,22 @@ pub record FitsReleaseLine (row : ReleaseLineRow) : Type 0 where
   pub item : IfSome row.item (λ n. n < 2 ^ 32)
   pub task : IfSome row.task (IsIdentifier is_graphic 16)
   pub defect : IfSome row.defect (λ n. n < 2 ^ 32)
+
+-- the days of the category have 32 bits, where it states them
+abbrev pub FitsCategory : Category → Type 0
+FitsCategory category = IfSome (days_stated category) (λ n. n < 2 ^ 32)
+
+-- the numbers have 32 bits, those of the category where there are any, the moment is in the calendar, and the reference is an identifier
+pub record FitsDeferral (row : DeferralRow) : Type 0 where
+  pub seq : row.seq < 2 ^ 32
+  pub aircraft : row.aircraft < 2 ^ 32
+  pub moment : row.moment ≤ last_moment
+  pub reference : IsIdentifier is_graphic 16 row.reference
+  pub category : FitsCategory row.category
+
+-- the numbers have 32 bits, and the day is in the calendar
+pub record FitsExtension (row : ExtensionRow) : Type 0 where
+  pub seq : row.seq < 2 ^ 32
+  pub defect : row.defect < 2 ^ 32
+  pub day : row.day ≤ last_day
+  pub days : row.days < 2 ^ 32

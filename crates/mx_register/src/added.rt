@@ -1,17 +1,17 @@
 //! The rows that a command adds beside its entry, register by register, behind the entries of a book.
 ghost use Rattle.std.specs.Prelude.{◌≡◌, [], ◌∷◌, IfOk};
-ghost use Rattle.mx_register.specs.Registers.{aircraft_by, components_by, fittings_by, openings_by, places_by, programmes_by, release_lines_by, releases_by, removals_by, sectors_by, tasks_by};
+ghost use Rattle.mx_register.specs.Registers.{aircraft_by, components_by, deferrals_by, extensions_by, fittings_by, openings_by, places_by, programmes_by, release_lines_by, releases_by, removals_by, sectors_by, tasks_by};
 ghost use Rattle.mx_register.specs.Added.{AreAdded, AreAddedRows};
-ghost use Rattle.mx_register.specs.Rows.{FitsAircraft, FitsComponent, FitsFitting, FitsOpening, FitsPlace, FitsProgramme, FitsRelease, FitsReleaseLine, FitsRemoval, FitsSector, FitsTask};
+ghost use Rattle.mx_register.specs.Rows.{FitsAircraft, FitsComponent, FitsDeferral, FitsExtension, FitsFitting, FitsOpening, FitsPlace, FitsProgramme, FitsRelease, FitsReleaseLine, FitsRemoval, FitsSector, FitsTask};
 
-use crate::names::{seq_of_item, seq_of_place, seq_of_serial, seq_of_tail};
+use crate::names::{seq_of_defect, seq_of_item, seq_of_place, seq_of_serial, seq_of_tail};
 use crate::registers::{
-    aircraft_row, component_row, fitting_row, opening_row, place_row, programme_row,
-    release_line_row, release_row, removal_row, sector_row, task_row,
+    aircraft_row, component_row, deferral_row, extension_row, fitting_row, opening_row, place_row,
+    programme_row, release_line_row, release_row, removal_row, sector_row, task_row,
 };
 use crate::rows::{
-    AircraftRow, ComponentRow, FittingRow, OpeningRow, PlaceRow, ProgrammeRow, ReleaseLineRow,
-    ReleaseRow, RemovalRow, SectorRow, TaskRow,
+    AircraftRow, ComponentRow, DeferralRow, ExtensionRow, FittingRow, OpeningRow, PlaceRow,
+    ProgrammeRow, ReleaseLineRow, ReleaseRow, RemovalRow, SectorRow, TaskRow,
 };
 use mx_base::Kind;
 use mx_book::{Book, NoMemory};
@@ -32,6 +32,8 @@ pub struct AddedRows {
     pub removals: Vec<RemovalRow>,
     pub releases: Vec<ReleaseRow>,
     pub release_lines: Vec<ReleaseLineRow>,
+    pub deferrals: Vec<DeferralRow>,
+    pub extensions: Vec<ExtensionRow>,
 }
 
 // A register with one row.
@@ -231,6 +233,42 @@ fn release_line_rows(
     Ok(rows)
 }
 
+// The row of a deferral, where the command says one.
+fn deferral_rows(
+    alloc: Global,
+    book: &Book,
+    command: &Command,
+) -> Result<Vec<DeferralRow>, NoMemory>
+    ensures { IfOk result (λ rows.
+        AreAdded FitsDeferral deferrals_by rows.items book.now command.now) }
+{
+    match command.deferral() {
+        None => Ok(Vec::new(alloc)),
+        Some(deferral) => {
+            let aircraft = seq_of_tail(book, &deferral.tail).unwrap_or(0);
+            one(alloc, deferral_row(book.len() + 1, aircraft, deferral))
+        }
+    }
+}
+
+// The row of an extension, where the command says one.
+fn extension_rows(
+    alloc: Global,
+    book: &Book,
+    command: &Command,
+) -> Result<Vec<ExtensionRow>, NoMemory>
+    ensures { IfOk result (λ rows.
+        AreAdded FitsExtension extensions_by rows.items book.now command.now) }
+{
+    match command.extension() {
+        None => Ok(Vec::new(alloc)),
+        Some(extension) => {
+            let defect = seq_of_defect(book, &extension.defect).unwrap_or(0);
+            one(alloc, extension_row(book.len() + 1, defect, extension))
+        }
+    }
+}
+
 /// The rows that a command adds beside its entry, behind the entries of a book.
 pub fn added_rows(alloc: Global, book: &Book, command: &Command) -> Result<AddedRows, NoMemory>
     ensures { IfOk result (AreAddedRows book.now command.now) }
@@ -247,5 +285,7 @@ pub fn added_rows(alloc: Global, book: &Book, command: &Command) -> Result<Added
         removals: removal_rows(alloc, book, command)?,
         releases: release_rows(alloc, book, command)?,
         release_lines: release_line_rows(alloc, book, command)?,
+        deferrals: deferral_rows(alloc, book, command)?,
+        extensions: extension_rows(alloc, book, command)?,
     })
 }

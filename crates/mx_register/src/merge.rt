@@ -4,12 +4,12 @@ ghost use Rattle.std.specs.Option.{option_map};
 ghost use Rattle.mx_command.specs.Act.{act_of, Entry, sector_of};
 ghost use Rattle.mx_book.specs.Book.{IsBook};
 ghost use Rattle.mx_register.specs.Registers.{AreRegistersOf};
-ghost use Rattle.mx_register.specs.Merge.{are_items_taken, are_moves_taken, are_programmes_taken, are_releases_taken, are_taken, command_of, is_next, merged, take_by, take_command};
+ghost use Rattle.mx_register.specs.Merge.{are_defects_taken, are_items_taken, are_moves_taken, are_programmes_taken, are_releases_taken, are_taken, command_of, is_next, merged, take_by, take_command};
 ghost use Rattle.mx_register.specs.Left.{all_rows, rest_of, taken};
 
 use crate::rows::{
-    AircraftRow, ComponentRow, EntryRow, FittingRow, OpeningRow, PlaceRow, ProgrammeRow,
-    ReleaseLineRow, ReleaseRow, RemovalRow, SectorRow, TaskRow,
+    AircraftRow, ComponentRow, DeferralRow, EntryRow, ExtensionRow, FittingRow, OpeningRow,
+    PlaceRow, ProgrammeRow, ReleaseLineRow, ReleaseRow, RemovalRow, SectorRow, TaskRow,
 };
 use crate::taking::{Left, take_said};
 use mx_base::Doc;
@@ -32,6 +32,8 @@ pub struct Registers {
     pub removals: Vec<RemovalRow>,
     pub releases: Vec<ReleaseRow>,
     pub release_lines: Vec<ReleaseLineRow>,
+    pub deferrals: Vec<DeferralRow>,
+    pub extensions: Vec<ExtensionRow>,
 }
 
 // All rows but those of the entries.
@@ -50,6 +52,8 @@ fn rows_of(registers: &Registers) -> Left<'_>
         removals: registers.removals.as_slice(),
         releases: registers.releases.as_slice(),
         release_lines: registers.release_lines.as_slice(),
+        deferrals: registers.deferrals.as_slice(),
+        extensions: registers.extensions.as_slice(),
     }
 }
 
@@ -81,6 +85,13 @@ fn are_releases_taken(rows: Left<'_>) -> bool
     rows.releases.is_empty() && rows.release_lines.is_empty()
 }
 
+// Whether every row of deferrals and of extensions is taken.
+fn are_defects_taken(rows: Left<'_>) -> bool
+    ensures { result ≡ are_defects_taken (rest_of rows.entry) }
+{
+    rows.deferrals.is_empty() && rows.extensions.is_empty()
+}
+
 // Whether every row is taken.
 fn are_all_taken(rows: Left<'_>) -> bool
     ensures { result ≡ are_taken (rest_of rows.entry) }
@@ -89,6 +100,7 @@ fn are_all_taken(rows: Left<'_>) -> bool
         && are_programmes_taken(rows)
         && are_moves_taken(rows)
         && are_releases_taken(rows)
+        && are_defects_taken(rows)
 }
 
 // The command of a document and a body, or `None` where they lack the shape. `NoMemory` for a sector alone.

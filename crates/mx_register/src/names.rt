@@ -1,16 +1,17 @@
-//! Which entry added an aircraft or a component, by name and by number.
-ghost use Rattle.std.specs.Prelude.{◌≡◌, ◌≤◌, length};
+//! Which entry added an aircraft or a component, or deferred a defect, by name and by number.
+ghost use Rattle.std.specs.Prelude.{◌≡◌};
+ghost use Rattle.std.specs.List.{position};
 ghost use Rattle.mx_command.specs.Act.{act_of};
 ghost use Rattle.mx_book.specs.Judge.{item_at as item_of_place};
-ghost use Rattle.mx_register.specs.Names.{adds_named, item_added, item_at, number_from, seq_of_item, seq_of_serial, seq_of_tail, serial_added, serial_at, tail_added, tail_at};
+ghost use Rattle.mx_register.specs.Names.{adds_named, defect_at, defect_deferred, item_added, item_at, seq_of_defect, seq_of_item, seq_of_serial, seq_of_tail, serial_added, serial_at, tail_added, tail_at};
 
-use mx_base::{Serial, Tail};
+use mx_base::{Doc, Serial, Tail};
 use mx_book::Book;
 use mx_command::{Body, Command, Item, Place};
 
 // Whether an entry adds the aircraft with this registration.
 fn adds_aircraft(entry: &Command, tail: &Tail) -> bool
-    ensures { result ≡ adds_named tail_added tail.now entry.now.act }
+    ensures { result ≡ adds_named tail_added tail.now entry.now }
 {
     match entry.added_aircraft() {
         Some(aircraft) => aircraft.tail == *tail,
@@ -20,7 +21,7 @@ fn adds_aircraft(entry: &Command, tail: &Tail) -> bool
 
 // Whether an entry adds the component with this serial number.
 fn adds_component(entry: &Command, serial: &Serial) -> bool
-    ensures { result ≡ adds_named serial_added serial.now entry.now.act }
+    ensures { result ≡ adds_named serial_added serial.now entry.now }
 {
     match entry.added_component() {
         Some(component) => component.serial == *serial,
@@ -28,54 +29,67 @@ fn adds_component(entry: &Command, serial: &Serial) -> bool
     }
 }
 
-// The number of the first entry that adds the aircraft.
-fn number_of_tail(entries: &[Command], tail: &Tail) -> Option<u32>
-    requires few { length entries.now ≤ 1000000 }
-    ensures { result ≡ number_from tail_added tail.now 1 entries.now }
+// Whether an entry defers the defect of this document.
+fn defers_defect(entry: &Command, doc: &Doc) -> bool
+    ensures { result ≡ adds_named defect_deferred doc.now entry.now }
 {
-    let mut seq = 1u32;
-    let mut rest = entries;
-    while let Some((entry, later)) = rest.split_first() {
-        if adds_aircraft(entry, tail) {
-            return Some(seq);
-        }
-        seq += 1;
-        rest = later;
+    match entry.deferral() {
+        Some(_) => entry.doc() == *doc,
+        None => false,
     }
-    None
 }
 
-// The number of the first entry that adds the component.
-fn number_of_serial(entries: &[Command], serial: &Serial) -> Option<u32>
-    requires few { length entries.now ≤ 1000000 }
-    ensures { result ≡ number_from serial_added serial.now 1 entries.now }
+// The place of the first entry that adds the aircraft.
+fn place_of_tail(entries: &[Command], tail: &Tail) -> Option<usize>
+    ensures { result ≡ position (adds_named tail_added tail.now) entries.now }
 {
-    let mut seq = 1u32;
-    let mut rest = entries;
-    while let Some((entry, later)) = rest.split_first() {
-        if adds_component(entry, serial) {
-            return Some(seq);
-        }
-        seq += 1;
-        rest = later;
-    }
-    None
+    entries.iter().position(|entry| adds_aircraft(entry, tail))
+}
+
+// The place of the first entry that adds the component.
+fn place_of_serial(entries: &[Command], serial: &Serial) -> Option<usize>
+    ensures { result ≡ position (adds_named serial_added serial.now) entries.now }
+{
+    entries
+        .iter()
+        .position(|entry| adds_component(entry, serial))
+}
+
+// The place of the first entry that defers the defect.
+fn place_of_defect(entries: &[Command], doc: &Doc) -> Option<usize>
+    ensures { result ≡ position (adds_named defect_deferred doc.now) entries.now }
+{
+    entries.iter().position(|entry| defers_defect(entry, doc))
 }
 
 /// The number of the entry that added the aircraft with this registration.
+#[tactic(auto, using(crate::proofs::NumberLemmas::number_by_place))]
 pub fn seq_of_tail(book: &Book, tail: &Tail) -> Option<u32>
     ensures { result ≡ seq_of_tail book.now tail.now }
 {
     let _ = book.len();
-    number_of_tail(book.as_slice(), tail)
+    let place = place_of_tail(book.as_slice(), tail)?;
+    Some(place as u32 + 1)
 }
 
 /// The number of the entry that added the component with this serial number.
+#[tactic(auto, using(crate::proofs::NumberLemmas::number_by_place))]
 pub fn seq_of_serial(book: &Book, serial: &Serial) -> Option<u32>
     ensures { result ≡ seq_of_serial book.now serial.now }
 {
     let _ = book.len();
-    number_of_serial(book.as_slice(), serial)
+    let place = place_of_serial(book.as_slice(), serial)?;
+    Some(place as u32 + 1)
+}
+
+/// The number of the entry that deferred the defect, by the document of that entry.
+#[tactic(auto, using(crate::proofs::NumberLemmas::number_by_place))]
+pub fn seq_of_defect(book: &Book, doc: &Doc) -> Option<u32>
+    ensures { result ≡ seq_of_defect book.now doc.now }
+{
+    let _ = book.len();
+    let place = place_of_defect(book.as_slice(), doc)?;
+    Some(place as u32 + 1)
 }
 
 /// The number of the entry that added the item: the aircraft of an airframe, or the component.
@@ -114,6 +128,15 @@ pub fn serial_of_component(book: &Book, seq: u32) -> Option<Serial>
     let entry = book.entry(seq)?;
     let component = entry.added_component()?;
     Some(component.serial)
+}
+
+/// The document of the defect that the entry with a number deferred.
+pub fn document_of_defect(book: &Book, seq: u32) -> Option<Doc>
+    ensures { result ≡ defect_at book.now seq }
+{
+    let entry = book.entry(seq)?;
+    entry.deferral()?;
+    Some(entry.doc())
 }
 
 // The item that an entry adds: the airframe of an aircraft, or a component.

@@ -1,21 +1,21 @@
 //! The rows that a command gives.
 ghost use Rattle.std.specs.Prelude.{◌≡◌, ◌<◌, ◌^◌, true, unwrap_or, IfSome};
 ghost use Rattle.mx_base.specs.Identifier.{IsIdentifier, is_graphic};
-ghost use Rattle.mx_register.specs.Rows.{FitsAircraft, FitsComponent, FitsEntry, FitsFitting, FitsLimit, FitsOpening, FitsPlace, FitsProgramme, FitsRelease, FitsReleaseLine, FitsRemoval, FitsSector, FitsTask, FitsTolerance};
-ghost use Rattle.mx_register.specs.Registers.{aircraft_row, component_row, entry_row, fitting_row, kind_of, no_limit, opening_row, part_of, place_row, programme_row, kind_in_shop, release_line_row, release_row, removal_row, sector_row, task_row};
+ghost use Rattle.mx_register.specs.Rows.{FitsAircraft, FitsCategory, FitsComponent, FitsDeferral, FitsEntry, FitsExtension, FitsFitting, FitsLimit, FitsOpening, FitsPlace, FitsProgramme, FitsRelease, FitsReleaseLine, FitsRemoval, FitsSector, FitsTask, FitsTolerance};
+ghost use Rattle.mx_register.specs.Registers.{aircraft_row, component_row, deferral_row, entry_row, extension_row, fitting_row, kind_of, no_limit, opening_row, part_of, place_row, programme_row, kind_in_shop, release_line_row, release_row, removal_row, sector_row, task_row};
 ghost use Rattle.mx_command.specs.Act.{act_of};
 ghost use Rattle.mx_command.specs.Shape.{has_shape};
 
-use crate::names::seq_of_item;
+use crate::names::{seq_of_defect, seq_of_item};
 use crate::rows::{
-    AircraftRow, ComponentRow, EntryKind, EntryRow, FittingRow, OpeningRow, PlaceRow, ProgrammeRow,
-    ReleaseLineRow, ReleaseRow, RemovalRow, SectorRow, TaskRow,
+    AircraftRow, ComponentRow, DeferralRow, EntryKind, EntryRow, ExtensionRow, FittingRow,
+    OpeningRow, PlaceRow, ProgrammeRow, ReleaseLineRow, ReleaseRow, RemovalRow, SectorRow, TaskRow,
 };
 use mx_base::{Kind, Limit, Part, Position, Tolerance};
 use mx_book::Book;
 use mx_command::{
-    Aircraft, Applies, Body, Command, Component, Fitting, Line, Opening, Place, Programme, Release,
-    Removal, Sector, Task,
+    Aircraft, Applies, Body, Category, Command, Component, Deferral, Extension, Fitting, Line,
+    Opening, Place, Programme, Release, Removal, Sector, Task,
 };
 
 // The kind of entry that a body makes.
@@ -31,6 +31,8 @@ fn kind_of_body(body: &Body) -> EntryKind
         Body::Fit { .. } => EntryKind::Fit,
         Body::Remove { .. } => EntryKind::Remove,
         Body::Release { .. } => EntryKind::Release,
+        Body::Defer { .. } => EntryKind::Defer,
+        Body::Extend { .. } => EntryKind::Extend,
     }
 }
 
@@ -329,5 +331,62 @@ pub fn release_line_row(book: &Book, seq: u32, line: u32, certified: &Line) -> R
                 defect: None,
             }
         }
+        Line::Rectified(doc) => {
+            let number = seq_of_defect(book, doc).unwrap_or(0);
+            ReleaseLineRow {
+                seq,
+                line,
+                item: None,
+                task: None,
+                defect: Some(number),
+            }
+        }
+    }
+}
+
+// The category, whose days fit their column.
+fn category_in_columns(category: Category) -> Category
+    ensures same { result ≡ category }
+    ensures fits { FitsCategory result }
+{
+    match category {
+        Category::A(days) => Category::A(days),
+        Category::B => Category::B,
+        Category::C => Category::C,
+        Category::D => Category::D,
+    }
+}
+
+/// The row of a deferral that is entered with a number, where another number is that of the entry that added
+/// its aircraft.
+pub fn deferral_row(seq: u32, aircraft: u32, deferral: Deferral) -> DeferralRow
+    ensures row { result ≡ deferral_row seq aircraft deferral }
+    ensures fits { FitsDeferral result }
+{
+    // The text of an identifier, and the number of a moment, fit their columns.
+    let _ = deferral.reference.as_str();
+    let _ = deferral.moment.number();
+    DeferralRow {
+        seq,
+        aircraft,
+        moment: deferral.moment,
+        reference: deferral.reference,
+        category: category_in_columns(deferral.category),
+    }
+}
+
+/// The row of an extension that is entered with a number, where another number is that of the entry that
+/// deferred its defect.
+pub fn extension_row(seq: u32, defect: u32, extension: Extension) -> ExtensionRow
+    ensures row { result ≡ extension_row seq defect extension }
+    ensures fits { FitsExtension result }
+{
+    // The number of a day fits its column.
+    let _ = extension.day.number();
+    ExtensionRow {
+        seq,
+        defect,
+        day: extension.day,
+        days: extension.days,
     }
 }

@@ -1,7 +1,10 @@
 //! The rows of the registers. A column `seq` holds the number of the entry; a column `aircraft`, `component` or `item`
-//! the number of the entry that added it.
+//! the number of the entry that added it, and a column `defect` that of the entry that deferred it.
 
-use mx_base::{Day, Doc, Kind, Limit, Moment, Part, Position, Serial, Tail, TaskId, Tolerance};
+use mx_base::{
+    Day, Doc, Kind, Limit, MelRef, Moment, Part, Position, Serial, Tail, TaskId, Tolerance,
+};
+use mx_command::Category;
 
 /// The kind of an entry: which command it was.
 #[derive(Clone, Copy, Debug, PartialEq, Eq)]
@@ -14,6 +17,8 @@ pub enum EntryKind {
     Fit,
     Remove,
     Release,
+    Defer,
+    Extend,
 }
 
 /// An entry: its document and its kind.
@@ -137,13 +142,37 @@ pub struct ReleaseRow {
     pub moment: Moment,
 }
 
-/// What a line of a release certifies, the one on this line of its list, from 1: a task that was done on an item.
+/// What a line of a release certifies, the one on this line of its list, from 1: a task that was done on an item, or a
+/// defect that was rectified.
 #[derive(Clone, Copy, Debug, PartialEq, Eq)]
 pub struct ReleaseLineRow {
     pub seq: u32,
     pub line: u32,
+    /// The item, or `None` where a defect was rectified.
     pub item: Option<u32>,
+    /// The task, or `None` where a defect was rectified.
     pub task: Option<TaskId>,
-    /// The entry that deferred the defect that was rectified; `None`, since no line of today rectifies one.
+    /// The defect that was rectified, or `None` where a task was done.
     pub defect: Option<u32>,
+}
+
+/// A defect that was deferred.
+#[derive(Clone, Copy, Debug, PartialEq, Eq)]
+pub struct DeferralRow {
+    pub seq: u32,
+    pub aircraft: u32,
+    pub moment: Moment,
+    /// The item of the minimum equipment list that allows to defer it.
+    pub reference: MelRef,
+    pub category: Category,
+}
+
+/// The extension of the interval within which a deferred defect is rectified.
+#[derive(Clone, Copy, Debug, PartialEq, Eq)]
+pub struct ExtensionRow {
+    pub seq: u32,
+    pub defect: u32,
+    pub day: Day,
+    /// By so many days.
+    pub days: u32,
 }

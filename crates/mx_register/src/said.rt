@@ -1,14 +1,14 @@
 //! What rows say.
 ghost use Rattle.std.specs.Prelude.{◌≡◌};
 ghost use Rattle.mx_command.specs.Act.{act_of};
-ghost use Rattle.mx_register.specs.Merge.{aircraft_said, applies_said, component_said, fitting_said, limit_said, line_said, opening_said, place_of, place_said, programme_said, release_said, removal_said, sector_said};
+ghost use Rattle.mx_register.specs.Merge.{aircraft_said, applies_said, component_said, deferral_said, extension_said, fitting_said, limit_said, line_said, opening_said, place_of, place_said, programme_said, release_said, removal_said, sector_said};
 
-use crate::names::item_of_entry;
+use crate::names::{document_of_defect, item_of_entry};
 use crate::rows::{
-    AircraftRow, ComponentRow, FittingRow, OpeningRow, ProgrammeRow, ReleaseLineRow, ReleaseRow,
-    RemovalRow, SectorRow,
+    AircraftRow, ComponentRow, DeferralRow, ExtensionRow, FittingRow, OpeningRow, ProgrammeRow,
+    ReleaseLineRow, ReleaseRow, RemovalRow, SectorRow,
 };
-use mx_base::{Kind, Limit, Part, Position, Serial, Tail, Use};
+use mx_base::{Doc, Kind, Limit, Part, Position, Serial, Tail, Use};
 use mx_book::Book;
 use mx_command::{Applies, Body, Item, Line, Place, Task};
 
@@ -166,6 +166,30 @@ pub(crate) fn line_said(book: &Book, row: &ReleaseLineRow) -> Option<Line>
 {
     match (row.item, row.task, row.defect) {
         (Some(item), Some(task), None) => Some(Line::Done(item_of_entry(book, item)?, task)),
+        (None, None, Some(defect)) => Some(Line::Rectified(document_of_defect(book, defect)?)),
         _ => None,
+    }
+}
+
+/// What the row of a deferral says, where the aircraft has this registration.
+pub(crate) fn body_of_deferral(row: &DeferralRow, tail: Tail) -> Body
+    ensures { act_of result ≡ deferral_said row.now tail }
+{
+    Body::Defer {
+        tail,
+        moment: row.moment,
+        reference: row.reference,
+        category: row.category,
+    }
+}
+
+/// What the row of an extension says, where the defect was deferred by this document.
+pub(crate) fn body_of_extension(row: &ExtensionRow, defect: Doc) -> Body
+    ensures { act_of result ≡ extension_said row.now defect }
+{
+    Body::Extend {
+        defect,
+        day: row.day,
+        days: row.days,
     }
 }

@@ -1,18 +1,18 @@
 //! What an entry says, by the first rows of its kind.
 ghost use Rattle.std.specs.Prelude.{◌≡◌, IfOk, IsSome, OnErr};
 ghost use Rattle.std.specs.Option.{option_map};
-ghost use Rattle.mx_register.specs.Merge.{take_aircraft, take_by, take_component, take_fitting, take_opening, take_places, take_programme, take_release, take_release_lines, take_removal, take_sector, take_tasks};
+ghost use Rattle.mx_register.specs.Merge.{take_aircraft, take_by, take_component, take_deferral, take_extension, take_fitting, take_opening, take_places, take_programme, take_release, take_release_lines, take_removal, take_sector, take_tasks};
 ghost use Rattle.mx_register.specs.Left.{rest_of, said};
 
-use crate::names::{item_of_entry, serial_of_component, tail_of_aircraft};
+use crate::names::{document_of_defect, item_of_entry, serial_of_component, tail_of_aircraft};
 use crate::rows::{
-    AircraftRow, ComponentRow, EntryKind, EntryRow, FittingRow, OpeningRow, PlaceRow, ProgrammeRow,
-    ReleaseLineRow, ReleaseRow, RemovalRow, SectorRow, TaskRow,
+    AircraftRow, ComponentRow, DeferralRow, EntryKind, EntryRow, ExtensionRow, FittingRow,
+    OpeningRow, PlaceRow, ProgrammeRow, ReleaseLineRow, ReleaseRow, RemovalRow, SectorRow, TaskRow,
 };
 use crate::said::{
-    applies_to, body_of_aircraft, body_of_component, body_of_fitting, body_of_opening,
-    body_of_programme, body_of_release, body_of_removal, body_of_sector, limit_if_any, line_said,
-    place_said,
+    applies_to, body_of_aircraft, body_of_component, body_of_deferral, body_of_extension,
+    body_of_fitting, body_of_opening, body_of_programme, body_of_release, body_of_removal,
+    body_of_sector, limit_if_any, line_said, place_said,
 };
 use mx_base::{Part, Position};
 use mx_book::Book;
@@ -33,6 +33,8 @@ pub(crate) struct Left<'a> {
     pub(crate) removals: &'a [RemovalRow],
     pub(crate) releases: &'a [ReleaseRow],
     pub(crate) release_lines: &'a [ReleaseLineRow],
+    pub(crate) deferrals: &'a [DeferralRow],
+    pub(crate) extensions: &'a [ExtensionRow],
 }
 
 // The positions of the entry with this number, and the rows behind them.
@@ -258,6 +260,32 @@ fn take_release<'a>(
     Ok(Some((body_of_release(row, place, lines), rest)))
 }
 
+// What a deferral's entry says.
+fn take_deferral<'a>(book: &Book, seq: u32, rows: Left<'a>) -> Option<(Body, Left<'a>)>
+    ensures { option_map said result ≡ take_deferral book.now seq (rest_of rows.entry) }
+{
+    let (row, deferrals) = rows.deferrals.split_first()?;
+    if row.seq != seq {
+        return None;
+    }
+    let tail = tail_of_aircraft(book, row.aircraft)?;
+    let rest = Left { deferrals, ..rows };
+    Some((body_of_deferral(row, tail), rest))
+}
+
+// What an extension's entry says.
+fn take_extension<'a>(book: &Book, seq: u32, rows: Left<'a>) -> Option<(Body, Left<'a>)>
+    ensures { option_map said result ≡ take_extension book.now seq (rest_of rows.entry) }
+{
+    let (row, extensions) = rows.extensions.split_first()?;
+    if row.seq != seq {
+        return None;
+    }
+    let defect = document_of_defect(book, row.defect)?;
+    let rest = Left { extensions, ..rows };
+    Some((body_of_extension(row, defect), rest))
+}
+
 /// What an entry and the first rows of its kind say, and the rows behind them. Memory is asked for only where they say
 /// something.
 pub(crate) fn take_said<'a>(
@@ -281,5 +309,7 @@ pub(crate) fn take_said<'a>(
         EntryKind::Fit => Ok(take_fitting(book, entry.seq, rows)),
         EntryKind::Remove => Ok(take_removal(book, entry.seq, rows)),
         EntryKind::Release => take_release(alloc, book, entry.seq, rows),
+        EntryKind::Defer => Ok(take_deferral(book, entry.seq, rows)),
+        EntryKind::Extend => Ok(take_extension(book, entry.seq, rows)),
     }
 }
