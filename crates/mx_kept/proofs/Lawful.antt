@@ -1,11 +1,13 @@
 -- The law of each table: what its two texts mean, computed, and that its cells tell rows apart.
-use Rattle.std.proofs.Common.{◌≡◌, ◌∙◌, ◌==◌, cond, ℕ, List, [], ◌++◌, refl, sym, ap}
+use Rattle.std.proofs.Common.{◌≡◌, ◌∙◌, ◌==◌, cond, ℕ, Option, Some, None, List, [], ◌++◌, refl, sym, ap, ap₂}
 use Rattle.sqlite.specs.Table.{Table}
 use Rattle.sqlite.specs.Listing.{understood}
 use Rattle.sqlite_schema.specs.declared.schema.Index.{Index}
 use Rattle.sqlite_tied.specs.Compute.{everything}
 use Rattle.mx_base.specs.declared.amounts.Tolerance.{Tolerance}
 use Rattle.mx_base.proofs.RoundTrips.{moment_text_injective}
+use Rattle.mx_command.specs.declared.deferral.Category.{Category}
+use Rattle.mx_command.specs.declared.deferral.Category.TheVariants as categories
 use Rattle.mx_register.specs.declared.rows.EntryKind.{EntryKind}
 use Rattle.mx_register.specs.declared.rows.EntryKind.TheVariants as kinds
 use Rattle.mx_register.specs.declared.rows.EntryRow.{EntryRow}
@@ -20,23 +22,26 @@ use Rattle.mx_register.specs.declared.rows.TaskRow.{TaskRow}
 use Rattle.mx_register.specs.declared.rows.OpeningRow.{OpeningRow}
 use Rattle.mx_register.specs.declared.rows.ReleaseRow.{ReleaseRow}
 use Rattle.mx_register.specs.declared.rows.ReleaseLineRow.{ReleaseLineRow}
-use Rattle.mx_register.specs.Rows.{kind_number, place_key, task_key, release_line_key, FitsFitting, FitsSector, FitsComponent, FitsEntry, FitsAircraft, FitsPlace, FitsRemoval, FitsProgramme, FitsTask, FitsOpening, FitsRelease, FitsReleaseLine}
+use Rattle.mx_register.specs.declared.rows.DeferralRow.{DeferralRow}
+use Rattle.mx_register.specs.declared.rows.ExtensionRow.{ExtensionRow}
+use Rattle.mx_register.specs.Rows.{kind_number, category_number, days_stated, place_key, task_key, release_line_key, FitsFitting, FitsSector, FitsComponent, FitsEntry, FitsAircraft, FitsPlace, FitsRemoval, FitsProgramme, FitsTask, FitsOpening, FitsRelease, FitsReleaseLine, FitsDeferral, FitsExtension}
 use Rattle.mx_layout.specs.TableName.{TableName}
-use Rattle.mx_layout.specs.declared.fault.Table.TheVariants.{Entry, Aircraft, Place, Component, Programme, Task, Opening, Crs, CrsLine, Sector1, Fit1, Removal1}
-use Rattle.mx_layout.specs.Tables.{component, sector1, fit1, entry, aircraft, place, programme, task, opening, crs, crs_line, removal1}
+use Rattle.mx_layout.specs.declared.fault.Table.TheVariants.{Entry, Aircraft, Place, Component, Programme, Task, Opening, Crs, CrsLine, Defect, Extension, Sector1, Fit1, Removal1}
+use Rattle.mx_layout.specs.Tables.{component, sector1, fit1, entry, aircraft, place, programme, task, opening, crs, crs_line, defect, extension, removal1}
 use Rattle.mx_layout.proofs.RowLemmas.{cast_int, cast_null}
-use Rattle.mx_kept.specs.Cells.{kept_component, kept_sector1, kept_fit1, kept_entry, kept_aircraft, kept_place, kept_programme, kept_task, kept_opening, kept_crs, kept_crs_line, kept_removal1}
+use Rattle.mx_kept.specs.Cells.{kept_component, kept_sector1, kept_fit1, kept_entry, kept_aircraft, kept_place, kept_programme, kept_task, kept_opening, kept_crs, kept_crs_line, kept_defect, kept_extension, kept_removal1}
 use Rattle.mx_kept.specs.Meanings.{IsLawful, IsLawfulAt}
 use Rattle.mx_kept.specs.Schemas.{permanent, own_1}
 use Rattle.mx_kept.proofs.OrderLemmas.{two_ascend}
 use Rattle.mx_kept.proofs.ValueLemmas.{cast-number_or_null, cast-text_or_null, number_once, text_once, flag_once, limit_once}
 use Rattle.mx_kept.proofs.KeptLemmas.{HasTexts, HasTextsByTwo, StoresOne, StoresNext, first_keyed, two_keyed}
 
--- the kind of a number, and Release of any that is none
+-- the kind of a number, and Extend of any that is none
 abbrev kind_of : ℕ → EntryKind
 kind_of n =
     cond (n == 1) kinds.AddAircraft (cond (n == 2) kinds.AddComponent (cond (n == 3) kinds.LoadProgramme (cond (n == 4) kinds.Opening
-    (cond (n == 5) kinds.Sector (cond (n == 6) kinds.Fit (cond (n == 7) kinds.Remove kinds.Release))))))
+    (cond (n == 5) kinds.Sector (cond (n == 6) kinds.Fit (cond (n == 7) kinds.Remove (cond (n == 8) kinds.Release
+    (cond (n == 9) kinds.Defer kinds.Extend))))))))
 
 kind_back : (k : EntryKind) → kind_of (kind_number k) ≡ k
 kind_back kinds.AddAircraft = refl
@@ -47,6 +52,8 @@ kind_back kinds.Sector = refl
 kind_back kinds.Fit = refl
 kind_back kinds.Remove = refl
 kind_back kinds.Release = refl
+kind_back kinds.Defer = refl
+kind_back kinds.Extend = refl
 
 kind_once : (a b : EntryKind) → kind_number a ≡ kind_number b → a ≡ b
 kind_once a b e = sym (kind_back a) ∙ ap kind_of e ∙ kind_back b
@@ -250,6 +257,52 @@ crs_line_stores r db = simp (cast_int, cast_null, cast-number_or_null, cast-text
 pub crs_line_lawful : IsLawful kept_crs_line
 crs_line_lawful = two_keyed kept_crs_line [] (λ _ has. has) 9 refl (λ _ _. refl) (λ _. refl) release_line_once (λ _ h. h) (λ _. refl) refl crs_line_texts refl (λ _. refl) (λ _. refl) crs_line_stores (λ _ _. refl) (two_ascend kept_crs_line.as_cells FitsReleaseLine release_line_key (λ (r : ReleaseLineRow). r.seq) (λ (r : ReleaseLineRow). r.line) (λ _. refl) (λ _. refl) (λ _. refl) (λ _ fits. fits.line))
 
+-- the category of a number and the days that are stated, and D of any number that is none
+abbrev category_of : ℕ → Option ℕ → Category
+category_of n (Some days) = categories.A days
+category_of n None = cond (n == 2) categories.B (cond (n == 3) categories.C categories.D)
+
+category_back : (c : Category) → category_of (category_number c) (days_stated c) ≡ c
+category_back (categories.A days) = refl
+category_back categories.B = refl
+category_back categories.C = refl
+category_back categories.D = refl
+
+category_once : (a b : Category) → category_number a ≡ category_number b → days_stated a ≡ days_stated b → a ≡ b
+category_once a b number days = sym (category_back a) ∙ ap₂ category_of number days ∙ category_back b
+
+same_deferral : (a b : DeferralRow) → a.seq ≡ b.seq → a.aircraft ≡ b.aircraft → a.moment ≡ b.moment → a.reference ≡ b.reference → a.category ≡ b.category → a ≡ b
+same_deferral a b seq aircraft moment reference category i = record { seq = seq i; aircraft = aircraft i; moment = moment i; reference = reference i; category = category i }
+
+deferral_once : (a b : DeferralRow) → FitsDeferral a → FitsDeferral b → kept_defect.as_cells a ≡ kept_defect.as_cells b → a ≡ b
+deferral_once a b fits_a fits_b e = same_deferral a b (cc) (cc) (cc) (cc) (category_once _ _ (cc) (number_once _ _ (cc)))
+
+defect_texts : (rest : List Table) (more : List Index) → HasTexts kept_defect (permanent rest more) 11 defect
+unfolding understood everything
+defect_texts rest more = ((refl, refl, (refl, refl)), (refl, (refl, refl)))
+
+defect_stores : (r : DeferralRow) → StoresOne defect (kept_defect.as_cells r)
+defect_stores r db = simp (cast_int, cast_null, cast-number_or_null) refl
+
+pub defect_lawful : IsLawful kept_defect
+defect_lawful = first_keyed kept_defect [] (λ _ has. has) 11 refl (λ _ _. refl) (λ _. refl) deferral_once (λ _ h. h) (λ _. refl) refl defect_texts refl (λ _. refl) defect_stores (λ _. refl) (λ _. refl)
+
+same_extension : (a b : ExtensionRow) → a.seq ≡ b.seq → a.defect ≡ b.defect → a.day ≡ b.day → a.days ≡ b.days → a ≡ b
+same_extension a b seq defect day days i = record { seq = seq i; defect = defect i; day = day i; days = days i }
+
+extension_once : (a b : ExtensionRow) → FitsExtension a → FitsExtension b → kept_extension.as_cells a ≡ kept_extension.as_cells b → a ≡ b
+extension_once a b fits_a fits_b e = same_extension a b (cc) (cc) (cc) (cc)
+
+extension_texts : (rest : List Table) (more : List Index) → HasTexts kept_extension (permanent rest more) 10 extension
+unfolding understood everything
+extension_texts rest more = ((refl, refl, (refl, refl)), (refl, (refl, refl)))
+
+extension_stores : (r : ExtensionRow) → StoresOne extension (kept_extension.as_cells r)
+extension_stores r db = simp (cast_int, cast_null) refl
+
+pub extension_lawful : IsLawful kept_extension
+extension_lawful = first_keyed kept_extension [] (λ _ has. has) 10 refl (λ _ _. refl) (λ _. refl) extension_once (λ _ h. h) (λ _. refl) refl extension_texts refl (λ _. refl) extension_stores (λ _. refl) (λ _. refl)
+
 -- each table by its name
 pub each_lawful : (name : TableName) → IsLawfulAt name
 each_lawful Entry = entry_lawful
@@ -261,6 +314,8 @@ each_lawful Task = task_lawful
 each_lawful Opening = opening_lawful
 each_lawful Crs = crs_lawful
 each_lawful CrsLine = crs_line_lawful
+each_lawful Defect = defect_lawful
+each_lawful Extension = extension_lawful
 each_lawful Sector1 = sector1_lawful
 each_lawful Fit1 = fit1_lawful
 each_lawful Removal1 = removal1_lawful

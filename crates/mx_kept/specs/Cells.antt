@@ -3,7 +3,7 @@ use Rattle.std.specs.Prelude.{pos, [], ◌∷◌, codes}
 use Rattle.sqlite.specs.declared.types.Value.TheVariants.{Int, Text}
 use Rattle.mx_base.specs.Texts.{moment_text}
 use Rattle.mx_layout.specs.Reading.{by_first, by_two}
-use Rattle.mx_layout.specs.declared.fault.Table.TheVariants.{Entry, Aircraft, Place, Component, Programme, Task, Opening, Crs, CrsLine, Sector1, Fit1, Removal1}
+use Rattle.mx_layout.specs.declared.fault.Table.TheVariants.{Entry, Aircraft, Place, Component, Programme, Task, Opening, Crs, CrsLine, Defect, Extension, Sector1, Fit1, Removal1}
 use Rattle.mx_register.specs.declared.rows.EntryRow.{EntryRow}
 use Rattle.mx_register.specs.declared.rows.AircraftRow.{AircraftRow}
 use Rattle.mx_register.specs.declared.rows.PlaceRow.{PlaceRow}
@@ -16,7 +16,9 @@ use Rattle.mx_register.specs.declared.rows.TaskRow.{TaskRow}
 use Rattle.mx_register.specs.declared.rows.OpeningRow.{OpeningRow}
 use Rattle.mx_register.specs.declared.rows.ReleaseRow.{ReleaseRow}
 use Rattle.mx_register.specs.declared.rows.ReleaseLineRow.{ReleaseLineRow}
-use Rattle.mx_register.specs.Rows.{kind_number, place_key, task_key, release_line_key, FitsEntry, FitsAircraft, FitsPlace, FitsComponent, FitsProgramme, FitsTask, FitsOpening, FitsRelease, FitsReleaseLine, FitsSector, FitsFitting, FitsRemoval}
+use Rattle.mx_register.specs.declared.rows.DeferralRow.{DeferralRow}
+use Rattle.mx_register.specs.declared.rows.ExtensionRow.{ExtensionRow}
+use Rattle.mx_register.specs.Rows.{kind_number, category_number, days_stated, place_key, task_key, release_line_key, FitsEntry, FitsAircraft, FitsPlace, FitsComponent, FitsProgramme, FitsTask, FitsOpening, FitsRelease, FitsReleaseLine, FitsDeferral, FitsExtension, FitsSector, FitsFitting, FitsRemoval}
 use Rattle.mx_kept.specs.Keys.{one_key, two_key}
 use Rattle.mx_kept.specs.Values.{number_or_null, text_or_null, flag}
 use Rattle.mx_kept.specs.Kept.{Kept}
@@ -149,6 +151,34 @@ kept_crs_line = record {
   Fits = FitsReleaseLine;
   key = release_line_key;
   cells_key = two_key;
+}
+
+-- deferrals of defects, as the rows of `defect`: the category by its number, and the days that it states
+abbrev pub kept_defect : Kept DeferralRow
+kept_defect = record {
+  name = Defect;
+  IsIn = HasPermanent;
+  select = codes "SELECT seq, aircraft, moment, reference, category, days FROM defect ORDER BY seq";
+  insert = codes "INSERT INTO defect (seq, aircraft, moment, reference, category, days) VALUES (?1, ?2, ?3, ?4, ?5, ?6)";
+  order = by_first;
+  as_cells = λ r. Int (pos r.seq) ∷ Int (pos r.aircraft) ∷ Int (pos r.moment) ∷ Text r.reference ∷ Int (pos (category_number r.category)) ∷ number_or_null (days_stated r.category) ∷ [];
+  Fits = FitsDeferral;
+  key = λ r. r.seq;
+  cells_key = one_key;
+}
+
+-- extensions of intervals, as the rows of `extension`
+abbrev pub kept_extension : Kept ExtensionRow
+kept_extension = record {
+  name = Extension;
+  IsIn = HasPermanent;
+  select = codes "SELECT seq, defect, day, days FROM extension ORDER BY seq";
+  insert = codes "INSERT INTO extension (seq, defect, day, days) VALUES (?1, ?2, ?3, ?4)";
+  order = by_first;
+  as_cells = λ r. Int (pos r.seq) ∷ Int (pos r.defect) ∷ Int (pos r.day) ∷ Int (pos r.days) ∷ [];
+  Fits = FitsExtension;
+  key = λ r. r.seq;
+  cells_key = one_key;
 }
 
 -- sectors, as the rows of `sector1`

@@ -1,7 +1,10 @@
 -- What several columns of a row hold.
-use Rattle.std.specs.Prelude.{◌≡◌, ℕ, ◌+◌}
+use Rattle.std.specs.Prelude.{◌≡◌, ℕ, ◌+◌, pos}
+use Rattle.sqlite.specs.declared.types.Value.TheVariants.{Int}
 use Rattle.sqlite.specs.Order.{Row, column}
 use Rattle.mx_base.specs.declared.amounts.Limit.{Limit}
+use Rattle.mx_command.specs.declared.deferral.Category.{Category}
+use Rattle.mx_register.specs.Rows.{category_number, days_stated}
 use Rattle.mx_kept.specs.Values.{number_or_null}
 
 -- three columns from this one on hold the limit: its minutes, its cycles and its days
@@ -9,3 +12,8 @@ pub record HoldsLimit (row : Row) (at : ℕ) (limit : Limit) : Type 0 where
   pub minutes : column row at ≡ number_or_null limit.minutes
   pub cycles : column row (at + 1) ≡ number_or_null limit.cycles
   pub days : column row (at + 2) ≡ number_or_null limit.days
+
+-- two columns from this one on hold the category: its number, and the days that it states
+pub record HoldsCategory (row : Row) (at : ℕ) (category : Category) : Type 0 where
+  pub number : column row at ≡ Int (pos (category_number category))
+  pub days : column row (at + 1) ≡ number_or_null (days_stated category)

@@ -24,6 +24,8 @@ fn number_of(kind: EntryKind) -> u32
         EntryKind::Fit => 6,
         EntryKind::Remove => 7,
         EntryKind::Release => 8,
+        EntryKind::Defer => 9,
+        EntryKind::Extend => 10,
     }
 }
 
@@ -42,6 +44,8 @@ fn kind_at(row: &Row, at: usize) -> Option<EntryKind>
         6 => Some(EntryKind::Fit),
         7 => Some(EntryKind::Remove),
         8 => Some(EntryKind::Release),
+        9 => Some(EntryKind::Defer),
+        10 => Some(EntryKind::Extend),
         _ => None,
     }
 }

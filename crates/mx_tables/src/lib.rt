@@ -34,16 +34,18 @@
 //!    ORDER BY, the name of another table.
 //!
 //! A column that may be NULL is kept by `number_or_null` or `text_or_null` of `mx_kept/specs/Values.antt`, one that
-//! says whether by `flag`, a limit by three numbers. They are read by the functions of `column.rt` of these names, and
-//! what may be missing is passed on by `number_if_any` or `text_if_any`, which tell what is known of it. In `Lawful`
-//! the lemmas of `ValueLemmas` stand where `task` has them, and `insert` has the answer of `task`, alike for all but
-//! its name.
+//! says whether by `flag`, a limit by three numbers, a category by its number and the days that it states. They are
+//! read by the functions of `column.rt` of these names, and what may be missing is passed on by `number_if_any`,
+//! `text_if_any` or `days_of_category`, which tell what is known of it. In `Lawful` the lemmas of `ValueLemmas` stand
+//! where `task` has them, and `insert` has the answer of `task`, alike for all but its name.
 #![tactic(auto)]
 
 mod aircraft;
 mod column;
 mod component;
+mod deferral;
 mod entry;
+mod extension;
 mod fitting;
 mod opening;
 mod place;

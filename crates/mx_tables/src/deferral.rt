@@ -1,0 +1,57 @@
+//! The table `defect`: every deferral of a defect, its category in two columns, of which that of the days is NULL where
+//! it states none.
+
+use crate::column::{
+    category_at, days_of_category, graphic_at, moment_at, number_at, number_of_category,
+};
+use crate::stored::{Insert, Stored, Texts, insert_values};
+use mx_layout::{Table, TableFault};
+use mx_register::DeferralRow;
+use sqlite::{Alter, Row, Transaction, params};
+
+impl Stored for DeferralRow {
+    ghost use Rattle.mx_kept.specs.Cells.{kept_defect};
+    ghost use Rattle.mx_kept.proofs.Lawful.{defect_lawful};
+
+    ghost kept = { kept_defect };
+
+    ghost lawful = { defect_lawful };
+
+    fn texts() -> Texts {
+        Texts {
+            table: Table::Defect,
+            select: "SELECT seq, aircraft, moment, reference, category, days FROM defect ORDER BY seq",
+            insert: "INSERT INTO defect (seq, aircraft, moment, reference, category, days) VALUES (?1, ?2, ?3, ?4, ?5, ?6)",
+        }
+    }
+
+    fn read(row: &Row) -> Option<DeferralRow> {
+        if row.column_count() != 6 {
+            return None;
+        }
+        Some(DeferralRow {
+            seq: number_at(row, 0)?,
+            aircraft: number_at(row, 1)?,
+            moment: moment_at(row, 2)?,
+            reference: graphic_at(row, 3)?,
+            category: category_at(row, 4)?,
+        })
+    }
+}
+
+impl Insert for DeferralRow {
+    fn insert<S: Alter>(&self, tx: &mut Transaction<'_, S>) -> Result<(), TableFault> {
+        insert_values(
+            tx,
+            self,
+            params![
+                self.seq,
+                self.aircraft,
+                self.moment.number(),
+                self.reference.as_str(),
+                number_of_category(self.category),
+                days_of_category(self.category),
+            ],
+        )
+    }
+}

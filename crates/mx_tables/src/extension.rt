@@ -1,0 +1,46 @@
+//! The table `extension`: every extension of the interval within which a deferred defect is rectified.
+
+use crate::column::{day_at, number_at};
+use crate::stored::{Insert, Stored, Texts, insert_values};
+use mx_layout::{Table, TableFault};
+use mx_register::ExtensionRow;
+use sqlite::{Alter, Row, Transaction, params};
+
+impl Stored for ExtensionRow {
+    ghost use Rattle.mx_kept.specs.Cells.{kept_extension};
+    ghost use Rattle.mx_kept.proofs.Lawful.{extension_lawful};
+
+    ghost kept = { kept_extension };
+
+    ghost lawful = { extension_lawful };
+
+    fn texts() -> Texts {
+        Texts {
+            table: Table::Extension,
+            select: "SELECT seq, defect, day, days FROM extension ORDER BY seq",
+            insert: "INSERT INTO extension (seq, defect, day, days) VALUES (?1, ?2, ?3, ?4)",
+        }
+    }
+
+    fn read(row: &Row) -> Option<ExtensionRow> {
+        if row.column_count() != 4 {
+            return None;
+        }
+        Some(ExtensionRow {
+            seq: number_at(row, 0)?,
+            defect: number_at(row, 1)?,
+            day: day_at(row, 2)?,
+            days: number_at(row, 3)?,
+        })
+    }
+}
+
+impl Insert for ExtensionRow {
+    fn insert<S: Alter>(&self, tx: &mut Transaction<'_, S>) -> Result<(), TableFault> {
+        insert_values(
+            tx,
+            self,
+            params![self.seq, self.defect, self.day.number(), self.days,],
+        )
+    }
+}
