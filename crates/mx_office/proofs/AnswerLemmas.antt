@@ -13,7 +13,15 @@ use Rattle.mx_layout.specs.declared.fault.TableFault.{TableFault}
 use Rattle.mx_layout.specs.declared.fault.TableFault.TheVariants.{NotOurs}
 use Rattle.mx_layout.specs.Point.{IsStop, IsNoPoint}
 use Rattle.sqlite.specs.Order.{Row}
+use Rattle.sqlite.specs.State.{HasCleanDisk}
+use Rattle.sqlite.specs.Store.{Ghosts}
+use Rattle.mx_command.specs.Act.{Entry}
+use Rattle.mx_kept.specs.Schemas.{HasOwn1}
+use Rattle.mx_office.specs.declared.office.Office.{Office}
 use Rattle.mx_office.specs.Faults.{open_fault_from, found_or, IsAnswer, IsReason, IsUnopened}
+use Rattle.mx_office.specs.Office.{office_state, IsReady, StandsFor}
+use Rattle.mx_office.specs.Questions.{IsAnsweredBy}
+use Rattle.mx_office.specs.Stands.{HoldsBook, IsReasonFor}
 
 -- want of memory or the store stopped reading the book
 pub stopped : {V : Type 0} (P : V → Type 0) (result : Result V Fault) (f : Fault) → IsErr result × IsErrAnd result (λ it. it ≡ f) → (f ≡ Memory) ⊎ (f ≡ Store) → MatchResult result P (λ it. (it ≡ Memory) ⊎ (it ≡ Store))
@@ -23,13 +31,6 @@ stopped P (Err it) f is why = elim why [ inl memory ↦ inl (is.1 ∙ memory) | 
 pub stopped_answer : {X : Type 0} (said result : Result X Ask) (f : Fault) → IsErr result × IsErrAnd result (λ it. it ≡ Failed f) → (f ≡ Memory) ⊎ (f ≡ Store) → IsAnswer said result
 stopped_answer said (Ok x) f is why = (cc)
 stopped_answer said (Err it) f is why = elim why [ inl memory ↦ inr (inl (ap Err (is.1 ∙ ap Failed memory))) | inr store ↦ inr (inr (ap Err (is.1 ∙ ap Failed store))) ]
-
--- the definition gives this, or none
-pub some_answer : {X : Type 0} (refusal : Refusal) (x : X) (said : Option X) → Some x ≡ said → IsAnswer (found_or refusal said) (Ok x)
-some_answer refusal x said is = inl (ap (found_or refusal) is)
-
-pub none_answer : {X : Type 0} (refusal : Refusal) (said : Option X) → None ≡ said → IsAnswer (found_or refusal said) (Err (Refused refusal))
-none_answer refusal said is = inl (ap (found_or refusal) is)
 
 -- want of memory or the store stopped the opening
 pub open_stops : (f : TableFault) (answered : OpenFault) → answered ≡ open_fault_from f → IsStop f → (answered ≡ unopened.Memory) ⊎ (answered ≡ unopened.Store)
@@ -64,3 +65,33 @@ same_fault (Err it) f said is same = let one : it ≡ f = is.1 in cc
 pub same_asked : {X : Type 0} (result : Result X Ask) (f said : Fault) → IsErr result × IsErrAnd result (λ it. it ≡ Failed f) → result ≡ Err (Failed said) → f ≡ said
 same_asked (Ok x) f said is same = cc
 same_asked (Err it) f said is same = let one : it ≡ Failed f = is.1 in cc
+
+-- ── a question, over what reading the book answered ──
+
+-- what is found is no fault
+never_failed : {X : Type 0} (refusal : Refusal) (said : Option X) (fault : Fault) → found_or refusal said ≡ Err (Failed fault) → ⊥
+never_failed refusal (Some x) fault is = cc
+never_failed refusal None fault is = cc
+
+module _ {S : Type 0} {g : Ghosts S} {X : Type 0} (old new : Office S g) (result : Result X Ask) where
+  -- reading the book stopped
+  pub stopped_question : {V : Type 0} (said : List Entry → Result X Ask) (f : Fault) → IsErr result × IsErrAnd result (λ it. it ≡ Failed f)
+      → ((book : List Entry) → IsReady old → StandsFor old book → HasCleanDisk (office_state new) → (f ≡ Memory) ⊎ (f ≡ Store))
+      → (HasCleanDisk (office_state new) → HasOwn1 (office_state old).now.schema → (table : Table) → ◌≡◌ {A = Result V Fault} (Err f) (Err (Damaged table)) → IsReasonFor (office_state old).now.trees table)
+      → IsAnsweredBy said old new result
+  stopped_question said f is exact damaged = record {
+    exact = λ book works rests clean. stopped_answer (said book) result f is (exact book works rests clean);
+    sound = λ clean has goes. not_stopped result f is goes;
+    damaged = λ clean has table same. damaged clean has table (ap Err (same_asked result f (Damaged table) is same));
+  }
+
+  -- the book was read, and this is the answer of that book
+  pub found_question : (refusal : Refusal) (found : List Entry → Option X) (held : List Entry) → result ≡ found_or refusal (found held)
+      → ((book : List Entry) → IsReady old → StandsFor old book → HasCleanDisk (office_state new) → held ≡ book)
+      → (HasCleanDisk (office_state new) → HasOwn1 (office_state old).now.schema → HoldsBook (office_state old).now.trees held)
+      → IsAnsweredBy (λ book. found_or refusal (found book)) old new result
+  found_question refusal found held is exact sound = record {
+    exact = λ book works rests clean. inl (is ∙ ap (λ b. found_or refusal (found b)) (exact book works rests clean));
+    sound = λ clean has goes. (held, sound clean has, is);
+    damaged = λ clean has table same. absurd (never_failed refusal (found held) (Damaged table) (sym is ∙ same));
+  }

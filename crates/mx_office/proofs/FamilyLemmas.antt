@@ -16,7 +16,7 @@ use Rattle.mx_command.specs.Shape.{has_shape}
 use Rattle.mx_register.specs.declared.merge.Registers.{Registers}
 use Rattle.mx_register.specs.Registers.{gives}
 use Rattle.mx_register.specs.Rising.{IsRising}
-use Rattle.mx_register.proofs.RegisterLemmas.{entry_rows-rising, aircraft_rows-rising, place_rows-rising, component_rows-rising, programme_rows-rising, task_rows-rising, opening_rows-rising, sector_rows-rising, fitting_rows-rising, removal_rows-rising, release_rows-rising, release_line_rows-rising}
+use Rattle.mx_register.proofs.RegisterLemmas.{entry_rows-rising, aircraft_rows-rising, place_rows-rising, component_rows-rising, programme_rows-rising, task_rows-rising, opening_rows-rising, sector_rows-rising, fitting_rows-rising, removal_rows-rising, release_rows-rising, release_line_rows-rising, deferral_rows-rising, extension_rows-rising}
 use Rattle.mx_register.proofs.SortedLemmas.{sorted_once, IsRising-map, IsFrom-map, IsFrom-rising}
 use Rattle.mx_layout.specs.TableName.{TableName}
 use Rattle.mx_layout.specs.declared.fault.Table.TheVariants as table
@@ -29,7 +29,7 @@ use Rattle.mx_kept.specs.Family.{IsReadable, IsReadableAs}
 use Rattle.mx_kept.specs.Meanings.{IsLawful}
 use Rattle.mx_kept.specs.Schemas.{HasOwn1, permanent, own_1}
 use Rattle.mx_kept.proofs.SchemaLemmas.{in_layout_1, permanent_too}
-use Rattle.mx_kept.proofs.Lawful.{entry_lawful, aircraft_lawful, place_lawful, component_lawful, programme_lawful, task_lawful, opening_lawful, crs_lawful, crs_line_lawful, sector1_lawful, fit1_lawful, removal1_lawful}
+use Rattle.mx_kept.proofs.Lawful.{entry_lawful, aircraft_lawful, place_lawful, component_lawful, programme_lawful, task_lawful, opening_lawful, crs_lawful, crs_line_lawful, defect_lawful, extension_lawful, sector1_lawful, fit1_lawful, removal1_lawful}
 use Rattle.mx_tables.specs.Sets.{AreRowsOf}
 use Rattle.mx_office.specs.Family.{Register, of, none, register_of, registers_1, rows_by, FitBy, AreGiven, AreRead}
 use Rattle.mx_office.specs.Stands.{EachHas, first_rows}
@@ -63,6 +63,8 @@ facts table.Task = record { law = task_lawful; rise = λ book shaped. (1 * 2 ^ 3
 facts table.Opening = record { law = opening_lawful; rise = λ book shaped. (1, length book + 1, opening_rows-rising book shaped); is_named = refl; readable = λ _ h. h; no_first = λ _. refl; is_in = permanent_too }
 facts table.Crs = record { law = crs_lawful; rise = λ book shaped. (1, length book + 1, release_rows-rising book shaped); is_named = refl; readable = λ _ h. h; no_first = λ _. refl; is_in = permanent_too }
 facts table.CrsLine = record { law = crs_line_lawful; rise = λ book shaped. (1 * 2 ^ 32, (length book + 1) * 2 ^ 32, release_line_rows-rising book shaped); is_named = refl; readable = λ _ h. h; no_first = λ _. refl; is_in = permanent_too }
+facts table.Defect = record { law = defect_lawful; rise = λ book shaped. (1, length book + 1, deferral_rows-rising book shaped); is_named = refl; readable = λ _ h. h; no_first = λ _. refl; is_in = permanent_too }
+facts table.Extension = record { law = extension_lawful; rise = λ book shaped. (1, length book + 1, extension_rows-rising book shaped); is_named = refl; readable = λ _ h. h; no_first = λ _. refl; is_in = permanent_too }
 facts table.Sector1 = record { law = sector1_lawful; rise = λ book shaped. (1, length book + 1, sector_rows-rising book shaped); is_named = refl; readable = λ _ h. h; no_first = λ _. refl; is_in = λ _ has. has }
 facts table.Fit1 = record { law = fit1_lawful; rise = λ book shaped. (1, length book + 1, fitting_rows-rising book shaped); is_named = refl; readable = λ _ h. h; no_first = λ _. refl; is_in = λ _ has. has }
 facts table.Removal1 = record { law = removal1_lawful; rise = λ book shaped. (1, length book + 1, removal_rows-rising book shaped); is_named = refl; readable = λ _ h. h; no_first = λ _. refl; is_in = λ _ has. has }

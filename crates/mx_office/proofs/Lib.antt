@@ -5,3 +5,4 @@ pub mod OfficeLemmas
 pub mod RunLemmas
 pub mod AnswerLemmas
 pub mod Worked
+pub mod WorkedDefects

@@ -41,10 +41,10 @@ pub have_rows : (trees : Trees) (r : Registers) → AllOf (λ name. AreRead (reg
 have_rows trees r are = each_from (λ name. AreRead (register_of name) trees r) registers_1 are
 
 from_each : (r : Registers) (book : List Entry) → AllByRecursion (λ name. IsReadOf (register_of name) r book) registers_1 → AreRegistersOf r book
-from_each r book each = record { entries = each.0; aircraft = each.1.0; places = each.1.1.0; components = each.1.1.1.0; programmes = each.1.1.1.1.0; tasks = each.1.1.1.1.1.0; openings = each.1.1.1.1.1.1.0; releases = each.1.1.1.1.1.1.1.0; release_lines = each.1.1.1.1.1.1.1.1.0; sectors = each.1.1.1.1.1.1.1.1.1.0; fittings = each.1.1.1.1.1.1.1.1.1.1.0; removals = each.1.1.1.1.1.1.1.1.1.1.1.0 }
+from_each r book each = record { entries = each.0; aircraft = each.1.0; places = each.1.1.0; components = each.1.1.1.0; programmes = each.1.1.1.1.0; tasks = each.1.1.1.1.1.0; openings = each.1.1.1.1.1.1.0; releases = each.1.1.1.1.1.1.1.0; release_lines = each.1.1.1.1.1.1.1.1.0; deferrals = each.1.1.1.1.1.1.1.1.1.0; extensions = each.1.1.1.1.1.1.1.1.1.1.0; sectors = each.1.1.1.1.1.1.1.1.1.1.1.0; fittings = each.1.1.1.1.1.1.1.1.1.1.1.1.0; removals = each.1.1.1.1.1.1.1.1.1.1.1.1.1.0 }
 
 to_each : (r : Registers) (book : List Entry) → AreRegistersOf r book → AllByRecursion (λ name. IsReadOf (register_of name) r book) registers_1
-to_each r book are = (are.entries, (are.aircraft, (are.places, (are.components, (are.programmes, (are.tasks, (are.openings, (are.releases, (are.release_lines, (are.sectors, (are.fittings, (are.removals, tt))))))))))))
+to_each r book are = (are.entries, (are.aircraft, (are.places, (are.components, (are.programmes, (are.tasks, (are.openings, (are.releases, (are.release_lines, (are.deferrals, (are.extensions, (are.sectors, (are.fittings, (are.removals, tt))))))))))))))
 
 -- ── for all tables alike ──
 
@@ -92,7 +92,7 @@ holds_once trees one other a b =
     let firsts = each_with (Fit one) (Given one) (Has one) (λ name fit given. (fit, given)) registers_1 a.fit a.tables in
     let seconds = each_with (Fit other) (Given other) (Has other) (λ name fit given. (fit, given)) registers_1 b.fit b.tables in
     let same = each_with (Has one) (Has other) (λ name. AreSame (register_of name) one other) (λ name has had. same_at name (register_of name) (facts name) trees one other a.is_book.shaped b.is_book.shaped has.0 had.0 has.1 had.1) registers_1 firsts seconds in
-    book_once one other (record { entries = same.0; aircraft = same.1.0; places = same.1.1.0; components = same.1.1.1.0; programmes = same.1.1.1.1.0; tasks = same.1.1.1.1.1.0; openings = same.1.1.1.1.1.1.0; releases = same.1.1.1.1.1.1.1.0; release_lines = same.1.1.1.1.1.1.1.1.0; sectors = same.1.1.1.1.1.1.1.1.1.0; fittings = same.1.1.1.1.1.1.1.1.1.1.0; removals = same.1.1.1.1.1.1.1.1.1.1.1.0 }) a.is_book b.is_book
+    book_once one other (record { entries = same.0; aircraft = same.1.0; places = same.1.1.0; components = same.1.1.1.0; programmes = same.1.1.1.1.0; tasks = same.1.1.1.1.1.0; openings = same.1.1.1.1.1.1.0; releases = same.1.1.1.1.1.1.1.0; release_lines = same.1.1.1.1.1.1.1.1.0; deferrals = same.1.1.1.1.1.1.1.1.1.0; extensions = same.1.1.1.1.1.1.1.1.1.1.0; sectors = same.1.1.1.1.1.1.1.1.1.1.1.0; fittings = same.1.1.1.1.1.1.1.1.1.1.1.1.0; removals = same.1.1.1.1.1.1.1.1.1.1.1.1.1.0 }) a.is_book b.is_book
 
 -- tables stand for at most one book
 pub stands_once : (trees : Trees) (one other : List Entry) → Stands trees one → Stands trees other → one ≡ other

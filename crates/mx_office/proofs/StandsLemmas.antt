@@ -28,7 +28,7 @@ use Rattle.mx_layout.specs.Tables.{layout_1}
 use Rattle.mx_kept.specs.Family.{on_top}
 use Rattle.mx_kept.specs.Schemas.{HasOwn1}
 use Rattle.mx_kept.proofs.OntoLemmas.{on_top_keeps}
-use Rattle.mx_kept.specs.Cells.{kept_entry, kept_aircraft, kept_place, kept_component, kept_programme, kept_task, kept_opening, kept_crs, kept_crs_line, kept_sector1, kept_fit1, kept_removal1}
+use Rattle.mx_kept.specs.Cells.{kept_entry, kept_aircraft, kept_place, kept_component, kept_programme, kept_task, kept_opening, kept_crs, kept_crs_line, kept_defect, kept_extension, kept_sector1, kept_fit1, kept_removal1}
 use Rattle.mx_tables.specs.Sets.{GainsRows}
 use Rattle.mx_office.specs.Family.{Register, of, none, register_of, registers_1, added, rows_by, AreGiven, FitsAt}
 use Rattle.mx_office.specs.Stands.{Stands, StandsIn, HoldsBook, Enters, rows_given, first_rows, with_command, FitsNext, EachHas}
@@ -39,11 +39,11 @@ use Rattle.mx_office.proofs.FamilyLemmas.{Facts, facts, each_weaker, each_with, 
 -- the rows of a command beside its entry, table on table
 abbrev pub onto_rest : AddedRows → TableName → List Row → List Row
 onto_rest v name rows =
-    on_top kept_removal1 v.removals.items name (on_top kept_fit1 v.fittings.items name (on_top kept_sector1 v.sectors.items name (on_top kept_crs_line v.release_lines.items name (on_top kept_crs v.releases.items name (on_top kept_opening v.openings.items name (on_top kept_task v.tasks.items name (on_top kept_programme v.programmes.items name (on_top kept_component v.components.items name (on_top kept_place v.places.items name (on_top kept_aircraft v.aircraft.items name rows))))))))))
+    on_top kept_removal1 v.removals.items name (on_top kept_fit1 v.fittings.items name (on_top kept_sector1 v.sectors.items name (on_top kept_extension v.extensions.items name (on_top kept_defect v.deferrals.items name (on_top kept_crs_line v.release_lines.items name (on_top kept_crs v.releases.items name (on_top kept_opening v.openings.items name (on_top kept_task v.tasks.items name (on_top kept_programme v.programmes.items name (on_top kept_component v.components.items name (on_top kept_place v.places.items name (on_top kept_aircraft v.aircraft.items name rows))))))))))))
 
 pub keeps_rest : (v : AddedRows) (name : TableName) (xs ys : List Row) → IsPermutation xs ys → IsPermutation (onto_rest v name xs) (onto_rest v name ys)
 keeps_rest v name xs ys same =
-    on_top_keeps kept_removal1 _ name _ _ (on_top_keeps kept_fit1 _ name _ _ (on_top_keeps kept_sector1 _ name _ _ (on_top_keeps kept_crs_line _ name _ _ (on_top_keeps kept_crs _ name _ _ (on_top_keeps kept_opening _ name _ _ (on_top_keeps kept_task _ name _ _ (on_top_keeps kept_programme _ name _ _ (on_top_keeps kept_component _ name _ _ (on_top_keeps kept_place _ name _ _ (on_top_keeps kept_aircraft _ name xs ys same))))))))))
+    on_top_keeps kept_removal1 _ name _ _ (on_top_keeps kept_fit1 _ name _ _ (on_top_keeps kept_sector1 _ name _ _ (on_top_keeps kept_extension _ name _ _ (on_top_keeps kept_defect _ name _ _ (on_top_keeps kept_crs_line _ name _ _ (on_top_keeps kept_crs _ name _ _ (on_top_keeps kept_opening _ name _ _ (on_top_keeps kept_task _ name _ _ (on_top_keeps kept_programme _ name _ _ (on_top_keeps kept_component _ name _ _ (on_top_keeps kept_place _ name _ _ (on_top_keeps kept_aircraft _ name xs ys same))))))))))))
 
 -- the rows of a command, table on table
 abbrev pub onto_all : List EntryRow → AddedRows → TableName → List Row → List Row
@@ -59,11 +59,12 @@ onto_is before c e v entry are table.Task rows = λ i. map kept_task.as_cells (a
 onto_is before c e v entry are table.Opening rows = λ i. map kept_opening.as_cells (are.openings.0 i) ++ rows
 onto_is before c e v entry are table.Crs rows = λ i. map kept_crs.as_cells (are.releases.0 i) ++ rows
 onto_is before c e v entry are table.CrsLine rows = λ i. map kept_crs_line.as_cells (are.release_lines.0 i) ++ rows
+onto_is before c e v entry are table.Defect rows = λ i. map kept_defect.as_cells (are.deferrals.0 i) ++ rows
+onto_is before c e v entry are table.Extension rows = λ i. map kept_extension.as_cells (are.extensions.0 i) ++ rows
 onto_is before c e v entry are table.Sector1 rows = λ i. map kept_sector1.as_cells (are.sectors.0 i) ++ rows
 onto_is before c e v entry are table.Fit1 rows = λ i. map kept_fit1.as_cells (are.fittings.0 i) ++ rows
 onto_is before c e v entry are table.Removal1 rows = λ i. map kept_removal1.as_cells (are.removals.0 i) ++ rows
 onto_is before c e v entry are table.Office rows = refl
-onto_is before c e v entry are _ rows = refl
 
 -- tables that gained those rows gained the rows of the command
 pub gains_command : (before : List Entry) (command : Entry) (old new : Database) (e : List EntryRow) (v : AddedRows) → e ≡ entry_added before command → AreAddedRows before command v

@@ -4,13 +4,13 @@ use Rattle.sqlite.specs.Order.{Row}
 use Rattle.sqlite.specs.Tree.{Trees}
 use Rattle.mx_command.specs.Act.{Entry}
 use Rattle.mx_register.specs.declared.merge.Registers.{Registers}
-use Rattle.mx_register.specs.Registers.{gives, entry_added, aircraft_by, places_by, components_by, programmes_by, tasks_by, openings_by, sectors_by, fittings_by, removals_by, releases_by, release_lines_by}
+use Rattle.mx_register.specs.Registers.{gives, entry_added, aircraft_by, places_by, components_by, programmes_by, tasks_by, openings_by, sectors_by, fittings_by, removals_by, releases_by, release_lines_by, deferrals_by, extensions_by}
 use Rattle.mx_layout.specs.TableName.{TableName}
 use Rattle.mx_layout.specs.declared.fault.Table.TheVariants as table
 use Rattle.mx_layout.specs.Contents.{rows_in}
 use Rattle.mx_layout.specs.Names.{table_named}
 use Rattle.mx_kept.specs.Kept.{Kept}
-use Rattle.mx_kept.specs.Cells.{kept_entry, kept_aircraft, kept_place, kept_component, kept_programme, kept_task, kept_opening, kept_crs, kept_crs_line, kept_sector1, kept_fit1, kept_removal1}
+use Rattle.mx_kept.specs.Cells.{kept_entry, kept_aircraft, kept_place, kept_component, kept_programme, kept_task, kept_opening, kept_crs, kept_crs_line, kept_defect, kept_extension, kept_sector1, kept_fit1, kept_removal1}
 use Rattle.mx_tables.specs.Sets.{AreRowsOf}
 
 -- the register that a table keeps: how its rows are kept, those that a command adds behind the entries before it, and those that were read; or none, of a table that no command writes
@@ -29,6 +29,8 @@ register_of table.Task = of kept_task (λ before c. tasks_by before c.act) (λ r
 register_of table.Opening = of kept_opening (λ before c. openings_by before c.act) (λ r. r.openings.items)
 register_of table.Crs = of kept_crs (λ before c. releases_by before c.act) (λ r. r.releases.items)
 register_of table.CrsLine = of kept_crs_line (λ before c. release_lines_by before c.act) (λ r. r.release_lines.items)
+register_of table.Defect = of kept_defect (λ before c. deferrals_by before c.act) (λ r. r.deferrals.items)
+register_of table.Extension = of kept_extension (λ before c. extensions_by before c.act) (λ r. r.extensions.items)
 register_of table.Sector1 = of kept_sector1 (λ before c. sectors_by before c.act) (λ r. r.sectors.items)
 register_of table.Fit1 = of kept_fit1 (λ before c. fittings_by before c.act) (λ r. r.fittings.items)
 register_of table.Removal1 = of kept_removal1 (λ before c. removals_by before c.act) (λ r. r.removals.items)
@@ -36,7 +38,7 @@ register_of _ = none
 
 -- the tables of layout 1 that commands write, in the order in which they are read
 abbrev pub registers_1 : List TableName
-registers_1 = table.Entry ∷ table.Aircraft ∷ table.Place ∷ table.Component ∷ table.Programme ∷ table.Task ∷ table.Opening ∷ table.Crs ∷ table.CrsLine ∷ table.Sector1 ∷ table.Fit1 ∷ table.Removal1 ∷ []
+registers_1 = table.Entry ∷ table.Aircraft ∷ table.Place ∷ table.Component ∷ table.Programme ∷ table.Task ∷ table.Opening ∷ table.Crs ∷ table.CrsLine ∷ table.Defect ∷ table.Extension ∷ table.Sector1 ∷ table.Fit1 ∷ table.Removal1 ∷ []
 
 -- ── what the family says of each table ──
 

@@ -1,4 +1,5 @@
 pub mod Faults
 pub mod Family
 pub mod Office
+pub mod Questions
 pub mod Stands

@@ -48,12 +48,15 @@ fn add_rows<S: Alter>(
         openings,
         releases,
         release_lines,
+        deferrals,
+        extensions,
         sectors,
         fittings,
         removals,
     } = rows;
     let flown = (sectors, (fittings, removals));
-    let released = (releases, (release_lines, flown));
+    let deferred = (deferrals, (extensions, flown));
+    let released = (releases, (release_lines, deferred));
     let maintained = (programmes, (tasks, (openings, released)));
     let beside = (aircraft, (places, (components, maintained)));
     let entry = entry_row(book.len() + 1, command);

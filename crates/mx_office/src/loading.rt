@@ -43,28 +43,11 @@ fn read_registers<S: Alter>(
         → (table : _) → result ≡ Err (TableFault.Damaged table) → IsDamaged old.now.trees table }
     ensures within { IsWithin (state S.Store tx.old.conn.now) (state S.Store tx.new.conn.now) }
 {
-    let (
-        entries,
-        (
-            aircraft,
-            (
-                places,
-                (
-                    components,
-                    (
-                        programmes,
-                        (
-                            tasks,
-                            (
-                                openings,
-                                (releases, (release_lines, (sectors, (fittings, removals)))),
-                            ),
-                        ),
-                    ),
-                ),
-            ),
-        ),
-    ) = Tables::read(alloc, tx)?;
+    let (entries, (aircraft, (places, (components, maintained)))) = Tables::read(alloc, tx)?;
+    let (programmes, (tasks, (openings, released))) = maintained;
+    let (releases, (release_lines, deferred)) = released;
+    let (deferrals, (extensions, flown)) = deferred;
+    let (sectors, (fittings, removals)) = flown;
     Ok(Registers {
         entries,
         aircraft,
@@ -75,6 +58,8 @@ fn read_registers<S: Alter>(
         openings,
         releases,
         release_lines,
+        deferrals,
+        extensions,
         sectors,
         fittings,
         removals,

@@ -1,20 +1,21 @@
 //! The questions that an office is asked: lists, lives and entries. None of them changes a table.
-ghost use Rattle.std.specs.Prelude.{◌≡◌, ◌≢◌, ◌⊎◌, true, false, IfOk, MatchResult};
+ghost use Rattle.std.specs.Prelude.{◌≡◌, ◌⊎◌, false, IfOk, MatchResult};
 ghost use Rattle.sqlite.specs.State.{HasCleanDisk};
 ghost use Rattle.sqlite.specs.Held.{state};
 ghost use Rattle.mx_book.specs.Book.{entries_from};
 ghost use Rattle.mx_book.specs.DueList.{due_list};
 ghost use Rattle.mx_book.specs.Life.{life_now};
+ghost use Rattle.mx_book.specs.LimitList.{limits};
 ghost use Rattle.mx_book.specs.Lists.{life_list};
-ghost use Rattle.mx_layout.specs.Crash.{ChangesNothing};
 ghost use Rattle.mx_kept.specs.Schemas.{HasOwn1};
-ghost use Rattle.mx_office.specs.Faults.{found_or, unknown, IsAnswer};
+ghost use Rattle.mx_office.specs.Faults.{found_or, unknown};
+ghost use Rattle.mx_office.specs.Questions.{IsAnsweredBy, IsAsked};
 ghost use Rattle.mx_office.specs.Stands.{HoldsBook, IsReasonFor, Rests};
 
 use crate::fault::{Ask, Fault};
 use crate::office::Office;
 use mx_base::{Day, Tail, Use};
-use mx_book::{DueList, LifeList, Refusal};
+use mx_book::{DueList, LifeList, LimitList, Refusal};
 use mx_command::{Command, Item};
 use sqlite::Alter;
 use std::alloc::Global;
@@ -33,27 +34,10 @@ impl<S: Alter> Office<S> {
     /// The due list of an aircraft on a day. `Refused(UnknownAircraft)` where no aircraft has the registration. No table
     /// changes.
     pub fn due_rows(&mut self, alloc: Global, tail: Tail, day: Day) -> Result<DueList, Ask>
-        ensures reopen { self.old.needs_reopen ≡ true
-            → (result ≡ Err (Ask.Failed Fault.NeedsReopen)) × (self.new ≡ self.old) }
-        ensures usable { self.old.needs_reopen ≡ false
-            → result ≢ Err (Ask.Failed Fault.NeedsReopen) }
-        ensures goes_on { self.old.needs_reopen ≡ false → result ≢ Err (Ask.Failed Fault.Store)
-            → self.new.needs_reopen ≡ false }
-        ensures stopped { result ≡ Err (Ask.Failed Fault.Store) → self.new.needs_reopen ≡ true }
-        ensures untouched { self.old.needs_reopen ≡ false
-            → ChangesNothing (state S.Store self.old.conn) (state S.Store self.new.conn) }
-        ensures exact { (book : _) → self.old.needs_reopen ≡ false
-            → Rests (state S.Store self.old.conn) book → HasCleanDisk (state S.Store self.new.conn)
-            → IsAnswer (found_or Refusal.UnknownAircraft (due_list book tail day)) result }
-        ensures sound { HasCleanDisk (state S.Store self.new.conn)
-            → HasOwn1 (state S.Store self.old.conn).now.schema → ((fault : _)
-            → result ≢ Err (Ask.Failed fault)) → (book : _)
-            × HoldsBook (state S.Store self.old.conn).now.trees book
-            × (result ≡ found_or Refusal.UnknownAircraft (due_list book tail day)) }
-        ensures damaged { HasCleanDisk (state S.Store self.new.conn)
-            → HasOwn1 (state S.Store self.old.conn).now.schema → (table : _)
-            → result ≡ Err (Ask.Failed (Fault.Damaged table))
-            → IsReasonFor (state S.Store self.old.conn).now.trees table }
+        ensures asked { IsAsked Ask.Failed self.old self.new result }
+        ensures answered { IsAnsweredBy
+            (λ book. found_or Refusal.UnknownAircraft (due_list book tail day))
+            self.old self.new result }
     {
         let book = self.book(alloc)?;
         match book.due_list(alloc, &tail, day)? {
@@ -62,30 +46,28 @@ impl<S: Alter> Office<S> {
         }
     }
 
+    /// The limits of an aircraft on a day, those of its open defects. `Refused(UnknownAircraft)` where no aircraft has
+    /// the registration. No table changes.
+    pub fn limits_rows(&mut self, alloc: Global, tail: Tail, day: Day) -> Result<LimitList, Ask>
+        ensures asked { IsAsked Ask.Failed self.old self.new result }
+        ensures answered { IsAnsweredBy
+            (λ book. found_or Refusal.UnknownAircraft (limits book tail day))
+            self.old self.new result }
+    {
+        let book = self.book(alloc)?;
+        match book.limits(alloc, &tail, day)? {
+            Some(list) => Ok(list),
+            None => Err(Ask::Refused(Refusal::UnknownAircraft)),
+        }
+    }
+
     /// The life list of an aircraft. `Refused(UnknownAircraft)` where no aircraft has the registration.
     /// No table changes.
     pub fn life_rows(&mut self, alloc: Global, tail: Tail) -> Result<LifeList, Ask>
-        ensures reopen { self.old.needs_reopen ≡ true
-            → (result ≡ Err (Ask.Failed Fault.NeedsReopen)) × (self.new ≡ self.old) }
-        ensures usable { self.old.needs_reopen ≡ false
-            → result ≢ Err (Ask.Failed Fault.NeedsReopen) }
-        ensures goes_on { self.old.needs_reopen ≡ false → result ≢ Err (Ask.Failed Fault.Store)
-            → self.new.needs_reopen ≡ false }
-        ensures stopped { result ≡ Err (Ask.Failed Fault.Store) → self.new.needs_reopen ≡ true }
-        ensures untouched { self.old.needs_reopen ≡ false
-            → ChangesNothing (state S.Store self.old.conn) (state S.Store self.new.conn) }
-        ensures exact { (book : _) → self.old.needs_reopen ≡ false
-            → Rests (state S.Store self.old.conn) book → HasCleanDisk (state S.Store self.new.conn)
-            → IsAnswer (found_or Refusal.UnknownAircraft (life_list book tail)) result }
-        ensures sound { HasCleanDisk (state S.Store self.new.conn)
-            → HasOwn1 (state S.Store self.old.conn).now.schema → ((fault : _)
-            → result ≢ Err (Ask.Failed fault)) → (book : _)
-            × HoldsBook (state S.Store self.old.conn).now.trees book
-            × (result ≡ found_or Refusal.UnknownAircraft (life_list book tail)) }
-        ensures damaged { HasCleanDisk (state S.Store self.new.conn)
-            → HasOwn1 (state S.Store self.old.conn).now.schema → (table : _)
-            → result ≡ Err (Ask.Failed (Fault.Damaged table))
-            → IsReasonFor (state S.Store self.old.conn).now.trees table }
+        ensures asked { IsAsked Ask.Failed self.old self.new result }
+        ensures answered { IsAnsweredBy
+            (λ book. found_or Refusal.UnknownAircraft (life_list book tail))
+            self.old self.new result }
     {
         let book = self.book(alloc)?;
         match book.life_list(alloc, &tail)? {
@@ -97,27 +79,10 @@ impl<S: Alter> Office<S> {
     /// The life of an item with all of its sectors. `Refused(UnknownAircraft)` or `Refused(UnknownComponent)`
     /// where the item is unknown. No table changes.
     pub fn life(&mut self, alloc: Global, item: &Item) -> Result<Use, Ask>
-        ensures reopen { self.old.needs_reopen ≡ true
-            → (result ≡ Err (Ask.Failed Fault.NeedsReopen)) × (self.new ≡ self.old) }
-        ensures usable { self.old.needs_reopen ≡ false
-            → result ≢ Err (Ask.Failed Fault.NeedsReopen) }
-        ensures goes_on { self.old.needs_reopen ≡ false → result ≢ Err (Ask.Failed Fault.Store)
-            → self.new.needs_reopen ≡ false }
-        ensures stopped { result ≡ Err (Ask.Failed Fault.Store) → self.new.needs_reopen ≡ true }
-        ensures untouched { self.old.needs_reopen ≡ false
-            → ChangesNothing (state S.Store self.old.conn) (state S.Store self.new.conn) }
-        ensures exact { (book : _) → self.old.needs_reopen ≡ false
-            → Rests (state S.Store self.old.conn) book → HasCleanDisk (state S.Store self.new.conn)
-            → IsAnswer (found_or (unknown item.now) (life_now book item.now)) result }
-        ensures sound { HasCleanDisk (state S.Store self.new.conn)
-            → HasOwn1 (state S.Store self.old.conn).now.schema → ((fault : _)
-            → result ≢ Err (Ask.Failed fault)) → (book : _)
-            × HoldsBook (state S.Store self.old.conn).now.trees book
-            × (result ≡ found_or (unknown item.now) (life_now book item.now)) }
-        ensures damaged { HasCleanDisk (state S.Store self.new.conn)
-            → HasOwn1 (state S.Store self.old.conn).now.schema → (table : _)
-            → result ≡ Err (Ask.Failed (Fault.Damaged table))
-            → IsReasonFor (state S.Store self.old.conn).now.trees table }
+        ensures asked { IsAsked Ask.Failed self.old self.new result }
+        ensures answered { IsAnsweredBy
+            (λ book. found_or (unknown item.now) (life_now book item.now))
+            self.old self.new result }
     {
         let book = self.book(alloc)?;
         match book.life_now(item) {
@@ -129,14 +94,7 @@ impl<S: Alter> Office<S> {
     /// The first commands, at most `at_most`, of those whose number is at least `from`, in their order. No table
     /// changes.
     pub fn entries(&mut self, alloc: Global, from: u32, at_most: u32) -> Result<Vec<Command>, Fault>
-        ensures reopen { self.old.needs_reopen ≡ true → (result ≡ Err Fault.NeedsReopen)
-            × (self.new ≡ self.old) }
-        ensures usable { self.old.needs_reopen ≡ false → result ≢ Err Fault.NeedsReopen }
-        ensures goes_on { self.old.needs_reopen ≡ false → result ≢ Err Fault.Store
-            → self.new.needs_reopen ≡ false }
-        ensures stopped { result ≡ Err Fault.Store → self.new.needs_reopen ≡ true }
-        ensures untouched { self.old.needs_reopen ≡ false
-            → ChangesNothing (state S.Store self.old.conn) (state S.Store self.new.conn) }
+        ensures asked { IsAsked (λ fault. fault) self.old self.new result }
         ensures exact { (book : _) → self.old.needs_reopen ≡ false
             → Rests (state S.Store self.old.conn) book → HasCleanDisk (state S.Store self.new.conn)
             → MatchResult result (λ v. v.items ≡ entries_from from at_most book)

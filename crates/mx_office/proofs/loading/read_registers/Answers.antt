@@ -20,7 +20,26 @@ returns-in_err-entries-clause-damaged g c clean has table said =
 abbrev read : (g : given.Over) → goal.In_ok-entries g → Registers
 read g c =
     let r = c.in_ok-entries in
-    record { entries = r.entries; aircraft = r.aircraft; places = r.places; components = r.components; programmes = r.programmes; tasks = r.tasks; openings = r.openings; releases = r.releases; release_lines = r.release_lines; sectors = r.sectors; fittings = r.fittings; removals = r.removals }
+    let maintained = r.maintained in
+    let released = maintained.1.1.1 in
+    let deferred = released.1.1 in
+    let flown = deferred.1.1 in
+    record {
+      entries = r.entries;
+      aircraft = r.aircraft;
+      places = r.places;
+      components = r.components;
+      programmes = maintained.0;
+      tasks = maintained.1.0;
+      openings = maintained.1.1.0;
+      releases = released.0;
+      release_lines = released.1.0;
+      deferrals = deferred.0;
+      extensions = deferred.1.0;
+      sectors = flown.0;
+      fittings = flown.1.0;
+      removals = flown.1.1;
+    }
 
 pub returns-clause-exact : goal.returns-clause-exact
 returns-clause-exact g c book clean has stands =

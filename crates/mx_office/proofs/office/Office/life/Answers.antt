@@ -1,32 +1,17 @@
-use Rattle.std.proofs.Common.{Err, ◌∙◌, ap}
+use Rattle.std.proofs.Common.{ap}
 use Rattle.mx_book.specs.Life.{life_now}
-use Rattle.mx_office.specs.declared.fault.Fault.TheVariants.{Damaged}
 use Rattle.mx_office.specs.Faults.{found_or, unknown}
-use Rattle.mx_office.proofs.AnswerLemmas.{stopped_answer, some_answer, none_answer, not_stopped, same_asked}
+use Rattle.mx_office.proofs.AnswerLemmas.{found_question, stopped_question}
 use Rattle.mx_office.proofs.office.Office.life.Goals as goal
 
-pub returns-in_err-book-clause-exact : goal.returns-in_err-book-clause-exact
-returns-in_err-book-clause-exact g c book works rests clean =
-    stopped_answer (found_or (unknown c.args.item.now) (life_now book c.args.item.now)) c.from_residual.result c.in_err-book.field-0.0 c.from_residual.ensures (c.in_err-book.ensures.exact book works rests clean)
+pub returns-in_err-book-clause-answered : goal.returns-in_err-book-clause-answered
+returns-in_err-book-clause-answered g c =
+    stopped_question c.args.self.now c.book.new.self c.from_residual.result (λ b. found_or (unknown c.args.item.now) (life_now b c.args.item.now)) c.in_err-book.field-0.0 c.from_residual.ensures c.in_err-book.ensures.exact c.in_err-book.ensures.damaged
 
-pub returns-in-Some-clause-exact : goal.returns-in-Some-clause-exact
-returns-in-Some-clause-exact g c book works rests clean =
-    some_answer (unknown c.args.item.now) c.in-Some.life (life_now book c.args.item.now) (c.in-Some.ensures ∙ ap (λ b. life_now b c.args.item.now) (c.in_ok-book.ensures.exact book works rests clean))
+pub returns-in-Some-clause-answered : goal.returns-in-Some-clause-answered
+returns-in-Some-clause-answered g c =
+    found_question c.args.self.now c.book.new.self _ (unknown c.args.item.now) (λ b. life_now b c.args.item.now) c.in_ok-book.book (ap (found_or (unknown c.args.item.now)) c.in-Some.ensures) c.in_ok-book.ensures.exact c.in_ok-book.ensures.sound
 
-pub returns-clause-exact : goal.returns-clause-exact
-returns-clause-exact g c book works rests clean =
-    rw c.unknown_of.ensures (none_answer (unknown c.args.item.now) (life_now book c.args.item.now) (c.in-None.ensures ∙ ap (λ b. life_now b c.args.item.now) (c.in_ok-book.ensures.exact book works rests clean)))
-
-pub returns-in_err-book-clause-sound : goal.returns-in_err-book-clause-sound
-returns-in_err-book-clause-sound g c clean has goes = not_stopped c.from_residual.result c.in_err-book.field-0.0 c.from_residual.ensures goes
-
-pub returns-in-Some-clause-sound : goal.returns-in-Some-clause-sound
-returns-in-Some-clause-sound g c clean has goes = (c.in_ok-book.book, c.in_ok-book.ensures.sound clean has, ap (found_or (unknown c.args.item.now)) c.in-Some.ensures)
-
-pub returns-clause-sound : goal.returns-clause-sound
-returns-clause-sound g c clean has goes =
-    (c.in_ok-book.book, c.in_ok-book.ensures.sound clean has, rw c.unknown_of.ensures (ap (found_or (unknown c.args.item.now)) c.in-None.ensures))
-
-pub returns-in_err-book-clause-damaged : goal.returns-in_err-book-clause-damaged
-returns-in_err-book-clause-damaged g c clean has table same =
-    c.in_err-book.ensures.damaged clean has table (ap Err (same_asked c.from_residual.result c.in_err-book.field-0.0 (Damaged table) c.from_residual.ensures same))
+pub returns-clause-answered : goal.returns-clause-answered
+returns-clause-answered g c =
+    rw c.unknown_of.ensures (found_question c.args.self.now c.book.new.self _ (unknown c.args.item.now) (λ b. life_now b c.args.item.now) c.in_ok-book.book (ap (found_or (unknown c.args.item.now)) c.in-None.ensures) c.in_ok-book.ensures.exact c.in_ok-book.ensures.sound)
