@@ -1,3 +1,4 @@
 pub mod StartsLemmas
 pub mod Worked
 mod WorkedDues
+mod WorkedLimits

@@ -5,7 +5,7 @@ use Rattle.std.specs.Fmt.{digits}
 use Rattle.std.specs.List.{flat_map}
 use Rattle.mx_base.specs.Calendar.{date_of}
 use Rattle.mx_base.specs.Texts.{day_text, moment_text}
-use Rattle.mx_book.specs.declared.verdict.Refusal.TheVariants.{Conflict, Full, UnknownAircraft, UnknownComponent, UnknownPosition, UnknownProgramme, UnknownTask, AircraftExists, ComponentExists, PositionTaken, AlreadyFitted, NotFitted, WrongPart, ItemElsewhere, TaskClosed, LifeLimit, OutOfOrder, WrongRevision, OtherAircraft, OpeningTooLate, OpeningTooLarge, RepeatedLine}
+use Rattle.mx_book.specs.declared.verdict.Refusal.TheVariants.{Conflict, Full, UnknownAircraft, UnknownComponent, UnknownPosition, UnknownProgramme, UnknownTask, UnknownDefect, AircraftExists, ComponentExists, PositionTaken, AlreadyFitted, NotFitted, WrongPart, ItemElsewhere, TaskClosed, LifeLimit, DefectClosed, OutOfOrder, NotExtendable, AlreadyExtended, ExtensionTooLong, IntervalEnded, WrongRevision, OtherAircraft, OpeningTooLate, OpeningTooLarge, RepeatedLine}
 use Rattle.mx_book.specs.declared.verdict.Reply.TheVariants.{Accepted, Already, Refused}
 use Rattle.mx_reports.specs.LifeText.{life_lines}
 use Rattle.mx_reports.specs.ReplyText.{reply_line}
@@ -64,6 +64,22 @@ refused_of_tasks = refl
 refused_of_releases : flat_map (λ refusal. reply_line (Refused refusal)) (ItemElsewhere ∷ RepeatedLine ∷ []) ≡ codes "refused 37\nrefused 52\n"
 unfolding digits
 refused_of_releases = refl
+
+-- those of defects that carry nothing
+refused_of_defects : flat_map (λ refusal. reply_line (Refused refusal)) (UnknownDefect ∷ DefectClosed ∷ NotExtendable ∷ AlreadyExtended ∷ [])
+    ≡ codes "refused 25\nrefused 40\nrefused 42\nrefused 43\n"
+unfolding digits
+refused_of_defects = refl
+
+-- an extension that is too long carries the days that it may have
+extension_too_long : reply_line (Refused (ExtensionTooLong 3)) ≡ codes "refused 44 3\n"
+unfolding digits
+extension_too_long = refl
+
+-- one that comes too late carries the last day of the defect
+interval_ended : reply_line (Refused (IntervalEnded 19751)) ≡ codes "refused 45 2024-01-29\n"
+unfolding digits date_of day_text
+interval_ended = refl
 
 -- a conflict carries the number of the entry
 conflict : reply_line (Refused (Conflict 4)) ≡ codes "refused 10 4\n"

@@ -7,8 +7,10 @@ use Rattle.mx_base.specs.Texts.{day_text}
 use Rattle.mx_base.specs.declared.amounts.Status.TheVariants as statuses
 use Rattle.mx_book.specs.declared.due_row.DueList.{DueList}
 use Rattle.mx_book.specs.declared.due_row.DueRow.{DueRow}
-use Rattle.mx_book.specs.declared.due_row.DueRow.TheVariants.{Task as TaskRow}
-use Rattle.mx_reports.specs.DueText.{status_word, place_words, left_hours, left_number, row_line, due_lines}
+use Rattle.mx_book.specs.declared.due_row.DueRow.TheVariants.{Task as TaskRow, Defect as DefectRow}
+use Rattle.mx_reports.specs.DueText.{place_words, left_hours, left_number, row_line, due_lines}
+use Rattle.mx_reports.specs.DefectText.{defect_words, until_line}
+use Rattle.mx_reports.specs.Words.{status_word}
 
 -- the due list of 2024-03-10 with these rows
 abbrev listed : List DueRow → DueList
@@ -56,3 +58,21 @@ passed_by_cycles_and_days : row_line (TaskRow statuses.Overdue (Some (codes "ENG
     ≡ codes "OVERDUE part ENG E2 OVH h=0:59 c=-3 d=-1\n"
 unfolding digits status_word place_words left_hours left_number
 passed_by_cycles_and_days = refl
+
+-- a defect of category B whose last day is 2024-03-10, and one of category D, with 92 days left
+abbrev lamp : DueRow
+lamp = DefectRow statuses.Due (codes "X2") 66 (codes "21-31-01") (pos 19792) (pos 0)
+
+abbrev seat : DueRow
+seat = DefectRow statuses.Ok (codes "X1") 68 (codes "25-11-02") (pos 19884) (pos 92)
+
+with_defects : due_lines (listed (lamp ∷ hundred_hours ∷ seat ∷ []))
+    ≡ codes "due D-ABCD 2024-03-10 1001:30 801\nDUE defect X2 B 21-31-01 last=2024-03-10 left=0\nOK airframe 100H h=48:30 c=- d=-\nOK defect X1 D 25-11-02 last=2024-06-10 left=92\nend 3\n"
+unfolding digits day_text date_of status_word defect_words until_line lib.Utf8.encode place_words left_hours left_number
+with_defects = refl
+
+-- the last day of a defect is passed by one
+passed_by_a_day : row_line (DefectRow statuses.Overdue (codes "X3") 67 (codes "33-40-01") (pos 19791) (negsuc 0))
+    ≡ codes "OVERDUE defect X3 C 33-40-01 last=2024-03-09 left=-1\n"
+unfolding digits day_text date_of status_word defect_words until_line lib.Utf8.encode
+passed_by_a_day = refl

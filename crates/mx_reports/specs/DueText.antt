@@ -4,18 +4,11 @@ use Rattle.std.specs.Fmt.{signed_decimal}
 use Rattle.std.specs.List.{flat_map}
 use Rattle.mx_base.specs.Texts.{day_text, hours_text}
 use Rattle.mx_base.specs.declared.amounts.Left.{Left}
-use Rattle.mx_base.specs.declared.amounts.Status.{Status}
-use Rattle.mx_base.specs.declared.amounts.Status.TheVariants as statuses
 use Rattle.mx_book.specs.declared.due_row.DueList.{DueList}
 use Rattle.mx_book.specs.declared.due_row.DueRow.{DueRow}
-use Rattle.mx_book.specs.declared.due_row.DueRow.TheVariants.{Task as TaskRow}
-use Rattle.mx_reports.specs.Words.{spaced, use_words, end_line}
-
--- how a row stands
-unfoldable pub status_word : Status → List ℕ
-status_word statuses.Overdue = codes "OVERDUE"
-status_word statuses.Due = codes "DUE"
-status_word statuses.Ok = codes "OK"
+use Rattle.mx_book.specs.declared.due_row.DueRow.TheVariants.{Task as TaskRow, Defect as DefectRow}
+use Rattle.mx_reports.specs.DefectText.{defect_words, until_line}
+use Rattle.mx_reports.specs.Words.{spaced, status_word, use_words, end_line}
 
 -- airframe, or part POSITION SERIAL
 unfoldable pub place_words : Option (List ℕ × List ℕ) → List ℕ
@@ -36,9 +29,10 @@ left_number (Some left) = signed_decimal left
 abbrev pub left_words : Left → List ℕ
 left_words left = codes " h=" ++ (left_hours left.minutes ++ (codes " c=" ++ (left_number left.cycles ++ (codes " d=" ++ left_number left.days))))
 
--- STATUS, the place, TASK, and what is left
+-- STATUS, the place, TASK, and what is left; STATUS defect, its words, and what is left until its last day
 abbrev pub row_line : DueRow → List ℕ
 row_line (TaskRow status place task left) = status_word status ++ (place_words place ++ (spaced task ++ (left_words left ++ 10 ∷ [])))
+row_line (DefectRow status doc letter reference last left) = status_word status ++ (spaced (codes "defect") ++ (defect_words doc letter reference ++ until_line last left))
 
 -- due TAIL DAY HOURS CYCLES
 abbrev pub due_head : DueList → List ℕ

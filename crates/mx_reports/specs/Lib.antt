@@ -1,4 +1,6 @@
 pub mod LifeText
+pub mod DefectText
 pub mod DueText
+pub mod LimitText
 pub mod ReplyText
 pub mod Words

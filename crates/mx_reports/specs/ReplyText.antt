@@ -1,18 +1,20 @@
 -- The text of a reply.
 use Rattle.std.specs.Prelude.{ℕ, List, [], ◌∷◌, ◌++◌, codes}
 use Rattle.std.specs.Fmt.{decimal}
-use Rattle.mx_base.specs.Texts.{moment_text}
+use Rattle.mx_base.specs.Texts.{day_text, moment_text}
 use Rattle.mx_book.specs.declared.verdict.Refusal.{Refusal}
-use Rattle.mx_book.specs.declared.verdict.Refusal.TheVariants.{Conflict, Full, UnknownAircraft, UnknownComponent, UnknownPosition, UnknownProgramme, UnknownTask, AircraftExists, ComponentExists, PositionTaken, AlreadyFitted, NotFitted, WrongPart, ItemElsewhere, TaskClosed, LifeLimit, OutOfOrder, WrongRevision, OtherAircraft, OpeningTooLate, OpeningTooLarge, RepeatedLine}
+use Rattle.mx_book.specs.declared.verdict.Refusal.TheVariants.{Conflict, Full, UnknownAircraft, UnknownComponent, UnknownPosition, UnknownProgramme, UnknownTask, UnknownDefect, AircraftExists, ComponentExists, PositionTaken, AlreadyFitted, NotFitted, WrongPart, ItemElsewhere, TaskClosed, LifeLimit, DefectClosed, OutOfOrder, NotExtendable, AlreadyExtended, ExtensionTooLong, IntervalEnded, WrongRevision, OtherAircraft, OpeningTooLate, OpeningTooLarge, RepeatedLine}
 use Rattle.mx_book.specs.declared.verdict.Reply.{Reply}
 use Rattle.mx_book.specs.declared.verdict.Reply.TheVariants.{Accepted, Already, Refused}
 use Rattle.mx_book.specs.Judge.{refusal_number}
 use Rattle.mx_reports.specs.Words.{spaced}
 
--- what a refusal carries beside its number: the number of an entry, a moment, or the revision that is expected
+-- what a refusal carries beside its number: the number of an entry, a moment, the days that an extension may have, the last day of a defect, or the revision that is expected
 abbrev pub carried_words : Refusal → List ℕ
 carried_words (Conflict seq) = spaced (decimal seq)
 carried_words (OutOfOrder clock) = spaced (moment_text clock)
+carried_words (ExtensionTooLong most) = spaced (decimal most)
+carried_words (IntervalEnded last) = spaced (day_text last)
 carried_words (WrongRevision expected) = spaced (decimal expected)
 carried_words Full = []
 carried_words UnknownAircraft = []
@@ -20,6 +22,7 @@ carried_words UnknownComponent = []
 carried_words UnknownPosition = []
 carried_words UnknownProgramme = []
 carried_words UnknownTask = []
+carried_words UnknownDefect = []
 carried_words AircraftExists = []
 carried_words ComponentExists = []
 carried_words PositionTaken = []
@@ -29,6 +32,9 @@ carried_words WrongPart = []
 carried_words ItemElsewhere = []
 carried_words TaskClosed = []
 carried_words LifeLimit = []
+carried_words DefectClosed = []
+carried_words NotExtendable = []
+carried_words AlreadyExtended = []
 carried_words OtherAircraft = []
 carried_words OpeningTooLate = []
 carried_words OpeningTooLarge = []

@@ -2,11 +2,19 @@
 use Rattle.std.specs.Prelude.{◌≡◌, ℕ, List, [], ◌∷◌, ◌++◌, codes, take, length, pos}
 use Rattle.std.specs.Fmt.{decimal}
 use Rattle.mx_base.specs.Texts.{hours_text}
+use Rattle.mx_base.specs.declared.amounts.Status.{Status}
+use Rattle.mx_base.specs.declared.amounts.Status.TheVariants as statuses
 use Rattle.mx_base.specs.declared.amounts.Use.{Use}
 
 -- a word behind a space
 abbrev pub spaced : List ℕ → List ℕ
 spaced word = 32 ∷ word
+
+-- how a row stands
+unfoldable pub status_word : Status → List ℕ
+status_word statuses.Overdue = codes "OVERDUE"
+status_word statuses.Due = codes "DUE"
+status_word statuses.Ok = codes "OK"
 
 -- hours and cycles
 abbrev pub use_words : Use → List ℕ

@@ -2,26 +2,15 @@
 ghost use Rattle.std.specs.Prelude.{◌≡◌, ◌++◌, [], ◌∷◌, codes, OnOk, OnErr};
 ghost use Rattle.std.specs.Fmt.{signed_decimal};
 ghost use Rattle.std.specs.List.{flat_map};
-ghost use Rattle.mx_reports.specs.Words.{spaced, StartsWith};
-ghost use Rattle.mx_reports.specs.DueText.{status_word, place_words, left_hours, left_number, left_words, row_line, due_head, due_lines};
+ghost use Rattle.mx_reports.specs.Words.{spaced, status_word, StartsWith};
+ghost use Rattle.mx_reports.specs.DefectText.{defect_words, until_line};
+ghost use Rattle.mx_reports.specs.DueText.{place_words, left_hours, left_number, left_words, row_line, due_head, due_lines};
 
-use crate::words::{append_day, append_end, append_use, append_word};
-use itoa::Buffer;
-use mx_base::{Left, Position, Serial, Status, TaskId, print_hours};
+use crate::defect::{append_defect, append_until};
+use crate::words::{append_day, append_end, append_signed, append_status, append_use, append_word};
+use mx_base::{Doc, Left, MelRef, Position, Serial, Status, TaskId, print_hours};
 use mx_book::{DueList, DueRow};
 use std::alloc::AllocError;
-
-#[tactic(auto, unfolding(crate::specs::DueText::status_word))]
-fn append_status(out: &mut Vec<u8>, status: Status) -> Result<(), AllocError>
-    ensures words { OnOk result (out.new.items ≡ out.old.items ++ status_word status) }
-    ensures unchanged { OnErr result (out.new.items ≡ out.old.items) }
-{
-    match status {
-        Status::Overdue => out.extend_from_slice(b"OVERDUE"),
-        Status::Due => out.extend_from_slice(b"DUE"),
-        Status::Ok => out.extend_from_slice(b"OK"),
-    }
-}
 
 #[tactic(auto, using(crate::proofs::StartsLemmas::starts_further))]
 fn append_part(out: &mut Vec<u8>, position: &Position, serial: &Serial) -> Result<(), AllocError>
@@ -54,14 +43,6 @@ fn append_left_hours(out: &mut Vec<u8>, left: Option<i64>) -> Result<(), AllocEr
         None => out.extend_from_slice(b"-"),
         Some(minutes) => print_hours(out, minutes),
     }
-}
-
-fn append_signed(out: &mut Vec<u8>, number: i64) -> Result<(), AllocError>
-    ensures words { OnOk result (out.new.items ≡ out.old.items ++ signed_decimal number) }
-    ensures unchanged { OnErr result (out.new.items ≡ out.old.items) }
-{
-    let mut buffer = Buffer::new();
-    out.extend_from_slice(buffer.format(number).as_bytes())
 }
 
 #[tactic(auto, unfolding(crate::specs::DueText::left_number))]
@@ -114,6 +95,24 @@ fn append_task_left(out: &mut Vec<u8>, task: &TaskId, left: &Left) -> Result<(),
 }
 
 #[tactic(auto, using(crate::proofs::StartsLemmas::starts_further))]
+fn append_named(
+    out: &mut Vec<u8>,
+    status: Status,
+    doc: &Doc,
+    letter: char,
+    reference: &MelRef,
+) -> Result<(), AllocError>
+    ensures words { OnOk result (out.new.items ≡ out.old.items
+        ++ (status_word status ++ (spaced (codes "defect")
+        ++ defect_words doc.now letter reference.now))) }
+    ensures kept { OnErr result (StartsWith out.old.items out.new.items) }
+{
+    append_status(out, status)?;
+    append_word(out, b"defect")?;
+    append_defect(out, doc, letter, reference)
+}
+
+#[tactic(auto, using(crate::proofs::StartsLemmas::starts_further))]
 fn append_row(out: &mut Vec<u8>, row: &DueRow) -> Result<(), AllocError>
     ensures words { OnOk result (out.new.items ≡ out.old.items ++ row_line row.now) }
     ensures kept { OnErr result (StartsWith out.old.items out.new.items) }
@@ -127,6 +126,17 @@ fn append_row(out: &mut Vec<u8>, row: &DueRow) -> Result<(), AllocError>
         } => {
             append_standing(out, *status, place)?;
             append_task_left(out, task, left)
+        }
+        DueRow::Defect {
+            status,
+            doc,
+            letter,
+            reference,
+            last,
+            left,
+        } => {
+            append_named(out, *status, doc, *letter, reference)?;
+            append_until(out, *last, *left)
         }
     }
 }
@@ -166,7 +176,9 @@ fn append_lines(out: &mut Vec<u8>, list: &DueList) -> Result<(), AllocError>
 
 /// Appends a due list: `due TAIL DAY` with the hours and cycles of the airframe; a line for each row, with its status
 /// (`OVERDUE`, `DUE` or `OK`), the place (`airframe`, or `part` with the position and the serial number), the task and
-/// what is left in hours, cycles and days, `-` in a dimension that has no due; and `end` with the number of rows.
+/// what is left in hours, cycles and days, `-` in a dimension that has no due; of an open defect `defect` with its
+/// document, the letter of its category, the item of the minimum equipment list, its last day and the days that are
+/// left; and `end` with the number of rows.
 pub fn due_text(out: &mut Vec<u8>, list: &DueList) -> Result<(), AllocError>
     ensures printed { OnOk result (out.new.items ≡ out.old.items ++ due_lines list.now) }
     ensures unchanged { OnErr result (out.new.items ≡ out.old.items) }

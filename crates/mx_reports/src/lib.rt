@@ -2,11 +2,14 @@
 //! were where memory runs out.
 #![tactic(auto)]
 
+mod defect;
 pub mod due;
 pub mod life;
+pub mod limits;
 pub mod reply;
 mod words;
 
 pub use due::due_text;
 pub use life::life_text;
+pub use limits::limits_text;
 pub use reply::reply_text;

@@ -4,7 +4,7 @@ ghost use Rattle.std.specs.Fmt.{decimal};
 ghost use Rattle.mx_reports.specs.Words.{spaced, StartsWith};
 ghost use Rattle.mx_reports.specs.ReplyText.{refusal_words, carried_words, reply_line};
 
-use crate::words::{append_moment, append_number};
+use crate::words::{append_day, append_moment, append_number};
 use mx_book::{Refusal, Reply};
 use std::alloc::AllocError;
 
@@ -16,6 +16,8 @@ fn append_carried(out: &mut Vec<u8>, refusal: &Refusal) -> Result<(), AllocError
     match refusal {
         Refusal::Conflict(seq) => append_number(out, *seq as usize),
         Refusal::OutOfOrder(clock) => append_moment(out, *clock),
+        Refusal::ExtensionTooLong(most) => append_number(out, *most as usize),
+        Refusal::IntervalEnded(last) => append_day(out, *last),
         Refusal::WrongRevision(expected) => append_number(out, *expected as usize),
         Refusal::Full
         | Refusal::UnknownAircraft
@@ -23,6 +25,7 @@ fn append_carried(out: &mut Vec<u8>, refusal: &Refusal) -> Result<(), AllocError
         | Refusal::UnknownPosition
         | Refusal::UnknownProgramme
         | Refusal::UnknownTask
+        | Refusal::UnknownDefect
         | Refusal::AircraftExists
         | Refusal::ComponentExists
         | Refusal::PositionTaken
@@ -32,6 +35,9 @@ fn append_carried(out: &mut Vec<u8>, refusal: &Refusal) -> Result<(), AllocError
         | Refusal::ItemElsewhere
         | Refusal::TaskClosed
         | Refusal::LifeLimit
+        | Refusal::DefectClosed
+        | Refusal::NotExtendable
+        | Refusal::AlreadyExtended
         | Refusal::OtherAircraft
         | Refusal::OpeningTooLate
         | Refusal::OpeningTooLarge
@@ -74,7 +80,7 @@ fn append_line(out: &mut Vec<u8>, reply: &Reply) -> Result<(), AllocError>
 }
 
 /// Appends the line of a reply: `accepted SEQ`, `already SEQ`, or `refused NUMBER` and what the refusal
-/// carries, the number of an entry, a moment or a revision.
+/// carries: the number of an entry, a moment, a number of days, a day or a revision.
 pub fn reply_text(out: &mut Vec<u8>, reply: &Reply) -> Result<(), AllocError>
     ensures printed { OnOk result (out.new.items ≡ out.old.items ++ reply_line reply.now) }
     ensures unchanged { OnErr result (out.new.items ≡ out.old.items) }

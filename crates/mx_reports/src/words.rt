@@ -1,13 +1,25 @@
 //! Words and line ends, appended. Where memory runs out, what was there before is there still, with some words
 //! behind it.
 ghost use Rattle.std.specs.Prelude.{◌≡◌, ◌++◌, [], ◌∷◌, OnOk, OnErr};
-ghost use Rattle.std.specs.Fmt.{decimal};
+ghost use Rattle.std.specs.Fmt.{decimal, signed_decimal};
 ghost use Rattle.mx_base.specs.Texts.{day_text, hours_text, moment_text};
-ghost use Rattle.mx_reports.specs.Words.{spaced, use_words, end_line, StartsWith};
+ghost use Rattle.mx_reports.specs.Words.{spaced, status_word, use_words, end_line, StartsWith};
 
 use itoa::Buffer;
-use mx_base::{Day, Moment, Use, print_day, print_hours, print_moment};
+use mx_base::{Day, Moment, Status, Use, print_day, print_hours, print_moment};
 use std::alloc::AllocError;
+
+#[tactic(auto, unfolding(crate::specs::Words::status_word))]
+pub(crate) fn append_status(out: &mut Vec<u8>, status: Status) -> Result<(), AllocError>
+    ensures words { OnOk result (out.new.items ≡ out.old.items ++ status_word status) }
+    ensures unchanged { OnErr result (out.new.items ≡ out.old.items) }
+{
+    match status {
+        Status::Overdue => out.extend_from_slice(b"OVERDUE"),
+        Status::Due => out.extend_from_slice(b"DUE"),
+        Status::Ok => out.extend_from_slice(b"OK"),
+    }
+}
 
 pub(crate) fn append_word(out: &mut Vec<u8>, word: &[u8]) -> Result<(), AllocError>
     ensures words { OnOk result (out.new.items ≡ out.old.items ++ spaced word.now) }
@@ -23,6 +35,14 @@ pub(crate) fn append_number(out: &mut Vec<u8>, number: usize) -> Result<(), Allo
 {
     let mut buffer = Buffer::new();
     append_word(out, buffer.format(number).as_bytes())
+}
+
+pub(crate) fn append_signed(out: &mut Vec<u8>, number: i64) -> Result<(), AllocError>
+    ensures words { OnOk result (out.new.items ≡ out.old.items ++ signed_decimal number) }
+    ensures unchanged { OnErr result (out.new.items ≡ out.old.items) }
+{
+    let mut buffer = Buffer::new();
+    out.extend_from_slice(buffer.format(number).as_bytes())
 }
 
 #[tactic(auto, using(crate::proofs::StartsLemmas::starts_further))]
