@@ -9,6 +9,7 @@ pub mod TableLemmas
 pub mod TaskLemmas
 pub mod TextLemmas
 pub mod Worked
+pub mod WorkedDefects
 pub mod WorkedForms
 pub mod WorkedLoading
 pub mod WorkedReleases

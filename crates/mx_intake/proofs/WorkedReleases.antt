@@ -4,7 +4,7 @@ use Rattle.std.specs.Prelude.{codes, Result}
 use Rattle.mx_command.specs.Act.{Entry, Released}
 use Rattle.mx_command.specs.declared.item.Item.TheVariants.{Airframe, Component}
 use Rattle.mx_command.specs.declared.release.Line.{Line}
-use Rattle.mx_command.specs.declared.release.Line.TheVariants.{Done}
+use Rattle.mx_command.specs.declared.release.Line.TheVariants.{Done, Rectified}
 use Rattle.mx_command.specs.declared.release.Place.{Place}
 use Rattle.mx_command.specs.declared.release.Place.TheVariants.{Aircraft, Shop}
 use Rattle.mx_intake.specs.declared.fault.IntakeFault.{IntakeFault}
@@ -134,10 +134,6 @@ line_with_a_note : release_with_lines (codes "[{\"tail\":\"D\",\"task\":\"T\"},{
 unfolding intake_on_literals
 line_with_a_note = refl
 
-line_of_a_defect : release_with_lines (codes "[{\"tail\":\"D\",\"task\":\"T\",\"defect\":\"X1\"}]") ≡ Err (fault 64 1)
-unfolding intake_on_literals
-line_of_a_defect = refl
-
 line_of_two_items : release_with_lines (codes "[{\"tail\":\"D\",\"task\":\"T\"},{\"tail\":\"D\",\"serial\":\"E1\",\"task\":\"T\"}]") ≡ Err (fault 65 1)
 unfolding intake_on_literals
 line_of_two_items = refl
@@ -149,6 +145,78 @@ line_of_two_items_without_task = refl
 line_of_an_unread_second_item : release_with_lines (codes "[{\"tail\":\"d\",\"serial\":\"E1\",\"task\":\"T\"}]") ≡ Err (fault 63 1)
 unfolding intake_on_literals
 line_of_an_unread_second_item = refl
+
+-- ── a line of a defect ──
+
+line_of_a_defect : release_with_lines (codes "[{\"defect\":\"X1\"}]") ≡ Ok (release_of_lines (Rectified (codes "X1") ∷ []) ∷ [])
+unfolding intake_on_literals
+line_of_a_defect = refl
+
+lines_of_both_forms : release_with_lines (codes "[{\"defect\":\"X1\"},{\"tail\":\"D\",\"task\":\"T\"},{\"defect\":\"X2\"}]") ≡ Ok (release_of_lines (Rectified (codes "X1") ∷ Done (Airframe (codes "D")) (codes "T") ∷ Rectified (codes "X2") ∷ []) ∷ [])
+unfolding intake_on_literals
+lines_of_both_forms = refl
+
+-- an object of neither form lacks a key
+line_of_nothing : release_with_lines (codes "[{\"defect\":\"X1\"},{}]") ≡ Err (fault 62 1)
+unfolding intake_on_literals
+line_of_nothing = refl
+
+line_of_a_note : release_with_lines (codes "[{\"note\":1}]") ≡ Err (fault 62 1)
+unfolding intake_on_literals
+line_of_a_note = refl
+
+line_of_no_document : release_with_lines (codes "[{\"defect\":\"\"}]") ≡ Err (fault 63 1)
+unfolding intake_on_literals
+line_of_no_document = refl
+
+line_of_a_number : release_with_lines (codes "[{\"defect\":1}]") ≡ Err (fault 63 1)
+unfolding intake_on_literals
+line_of_a_number = refl
+
+line_of_null : release_with_lines (codes "[{\"defect\":null,\"tail\":\"D\",\"task\":\"T\"}]") ≡ Err (fault 63 1)
+unfolding intake_on_literals
+line_of_null = refl
+
+line_of_a_defect_with_a_note : release_with_lines (codes "[{\"defect\":\"X1\",\"note\":1}]") ≡ Err (fault 64 1)
+unfolding intake_on_literals
+line_of_a_defect_with_a_note = refl
+
+-- beside a defect no key of a task that was done is missing, and none may stand
+defect_beside_a_task_that_was_done : release_with_lines (codes "[{\"tail\":\"D\",\"task\":\"T\"},{\"tail\":\"D\",\"task\":\"T\",\"defect\":\"X1\"}]") ≡ Err (fault 65 1)
+unfolding intake_on_literals
+defect_beside_a_task_that_was_done = refl
+
+defect_beside_a_task : release_with_lines (codes "[{\"defect\":\"X1\",\"task\":\"T\"}]") ≡ Err (fault 65 1)
+unfolding intake_on_literals
+defect_beside_a_task = refl
+
+defect_beside_an_airframe : release_with_lines (codes "[{\"defect\":\"X1\",\"tail\":\"D\"}]") ≡ Err (fault 65 1)
+unfolding intake_on_literals
+defect_beside_an_airframe = refl
+
+defect_beside_a_component : release_with_lines (codes "[{\"defect\":\"X1\",\"serial\":\"E1\"}]") ≡ Err (fault 65 1)
+unfolding intake_on_literals
+defect_beside_a_component = refl
+
+defect_beside_two_items : release_with_lines (codes "[{\"defect\":\"X1\",\"tail\":\"D\",\"serial\":\"E1\"}]") ≡ Err (fault 65 1)
+unfolding intake_on_literals
+defect_beside_two_items = refl
+
+defect_beside_a_task_and_a_note : release_with_lines (codes "[{\"defect\":\"X1\",\"task\":\"T\",\"note\":1}]") ≡ Err (fault 64 1)
+unfolding intake_on_literals
+defect_beside_a_task_and_a_note = refl
+
+defect_beside_an_unread_task : release_with_lines (codes "[{\"defect\":\"X1\",\"task\":\"\"}]") ≡ Err (fault 63 1)
+unfolding intake_on_literals
+defect_beside_an_unread_task = refl
+
+defect_beside_an_unread_airframe : release_with_lines (codes "[{\"defect\":\"X1\",\"tail\":\"d\"}]") ≡ Err (fault 63 1)
+unfolding intake_on_literals
+defect_beside_an_unread_airframe = refl
+
+defect_beside_an_unread_component : release_with_lines (codes "[{\"defect\":\"X1\",\"tail\":\"D\",\"serial\":\"\"}]") ≡ Err (fault 63 1)
+unfolding intake_on_literals
+defect_beside_an_unread_component = refl
 
 -- ── how many lines ──
 

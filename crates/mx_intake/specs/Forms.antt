@@ -1,4 +1,4 @@
--- The form of each command, that of a release aside: its keys, and how their values are read; and the form that a word chooses.
+-- The form of each command, those of releases and of defects aside: its keys, and how their values are read; and the form that a word chooses.
 use Rattle.std.specs.Prelude.{ℕ, List, [], ◌∷◌, codes, Bool, ◌&&◌, ◌||◌, Option, Some, None, is_some, option_map, option_and_then, Result, Err, if◌then◌else◌}
 use Rattle.std.specs.Str.{bytes_eq}
 use Rattle.serde_json.specs.Data.{Data, Items, no_items, item}
@@ -8,6 +8,7 @@ use Rattle.mx_command.specs.Act.{Entry, Added, Listed, Opened, Flown, Fitted, Re
 use Rattle.mx_command.specs.Shape.{sector_doc}
 use Rattle.mx_command.specs.declared.sector.Sector.{Sector}
 use Rattle.mx_intake.specs.declared.fault.TheConstants.{MISSING, BAD_VALUE}
+use Rattle.mx_intake.specs.Defects.{deferral_form, extension_form}
 use Rattle.mx_intake.specs.Form.{if_read, if_keys_agree, entry_by_form}
 use Rattle.mx_intake.specs.Items.{item_at_keys, lacks_item, names_two_items}
 use Rattle.mx_intake.specs.Object.{lacks_key, has_other_key, number_at_key, list_at_key, any_at_key}
@@ -208,6 +209,8 @@ entry_by_word word d =
     else if bytes_eq word (codes "fit") then fitting_form d
     else if bytes_eq word (codes "remove") then removal_form d
     else if bytes_eq word (codes "release") then release_form d
+    else if bytes_eq word (codes "defer") then deferral_form d
+    else if bytes_eq word (codes "extend") then extension_form d
     else Err BAD_VALUE
 
 -- the command by the text at `do`, if it is one

@@ -1,3 +1,4 @@
+pub mod Defects
 pub mod Entries
 pub mod Fault
 pub mod Form

@@ -4,7 +4,7 @@ use Rattle.serde_json.specs.Data.{Data, Items, no_items, item}
 use Rattle.serde_json.specs.Find.{get, as_object}
 use Rattle.mx_command.specs.Act.{Entry, Released}
 use Rattle.mx_command.specs.declared.release.Line.{Line}
-use Rattle.mx_command.specs.declared.release.Line.TheVariants.{Done}
+use Rattle.mx_command.specs.declared.release.Line.TheVariants.{Done, Rectified}
 use Rattle.mx_command.specs.declared.release.Place.{Place}
 use Rattle.mx_command.specs.declared.release.Place.TheVariants.{Aircraft, Shop}
 use Rattle.mx_intake.specs.Form.{if_read, if_keys_agree, entry_by_form}
@@ -53,22 +53,50 @@ place_at_keys d = if names_airframe d then aircraft_at_key d else shop_at_keys d
 
 -- the keys of a line
 abbrev pub line_keys : List (List ℕ)
-line_keys = codes "task" ∷ codes "tail" ∷ codes "serial" ∷ []
+line_keys = codes "task" ∷ codes "tail" ∷ codes "serial" ∷ codes "defect" ∷ []
 
--- a line that is an object lacks a key: its task, or that of its item
+-- a line names a defect
+abbrev pub names_defect : Data → Bool
+names_defect d = is_some (get (codes "defect") d)
+
+-- a line names a task
+abbrev pub names_task : Data → Bool
+names_task d = is_some (get (codes "task") d)
+
+-- a line that is an object lacks a key: it names no defect, and lacks a task or an item
 abbrev pub lacks_line_key : Data → Bool
-lacks_line_key d = is_some (as_object d) && (lacks_key (codes "task" ∷ []) d || lacks_item d)
+lacks_line_key d = is_some (as_object d) && (not (names_defect d) && (not (names_task d) || lacks_item d))
+
+-- beside a defect stands a key of a task that was done
+abbrev pub names_defect_and_task : Data → Bool
+names_defect_and_task d = names_defect d && (names_task d || not (lacks_item d))
+
+-- two keys of a line exclude each other
+abbrev pub line_keys_exclude : Data → Bool
+line_keys_exclude d = names_two_items d || names_defect_and_task d
 
 -- the test holds of one of the lines
 abbrev pub any_line : (Data → Bool) → Data → Bool
 any_line = any_at_key (codes "lines")
 
--- what a line states that was done
-abbrev pub stated_line : Data → Option Line
-stated_line d =
+-- the keys of a task that was done, as far as they are there, can be read
+abbrev pub is_task_readable : Data → Bool
+is_task_readable d = (lacks_item d || is_some (item_at_keys d)) && is_name_if_there (codes "task") d
+
+-- the defect that was rectified, where all that stands beside it can be read
+abbrev pub defect_at_key : Data → Option Line
+defect_at_key d = if is_task_readable d then option_map Rectified (document_at_key (codes "defect") d) else None
+
+-- the task that was done on an item
+abbrev pub task_at_keys : Data → Option Line
+task_at_keys d =
     if_read (item_at_keys d) (λ item.
     if_read (name_at_key (codes "task") d) (λ task.
     Some (Done item task)))
+
+-- what a line states: the defect that was rectified, or the task that was done
+abbrev pub stated_line : Data → Option Line
+stated_line d = if names_defect d then defect_at_key d else task_at_keys d
 
 -- the lines, where each can be read
 abbrev pub stated_lines : Items → Option (List Line)
@@ -100,7 +128,7 @@ has_other_release_key d = has_other_key release_keys d || any_line (has_other_ke
 
 -- two keys of the release exclude each other, or two of a line
 abbrev pub release_keys_exclude : Data → Bool
-release_keys_exclude d = names_two_places d || any_line names_two_items d
+release_keys_exclude d = names_two_places d || any_line line_keys_exclude d
 
 -- the release of these lines that an object states
 abbrev pub stated_release_with : Data → List Line → Option Entry

@@ -1,5 +1,5 @@
 -- What a table of TOML has at its keys.
-use Rattle.std.specs.Prelude.{ℕ, suc, ℤ, pos, negsuc, List, Bool, false, not, ◌||◌, Option, Some, None, is_some, option_map, option_and_then}
+use Rattle.std.specs.Prelude.{ℕ, suc, ℤ, pos, negsuc, List, Bool, false, not, ◌||◌, Option, None, is_some, option_and_then}
 use Rattle.std.specs.List.{list_any}
 use Rattle.toml.specs.Data.{Data, string, integer, float, boolean, datetime, array, table, Items, no_items, item, Members, no_members, member, get, as_str, as_integer, as_array}
 use Rattle.mx_base.specs.Identifier.{is_graphic}
@@ -33,11 +33,6 @@ if_small_integer (negsuc n) = None
 -- the number that a value is: whole, and from 0 up to below 2 ^ 32
 abbrev pub number_of : Data → Option ℕ
 number_of d = option_and_then if_small_integer (as_integer d)
-
--- what is read of a value that may be absent: nothing of one that is
-abbrev pub if_there : {A : Type 0} → (Data → Option A) → Option Data → Option (Option A)
-if_there read None = Some None
-if_there read (Some d) = option_map (λ a. Some a) (read d)
 
 -- the number at a key
 abbrev pub number_at_key : List ℕ → Data → Option ℕ

@@ -13,8 +13,8 @@ use Rattle.mx_command.specs.declared.programme.Applies.TheVariants.{Airframe, Pa
 use Rattle.mx_command.specs.declared.programme.Task.{Task}
 use Rattle.mx_intake.specs.declared.fault.TheConstants.{BAD_VALUE}
 use Rattle.mx_intake.specs.Form.{if_read, by_form}
-use Rattle.mx_intake.specs.Keys.{if_small}
-use Rattle.mx_intake.specs.Table.{lacks_key, has_other_key, number_of, if_there, text_at_key, name_at_key}
+use Rattle.mx_intake.specs.Keys.{if_small, if_there}
+use Rattle.mx_intake.specs.Table.{lacks_key, has_other_key, number_of, text_at_key, name_at_key}
 use Rattle.mx_intake.specs.Vocabulary.{identifier_of}
 
 -- ── limits ──

@@ -5,7 +5,7 @@ ghost use Rattle.mx_intake.specs.declared.fault.TheConstants.{MEMORY};
 ghost use Rattle.mx_intake.specs.Forms.{entry_by_word, entry_by_json};
 
 use crate::fault::{BAD_VALUE, MISSING};
-use crate::{aircraft, component, fitting, opening, release, removal, sector};
+use crate::{aircraft, component, deferral, extension, fitting, opening, release, removal, sector};
 use mx_command::Command;
 use serde_json::Value;
 use std::alloc::Global;
@@ -30,6 +30,10 @@ fn command_by_word(alloc: Global, word: &str, object: &Value) -> Result<Command,
         removal::command_of(alloc, object)
     } else if word == "release" {
         release::command_of(alloc, object)
+    } else if word == "defer" {
+        deferral::command_of(alloc, object)
+    } else if word == "extend" {
+        extension::command_of(alloc, object)
     } else {
         Err(BAD_VALUE)
     }

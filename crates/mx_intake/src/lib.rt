@@ -6,7 +6,10 @@
 #![tactic(auto)]
 
 mod aircraft;
+mod category;
 mod component;
+mod deferral;
+mod extension;
 mod fault;
 mod fitting;
 mod form;
@@ -16,6 +19,7 @@ mod items;
 mod json;
 mod keys;
 mod limits;
+mod line;
 mod lines;
 mod loading;
 mod object;

@@ -2,7 +2,7 @@
 ghost use Rattle.std.specs.Prelude.{◌≡◌, option_and_then};
 ghost use Rattle.toml.specs.Data.{get};
 ghost use Rattle.toml.specs.View.{view};
-ghost use Rattle.mx_intake.specs.Table.{if_there};
+ghost use Rattle.mx_intake.specs.Keys.{if_there};
 ghost use Rattle.mx_intake.specs.Tasks.{minutes_of_hours, minutes_of, limit_of_table, limit_of, tolerance_of, limit_has_other_key, has_other_limit_key};
 
 use crate::table::{has_other, number_if_there, number_of};

@@ -1,23 +1,14 @@
 //! The lines of a release, a list of objects.
 ghost use Rattle.std.specs.Prelude.{◌≡◌, IfOk, option_map};
 ghost use Rattle.serde_json.specs.View.{view, items_view};
-ghost use Rattle.mx_intake.specs.Items.{names_two_items};
 ghost use Rattle.mx_intake.specs.Object.{any_item, has_other_key};
-ghost use Rattle.mx_intake.specs.Release.{line_keys, lacks_line_key, any_line, stated_line, stated_lines, lines_at_key};
+ghost use Rattle.mx_intake.specs.Release.{line_keys, lacks_line_key, line_keys_exclude, any_line, stated_lines, lines_at_key};
 
-use crate::items::{item_at, lacks_item, names_two_items};
-use crate::object::{lacks, list_at, one_has_other};
-use crate::vocabulary::identifier_at;
+use crate::line::{keys_exclude, lacks_key, line_of};
+use crate::object::{list_at, one_has_other};
 use mx_command::{Item, Line};
 use serde_json::Value;
 use std::alloc::{AllocError, Global};
-
-/// Whether a line, if it is an object, lacks a key.
-fn lacks_key(line: &Value) -> bool
-    ensures { result ≡ lacks_line_key (view line.now) }
-{
-    line.is_object() && (lacks(line, &["task"]) || lacks_item(line))
-}
 
 fn one_lacks_key(lines: &[Value]) -> bool
     ensures { result ≡ any_item lacks_line_key (items_view lines.now) }
@@ -45,39 +36,30 @@ pub(crate) fn have_other_key(object: &Value) -> bool
     ensures { result ≡ any_line (has_other_key line_keys) (view object.now) }
 {
     match list_at(object, "lines") {
-        Some(lines) => one_has_other(lines, &["task", "tail", "serial"]),
+        Some(lines) => one_has_other(lines, &["task", "tail", "serial", "defect"]),
         None => false,
     }
 }
 
-fn one_names_two(lines: &[Value]) -> bool
-    ensures { result ≡ any_item names_two_items (items_view lines.now) }
+fn keys_of_one_exclude(lines: &[Value]) -> bool
+    ensures { result ≡ any_item line_keys_exclude (items_view lines.now) }
 {
     for line in lines {
-        if names_two_items(line) {
+        if keys_exclude(line) {
             return true;
         }
     }
     false
 }
 
-/// Whether one of the lines of an object names two items.
-pub(crate) fn name_two(object: &Value) -> bool
-    ensures { result ≡ any_line names_two_items (view object.now) }
+/// Whether two keys of one of the lines of an object exclude each other.
+pub(crate) fn have_excluding_keys(object: &Value) -> bool
+    ensures { result ≡ any_line line_keys_exclude (view object.now) }
 {
     match list_at(object, "lines") {
-        Some(lines) => one_names_two(lines),
+        Some(lines) => keys_of_one_exclude(lines),
         None => false,
     }
-}
-
-/// What a line states that was done.
-fn line_of(value: &Value) -> Option<Line>
-    ensures { result ≡ stated_line (view value.now) }
-{
-    let item = item_at(value)?;
-    let task = identifier_at(value, "task")?;
-    Some(Line::Done(item, task))
 }
 
 fn lines_of(alloc: Global, values: &[Value]) -> Result<Option<Vec<Line>>, AllocError>

@@ -2,7 +2,8 @@
 ghost use Rattle.std.specs.Prelude.{◌≡◌, map, is_some, option_map};
 ghost use Rattle.serde_json.specs.Find.{get};
 ghost use Rattle.serde_json.specs.View.{view, items_view};
-ghost use Rattle.mx_intake.specs.Object.{lacks_key, has_other_key, number_at_key, text_at_key, list_at_key, any_item};
+ghost use Rattle.mx_intake.specs.Keys.{if_there};
+ghost use Rattle.mx_intake.specs.Object.{lacks_key, has_other_key, number_of, number_at_key, text_at_key, list_at_key, any_item};
 
 use crate::keys::is_one_of;
 use serde_json::Value;
@@ -54,12 +55,29 @@ pub(crate) fn one_has_other(values: &[Value], keys: &[&str]) -> bool
     false
 }
 
-/// The whole number at a key, up to 4,294,967,295.
+/// The whole number that a value is, up to 4,294,967,295.
+fn number_of(value: &Value) -> Option<u32>
+    ensures { result ≡ number_of (view value.now) }
+{
+    let number = value.as_u64()?;
+    u32::try_from(number).ok()
+}
+
+/// The whole number at a key.
 pub(crate) fn number_at(object: &Value, key: &str) -> Option<u32>
     ensures { result ≡ number_at_key key.now (view object.now) }
 {
-    let number = object.get(key)?.as_u64()?;
-    u32::try_from(number).ok()
+    number_of(object.get(key)?)
+}
+
+/// The whole number at a key that may be absent.
+pub(crate) fn number_if_there(object: &Value, key: &str) -> Option<Option<u32>>
+    ensures { result ≡ if_there number_of (get key.now (view object.now)) }
+{
+    match object.get(key) {
+        Some(value) => Some(Some(number_of(value)?)),
+        None => Some(None),
+    }
 }
 
 /// The text at a key.

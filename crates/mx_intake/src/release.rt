@@ -7,7 +7,7 @@ ghost use Rattle.mx_intake.specs.Release.{lacks_release_key, has_other_release_k
 
 use crate::fault::MEMORY;
 use crate::form::command_if_keys_agree;
-use crate::lines::{have_other_key, lack_key, lines_at, name_two};
+use crate::lines::{have_excluding_keys, have_other_key, lack_key, lines_at};
 use crate::object::{has_other, lacks};
 use crate::places::{lacks_place, names_two_places, place_at};
 use crate::vocabulary::{identifier_at, moment_at};
@@ -36,7 +36,7 @@ fn has_other_key(object: &Value) -> bool
 fn keys_exclude(object: &Value) -> bool
     ensures { result ≡ release_keys_exclude (view object.now) }
 {
-    names_two_places(object) || name_two(object)
+    names_two_places(object) || have_excluding_keys(object)
 }
 
 /// The release that an object states, where every value can be read.

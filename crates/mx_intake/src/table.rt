@@ -2,7 +2,8 @@
 ghost use Rattle.std.specs.Prelude.{◌≡◌, map, is_some, option_map, option_and_then};
 ghost use Rattle.toml.specs.Data.{get, as_bool};
 ghost use Rattle.toml.specs.View.{view, items_view};
-ghost use Rattle.mx_intake.specs.Table.{lacks_key, has_other_key, number_of, if_there, number_at_key, text_at_key, list_at_key};
+ghost use Rattle.mx_intake.specs.Keys.{if_there};
+ghost use Rattle.mx_intake.specs.Table.{lacks_key, has_other_key, number_of, number_at_key, text_at_key, list_at_key};
 ghost use Rattle.mx_intake.specs.Vocabulary.{identifier_of};
 
 use crate::keys::is_one_of;
