@@ -1,4 +1,5 @@
 pub mod NumberLemmas
+pub mod QuestionLemmas
 pub mod RunLemmas
 pub mod TrialLemmas
 mod WorkedTrial

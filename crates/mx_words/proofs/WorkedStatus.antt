@@ -10,7 +10,8 @@ use Rattle.mx_book.specs.declared.verdict.Reply.TheVariants.{Accepted, Already}
 use Rattle.mx_book.specs.declared.verdict.Reply.TheVariants as reply
 use Rattle.mx_words.specs.declared.fault.Ending.TheVariants.{Done, Refused}
 use Rattle.mx_words.specs.declared.fault.Stop.TheVariants.{Words, Shape, Intake, MakeMemory, Create, Open, Office, Print}
-use Rattle.mx_words.specs.Printed.{life_answer, life_ending, due_answer, due_ending}
+use Rattle.mx_words.specs.Printed.{list_answer, list_ending}
+use Rattle.mx_words.specs.declared.question.Report.TheVariants as report
 use Rattle.mx_base.specs.Calendar.{date_of}
 use Rattle.mx_base.specs.Texts.{day_text}
 use Rattle.mx_words.specs.Status.{stop_status, ending_status, graver, is_refusal, run_ending}
@@ -53,36 +54,34 @@ last_refused : run_ending (Accepted 1 ∷ reply.Refused Full ∷ []) ≡ Refused
 last_refused = refl
 
 -- a question about an aircraft that is there, and about one that is not
-known : life_answer (Some (record { tail = codes "D-ABCD"; kind = codes "TRY"; life = record { minutes = 60090; cycles = 801 }; parts = [] }))
+known : list_answer (Some (report.Life (record { tail = codes "D-ABCD"; kind = codes "TRY"; life = record { minutes = 60090; cycles = 801 }; parts = [] })))
     ≡ codes "life D-ABCD\nairframe TRY 1001:30 801\nend 1\n"
 unfolding digits
 known = refl
 
-known_ending : life_ending (Some (record { tail = codes "D-ABCD"; kind = codes "TRY"; life = record { minutes = 60090; cycles = 801 }; parts = [] })) ≡ Done
+known_ending : list_ending (Some (report.Life (record { tail = codes "D-ABCD"; kind = codes "TRY"; life = record { minutes = 60090; cycles = 801 }; parts = [] }))) ≡ Done
 known_ending = refl
 
-unknown : life_answer None ≡ codes "refused 20\n"
+unknown : list_answer None ≡ codes "refused 20\n"
 unfolding digits
 unknown = refl
 
-unknown_ending : life_ending None ≡ Refused
+unknown_ending : list_ending None ≡ Refused
 unknown_ending = refl
 
--- what is due on an aircraft that is there, and on one that is not
-due : due_answer (Some (record { tail = codes "D-ABCD"; day = 19792; life = record { minutes = 60090; cycles = 801 }; rows = [] }))
+-- what is due on one
+due : list_answer (Some (report.Due (record { tail = codes "D-ABCD"; day = 19792; life = record { minutes = 60090; cycles = 801 }; rows = [] })))
     ≡ codes "due D-ABCD 2024-03-10 1001:30 801\nend 0\n"
 unfolding digits day_text date_of
 due = refl
 
-due_ends : due_ending (Some (record { tail = codes "D-ABCD"; day = 19792; life = record { minutes = 60090; cycles = 801 }; rows = [] })) ≡ Done
+due_ends : list_ending (Some (report.Due (record { tail = codes "D-ABCD"; day = 19792; life = record { minutes = 60090; cycles = 801 }; rows = [] }))) ≡ Done
 due_ends = refl
 
-due_unknown : due_answer None ≡ codes "refused 20\n"
-unfolding digits
-due_unknown = refl
-
-due_unknown_ends : due_ending None ≡ Refused
-due_unknown_ends = refl
+-- the last days of the defects of one
+limits : list_answer (Some (report.Limits (record { tail = codes "D-ABCD"; day = 19792; rows = [] }))) ≡ codes "limits D-ABCD 2024-03-10\nend 0\n"
+unfolding digits day_text date_of
+limits = refl
 
 -- the statuses of endings, and the graver of two
 endings : map ending_status (Done ∷ Refused ∷ []) ≡ 0 ∷ 1 ∷ []

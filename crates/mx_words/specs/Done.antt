@@ -5,10 +5,10 @@ use Rattle.clap.specs.Values.{kind_of}
 use Rattle.clap.specs.declared.error.Error.{Error}
 use Rattle.clap.specs.declared.error.kind.ErrorKind.TheVariants.{DisplayHelp, DisplayVersion}
 use Rattle.mx_words.specs.Entered.{AreReplyLines}
-use Rattle.mx_words.specs.Printed.{IsDueAnswer, IsLifeAnswer}
+use Rattle.mx_words.specs.Printed.{IsListAnswer}
 use Rattle.mx_words.specs.Trial.{is_trial_shaped, trial_commands, TellsTrial}
 use Rattle.mx_words.specs.declared.command_line.Words.{Words}
-use Rattle.mx_words.specs.declared.command_line.Words.TheVariants.{Try, Init, Life, Due, Enter, Programme}
+use Rattle.mx_words.specs.declared.command_line.Words.TheVariants.{Try, Init, List as ForList, Enter, Programme}
 use Rattle.mx_words.specs.declared.fault.Ending.{Ending}
 use Rattle.mx_words.specs.declared.fault.Ending.TheVariants.{Done}
 
@@ -16,8 +16,7 @@ use Rattle.mx_words.specs.declared.fault.Ending.TheVariants.{Done}
 abbrev pub IsDone : Words → List ℕ → Ending → Type 0
 IsDone (Try trial) text ending = TellsTrial [] (trial_commands trial) trial.tail [] text ending
 IsDone (Init file) text ending = (ending ≡ Done) × (text ≡ codes "created\n")
-IsDone (Life file tail) text ending = IsLifeAnswer text ending
-IsDone (Due file tail day) text ending = IsDueAnswer text ending
+IsDone (ForList file question) text ending = IsListAnswer question text ending
 IsDone (Enter file entries) text ending = (count : ℕ) × AreReplyLines count text ending
 IsDone (Programme file doc toml) text ending = AreReplyLines 1 text ending
 

@@ -4,5 +4,6 @@ pub mod Entered
 pub mod FaultLine
 pub mod Number
 pub mod Printed
+pub mod Question
 pub mod Status
 pub mod Trial

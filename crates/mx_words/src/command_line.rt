@@ -6,6 +6,7 @@ ghost use Rattle.std.specs.Char.{is_ascii_digit};
 ghost use Rattle.std.specs.List.{list_all};
 ghost use Rattle.mx_words.specs.Number.{number_in};
 
+use crate::question::Question;
 use crate::trial::Trial;
 use clap::{Arg, ArgAction, ArgMatches, Command};
 use mx_base::{Day, Doc, Moment, Tail};
@@ -18,14 +19,9 @@ pub(crate) enum Words<'a> {
     Init {
         file: &'a str,
     },
-    Life {
+    List {
         file: &'a str,
-        tail: Tail,
-    },
-    Due {
-        file: &'a str,
-        tail: Tail,
-        day: Day,
+        question: Question,
     },
     Enter {
         file: &'a str,
@@ -90,6 +86,16 @@ fn due_command<'a>(alloc: Global) -> Result<Command<'a>, AllocError> {
         .arg(value(alloc, "DAY", "The day, YYYY-MM-DD"))
 }
 
+fn limits_command<'a>(alloc: Global) -> Result<Command<'a>, AllocError> {
+    Command::new(alloc, "limits")
+        .about(
+            "Prints the last day of each open defect of an aircraft, and what is left until then on a day",
+        )
+        .arg(value(alloc, "FILE", "The database file"))?
+        .arg(value(alloc, "TAIL", "The registration"))?
+        .arg(value(alloc, "DAY", "The day, YYYY-MM-DD"))
+}
+
 fn enter_command<'a>(alloc: Global) -> Result<Command<'a>, AllocError> {
     Command::new(alloc, "enter")
         .about("Enters the commands of a file, and prints a reply for each")
@@ -122,6 +128,7 @@ pub(crate) fn command<'a>(alloc: Global) -> Result<Command<'a>, AllocError> {
         .subcommand(init_command(alloc)?)?
         .subcommand(life_command(alloc)?)?
         .subcommand(due_command(alloc)?)?
+        .subcommand(limits_command(alloc)?)?
         .subcommand(enter_command(alloc)?)?
         .subcommand(programme_command(alloc)?)
 }
@@ -165,12 +172,19 @@ fn trial_of(matches: &ArgMatches<'_>) -> Option<Trial> {
     })
 }
 
-fn due_of<'a>(matches: &ArgMatches<'a>) -> Option<Words<'a>> {
-    Some(Words::Due {
-        file: matches.get_str("FILE")?,
-        tail: tail_of(matches)?,
-        day: Day::read(matches.get_str("DAY")?).ok()?,
-    })
+fn day_of(matches: &ArgMatches<'_>) -> Option<Day> {
+    Day::read(matches.get_str("DAY")?).ok()
+}
+
+// The question that the words for a list ask.
+fn question_of(name: &str, matches: &ArgMatches<'_>) -> Option<Question> {
+    let tail = tail_of(matches)?;
+    match name {
+        "life" => Some(Question::Life(tail)),
+        "due" => Some(Question::Due(tail, day_of(matches)?)),
+        "limits" => Some(Question::Limits(tail, day_of(matches)?)),
+        _ => None,
+    }
 }
 
 fn programme_of<'a>(matches: &ArgMatches<'a>) -> Option<Words<'a>> {
@@ -189,16 +203,14 @@ pub(crate) fn words_of<'a>(matches: &ArgMatches<'a>) -> Option<Words<'a>> {
         "init" => Some(Words::Init {
             file: values.get_str("FILE")?,
         }),
-        "life" => Some(Words::Life {
-            file: values.get_str("FILE")?,
-            tail: tail_of(values)?,
-        }),
-        "due" => due_of(values),
         "enter" => Some(Words::Enter {
             file: values.get_str("FILE")?,
             entries: values.get_str("ENTRIES")?,
         }),
         "programme" => programme_of(values),
-        _ => None,
+        list => Some(Words::List {
+            file: values.get_str("FILE")?,
+            question: question_of(list, values)?,
+        }),
     }
 }

@@ -4,15 +4,16 @@ ghost use Rattle.std.specs.Prelude.{◌≡◌, ◌↔◌, ◌⊎◌, ◌+◌, �
 ghost use Rattle.std.specs.Vec.{vec_capacity};
 ghost use Rattle.mx_words.specs.Asked.{IsAnswer};
 ghost use Rattle.mx_words.specs.Entered.{AreReplyLines};
-ghost use Rattle.mx_words.specs.Printed.{IsDueAnswer, IsLifeAnswer};
+ghost use Rattle.mx_words.specs.Printed.{IsListAnswer};
 ghost use Rattle.mx_words.specs.Status.{stop_status};
 
-use crate::due::print_due;
 use crate::entering::enter_all;
 use crate::fault::{Ending, Stop};
-use crate::life::{open, print_life};
+use crate::listing::print_list;
 use crate::making::{CREATED, make_book};
-use mx_base::{Day, Doc, Tail};
+use crate::opening::open;
+use crate::question::Question;
+use mx_base::Doc;
 use mx_command::Command;
 use mx_intake::{IntakeFault, MOST_BYTES, READ_FAILED, commands_of_json, programme_of, read_all};
 use mx_layout::TableFault;
@@ -65,20 +66,11 @@ fn made_in<S: Alter + Drop>(
     Ok(conn)
 }
 
-/// An aircraft, and the day that its due list is for.
-#[derive(Clone, Copy)]
-pub(crate) struct OnDay {
-    tail: Tail,
-    day: Day,
-}
-
 /// What is asked of the office in a file.
 #[derive(Clone, Copy)]
 pub(crate) enum Asked<'a> {
-    /// The life of an aircraft.
-    Life(&'a Tail),
-    /// The due list of an aircraft on a day.
-    Due(&'a OnDay),
+    /// A list of an aircraft.
+    List(&'a Question),
     /// The replies to commands, which are entered.
     Enter(&'a [Command]),
 }
@@ -95,8 +87,7 @@ fn answer<S: Alter>(
     ensures status { IfErr result (λ stop. stop_status stop ≡ 4) }
 {
     match asked {
-        Asked::Life(tail) => print_life(alloc, office, tail, out),
-        Asked::Due(on) => print_due(alloc, office, &on.tail, on.day, out),
+        Asked::List(question) => print_list(alloc, office, question, out),
         Asked::Enter(commands) => enter_all(alloc, office, commands, out),
     }
 }
@@ -169,34 +160,18 @@ fn answer_file(
     answered
 }
 
-/// Appends the life of an aircraft.
-pub(crate) fn life(
+/// Appends the list of an aircraft that a question asks for.
+pub(crate) fn list(
     rt: &HostRuntime,
     file: &str,
-    tail: &Tail,
+    question: &Question,
     out: &mut Vec<u8>,
 ) -> Result<Ending, Stop>
     ensures shown { IfOk result (λ ending. (text : _) × (out.new.items ≡ out.old.items ++ text)
-        × IsLifeAnswer text ending) }
+        × IsListAnswer question.now text ending) }
     ensures status { IfErr result (λ stop. 4 ≤ stop_status stop) }
 {
-    answer_file(rt, file, Asked::Life(tail), out)
-}
-
-/// Appends the due list of an aircraft on a day.
-pub(crate) fn due(
-    rt: &HostRuntime,
-    file: &str,
-    tail: &Tail,
-    day: Day,
-    out: &mut Vec<u8>,
-) -> Result<Ending, Stop>
-    ensures shown { IfOk result (λ ending. (text : _) × (out.new.items ≡ out.old.items ++ text)
-        × IsDueAnswer text ending) }
-    ensures status { IfErr result (λ stop. 4 ≤ stop_status stop) }
-{
-    let on = OnDay { tail: *tail, day };
-    answer_file(rt, file, Asked::Due(&on), out)
+    answer_file(rt, file, Asked::List(question), out)
 }
 
 // The bytes of an input file.

@@ -5,13 +5,14 @@
 #![tactic(auto)]
 
 mod command_line;
-mod due;
 mod entering;
 mod fault;
 mod files;
-mod life;
+mod listing;
 mod making;
+mod opening;
 mod printing;
+mod question;
 pub mod run;
 mod trial;
 

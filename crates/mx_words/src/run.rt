@@ -6,7 +6,7 @@ ghost use Rattle.mx_words.specs.Status.{stop_status};
 
 use crate::command_line::{Words, command, words_of};
 use crate::fault::{Ending, Stop};
-use crate::files::{due, enter, init, life, programme};
+use crate::files::{enter, init, list, programme};
 use crate::printing::{print_done, print_usage};
 use crate::trial::try_out;
 use clap::ArgMatches;
@@ -25,8 +25,7 @@ fn perform(rt: &HostRuntime, words: &Words<'_>, out: &mut Vec<u8>) -> Result<End
     match words {
         Words::Try(trial) => try_out(rt.alloc(), trial, out),
         Words::Init { file } => init(rt, file, out),
-        Words::Life { file, tail } => life(rt, file, tail, out),
-        Words::Due { file, tail, day } => due(rt, file, tail, *day, out),
+        Words::List { file, question } => list(rt, file, question, out),
         Words::Enter { file, entries } => enter(rt, file, entries, out),
         Words::Programme { file, doc, toml } => programme(rt, file, *doc, toml, out),
     }

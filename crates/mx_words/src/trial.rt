@@ -10,7 +10,9 @@ ghost use Rattle.mx_words.specs.Trial.{TellsTrial, trial_aircraft, trial_sector,
 
 use crate::entering::enter_all;
 use crate::fault::{Ending, Stop};
-use crate::life::{open, print_life};
+use crate::listing::print_list;
+use crate::opening::open;
+use crate::question::Question;
 use mx_base::{Day, Doc, Kind, Moment, Tail, Use};
 use mx_command::{Body, Command, MakeFault};
 use mx_layout::{Layout, create};
@@ -140,7 +142,7 @@ fn try_commands<S: Alter>(
     ensures status { IfErr result (λ stop. stop_status stop ≡ 4) }
 {
     let entered = enter_all(alloc, office, commands, out)?;
-    let asked = print_life(alloc, office, tail, out)?;
+    let asked = print_list(alloc, office, &Question::Life(*tail), out)?;
     Ok(entered.or(asked))
 }
 

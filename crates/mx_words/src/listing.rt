@@ -1,43 +1,67 @@
-//! `due` over an open office: the due list of an aircraft.
+//! The list that an open office answers with, as text.
 ghost use Rattle.std.specs.Prelude.{◌≡◌, ◌≢◌, ◌++◌, false, true, OnOk, OnErr, IfOk, IfErr};
 ghost use Rattle.sqlite.specs.Held.{state};
 ghost use Rattle.sqlite.specs.State.{HasCleanDisk};
 ghost use Rattle.mx_layout.specs.Crash.{ChangesNothing};
 ghost use Rattle.mx_kept.specs.Schemas.{HasOwn1};
 ghost use Rattle.mx_office.specs.Stands.{HoldsBook, IsReasonFor, Rests};
-ghost use Rattle.mx_reports.specs.DueText.{due_lines};
-ghost use Rattle.mx_words.specs.Printed.{IsDueAnswer, TellsDue};
+ghost use Rattle.mx_reports.specs.ReplyText.{reply_line};
+ghost use Rattle.mx_words.specs.Question.{report_lines};
+ghost use Rattle.mx_words.specs.Printed.{IsListAnswer, Tells};
 ghost use Rattle.mx_words.specs.Status.{stop_status};
 
 use crate::fault::{Ending, Stop};
-use crate::life::append_refusal;
-use mx_base::{Day, Tail};
-use mx_book::DueList;
+use crate::question::{Question, Report, ask};
+use mx_book::{Refusal, Reply};
 use mx_office::{Ask, Fault, Office};
-use mx_reports::due_text;
+use mx_reports::{due_text, life_text, limits_text, reply_text};
 use sqlite::Alter;
-use std::alloc::Global;
+use std::alloc::{AllocError, Global};
 
-// Appends a due list.
-fn append_list(out: &mut Vec<u8>, list: &DueList) -> Result<Ending, Stop>
-    ensures printed { OnOk result (out.new.items ≡ out.old.items ++ due_lines list.now) }
+// Appends the text of a list, or leaves the vector as it was.
+fn report_text(out: &mut Vec<u8>, report: &Report) -> Result<(), AllocError>
+    ensures printed { OnOk result (out.new.items ≡ out.old.items ++ report_lines report.now) }
+    ensures unprinted { OnErr result (out.new.items ≡ out.old.items) }
+{
+    match report {
+        Report::Life(list) => life_text(out, list),
+        Report::Due(list) => due_text(out, list),
+        Report::Limits(list) => limits_text(out, list),
+    }
+}
+
+// Appends a list.
+fn append_report(out: &mut Vec<u8>, report: &Report) -> Result<Ending, Stop>
+    ensures printed { OnOk result (out.new.items ≡ out.old.items ++ report_lines report.now) }
     ensures ending { IfOk result (λ ending. ending ≡ Ending.Done) }
     ensures unprinted { OnErr result (out.new.items ≡ out.old.items) }
     ensures memory { IfErr result (λ stop. stop ≡ Stop.Print) }
 {
-    match due_text(out, list) {
+    match report_text(out, report) {
         Ok(()) => Ok(Ending::Done),
         Err(_) => Err(Stop::Print),
     }
 }
 
-/// Appends the due list of an aircraft on a day, or `refused 20` where the registration is unknown. No
-/// table changes.
-pub(crate) fn print_due<S: Alter>(
+// Appends a refusal.
+fn append_refusal(out: &mut Vec<u8>, refusal: Refusal) -> Result<Ending, Stop>
+    ensures printed { OnOk result (out.new.items ≡ out.old.items ++ reply_line (Reply.Refused
+        refusal)) }
+    ensures ending { IfOk result (λ ending. ending ≡ Ending.Refused) }
+    ensures unprinted { OnErr result (out.new.items ≡ out.old.items) }
+    ensures memory { IfErr result (λ stop. stop ≡ Stop.Print) }
+{
+    match reply_text(out, &Reply::Refused(refusal)) {
+        Ok(()) => Ok(Ending::Refused),
+        Err(_) => Err(Stop::Print),
+    }
+}
+
+/// Appends the list that answers a question, or `refused 20` where the registration is unknown. No table changes.
+pub(crate) fn print_list<S: Alter>(
     alloc: Global,
     office: &mut Office<S>,
-    tail: &Tail,
-    day: Day,
+    question: &Question,
     out: &mut Vec<u8>,
 ) -> Result<Ending, Stop>
     // What is printed: of the book that the tables stand for, of whichever book has their rows, and
@@ -45,14 +69,14 @@ pub(crate) fn print_due<S: Alter>(
     ensures exact { (book : _) → office.old.needs_reopen ≡ false
         → Rests (state S.Store office.old.conn) book
         → HasCleanDisk (state S.Store office.new.conn)
-        → IfOk result (TellsDue book tail.now day out.old.items out.new.items) }
+        → IfOk result (Tells question.now book out.old.items out.new.items) }
     ensures sound { HasCleanDisk (state S.Store office.new.conn)
         → HasOwn1 (state S.Store office.old.conn).now.schema
         → IfOk result (λ ending. (book : _)
         × HoldsBook (state S.Store office.old.conn).now.trees book
-        × TellsDue book tail.now day out.old.items out.new.items ending) }
+        × Tells question.now book out.old.items out.new.items ending) }
     ensures shown { IfOk result (λ ending. (text : _) × (out.new.items ≡ out.old.items ++ text)
-        × IsDueAnswer text ending) }
+        × IsListAnswer question.now text ending) }
     ensures unprinted { OnErr result (out.new.items ≡ out.old.items) }
 
     // What becomes of the tables, and why there is no answer.
@@ -71,8 +95,8 @@ pub(crate) fn print_due<S: Alter>(
         → office.new.needs_reopen ≡ false }
     ensures stopped { result ≡ Err (Stop.Office Fault.Store) → office.new.needs_reopen ≡ true }
 {
-    match office.due_rows(alloc, *tail, day) {
-        Ok(list) => append_list(out, &list),
+    match ask(alloc, office, question) {
+        Ok(report) => append_report(out, &report),
         Err(Ask::Refused(refusal)) => append_refusal(out, refusal),
         Err(Ask::Failed(fault)) => Err(Stop::Office(fault)),
     }

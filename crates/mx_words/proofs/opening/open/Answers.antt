@@ -1,6 +1,6 @@
 use Rattle.std.proofs.Common.{ap, refl, inl, inr}
 use Rattle.mx_words.specs.declared.fault.Stop.TheVariants.{Open}
-use Rattle.mx_words.proofs.life.open.Goals as goal
+use Rattle.mx_words.proofs.opening.open.Goals as goal
 
 pub returns-clause-exact : goal.returns-clause-exact
 returns-clause-exact g c = λ p holds fits. (c.in-Err.field-0-0, λ clean. (c.in-Err.fault, refl, c.in-Err.ensures.exact p holds fits clean))
