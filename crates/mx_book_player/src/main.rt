@@ -1,14 +1,17 @@
 //! Plays files of cases on a book in memory: commands that are handed in, and questions on commands, books,
-//! what is due, registers, days, moments and identifiers. The files say in their first lines what each shows.
+//! what is due, deferred defects, registers, days, moments and identifiers. The files say in their first lines what
+//! each shows.
 #![tactic(auto)]
 
 mod books;
 mod calendar;
 mod commands;
+mod defects;
 mod dues;
 mod identifiers;
 mod player;
 mod registers;
+mod row_texts;
 mod rows;
 mod shown;
 mod tasks;

@@ -1,18 +1,20 @@
 //! Questions on the registers of the book: their rows, and the book that rows give again.
 
 use crate::books::{are_same, first_other};
-use crate::rows::{
-    aircraft_text, components_text, entries_text, fittings_text, openings_text, places_text,
-    programmes_text, release_lines_text, releases_text, removals_text, rows_of, sectors_text,
-    tasks_text,
+use crate::row_texts::{
+    aircraft_text, components_text, deferrals_text, entries_text, extensions_text, fittings_text,
+    openings_text, places_text, programmes_text, release_lines_text, releases_text, removals_text,
+    sectors_text, tasks_text,
 };
+use crate::rows::rows_of;
 use crate::shown::command_text;
-use mx_base::{Moment, Part, Position, Serial, Tail};
+use mx_base::{Doc, Moment, Part, Position, Serial, Tail};
 use mx_book::Book;
 use mx_cases::{Unmade, append_word, number_text};
 use mx_register::merge::{Registers, merge};
 use mx_register::{
-    PlaceRow, RemovalRow, seq_of_serial, seq_of_tail, serial_of_component, tail_of_aircraft,
+    PlaceRow, RemovalRow, document_of_defect, seq_of_defect, seq_of_serial, seq_of_tail,
+    serial_of_component, tail_of_aircraft,
 };
 use std::alloc::Global;
 
@@ -55,6 +57,8 @@ fn keep_first(rows: &mut Registers, table: &str, count: usize) -> Result<(), Unm
         "removals" => rows.removals.truncate(count),
         "releases" => rows.releases.truncate(count),
         "release-lines" => rows.release_lines.truncate(count),
+        "deferrals" => rows.deferrals.truncate(count),
+        "extensions" => rows.extensions.truncate(count),
         _ => return Err(Unmade::NoSuchLine),
     }
     Ok(())
@@ -141,6 +145,8 @@ fn rows(alloc: Global, book: &Book, table: &str) -> Result<String, Unmade> {
         "removals" => removals_text(alloc, rows.removals.as_slice()),
         "releases" => releases_text(alloc, rows.releases.as_slice()),
         "release-lines" => release_lines_text(alloc, rows.release_lines.as_slice()),
+        "deferrals" => deferrals_text(alloc, rows.deferrals.as_slice()),
+        "extensions" => extensions_text(alloc, rows.extensions.as_slice()),
         _ => return Err(Unmade::NoSuchLine),
     };
     Ok(text?)
@@ -170,15 +176,25 @@ fn component_of(alloc: Global, book: &Book, seq: &str) -> Result<String, Unmade>
     }
 }
 
-// The answer to a question on which entry added something, or `None` where it is none.
+// defect-of SEQ: the document of the defect that an entry deferred.
+fn defect_of(alloc: Global, book: &Book, seq: &str) -> Result<String, Unmade> {
+    match document_of_defect(book, seq.parse::<u32>()?) {
+        Some(doc) => Ok(String::from_str(alloc, doc.as_str())?),
+        None => Ok(String::from_str(alloc, "none")?),
+    }
+}
+
+// The answer to a question on which entry added or deferred something, or `None` where it is none.
 fn answer_on_names(alloc: Global, book: &Book, words: &[&str]) -> Result<Option<String>, Unmade> {
     let answer = match words {
         ["number-of-aircraft", tail] => number(alloc, seq_of_tail(book, &Tail::read(tail)?)),
         ["number-of-component", serial] => {
             number(alloc, seq_of_serial(book, &Serial::read(serial)?))
         }
+        ["number-of-defect", doc] => number(alloc, seq_of_defect(book, &Doc::read(doc)?)),
         ["aircraft-of", seq] => aircraft_of(alloc, book, seq),
         ["component-of", seq] => component_of(alloc, book, seq),
+        ["defect-of", seq] => defect_of(alloc, book, seq),
         _ => return Ok(None),
     };
     Ok(Some(answer?))

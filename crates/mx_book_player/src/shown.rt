@@ -5,8 +5,8 @@ use crate::tasks::append_task;
 use mx_base::{Day, Moment, Part, Position, Use};
 use mx_cases::{append_number, append_word};
 use mx_command::{
-    Aircraft, Command, Component, Fitting, Item, Line, Opening, Place, Programme, Release, Removal,
-    Sector,
+    Aircraft, Category, Command, Component, Deferral, Extension, Fitting, Item, Line, Opening,
+    Place, Programme, Release, Removal, Sector,
 };
 use std::alloc::{AllocError, Global};
 
@@ -152,7 +152,7 @@ fn append_release(text: &mut String, release: &Release) -> Result<(), AllocError
     append_moment(text, release.moment)
 }
 
-// Appends a line of a release: airframe:TAIL=TASK, or component:SERIAL=TASK.
+// Appends a line of a release: airframe:TAIL=TASK, component:SERIAL=TASK or defect:DOC.
 fn append_line(text: &mut String, line: &Line) -> Result<(), AllocError> {
     match line {
         Line::Done(item, task) => {
@@ -163,7 +163,43 @@ fn append_line(text: &mut String, line: &Line) -> Result<(), AllocError> {
             let task = task.as_str();
             write!(text, " {kind}:{name}={task}")
         }
+        Line::Rectified(doc) => {
+            let doc = doc.as_str();
+            write!(text, " defect:{doc}")
+        }
     }
+}
+
+/// Appends a category: A DAYS, B, C or D.
+pub fn append_category(text: &mut String, category: &Category) -> Result<(), AllocError> {
+    match category {
+        Category::A(days) => {
+            append_word(text, "A")?;
+            append_number(text, *days)
+        }
+        Category::B => append_word(text, "B"),
+        Category::C => append_word(text, "C"),
+        Category::D => append_word(text, "D"),
+    }
+}
+
+fn append_deferral(text: &mut String, deferral: &Deferral) -> Result<(), AllocError> {
+    append_word(text, "defer")?;
+    append_word(text, deferral.tail.as_str())?;
+    append_moment(text, deferral.moment)?;
+    append_word(text, deferral.reference.as_str())?;
+    append_category(text, &deferral.category)
+}
+
+fn append_extension(
+    alloc: Global,
+    text: &mut String,
+    extension: &Extension,
+) -> Result<(), AllocError> {
+    append_word(text, "extend")?;
+    append_word(text, extension.defect.as_str())?;
+    append_day(alloc, text, extension.day)?;
+    append_number(text, extension.days)
 }
 
 // Appends what a command adds to the records.
@@ -214,11 +250,23 @@ fn append_done(text: &mut String, command: &Command) -> Result<(), AllocError> {
     Ok(())
 }
 
+// Appends what a command says of deferred defects.
+fn append_deferred(alloc: Global, text: &mut String, command: &Command) -> Result<(), AllocError> {
+    if let Some(deferral) = command.deferral() {
+        append_deferral(text, &deferral)?;
+    }
+    if let Some(extension) = command.extension() {
+        append_extension(alloc, text, &extension)?;
+    }
+    Ok(())
+}
+
 /// The document of a command, and what each of its accessors shows, in the words of a case.
 pub fn command_text(alloc: Global, command: &Command) -> Result<String, AllocError> {
     let mut text = String::from_str(alloc, command.doc().as_str())?;
     append_added(alloc, &mut text, command)?;
     append_planned(alloc, &mut text, command)?;
     append_done(&mut text, command)?;
+    append_deferred(alloc, &mut text, command)?;
     Ok(text)
 }

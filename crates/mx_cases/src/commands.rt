@@ -2,9 +2,9 @@
 
 use crate::programmes::programme_of;
 use crate::releases::release_of;
-use mx_base::{BadText, Day, Doc, Kind, Moment, Part, Position, Serial, Tail, TaskId, Use};
+use mx_base::{BadText, Day, Doc, Kind, MelRef, Moment, Part, Position, Serial, Tail, TaskId, Use};
 use mx_book::NoMemory;
-use mx_command::{Body, Command, Item, MakeFault};
+use mx_command::{Body, Category, Command, Item, MakeFault};
 use std::alloc::{AllocError, AllocFailed, Global};
 use std::num::ParseIntError;
 
@@ -171,12 +171,49 @@ fn removal_of(parts: &[&str]) -> Result<Body, Unmade> {
     })
 }
 
+// A DAYS, B, C or D
+fn category_of(words: &[&str]) -> Result<Category, Unmade> {
+    match words {
+        ["A", days] => Ok(Category::A(days.parse::<u32>()?)),
+        ["B"] => Ok(Category::B),
+        ["C"] => Ok(Category::C),
+        ["D"] => Ok(Category::D),
+        _ => Err(Unmade::NoSuchLine),
+    }
+}
+
+// TAIL MOMENT REFERENCE CATEGORY
+fn deferral_of(parts: &[&str]) -> Result<Body, Unmade> {
+    let [tail, moment, reference, category @ ..] = parts else {
+        return Err(Unmade::NoSuchLine);
+    };
+    Ok(Body::Defer {
+        tail: Tail::read(tail)?,
+        moment: Moment::read(moment)?,
+        reference: MelRef::read(reference)?,
+        category: category_of(category)?,
+    })
+}
+
+// DEFECT DAY DAYS
+fn extension_of(parts: &[&str]) -> Result<Body, Unmade> {
+    let [defect, day, days] = parts else {
+        return Err(Unmade::NoSuchLine);
+    };
+    Ok(Body::Extend {
+        defect: Doc::read(defect)?,
+        day: Day::read(day)?,
+        days: days.parse::<u32>()?,
+    })
+}
+
 /// What a command says, by its form and the parts behind it, without a document. The forms are
 /// `aircraft TAIL KIND BIRTH MINUTES CYCLES AS_OF [POSITION=PART ..]`,
 /// `component SERIAL PART BIRTH MINUTES CYCLES AS_OF`, `programme KIND REVISION [TASK ..]` with tasks as `programme_of`
 /// reads them, `opening airframe TAIL KIND TASK MINUTES CYCLES DAY` and `opening component SERIAL ..` alike, `sector TAIL
-/// PAGE LINE OFF ON CYCLES`, `fit SERIAL TAIL POSITION MOMENT`, `remove SERIAL MOMENT`, and `release ..` as `release_of` reads
-/// it.
+/// PAGE LINE OFF ON CYCLES`, `fit SERIAL TAIL POSITION MOMENT`, `remove SERIAL MOMENT`, `release ..` as `release_of`
+/// reads it, `defer TAIL MOMENT REFERENCE CATEGORY` with a category `A DAYS`, `B`, `C` or `D`, and `extend DEFECT DAY
+/// DAYS`.
 pub fn body_of(alloc: Global, form: &str, parts: &[&str]) -> Result<Body, Unmade> {
     match form {
         "aircraft" => aircraft_of(alloc, parts),
@@ -187,6 +224,8 @@ pub fn body_of(alloc: Global, form: &str, parts: &[&str]) -> Result<Body, Unmade
         "fit" => fitting_of(parts),
         "remove" => removal_of(parts),
         "release" => release_of(alloc, parts),
+        "defer" => deferral_of(parts),
+        "extend" => extension_of(parts),
         _ => Err(Unmade::NoSuchLine),
     }
 }

@@ -1,12 +1,12 @@
 //! Releases in the words of a case: each line is one word.
 
 use crate::commands::{Unmade, item_of};
-use mx_base::{Kind, Moment, Serial, Tail, TaskId};
+use mx_base::{Doc, Kind, Moment, Serial, Tail, TaskId};
 use mx_command::{Body, Item, Line, Place};
 use std::alloc::Global;
 
 // airframe:TAIL=TASK, or component:SERIAL=TASK
-fn line_of(word: &str) -> Result<Line, Unmade> {
+fn done_of(word: &str) -> Result<Line, Unmade> {
     let Some((item, task)) = word.split_once('=') else {
         return Err(Unmade::Unread);
     };
@@ -14,6 +14,14 @@ fn line_of(word: &str) -> Result<Line, Unmade> {
         return Err(Unmade::Unread);
     };
     Ok(Line::Done(item_of(kind, name)?, TaskId::read(task)?))
+}
+
+// defect:DOC, or a task that was done
+fn line_of(word: &str) -> Result<Line, Unmade> {
+    match word.strip_prefix("defect:") {
+        Some(doc) => Ok(Line::Rectified(Doc::read(doc)?)),
+        None => done_of(word),
+    }
 }
 
 fn lines_of(alloc: Global, words: &[&str]) -> Result<Vec<Line>, Unmade> {
@@ -36,8 +44,8 @@ fn release_at(alloc: Global, place: Place, moment: &str, lines: &[&str]) -> Resu
     })
 }
 
-/// A release: `aircraft TAIL MOMENT [LINE ..]`, or `shop SERIAL KIND MOMENT [LINE ..]`. A line is `airframe:TAIL=TASK` or
-/// `component:SERIAL=TASK`.
+/// A release: `aircraft TAIL MOMENT [LINE ..]`, or `shop SERIAL KIND MOMENT [LINE ..]`. A line is `airframe:TAIL=TASK`,
+/// `component:SERIAL=TASK` or `defect:DOC`.
 pub(crate) fn release_of(alloc: Global, parts: &[&str]) -> Result<Body, Unmade> {
     match parts {
         ["aircraft", tail, moment, lines @ ..] => {

@@ -3,7 +3,7 @@
 ghost use Rattle.std.specs.Prelude.{◌≡◌, false};
 
 use mx_base::{Day, Tail, Use};
-use mx_book::{DueList, LifeList, Reply};
+use mx_book::{DueList, LifeList, LimitList, Reply};
 use mx_command::{Command, Item};
 use mx_layout::{Layout, TableFault, create};
 use mx_office::{Ask, Fault, Office, Outcomes};
@@ -71,6 +71,16 @@ pub(crate) fn dues_of<S: Alter>(
     day: Day,
 ) -> Result<DueList, Ask> {
     office.due_rows(alloc, *tail, day)
+}
+
+/// The limits of an aircraft on a day.
+pub(crate) fn limits_of<S: Alter>(
+    alloc: Global,
+    office: &mut Office<S>,
+    tail: &Tail,
+    day: Day,
+) -> Result<LimitList, Ask> {
+    office.limits_rows(alloc, *tail, day)
 }
 
 /// Whether the office has to be opened again.

@@ -1,12 +1,12 @@
 //! What is asked of an open office.
 
-use crate::calls::{applied, dues_of, entries_of, is_in_doubt, life_of, list_of, ran};
+use crate::calls::{applied, dues_of, entries_of, is_in_doubt, life_of, limits_of, list_of, ran};
 use crate::texts::{answers_in, append_fault, ask_text, room};
 use mx_base::{Day, Serial, Tail};
 use mx_cases::{Asked, Unmade, command_of, documents, joined_lines, room_for_replies, yes_or_no};
 use mx_command::{Command, Item};
 use mx_office::{Fault, Office};
-use mx_reports::{due_text, life_text};
+use mx_reports::{due_text, life_text, limits_text};
 use sqlite::Alter;
 use std::alloc::Global;
 use std::slice;
@@ -71,6 +71,24 @@ fn due_list<S: Alter>(
         Ok(list) => {
             let mut lines = Vec::new(alloc);
             due_text(&mut lines, &list)?;
+            Ok(joined_lines(alloc, &lines)?)
+        }
+        Err(ask) => Ok(ask_text(alloc, ask)?),
+    }
+}
+
+// The limits of the aircraft with this registration on a day.
+fn limits<S: Alter>(
+    alloc: Global,
+    office: &mut Office<S>,
+    registration: &str,
+    day: &str,
+) -> Result<String, Unmade> {
+    let tail = Tail::read(registration)?;
+    match limits_of(alloc, office, &tail, Day::read(day)?) {
+        Ok(list) => {
+            let mut lines = Vec::new(alloc);
+            limits_text(&mut lines, &list)?;
             Ok(joined_lines(alloc, &lines)?)
         }
         Err(ask) => Ok(ask_text(alloc, ask)?),
@@ -146,6 +164,7 @@ pub(crate) fn answer_of_office<S: Alter>(
         ["first"] => apply_first(alloc, office, asked.list),
         ["life", tail] => life_list(alloc, office, tail),
         ["due", tail, day] => due_list(alloc, office, tail, day),
+        ["limits", tail, day] => limits(alloc, office, tail, day),
         ["airframe", tail] => life(alloc, office, &Item::Airframe(Tail::read(tail)?)),
         ["component", serial] => life(alloc, office, &Item::Component(Serial::read(serial)?)),
         ["entries", from, at_most] => entries(office, asked, from, at_most),
