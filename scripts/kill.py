@@ -106,6 +106,13 @@ def sector(line):
     }
 
 
+def defect(doc, category):
+    """The deferral of a defect that was found on 2024-02-07."""
+    return {
+        "do": "defer", "doc": doc, "tail": "D-ABCD", "moment": "2024-02-07T08:00", "reference": "21-31-01", "category": category,
+    }
+
+
 class Enter:
     """`enter FILE ENTRIES`: the file has the book of a prefix of the commands, with each whose reply was printed."""
 
@@ -114,7 +121,19 @@ class Enter:
         "do": "add-aircraft", "doc": "A1", "tail": "D-ABCD", "kind": "C172", "birth": "2000-01-01", "minutes": 600,
         "cycles": 10, "as_of": "2024-01-01T00:00", "positions": [],
     }
-    commands = [aircraft, *(sector(line) for line in range(1, 10))]
+    commands = [
+        aircraft, *(sector(line) for line in range(1, 7)), defect("X1", "B"), defect("X2", "C"),
+        {"do": "extend", "doc": "Y1", "defect": "X1", "day": "2024-02-08", "days": 2},
+        {"do": "release", "doc": "R1", "tail": "D-ABCD", "moment": "2024-02-08T09:00", "lines": [{"defect": "X1"}]},
+    ]
+    limits = {
+        8: ["OK X1 B 21-31-01 found=2024-02-07 ext=0 last=2024-02-10 left=2"],
+        9: ["OK X1 B 21-31-01 found=2024-02-07 ext=0 last=2024-02-10 left=2",
+            "OK X2 C 21-31-01 found=2024-02-07 ext=0 last=2024-02-17 left=9"],
+        10: ["OK X1 B 21-31-01 found=2024-02-07 ext=2 last=2024-02-12 left=4",
+             "OK X2 C 21-31-01 found=2024-02-07 ext=0 last=2024-02-17 left=9"],
+        11: ["OK X2 C 21-31-01 found=2024-02-07 ext=0 last=2024-02-17 left=9"],
+    }
 
     def entries(self, file):
         return file.with_name("commands.json")
@@ -127,24 +146,31 @@ class Enter:
     def words(self, file):
         return ["enter", file, self.entries(file)]
 
-    def life(self, entries):
-        """What `life` answers of the book of the first commands, so many."""
+    def lists(self, entries):
+        """What `life` and `limits` answer of the book of the first commands, so many."""
         if entries == 0:
-            return 1, "refused 20\n", ""
-        minutes, cycles = 600 + 30 * (entries - 1), 10 + entries - 1
-        return 0, f"life D-ABCD\nairframe C172 {minutes // 60}:{minutes % 60:02} {cycles}\nend 1\n", ""
+            return [(1, "refused 20\n", "")] * 2
+        sectors, rows = min(entries - 1, 6), self.limits.get(entries, [])
+        minutes = 600 + 30 * sectors
+        life = f"life D-ABCD\nairframe C172 {minutes // 60}:{minutes % 60:02} {10 + sectors}\nend 1\n"
+        limits = "".join(f"{line}\n" for line in ["limits D-ABCD 2024-02-08", *rows, f"end {len(rows)}"])
+        return [(0, life, ""), (0, limits, "")]
+
+    def asked(self, file):
+        return [run("life", file, "D-ABCD"), run("limits", file, "D-ABCD", "2024-02-08")]
 
     def after(self, file, printed):
         """Looks at the file that a kill left, after the program printed this. Answers what it is."""
         want("the tables", TABLES, tables_by_sqlite(file))
-        kept = next((n for n in range(len(self.commands) + 1) if run("life", file, "D-ABCD") == self.life(n)), None)
+        asked = self.asked(file)
+        kept = next((n for n in range(len(self.commands) + 1) if asked == self.lists(n)), None)
         if kept is None:
             raise Bad("the book of no prefix of the commands")
         if kept < len(printed.splitlines()):
             raise Bad(f"{kept} entries, and these replies: {printed!r}")
         replies = [f"{'already' if seq <= kept else 'accepted'} {seq}\n" for seq in range(1, len(self.commands) + 1)]
         want("the same commands once more", (0, "".join(replies), ""), run(*self.words(file)))
-        want("life then", self.life(len(self.commands)), run("life", file, "D-ABCD"))
+        want("the lists then", self.lists(len(self.commands)), self.asked(file))
         return f"{kept} entries"
 
 
