@@ -1,2 +1,3 @@
 pub mod DueLemmas
+pub mod ReachLemmas
 pub mod Worked

@@ -8,6 +8,7 @@ use Rattle.mx_command.specs.declared.programme.Task.{Task}
 use Rattle.mx_command.specs.declared.programme.Applies.TheVariants as applies
 use Rattle.mx_due.specs.Due.{due_after, base_done}
 use Rattle.mx_due.specs.Left.{left_of, is_used_up}
+use Rattle.mx_due.specs.Reach.{least_up_to, reaches, reaches_some}
 use Rattle.mx_due.specs.Status.{status_of}
 
 abbrev minutes_alone : ℕ → Limit
@@ -111,3 +112,22 @@ worst_by_the_day = refl
 -- nothing due, nothing to be late with
 no_due_at_all : status_of (record { minutes = None; cycles = None; days = None }) (record { minutes = 0; cycles = 0; days = 0 }) ≡ Ok
 no_due_at_all = refl
+
+-- ── days until a due is reached ──
+
+-- 48 hours and 30 minutes at two hours a day: 24 days leave 30 minutes, so it is the 25th
+reached_in_the_rest_of_a_day : least_up_to 30 (reaches 120 (pos 2910)) ≡ Some 25
+reached_in_the_rest_of_a_day = refl
+
+reached_to_the_minute : least_up_to 30 (reaches 120 (pos 2880)) ≡ Some 24
+reached_to_the_minute = refl
+
+passed_is_reached_at_once : map (λ left. least_up_to 30 (reaches 0 left)) (neg_ℤ (pos 5) ∷ pos 0 ∷ pos 1 ∷ []) ≡ Some 0 ∷ Some 0 ∷ None ∷ []
+passed_is_reached_at_once = refl
+
+-- the first dimension decides, whichever it is
+sooner_by_cycles : map (λ cycles. least_up_to 30 (reaches_some 60 cycles (record { minutes = Some (pos 600); cycles = Some (pos 9); days = Some (pos 20) }))) (0 ∷ 1 ∷ 2 ∷ []) ≡ Some 10 ∷ Some 9 ∷ Some 5 ∷ []
+sooner_by_cycles = refl
+
+sooner_by_days : least_up_to 30 (reaches_some 0 0 (record { minutes = Some (pos 600); cycles = Some (pos 9); days = Some (pos 20) })) ≡ Some 20
+sooner_by_days = refl

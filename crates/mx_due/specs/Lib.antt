@@ -1,3 +1,4 @@
 pub mod Due
 pub mod Left
+pub mod Reach
 pub mod Status
