@@ -2,6 +2,7 @@ pub mod AcceptedLemmas
 pub mod BaseLemmas
 pub mod DefectLemmas
 pub mod FindLemmas
+pub mod ForecastLemmas
 pub mod GrowthLemmas
 pub mod JudgeLemmas
 pub mod KnownLemmas
@@ -19,3 +20,4 @@ pub mod WorkedDues
 pub mod WorkedReleases
 pub mod WorkedDefects
 pub mod WorkedLimits
+pub mod WorkedForecast

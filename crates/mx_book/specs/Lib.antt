@@ -13,4 +13,5 @@ pub mod DueRow
 pub mod Base
 pub mod LimitList
 pub mod DueList
+pub mod Forecast
 pub mod Ranks

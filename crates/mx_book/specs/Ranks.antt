@@ -7,10 +7,12 @@ use Rattle.std.proofs.lemmas.Int.{ints}
 use Rattle.std.proofs.lemmas.List.Sorted.{ranks_by, IsStrictWeakOrder-by_number}
 use Rattle.mx_command.specs.declared.programme.Task.{Task}
 use Rattle.mx_book.specs.declared.due_row.DueRow.{DueRow}
+use Rattle.mx_book.specs.declared.forecast.ForecastRow.{ForecastRow}
 use Rattle.mx_book.specs.declared.life_list.FittedPart.{FittedPart}
 use Rattle.mx_book.specs.declared.limit_list.LimitRow.{LimitRow}
 use Rattle.mx_book.specs.DueRow.{status_rank, row_status, row_before}
 use Rattle.mx_book.specs.DueList.{task_before}
+use Rattle.mx_book.specs.Forecast.{sooner}
 use Rattle.mx_book.specs.LimitList.{limit_before}
 use Rattle.mx_book.specs.Lists.{part_before}
 
@@ -25,6 +27,10 @@ tasks_rank = ranks_by nat_list_cmp_total (λ (t : Task). t.id)
 -- the order of rows by how they stand is an order
 pub due_rows_rank : IsStrictWeakOrder row_before
 due_rows_rank = IsStrictWeakOrder-by_number (λ (r : DueRow). status_rank (row_status r))
+
+-- the order of a forecast by numbers of days is an order
+pub forecast_rank : IsStrictWeakOrder sooner
+forecast_rank = IsStrictWeakOrder-by_number (λ (r : ForecastRow). r.after)
 
 ints_one_way : (x y : ℤ) → int_lt x y ≡ true → int_lt y x ≡ false
 ints_one_way x y h = grind (arith, ints)

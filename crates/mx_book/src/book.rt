@@ -6,6 +6,7 @@ ghost use Rattle.mx_book.specs.Lists.{life_list};
 ghost use Rattle.mx_book.specs.Base.{base, due};
 ghost use Rattle.mx_book.specs.Defect.{open_defects};
 ghost use Rattle.mx_book.specs.DueList.{due_list};
+ghost use Rattle.mx_book.specs.Forecast.{forecast};
 ghost use Rattle.mx_book.specs.LimitList.{limits};
 ghost use Rattle.mx_book.specs.Judge.{judge};
 ghost use Rattle.mx_book.specs.Book.{entry_at, entries_from, IsBook};
@@ -14,6 +15,7 @@ use crate::bases::{due_of_kind, last_base};
 use crate::defects::{Defect, list_open_defects};
 use crate::due_lists::list_dues;
 use crate::due_row::DueList;
+use crate::forecast::{ForecastList, list_forecast};
 use crate::judging::verdict_on;
 use crate::life_list::{LifeList, list_lives};
 use crate::limit_list::{LimitList, list_limits};
@@ -162,6 +164,23 @@ impl Book {
         ensures { IfOk result (λ list. list ≡ due_list self.now tail.now day) }
     {
         Ok(list_dues(alloc, self.entries.as_slice(), tail, day)?)
+    }
+
+    /// The forecast of an aircraft: what is reached within so many days of a day, at these minutes and cycles a day, or
+    /// `None` where the registration is unknown. `NoMemory` where memory runs out.
+    pub fn forecast(
+        &self,
+        alloc: Global,
+        tail: &Tail,
+        day: Day,
+        days: u32,
+        minutes: u32,
+        cycles: u32,
+    ) -> Result<Option<ForecastList>, NoMemory>
+        ensures { IfOk result (λ list. list ≡ forecast self.now tail.now day days minutes cycles) }
+    {
+        let entries = self.entries.as_slice();
+        Ok(list_forecast(alloc, entries, tail, day, days, minutes, cycles)?)
     }
 
     /// The open defects of an aircraft, in the order of their entries; none of an unknown registration. `NoMemory` where

@@ -199,9 +199,9 @@ fn append_defects(
     Ok(())
 }
 
-// The rows of an aircraft by place: those of its airframe by task, then those of its components by position and task,
-// then those of its open defects.
-fn placed_rows(
+/// The rows of an aircraft by place: those of its airframe by task, then those of its components by position and task,
+/// then those of its open defects. An error where memory runs out.
+pub(crate) fn placed_rows(
     alloc: Global,
     entries: &[Command],
     tail: &Tail,

@@ -4,6 +4,7 @@ ghost use Rattle.sqlite.specs.State.{HasCleanDisk};
 ghost use Rattle.sqlite.specs.Held.{state};
 ghost use Rattle.mx_book.specs.Book.{entries_from};
 ghost use Rattle.mx_book.specs.DueList.{due_list};
+ghost use Rattle.mx_book.specs.Forecast.{forecast};
 ghost use Rattle.mx_book.specs.Life.{life_now};
 ghost use Rattle.mx_book.specs.LimitList.{limits};
 ghost use Rattle.mx_book.specs.Lists.{life_list};
@@ -15,7 +16,7 @@ ghost use Rattle.mx_office.specs.Stands.{HoldsBook, IsReasonFor, Rests};
 use crate::fault::{Ask, Fault};
 use crate::office::Office;
 use mx_base::{Day, Tail, Use};
-use mx_book::{DueList, LifeList, LimitList, Refusal};
+use mx_book::{DueList, ForecastList, LifeList, LimitList, Refusal};
 use mx_command::{Command, Item};
 use sqlite::Alter;
 use std::alloc::Global;
@@ -41,6 +42,29 @@ impl<S: Alter> Office<S> {
     {
         let book = self.book(alloc)?;
         match book.due_list(alloc, &tail, day)? {
+            Some(list) => Ok(list),
+            None => Err(Ask::Refused(Refusal::UnknownAircraft)),
+        }
+    }
+
+    /// The forecast of an aircraft: what is reached within so many days of a day, at these minutes and cycles a day.
+    /// `Refused(UnknownAircraft)` where no aircraft has the registration. No table changes.
+    pub fn forecast_rows(
+        &mut self,
+        alloc: Global,
+        tail: Tail,
+        day: Day,
+        days: u32,
+        minutes: u32,
+        cycles: u32,
+    ) -> Result<ForecastList, Ask>
+        ensures asked { IsAsked Ask.Failed self.old self.new result }
+        ensures answered { IsAnsweredBy
+            (λ book. found_or Refusal.UnknownAircraft (forecast book tail day days minutes cycles))
+            self.old self.new result }
+    {
+        let book = self.book(alloc)?;
+        match book.forecast(alloc, &tail, day, days, minutes, cycles)? {
             Some(list) => Ok(list),
             None => Err(Ask::Refused(Refusal::UnknownAircraft)),
         }

@@ -1,0 +1,18 @@
+use Rattle.std.proofs.Common.{◌∙◌, ap, sym}
+use Rattle.mx_book.specs.Forecast.{forecast}
+use Rattle.mx_book.specs.declared.verdict.Refusal.TheVariants.{UnknownAircraft}
+use Rattle.mx_office.specs.Faults.{found_or}
+use Rattle.mx_office.proofs.AnswerLemmas.{found_question, stopped_question}
+use Rattle.mx_office.proofs.office.Office.forecast_rows.Goals as goal
+
+pub returns-in_err-book-clause-answered : goal.returns-in_err-book-clause-answered
+returns-in_err-book-clause-answered g c =
+    stopped_question c.args.self.now c.book.new.self c.from_residual.result (λ b. found_or UnknownAircraft (forecast b c.args.tail c.args.day c.args.days c.args.minutes c.args.cycles)) c.in_err-book.field-0.0 c.from_residual.ensures c.in_err-book.ensures.exact c.in_err-book.ensures.damaged
+
+pub returns-in-Some-clause-answered : goal.returns-in-Some-clause-answered
+returns-in-Some-clause-answered g c =
+    found_question c.args.self.now c.book.new.self _ UnknownAircraft (λ b. forecast b c.args.tail c.args.day c.args.days c.args.minutes c.args.cycles) c.in_ok-book.book (ap (found_or UnknownAircraft) (sym c.in-Some.is ∙ c.in_ok-list.ensures)) c.in_ok-book.ensures.exact c.in_ok-book.ensures.sound
+
+pub returns-clause-answered : goal.returns-clause-answered
+returns-clause-answered g c =
+    found_question c.args.self.now c.book.new.self _ UnknownAircraft (λ b. forecast b c.args.tail c.args.day c.args.days c.args.minutes c.args.cycles) c.in_ok-book.book (ap (found_or UnknownAircraft) (sym c.in-None.is ∙ c.in_ok-list.ensures)) c.in_ok-book.ensures.exact c.in_ok-book.ensures.sound
