@@ -2,3 +2,4 @@ pub mod StartsLemmas
 pub mod Worked
 mod WorkedDues
 mod WorkedLimits
+mod WorkedForecasts

@@ -33,12 +33,12 @@ pub(crate) fn append_defect(
 }
 
 // The day with a number that is never negative, or `later`.
-fn append_last(out: &mut Vec<u8>, last: i64) -> Result<(), AllocError>
+pub(crate) fn append_day_number(out: &mut Vec<u8>, day: i64) -> Result<(), AllocError>
     ensures words { OnOk result (out.new.items
-        ≡ out.old.items ++ day_number_text (unsigned_abs last)) }
+        ≡ out.old.items ++ day_number_text (unsigned_abs day)) }
     ensures unchanged { OnErr result (out.new.items ≡ out.old.items) }
 {
-    let number = u32::try_from(last.unsigned_abs()).unwrap_or(u32::MAX);
+    let number = u32::try_from(day.unsigned_abs()).unwrap_or(u32::MAX);
     print_day_number(out, number)
 }
 
@@ -48,7 +48,7 @@ pub(crate) fn append_until(out: &mut Vec<u8>, last: i64, left: i64) -> Result<()
     ensures kept { OnErr result (StartsWith out.old.items out.new.items) }
 {
     out.extend_from_slice(b" last=")?;
-    append_last(out, last)?;
+    append_day_number(out, last)?;
     out.extend_from_slice(b" left=")?;
     append_signed(out, left)?;
     out.extend_from_slice(b"\n")

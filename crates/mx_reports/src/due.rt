@@ -1,12 +1,12 @@
 //! The text of a due list.
 ghost use Rattle.std.specs.Prelude.{◌≡◌, ◌++◌, [], ◌∷◌, codes, OnOk, OnErr};
 ghost use Rattle.std.specs.Fmt.{signed_decimal};
-ghost use Rattle.std.specs.List.{flat_map};
 ghost use Rattle.mx_reports.specs.Words.{spaced, status_word, StartsWith};
 ghost use Rattle.mx_reports.specs.DefectText.{defect_words, until_line};
 ghost use Rattle.mx_reports.specs.DueText.{place_words, left_hours, left_number, left_words, row_line, due_head, due_lines};
 
 use crate::defect::{append_defect, append_until};
+use crate::text::{Text, append_rows, append_whole};
 use crate::words::{append_day, append_end, append_signed, append_status, append_use, append_word};
 use mx_base::{Doc, Left, MelRef, Position, Serial, Status, TaskId, print_hours};
 use mx_book::{DueList, DueRow};
@@ -24,7 +24,10 @@ fn append_part(out: &mut Vec<u8>, position: &Position, serial: &Serial) -> Resul
 }
 
 #[tactic(auto, unfolding(crate::specs::DueText::place_words))]
-fn append_place(out: &mut Vec<u8>, place: &Option<(Position, Serial)>) -> Result<(), AllocError>
+pub(crate) fn append_place(
+    out: &mut Vec<u8>,
+    place: &Option<(Position, Serial)>,
+) -> Result<(), AllocError>
     ensures words { OnOk result (out.new.items ≡ out.old.items ++ place_words place.now) }
     ensures kept { OnErr result (StartsWith out.old.items out.new.items) }
 {
@@ -112,43 +115,34 @@ fn append_named(
     append_defect(out, doc, letter, reference)
 }
 
-#[tactic(auto, using(crate::proofs::StartsLemmas::starts_further))]
-fn append_row(out: &mut Vec<u8>, row: &DueRow) -> Result<(), AllocError>
-    ensures words { OnOk result (out.new.items ≡ out.old.items ++ row_line row.now) }
-    ensures kept { OnErr result (StartsWith out.old.items out.new.items) }
-{
-    match row {
-        DueRow::Task {
-            status,
-            place,
-            task,
-            left,
-        } => {
-            append_standing(out, *status, place)?;
-            append_task_left(out, task, left)
-        }
-        DueRow::Defect {
-            status,
-            doc,
-            letter,
-            reference,
-            last,
-            left,
-        } => {
-            append_named(out, *status, doc, *letter, reference)?;
-            append_until(out, *last, *left)
-        }
-    }
-}
+impl Text for DueRow {
+    ghost text = { row_line };
 
-fn append_rows(out: &mut Vec<u8>, rows: &[DueRow]) -> Result<(), AllocError>
-    ensures words { OnOk result (out.new.items ≡ out.old.items ++ flat_map row_line rows.now) }
-    ensures kept { OnErr result (StartsWith out.old.items out.new.items) }
-{
-    for row in rows {
-        append_row(out, row)?;
+    #[tactic(auto, using(crate::proofs::StartsLemmas::starts_further))]
+    fn append(&self, out: &mut Vec<u8>) -> Result<(), AllocError> {
+        match self {
+            DueRow::Task {
+                status,
+                place,
+                task,
+                left,
+            } => {
+                append_standing(out, *status, place)?;
+                append_task_left(out, task, left)
+            }
+            DueRow::Defect {
+                status,
+                doc,
+                letter,
+                reference,
+                last,
+                left,
+            } => {
+                append_named(out, *status, doc, *letter, reference)?;
+                append_until(out, *last, *left)
+            }
+        }
     }
-    Ok(())
 }
 
 #[tactic(auto, using(crate::proofs::StartsLemmas::starts_further))]
@@ -163,15 +157,16 @@ fn append_head(out: &mut Vec<u8>, list: &DueList) -> Result<(), AllocError>
     out.extend_from_slice(b"\n")
 }
 
-#[tactic(auto, using(crate::proofs::StartsLemmas::starts_further))]
-fn append_lines(out: &mut Vec<u8>, list: &DueList) -> Result<(), AllocError>
-    ensures words { OnOk result (out.new.items ≡ out.old.items ++ due_lines list.now) }
-    ensures kept { OnErr result (StartsWith out.old.items out.new.items) }
-{
-    let rows = list.rows.as_slice();
-    append_head(out, list)?;
-    append_rows(out, rows)?;
-    append_end(out, rows.len())
+impl Text for DueList {
+    ghost text = { due_lines };
+
+    #[tactic(auto, using(crate::proofs::StartsLemmas::starts_further))]
+    fn append(&self, out: &mut Vec<u8>) -> Result<(), AllocError> {
+        let rows = self.rows.as_slice();
+        append_head(out, self)?;
+        append_rows(out, rows)?;
+        append_end(out, rows.len())
+    }
 }
 
 /// Appends a due list: `due TAIL DAY` with the hours and cycles of the airframe; a line for each row, with its status
@@ -183,10 +178,5 @@ pub fn due_text(out: &mut Vec<u8>, list: &DueList) -> Result<(), AllocError>
     ensures printed { OnOk result (out.new.items ≡ out.old.items ++ due_lines list.now) }
     ensures unchanged { OnErr result (out.new.items ≡ out.old.items) }
 {
-    let len = out.len();
-    let done = append_lines(out, list);
-    if done.is_err() {
-        out.truncate(len);
-    }
-    done
+    append_whole(out, list)
 }

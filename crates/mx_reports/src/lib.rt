@@ -4,12 +4,16 @@
 
 mod defect;
 pub mod due;
+pub mod forecast;
 pub mod life;
 pub mod limits;
 pub mod reply;
+pub mod text;
 mod words;
 
 pub use due::due_text;
+pub use forecast::forecast_text;
 pub use life::life_text;
 pub use limits::limits_text;
 pub use reply::reply_text;
+pub use text::{Text, append_whole};

@@ -1,9 +1,9 @@
 //! The text of a life list.
 ghost use Rattle.std.specs.Prelude.{◌≡◌, ◌++◌, [], ◌∷◌, codes, OnOk, OnErr};
-ghost use Rattle.std.specs.List.{flat_map};
 ghost use Rattle.mx_reports.specs.Words.{StartsWith};
 ghost use Rattle.mx_reports.specs.LifeText.{head_lines, part_line, life_lines};
 
+use crate::text::{Text, append_rows, append_whole};
 use crate::words::{append_end, append_use, append_word};
 use mx_book::{FittedPart, LifeList};
 use std::alloc::AllocError;
@@ -21,39 +21,30 @@ fn append_head(out: &mut Vec<u8>, list: &LifeList) -> Result<(), AllocError>
     out.extend_from_slice(b"\n")
 }
 
-#[tactic(auto, using(crate::proofs::StartsLemmas::starts_further))]
-fn append_part(out: &mut Vec<u8>, part: &FittedPart) -> Result<(), AllocError>
-    ensures words { OnOk result (out.new.items ≡ out.old.items ++ part_line part.now) }
-    ensures kept { OnErr result (StartsWith out.old.items out.new.items) }
-{
-    out.extend_from_slice(b"part")?;
-    append_word(out, part.position.as_str().as_bytes())?;
-    append_word(out, part.serial.as_str().as_bytes())?;
-    append_word(out, part.part.as_str().as_bytes())?;
-    append_use(out, &part.life)?;
-    out.extend_from_slice(b"\n")
-}
+impl Text for FittedPart {
+    ghost text = { part_line };
 
-#[tactic(auto, using(crate::proofs::StartsLemmas::starts_further))]
-fn append_parts(out: &mut Vec<u8>, parts: &[FittedPart]) -> Result<(), AllocError>
-    ensures words { OnOk result (out.new.items ≡ out.old.items ++ flat_map part_line parts.now) }
-    ensures kept { OnErr result (StartsWith out.old.items out.new.items) }
-{
-    for part in parts {
-        append_part(out, part)?;
+    #[tactic(auto, using(crate::proofs::StartsLemmas::starts_further))]
+    fn append(&self, out: &mut Vec<u8>) -> Result<(), AllocError> {
+        out.extend_from_slice(b"part")?;
+        append_word(out, self.position.as_str().as_bytes())?;
+        append_word(out, self.serial.as_str().as_bytes())?;
+        append_word(out, self.part.as_str().as_bytes())?;
+        append_use(out, &self.life)?;
+        out.extend_from_slice(b"\n")
     }
-    Ok(())
 }
 
-#[tactic(auto, using(crate::proofs::StartsLemmas::starts_further))]
-fn append_lines(out: &mut Vec<u8>, list: &LifeList) -> Result<(), AllocError>
-    ensures words { OnOk result (out.new.items ≡ out.old.items ++ life_lines list.now) }
-    ensures kept { OnErr result (StartsWith out.old.items out.new.items) }
-{
-    let parts = list.parts.as_slice();
-    append_head(out, list)?;
-    append_parts(out, parts)?;
-    append_end(out, parts.len() + 1)
+impl Text for LifeList {
+    ghost text = { life_lines };
+
+    #[tactic(auto, using(crate::proofs::StartsLemmas::starts_further))]
+    fn append(&self, out: &mut Vec<u8>) -> Result<(), AllocError> {
+        let parts = self.parts.as_slice();
+        append_head(out, self)?;
+        append_rows(out, parts)?;
+        append_end(out, parts.len() + 1)
+    }
 }
 
 /// Appends a life list: `life TAIL`; the airframe's line with its kind, hours and cycles; a line for each
@@ -63,10 +54,5 @@ pub fn life_text(out: &mut Vec<u8>, list: &LifeList) -> Result<(), AllocError>
     ensures printed { OnOk result (out.new.items ≡ out.old.items ++ life_lines list.now) }
     ensures unchanged { OnErr result (out.new.items ≡ out.old.items) }
 {
-    let len = out.len();
-    let done = append_lines(out, list);
-    if done.is_err() {
-        out.truncate(len);
-    }
-    done
+    append_whole(out, list)
 }

@@ -1,11 +1,11 @@
 //! The text of limits.
 ghost use Rattle.std.specs.Prelude.{◌≡◌, ◌++◌, [], ◌∷◌, codes, OnOk, OnErr};
-ghost use Rattle.std.specs.List.{flat_map};
 ghost use Rattle.mx_reports.specs.DefectText.{defect_words, until_line};
 ghost use Rattle.mx_reports.specs.LimitText.{found_words, limit_line, limits_head, limit_lines};
 ghost use Rattle.mx_reports.specs.Words.{status_word, StartsWith};
 
 use crate::defect::{append_defect, append_until};
+use crate::text::{Text, append_rows, append_whole};
 use crate::words::{append_day, append_end, append_signed, append_status, append_word};
 use mx_base::{Day, print_day};
 use mx_book::{LimitList, LimitRow};
@@ -49,23 +49,14 @@ fn append_days(
     append_until(out, last, left)
 }
 
-#[tactic(auto, using(crate::proofs::StartsLemmas::starts_further))]
-fn append_row(out: &mut Vec<u8>, row: &LimitRow) -> Result<(), AllocError>
-    ensures words { OnOk result (out.new.items ≡ out.old.items ++ limit_line row.now) }
-    ensures kept { OnErr result (StartsWith out.old.items out.new.items) }
-{
-    append_named(out, row)?;
-    append_days(out, row.found, row.extension, row.last, row.left)
-}
+impl Text for LimitRow {
+    ghost text = { limit_line };
 
-fn append_rows(out: &mut Vec<u8>, rows: &[LimitRow]) -> Result<(), AllocError>
-    ensures words { OnOk result (out.new.items ≡ out.old.items ++ flat_map limit_line rows.now) }
-    ensures kept { OnErr result (StartsWith out.old.items out.new.items) }
-{
-    for row in rows {
-        append_row(out, row)?;
+    #[tactic(auto, using(crate::proofs::StartsLemmas::starts_further))]
+    fn append(&self, out: &mut Vec<u8>) -> Result<(), AllocError> {
+        append_named(out, self)?;
+        append_days(out, self.found, self.extension, self.last, self.left)
     }
-    Ok(())
 }
 
 #[tactic(auto, using(crate::proofs::StartsLemmas::starts_further))]
@@ -79,15 +70,16 @@ fn append_head(out: &mut Vec<u8>, list: &LimitList) -> Result<(), AllocError>
     out.extend_from_slice(b"\n")
 }
 
-#[tactic(auto, using(crate::proofs::StartsLemmas::starts_further))]
-fn append_lines(out: &mut Vec<u8>, list: &LimitList) -> Result<(), AllocError>
-    ensures words { OnOk result (out.new.items ≡ out.old.items ++ limit_lines list.now) }
-    ensures kept { OnErr result (StartsWith out.old.items out.new.items) }
-{
-    let rows = list.rows.as_slice();
-    append_head(out, list)?;
-    append_rows(out, rows)?;
-    append_end(out, rows.len())
+impl Text for LimitList {
+    ghost text = { limit_lines };
+
+    #[tactic(auto, using(crate::proofs::StartsLemmas::starts_further))]
+    fn append(&self, out: &mut Vec<u8>) -> Result<(), AllocError> {
+        let rows = self.rows.as_slice();
+        append_head(out, self)?;
+        append_rows(out, rows)?;
+        append_end(out, rows.len())
+    }
 }
 
 /// Appends the limits of an aircraft: `limits TAIL DAY`; a line for each open defect, with its status (`OVERDUE`, `DUE`
@@ -98,10 +90,5 @@ pub fn limits_text(out: &mut Vec<u8>, list: &LimitList) -> Result<(), AllocError
     ensures printed { OnOk result (out.new.items ≡ out.old.items ++ limit_lines list.now) }
     ensures unchanged { OnErr result (out.new.items ≡ out.old.items) }
 {
-    let len = out.len();
-    let done = append_lines(out, list);
-    if done.is_err() {
-        out.truncate(len);
-    }
-    done
+    append_whole(out, list)
 }

@@ -4,6 +4,7 @@ ghost use Rattle.std.specs.Fmt.{decimal};
 ghost use Rattle.mx_reports.specs.Words.{spaced, StartsWith};
 ghost use Rattle.mx_reports.specs.ReplyText.{refusal_words, carried_words, reply_line};
 
+use crate::text::{Text, append_whole};
 use crate::words::{append_day, append_moment, append_number};
 use mx_book::{Refusal, Reply};
 use std::alloc::AllocError;
@@ -66,17 +67,18 @@ fn append_entered(out: &mut Vec<u8>, word: &[u8], seq: u32) -> Result<(), AllocE
     append_number(out, seq as usize)
 }
 
-#[tactic(auto, using(crate::proofs::StartsLemmas::starts_further))]
-fn append_line(out: &mut Vec<u8>, reply: &Reply) -> Result<(), AllocError>
-    ensures words { OnOk result (out.new.items ≡ out.old.items ++ reply_line reply.now) }
-    ensures kept { OnErr result (StartsWith out.old.items out.new.items) }
-{
-    match reply {
-        Reply::Accepted(seq) => append_entered(out, b"accepted", *seq)?,
-        Reply::Already(seq) => append_entered(out, b"already", *seq)?,
-        Reply::Refused(refusal) => append_refusal(out, refusal)?,
+impl Text for Reply {
+    ghost text = { reply_line };
+
+    #[tactic(auto, using(crate::proofs::StartsLemmas::starts_further))]
+    fn append(&self, out: &mut Vec<u8>) -> Result<(), AllocError> {
+        match self {
+            Reply::Accepted(seq) => append_entered(out, b"accepted", *seq)?,
+            Reply::Already(seq) => append_entered(out, b"already", *seq)?,
+            Reply::Refused(refusal) => append_refusal(out, refusal)?,
+        }
+        out.extend_from_slice(b"\n")
     }
-    out.extend_from_slice(b"\n")
 }
 
 /// Appends the line of a reply: `accepted SEQ`, `already SEQ`, or `refused NUMBER` and what the refusal
@@ -85,10 +87,5 @@ pub fn reply_text(out: &mut Vec<u8>, reply: &Reply) -> Result<(), AllocError>
     ensures printed { OnOk result (out.new.items ≡ out.old.items ++ reply_line reply.now) }
     ensures unchanged { OnErr result (out.new.items ≡ out.old.items) }
 {
-    let len = out.len();
-    let done = append_line(out, reply);
-    if done.is_err() {
-        out.truncate(len);
-    }
-    done
+    append_whole(out, reply)
 }
