@@ -3,11 +3,9 @@
 use mx_base::{Moment, Serial, Tail, Use};
 use mx_book::Book;
 use mx_cases::{
-    Unmade, append_number, begin_print, command_of, documents, number_text, printed, verdict_text,
-    yes_or_no,
+    Unmade, append_number, command_of, documents, listed, number_text, verdict_text, yes_or_no,
 };
 use mx_command::{Command, Item};
-use mx_reports::life_text;
 use std::alloc::Global;
 
 /// The first command that isn't the one in its place among others.
@@ -90,12 +88,7 @@ fn life(alloc: Global, book: &Book, item: &Item, until: &[&str]) -> Result<Strin
 
 // list TAIL: the lines of the life list.
 fn list(alloc: Global, book: &Book, tail: &str) -> Result<String, Unmade> {
-    let Some(list) = book.life_list(alloc, &Tail::read(tail)?)? else {
-        return Ok(String::from_str(alloc, "unknown")?);
-    };
-    let mut out = begin_print(alloc)?;
-    let done = life_text(&mut out, &list);
-    Ok(printed(alloc, &out, done)?)
+    Ok(listed(alloc, book.life_list(alloc, &Tail::read(tail)?)?)?)
 }
 
 /// The answer to a question on the book, or `None` where it is none.

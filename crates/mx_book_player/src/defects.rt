@@ -2,8 +2,7 @@
 
 use mx_base::{Day, Tail};
 use mx_book::Book;
-use mx_cases::{Unmade, append_joined, begin_print, or_none, printed};
-use mx_reports::limits_text;
+use mx_cases::{Unmade, append_joined, listed, or_none};
 use std::alloc::Global;
 
 // open-defects TAIL: the documents of the open defects, in the order of their entries.
@@ -18,12 +17,7 @@ fn open_defects(alloc: Global, book: &Book, tail: &str) -> Result<String, Unmade
 // limits TAIL DAY: the lines of the limits.
 fn limits(alloc: Global, book: &Book, tail: &str, day: &str) -> Result<String, Unmade> {
     let tail = Tail::read(tail)?;
-    let Some(list) = book.limits(alloc, &tail, Day::read(day)?)? else {
-        return Ok(String::from_str(alloc, "unknown")?);
-    };
-    let mut out = begin_print(alloc)?;
-    let done = limits_text(&mut out, &list);
-    Ok(printed(alloc, &out, done)?)
+    Ok(listed(alloc, book.limits(alloc, &tail, Day::read(day)?)?)?)
 }
 
 /// The answer to a question on deferred defects, or `None` where it is none.

@@ -1,11 +1,10 @@
-//! Questions on what is due: bases, dues and due lists.
+//! Questions on what is due, and when it will be: bases, dues, due lists and forecasts.
 
 use crate::tasks::append_limit;
 use mx_base::{Base, Day, Kind, Limit, Tail, TaskId};
 use mx_book::Book;
-use mx_cases::{Unmade, append_number, begin_print, item_of, number_text, printed};
+use mx_cases::{Unmade, append_number, item_of, listed, number_text};
 use mx_command::Item;
-use mx_reports::due_text;
 use std::alloc::{AllocError, Global};
 
 // MINUTES CYCLES DAY, the day by its number; `none` where nothing was accomplished.
@@ -45,12 +44,27 @@ fn due(alloc: Global, book: &Book, item: &Item, kind: &str, task: &str) -> Resul
 // due TAIL DAY: the lines of the due list.
 fn due_list(alloc: Global, book: &Book, tail: &str, day: &str) -> Result<String, Unmade> {
     let tail = Tail::read(tail)?;
-    let Some(list) = book.due_list(alloc, &tail, Day::read(day)?)? else {
-        return Ok(String::from_str(alloc, "unknown")?);
-    };
-    let mut out = begin_print(alloc)?;
-    let done = due_text(&mut out, &list);
-    Ok(printed(alloc, &out, done)?)
+    Ok(listed(alloc, book.due_list(alloc, &tail, Day::read(day)?)?)?)
+}
+
+// forecast TAIL DAY DAYS MINUTES CYCLES: the lines of the forecast.
+fn forecast(
+    alloc: Global,
+    book: &Book,
+    tail: &str,
+    day: &str,
+    numbers: [&str; 3],
+) -> Result<String, Unmade> {
+    let tail = Tail::read(tail)?;
+    let day = Day::read(day)?;
+    let [days, minutes, cycles] = numbers;
+    let days = days.parse::<u32>()?;
+    let minutes = minutes.parse::<u32>()?;
+    let cycles = cycles.parse::<u32>()?;
+    Ok(listed(
+        alloc,
+        book.forecast(alloc, &tail, day, days, minutes, cycles)?,
+    )?)
 }
 
 /// The answer to a question on what is due, or `None` where it is none.
@@ -61,6 +75,9 @@ pub fn answer(alloc: Global, book: &Book, words: &[&str]) -> Result<Option<Strin
             due(alloc, book, &item_of(item, name)?, kind, task)
         }
         ["due", tail, day] => due_list(alloc, book, tail, day),
+        ["forecast", tail, day, days, minutes, cycles] => {
+            forecast(alloc, book, tail, day, [days, minutes, cycles])
+        }
         _ => return Ok(None),
     };
     Ok(Some(answer?))

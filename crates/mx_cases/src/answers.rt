@@ -3,7 +3,7 @@
 use crate::commands::Unmade;
 use mx_book::{Reply, Verdict};
 use mx_command::Command;
-use mx_reports::reply_text;
+use mx_reports::{Text, append_whole, reply_text};
 use std::alloc::{AllocError, Global};
 use std::{slice, str};
 
@@ -78,6 +78,16 @@ pub fn printed(
         (Err(no_memory), [b'=']) => Err(no_memory),
         _ => String::from_str(alloc, "what was there before changed"),
     }
+}
+
+/// The lines of a list as one line, or `unknown` where there is no list.
+pub fn listed<T: Text + Drop>(alloc: Global, list: Option<T>) -> Result<String, AllocError> {
+    let Some(list) = list else {
+        return String::from_str(alloc, "unknown");
+    };
+    let mut out = begin_print(alloc)?;
+    let done = append_whole(&mut out, &list);
+    printed(alloc, &out, done)
 }
 
 /// `new`, `already N`, or `refused N` with what the refusal carries.

@@ -15,7 +15,7 @@ mod releases;
 
 pub use answers::{
     answer_of, append_joined, append_number, append_reply, append_word, begin_print, documents,
-    joined_lines, number_text, or_none, printed, replies_in, reply_in, room_for_replies,
+    joined_lines, listed, number_text, or_none, printed, replies_in, reply_in, room_for_replies,
     room_for_reply, verdict_text, yes_or_no,
 };
 pub use commands::{Unmade, body_of, command_of, item_of};

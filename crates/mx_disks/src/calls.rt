@@ -3,7 +3,7 @@
 ghost use Rattle.std.specs.Prelude.{◌≡◌, false};
 
 use mx_base::{Day, Tail, Use};
-use mx_book::{DueList, LifeList, LimitList, Reply};
+use mx_book::{DueList, ForecastList, LifeList, LimitList, Reply};
 use mx_command::{Command, Item};
 use mx_layout::{Layout, TableFault, create};
 use mx_office::{Ask, Fault, Office, Outcomes};
@@ -71,6 +71,19 @@ pub(crate) fn dues_of<S: Alter>(
     day: Day,
 ) -> Result<DueList, Ask> {
     office.due_rows(alloc, *tail, day)
+}
+
+/// The forecast of an aircraft: for so many days of a day, at so many minutes and cycles a day.
+pub(crate) fn forecast_of<S: Alter>(
+    alloc: Global,
+    office: &mut Office<S>,
+    tail: &Tail,
+    day: Day,
+    days: u32,
+    minutes: u32,
+    cycles: u32,
+) -> Result<ForecastList, Ask> {
+    office.forecast_rows(alloc, *tail, day, days, minutes, cycles)
 }
 
 /// The limits of an aircraft on a day.

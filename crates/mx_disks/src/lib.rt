@@ -9,6 +9,7 @@
 //! Lines in the open office:
 //! - a command, in the words that `mx_cases` reads: hands it in; `run` the commands of a list, and `first` the first;
 //! - `life TAIL`, `airframe TAIL`, `component SERIAL`: the life list; the life of one item, in minutes and cycles;
+//! - `due TAIL DAY`, `limits TAIL DAY`, `forecast TAIL DAY DAYS MINUTES CYCLES`: these lists;
 //! - `entries FROM AT_MOST`, `entry NUMBER COMMAND`: documents of entries; whether one is this command;
 //! - `needs-reopen`: whether the files have to be opened again.
 //!

@@ -1,12 +1,14 @@
 //! What is asked of an open office.
 
-use crate::calls::{applied, dues_of, entries_of, is_in_doubt, life_of, limits_of, list_of, ran};
+use crate::calls::{
+    applied, dues_of, entries_of, forecast_of, is_in_doubt, life_of, limits_of, list_of, ran,
+};
 use crate::texts::{answers_in, append_fault, ask_text, room};
 use mx_base::{Day, Serial, Tail};
 use mx_cases::{Asked, Unmade, command_of, documents, joined_lines, room_for_replies, yes_or_no};
 use mx_command::{Command, Item};
-use mx_office::{Fault, Office};
-use mx_reports::{due_text, life_text, limits_text};
+use mx_office::{Ask, Fault, Office};
+use mx_reports::{Text, append_whole};
 use sqlite::Alter;
 use std::alloc::Global;
 use std::slice;
@@ -42,6 +44,18 @@ fn run<S: Alter>(
     Ok(answers_in(alloc, space, &outcomes.replies, outcomes.stopped)?)
 }
 
+// The lines of a list, or why there is none.
+fn lines_of<T: Text + Drop>(alloc: Global, answer: Result<T, Ask>) -> Result<String, Unmade> {
+    match answer {
+        Ok(list) => {
+            let mut lines = Vec::new(alloc);
+            append_whole(&mut lines, &list)?;
+            Ok(joined_lines(alloc, &lines)?)
+        }
+        Err(ask) => Ok(ask_text(alloc, ask)?),
+    }
+}
+
 // The life list of the aircraft with this registration.
 fn life_list<S: Alter>(
     alloc: Global,
@@ -49,14 +63,7 @@ fn life_list<S: Alter>(
     registration: &str,
 ) -> Result<String, Unmade> {
     let tail = Tail::read(registration)?;
-    match list_of(alloc, office, &tail) {
-        Ok(list) => {
-            let mut lines = Vec::new(alloc);
-            life_text(&mut lines, &list)?;
-            Ok(joined_lines(alloc, &lines)?)
-        }
-        Err(ask) => Ok(ask_text(alloc, ask)?),
-    }
+    lines_of(alloc, list_of(alloc, office, &tail))
 }
 
 // The due list of the aircraft with this registration on a day.
@@ -67,14 +74,29 @@ fn due_list<S: Alter>(
     day: &str,
 ) -> Result<String, Unmade> {
     let tail = Tail::read(registration)?;
-    match dues_of(alloc, office, &tail, Day::read(day)?) {
-        Ok(list) => {
-            let mut lines = Vec::new(alloc);
-            due_text(&mut lines, &list)?;
-            Ok(joined_lines(alloc, &lines)?)
-        }
-        Err(ask) => Ok(ask_text(alloc, ask)?),
-    }
+    let day = Day::read(day)?;
+    lines_of(alloc, dues_of(alloc, office, &tail, day))
+}
+
+// The forecast of the aircraft with this registration from a day on: for so many days, at so many minutes and cycles
+// a day.
+fn forecast<S: Alter>(
+    alloc: Global,
+    office: &mut Office<S>,
+    registration: &str,
+    day: &str,
+    numbers: [&str; 3],
+) -> Result<String, Unmade> {
+    let tail = Tail::read(registration)?;
+    let day = Day::read(day)?;
+    let [days, minutes, cycles] = numbers;
+    let days = days.parse::<u32>()?;
+    let minutes = minutes.parse::<u32>()?;
+    let cycles = cycles.parse::<u32>()?;
+    lines_of(
+        alloc,
+        forecast_of(alloc, office, &tail, day, days, minutes, cycles),
+    )
 }
 
 // The limits of the aircraft with this registration on a day.
@@ -85,14 +107,8 @@ fn limits<S: Alter>(
     day: &str,
 ) -> Result<String, Unmade> {
     let tail = Tail::read(registration)?;
-    match limits_of(alloc, office, &tail, Day::read(day)?) {
-        Ok(list) => {
-            let mut lines = Vec::new(alloc);
-            limits_text(&mut lines, &list)?;
-            Ok(joined_lines(alloc, &lines)?)
-        }
-        Err(ask) => Ok(ask_text(alloc, ask)?),
-    }
+    let day = Day::read(day)?;
+    lines_of(alloc, limits_of(alloc, office, &tail, day))
 }
 
 // The life of an item, in minutes and cycles.
@@ -164,6 +180,9 @@ pub(crate) fn answer_of_office<S: Alter>(
         ["first"] => apply_first(alloc, office, asked.list),
         ["life", tail] => life_list(alloc, office, tail),
         ["due", tail, day] => due_list(alloc, office, tail, day),
+        ["forecast", tail, day, days, minutes, cycles] => {
+            forecast(alloc, office, tail, day, [days, minutes, cycles])
+        }
         ["limits", tail, day] => limits(alloc, office, tail, day),
         ["airframe", tail] => life(alloc, office, &Item::Airframe(Tail::read(tail)?)),
         ["component", serial] => life(alloc, office, &Item::Component(Serial::read(serial)?)),

@@ -9,12 +9,13 @@ use mx_command::Command;
 use std::alloc::{AllocError, Global};
 
 // Lines that an office answers by saying that it has to be opened again.
-const CALLS: [&str; 7] = [
+const CALLS: [&str; 8] = [
     "run",
     "first",
     "life D-ABCD",
     "due D-ABCD 2024-03-10",
     "limits D-ABCD 2024-03-10",
+    "forecast D-ABCD 2024-03-10 30 120 1",
     "airframe D-ABCD",
     "entries 1 10",
 ];
