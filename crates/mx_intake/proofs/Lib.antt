@@ -1,9 +1,12 @@
 pub mod EntriesLemmas
 pub mod InputLemmas
 pub mod KeyLemmas
+pub mod NumberLemmas
 pub mod ObjectLemmas
 pub mod ProgrammeLemmas
 pub mod ReadingLemmas
+pub mod RecordsLemmas
+pub mod RowsLemmas
 pub mod SequenceLemmas
 pub mod TableLemmas
 pub mod TaskLemmas
@@ -13,4 +16,5 @@ pub mod WorkedDefects
 pub mod WorkedForms
 pub mod WorkedLoading
 pub mod WorkedReleases
+pub mod WorkedSectors
 pub mod WorkedTasks

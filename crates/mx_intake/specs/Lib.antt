@@ -7,9 +7,11 @@ pub mod Input
 pub mod Items
 pub mod Keys
 pub mod Loading
+pub mod Number
 pub mod Object
 pub mod ProgrammeText
 pub mod Release
+pub mod Sectors
 pub mod Sequence
 pub mod Table
 pub mod Tasks

@@ -43,8 +43,14 @@ pub const UNKNOWN_KEY: u8 = 64;
 /// The entry does not have the shape of a command, a programme or a task, or two of its keys exclude each other.
 pub const BAD_SHAPE: u8 = 65;
 
+/// The first record of a log is not its header.
+pub const BAD_HEADER: u8 = 66;
+
 /// There are more bytes, or more entries, than are taken.
 pub const TOO_LONG: u8 = 67;
+
+/// A row of a log has other than six fields.
+pub const BAD_ROW: u8 = 68;
 
 /// A read failed, or was interrupted.
 pub const READ_FAILED: u8 = 69;

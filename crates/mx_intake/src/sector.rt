@@ -47,7 +47,7 @@ fn body_of_sector(sector: Sector) -> Body
 }
 
 /// The command of a sector, which makes its own document: as `command_by_form`.
-fn sector_by_form(
+pub(crate) fn sector_by_form(
     alloc: Global,
     lacks: bool,
     stated: Option<Sector>,
