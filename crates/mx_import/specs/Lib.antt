@@ -1,0 +1,3 @@
+pub mod Import
+pub mod Rows
+pub mod Text
