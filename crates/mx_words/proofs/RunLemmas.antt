@@ -1,14 +1,17 @@
 -- What the status that words end with says of how they ended.
-use Rattle.std.proofs.Common.{arith, ◌≡◌, ◌≤◌, refl, sym, ◌∙◌, ap, subst, ℕ, Bool, true, false, List, [], ◌++◌, Result, Ok, Err, IfOk}
+use Rattle.std.proofs.Common.{rules, arith, ◌≡◌, ◌≤◌, ◌<◌, ◌⊎◌, inl, inr, refl, sym, ◌∙◌, ap, subst, ℕ, Bool, true, false, List, [], ◌++◌, Option, Some, None, Result, Ok, Err, IfOk, IfErr}
+use Rattle.std.specs.Io.KnownBytes.{Appends, Keeps}
 use Rattle.std.specs.Prelude.{max}
 use Rattle.mx_words.specs.declared.fault.Ending.{Ending}
-use Rattle.mx_words.specs.declared.fault.Ending.TheVariants.{Done, Refused}
+use Rattle.mx_words.specs.declared.fault.Ending.TheVariants.{Done, Refused, Bad}
 use Rattle.mx_words.specs.declared.fault.Stop.{Stop}
 use Rattle.mx_words.specs.declared.fault.Stop.TheVariants.{Words, Shape, Intake, MakeMemory, Create, Open, Office, Print}
-use Rattle.mx_words.specs.Status.{done_status}
+use Rattle.mx_words.specs.declared.command_line.Words.{Words as Asked}
+use Rattle.mx_words.specs.Done.{IsDone, IsEnded}
+use Rattle.mx_words.specs.Status.{done_status, stop_status}
 
 -- what was printed in part alone has a status of 4 or more
-pub whole_of : (whole : Bool) (status done : ℕ) → (whole ≡ false → status ≡ max done 4) → status ≡ 1 → whole ≡ true
+pub whole_of : (whole : Bool) (status done : ℕ) → (whole ≡ false → status ≡ max done 4) → status < 4 → whole ≡ true
 whole_of true status done h e = refl
 whole_of false status done h e = let m = h refl in absurd (omega (arith, m, e))
 
@@ -16,6 +19,7 @@ whole_of false status done h e = let m = h refl in absurd (omega (arith, m, e))
 pub refusal_of : (done : Result Ending Stop) → done_status done ≡ 1 → done ≡ Ok Refused
 refusal_of (Ok Done) h = (cc)
 refusal_of (Ok Refused) h = refl
+refusal_of (Ok Bad) h = (cc)
 refusal_of (Err Words) h = (cc)
 refusal_of (Err Shape) h = (cc)
 refusal_of (Err (Intake fault)) h = (cc)
@@ -25,8 +29,32 @@ refusal_of (Err (Open fault)) h = (cc)
 refusal_of (Err (Office fault)) h = (cc)
 refusal_of (Err Print) h = (cc)
 
--- what is said of whatever was done is said of a refusal
-pub refused_by : (P : Ending → Type 0) (done : Result Ending Stop) → IfOk done P → done ≡ Ok Refused → P Refused
-refused_by P (Ok Refused) h e = h
-refused_by P (Ok Done) h e = (cc)
-refused_by P (Err stop) h e = (cc)
+-- what is said of whatever was done is said of an ending
+pub ended_by : (P : Ending → Type 0) (ending : Ending) (done : Result Ending Stop) → IfOk done P → done ≡ Ok ending → P ending
+ended_by P ending (Ok found) h e = let same : found ≡ ending = cc in subst P same h
+ended_by P ending (Err stop) h e = (cc)
+
+-- nothing more was printed
+kept : (old new : Option (List ℕ)) → Appends old new [] → Keeps old new
+kept None new h = search rules
+kept (Some xs) None h = h
+kept (Some xs) (Some ys) h = search rules
+
+-- with status 3 the input gave nothing and nothing was printed, or a row was bad and the lines of the rows were
+pub bad_or_unread : (old new : Option (List ℕ)) (done : Result Ending Stop) (before after shown : List ℕ)
+    → before ≡ [] → shown ≡ after → Appends old new shown
+    → IfOk done (λ ending. (words : Asked) × (text : List ℕ) × (after ≡ before ++ text) × IsDone words text ending)
+    → IfErr done (λ stop. stop_status stop ≡ 3 → after ≡ before)
+    → done_status done ≡ 3 → Keeps old new ⊎ IsEnded Bad old new
+bad_or_unread old new (Ok Done) before after shown b s a ok err three = absurd (cc)
+bad_or_unread old new (Ok Refused) before after shown b s a ok err three = absurd (cc)
+bad_or_unread old new (Ok Bad) before after shown b s a ok err three =
+    inr (ok.0, ok.1, ok.3, subst (λ (x : List ℕ). Appends old new x) (s ∙ ok.2 ∙ ap (λ (x : List ℕ). x ++ ok.1) b) a)
+bad_or_unread old new (Err Words) before after shown b s a ok err three = absurd (cc)
+bad_or_unread old new (Err Shape) before after shown b s a ok err three = absurd (cc)
+bad_or_unread old new (Err (Intake fault)) before after shown b s a ok err three = inl (kept old new (subst (λ (x : List ℕ). Appends old new x) (s ∙ err refl ∙ b) a))
+bad_or_unread old new (Err MakeMemory) before after shown b s a ok err three = absurd (cc)
+bad_or_unread old new (Err (Create fault)) before after shown b s a ok err three = absurd (cc)
+bad_or_unread old new (Err (Open fault)) before after shown b s a ok err three = absurd (cc)
+bad_or_unread old new (Err (Office fault)) before after shown b s a ok err three = absurd (cc)
+bad_or_unread old new (Err Print) before after shown b s a ok err three = absurd (cc)

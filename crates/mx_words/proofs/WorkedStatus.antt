@@ -8,12 +8,14 @@ use Rattle.mx_office.specs.declared.fault.OpenFault.TheVariants as opening
 use Rattle.mx_book.specs.declared.verdict.Refusal.TheVariants.{UnknownAircraft, Full}
 use Rattle.mx_book.specs.declared.verdict.Reply.TheVariants.{Accepted, Already}
 use Rattle.mx_book.specs.declared.verdict.Reply.TheVariants as reply
-use Rattle.mx_words.specs.declared.fault.Ending.TheVariants.{Done, Refused}
+use Rattle.mx_words.specs.declared.fault.Ending.TheVariants.{Done, Refused, Bad}
 use Rattle.mx_words.specs.declared.fault.Stop.TheVariants.{Words, Shape, Intake, MakeMemory, Create, Open, Office, Print}
 use Rattle.mx_words.specs.Printed.{list_answer, list_ending}
 use Rattle.mx_words.specs.declared.question.Report.TheVariants as report
 use Rattle.mx_base.specs.Calendar.{date_of}
 use Rattle.mx_base.specs.Texts.{day_text}
+use Rattle.mx_import.specs.declared.report.RowReply.TheVariants as row
+use Rattle.mx_words.specs.Imported.{import_ending}
 use Rattle.mx_words.specs.Status.{stop_status, ending_status, graver, is_refusal, run_ending}
 
 -- words that the program does not take
@@ -84,7 +86,7 @@ unfolding digits day_text date_of
 limits = refl
 
 -- the statuses of endings, and the graver of two
-endings : map ending_status (Done ∷ Refused ∷ []) ≡ 0 ∷ 1 ∷ []
+endings : map ending_status (Done ∷ Refused ∷ Bad ∷ []) ≡ 0 ∷ 1 ∷ 3 ∷ []
 endings = refl
 
 refused_first : graver Refused Done ≡ Refused
@@ -93,5 +95,27 @@ refused_first = refl
 refused_last : graver Done Refused ≡ Refused
 refused_last = refl
 
+bad_is_graver : map (graver Bad) (Done ∷ Refused ∷ Bad ∷ []) ≡ Bad ∷ Bad ∷ Bad ∷ []
+bad_is_graver = refl
+
+bad_behind_a_refusal : graver Refused Bad ≡ Bad
+bad_behind_a_refusal = refl
+
 none_is_refused : graver Done Done ≡ Done
 none_is_refused = refl
+
+-- an import ends as its gravest row
+no_row : import_ending [] ≡ Done
+no_row = refl
+
+good_rows_alone : import_ending (row.Entered (Accepted 2) ∷ row.Entered (Already 1) ∷ []) ≡ Done
+good_rows_alone = refl
+
+refused_row : import_ending (row.Entered (Accepted 2) ∷ row.Entered (reply.Refused UnknownAircraft) ∷ []) ≡ Refused
+refused_row = refl
+
+bad_row_before_a_refused_one : import_ending (row.Bad (record { number = 65; entry = 1 }) ∷ row.Entered (reply.Refused UnknownAircraft) ∷ []) ≡ Bad
+bad_row_before_a_refused_one = refl
+
+bad_row_behind_a_refused_one : import_ending (row.Entered (reply.Refused UnknownAircraft) ∷ row.Bad (record { number = 63; entry = 2 }) ∷ row.Entered (Accepted 2) ∷ []) ≡ Bad
+bad_row_behind_a_refused_one = refl

@@ -5,10 +5,11 @@ use Rattle.clap.specs.Values.{kind_of}
 use Rattle.clap.specs.declared.error.Error.{Error}
 use Rattle.clap.specs.declared.error.kind.ErrorKind.TheVariants.{DisplayHelp, DisplayVersion}
 use Rattle.mx_words.specs.Entered.{AreReplyLines}
+use Rattle.mx_words.specs.Imported.{AreRowLines}
 use Rattle.mx_words.specs.Printed.{IsListAnswer}
 use Rattle.mx_words.specs.Trial.{is_trial_shaped, trial_commands, TellsTrial}
 use Rattle.mx_words.specs.declared.command_line.Words.{Words}
-use Rattle.mx_words.specs.declared.command_line.Words.TheVariants.{Try, Init, List as ForList, Enter, Programme}
+use Rattle.mx_words.specs.declared.command_line.Words.TheVariants.{Try, Init, List as ForList, Enter, Import, Programme}
 use Rattle.mx_words.specs.declared.fault.Ending.{Ending}
 use Rattle.mx_words.specs.declared.fault.Ending.TheVariants.{Done}
 
@@ -18,6 +19,7 @@ IsDone (Try trial) text ending = TellsTrial [] (trial_commands trial) trial.tail
 IsDone (Init file) text ending = (ending ≡ Done) × (text ≡ codes "created\n")
 IsDone (ForList file question) text ending = IsListAnswer question text ending
 IsDone (Enter file entries) text ending = (count : ℕ) × AreReplyLines count text ending
+IsDone (Import file csv) text ending = AreRowLines text ending
 IsDone (Programme file doc toml) text ending = AreReplyLines 1 text ending
 
 -- the words are those of a trial that lacks its shape

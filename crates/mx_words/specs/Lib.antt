@@ -1,6 +1,7 @@
 pub mod Asked
 pub mod Done
 pub mod Entered
+pub mod Imported
 pub mod FaultLine
 pub mod Number
 pub mod Printed

@@ -4,7 +4,7 @@ use Rattle.std.specs.List.{list_any}
 use Rattle.mx_book.specs.declared.verdict.Reply.{Reply}
 use Rattle.mx_book.specs.declared.verdict.Reply.TheVariants as reply
 use Rattle.mx_words.specs.declared.fault.Ending.{Ending}
-use Rattle.mx_words.specs.declared.fault.Ending.TheVariants.{Done, Refused}
+use Rattle.mx_words.specs.declared.fault.Ending.TheVariants.{Done, Refused, Bad}
 use Rattle.mx_words.specs.declared.fault.Stop.{Stop}
 use Rattle.mx_words.specs.declared.fault.Stop.TheVariants.{Words, Shape, Intake, MakeMemory, Create, Open, Office, Print}
 
@@ -19,10 +19,11 @@ stop_status (Open fault) = 5
 stop_status (Office fault) = 4
 stop_status Print = 4
 
--- the status of an ending: 0 where all was done, 1 where something was refused
+-- the status of an ending: 0 where all was done, 1 where something was refused, 3 where a row of a sector log was bad
 abbrev pub ending_status : Ending → ℕ
 ending_status Done = 0
 ending_status Refused = 1
+ending_status Bad = 3
 
 -- the status of a word
 abbrev pub done_status : Result Ending Stop → ℕ
@@ -32,7 +33,10 @@ done_status (Err stop) = stop_status stop
 -- the graver of two endings
 abbrev pub graver : Ending → Ending → Ending
 graver Done other = other
-graver Refused other = Refused
+graver Refused Done = Refused
+graver Refused Refused = Refused
+graver Refused Bad = Bad
+graver Bad other = Bad
 
 -- the command was refused
 abbrev pub is_refusal : Reply → Bool

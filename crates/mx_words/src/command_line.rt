@@ -1,7 +1,7 @@
 //! The words that the program takes, read with `clap`. Every value is taken as it is written, also
 //! one that begins with `-`, and read by the readers of the office. Which words ask for what no
 //! contract says: `transcripts/` shows it.
-ghost use Rattle.std.specs.Prelude.{◌≡◌};
+ghost use Rattle.std.specs.Prelude.{◌≡◌, ◌≤◌, IfSome};
 ghost use Rattle.std.specs.Char.{is_ascii_digit};
 ghost use Rattle.std.specs.List.{list_all};
 ghost use Rattle.mx_words.specs.Number.{number_in};
@@ -10,6 +10,7 @@ use crate::question::Question;
 use crate::trial::Trial;
 use clap::{Arg, ArgAction, ArgMatches, Command};
 use mx_base::{Day, Doc, Moment, Tail};
+use mx_book::{MOST_CYCLES, MOST_DAYS, MOST_MINUTES};
 use std::alloc::{AllocError, Global};
 
 /// What the program is asked to do.
@@ -26,6 +27,10 @@ pub(crate) enum Words<'a> {
     Enter {
         file: &'a str,
         entries: &'a str,
+    },
+    Import {
+        file: &'a str,
+        csv: &'a str,
     },
     Programme {
         file: &'a str,
@@ -86,6 +91,17 @@ fn due_command<'a>(alloc: Global) -> Result<Command<'a>, AllocError> {
         .arg(value(alloc, "DAY", "The day, YYYY-MM-DD"))
 }
 
+fn forecast_command<'a>(alloc: Global) -> Result<Command<'a>, AllocError> {
+    Command::new(alloc, "forecast")
+        .about("Prints what will be due on an aircraft, and when, at the rate that it is flown")
+        .arg(value(alloc, "FILE", "The database file"))?
+        .arg(value(alloc, "TAIL", "The registration"))?
+        .arg(value(alloc, "DAY", "The day to look ahead from, YYYY-MM-DD"))?
+        .arg(value(alloc, "DAYS", "The days to look ahead, at most 3650"))?
+        .arg(value(alloc, "MINUTES", "The flight minutes a day, at most 1440"))?
+        .arg(value(alloc, "CYCLES", "The cycles a day, at most 50"))
+}
+
 fn limits_command<'a>(alloc: Global) -> Result<Command<'a>, AllocError> {
     Command::new(alloc, "limits")
         .about(
@@ -101,6 +117,13 @@ fn enter_command<'a>(alloc: Global) -> Result<Command<'a>, AllocError> {
         .about("Enters the commands of a file, and prints a reply for each")
         .arg(value(alloc, "FILE", "The database file"))?
         .arg(value(alloc, "ENTRIES", "The file of commands, a list in JSON"))
+}
+
+fn import_command<'a>(alloc: Global) -> Result<Command<'a>, AllocError> {
+    Command::new(alloc, "import")
+        .about("Enters the sectors of a log, and prints a reply or a fault for each row")
+        .arg(value(alloc, "FILE", "The database file"))?
+        .arg(value(alloc, "CSV", "The file of the sector log, in CSV"))
 }
 
 fn programme_command<'a>(alloc: Global) -> Result<Command<'a>, AllocError> {
@@ -128,8 +151,10 @@ pub(crate) fn command<'a>(alloc: Global) -> Result<Command<'a>, AllocError> {
         .subcommand(init_command(alloc)?)?
         .subcommand(life_command(alloc)?)?
         .subcommand(due_command(alloc)?)?
+        .subcommand(forecast_command(alloc)?)?
         .subcommand(limits_command(alloc)?)?
         .subcommand(enter_command(alloc)?)?
+        .subcommand(import_command(alloc)?)?
         .subcommand(programme_command(alloc)?)
 }
 
@@ -147,6 +172,13 @@ fn number(text: &str) -> Option<u32>
         return None;
     }
     text.parse::<u32>().ok()
+}
+
+// The number behind a name, where it is no greater than the greatest.
+fn number_up_to(matches: &ArgMatches<'_>, name: &str, most: u32) -> Option<u32>
+    ensures { IfSome result (λ n. n ≤ most) }
+{
+    number_of(matches, name).filter(|number| *number <= most)
 }
 
 fn number_of(matches: &ArgMatches<'_>, name: &str) -> Option<u32> {
@@ -176,12 +208,23 @@ fn day_of(matches: &ArgMatches<'_>) -> Option<Day> {
     Day::read(matches.get_str("DAY")?).ok()
 }
 
+fn forecast_of(matches: &ArgMatches<'_>) -> Option<Question> {
+    Some(Question::Forecast {
+        tail: tail_of(matches)?,
+        day: day_of(matches)?,
+        days: number_up_to(matches, "DAYS", MOST_DAYS)?,
+        minutes: number_up_to(matches, "MINUTES", MOST_MINUTES)?,
+        cycles: number_up_to(matches, "CYCLES", MOST_CYCLES)?,
+    })
+}
+
 // The question that the words for a list ask.
 fn question_of(name: &str, matches: &ArgMatches<'_>) -> Option<Question> {
     let tail = tail_of(matches)?;
     match name {
         "life" => Some(Question::Life(tail)),
         "due" => Some(Question::Due(tail, day_of(matches)?)),
+        "forecast" => forecast_of(matches),
         "limits" => Some(Question::Limits(tail, day_of(matches)?)),
         _ => None,
     }
@@ -206,6 +249,10 @@ pub(crate) fn words_of<'a>(matches: &ArgMatches<'a>) -> Option<Words<'a>> {
         "enter" => Some(Words::Enter {
             file: values.get_str("FILE")?,
             entries: values.get_str("ENTRIES")?,
+        }),
+        "import" => Some(Words::Import {
+            file: values.get_str("FILE")?,
+            csv: values.get_str("CSV")?,
         }),
         "programme" => programme_of(values),
         list => Some(Words::List {

@@ -17,7 +17,8 @@ use mx_reports::reply_text;
 use sqlite::Alter;
 use std::alloc::Global;
 
-fn is_refused(reply: &Reply) -> bool
+/// Whether a command was refused.
+pub(crate) fn is_refused(reply: &Reply) -> bool
     ensures { result ≡ is_refusal reply.now }
 {
     match reply {

@@ -16,7 +16,7 @@ use std::io::Write;
 /// The words are none that the program takes.
 pub(crate) const BAD_WORDS: u8 = 2;
 
-/// The input file can't be opened, or gives no commands.
+/// The input file can't be opened, or gives no commands, or a row of it states no sector.
 const BAD_INPUT: u8 = 3;
 
 /// The office was opened, and something stopped the program then.
@@ -32,17 +32,20 @@ pub(crate) enum Ending {
     Done,
     /// A reply or a question was refused.
     Refused,
+    /// A row of a sector log states no sector.
+    Bad,
 }
 
 impl Ending {
-    /// The status: 0 where all was done, 1 where something was refused.
+    /// The status: 0 where all was done, 1 where something was refused, 3 where a row was bad.
     pub(crate) fn status(self) -> u8
         ensures named { result ≡ ending_status self }
-        ensures bound { result ≤ 1 }
+        ensures bound { result ≤ 3 }
     {
         match self {
             Ending::Done => 0,
             Ending::Refused => 1,
+            Ending::Bad => BAD_INPUT,
         }
     }
 
@@ -50,9 +53,11 @@ impl Ending {
     pub(crate) fn or(self, other: Ending) -> Ending
         ensures { result ≡ graver self other }
     {
-        match self {
-            Ending::Done => other,
-            Ending::Refused => Ending::Refused,
+        match (self, other) {
+            (Ending::Done, _) => other,
+            (Ending::Refused, Ending::Bad) => Ending::Bad,
+            (Ending::Refused, _) => Ending::Refused,
+            (Ending::Bad, _) => Ending::Bad,
         }
     }
 }

@@ -4,11 +4,13 @@ ghost use Rattle.std.specs.Prelude.{◌≡◌, ◌↔◌, ◌⊎◌, ◌+◌, �
 ghost use Rattle.std.specs.Vec.{vec_capacity};
 ghost use Rattle.mx_words.specs.Asked.{IsAnswer};
 ghost use Rattle.mx_words.specs.Entered.{AreReplyLines};
+ghost use Rattle.mx_words.specs.Imported.{AreRowLines};
 ghost use Rattle.mx_words.specs.Printed.{IsListAnswer};
 ghost use Rattle.mx_words.specs.Status.{stop_status};
 
 use crate::entering::enter_all;
 use crate::fault::{Ending, Stop};
+use crate::importing::import_all;
 use crate::listing::print_list;
 use crate::making::{CREATED, make_book};
 use crate::opening::open;
@@ -20,7 +22,7 @@ use mx_layout::TableFault;
 use mx_office::{Fault, Office, OpenFault};
 use sqlite::{Alter, Connection, Error, ErrorCode, FileFrom, FileStore, Wary};
 use std::alloc::Global;
-use std::io::ErrorKind;
+use std::io::{ErrorKind, Read};
 use std::{fs, slice};
 
 type File = FileStore<FileFrom<Wary>>;
@@ -137,8 +139,19 @@ fn is_nothing(rt: &HostRuntime, file: &str) -> bool {
     }
 }
 
-// Appends what the office in a file answers. A file that isn't there, is empty or has one byte is no
-// office, and is left as it is: opening it would make a database of it.
+// Opens the database in a file for an office. A file that isn't there, is empty or has one byte is none, and is left as
+// it is: opening it would make a database of it.
+fn open_book(rt: &HostRuntime, file: &str) -> Result<Connection<File>, Stop>
+    ensures idle { IfOk result (λ conn. conn.in_transaction ≡ false) }
+    ensures stops { IfErr result (λ stop. stop_status stop ≡ 5) }
+{
+    if is_nothing(rt, file) {
+        return Err(Stop::Open(OpenFault::NotOurs));
+    }
+    open_file(rt, file)
+}
+
+// Appends what the office in a file answers.
 fn answer_file(
     rt: &HostRuntime,
     file: &str,
@@ -149,10 +162,7 @@ fn answer_file(
         × IsAnswer asked.entry text ending) }
     ensures status { IfErr result (λ stop. 4 ≤ stop_status stop) }
 {
-    if is_nothing(rt, file) {
-        return Err(Stop::Open(OpenFault::NotOurs));
-    }
-    let conn = open_file(rt, file)?;
+    let conn = open_book(rt, file)?;
     let (conn, answered) = answer_in(rt.alloc(), conn, asked, out)?;
     if conn.close().is_err() && answered.is_ok() {
         return Err(Stop::Office(Fault::Store));
@@ -174,13 +184,16 @@ pub(crate) fn list(
     answer_file(rt, file, Asked::List(question), out)
 }
 
+// Why an input file that can't be opened gives nothing.
+const UNOPENED: IntakeFault = IntakeFault {
+    number: READ_FAILED,
+    entry: 0,
+};
+
 // The bytes of an input file.
 fn input_in(rt: &HostRuntime, name: &str) -> Result<Vec<u8>, IntakeFault> {
     let Ok(mut file) = fs::open(rt, name) else {
-        return Err(IntakeFault {
-            number: READ_FAILED,
-            entry: 0,
-        });
+        return Err(UNOPENED);
     };
     read_all(rt.alloc(), &mut file, MOST_BYTES)
 }
@@ -236,4 +249,49 @@ pub(crate) fn programme(
         Ok(command) => answer_file(rt, file, Asked::Enter(slice::from_ref(&command)), out),
         Err(fault) => Err(Stop::Intake(fault)),
     }
+}
+
+// Imports a sector log into the office that a database holds, and hands the database back.
+fn import_in<S: Alter + Drop, R: Read>(
+    alloc: Global,
+    conn: Connection<S>,
+    reader: &mut R,
+    out: &mut Vec<u8>,
+) -> Result<(Connection<S>, Result<Ending, Stop>), Stop>
+    requires { conn.in_transaction ≡ false }
+    ensures shown { IfOk result (λ found. IfOk found.1 (λ ending. (text : _)
+        × (out.new.items ≡ out.old.items ++ text) × AreRowLines text ending)) }
+    ensures unread { IfOk result (λ found. IfErr found.1 (λ stop. stop_status stop ≡ 3
+        → out.new.items ≡ out.old.items)) }
+    ensures status { IfOk result (λ found. IfErr found.1 (λ stop. 3 ≤ stop_status stop)) }
+    ensures opening { IfErr result (λ stop. stop_status stop ≡ 5) }
+{
+    let mut office = open(conn)?;
+    let imported = import_all(alloc, &mut office, reader, out);
+    Ok((office.close(), imported))
+}
+
+/// Imports the sector log of a file, and appends a line for each row. The log is opened first, then the database, and
+/// then the log is read.
+pub(crate) fn import(
+    rt: &HostRuntime,
+    file: &str,
+    csv: &str,
+    out: &mut Vec<u8>,
+) -> Result<Ending, Stop>
+    ensures shown { IfOk result (λ ending. (text : _) × (out.new.items ≡ out.old.items ++ text)
+        × AreRowLines text ending) }
+    ensures status { IfErr result (λ stop. 3 ≤ stop_status stop) }
+    ensures unread { IfErr result (λ stop. stop_status stop ≡ 3
+        → out.new.items ≡ out.old.items) }
+{
+    let Ok(mut log) = fs::open(rt, csv) else {
+        return Err(Stop::Intake(UNOPENED));
+    };
+    let conn = open_book(rt, file)?;
+    let (conn, imported) = import_in(rt.alloc(), conn, &mut log, out)?;
+    if conn.close().is_err() && imported.is_ok() {
+        return Err(Stop::Office(Fault::Store));
+    }
+    imported
 }

@@ -14,7 +14,7 @@ use crate::fault::{Ending, Stop};
 use crate::question::{Question, Report, ask};
 use mx_book::{Refusal, Reply};
 use mx_office::{Ask, Fault, Office};
-use mx_reports::{due_text, life_text, limits_text, reply_text};
+use mx_reports::{due_text, forecast_text, life_text, limits_text, reply_text};
 use sqlite::Alter;
 use std::alloc::{AllocError, Global};
 
@@ -26,6 +26,7 @@ fn report_text(out: &mut Vec<u8>, report: &Report) -> Result<(), AllocError>
     match report {
         Report::Life(list) => life_text(out, list),
         Report::Due(list) => due_text(out, list),
+        Report::Forecast(list) => forecast_text(out, list),
         Report::Limits(list) => limits_text(out, list),
     }
 }

@@ -2,6 +2,7 @@
 ghost use Rattle.std.specs.Prelude.{IfOk};
 ghost use Rattle.std.specs.Option.{option_map};
 ghost use Rattle.mx_book.specs.DueList.{due_list};
+ghost use Rattle.mx_book.specs.Forecast.{forecast};
 ghost use Rattle.mx_book.specs.LimitList.{limits};
 ghost use Rattle.mx_book.specs.Lists.{life_list};
 ghost use Rattle.mx_office.specs.Faults.{found_or};
@@ -11,7 +12,7 @@ ghost use Rattle.mx_words.specs.declared.question.Question.TheVariants as asked;
 ghost use Rattle.mx_words.specs.declared.question.Report.TheVariants as report;
 
 use mx_base::{Day, Tail};
-use mx_book::{DueList, LifeList, LimitList, Refusal};
+use mx_book::{DueList, ForecastList, LifeList, LimitList, Refusal};
 use mx_office::{Ask, Office};
 use sqlite::Alter;
 use std::alloc::Global;
@@ -23,6 +24,14 @@ pub(crate) enum Question {
     Life(Tail),
     /// What is due on it, and what is left until then on a day.
     Due(Tail, Day),
+    /// What will be due on it within so many days of a day, at so many minutes and cycles a day.
+    Forecast {
+        tail: Tail,
+        day: Day,
+        days: u32,
+        minutes: u32,
+        cycles: u32,
+    },
     /// The last days of its open defects, and what is left until then on a day.
     Limits(Tail, Day),
 }
@@ -32,6 +41,7 @@ pub(crate) enum Question {
 pub(crate) enum Report {
     Life(LifeList),
     Due(DueList),
+    Forecast(ForecastList),
     Limits(LimitList),
 }
 
@@ -62,6 +72,28 @@ fn due_of<S: Alter>(
 {
     match office.due_rows(alloc, *tail, day) {
         Ok(list) => Ok(Report::Due(list)),
+        Err(why) => Err(why),
+    }
+}
+
+// Asks for the forecast of an aircraft.
+fn forecast_of<S: Alter>(
+    alloc: Global,
+    office: &mut Office<S>,
+    tail: &Tail,
+    day: Day,
+    days: u32,
+    minutes: u32,
+    cycles: u32,
+) -> Result<Report, Ask>
+    ensures asked { IsAsked Ask.Failed office.old office.new result }
+    ensures answered { IsAnsweredBy (λ book. found_or Refusal.UnknownAircraft
+        (option_map report.Forecast (forecast book tail.now day days minutes cycles)))
+        office.old office.new result }
+    ensures kind { IfOk result (IsOfKind (asked.Forecast tail.now day days minutes cycles)) }
+{
+    match office.forecast_rows(alloc, *tail, day, days, minutes, cycles) {
+        Ok(list) => Ok(Report::Forecast(list)),
         Err(why) => Err(why),
     }
 }
@@ -99,6 +131,13 @@ pub(crate) fn ask<S: Alter>(
     match question {
         Question::Life(tail) => life_of(alloc, office, tail),
         Question::Due(tail, day) => due_of(alloc, office, tail, *day),
+        Question::Forecast {
+            tail,
+            day,
+            days,
+            minutes,
+            cycles,
+        } => forecast_of(alloc, office, tail, *day, *days, *minutes, *cycles),
         Question::Limits(tail, day) => limits_of(alloc, office, tail, *day),
     }
 }

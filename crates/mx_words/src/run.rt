@@ -1,12 +1,12 @@
 //! The program on its words.
-ghost use Rattle.std.specs.Prelude.{◌≡◌, ◌≢◌, ◌≤◌, ◌++◌, IfOk, IfErr};
+ghost use Rattle.std.specs.Prelude.{◌≡◌, ◌≢◌, ◌⊎◌, ◌≤◌, ◌++◌, IfOk, IfErr};
 ghost use Rattle.std.specs.Io.KnownBytes.{Keeps};
 ghost use Rattle.mx_words.specs.Done.{IsAnswered, IsDone, IsEnded, LacksShape};
 ghost use Rattle.mx_words.specs.Status.{stop_status};
 
 use crate::command_line::{Words, command, words_of};
 use crate::fault::{Ending, Stop};
-use crate::files::{enter, init, list, programme};
+use crate::files::{enter, import, init, list, programme};
 use crate::printing::{print_done, print_usage};
 use crate::trial::try_out;
 use clap::ArgMatches;
@@ -27,6 +27,7 @@ fn perform(rt: &HostRuntime, words: &Words<'_>, out: &mut Vec<u8>) -> Result<End
         Words::Init { file } => init(rt, file, out),
         Words::List { file, question } => list(rt, file, question, out),
         Words::Enter { file, entries } => enter(rt, file, entries, out),
+        Words::Import { file, csv } => import(rt, file, csv, out),
         Words::Programme { file, doc, toml } => programme(rt, file, *doc, toml, out),
     }
 }
@@ -64,7 +65,8 @@ fn answer<O: Write, E: Write>(
         → IsEnded Ending.Refused (O.contents out.old) (O.contents out.new) }
     ensures quiet { result ≤ 1 → err.new ≡ err.old }
     ensures unprinted { result ≡ 2 → Keeps (O.contents out.old) (O.contents out.new) }
-    ensures unread { result ≡ 3 → Keeps (O.contents out.old) (O.contents out.new) }
+    ensures unread { result ≡ 3 → Keeps (O.contents out.old) (O.contents out.new)
+        ⊎ IsEnded Ending.Bad (O.contents out.old) (O.contents out.new) }
 {
     let mut text = Vec::new(rt.alloc());
     let done = perform_all(rt, matches, &mut text);
@@ -74,7 +76,7 @@ fn answer<O: Write, E: Write>(
 /// Runs the program on its words, the first of which is its name. Prints replies, reports and help
 /// to `out`, faults and usage to `err`, and answers the status: 0 where all was done; 1 where a
 /// reply or a question was refused; 2 for words that it does not take; 3 for an input file that gives
-/// no commands; 4 for a fault after the database was opened; 5 where it could not be opened or made.
+/// no commands, or where a row of a sector log was bad; 4 for a fault after the database was opened; 5 where it could not be opened or made.
 pub fn run_words<O: Write, E: Write>(
     rt: &HostRuntime,
     words: &[String],
@@ -87,7 +89,8 @@ pub fn run_words<O: Write, E: Write>(
         → IsEnded Ending.Refused (O.contents out.old) (O.contents out.new) }
     ensures quiet { result ≤ 1 → err.new ≡ err.old }
     ensures unprinted { result ≡ 2 → Keeps (O.contents out.old) (O.contents out.new) }
-    ensures unread { result ≡ 3 → Keeps (O.contents out.old) (O.contents out.new) }
+    ensures unread { result ≡ 3 → Keeps (O.contents out.old) (O.contents out.new)
+        ⊎ IsEnded Ending.Bad (O.contents out.old) (O.contents out.new) }
 {
     let Ok(command) = command(rt.alloc()) else {
         return print_done(&[], Err(Stop::MakeMemory), out, err).status;
