@@ -71,6 +71,7 @@ class Init:
     """`init FILE`: the file is without our tables, or has those of the empty book."""
 
     name = "init"
+    status = 0
 
     def before(self, file):
         """What the file holds before the word: it isn't there."""
@@ -117,6 +118,7 @@ class Enter:
     """`enter FILE ENTRIES`: the file has the book of a prefix of the commands, with each whose reply was printed."""
 
     name = "enter"
+    status = 0
     aircraft = {
         "do": "add-aircraft", "doc": "A1", "tail": "D-ABCD", "kind": "C172", "birth": "2000-01-01", "minutes": 600,
         "cycles": 10, "as_of": "2024-01-01T00:00", "positions": [],
@@ -178,6 +180,7 @@ class Programme:
     """`programme FILE DOC TOML`: the file has the empty book, or the whole programme."""
 
     name = "programme"
+    status = 0
     tasks = [
         f'[[task]]\nid = "T{number}"\napplies = "airframe"\nfirst = {{ hours = {number} }}\n' for number in range(1, 101)
     ]
@@ -205,9 +208,57 @@ class Programme:
         return "the programme" if again == "already 1\n" else "an empty book"
 
 
+class Import:
+    """`import FILE CSV`: the file has the book of the aircraft and a prefix of the good rows, with each whose reply was
+    printed. The third row is bad."""
+
+    name = "import"
+    status = 3
+    rows = [f"D-ABCD,1,{line},2024-02-{line:02}T10:00,2024-02-{line:02}T10:30,1" for line in range(1, 21)]
+    rows[2] = "D-ABCD,1,3"
+
+    def csv(self, file):
+        return file.with_name("sectors.csv")
+
+    def before(self, file):
+        """A book of one aircraft, and the sector log."""
+        want("init", (0, "created\n", ""), run("init", file))
+        entries = file.with_name("aircraft.json")
+        entries.write_text(json.dumps([Enter.aircraft]), encoding="utf-8")
+        want("enter", (0, "accepted 1\n", ""), run("enter", file, entries))
+        self.csv(file).write_text("\n".join(["tail,page,line,off,on,cycles", *self.rows]), encoding="utf-8")
+
+    def words(self, file):
+        return ["import", file, self.csv(file)]
+
+    def life(self, sectors):
+        """What `life` answers behind so many sectors of half an hour."""
+        minutes = 600 + 30 * sectors
+        return (0, f"life D-ABCD\nairframe C172 {minutes // 60}:{minutes % 60:02} {10 + sectors}\nend 1\n", "")
+
+    def after(self, file, printed):
+        """Looks at the file that a kill left, after the program printed this. Answers what it is."""
+        want("the tables", TABLES, tables_by_sqlite(file))
+        asked, good = run("life", file, "D-ABCD"), len(self.rows) - 1
+        kept = next((n for n in range(good + 1) if asked == self.life(n)), None)
+        if kept is None:
+            raise Bad("the book of no prefix of the rows")
+        if kept < printed.count(" accepted "):
+            raise Bad(f"{kept} sectors, and these lines: {printed!r}")
+        lines = [f"row 3 fault 68\n" if row == 3 else self.line(row, kept) for row in range(1, len(self.rows) + 1)]
+        want("the same log once more", (3, "".join(lines), ""), run(*self.words(file)))
+        want("the life then", self.life(good), run("life", file, "D-ABCD"))
+        return f"{kept} sectors"
+
+    def line(self, row, kept):
+        """The line of a good row, handed in again where so many of them are kept."""
+        nth = row if row < 3 else row - 1
+        return f"row {row} {'already' if nth <= kept else 'accepted'} {nth + 1}\n"
+
+
 # A further word that writes has a class beside these: `before` makes the file and enters what it holds, `words` are the
-# words that are killed, and `after` compares what the file holds with what was acknowledged.
-WORDS = [Init(), Enter(), Programme()]
+# words that are killed, `status` what they end with where nothing kills them, and `after` compares what the file holds with what was acknowledged.
+WORDS = [Init(), Enter(), Programme(), Import()]
 
 
 def seconds_of(word, folder):
@@ -217,7 +268,7 @@ def seconds_of(word, folder):
         file = folder / f"{word.name}-whole{nth}.db"
         word.before(file)
         begun = time.monotonic()
-        want(f"the status of {word.name}", 0, run(*word.words(file))[0])
+        want(f"the status of {word.name}", word.status, run(*word.words(file))[0])
         longest = max(longest, time.monotonic() - begun)
     return longest
 

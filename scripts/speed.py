@@ -1,8 +1,8 @@
 #!/usr/bin/env python3
 """How long the built program takes beside SQLite's own program, and how much memory.
 
-Run by hand: scripts/speed.py [SECTORS], with 10,000 sectors where no number is given, and the program in ./office at
-the top of the repository or at the path in OFFICE. `office enter` enters an aircraft and its sectors from a JSON file
+Run by hand: scripts/speed.py [SECTORS], with 10,000 sectors where no number is given, or scripts/speed.py --import
+[SECTORS], with 100,000, and the program in ./office at the top of the repository or at the path in OFFICE. `office enter` enters an aircraft and its sectors from a JSON file
 into a new file, each in a commit of its own; `sqlite3` runs the same INSERTs into the same tables, each command in a
 transaction of its own, with a log and a sync at each commit as the office has them. Then `office life` answers on the
 file. Each is run once, after the other, in one folder. It is no test: what is to be read are the ratios.
@@ -80,7 +80,39 @@ def measured(words, **streams):
     return time.monotonic() - start, most
 
 
+def theirs_in(folder, sectors):
+    """Seconds and megabytes of `sqlite3`, which runs the same INSERTs into the tables of a new file."""
+    (folder / "inserts.sql").write_text("\n".join(statements(sectors)))
+    measured([PROGRAM, "init", folder / "theirs.db"], stdout=subprocess.DEVNULL)
+    with open(folder / "inserts.sql", "rb") as text:
+        return measured(["sqlite3", folder / "theirs.db"], stdin=text, stdout=subprocess.DEVNULL)
+
+
+def import_log(sectors):
+    """Measures `import` of a log of so many sectors into the book of an aircraft."""
+    with tempfile.TemporaryDirectory() as name:
+        folder = Path(name)
+        (folder / "aircraft.json").write_text(json.dumps(list(commands(0))))
+        rows = ["tail,page,line,off,on,cycles"]
+        for i in range(sectors):
+            page, line, off, on = sector(i)
+            rows.append(f"D-ABCD,{page},{line},{off:%Y-%m-%dT%H:%M},{on:%Y-%m-%dT%H:%M},1")
+        (folder / "sectors.csv").write_text("\n".join(rows))
+        measured([PROGRAM, "init", folder / "ours.db"], stdout=subprocess.DEVNULL)
+        measured([PROGRAM, "enter", folder / "ours.db", folder / "aircraft.json"], stdout=subprocess.DEVNULL)
+        with open(folder / "lines", "wb") as lines:
+            seconds, memory = measured([PROGRAM, "import", folder / "ours.db", folder / "sectors.csv"], stdout=lines)
+        if not (folder / "lines").read_text().endswith(f"row {sectors} accepted {sectors + 1}\n"):
+            sys.exit("the last sector was not accepted")
+        theirs, their_memory = theirs_in(folder, sectors)
+    print(f"{sectors} sectors, one commit each: office import {seconds:.2f} s, sqlite3 {theirs:.2f} s", end="")
+    print(f", ratio {seconds / theirs:.1f}; peak memory {memory:.0f} MB, sqlite3 {their_memory:.0f} MB")
+
+
 def main():
+    if sys.argv[1:2] == ["--import"]:
+        import_log(int(sys.argv[2]) if len(sys.argv) > 2 else 100_000)
+        return
     sectors = int(sys.argv[1]) if len(sys.argv) > 1 else 10_000
     with tempfile.TemporaryDirectory() as name:
         folder = Path(name)
@@ -90,9 +122,6 @@ def main():
         for at in range(0, len(entered), 10_000):
             files.append(folder / f"{at}.json")
             files[-1].write_text(json.dumps(entered[at : at + 10_000]))
-        (folder / "inserts.sql").write_text("\n".join(statements(sectors)))
-
-        measured([PROGRAM, "init", folder / "theirs.db"], stdout=subprocess.DEVNULL)
         measured([PROGRAM, "init", folder / "ours.db"], stdout=subprocess.DEVNULL)
         seconds = memory = 0
         with open(folder / "replies", "wb") as replies:
@@ -102,8 +131,7 @@ def main():
         accepted = (folder / "replies").read_text().split("\n").count(f"accepted {sectors + 1}")
         if accepted != 1:
             sys.exit("the last sector was not accepted")
-        with open(folder / "inserts.sql", "rb") as text:
-            theirs, their_memory = measured(["sqlite3", folder / "theirs.db"], stdin=text, stdout=subprocess.DEVNULL)
+        theirs, their_memory = theirs_in(folder, sectors)
         life, life_memory = measured([PROGRAM, "life", folder / "ours.db", "D-ABCD"], stdout=subprocess.DEVNULL)
 
     print(f"{sectors} sectors, one commit each: office enter {seconds:.2f} s, sqlite3 {theirs:.2f} s", end="")
