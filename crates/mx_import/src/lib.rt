@@ -7,6 +7,6 @@ pub mod report;
 mod rows;
 pub mod text;
 
-pub use importing::import;
+pub use importing::{import, import_text};
 pub use report::{ImportReport, RowReply};
 pub use text::report_text;

@@ -12,7 +12,7 @@ use mx_base::{Day, Moment};
 use serde_json::Value;
 
 /// The identifier that a text is.
-pub(crate) fn read_identifier<A: Alphabet, const N: usize>(text: &str) -> Option<Identifier<A, N>>
+pub fn read_identifier<A: Alphabet, const N: usize>(text: &str) -> Option<Identifier<A, N>>
     ensures { result ≡ identifier_of A.allows N text.now }
 {
     match Identifier::read(text) {
@@ -22,7 +22,7 @@ pub(crate) fn read_identifier<A: Alphabet, const N: usize>(text: &str) -> Option
 }
 
 /// The day whose text it is.
-fn read_day(text: &str) -> Option<Day>
+pub fn read_day(text: &str) -> Option<Day>
     ensures day { result ≡ day_of_text text.now }
     ensures some { IfSome result (λ d. (d ≤ last_day) × (day_text d ≡ text.now)) }
     ensures none { IfNone result ((d : ℕ) → d ≤ last_day → day_text d ≢ text.now) }

@@ -11,12 +11,13 @@ use Rattle.mx_book.specs.declared.verdict.Reply.TheVariants as reply
 use Rattle.mx_words.specs.declared.fault.Ending.TheVariants.{Done, Refused, Bad}
 use Rattle.mx_words.specs.declared.fault.Stop.TheVariants.{Words, Shape, Intake, MakeMemory, Create, Open, Office, Print}
 use Rattle.mx_words.specs.Printed.{list_answer, list_ending}
-use Rattle.mx_words.specs.declared.question.Report.TheVariants as report
+use Rattle.mx_answers.specs.declared.question.Report.TheVariants as report
 use Rattle.mx_base.specs.Calendar.{date_of}
 use Rattle.mx_base.specs.Texts.{day_text}
 use Rattle.mx_import.specs.declared.report.RowReply.TheVariants as row
 use Rattle.mx_words.specs.Imported.{import_ending}
-use Rattle.mx_words.specs.Status.{stop_status, ending_status, graver, is_refusal, run_ending}
+use Rattle.mx_answers.specs.Replies.{is_refusal}
+use Rattle.mx_words.specs.Status.{stop_status, ending_status, graver, run_ending}
 
 -- words that the program does not take
 bad_words : map stop_status (Words ∷ Shape ∷ []) ≡ 2 ∷ 2 ∷ []

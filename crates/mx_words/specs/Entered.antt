@@ -1,6 +1,5 @@
 -- What is printed of commands that are entered, and what becomes of the tables where a fault stops them.
 use Rattle.std.specs.Prelude.{◌≡◌, ◌≢◌, ℕ, ◌+◌, ◌≤◌, List, ◌++◌, take, length}
-use Rattle.std.specs.List.{flat_map}
 use Rattle.sqlite.specs.State.{State}
 use Rattle.mx_command.specs.Act.{Entry}
 use Rattle.mx_book.specs.Run.{book_run, replies}
@@ -9,18 +8,18 @@ use Rattle.mx_layout.specs.Crash.{Leaves}
 use Rattle.mx_office.specs.Stands.{Rests, IsEither}
 use Rattle.mx_office.specs.declared.fault.Fault.{Fault}
 use Rattle.mx_office.specs.declared.fault.Fault.TheVariants.{Store}
-use Rattle.mx_reports.specs.ReplyText.{reply_line}
+use Rattle.mx_answers.specs.Replies.{lines_of}
 use Rattle.mx_words.specs.declared.fault.Ending.{Ending}
 use Rattle.mx_words.specs.Status.{run_ending}
 
 -- the lines of the replies to commands over a book
 abbrev pub reply_lines : List Entry → List Entry → List ℕ
-reply_lines book commands = flat_map reply_line (replies book commands)
+reply_lines book commands = lines_of (replies book commands)
 
 -- the text is a line for each of so many replies, and the ending is theirs
 abbrev pub AreReplyLines : ℕ → List ℕ → Ending → Type 0
 AreReplyLines count text ending =
-    (replies : List Reply) × (length replies ≡ count) × (text ≡ flat_map reply_line replies) × (ending ≡ run_ending replies)
+    (replies : List Reply) × (length replies ≡ count) × (text ≡ lines_of replies) × (ending ≡ run_ending replies)
 
 -- the lines of all replies were appended, and the ending is theirs
 pub record TellsReplies (book commands : List Entry) (old new : List ℕ) (ending : Ending) : Type 0 where

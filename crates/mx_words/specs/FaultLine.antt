@@ -1,14 +1,12 @@
 -- The line on standard error that says why the program ends before its work is done.
-use Rattle.std.specs.Prelude.{ℕ, List, [], ◌∷◌, ◌++◌, codes}
+use Rattle.std.specs.Prelude.{ℕ, List, ◌++◌, codes}
 use Rattle.std.specs.Fmt.{decimal}
 use Rattle.mx_layout.specs.declared.fault.TableFault.{TableFault}
 use Rattle.mx_layout.specs.declared.fault.TableFault.TheVariants as table
 use Rattle.mx_layout.specs.Names.{table_name}
-use Rattle.mx_office.specs.declared.fault.Fault.{Fault}
-use Rattle.mx_office.specs.declared.fault.Fault.TheVariants as office
 use Rattle.mx_office.specs.declared.fault.OpenFault.{OpenFault}
 use Rattle.mx_office.specs.declared.fault.OpenFault.TheVariants as opening
-use Rattle.mx_intake.specs.declared.fault.IntakeFault.{IntakeFault}
+use Rattle.mx_answers.specs.FaultLine.{intake_words, line_of, office_words}
 use Rattle.mx_words.specs.declared.fault.Stop.{Stop}
 use Rattle.mx_words.specs.declared.fault.Stop.TheVariants.{Words, Shape, Intake, MakeMemory, Create, Open, Office, Print}
 
@@ -29,17 +27,6 @@ open_words (opening.NewerLayout layout) = codes "newer " ++ decimal layout
 open_words (opening.Damaged name) = codes "damaged " ++ table_name name
 open_words (opening.OlderLayout layout) = codes "older " ++ decimal layout
 
--- what stopped a call of the office
-abbrev pub office_words : Fault → List ℕ
-office_words office.Memory = codes "memory"
-office_words office.Store = codes "store"
-office_words office.NeedsReopen = codes "reopen"
-office_words (office.Damaged name) = codes "damaged " ++ table_name name
-
--- why a file gives no commands: the number of the fault, and the entry that has it
-abbrev pub intake_words : IntakeFault → List ℕ
-intake_words fault = decimal fault.number ++ (codes " entry " ++ decimal fault.entry)
-
 -- why the program ends
 abbrev pub stop_words : Stop → List ℕ
 stop_words Words = codes "words"
@@ -50,10 +37,6 @@ stop_words Print = codes "memory"
 stop_words (Create fault) = create_words fault
 stop_words (Open fault) = open_words fault
 stop_words (Office fault) = office_words fault
-
--- a line of a fault
-abbrev pub line_of : List ℕ → List ℕ
-line_of words = codes "fault " ++ (words ++ 10 ∷ [])
 
 -- the line of a stop
 abbrev pub fault_line : Stop → List ℕ

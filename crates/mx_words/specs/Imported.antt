@@ -1,5 +1,5 @@
 -- What is printed of a sector log that is imported, and how the word ends.
-use Rattle.std.specs.Prelude.{◌≡◌, ℕ, List, Bool, true, false, Option, Result, if◌then◌else◌}
+use Rattle.std.specs.Prelude.{◌≡◌, ℕ, List, Option, Result, if◌then◌else◌}
 use Rattle.std.specs.List.{list_any}
 use Rattle.sqlite.specs.State.{State}
 use Rattle.mx_command.specs.Act.{Entry}
@@ -10,20 +10,9 @@ use Rattle.mx_import.specs.Import.{AreRowsOf, IsRun}
 use Rattle.mx_import.specs.Rows.{good_rows, told}
 use Rattle.mx_import.specs.Text.{row_lines}
 use Rattle.mx_import.specs.declared.report.RowReply.{RowReply}
-use Rattle.mx_import.specs.declared.report.RowReply.TheVariants as row
-use Rattle.mx_words.specs.Status.{is_refusal}
+use Rattle.mx_answers.specs.Rows.{is_bad, is_refused_row}
 use Rattle.mx_words.specs.declared.fault.Ending.{Ending}
 use Rattle.mx_words.specs.declared.fault.Ending.TheVariants.{Done, Refused, Bad}
-
--- the row states no sector
-abbrev pub is_bad : RowReply → Bool
-is_bad (row.Entered reply) = false
-is_bad (row.Bad fault) = true
-
--- the sector of the row was refused
-abbrev pub is_refused_row : RowReply → Bool
-is_refused_row (row.Entered reply) = is_refusal reply
-is_refused_row (row.Bad fault) = false
 
 -- how an import with these rows ended: the gravest counts
 abbrev pub import_ending : List RowReply → Ending

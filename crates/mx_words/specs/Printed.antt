@@ -5,11 +5,11 @@ use Rattle.mx_book.specs.declared.verdict.Refusal.{Refusal}
 use Rattle.mx_book.specs.declared.verdict.Refusal.TheVariants.{UnknownAircraft}
 use Rattle.mx_book.specs.declared.verdict.Reply.TheVariants as reply
 use Rattle.mx_reports.specs.ReplyText.{reply_line}
-use Rattle.mx_words.specs.Question.{IsOfKind, report_lines, report_of}
+use Rattle.mx_answers.specs.Question.{IsOfKind, report_lines, report_of}
 use Rattle.mx_words.specs.declared.fault.Ending.{Ending}
 use Rattle.mx_words.specs.declared.fault.Ending.TheVariants.{Done, Refused}
-use Rattle.mx_words.specs.declared.question.Question.{Question}
-use Rattle.mx_words.specs.declared.question.Report.{Report}
+use Rattle.mx_answers.specs.declared.question.Question.{Question}
+use Rattle.mx_answers.specs.declared.question.Report.{Report}
 
 -- the text of a list, or of the refusal where the registration is unknown
 abbrev pub list_answer : Option Report → List ℕ

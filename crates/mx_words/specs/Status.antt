@@ -1,8 +1,8 @@
 -- How a word ends, and the status that the program ends with.
-use Rattle.std.specs.Prelude.{ℕ, List, Bool, true, false, Result, Ok, Err, if◌then◌else◌}
+use Rattle.std.specs.Prelude.{ℕ, List, Result, Ok, Err, if◌then◌else◌}
 use Rattle.std.specs.List.{list_any}
 use Rattle.mx_book.specs.declared.verdict.Reply.{Reply}
-use Rattle.mx_book.specs.declared.verdict.Reply.TheVariants as reply
+use Rattle.mx_answers.specs.Replies.{is_refusal}
 use Rattle.mx_words.specs.declared.fault.Ending.{Ending}
 use Rattle.mx_words.specs.declared.fault.Ending.TheVariants.{Done, Refused, Bad}
 use Rattle.mx_words.specs.declared.fault.Stop.{Stop}
@@ -37,12 +37,6 @@ graver Refused Done = Refused
 graver Refused Refused = Refused
 graver Refused Bad = Bad
 graver Bad other = Bad
-
--- the command was refused
-abbrev pub is_refusal : Reply → Bool
-is_refusal (reply.Accepted seq) = false
-is_refusal (reply.Already seq) = false
-is_refusal (reply.Refused refusal) = true
 
 -- how a run with these replies ended
 abbrev pub run_ending : List Reply → Ending

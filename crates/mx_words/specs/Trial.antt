@@ -5,10 +5,10 @@ use Rattle.mx_command.specs.Shape.{has_shape, is_sector_shaped, sector_entry}
 use Rattle.mx_book.specs.Run.{book_run, replies}
 use Rattle.mx_words.specs.Entered.{reply_lines}
 use Rattle.mx_words.specs.Printed.{list_answer, list_ending}
-use Rattle.mx_words.specs.Question.{report_of}
+use Rattle.mx_answers.specs.Question.{report_of}
 use Rattle.mx_words.specs.Status.{graver, run_ending}
 use Rattle.mx_words.specs.declared.fault.Ending.{Ending}
-use Rattle.mx_words.specs.declared.question.Question.TheVariants.{Life}
+use Rattle.mx_answers.specs.declared.question.Question.TheVariants.{Life}
 use Rattle.mx_words.specs.declared.trial.Trial.{Trial}
 
 -- the aircraft: by document A1, of kind TRY, built and as of the first moment, without positions

@@ -6,9 +6,9 @@ ghost use Rattle.std.specs.Char.{is_ascii_digit};
 ghost use Rattle.std.specs.List.{list_all};
 ghost use Rattle.mx_words.specs.Number.{number_in};
 
-use crate::question::Question;
 use crate::trial::Trial;
 use clap::{Arg, ArgAction, ArgMatches, Command};
+use mx_answers::Question;
 use mx_base::{Day, Doc, Moment, Tail};
 use mx_book::{MOST_CYCLES, MOST_DAYS, MOST_MINUTES};
 use std::alloc::{AllocError, Global};

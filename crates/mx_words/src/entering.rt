@@ -1,37 +1,20 @@
 //! Entering commands into an open office: a line for each reply.
 ghost use Rattle.std.specs.Prelude.{◌≡◌, ◌≢◌, ◌+◌, ◌++◌, true, false, take, length, OnOk, IfOk, IfErr};
-ghost use Rattle.std.specs.List.{flat_map, list_any};
 ghost use Rattle.sqlite.specs.Held.{state};
 ghost use Rattle.sqlite.specs.State.{HasCleanDisk};
 ghost use Rattle.mx_book.specs.Run.{book_run};
 ghost use Rattle.mx_layout.specs.Crash.{Leaves};
 ghost use Rattle.mx_office.specs.Stands.{Rests, IsEither};
-ghost use Rattle.mx_reports.specs.ReplyText.{reply_line};
+ghost use Rattle.mx_answers.specs.Replies.{lines_of};
 ghost use Rattle.mx_words.specs.Entered.{AreReplyLines, TellsReplies, StopsBehind};
-ghost use Rattle.mx_words.specs.Status.{stop_status, is_refusal, run_ending};
+ghost use Rattle.mx_words.specs.Status.{stop_status, run_ending};
 
 use crate::fault::{Ending, Stop};
+use mx_answers::{has_refusal, replies_text};
 use mx_command::Command;
 use mx_office::{Fault, Office, Reply};
-use mx_reports::reply_text;
 use sqlite::Alter;
 use std::alloc::Global;
-
-/// Whether a command was refused.
-pub(crate) fn is_refused(reply: &Reply) -> bool
-    ensures { result ≡ is_refusal reply.now }
-{
-    match reply {
-        Reply::Refused(_) => true,
-        Reply::Accepted(_) | Reply::Already(_) => false,
-    }
-}
-
-fn has_refusal(replies: &[Reply]) -> bool
-    ensures { result ≡ list_any is_refusal replies.now }
-{
-    replies.iter().any(|reply| is_refused(reply))
-}
 
 // How a run with these replies ended.
 fn ending_of(replies: &[Reply]) -> Ending
@@ -46,16 +29,13 @@ fn ending_of(replies: &[Reply]) -> Ending
 
 // Appends a line for each reply.
 fn print_replies(out: &mut Vec<u8>, replies: &[Reply]) -> Result<(), Stop>
-    ensures printed { OnOk result (out.new.items ≡ out.old.items ++ flat_map reply_line
-        replies.now) }
+    ensures printed { OnOk result (out.new.items ≡ out.old.items ++ lines_of replies.now) }
     ensures memory { IfErr result (λ stop. stop ≡ Stop.Print) }
 {
-    for reply in replies {
-        if reply_text(out, reply).is_err() {
-            return Err(Stop::Print);
-        }
+    match replies_text(out, replies) {
+        Ok(()) => Ok(()),
+        Err(_) => Err(Stop::Print),
     }
-    Ok(())
 }
 
 /// Applies commands in their order, each in a commit of its own, up to the first fault, and appends

@@ -1,14 +1,15 @@
 //! How a word of the program ends: the status, and the line on standard error where something
 //! stopped it.
 
-ghost use Rattle.std.specs.Prelude.{◌≡◌, ◌≢◌, ◌≤◌, ◌++◌, codes, OnOk};
+ghost use Rattle.std.specs.Prelude.{◌≡◌, ◌≢◌, ◌≤◌, OnOk};
 ghost use Rattle.std.specs.Io.KnownBytes.{Appends};
-ghost use Rattle.mx_layout.specs.Names.{table_name};
-ghost use Rattle.mx_words.specs.FaultLine.{fault_line, line_of, create_words, intake_words, open_words, office_words};
+ghost use Rattle.mx_answers.specs.FaultLine.{line_of};
+ghost use Rattle.mx_words.specs.FaultLine.{fault_line, create_words, open_words};
 ghost use Rattle.mx_words.specs.Status.{done_status, ending_status, graver, stop_status};
 
+use mx_answers::{write_damaged, write_fault, write_intake};
 use mx_intake::IntakeFault;
-use mx_layout::{Table, TableFault};
+use mx_layout::TableFault;
 use mx_office::{Fault, OpenFault};
 use std::io;
 use std::io::Write;
@@ -109,7 +110,7 @@ impl Stop {
             Stop::MakeMemory | Stop::Print => err.write_all(b"fault memory\n"),
             Stop::Create(fault) => write_create(err, fault),
             Stop::Open(fault) => write_open(err, fault),
-            Stop::Office(fault) => write_office(err, fault),
+            Stop::Office(fault) => write_fault(err, fault),
         }
     }
 }
@@ -123,23 +124,6 @@ pub(crate) fn status_of(done: Result<Ending, Stop>) -> u8
         Ok(ending) => ending.status(),
         Err(stop) => stop.status(),
     }
-}
-
-fn write_intake<W: Write>(err: &mut W, fault: IntakeFault) -> io::Result<()>
-    ensures { OnOk result (Appends (W.contents err.old) (W.contents err.new) (line_of
-        (intake_words fault))) }
-{
-    let number = fault.number;
-    let entry = fault.entry;
-    writeln!(err, "fault {number} entry {entry}")
-}
-
-fn write_damaged<W: Write>(err: &mut W, table: Table) -> io::Result<()>
-    ensures { OnOk result (Appends (W.contents err.old) (W.contents err.new)
-        (line_of (codes "damaged " ++ table_name table))) }
-{
-    let name = table.name();
-    writeln!(err, "fault damaged {name}")
 }
 
 fn write_create<W: Write>(err: &mut W, fault: TableFault) -> io::Result<()>
@@ -166,17 +150,5 @@ fn write_open<W: Write>(err: &mut W, fault: OpenFault) -> io::Result<()>
         OpenFault::NewerLayout(layout) => writeln!(err, "fault newer {layout}"),
         OpenFault::Damaged(table) => write_damaged(err, table),
         OpenFault::OlderLayout(layout) => writeln!(err, "fault older {layout}"),
-    }
-}
-
-fn write_office<W: Write>(err: &mut W, fault: Fault) -> io::Result<()>
-    ensures { OnOk result (Appends (W.contents err.old) (W.contents err.new) (line_of
-        (office_words fault))) }
-{
-    match fault {
-        Fault::Memory => err.write_all(b"fault memory\n"),
-        Fault::Store => err.write_all(b"fault store\n"),
-        Fault::NeedsReopen => err.write_all(b"fault reopen\n"),
-        Fault::Damaged(table) => write_damaged(err, table),
     }
 }

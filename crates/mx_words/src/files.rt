@@ -14,15 +14,14 @@ use crate::importing::import_all;
 use crate::listing::print_list;
 use crate::making::{CREATED, make_book};
 use crate::opening::open;
-use crate::question::Question;
+use mx_answers::Question;
 use mx_base::Doc;
 use mx_command::Command;
 use mx_intake::{IntakeFault, MOST_BYTES, READ_FAILED, commands_of_json, programme_of, read_all};
 use mx_layout::TableFault;
 use mx_office::{Fault, Office, OpenFault};
 use sqlite::{Alter, Connection, Error, ErrorCode, FileFrom, FileStore, Wary};
-use std::alloc::Global;
-use std::io::{ErrorKind, Read};
+use std::io::ErrorKind;
 use std::{fs, slice};
 
 type File = FileStore<FileFrom<Wary>>;
@@ -75,28 +74,36 @@ pub(crate) enum Asked<'a> {
     List(&'a Question),
     /// The replies to commands, which are entered.
     Enter(&'a [Command]),
+    /// What the rows of a sector log are told, which is imported.
+    Import(&'a fs::File),
 }
 
 // Appends what an office answers. It says what is printed alone, as `made_in`.
 fn answer<S: Alter>(
-    alloc: Global,
+    rt: &HostRuntime,
     office: &mut Office<S>,
     asked: Asked<'_>,
     out: &mut Vec<u8>,
 ) -> Result<Ending, Stop>
     ensures shown { IfOk result (λ ending. (text : _) × (out.new.items ≡ out.old.items ++ text)
         × IsAnswer asked.entry text ending) }
-    ensures status { IfErr result (λ stop. stop_status stop ≡ 4) }
+    ensures unread { IfErr result (λ stop. stop_status stop ≡ 3
+        → out.new.items ≡ out.old.items) }
+    ensures status { IfErr result (λ stop. 3 ≤ stop_status stop) }
 {
     match asked {
-        Asked::List(question) => print_list(alloc, office, question, out),
-        Asked::Enter(commands) => enter_all(alloc, office, commands, out),
+        Asked::List(question) => print_list(rt.alloc(), office, question, out),
+        Asked::Enter(commands) => enter_all(rt.alloc(), office, commands, out),
+        Asked::Import(log) => {
+            let mut reader = log;
+            import_all(rt.alloc(), office, &mut reader, out)
+        }
     }
 }
 
 // Appends what the office that a database holds answers, and hands the database back.
 fn answer_in<S: Alter + Drop>(
-    alloc: Global,
+    rt: &HostRuntime,
     conn: Connection<S>,
     asked: Asked<'_>,
     out: &mut Vec<u8>,
@@ -104,11 +111,13 @@ fn answer_in<S: Alter + Drop>(
     requires { conn.in_transaction ≡ false }
     ensures shown { IfOk result (λ found. IfOk found.1 (λ ending. (text : _)
         × (out.new.items ≡ out.old.items ++ text) × IsAnswer asked.entry text ending)) }
-    ensures status { IfOk result (λ found. IfErr found.1 (λ stop. stop_status stop ≡ 4)) }
+    ensures unread { IfOk result (λ found. IfErr found.1 (λ stop. stop_status stop ≡ 3
+        → out.new.items ≡ out.old.items)) }
+    ensures status { IfOk result (λ found. IfErr found.1 (λ stop. 3 ≤ stop_status stop)) }
     ensures opening { IfErr result (λ stop. stop_status stop ≡ 5) }
 {
     let mut office = open(conn)?;
-    let answered = answer(alloc, &mut office, asked, out);
+    let answered = answer(rt, &mut office, asked, out);
     Ok((office.close(), answered))
 }
 
@@ -160,10 +169,12 @@ fn answer_file(
 ) -> Result<Ending, Stop>
     ensures shown { IfOk result (λ ending. (text : _) × (out.new.items ≡ out.old.items ++ text)
         × IsAnswer asked.entry text ending) }
-    ensures status { IfErr result (λ stop. 4 ≤ stop_status stop) }
+    ensures unread { IfErr result (λ stop. stop_status stop ≡ 3
+        → out.new.items ≡ out.old.items) }
+    ensures status { IfErr result (λ stop. 3 ≤ stop_status stop) }
 {
     let conn = open_book(rt, file)?;
-    let (conn, answered) = answer_in(rt.alloc(), conn, asked, out)?;
+    let (conn, answered) = answer_in(rt, conn, asked, out)?;
     if conn.close().is_err() && answered.is_ok() {
         return Err(Stop::Office(Fault::Store));
     }
@@ -179,7 +190,9 @@ pub(crate) fn list(
 ) -> Result<Ending, Stop>
     ensures shown { IfOk result (λ ending. (text : _) × (out.new.items ≡ out.old.items ++ text)
         × IsListAnswer question.now text ending) }
-    ensures status { IfErr result (λ stop. 4 ≤ stop_status stop) }
+    ensures unread { IfErr result (λ stop. stop_status stop ≡ 3
+        → out.new.items ≡ out.old.items) }
+    ensures status { IfErr result (λ stop. 3 ≤ stop_status stop) }
 {
     answer_file(rt, file, Asked::List(question), out)
 }
@@ -251,26 +264,6 @@ pub(crate) fn programme(
     }
 }
 
-// Imports a sector log into the office that a database holds, and hands the database back.
-fn import_in<S: Alter + Drop, R: Read>(
-    alloc: Global,
-    conn: Connection<S>,
-    reader: &mut R,
-    out: &mut Vec<u8>,
-) -> Result<(Connection<S>, Result<Ending, Stop>), Stop>
-    requires { conn.in_transaction ≡ false }
-    ensures shown { IfOk result (λ found. IfOk found.1 (λ ending. (text : _)
-        × (out.new.items ≡ out.old.items ++ text) × AreRowLines text ending)) }
-    ensures unread { IfOk result (λ found. IfErr found.1 (λ stop. stop_status stop ≡ 3
-        → out.new.items ≡ out.old.items)) }
-    ensures status { IfOk result (λ found. IfErr found.1 (λ stop. 3 ≤ stop_status stop)) }
-    ensures opening { IfErr result (λ stop. stop_status stop ≡ 5) }
-{
-    let mut office = open(conn)?;
-    let imported = import_all(alloc, &mut office, reader, out);
-    Ok((office.close(), imported))
-}
-
 /// Imports the sector log of a file, and appends a line for each row. The log is opened first, then the database, and
 /// then the log is read.
 pub(crate) fn import(
@@ -285,13 +278,8 @@ pub(crate) fn import(
     ensures unread { IfErr result (λ stop. stop_status stop ≡ 3
         → out.new.items ≡ out.old.items) }
 {
-    let Ok(mut log) = fs::open(rt, csv) else {
-        return Err(Stop::Intake(UNOPENED));
-    };
-    let conn = open_book(rt, file)?;
-    let (conn, imported) = import_in(rt.alloc(), conn, &mut log, out)?;
-    if conn.close().is_err() && imported.is_ok() {
-        return Err(Stop::Office(Fault::Store));
+    match fs::open(rt, csv) {
+        Ok(log) => answer_file(rt, file, Asked::Import(&log), out),
+        Err(_) => Err(Stop::Intake(UNOPENED)),
     }
-    imported
 }

@@ -1,48 +1,17 @@
 //! Importing a sector log into an open office: a line for each row.
 ghost use Rattle.std.specs.Prelude.{◌≡◌, ◌⊎◌, ◌++◌, Some, None, IfOk, IfErr};
-ghost use Rattle.std.specs.List.{list_any};
 ghost use Rattle.sqlite.specs.Held.{state};
 ghost use Rattle.mx_import.specs.Text.{row_lines};
-ghost use Rattle.mx_words.specs.Imported.{is_bad, is_refused_row, import_ending, AreTold};
+ghost use Rattle.mx_words.specs.Imported.{import_ending, AreTold};
 ghost use Rattle.mx_words.specs.Status.{stop_status};
 
-use crate::entering::is_refused;
 use crate::fault::{Ending, Stop};
+use mx_answers::{has_bad, has_refused};
 use mx_import::{ImportReport, RowReply, import, report_text};
 use mx_office::Office;
 use sqlite::Alter;
 use std::alloc::Global;
 use std::io::Read;
-
-fn is_bad(row: &RowReply) -> bool
-    ensures { result ≡ is_bad row.now }
-{
-    match row {
-        RowReply::Entered(_) => false,
-        RowReply::Bad(_) => true,
-    }
-}
-
-fn is_refused_row(row: &RowReply) -> bool
-    ensures { result ≡ is_refused_row row.now }
-{
-    match row {
-        RowReply::Entered(reply) => is_refused(reply),
-        RowReply::Bad(_) => false,
-    }
-}
-
-fn has_bad(rows: &[RowReply]) -> bool
-    ensures { result ≡ list_any is_bad rows.now }
-{
-    rows.iter().any(|row| is_bad(row))
-}
-
-fn has_refused_row(rows: &[RowReply]) -> bool
-    ensures { result ≡ list_any is_refused_row rows.now }
-{
-    rows.iter().any(|row| is_refused_row(row))
-}
 
 // How an import with these rows ended.
 fn ending_of(rows: &[RowReply]) -> Ending
@@ -50,7 +19,7 @@ fn ending_of(rows: &[RowReply]) -> Ending
 {
     if has_bad(rows) {
         Ending::Bad
-    } else if has_refused_row(rows) {
+    } else if has_refused(rows) {
         Ending::Refused
     } else {
         Ending::Done

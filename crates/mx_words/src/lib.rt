@@ -13,7 +13,6 @@ mod listing;
 mod making;
 mod opening;
 mod printing;
-mod question;
 pub mod run;
 mod trial;
 

@@ -6,30 +6,17 @@ ghost use Rattle.mx_layout.specs.Crash.{ChangesNothing};
 ghost use Rattle.mx_kept.specs.Schemas.{HasOwn1};
 ghost use Rattle.mx_office.specs.Stands.{HoldsBook, IsReasonFor, Rests};
 ghost use Rattle.mx_reports.specs.ReplyText.{reply_line};
-ghost use Rattle.mx_words.specs.Question.{report_lines};
+ghost use Rattle.mx_answers.specs.Question.{report_lines};
 ghost use Rattle.mx_words.specs.Printed.{IsListAnswer, Tells};
 ghost use Rattle.mx_words.specs.Status.{stop_status};
 
 use crate::fault::{Ending, Stop};
-use crate::question::{Question, Report, ask};
+use mx_answers::{Question, Report, ask, list_text};
 use mx_book::{Refusal, Reply};
 use mx_office::{Ask, Fault, Office};
-use mx_reports::{due_text, forecast_text, life_text, limits_text, reply_text};
+use mx_reports::reply_text;
 use sqlite::Alter;
-use std::alloc::{AllocError, Global};
-
-// Appends the text of a list, or leaves the vector as it was.
-fn report_text(out: &mut Vec<u8>, report: &Report) -> Result<(), AllocError>
-    ensures printed { OnOk result (out.new.items ≡ out.old.items ++ report_lines report.now) }
-    ensures unprinted { OnErr result (out.new.items ≡ out.old.items) }
-{
-    match report {
-        Report::Life(list) => life_text(out, list),
-        Report::Due(list) => due_text(out, list),
-        Report::Forecast(list) => forecast_text(out, list),
-        Report::Limits(list) => limits_text(out, list),
-    }
-}
+use std::alloc::Global;
 
 // Appends a list.
 fn append_report(out: &mut Vec<u8>, report: &Report) -> Result<Ending, Stop>
@@ -38,7 +25,7 @@ fn append_report(out: &mut Vec<u8>, report: &Report) -> Result<Ending, Stop>
     ensures unprinted { OnErr result (out.new.items ≡ out.old.items) }
     ensures memory { IfErr result (λ stop. stop ≡ Stop.Print) }
 {
-    match report_text(out, report) {
+    match list_text(out, report) {
         Ok(()) => Ok(Ending::Done),
         Err(_) => Err(Stop::Print),
     }

@@ -76,7 +76,8 @@ fn answer<O: Write, E: Write>(
 /// Runs the program on its words, the first of which is its name. Prints replies, reports and help
 /// to `out`, faults and usage to `err`, and answers the status: 0 where all was done; 1 where a
 /// reply or a question was refused; 2 for words that it does not take; 3 for an input file that gives
-/// no commands, or where a row of a sector log was bad; 4 for a fault after the database was opened; 5 where it could not be opened or made.
+/// no commands, or where a row of a sector log was bad; 4 for a fault after the database was opened; 5 where it could not be
+/// opened or made.
 pub fn run_words<O: Write, E: Write>(
     rt: &HostRuntime,
     words: &[String],

@@ -12,7 +12,7 @@ use crate::entering::enter_all;
 use crate::fault::{Ending, Stop};
 use crate::listing::print_list;
 use crate::opening::open;
-use crate::question::Question;
+use mx_answers::Question;
 use mx_base::{Day, Doc, Kind, Moment, Tail, Use};
 use mx_command::{Body, Command, MakeFault};
 use mx_layout::{Layout, create};

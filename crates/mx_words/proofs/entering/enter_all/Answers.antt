@@ -1,7 +1,6 @@
 use Rattle.std.proofs.Common.{◌≡◌, ◌∙◌, ◌++◌, List, ap, length}
-use Rattle.std.specs.List.{flat_map}
 use Rattle.mx_book.specs.declared.verdict.Reply.{Reply}
-use Rattle.mx_reports.specs.ReplyText.{reply_line}
+use Rattle.mx_answers.specs.Replies.{lines_of}
 use Rattle.mx_words.proofs.entering.enter_all.Goals as goal
 
 pub returns-in_err-print_replies-clause-crash : goal.returns-in_err-print_replies-clause-crash
@@ -24,7 +23,7 @@ returns-in-Some-clause-cut g c = λ book fault rests clean same.
       n,
       record {
         given = c.run-outcomes.ensures.counted;
-        text = c.in_ok-print_replies.ensures.printed ∙ ap (λ (given : List Reply). c.args.out.now.items ++ flat_map reply_line given) (c.as_slice.ensures.value ∙ replied);
+        text = c.in_ok-print_replies.ensures.printed ∙ ap (λ (given : List Reply). c.args.out.now.items ++ lines_of given) (c.as_slice.ensures.value ∙ replied);
         kept = λ other. c.run-outcomes.ensures.kept book rests (λ store. other (cc));
         crash = c.run-outcomes.ensures.crash book rests;
       },

@@ -1,0 +1,4 @@
+pub mod FaultLine
+pub mod Question
+pub mod Replies
+pub mod Rows

@@ -1,0 +1,21 @@
+use Rattle.std.proofs.Common.{◌∙◌, sym, ap, ◌++◌, List, ℕ}
+use Rattle.sqlite.specs.Held.{state}
+use Rattle.mx_request.specs.Head.{head_of}
+use Rattle.mx_desk.proofs.ServedLemmas.{left_here}
+use Rattle.mx_desk.proofs.serve.answer_input.Goals as goal
+
+pub returns-in-Err-clause-crash : goal.returns-in-Err-clause-crash
+returns-in-Err-clause-crash g c = λ book rests. left_here book (state g.S.Store c.args.office.now.conn) rests
+
+pub returns-then-is_empty-clause-crash : goal.returns-then-is_empty-clause-crash
+returns-then-is_empty-clause-crash g c = λ book rests. left_here book (state g.S.Store c.args.office.now.conn) rests
+
+pub returns-in-Ok-answer_bytes-clause-answered : goal.returns-in-Ok-answer_bytes-clause-answered
+returns-in-Ok-answer_bytes-clause-answered g c = λ input known.
+    let told = c.in-Ok.ensures.enough input known in
+    c.in-Ok-answer_bytes.ensures.answered input told.0 told.1 (told.2 ∙ ap (λ (bytes : List ℕ). bytes ++ told.0) (sym c.deref.ensures.value)) (ap head_of c.deref.ensures.value ∙ told.3)
+
+pub returns-clause-stopped : goal.returns-clause-stopped
+returns-clause-stopped g c = λ input known.
+    let told = c.in-Ok.ensures.enough input known in
+    c.in-Err-answer_bytes.ensures.stopped input told.0 told.1 (told.2 ∙ ap (λ (bytes : List ℕ). bytes ++ told.0) (sym c.deref.ensures.value)) (ap head_of c.deref.ensures.value ∙ told.3)

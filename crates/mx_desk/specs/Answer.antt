@@ -1,0 +1,84 @@
+-- What a request is answered: a status, and a body that is what the words of the program print.
+use Rattle.std.specs.Prelude.{ℕ, List, ◌++◌, ◌||◌, take, Bool, nat_eq, Option, Some, None, Result, Ok, Err, if◌then◌else◌}
+use Rattle.std.specs.List.{list_any}
+use Rattle.mx_command.specs.Act.{Entry}
+use Rattle.mx_book.specs.Run.{replies}
+use Rattle.mx_book.specs.declared.verdict.Refusal.TheVariants.{UnknownAircraft}
+use Rattle.mx_book.specs.declared.verdict.Reply.{Reply}
+use Rattle.mx_book.specs.declared.verdict.Reply.TheVariants as reply
+use Rattle.mx_intake.specs.declared.fault.IntakeFault.{IntakeFault}
+use Rattle.mx_intake.specs.declared.fault.TheConstants.{MEMORY}
+use Rattle.mx_office.specs.Faults.{found_or}
+use Rattle.mx_office.specs.declared.fault.Ask.{Ask}
+use Rattle.mx_office.specs.declared.fault.Ask.TheVariants.{Refused, Failed}
+use Rattle.mx_office.specs.declared.fault.Fault.{Fault}
+use Rattle.mx_office.specs.declared.fault.Fault.TheVariants.{Memory}
+use Rattle.mx_reports.specs.ReplyText.{reply_line}
+use Rattle.mx_import.specs.Rows.{good_rows, told}
+use Rattle.mx_import.specs.Text.{row_lines}
+use Rattle.mx_import.specs.declared.report.RowReply.{RowReply}
+use Rattle.mx_answers.specs.FaultLine.{intake_words, line_of, office_words}
+use Rattle.mx_answers.specs.Question.{report_lines, report_of}
+use Rattle.mx_answers.specs.Replies.{is_refusal, lines_of}
+use Rattle.mx_answers.specs.Rows.{is_bad, is_refused_row}
+use Rattle.mx_answers.specs.declared.question.Report.{Report}
+use Rattle.mx_request.specs.Rejected.{rejection_body, rejection_status}
+use Rattle.mx_request.specs.declared.rejection.Rejection.{Rejection}
+use Rattle.mx_desk.specs.Request.{Request, enters, imports, asks, unread, rejected}
+
+-- the status and the body
+abbrev pub Answer : Type 0
+Answer = ℕ × List ℕ
+
+-- the line of what stopped an office
+abbrev pub stop_line : Fault → List ℕ
+stop_line fault = line_of (office_words fault)
+
+-- an office was stopped
+abbrev pub stop_answer : Fault → Answer
+stop_answer fault = (503, stop_line fault)
+
+-- 200, or 409 where something was refused
+abbrev pub done_status : Bool → ℕ
+done_status is_refused = if is_refused then 409 else 200
+
+-- lines, and behind them the line of what stopped the office, with 503, if anything did
+abbrev pub lines_answer : Bool → List ℕ → Option Fault → Answer
+lines_answer is_refused lines None = (done_status is_refused, lines)
+lines_answer is_refused lines (Some fault) = (503, lines ++ stop_line fault)
+
+-- a line for each reply
+abbrev pub replies_answer : List Reply → Option Fault → Answer
+replies_answer said stopped = lines_answer (list_any is_refusal said) (lines_of said) stopped
+
+-- a line for each row: one that states no sector counts as refused
+abbrev pub rows_answer : List RowReply → Option Fault → Answer
+rows_answer rows stopped = lines_answer (list_any is_bad rows || list_any is_refused_row rows) (row_lines rows) stopped
+
+-- the list that is asked for, the refusal, or what stopped the office
+abbrev pub list_answer : Result Report Ask → Answer
+list_answer (Ok report) = (200, report_lines report)
+list_answer (Err (Refused refusal)) = (409, reply_line (reply.Refused refusal))
+list_answer (Err (Failed fault)) = stop_answer fault
+
+-- why the text of the body gives nothing; 503 where memory ran out for it
+abbrev pub fault_answer : IntakeFault → Answer
+fault_answer fault = if nat_eq fault.number MEMORY then stop_answer Memory else (400, line_of (intake_words fault))
+
+abbrev pub rejection_answer : Rejection → Answer
+rejection_answer why = (rejection_status why, rejection_body why)
+
+-- ── of a book ──
+
+-- the answer of a book to a question that this fault stopped, if any did
+abbrev pub book_list_answer : Result Report Ask → Option Fault → Answer
+book_list_answer said None = list_answer said
+book_list_answer said (Some fault) = list_answer (Err (Failed fault))
+
+-- the answer of a book to a request: of the commands that it hands in the first n have replies, and this fault stopped it behind them, if any did
+abbrev pub answer_of : List Entry → Request → ℕ → Option Fault → Answer
+answer_of book (enters commands) n stopped = replies_answer (replies book (take n commands)) stopped
+answer_of book (imports rows) n stopped = rows_answer (told rows (replies book (take n (good_rows rows)))) stopped
+answer_of book (asks question) n stopped = book_list_answer (found_or UnknownAircraft (report_of book question)) stopped
+answer_of book (unread fault) n stopped = fault_answer fault
+answer_of book (rejected why) n stopped = rejection_answer why

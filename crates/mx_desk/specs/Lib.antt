@@ -1,0 +1,4 @@
+pub mod Answer
+pub mod Answered
+pub mod Request
+pub mod Served

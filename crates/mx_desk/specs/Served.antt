@@ -1,0 +1,108 @@
+-- What becomes of a book that a request is answered by; and what an input asks for.
+use Rattle.std.specs.Prelude.{◌≡◌, ◌≢◌, ◌⊎◌, ◌+◌, ◌≤◌, ℕ, List, length, take, drop, Bool, Option, Some, None, Result, Ok, Err}
+use Rattle.sqlite.specs.State.{State}
+use Rattle.sqlite.specs.Store.{Ghosts}
+use Rattle.mx_command.specs.Act.{Entry}
+use Rattle.mx_book.specs.Run.{book_run}
+use Rattle.mx_layout.specs.TableName.{TableName}
+use Rattle.mx_layout.specs.Crash.{Leaves}
+use Rattle.mx_office.specs.Stands.{IsEither, Rests}
+use Rattle.mx_office.specs.declared.fault.Fault.{Fault}
+use Rattle.mx_office.specs.declared.fault.Fault.TheVariants.{Memory, Store, Damaged}
+use Rattle.mx_office.specs.declared.office.Office.{Office}
+use Rattle.mx_request.specs.Asked.{AsksFor}
+use Rattle.mx_request.specs.Body.{whole_body}
+use Rattle.mx_request.specs.Head.{head_of}
+use Rattle.mx_request.specs.Rejected.{rejection_allows}
+use Rattle.mx_request.specs.Response.{response_bytes}
+use Rattle.mx_request.specs.Routes.{Asked}
+use Rattle.mx_request.specs.declared.rejection.Rejection.{Rejection}
+use Rattle.mx_request.specs.declared.rejection.Rejection.TheVariants.{BadRequest}
+use Rattle.mx_request.specs.declared.input.InputFault.{InputFault}
+use Rattle.mx_request.specs.declared.input.InputFault.TheVariants as input
+use Rattle.mx_desk.specs.declared.fault.DeskFault.{DeskFault}
+use Rattle.mx_desk.specs.declared.fault.DeskFault.TheVariants as desk
+use Rattle.mx_desk.specs.Answer.{Answer, answer_of, stop_answer}
+use Rattle.mx_desk.specs.Answered.{AnswersIfRoom}
+use Rattle.mx_desk.specs.Request.{Request, enters, imports, asks, unread, rejected, commands_of, request_of}
+
+-- ── a book ──
+
+-- the first n commands of a request have replies; a crash leaves the book behind them, or the one with the next command
+abbrev pub LeavesBehind : List Entry → Request → ℕ → State → Type 0
+LeavesBehind book request n new =
+    Leaves new (IsEither (book_run book (take n (commands_of request))) (book_run book (take (n + 1) (commands_of request))))
+
+-- a book answered a request: all of it, or up to this fault behind the first n commands; the tables are those of the book behind them, unless the store failed
+pub record IsServed (book : List Entry) (request : Request) (n : ℕ) (stopped : Option Fault) (answer : Answer) (new : State) : Type 0 where
+  pub counted : n ≤ length (commands_of request)
+  pub done : stopped ≡ None → n ≡ length (commands_of request)
+  pub answered : answer ≡ answer_of book request n stopped
+  pub whole : (table : TableName) → stopped ≢ Some (Damaged table)
+  pub kept : stopped ≢ Some Store → Rests new (book_run book (take n (commands_of request)))
+  pub crash : LeavesBehind book request n new
+
+-- a book answered a request, or memory ran out before anything was asked of it
+abbrev pub Serves : List Entry → Request → Answer → State → Type 0
+Serves book request answer new =
+    ((n : ℕ) × (stopped : Option Fault) × IsServed book request n stopped answer new)
+    ⊎ ((answer ≡ stop_answer Memory) × Rests new book)
+
+-- ── an input ──
+
+abbrev pub by_body : Asked → Option (List ℕ) → Request
+by_body asked (Some body) = request_of asked body
+by_body asked None = rejected BadRequest
+
+abbrev pub behind_head : Result (Asked × ℕ) Rejection → List ℕ → Request
+behind_head (Ok said) rest = by_body said.0 (whole_body said.1 rest)
+behind_head (Err why) rest = rejected why
+
+abbrev pub IsCut : Result ℕ Rejection → List ℕ → Request → Type 0
+IsCut (Err why) input request = request ≡ rejected why
+IsCut (Ok n) input request =
+    (said : Result (Asked × ℕ) Rejection) × AsksFor (take n input) said × (request ≡ behind_head said (drop n input))
+
+-- this is what an input asks for: by its head, and the body behind it
+abbrev pub IsRead : List ℕ → Request → Type 0
+IsRead input request = IsCut (head_of input) input request
+
+-- the method that is allowed, where another was asked for
+abbrev pub allows : Request → Option Bool
+allows (rejected why) = rejection_allows why
+allows (enters commands) = None
+allows (imports rows) = None
+allows (asks question) = None
+allows (unread fault) = None
+
+-- the bytes of the answer to a request
+abbrev pub bytes_of : Request → Answer → List ℕ
+bytes_of request answer = response_bytes answer.0 (allows request) answer.1
+
+module _ {S : Type 0} {g : Ghosts S} where
+  -- an office was asked this, and P holds of the bytes of its answer
+  abbrev pub AnswersBytes : Request → Office S g → Office S g → (List ℕ → Type 0) → Type 0
+  AnswersBytes request old new P = AnswersIfRoom request old new (λ answer. P (bytes_of request answer))
+
+  -- an office was asked what an input asks for, and P holds of the bytes of its answer
+  abbrev pub AnswersInput : List ℕ → Office S g → Office S g → (List ℕ → Type 0) → Type 0
+  AnswersInput input old new P = (request : Request) × IsRead input request × AnswersBytes request old new P
+
+  -- the same behind a head whose bytes ask for this
+  abbrev pub AnswersHead : List ℕ → List ℕ → Office S g → Office S g → (List ℕ → Type 0) → Type 0
+  AnswersHead head rest old new P =
+      (said : Result (Asked × ℕ) Rejection) × AsksFor head said × AnswersBytes (behind_head said rest) old new P
+
+-- a book answered what an input asks for, and P holds of the bytes of its answer
+abbrev pub ServesInput : List Entry → List ℕ → State → (List ℕ → Type 0) → Type 0
+ServesInput book input new P =
+    (request : Request) × (answer : Answer) × IsRead input request × Serves book request answer new × P (bytes_of request answer)
+
+-- of some request the first n commands have replies
+abbrev pub LeavesSome : List Entry → State → Type 0
+LeavesSome book new = (request : Request) × (n : ℕ) × LeavesBehind book request n new
+
+-- why a request could not be read
+abbrev pub fault_of_input : InputFault → DeskFault
+fault_of_input input.Memory = desk.Memory
+fault_of_input input.Read = desk.Read

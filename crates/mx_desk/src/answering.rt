@@ -1,0 +1,97 @@
+//! The answer of an office to a request.
+ghost use Rattle.std.specs.Prelude.{◌≡◌, ℕ, false, IfOk, IfErr};
+ghost use Rattle.http.specs.Response.{body_of, head_of};
+ghost use Rattle.sqlite.specs.Held.{state};
+ghost use Rattle.sqlite.specs.State.{HasCleanDisk};
+ghost use Rattle.mx_book.specs.Run.{book_run};
+ghost use Rattle.mx_office.specs.Stands.{Rests};
+ghost use Rattle.mx_request.specs.Routes.{asked};
+ghost use Rattle.mx_desk.specs.Answered.{AnswersIfRoom};
+ghost use Rattle.mx_desk.specs.Request.{asking, request_of};
+ghost use Rattle.mx_desk.specs.Served.{LeavesBehind, Serves};
+
+use crate::entering::{enter, import_log, load};
+use crate::fault::DeskFault;
+use crate::listing::list;
+use crate::parts::{due_of, forecast_of, life_of, limits_of};
+use crate::respond::rejection_response;
+use http::Response;
+use mx_answers::Question;
+use mx_office::Office;
+use mx_request::{Rejection, Route};
+use sqlite::Alter;
+use std::alloc::Global;
+
+// The answer to a question, if each part of the path can be read.
+fn list_if_read<S: Alter>(
+    alloc: Global,
+    office: &mut Office<S>,
+    question: Option<Question>,
+) -> Result<Response<Vec<u8>>, DeskFault>
+    ensures answered { AnswersIfRoom (asking question) office.old office.new
+        (λ a. IfOk result (λ r. ((head_of r).status, (body_of r).items) ≡ a)) }
+    ensures memory { IfErr result (λ fault. fault ≡ DeskFault.Memory) }
+{
+    match question {
+        Some(question) => list(alloc, office, &question),
+        None => rejection_response(alloc, Rejection::BadRequest),
+    }
+}
+
+// The answer of an office to a request, whatever its tables hold.
+fn ask_office<S: Alter>(
+    alloc: Global,
+    office: &mut Office<S>,
+    route: &Route<'_>,
+    body: &[u8],
+) -> Result<Response<Vec<u8>>, DeskFault>
+    ensures answered { AnswersIfRoom (request_of (asked route.now) body.now) office.old office.new
+        (λ a. IfOk result (λ r. ((head_of r).status, (body_of r).items) ≡ a)) }
+    ensures memory { IfErr result (λ fault. fault ≡ DeskFault.Memory) }
+{
+    match route {
+        Route::Entries => enter(alloc, office, body),
+        Route::Programme { doc } => load(alloc, office, doc, body),
+        Route::Sectors => import_log(alloc, office, body),
+        Route::Due { tail, day } => list_if_read(alloc, office, due_of(tail, day)),
+        Route::Limits { tail, day } => list_if_read(alloc, office, limits_of(tail, day)),
+        Route::Forecast {
+            tail,
+            day,
+            days,
+            minutes,
+            cycles,
+        } => list_if_read(alloc, office, forecast_of(tail, day, days, minutes, cycles)),
+        Route::Life { tail } => list_if_read(alloc, office, life_of(tail)),
+    }
+}
+
+/// The answer of an office to a request: commands are handed in, each in a commit of its own, up to the first fault; a
+/// question changes no table. 200, or 409 where something was refused; 400 where a part of the path or the text of the body
+/// can't be read, and then nothing was entered; 503 where the office was stopped, with the replies so far and the line of the
+/// fault. An error only where memory runs out for the answer: of the commands some may have been entered then.
+pub fn answer<S: Alter>(
+    alloc: Global,
+    office: &mut Office<S>,
+    route: &Route<'_>,
+    body: &[u8],
+) -> Result<Response<Vec<u8>>, DeskFault>
+    // The answer of a book, and the book behind it.
+    ensures served { (book : _) → Rests (state S.Store office.old.conn) book
+        → HasCleanDisk (state S.Store office.new.conn) → IfOk result
+        (λ r. Serves book (request_of (asked route.now) body.now)
+        ((head_of r).status, (body_of r).items) (state S.Store office.new.conn)) }
+    ensures crash { (book : _) → Rests (state S.Store office.old.conn) book → (n : ℕ)
+        × LeavesBehind book (request_of (asked route.now) body.now) n
+        (state S.Store office.new.conn) }
+    ensures kept { (book : _) → Rests (state S.Store office.old.conn) book
+        → office.new.needs_reopen ≡ false → (commands : _)
+        × Rests (state S.Store office.new.conn) (book_run book commands) }
+
+    // Whatever the tables hold.
+    ensures answered { AnswersIfRoom (request_of (asked route.now) body.now) office.old office.new
+        (λ a. IfOk result (λ r. ((head_of r).status, (body_of r).items) ≡ a)) }
+    ensures memory { IfErr result (λ fault. fault ≡ DeskFault.Memory) }
+{
+    ask_office(alloc, office, route, body)
+}

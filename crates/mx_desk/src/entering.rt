@@ -1,0 +1,116 @@
+//! The answer to commands that are handed in: those of a JSON text, a maintenance programme, the sectors of a log.
+ghost use Rattle.std.specs.Prelude.{◌≡◌, IfOk, IfErr};
+ghost use Rattle.http.specs.Response.{body_of, head_of};
+ghost use Rattle.mx_intake.specs.Entries.{entries_of_text};
+ghost use Rattle.mx_intake.specs.Sectors.{sector_rows};
+ghost use Rattle.mx_desk.specs.Answer.{replies_answer, rows_answer};
+ghost use Rattle.mx_desk.specs.Answered.{AnswersIfRoom, Enters};
+ghost use Rattle.mx_desk.specs.Request.{doc_of, entering, importing, loading};
+
+use crate::fault::DeskFault;
+use crate::parts::read_doc;
+use crate::respond::{fault_response, lines_response, rejection_response};
+use http::Response;
+use mx_answers::{has_bad, has_refusal, has_refused, replies_text};
+use mx_command::Command;
+use mx_import::{ImportReport, import_text, report_text};
+use mx_intake::{commands_of_json, programme_of};
+use mx_office::{Office, Outcomes};
+use mx_request::Rejection;
+use sqlite::Alter;
+use std::alloc::Global;
+use std::slice;
+
+// The response with a line for each reply.
+fn replies_response(alloc: Global, outcomes: &Outcomes) -> Result<Response<Vec<u8>>, DeskFault>
+    ensures answer { IfOk result (λ r. ((head_of r).status, (body_of r).items)
+        ≡ replies_answer outcomes.now.replies.items outcomes.now.stopped) }
+    ensures memory { IfErr result (λ fault. fault ≡ DeskFault.Memory) }
+{
+    let mut lines = Vec::new(alloc);
+    replies_text(&mut lines, &outcomes.replies)?;
+    lines_response(
+        alloc,
+        has_refusal(&outcomes.replies),
+        lines,
+        outcomes.stopped,
+    )
+}
+
+// The response with a line for each row.
+fn rows_response(alloc: Global, report: &ImportReport) -> Result<Response<Vec<u8>>, DeskFault>
+    ensures answer { IfOk result (λ r. ((head_of r).status, (body_of r).items)
+        ≡ rows_answer report.now.rows.items report.now.stopped) }
+    ensures memory { IfErr result (λ fault. fault ≡ DeskFault.Memory) }
+{
+    let mut lines = Vec::new(alloc);
+    report_text(&mut lines, &report.rows)?;
+    let is_refused = has_bad(&report.rows) || has_refused(&report.rows);
+    lines_response(alloc, is_refused, lines, report.stopped)
+}
+
+// Hands in commands, one after the other, up to the first fault.
+fn enter_commands<S: Alter>(
+    alloc: Global,
+    office: &mut Office<S>,
+    commands: &[Command],
+) -> Result<Response<Vec<u8>>, DeskFault>
+    ensures entered { Enters commands.now office.old office.new (λ a. IfOk result
+        (λ r. ((head_of r).status, (body_of r).items) ≡ a)) }
+    ensures memory { IfErr result (λ fault. fault ≡ DeskFault.Memory) }
+{
+    let outcomes = office.run(alloc, commands);
+    replies_response(alloc, &outcomes)
+}
+
+/// Enters the commands of a JSON text.
+pub(crate) fn enter<S: Alter>(
+    alloc: Global,
+    office: &mut Office<S>,
+    body: &[u8],
+) -> Result<Response<Vec<u8>>, DeskFault>
+    ensures answered { AnswersIfRoom (entering (entries_of_text body.now)) office.old office.new
+        (λ a. IfOk result (λ r. ((head_of r).status, (body_of r).items) ≡ a)) }
+    ensures memory { IfErr result (λ fault. fault ≡ DeskFault.Memory) }
+{
+    match commands_of_json(alloc, body) {
+        Ok(commands) => enter_commands(alloc, office, &commands),
+        Err(fault) => fault_response(alloc, fault),
+    }
+}
+
+/// Loads the maintenance programme of a TOML text by a document.
+pub(crate) fn load<S: Alter>(
+    alloc: Global,
+    office: &mut Office<S>,
+    doc: &str,
+    body: &[u8],
+) -> Result<Response<Vec<u8>>, DeskFault>
+    ensures answered { AnswersIfRoom (loading (doc_of doc.now) body.now) office.old office.new
+        (λ a. IfOk result (λ r. ((head_of r).status, (body_of r).items) ≡ a)) }
+    ensures memory { IfErr result (λ fault. fault ≡ DeskFault.Memory) }
+{
+    let Some(doc) = read_doc(doc) else {
+        return rejection_response(alloc, Rejection::BadRequest);
+    };
+    match programme_of(alloc, doc, body) {
+        Ok(command) => enter_commands(alloc, office, slice::from_ref(&command)),
+        Err(fault) => fault_response(alloc, fault),
+    }
+}
+
+/// Imports the sectors of a log.
+pub(crate) fn import_log<S: Alter>(
+    alloc: Global,
+    office: &mut Office<S>,
+    body: &[u8],
+) -> Result<Response<Vec<u8>>, DeskFault>
+    ensures answered { AnswersIfRoom (importing (sector_rows body.now)) office.old office.new
+        (λ a. IfOk result (λ r. ((head_of r).status, (body_of r).items) ≡ a)) }
+    ensures memory { IfErr result (λ fault. fault ≡ DeskFault.Memory) }
+{
+    match import_text(alloc, office, body) {
+        Ok(report) => rows_response(alloc, &report),
+        Err(fault) => fault_response(alloc, fault),
+    }
+}

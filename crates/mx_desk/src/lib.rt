@@ -1,0 +1,15 @@
+//! The desk: requests over HTTP, one a connection, answered by an office with what the words of the program print.
+#![tactic(auto)]
+
+mod answering;
+mod entering;
+mod fault;
+mod listing;
+mod parts;
+mod respond;
+mod serve;
+
+pub use answering::answer;
+pub use fault::DeskFault;
+pub use mx_request::{NoRoute, Route, route};
+pub use serve::serve_one;

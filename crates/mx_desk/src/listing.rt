@@ -1,0 +1,54 @@
+//! The answer to a question: the list of an aircraft.
+ghost use Rattle.std.specs.Prelude.{◌≡◌, Ok, Err, IfOk, IfErr};
+ghost use Rattle.http.specs.Response.{body_of, head_of};
+ghost use Rattle.mx_desk.specs.Answer.{list_answer};
+ghost use Rattle.mx_desk.specs.Answered.{Asks};
+
+use crate::fault::DeskFault;
+use crate::respond::{response, stop_response};
+use http::{Response, StatusCode};
+use mx_answers::{Question, Report, ask, list_text};
+use mx_book::{Refusal, Reply};
+use mx_office::{Ask, Office};
+use mx_reports::reply_text;
+use sqlite::Alter;
+use std::alloc::Global;
+
+// The response with a list.
+fn report_response(alloc: Global, report: &Report) -> Result<Response<Vec<u8>>, DeskFault>
+    ensures answer { IfOk result (λ r. ((head_of r).status, (body_of r).items)
+        ≡ list_answer (Ok report.now)) }
+    ensures memory { IfErr result (λ fault. fault ≡ DeskFault.Memory) }
+{
+    let mut body = Vec::new(alloc);
+    list_text(&mut body, report)?;
+    Ok(response(alloc, StatusCode::OK, body))
+}
+
+// The response with a refusal.
+fn refusal_response(alloc: Global, refusal: Refusal) -> Result<Response<Vec<u8>>, DeskFault>
+    ensures answer { IfOk result (λ r. ((head_of r).status, (body_of r).items)
+        ≡ list_answer (Err (Ask.Refused refusal))) }
+    ensures memory { IfErr result (λ fault. fault ≡ DeskFault.Memory) }
+{
+    let mut body = Vec::new(alloc);
+    reply_text(&mut body, &Reply::Refused(refusal))?;
+    Ok(response(alloc, StatusCode::CONFLICT, body))
+}
+
+/// Asks an office for a list. No table changes.
+pub(crate) fn list<S: Alter>(
+    alloc: Global,
+    office: &mut Office<S>,
+    question: &Question,
+) -> Result<Response<Vec<u8>>, DeskFault>
+    ensures asked { Asks question.now office.old office.new (λ a. IfOk result
+        (λ r. ((head_of r).status, (body_of r).items) ≡ a)) }
+    ensures memory { IfErr result (λ fault. fault ≡ DeskFault.Memory) }
+{
+    match ask(alloc, office, question) {
+        Ok(report) => report_response(alloc, &report),
+        Err(Ask::Refused(refusal)) => refusal_response(alloc, refusal),
+        Err(Ask::Failed(fault)) => stop_response(alloc, fault),
+    }
+}

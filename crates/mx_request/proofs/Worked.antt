@@ -1,0 +1,39 @@
+-- Worked responses and heads, computed from the definitions.
+use Rattle.std.proofs.Common.{refl, ◌≡◌, [], true, Some, None, Ok, Err}
+use Rattle.std.specs.Prelude.{codes}
+use Rattle.std.specs.Fmt.{digits}
+use Rattle.mx_request.specs.Body.{whole_body}
+use Rattle.mx_request.specs.Head.{head_length, head_of}
+use Rattle.mx_request.specs.Response.{response_bytes}
+use Rattle.mx_request.specs.Rejected.{rejection_status, rejection_allows, rejection_body}
+use Rattle.mx_request.specs.declared.rejection.Rejection.TheVariants.{BadRequest, WrongMethod}
+
+empty_and_fine : response_bytes 200 None [] ≡ codes "HTTP/1.1 200 OK\r\nContent-Type: text/plain\r\nContent-Length: 0\r\nConnection: close\r\n\r\n"
+unfolding digits
+empty_and_fine = refl
+
+with_a_body : response_bytes 422 None (codes "refused 20\n") ≡ codes "HTTP/1.1 422 Unprocessable Entity\r\nContent-Type: text/plain\r\nContent-Length: 11\r\nConnection: close\r\n\r\nrefused 20\n"
+unfolding digits
+with_a_body = refl
+
+other_method : response_bytes (rejection_status (WrongMethod true)) (rejection_allows (WrongMethod true)) (rejection_body (WrongMethod true)) ≡ codes "HTTP/1.1 405 Method Not Allowed\r\nContent-Type: text/plain\r\nContent-Length: 0\r\nConnection: close\r\nAllow: POST\r\n\r\n"
+unfolding digits
+other_method = refl
+
+head_before_a_body : head_length (codes "GET / HTTP/1.1\r\nHost: a\r\n\r\nbody\r\n\r\n") ≡ Some 27
+head_before_a_body = refl
+
+no_head_yet : head_length (codes "GET / HTTP/1.1\r\n\n\r\n") ≡ None
+no_head_yet = refl
+
+head_at_the_front : head_of (codes "GET / HTTP/1.0\r\n\r\n") ≡ Ok 18
+head_at_the_front = refl
+
+input_ends_within_its_head : head_of (codes "GET / HTTP/1.0\r\n") ≡ Err BadRequest
+input_ends_within_its_head = refl
+
+body_behind_which_more_stands : whole_body 3 (codes "abcd") ≡ Some (codes "abc")
+body_behind_which_more_stands = refl
+
+body_that_ends_too_soon : whole_body 3 (codes "ab") ≡ None
+body_that_ends_too_soon = refl
