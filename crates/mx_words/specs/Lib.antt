@@ -5,6 +5,5 @@ pub mod Imported
 pub mod FaultLine
 pub mod Number
 pub mod Printed
-pub mod Served
 pub mod Status
 pub mod Trial
