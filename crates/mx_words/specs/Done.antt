@@ -7,9 +7,10 @@ use Rattle.clap.specs.declared.error.kind.ErrorKind.TheVariants.{DisplayHelp, Di
 use Rattle.mx_words.specs.Entered.{AreReplyLines}
 use Rattle.mx_words.specs.Imported.{AreRowLines}
 use Rattle.mx_words.specs.Printed.{IsListAnswer}
+use Rattle.mx_words.specs.Served.{served_line}
 use Rattle.mx_words.specs.Trial.{is_trial_shaped, trial_commands, TellsTrial}
 use Rattle.mx_words.specs.declared.command_line.Words.{Words}
-use Rattle.mx_words.specs.declared.command_line.Words.TheVariants.{Try, Init, List as ForList, Enter, Import, Programme}
+use Rattle.mx_words.specs.declared.command_line.Words.TheVariants.{Try, Init, List as ForList, Enter, Import, Programme, Serve}
 use Rattle.mx_words.specs.declared.fault.Ending.{Ending}
 use Rattle.mx_words.specs.declared.fault.Ending.TheVariants.{Done}
 
@@ -21,6 +22,7 @@ IsDone (ForList file question) text ending = IsListAnswer question text ending
 IsDone (Enter file entries) text ending = (count : ℕ) × AreReplyLines count text ending
 IsDone (Import file csv) text ending = AreRowLines text ending
 IsDone (Programme file doc toml) text ending = AreReplyLines 1 text ending
+IsDone (Serve file port count) text ending = (text ≡ served_line count) × (ending ≡ Done)
 
 -- the words are those of a trial that lacks its shape
 abbrev pub LacksShape : Words → Type 0

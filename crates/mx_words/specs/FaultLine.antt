@@ -8,7 +8,7 @@ use Rattle.mx_office.specs.declared.fault.OpenFault.{OpenFault}
 use Rattle.mx_office.specs.declared.fault.OpenFault.TheVariants as opening
 use Rattle.mx_answers.specs.FaultLine.{intake_words, line_of, office_words}
 use Rattle.mx_words.specs.declared.fault.Stop.{Stop}
-use Rattle.mx_words.specs.declared.fault.Stop.TheVariants.{Words, Shape, Intake, MakeMemory, Create, Open, Office, Print}
+use Rattle.mx_words.specs.declared.fault.Stop.TheVariants.{Words, Shape, Intake, MakeMemory, Create, Open, Net, Office, Print}
 
 -- why no book was made, in a word or two
 abbrev pub create_words : TableFault → List ℕ
@@ -36,6 +36,7 @@ stop_words MakeMemory = codes "memory"
 stop_words Print = codes "memory"
 stop_words (Create fault) = create_words fault
 stop_words (Open fault) = open_words fault
+stop_words Net = codes "net"
 stop_words (Office fault) = office_words fault
 
 -- the line of a stop

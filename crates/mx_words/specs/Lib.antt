@@ -5,5 +5,6 @@ pub mod Imported
 pub mod FaultLine
 pub mod Number
 pub mod Printed
+pub mod Served
 pub mod Status
 pub mod Trial

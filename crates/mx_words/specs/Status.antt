@@ -6,9 +6,9 @@ use Rattle.mx_answers.specs.Replies.{is_refusal}
 use Rattle.mx_words.specs.declared.fault.Ending.{Ending}
 use Rattle.mx_words.specs.declared.fault.Ending.TheVariants.{Done, Refused, Bad}
 use Rattle.mx_words.specs.declared.fault.Stop.{Stop}
-use Rattle.mx_words.specs.declared.fault.Stop.TheVariants.{Words, Shape, Intake, MakeMemory, Create, Open, Office, Print}
+use Rattle.mx_words.specs.declared.fault.Stop.TheVariants.{Words, Shape, Intake, MakeMemory, Create, Open, Net, Office, Print}
 
--- the status of a stop: 2 for the words, 3 for the input file, 5 where no office was opened or made, 4 after it was opened
+-- the status of a stop: 2 for the words, 3 for the input file, 5 where no office was opened or made or the port was not bound, 4 after it was opened
 abbrev pub stop_status : Stop → ℕ
 stop_status Words = 2
 stop_status Shape = 2
@@ -16,6 +16,7 @@ stop_status (Intake fault) = 3
 stop_status MakeMemory = 5
 stop_status (Create fault) = 5
 stop_status (Open fault) = 5
+stop_status Net = 5
 stop_status (Office fault) = 4
 stop_status Print = 4
 

@@ -13,6 +13,12 @@ use mx_base::{Day, Doc, Moment, Tail};
 use mx_book::{MOST_CYCLES, MOST_DAYS, MOST_MINUTES};
 use std::alloc::{AllocError, Global};
 
+/// The greatest port.
+const MOST_PORT: u32 = 65_535;
+
+/// The most connections that are served.
+const MOST_CONNECTIONS: u32 = 1_000_000;
+
 /// What the program is asked to do.
 #[derive(Drop)]
 pub(crate) enum Words<'a> {
@@ -36,6 +42,11 @@ pub(crate) enum Words<'a> {
         file: &'a str,
         doc: Doc,
         toml: &'a str,
+    },
+    Serve {
+        file: &'a str,
+        port: u16,
+        count: u32,
     },
 }
 
@@ -134,6 +145,16 @@ fn programme_command<'a>(alloc: Global) -> Result<Command<'a>, AllocError> {
         .arg(value(alloc, "TOML", "The file of the programme, in TOML"))
 }
 
+fn serve_command<'a>(alloc: Global) -> Result<Command<'a>, AllocError> {
+    Command::new(alloc, "serve")
+        .about(
+            "Answers requests over HTTP at a port of this machine alone, one connection after the other",
+        )
+        .arg(value(alloc, "FILE", "The database file"))?
+        .arg(value(alloc, "PORT", "The port of the loopback, 1 to 65535"))?
+        .arg(value(alloc, "COUNT", "The connections to serve, 1 to 1000000"))
+}
+
 // The program without its words.
 fn office_command<'a>(alloc: Global) -> Result<Command<'a>, AllocError> {
     Ok(
@@ -155,7 +176,8 @@ pub(crate) fn command<'a>(alloc: Global) -> Result<Command<'a>, AllocError> {
         .subcommand(limits_command(alloc)?)?
         .subcommand(enter_command(alloc)?)?
         .subcommand(import_command(alloc)?)?
-        .subcommand(programme_command(alloc)?)
+        .subcommand(programme_command(alloc)?)?
+        .subcommand(serve_command(alloc)?)
 }
 
 fn has_digits_alone(text: &str) -> bool
@@ -238,6 +260,20 @@ fn programme_of<'a>(matches: &ArgMatches<'a>) -> Option<Words<'a>> {
     })
 }
 
+// What is served at which port, and how often.
+fn serving_of<'a>(matches: &ArgMatches<'a>) -> Option<Words<'a>> {
+    let port = number_up_to(matches, "PORT", MOST_PORT)?;
+    let count = number_up_to(matches, "COUNT", MOST_CONNECTIONS)?;
+    if port == 0 || count == 0 {
+        return None;
+    }
+    Some(Words::Serve {
+        file: matches.get_str("FILE")?,
+        port: port as u16,
+        count,
+    })
+}
+
 /// What the words ask for, or `None` where one of them can't be read.
 pub(crate) fn words_of<'a>(matches: &ArgMatches<'a>) -> Option<Words<'a>> {
     let (name, values) = matches.subcommand()?;
@@ -255,6 +291,7 @@ pub(crate) fn words_of<'a>(matches: &ArgMatches<'a>) -> Option<Words<'a>> {
             csv: values.get_str("CSV")?,
         }),
         "programme" => programme_of(values),
+        "serve" => serving_of(values),
         list => Some(Words::List {
             file: values.get_str("FILE")?,
             question: question_of(list, values)?,

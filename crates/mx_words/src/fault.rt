@@ -23,7 +23,7 @@ const BAD_INPUT: u8 = 3;
 /// The office was opened, and something stopped the program then.
 pub(crate) const STOPPED: u8 = 4;
 
-/// The database was not opened or made.
+/// The database was not opened or made, or the port not bound.
 const NOT_OPENED: u8 = 5;
 
 /// How a word ends that nothing stopped.
@@ -78,6 +78,8 @@ pub(crate) enum Stop {
     Create(TableFault),
     /// No office was opened.
     Open(OpenFault),
+    /// The port can't be bound.
+    Net,
     /// A call of the office was stopped.
     Office(Fault),
     /// Memory ran out for what was to be printed. What was entered before stands.
@@ -93,7 +95,7 @@ impl Stop {
         match self {
             Stop::Words | Stop::Shape => BAD_WORDS,
             Stop::Intake(_) => BAD_INPUT,
-            Stop::MakeMemory | Stop::Create(_) | Stop::Open(_) => NOT_OPENED,
+            Stop::MakeMemory | Stop::Create(_) | Stop::Open(_) | Stop::Net => NOT_OPENED,
             Stop::Office(_) | Stop::Print => STOPPED,
         }
     }
@@ -110,6 +112,7 @@ impl Stop {
             Stop::MakeMemory | Stop::Print => err.write_all(b"fault memory\n"),
             Stop::Create(fault) => write_create(err, fault),
             Stop::Open(fault) => write_open(err, fault),
+            Stop::Net => err.write_all(b"fault net\n"),
             Stop::Office(fault) => write_fault(err, fault),
         }
     }

@@ -6,6 +6,7 @@ ghost use Rattle.mx_words.specs.Asked.{IsAnswer};
 ghost use Rattle.mx_words.specs.Entered.{AreReplyLines};
 ghost use Rattle.mx_words.specs.Imported.{AreRowLines};
 ghost use Rattle.mx_words.specs.Printed.{IsListAnswer};
+ghost use Rattle.mx_words.specs.Served.{served_line};
 ghost use Rattle.mx_words.specs.Status.{stop_status};
 
 use crate::entering::enter_all;
@@ -14,6 +15,7 @@ use crate::importing::import_all;
 use crate::listing::print_list;
 use crate::making::{CREATED, make_book};
 use crate::opening::open;
+use crate::serving::serve_all;
 use mx_answers::Question;
 use mx_base::Doc;
 use mx_command::Command;
@@ -22,6 +24,7 @@ use mx_layout::TableFault;
 use mx_office::{Fault, Office, OpenFault};
 use sqlite::{Alter, Connection, Error, ErrorCode, FileFrom, FileStore, Wary};
 use std::io::ErrorKind;
+use std::net::{Ipv4Addr, SocketAddr, SocketAddrV4, TcpListener};
 use std::{fs, slice};
 
 type File = FileStore<FileFrom<Wary>>;
@@ -76,6 +79,29 @@ pub(crate) enum Asked<'a> {
     Enter(&'a [Command]),
     /// What the rows of a sector log are told, which is imported.
     Import(&'a fs::File),
+    /// Answers to so many connections at a port of the loopback.
+    Serve { port: u16, count: u32 },
+}
+
+// Serves connections at a port of the loopback.
+fn serve_at<S: Alter>(
+    rt: &HostRuntime,
+    office: &mut Office<S>,
+    port: u16,
+    count: u32,
+    out: &mut Vec<u8>,
+) -> Result<Ending, Stop>
+    ensures shown { IfOk result (λ ending. (out.new.items ≡ out.old.items ++ served_line count)
+        × (ending ≡ Ending.Done)) }
+    ensures status { IfErr result (λ stop. 4 ≤ stop_status stop) }
+{
+    match TcpListener::bind(
+        rt,
+        SocketAddr::V4(SocketAddrV4::new(Ipv4Addr::LOCALHOST, port)),
+    ) {
+        Ok(listener) => serve_all(rt.alloc(), office, &listener, count, out),
+        Err(_) => Err(Stop::Net),
+    }
 }
 
 // Appends what an office answers. It says what is printed alone, as `made_in`.
@@ -98,6 +124,7 @@ fn answer<S: Alter>(
             let mut reader = log;
             import_all(rt.alloc(), office, &mut reader, out)
         }
+        Asked::Serve { port, count } => serve_at(rt, office, port, count, out),
     }
 }
 
@@ -282,4 +309,21 @@ pub(crate) fn import(
         Ok(log) => answer_file(rt, file, Asked::Import(&log), out),
         Err(_) => Err(Stop::Intake(UNOPENED)),
     }
+}
+
+/// Serves connections at a port of the loopback with the office in a file, and appends how many they were.
+pub(crate) fn serve(
+    rt: &HostRuntime,
+    file: &str,
+    port: u16,
+    count: u32,
+    out: &mut Vec<u8>,
+) -> Result<Ending, Stop>
+    ensures shown { IfOk result (λ ending. (out.new.items ≡ out.old.items ++ served_line count)
+        × (ending ≡ Ending.Done)) }
+    ensures unread { IfErr result (λ stop. stop_status stop ≡ 3
+        → out.new.items ≡ out.old.items) }
+    ensures status { IfErr result (λ stop. 3 ≤ stop_status stop) }
+{
+    answer_file(rt, file, Asked::Serve { port, count }, out)
 }

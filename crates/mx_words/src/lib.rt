@@ -14,6 +14,8 @@ mod making;
 mod opening;
 mod printing;
 pub mod run;
+pub mod serving;
 mod trial;
 
 pub use run::run_words;
+pub use serving::serve_on;

@@ -6,7 +6,7 @@ ghost use Rattle.mx_words.specs.Status.{stop_status};
 
 use crate::command_line::{Words, command, words_of};
 use crate::fault::{Ending, Stop};
-use crate::files::{enter, import, init, list, programme};
+use crate::files::{enter, import, init, list, programme, serve};
 use crate::printing::{print_done, print_usage};
 use crate::trial::try_out;
 use clap::ArgMatches;
@@ -29,6 +29,7 @@ fn perform(rt: &HostRuntime, words: &Words<'_>, out: &mut Vec<u8>) -> Result<End
         Words::Enter { file, entries } => enter(rt, file, entries, out),
         Words::Import { file, csv } => import(rt, file, csv, out),
         Words::Programme { file, doc, toml } => programme(rt, file, *doc, toml, out),
+        Words::Serve { file, port, count } => serve(rt, file, *port, *count, out),
     }
 }
 
@@ -77,7 +78,7 @@ fn answer<O: Write, E: Write>(
 /// to `out`, faults and usage to `err`, and answers the status: 0 where all was done; 1 where a
 /// reply or a question was refused; 2 for words that it does not take; 3 for an input file that gives
 /// no commands, or where a row of a sector log was bad; 4 for a fault after the database was opened; 5 where it could not be
-/// opened or made.
+/// opened or made, or the port not bound.
 pub fn run_words<O: Write, E: Write>(
     rt: &HostRuntime,
     words: &[String],

@@ -1,0 +1,92 @@
+//! `serve`: an open office at a port of the loopback, one connection after the other.
+ghost use Rattle.std.specs.Prelude.{◌≡◌, ◌⊎◌, ◌++◌, false, true, IfOk, IfErr, OnOk};
+ghost use Rattle.sqlite.specs.Held.{state};
+ghost use Rattle.mx_book.specs.Run.{book_run};
+ghost use Rattle.mx_office.specs.Stands.{Rests};
+ghost use Rattle.mx_desk.specs.Served.{LeavesSome};
+ghost use Rattle.mx_words.specs.Served.{served_line};
+
+use crate::fault::{Ending, Stop};
+use crate::printing::print_done;
+use itoa::Buffer;
+use mx_desk::serve_one;
+use mx_office::{Fault, Office};
+use sqlite::Alter;
+use std::alloc::{AllocError, Global};
+use std::io::Write;
+use std::net::{OpenListener, TcpListener};
+
+// Appends how many connections were served.
+fn append_served(out: &mut Vec<u8>, count: u32) -> Result<(), AllocError>
+    ensures { OnOk result (out.new.items ≡ out.old.items ++ served_line count) }
+{
+    let mut buffer = Buffer::new();
+    out.extend_from_slice(b"served ")?;
+    out.extend_from_slice(buffer.format(count).as_bytes())?;
+    out.extend_from_slice(b"\n")
+}
+
+// Takes the next connection and serves it. What fails of it alone is its peer's to see: a connection that can't be taken
+// counts too.
+fn serve_next<S: Alter>(alloc: Global, office: &mut Office<S>, listener: &TcpListener)
+    ensures kept { (book : _) → Rests (state S.Store office.old.conn) book
+        → office.new.needs_reopen ≡ false → (commands : _)
+        × Rests (state S.Store office.new.conn) (book_run book commands) }
+    ensures crash { (book : _) → Rests (state S.Store office.old.conn) book
+        → LeavesSome book (state S.Store office.new.conn) }
+{
+    if let Ok((stream, _)) = listener.accept() {
+        let (mut reader, mut writer) = (&stream, &stream);
+        let _ = serve_one(alloc, office, &mut reader, &mut writer);
+    }
+}
+
+/// Serves so many connections, one after the other, and appends how many they were. It ends before that once the office has
+/// to be opened again.
+pub(crate) fn serve_all<S: Alter>(
+    alloc: Global,
+    office: &mut Office<S>,
+    listener: &TcpListener,
+    count: u32,
+    out: &mut Vec<u8>,
+) -> Result<Ending, Stop>
+    ensures served { IfOk result (λ ending. (ending ≡ Ending.Done)
+        × (out.new.items ≡ out.old.items ++ served_line count)) }
+    ensures stops { IfErr result (λ stop. (stop ≡ Stop.Print)
+        ⊎ ((stop ≡ Stop.Office Fault.Store) × (office.new.needs_reopen ≡ true))) }
+    ensures kept { (book : _) → Rests (state S.Store office.old.conn) book
+        → office.new.needs_reopen ≡ false → (commands : _)
+        × Rests (state S.Store office.new.conn) (book_run book commands) }
+    ensures crash { (book : _) → Rests (state S.Store office.old.conn) book → (commands : _)
+        × LeavesSome (book_run book commands) (state S.Store office.new.conn) }
+{
+    for _ in 0..count {
+        serve_next(alloc, office, listener);
+        if office.needs_reopen() {
+            return Err(Stop::Office(Fault::Store));
+        }
+    }
+    match append_served(out, count) {
+        Ok(()) => Ok(Ending::Done),
+        Err(_) => Err(Stop::Print),
+    }
+}
+
+/// Serves so many connections at a listener, one after the other, and prints `served COUNT`; or `fault store` once the office
+/// has to be opened again. Answers the status that the program ends with: 0, or 4.
+pub fn serve_on<S: Alter, O: Write, E: Write>(
+    rt: &HostRuntime,
+    office: &mut Office<S>,
+    listener: &TcpListener,
+    count: u32,
+    out: &mut O,
+    err: &mut E,
+) -> u8
+    ensures bound { (result ≡ 0) ⊎ (result ≡ 4) }
+    ensures crash { (book : _) → Rests (state S.Store office.old.conn) book → (commands : _)
+        × LeavesSome (book_run book commands) (state S.Store office.new.conn) }
+{
+    let mut text = Vec::new(rt.alloc());
+    let done = serve_all(rt.alloc(), office, listener, count, &mut text);
+    print_done(&text, done, out, err).status
+}

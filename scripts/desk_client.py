@@ -1,0 +1,208 @@
+"""What the scripts that ask the desk share: the worked book, requests, the program as it serves, ways to send."""
+import json
+import pathlib
+import random
+import socket
+import struct
+import subprocess
+import time
+import typing
+
+TOP = pathlib.Path(__file__).resolve().parent.parent
+PATIENCE = 10  # seconds
+
+# ── the worked book ──
+
+AIRCRAFT = {
+    "do": "add-aircraft", "doc": "A1", "tail": "D-ABCD", "kind": "C172", "birth": "2000-01-01", "minutes": 60000,
+    "cycles": 800, "as_of": "2024-01-01T00:00",
+    "positions": [{"position": "ENG", "part": "IO360"}, {"position": "PROP", "part": "HC2"}],
+}
+ANNUAL = {
+    "do": "opening", "doc": "O1", "tail": "D-ABCD", "kind": "C172", "task": "ANNUAL", "minutes": 59000, "cycles": 780,
+    "day": "2023-06-01",
+}
+PROGRAMME = b"""kind = "C172"
+revision = 1
+[[task]]
+id = "100H"
+applies = "airframe"
+first = { hours = 1050 }
+repeat = { hours = 100 }
+tolerance = { hours = 10 }
+[[task]]
+id = "ANNUAL"
+applies = "airframe"
+first = { days = 365 }
+repeat = { days = 365 }
+tolerance = { days = 30 }
+[[task]]
+id = "OVH"
+applies = "part:IO360"
+first = { hours = 2000 }
+repeat = { hours = 2000 }
+"""
+HEADER = b"tail,page,line,off,on,cycles\n"
+FIRST_ROW = b"D-ABCD,12,1,2024-03-01T08:00,2024-03-01T09:30,1\n"
+
+DUE_PATH = "/aircraft/D-ABCD/due/2024-03-10"
+LIFE_PATH = "/aircraft/D-ABCD/life"
+DUE = """due D-ABCD 2024-03-10 1001:30 801
+OK airframe 100H h=48:30 c=- d=-
+OK airframe ANNUAL h=- c=- d=82
+end 2
+"""
+
+# ── requests ──
+
+
+def lines(*texts: str) -> bytes:
+    """A head: these lines and an empty one."""
+    return "".join(f"{text}\r\n" for text in (*texts, "")).encode()
+
+
+def get(path: str, *fields: str) -> bytes:
+    return lines(f"GET {path} HTTP/1.1", "Host: desk", *fields)
+
+
+def post(path: str, body: bytes) -> bytes:
+    return lines(f"POST {path} HTTP/1.1", "Host: desk", f"Content-Length: {len(body)}") + body
+
+
+def entries(*commands: object) -> bytes:
+    return post("/entries", json.dumps(commands).encode())
+
+
+def sector(page: int, line: int, off: str, on: str, cycles: int = 1) -> typing.Dict[str, object]:
+    return {"do": "sector", "tail": "D-ABCD", "page": page, "line": line, "off": off, "on": on, "cycles": cycles}
+
+
+# ── the program ──
+
+
+def run(office: str, *words: object) -> typing.Tuple[int, bytes, bytes]:
+    """The status, standard output and standard error of the program on these words."""
+    try:
+        done = subprocess.run([office, *map(str, words)], stdin=subprocess.DEVNULL, capture_output=True, timeout=PATIENCE)
+    except subprocess.TimeoutExpired:
+        return -1, b"", f"(no end within {PATIENCE} s)".encode()
+    return done.returncode, done.stdout, done.stderr
+
+
+def free_port() -> int:
+    """A port that nobody has, below those from which connections are made."""
+    while True:
+        port = random.randrange(20000, 32000)
+        try:
+            with socket.create_server(("127.0.0.1", port)):
+                return port
+        except OSError:
+            continue
+
+
+class Desk:
+    """A program as it serves so many connections: these words, and then a file, a port and the number."""
+
+    def __init__(self, program: typing.List[str], file: pathlib.Path, count: int) -> None:
+        self.port = free_port()
+        words = [*program, str(file), str(self.port), str(count)]
+        self.process = subprocess.Popen(words, stdin=subprocess.DEVNULL, stdout=subprocess.PIPE, stderr=subprocess.PIPE)
+
+    def connect(self) -> socket.socket:
+        """A connection, as soon as the program listens."""
+        until = time.monotonic() + PATIENCE
+        while True:
+            try:
+                peer = socket.create_connection(("127.0.0.1", self.port), timeout=PATIENCE)
+                peer.setsockopt(socket.IPPROTO_TCP, socket.TCP_NODELAY, 1)
+                return peer
+            except ConnectionRefusedError:
+                if self.process.poll() is not None or time.monotonic() > until:
+                    raise
+                time.sleep(0.01)
+
+    def end(self) -> typing.Tuple[int, bytes, bytes]:
+        """The status, standard output and standard error, once it has served all connections."""
+        try:
+            out, err = self.process.communicate(timeout=PATIENCE)
+        except subprocess.TimeoutExpired:
+            self.stop()
+            out, err = self.process.communicate()
+        return self.process.returncode, out, err
+
+    def stop(self) -> None:
+        """Ends it, where it has not ended."""
+        if self.process.poll() is None:
+            self.process.kill()
+            self.process.wait()
+
+
+def send(peer: socket.socket, request: bytes) -> None:
+    """Sends as much as the other side takes: one that has answered needn't read on."""
+    try:
+        peer.sendall(request)
+    except (BrokenPipeError, ConnectionResetError):
+        pass
+
+
+def received(peer: socket.socket) -> bytes:
+    """All that comes until the other side ends the connection."""
+    came = b""
+    try:
+        while True:
+            more = peer.recv(65536)
+            if not more:
+                return came
+            came += more
+    except ConnectionResetError:
+        return came
+    except socket.timeout:
+        return came + f"(and no end within {PATIENCE} s)".encode()
+
+
+# ── ways to send a request ──
+
+Way = typing.Callable[[Desk, bytes], bytes]
+
+
+def whole(desk: Desk, request: bytes) -> bytes:
+    """The sending side stays open: no end of the input tells where the request ends."""
+    with desk.connect() as peer:
+        send(peer, request)
+        return received(peer)
+
+
+def ended(desk: Desk, request: bytes) -> bytes:
+    """The sending side is shut down behind the request."""
+    with desk.connect() as peer:
+        send(peer, request)
+        try:
+            peer.shutdown(socket.SHUT_WR)
+        except OSError:  # it has ended the connection
+            pass
+        return received(peer)
+
+
+def by_bytes(desk: Desk, request: bytes) -> bytes:
+    """Each byte comes by itself."""
+    with desk.connect() as peer:
+        for byte in request:
+            send(peer, bytes([byte]))
+            time.sleep(0.0005)
+        return received(peer)
+
+
+def given_up(desk: Desk, request: bytes) -> bytes:
+    """The connection is reset behind the request: reading it or writing the answer fails."""
+    with desk.connect() as peer:
+        send(peer, request)
+        peer.setsockopt(socket.SOL_SOCKET, socket.SO_LINGER, struct.pack("ii", 1, 0))
+    return b""
+
+
+def by_curl(desk: Desk, request: bytes) -> bytes:
+    """The request is a path, and behind it on further lines a body, if it has one."""
+    path, _, body = request.decode().partition("\n")
+    words = ["curl", "-q", "-s", "-i", "--noproxy", "*", "--max-time", str(PATIENCE)]
+    sent = ["--data-binary", body] if body else []
+    return subprocess.run([*words, *sent, f"http://127.0.0.1:{desk.port}{path}"], capture_output=True).stdout
