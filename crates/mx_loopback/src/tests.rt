@@ -4,20 +4,22 @@ use mx_layout::{Layout, create};
 use mx_office::{Office, open_office};
 use mx_words::{run_words, serve_on};
 use sqlite::{Connection, MemStore};
+use std::fs;
 use std::io::{Read, Write};
 use std::net::{OpenListener, SocketAddr, TcpListener, TcpStream};
 use std::test::Fail;
-use std::fs;
 
 // The file that the word `init` makes.
 const FILE: &str = "loopback.db";
 
-const COMMANDS: &[u8] = br#"[{"do":"add-aircraft","doc":"A1","tail":"D-ABCD","kind":"C172","birth":"2000-01-01",
+const COMMANDS: &[u8] =
+    br#"[{"do":"add-aircraft","doc":"A1","tail":"D-ABCD","kind":"C172","birth":"2000-01-01",
 "minutes":60000,"cycles":800,"as_of":"2024-01-01T00:00","positions":[]}]"#;
 
 const REQUEST: &[u8] = b"GET /aircraft/D-ABCD/due/2024-03-10 HTTP/1.1\r\n\r\n";
 
-const RESPONSE: &str = "HTTP/1.1 200 OK\r\nContent-Type: text/plain\r\nContent-Length: 40\r\nConnection: close\r\n\r\n\
+const RESPONSE: &str =
+    "HTTP/1.1 200 OK\r\nContent-Type: text/plain\r\nContent-Length: 40\r\nConnection: close\r\n\r\n\
 due D-ABCD 2024-03-10 1000:00 800\nend 0\n";
 
 // An office in memory, without an entry.

@@ -1,5 +1,5 @@
 -- Lemmas on the number that a word writes.
-use Rattle.std.proofs.Common.{◌≡◌, ℕ, ◌<◌, ◌^◌, List, length, true, false, Some, None, Result, Ok, Err, if◌then◌else◌, ◌&&◌, nat_lt, ap, refl, arith, rules}
+use Rattle.std.proofs.Common.{◌≡◌, ℕ, ◌<◌, ◌^◌, List, length, true, false, Some, Result, Ok, Err, ap, arith, rules}
 use Rattle.std.specs.Char.{is_ascii_digit}
 use Rattle.std.specs.List.{list_all}
 use Rattle.std.specs.Result.{result_ok, OkIff}

@@ -1,11 +1,11 @@
 -- What the status that words end with says of how they ended.
-use Rattle.std.proofs.Common.{rules, arith, ◌≡◌, ◌≤◌, ◌<◌, ◌⊎◌, inl, inr, refl, sym, ◌∙◌, ap, subst, ℕ, Bool, true, false, List, [], ◌++◌, Option, Some, None, Result, Ok, Err, IfOk, IfErr}
+use Rattle.std.proofs.Common.{rules, arith, ◌≡◌, ◌<◌, ◌⊎◌, inl, inr, refl, ◌∙◌, ap, subst, ℕ, Bool, true, false, List, [], ◌++◌, Option, Some, None, Result, Ok, Err, IfOk, IfErr}
 use Rattle.std.specs.Io.KnownBytes.{Appends, Keeps}
 use Rattle.std.specs.Prelude.{max}
 use Rattle.mx_words.specs.declared.fault.Ending.{Ending}
 use Rattle.mx_words.specs.declared.fault.Ending.TheVariants.{Done, Refused, Bad}
 use Rattle.mx_words.specs.declared.fault.Stop.{Stop}
-use Rattle.mx_words.specs.declared.fault.Stop.TheVariants.{Words, Shape, Intake, MakeMemory, Create, Open, Office, Print}
+use Rattle.mx_words.specs.declared.fault.Stop.TheVariants.{Words, Shape, Intake, MakeMemory, Create, Open, Office, Net, Print}
 use Rattle.mx_words.specs.declared.command_line.Words.{Words as Asked}
 use Rattle.mx_words.specs.Done.{IsDone, IsEnded}
 use Rattle.mx_words.specs.Status.{done_status, stop_status}
@@ -27,6 +27,7 @@ refusal_of (Err MakeMemory) h = (cc)
 refusal_of (Err (Create fault)) h = (cc)
 refusal_of (Err (Open fault)) h = (cc)
 refusal_of (Err (Office fault)) h = (cc)
+refusal_of (Err Net) h = (cc)
 refusal_of (Err Print) h = (cc)
 
 -- what is said of whatever was done is said of an ending
@@ -57,4 +58,5 @@ bad_or_unread old new (Err MakeMemory) before after shown b s a ok err three = a
 bad_or_unread old new (Err (Create fault)) before after shown b s a ok err three = absurd (cc)
 bad_or_unread old new (Err (Open fault)) before after shown b s a ok err three = absurd (cc)
 bad_or_unread old new (Err (Office fault)) before after shown b s a ok err three = absurd (cc)
+bad_or_unread old new (Err Net) before after shown b s a ok err three = absurd (cc)
 bad_or_unread old new (Err Print) before after shown b s a ok err three = absurd (cc)

@@ -19,6 +19,7 @@ use std::net::{OpenListener, OpenStream, TcpListener, TcpStream};
 
 // What is taken at most of a request behind its answer, in chunks.
 const CHUNK_BYTES: usize = 4096;
+
 const MOST_CHUNKS: u32 = 64;
 
 // Appends how many connections were served.

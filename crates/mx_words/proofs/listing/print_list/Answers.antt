@@ -6,7 +6,6 @@ use Rattle.mx_office.specs.declared.fault.Ask.{Ask}
 use Rattle.mx_office.specs.Faults.{found_or, IsAnswer}
 use Rattle.mx_office.specs.Stands.{HoldsBook}
 use Rattle.mx_answers.specs.Question.{report_of}
-use Rattle.mx_answers.specs.declared.question.Report.{Report}
 use Rattle.mx_words.proofs.QuestionLemmas.{shown_report, tells_refusal, held_refusal, not_failed}
 use Rattle.mx_words.proofs.listing.print_list.Goals as goal
 
