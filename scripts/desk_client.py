@@ -9,7 +9,7 @@ import time
 import typing
 
 TOP = pathlib.Path(__file__).resolve().parent.parent
-PATIENCE = 10  # seconds
+PATIENCE = 60  # seconds
 
 # ── the worked book ──
 
