@@ -6,6 +6,7 @@ ghost use Rattle.std.specs.Char.{is_ascii_digit};
 ghost use Rattle.std.specs.List.{list_all};
 ghost use Rattle.mx_words.specs.Number.{number_in};
 
+use crate::help;
 use crate::trial::Trial;
 use clap::{Arg, ArgAction, ArgMatches, Command};
 use mx_answers::Question;
@@ -61,56 +62,70 @@ fn value<'a>(alloc: Global, name: &'a str, help: &'a str) -> Arg<'a> {
 // What the aircraft of a trial comes with.
 fn with_opening<'a>(alloc: Global, command: Command<'a>) -> Result<Command<'a>, AllocError> {
     command
-        .arg(value(alloc, "TAIL", "The registration"))?
-        .arg(value(alloc, "MINUTES", "The flight minutes that it comes with"))?
-        .arg(value(alloc, "CYCLES", "The cycles that it comes with"))
+        .arg(value(alloc, "TAIL", help::TAIL))?
+        .arg(value(
+            alloc,
+            "MINUTES",
+            "The flight minutes that it comes with, at most 100000000",
+        ))?
+        .arg(value(
+            alloc,
+            "CYCLES",
+            "The cycles that it comes with, at most 1000000",
+        ))
 }
 
 // The sector of a trial.
 fn with_sector<'a>(alloc: Global, command: Command<'a>) -> Result<Command<'a>, AllocError> {
     command
-        .arg(value(alloc, "OFF", "Take-off, YYYY-MM-DDTHH:MM"))?
-        .arg(value(alloc, "ON", "Landing, YYYY-MM-DDTHH:MM"))?
-        .arg(value(alloc, "SECTOR_CYCLES", "The cycles of the sector"))
+        .arg(value(alloc, "OFF", "Take-off in UTC, YYYY-MM-DDTHH:MM"))?
+        .arg(value(alloc, "ON", "Landing in UTC, YYYY-MM-DDTHH:MM"))?
+        .arg(value(alloc, "SECTOR_CYCLES", "The cycles of the sector, 1 to 50"))
 }
 
 fn try_command<'a>(alloc: Global) -> Result<Command<'a>, AllocError> {
-    let command = Command::new(alloc, "try").about(
-        "Enters an aircraft and one sector into a store in memory, and prints the replies and the life",
-    );
+    let command = Command::new(alloc, "try")
+        .about(
+            "Enters an aircraft and one sector into a store in memory, and prints the replies and the life",
+        )
+        .after_help(help::TRY);
     with_sector(alloc, with_opening(alloc, command)?)
 }
 
 fn init_command<'a>(alloc: Global) -> Result<Command<'a>, AllocError> {
     Command::new(alloc, "init")
-        .about("Makes an empty book")
-        .arg(value(alloc, "FILE", "The database file"))
+        .about("Makes an empty book in a file")
+        .after_help(help::INIT)
+        .arg(value(alloc, "FILE", help::FILE))
 }
 
 fn life_command<'a>(alloc: Global) -> Result<Command<'a>, AllocError> {
     Command::new(alloc, "life")
-        .about("Prints the life of an aircraft")
-        .arg(value(alloc, "FILE", "The database file"))?
-        .arg(value(alloc, "TAIL", "The registration"))
+        .about("Prints the life of an aircraft, and of each component that is fitted to it")
+        .after_help(help::LIFE)
+        .arg(value(alloc, "FILE", help::FILE))?
+        .arg(value(alloc, "TAIL", help::TAIL))
 }
 
 fn due_command<'a>(alloc: Global) -> Result<Command<'a>, AllocError> {
     Command::new(alloc, "due")
         .about("Prints what is due on an aircraft, and what is left until then on a day")
-        .arg(value(alloc, "FILE", "The database file"))?
-        .arg(value(alloc, "TAIL", "The registration"))?
-        .arg(value(alloc, "DAY", "The day, YYYY-MM-DD"))
+        .after_help(help::DUE)
+        .arg(value(alloc, "FILE", help::FILE))?
+        .arg(value(alloc, "TAIL", help::TAIL))?
+        .arg(value(alloc, "DAY", help::DAY))
 }
 
 fn forecast_command<'a>(alloc: Global) -> Result<Command<'a>, AllocError> {
     Command::new(alloc, "forecast")
         .about("Prints what will be due on an aircraft, and when, at the rate that it is flown")
-        .arg(value(alloc, "FILE", "The database file"))?
-        .arg(value(alloc, "TAIL", "The registration"))?
+        .after_help(help::FORECAST)
+        .arg(value(alloc, "FILE", help::FILE))?
+        .arg(value(alloc, "TAIL", help::TAIL))?
         .arg(value(alloc, "DAY", "The day to look ahead from, YYYY-MM-DD"))?
-        .arg(value(alloc, "DAYS", "The days to look ahead, at most 3650"))?
-        .arg(value(alloc, "MINUTES", "The flight minutes a day, at most 1440"))?
-        .arg(value(alloc, "CYCLES", "The cycles a day, at most 50"))
+        .arg(value(alloc, "DAYS", "The days to look ahead, 0 to 3650"))?
+        .arg(value(alloc, "MINUTES", "The flight minutes a day, 0 to 1440"))?
+        .arg(value(alloc, "CYCLES", "The cycles a day, 0 to 50"))
 }
 
 fn limits_command<'a>(alloc: Global) -> Result<Command<'a>, AllocError> {
@@ -118,30 +133,38 @@ fn limits_command<'a>(alloc: Global) -> Result<Command<'a>, AllocError> {
         .about(
             "Prints the last day of each open defect of an aircraft, and what is left until then on a day",
         )
-        .arg(value(alloc, "FILE", "The database file"))?
-        .arg(value(alloc, "TAIL", "The registration"))?
-        .arg(value(alloc, "DAY", "The day, YYYY-MM-DD"))
+        .after_help(help::LIMITS)
+        .arg(value(alloc, "FILE", help::FILE))?
+        .arg(value(alloc, "TAIL", help::TAIL))?
+        .arg(value(alloc, "DAY", help::DAY))
 }
 
 fn enter_command<'a>(alloc: Global) -> Result<Command<'a>, AllocError> {
     Command::new(alloc, "enter")
         .about("Enters the commands of a file, and prints a reply for each")
-        .arg(value(alloc, "FILE", "The database file"))?
+        .after_help(help::ENTER)
+        .arg(value(alloc, "FILE", help::FILE))?
         .arg(value(alloc, "ENTRIES", "The file of commands, a list in JSON"))
 }
 
 fn import_command<'a>(alloc: Global) -> Result<Command<'a>, AllocError> {
     Command::new(alloc, "import")
         .about("Enters the sectors of a log, and prints a reply or a fault for each row")
-        .arg(value(alloc, "FILE", "The database file"))?
+        .after_help(help::IMPORT)
+        .arg(value(alloc, "FILE", help::FILE))?
         .arg(value(alloc, "CSV", "The file of the sector log, in CSV"))
 }
 
 fn programme_command<'a>(alloc: Global) -> Result<Command<'a>, AllocError> {
     Command::new(alloc, "programme")
         .about("Enters the maintenance programme of a file by a document, and prints the reply")
-        .arg(value(alloc, "FILE", "The database file"))?
-        .arg(value(alloc, "DOC", "The document that it is entered by"))?
+        .after_help(help::PROGRAMME)
+        .arg(value(alloc, "FILE", help::FILE))?
+        .arg(value(
+            alloc,
+            "DOC",
+            "The document that it is entered by, 1 to 40 characters without a space",
+        ))?
         .arg(value(alloc, "TOML", "The file of the programme, in TOML"))
 }
 
@@ -150,7 +173,8 @@ fn serve_command<'a>(alloc: Global) -> Result<Command<'a>, AllocError> {
         .about(
             "Answers requests over HTTP at a port of this machine alone, one connection after the other",
         )
-        .arg(value(alloc, "FILE", "The database file"))?
+        .after_help(help::SERVE)
+        .arg(value(alloc, "FILE", help::FILE))?
         .arg(value(alloc, "PORT", "The port of the loopback, 1 to 65535"))?
         .arg(value(alloc, "COUNT", "The connections to serve, 1 to 1000000"))
 }
@@ -160,7 +184,9 @@ fn office_command<'a>(alloc: Global) -> Result<Command<'a>, AllocError> {
     Ok(
         Command::new(alloc, "office")
             .bin_name("office")?
+            .version("0.1")
             .about("Keeps the continuing airworthiness records of a small operator")
+            .after_help(help::OFFICE)
             .subcommand_required(true),
     )
 }

@@ -8,6 +8,7 @@ mod command_line;
 mod entering;
 mod fault;
 mod files;
+mod help;
 mod importing;
 mod listing;
 mod making;

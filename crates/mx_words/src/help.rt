@@ -1,0 +1,84 @@
+//! What the help of each word says behind its arguments, with an example that `transcripts/tour.md` runs.
+
+/// What FILE is.
+pub(crate) const FILE: &str = "The database file";
+
+/// What TAIL is.
+pub(crate) const TAIL: &str = "The registration, 1 to 8 of A to Z, 0 to 9 and -";
+
+/// What DAY is.
+pub(crate) const DAY: &str = "The day, YYYY-MM-DD";
+
+/// The program.
+pub(crate) const OFFICE: &str = "\
+FILE is a database; its log lies beside it, as FILE-wal. One program at a time has it open.\n\
+A day is YYYY-MM-DD and a moment YYYY-MM-DDTHH:MM, in UTC, from 1970-01-01 to 2199-12-31.\n\
+Flight time is entered in minutes and printed in hours, H:MM.\n\n\
+Status: 0 all was done, 1 something was refused, 2 other words than these, 3 a faulty input\n\
+file, 4 a fault after FILE was opened, 5 FILE could not be opened or made.\n\
+docs/REFUSALS.md has what each number means, transcripts/tour.md a first session.\n\n\
+Example:\n  office due fleet.db D-EABC 2024-02-01";
+
+/// `try`.
+pub(crate) const TRY: &str = "\
+Nothing is kept. The sector takes 1 to 1440 minutes.\n\n\
+Example:\n  office try D-ABCD 60000 800 2024-03-01T08:00 2024-03-01T09:30 1";
+
+/// `init`.
+pub(crate) const INIT: &str = "\
+FILE is new or empty: one that has anything in it is left as it is. It prints `created`.\n\n\
+Example:\n  office init fleet.db";
+
+/// `life`.
+pub(crate) const LIFE: &str = "\
+A row is the kind, hours and cycles of the airframe, or the position, serial number, part, hours\n\
+and cycles of a component.\n\n\
+Example:\n  office life fleet.db D-EABC";
+
+/// `due`.
+pub(crate) const DUE: &str = "\
+A row begins with OVERDUE, DUE or OK, the worst first, and ends with what is left: h in hours, c in\n\
+cycles, d in days, - where the task has no such limit. DUE is where nothing is left, OVERDUE past\n\
+the tolerance. A deferred defect has its last day, and the days left until then.\n\n\
+Example:\n  office due fleet.db D-EABC 2024-02-01";
+
+/// `forecast`.
+pub(crate) const FORECAST: &str = "\
+A row is the number of days until a task or a deferred defect is due, that day, and what is due, the\n\
+soonest first. At 0 minutes and 0 cycles the aircraft stands, and days alone are used up.\n\n\
+Example:\n  office forecast fleet.db D-EABC 2024-02-01 60 60 1";
+
+/// `limits`.
+pub(crate) const LIMITS: &str = "\
+A row is a deferred defect, by its document, category and item of the minimum equipment list: the\n\
+day it was found, the days of its extension, its last day and the days left, the soonest first.\n\n\
+Example:\n  office limits fleet.db D-EABC 2024-04-10";
+
+/// `enter`.
+pub(crate) const ENTER: &str = "\
+A command is an object with `do`: add-aircraft, add-component, opening, sector, fit, remove,\n\
+release, defer or extend, and its keys, which docs/DEFINITIONS.md has. ENTRIES has at most 10000, in\n\
+8388608 bytes. The reply is `accepted N` or `already N`, N being the entry, or `refused NUMBER`.\n\
+Each is entered by itself; where ENTRIES has a fault none is.\n\n\
+Example:\n  office enter fleet.db examples/fleet.json";
+
+/// `import`.
+pub(crate) const IMPORT: &str = "\
+CSV begins with the line tail,page,line,off,on,cycles and has at most 100000 rows, in 8388608 bytes.\n\
+A sector is page 1 to 999999, line 1 to 99, 1 to 1440 minutes from off to on, and 1 to 50 cycles.\n\
+`row N` stands before each reply; a row that states no sector has `fault NUMBER`, and the others are\n\
+entered all the same.\n\n\
+Example:\n  office import fleet.db examples/april.csv";
+
+/// `programme`.
+pub(crate) const PROGRAMME: &str = "\
+TOML states the kind of aircraft, the revision, one above the last, and 1 to 500 tasks, each with\n\
+its limits in hours, cycles and days; docs/DEFINITIONS.md has its keys.\n\n\
+Example:\n  office programme fleet.db AMP-C172-1 examples/c172-1.toml";
+
+/// `serve`.
+pub(crate) const SERVE: &str = "\
+Each connection asks once: POST /entries, /programmes/DOC or /sectors, or GET /aircraft/TAIL/life,\n\
+/due/DAY, /limits/DAY or /forecast/DAY/DAYS/MINUTES/CYCLES. It answers what the words print;\n\
+README.md has the statuses. Behind the last connection it prints `served COUNT`.\n\n\
+Example:\n  office serve fleet.db 8043 1";
