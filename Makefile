@@ -15,12 +15,13 @@ run:
 	cd crates/mx_cli && $(RT) try -- $(EXAMPLE); fi
 
 # the gate, from nothing; where it passes, the program that it proved and ran is left as ./office, and the transcripts
-# are compared with what that prints, and the answers of its desk with what is written of them
+# are compared with what that prints, the manual page with its helps, and the answers of its desk with what is written
 test:
 	@scripts/definitions --check
 	@RT_JOBS=$${RT_JOBS:-$(JOBS)} $(RT) ci
 	@install -m 755 crates/mx_cli/out/mx_cli office
 	@scripts/check-transcripts
+	@scripts/man --check
 	@scripts/desk.py
 
 # the wrong bodies that are kept outside the gate: the checker has to refuse each, in rounds over a copy of the crates
