@@ -1,9 +1,9 @@
 """What scripts/cost.py hands to the program: books of any size, one further command of each kind, and long texts.
 
 A book has three aircraft, each with an engine and a propeller, and a programme. Behind these first entries each twenty are
-two days of one aircraft in its turn: fourteen sectors, a deferred defect, its extension, the release of a task, the
-release that rectifies the defect of the turn before, and the removal and the fitting of the propeller. No task is done
-after it was due.
+two days of one aircraft in its turn: sixteen sectors, a deferred defect, its extension, the release of a task, and the
+release that rectifies the defect of the turn before. In each twenty-fifth turn the propeller is removed and fitted again
+in the place of two sectors. No task is done after it was due.
 """
 import typing
 from datetime import datetime, timedelta
@@ -16,7 +16,8 @@ FIRST = datetime(2024, 1, 1)
 KIND = "C172"
 PARTS = {"ENG": "IO360", "PROP": "HC2", "PUMP": "VP1"}
 TURN = 20  # entries
-SECTORS = 14  # of each turn
+SECTORS = 16  # of each turn
+FITTED_EACH = 25  # turns
 
 TASKS = [
     ("100H", "airframe", "hours = 1000", "hours = 100"),
@@ -94,17 +95,19 @@ def turn(nth: int) -> typing.List[Command]:
     """Two days of an aircraft."""
     one, tail = nth % len(TAILS), TAILS[nth % len(TAILS)]
     begun = FIRST + timedelta(days=2 * nth + 1)
-    noon = begun + timedelta(hours=2 * SECTORS)
+    evening = begun + timedelta(hours=2 * SECTORS)
     before = {"defect": f"X{nth - len(TAILS)}"} if nth >= len(TAILS) else {"tail": tail, "task": "ANNUAL"}
-    return [
-        *(sector(tail, nth + 1, line + 1, begun + timedelta(hours=2 * line)) for line in range(SECTORS)),
-        deferral(f"X{nth}", tail, noon, "C"),
-        extension(f"Y{nth}", f"X{nth}", noon),
-        release(f"R{nth}", tail, noon + timedelta(hours=1), {"tail": tail, "task": "100H"}),
-        release(f"S{nth}", tail, noon + timedelta(hours=2), before),
-        made("remove", f"M{nth}", serial=f"PROP-{one}", moment=text_of(noon + timedelta(hours=3))),
-        fitting(f"F{nth}", f"PROP-{one}", tail, "PROP", noon + timedelta(hours=4)),
+    flown = [sector(tail, nth + 1, line + 1, begun + timedelta(hours=2 * line)) for line in range(SECTORS)]
+    done = [
+        deferral(f"X{nth}", tail, evening, "C"),
+        extension(f"Y{nth}", f"X{nth}", evening),
+        release(f"R{nth}", tail, evening + timedelta(hours=1), {"tail": tail, "task": "100H"}),
+        release(f"S{nth}", tail, evening + timedelta(hours=2), before),
     ]
+    if nth % FITTED_EACH:
+        return [*flown, *done]
+    removal = made("remove", f"M{nth}", serial=f"PROP-{one}", moment=text_of(evening + timedelta(hours=3)))
+    return [*flown[2:], *done, removal, fitting(f"F{nth}", f"PROP-{one}", tail, "PROP", evening + timedelta(hours=4))]
 
 
 def later_entries(count: int) -> typing.List[Command]:

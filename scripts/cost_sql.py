@@ -1,0 +1,172 @@
+"""What SQLite does of the program's work, for scripts/cost.py: its lists as one statement, and its rows as INSERTs.
+
+The statements read the tables that the program made, and answer line by line what it prints. They count a task from what
+was reached when it was last done, which is right where no task is done after it was due.
+"""
+import contextlib
+import os
+import pathlib
+import shutil
+import sqlite3
+import typing
+from datetime import date
+
+TABLES = [
+    "entry", "aircraft", "place", "component", "programme", "task", "opening", "crs", "crs_line", "extension", "defect",
+    "sector1", "fit1", "removal1",
+]
+Rows = typing.Dict[str, typing.Set[typing.Tuple[object, ...]]]
+
+
+def minutes_of(text: str) -> str:
+    """The minutes of a moment that is kept as text."""
+    return f"CAST(strftime('%s', {text}) AS INTEGER) / 60"
+
+
+def hours_of(minutes: str) -> str:
+    """The text of minutes as hours, `-` where there are none."""
+    text = f"printf('%s%d:%02d', iif({minutes} < 0, '-', ''), abs({minutes}) / 60, abs({minutes}) % 60)"
+    return f"iif({minutes} IS NULL, '-', {text})"
+
+
+# The items of one aircraft, each with its life.
+LIVES = f"""
+flown AS MATERIALIZED (SELECT aircraft, {minutes_of('took_off')} AS off, {minutes_of('landed')} AS landed, cycles
+  FROM sector1),
+span AS MATERIALIZED (SELECT component, aircraft, position, {minutes_of('moment')} AS since,
+  (SELECT {minutes_of('r.moment')} FROM removal1 r WHERE r.component = f.component AND r.seq > f.seq LIMIT 1) AS until
+  FROM fit1 f),
+own AS (SELECT * FROM aircraft WHERE tail = '{{tail}}'),
+item AS MATERIALIZED (
+  SELECT seq AS item, NULL AS part, '' AS position, '' AS serial, birth, minutes, cycles FROM own
+  UNION ALL
+  SELECT c.seq, c.part, s.position, c.serial, c.birth, c.minutes, c.cycles
+  FROM own JOIN span s ON s.aircraft = own.seq AND s.until IS NULL JOIN component c ON c.seq = s.component),
+credited AS MATERIALIZED (
+  SELECT item, landed, landed - off AS minutes, f.cycles FROM item JOIN flown f ON f.aircraft = item
+  UNION ALL
+  SELECT item, landed, landed - off, f.cycles FROM item JOIN span s ON s.component = item
+    JOIN flown f ON f.aircraft = s.aircraft AND f.off >= s.since AND (s.until IS NULL OR f.landed <= s.until)),
+life AS MATERIALIZED (SELECT i.*, i.minutes + coalesce(sum(c.minutes), 0) AS m, i.cycles + coalesce(sum(c.cycles), 0) AS c
+  FROM item i LEFT JOIN credited c ON c.item = i.item GROUP BY i.item)
+"""
+
+# What is left of each task on a day, and until the last day of each open defect; of an airframe, a part, a defect.
+ROWS = """,
+done AS (SELECT item, task, max(seq) AS seq FROM (
+    SELECT seq, item, task FROM opening UNION ALL SELECT seq, item, task FROM crs_line WHERE task IS NOT NULL)
+  WHERE item IN (SELECT item FROM item) GROUP BY item, task),
+base AS MATERIALIZED (
+  SELECT d.item, d.task, o.minutes, o.cycles, o.day FROM done d JOIN opening o ON o.seq = d.seq
+  UNION ALL
+  SELECT d.item, d.task,
+    i.minutes + (SELECT coalesce(sum(c.minutes), 0) FROM credited c WHERE c.item = d.item AND c.landed <= r.moment),
+    i.cycles + (SELECT coalesce(sum(c.cycles), 0) FROM credited c WHERE c.item = d.item AND c.landed <= r.moment),
+    r.moment / 1440
+  FROM done d JOIN crs r ON r.seq = d.seq JOIN item i ON i.item = d.item),
+due AS (
+  SELECT t.*, i.position, i.serial, iif(b.item IS NULL, t.first_m, b.minutes + t.rep_m) - i.m AS m,
+    iif(b.item IS NULL, t.first_c, b.cycles + t.rep_c) - i.c AS c,
+    iif(b.item IS NULL, i.birth + t.first_d, b.day + t.rep_d) - {day} AS d
+  FROM own JOIN life i JOIN task t ON t.part IS i.part LEFT JOIN base b ON b.item = i.item AND b.task = t.id
+  WHERE t.seq = (SELECT max(p.seq) FROM programme p WHERE p.kind = own.kind)),
+open AS (
+  SELECT f.seq, e.doc, substr('ABCD', f.category, 1) AS letter, f.reference,
+    f.moment / 1440 + coalesce(f.days, iif(f.category = 2, 3, iif(f.category = 3, 10, 120))) + coalesce(x.days, 0) AS last
+  FROM own JOIN defect f ON f.aircraft = own.seq JOIN entry e ON e.seq = f.seq LEFT JOIN extension x ON x.defect = f.seq
+  WHERE f.seq NOT IN (SELECT defect FROM crs_line WHERE defect IS NOT NULL)),
+lines AS (
+  SELECT CASE WHEN m < -tol_m OR c < -tol_c OR d < -tol_d THEN 0 WHEN m <= 0 OR c <= 0 OR d <= 0 THEN 1 ELSE 2 END AS worst,
+    iif(part IS NULL, 'airframe ', 'part ' || position || ' ' || serial || ' ') || id AS name,
+    iif(part IS NULL, 0, 1) AS place, position, id, 0 AS seq, m, c, d, '' AS last
+  FROM due WHERE coalesce(m, c, d) IS NOT NULL
+  UNION ALL
+  SELECT iif(last < {day}, 0, iif(last = {day}, 1, 2)), 'defect ' || doc, 2, '', '', seq, NULL, NULL, last - {day},
+    ' ' || letter || ' ' || reference || ' last=' || date(last * 86400, 'unixepoch') || ' left=' || (last - {day})
+  FROM open)
+"""
+
+LIFE_LIST = f"""
+SELECT 'life {{tail}}'
+UNION ALL SELECT * FROM (SELECT iif(serial = '', 'airframe ' || (SELECT kind FROM own),
+    'part ' || position || ' ' || serial || ' ' || part) || ' ' || {hours_of('m')} || ' ' || c
+  FROM life ORDER BY position)
+UNION ALL SELECT 'end ' || count(*) FROM life
+"""
+
+DUE_LIST = f"""
+SELECT 'due {{tail}} {{text}} ' || {hours_of('m')} || ' ' || c FROM life WHERE serial = ''
+UNION ALL SELECT * FROM (SELECT CASE worst WHEN 0 THEN 'OVERDUE ' WHEN 1 THEN 'DUE ' ELSE 'OK ' END || name
+    || iif(place = 2, last, ' h=' || {hours_of('m')} || ' c=' || coalesce(c, '-') || ' d=' || coalesce(d, '-'))
+  FROM lines ORDER BY worst, place, position, id, seq)
+UNION ALL SELECT 'end ' || count(*) FROM lines
+"""
+
+
+def days_until(left: str, rate: int) -> str:
+    """The days after which what is left is used up, or more than any forecast has."""
+    if rate == 0:
+        return f"coalesce(iif({left} <= 0, 0, 9999), 9999)"
+    return f"coalesce(iif({left} <= 0, 0, ({left} + {rate - 1}) / {rate}), 9999)"
+
+
+def forecast_list(days: int, minutes: int, cycles: int) -> str:
+    soonest = f"min({days_until('m', minutes)}, {days_until('c', cycles)}, {days_until('d', 1)})"
+    return f"""
+, reached AS MATERIALIZED (SELECT *, {soonest} AS after FROM lines WHERE after <= {days})
+SELECT 'forecast {{tail}} {{text}} {days} {minutes} {cycles}'
+UNION ALL SELECT * FROM (SELECT after || ' ' || date(({{day}} + after) * 86400, 'unixepoch') || ' ' || name
+  FROM reached ORDER BY after, place, position, id, seq)
+UNION ALL SELECT 'end ' || count(*) FROM reached
+"""
+
+
+def life(tail: str) -> str:
+    return ("WITH" + LIVES + LIFE_LIST).format(tail=tail)
+
+
+def due(tail: str, day: date) -> str:
+    return ("WITH" + LIVES + ROWS + DUE_LIST).format(tail=tail, text=day, day=(day - date(1970, 1, 1)).days)
+
+
+def forecast(tail: str, day: date, days: int, minutes: int, cycles: int) -> str:
+    text = "WITH" + LIVES + ROWS + forecast_list(days, minutes, cycles)
+    return text.format(tail=tail, text=day, day=(day - date(1970, 1, 1)).days)
+
+
+# ── files ──
+
+
+def copy_of(file: pathlib.Path, copy: pathlib.Path) -> pathlib.Path:
+    """Copies a database with its log in place of another, and syncs it, so that no run has to."""
+    for end in ("", "-wal", "-shm"):
+        source, target = pathlib.Path(f"{file}{end}"), pathlib.Path(f"{copy}{end}")
+        with contextlib.suppress(FileNotFoundError):
+            target.unlink()
+        if source.exists():
+            shutil.copyfile(source, target)
+            with open(target, "rb+") as made:
+                os.fsync(made.fileno())
+    return copy
+
+
+def rows_of(file: pathlib.Path) -> Rows:
+    """All rows of a file, read by SQLite from a copy."""
+    copy = copy_of(file, file.with_name("read.db"))
+    with contextlib.closing(sqlite3.connect(copy)) as conn:
+        return {table: set(conn.execute(f"SELECT * FROM {table}")) for table in TABLES}
+
+
+def literal(value: object) -> str:
+    return "NULL" if value is None else str(value) if isinstance(value, int) else "'{}'".format(str(value).replace("'", "''"))
+
+
+def inserts(before: Rows, after: Rows) -> str:
+    """The transactions that make the rows of one file those of another: one for each entry, synced."""
+    by_entry: typing.Dict[object, typing.List[str]] = {}
+    for table in TABLES:
+        for row in sorted(after[table] - before[table], key=lambda row: (row[0], str(row[1]))):
+            values = ", ".join(map(literal, row))
+            by_entry.setdefault(row[0], []).append(f"INSERT INTO {table} VALUES ({values});")
+    texts = [f"BEGIN; {' '.join(by_entry[seq])} COMMIT;" for seq in sorted(by_entry, key=str)]
+    return "\n".join(["PRAGMA synchronous = FULL;", *texts])
