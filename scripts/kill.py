@@ -1,12 +1,14 @@
 #!/usr/bin/env python3
 """Kills the built program at random moments of its run, and looks at the file that each kill leaves.
 
-Run by hand: scripts/kill.py [KILLS], with 50 kills of each word where no number is given, and the program in
-./office at the top of the repository or at the path in OFFICE. After each kill SQLite itself (Python's module
+usage: scripts/kill.py [KILLS] [--only WORD]... [--office PROGRAM]
+
+Run by hand, with 50 kills of each word where no number is given. After each kill SQLite itself (Python's module
 sqlite3) reads a copy of the file with its log, and then the program is asked on the file itself. A kill counts where
 it ended a process that was still running. The last line says how many did; the status is 1 where one left a file
 that is neither the one from before nor the one from after, or lost what was acknowledged.
 """
+import argparse
 import json
 import os
 import random
@@ -15,10 +17,15 @@ import sqlite3
 import subprocess
 import sys
 import tempfile
+import threading
 import time
+import typing
 from pathlib import Path
 
-PROGRAM = os.path.abspath(os.environ.get("OFFICE", Path(__file__).parent.parent / "office"))
+from desk_client import TOP, Desk, entries, whole
+
+Result = typing.Tuple[int, str, str]  # the status, standard output and standard error
+PROGRAM = str(TOP / "office")  # or the one that the words name
 
 TABLES = {
     "office", "entry", "aircraft", "place", "component", "programme", "task", "opening", "crs", "crs_line",
@@ -30,25 +37,25 @@ class Bad(Exception):
     """What a kill left that it may not leave."""
 
 
-def want(what, wanted, found):
+def want(what: str, wanted: object, found: object) -> None:
     if wanted != found:
         raise Bad(f"{what}: wanted {wanted!r}, found {found!r}")
 
 
-def run(*words):
-    """The status, standard output and standard error of the program on these words."""
+def run(*words: object) -> Result:
+    """What the program does on these words."""
     done = subprocess.run([PROGRAM, *map(str, words)], capture_output=True, text=True, timeout=60)
     return done.returncode, done.stdout, done.stderr
 
 
-def is_half_made(file):
+def is_half_made(file: Path) -> bool:
     """Whether the file is the first page of a database whose first letter is still to be written. The program makes
     such a file anew; SQLite itself refuses it, since it does not know the mark in the log beside it."""
     content = file.read_bytes()
     return 0 < len(content) <= 4096 and content[0] == 0
 
 
-def tables_by_sqlite(file):
+def tables_by_sqlite(file: Path) -> typing.Set[str]:
     """The tables that SQLite finds in a sound copy of the file and its log."""
     copy = file.with_name("copy.db")
     log, log_copy = Path(f"{file}-wal"), Path(f"{copy}-wal")
@@ -67,20 +74,82 @@ def tables_by_sqlite(file):
             left.unlink(missing_ok=True)
 
 
-class Init:
+class Started:
+    """A run of a word: its process, and what it acknowledges."""
+
+    def __init__(self, words: typing.Sequence[object]) -> None:
+        streams = {"stdout": subprocess.PIPE, "stderr": subprocess.DEVNULL}
+        self.process = subprocess.Popen([PROGRAM, *map(str, words)], **streams)
+
+    def kill(self) -> None:
+        self.process.kill()
+
+    def end(self) -> typing.Tuple[int, str]:
+        """The status, and what was acknowledged, once the process has ended."""
+        printed, _ = self.process.communicate()
+        return self.process.returncode, printed.decode()
+
+
+class Posting:
+    """A run of `serve`, whose client posts commands, each once the one before is answered, and keeps the answers."""
+
+    def __init__(self, file: Path, commands: typing.List[object]) -> None:
+        self.desk = Desk([PROGRAM, "serve"], file, len(commands))
+        self.answers = ""
+        self.client = threading.Thread(target=self.post, args=[commands])
+        self.client.start()
+
+    def post(self, commands: typing.List[object]) -> None:
+        for command in commands:
+            try:
+                came = whole(self.desk, entries(command)).decode()
+            except OSError:  # it was killed
+                return
+            head, _, answer = came.partition("\r\n\r\n")
+            if f"Content-Length: {len(answer)}\r\n" not in f"{head}\r\n" or not answer:
+                return
+            self.answers += answer
+
+    def kill(self) -> None:
+        self.desk.process.kill()
+
+    def end(self) -> typing.Tuple[int, str]:
+        """The status, and what was answered, once the process and the client have ended."""
+        status, _, _ = self.desk.end()
+        self.client.join()
+        return status, self.answers
+
+
+class Word:
+    """A word that is killed."""
+
+    name = ""
+    status = 0  # what it ends with where nothing kills it
+
+    def before(self, file: Path) -> None:
+        """Makes what the file holds before the word, and what the word reads: here nothing."""
+
+    def words(self, file: Path) -> typing.List[object]:
+        """The words that are killed."""
+        raise NotImplementedError
+
+    def start(self, file: Path) -> typing.Union[Started, Posting]:
+        return Started(self.words(file))
+
+    def after(self, file: Path, printed: str) -> str:
+        """Looks at the file that a kill left, after the program acknowledged this. Answers what it is."""
+        raise NotImplementedError
+
+
+class Init(Word):
     """`init FILE`: the file is without our tables, or has those of the empty book."""
 
     name = "init"
-    status = 0
 
-    def before(self, file):
-        """What the file holds before the word: it isn't there."""
-
-    def words(self, file):
+    def words(self, file: Path) -> typing.List[object]:
         return ["init", file]
 
-    def after(self, file, printed):
-        """Looks at the file that a kill left, after the program printed this. Answers what it is."""
+    def after(self, file: Path, printed: str) -> str:
         if not file.exists():
             found, tables = "no file", set()
         elif is_half_made(file):
@@ -99,7 +168,7 @@ class Init:
         return found
 
 
-def sector(line):
+def sector(line: int) -> typing.Dict[str, object]:
     """The sector with this line of the log: half an hour, one a day."""
     day = f"2024-02-{line:02}"
     return {
@@ -107,18 +176,17 @@ def sector(line):
     }
 
 
-def defect(doc, category):
+def defect(doc: str, category: str) -> typing.Dict[str, object]:
     """The deferral of a defect that was found on 2024-02-07."""
     return {
         "do": "defer", "doc": doc, "tail": "D-ABCD", "moment": "2024-02-07T08:00", "reference": "21-31-01", "category": category,
     }
 
 
-class Enter:
+class Enter(Word):
     """`enter FILE ENTRIES`: the file has the book of a prefix of the commands, with each whose reply was printed."""
 
     name = "enter"
-    status = 0
     aircraft = {
         "do": "add-aircraft", "doc": "A1", "tail": "D-ABCD", "kind": "C172", "birth": "2000-01-01", "minutes": 600,
         "cycles": 10, "as_of": "2024-01-01T00:00", "positions": [],
@@ -137,18 +205,22 @@ class Enter:
         11: ["OK X2 C 21-31-01 found=2024-02-07 ext=0 last=2024-02-17 left=9"],
     }
 
-    def entries(self, file):
+    def entries(self, file: Path) -> Path:
         return file.with_name("commands.json")
 
-    def before(self, file):
+    def before(self, file: Path) -> None:
         """An empty book, and the file of commands."""
         want("init", (0, "created\n", ""), run("init", file))
         self.entries(file).write_text(json.dumps(self.commands), encoding="utf-8")
 
-    def words(self, file):
+    def words(self, file: Path) -> typing.List[object]:
+        return self.again(file)
+
+    def again(self, file: Path) -> typing.List[object]:
+        """The words that hand in the same commands once more."""
         return ["enter", file, self.entries(file)]
 
-    def lists(self, entries):
+    def lists(self, entries: int) -> typing.List[Result]:
         """What `life` and `limits` answer of the book of the first commands, so many."""
         if entries == 0:
             return [(1, "refused 20\n", "")] * 2
@@ -158,11 +230,10 @@ class Enter:
         limits = "".join(f"{line}\n" for line in ["limits D-ABCD 2024-02-08", *rows, f"end {len(rows)}"])
         return [(0, life, ""), (0, limits, "")]
 
-    def asked(self, file):
+    def asked(self, file: Path) -> typing.List[Result]:
         return [run("life", file, "D-ABCD"), run("limits", file, "D-ABCD", "2024-02-08")]
 
-    def after(self, file, printed):
-        """Looks at the file that a kill left, after the program printed this. Answers what it is."""
+    def after(self, file: Path, printed: str) -> str:
         want("the tables", TABLES, tables_by_sqlite(file))
         asked = self.asked(file)
         kept = next((n for n in range(len(self.commands) + 1) if asked == self.lists(n)), None)
@@ -171,33 +242,41 @@ class Enter:
         if kept < len(printed.splitlines()):
             raise Bad(f"{kept} entries, and these replies: {printed!r}")
         replies = [f"{'already' if seq <= kept else 'accepted'} {seq}\n" for seq in range(1, len(self.commands) + 1)]
-        want("the same commands once more", (0, "".join(replies), ""), run(*self.words(file)))
+        want("the same commands once more", (0, "".join(replies), ""), run(*self.again(file)))
         want("the lists then", self.lists(len(self.commands)), self.asked(file))
         return f"{kept} entries"
 
 
-class Programme:
+class Serve(Enter):
+    """`serve FILE PORT COUNT`: the file has the book of a prefix of the commands that were posted, with each that was
+    answered."""
+
+    name = "serve"
+
+    def start(self, file: Path) -> Posting:
+        return Posting(file, self.commands)
+
+
+class Programme(Word):
     """`programme FILE DOC TOML`: the file has the empty book, or the whole programme."""
 
     name = "programme"
-    status = 0
     tasks = [
         f'[[task]]\nid = "T{number}"\napplies = "airframe"\nfirst = {{ hours = {number} }}\n' for number in range(1, 101)
     ]
 
-    def toml(self, file):
+    def toml(self, file: Path) -> Path:
         return file.with_name("programme.toml")
 
-    def before(self, file):
+    def before(self, file: Path) -> None:
         """An empty book, and the file of the programme."""
         want("init", (0, "created\n", ""), run("init", file))
         self.toml(file).write_text('kind = "C172"\nrevision = 1\n' + "".join(self.tasks), encoding="utf-8")
 
-    def words(self, file):
+    def words(self, file: Path) -> typing.List[object]:
         return ["programme", file, "P1", self.toml(file)]
 
-    def after(self, file, printed):
-        """Looks at the file that a kill left, after the program printed this. Answers what it is."""
+    def after(self, file: Path, printed: str) -> str:
         want("the tables", TABLES, tables_by_sqlite(file))
         status, again, fault = run(*self.words(file))
         if (status, fault) != (0, "") or again not in ("accepted 1\n", "already 1\n"):
@@ -208,7 +287,7 @@ class Programme:
         return "the programme" if again == "already 1\n" else "an empty book"
 
 
-class Import:
+class Import(Word):
     """`import FILE CSV`: the file has the book of the aircraft and a prefix of the good rows, with each whose reply was
     printed. The third row is bad."""
 
@@ -217,10 +296,10 @@ class Import:
     rows = [f"D-ABCD,1,{line},2024-02-{line:02}T10:00,2024-02-{line:02}T10:30,1" for line in range(1, 21)]
     rows[2] = "D-ABCD,1,3"
 
-    def csv(self, file):
+    def csv(self, file: Path) -> Path:
         return file.with_name("sectors.csv")
 
-    def before(self, file):
+    def before(self, file: Path) -> None:
         """A book of one aircraft, and the sector log."""
         want("init", (0, "created\n", ""), run("init", file))
         entries = file.with_name("aircraft.json")
@@ -228,16 +307,15 @@ class Import:
         want("enter", (0, "accepted 1\n", ""), run("enter", file, entries))
         self.csv(file).write_text("\n".join(["tail,page,line,off,on,cycles", *self.rows]), encoding="utf-8")
 
-    def words(self, file):
+    def words(self, file: Path) -> typing.List[object]:
         return ["import", file, self.csv(file)]
 
-    def life(self, sectors):
+    def life(self, sectors: int) -> Result:
         """What `life` answers behind so many sectors of half an hour."""
         minutes = 600 + 30 * sectors
         return (0, f"life D-ABCD\nairframe C172 {minutes // 60}:{minutes % 60:02} {10 + sectors}\nend 1\n", "")
 
-    def after(self, file, printed):
-        """Looks at the file that a kill left, after the program printed this. Answers what it is."""
+    def after(self, file: Path, printed: str) -> str:
         want("the tables", TABLES, tables_by_sqlite(file))
         asked, good = run("life", file, "D-ABCD"), len(self.rows) - 1
         kept = next((n for n in range(good + 1) if asked == self.life(n)), None)
@@ -250,44 +328,42 @@ class Import:
         want("the life then", self.life(good), run("life", file, "D-ABCD"))
         return f"{kept} sectors"
 
-    def line(self, row, kept):
+    def line(self, row: int, kept: int) -> str:
         """The line of a good row, handed in again where so many of them are kept."""
         nth = row if row < 3 else row - 1
         return f"row {row} {'already' if nth <= kept else 'accepted'} {nth + 1}\n"
 
 
-# A further word that writes has a class beside these: `before` makes the file and enters what it holds, `words` are the
-# words that are killed, `status` what they end with where nothing kills them, and `after` compares what the file holds with what was acknowledged.
-WORDS = [Init(), Enter(), Programme(), Import()]
+# A further word that writes has a class beside these.
+WORDS: typing.List[Word] = [Init(), Enter(), Programme(), Import(), Serve()]
 
 
-def seconds_of(word, folder):
+def seconds_of(word: Word, folder: Path) -> float:
     """How long the word runs where nothing stops it: the longest of five."""
     longest = 0.0
     for nth in range(5):
         file = folder / f"{word.name}-whole{nth}.db"
         word.before(file)
         begun = time.monotonic()
-        want(f"the status of {word.name}", word.status, run(*word.words(file))[0])
+        want(f"the status of {word.name}", word.status, word.start(file).end()[0])
         longest = max(longest, time.monotonic() - begun)
     return longest
 
 
-def kill_once(word, file, longest):
-    """Runs the word and kills it. Answers what it printed, and whether it was still running."""
-    child = subprocess.Popen(
-        [PROGRAM, *map(str, word.words(file))], stdout=subprocess.PIPE, stderr=subprocess.DEVNULL, text=True
-    )
+def kill_once(word: Word, file: Path, longest: float) -> typing.Tuple[str, bool]:
+    """Runs the word and kills it. Answers what it acknowledged, and whether it was still running."""
+    started = word.start(file)
     time.sleep(random.uniform(0.0, longest))
-    child.kill()
-    printed, _ = child.communicate()
-    return printed, child.returncode == -9
+    started.kill()
+    status, printed = started.end()
+    return printed, status == -9
 
 
-def kill_often(word, folder, kills):
+def kill_often(word: Word, folder: Path, kills: int) -> typing.Tuple[typing.Dict[str, int], int, int]:
     """Kills the word until so many kills have hit a running process. Answers how often each thing was left."""
     longest = seconds_of(word, folder)
-    left, hits, runs = {}, 0, 0
+    left: typing.Dict[str, int] = {}
+    hits = runs = 0
     while hits < kills:
         runs += 1
         if runs > 20 * kills:
@@ -302,19 +378,25 @@ def kill_often(word, folder, kills):
     return left, hits, runs
 
 
-def main():
-    kills = int(sys.argv[1]) if len(sys.argv) > 1 else 50
+def main() -> int:
+    global PROGRAM
+    words = argparse.ArgumentParser(description="Kills the program at random moments, and looks at what is left.")
+    words.add_argument("kills", metavar="KILLS", nargs="?", type=int, default=50, help="how many kills of each word")
+    words.add_argument("--only", metavar="WORD", action="append", choices=[it.name for it in WORDS], help="this word alone")
+    words.add_argument("--office", metavar="PROGRAM", default=PROGRAM, help="the built program")
+    given = words.parse_args()
+    PROGRAM = os.path.abspath(given.office)
     total = 0
     with tempfile.TemporaryDirectory() as folder:
-        for word in WORDS:
+        for word in (it for it in WORDS if given.only is None or it.name in given.only):
             try:
-                left, hits, runs = kill_often(word, Path(folder), kills)
+                left, hits, runs = kill_often(word, Path(folder), given.kills)
             except Bad as bad:
                 print(f"{word.name}: {bad}")
                 return 1
             total += hits
             found = ", ".join(f"{count} left {what}" for what, count in sorted(left.items()))
-            print(f"{word.name}: {runs} runs, {hits} killed while running: {found}")
+            print(f"{word.name}: {runs} runs, {hits} killed while running: {found}", flush=True)
     print(f"{total} kills, none lost")
     return 0
 
