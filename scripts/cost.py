@@ -4,8 +4,8 @@
 usage: scripts/cost.py [--office PROGRAM] [--turns N] [--only TEXT]
 
 Run by hand; sqlite3 has to be on the path. Each work is done at three sizes by the program and by the other side, by
-turns, each from the same file, and both have to give the same answer; else the script stops. A cell has the median of the
-times of the program, and behind it the median of the ratios of the turns. Memory is looked at in a run of its own.
+turns, each from the same file, and both have to give the same answer; else the script stops. A cell has the median of
+the times of the program, and behind it the median of the ratios of the turns. Memory is looked at in a run of its own.
 It is no test: what is to be read are the ratios. The files lie in the folder for temporary files.
 """
 import argparse
@@ -263,24 +263,29 @@ WORKS: typing.List[typing.Tuple[str, str, Work]] = [
 ]
 
 LEGEND = """
-A cell has the time of the program, and how many times that of the other side it is; bold where it grew more than its input
-since the size before. Peak memory is that of both at the largest size, in MB. The other side: INSERT is `sqlite3`, which
-runs the rows' INSERTs, judged by nobody, in as many synced transactions; SELECT is `sqlite3`, which answers by one
-statement; `json` and `tomllib` are Python's, with a look at the keys and values of each object, up to the faulty last one;
-server is one in Python over SQLite. Both sides left the same rows, or printed the same.
+A cell has the time of the program, and how many times that of the other side it is; bold where it grew more than its
+input since the size before. MB is the peak memory of both at the largest size. INSERT is `sqlite3`, which runs the rows'
+INSERTs, judged by nobody, in as many synced transactions; SELECT is `sqlite3`, which answers by one statement; `json`
+and `tomllib` are Python's, with a look at the keys and values of each object, up to the faulty last one; server is one
+in Python over SQLite. Both sides left the same rows, or printed the same.
 """
 
 
 def time_of(seconds: float) -> str:
-    return f"{seconds:.1f} s" if seconds >= 1 else f"{seconds * 1000:.0f} ms" if seconds >= 0.01 else f"{seconds * 1000:.1f} ms"
+    if seconds >= 1:
+        return f"{seconds:.1f} s"
+    return f"{seconds * 1000:.0f} ms" if seconds >= 0.01 else f"{seconds * 1000:.1f} ms"
+
+
+def ratio_of(ratio: float) -> str:
+    return f"{ratio:.0f}" if ratio >= 10 else f"{ratio:.1f}" if ratio >= 1 else f"{ratio:.2f}"
 
 
 def cells_of(measured: typing.List[Cell]) -> typing.List[str]:
     """The cells of a row, those in bold that grew faster than their input."""
     found = []
     for nth, cell in enumerate(measured):
-        ratio = f"{cell.ratio:.0f}" if cell.ratio >= 10 else f"{cell.ratio:.1f}" if cell.ratio >= 1 else f"{cell.ratio:.2f}"
-        text = f"{time_of(cell.seconds)}, {ratio}"
+        text = f"{time_of(cell.seconds)}, {ratio_of(cell.ratio)}"
         grown = nth > 0 and cell.seconds / measured[nth - 1].seconds > MARGIN * SIZES[nth] / SIZES[nth - 1]
         found.append(f"**{text}**" if grown else text)
     return [*found, f"{measured[-1].ours:.0f}, {measured[-1].theirs:.0f}"]

@@ -1,9 +1,9 @@
 """What scripts/cost.py hands to the program: books of any size, one further command of each kind, and long texts.
 
-A book has three aircraft, each with an engine and a propeller, and a programme. Behind these first entries each twenty are
-two days of one aircraft in its turn: sixteen sectors, a deferred defect, its extension, the release of a task, and the
-release that rectifies the defect of the turn before. In each twenty-fifth turn the propeller is removed and fitted again
-in the place of two sectors. No task is done after it was due.
+A book has three aircraft, each with an engine and a propeller, and a programme. Behind these first entries each twenty
+are two days of one aircraft in its turn: sixteen sectors, a deferred defect, its extension, the release of a task, and
+the release that rectifies the defect of the turn before. In each twenty-fifth turn the propeller is removed and fitted
+again in the place of two sectors. No task is done after it was due.
 """
 import typing
 from datetime import datetime, timedelta
@@ -43,8 +43,8 @@ def aircraft(doc: str, tail: str) -> Command:
 
 
 def component(doc: str, serial: str, position: str) -> Command:
-    return made("add-component", doc, serial=serial, part=PARTS[position], birth="2015-01-01", minutes=30000, cycles=400,
-                as_of=text_of(FIRST))
+    return made("add-component", doc, serial=serial, part=PARTS[position], birth="2015-01-01", minutes=30000,
+                cycles=400, as_of=text_of(FIRST))
 
 
 def fitting(doc: str, serial: str, tail: str, position: str, moment: datetime) -> Command:
@@ -57,8 +57,8 @@ def opening(doc: str, task: str, minutes: int, **item: str) -> Command:
 
 def sector(tail: str, page: int, line: int, off: datetime) -> Command:
     """An hour and a half."""
-    on = off + timedelta(minutes=90)
-    return {"do": "sector", "tail": tail, "page": page, "line": line, "off": text_of(off), "on": text_of(on), "cycles": 1}
+    moments = {"off": text_of(off), "on": text_of(off + timedelta(minutes=90))}
+    return {"do": "sector", "tail": tail, "page": page, "line": line, **moments, "cycles": 1}
 
 
 def release(doc: str, tail: str, moment: datetime, line: typing.Dict[str, str]) -> Command:
@@ -127,7 +127,8 @@ def day_after(entries: int) -> datetime:
 
 def programme(revision: int, tasks: int = len(TASKS)) -> str:
     """A programme in TOML: its four tasks, and as many inspections of the airframe as make it so many."""
-    stated = TASKS + [(f"INSP-{nth}", "airframe", f"hours = {2000 + nth}", "hours = 500") for nth in range(tasks - len(TASKS))]
+    more = range(tasks - len(TASKS))
+    stated = TASKS + [(f"INSP-{nth}", "airframe", f"hours = {2000 + nth}", "hours = 500") for nth in more]
     tables = [
         f'[[task]]\nid = "{task}"\napplies = "{item}"\nfirst = {{ {first} }}\nrepeat = {{ {repeat} }}\n'
         for task, item, first, repeat in stated

@@ -43,7 +43,8 @@ def clock_of(conn: sqlite3.Connection, aircraft: int) -> int:
 
 def judged(conn: sqlite3.Connection, command: typing.Dict[str, typing.Any]) -> str:
     """The reply to a sector, whose rows are written where it is new."""
-    tail, off, row = command["tail"], command["off"], [command[key] for key in ("page", "line", "off", "on", "cycles")]
+    tail, off = command["tail"], command["off"]
+    row = [command[key] for key in ("page", "line", "off", "on", "cycles")]
     doc = f"TL/{tail}/{row[0]}/{row[1]}"
     known = conn.execute(
         "SELECT seq, page, line, took_off, landed, cycles FROM entry JOIN sector1 USING (seq) WHERE doc = ?", [doc]

@@ -1,7 +1,7 @@
 """What SQLite does of the program's work, for scripts/cost.py: its lists as one statement, and its rows as INSERTs.
 
-The statements read the tables that the program made, and answer line by line what it prints. They count a task from what
-was reached when it was last done, which is right where no task is done after it was due.
+The statements read the tables that the program made, and answer line by line what it prints. They count a task from
+what was reached when it was last done, which is right where no task is done after it was due.
 """
 import contextlib
 import os
@@ -47,7 +47,8 @@ credited AS MATERIALIZED (
   UNION ALL
   SELECT item, landed, landed - off, f.cycles FROM item JOIN span s ON s.component = item
     JOIN flown f ON f.aircraft = s.aircraft AND f.off >= s.since AND (s.until IS NULL OR f.landed <= s.until)),
-life AS MATERIALIZED (SELECT i.*, i.minutes + coalesce(sum(c.minutes), 0) AS m, i.cycles + coalesce(sum(c.cycles), 0) AS c
+life AS MATERIALIZED (SELECT i.*, i.minutes + coalesce(sum(c.minutes), 0) AS m,
+  i.cycles + coalesce(sum(c.cycles), 0) AS c
   FROM item i LEFT JOIN credited c ON c.item = i.item GROUP BY i.item)
 """
 
@@ -72,11 +73,14 @@ due AS (
   WHERE t.seq = (SELECT max(p.seq) FROM programme p WHERE p.kind = own.kind)),
 open AS (
   SELECT f.seq, e.doc, substr('ABCD', f.category, 1) AS letter, f.reference,
-    f.moment / 1440 + coalesce(f.days, iif(f.category = 2, 3, iif(f.category = 3, 10, 120))) + coalesce(x.days, 0) AS last
-  FROM own JOIN defect f ON f.aircraft = own.seq JOIN entry e ON e.seq = f.seq LEFT JOIN extension x ON x.defect = f.seq
+    f.moment / 1440 + coalesce(x.days, 0)
+      + coalesce(f.days, iif(f.category = 2, 3, iif(f.category = 3, 10, 120))) AS last
+  FROM own JOIN defect f ON f.aircraft = own.seq JOIN entry e ON e.seq = f.seq
+    LEFT JOIN extension x ON x.defect = f.seq
   WHERE f.seq NOT IN (SELECT defect FROM crs_line WHERE defect IS NOT NULL)),
 lines AS (
-  SELECT CASE WHEN m < -tol_m OR c < -tol_c OR d < -tol_d THEN 0 WHEN m <= 0 OR c <= 0 OR d <= 0 THEN 1 ELSE 2 END AS worst,
+  SELECT CASE WHEN m < -tol_m OR c < -tol_c OR d < -tol_d THEN 0 WHEN m <= 0 OR c <= 0 OR d <= 0 THEN 1 ELSE 2 END
+      AS worst,
     iif(part IS NULL, 'airframe ', 'part ' || position || ' ' || serial || ' ') || id AS name,
     iif(part IS NULL, 0, 1) AS place, position, id, 0 AS seq, m, c, d, '' AS last
   FROM due WHERE coalesce(m, c, d) IS NOT NULL
@@ -158,7 +162,9 @@ def rows_of(file: pathlib.Path) -> Rows:
 
 
 def literal(value: object) -> str:
-    return "NULL" if value is None else str(value) if isinstance(value, int) else "'{}'".format(str(value).replace("'", "''"))
+    if value is None:
+        return "NULL"
+    return str(value) if isinstance(value, int) else "'{}'".format(str(value).replace("'", "''"))
 
 
 def inserts(before: Rows, after: Rows) -> str:

@@ -1,10 +1,11 @@
 #!/usr/bin/env bash
-# Runs the programs that play cases, and the program office, with each of their requests for memory refused in turn.
-# A player must print what it prints with memory, since it asks a question once more where memory ran out, or end with
-# status 4 and `no memory` where the request was for its own lists. The program office must print what it prints
-# with memory, or its first lines and a fault. Run by hand, after the gate or `rt run` in the crates of the
-# programs has built them; needs a C compiler. Prints a line a program, and ends with the count. With FIRST and STEP only
-# each STEP-th request is refused, from the one with the number FIRST on: so several can share the work.
+# Runs the programs that play cases, and each word of the program office, with each of their requests for memory refused
+# in turn. A player must print what it prints with memory, since it asks a question once more where memory ran out, or end
+# with status 4 and `no memory` where the request was for its own lists. What office must do stands in
+# fail_allocations.py, which runs it, from crates/mx_cli/out or the path in OFFICE. Run by hand, after the gate or
+# `rt run` in the crates of the programs has built them; needs a C compiler. Prints a line a program, and ends with the
+# count. With FIRST and STEP only each STEP-th request is refused, from the one with the number FIRST on: so several can
+# share the work.
 set -u
 cd "$(dirname "$0")/.." || exit 2
 root=$PWD
@@ -53,15 +54,6 @@ is_own_want() {
     [ "$status" = 4 ] && [ "$(cat "$folder/said")" = "no memory" ]
 }
 
-# Whether the first lines, or a part of them, and a fault were printed.
-is_fault() {
-    case "$status $(cat "$folder/said")" in
-        "4 fault memory" | "4 fault store" | "5 fault memory" | "5 fault store") ;;
-        *) return 1 ;;
-    esac
-    head -c "$(wc -c < "$folder/found")" "$folder/wanted" | cmp -s - "$folder/found"
-}
-
 counted() { # the name of the program, how many requests were refused, and how many runs were answered as with memory
     if [ "$3" = 0 ]; then
         echo "$1: no run was answered as with memory"
@@ -95,22 +87,9 @@ for name in mx_book_player mx_office_player; do
     cd "$root" || exit 2
 done
 
-office=$root/crates/mx_cli/out/mx_cli
+office=${OFFICE:-$root/crates/mx_cli/out/mx_cli}
 is_built "$office"
-words=(try D-ABCD 60000 800 2024-03-01T08:00 2024-03-01T09:30 1)
-count_requests "$office" "${words[@]}"
-refused=0
-whole=0
-for ((nth = first; nth <= most; nth += step)); do
-    refused=$((refused + 1))
-    refuse "$nth" "$office" "${words[@]}"
-    if is_whole; then
-        whole=$((whole + 1))
-    elif ! is_fault; then
-        stop "office: status $status where request $nth of $most is refused"
-    fi
-done
-counted office "$refused" "$whole"
+scripts/fail_allocations.py "$shim" --office "$office" --first "$first" --step "$step" || exit 1
 
 if [ "$runs" = 0 ]; then echo "no program made a request"; exit 1; fi
-echo "$runs runs passed"
+echo "$runs runs of the players passed"

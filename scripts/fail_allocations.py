@@ -5,10 +5,11 @@ usage: scripts/fail_allocations.py SHIM [--only WORD] [--first N] [--step N] [--
 
 scripts/fail-allocations.sh builds SHIM and calls it. Each run starts from the same files. It ends rightly where it prints
 what it prints with memory, with that status; or where it prints a part of it and then tells want of memory with its status:
-`fault memory` with 4 or 5, or `fault 60 entry 0`, a text that could not be read for want of memory, with 3. Of `serve` it
-is the same for each connection, which may also end with no answer, or with the status 503. Behind a word that writes
-the program is run once more with memory: it has to know each command that was acknowledged, and to accept the others.
-Only each N-th request is refused with --step. It prints a line a word; the status is 1 where a run ended otherwise.
+`fault memory` with 4 or 5, or `fault 60 entry 0`, a text that could not be read for want of memory, with 3. Where it tells
+`fault store` with 4 or 5 that is counted apart: memory was wanted, and the store is said to have failed. Of `serve` it is
+the same for each connection, which may also end with no answer, or with the status 503. Behind a word that writes the
+program is run once more with memory: it has to know each command that was acknowledged, and to accept the others. Only
+each N-th request is refused with --step. It prints a line a word; the status is 1 where a run ended otherwise.
 """
 import argparse
 import collections
@@ -39,7 +40,10 @@ COMMANDS = [
     {"do": "release", "doc": "R1", "tail": "D-ABCD", "moment": "2024-03-09T09:00", "lines": [
         {"defect": "X1"}, {"tail": "D-ABCD", "task": "100H"}]},
 ]
-ROWS = FIRST_ROW.replace(b"12,1", b"12,1") + b"D-ABCD,12,2\n" + b"D-ABCD,12,3,2024-03-03T08:00,2024-03-03T09:00,1\n"
+ROWS = FIRST_ROW + b"D-ABCD,12,2\n" + b"D-ABCD,12,3,2024-03-03T08:00,2024-03-03T09:00,1\n"
+
+# What is told where memory runs out, with the statuses.
+TOLD = [("fault memory", 4), ("fault memory", 5), ("fault store", 4), ("fault store", 5), ("fault 60 entry 0", 3)]
 
 # The words, with the files that they name as they stand in the folder of each run, and whether they write.
 WORDS: typing.Dict[str, typing.Tuple[typing.List[str], bool]] = {
@@ -151,9 +155,15 @@ def kind_of(ended: Ended, wanted: Ended) -> str:
         return kind_of_served(ended, wanted, told)
     if ended == wanted:
         return "whole"
-    if is_part and (told, ended.status) in (("fault memory", 4), ("fault memory", 5), ("fault 60 entry 0", 3)):
+    if is_part and (told, ended.status) in TOLD:
         return f"{told}, status {ended.status}"
     return f"other: status {ended.status}, {told!r}, {ended.out!r:.300}"
+
+
+def is_fault_behind(body: bytes, whole_body: bytes) -> bool:
+    """Whether the body is the first lines of the whole one, and the line of a fault."""
+    replies, found, fault = body.rpartition(b"fault ")
+    return bool(found) and whole_body.startswith(replies) and fault in (b"memory\n", b"store\n")
 
 
 def kind_of_served(ended: Ended, wanted: Ended, told: str) -> str:
@@ -165,14 +175,14 @@ def kind_of_served(ended: Ended, wanted: Ended, told: str) -> str:
             found.append("whole")
         elif came == b"":
             found.append("none")
-        elif came.startswith(b"HTTP/1.1 503 ") and body.endswith(b"fault memory\n"):
-            found.append("503")
+        elif came.startswith(b"HTTP/1.1 503 ") and is_fault_behind(body, whole_body):
+            found.append(f"503 {body.splitlines()[-1].decode()}")
         elif came.startswith(b"HTTP/1.1 400 ") and body == b"fault 60 entry 0\n":
             found.append("400 fault 60")
         else:
             found.append(f"other {came!r:.300}")
     name = f"answers {' and '.join(found)}; {told or 'served'}, status {ended.status}"
-    rightly = (told, ended.status) in (("", 0), ("fault memory", 4), ("fault memory", 5))
+    rightly = (told, ended.status) in [("", 0), *TOLD]
     return name if rightly and "other" not in name else f"other: {name}"
 
 
@@ -185,7 +195,7 @@ def main() -> int:
     words.add_argument("--jobs", metavar="N", type=int, default=2, help="runs side by side")
     words.add_argument("--office", metavar="PROGRAM", default=str(TOP / "office"), help="the built program")
     given = words.parse_args()
-    total = wrong = 0
+    total = wrong = stores = 0
     with tempfile.TemporaryDirectory(prefix="office-memory-") as folder:
         runs = Runs(os.path.abspath(given.office), os.path.abspath(given.shim), pathlib.Path(folder))
         for word in given.only or [*WORDS, "serve"]:
@@ -195,9 +205,10 @@ def main() -> int:
                 found = collections.Counter(pool.map(lambda nth: runs.refused(word, wanted, nth), numbers))
             total += len(numbers)
             wrong += sum(count for kind, count in found.items() if kind.startswith("other"))
+            stores += sum(count for kind, count in found.items() if "fault store" in kind)
             ends = "; ".join(f"{count} {kind}" for kind, count in found.most_common())
             print(f"office {word}: {most} requests, {len(numbers)} of them refused in turn: {ends}", flush=True)
-    print(f"{total} runs of office, {wrong} ended otherwise")
+    print(f"{total} runs of office, {stores} told the fault of the store, {wrong} ended otherwise")
     return 1 if wrong or not total else 0
 
 

@@ -91,7 +91,7 @@ class Started:
 
 
 class Posting:
-    """A run of `serve`, whose client posts commands, each once the one before is answered, and keeps the answers."""
+    """A run of `serve`: a client posts commands, each once the one before is answered, and keeps the answers."""
 
     def __init__(self, file: Path, commands: typing.List[object]) -> None:
         self.desk = Desk([PROGRAM, "serve"], file, len(commands))
@@ -171,16 +171,14 @@ class Init(Word):
 def sector(line: int) -> typing.Dict[str, object]:
     """The sector with this line of the log: half an hour, one a day."""
     day = f"2024-02-{line:02}"
-    return {
-        "do": "sector", "tail": "D-ABCD", "page": 1, "line": line, "off": f"{day}T10:00", "on": f"{day}T10:30", "cycles": 1,
-    }
+    moments = {"off": f"{day}T10:00", "on": f"{day}T10:30"}
+    return {"do": "sector", "tail": "D-ABCD", "page": 1, "line": line, **moments, "cycles": 1}
 
 
 def defect(doc: str, category: str) -> typing.Dict[str, object]:
     """The deferral of a defect that was found on 2024-02-07."""
-    return {
-        "do": "defer", "doc": doc, "tail": "D-ABCD", "moment": "2024-02-07T08:00", "reference": "21-31-01", "category": category,
-    }
+    found = {"tail": "D-ABCD", "moment": "2024-02-07T08:00", "reference": "21-31-01"}
+    return {"do": "defer", "doc": doc, **found, "category": category}
 
 
 class Enter(Word):
@@ -248,8 +246,7 @@ class Enter(Word):
 
 
 class Serve(Enter):
-    """`serve FILE PORT COUNT`: the file has the book of a prefix of the commands that were posted, with each that was
-    answered."""
+    """`serve FILE PORT COUNT`: the file has the book of a prefix of the commands, with each that was answered."""
 
     name = "serve"
 
@@ -262,7 +259,8 @@ class Programme(Word):
 
     name = "programme"
     tasks = [
-        f'[[task]]\nid = "T{number}"\napplies = "airframe"\nfirst = {{ hours = {number} }}\n' for number in range(1, 101)
+        f'[[task]]\nid = "T{number}"\napplies = "airframe"\nfirst = {{ hours = {number} }}\n'
+        for number in range(1, 101)
     ]
 
     def toml(self, file: Path) -> Path:
@@ -382,7 +380,7 @@ def main() -> int:
     global PROGRAM
     words = argparse.ArgumentParser(description="Kills the program at random moments, and looks at what is left.")
     words.add_argument("kills", metavar="KILLS", nargs="?", type=int, default=50, help="how many kills of each word")
-    words.add_argument("--only", metavar="WORD", action="append", choices=[it.name for it in WORDS], help="this word alone")
+    words.add_argument("--only", action="append", choices=[it.name for it in WORDS], help="this word alone")
     words.add_argument("--office", metavar="PROGRAM", default=PROGRAM, help="the built program")
     given = words.parse_args()
     PROGRAM = os.path.abspath(given.office)
