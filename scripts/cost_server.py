@@ -35,8 +35,9 @@ def clock_of(conn: sqlite3.Connection, aircraft: int) -> int:
     ).fetchone()
     texts = conn.execute(
         "SELECT (SELECT max(landed) FROM sector1 WHERE aircraft = :it),"
-        " (SELECT max(moment) FROM fit1 WHERE aircraft = :it), (SELECT max(r.moment) FROM removal1 r WHERE r.component IN"
-        " (SELECT component FROM fit1 WHERE aircraft = :it))", {"it": aircraft},
+        " (SELECT max(moment) FROM fit1 WHERE aircraft = :it),"
+        " (SELECT max(moment) FROM removal1 WHERE component IN (SELECT component FROM fit1 WHERE aircraft = :it))",
+        {"it": aircraft},
     ).fetchone()
     return max([*(it for it in numbers if it is not None), *(minutes_of(it) for it in texts if it is not None)])
 

@@ -83,7 +83,8 @@ def sector(page: int, line: int, off: str, on: str, cycles: int = 1) -> typing.D
 def run(office: str, *words: object) -> typing.Tuple[int, bytes, bytes]:
     """The status, standard output and standard error of the program on these words."""
     try:
-        done = subprocess.run([office, *map(str, words)], stdin=subprocess.DEVNULL, capture_output=True, timeout=PATIENCE)
+        streams = {"stdin": subprocess.DEVNULL, "capture_output": True}
+        done = subprocess.run([office, *map(str, words)], timeout=PATIENCE, **streams)
     except subprocess.TimeoutExpired:
         return -1, b"", f"(no end within {PATIENCE} s)".encode()
     return done.returncode, done.stdout, done.stderr

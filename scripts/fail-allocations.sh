@@ -1,7 +1,7 @@
 #!/usr/bin/env bash
-# Runs the programs that play cases, and each word of the program office, with each of their requests for memory refused
-# in turn. A player must print what it prints with memory, since it asks a question once more where memory ran out, or end
-# with status 4 and `no memory` where the request was for its own lists. What office must do stands in
+# Runs the programs that play cases, and each word of the program office, with each of their requests for memory
+# refused in turn. A player must print what it prints with memory, since it asks a question once more where memory ran
+# out, or end with status 4 and `no memory` where the request was for its own lists. What office must do stands in
 # fail_allocations.py, which runs it, from crates/mx_cli/out or the path in OFFICE. Run by hand, after the gate or
 # `rt run` in the crates of the programs has built them; needs a C compiler. Prints a line a program, and ends with the
 # count. With FIRST and STEP only each STEP-th request is refused, from the one with the number FIRST on: so several can

@@ -3,13 +3,14 @@
 
 usage: scripts/fail_allocations.py SHIM [--only WORD] [--first N] [--step N] [--jobs N] [--office PROGRAM]
 
-scripts/fail-allocations.sh builds SHIM and calls it. Each run starts from the same files. It ends rightly where it prints
-what it prints with memory, with that status; or where it prints a part of it and then tells want of memory with its status:
-`fault memory` with 4 or 5, or `fault 60 entry 0`, a text that could not be read for want of memory, with 3. Where it tells
-`fault store` with 4 or 5 that is counted apart: memory was wanted, and the store is said to have failed. Of `serve` it is
-the same for each connection, which may also end with no answer, or with the status 503. Behind a word that writes the
-program is run once more with memory: it has to know each command that was acknowledged, and to accept the others. Only
-each N-th request is refused with --step. It prints a line a word; the status is 1 where a run ended otherwise.
+scripts/fail-allocations.sh builds SHIM and calls it. Each run starts from the same files. It ends rightly where it
+prints what it prints with memory, with that status; or where it prints a part of it and then tells want of memory with
+its status: `fault memory` with 4 or 5, or `fault 60 entry 0`, a text that could not be read for want of memory, with 3.
+Where it tells `fault store` with 4 or 5 that is counted apart: memory was wanted, and the store is said to have failed.
+Of `serve` it is the same for each connection, which may also end with no answer, or with the status 503. Behind a word
+that writes, the program is run once more with memory: it has to know each command that was acknowledged, and to accept
+the others. Only each N-th request is refused with --step. It prints a line a word; the status is 1 where a run ended
+otherwise.
 """
 import argparse
 import collections
@@ -31,7 +32,8 @@ PATIENCE = 60  # seconds
 TRIAL = ["try", "D-ABCD", "60000", "800", "2024-03-01T08:00", "2024-03-01T09:30", "1"]
 COMMANDS = [
     sector(12, 2, "2024-03-02T08:00", "2024-03-02T08:45"),
-    {"do": "defer", "doc": "X1", "tail": "D-ABCD", "moment": "2024-03-06T08:00", "reference": "21-31-01", "category": "B"},
+    {"do": "defer", "doc": "X1", "tail": "D-ABCD", "moment": "2024-03-06T08:00", "reference": "21-31-01",
+     "category": "B"},
     {"do": "extend", "doc": "Y1", "defect": "X1", "day": "2024-03-07", "days": 2},
     {"do": "add-component", "doc": "C1", "serial": "E1", "part": "IO360", "birth": "2014-03-11", "minutes": 92010,
      "cycles": 1600, "as_of": "2024-01-01T00:00"},

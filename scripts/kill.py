@@ -3,10 +3,10 @@
 
 usage: scripts/kill.py [KILLS] [--only WORD]... [--office PROGRAM]
 
-Run by hand, with 50 kills of each word where no number is given. After each kill SQLite itself (Python's module
-sqlite3) reads a copy of the file with its log, and then the program is asked on the file itself. A kill counts where
-it ended a process that was still running. The last line says how many did; the status is 1 where one left a file
-that is neither the one from before nor the one from after, or lost what was acknowledged.
+Run by hand, with 50 kills of each word where no number is given. After each kill SQLite itself (Python's sqlite3) reads
+a copy of the file with its log, and then the program is asked on the file itself. A kill counts where it ended a process
+that was still running. The status is 1 where one left a file that is neither the one from before nor the one from after,
+or lost what was acknowledged.
 """
 import argparse
 import json
@@ -78,11 +78,7 @@ class Started:
     """A run of a word: its process, and what it acknowledges."""
 
     def __init__(self, words: typing.Sequence[object]) -> None:
-        streams = {"stdout": subprocess.PIPE, "stderr": subprocess.DEVNULL}
-        self.process = subprocess.Popen([PROGRAM, *map(str, words)], **streams)
-
-    def kill(self) -> None:
-        self.process.kill()
+        self.process = subprocess.Popen([PROGRAM, *map(str, words)], stdout=subprocess.PIPE, stderr=subprocess.DEVNULL)
 
     def end(self) -> typing.Tuple[int, str]:
         """The status, and what was acknowledged, once the process has ended."""
@@ -95,6 +91,7 @@ class Posting:
 
     def __init__(self, file: Path, commands: typing.List[object]) -> None:
         self.desk = Desk([PROGRAM, "serve"], file, len(commands))
+        self.process = self.desk.process
         self.answers = ""
         self.client = threading.Thread(target=self.post, args=[commands])
         self.client.start()
@@ -106,12 +103,9 @@ class Posting:
             except OSError:  # it was killed
                 return
             head, _, answer = came.partition("\r\n\r\n")
-            if f"Content-Length: {len(answer)}\r\n" not in f"{head}\r\n" or not answer:
+            if not answer or f"Content-Length: {len(answer)}\r\n" not in f"{head}\r\n":
                 return
             self.answers += answer
-
-    def kill(self) -> None:
-        self.desk.process.kill()
 
     def end(self) -> typing.Tuple[int, str]:
         """The status, and what was answered, once the process and the client have ended."""
@@ -177,8 +171,8 @@ def sector(line: int) -> typing.Dict[str, object]:
 
 def defect(doc: str, category: str) -> typing.Dict[str, object]:
     """The deferral of a defect that was found on 2024-02-07."""
-    found = {"tail": "D-ABCD", "moment": "2024-02-07T08:00", "reference": "21-31-01"}
-    return {"do": "defer", "doc": doc, **found, "category": category}
+    found = {"moment": "2024-02-07T08:00", "reference": "21-31-01"}
+    return {"do": "defer", "doc": doc, "tail": "D-ABCD", **found, "category": category}
 
 
 class Enter(Word):
@@ -309,7 +303,7 @@ class Import(Word):
         return ["import", file, self.csv(file)]
 
     def life(self, sectors: int) -> Result:
-        """What `life` answers behind so many sectors of half an hour."""
+        """What `life` answers behind so many sectors."""
         minutes = 600 + 30 * sectors
         return (0, f"life D-ABCD\nairframe C172 {minutes // 60}:{minutes % 60:02} {10 + sectors}\nend 1\n", "")
 
@@ -352,7 +346,7 @@ def kill_once(word: Word, file: Path, longest: float) -> typing.Tuple[str, bool]
     """Runs the word and kills it. Answers what it acknowledged, and whether it was still running."""
     started = word.start(file)
     time.sleep(random.uniform(0.0, longest))
-    started.kill()
+    started.process.kill()
     status, printed = started.end()
     return printed, status == -9
 
