@@ -265,9 +265,9 @@ WORKS: typing.List[typing.Tuple[str, str, Work]] = [
 LEGEND = """
 A cell has the time of the program, and how many times that of the other side it is; bold where it grew more than its
 input since the size before. MB is the peak memory of both at the largest size. INSERT is `sqlite3`, which runs the
-INSERTs of the rows, judged by nobody, in as many synced transactions; SELECT is `sqlite3`, which answers by one statement; `json`
-and `tomllib` are Python's, with a look at the keys and values of each object, up to the faulty last one; server is one
-in Python over SQLite. Both sides left the same rows, or printed the same.
+INSERTs of the rows, judged by nobody, in as many synced transactions; SELECT is `sqlite3`, which answers by one
+statement; `json` and `tomllib` are Python's, with a look at the keys and values of each object, up to the faulty last
+one; server is one in Python over SQLite. Both sides left the same rows, or printed the same.
 """
 
 

@@ -3,10 +3,10 @@
 
 usage: scripts/kill.py [KILLS] [--only WORD]... [--office PROGRAM]
 
-Run by hand, with 50 kills of each word where no number is given. After each kill SQLite itself (Python's sqlite3) reads
-a copy of the file with its log, and then the program is asked on the file itself. A kill counts where it ended a process
-that was still running. The status is 1 where one left a file that is neither the one from before nor the one from after,
-or lost what was acknowledged.
+Run by hand, with 50 kills of each word where no number is given. After each kill SQLite itself (Python's sqlite3)
+reads a copy of the file with its log, and then the program is asked on the file itself. A kill counts where it ended a
+process that was still running. The status is 1 where one left a file that is neither the one from before nor the one
+from after, or lost what was acknowledged.
 """
 import argparse
 import json
