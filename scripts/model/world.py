@@ -56,7 +56,7 @@ class World:
 
     def moment_after(self, clock: int) -> int:
         """Mostly soon after a clock, at it, or a minute before it."""
-        step = self.chance.choice([0, 0, 1, 30, 60, 600, 1440, -1])
+        step = self.chance.choice([0, 0, 0, 1, 30, 60, 60, 600, 1440, -1])
         moment = clock + step if self.likely(90) else 1440 * self.day() + 30 * self.chance.randrange(48)
         return max(0, min(1440 * LAST_DAY + 1439, moment))
 
@@ -122,13 +122,15 @@ class World:
                 "moment": moment_text(self.moment_after(clock))}
 
     def line(self, tail: typing.Optional[str], serial: typing.Optional[str], kind: typing.Optional[str]) -> Command:
-        docs = [entry.doc for entry in self.book if isinstance(entry.act, Defer) and entry.act.tail == tail]
-        if self.likely(40 if docs else 4):
+        docs = [entry.doc for entry in self.book
+                if isinstance(entry.act, Defer) and (entry.act.tail == tail or self.likely(20))]
+        if self.likely(40 if docs else 2):
             return {"defect": self.one_of(docs, [f"W{n}" for n in range(1, 30)])}
         there = [span.serial for span in records.spans(self.book) if span.end is None and span.tail == tail]
         items = [Item(tail=tail)] if tail else [Item(serial=serial)]
         items += [Item(serial=own) for own in there if tail]
-        item = self.chance.choice(items) if self.likely(94) else Item(serial=self.serial())
+        others = [Item(serial=self.serial()), Item(tail=self.tail())]
+        item = self.chance.choice(items if self.likely(85) else others)
         tasks = [task.name for task in records.tasks(self.book, kind) if records.applies(self.book, task, item)]
         named = {"tail": item.tail} if item.tail else {"serial": item.serial}
         return {"task": self.one_of(tasks, TASKS), **named}
@@ -155,7 +157,7 @@ class World:
 
     def extend(self) -> Command:
         found = [entry for entry in self.book if isinstance(entry.act, Defer)]
-        chosen = self.chance.choice(found) if found and self.likely(95) else None
+        chosen = self.chance.choice(found) if found and self.likely(96) else None
         day = chosen.act.moment // 1440 if chosen and isinstance(chosen.act, Defer) else self.day()
         day = max(0, min(LAST_DAY, day + self.chance.choice([0, 0, 1, 1, 2, 4, 11, -1])))
         return {"do": "extend", "doc": self.doc(), "defect": chosen.doc if chosen else self.doc(),
@@ -174,8 +176,9 @@ class World:
         small = len(self.tails()) < 2 or not self.added(AddComponent)
         if self.handed_in and self.likely(6):
             return self.again()
-        weights = {self.add_aircraft: 30 if small else 2, self.add_component: 25 if small else 4, self.opening: 8,
-                   self.sector: 16, self.fit: 14, self.remove: 6, self.release: 16, self.defer: 9, self.extend: 7}
+        weights = {self.add_aircraft: 30 if small else 2, self.add_component: 25 if small else 4, self.opening: 14,
+                   self.sector: 16, self.fit: 14, self.remove: 6, self.release: 18, self.defer: 10,
+                   self.extend: 12 if self.added(Defer) else 1}
         command = self.chance.choices(list(weights), list(weights.values()))[0]()
         self.handed_in.append(command)
         return command
@@ -183,8 +186,8 @@ class World:
     # ── programmes and logs ──
 
     def limit(self) -> typing.Dict[str, int]:
-        found = {"hours": self.chance.choice([1, 2, 10, 12, 20]), "cycles": self.chance.choice([1, 3, 10, 60]),
-                 "days": self.chance.choice([1, 5, 10, 100, 400])}
+        found = {"hours": self.chance.choice([1, 2, 12, 17, 20, 40]), "cycles": self.chance.choice([3, 10, 12, 60]),
+                 "days": self.chance.choice([5, 10, 100, 395, 400, 500])}
         return {key: found[key] for key in self.chance.sample(list(found), self.chance.choice([1, 1, 2, 3]))}
 
     def programme(self) -> typing.Dict[str, typing.Any]:

@@ -1,0 +1,146 @@
+"""The random cases: lists of commands, groups of damaged texts, groups of requests. A case is known by its seed and name."""
+import json
+import random
+import typing
+
+from . import office
+from .asking import list_asked, random_request
+from .commands import Book
+from .damage import damaged
+from .http_text import Asked
+from .playing import Step, Steps, request_of, wanted_of
+from .reading import MOST_BYTES
+from .toml_text import TOLD, Undecided
+from .world import TAILS, World, programme_text
+
+GROUP = 100  # damaged texts or requests of one case
+Texts = typing.List[typing.Tuple[str, bytes]]
+
+
+class Case:
+    """Steps, and what the model says to each; how many texts were undecided and left out."""
+
+    def __init__(self, seed: int, name: str) -> None:
+        self.chance = random.Random(f"{seed} {name}")
+        self.book: Book = []
+        self.world = World(self.chance, self.book)
+        self.steps: Steps = []
+        self.told: typing.List[typing.Union[bytes, office.Printed]] = []
+        self.undecided = 0
+
+    def step(self, step: Step) -> None:
+        try:
+            self.told.append(wanted_of(self.book, step))
+            self.steps.append(step)
+        except Undecided:
+            self.undecided += 1
+
+    def asked(self, asked: Asked, by_words: bool) -> None:
+        self.step(Step(asked) if by_words else Step(request=request_of(asked)))
+
+    # ── what is handed in ──
+
+    def commands(self, most: int) -> Asked:
+        commands = [self.world.command() for _ in range(self.chance.randint(1, most))]
+        return Asked("enter", (), json.dumps(commands).encode())
+
+    def programme(self) -> Asked:
+        table = self.world.programme()
+        text = programme_text(table)
+        TOLD[text.decode()] = table
+        return Asked("programme", (self.world.doc(),), text)
+
+    def handed_in(self, most: int) -> Asked:
+        way = self.chance.randrange(10)
+        if way == 0:
+            return Asked("import", (), self.world.log())
+        return self.programme() if way == 1 else self.commands(most)
+
+    def begun(self, by_words: bool) -> None:
+        """Aircraft, components and programmes, so that the rest has something to stand on."""
+        for many, make in ((3, self.world.add_aircraft), (3, self.world.add_component)):
+            made = [make() for _ in range(self.chance.randint(1, many))]
+            self.world.handed_in += made
+            self.asked(Asked("enter", (), json.dumps(made).encode()), by_words)
+        for _ in range(self.chance.randint(1, 3)):
+            self.asked(self.programme(), by_words)
+
+
+def command_list(seed: int, number: int, by_words: bool) -> Case:
+    """A list of commands, and the lists of every aircraft on some days."""
+    case = Case(seed, f"list-{number}")
+    case.begun(by_words)
+    for _ in range(case.chance.randint(4, 16)):
+        case.asked(case.handed_in(2), by_words)
+    days = case.chance.sample([0, 1, 4, 12, 30, 200], 2)
+    for tail in case.world.tails() + (["D-X"] if case.chance.random() < 0.1 else []):
+        case.asked(Asked("life", (tail,), b""), by_words)
+        for day in (min(84005, case.world.base + day) for day in days):
+            case.asked(Asked("due", (tail, day), b""), by_words)
+        case.asked(Asked("limits", (tail, day), b""), by_words)
+        rate = case.chance.choice([(60, 1), (0, 0), (1440, 50), (7, 0), (0, 2)])
+        case.asked(Asked("forecast", (tail, day, case.chance.choice([0, 10, 90, 3650]), *rate), b""), by_words)
+    return case
+
+
+def damaged_texts(seed: int, number: int, by_words: bool, count: int = GROUP) -> Case:
+    """Texts that are damaged, handed in one after the other."""
+    case = Case(seed, f"text-{number}")
+    case.begun(by_words)
+    while len(case.steps) + case.undecided < count:
+        way = case.chance.randrange(4)
+        asked = [case.commands(3), case.commands(2), case.programme(), Asked("import", (), case.world.log())][way]
+        form = {"programme": "toml", "import": "csv"}.get(asked.word, "json")
+        case.asked(asked._replace(body=damaged(case.chance, asked.body, form)), by_words)
+    return case
+
+
+def requests(seed: int, number: int, _: bool, count: int = GROUP) -> Case:
+    """Requests over HTTP, whole, damaged or none."""
+    case = Case(seed, f"request-{number}")
+    case.begun(False)
+    while len(case.steps) + case.undecided < count:
+        asked = case.handed_in(2)
+        if case.chance.random() < 0.5:
+            asked = list_asked(case.chance, [*TAILS, "D-X"], case.world.base)
+        case.step(Step(request=random_request(case.chance, asked)))
+    return case
+
+
+# ── the ends of lists and texts, by words of the program ──
+
+HEADER = b"tail,page,line,off,on,cycles\n"
+
+
+def large_texts() -> Texts:
+    return [
+        ("enter", b"[" + 9_999 * b"7," + b"7]"), ("enter", b"[" + 10_000 * b"7," + b"7]"),
+        ("enter", b"[]" + (MOST_BYTES - 2) * b" "), ("enter", b"[]" + (MOST_BYTES - 1) * b" "),
+        ("enter", b"\xff" + MOST_BYTES * b" "), ("programme", MOST_BYTES * b"\n"),
+        ("programme", (MOST_BYTES + 1) * b"\n"), ("import", HEADER + 100_000 * b"a\n"),
+        ("import", HEADER + 100_001 * b"a\n"), ("import", b"x\n" + 100_001 * b"a\n"),
+        ("import", HEADER + (MOST_BYTES - len(HEADER)) * b"\n"),
+        ("import", HEADER + (MOST_BYTES + 1 - len(HEADER)) * b"\n"),
+    ]
+
+
+def full_aircraft() -> typing.List[typing.Dict[str, typing.Any]]:
+    return [{"do": "add-aircraft", "doc": f"A{n}", "tail": f"D-{n}", "kind": "K", "birth": "2024-01-01", "minutes": 0,
+             "cycles": 0, "as_of": "2024-01-01T00:00", "positions": []} for n in range(52)]
+
+
+def edges(_: int, number: int, by_words: bool) -> Case:
+    """Texts of the largest size; 52 aircraft, of which the last two are too many."""
+    case = Case(0, f"edge-{number}")
+    if number == 0:
+        case.asked(Asked("enter", (), json.dumps(full_aircraft()).encode()), by_words)
+        case.asked(Asked("due", ("D-49", 20_000), b""), by_words)
+        case.asked(Asked("due", ("D-50", 20_000), b""), by_words)
+    for word, text in [large_texts()[number - 1]] if number else []:
+        case.asked(Asked(word, ("P",) if word == "programme" else (), text), True)
+    return case
+
+
+KINDS: typing.Dict[str, typing.Callable[[int, int, bool], Case]] = {
+    "edge": edges, "list": command_list, "text": damaged_texts, "request": requests,
+}
