@@ -5,9 +5,9 @@ usage: scripts/compare.py [--office PROGRAM] [--seed N] [--lists L] [--texts T] 
                           [--no-edges] [--case NAME]
 
 From a seed come lists of commands with the lists of each aircraft behind them, damaged texts of JSON, TOML and CSV, and
-requests over HTTP. Each case begins with an empty book, and is played by the words of the program or by its desk: what is
-printed and answered, and the status, have to be the model's, byte for byte. A case that differs is shrunk and printed;
-`--seed N --case NAME` plays it again. The status is 0 where nothing differs, else 1.
+requests over HTTP. Each case begins with an empty book, and is played by the words of the program or by its desk: what
+is printed and answered, and the status, have to be the model's, byte for byte. A case that differs is shrunk and
+printed; `--seed N --case NAME` with the same words plays it again. The status is 0 where nothing differs, else 1.
 """
 import argparse
 import collections
@@ -106,7 +106,8 @@ def main() -> int:
     words.add_argument("--lists", type=int, default=200, help="lists of commands")
     words.add_argument("--texts", type=int, default=2000, help="damaged texts")
     words.add_argument("--requests", type=int, default=1000, help="requests over HTTP")
-    words.add_argument("--words-each", metavar="N", type=int, default=10, help="one case of N is played by words, not by the desk")
+    words.add_argument("--words-each", metavar="N", type=int, default=10,
+                       help="one case of N is played by words of the program, the others by its desk")
     words.add_argument("--no-edges", action="store_true", help="leave out the texts of the largest size")
     words.add_argument("--case", metavar="NAME", help="this case alone, as list-17")
     told = words.parse_args()

@@ -1,4 +1,4 @@
-"""Random requests over HTTP: each route, paths and heads that are none or at their edges, lengths, bytes that are damaged."""
+"""Random requests over HTTP: each route, paths, heads and lengths that are none or at their edges, damaged bytes."""
 import random
 import typing
 
@@ -9,19 +9,25 @@ from .playing import request_of
 METHODS = ["GET", "POST", "PUT", "HEAD", "get", "post", "G(T", "OPTIONS", ""]
 VERSIONS = ["HTTP/1.1", "HTTP/1.1", "HTTP/1.0", "HTTP/2.0", "HTTP/1.2", "http/1.1", "HTTP/1.1 ", " HTTP/1.1", "HTT", ""]
 FIELDS = [
-    "Host: desk", "Note:", "Note: \t x \t", "Note:x:y", "Note : x", ": x", " folded: x", "no colon", "No(te: x", "Note: é",
+    "Host: desk", "Note:", "Note: \t x \t", "Note:x:y", "Note : x", ": x", " folded: x", "no colon", "No(te: x",
+    "Note: é",
     "Note: a\tb", "Note: a\x7fb", "Note: a\x00b", "Content-Length: 3", "content-length: 2", "Content-Length:0",
-    "Content-Length: 00000000002", "Content-Length: +2", "Content-Length: 2 2", "Content-Length: 2,2", "Content-Length: 65536",
+    "Content-Length: 00000000002", "Content-Length: +2", "Content-Length: 2 2", "Content-Length: 2,2",
+    "Content-Length: 65536",
     "Content-Length: 65537", "Content-Length: 0065537", "Content-Length: 99999999999999999999", "Content-Length: -1",
     "Content-Length:", "Content-Length: 0x2", "Transfer-Encoding: chunked", "transfer-ENCODING:", "Content-Lengt: 2",
 ]
 PARTS = [
-    "D-A", "D-B", "D-X", "d-a", "D%2DA", "D-ABCDEF", "D-ABCDEFG", "", "life", "due", "2024-03-18", "2024-3-18", "2024-02-30",
-    "1970-01-01", "1969-12-31", "2199-12-31", "2200-01-01", "0", "1", "50", "51", "1440", "1441", "3650", "3651", "000030",
-    "0000030", "+1", "-1", "1.0", "1_0", "é", "~", '"', "{tail}", "<>", "\\^`|", "a?b", "#", "A" * 40, "A" * 41, "TL", "*",
+    "D-A", "D-B", "D-X", "d-a", "D%2DA", "D-ABCDEF", "D-ABCDEFG", "", "life", "due", "2024-03-18", "2024-3-18",
+    "2024-02-30",
+    "1970-01-01", "1969-12-31", "2199-12-31", "2200-01-01", "0", "1", "50", "51", "1440", "1441", "3650", "3651",
+    "000030",
+    "0000030", "+1", "-1", "1.0", "1_0", "é", "~", '"', "{tail}", "<>", "\\^`|", "a?b", "#", "A" * 40, "A" * 41, "TL",
+    "*",
 ]
 TARGETS = ["/", "*", "/entries", "/entries/", "/Entries", "/sectors", "/sectors?x=/y", "/programmes", "/programmes/",
-           "/programmes/P?", "/aircraft", "/aircraft/D-A", "/aircraft/D-A/life/", "/aircraft//life", "//entries", "entries",
+           "/programmes/P?", "/aircraft", "/aircraft/D-A", "/aircraft/D-A/life/", "/aircraft//life", "//entries",
+           "entries",
            "http://desk/entries", "/aircraft/D-A/life?", "/aircraft/D-A/life?a b", "/programmes/TL", "/?/entries", ""]
 LINE_ENDS = ["\r\n", "\r\n", "\r\n", "\n", "\r", "\r\r\n", " \r\n"]
 

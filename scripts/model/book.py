@@ -1,4 +1,4 @@
-"""What a book says: lives, clocks, fittings, programmes, accomplishments and dues, defects. A book is a list of entries."""
+"""What a list of entries says: lives, clocks, fittings, programmes, accomplishments and dues, defects."""
 import typing
 
 from .commands import (

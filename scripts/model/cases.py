@@ -1,4 +1,4 @@
-"""The random cases: lists of commands, groups of damaged texts, groups of requests. A case is known by its seed and name."""
+"""The random cases: lists of commands, groups of damaged texts and of requests. Its seed and its name tell a case."""
 import json
 import random
 import typing

@@ -6,10 +6,13 @@ import typing
 
 TOKEN = re.compile(rb'"[^"\n]*"|[A-Za-z_][A-Za-z_-]*|-?[0-9][0-9:T.-]*|[\[\]{},:=]+')
 SPACES = [b" ", b"\t", b"\n", b"\r\n", b"\r", b"\x0b", b"\x0c", b"\xc2\xa0", b"\xe2\x80\xa8", b"\x00", b"\x7f", b"\x85"]
-BROKEN = [b"\xff", b"\xc3", b"\xed\xa0\x80", b"\xf4\x90\x80\x80", b"\xc0\x80", b"\xef\xbb\xbf", b"\xc3\xa9", b"\\", b'"']
+BROKEN = [b"\xff", b"\xc3", b"\xed\xa0\x80", b"\xf4\x90\x80\x80", b"\xc0\x80", b"\xef\xbb\xbf", b"\xc3\xa9", b"\\",
+          b'"']
 NUMBERS = [
-    b"0", b"-0", b"1", b"00", b"01", b"+1", b"-1", b"2", b"1.0", b"1e0", b"1E2", b"1e400", b"-1e400", b"0e400", b"1e-400",
-    b"20", b"21", b"49", b"50", b"51", b"99", b"100", b"120", b"121", b"365", b"366", b"500", b"501", b"36500", b"36501",
+    b"0", b"-0", b"1", b"00", b"01", b"+1", b"-1", b"2", b"1.0", b"1e0", b"1E2", b"1e400", b"-1e400", b"0e400",
+    b"1e-400",
+    b"20", b"21", b"49", b"50", b"51", b"99", b"100", b"120", b"121", b"365", b"366", b"500", b"501", b"36500",
+    b"36501",
     b"99999", b"100000", b"100001", b"999999", b"1000000", b"1000001", b"0000001", b"000001", b"6000000", b"6000001",
     b"100000000", b"100000001", b"71582788", b"71582789", b"4294967295", b"4294967296", b"9223372036854775807",
     b"9223372036854775808", b"18446744073709551616", b"-9223372036854775808", b"9" * 310, b".5", b"5.", b"1_0", b"0x10",
@@ -22,10 +25,15 @@ TEXTS = [
     "2024-02-29T23:60", "2024-02-29T23:59:00", "2024-02-29T23:59Z", "2024-02-29 23:59", "2199-12-31T23:59",
     "2200-01-01T00:00", "٢٠٢٤-01-01", "+2024-01-01", "add-aircraft", "sector", "release", "fly", "defer", "extend",
 ]
-WORDS = [b"null", b"true", b"false", b"NaN", b"Infinity", b"-Infinity", b"nan", b"inf", b"[]", b"{}", b"[1]", b'[{}]', b"x"]
-ESCAPES = [b"\\u0041", b"\\ud800", b"\\ud83d\\ude00", b"\\udc00", b"\\u12", b"\\x41", b"\\n", b"\\/", b"\\t", b"\\q", b"\\U00000041"]
-KEYS = [b"do", b"doc", b"tail", b"serial", b"kind", b"days", b"defect", b"task", b"moment", b"positions", b"lines", b"note",
+WORDS = [b"null", b"true", b"false", b"NaN", b"Infinity", b"-Infinity", b"nan", b"inf", b"[]", b"{}", b"[1]", b'[{}]',
+         b"x"]
+ESCAPES = [b"\\u0041", b"\\ud800", b"\\ud83d\\ude00", b"\\udc00", b"\\u12", b"\\x41", b"\\n", b"\\/", b"\\t", b"\\q",
+           b"\\U00000041"]
+KEYS = [b"do", b"doc", b"tail", b"serial", b"kind", b"days", b"defect", b"task", b"moment", b"positions", b"lines",
+        b"note",
         b"page", b"part", b"revision", b"id", b"first", b"repeat", b"tolerance", b"retire", b"hours", b"applies"]
+
+MARK = b"\xef\xbb\xbf"
 
 Chance = random.Random
 
@@ -62,7 +70,7 @@ def put_in(chance: Chance, text: bytes) -> bytes:
 
 
 def put_in_front(chance: Chance, text: bytes) -> bytes:
-    return chance.choice([b"\xef\xbb\xbf", b"\xef\xbb", b"\xfe\xff", b"\n", b" ", b"\r\n\r\n", b"\xef\xbb\xbf\xef\xbb\xbf"]) + text
+    return chance.choice([MARK, b"\xef\xbb", b"\xfe\xff", b"\n", b" ", b"\r\n\r\n", 2 * MARK]) + text
 
 
 # ── damages of what stands there ──
@@ -111,7 +119,8 @@ def respelt(chance: Chance, text: bytes) -> bytes:
 
 
 def sign_changed(chance: Chance, text: bytes) -> bytes:
-    return changed(chance, text, r"[\[\]{},:=]", lambda _: chance.choice([b"", b",", b":", b"=", b"[", b"]", b"{", b"}", b"[["]))
+    signs = [b"", b",", b":", b"=", b"[", b"]", b"{", b"}", b"[["]
+    return changed(chance, text, r"[\[\]{},:=]", lambda _: chance.choice(signs))
 
 
 def spaced(chance: Chance, text: bytes) -> bytes:
@@ -143,8 +152,9 @@ def line_moved(chance: Chance, text: bytes) -> bytes:
 
 
 def field_changed(chance: Chance, text: bytes) -> bytes:
-    pool = [*NUMBERS[:20], *(number for number in NUMBERS if len(number) in (6, 7)), b'"1"', b'"D-A"', b'D"A', b' "1"', b'"1" ',
-            b'"1"2', b'"a""b"', b'"', b'""', b'"1\n"', b'"1,"', *(text.encode() for text in TEXTS), *BROKEN]
+    pool = [*NUMBERS[:20], *(number for number in NUMBERS if len(number) in (6, 7)), b'"1"', b'"D-A"', b'D"A',
+            b' "1"', b'"1" ', b'"1"2', b'"a""b"', b'"', b'""', b'"1\n"', b'"1,"',
+            *(text.encode() for text in TEXTS), *BROKEN]
     fields = re.split(rb"([,\n])", text)
     fields[chance.randrange((len(fields) + 1) // 2) * 2] = chance.choice(pool)
     return b"".join(fields)
@@ -158,7 +168,8 @@ def field_quoted(chance: Chance, text: bytes) -> bytes:
 
 
 def ends_changed(chance: Chance, text: bytes) -> bytes:
-    return text.replace(b"\n", chance.choice([b"\r", b"\r\n", b"\n\n", b"\n\r", b"\n \n", b",\n"]), chance.choice([1, -1]))
+    end = chance.choice([b"\r", b"\r\n", b"\n\n", b"\n\r", b"\n \n", b",\n"])
+    return text.replace(b"\n", end, chance.choice([1, -1]))
 
 
 OF_BYTES = [byte_changed, byte_changed, removed, doubled, cut, put_in, put_in, put_in_front, line_moved]

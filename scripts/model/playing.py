@@ -12,6 +12,7 @@ from . import office
 from .commands import Book
 from .http_text import LISTS, Asked, is_whole
 from .texts import day_text
+from .toml_text import Undecided
 
 MOST_TRIES = 200
 
@@ -135,7 +136,7 @@ class Shrinking:
         self.tries -= 1
         try:
             found = self.program.difference(steps)
-        except toml_undecided():
+        except Undecided:
             return False
         if found is None:
             return False
@@ -175,11 +176,6 @@ class Shrinking:
         self.steps_left_out()
         self.bytes_left_out()
         return self.steps, self.found
-
-
-def toml_undecided() -> typing.Type[Exception]:
-    from .toml_text import Undecided
-    return Undecided
 
 
 def parts_of(step: Step) -> typing.Tuple[bytes, bytes]:

@@ -39,7 +39,7 @@ class Form:
             self.faults.append(62)
         return self.optional(key, read)  # type: ignore
 
-    def listed(self, key: str, most: typing.Callable[["Form"], T]) -> typing.List[T]:
+    def listed(self, key: str, read: typing.Callable[["Form"], T]) -> typing.List[T]:
         """A list of objects at a key, each of which has a form; their faults are this object's."""
         found = []
         for value in self.needed(key, lambda value: value if isinstance(value, list) else None) or []:
@@ -47,7 +47,7 @@ class Form:
                 self.faults.append(63)
                 continue
             inner = Form(value)
-            found.append(most(inner))
+            found.append(read(inner))
             self.faults += inner.all_faults()
         return found
 

@@ -1,7 +1,8 @@
 """A maintenance programme as TOML: the command that loads it, or the fault of its text.
 
-Python's `tomllib` reads TOML 1.0 and the office TOML 1.1, which takes more. Where only that more, or a limit of a reader,
-decides whether a text is one, the text is Undecided here. On a Python without `tomllib` every text is that was not told.
+Python's `tomllib` reads TOML 1.0 and the office TOML 1.1, which takes more. Where only that more, or a limit of a
+reader, decides whether a text is one, the text is Undecided here. On a Python without `tomllib` only the texts that
+were written from a table are decided.
 """
 import re
 import typing

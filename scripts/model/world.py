@@ -1,4 +1,4 @@
-"""Random commands of a small world, which look at the book so far: so that they are accepted, known and refused often."""
+"""Random commands of a small world. They look at the book so far: so they are accepted, known and refused often."""
 import json
 import random
 import typing
@@ -104,7 +104,8 @@ class World:
         off = self.moment_after(self.clock(Item(tail=tail)))
         on = min(off + self.chance.choice([1, 30, 60, 125, 1440]), 1440 * LAST_DAY + 1439)
         return {"do": "sector", "tail": tail, "page": self.chance.randint(1, 4), "line": self.chance.randint(1, 5),
-                "off": moment_text(min(off, on - 1)), "on": moment_text(on), "cycles": self.chance.choice([1, 1, 2, 50])}
+                "off": moment_text(min(off, on - 1)), "on": moment_text(on),
+                "cycles": self.chance.choice([1, 1, 2, 50])}
 
     def fit(self) -> Command:
         tail, serial = self.tail(), self.serial()
@@ -211,7 +212,8 @@ class World:
     def log(self) -> bytes:
         rows = [self.sector() for _ in range(self.chance.randint(0, 4))]
         keys = ("tail", "page", "line", "off", "on", "cycles")
-        return "".join(f"{','.join(str(row[key]) for key in keys)}\n" for row in [dict(zip(keys, keys)), *rows]).encode()
+        lines = [",".join(keys), *(",".join(str(row[key]) for key in keys) for row in rows)]
+        return "".join(f"{line}\n" for line in lines).encode()
 
 
 def toml_of(value: typing.Any) -> str:
