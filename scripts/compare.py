@@ -11,6 +11,7 @@ printed; `--seed N --case NAME` with the same words plays it again. The status i
 """
 import argparse
 import collections
+import itertools
 import os
 import pathlib
 import re
@@ -20,7 +21,8 @@ import time
 import typing
 
 from desk_client import TOP
-from model.cases import GROUP, KINDS, Case, large_texts
+from model import edges
+from model.cases import GROUP, KINDS, Case
 from model.playing import Program, Shrinking, Step
 
 MOST_DIFFERENCES = 5
@@ -60,7 +62,7 @@ def names_of(words: argparse.Namespace) -> typing.List[str]:
     """The cases, in their order."""
     if words.case:
         return [words.case]
-    groups = {"edge": 0 if words.no_edges else 1 + len(large_texts()), "list": words.lists,
+    groups = {"edge": 0 if words.no_edges else edges.COUNT, "list": words.lists,
               "text": -(-words.texts // GROUP), "request": -(-words.requests // GROUP)}
     return [f"{kind}-{number}" for kind, count in groups.items() for number in range(count)]
 
@@ -73,6 +75,11 @@ class Part:
         self.replies: Tally = collections.Counter()
         self.began = time.monotonic()
 
+    def add(self, case: Case, differs: bool) -> None:
+        noted(case, self.replies)
+        self.cases, self.steps = self.cases + 1, self.steps + len(case.steps)
+        self.undecided, self.differing = self.undecided + case.undecided, self.differing + differs
+
     def line(self, kind: str) -> str:
         told = ", ".join(f"{name} {count}" for name, count in sorted(self.replies.items()))
         return (f"{kind}: {self.cases} cases, {self.steps} steps, {self.undecided} undecided, {self.differing} differ, "
@@ -80,22 +87,17 @@ class Part:
 
 
 def compared(program: Program, words: argparse.Namespace) -> typing.Dict[str, Part]:
-    parts: typing.Dict[str, Part] = {}
-    for name in names_of(words):
-        kind, number = name.split("-")
-        if kind not in parts:
-            print(*(part.line(done) for done, part in list(parts.items())[-1:]), sep="\n", flush=True)
-            parts[kind] = Part()
-        part = parts[kind]
-        case = KINDS[kind](words.seed, int(number), words.words_each > 0 and int(number) % words.words_each == 0)
-        noted(case, part.replies)
-        part.cases, part.steps = part.cases + 1, part.steps + len(case.steps)
-        part.undecided += case.undecided
-        part.differing += played(program, case, name, words.seed)
-        if sum(each.differing for each in parts.values()) == MOST_DIFFERENCES:
-            print("too many differ: the rest is left out")
-            break
-    print(*(part.line(done) for done, part in list(parts.items())[-1:]), sep="\n")
+    parts = {kind: Part() for kind in KINDS}
+    for kind, names in itertools.groupby(names_of(words), lambda name: name.split("-")[0]):
+        parts[kind].began = time.monotonic()
+        for name in names:
+            number = int(name.split("-")[1])
+            case = KINDS[kind](words.seed, number, words.words_each > 0 and number % words.words_each == 0)
+            parts[kind].add(case, played(program, case, name, words.seed))
+            if sum(part.differing for part in parts.values()) == MOST_DIFFERENCES:
+                print(parts[kind].line(kind), "too many differ: the rest is left out", sep="\n")
+                return parts
+        print(parts[kind].line(kind), flush=True)
     return parts
 
 
@@ -117,9 +119,8 @@ def main() -> int:
         return 1
     with tempfile.TemporaryDirectory(prefix="office-compare-") as folder:
         parts = compared(Program(office, pathlib.Path(folder)), told)
-    counts = {kind: parts[kind] if kind in parts else Part() for kind in KINDS}
     differing = sum(part.differing for part in parts.values())
-    print(f"compare: {counts['list'].cases} lists, {counts['text'].steps} texts, {counts['request'].steps} requests, "
+    print(f"compare: {parts['list'].cases} lists, {parts['text'].steps} texts, {parts['request'].steps} requests, "
           f"{differing} differ")
     return 1 if differing else 0
 

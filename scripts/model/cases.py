@@ -6,15 +6,14 @@ import typing
 from . import office
 from .asking import list_asked, random_request
 from .commands import Book
+from .edges import edge
 from .damage import damaged
 from .http_text import Asked
 from .playing import Step, Steps, request_of, wanted_of
-from .reading import MOST_BYTES
 from .toml_text import TOLD, Undecided
 from .world import TAILS, World, programme_text
 
 GROUP = 100  # damaged texts or requests of one case
-Texts = typing.List[typing.Tuple[str, bytes]]
 
 
 class Case:
@@ -107,40 +106,7 @@ def requests(seed: int, number: int, _: bool, count: int = GROUP) -> Case:
     return case
 
 
-# ── the ends of lists and texts, by words of the program ──
-
-HEADER = b"tail,page,line,off,on,cycles\n"
-
-
-def large_texts() -> Texts:
-    return [
-        ("enter", b"[" + 9_999 * b"7," + b"7]"), ("enter", b"[" + 10_000 * b"7," + b"7]"),
-        ("enter", b"[]" + (MOST_BYTES - 2) * b" "), ("enter", b"[]" + (MOST_BYTES - 1) * b" "),
-        ("enter", b"\xff" + MOST_BYTES * b" "), ("programme", MOST_BYTES * b"\n"),
-        ("programme", (MOST_BYTES + 1) * b"\n"), ("import", HEADER + 100_000 * b"a\n"),
-        ("import", HEADER + 100_001 * b"a\n"), ("import", b"x\n" + 100_001 * b"a\n"),
-        ("import", HEADER + (MOST_BYTES - len(HEADER)) * b"\n"),
-        ("import", HEADER + (MOST_BYTES + 1 - len(HEADER)) * b"\n"),
-    ]
-
-
-def full_aircraft() -> typing.List[typing.Dict[str, typing.Any]]:
-    return [{"do": "add-aircraft", "doc": f"A{n}", "tail": f"D-{n}", "kind": "K", "birth": "2024-01-01", "minutes": 0,
-             "cycles": 0, "as_of": "2024-01-01T00:00", "positions": []} for n in range(52)]
-
-
-def edges(_: int, number: int, by_words: bool) -> Case:
-    """Texts of the largest size; 52 aircraft, of which the last two are too many."""
-    case = Case(0, f"edge-{number}")
-    if number == 0:
-        case.asked(Asked("enter", (), json.dumps(full_aircraft()).encode()), by_words)
-        case.asked(Asked("due", ("D-49", 20_000), b""), by_words)
-        case.asked(Asked("due", ("D-50", 20_000), b""), by_words)
-    for word, text in [large_texts()[number - 1]] if number else []:
-        case.asked(Asked(word, ("P",) if word == "programme" else (), text), True)
-    return case
-
-
 KINDS: typing.Dict[str, typing.Callable[[int, int, bool], Case]] = {
-    "edge": edges, "list": command_list, "text": damaged_texts, "request": requests,
+    "edge": lambda _, number, by_words: edge(Case(0, f"edge-{number}"), number, by_words), "list": command_list,
+    "text": damaged_texts, "request": requests,
 }

@@ -94,7 +94,8 @@ def line_of(form: Form) -> Line:
         task = form.needed("task", NAME)
         return Line(task, item_of(form))
     excluded = [key for key in ("task", "tail", "serial") if key in form.members]
-    form.optional("task", NAME), form.optional("tail", TAIL), form.optional("serial", NAME)
+    for key, read in (("task", NAME), ("tail", TAIL), ("serial", NAME)):
+        form.optional(key, read)
     form.faults += [65] if excluded else []
     return Line(defect=form.needed("defect", DOC))
 

@@ -19,7 +19,11 @@ from .texts import name_of
 
 MOST_TASKS = 500
 DEEP = 60  # brackets in brackets: the readers' limits are above
-NEWER = re.compile(r"\\[ex]|[0-9]{4}-[0-9]{2}|[0-9]:[0-9]|\{[^{}]*(\n|,\s*\})|\{[^{}]*#")
+NEWER = re.compile("|".join([
+    r"\\[ex]",  # escapes
+    r"[=\[,\s][0-9]{4}-[0-9]{2}", r"[=\[,\s][0-9]{2}:[0-9]{2}",  # dates and times, which may lack their seconds
+    r",\s*\}", r"[{,][ \t\r]*\n", r"\n\s*[,}]", r"\{[^{}\n]*#",  # in an inline table: ends of lines, a comma at its end
+]))
 TOLD: typing.Dict[str, typing.Any] = {}  # the tables of texts that were written from them
 
 
