@@ -18,7 +18,8 @@ from .reading import Fault, Form, text_by, text_of
 from .texts import name_of
 
 MOST_TASKS = 500
-DEEP = 60  # brackets in brackets: the readers' limits are above
+DEEPEST = 80  # brackets in brackets; a tree of tables is a little deeper than the brackets of its values
+LITTLE = 6
 NEWER = re.compile("|".join([
     r"\\[ex]",  # escapes
     r"[=\[,\s][0-9]{4}-[0-9]{2}", r"[=\[,\s][0-9]{2}:[0-9]{2}",  # dates and times, which may lack their seconds
@@ -40,15 +41,13 @@ def number(written: str) -> float:
     return float(written)
 
 
-def check(value: typing.Any, room: int = DEEP) -> None:
-    """Whole numbers have 64 bits."""
-    if room == 0:
-        raise Undecided
+def depth_of(value: typing.Any) -> int:
+    """How deep a value is, whose whole numbers have 64 bits."""
     if type(value) is int and not -2 ** 63 <= value < 2 ** 63:
         raise Fault(61)
-    if isinstance(value, (dict, list)):
-        for inner in value.values() if isinstance(value, dict) else value:
-            check(inner, room - 1)
+    if not isinstance(value, (dict, list)):
+        return 0
+    return 1 + max(map(depth_of, value.values() if isinstance(value, dict) else value), default=0)
 
 
 def table_of(text: str) -> typing.Dict[str, typing.Any]:
@@ -64,7 +63,11 @@ def table_of(text: str) -> typing.Dict[str, typing.Any]:
         raise Undecided from None
     except ValueError:
         raise Undecided if NEWER.search(text) else Fault(61) from None
-    check(table)
+    depth = depth_of(table)
+    if depth > DEEPEST + LITTLE:
+        raise Fault(61)
+    if depth > DEEPEST - LITTLE:
+        raise Undecided
     return table
 
 
