@@ -56,6 +56,14 @@ def wanted_of(book: Book, step: Step) -> typing.Union[bytes, office.Printed]:
     return office.answered(book, step.request) if step.asked is None else office.printed(book, step.asked)
 
 
+def answer_of(desk: Desk, request: bytes, stays_open: bool) -> object:
+    """What comes; the sending side stays open only where the request is all there, since the desk waits otherwise."""
+    try:
+        return (whole if stays_open and is_whole(request) else ended)(desk, request)
+    except OSError as error:
+        return str(error)
+
+
 class Program:
     """The program, and a folder with an empty book."""
 
@@ -104,15 +112,12 @@ class Program:
         desk = Desk([self.path, "serve"], folder / "book.db", behind - place)
         try:
             for nth in range(place, behind):
-                request = steps[nth].request
                 wanted = wanted_of(book, steps[nth])
-                came = (whole if is_whole(request) and nth % 2 else ended)(desk, request)
+                came = answer_of(desk, steps[nth].request, nth % 2 == 1)
                 if came != wanted:
                     return Difference(nth, wanted, came)
             wanted_end, end = (0, f"served {behind - place}\n".encode(), b""), desk.end()
             return None if end == wanted_end else Difference(behind - 1, wanted_end, end)
-        except OSError as error:
-            return Difference(nth, wanted, str(error))
         finally:
             desk.stop()
             for stream in (desk.process.stdout, desk.process.stderr):
