@@ -46,13 +46,16 @@ def step_text(step: Step) -> str:
 
 
 def played(program: Program, case: Case, name: str, seed: int) -> bool:
-    """Whether the program differs, which is shrunk and printed."""
+    """Whether the program differs, which is shrunk and printed. What doesn't come again may be of a slow machine."""
     found = program.difference(case.steps)
     if found is None:
         return False
-    shrinking = Shrinking(program, case.steps, found)
-    steps, found = shrinking.least()
-    print(f"differs: --seed {seed} --case {name} (shrunk to {len(steps)} of {len(case.steps)} steps)")
+    steps, way = case.steps[:found.place + 1], "not when played again"
+    again = program.difference(steps)
+    if again is not None:
+        steps, found = Shrinking(program, case.steps, again).least()
+        way = f"shrunk to {len(steps)} of {len(case.steps)} steps"
+    print(f"differs: --seed {seed} --case {name} ({way})")
     print(*(f"    step {nth}: {step_text(step):.1500}" for nth, step in enumerate(steps, 1)), sep="\n")
     print(f"    the model: {found.wanted!r:.1500}\n    the office: {found.came!r:.1500}", flush=True)
     return True
