@@ -14,7 +14,7 @@ from .http_text import LISTS, Asked, is_whole
 from .texts import day_text
 from .toml_text import Undecided
 
-MOST_TRIES = 200
+MOST_TRIES = 400
 
 
 class Step(typing.NamedTuple):
@@ -164,22 +164,26 @@ class Shrinking:
                     start += size
             size //= 2
 
-    def bytes_left_out(self) -> None:
-        """Of what is handed in last."""
-        size = len(body_of(self.steps[-1])) // 2
-        while size:
+    def pieces_left_out(self, behind: int, cut: typing.Callable[[bytes], typing.List[bytes]]) -> None:
+        """Of the text that is handed in so many steps from the last one."""
+        size = len(cut(body_of(self.steps[-1 - behind])))
+        while size and behind < len(self.steps):
             start = 0
-            while start < len(body_of(self.steps[-1])):
-                step = self.steps[-1]
-                text = body_of(step)
-                if not self.try_with(self.steps[:-1] + [with_body(step, text[:start] + text[start + size:])]):
+            while behind < len(self.steps) and start < len(cut(body_of(self.steps[-1 - behind]))):
+                place = len(self.steps) - 1 - behind
+                pieces = cut(body_of(self.steps[place]))
+                smaller = with_body(self.steps[place], b"".join(pieces[:start] + pieces[start + size:]))
+                if not self.try_with(self.steps[:place] + [smaller] + self.steps[place + 1:]):
                     start += size
             size //= 2
 
     def least(self) -> typing.Tuple[Steps, Difference]:
         self.steps_split()
         self.steps_left_out()
-        self.bytes_left_out()
+        for behind in range(len(self.steps)):
+            if behind < len(self.steps):
+                self.pieces_left_out(behind, lambda text: text.splitlines(keepends=True))
+        self.pieces_left_out(0, lambda text: [text[n:n + 1] for n in range(len(text))])
         return self.steps, self.found
 
 
