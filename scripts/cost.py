@@ -196,6 +196,10 @@ def forecast(books: Books, size: int) -> Cell:
     return books.asks(size, cost_sql.forecast(cost_book.TAIL, day, *RATE), "forecast", cost_book.TAIL, day, *RATE)
 
 
+def sector_list(books: Books, size: int) -> Cell:
+    return books.writes(SIZES[0], "enter", books.commands("list", cost_book.further_sectors(SIZES[0], size)))
+
+
 def sector_log(books: Books, size: int) -> Cell:
     log = cost_book.log_of(cost_book.further_sectors(SIZES[0], size))
     return books.writes(SIZES[0], "import", books.text("log.csv", log))
@@ -255,6 +259,7 @@ WORKS: typing.List[typing.Tuple[str, str, Work]] = [
     ("`life`", "SELECT", life),
     ("`due`", "SELECT", due),
     ("`forecast` of a year", "SELECT", forecast),
+    ("`enter` of so many sectors", "INSERT", sector_list),
     ("`import` of so many rows", "INSERT", sector_log),
     ("JSON of so many objects", "`json`", json_read),
     ("TOML of a twentieth as many tasks", "`tomllib`", toml_read),
