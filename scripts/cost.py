@@ -28,7 +28,7 @@ HERE = pathlib.Path(__file__).resolve().parent
 SIZES = [100, 1000, 10000]
 KINDS = ["add-aircraft", "add-component", "opening", "sector", "fit", "remove", "release", "defer", "extend"]
 RATE = (365, 120, 2)  # days, and minutes and cycles a day
-REQUESTS = {100: 50, 200: 20, 300: 3}
+REQUESTS = {100: 50, 1000: 20, 10000: 3}
 MARGIN = 1.2  # a time has to grow by so much more than its input to be marked
 
 
