@@ -59,7 +59,8 @@ WORDS: typing.Dict[str, typing.Tuple[typing.List[str], bool]] = {
     "limits": (["limits", "book.db", "D-ABCD", "2024-03-10"], False),
     "life": (["life", "book.db", "D-ABCD"], False),
 }
-REQUESTS = [entries(*COMMANDS[:2]), get(DUE_PATH)]  # of `serve`
+POSTED = 2  # commands, of the first request to `serve`
+REQUESTS = [entries(*COMMANDS[:POSTED]), get(DUE_PATH)]  # of `serve`
 
 
 class Ended(typing.NamedTuple):
@@ -94,6 +95,7 @@ class Runs:
             done = subprocess.run([office, *words.split()], cwd=self.files, capture_output=True)
             if done.returncode != 0:
                 sys.exit(f"{words}: {done}")
+        self.standing = self.lists()
 
     def environment(self, name: str, value: int) -> typing.List[str]:
         return ["env", f"LD_PRELOAD={self.shim}", f"{name}={value}", self.office]
@@ -106,15 +108,25 @@ class Runs:
                               timeout=PATIENCE)
         return Ended(done.returncode, done.stdout, done.stderr)
 
-    def served(self, program: typing.List[str], folder: pathlib.Path) -> Ended:
-        desk = Desk([*program, "serve"], folder / "book.db", len(REQUESTS))
+    def served(
+        self, program: typing.List[str], folder: pathlib.Path, requests: typing.List[bytes] = REQUESTS
+    ) -> Ended:
+        desk = Desk([*program, "serve"], folder / "book.db", len(requests))
         answers = []
-        for request in REQUESTS:
+        for request in requests:
             try:
                 answers.append(whole(desk, request))
             except OSError:  # it has ended
                 answers.append(b"")
         return Ended(*desk.end(), tuple(answers))
+
+    def lists(self) -> typing.List[bytes]:
+        """The lists that `serve` answers behind the first so many of the commands that are posted, from none on."""
+        folder = self.anew("lists")
+        asked = [request for command in COMMANDS[:POSTED] for request in (REQUESTS[1], entries(command))]
+        answers = self.served([self.office], folder, [*asked, REQUESTS[1]]).answers
+        shutil.rmtree(folder)
+        return list(answers[::2])
 
     def anew(self, name: str) -> pathlib.Path:
         folder = self.folder / name
@@ -133,7 +145,7 @@ class Runs:
         folder = self.anew(f"{word}-{nth}")
         try:
             ended = self.run(self.environment("FAIL_AT", nth), word, folder)
-            found = kind_of(ended, wanted)
+            found = kind_of_served(ended, wanted, self.standing) if word == "serve" else kind_of(ended, wanted)
             if word in WORDS and WORDS[word][1] and not self.is_kept(word, folder, ended.out):
                 found = "other: lost what was acknowledged"
             return found
@@ -153,8 +165,6 @@ def kind_of(ended: Ended, wanted: Ended) -> str:
     """How a run ended; `other` where that is no right end."""
     told = ended.err.decode(errors="replace").strip()
     is_part = wanted.out.startswith(ended.out)
-    if ended.answers:
-        return kind_of_served(ended, wanted, told)
     if ended == wanted:
         return "whole"
     if is_part and (told, ended.status) in TOLD:
@@ -168,23 +178,31 @@ def is_fault_behind(body: bytes, whole_body: bytes) -> bool:
     return bool(found) and whole_body.startswith(replies) and fault in (b"memory\n", b"store\n")
 
 
-def kind_of_served(ended: Ended, wanted: Ended, told: str) -> str:
-    """The same of `serve`."""
-    found = []
-    for came, whole_answer in zip(ended.answers, wanted.answers):
-        body, whole_body = (it.partition(b"\r\n\r\n")[2] for it in (came, whole_answer))
-        if came == whole_answer:
-            found.append("whole")
-        elif came == b"":
-            found.append("none")
-        elif came.startswith(b"HTTP/1.1 503 ") and is_fault_behind(body, whole_body):
-            found.append(f"503 {body.splitlines()[-1].decode()}")
-        elif came.startswith(b"HTTP/1.1 400 ") and body == b"fault 60 entry 0\n":
-            found.append("400 fault 60")
-        else:
-            found.append(f"other {came!r:.300}")
-    name = f"answers {' and '.join(found)}; {told or 'served'}, status {ended.status}"
+def kind_of_answer(came: bytes, whole_answer: bytes) -> str:
+    body, whole_body = (it.partition(b"\r\n\r\n")[2] for it in (came, whole_answer))
+    if came == whole_answer:
+        return "whole"
+    if came == b"":
+        return "none"
+    if came.startswith(b"HTTP/1.1 503 ") and is_fault_behind(body, whole_body):
+        return f"503 {body.splitlines()[-1].decode()}"
+    if came.startswith(b"HTTP/1.1 400 ") and body == b"fault 60 entry 0\n":
+        return "400 fault 60"
+    return f"other {came!r:.300}"
+
+
+def kind_of_served(ended: Ended, wanted: Ended, standing: typing.List[bytes]) -> str:
+    """The same of `serve`: the list is that of the commands that were acknowledged, or of those behind them too, where
+    the first answer did not come or told the fault of the store."""
+    told = ended.err.decode(errors="replace").strip()
+    posted, listed = ended.answers
+    first = kind_of_answer(posted, wanted.answers[0])
+    least = posted.count(b"accepted")
+    most = {"none": POSTED, "503 fault store": least + 1}.get(first, least)
+    second = "the list" if listed in standing[least:most + 1] else kind_of_answer(listed, b"")
+    second = "none" if listed == b"" else second
     rightly = (told, ended.status) in [("", 0), *TOLD]
+    name = f"{first}, then {second}; {told or 'served'}, status {ended.status}"
     return name if rightly and "other" not in name else f"other: {name}"
 
 
