@@ -1,0 +1,292 @@
+"""The words that write, as they are stopped: what each is run on, and what it may leave, by the model of scripts/model."""
+import pathlib
+import shutil
+import sqlite3
+import subprocess
+import threading
+import typing
+
+import desk_client
+from desk_client import AIRCRAFT, ANNUAL, HEADER, PROGRAMME, Desk, entries, sector, whole
+from model import csv_text, json_text, office, toml_text
+from model.commands import Book, Entry
+from model.http_text import Asked
+from model.judge import enter
+from model.playing import words_of
+from model.texts import day_of
+
+TABLES = {
+    "office", "entry", "aircraft", "place", "component", "programme", "task", "opening", "crs", "crs_line",
+    "extension", "defect", "sector1", "fit1", "removal1",
+}
+DAY = day_of("2024-03-10")
+LISTS = [  # what is asked of the file that a stop leaves
+    Asked("life", ("D-ABCD",), b""), Asked("due", ("D-ABCD", DAY), b""), Asked("limits", ("D-ABCD", DAY), b""),
+    Asked("life", ("D-EFGH",), b""),
+]
+Program = typing.List[str]  # the program, behind what is to be loaded in front of it
+
+
+class Bad(Exception):
+    """What a stop left that it may not leave."""
+
+
+class Ended(typing.NamedTuple):
+    """How a stopped run ended: its status, what it acknowledged, and what it told on standard error."""
+
+    status: int
+    acknowledged: str
+    told: str
+
+
+def want(what: str, wanted: object, found: object) -> None:
+    if wanted != found:
+        raise Bad(f"{what}: wanted {wanted!r}, found {found!r}")
+
+
+def is_half_made(file: pathlib.Path) -> bool:
+    """Whether the file is the first page of a database whose first letter is still to be written. The program makes
+    such a file anew; SQLite itself refuses it, since it does not know the mark in the log beside it."""
+    content = file.read_bytes()
+    return 0 < len(content) <= 4096 and content[0] == 0
+
+
+def tables_by_sqlite(file: pathlib.Path) -> typing.Set[str]:
+    """The tables that SQLite finds in a sound copy of the file and its log."""
+    copy = file.with_name("copy.db")
+    log, log_copy = pathlib.Path(f"{file}-wal"), pathlib.Path(f"{copy}-wal")
+    shutil.copyfile(file, copy)
+    if log.exists():
+        shutil.copyfile(log, log_copy)
+    conn = sqlite3.connect(copy)
+    try:
+        want("integrity_check", [("ok",)], conn.execute("PRAGMA integrity_check").fetchall())
+        return {name for (name,) in conn.execute("SELECT name FROM sqlite_schema WHERE type = 'table'")}
+    except sqlite3.Error as error:
+        raise Bad(f"SQLite: {error}") from error
+    finally:
+        conn.close()
+        for left in (copy, log_copy, pathlib.Path(f"{copy}-shm")):
+            left.unlink(missing_ok=True)
+
+
+def acknowledged(text: str) -> int:
+    """How many commands were acknowledged in what was printed or answered."""
+    return sum("accepted " in line or "already " in line for line in text.splitlines())
+
+
+class Started:
+    """A run of a word."""
+
+    def __init__(self, program: Program, words: typing.Sequence[object]) -> None:
+        pipes = {"stdin": subprocess.DEVNULL, "stdout": subprocess.PIPE, "stderr": subprocess.PIPE}
+        self.process = subprocess.Popen([*program, *map(str, words)], **pipes)
+
+    def end(self) -> Ended:
+        printed, told = self.process.communicate(timeout=desk_client.PATIENCE)
+        return Ended(self.process.returncode, printed.decode(), told.decode())
+
+
+class Posting:
+    """A run of `serve`: a client posts commands, each once the one before is answered, and keeps the answers."""
+
+    def __init__(self, program: Program, file: pathlib.Path, commands: typing.List[object]) -> None:
+        self.desk = Desk([*program, "serve"], file, len(commands))
+        self.process = self.desk.process
+        self.answers = ""
+        self.client = threading.Thread(target=self.post, args=[commands])
+        self.client.start()
+
+    def post(self, commands: typing.List[object]) -> None:
+        for command in commands:
+            try:
+                came = whole(self.desk, entries(command)).decode()
+            except OSError:  # it has ended
+                return
+            head, _, answer = came.partition("\r\n\r\n")
+            if not answer or f"Content-Length: {len(answer)}\r\n" not in f"{head}\r\n":
+                return
+            self.answers += answer
+
+    def end(self) -> Ended:
+        """Once the process and the client have ended."""
+        status, _, told = self.desk.end()
+        self.client.join()
+        return Ended(status, self.answers, told.decode())
+
+
+class Word:
+    """A word that is stopped, over the file of an office in a folder of its own."""
+
+    name = ""
+    status = 0  # what it ends with where nothing stops it
+
+    def __init__(self, office_path: str) -> None:
+        self.program = [office_path]
+
+    def run(self, file: pathlib.Path, *words: object) -> office.Printed:
+        """What the program does on these words, the file behind the first."""
+        return desk_client.run(self.program[0], words[0], file, *words[1:])
+
+    def before(self, file: pathlib.Path) -> None:
+        """Makes what the file holds before the word, and what the word reads: here nothing."""
+
+    def start(self, program: Program, file: pathlib.Path) -> typing.Union[Started, Posting]:
+        return Started(program, [self.name, file])
+
+    def after(self, file: pathlib.Path, ended: Ended) -> str:
+        """Looks at the file that a stop left. Answers what it is."""
+        raise NotImplementedError
+
+
+class Init(Word):
+    """`init FILE`: the file is without our tables, or has those of the empty book."""
+
+    name = "init"
+
+    def after(self, file: pathlib.Path, ended: Ended) -> str:
+        if not file.exists():
+            found, tables = "no file", set()
+        elif is_half_made(file):
+            found, tables = "a first page without its first letter", set()
+        else:
+            tables = tables_by_sqlite(file)
+            found = "the whole book" if tables else "a file without tables"
+        if tables not in (set(), TABLES):
+            raise Bad(f"half of the tables: {sorted(tables)}")
+        if ended.acknowledged == "created\n" and not tables:
+            raise Bad("an acknowledged book is lost")
+        again = (5, b"", b"fault exists\n") if tables else (0, b"created\n", b"")
+        want("init once more", again, self.run(file, "init"))
+        want("the tables then", TABLES, tables_by_sqlite(file))
+        want("life", (1, b"refused 20\n", b""), self.run(file, "life", "D-ABCD"))
+        return found
+
+
+class Entering(Word):
+    """A word that enters commands: the file has the book of a prefix of them, with each that was acknowledged."""
+
+    earlier: typing.List[Asked] = []  # the steps that make the book before
+    asked: Asked  # the word that is stopped
+
+    def __init__(self, office_path: str) -> None:
+        super().__init__(office_path)
+        book: Book = []
+        for step in self.earlier:
+            office.printed(book, step)
+        self.books = [book]
+        for entry in self.commands():
+            book = [*book]
+            enter(book, entry)
+            self.books.append(book)
+        self.lists = [[office.printed(book, asked) for asked in LISTS] for book in self.books]
+        self.again = [office.printed([*book], self.asked) for book in self.books]
+
+    def commands(self) -> typing.List[Entry]:
+        """The commands that the word states."""
+        if self.asked.word == "programme":
+            return [toml_text.entry_of(self.asked.body, self.asked.words[0])]
+        if self.asked.word == "import":
+            return [row for row in csv_text.rows_of(self.asked.body) if isinstance(row, Entry)]
+        return json_text.entries_of(self.asked.body)
+
+    def before(self, file: pathlib.Path) -> None:
+        want("init", (0, b"created\n", b""), self.run(file, "init"))
+        book: Book = []
+        for step in self.earlier:
+            want(step.word, office.printed(book, step), self.run(file, *self.words(file, step)))
+        self.words(file, self.asked)
+
+    def words(self, file: pathlib.Path, asked: Asked) -> typing.List[object]:
+        """The words for this, but the file; what they read is written beside that."""
+        read = file.with_name("read")
+        read.write_bytes(asked.body)
+        return [asked.word, *words_of(asked), read]
+
+    def start(self, program: Program, file: pathlib.Path) -> typing.Union[Started, Posting]:
+        word, *rest = self.words(file, self.asked)
+        return Started(program, [word, file, *rest])
+
+    def lists_found(self, file: pathlib.Path) -> typing.List[office.Printed]:
+        return [self.run(file, asked.word, *words_of(asked)) for asked in LISTS]
+
+    def after(self, file: pathlib.Path, ended: Ended) -> str:
+        want("the tables", TABLES, tables_by_sqlite(file))
+        found = self.lists_found(file)
+        again = self.run(file, *self.words(file, self.asked))
+        kept = next((n for n in range(len(self.books)) if found == self.lists[n] and again == self.again[n]), None)
+        if kept is None:
+            raise Bad(f"the book of no prefix of the commands: {found!r}, and handed in again {again!r}")
+        least = acknowledged(ended.acknowledged)
+        if kept < least:
+            raise Bad(f"{kept} of the commands are kept, and these were acknowledged: {ended.acknowledged!r}")
+        if ended.status >= 0 and kept > least + ("store" in ended.told):
+            raise Bad(f"{kept} of the commands are kept, {least} were acknowledged, and it told {ended.told!r}")
+        want("the lists then", self.lists[-1], self.lists_found(file))
+        return f"{kept} of {len(self.books) - 1}"
+
+
+def made(*commands: object) -> bytes:
+    return entries(*commands).partition(b"\r\n\r\n")[2]
+
+
+def dated(do: str, doc: str, day: int, **more: object) -> typing.Dict[str, object]:
+    """A command at eight o'clock on this day of March."""
+    return {"do": do, "doc": doc, "moment": f"2024-03-{day:02}T08:00", **more}
+
+
+TEN_KINDS: typing.List[typing.Dict[str, object]] = [
+    AIRCRAFT, ANNUAL, sector(11, 1, "2024-02-01T08:00", "2024-02-01T09:30"),
+    {"do": "add-component", "doc": "C1", "serial": "E1", "part": "IO360", "birth": "2014-03-11", "minutes": 92010,
+     "cycles": 1600, "as_of": "2024-01-01T00:00"},
+    dated("fit", "F1", 1, serial="E1", tail="D-ABCD", position="ENG"),
+    sector(11, 2, "2024-03-02T08:00", "2024-03-02T08:45"),
+    dated("defer", "X1", 3, tail="D-ABCD", reference="21-31-01", category="B"),
+    dated("defer", "X2", 3, tail="D-ABCD", reference="33-40-01", category="A", days=20),
+    {"do": "extend", "doc": "Y1", "defect": "X1", "day": "2024-03-04", "days": 2},
+    dated("release", "R1", 5, tail="D-ABCD", lines=[
+        {"defect": "X2"}, {"tail": "D-ABCD", "task": "ANNUAL"}, {"serial": "E1", "task": "OVH"}]),
+    dated("remove", "M1", 6, serial="E1"),
+    {**AIRCRAFT, "doc": "A2", "tail": "D-EFGH"},
+]
+
+
+class Enter(Entering):
+    """`enter FILE ENTRIES`, with commands of all nine kinds that it takes, behind a programme."""
+
+    name = "enter"
+    earlier = [Asked("programme", ("P1",), PROGRAMME)]
+    asked = Asked("enter", (), made(*TEN_KINDS))
+
+
+class Serve(Enter):
+    """`serve FILE PORT COUNT`, where each of these commands is posted once the one before is answered."""
+
+    name = "serve"
+
+    def start(self, program: Program, file: pathlib.Path) -> typing.Union[Started, Posting]:
+        return Posting(program, file, list(TEN_KINDS))
+
+
+class Programme(Entering):
+    """`programme FILE DOC TOML`, with a hundred tasks."""
+
+    name = "programme"
+    asked = Asked("programme", ("P1",), b'kind = "C172"\nrevision = 1\n' + b"".join(
+        b'[[task]]\nid = "T%d"\napplies = "airframe"\nfirst = { hours = %d }\n' % (number, number)
+        for number in range(1, 101)))
+
+
+class Import(Entering):
+    """`import FILE CSV`, with twenty rows of which the third is bad."""
+
+    name = "import"
+    status = 3
+    earlier = [Asked("enter", (), made(AIRCRAFT))]
+    asked = Asked("import", (), HEADER + b"".join(
+        b"D-ABCD,1,3\n" if line == 3 else b"D-ABCD,1,%d,2024-02-%02dT10:00,2024-02-%02dT10:30,1\n" % (line, line, line)
+        for line in range(1, 21)))
+
+
+# A further word that writes has a class beside these.
+WORDS: typing.List[typing.Type[Word]] = [Init, Enter, Programme, Import, Serve]
