@@ -6,6 +6,7 @@ use Rattle.mx_command.specs.Act.{Entry}
 use Rattle.mx_book.specs.Run.{book_run}
 use Rattle.mx_layout.specs.TableName.{TableName}
 use Rattle.mx_layout.specs.Crash.{Leaves}
+use Rattle.mx_office.specs.Office.{office_state, IsReady, StandsFor}
 use Rattle.mx_office.specs.Stands.{IsEither, Rests}
 use Rattle.mx_office.specs.declared.fault.Fault.{Fault}
 use Rattle.mx_office.specs.declared.fault.Fault.TheVariants.{Memory, Store, Damaged}
@@ -32,6 +33,10 @@ use Rattle.mx_desk.specs.Request.{Request, enters, imports, asks, unread, reject
 abbrev pub LeavesBehind : List Entry → Request → ℕ → State → Type 0
 LeavesBehind book request n new =
     Leaves new (IsEither (book_run book (take n (commands_of request))) (book_run book (take (n + 1) (commands_of request))))
+
+-- of some request the first n commands have replies
+abbrev pub LeavesSome : List Entry → State → Type 0
+LeavesSome book new = (request : Request) × (n : ℕ) × LeavesBehind book request n new
 
 -- a book answered a request: all of it, or up to this fault behind the first n commands; the tables are those of the book behind them, unless the store failed
 pub record IsServed (book : List Entry) (request : Request) (n : ℕ) (stopped : Option Fault) (answer : Answer) (new : State) : Type 0 where
@@ -80,6 +85,14 @@ abbrev pub bytes_of : Request → Answer → List ℕ
 bytes_of request answer = response_bytes answer.0 (allows request) answer.1
 
 module _ {S : Type 0} {g : Ghosts S} where
+  -- whatever book an office stood for, a crash leaves it behind some commands
+  abbrev pub LeavesBook : Office S g → Office S g → Type 0
+  LeavesBook old new = (book : List Entry) → StandsFor old book → LeavesSome book (office_state new)
+
+  -- whatever book an office stood for, while it goes on it stands for that book behind some commands
+  abbrev pub KeepsBook : Office S g → Office S g → Type 0
+  KeepsBook old new = (book : List Entry) → StandsFor old book → IsReady new → (commands : List Entry) × StandsFor new (book_run book commands)
+
   -- an office was asked this, and P holds of the bytes of its answer
   abbrev pub AnswersBytes : Request → Office S g → Office S g → (List ℕ → Type 0) → Type 0
   AnswersBytes request old new P = AnswersIfRoom request old new (λ answer. P (bytes_of request answer))
@@ -97,10 +110,6 @@ module _ {S : Type 0} {g : Ghosts S} where
 abbrev pub ServesInput : List Entry → List ℕ → State → (List ℕ → Type 0) → Type 0
 ServesInput book input new P =
     (request : Request) × (answer : Answer) × IsRead input request × Serves book request answer new × P (bytes_of request answer)
-
--- of some request the first n commands have replies
-abbrev pub LeavesSome : List Entry → State → Type 0
-LeavesSome book new = (request : Request) × (n : ℕ) × LeavesBehind book request n new
 
 -- why a request could not be read
 abbrev pub fault_of_input : InputFault → DeskFault

@@ -1,14 +1,13 @@
 //! The answer of an office to a request.
-ghost use Rattle.std.specs.Prelude.{◌≡◌, ℕ, false, IfOk, IfErr};
+ghost use Rattle.std.specs.Prelude.{◌≡◌, ℕ, IfOk, IfErr};
 ghost use Rattle.http.specs.Response.{body_of, head_of};
 ghost use Rattle.sqlite.specs.Held.{state};
 ghost use Rattle.sqlite.specs.State.{HasCleanDisk};
-ghost use Rattle.mx_book.specs.Run.{book_run};
 ghost use Rattle.mx_office.specs.Stands.{Rests};
 ghost use Rattle.mx_request.specs.Routes.{asked};
 ghost use Rattle.mx_desk.specs.Answered.{AnswersIfRoom};
 ghost use Rattle.mx_desk.specs.Request.{asking, request_of};
-ghost use Rattle.mx_desk.specs.Served.{LeavesBehind, Serves};
+ghost use Rattle.mx_desk.specs.Served.{KeepsBook, LeavesBehind, Serves};
 
 use crate::entering::{enter, import_log, load};
 use crate::fault::DeskFault;
@@ -84,9 +83,7 @@ pub fn answer<S: Alter>(
     ensures crash { (book : _) → Rests (state S.Store office.old.conn) book → (n : ℕ)
         × LeavesBehind book (request_of (asked route.now) body.now) n
         (state S.Store office.new.conn) }
-    ensures kept { (book : _) → Rests (state S.Store office.old.conn) book
-        → office.new.needs_reopen ≡ false → (commands : _)
-        × Rests (state S.Store office.new.conn) (book_run book commands) }
+    ensures kept { KeepsBook office.old office.new }
 
     // Whatever the tables hold.
     ensures answered { AnswersIfRoom (request_of (asked route.now) body.now) office.old office.new

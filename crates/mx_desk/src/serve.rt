@@ -1,17 +1,16 @@
 //! One connection: a request is read, an office answers it, and the answer is written.
-ghost use Rattle.std.specs.Prelude.{◌≡◌, ◌≢◌, ◌⊎◌, ◌++◌, ⊤, ◌↔◌, [], Some, None, Err, false, IfSome, OnOk, OnErr, IfOk, IfErr, IsOkAnd};
+ghost use Rattle.std.specs.Prelude.{◌≡◌, ◌≢◌, ◌⊎◌, ◌++◌, ⊤, ◌↔◌, [], Some, None, Err, IfSome, OnOk, OnErr, IfOk, IfErr, IsOkAnd};
 ghost use Rattle.std.specs.Io.KnownBytes.{Appends, Keeps};
 ghost use Rattle.http.specs.Response.{body_of, head_of as parts_of};
 ghost use Rattle.sqlite.specs.Held.{state};
 ghost use Rattle.sqlite.specs.State.{HasCleanDisk};
-ghost use Rattle.mx_book.specs.Run.{book_run};
 ghost use Rattle.mx_office.specs.Stands.{Rests};
 ghost use Rattle.mx_request.specs.Body.{whole_body};
 ghost use Rattle.mx_request.specs.Head.{head_of};
 ghost use Rattle.mx_request.specs.Rejected.{rejection_allows, rejection_body, rejection_status};
 ghost use Rattle.mx_request.specs.Response.{response_bytes};
 ghost use Rattle.mx_request.specs.Routes.{asked};
-ghost use Rattle.mx_desk.specs.Served.{AnswersBytes, AnswersHead, AnswersInput, LeavesSome, ServesInput, by_body};
+ghost use Rattle.mx_desk.specs.Served.{AnswersBytes, AnswersHead, AnswersInput, KeepsBook, LeavesBook, ServesInput, by_body};
 
 use crate::answering::answer;
 use crate::fault::{DeskFault, of_input};
@@ -61,11 +60,8 @@ fn answer_route<S: Alter, R: Read>(
         office.old office.new (λ bytes. IfOk result (λ text. text.items ≡ bytes)) }
     ensures unread { result ≡ Err DeskFault.Read → office.new ≡ office.old }
     ensures written { result ≢ Err DeskFault.Write }
-    ensures crash { (book : _) → Rests (state S.Store office.old.conn) book
-        → LeavesSome book (state S.Store office.new.conn) }
-    ensures kept { (book : _) → Rests (state S.Store office.old.conn) book
-        → office.new.needs_reopen ≡ false → (commands : _)
-        × Rests (state S.Store office.new.conn) (book_run book commands) }
+    ensures crash { LeavesBook office.old office.new }
+    ensures kept { KeepsBook office.old office.new }
 {
     match read_body(alloc, reader, begun, length) {
         Err(fault) => Err(of_input(fault)),
@@ -90,11 +86,8 @@ fn answer_head<S: Alter, R: Read>(
         ⊎ AnswersHead head.now (begun.now ++ left) office.old office.new (λ bytes. ⊤)) }
     ensures unread { result ≡ Err DeskFault.Read → office.new ≡ office.old }
     ensures written { result ≢ Err DeskFault.Write }
-    ensures crash { (book : _) → Rests (state S.Store office.old.conn) book
-        → LeavesSome book (state S.Store office.new.conn) }
-    ensures kept { (book : _) → Rests (state S.Store office.old.conn) book
-        → office.new.needs_reopen ≡ false → (commands : _)
-        × Rests (state S.Store office.new.conn) (book_run book commands) }
+    ensures crash { LeavesBook office.old office.new }
+    ensures kept { KeepsBook office.old office.new }
 {
     match asked_of(alloc, head) {
         Err(_) => Err(DeskFault::Memory),
@@ -120,11 +113,8 @@ fn answer_bytes<S: Alter, R: Read>(
         ⊎ AnswersInput input office.old office.new (λ bytes. ⊤)) }
     ensures unread { result ≡ Err DeskFault.Read → office.new ≡ office.old }
     ensures written { result ≢ Err DeskFault.Write }
-    ensures crash { (book : _) → Rests (state S.Store office.old.conn) book
-        → LeavesSome book (state S.Store office.new.conn) }
-    ensures kept { (book : _) → Rests (state S.Store office.old.conn) book
-        → office.new.needs_reopen ≡ false → (commands : _)
-        × Rests (state S.Store office.new.conn) (book_run book commands) }
+    ensures crash { LeavesBook office.old office.new }
+    ensures kept { KeepsBook office.old office.new }
 {
     match head_of(bytes) {
         Err(why) => reject(alloc, why),
@@ -149,11 +139,8 @@ fn answer_input<S: Alter, R: Read>(
         ⊎ AnswersInput input office.old office.new (λ bytes. ⊤)) }
     ensures unread { result ≡ Err DeskFault.Read → office.new ≡ office.old }
     ensures written { result ≢ Err DeskFault.Write }
-    ensures crash { (book : _) → Rests (state S.Store office.old.conn) book
-        → LeavesSome book (state S.Store office.new.conn) }
-    ensures kept { (book : _) → Rests (state S.Store office.old.conn) book
-        → office.new.needs_reopen ≡ false → (commands : _)
-        × Rests (state S.Store office.new.conn) (book_run book commands) }
+    ensures crash { LeavesBook office.old office.new }
+    ensures kept { KeepsBook office.old office.new }
 {
     let bytes = match read_head(alloc, reader) {
         Ok(bytes) => bytes,
@@ -186,11 +173,8 @@ pub fn serve_one<S: Alter, R: Read, W: Write>(
         → HasCleanDisk (state S.Store office.new.conn) → R.remaining reader.old ≡ Some input
         → result ≡ Err DeskFault.Write
         → ServesInput book input (state S.Store office.new.conn) (λ bytes. ⊤) }
-    ensures crash { (book : _) → Rests (state S.Store office.old.conn) book
-        → LeavesSome book (state S.Store office.new.conn) }
-    ensures kept { (book : _) → Rests (state S.Store office.old.conn) book
-        → office.new.needs_reopen ≡ false → (commands : _)
-        × Rests (state S.Store office.new.conn) (book_run book commands) }
+    ensures crash { LeavesBook office.old office.new }
+    ensures kept { KeepsBook office.old office.new }
 
     // Whatever the tables hold.
     ensures answered { (input : _) → R.remaining reader.old ≡ Some input → input ≢ []

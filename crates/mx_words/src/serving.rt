@@ -4,7 +4,7 @@ ghost use Rattle.std.specs.Io.KnownBytes.{Appends};
 ghost use Rattle.sqlite.specs.Held.{state};
 ghost use Rattle.mx_book.specs.Run.{book_run};
 ghost use Rattle.mx_office.specs.Stands.{Rests};
-ghost use Rattle.mx_desk.specs.Served.{LeavesSome};
+ghost use Rattle.mx_desk.specs.Served.{KeepsBook, LeavesBook, LeavesSome};
 ghost use Rattle.mx_words.specs.Served.{served_line};
 
 use crate::fault::{Ending, Stop};
@@ -51,11 +51,8 @@ fn take_the_rest(stream: &TcpStream) {
 // Takes the next connection and serves it. What fails of it alone is its peer's to see: a connection that can't be taken
 // counts too.
 fn serve_next<S: Alter>(alloc: Global, office: &mut Office<S>, listener: &TcpListener)
-    ensures kept { (book : _) → Rests (state S.Store office.old.conn) book
-        → office.new.needs_reopen ≡ false → (commands : _)
-        × Rests (state S.Store office.new.conn) (book_run book commands) }
-    ensures crash { (book : _) → Rests (state S.Store office.old.conn) book
-        → LeavesSome book (state S.Store office.new.conn) }
+    ensures kept { KeepsBook office.old office.new }
+    ensures crash { LeavesBook office.old office.new }
 {
     if let Ok((stream, _)) = listener.accept() {
         let (mut reader, mut writer) = (&stream, &stream);
@@ -78,9 +75,7 @@ pub(crate) fn serve_all<S: Alter>(
     ensures stops { IfErr result (λ stop. (stop ≡ Stop.Print)
         ⊎ ((stop ≡ Stop.Office Fault.Store) × (office.new.needs_reopen ≡ true))) }
     ensures ready { office.old.needs_reopen ≡ false → OnOk result (office.new.needs_reopen ≡ false) }
-    ensures kept { (book : _) → Rests (state S.Store office.old.conn) book
-        → office.new.needs_reopen ≡ false → (commands : _)
-        × Rests (state S.Store office.new.conn) (book_run book commands) }
+    ensures kept { KeepsBook office.old office.new }
     ensures crash { (book : _) → Rests (state S.Store office.old.conn) book → (commands : _)
         × LeavesSome (book_run book commands) (state S.Store office.new.conn) }
 {
@@ -112,9 +107,7 @@ pub fn serve_on<S: Alter, O: Write, E: Write>(
     ensures quiet { result ≡ 0 → err.new ≡ err.old }
     ensures stopped { office.old.needs_reopen ≡ false → office.new.needs_reopen ≡ true
         → result ≡ 4 }
-    ensures kept { (book : _) → Rests (state S.Store office.old.conn) book
-        → office.new.needs_reopen ≡ false → (commands : _)
-        × Rests (state S.Store office.new.conn) (book_run book commands) }
+    ensures kept { KeepsBook office.old office.new }
     ensures crash { (book : _) → Rests (state S.Store office.old.conn) book → (commands : _)
         × LeavesSome (book_run book commands) (state S.Store office.new.conn) }
 {

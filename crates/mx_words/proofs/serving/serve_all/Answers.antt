@@ -32,3 +32,9 @@ pub returns-in-Err-clause-crash : goal.returns-in-Err-clause-crash
 returns-in-Err-clause-crash g c = λ book rests.
     let had = c.loop.invariant.2 book rests in
     (had.0, left_here (book_run book had.0) (state g.S.Store c.loop.office.conn) had.1)
+
+pub returns-in-Ok-clause-kept : goal.returns-in-Ok-clause-kept
+returns-in-Ok-clause-kept g c = λ book rests ready. c.loop.invariant.2 book rests
+
+pub returns-in-Err-clause-kept : goal.returns-in-Err-clause-kept
+returns-in-Err-clause-kept g c = λ book rests ready. c.loop.invariant.2 book rests
