@@ -39,6 +39,10 @@ disc = record { id = codes "DISC"; applies = applies.Part (codes "LLP1"); first 
 abbrev overhaul : Bool → Option Limit → Task
 overhaul retire repeat = record { id = codes "OVH"; applies = applies.Part (codes "IO360"); first = minutes_alone 120000; repeat = repeat; tolerance = record { minutes = 0; cycles = 0; days = 0 }; retire = retire }
 
+-- an inspection that is due by hours, cycles and days, and repeated by each
+abbrev thorough : Task
+thorough = record { id = codes "INSP"; applies = applies.Airframe; first = record { minutes = Some 63000; cycles = Some 900; days = Some 365 }; repeat = Some (record { minutes = Some 6000; cycles = Some 500; days = Some 730 }); tolerance = record { minutes = 0; cycles = 0; days = 0 }; retire = false }
+
 -- ── dues ──
 
 -- 2000-01-01 is day 10,957
@@ -51,6 +55,10 @@ first_of_the_year = refl
 -- last done on 2023-06-01, day 19,509
 a_year_later : due_after (Some (record { minutes = 59000; cycles = 780; day = 19509 })) 10957 annual ≡ Some (days_alone 19874)
 a_year_later = refl
+
+-- each dimension is counted from that of the base
+next_in_each_dimension : due_after (Some (record { minutes = 59000; cycles = 780; day = 19509 })) 10957 thorough ≡ Some (record { minutes = Some 65000; cycles = Some 1280; days = Some 20239 })
+next_in_each_dimension = refl
 
 -- done late at 63,400 minutes, it is due again 100 hours from where it was due; done early at 62,000, from there
 late_does_not_put_off : base_done (used 63400 850) 19783 (due_after None 10957 (hundred_hours 0)) ≡ record { minutes = 63000; cycles = 850; day = 19783 }
@@ -65,6 +73,10 @@ next_after_early = refl
 -- an accomplishment that was not due is its own base
 done_without_a_due : base_done (used 1090 101) 19784 None ≡ record { minutes = 1090; cycles = 101; day = 19784 }
 done_without_a_due = refl
+
+-- late in each dimension, its base is where it was due in each: 365 days after the birth is day 11,322
+late_in_each_dimension : base_done (used 64000 910) 11330 (due_after None 10957 thorough) ≡ record { minutes = 63000; cycles = 900; day = 11322 }
+late_in_each_dimension = refl
 
 -- work that is done once is not due again; what is retired stays due at its first limit
 done_once : due_after (Some (record { minutes = 1090; cycles = 101; day = 19784 })) 14610 (overhaul false None) ≡ None
@@ -105,6 +117,11 @@ status_without_tolerance = refl
 worst_of_three : map (λ (life : Use). status_of (left_of (record { minutes = Some 100; cycles = Some 10; days = Some 20000 }) life 19999) (record { minutes = 5; cycles = 1; days = 0 }))
     (used 99 9 ∷ used 100 9 ∷ used 99 10 ∷ used 106 10 ∷ used 99 12 ∷ []) ≡ Ok ∷ Due ∷ Due ∷ Overdue ∷ Overdue ∷ []
 worst_of_three = refl
+
+-- five minutes late and one cycle late, each within the tolerance of its own dimension
+tolerated_in_each : map (λ (life : Use). status_of (left_of (record { minutes = Some 100; cycles = Some 10; days = Some 20000 }) life 19999) (record { minutes = 5; cycles = 1; days = 0 }))
+    (used 105 9 ∷ used 99 11 ∷ []) ≡ Due ∷ Due ∷ []
+tolerated_in_each = refl
 
 worst_by_the_day : map (status_of (left_of (record { minutes = Some 100; cycles = Some 10; days = Some 20000 }) (used 99 9) 20001)) (record { minutes = 0; cycles = 0; days = 0 } ∷ record { minutes = 0; cycles = 0; days = 1 } ∷ []) ≡ Overdue ∷ Due ∷ []
 worst_by_the_day = refl
