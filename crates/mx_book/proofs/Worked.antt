@@ -1,6 +1,6 @@
 -- Worked examples, computed from the definitions.
-use Rattle.std.proofs.Common.{refl, ◌≡◌, ℕ, ◌+◌, ◌*◌, List, [], ◌∷◌, true, Some, None}
-use Rattle.std.specs.Prelude.{codes}
+use Rattle.std.proofs.Common.{refl, ◌≡◌, ℕ, ◌+◌, ◌*◌, List, [], ◌∷◌, true, false, Some, None}
+use Rattle.std.specs.Prelude.{codes, map}
 use Rattle.std.specs.Fmt.{digits}
 use Rattle.mx_base.specs.declared.amounts.Use.{Use}
 use Rattle.mx_command.specs.Act.{Act, Entry, Added, Flown}
@@ -14,7 +14,7 @@ use Rattle.mx_book.specs.Book.{is_book, entry_at}
 use Rattle.mx_book.specs.declared.verdict.Reply.TheVariants as answers
 use Rattle.mx_book.specs.Run.{replies, book_run}
 use Rattle.mx_book.specs.Lists.{life_list}
-use Rattle.mx_book.specs.Accepted.{accepted}
+use Rattle.mx_book.specs.Accepted.{accepted, is_accepted}
 
 -- a moment: a day from 1970, hours and minutes; 2024-01-01 is day 19,723
 abbrev pub at : ℕ → ℕ → ℕ → ℕ
@@ -57,6 +57,14 @@ first_sector-shape = refl
 
 first_two-replies : replies [] first_two ≡ answers.Accepted 1 ∷ answers.Accepted 2 ∷ []
 first_two-replies = refl
+
+-- a sector before its aircraft is no book, and neither is an entry twice
+no_books : map is_book ((first_sector 1 ∷ a1 ∷ []) ∷ (a1 ∷ a1 ∷ []) ∷ []) ≡ false ∷ false ∷ []
+no_books = refl
+
+-- a command that was known or refused was not accepted now
+accepted_now : map is_accepted (answers.Accepted 1 ∷ answers.Already 1 ∷ answers.Refused (Conflict 1) ∷ []) ≡ true ∷ false ∷ false ∷ []
+accepted_now = refl
 
 first_two-book : is_book first_two ≡ true
 first_two-book = refl

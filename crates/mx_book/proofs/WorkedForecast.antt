@@ -2,11 +2,14 @@
 use Rattle.std.proofs.Common.{refl, ◌≡◌, ℕ, List, [], ◌∷◌, Some, None}
 use Rattle.std.specs.Prelude.{codes, pos}
 use Rattle.mx_base.specs.declared.amounts.Status.TheVariants as statuses
+use Rattle.mx_command.specs.Act.{Entry, Deferred}
+use Rattle.mx_command.specs.declared.deferral.Category.TheVariants.{B}
 use Rattle.mx_book.specs.declared.due_row.DueRow.{DueRow}
+use Rattle.mx_book.specs.declared.due_row.DueRow.TheVariants.{Defect as DefectRow}
 use Rattle.mx_book.specs.declared.forecast.ForecastRow.{ForecastRow}
 use Rattle.mx_book.specs.Forecast.{forecast, forecast_rows}
-use Rattle.mx_book.proofs.Worked.{abcd}
-use Rattle.mx_book.proofs.WorkedFittings.{efgh}
+use Rattle.mx_book.proofs.Worked.{at, abcd, logged}
+use Rattle.mx_book.proofs.WorkedFittings.{efgh, first_aircraft}
 use Rattle.mx_book.proofs.WorkedProgrammes.{c172, first_four}
 use Rattle.mx_book.proofs.WorkedDues.{airframe_row, minutes_left}
 
@@ -35,6 +38,9 @@ forecast_on_the_ground = refl
 forecast_by_days : forecast_rows first_four abcd c172 19792 82 0 0 ≡ record { after = 82; day = pos 19874; row = annual_row } ∷ []
 forecast_by_days = refl
 
+forecast_a_day_short : forecast_rows first_four abcd c172 19792 81 0 0 ≡ []
+forecast_a_day_short = refl
+
 -- a row that is reached after the last day is none; the sooner stands first
 forecast_in_order : forecast_rows first_four abcd c172 19792 82 30 0 ≡ record { after = 82; day = pos 19874; row = annual_row } ∷ []
 forecast_in_order = refl
@@ -44,3 +50,10 @@ forecast_of_both = refl
 
 forecast_of_an_unknown_aircraft : forecast first_four efgh 19792 30 120 1 ≡ None
 forecast_of_an_unknown_aircraft = refl
+
+-- a defect of category B that is found on 2024-03-10 is reached on its last day, 2024-03-13, however much is flown
+abbrev deferred : List Entry
+deferred = first_aircraft ∷ logged (codes "X1") (Deferred (record { tail = abcd; moment = at 19792 8 0; reference = codes "21-31-01"; category = B })) ∷ []
+
+forecast_of_a_defect : forecast_rows deferred abcd c172 19792 30 120 4 ≡ record { after = 3; day = pos 19795; row = DefectRow statuses.Ok (codes "X1") 66 (codes "21-31-01") (pos 19795) (pos 3) } ∷ []
+forecast_of_a_defect = refl

@@ -161,6 +161,10 @@ at_the_clock_in_shop = refl
 clocks : map (clock maintained) (Airframe abcd ∷ Component e1 ∷ Component e2 ∷ []) ≡ at 19784 12 0 ∷ at 19784 0 0 ∷ at 19783 9 30 ∷ []
 clocks = refl
 
+-- work at another aircraft leaves it as it is
+clock_beside_another : clock (beside_another c172 ++ logged (codes "W3") (released (Aircraft efgh) 12 0 (Done (Airframe efgh) (codes "100H") ∷ [])) ∷ []) (Airframe abcd) ≡ at 19783 9 30
+clock_beside_another = refl
+
 -- a sector that takes off before the release
 sectors_behind : map (λ minutes. judge maintained (logged (codes "TL/D-ABCD/12/2") (Flown (record { tail = abcd; page = 12; line = 2; off = at 19784 11 minutes; on = at 19784 14 0; cycles = 1 })))) (59 ∷ 60 ∷ [])
     ≡ Refused (OutOfOrder (at 19784 12 0)) ∷ New ∷ []
