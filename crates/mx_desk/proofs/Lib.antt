@@ -1,2 +1,3 @@
 pub mod ServedLemmas
 pub mod ServeLemmas
+pub mod Worked
