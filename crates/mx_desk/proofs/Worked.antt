@@ -123,7 +123,7 @@ too_large = refl
 
 -- ── requests ──
 
--- the commands of a body that gives them, of a log's good rows, of a question
+-- the commands of a log are those of its good rows, and a body gives its own
 commands_of_a_log : commands_of (imports (Err (fault 63 1) ∷ Ok sector ∷ [])) ≡ sector ∷ []
 commands_of_a_log = refl
 
