@@ -1,1 +1,2 @@
 pub mod QuestionLemmas
+pub mod Worked
