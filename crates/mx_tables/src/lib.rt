@@ -17,7 +17,11 @@
 //! # To add a table
 //!
 //! For a table whose row type stands in `mx_register` with its `Fits`. Its key is its first column, an
-//! `INTEGER PRIMARY KEY`, or its first two, a `PRIMARY KEY` of both.
+//! `INTEGER PRIMARY KEY`, or its first two, a `PRIMARY KEY` of both. Where no layout has it, first `mx_layout`:
+//! `Table`, its name, `table_name`, `table_named`; its columns and tree, `layout_1`; its text in `create_text`,
+//! `CreateTexts` and `create_texts`; `tables_1`, `.._defined`, `.._next`, `advance`, `others_empty`; and how many there
+//! are (`create_text`, `make_tables` and its answers, `last_stage`, `advance`). Then `own_1` and `in_layout_1` of
+//! `mx_kept`, and here `by_tree` and `found_by_tree`.
 //!
 //! 1. `mx_kept/specs/Cells.antt`: how its rows are kept, and its line in `specs/Family.antt`.
 //! 2. `mx_kept/proofs/Lawful.antt`, from one that is there: rows with the same values are one, what the two
