@@ -7,10 +7,10 @@ usage: scripts/kill.py [KILLS] [--only WORD]... [--office PROGRAM]
 Run by hand. In the first form it is killed at random moments of its run, 50 times in each word where no number is
 given; a kill counts where it ended a process that was still running. In the second form, which needs a C compiler, it
 is stopped at each of its calls of the disk in turn (scripts/stop_disk.c): killed before the call, or within it; or the
-call fails, and so do all later ones, or none; with --step only at each N-th call. After each stop SQLite itself (Python's sqlite3) reads a copy of the file
-with its log, and then the program is asked on the file itself: it has to be the book from before and a prefix of the
-commands, with each that was acknowledged; and of a program that goes on where a call fails, one more at most, where it
-told the fault of the store. The status is 1 where a stop left anything else.
+call fails, and so do all later ones, or none; with --step only at each N-th call. After each stop SQLite itself
+(Python's sqlite3) reads a copy of the file with its log, and then the program is asked on the file itself: it has to be
+the book from before and a prefix of the commands, with each that was acknowledged; and of a program that goes on where
+a call fails, one more at most, where it told the fault of the store. The status is 1 where a stop left anything else.
 """
 import argparse
 import collections

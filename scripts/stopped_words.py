@@ -1,4 +1,4 @@
-"""The words that write, as they are stopped: what each is run on, and what it may leave, by the model of scripts/model."""
+"""The words that write, as they are stopped: what each is run on, and what it may leave by the model in model/."""
 import pathlib
 import shutil
 import sqlite3
