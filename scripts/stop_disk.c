@@ -107,27 +107,21 @@ int close(int file) {
     return (int)syscall(SYS_close, file);
 }
 
-static long half(long length) { return length / 2; }
-
-ssize_t write(int file, const void *bytes, size_t length) {
-    int within = 0;
-    if (!is_file(file)) return syscall(SYS_write, file, bytes, length);
-    if (stops(&within)) return failed();
-    if (!within) return syscall(SYS_write, file, bytes, length);
-    long done = syscall(SYS_write, file, bytes, half((long)length));
-    end_here();
-    return done;
+/* Writes at a place, or behind what was written where it is negative. */
+static long put(int file, const void *bytes, size_t length, off_t at) {
+    return at < 0 ? syscall(SYS_write, file, bytes, length) : syscall(SYS_pwrite64, file, bytes, length, at);
 }
 
 static ssize_t write_at(int file, const void *bytes, size_t length, off_t at) {
     int within = 0;
-    if (!is_file(file)) return syscall(SYS_pwrite64, file, bytes, length, at);
+    if (!is_file(file)) return put(file, bytes, length, at);
     if (stops(&within)) return failed();
-    if (!within) return syscall(SYS_pwrite64, file, bytes, length, at);
-    long done = syscall(SYS_pwrite64, file, bytes, half((long)length), at);
-    end_here();
+    long done = put(file, bytes, within ? length / 2 : length, at);
+    if (within) end_here();
     return done;
 }
+
+ssize_t write(int file, const void *bytes, size_t length) { return write_at(file, bytes, length, -1); }
 
 ssize_t pwrite(int file, const void *bytes, size_t length, off_t at) { return write_at(file, bytes, length, at); }
 
