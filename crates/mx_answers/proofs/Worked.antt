@@ -9,9 +9,11 @@ use Rattle.mx_book.specs.declared.verdict.Refusal.TheVariants.{UnknownAircraft}
 use Rattle.mx_book.specs.declared.verdict.Reply.TheVariants.{Accepted, Already, Refused}
 use Rattle.mx_layout.specs.declared.fault.Table.TheVariants as name
 use Rattle.mx_office.specs.declared.fault.Fault.TheVariants as office
+use Rattle.mx_intake.proofs.Worked.{intake_on_literals}
 use Rattle.mx_import.specs.declared.report.RowReply.TheVariants.{Entered, Bad}
 use Rattle.mx_answers.specs.declared.question.Question.TheVariants as asked
 use Rattle.mx_answers.specs.declared.question.Report.TheVariants as report
+use Rattle.mx_answers.specs.Asking.{due_of, forecast_of, is_in_reach, life_of, limits_of, tail_of}
 use Rattle.mx_answers.specs.FaultLine.{intake_words, line_of, office_words}
 use Rattle.mx_answers.specs.Question.{report_lines, report_of}
 use Rattle.mx_answers.specs.Replies.{is_refusal, lines_of}
@@ -48,6 +50,38 @@ limits = refl
 of_another : map (report_of flown) (asked.Life (codes "D-NONE") ∷ asked.Due (codes "D-NONE") 0 ∷ asked.Forecast (codes "D-NONE") 0 1 1 1 ∷ asked.Limits (codes "D-NONE") 0 ∷ [])
     ≡ None ∷ None ∷ None ∷ None ∷ []
 of_another = refl
+
+-- ── the question that texts ask ──
+
+-- a registration has up to 8 characters, A to Z, 0 to 9 and the hyphen
+registrations : map tail_of (codes "D-ABCDEF" ∷ codes "D-ABCDEFG" ∷ codes "d-abcd" ∷ codes "" ∷ []) ≡ Some (codes "D-ABCDEF") ∷ None ∷ None ∷ None ∷ []
+registrations = refl
+
+life_asked : map life_of (codes "D-ABCD" ∷ codes "d-abcd" ∷ []) ≡ Some (asked.Life (codes "D-ABCD")) ∷ None ∷ []
+life_asked = refl
+
+due_asked : map (due_of (codes "D-ABCD")) (codes "2024-03-10" ∷ codes "2024-3-10" ∷ []) ≡ Some (asked.Due (codes "D-ABCD") 19792) ∷ None ∷ []
+unfolding intake_on_literals
+due_asked = refl
+
+limits_asked : map (limits_of (codes "D-ABCD")) (codes "2024-03-10" ∷ codes "2024-02-30" ∷ []) ≡ Some (asked.Limits (codes "D-ABCD") 19792) ∷ None ∷ []
+unfolding intake_on_literals
+limits_asked = refl
+
+-- 3,650 days ahead at most, at up to 1,440 minutes and 50 cycles a day
+farthest : is_in_reach 3650 1440 50 ≡ true
+farthest = refl
+
+beyond : (is_in_reach 3651 1440 50, is_in_reach 3650 1441 50, is_in_reach 3650 1440 51) ≡ (false, false, false)
+beyond = refl
+
+forecast_asked : forecast_of (codes "D-ABCD") (codes "2024-03-10") 30 120 4 ≡ Some (asked.Forecast (codes "D-ABCD") 19792 30 120 4)
+unfolding intake_on_literals
+forecast_asked = refl
+
+forecast_too_far : forecast_of (codes "D-ABCD") (codes "2024-03-10") 3651 120 4 ≡ None
+unfolding intake_on_literals
+forecast_too_far = refl
 
 -- ── each list has its text ──
 

@@ -1,3 +1,4 @@
+pub mod Asking
 pub mod FaultLine
 pub mod Question
 pub mod Replies

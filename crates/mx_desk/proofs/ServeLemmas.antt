@@ -15,7 +15,8 @@ use Rattle.mx_request.specs.Routes.{Asked}
 use Rattle.mx_request.specs.declared.rejection.Rejection.{Rejection}
 use Rattle.mx_desk.specs.Answer.{Answer, rejection_answer}
 use Rattle.mx_desk.specs.Answered.{AnswersIfRoom}
-use Rattle.mx_desk.specs.Request.{Request, enters, imports, asks, unread, rejected, entering, entering_one, loading, importing, asking, doc_of, due_of, forecast_of, life_of, limits_of, request_of}
+use Rattle.mx_answers.specs.Asking.{due_of, life_of, limits_of}
+use Rattle.mx_desk.specs.Request.{Request, enters, imports, asks, unread, rejected, entering, entering_one, loading, importing, asking, doc_of, forecast_in_digits, request_of}
 use Rattle.mx_desk.specs.Served.{AnswersBytes, AnswersHead, AnswersInput, IsCut, IsRead, ServesInput, allows, behind_head, by_body, bytes_of}
 use Rattle.mx_intake.specs.Entries.{entries_of_text}
 use Rattle.mx_intake.specs.Loading.{entry_of_programme}
@@ -76,7 +77,7 @@ none_allowed (place.Forecast, a ∷ []) body = refl
 none_allowed (place.Forecast, a ∷ b ∷ []) body = refl
 none_allowed (place.Forecast, a ∷ b ∷ c ∷ []) body = refl
 none_allowed (place.Forecast, a ∷ b ∷ c ∷ d ∷ []) body = refl
-none_allowed (place.Forecast, tail ∷ day ∷ days ∷ minutes ∷ cycles ∷ more) body = allowed_asking (forecast_of tail day days minutes cycles)
+none_allowed (place.Forecast, tail ∷ day ∷ days ∷ minutes ∷ cycles ∷ more) body = allowed_asking (forecast_in_digits tail day days minutes cycles)
 none_allowed (place.Life, []) body = refl
 none_allowed (place.Life, tail ∷ more) body = allowed_asking (life_of tail)
 

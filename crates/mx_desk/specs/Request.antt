@@ -1,18 +1,17 @@
 -- What a request asks of an office, by its route, the parts of its path, and its body.
-use Rattle.std.specs.Prelude.{ℕ, List, [], ◌∷◌, nat_le, Option, Some, None, option_and_then, Result, Ok, Err, if◌then◌else◌}
-use Rattle.mx_base.specs.Identifier.{is_graphic, is_tail_character}
+use Rattle.std.specs.Prelude.{ℕ, List, [], ◌∷◌, Option, Some, None, Result, Ok, Err}
+use Rattle.mx_base.specs.Identifier.{is_graphic}
 use Rattle.mx_command.specs.Act.{Entry}
-use Rattle.mx_book.specs.declared.forecast.TheConstants.{MOST_DAYS, MOST_MINUTES, MOST_CYCLES}
 use Rattle.mx_intake.specs.Entries.{entries_of_text}
 use Rattle.mx_intake.specs.Form.{if_read}
 use Rattle.mx_intake.specs.Loading.{entry_of_programme}
 use Rattle.mx_intake.specs.Number.{number_of_digits}
 use Rattle.mx_intake.specs.Sectors.{sector_rows}
-use Rattle.mx_intake.specs.Vocabulary.{day_of_text, identifier_of}
+use Rattle.mx_intake.specs.Vocabulary.{identifier_of}
 use Rattle.mx_intake.specs.declared.fault.IntakeFault.{IntakeFault}
 use Rattle.mx_import.specs.Rows.{good_rows}
+use Rattle.mx_answers.specs.Asking.{due_of, forecast_of, life_of, limits_of}
 use Rattle.mx_answers.specs.declared.question.Question.{Question}
-use Rattle.mx_answers.specs.declared.question.Question.TheVariants.{Life, Due, Forecast, Limits}
 use Rattle.mx_request.specs.Routes.{Asked}
 use Rattle.mx_request.specs.declared.rejection.Rejection.{Rejection}
 use Rattle.mx_request.specs.declared.rejection.Rejection.TheVariants.{BadRequest}
@@ -61,32 +60,12 @@ asking None = rejected BadRequest
 abbrev pub doc_of : List ℕ → Option (List ℕ)
 doc_of text = identifier_of is_graphic 40 text
 
-abbrev pub tail_of : List ℕ → Option (List ℕ)
-tail_of text = identifier_of is_tail_character 8 text
-
-abbrev pub if_at_most : ℕ → ℕ → Option ℕ
-if_at_most most n = if nat_le n most then Some n else None
-
--- a number of 1 to 6 digits, no greater than the greatest
-abbrev pub number_up_to : ℕ → List ℕ → Option ℕ
-number_up_to most text = option_and_then (if_at_most most) (number_of_digits text)
-
-abbrev pub life_of : List ℕ → Option Question
-life_of tail = if_read (tail_of tail) (λ t. Some (Life t))
-
-abbrev pub due_of : List ℕ → List ℕ → Option Question
-due_of tail day = if_read (tail_of tail) (λ t. if_read (day_of_text day) (λ d. Some (Due t d)))
-
-abbrev pub limits_of : List ℕ → List ℕ → Option Question
-limits_of tail day = if_read (tail_of tail) (λ t. if_read (day_of_text day) (λ d. Some (Limits t d)))
-
-abbrev pub forecast_of : List ℕ → List ℕ → List ℕ → List ℕ → List ℕ → Option Question
-forecast_of tail day days minutes cycles =
-    if_read (tail_of tail) (λ t.
-    if_read (day_of_text day) (λ d.
-    if_read (number_up_to MOST_DAYS days) (λ within.
-    if_read (number_up_to MOST_MINUTES minutes) (λ m.
-    if_read (number_up_to MOST_CYCLES cycles) (λ c. Some (Forecast t d within m c))))))
+-- the question for a forecast, whose numbers have 1 to 6 digits
+abbrev pub forecast_in_digits : List ℕ → List ℕ → List ℕ → List ℕ → List ℕ → Option Question
+forecast_in_digits tail day days minutes cycles =
+    if_read (number_of_digits days) (λ within.
+    if_read (number_of_digits minutes) (λ m.
+    if_read (number_of_digits cycles) (λ c. forecast_of tail day within m c)))
 
 -- ── the request ──
 
@@ -97,6 +76,6 @@ request_of (place.Programme, doc ∷ _) body = loading (doc_of doc) body
 request_of (place.Sectors, _) body = importing (sector_rows body)
 request_of (place.Due, tail ∷ day ∷ _) body = asking (due_of tail day)
 request_of (place.Limits, tail ∷ day ∷ _) body = asking (limits_of tail day)
-request_of (place.Forecast, tail ∷ day ∷ days ∷ minutes ∷ cycles ∷ _) body = asking (forecast_of tail day days minutes cycles)
+request_of (place.Forecast, tail ∷ day ∷ days ∷ minutes ∷ cycles ∷ _) body = asking (forecast_in_digits tail day days minutes cycles)
 request_of (place.Life, tail ∷ _) body = asking (life_of tail)
 request_of _ body = rejected BadRequest

@@ -12,10 +12,10 @@ ghost use Rattle.mx_desk.specs.Served.{KeepsBook, LeavesBehind, Serves};
 use crate::entering::{enter, import_log, load};
 use crate::fault::DeskFault;
 use crate::listing::list;
-use crate::parts::{due_of, forecast_of, life_of, limits_of};
+use crate::parts::forecast_in_digits;
 use crate::respond::rejection_response;
 use http::Response;
-use mx_answers::Question;
+use mx_answers::{Question, due_of, life_of, limits_of};
 use mx_office::Office;
 use mx_request::{Rejection, Route};
 use sqlite::Alter;
@@ -60,7 +60,11 @@ fn ask_office<S: Alter>(
             days,
             minutes,
             cycles,
-        } => list_if_read(alloc, office, forecast_of(tail, day, days, minutes, cycles)),
+        } => list_if_read(
+            alloc,
+            office,
+            forecast_in_digits(tail, day, days, minutes, cycles),
+        ),
         Route::Life { tail } => list_if_read(alloc, office, life_of(tail)),
     }
 }

@@ -51,4 +51,4 @@ pub use number::read_number;
 pub use programme::programme_of_toml;
 pub use sector_rows::{MOST_ROWS, sectors_of_csv};
 pub use text::MOST_BYTES;
-pub use vocabulary::{read_day, read_identifier};
+pub use vocabulary::{read_day, read_identifier, read_moment};

@@ -34,7 +34,7 @@ pub fn read_day(text: &str) -> Option<Day>
 }
 
 /// The moment whose text it is.
-pub(crate) fn read_moment(text: &str) -> Option<Moment>
+pub fn read_moment(text: &str) -> Option<Moment>
     ensures moment { result ≡ moment_of_text text.now }
     ensures some { IfSome result (λ m. (m ≤ last_moment) × (moment_text m ≡ text.now)) }
     ensures none { IfNone result ((m : ℕ) → m ≤ last_moment → moment_text m ≢ text.now) }

@@ -1,12 +1,12 @@
 -- Worked responses and heads, computed from the definitions.
-use Rattle.std.proofs.Common.{refl, ◌≡◌, [], true, Some, None, Ok, Err}
-use Rattle.std.specs.Prelude.{codes}
+use Rattle.std.proofs.Common.{refl, ◌≡◌, [], ◌∷◌, false, true, Some, None, Ok, Err}
+use Rattle.std.specs.Prelude.{codes, map}
 use Rattle.std.specs.Fmt.{digits}
 use Rattle.mx_request.specs.Body.{whole_body}
 use Rattle.mx_request.specs.Head.{head_length, head_of}
-use Rattle.mx_request.specs.Response.{response_bytes}
+use Rattle.mx_request.specs.Response.{allow_line, response_bytes}
 use Rattle.mx_request.specs.Rejected.{rejection_status, rejection_allows, rejection_body}
-use Rattle.mx_request.specs.declared.rejection.Rejection.TheVariants.{BadRequest, WrongMethod}
+use Rattle.mx_request.specs.declared.rejection.Rejection.TheVariants.{BadRequest, NotFound, WrongMethod, LengthRequired, BodyTooLarge, HeadTooLarge}
 
 empty_and_fine : response_bytes 200 None [] ≡ codes "HTTP/1.1 200 OK\r\nContent-Type: text/plain\r\nContent-Length: 0\r\nConnection: close\r\n\r\n"
 unfolding digits
@@ -19,6 +19,20 @@ with_a_body = refl
 other_method : response_bytes (rejection_status (WrongMethod true)) (rejection_allows (WrongMethod true)) (rejection_body (WrongMethod true)) ≡ codes "HTTP/1.1 405 Method Not Allowed\r\nContent-Type: text/plain\r\nContent-Length: 0\r\nConnection: close\r\nAllow: POST\r\n\r\n"
 unfolding digits
 other_method = refl
+
+-- GET is allowed instead, the last of the fields
+get_allowed : allow_line (rejection_allows (WrongMethod false)) ≡ codes "Allow: GET\r\n"
+get_allowed = refl
+
+-- the status and the body of each rejection
+statuses : map rejection_status (BadRequest ∷ NotFound ∷ WrongMethod true ∷ LengthRequired ∷ BodyTooLarge ∷ HeadTooLarge ∷ []) ≡ 400 ∷ 404 ∷ 405 ∷ 411 ∷ 413 ∷ 431 ∷ []
+statuses = refl
+
+bodies : map rejection_body (BadRequest ∷ LengthRequired ∷ BodyTooLarge ∷ HeadTooLarge ∷ []) ≡ codes "bad request\n" ∷ codes "length required\n" ∷ codes "too large\n" ∷ codes "too large\n" ∷ []
+bodies = refl
+
+no_bodies : map rejection_body (NotFound ∷ WrongMethod false ∷ []) ≡ [] ∷ [] ∷ []
+no_bodies = refl
 
 head_before_a_body : head_length (codes "GET / HTTP/1.1\r\nHost: a\r\n\r\nbody\r\n\r\n") ≡ Some 27
 head_before_a_body = refl

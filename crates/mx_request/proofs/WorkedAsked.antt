@@ -1,11 +1,14 @@
 -- Worked lengths, parts and answers, computed from the definitions.
 use Rattle.std.proofs.Common.{refl, ◌≡◌, [], ◌∷◌, Ok, Err, true}
 use Rattle.std.specs.Prelude.{codes}
-use Rattle.mx_request.specs.Asked.{with_body}
+use Rattle.httparse.specs.Grammar.{crlf}
+use Rattle.matchit.proofs.OnLiterals.{matchit_on_literals}
+use Rattle.mx_request.specs.Asked.{asked_by, as_asked, with_body}
 use Rattle.mx_request.specs.Fields.{body_length, length_said}
-use Rattle.mx_request.specs.Routes.{part, path_of}
+use Rattle.mx_request.specs.Routes.{desk_routes, part, path_of, with_route}
 use Rattle.mx_request.specs.declared.routes.NoRoute.TheVariants as no_route
 use Rattle.mx_request.specs.declared.routes.Place.TheVariants as place
+use Rattle.mx_request.specs.declared.routes.Route.TheVariants.{Entries}
 use Rattle.mx_request.specs.declared.rejection.Rejection.TheVariants.{BadRequest, WrongMethod, LengthRequired, BodyTooLarge}
 
 -- a number is digits alone
@@ -61,3 +64,16 @@ wrong_method = refl
 
 length_wanted : with_body [] (Ok (place.Sectors, [])) ≡ Err LengthRequired
 length_wanted = refl
+
+-- a place that takes POST has a body of the length that is said
+length_given : with_body ((codes "Content-Length", codes "7") ∷ []) (Ok (place.Sectors, [])) ≡ Ok ((place.Sectors, []), 7)
+length_given = refl
+
+-- the method stands before the target, in a head as in an answer
+asked_for_a_life : asked_by (record { blank = []; method = codes "GET"; target = codes "/aircraft/D-ABCD/life"; minor = 1; line_end = crlf; fields = []; last = crlf }) ≡ Ok ((place.Life, codes "D-ABCD" ∷ []), 0)
+unfolding matchit_on_literals desk_routes with_route
+asked_for_a_life = refl
+
+-- the length stays beside what is asked for
+answer_with_a_length : as_asked (Ok (Entries, 7)) ≡ Ok ((place.Entries, []), 7)
+answer_with_a_length = refl

@@ -6,8 +6,8 @@ use Rattle.mx_words.specs.declared.fault.Ending.{Ending}
 use Rattle.mx_words.specs.declared.fault.Ending.TheVariants.{Done, Refused, Bad}
 use Rattle.mx_words.specs.declared.fault.Stop.{Stop}
 use Rattle.mx_words.specs.declared.fault.Stop.TheVariants.{Words, Shape, Intake, MakeMemory, Create, Open, Office, Net, Print}
-use Rattle.mx_words.specs.declared.command_line.Words.{Words as Asked}
 use Rattle.mx_words.specs.Done.{IsDone, IsEnded}
+use Rattle.mx_words.specs.Job.{Job}
 use Rattle.mx_words.specs.Status.{done_status, stop_status}
 
 -- what was printed in part alone has a status of 4 or more
@@ -42,21 +42,21 @@ kept (Some xs) None h = h
 kept (Some xs) (Some ys) h = search rules
 
 -- with status 3 the input gave nothing and nothing was printed, or a row was bad and the lines of the rows were
-pub bad_or_unread : (old new : Option (List ℕ)) (done : Result Ending Stop) (before after shown : List ℕ)
+pub bad_or_unread : (asked : Option Job) (old new : Option (List ℕ)) (done : Result Ending Stop) (before after shown : List ℕ)
     → before ≡ [] → shown ≡ after → Appends old new shown
-    → IfOk done (λ ending. (words : Asked) × (text : List ℕ) × (after ≡ before ++ text) × IsDone words text ending)
+    → IfOk done (λ ending. (job : Job) × (asked ≡ Some job) × (text : List ℕ) × (after ≡ before ++ text) × IsDone job text ending)
     → IfErr done (λ stop. stop_status stop ≡ 3 → after ≡ before)
-    → done_status done ≡ 3 → Keeps old new ⊎ IsEnded Bad old new
-bad_or_unread old new (Ok Done) before after shown b s a ok err three = absurd (cc)
-bad_or_unread old new (Ok Refused) before after shown b s a ok err three = absurd (cc)
-bad_or_unread old new (Ok Bad) before after shown b s a ok err three =
-    inr (ok.0, ok.1, ok.3, subst (λ (x : List ℕ). Appends old new x) (s ∙ ok.2 ∙ ap (λ (x : List ℕ). x ++ ok.1) b) a)
-bad_or_unread old new (Err Words) before after shown b s a ok err three = absurd (cc)
-bad_or_unread old new (Err Shape) before after shown b s a ok err three = absurd (cc)
-bad_or_unread old new (Err (Intake fault)) before after shown b s a ok err three = inl (kept old new (subst (λ (x : List ℕ). Appends old new x) (s ∙ err refl ∙ b) a))
-bad_or_unread old new (Err MakeMemory) before after shown b s a ok err three = absurd (cc)
-bad_or_unread old new (Err (Create fault)) before after shown b s a ok err three = absurd (cc)
-bad_or_unread old new (Err (Open fault)) before after shown b s a ok err three = absurd (cc)
-bad_or_unread old new (Err (Office fault)) before after shown b s a ok err three = absurd (cc)
-bad_or_unread old new (Err Net) before after shown b s a ok err three = absurd (cc)
-bad_or_unread old new (Err Print) before after shown b s a ok err three = absurd (cc)
+    → done_status done ≡ 3 → Keeps old new ⊎ IsEnded asked Bad old new
+bad_or_unread asked old new (Ok Done) before after shown b s a ok err three = absurd (cc)
+bad_or_unread asked old new (Ok Refused) before after shown b s a ok err three = absurd (cc)
+bad_or_unread asked old new (Ok Bad) before after shown b s a ok err three =
+    inr (ok.0, ok.1, ok.2, ok.4, subst (λ (x : List ℕ). Appends old new x) (s ∙ ok.3 ∙ ap (λ (x : List ℕ). x ++ ok.2) b) a)
+bad_or_unread asked old new (Err Words) before after shown b s a ok err three = absurd (cc)
+bad_or_unread asked old new (Err Shape) before after shown b s a ok err three = absurd (cc)
+bad_or_unread asked old new (Err (Intake fault)) before after shown b s a ok err three = inl (kept old new (subst (λ (x : List ℕ). Appends old new x) (s ∙ err refl ∙ b) a))
+bad_or_unread asked old new (Err MakeMemory) before after shown b s a ok err three = absurd (cc)
+bad_or_unread asked old new (Err (Create fault)) before after shown b s a ok err three = absurd (cc)
+bad_or_unread asked old new (Err (Open fault)) before after shown b s a ok err three = absurd (cc)
+bad_or_unread asked old new (Err (Office fault)) before after shown b s a ok err three = absurd (cc)
+bad_or_unread asked old new (Err Net) before after shown b s a ok err three = absurd (cc)
+bad_or_unread asked old new (Err Print) before after shown b s a ok err three = absurd (cc)

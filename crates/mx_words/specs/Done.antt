@@ -1,42 +1,46 @@
 -- What is printed where all that the words ask for was done.
-use Rattle.std.specs.Prelude.{◌≡◌, ◌⊎◌, ℕ, List, [], Option, false, codes}
+use Rattle.std.specs.Prelude.{◌≡◌, ◌⊎◌, ℕ, List, [], Option, Some, false, codes}
 use Rattle.std.specs.Io.KnownBytes.{Appends}
 use Rattle.clap.specs.Values.{kind_of}
 use Rattle.clap.specs.declared.error.Error.{Error}
+use Rattle.clap.specs.declared.parser.matches.ArgMatches.{ArgMatches}
 use Rattle.clap.specs.declared.error.kind.ErrorKind.TheVariants.{DisplayHelp, DisplayVersion}
 use Rattle.mx_words.specs.Entered.{AreReplyLines}
 use Rattle.mx_words.specs.Imported.{AreRowLines}
 use Rattle.mx_words.specs.Printed.{IsListAnswer}
 use Rattle.mx_words.specs.Served.{served_line}
 use Rattle.mx_words.specs.Trial.{is_trial_shaped, trial_commands, TellsTrial}
-use Rattle.mx_words.specs.declared.command_line.Words.{Words}
-use Rattle.mx_words.specs.declared.command_line.Words.TheVariants.{Try, Init, List as ForList, Enter, Import, Programme, Serve}
+use Rattle.mx_words.specs.Job.{Job, said, tries, makes, lists, enters, imports, loads, serves}
 use Rattle.mx_words.specs.declared.fault.Ending.{Ending}
 use Rattle.mx_words.specs.declared.fault.Ending.TheVariants.{Done}
 
--- the text and the ending are those of these words
-abbrev pub IsDone : Words → List ℕ → Ending → Type 0
-IsDone (Try trial) text ending = TellsTrial [] (trial_commands trial) trial.tail [] text ending
-IsDone (Init file) text ending = (ending ≡ Done) × (text ≡ codes "created\n")
-IsDone (ForList file question) text ending = IsListAnswer question text ending
-IsDone (Enter file entries) text ending = (count : ℕ) × AreReplyLines count text ending
-IsDone (Import file csv) text ending = AreRowLines text ending
-IsDone (Programme file doc toml) text ending = AreReplyLines 1 text ending
-IsDone (Serve file port count) text ending = (text ≡ served_line count) × (ending ≡ Done)
+-- the text and the ending are those of this job
+abbrev pub IsDone : Job → List ℕ → Ending → Type 0
+IsDone (tries trial) text ending = TellsTrial [] (trial_commands trial) trial.tail [] text ending
+IsDone (makes file) text ending = (ending ≡ Done) × (text ≡ codes "created\n")
+IsDone (lists file question) text ending = IsListAnswer question text ending
+IsDone (enters file entries) text ending = (count : ℕ) × AreReplyLines count text ending
+IsDone (imports file csv) text ending = AreRowLines text ending
+IsDone (loads file doc toml) text ending = AreReplyLines 1 text ending
+IsDone (serves file port count) text ending = (text ≡ served_line count) × (ending ≡ Done)
 
--- the words are those of a trial that lacks its shape
-abbrev pub LacksShape : Words → Type 0
-LacksShape (Try trial) = is_trial_shaped trial ≡ false
+-- the job is a trial that lacks its shape
+abbrev pub LacksShape : Job → Type 0
+LacksShape (tries trial) = is_trial_shaped trial ≡ false
 LacksShape _ = ⊥
 
 -- the words ask for help or for the version
 abbrev pub IsRequest : Error → Type 0
 IsRequest error = (kind_of error ≡ DisplayHelp) ⊎ (kind_of error ≡ DisplayVersion)
 
--- what some words ask for was done, ending so, and its text printed
-abbrev pub IsEnded : Ending → Option (List ℕ) → Option (List ℕ) → Type 0
-IsEnded ending old new = (words : Words) × (text : List ℕ) × IsDone words text ending × Appends old new text
+-- what is asked for was done, ending so, and its text printed
+abbrev pub IsEnded : Option Job → Ending → Option (List ℕ) → Option (List ℕ) → Type 0
+IsEnded asked ending old new = (job : Job) × (asked ≡ Some job) × (text : List ℕ) × IsDone job text ending × Appends old new text
+
+-- the same for what was found for some words
+abbrev pub IsEndedForSome : Ending → Option (List ℕ) → Option (List ℕ) → Type 0
+IsEndedForSome ending old new = (matches : ArgMatches) × IsEnded (said matches) ending old new
 
 -- some words asked for help, or all that some ask for was done and its text printed
 abbrev pub IsAnswered : Option (List ℕ) → Option (List ℕ) → Type 0
-IsAnswered old new = ((error : Error) × IsRequest error) ⊎ IsEnded Done old new
+IsAnswered old new = ((error : Error) × IsRequest error) ⊎ IsEndedForSome Done old new

@@ -17,6 +17,7 @@ mod printing;
 pub mod run;
 pub mod serving;
 mod trial;
+mod words;
 
 pub use run::run_words;
 pub use serving::serve_on;

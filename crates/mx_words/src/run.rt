@@ -1,22 +1,25 @@
 //! The program on its words.
-ghost use Rattle.std.specs.Prelude.{◌≡◌, ◌≢◌, ◌⊎◌, ◌≤◌, ◌++◌, IfOk, IfErr};
+ghost use Rattle.std.specs.Prelude.{◌≡◌, ◌≢◌, ◌↔◌, ◌⊎◌, ◌≤◌, ◌++◌, None, Some, IfOk, IfErr};
 ghost use Rattle.std.specs.Io.KnownBytes.{Keeps};
-ghost use Rattle.mx_words.specs.Done.{IsAnswered, IsDone, IsEnded, LacksShape};
+ghost use Rattle.mx_words.specs.Done.{IsAnswered, IsDone, IsEnded, IsEndedForSome, LacksShape};
+ghost use Rattle.mx_words.specs.Job.{job_of, said};
 ghost use Rattle.mx_words.specs.Status.{stop_status};
 
-use crate::command_line::{Words, command, words_of};
+use crate::command_line::command;
 use crate::fault::{Ending, Stop};
 use crate::files::{enter, import, init, list, programme, serve};
 use crate::printing::{print_done, print_usage};
 use crate::trial::try_out;
+use crate::words::{Words, words_of};
 use clap::ArgMatches;
 use clap::error::ErrorKind;
 use std::io::Write;
 
 fn perform(rt: &HostRuntime, words: &Words<'_>, out: &mut Vec<u8>) -> Result<Ending, Stop>
     ensures done { IfOk result (λ ending. (text : _) × (out.new.items ≡ out.old.items ++ text)
-        × IsDone words.now text ending) }
-    ensures shape { result ≡ Err Stop.Shape → LacksShape words.now × (out.new ≡ out.old) }
+        × IsDone (job_of words.now) text ending) }
+    ensures shape { result ≡ Err Stop.Shape
+        → LacksShape (job_of words.now) × (out.new ≡ out.old) }
     ensures words { result ≢ Err Stop.Words }
     ensures unprinted { IfErr result (λ stop. stop_status stop ≡ 2 → out.new ≡ out.old) }
     ensures unread { IfErr result (λ stop. stop_status stop ≡ 3
@@ -39,10 +42,11 @@ fn perform_all(
     matches: &ArgMatches<'_>,
     out: &mut Vec<u8>,
 ) -> Result<Ending, Stop>
-    ensures done { IfOk result (λ ending. (words : _) × (text : _)
-        × (out.new.items ≡ out.old.items ++ text)
-        × IsDone words text ending) }
-    ensures shape { result ≡ Err Stop.Shape → (words : _) × LacksShape words }
+    ensures done { IfOk result (λ ending. (job : _) × (said matches.now ≡ Some job) × (text : _)
+        × (out.new.items ≡ out.old.items ++ text) × IsDone job text ending) }
+    ensures words { (result ≡ Err Stop.Words) ↔ (said matches.now ≡ None) }
+    ensures shape { result ≡ Err Stop.Shape
+        → (job : _) × (said matches.now ≡ Some job) × LacksShape job }
     ensures unprinted { IfErr result (λ stop. stop_status stop ≡ 2 → out.new ≡ out.old) }
     ensures unread { IfErr result (λ stop. stop_status stop ≡ 3
         → out.new.items ≡ out.old.items) }
@@ -61,13 +65,15 @@ fn answer<O: Write, E: Write>(
     err: &mut E,
 ) -> u8
     ensures bound { result ≤ 5 }
-    ensures done { result ≡ 0 → IsEnded Ending.Done (O.contents out.old) (O.contents out.new) }
+    ensures done { result ≡ 0
+        → IsEnded (said matches.now) Ending.Done (O.contents out.old) (O.contents out.new) }
     ensures refused { result ≡ 1
-        → IsEnded Ending.Refused (O.contents out.old) (O.contents out.new) }
+        → IsEnded (said matches.now) Ending.Refused (O.contents out.old) (O.contents out.new) }
+    ensures unasked { said matches.now ≡ None → 2 ≤ result }
     ensures quiet { result ≤ 1 → err.new ≡ err.old }
     ensures unprinted { result ≡ 2 → Keeps (O.contents out.old) (O.contents out.new) }
     ensures unread { result ≡ 3 → Keeps (O.contents out.old) (O.contents out.new)
-        ⊎ IsEnded Ending.Bad (O.contents out.old) (O.contents out.new) }
+        ⊎ IsEnded (said matches.now) Ending.Bad (O.contents out.old) (O.contents out.new) }
 {
     let mut text = Vec::new(rt.alloc());
     let done = perform_all(rt, matches, &mut text);
@@ -88,11 +94,11 @@ pub fn run_words<O: Write, E: Write>(
     ensures bound { result ≤ 5 }
     ensures done { result ≡ 0 → IsAnswered (O.contents out.old) (O.contents out.new) }
     ensures refused { result ≡ 1
-        → IsEnded Ending.Refused (O.contents out.old) (O.contents out.new) }
+        → IsEndedForSome Ending.Refused (O.contents out.old) (O.contents out.new) }
     ensures quiet { result ≤ 1 → err.new ≡ err.old }
     ensures unprinted { result ≡ 2 → Keeps (O.contents out.old) (O.contents out.new) }
     ensures unread { result ≡ 3 → Keeps (O.contents out.old) (O.contents out.new)
-        ⊎ IsEnded Ending.Bad (O.contents out.old) (O.contents out.new) }
+        ⊎ IsEndedForSome Ending.Bad (O.contents out.old) (O.contents out.new) }
 {
     let Ok(command) = command(rt.alloc()) else {
         return print_done(&[], Err(Stop::MakeMemory), out, err).status;

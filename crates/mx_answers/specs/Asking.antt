@@ -1,0 +1,31 @@
+-- The question that texts ask for a list of an aircraft, if each of them can be read.
+use Rattle.std.specs.Prelude.{ℕ, List, Bool, ◌&&◌, nat_le, Option, Some, None, if◌then◌else◌}
+use Rattle.mx_base.specs.Identifier.{is_tail_character}
+use Rattle.mx_book.specs.declared.forecast.TheConstants.{MOST_DAYS, MOST_MINUTES, MOST_CYCLES}
+use Rattle.mx_intake.specs.Form.{if_read}
+use Rattle.mx_intake.specs.Vocabulary.{day_of_text, identifier_of}
+use Rattle.mx_answers.specs.declared.question.Question.{Question}
+use Rattle.mx_answers.specs.declared.question.Question.TheVariants.{Life, Due, Forecast, Limits}
+
+-- the registration that a text is
+abbrev pub tail_of : List ℕ → Option (List ℕ)
+tail_of text = identifier_of is_tail_character 8 text
+
+abbrev pub life_of : List ℕ → Option Question
+life_of tail = if_read (tail_of tail) (λ t. Some (Life t))
+
+abbrev pub due_of : List ℕ → List ℕ → Option Question
+due_of tail day = if_read (tail_of tail) (λ t. if_read (day_of_text day) (λ d. Some (Due t d)))
+
+abbrev pub limits_of : List ℕ → List ℕ → Option Question
+limits_of tail day = if_read (tail_of tail) (λ t. if_read (day_of_text day) (λ d. Some (Limits t d)))
+
+-- a forecast looks so many days ahead at most, at no more minutes and cycles a day than that
+abbrev pub is_in_reach : ℕ → ℕ → ℕ → Bool
+is_in_reach days minutes cycles = nat_le days MOST_DAYS && (nat_le minutes MOST_MINUTES && nat_le cycles MOST_CYCLES)
+
+abbrev pub forecast_of : List ℕ → List ℕ → ℕ → ℕ → ℕ → Option Question
+forecast_of tail day days minutes cycles =
+    if_read (tail_of tail) (λ t.
+    if_read (day_of_text day) (λ d.
+    if is_in_reach days minutes cycles then Some (Forecast t d days minutes cycles) else None))
