@@ -11,6 +11,7 @@ use Rattle.mx_answers.specs.declared.question.Question.TheVariants.{Life, Due, F
 abbrev pub tail_of : List ℕ → Option (List ℕ)
 tail_of text = identifier_of is_tail_character 8 text
 
+-- the question for its life, and those for a list on a day
 abbrev pub life_of : List ℕ → Option Question
 life_of tail = if_read (tail_of tail) (λ t. Some (Life t))
 
@@ -20,10 +21,11 @@ due_of tail day = if_read (tail_of tail) (λ t. if_read (day_of_text day) (λ d.
 abbrev pub limits_of : List ℕ → List ℕ → Option Question
 limits_of tail day = if_read (tail_of tail) (λ t. if_read (day_of_text day) (λ d. Some (Limits t d)))
 
--- a forecast looks so many days ahead at most, at no more minutes and cycles a day than that
+-- whether a forecast looks no more days ahead than it may, at no more minutes and cycles a day
 abbrev pub is_in_reach : ℕ → ℕ → ℕ → Bool
 is_in_reach days minutes cycles = nat_le days MOST_DAYS && (nat_le minutes MOST_MINUTES && nat_le cycles MOST_CYCLES)
 
+-- the question for a forecast
 abbrev pub forecast_of : List ℕ → List ℕ → ℕ → ℕ → ℕ → Option Question
 forecast_of tail day days minutes cycles =
     if_read (tail_of tail) (λ t.

@@ -15,7 +15,7 @@ value_rule name = record (new_rule name) { action = Some Set; required = true; i
 abbrev pub word : List ℕ → List (List ℕ) → App
 word name values = on_top (λ s. record s { rules = map value_rule values }) (new_app name)
 
--- the words
+-- the words, and the names of the values of each
 abbrev pub words : List (List ℕ × List (List ℕ))
 words =
     (codes "try", codes "TAIL" ∷ codes "MINUTES" ∷ codes "CYCLES" ∷ codes "OFF" ∷ codes "ON" ∷ codes "SECTOR_CYCLES" ∷ [])
@@ -38,7 +38,7 @@ office = on_top (λ s. record s { has_version = true; subcommand_required = true
 abbrev pub office_with_words : App
 office_with_words = record { top = record office.top { is_leaf = false }; subs = map (λ w. (word w.0 w.1).top) words }
 
--- the command is that, and its values are its own
+-- the command has this form, and none of its values is taken by other commands
 abbrev pub IsApp : App → Command → Type 0
 IsApp app command = (app_of command ≡ app) × ((fields_of command).has_globals ≡ false)
 
