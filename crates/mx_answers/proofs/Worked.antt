@@ -72,7 +72,7 @@ limits_asked = refl
 farthest : is_in_reach 3650 1440 50 ≡ true
 farthest = refl
 
-beyond : (is_in_reach 3651 1440 50, is_in_reach 3650 1441 50, is_in_reach 3650 1440 51) ≡ (false, false, false)
+beyond : is_in_reach 3651 1440 50 ∷ is_in_reach 3650 1441 50 ∷ is_in_reach 3650 1440 51 ∷ [] ≡ false ∷ false ∷ false ∷ []
 beyond = refl
 
 forecast_asked : forecast_of (codes "D-ABCD") (codes "2024-03-10") 30 120 4 ≡ Some (asked.Forecast (codes "D-ABCD") 19792 30 120 4)

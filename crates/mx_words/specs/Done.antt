@@ -5,7 +5,7 @@ use Rattle.clap.specs.Values.{kind_of}
 use Rattle.clap.specs.declared.error.Error.{Error}
 use Rattle.clap.specs.declared.parser.matches.ArgMatches.{ArgMatches}
 use Rattle.clap.specs.declared.error.kind.ErrorKind.TheVariants.{DisplayHelp, DisplayVersion}
-use Rattle.mx_words.specs.Entered.{AreReplyLines}
+use Rattle.mx_words.specs.Entered.{AreReplyLines, AreSomeReplyLines}
 use Rattle.mx_words.specs.Imported.{AreRowLines}
 use Rattle.mx_words.specs.Printed.{IsListAnswer}
 use Rattle.mx_words.specs.Served.{served_line}
@@ -19,7 +19,7 @@ abbrev pub IsDone : Job → List ℕ → Ending → Type 0
 IsDone (tries trial) text ending = TellsTrial [] (trial_commands trial) trial.tail [] text ending
 IsDone (makes file) text ending = (ending ≡ Done) × (text ≡ codes "created\n")
 IsDone (lists file question) text ending = IsListAnswer question text ending
-IsDone (enters file entries) text ending = (count : ℕ) × AreReplyLines count text ending
+IsDone (enters file entries) text ending = AreSomeReplyLines text ending
 IsDone (imports file csv) text ending = AreRowLines text ending
 IsDone (loads file doc toml) text ending = AreReplyLines 1 text ending
 IsDone (serves file port count) text ending = (text ≡ served_line count) × (ending ≡ Done)

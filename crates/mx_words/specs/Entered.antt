@@ -21,6 +21,10 @@ abbrev pub AreReplyLines : ℕ → List ℕ → Ending → Type 0
 AreReplyLines count text ending =
     (replies : List Reply) × (length replies ≡ count) × (text ≡ lines_of replies) × (ending ≡ run_ending replies)
 
+-- the same for some number of replies
+abbrev pub AreSomeReplyLines : List ℕ → Ending → Type 0
+AreSomeReplyLines text ending = (count : ℕ) × AreReplyLines count text ending
+
 -- the lines of all replies were appended, and the ending is theirs
 pub record TellsReplies (book commands : List Entry) (old new : List ℕ) (ending : Ending) : Type 0 where
   pub text : new ≡ old ++ reply_lines book commands

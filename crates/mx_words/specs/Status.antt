@@ -1,5 +1,5 @@
 -- How a word ends, and the status that the program ends with.
-use Rattle.std.specs.Prelude.{ℕ, List, Result, Ok, Err, if◌then◌else◌}
+use Rattle.std.specs.Prelude.{◌≡◌, ℕ, List, ◌++◌, Result, Ok, Err, if◌then◌else◌}
 use Rattle.std.specs.List.{list_any}
 use Rattle.mx_book.specs.declared.verdict.Reply.{Reply}
 use Rattle.mx_answers.specs.Replies.{is_refusal}
@@ -42,3 +42,11 @@ graver Bad other = Bad
 -- how a run with these replies ended
 abbrev pub run_ending : List Reply → Ending
 run_ending replies = if list_any is_refusal replies then Refused else Done
+
+-- a text was appended that is right for how it ended
+abbrev pub Shows : (List ℕ → Ending → Type 0) → List ℕ → List ℕ → Ending → Type 0
+Shows is_right old new ending = (text : List ℕ) × (new ≡ old ++ text) × is_right text ending
+
+-- where the input file gave nothing, nothing was appended
+abbrev pub LeavesUnread : List ℕ → List ℕ → Stop → Type 0
+LeavesUnread old new stop = stop_status stop ≡ 3 → new ≡ old

@@ -7,7 +7,7 @@ ghost use Rattle.mx_layout.specs.Crash.{Leaves};
 ghost use Rattle.mx_office.specs.Stands.{Rests, IsEither};
 ghost use Rattle.mx_answers.specs.Replies.{lines_of};
 ghost use Rattle.mx_words.specs.Entered.{AreReplyLines, TellsReplies, StopsBehind};
-ghost use Rattle.mx_words.specs.Status.{stop_status, run_ending};
+ghost use Rattle.mx_words.specs.Status.{Shows, stop_status, run_ending};
 
 use crate::fault::{Ending, Stop};
 use mx_answers::{has_refusal, replies_text};
@@ -54,8 +54,8 @@ pub(crate) fn enter_all<S: Alter>(
     ensures kept { (book : _) → Rests (state S.Store office.old.conn) book
         → OnOk result (Rests (state S.Store office.new.conn) (book_run book commands.now)) }
 
-    ensures shown { IfOk result (λ ending. (text : _) × (out.new.items ≡ out.old.items ++ text)
-        × AreReplyLines (length commands.now) text ending) }
+    ensures shown { IfOk result
+        (Shows (AreReplyLines (length commands.now)) out.old.items out.new.items) }
 
     // A fault stopped it: the replies before it were printed, and the tables are those of their
     // commands.

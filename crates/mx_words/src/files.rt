@@ -3,11 +3,11 @@
 ghost use Rattle.std.specs.Prelude.{◌≡◌, ◌↔◌, ◌⊎◌, ◌+◌, ◌≤◌, ◌++◌, false, codes, OnOk, OnErr, IfOk, IfErr, vec_len};
 ghost use Rattle.std.specs.Vec.{vec_capacity};
 ghost use Rattle.mx_words.specs.Asked.{IsAnswer};
-ghost use Rattle.mx_words.specs.Entered.{AreReplyLines};
+ghost use Rattle.mx_words.specs.Entered.{AreReplyLines, AreSomeReplyLines};
 ghost use Rattle.mx_words.specs.Imported.{AreRowLines};
 ghost use Rattle.mx_words.specs.Printed.{IsListAnswer};
 ghost use Rattle.mx_words.specs.Served.{served_line};
-ghost use Rattle.mx_words.specs.Status.{stop_status};
+ghost use Rattle.mx_words.specs.Status.{LeavesUnread, Shows, stop_status};
 
 use crate::entering::enter_all;
 use crate::fault::{Ending, Stop};
@@ -111,10 +111,8 @@ fn answer<S: Alter>(
     asked: Asked<'_>,
     out: &mut Vec<u8>,
 ) -> Result<Ending, Stop>
-    ensures shown { IfOk result (λ ending. (text : _) × (out.new.items ≡ out.old.items ++ text)
-        × IsAnswer asked.entry text ending) }
-    ensures unread { IfErr result (λ stop. stop_status stop ≡ 3
-        → out.new.items ≡ out.old.items) }
+    ensures shown { IfOk result (Shows (IsAnswer asked.entry) out.old.items out.new.items) }
+    ensures unread { IfErr result (LeavesUnread out.old.items out.new.items) }
     ensures status { IfErr result (λ stop. 3 ≤ stop_status stop) }
 {
     match asked {
@@ -136,10 +134,10 @@ fn answer_in<S: Alter + Drop>(
     out: &mut Vec<u8>,
 ) -> Result<(Connection<S>, Result<Ending, Stop>), Stop>
     requires { conn.in_transaction ≡ false }
-    ensures shown { IfOk result (λ found. IfOk found.1 (λ ending. (text : _)
-        × (out.new.items ≡ out.old.items ++ text) × IsAnswer asked.entry text ending)) }
-    ensures unread { IfOk result (λ found. IfErr found.1 (λ stop. stop_status stop ≡ 3
-        → out.new.items ≡ out.old.items)) }
+    ensures shown { IfOk result (λ found. IfOk found.1
+        (Shows (IsAnswer asked.entry) out.old.items out.new.items)) }
+    ensures unread { IfOk result (λ found. IfErr found.1
+        (LeavesUnread out.old.items out.new.items)) }
     ensures status { IfOk result (λ found. IfErr found.1 (λ stop. 3 ≤ stop_status stop)) }
     ensures opening { IfErr result (λ stop. stop_status stop ≡ 5) }
 {
@@ -194,10 +192,8 @@ fn answer_file(
     asked: Asked<'_>,
     out: &mut Vec<u8>,
 ) -> Result<Ending, Stop>
-    ensures shown { IfOk result (λ ending. (text : _) × (out.new.items ≡ out.old.items ++ text)
-        × IsAnswer asked.entry text ending) }
-    ensures unread { IfErr result (λ stop. stop_status stop ≡ 3
-        → out.new.items ≡ out.old.items) }
+    ensures shown { IfOk result (Shows (IsAnswer asked.entry) out.old.items out.new.items) }
+    ensures unread { IfErr result (LeavesUnread out.old.items out.new.items) }
     ensures status { IfErr result (λ stop. 3 ≤ stop_status stop) }
 {
     let conn = open_book(rt, file)?;
@@ -215,10 +211,8 @@ pub(crate) fn list(
     question: &Question,
     out: &mut Vec<u8>,
 ) -> Result<Ending, Stop>
-    ensures shown { IfOk result (λ ending. (text : _) × (out.new.items ≡ out.old.items ++ text)
-        × IsListAnswer question.now text ending) }
-    ensures unread { IfErr result (λ stop. stop_status stop ≡ 3
-        → out.new.items ≡ out.old.items) }
+    ensures shown { IfOk result (Shows (IsListAnswer question.now) out.old.items out.new.items) }
+    ensures unread { IfErr result (LeavesUnread out.old.items out.new.items) }
     ensures status { IfErr result (λ stop. 3 ≤ stop_status stop) }
 {
     answer_file(rt, file, Asked::List(question), out)
@@ -258,11 +252,9 @@ pub(crate) fn enter(
     entries: &str,
     out: &mut Vec<u8>,
 ) -> Result<Ending, Stop>
-    ensures shown { IfOk result (λ ending. (count : _) × (text : _)
-        × (out.new.items ≡ out.old.items ++ text) × AreReplyLines count text ending) }
+    ensures shown { IfOk result (Shows AreSomeReplyLines out.old.items out.new.items) }
     ensures status { IfErr result (λ stop. 3 ≤ stop_status stop) }
-    ensures unread { IfErr result (λ stop. stop_status stop ≡ 3
-        → out.new.items ≡ out.old.items) }
+    ensures unread { IfErr result (LeavesUnread out.old.items out.new.items) }
 {
     match commands_in(rt, entries) {
         Ok(commands) => answer_file(rt, file, Asked::Enter(&commands), out),
@@ -279,11 +271,9 @@ pub(crate) fn programme(
     toml: &str,
     out: &mut Vec<u8>,
 ) -> Result<Ending, Stop>
-    ensures shown { IfOk result (λ ending. (text : _) × (out.new.items ≡ out.old.items ++ text)
-        × AreReplyLines 1 text ending) }
+    ensures shown { IfOk result (Shows (AreReplyLines 1) out.old.items out.new.items) }
     ensures status { IfErr result (λ stop. 3 ≤ stop_status stop) }
-    ensures unread { IfErr result (λ stop. stop_status stop ≡ 3
-        → out.new.items ≡ out.old.items) }
+    ensures unread { IfErr result (LeavesUnread out.old.items out.new.items) }
 {
     match programme_in(rt, doc, toml) {
         Ok(command) => answer_file(rt, file, Asked::Enter(slice::from_ref(&command)), out),
@@ -299,11 +289,9 @@ pub(crate) fn import(
     csv: &str,
     out: &mut Vec<u8>,
 ) -> Result<Ending, Stop>
-    ensures shown { IfOk result (λ ending. (text : _) × (out.new.items ≡ out.old.items ++ text)
-        × AreRowLines text ending) }
+    ensures shown { IfOk result (Shows AreRowLines out.old.items out.new.items) }
     ensures status { IfErr result (λ stop. 3 ≤ stop_status stop) }
-    ensures unread { IfErr result (λ stop. stop_status stop ≡ 3
-        → out.new.items ≡ out.old.items) }
+    ensures unread { IfErr result (LeavesUnread out.old.items out.new.items) }
 {
     match fs::open(rt, csv) {
         Ok(log) => answer_file(rt, file, Asked::Import(&log), out),
@@ -321,8 +309,7 @@ pub(crate) fn serve(
 ) -> Result<Ending, Stop>
     ensures shown { IfOk result (λ ending. (out.new.items ≡ out.old.items ++ served_line count)
         × (ending ≡ Ending.Done)) }
-    ensures unread { IfErr result (λ stop. stop_status stop ≡ 3
-        → out.new.items ≡ out.old.items) }
+    ensures unread { IfErr result (LeavesUnread out.old.items out.new.items) }
     ensures status { IfErr result (λ stop. 3 ≤ stop_status stop) }
 {
     answer_file(rt, file, Asked::Serve { port, count }, out)

@@ -8,7 +8,7 @@ ghost use Rattle.mx_office.specs.Stands.{HoldsBook, IsReasonFor, Rests};
 ghost use Rattle.mx_reports.specs.ReplyText.{reply_line};
 ghost use Rattle.mx_answers.specs.Question.{report_lines};
 ghost use Rattle.mx_words.specs.Printed.{IsListAnswer, Tells};
-ghost use Rattle.mx_words.specs.Status.{stop_status};
+ghost use Rattle.mx_words.specs.Status.{Shows, stop_status};
 
 use crate::fault::{Ending, Stop};
 use mx_answers::{Question, Report, ask, list_text};
@@ -63,8 +63,7 @@ pub(crate) fn print_list<S: Alter>(
         → IfOk result (λ ending. (book : _)
         × HoldsBook (state S.Store office.old.conn).now.trees book
         × Tells question.now book out.old.items out.new.items ending) }
-    ensures shown { IfOk result (λ ending. (text : _) × (out.new.items ≡ out.old.items ++ text)
-        × IsListAnswer question.now text ending) }
+    ensures shown { IfOk result (Shows (IsListAnswer question.now) out.old.items out.new.items) }
     ensures unprinted { OnErr result (out.new.items ≡ out.old.items) }
 
     // What becomes of the tables, and why there is no answer.

@@ -3,7 +3,7 @@ ghost use Rattle.std.specs.Prelude.{◌≡◌, ◌≢◌, ◌↔◌, ◌⊎◌, 
 ghost use Rattle.std.specs.Io.KnownBytes.{Keeps};
 ghost use Rattle.mx_words.specs.Done.{IsAnswered, IsDone, IsEnded, IsEndedForSome, LacksShape};
 ghost use Rattle.mx_words.specs.Job.{job_of, said};
-ghost use Rattle.mx_words.specs.Status.{stop_status};
+ghost use Rattle.mx_words.specs.Status.{LeavesUnread, Shows, stop_status};
 
 use crate::command_line::command;
 use crate::fault::{Ending, Stop};
@@ -16,14 +16,12 @@ use clap::error::ErrorKind;
 use std::io::Write;
 
 fn perform(rt: &HostRuntime, words: &Words<'_>, out: &mut Vec<u8>) -> Result<Ending, Stop>
-    ensures done { IfOk result (λ ending. (text : _) × (out.new.items ≡ out.old.items ++ text)
-        × IsDone (job_of words.now) text ending) }
+    ensures done { IfOk result (Shows (IsDone (job_of words.now)) out.old.items out.new.items) }
     ensures shape { result ≡ Err Stop.Shape
         → LacksShape (job_of words.now) × (out.new ≡ out.old) }
     ensures words { result ≢ Err Stop.Words }
     ensures unprinted { IfErr result (λ stop. stop_status stop ≡ 2 → out.new ≡ out.old) }
-    ensures unread { IfErr result (λ stop. stop_status stop ≡ 3
-        → out.new.items ≡ out.old.items) }
+    ensures unread { IfErr result (LeavesUnread out.old.items out.new.items) }
 {
     match words {
         Words::Try(trial) => try_out(rt.alloc(), trial, out),
@@ -42,14 +40,13 @@ fn perform_all(
     matches: &ArgMatches<'_>,
     out: &mut Vec<u8>,
 ) -> Result<Ending, Stop>
-    ensures done { IfOk result (λ ending. (job : _) × (said matches.now ≡ Some job) × (text : _)
-        × (out.new.items ≡ out.old.items ++ text) × IsDone job text ending) }
+    ensures done { IfOk result (λ ending. (job : _) × (said matches.now ≡ Some job)
+        × Shows (IsDone job) out.old.items out.new.items ending) }
     ensures words { (result ≡ Err Stop.Words) ↔ (said matches.now ≡ None) }
     ensures shape { result ≡ Err Stop.Shape
         → (job : _) × (said matches.now ≡ Some job) × LacksShape job }
     ensures unprinted { IfErr result (λ stop. stop_status stop ≡ 2 → out.new ≡ out.old) }
-    ensures unread { IfErr result (λ stop. stop_status stop ≡ 3
-        → out.new.items ≡ out.old.items) }
+    ensures unread { IfErr result (LeavesUnread out.old.items out.new.items) }
 {
     match words_of(matches) {
         Some(words) => perform(rt, &words, out),
