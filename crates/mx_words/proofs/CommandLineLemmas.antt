@@ -1,5 +1,5 @@
 -- Lemmas on the words of the program.
-use Rattle.std.proofs.Common.{◌≡◌, ◌∙◌, ℕ, Bool, ◌||◌, List, [], ◌∷◌, ◌++◌, map, ap, ap₂, sym}
+use Rattle.std.proofs.Common.{◌≡◌, ◌∙◌, ℕ, Bool, ◌||◌, List, [], ◌∷◌, ◌++◌, ap, ap₂, sym}
 use Rattle.std.proofs.lemmas.List.{map-append}
 use Rattle.clap.specs.Words.{AddsSubcommand, App, Rule, new_app, with_rule, with_subcommand}
 use Rattle.clap.specs.Simple.{on_top}

@@ -42,9 +42,19 @@ refusal_of (Ok Bad) h = (cc)
 refusal_of (Err stop) h = let grave = stop_is_grave stop in absurd (omega (arith, grave, h))
 
 -- what is said of whatever was done is said of an ending
-pub ended_by : (P : Ending → Type 0) (ending : Ending) (done : Result Ending Stop) → IfOk done P → done ≡ Ok ending → P ending
+ended_by : (P : Ending → Type 0) (ending : Ending) (done : Result Ending Stop) → IfOk done P → done ≡ Ok ending → P ending
 ended_by P ending (Ok found) h e = let same : found ≡ ending = cc in subst P same h
 ended_by P ending (Err stop) h e = (cc)
+
+-- what was asked for was done, ending so, and its text printed
+pub ended_so : (asked : Option Job) (ending : Ending) (old new : Option (List ℕ)) (done : Result Ending Stop) (before after shown : List ℕ)
+    → before ≡ [] → shown ≡ after → Appends old new shown
+    → IfOk done (λ ending. (job : Job) × (asked ≡ Some job) × Shows (IsDone job) before after ending)
+    → done ≡ Ok ending → IsEnded asked ending old new
+ended_so asked ending old new done before after shown b s a ok is =
+    let found = ended_by _ ending done ok is in
+    let told = found.2 in
+    (found.0, found.1, told.0, told.2, subst (λ (x : List ℕ). Appends old new x) (s ∙ told.1 ∙ ap (λ (x : List ℕ). x ++ told.0) b) a)
 
 -- nothing more was printed
 kept : (old new : Option (List ℕ)) → Appends old new [] → Keeps old new
@@ -69,6 +79,5 @@ pub bad_or_unread : (asked : Option Job) (old new : Option (List ℕ)) (done : R
     → done_status done ≡ 3 → Keeps old new ⊎ IsEnded asked Bad old new
 bad_or_unread asked old new (Ok Done) before after shown b s a ok err three = absurd (cc)
 bad_or_unread asked old new (Ok Refused) before after shown b s a ok err three = absurd (cc)
-bad_or_unread asked old new (Ok Bad) before after shown b s a ok err three =
-    inr (ok.0, ok.1, ok.2.0, ok.2.2, subst (λ (x : List ℕ). Appends old new x) (s ∙ ok.2.1 ∙ ap (λ (x : List ℕ). x ++ ok.2.0) b) a)
+bad_or_unread asked old new (Ok Bad) before after shown b s a ok err three = inr (ended_so asked Bad old new (Ok Bad) before after shown b s a ok refl)
 bad_or_unread asked old new (Err stop) before after shown b s a ok err three = inl (kept old new (subst (λ (x : List ℕ). Appends old new x) (s ∙ err three ∙ b) a))

@@ -1,5 +1,5 @@
 -- The command line, computed from the definitions.
-use Rattle.std.proofs.Common.{refl, ◌≡◌, [], ◌∷◌, true, Some, map}
+use Rattle.std.proofs.Common.{refl, ◌≡◌, [], ◌∷◌, true, map}
 use Rattle.std.specs.Prelude.{codes, drop, length, take}
 use Rattle.mx_words.specs.CommandLine.{office, office_with_words, word}
 

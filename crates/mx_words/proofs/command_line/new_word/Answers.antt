@@ -1,7 +1,7 @@
-use Rattle.std.proofs.Common.{rules, ◌≡◌, ◌∷◌, [], ◌++◌, map, take, false, ℕ, ◌+◌, List, Bor, get_or, ap, ap₂, sym, ◌∙◌}
+use Rattle.std.proofs.Common.{rules, map, take, ℕ, List, Bor, ap, ap₂, sym, ◌∙◌}
 use Rattle.std.proofs.lemmas.List.{map_more}
-use Rattle.clap.specs.Words.{rule_of, with_rule}
-use Rattle.mx_words.specs.CommandLine.{IsApp, value_rule, word}
+use Rattle.clap.specs.Words.{with_rule}
+use Rattle.mx_words.specs.CommandLine.{word}
 use Rattle.mx_words.proofs.CommandLineLemmas.{word_more}
 use Rattle.mx_words.proofs.command_line.new_word.Goals as goal
 
