@@ -1,6 +1,7 @@
 //! Importing a sector log into an open office: a line for each row.
 ghost use Rattle.std.specs.Prelude.{◌≡◌, ◌⊎◌, ◌++◌, Some, None, IfOk, IfErr};
 ghost use Rattle.sqlite.specs.Held.{state};
+ghost use Rattle.mx_import.specs.Import.{AreRowsOf, IsFaultOf};
 ghost use Rattle.mx_import.specs.Text.{row_lines};
 ghost use Rattle.mx_words.specs.Imported.{import_ending, AreTold};
 ghost use Rattle.mx_words.specs.Status.{stop_status};
@@ -63,6 +64,10 @@ pub(crate) fn import_all<S: Alter, R: Read>(
         (state S.Store office.old.conn) (state S.Store office.new.conn) }
     ensures unread { IfErr result (λ stop. stop_status stop ≡ 3
         → (out.new.items ≡ out.old.items) × (office.new ≡ office.old)) }
+    ensures fault { (fault : _) → result ≡ Err (Stop.Intake fault)
+        → IsFaultOf (R.remaining reader.old) fault }
+    ensures lines { result ≡ Err Stop.Print → (rows : _)
+        × AreRowsOf (R.remaining reader.old) rows }
     ensures status { IfErr result (λ stop. (stop_status stop ≡ 3) ⊎ (stop_status stop ≡ 4)) }
 {
     match import(alloc, office, reader) {
