@@ -1,8 +1,9 @@
 # The commands of this repository. README.md says what they need and print.
 .DEFAULT_GOAL := run
-.PHONY: run test plants
+.PHONY: run test plants install
 
 RT      ?= rt
+PREFIX  ?= /usr/local
 EXAMPLE  = try D-ABCD 60000 800 2024-03-01T08:00 2024-03-01T09:30 1
 SOURCES  = crates.txt $(shell find crates -type f -not -path '*/out/*')
 # how many checks the gate runs side by side, each with one job: one a processor, of which each has 5 GB of memory
@@ -14,13 +15,15 @@ run:
 	echo "not built yet: running unproved (make office builds the proved program)" >&2; \
 	cd crates/mx_cli && $(RT) try -- $(EXAMPLE); fi
 
-# the gate, from nothing; where it passes, the program that it proved and ran is left as ./office, and the transcripts
-# are compared with what that prints, the manual page with its helps, and the answers of its desk with what is written
+# the gate, from nothing; where it passes, the program that it proved and ran is left
+# as ./office, and the transcripts are compared with what that prints, the page of the file with a file that it makes, the
+# manual page with its helps, and the answers of its desk with what is written
 test:
 	@scripts/definitions --check
 	@RT_JOBS=$${RT_JOBS:-$(JOBS)} $(RT) ci
 	@install -m 755 crates/mx_cli/out/mx_cli office
 	@scripts/check-transcripts
+	@scripts/file-page
 	@scripts/man --check
 	@scripts/desk.py
 
@@ -32,3 +35,9 @@ plants:
 office: $(SOURCES)
 	cd crates/mx_cli && $(RT) run -- $(EXAMPLE) > /dev/null
 	install -m 755 crates/mx_cli/out/mx_cli $@
+
+# the program and its manual page, under PREFIX
+install: office
+	install -d "$(DESTDIR)$(PREFIX)/bin" "$(DESTDIR)$(PREFIX)/share/man/man1"
+	install -m 755 office "$(DESTDIR)$(PREFIX)/bin/office"
+	install -m 644 man/office.1 "$(DESTDIR)$(PREFIX)/share/man/man1/office.1"
