@@ -1,5 +1,5 @@
 #!/usr/bin/env python3
-"""What the program's work costs, beside SQLite and Python on the same work: prints the table of README.md.
+"""What the program's work costs, beside SQLite and Python on the same work: prints the table of docs/COST.md.
 
 usage: scripts/cost.py [--office PROGRAM] [--turns N] [--only TEXT]
 
