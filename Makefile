@@ -9,7 +9,7 @@ SOURCES  = crates.txt $(shell find crates -type f -not -path '*/out/*')
 # how many checks the gate runs side by side, each with one job: one a processor, of which each has 5 GB of memory
 JOBS     = $(shell awk -v n="$$(nproc)" '/^MemAvailable/ { m = int($$2 / 5000000); print m < 1 ? 1 : m < n ? m : n }' /proc/meminfo)
 
-# the example: by the proved program where it is built, else unproved in a minute or two, and it says which
+# the example: by the proved program where it is built, else unproved in a few minutes, and it says which
 run:
 	@if [ -x office ]; then ./office $(EXAMPLE); else \
 	echo "not built yet: running unproved (make office builds the proved program)" >&2; \
