@@ -121,3 +121,7 @@ a_minute_over = refl
 an_hour_over : hours_text (negsuc 59) ≡ codes "-1:00"
 unfolding digits
 an_hour_over = refl
+
+-- the last day, 2199-12-31, and its last minute
+last_of_the_calendar : last_day ∷ last_moment ∷ [] ≡ 84005 ∷ 120968639 ∷ []
+last_of_the_calendar = refl

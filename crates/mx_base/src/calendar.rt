@@ -1,8 +1,9 @@
 //! The calendar: dates by their parts, and the day numbers that count them from 1970-01-01.
 ghost use Rattle.std.specs.Prelude.{◌≡◌, ◌≢◌, ℕ, ◌+◌, ◌*◌, ◌/◌, ◌%◌, ◌<◌, ◌≤◌, ◌↔◌, ◌++◌, pos, ◌+ℤ◌, length, IfSome, IfNone, IsSome, Some};
 ghost use Rattle.jiff_core.specs.Date.{epoch_day};
-ghost use Rattle.mx_base.specs.Calendar.{date_of, HasSmallParts, IsDayOf};
+ghost use Rattle.mx_base.specs.Calendar.{date_of, last_day, HasSmallParts, IsDayOf};
 
+use crate::days::LAST_DAY;
 use jiff::civil;
 use jiff_core::civil::Date as Plain;
 
@@ -19,7 +20,7 @@ pub struct CivilDate {
 
 /// The date of a day number.
 pub(crate) fn date_of_day(number: u32) -> CivilDate
-    requires { number ≤ 84_005 }
+    requires { number ≤ last_day }
     ensures value { result ≡ date_of number }
     ensures calendar { IsDayOf result number }
     ensures small { HasSmallParts result }
@@ -35,8 +36,8 @@ pub(crate) fn date_of_day(number: u32) -> CivilDate
 /// The day number of a date from 1970-01-01 to 2199-12-31.
 pub(crate) fn day_of_date(date: CivilDate) -> Option<u32>
     requires { HasSmallParts date }
-    ensures some { IfSome result (λ n. (n ≤ 84_005) × (date_of n ≡ date) × IsDayOf date n) }
-    ensures none { IfNone result ((n : ℕ) → n ≤ 84_005 → date_of n ≢ date) }
+    ensures some { IfSome result (λ n. (n ≤ last_day) × (date_of n ≡ date) × IsDayOf date n) }
+    ensures none { IfNone result ((n : ℕ) → n ≤ last_day → date_of n ≢ date) }
 {
     match civil::Date::new(date.year as i16, date.month as i8, date.day as i8) {
         Ok(found) => days_after_epoch(found.to_plain()),
@@ -45,18 +46,18 @@ pub(crate) fn day_of_date(date: CivilDate) -> Option<u32>
 }
 
 fn date_after_epoch(days: u32) -> Plain
-    requires { days ≤ 84_005 }
+    requires { days ≤ last_day }
     ensures { epoch_day result ≡ pos days }
 {
     Plain::from_unix_epoch_day(days as i64).unwrap()
 }
 
 fn days_after_epoch(date: Plain) -> Option<u32>
-    ensures some { IfSome result (λ n. (n ≤ 84_005) × (epoch_day date ≡ pos n)) }
-    ensures none { IfNone result ((n : ℕ) → n ≤ 84_005 → epoch_day date ≢ pos n) }
+    ensures some { IfSome result (λ n. (n ≤ last_day) × (epoch_day date ≡ pos n)) }
+    ensures none { IfNone result ((n : ℕ) → n ≤ last_day → epoch_day date ≢ pos n) }
 {
     let days = date.to_unix_epoch_day();
-    if days < 0 || days > 84_005 {
+    if days < 0 || days > LAST_DAY as i32 {
         return None;
     }
     Some(days as u32)

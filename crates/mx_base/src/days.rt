@@ -19,12 +19,13 @@ pub struct Day {
 
 impl Model for Day {
     ghost use Rattle.std.specs.Prelude.{ℕ, ◌≤◌};
+    ghost use Rattle.mx_base.specs.declared.days.TheConstants.{LAST_DAY};
 
     ghost Value = { ℕ };
 
     ghost view = { λ d. d.number };
 
-    ghost invariant = { λ d. d.number ≤ 84_005 };
+    ghost invariant = { λ d. d.number ≤ LAST_DAY };
 
     ghost inverse = { λ n. record { number = n } };
 }

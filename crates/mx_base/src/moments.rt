@@ -24,12 +24,13 @@ pub struct Moment {
 
 impl Model for Moment {
     ghost use Rattle.std.specs.Prelude.{ℕ, ◌≤◌};
+    ghost use Rattle.mx_base.specs.declared.moments.TheConstants.{LAST_MOMENT};
 
     ghost Value = { ℕ };
 
     ghost view = { λ m. m.number };
 
-    ghost invariant = { λ m. m.number ≤ 120_968_639 };
+    ghost invariant = { λ m. m.number ≤ LAST_MOMENT };
 
     ghost inverse = { λ n. record { number = n } };
 }

@@ -26,52 +26,9 @@ use Rattle.mx_book.specs.Judge.{judge, judge_by, known_from, known_same, refusal
 use Rattle.mx_book.specs.Span.{fitted, is_taken}
 use Rattle.mx_book.specs.Book.{is_new, is_book_from, IsBook}
 
--- what refuses an aircraft refuses the command that adds it
-pub refusals-Added : (book : List Entry) (act : Act) (a : Aircraft) (r : Option Refusal) → aircraft_of act ≡ Some a → ((ps : List (List ℕ × List ℕ)) → r ≡ first_of (refusals book (Added a ps))) → r ≡ first_of (refusals book act)
-refusals-Added book (Added b ps) a r e h = let same : a ≡ b = cc in h ps ∙ ap (λ x. first_of (refusals book (Added x ps))) same
-refusals-Added book _ a r e h = (cc)
-
--- what refuses a programme refuses the command that loads it
-pub refusals-Loaded : (book : List Entry) (act : Act) (p : Programme) (r : Option Refusal) → programme_of act ≡ Some p → ((tasks : List Task) → r ≡ first_of (refusals book (Loaded p tasks))) → r ≡ first_of (refusals book act)
-refusals-Loaded book (Loaded q tasks) p r e h = let same : p ≡ q = cc in h tasks ∙ ap (λ x. first_of (refusals book (Loaded x tasks))) same
-refusals-Loaded book _ p r e h = (cc)
-
--- a command that shows a thing says that thing
-pub listed_as : (act : Act) (c : Component) → component_of act ≡ Some c → act ≡ Listed c
-listed_as (Listed x) c e = cc
-listed_as _ c e = (cc)
-
-pub opened_as : (act : Act) (o : Opening) → opening_of act ≡ Some o → act ≡ Opened o
-opened_as (Opened x) o e = cc
-opened_as _ o e = (cc)
-
-pub flown_as : (act : Act) (s : Sector) → sector_of act ≡ Some s → act ≡ Flown s
-flown_as (Flown x) s e = cc
-flown_as _ s e = (cc)
-
-pub fitted_as : (act : Act) (f : Fitting) → fitting_of act ≡ Some f → act ≡ Fitted f
-fitted_as (Fitted x) f e = cc
-fitted_as _ f e = (cc)
-
-pub removed_as : (act : Act) (r : Removal) → removal_of act ≡ Some r → act ≡ Removed r
-removed_as (Removed x) r e = cc
-removed_as _ r e = (cc)
-
-pub released_as : (act : Act) (r : Release) → release_of act ≡ Some r → act ≡ Released r (lines_of act)
-released_as (Released x lines) r e = let same : x ≡ r = cc in ap (λ y. Released y lines) same
-released_as _ r e = (cc)
-
-pub deferred_as : (act : Act) (d : Deferral) → deferral_of act ≡ Some d → act ≡ Deferred d
-deferred_as (Deferred x) d e = cc
-deferred_as _ d e = (cc)
-
-pub extended_as : (act : Act) (x : Extension) → extension_of act ≡ Some x → act ≡ Extended x
-extended_as (Extended y) x e = cc
-extended_as _ x e = (cc)
-
--- what refuses a command refuses one that says the same
-pub refusals_of : (book : List Entry) (act same : Act) (r : Option Refusal) → act ≡ same → r ≡ first_of (refusals book same) → r ≡ first_of (refusals book act)
-refusals_of book act same r e h = h ∙ ap (λ x. first_of (refusals book x)) (sym e)
+-- what refuses the same that a command says refuses the command
+pub refusals_of : (book : List Entry) (act same : Act) (r : Option Refusal) → same ≡ act → r ≡ first_of (refusals book same) → r ≡ first_of (refusals book act)
+refusals_of book act same r e h = h ∙ ap (λ x. first_of (refusals book x)) e
 
 refused_by : (book : List Entry) (command : Entry) (why : Refusal) (o : Option (ℕ × Entry)) → None ≡ option_map (known_same command) o → Some why ≡ first_of (refusals book command.act) → Refused why ≡ judge_by book command o
 refused_by book command why None unknown h = ap verdict_of h

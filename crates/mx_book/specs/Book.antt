@@ -3,6 +3,7 @@ use Rattle.std.specs.Prelude.{◌≡◌, ◌≤◌, ℕ, zero, suc, length, List
 use Rattle.std.specs.List.{list_all}
 use Rattle.mx_command.specs.Act.{Entry}
 use Rattle.mx_command.specs.Shape.{has_shape}
+use Rattle.mx_book.specs.declared.judging.TheConstants.{MOST_ENTRIES}
 use Rattle.mx_book.specs.declared.verdict.Verdict.{Verdict}
 use Rattle.mx_book.specs.declared.verdict.Verdict.TheVariants.{New, Already, Refused}
 use Rattle.mx_book.specs.Judge.{judge}
@@ -24,7 +25,7 @@ is_book book = is_book_from [] book
 
 -- a book: at most 1,000,000 entries, each of its shape, and each judged new against those before it
 pub record IsBook (book : List Entry) : Type 0 where
-  pub few : length book ≤ 1000000
+  pub few : length book ≤ MOST_ENTRIES
   pub shaped : list_all has_shape book ≡ true
   pub judged : is_book book ≡ true
 

@@ -11,6 +11,7 @@ use Rattle.mx_command.specs.declared.release.Line.{Line}
 use Rattle.mx_command.specs.declared.release.Line.TheVariants.{Done, Rectified}
 use Rattle.mx_command.specs.declared.release.Place.{Place}
 use Rattle.mx_command.specs.declared.release.Place.TheVariants.{Aircraft, Shop}
+use Rattle.mx_book.specs.declared.judging.TheConstants.{MOST_ENTRIES, MOST_AIRCRAFT, MOST_COMPONENTS}
 use Rattle.mx_book.specs.declared.verdict.Refusal.{Refusal}
 use Rattle.mx_book.specs.declared.verdict.Refusal.TheVariants.{Conflict, Full, UnknownAircraft, UnknownComponent, UnknownPosition, UnknownProgramme, UnknownTask, UnknownDefect, AircraftExists, ComponentExists, PositionTaken, AlreadyFitted, NotFitted, WrongPart, ItemElsewhere, TaskClosed, LifeLimit, DefectClosed, OutOfOrder, NotExtendable, AlreadyExtended, ExtensionTooLong, IntervalEnded, WrongRevision, OtherAircraft, OpeningTooLate, OpeningTooLarge, RepeatedLine}
 use Rattle.mx_book.specs.declared.verdict.Verdict.{Verdict}
@@ -110,9 +111,9 @@ defects_named _ = []
 
 -- there is no room: 1,000,000 entries, 50 aircraft for one more, or 5,000 components for one more
 abbrev pub is_full : List Entry → Act → Bool
-is_full book (Added a positions) = nat_le 1000000 (length book) || nat_le 50 (length (register aircraft_of book))
-is_full book (Listed c) = nat_le 1000000 (length book) || nat_le 5000 (length (register component_of book))
-is_full book _ = nat_le 1000000 (length book)
+is_full book (Added a positions) = nat_le MOST_ENTRIES (length book) || nat_le MOST_AIRCRAFT (length (register aircraft_of book))
+is_full book (Listed c) = nat_le MOST_ENTRIES (length book) || nat_le MOST_COMPONENTS (length (register component_of book))
+is_full book _ = nat_le MOST_ENTRIES (length book)
 
 -- a registration is named that no aircraft has
 abbrev pub names_unknown_aircraft : List Entry → Act → Bool

@@ -10,6 +10,7 @@ ghost use Rattle.mx_book.specs.Register.{birth};
 ghost use Rattle.mx_book.specs.Life.{life_at};
 ghost use Rattle.mx_book.specs.Lists.{use_or_none};
 ghost use Rattle.mx_book.specs.Base.{DoneIn, accomplished_by, task_then, base_of, base_from, base, due_by, due};
+ghost use Rattle.mx_book.specs.declared.judging.TheConstants.{MOST_ENTRIES};
 
 use crate::life_list::life_or_none;
 use crate::lives::life;
@@ -22,7 +23,7 @@ use mx_due::{base_done, due_after};
 // The life of an item up to a moment, or none at all where the item is unknown.
 #[tactic(auto, using(crate::proofs::LifeLemmas::life_bounded))]
 fn life_reached(entries: &[Command], item: &Item, moment: Moment) -> Use
-    requires few { length entries.now ≤ 1000000 }
+    requires few { length entries.now ≤ MOST_ENTRIES }
     requires shaped { list_all has_shape entries.now ≡ true }
     ensures life { result ≡ use_or_none (life_at entries.now item.now moment) }
     ensures bounded { IsLife result }
@@ -73,7 +74,7 @@ fn base_of_work(
     number: usize,
     release: &Release,
 ) -> Base
-    requires few { length entries.now ≤ 1000000 }
+    requires few { length entries.now ≤ MOST_ENTRIES }
     requires shaped { list_all has_shape entries.now ≡ true }
     requires number { number ≤ length entries.now }
     requires before { IfSome before IsBase }
@@ -96,7 +97,7 @@ fn base_after_lines(
     release: &Release,
     lines: &[Line],
 ) -> Option<Base>
-    requires few { length entries.now ≤ 1000000 }
+    requires few { length entries.now ≤ MOST_ENTRIES }
     requires shaped { list_all has_shape entries.now ≡ true }
     requires number { number ≤ length entries.now }
     requires before { IfSome before IsBase }
@@ -140,7 +141,7 @@ fn base_after_entry(
     number: usize,
     entry: &Command,
 ) -> Option<Base>
-    requires few { length entries.now ≤ 1000000 }
+    requires few { length entries.now ≤ MOST_ENTRIES }
     requires shaped { list_all has_shape entries.now ≡ true }
     requires number { number ≤ length entries.now }
     requires before { IfSome before IsBase }
@@ -189,7 +190,7 @@ fn base_after_entry(
 
 /// The base of the last accomplishment of a task of an item, or `None` without one.
 pub(crate) fn last_base(entries: &[Command], item: &Item, id: &TaskId) -> Option<Base>
-    requires few { length entries.now ≤ 1000000 }
+    requires few { length entries.now ≤ MOST_ENTRIES }
     requires shaped { list_all has_shape entries.now ≡ true }
     ensures base { result ≡ base entries.now item.now id.now }
     ensures bounded { IfSome result IsBase }
@@ -207,7 +208,7 @@ pub(crate) fn last_base(entries: &[Command], item: &Item, id: &TaskId) -> Option
 
 /// When a task of a programme is due on an item, or `None` where it does not apply to it or is due no more.
 pub(crate) fn due_of_task(entries: &[Command], item: &Item, task: &Task) -> Option<Limit>
-    requires few { length entries.now ≤ 1000000 }
+    requires few { length entries.now ≤ MOST_ENTRIES }
     requires shaped { list_all has_shape entries.now ≡ true }
     requires shape { task_shape task.now ≡ true }
     ensures { result ≡ due_by entries.now item.now task.now }
@@ -230,7 +231,7 @@ pub(crate) fn due_of_kind(
     kind: &Kind,
     id: &TaskId,
 ) -> Option<Limit>
-    requires few { length entries.now ≤ 1000000 }
+    requires few { length entries.now ≤ MOST_ENTRIES }
     requires shaped { list_all has_shape entries.now ≡ true }
     ensures { result ≡ due entries.now item.now kind.now id.now }
 {

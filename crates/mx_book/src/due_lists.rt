@@ -7,6 +7,7 @@ ghost use Rattle.mx_book.specs.Life.{life_now};
 ghost use Rattle.mx_book.specs.Lists.{use_or_none};
 ghost use Rattle.mx_book.specs.DueList.{row_by_due, task_row, task_before, tasks_by_name, rows_of_item, rows_of_part, defect_row, rows_by_place, due_list};
 ghost use Rattle.mx_book.specs.Ranks.{tasks_rank};
+ghost use Rattle.mx_book.specs.declared.judging.TheConstants.{MOST_ENTRIES};
 
 use crate::bases::due_of_task;
 use crate::defects::{Defect, category_letter, last_day_of, list_open_defects};
@@ -45,7 +46,7 @@ fn tasks_in_order(alloc: Global, entries: &[Command], kind: &Kind) -> Result<Row
 
 // The life of an item with all of its sectors, or none at all where the item is unknown.
 fn life_of(entries: &[Command], item: &Item) -> Use
-    requires few { length entries.now ≤ 1000000 }
+    requires few { length entries.now ≤ MOST_ENTRIES }
     requires shaped { list_all has_shape entries.now ≡ true }
     ensures { result ≡ use_or_none (life_now entries.now item.now) }
 {
@@ -80,7 +81,7 @@ fn row_of_task(
     place: Option<(Position, Serial)>,
     task: &Task,
 ) -> Option<DueRow>
-    requires few { length entries.now ≤ 1000000 }
+    requires few { length entries.now ≤ MOST_ENTRIES }
     requires shaped { list_all has_shape entries.now ≡ true }
     requires life { life.now ≡ use_or_none (life_now entries.now item.now) }
     requires shape { task_shape task.now ≡ true }
@@ -101,7 +102,7 @@ fn append_item(
     item: &Item,
     place: &Option<(Position, Serial)>,
 ) -> Result<(), AllocError>
-    requires few { length entries.now ≤ 1000000 }
+    requires few { length entries.now ≤ MOST_ENTRIES }
     requires shaped { list_all has_shape entries.now ≡ true }
     requires shape { list_all task_shape tasks.now ≡ true }
     ensures { OnOk result (rows.new.items
@@ -126,7 +127,7 @@ fn append_part(
     tasks: &[Task],
     part: &FittedPart,
 ) -> Result<(), AllocError>
-    requires few { length entries.now ≤ 1000000 }
+    requires few { length entries.now ≤ MOST_ENTRIES }
     requires shaped { list_all has_shape entries.now ≡ true }
     requires shape { list_all task_shape tasks.now ≡ true }
     ensures { OnOk result (rows.new.items
@@ -151,7 +152,7 @@ fn append_parts(
     tasks: &[Task],
     parts: &[FittedPart],
 ) -> Result<(), AllocError>
-    requires few { length entries.now ≤ 1000000 }
+    requires few { length entries.now ≤ MOST_ENTRIES }
     requires shaped { list_all has_shape entries.now ≡ true }
     requires shape { list_all task_shape tasks.now ≡ true }
     ensures { OnOk result (rows.new.items
@@ -208,7 +209,7 @@ pub(crate) fn placed_rows(
     kind: &Kind,
     day: Day,
 ) -> Result<Vec<DueRow>, AllocError>
-    requires few { length entries.now ≤ 1000000 }
+    requires few { length entries.now ≤ MOST_ENTRIES }
     requires shaped { list_all has_shape entries.now ≡ true }
     ensures { IfOk result
         (λ rows. rows.items ≡ rows_by_place entries.now tail.now kind.now day) }
@@ -237,7 +238,7 @@ pub(crate) fn list_dues(
     tail: &Tail,
     day: Day,
 ) -> Result<Option<DueList>, AllocError>
-    requires few { length entries.now ≤ 1000000 }
+    requires few { length entries.now ≤ MOST_ENTRIES }
     requires shaped { list_all has_shape entries.now ≡ true }
     ensures { IfOk result (λ list. list ≡ due_list entries.now tail.now day) }
 {

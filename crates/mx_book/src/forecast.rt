@@ -5,6 +5,7 @@ ghost use Rattle.mx_command.specs.Shape.{has_shape};
 ghost use Rattle.mx_due.specs.Reach.{IsLeastIfAny};
 ghost use Rattle.mx_book.specs.Forecast.{is_reached_after, row_after, forecast_row, sooner, forecast};
 ghost use Rattle.mx_book.specs.Ranks.{forecast_rank};
+ghost use Rattle.mx_book.specs.declared.judging.TheConstants.{MOST_ENTRIES};
 
 use crate::due_lists::placed_rows;
 use crate::due_row::DueRow;
@@ -133,7 +134,7 @@ pub(crate) fn list_forecast(
     minutes: u32,
     cycles: u32,
 ) -> Result<Option<ForecastList>, AllocError>
-    requires few { length entries.now ≤ 1000000 }
+    requires few { length entries.now ≤ MOST_ENTRIES }
     requires shaped { list_all has_shape entries.now ≡ true }
     ensures { IfOk result
         (λ list. list ≡ forecast entries.now tail.now day days minutes cycles) }

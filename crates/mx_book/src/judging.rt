@@ -13,7 +13,7 @@ use crate::judging_releases::refusal_of_release;
 use crate::lives::clock_of_airframe;
 use crate::register::{aircraft_count, aircraft_of_tail, component_count, component_of_serial};
 use crate::verdict::{Refusal, Verdict};
-use mx_command::{Aircraft, Command, Component, Sector};
+use mx_command::{Aircraft, Command, Component, Said, Sector};
 
 /// The most entries of a book.
 pub const MOST_ENTRIES: usize = 1_000_000;
@@ -26,7 +26,7 @@ pub const MOST_COMPONENTS: usize = 5_000;
 
 // The number of the entry with the document of a command, and whether it is the same.
 fn known(entries: &[Command], command: &Command) -> Option<(u32, bool)>
-    requires few { length entries.now ≤ 1000000 }
+    requires few { length entries.now ≤ MOST_ENTRIES }
     ensures { result ≡ option_map (known_same command.now)
         (known_from command.now.doc 1 entries.now) }
 {
@@ -90,46 +90,27 @@ fn refusal_of_sector(entries: &[Command], sector: &Sector) -> Option<Refusal>
 
 // Why a command whose document is new is refused.
 fn refusal(entries: &[Command], command: &Command) -> Option<Refusal>
-    requires few { length entries.now ≤ 1000000 }
+    requires few { length entries.now ≤ MOST_ENTRIES }
     requires shaped { list_all has_shape entries.now ≡ true }
     ensures { result ≡ first_of (refusals entries.now command.now.act) }
 {
-    if let Some(aircraft) = command.added_aircraft() {
-        return refusal_of_aircraft(entries, &aircraft);
+    match command.said() {
+        Said::Aircraft(aircraft, _) => refusal_of_aircraft(entries, &aircraft),
+        Said::Component(component) => refusal_of_component(entries, &component),
+        Said::Programme(programme, _) => refusal_of_programme(entries, &programme),
+        Said::Opening(opening) => refusal_of_opening(entries, &opening),
+        Said::Sector(sector) => refusal_of_sector(entries, &sector),
+        Said::Fitting(fitting) => refusal_of_fitting(entries, &fitting),
+        Said::Removal(removal) => refusal_of_removal(entries, &removal),
+        Said::Release(release, lines) => refusal_of_release(entries, &release, lines),
+        Said::Deferral(deferral) => refusal_of_deferral(entries, &deferral),
+        Said::Extension(extension) => refusal_of_extension(entries, &extension),
     }
-    if let Some(component) = command.added_component() {
-        return refusal_of_component(entries, &component);
-    }
-    if let Some(programme) = command.loaded_programme() {
-        return refusal_of_programme(entries, &programme);
-    }
-    if let Some(opening) = command.stated_opening() {
-        return refusal_of_opening(entries, &opening);
-    }
-    if let Some(sector) = command.flown_sector() {
-        return refusal_of_sector(entries, &sector);
-    }
-    if let Some(fitting) = command.fitting() {
-        return refusal_of_fitting(entries, &fitting);
-    }
-    if let Some(removal) = command.removal() {
-        return refusal_of_removal(entries, &removal);
-    }
-    if let Some(release) = command.release() {
-        return refusal_of_release(entries, &release, command.lines());
-    }
-    if let Some(deferral) = command.deferral() {
-        return refusal_of_deferral(entries, &deferral);
-    }
-    if let Some(extension) = command.extension() {
-        return refusal_of_extension(entries, &extension);
-    }
-    unreachable!()
 }
 
 /// The verdict on a command.
 pub(crate) fn verdict_on(entries: &[Command], command: &Command) -> Verdict
-    requires few { length entries.now ≤ 1000000 }
+    requires few { length entries.now ≤ MOST_ENTRIES }
     requires shaped { list_all has_shape entries.now ≡ true }
     ensures { result ≡ judge entries.now command.now }
 {

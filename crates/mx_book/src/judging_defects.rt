@@ -3,6 +3,7 @@ ghost use Rattle.std.specs.Prelude.{◌≡◌, ℕ, pos, nat_le, nat_lt, length,
 ghost use Rattle.mx_command.specs.Act.{Deferred, Extended};
 ghost use Rattle.mx_book.specs.Defect.{defect as defect_by};
 ghost use Rattle.mx_book.specs.Judge.{refusals, first_of};
+ghost use Rattle.mx_book.specs.declared.judging.TheConstants.{MOST_ENTRIES};
 
 use crate::defects::{
     Defect, defect_of_document, extension_of_defect, has_stated_days, interval_of, last_day_of,
@@ -46,7 +47,7 @@ fn passed(last: i64, day: Day) -> Option<Day>
 
 // Why the interval of this defect is not extended, where there is room for an entry.
 fn refusal_by_defect(entries: &[Command], extension: &Extension, defect: &Defect) -> Option<Refusal>
-    requires room { nat_le 1000000 (length entries.now) ≡ false }
+    requires room { nat_le MOST_ENTRIES (length entries.now) ≡ false }
     requires known { defect_by entries.now extension.now.defect ≡ Some defect.now }
     ensures { result ≡ first_of (refusals entries.now (Extended extension.now)) }
 {

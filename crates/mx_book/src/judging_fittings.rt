@@ -4,6 +4,7 @@ ghost use Rattle.std.specs.List.{list_all};
 ghost use Rattle.mx_command.specs.Act.{Fitted, Removed};
 ghost use Rattle.mx_command.specs.Shape.{has_shape};
 ghost use Rattle.mx_book.specs.Judge.{refusals, first_of};
+ghost use Rattle.mx_book.specs.declared.judging.TheConstants.{MOST_ENTRIES};
 
 use crate::judging::MOST_ENTRIES;
 use crate::lives::{clock_of_airframe, clock_of_component};
@@ -16,7 +17,7 @@ use mx_command::{Command, Fitting, Item, Removal};
 
 /// Why a component is not fitted.
 pub(crate) fn refusal_of_fitting(entries: &[Command], fitting: &Fitting) -> Option<Refusal>
-    requires few { length entries.now ≤ 1000000 }
+    requires few { length entries.now ≤ MOST_ENTRIES }
     requires shaped { list_all has_shape entries.now ≡ true }
     ensures { result ≡ first_of (refusals entries.now (Fitted fitting.now)) }
 {

@@ -4,6 +4,7 @@ ghost use Rattle.std.specs.List.{cons_option, list_all};
 ghost use Rattle.mx_command.specs.Shape.{has_shape};
 ghost use Rattle.mx_book.specs.Lists.{life_list, use_or_none, part_in, part_before, parts_begun, parts_from, parts};
 ghost use Rattle.mx_book.specs.Ranks.{parts_rank};
+ghost use Rattle.mx_book.specs.declared.judging.TheConstants.{MOST_ENTRIES};
 
 use crate::lives::life;
 use crate::order::{Placed, Rows, sorted};
@@ -64,7 +65,7 @@ pub(crate) fn life_or_none(life: Option<Use>) -> Use
 
 // The component of a fitting in its position, with its life.
 fn part_of_fitting(entries: &[Command], fitting: &Fitting) -> Option<FittedPart>
-    requires few { length entries.now ≤ 1000000 }
+    requires few { length entries.now ≤ MOST_ENTRIES }
     requires shaped { list_all has_shape entries.now ≡ true }
     ensures { result ≡ part_in entries.now fitting.now.position fitting.now.serial }
 {
@@ -86,7 +87,7 @@ fn part_begun(
     entry: &Command,
     later: &[Command],
 ) -> Option<FittedPart>
-    requires few { length entries.now ≤ 1000000 }
+    requires few { length entries.now ≤ MOST_ENTRIES }
     requires shaped { list_all has_shape entries.now ≡ true }
     ensures { cons_option result [] ≡ parts_begun entries.now tail.now entry.now later.now }
 {
@@ -108,7 +109,7 @@ fn gathered_parts(
     entries: &[Command],
     tail: &Tail,
 ) -> Result<Vec<FittedPart>, AllocError>
-    requires few { length entries.now ≤ 1000000 }
+    requires few { length entries.now ≤ MOST_ENTRIES }
     requires shaped { list_all has_shape entries.now ≡ true }
     ensures { IfOk result (λ rows. rows.items ≡ parts_from entries.now tail.now entries.now) }
 {
@@ -129,7 +130,7 @@ pub(crate) fn parts_by_position(
     entries: &[Command],
     tail: &Tail,
 ) -> Result<Rows<FittedPart>, AllocError>
-    requires few { length entries.now ≤ 1000000 }
+    requires few { length entries.now ≤ MOST_ENTRIES }
     requires shaped { list_all has_shape entries.now ≡ true }
     ensures { IfOk result (λ rows. rows ≡ parts entries.now tail.now) }
 {
@@ -142,7 +143,7 @@ pub(crate) fn list_lives(
     entries: &[Command],
     tail: &Tail,
 ) -> Result<Option<LifeList>, AllocError>
-    requires few { length entries.now ≤ 1000000 }
+    requires few { length entries.now ≤ MOST_ENTRIES }
     requires shaped { list_all has_shape entries.now ≡ true }
     ensures { IfOk result (λ list. list ≡ life_list entries.now tail.now) }
 {

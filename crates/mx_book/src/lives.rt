@@ -5,6 +5,7 @@ ghost use Rattle.mx_command.specs.Act.{Flown};
 ghost use Rattle.mx_command.specs.Shape.{has_shape, use_shape, sector_shape};
 ghost use Rattle.mx_command.specs.declared.item.Item.TheVariants.{Airframe, Component};
 ghost use Rattle.mx_book.specs.Life.{selected, is_credited, has_landed_by, share, use_after, opening_of, life_until, latest, if_at_aircraft, if_in_shop, airframe_moments, component_moments, clock};
+ghost use Rattle.mx_book.specs.declared.judging.TheConstants.{MOST_ENTRIES};
 
 use crate::register::{aircraft_of_tail, component_of_serial};
 use crate::spans::{is_within_span, latest_removal};
@@ -75,7 +76,7 @@ fn share_of(entries: &[Command], item: &Item, until: Option<u32>, entry: &Comman
 
 // A use, and the sectors that an item is credited with.
 fn use_after_sectors(entries: &[Command], item: &Item, until: Option<u32>, opening: Use) -> Use
-    requires few { length entries.now ≤ 1000000 }
+    requires few { length entries.now ≤ MOST_ENTRIES }
     requires shaped { list_all has_shape entries.now ≡ true }
     requires small { use_shape opening ≡ true }
     ensures { result ≡ use_after (selected entries.now item.now until entries.now) opening }
@@ -94,7 +95,7 @@ fn use_after_sectors(entries: &[Command], item: &Item, until: Option<u32>, openi
 
 /// The life of an item, up to the moment with a number where one is named.
 pub(crate) fn life(entries: &[Command], item: &Item, until: Option<u32>) -> Option<Use>
-    requires few { length entries.now ≤ 1000000 }
+    requires few { length entries.now ≤ MOST_ENTRIES }
     requires shaped { list_all has_shape entries.now ≡ true }
     ensures { result ≡ life_until entries.now item.now until }
 {

@@ -6,6 +6,8 @@ ghost use Rattle.mx_command.specs.Programme.{task_shape};
 ghost use Rattle.mx_command.specs.Same.{same_text};
 ghost use Rattle.mx_command.specs.Shape.{has_shape};
 ghost use Rattle.mx_book.specs.Programme.{tasks_loaded, revision_loaded, tasks_in_force, revision_in_force, next_revision, task_in_force, applies_to, kind_at, tasks_at, task_at, is_done, accomplishes, is_accomplished, is_at_end, is_ended_by, life_ended};
+ghost use Rattle.mx_book.specs.declared.judging.TheConstants.{MOST_ENTRIES};
+ghost use Rattle.mx_command.specs.declared.programme_shape.TheConstants.{LAST_REVISION};
 
 use crate::lives::life;
 use crate::register::{aircraft_of_tail, birth_of, is_component_of_part};
@@ -49,7 +51,7 @@ pub(crate) fn programme_in_force<'a>(entries: &'a [Command], kind: &Kind) -> Opt
 // The revision that an entry loads for a kind.
 fn revision_loaded_by(entry: &Command, kind: &Kind) -> Option<u32>
     ensures revision { result ≡ revision_loaded kind.now entry.now.act }
-    ensures bounded { IfSome result (λ n. n ≤ 1000000) }
+    ensures bounded { IfSome result (λ n. n ≤ LAST_REVISION) }
 {
     match entry.loaded_programme() {
         Some(programme) => {
@@ -66,7 +68,7 @@ fn revision_loaded_by(entry: &Command, kind: &Kind) -> Option<u32>
 // The revision of the programme in force of a kind.
 fn last_revision(entries: &[Command], kind: &Kind) -> Option<u32>
     ensures revision { result ≡ revision_in_force entries.now kind.now }
-    ensures bounded { IfSome result (λ n. n ≤ 1000000) }
+    ensures bounded { IfSome result (λ n. n ≤ LAST_REVISION) }
 {
     let mut found = None;
     let mut rest = entries;
@@ -231,7 +233,7 @@ fn is_retired_with(entries: &[Command], kind: &Kind, item: &Item, day: Day, life
 
 /// Whether a task in force of a kind retires an item by a day, with the life that it has now.
 pub(crate) fn is_retired(entries: &[Command], kind: &Kind, item: &Item, day: Day) -> bool
-    requires few { length entries.now ≤ 1000000 }
+    requires few { length entries.now ≤ MOST_ENTRIES }
     requires shaped { list_all has_shape entries.now ≡ true }
     ensures { result ≡ life_ended entries.now kind.now item.now day }
 {

@@ -8,6 +8,7 @@ use Rattle.mx_command.specs.Act.{Act, Entry, act_of, Added, Listed, Flown, Fitte
 use Rattle.mx_command.specs.Shape.{opening_shape, sector_shape, positions_shape, act_shape, is_log_doc, sector_doc, has_shape, is_sector_shaped, sector_entry}
 use Rattle.mx_command.specs.declared.body.Body.TheVariants as bodies
 use Rattle.mx_command.specs.declared.sector.Sector.{Sector}
+use Rattle.mx_command.specs.declared.shape.TheConstants.{MOST_OPENING_MINUTES, MOST_OPENING_CYCLES, MOST_POSITIONS, LAST_PAGE, LAST_LINE, MOST_SECTOR_MINUTES, MOST_SECTOR_CYCLES, MOST_LINES, MOST_STATED_DAYS, MOST_EXTENSION_DAYS}
 
 abbrev pub abcd : List ℕ
 abcd = codes "D-ABCD"
@@ -195,3 +196,17 @@ body_of_a_sector = refl
 
 body_of_a_component : act_of (bodies.AddComponent (codes "E1") (codes "IO360") 14610 (used 1000 100) 28_401_120) ≡ engine_with 100
 body_of_a_component = refl
+
+-- ── the bounds, as numbers ──
+
+-- minutes and cycles that an item brings with it, and the positions of an aircraft
+most_of_an_item : MOST_OPENING_MINUTES ∷ MOST_OPENING_CYCLES ∷ MOST_POSITIONS ∷ [] ≡ 100000000 ∷ 1000000 ∷ 40 ∷ []
+most_of_an_item = refl
+
+-- page, line, minutes and cycles of a sector
+most_of_a_sector : LAST_PAGE ∷ LAST_LINE ∷ MOST_SECTOR_MINUTES ∷ MOST_SECTOR_CYCLES ∷ [] ≡ 999999 ∷ 99 ∷ 1440 ∷ 50 ∷ []
+most_of_a_sector = refl
+
+-- the lines of a release, the days that an item of the minimum equipment list states, and those of an extension
+most_of_the_rest : MOST_LINES ∷ MOST_STATED_DAYS ∷ MOST_EXTENSION_DAYS ∷ [] ≡ 20 ∷ 365 ∷ 120 ∷ []
+most_of_the_rest = refl

@@ -16,6 +16,7 @@ use Rattle.mx_command.specs.declared.programme.Programme.{Programme}
 use Rattle.mx_command.specs.declared.programme.Task.{Task}
 use Rattle.mx_command.specs.declared.programme.Applies.TheVariants as applies
 use Rattle.mx_command.proofs.Worked.{abcd, used, sector, command, aircraft_with, engine_with, fit, remove}
+use Rattle.mx_command.specs.declared.programme_shape.TheConstants.{LAST_REVISION, MOST_TASKS, MOST_LIMIT_MINUTES, MOST_LIMIT_CYCLES, MOST_LIMIT_DAYS}
 
 abbrev minutes_alone : ℕ → Limit
 minutes_alone n = record { minutes = Some n; cycles = None; days = None }
@@ -210,3 +211,9 @@ other_openings : list_any (same_act (open_task 59000 780 19509)) (open_task 5900
     ∷ Opened (stated (items.Component abcd) 59000 780 19509) ∷ Opened (stated (items.Airframe (codes "D-EFGH")) 59000 780 19509) ∷ [])
     ≡ false
 other_openings = refl
+
+-- ── the bounds, as numbers ──
+
+-- the revision of a programme, its tasks, and the minutes, cycles and days of a limit
+most_of_a_programme : LAST_REVISION ∷ MOST_TASKS ∷ MOST_LIMIT_MINUTES ∷ MOST_LIMIT_CYCLES ∷ MOST_LIMIT_DAYS ∷ [] ≡ 1000000 ∷ 500 ∷ 6000000 ∷ 1000000 ∷ 36500 ∷ []
+most_of_a_programme = refl

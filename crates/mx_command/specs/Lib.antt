@@ -1,4 +1,5 @@
 pub mod Act
+pub mod Said
 pub mod Bounds
 pub mod Same
 pub mod Shape

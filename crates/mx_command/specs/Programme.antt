@@ -9,6 +9,7 @@ use Rattle.mx_command.specs.Bounds.{within, are_distinct}
 use Rattle.mx_command.specs.Same.{same_text}
 use Rattle.mx_command.specs.declared.programme.Programme.{Programme}
 use Rattle.mx_command.specs.declared.programme.Task.{Task}
+use Rattle.mx_command.specs.declared.programme_shape.TheConstants.{LAST_REVISION, MOST_TASKS, MOST_LIMIT_MINUTES, MOST_LIMIT_CYCLES, MOST_LIMIT_DAYS}
 
 -- the number, where there is one, is from 1 to most
 abbrev pub is_limited : ℕ → Option ℕ → Bool
@@ -20,11 +21,13 @@ has_dimension l = is_some l.minutes || (is_some l.cycles || is_some l.days)
 
 -- a limit: some dimension, and 1 to 6,000,000 minutes, 1 to 1,000,000 cycles, 1 to 36,500 days in those that it has
 abbrev pub limit_shape : Limit → Bool
-limit_shape l = has_dimension l && (is_limited 6000000 l.minutes && (is_limited 1000000 l.cycles && is_limited 36500 l.days))
+limit_shape l =
+    has_dimension l
+    && (is_limited MOST_LIMIT_MINUTES l.minutes && (is_limited MOST_LIMIT_CYCLES l.cycles && is_limited MOST_LIMIT_DAYS l.days))
 
 -- a tolerance: up to 6,000,000 minutes, 1,000,000 cycles and 36,500 days
 abbrev pub tolerance_shape : Tolerance → Bool
-tolerance_shape t = nat_le t.minutes 6000000 && (nat_le t.cycles 1000000 && nat_le t.days 36500)
+tolerance_shape t = nat_le t.minutes MOST_LIMIT_MINUTES && (nat_le t.cycles MOST_LIMIT_CYCLES && nat_le t.days MOST_LIMIT_DAYS)
 
 -- there is no tolerance in any dimension
 abbrev pub is_without_tolerance : Tolerance → Bool
@@ -46,4 +49,5 @@ same_name_of_task a b = same_text a.id b.id
 -- a programme: revision 1 to 1,000,000, and 1 to 500 tasks of distinct names
 abbrev pub programme_shape : Programme → List Task → Bool
 programme_shape p tasks =
-    within 1 1000000 p.revision && (within 1 500 (length tasks) && (list_all task_shape tasks && are_distinct same_name_of_task tasks))
+    within 1 LAST_REVISION p.revision
+    && (within 1 MOST_TASKS (length tasks) && (list_all task_shape tasks && are_distinct same_name_of_task tasks))

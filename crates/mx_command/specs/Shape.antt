@@ -10,10 +10,11 @@ use Rattle.mx_command.specs.Same.{same_text}
 use Rattle.mx_command.specs.declared.deferral.Category.{Category}
 use Rattle.mx_command.specs.declared.deferral.Category.TheVariants.{A}
 use Rattle.mx_command.specs.declared.sector.Sector.{Sector}
+use Rattle.mx_command.specs.declared.shape.TheConstants.{MOST_OPENING_MINUTES, MOST_OPENING_CYCLES, MOST_POSITIONS, LAST_PAGE, LAST_LINE, MOST_SECTOR_MINUTES, MOST_SECTOR_CYCLES, MOST_LINES, MOST_STATED_DAYS, MOST_EXTENSION_DAYS}
 
 -- the use that an item brings with it: up to 100,000,000 minutes and 1,000,000 cycles
 abbrev pub use_shape : Use → Bool
-use_shape u = nat_le u.minutes 100000000 && nat_le u.cycles 1000000
+use_shape u = nat_le u.minutes MOST_OPENING_MINUTES && nat_le u.cycles MOST_OPENING_CYCLES
 
 -- an opening of a thing that was built by the day of its as_of
 abbrev pub opening_shape : ℕ → Use → ℕ → Bool
@@ -22,7 +23,8 @@ opening_shape birth opening as_of = use_shape opening && nat_le birth (as_of / 1
 -- a sector: page 1 to 999,999, line 1 to 99, 1 to 1,440 minutes from take-off to landing, 1 to 50 cycles
 abbrev pub sector_shape : Sector → Bool
 sector_shape s =
-    within 1 999999 s.page && (within 1 99 s.line && (within (s.off + 1) (s.off + 1440) s.on && within 1 50 s.cycles))
+    within 1 LAST_PAGE s.page
+    && (within 1 LAST_LINE s.line && (within (s.off + 1) (s.off + MOST_SECTOR_MINUTES) s.on && within 1 MOST_SECTOR_CYCLES s.cycles))
 
 -- the positions have the same name
 abbrev pub same_name : List ℕ × List ℕ → List ℕ × List ℕ → Bool
@@ -30,11 +32,11 @@ same_name a b = same_text a.0 b.0
 
 -- the positions of an aircraft: up to 40, of distinct names
 abbrev pub positions_shape : List (List ℕ × List ℕ) → Bool
-positions_shape positions = nat_le (length positions) 40 && are_distinct same_name positions
+positions_shape positions = nat_le (length positions) MOST_POSITIONS && are_distinct same_name positions
 
 -- the category of a deferred defect: where the item states the days, 1 to 365
 abbrev pub category_shape : Category → Bool
-category_shape (A days) = within 1 365 days
+category_shape (A days) = within 1 MOST_STATED_DAYS days
 category_shape _ = true
 
 -- the shape of what a command says
@@ -46,9 +48,9 @@ act_shape (Opened opening) = use_shape opening.use_then
 act_shape (Flown sector) = sector_shape sector
 act_shape (Fitted fitting) = true
 act_shape (Removed removal) = true
-act_shape (Released release lines) = within 1 20 (length lines)
+act_shape (Released release lines) = within 1 MOST_LINES (length lines)
 act_shape (Deferred deferral) = category_shape deferral.category
-act_shape (Extended extension) = within 1 120 extension.days
+act_shape (Extended extension) = within 1 MOST_EXTENSION_DAYS extension.days
 
 -- a document of the technical log begins with TL/
 abbrev pub is_log_doc : List ℕ → Bool

@@ -12,6 +12,7 @@ use crate::fitting::{Fitting, Removal};
 use crate::opening::Opening;
 use crate::programme::{Programme, Task};
 use crate::release::{Line, Release};
+use crate::said::Said;
 use crate::sector::Sector;
 use mx_base::{Doc, Part, Position};
 use std::alloc::{AllocError, Global};
@@ -60,8 +61,11 @@ impl Model for Command {
 impl Command {
     ghost use Rattle.std.specs.Prelude.{◌↔◌, ◌≤◌, false, IsTrue, OnOk, IfSome, length};
     ghost use Rattle.mx_command.specs.Act.{aircraft_of, component_of, programme_of, tasks_of, opening_of, fitting_of, removal_of, positions_of, release_of, lines_of, deferral_of, extension_of};
+    ghost use Rattle.mx_command.specs.Said.{act_said};
     ghost use Rattle.mx_command.specs.Same.{same_entry};
     ghost use Rattle.mx_command.specs.Programme.{task_shape};
+    ghost use Rattle.mx_command.specs.declared.programme_shape.TheConstants.{LAST_REVISION};
+    ghost use Rattle.mx_command.specs.declared.shape.TheConstants.{MOST_EXTENSION_DAYS, MOST_LINES};
     ghost use Rattle.mx_command.specs.Shape.{has_shape, sector_shape, category_shape, is_sector_shaped, sector_entry};
     ghost use Rattle.std.specs.List.{list_all};
 
@@ -124,6 +128,13 @@ impl Command {
         &self.body
     }
 
+    /// What it says, as one value.
+    pub fn said(&self) -> Said<'_>
+        ensures { act_said result ≡ self.now.act }
+    {
+        self.body.said()
+    }
+
     /// Whether another command has this document and equal contents.
     #[tactic(auto, using(crate::proofs::SameLemmas::entry_same))]
     pub fn is_same(&self, other: &Command) -> bool
@@ -167,7 +178,7 @@ impl Command {
     /// The revision of a programme that it loads, at most 1,000,000.
     pub fn loaded_programme(&self) -> Option<Programme>
         ensures programme { result ≡ programme_of self.now.act }
-        ensures bounded { IfSome result (λ p. p.revision ≤ 1000000) }
+        ensures bounded { IfSome result (λ p. p.revision ≤ LAST_REVISION) }
     {
         self.body.loaded_programme()
     }
@@ -222,7 +233,7 @@ impl Command {
     /// The lines of the release, at most 20; none where it releases nothing.
     pub fn lines(&self) -> &[Line]
         ensures lines { result.now ≡ lines_of self.now.act }
-        ensures few { length (lines_of self.now.act) ≤ 20 }
+        ensures few { length (lines_of self.now.act) ≤ MOST_LINES }
     {
         match &self.body {
             Body::Release { lines, .. } => lines.as_slice(),
@@ -241,7 +252,7 @@ impl Command {
     /// The extension of the interval of a defect, by at most 120 days.
     pub fn extension(&self) -> Option<Extension>
         ensures extension { result ≡ extension_of self.now.act }
-        ensures bounded { IfSome result (λ x. x.days ≤ 120) }
+        ensures bounded { IfSome result (λ x. x.days ≤ MOST_EXTENSION_DAYS) }
     {
         self.body.extension()
     }

@@ -14,7 +14,7 @@ pub mod opening;
 pub mod programme;
 pub mod programme_shape;
 pub mod release;
-mod said;
+pub mod said;
 pub mod sector;
 pub mod shape;
 
@@ -29,4 +29,5 @@ pub use item::Item;
 pub use opening::Opening;
 pub use programme::{Applies, Programme, Task};
 pub use release::{Line, Place, Release};
+pub use said::Said;
 pub use sector::Sector;

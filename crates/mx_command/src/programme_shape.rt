@@ -50,7 +50,7 @@ impl Task {
 
 // Whether a programme may have so many tasks.
 fn is_task_count(count: usize) -> bool
-    ensures { result ≡ within 1 500 count }
+    ensures { result ≡ within 1 MOST_TASKS count }
 {
     1 <= count && count <= MOST_TASKS
 }

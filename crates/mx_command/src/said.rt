@@ -1,6 +1,7 @@
-//! What a body says, a function for each kind of command.
+//! What a body says, each kind of command as one value.
 ghost use Rattle.std.specs.Prelude.{◌≡◌};
 ghost use Rattle.mx_command.specs.Act.{act_of, aircraft_of, component_of, programme_of, opening_of, sector_of, fitting_of, removal_of, release_of, deferral_of, extension_of};
+ghost use Rattle.mx_command.specs.Said.{act_said};
 
 use crate::aircraft::Aircraft;
 use crate::body::Body;
@@ -8,14 +9,40 @@ use crate::component::Component;
 use crate::deferral::{Deferral, Extension};
 use crate::fitting::{Fitting, Removal};
 use crate::opening::Opening;
-use crate::programme::Programme;
-use crate::release::Release;
+use crate::programme::{Programme, Task};
+use crate::release::{Line, Release};
 use crate::sector::Sector;
+use mx_base::{Part, Position};
+
+/// What a command says: a variant for each kind, with what it says as one value, and its list where it has one.
+#[derive(Clone, Copy)]
+pub enum Said<'a> {
+    /// An aircraft comes into the records, with its positions and the part that each takes.
+    Aircraft(Aircraft, &'a [(Position, Part)]),
+    /// A component comes into the records.
+    Component(Component),
+    /// A revision of a maintenance programme comes into force, with its tasks.
+    Programme(Programme, &'a [Task]),
+    /// How far a task of an item had come.
+    Opening(Opening),
+    /// A sector was flown.
+    Sector(Sector),
+    /// A component is fitted.
+    Fitting(Fitting),
+    /// A component is removed.
+    Removal(Removal),
+    /// Maintenance is released, with its lines.
+    Release(Release, &'a [Line]),
+    /// A defect is deferred.
+    Deferral(Deferral),
+    /// The interval of a defect is extended.
+    Extension(Extension),
+}
 
 impl Body {
-    /// The aircraft that it adds.
-    pub fn added_aircraft(&self) -> Option<Aircraft>
-        ensures { result ≡ aircraft_of (act_of self.now) }
+    /// What it says, as one value.
+    pub fn said(&self) -> Said<'_>
+        ensures { act_said result ≡ act_of self.now }
     {
         match self {
             Body::AddAircraft {
@@ -24,14 +51,120 @@ impl Body {
                 birth,
                 opening,
                 as_of,
-                ..
-            } => Some(Aircraft {
-                tail: *tail,
-                kind: *kind,
+                positions,
+            } => Said::Aircraft(
+                Aircraft {
+                    tail: *tail,
+                    kind: *kind,
+                    birth: *birth,
+                    opening: *opening,
+                    as_of: *as_of,
+                },
+                positions.as_slice(),
+            ),
+            Body::AddComponent {
+                serial,
+                part,
+                birth,
+                opening,
+                as_of,
+            } => Said::Component(Component {
+                serial: *serial,
+                part: *part,
                 birth: *birth,
                 opening: *opening,
                 as_of: *as_of,
             }),
+            Body::LoadProgramme {
+                kind,
+                revision,
+                tasks,
+            } => {
+                let programme = Programme {
+                    kind: *kind,
+                    revision: *revision,
+                };
+                Said::Programme(programme, tasks.as_slice())
+            }
+            Body::Opening {
+                item,
+                kind,
+                task,
+                use_then,
+                day,
+            } => Said::Opening(Opening {
+                item: *item,
+                kind: *kind,
+                task: *task,
+                use_then: *use_then,
+                day: *day,
+            }),
+            Body::Sector {
+                tail,
+                page,
+                line,
+                off,
+                on,
+                cycles,
+            } => Said::Sector(Sector {
+                tail: *tail,
+                page: *page,
+                line: *line,
+                off: *off,
+                on: *on,
+                cycles: *cycles,
+            }),
+            Body::Fit {
+                serial,
+                tail,
+                position,
+                moment,
+            } => Said::Fitting(Fitting {
+                serial: *serial,
+                tail: *tail,
+                position: *position,
+                moment: *moment,
+            }),
+            Body::Remove { serial, moment } => Said::Removal(Removal {
+                serial: *serial,
+                moment: *moment,
+            }),
+            Body::Release {
+                place,
+                moment,
+                lines,
+            } => {
+                let release = Release {
+                    place: *place,
+                    moment: *moment,
+                };
+                Said::Release(release, lines.as_slice())
+            }
+            Body::Defer {
+                tail,
+                moment,
+                reference,
+                category,
+            } => Said::Deferral(Deferral {
+                tail: *tail,
+                moment: *moment,
+                reference: *reference,
+                category: *category,
+            }),
+            Body::Extend { defect, day, days } => Said::Extension(Extension {
+                defect: *defect,
+                day: *day,
+                days: *days,
+            }),
+        }
+    }
+
+    /// The aircraft that it adds.
+    pub fn added_aircraft(&self) -> Option<Aircraft>
+        ensures { result ≡ aircraft_of (act_of self.now) }
+    {
+        match self.said() {
+            Said::Aircraft(aircraft, _) => Some(aircraft),
             _ => None,
         }
     }
@@ -40,20 +173,8 @@ impl Body {
     pub fn added_component(&self) -> Option<Component>
         ensures { result ≡ component_of (act_of self.now) }
     {
-        match self {
-            Body::AddComponent {
-                serial,
-                part,
-                birth,
-                opening,
-                as_of,
-            } => Some(Component {
-                serial: *serial,
-                part: *part,
-                birth: *birth,
-                opening: *opening,
-                as_of: *as_of,
-            }),
+        match self.said() {
+            Said::Component(component) => Some(component),
             _ => None,
         }
     }
@@ -62,11 +183,8 @@ impl Body {
     pub fn loaded_programme(&self) -> Option<Programme>
         ensures { result ≡ programme_of (act_of self.now) }
     {
-        match self {
-            Body::LoadProgramme { kind, revision, .. } => Some(Programme {
-                kind: *kind,
-                revision: *revision,
-            }),
+        match self.said() {
+            Said::Programme(programme, _) => Some(programme),
             _ => None,
         }
     }
@@ -75,20 +193,8 @@ impl Body {
     pub fn stated_opening(&self) -> Option<Opening>
         ensures { result ≡ opening_of (act_of self.now) }
     {
-        match self {
-            Body::Opening {
-                item,
-                kind,
-                task,
-                use_then,
-                day,
-            } => Some(Opening {
-                item: *item,
-                kind: *kind,
-                task: *task,
-                use_then: *use_then,
-                day: *day,
-            }),
+        match self.said() {
+            Said::Opening(opening) => Some(opening),
             _ => None,
         }
     }
@@ -97,22 +203,8 @@ impl Body {
     pub fn flown_sector(&self) -> Option<Sector>
         ensures { result ≡ sector_of (act_of self.now) }
     {
-        match self {
-            Body::Sector {
-                tail,
-                page,
-                line,
-                off,
-                on,
-                cycles,
-            } => Some(Sector {
-                tail: *tail,
-                page: *page,
-                line: *line,
-                off: *off,
-                on: *on,
-                cycles: *cycles,
-            }),
+        match self.said() {
+            Said::Sector(sector) => Some(sector),
             _ => None,
         }
     }
@@ -121,18 +213,8 @@ impl Body {
     pub fn fitting(&self) -> Option<Fitting>
         ensures { result ≡ fitting_of (act_of self.now) }
     {
-        match self {
-            Body::Fit {
-                serial,
-                tail,
-                position,
-                moment,
-            } => Some(Fitting {
-                serial: *serial,
-                tail: *tail,
-                position: *position,
-                moment: *moment,
-            }),
+        match self.said() {
+            Said::Fitting(fitting) => Some(fitting),
             _ => None,
         }
     }
@@ -141,11 +223,8 @@ impl Body {
     pub fn removal(&self) -> Option<Removal>
         ensures { result ≡ removal_of (act_of self.now) }
     {
-        match self {
-            Body::Remove { serial, moment } => Some(Removal {
-                serial: *serial,
-                moment: *moment,
-            }),
+        match self.said() {
+            Said::Removal(removal) => Some(removal),
             _ => None,
         }
     }
@@ -154,11 +233,8 @@ impl Body {
     pub fn release(&self) -> Option<Release>
         ensures { result ≡ release_of (act_of self.now) }
     {
-        match self {
-            Body::Release { place, moment, .. } => Some(Release {
-                place: *place,
-                moment: *moment,
-            }),
+        match self.said() {
+            Said::Release(release, _) => Some(release),
             _ => None,
         }
     }
@@ -167,18 +243,8 @@ impl Body {
     pub fn deferral(&self) -> Option<Deferral>
         ensures { result ≡ deferral_of (act_of self.now) }
     {
-        match self {
-            Body::Defer {
-                tail,
-                moment,
-                reference,
-                category,
-            } => Some(Deferral {
-                tail: *tail,
-                moment: *moment,
-                reference: *reference,
-                category: *category,
-            }),
+        match self.said() {
+            Said::Deferral(deferral) => Some(deferral),
             _ => None,
         }
     }
@@ -187,12 +253,8 @@ impl Body {
     pub fn extension(&self) -> Option<Extension>
         ensures { result ≡ extension_of (act_of self.now) }
     {
-        match self {
-            Body::Extend { defect, day, days } => Some(Extension {
-                defect: *defect,
-                day: *day,
-                days: *days,
-            }),
+        match self.said() {
+            Said::Extension(extension) => Some(extension),
             _ => None,
         }
     }

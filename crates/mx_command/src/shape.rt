@@ -99,7 +99,7 @@ impl Body {
 
 // Whether a release may have so many lines.
 fn is_line_count(count: usize) -> bool
-    ensures { result ≡ within 1 20 count }
+    ensures { result ≡ within 1 MOST_LINES count }
 {
     1 <= count && count <= MOST_LINES
 }

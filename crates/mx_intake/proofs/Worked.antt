@@ -15,6 +15,10 @@ use Rattle.serde_json.specs.Events.{items_len}
 use Rattle.serde_json.specs.Read.{read}
 use Rattle.mx_intake.specs.Text.{text_of_bytes}
 use Rattle.mx_intake.specs.Vocabulary.{named_day, day_of_text, named_moment, moment_of_text}
+use Rattle.mx_intake.specs.declared.fault.TheConstants.{MEMORY, NOT_TEXT, MISSING, BAD_VALUE, UNKNOWN_KEY, BAD_SHAPE, BAD_HEADER, TOO_LONG, BAD_ROW, READ_FAILED}
+use Rattle.mx_intake.specs.declared.json.TheConstants.{MOST_COMMANDS}
+use Rattle.mx_intake.specs.declared.sector_rows.TheConstants.{MOST_ROWS}
+use Rattle.mx_intake.specs.declared.text.TheConstants.{MOST_BYTES}
 
 -- what is unfolded to compute the commands of a text
 unfoldable pub intake_on_literals : ⊤
@@ -132,3 +136,14 @@ as_many_entries_as_are_taken ds h = rw h
 deep_lists : read (replicate 200 91) ≡ None
 unfolding intake_on_literals
 deep_lists = refl
+
+-- ── the bounds and the faults, as numbers ──
+
+-- the bytes of a text, the commands of a list, the rows of a log
+most_of_a_text : MOST_BYTES ∷ MOST_COMMANDS ∷ MOST_ROWS ∷ [] ≡ 8388608 ∷ 10000 ∷ 100000 ∷ []
+most_of_a_text = refl
+
+faults_numbered
+    : MEMORY ∷ NOT_TEXT ∷ MISSING ∷ BAD_VALUE ∷ UNKNOWN_KEY ∷ BAD_SHAPE ∷ BAD_HEADER ∷ TOO_LONG ∷ BAD_ROW ∷ READ_FAILED ∷ []
+    ≡ 60 ∷ 61 ∷ 62 ∷ 63 ∷ 64 ∷ 65 ∷ 66 ∷ 67 ∷ 68 ∷ 69 ∷ []
+faults_numbered = refl

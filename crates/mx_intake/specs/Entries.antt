@@ -6,6 +6,7 @@ use Rattle.serde_json.specs.Read.{read}
 use Rattle.mx_command.specs.Act.{Entry}
 use Rattle.mx_intake.specs.declared.fault.IntakeFault.{IntakeFault}
 use Rattle.mx_intake.specs.declared.fault.TheConstants.{BAD_VALUE, TOO_LONG}
+use Rattle.mx_intake.specs.declared.json.TheConstants.{MOST_COMMANDS}
 use Rattle.mx_intake.specs.Fault.{fault}
 use Rattle.mx_intake.specs.Forms.{entry_by_json}
 use Rattle.mx_intake.specs.Sequence.{given_before}
@@ -18,7 +19,7 @@ entries_from place (item d ds) = given_before place (entry_by_json d) (entries_f
 
 -- the commands of a value: of a list of at most 10,000
 abbrev pub entries_of_value : Data → Result (List Entry) IntakeFault
-entries_of_value (array ds) = if nat_lt 10000 (items_len ds) then Err (fault TOO_LONG 0) else entries_from 1 ds
+entries_of_value (array ds) = if nat_lt MOST_COMMANDS (items_len ds) then Err (fault TOO_LONG 0) else entries_from 1 ds
 entries_of_value null = Err (fault BAD_VALUE 0)
 entries_of_value (boolean b) = Err (fault BAD_VALUE 0)
 entries_of_value (number n) = Err (fault BAD_VALUE 0)

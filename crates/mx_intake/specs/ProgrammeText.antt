@@ -6,6 +6,7 @@ use Rattle.mx_command.specs.Programme.{same_name_of_task}
 use Rattle.mx_command.specs.Bounds.{within, are_distinct}
 use Rattle.mx_command.specs.declared.programme.Programme.{Programme}
 use Rattle.mx_command.specs.declared.programme.Task.{Task}
+use Rattle.mx_command.specs.declared.programme_shape.TheConstants.{LAST_REVISION, MOST_TASKS}
 use Rattle.mx_intake.specs.declared.fault.IntakeFault.{IntakeFault}
 use Rattle.mx_intake.specs.declared.fault.TheConstants.{BAD_SHAPE}
 use Rattle.mx_intake.specs.Fault.{fault}
@@ -31,7 +32,7 @@ stated_programme d =
 
 -- revision 1 to 1,000,000, and 1 to 500 tasks
 abbrev pub top_shape : Programme × Items → Bool
-top_shape top = within 1 1000000 top.0.revision && within 1 500 (items_len top.1)
+top_shape top = within 1 LAST_REVISION top.0.revision && within 1 MOST_TASKS (items_len top.1)
 
 -- the programme that a table gives by its form, and the values that are its tasks
 abbrev pub top_by_toml : Data → Result (Programme × Items) ℕ

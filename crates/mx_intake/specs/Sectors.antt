@@ -10,6 +10,7 @@ use Rattle.mx_command.specs.Shape.{has_shape}
 use Rattle.mx_command.specs.declared.sector.Sector.{Sector}
 use Rattle.mx_intake.specs.declared.fault.IntakeFault.{IntakeFault}
 use Rattle.mx_intake.specs.declared.fault.TheConstants.{BAD_VALUE, BAD_HEADER, TOO_LONG, BAD_ROW}
+use Rattle.mx_intake.specs.declared.sector_rows.TheConstants.{MOST_ROWS}
 use Rattle.mx_intake.specs.Fault.{fault}
 use Rattle.mx_intake.specs.Form.{if_read, if_shaped}
 use Rattle.mx_intake.specs.Forms.{logged}
@@ -93,7 +94,7 @@ is_header fields =
 
 -- what the rows give, of which there are at most 100,000
 abbrev pub rows_if_few : List (List (List ℕ)) → Result (List (Result Entry IntakeFault)) IntakeFault
-rows_if_few rows = if nat_lt 100000 (length rows) then Err (fault TOO_LONG 0) else Ok (rows_from 1 rows)
+rows_if_few rows = if nat_lt MOST_ROWS (length rows) then Err (fault TOO_LONG 0) else Ok (rows_from 1 rows)
 
 -- what the records give: the first is the header
 abbrev pub rows_under_header : List (List (List ℕ)) → Result (List (Result Entry IntakeFault)) IntakeFault

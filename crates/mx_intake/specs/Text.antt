@@ -3,12 +3,13 @@ use Rattle.std.specs.Prelude.{ℕ, List, length, nat_lt, Option, Some, None, Res
 use Rattle.std.specs.Str.{is_utf8}
 use Rattle.mx_intake.specs.declared.fault.IntakeFault.{IntakeFault}
 use Rattle.mx_intake.specs.declared.fault.TheConstants.{NOT_TEXT, TOO_LONG}
+use Rattle.mx_intake.specs.declared.text.TheConstants.{MOST_BYTES}
 use Rattle.mx_intake.specs.Fault.{fault}
 
 -- the text of an input: at most 8,388,608 bytes of UTF-8
 unfoldable pub text_of_bytes : List ℕ → Result (List ℕ) IntakeFault
 text_of_bytes bytes =
-    if nat_lt 8388608 (length bytes) then Err (fault TOO_LONG 0)
+    if nat_lt MOST_BYTES (length bytes) then Err (fault TOO_LONG 0)
     else if is_utf8 bytes then Ok bytes
     else Err (fault NOT_TEXT 0)
 

@@ -30,7 +30,7 @@ fn stated(table: &Value) -> Option<(Programme, &[Value])>
 
 /// Whether a programme may have this revision, and so many tasks.
 fn are_within_bounds(revision: u32, tasks: usize) -> bool
-    ensures { result ≡ (within 1 1000000 revision && within 1 500 tasks) }
+    ensures { result ≡ (within 1 LAST_REVISION revision && within 1 MOST_TASKS tasks) }
 {
     1 <= revision && revision <= LAST_REVISION && 1 <= tasks && tasks <= MOST_TASKS
 }

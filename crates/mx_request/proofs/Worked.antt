@@ -7,6 +7,9 @@ use Rattle.mx_request.specs.Head.{head_length, head_of}
 use Rattle.mx_request.specs.Response.{allow_line, response_bytes}
 use Rattle.mx_request.specs.Rejected.{rejection_status, rejection_allows, rejection_body}
 use Rattle.mx_request.specs.declared.rejection.Rejection.TheVariants.{BadRequest, NotFound, WrongMethod, LengthRequired, BodyTooLarge, HeadTooLarge}
+use Rattle.mx_request.specs.declared.head.TheConstants.{MOST_HEAD, MOST_FIELDS}
+use Rattle.mx_request.specs.declared.input.TheConstants.{CHUNK}
+use Rattle.mx_request.specs.declared.length.TheConstants.{MOST_BODY}
 
 empty_and_fine : response_bytes 200 None [] ≡ codes "HTTP/1.1 200 OK\r\nContent-Type: text/plain\r\nContent-Length: 0\r\nConnection: close\r\n\r\n"
 unfolding digits
@@ -51,3 +54,7 @@ body_behind_which_more_stands = refl
 
 body_that_ends_too_soon : whole_body 3 (codes "ab") ≡ None
 body_that_ends_too_soon = refl
+
+-- the bytes and the fields of a head, the bytes of a body, and those that are asked of a read
+most_of_a_request : MOST_HEAD ∷ MOST_FIELDS ∷ MOST_BODY ∷ CHUNK ∷ [] ≡ 8192 ∷ 64 ∷ 65536 ∷ 4096 ∷ []
+most_of_a_request = refl
