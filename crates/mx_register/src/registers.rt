@@ -6,7 +6,7 @@ ghost use Rattle.mx_register.specs.Registers.{aircraft_row, component_row, defer
 ghost use Rattle.mx_command.specs.Act.{act_of};
 ghost use Rattle.mx_command.specs.Shape.{has_shape};
 
-use crate::names::{seq_of_defect, seq_of_item};
+use crate::names::{or_zero, seq_of_defect, seq_of_item};
 use mx_base::{Kind, Limit, Part, Position, Tolerance};
 use mx_book::Book;
 use mx_command::{
@@ -322,7 +322,7 @@ pub fn release_line_row(book: &Book, seq: u32, line: u32, certified: &Line) -> R
         Line::Done(item, task) => {
             // The text of an identifier fits its column.
             let _ = task.as_str();
-            let number = seq_of_item(book, item).unwrap_or(0);
+            let number = or_zero(seq_of_item(book, item));
             ReleaseLineRow {
                 seq,
                 line,
@@ -332,7 +332,7 @@ pub fn release_line_row(book: &Book, seq: u32, line: u32, certified: &Line) -> R
             }
         }
         Line::Rectified(doc) => {
-            let number = seq_of_defect(book, doc).unwrap_or(0);
+            let number = or_zero(seq_of_defect(book, doc));
             ReleaseLineRow {
                 seq,
                 line,
