@@ -2,7 +2,7 @@ use Rattle.sqlite.specs.Held.{state}
 use Rattle.mx_kept.proofs.SchemaLemmas.{has_own_1}
 use Rattle.mx_tables.proofs.SetLemmas.{on_weaker}
 use Rattle.mx_office.proofs.StandsLemmas.{enters, stands_entered}
-use Rattle.mx_office.proofs.adding.add.Goals as goal
+use Rattle.mx_office.proofs.adding.add_command.Goals as goal
 
 pub returns-clause-enters : goal.returns-clause-enters
 returns-clause-enters g c clean begun has holds is_new =

@@ -4,7 +4,7 @@ use Rattle.mx_layout.specs.Crash.{RestsAs}
 use Rattle.mx_layout.specs.Tables.{layout_1}
 use Rattle.mx_layout.proofs.CrashLemmas.{commits_ok}
 use Rattle.mx_office.specs.Stands.{Stands}
-use Rattle.mx_office.proofs.adding.enter.Goals as goal
+use Rattle.mx_office.proofs.adding.commit_command.Goals as goal
 
 pub returns-in-Ok-clause-kept : goal.returns-in-Ok-clause-kept
 returns-in-Ok-clause-kept g c rests is_new =
@@ -13,6 +13,6 @@ returns-in-Ok-clause-kept g c rests is_new =
     let end = c.commit.new.self.0 in
     let same : end ≡ c.conn-2-1.given.0 = search rules in
     subst (λ h. RestsAs (state g.S.Store h) layout_1 (λ trees. Stands trees more)) same
-    (commits_ok g.S.Store layout_1 layout_1 (λ trees. Stands trees book) (λ trees. Stands trees more) c.args.conn.now c.transaction-tx.result.conn.now c.add.new.tx.conn.now c.transaction-tx.ensures.begun rests
-    c.add.ensures.within c.in_ok-add.ensures.inside (λ clean within schema stands. c.in_ok-add.ensures.stands clean within schema stands is_new) end c.commit.ensures.survives
+    (commits_ok g.S.Store layout_1 layout_1 (λ trees. Stands trees book) (λ trees. Stands trees more) c.args.conn.now c.transaction-tx.result.conn.now c.add_command.new.tx.conn.now c.transaction-tx.ensures.begun rests
+    c.add_command.ensures.within c.in_ok-add_command.ensures.inside (λ clean within schema stands. c.in_ok-add_command.ensures.stands clean within schema stands is_new) end c.commit.ensures.survives
     g.met.S.Store.settled (λ clean. (c.in-Ok.ensures.ok clean).1))

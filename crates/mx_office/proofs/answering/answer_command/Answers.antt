@@ -11,7 +11,7 @@ use Rattle.mx_office.specs.Stands.{Stands}
 use Rattle.mx_office.proofs.AnswerLemmas.{no_damage, same_fault}
 use Rattle.mx_office.proofs.OfficeLemmas.{either_made, if_ok_then, loaded_rests, ok_then, rests_made}
 use Rattle.mx_office.proofs.RunLemmas.{was_entered}
-use Rattle.mx_office.proofs.answering.answer.Goals as goal
+use Rattle.mx_office.proofs.answering.answer_command.Goals as goal
 
 pub returns-in_err-book-clause-whole : goal.returns-in_err-book-clause-whole
 returns-in_err-book-clause-whole g c book rests clean table same =
