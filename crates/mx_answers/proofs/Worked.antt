@@ -1,23 +1,18 @@
--- Worked lists of a book, their texts, and what is told of rows, computed from the definitions.
+-- Worked lists of a book, their texts, and lines of faults, computed from the definitions.
 use Rattle.std.proofs.Common.{refl, ◌≡◌, List, [], ◌∷◌, true, false, Some, None}
 use Rattle.std.specs.Prelude.{codes, map}
 use Rattle.std.specs.Fmt.{digits}
 use Rattle.mx_base.specs.Calendar.{date_of}
 use Rattle.mx_base.specs.Texts.{day_text}
 use Rattle.mx_command.specs.Act.{Entry, Added, Flown}
-use Rattle.mx_book.specs.declared.verdict.Refusal.TheVariants.{UnknownAircraft}
-use Rattle.mx_book.specs.declared.verdict.Reply.TheVariants.{Accepted, Already, Refused}
 use Rattle.mx_layout.specs.declared.fault.Table.TheVariants as name
 use Rattle.mx_office.specs.declared.fault.Fault.TheVariants as office
 use Rattle.mx_intake.proofs.Worked.{intake_on_literals}
-use Rattle.mx_import.specs.declared.report.RowReply.TheVariants.{Entered, Bad}
 use Rattle.mx_answers.specs.declared.question.Question.TheVariants as asked
 use Rattle.mx_answers.specs.declared.question.Report.TheVariants as report
 use Rattle.mx_answers.specs.Asking.{due_of, forecast_of, is_in_reach, life_of, limits_of, tail_of}
 use Rattle.mx_answers.specs.FaultLine.{intake_words, line_of, office_words}
 use Rattle.mx_answers.specs.Question.{report_lines, report_of}
-use Rattle.mx_answers.specs.Replies.{is_refusal, lines_of}
-use Rattle.mx_answers.specs.Rows.{is_bad, is_refused_row}
 
 -- D-ABCD, built on 2000-01-01, with 60,000 minutes and 800 cycles as of 2024-01-01T00:00, and its sector of 90 minutes and one cycle
 abbrev flown : List Entry
@@ -103,22 +98,6 @@ text_of_a_forecast = refl
 text_of_limits : report_lines (report.Limits (record { tail = codes "D-ABCD"; day = 19792; rows = [] })) ≡ codes "limits D-ABCD 2024-03-10\nend 0\n"
 unfolding digits day_text date_of
 text_of_limits = refl
-
--- ── replies and rows ──
-
-replies : lines_of (Accepted 1 ∷ Refused UnknownAircraft ∷ []) ≡ codes "accepted 1\nrefused 20\n"
-unfolding digits
-replies = refl
-
-refusals : map is_refusal (Accepted 1 ∷ Already 1 ∷ Refused UnknownAircraft ∷ []) ≡ false ∷ false ∷ true ∷ []
-refusals = refl
-
--- a row that is bad was not refused, and one that was refused is not bad
-bad_rows : map is_bad (Entered (Accepted 2) ∷ Entered (Refused UnknownAircraft) ∷ Bad (record { number = 65; entry = 3 }) ∷ []) ≡ false ∷ false ∷ true ∷ []
-bad_rows = refl
-
-refused_rows : map is_refused_row (Entered (Accepted 2) ∷ Entered (Refused UnknownAircraft) ∷ Bad (record { number = 65; entry = 3 }) ∷ []) ≡ false ∷ true ∷ false ∷ []
-refused_rows = refl
 
 -- ── the line of a fault ──
 

@@ -16,7 +16,7 @@ use Rattle.mx_base.specs.Calendar.{date_of}
 use Rattle.mx_base.specs.Texts.{day_text}
 use Rattle.mx_import.specs.declared.report.RowReply.TheVariants as row
 use Rattle.mx_words.specs.Imported.{import_ending}
-use Rattle.mx_answers.specs.Replies.{is_refusal}
+use Rattle.mx_reports.specs.Replies.{is_refusal}
 use Rattle.mx_words.specs.Status.{stop_status, ending_status, graver, run_ending}
 
 -- words that the program does not take

@@ -8,7 +8,7 @@ use Rattle.mx_layout.specs.Crash.{Leaves}
 use Rattle.mx_office.specs.Stands.{Rests, IsEither}
 use Rattle.mx_office.specs.declared.fault.Fault.{Fault}
 use Rattle.mx_office.specs.declared.fault.Fault.TheVariants.{Store}
-use Rattle.mx_answers.specs.Replies.{lines_of}
+use Rattle.mx_reports.specs.Replies.{lines_of}
 use Rattle.mx_words.specs.declared.fault.Ending.{Ending}
 use Rattle.mx_words.specs.Status.{run_ending}
 

@@ -9,8 +9,8 @@ use Rattle.mx_office.specs.declared.fault.Fault.{Fault}
 use Rattle.mx_import.specs.Import.{AreRowsOf, IsRun}
 use Rattle.mx_import.specs.Rows.{good_rows, told}
 use Rattle.mx_import.specs.Text.{row_lines}
+use Rattle.mx_import.specs.Told.{is_bad, is_refused_row}
 use Rattle.mx_import.specs.declared.report.RowReply.{RowReply}
-use Rattle.mx_answers.specs.Rows.{is_bad, is_refused_row}
 use Rattle.mx_words.specs.declared.fault.Ending.{Ending}
 use Rattle.mx_words.specs.declared.fault.Ending.TheVariants.{Done, Refused, Bad}
 

@@ -2,7 +2,7 @@
 use Rattle.std.specs.Prelude.{◌≡◌, ℕ, List, ◌++◌, Result, Ok, Err, if◌then◌else◌}
 use Rattle.std.specs.List.{list_any}
 use Rattle.mx_book.specs.declared.verdict.Reply.{Reply}
-use Rattle.mx_answers.specs.Replies.{is_refusal}
+use Rattle.mx_reports.specs.Replies.{is_refusal}
 use Rattle.mx_words.specs.declared.fault.Ending.{Ending}
 use Rattle.mx_words.specs.declared.fault.Ending.TheVariants.{Done, Refused, Bad}
 use Rattle.mx_words.specs.declared.fault.Stop.{Stop}

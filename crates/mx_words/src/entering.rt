@@ -5,14 +5,14 @@ ghost use Rattle.sqlite.specs.State.{HasCleanDisk};
 ghost use Rattle.mx_book.specs.Run.{book_run};
 ghost use Rattle.mx_layout.specs.Crash.{Leaves};
 ghost use Rattle.mx_office.specs.Stands.{Rests, IsEither};
-ghost use Rattle.mx_answers.specs.Replies.{lines_of};
+ghost use Rattle.mx_reports.specs.Replies.{lines_of};
 ghost use Rattle.mx_words.specs.Entered.{AreReplyLines, TellsReplies, StopsBehind};
 ghost use Rattle.mx_words.specs.Status.{Shows, stop_status, run_ending};
 
 use crate::fault::{Ending, Stop};
-use mx_answers::{has_refusal, replies_text};
 use mx_command::Command;
 use mx_office::{Fault, Office, Reply};
+use mx_reports::{has_refusal, replies_text};
 use sqlite::Alter;
 use std::alloc::Global;
 

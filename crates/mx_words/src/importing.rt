@@ -7,8 +7,7 @@ ghost use Rattle.mx_words.specs.Imported.{import_ending, AreTold};
 ghost use Rattle.mx_words.specs.Status.{stop_status};
 
 use crate::fault::{Ending, Stop};
-use mx_answers::{has_bad, has_refused};
-use mx_import::{ImportReport, RowReply, import, report_text};
+use mx_import::{ImportReport, RowReply, has_bad, has_refused, import, report_text};
 use mx_office::Office;
 use sqlite::Alter;
 use std::alloc::Global;

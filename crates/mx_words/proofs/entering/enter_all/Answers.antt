@@ -1,6 +1,6 @@
 use Rattle.std.proofs.Common.{◌≡◌, ◌∙◌, ◌++◌, List, ap, length}
 use Rattle.mx_book.specs.declared.verdict.Reply.{Reply}
-use Rattle.mx_answers.specs.Replies.{lines_of}
+use Rattle.mx_reports.specs.Replies.{lines_of}
 use Rattle.mx_words.proofs.entering.enter_all.Goals as goal
 
 pub returns-in_err-print_replies-clause-crash : goal.returns-in_err-print_replies-clause-crash

@@ -1,14 +1,14 @@
-//! The replies to commands, as lines.
+//! The replies to commands: whether one is a refusal, and a line for each.
 ghost use Rattle.std.specs.Prelude.{◌≡◌, ◌++◌, OnOk};
 ghost use Rattle.std.specs.List.{list_any};
-ghost use Rattle.mx_answers.specs.Replies.{is_refusal, lines_of};
+ghost use Rattle.mx_reports.specs.Replies.{is_refusal, lines_of};
 
+use crate::reply::reply_text;
 use mx_book::Reply;
-use mx_reports::reply_text;
 use std::alloc::AllocError;
 
-// Whether a command was refused.
-pub(crate) fn is_refused(reply: &Reply) -> bool
+/// Whether a command was refused.
+pub fn is_refused(reply: &Reply) -> bool
     ensures { result ≡ is_refusal reply.now }
 {
     match reply {
@@ -17,7 +17,7 @@ pub(crate) fn is_refused(reply: &Reply) -> bool
     }
 }
 
-/// Whether a command was refused.
+/// Whether one of some commands was refused.
 pub fn has_refusal(replies: &[Reply]) -> bool
     ensures { result ≡ list_any is_refusal replies.now }
 {

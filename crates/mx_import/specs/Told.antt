@@ -1,8 +1,8 @@
--- What the rows of a sector log are told.
+-- What the rows of a sector log were told: whether one is bad, or was refused.
 use Rattle.std.specs.Prelude.{Bool, true, false}
+use Rattle.mx_reports.specs.Replies.{is_refusal}
 use Rattle.mx_import.specs.declared.report.RowReply.{RowReply}
 use Rattle.mx_import.specs.declared.report.RowReply.TheVariants.{Entered, Bad}
-use Rattle.mx_answers.specs.Replies.{is_refusal}
 
 -- the row states no sector
 abbrev pub is_bad : RowReply → Bool

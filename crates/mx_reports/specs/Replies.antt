@@ -1,4 +1,4 @@
--- The replies to commands, as lines.
+-- The replies to commands: whether one is a refusal, and a line for each.
 use Rattle.std.specs.Prelude.{ℕ, List, Bool, true, false}
 use Rattle.std.specs.List.{flat_map}
 use Rattle.mx_book.specs.declared.verdict.Reply.{Reply}

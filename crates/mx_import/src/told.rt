@@ -1,10 +1,10 @@
-//! What the rows of a sector log are told.
+//! What the rows of a sector log were told: whether one is bad, or was refused.
 ghost use Rattle.std.specs.Prelude.{◌≡◌};
 ghost use Rattle.std.specs.List.{list_any};
-ghost use Rattle.mx_answers.specs.Rows.{is_bad, is_refused_row};
+ghost use Rattle.mx_import.specs.Told.{is_bad, is_refused_row};
 
-use crate::replies::is_refused;
-use mx_import::RowReply;
+use crate::report::RowReply;
+use mx_reports::is_refused;
 
 fn is_bad(row: &RowReply) -> bool
     ensures { result ≡ is_bad row.now }
