@@ -8,7 +8,7 @@ use Rattle.clap.specs.declared.error.kind.ErrorKind.TheVariants.{DisplayHelp, Di
 use Rattle.mx_words.specs.Entered.{AreReplyLines, AreSomeReplyLines}
 use Rattle.mx_words.specs.Imported.{AreRowLines}
 use Rattle.mx_words.specs.Printed.{IsListAnswer}
-use Rattle.mx_words.specs.Served.{served_line}
+use Rattle.mx_serve.specs.Served.{served_line}
 use Rattle.mx_words.specs.Trial.{is_trial_shaped, trial_commands, TellsTrial}
 use Rattle.mx_words.specs.Job.{Job, said, tries, makes, lists, enters, imports, loads, serves}
 use Rattle.mx_words.specs.declared.fault.Ending.{Ending}

@@ -7,6 +7,5 @@ pub mod FaultLine
 pub mod Job
 pub mod Number
 pub mod Printed
-pub mod Served
 pub mod Status
 pub mod Trial

@@ -6,7 +6,7 @@ ghost use Rattle.mx_words.specs.Asked.{IsAnswer};
 ghost use Rattle.mx_words.specs.Entered.{AreReplyLines, AreSomeReplyLines};
 ghost use Rattle.mx_words.specs.Imported.{AreRowLines};
 ghost use Rattle.mx_words.specs.Printed.{IsListAnswer};
-ghost use Rattle.mx_words.specs.Served.{served_line};
+ghost use Rattle.mx_serve.specs.Served.{served_line};
 ghost use Rattle.mx_words.specs.Status.{LeavesUnread, Shows, stop_status};
 
 use crate::entering::enter_all;
@@ -15,13 +15,13 @@ use crate::importing::import_all;
 use crate::listing::print_list;
 use crate::making::{CREATED, make_book};
 use crate::opening::open;
-use crate::serving::serve_all;
 use mx_answers::Question;
 use mx_base::Doc;
 use mx_command::Command;
 use mx_intake::{IntakeFault, MOST_BYTES, READ_FAILED, commands_of_json, programme_of, read_all};
 use mx_layout::TableFault;
 use mx_office::{Fault, Office, OpenFault};
+use mx_serve::serve_connections;
 use sqlite::{Alter, Connection, Error, ErrorCode, FileFrom, FileStore, Wary};
 use std::io::ErrorKind;
 use std::net::{Ipv4Addr, SocketAddr, SocketAddrV4, TcpListener};
@@ -99,7 +99,10 @@ fn serve_at<S: Alter>(
         rt,
         SocketAddr::V4(SocketAddrV4::new(Ipv4Addr::LOCALHOST, port)),
     ) {
-        Ok(listener) => serve_all(rt.alloc(), office, &listener, count, out),
+        Ok(listener) => match serve_connections(rt.alloc(), office, &listener, count, out) {
+            Ok(()) => Ok(Ending::Done),
+            Err(fault) => Err(Stop::Office(fault)),
+        },
         Err(_) => Err(Stop::Net),
     }
 }

@@ -15,9 +15,8 @@ mod making;
 mod opening;
 mod printing;
 pub mod run;
-pub mod serving;
 mod trial;
 mod words;
 
+pub use mx_serve::serve_on;
 pub use run::run_words;
-pub use serving::serve_on;

@@ -1,15 +1,14 @@
-//! `serve`: an open office at a port of the loopback, one connection after the other.
-ghost use Rattle.std.specs.Prelude.{◌≡◌, ◌⊎◌, ◌++◌, false, true, IfOk, IfErr, OnOk};
+//! An open office at a listener, one connection after the other, and what is printed of that.
+ghost use Rattle.std.specs.Prelude.{◌≡◌, ◌⊎◌, ◌++◌, false, true, IfErr, OnOk, OnErr};
 ghost use Rattle.std.specs.Io.KnownBytes.{Appends};
 ghost use Rattle.sqlite.specs.Held.{state};
 ghost use Rattle.mx_book.specs.Run.{book_run};
 ghost use Rattle.mx_office.specs.Stands.{Rests};
 ghost use Rattle.mx_desk.specs.Served.{KeepsBook, LeavesBook, LeavesSome};
-ghost use Rattle.mx_words.specs.Served.{served_line};
+ghost use Rattle.mx_serve.specs.Served.{served_line};
 
-use crate::fault::{Ending, Stop};
-use crate::printing::print_done;
 use itoa::Buffer;
+use mx_answers::write_fault;
 use mx_desk::serve_one;
 use mx_office::{Fault, Office};
 use sqlite::Alter;
@@ -21,6 +20,9 @@ use std::net::{OpenListener, OpenStream, TcpListener, TcpStream};
 const CHUNK_BYTES: usize = 4096;
 
 const MOST_CHUNKS: u32 = 64;
+
+// The status where something stopped the serving, or a stream took less than its part.
+const STOPPED: u8 = 4;
 
 // Appends how many connections were served.
 fn append_served(out: &mut Vec<u8>, count: u32) -> Result<(), AllocError>
@@ -61,19 +63,18 @@ fn serve_next<S: Alter>(alloc: Global, office: &mut Office<S>, listener: &TcpLis
     }
 }
 
-/// Serves so many connections, one after the other, and appends how many they were. It ends before that once the office has
-/// to be opened again.
-pub(crate) fn serve_all<S: Alter>(
+/// Serves so many connections, one after the other, and appends how many they were. It ends before that, with `Store`, once
+/// the office has to be opened again; `Memory` where memory runs out for what is appended.
+pub fn serve_connections<S: Alter>(
     alloc: Global,
     office: &mut Office<S>,
     listener: &TcpListener,
     count: u32,
     out: &mut Vec<u8>,
-) -> Result<Ending, Stop>
-    ensures served { IfOk result (λ ending. (ending ≡ Ending.Done)
-        × (out.new.items ≡ out.old.items ++ served_line count)) }
-    ensures stops { IfErr result (λ stop. (stop ≡ Stop.Print)
-        ⊎ ((stop ≡ Stop.Office Fault.Store) × (office.new.needs_reopen ≡ true))) }
+) -> Result<(), Fault>
+    ensures served { OnOk result (out.new.items ≡ out.old.items ++ served_line count) }
+    ensures stops { IfErr result (λ fault. (fault ≡ Fault.Memory)
+        ⊎ ((fault ≡ Fault.Store) × (office.new.needs_reopen ≡ true))) }
     ensures ready { office.old.needs_reopen ≡ false → OnOk result (office.new.needs_reopen ≡ false) }
     ensures kept { KeepsBook office.old office.new }
     ensures crash { (book : _) → Rests (state S.Store office.old.conn) book → (commands : _)
@@ -82,13 +83,34 @@ pub(crate) fn serve_all<S: Alter>(
     for _ in 0..count {
         serve_next(alloc, office, listener);
         if office.needs_reopen() {
-            return Err(Stop::Office(Fault::Store));
+            return Err(Fault::Store);
         }
     }
     match append_served(out, count) {
-        Ok(()) => Ok(Ending::Done),
-        Err(_) => Err(Stop::Print),
+        Ok(()) => Ok(()),
+        Err(_) => Err(Fault::Memory),
     }
+}
+
+// Prints what was served, and the line of what stopped it. Where a stream does not take its part the other is handed its own
+// all the same, and the status is 4.
+fn print_served<O: Write, E: Write>(
+    text: &[u8],
+    served: Result<(), Fault>,
+    out: &mut O,
+    err: &mut E,
+) -> u8
+    ensures bound { (result ≡ 0) ⊎ (result ≡ 4) }
+    ensures printed { result ≡ 0 → Appends (O.contents out.old) (O.contents out.new) text.now }
+    ensures stopped { OnErr served (result ≡ 4) }
+    ensures quiet { OnOk served (err.new ≡ err.old) }
+{
+    let is_printed = out.write_all(text).is_ok();
+    if let Err(fault) = served {
+        let _ = write_fault(err, fault);
+        return STOPPED;
+    }
+    if is_printed { 0 } else { STOPPED }
 }
 
 /// Serves so many connections at a listener, one after the other, and prints `served COUNT`; or `fault store` once the office
@@ -112,6 +134,6 @@ pub fn serve_on<S: Alter, O: Write, E: Write>(
         × LeavesSome (book_run book commands) (state S.Store office.new.conn) }
 {
     let mut text = Vec::new(rt.alloc());
-    let done = serve_all(rt.alloc(), office, listener, count, &mut text);
-    print_done(&text, done, out, err).status
+    let served = serve_connections(rt.alloc(), office, listener, count, &mut text);
+    print_served(&text, served, out, err)
 }
