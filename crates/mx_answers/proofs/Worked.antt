@@ -1,6 +1,6 @@
 -- Worked lists of a book, their texts, and lines of faults, computed from the definitions.
 use Rattle.std.proofs.Common.{refl, ◌≡◌, List, [], ◌∷◌, true, false, Some, None}
-use Rattle.std.specs.Prelude.{codes, map}
+use Rattle.std.specs.Prelude.{codes, map, is_some}
 use Rattle.std.specs.Fmt.{digits}
 use Rattle.mx_base.specs.Calendar.{date_of}
 use Rattle.mx_base.specs.Texts.{day_text}
@@ -10,7 +10,7 @@ use Rattle.mx_office.specs.declared.fault.Fault.TheVariants as office
 use Rattle.mx_intake.proofs.Worked.{intake_on_literals}
 use Rattle.mx_answers.specs.declared.question.Question.TheVariants as asked
 use Rattle.mx_answers.specs.declared.question.Report.TheVariants as report
-use Rattle.mx_answers.specs.Asking.{due_of, forecast_of, is_in_reach, life_of, limits_of, tail_of}
+use Rattle.mx_answers.specs.Asking.{doc_of, due_of, forecast_of, is_in_reach, life_of, limits_of, tail_of}
 use Rattle.mx_answers.specs.FaultLine.{intake_words, line_of, office_words}
 use Rattle.mx_answers.specs.Question.{report_lines, report_of}
 
@@ -51,6 +51,10 @@ of_another = refl
 -- a registration has up to 8 characters, A to Z, 0 to 9 and the hyphen
 registrations : map tail_of (codes "D-ABCDEF" ∷ codes "D-ABCDEFG" ∷ codes "d-abcd" ∷ codes "" ∷ []) ≡ Some (codes "D-ABCDEF") ∷ None ∷ None ∷ None ∷ []
 registrations = refl
+
+-- a document has up to 40 characters
+longest_document : map (λ text. is_some (doc_of text)) (codes "0123456789012345678901234567890123456789" ∷ codes "01234567890123456789012345678901234567890" ∷ []) ≡ true ∷ false ∷ []
+longest_document = refl
 
 life_asked : map life_of (codes "D-ABCD" ∷ codes "d-abcd" ∷ []) ≡ Some (asked.Life (codes "D-ABCD")) ∷ None ∷ []
 life_asked = refl

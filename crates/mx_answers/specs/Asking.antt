@@ -1,6 +1,6 @@
--- The question that texts ask for a list of an aircraft, if each of them can be read.
+-- What texts name and ask for, if each of them can be read: a registration, a document, and the question for a list of an aircraft.
 use Rattle.std.specs.Prelude.{ℕ, List, Bool, ◌&&◌, nat_le, Option, Some, None, if◌then◌else◌}
-use Rattle.mx_base.specs.Identifier.{is_tail_character}
+use Rattle.mx_base.specs.Identifier.{is_graphic, is_tail_character}
 use Rattle.mx_book.specs.declared.forecast.TheConstants.{MOST_DAYS, MOST_MINUTES, MOST_CYCLES}
 use Rattle.mx_intake.specs.Form.{if_read}
 use Rattle.mx_intake.specs.Vocabulary.{day_of_text, identifier_of}
@@ -10,6 +10,10 @@ use Rattle.mx_answers.specs.declared.question.Question.TheVariants.{Life, Due, F
 -- the registration that a text is
 abbrev pub tail_of : List ℕ → Option (List ℕ)
 tail_of text = identifier_of is_tail_character 8 text
+
+-- the document that a text is
+abbrev pub doc_of : List ℕ → Option (List ℕ)
+doc_of text = identifier_of is_graphic 40 text
 
 -- the question for its life, and those for a list on a day
 abbrev pub life_of : List ℕ → Option Question

@@ -15,8 +15,8 @@ use Rattle.mx_request.specs.Routes.{Asked}
 use Rattle.mx_request.specs.declared.rejection.Rejection.{Rejection}
 use Rattle.mx_desk.specs.Answer.{Answer, rejection_answer}
 use Rattle.mx_desk.specs.Answered.{AnswersIfRoom}
-use Rattle.mx_answers.specs.Asking.{due_of, life_of, limits_of}
-use Rattle.mx_desk.specs.Request.{Request, enters, imports, asks, unread, rejected, entering, entering_one, loading, importing, asking, doc_of, forecast_in_digits, request_of}
+use Rattle.mx_answers.specs.Asking.{doc_of, due_of, life_of, limits_of}
+use Rattle.mx_desk.specs.Request.{Request, enters, imports, asks, unread, rejected, entering, entering_one, loading, importing, asking, forecast_in_digits, request_of}
 use Rattle.mx_desk.specs.Served.{AnswersBytes, AnswersHead, AnswersInput, IsCut, IsRead, ServesInput, allows, behind_head, by_body, bytes_of}
 use Rattle.mx_intake.specs.Entries.{entries_of_text}
 use Rattle.mx_intake.specs.Loading.{entry_of_programme}

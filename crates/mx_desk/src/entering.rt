@@ -3,9 +3,10 @@ ghost use Rattle.std.specs.Prelude.{◌≡◌, IfOk, IfErr};
 ghost use Rattle.http.specs.Response.{body_of, head_of};
 ghost use Rattle.mx_intake.specs.Entries.{entries_of_text};
 ghost use Rattle.mx_intake.specs.Sectors.{sector_rows};
+ghost use Rattle.mx_answers.specs.Asking.{doc_of};
 ghost use Rattle.mx_desk.specs.Answer.{replies_answer, rows_answer};
 ghost use Rattle.mx_desk.specs.Answered.{AnswersIfRoom, Enters};
-ghost use Rattle.mx_desk.specs.Request.{doc_of, entering, importing, loading};
+ghost use Rattle.mx_desk.specs.Request.{entering, importing, loading};
 
 use crate::fault::DeskFault;
 use crate::parts::read_doc;

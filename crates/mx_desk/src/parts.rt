@@ -1,6 +1,7 @@
 //! The parts of a path: documents, and the numbers of a forecast.
 ghost use Rattle.std.specs.Prelude.{◌≡◌};
-ghost use Rattle.mx_desk.specs.Request.{doc_of, forecast_in_digits};
+ghost use Rattle.mx_answers.specs.Asking.{doc_of};
+ghost use Rattle.mx_desk.specs.Request.{forecast_in_digits};
 
 use mx_answers::{Question, forecast_of};
 use mx_base::Doc;

@@ -3,22 +3,17 @@
 ghost use Rattle.std.specs.Prelude.{◌≡◌, ◌↔◌, ◌⊎◌, ◌+◌, ◌≤◌, ◌++◌, false, codes, OnOk, OnErr, IfOk, IfErr, vec_len};
 ghost use Rattle.std.specs.Vec.{vec_capacity};
 ghost use Rattle.mx_words.specs.Asked.{IsAnswer};
-ghost use Rattle.mx_words.specs.Entered.{AreReplyLines, AreSomeReplyLines};
-ghost use Rattle.mx_words.specs.Imported.{AreRowLines};
-ghost use Rattle.mx_words.specs.Printed.{IsListAnswer};
+ghost use Rattle.mx_jobs.specs.Entered.{AreReplyLines, AreSomeReplyLines};
+ghost use Rattle.mx_jobs.specs.Imported.{AreRowLines};
+ghost use Rattle.mx_jobs.specs.Printed.{IsListAnswer};
 ghost use Rattle.mx_serve.specs.Served.{served_line};
-ghost use Rattle.mx_words.specs.Status.{LeavesUnread, Shows, stop_status};
+ghost use Rattle.mx_jobs.specs.Status.{LeavesUnread, Shows, stop_status};
 
-use crate::entering::enter_all;
-use crate::fault::{Ending, Stop};
-use crate::importing::import_all;
-use crate::listing::print_list;
-use crate::making::{CREATED, make_book};
-use crate::opening::open;
 use mx_answers::Question;
 use mx_base::Doc;
 use mx_command::Command;
 use mx_intake::{IntakeFault, MOST_BYTES, READ_FAILED, commands_of_json, programme_of, read_all};
+use mx_jobs::{CREATED, Ending, Stop, enter_all, import_all, make_book, open, print_list};
 use mx_layout::TableFault;
 use mx_office::{Fault, Office, OpenFault};
 use mx_serve::serve_connections;

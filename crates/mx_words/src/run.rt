@@ -2,17 +2,16 @@
 ghost use Rattle.std.specs.Prelude.{◌≡◌, ◌≢◌, ◌↔◌, ◌⊎◌, ◌≤◌, ◌++◌, None, Some, IfOk, IfErr};
 ghost use Rattle.std.specs.Io.KnownBytes.{Keeps};
 ghost use Rattle.mx_words.specs.Done.{IsAnswered, IsDone, IsEnded, IsEndedForSome, LacksShape};
-ghost use Rattle.mx_words.specs.Job.{job_of, said};
-ghost use Rattle.mx_words.specs.Status.{LeavesUnread, Shows, stop_status};
+ghost use Rattle.mx_command_line.specs.Job.{job_of, said};
+ghost use Rattle.mx_jobs.specs.Status.{LeavesUnread, Shows, stop_status};
 
-use crate::command_line::command;
-use crate::fault::{Ending, Stop};
 use crate::files::{enter, import, init, list, programme, serve};
-use crate::printing::{print_done, print_usage};
 use crate::trial::try_out;
-use crate::words::{Words, words_of};
+use crate::usage::print_usage;
 use clap::ArgMatches;
 use clap::error::ErrorKind;
+use mx_command_line::{Words, command, words_of};
+use mx_jobs::{Ending, Stop, print_done};
 use std::io::Write;
 
 fn perform(rt: &HostRuntime, words: &Words<'_>, out: &mut Vec<u8>) -> Result<Ending, Stop>
