@@ -10,7 +10,7 @@ use Rattle.mx_office.specs.declared.fault.Fault.TheVariants as office
 use Rattle.mx_intake.proofs.Worked.{intake_on_literals}
 use Rattle.mx_answers.specs.declared.question.Question.TheVariants as asked
 use Rattle.mx_answers.specs.declared.question.Report.TheVariants as report
-use Rattle.mx_answers.specs.Asking.{doc_of, due_of, forecast_of, is_in_reach, life_of, limits_of, tail_of}
+use Rattle.mx_answers.specs.Asking.{doc_of, due_question, forecast_question, is_in_reach, life_question, limits_question, tail_of}
 use Rattle.mx_answers.specs.FaultLine.{intake_words, line_of, office_words}
 use Rattle.mx_answers.specs.Question.{report_lines, report_of}
 
@@ -56,14 +56,14 @@ registrations = refl
 longest_document : map (λ text. is_some (doc_of text)) (codes "0123456789012345678901234567890123456789" ∷ codes "01234567890123456789012345678901234567890" ∷ []) ≡ true ∷ false ∷ []
 longest_document = refl
 
-life_asked : map life_of (codes "D-ABCD" ∷ codes "d-abcd" ∷ []) ≡ Some (asked.Life (codes "D-ABCD")) ∷ None ∷ []
+life_asked : map life_question (codes "D-ABCD" ∷ codes "d-abcd" ∷ []) ≡ Some (asked.Life (codes "D-ABCD")) ∷ None ∷ []
 life_asked = refl
 
-due_asked : map (due_of (codes "D-ABCD")) (codes "2024-03-10" ∷ codes "2024-3-10" ∷ []) ≡ Some (asked.Due (codes "D-ABCD") 19792) ∷ None ∷ []
+due_asked : map (due_question (codes "D-ABCD")) (codes "2024-03-10" ∷ codes "2024-3-10" ∷ []) ≡ Some (asked.Due (codes "D-ABCD") 19792) ∷ None ∷ []
 unfolding intake_on_literals
 due_asked = refl
 
-limits_asked : map (limits_of (codes "D-ABCD")) (codes "2024-03-10" ∷ codes "2024-02-30" ∷ []) ≡ Some (asked.Limits (codes "D-ABCD") 19792) ∷ None ∷ []
+limits_asked : map (limits_question (codes "D-ABCD")) (codes "2024-03-10" ∷ codes "2024-02-30" ∷ []) ≡ Some (asked.Limits (codes "D-ABCD") 19792) ∷ None ∷ []
 unfolding intake_on_literals
 limits_asked = refl
 
@@ -74,11 +74,11 @@ farthest = refl
 beyond : is_in_reach 3651 1440 50 ∷ is_in_reach 3650 1441 50 ∷ is_in_reach 3650 1440 51 ∷ [] ≡ false ∷ false ∷ false ∷ []
 beyond = refl
 
-forecast_asked : forecast_of (codes "D-ABCD") (codes "2024-03-10") 30 120 4 ≡ Some (asked.Forecast (codes "D-ABCD") 19792 30 120 4)
+forecast_asked : forecast_question (codes "D-ABCD") (codes "2024-03-10") 30 120 4 ≡ Some (asked.Forecast (codes "D-ABCD") 19792 30 120 4)
 unfolding intake_on_literals
 forecast_asked = refl
 
-forecast_too_far : forecast_of (codes "D-ABCD") (codes "2024-03-10") 3651 120 4 ≡ None
+forecast_too_far : forecast_question (codes "D-ABCD") (codes "2024-03-10") 3651 120 4 ≡ None
 unfolding intake_on_literals
 forecast_too_far = refl
 

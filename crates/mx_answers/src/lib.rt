@@ -6,7 +6,7 @@ pub mod fault;
 pub mod question;
 pub mod report;
 
-pub use asking::{due_of, forecast_of, life_of, limits_of};
+pub use asking::{due_question, forecast_question, life_question, limits_question};
 pub use fault::{write_damaged, write_fault, write_intake};
 pub use question::{Question, Report, ask};
 pub use report::list_text;

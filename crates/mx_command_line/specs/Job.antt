@@ -5,7 +5,7 @@ use Rattle.clap.specs.Words.{Row, first_of, found_of, rows_of, subcommand_rows_o
 use Rattle.clap.specs.declared.parser.matches.ArgMatches.{ArgMatches}
 use Rattle.mx_intake.specs.Form.{if_read}
 use Rattle.mx_intake.specs.Vocabulary.{moment_of_text}
-use Rattle.mx_answers.specs.Asking.{doc_of, due_of, forecast_of, life_of, limits_of, tail_of}
+use Rattle.mx_answers.specs.Asking.{doc_of, due_question, forecast_question, life_question, limits_question, tail_of}
 use Rattle.mx_answers.specs.declared.question.Question.{Question}
 use Rattle.mx_command_line.specs.Number.{number_in}
 use Rattle.mx_command_line.specs.declared.trial.Trial.{Trial}
@@ -76,13 +76,13 @@ abbrev pub asking_forecast : List ℕ → List ℕ → List Row → Option Quest
 asking_forecast tail day values =
     if_read (number_at (codes "DAYS") values) (λ days.
     if_read (number_at (codes "MINUTES") values) (λ minutes.
-    if_read (number_at (codes "CYCLES") values) (λ cycles. forecast_of tail day days minutes cycles)))
+    if_read (number_at (codes "CYCLES") values) (λ cycles. forecast_question tail day days minutes cycles)))
 
 -- the question of a word for a list on a day
 abbrev pub asking_on_a_day : List ℕ → List ℕ → List ℕ → List Row → Option Question
 asking_on_a_day word tail day values =
-    if bytes_eq word (codes "due") then due_of tail day
-    else if bytes_eq word (codes "limits") then limits_of tail day
+    if bytes_eq word (codes "due") then due_question tail day
+    else if bytes_eq word (codes "limits") then limits_question tail day
     else if bytes_eq word (codes "forecast") then asking_forecast tail day values
     else None
 
@@ -90,7 +90,7 @@ asking_on_a_day word tail day values =
 abbrev pub asking : List ℕ → List Row → Option Question
 asking word values =
     if_read (first_of (codes "TAIL") values) (λ tail.
-    if bytes_eq word (codes "life") then life_of tail
+    if bytes_eq word (codes "life") then life_question tail
     else if_read (first_of (codes "DAY") values) (λ day. asking_on_a_day word tail day values))
 
 -- a programme is entered into a file

@@ -12,7 +12,7 @@ ghost use Rattle.mx_command_line.specs.Job.{number_within, said, serving, tail_a
 
 use crate::trial::Trial;
 use clap::ArgMatches;
-use mx_answers::{Question, due_of, forecast_of, life_of, limits_of};
+use mx_answers::{Question, due_question, forecast_question, life_question, limits_question};
 use mx_base::{Doc, Moment, Tail};
 use mx_intake::{read_identifier, read_moment};
 
@@ -144,7 +144,7 @@ fn forecast_at(tail: &str, day: &str, values: &ArgMatches<'_>) -> Option<Questio
     let days = number_at(values, "DAYS")?;
     let minutes = number_at(values, "MINUTES")?;
     let cycles = number_at(values, "CYCLES")?;
-    forecast_of(tail, day, days, minutes, cycles)
+    forecast_question(tail, day, days, minutes, cycles)
 }
 
 // The question that a word for a list on a day asks.
@@ -152,8 +152,8 @@ fn question_on_day(word: &str, tail: &str, day: &str, values: &ArgMatches<'_>) -
     ensures { result ≡ asking_on_a_day word.now tail.now day.now (values_of values.now) }
 {
     match word {
-        "due" => due_of(tail, day),
-        "limits" => limits_of(tail, day),
+        "due" => due_question(tail, day),
+        "limits" => limits_question(tail, day),
         "forecast" => forecast_at(tail, day, values),
         _ => None,
     }
@@ -165,7 +165,7 @@ fn question_of(word: &str, values: &ArgMatches<'_>) -> Option<Question>
 {
     let tail = value_of(values, "TAIL")?;
     match word {
-        "life" => life_of(tail),
+        "life" => life_question(tail),
         _ => question_on_day(word, tail, value_of(values, "DAY")?, values),
     }
 }

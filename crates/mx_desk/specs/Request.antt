@@ -8,7 +8,7 @@ use Rattle.mx_intake.specs.Number.{number_of_digits}
 use Rattle.mx_intake.specs.Sectors.{sector_rows}
 use Rattle.mx_intake.specs.declared.fault.IntakeFault.{IntakeFault}
 use Rattle.mx_import.specs.Rows.{good_rows}
-use Rattle.mx_answers.specs.Asking.{doc_of, due_of, forecast_of, life_of, limits_of}
+use Rattle.mx_answers.specs.Asking.{doc_of, due_question, forecast_question, life_question, limits_question}
 use Rattle.mx_answers.specs.declared.question.Question.{Question}
 use Rattle.mx_request.specs.Routes.{Asked}
 use Rattle.mx_request.specs.declared.rejection.Rejection.{Rejection}
@@ -60,7 +60,7 @@ abbrev pub forecast_in_digits : List ℕ → List ℕ → List ℕ → List ℕ 
 forecast_in_digits tail day days minutes cycles =
     if_read (number_of_digits days) (λ within.
     if_read (number_of_digits minutes) (λ m.
-    if_read (number_of_digits cycles) (λ c. forecast_of tail day within m c)))
+    if_read (number_of_digits cycles) (λ c. forecast_question tail day within m c)))
 
 -- ── the request ──
 
@@ -69,8 +69,8 @@ abbrev pub request_of : Asked → List ℕ → Request
 request_of (place.Entries, _) body = entering (entries_of_text body)
 request_of (place.Programme, doc ∷ _) body = loading (doc_of doc) body
 request_of (place.Sectors, _) body = importing (sector_rows body)
-request_of (place.Due, tail ∷ day ∷ _) body = asking (due_of tail day)
-request_of (place.Limits, tail ∷ day ∷ _) body = asking (limits_of tail day)
+request_of (place.Due, tail ∷ day ∷ _) body = asking (due_question tail day)
+request_of (place.Limits, tail ∷ day ∷ _) body = asking (limits_question tail day)
 request_of (place.Forecast, tail ∷ day ∷ days ∷ minutes ∷ cycles ∷ _) body = asking (forecast_in_digits tail day days minutes cycles)
-request_of (place.Life, tail ∷ _) body = asking (life_of tail)
+request_of (place.Life, tail ∷ _) body = asking (life_question tail)
 request_of _ body = rejected BadRequest

@@ -65,7 +65,7 @@ fn enter_commands<S: Alter>(
 }
 
 /// Enters the commands of a JSON text.
-pub(crate) fn enter<S: Alter>(
+pub(crate) fn enter_listed<S: Alter>(
     alloc: Global,
     office: &mut Office<S>,
     body: &[u8],

@@ -103,7 +103,7 @@ fn serve_at<S: Alter>(
 }
 
 // Appends what an office answers. It says what is printed alone, as `made_in`.
-fn answer<S: Alter>(
+fn answer_asked<S: Alter>(
     rt: &HostRuntime,
     office: &mut Office<S>,
     asked: Asked<'_>,
@@ -140,12 +140,12 @@ fn answer_in<S: Alter + Drop>(
     ensures opening { IfErr result (λ stop. stop_status stop ≡ 5) }
 {
     let mut office = open(conn)?;
-    let answered = answer(rt, &mut office, asked, out);
+    let answered = answer_asked(rt, &mut office, asked, out);
     Ok((office.close(), answered))
 }
 
 /// Makes an empty book in a file, and appends `created`.
-pub(crate) fn init(rt: &HostRuntime, file: &str, out: &mut Vec<u8>) -> Result<Ending, Stop>
+pub(crate) fn init_file(rt: &HostRuntime, file: &str, out: &mut Vec<u8>) -> Result<Ending, Stop>
     ensures done { IfOk result (λ ending. (ending ≡ Ending.Done)
         × (out.new.items ≡ out.old.items ++ codes "created\n")) }
     ensures unprinted { OnErr result (out.new.items ≡ out.old.items) }
@@ -203,7 +203,7 @@ fn answer_file(
 }
 
 /// Appends the list of an aircraft that a question asks for.
-pub(crate) fn list(
+pub(crate) fn list_file(
     rt: &HostRuntime,
     file: &str,
     question: &Question,
@@ -244,7 +244,7 @@ fn programme_in(rt: &HostRuntime, doc: Doc, toml: &str) -> Result<Command, Intak
 
 /// Enters the commands of a file, and appends a line for each reply. Nothing is opened where the file
 /// gives no commands.
-pub(crate) fn enter(
+pub(crate) fn enter_file(
     rt: &HostRuntime,
     file: &str,
     entries: &str,
@@ -262,7 +262,7 @@ pub(crate) fn enter(
 
 /// Enters the maintenance programme of a file by a document, and appends the line of the reply. Nothing is opened where
 /// the file states none.
-pub(crate) fn programme(
+pub(crate) fn programme_file(
     rt: &HostRuntime,
     file: &str,
     doc: Doc,
@@ -281,7 +281,7 @@ pub(crate) fn programme(
 
 /// Imports the sector log of a file, and appends a line for each row. The log is opened first, then the database, and
 /// then the log is read.
-pub(crate) fn import(
+pub(crate) fn import_file(
     rt: &HostRuntime,
     file: &str,
     csv: &str,
@@ -298,7 +298,7 @@ pub(crate) fn import(
 }
 
 /// Serves connections at a port of the loopback with the office in a file, and appends how many they were.
-pub(crate) fn serve(
+pub(crate) fn serve_file(
     rt: &HostRuntime,
     file: &str,
     port: u16,

@@ -2,7 +2,7 @@ use Rattle.http.specs.Response.{body_of, head_of}
 use Rattle.mx_desk.specs.Request.{request_of}
 use Rattle.mx_desk.proofs.ServedLemmas.{leaves, serves_result, stays}
 use Rattle.mx_request.specs.Routes.{asked}
-use Rattle.mx_desk.proofs.answering.answer.Goals as goal
+use Rattle.mx_desk.proofs.answering.route_response.Goals as goal
 
 pub returns-clause-served : goal.returns-clause-served
 returns-clause-served g c = λ book rests clean.
