@@ -41,7 +41,13 @@ fn is_in_reach(days: u32, minutes: u32, cycles: u32) -> bool
 
 /// The question for the forecast of an aircraft from a day on, at so many minutes and cycles a day, or `None` where a text
 /// can't be read or a number is past the greatest that a forecast takes.
-pub fn forecast_question(tail: &str, day: &str, days: u32, minutes: u32, cycles: u32) -> Option<Question>
+pub fn forecast_question(
+    tail: &str,
+    day: &str,
+    days: u32,
+    minutes: u32,
+    cycles: u32,
+) -> Option<Question>
     ensures { result ≡ forecast_question tail.now day.now days minutes cycles }
 {
     let tail = read_identifier(tail)?;
