@@ -22,7 +22,7 @@ test:
 	@install -m 755 crates/mx_cli/out/mx_cli office
 	@scripts/check-transcripts
 	@scripts/man --check
-	@scripts/desk.py
+	@scripts/check-desk
 
 # the wrong bodies that are kept outside the gate: the checker has to refuse each, in rounds over a copy of the crates
 plants:

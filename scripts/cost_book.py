@@ -1,4 +1,4 @@
-"""What scripts/cost.py hands to the program: books of any size, one further command of each kind, and long texts.
+"""What scripts/measure-cost hands to the program: books of any size, one further command of each kind, and long texts.
 
 A book has three aircraft, each with an engine and a propeller, and a programme. Behind these first entries each twenty
 are two days of one aircraft in its turn: sixteen sectors, a deferred defect, its extension, the release of a task, and

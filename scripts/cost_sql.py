@@ -1,4 +1,4 @@
-"""What SQLite does of the program's work, for scripts/cost.py: its lists as one statement, and its rows as INSERTs.
+"""What SQLite does of the program's work, for scripts/measure-cost: its lists as one statement, and its rows as INSERTs.
 
 The statements read the tables that the program made, and answer line by line what it prints. They count a task from
 what was reached when it was last done, which is right where no task is done after it was due.

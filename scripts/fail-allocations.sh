@@ -2,7 +2,7 @@
 # Runs the programs that play cases, and each word of the program office, with each of their requests for memory
 # refused in turn. A player must print what it prints with memory, since it asks a question once more where memory ran
 # out, or end with status 4 and `no memory` where the request was for its own lists. What office must do stands in
-# fail_allocations.py, which runs it, from crates/mx_cli/out or the path in OFFICE. Run by hand, after the gate or
+# refuse-memory, which runs it, from crates/mx_cli/out or the path in OFFICE. Run by hand, after the gate or
 # `rt run` in the crates of the programs has built them; needs a C compiler. Prints a line a program, and ends with the
 # count. With FIRST and STEP only each STEP-th request is refused, from the one with the number FIRST on: so several can
 # share the work.
@@ -11,8 +11,8 @@ cd "$(dirname "$0")/.." || exit 2
 root=$PWD
 folder=$(mktemp -d) || exit 2
 trap 'rm -rf "$folder"' EXIT
-shim=$folder/fail_allocation.so
-${CC:-cc} -O1 -shared -fPIC -o "$shim" scripts/fail_allocation.c || exit 2
+shim=$folder/refuse_memory.so
+${CC:-cc} -O1 -shared -fPIC -o "$shim" scripts/refuse_memory.c || exit 2
 runs=0
 first=${FIRST:-1}
 step=${STEP:-1}
@@ -89,7 +89,7 @@ done
 
 office=${OFFICE:-$root/crates/mx_cli/out/mx_cli}
 is_built "$office"
-scripts/fail_allocations.py "$shim" --office "$office" --first "$first" --step "$step" || exit 1
+scripts/refuse-memory "$shim" --office "$office" --first "$first" --step "$step" || exit 1
 
 if [ "$runs" = 0 ]; then echo "no program made a request"; exit 1; fi
 echo "$runs runs of the players passed"
