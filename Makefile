@@ -1,6 +1,6 @@
 # The commands of this repository. README.md says what they need and print.
 .DEFAULT_GOAL := run
-.PHONY: run test plants
+.PHONY: run test plants long
 
 RT      ?= rt
 EXAMPLE  = try D-ABCD 60000 800 2024-03-01T08:00 2024-03-01T09:30 1
@@ -22,11 +22,16 @@ test:
 	@install -m 755 crates/mx_cli/out/mx_cli office
 	@scripts/check-transcripts
 	@scripts/man --check
-	@scripts/desk.py
+	@scripts/check-desk
 
 # the wrong bodies that are kept outside the gate: the checker has to refuse each, in rounds over a copy of the crates
 plants:
 	@scripts/try-plants
+
+# the trials that take long, side by side, in 45 minutes on four cores or in MINUTES; what each found goes to
+# docs/MEASURED.md
+long: office
+	@scripts/long $(if $(MINUTES),--minutes $(MINUTES)) $(if $(SEED),--seed $(SEED))
 
 # the proved program alone
 office: $(SOURCES)

@@ -1,5 +1,5 @@
-/* Loaded in front of the C library: the request for memory with the number in FAIL_AT is refused. With
-   COUNT_ALLOCATIONS set, the number of requests is printed to standard error at the end. */
+/* Loaded in front of the C library: the request for memory with the number in REFUSE_AT is refused. With
+   COUNT_REQUESTS set, the number of requests is printed to standard error at the end. */
 #define _GNU_SOURCE
 #include <errno.h>
 #include <stdio.h>
@@ -11,15 +11,15 @@ extern void *__libc_realloc(void *old, size_t size);
 extern void *__libc_memalign(size_t alignment, size_t size);
 
 static long requests = 0;
-static long fail_at = -1;
+static long refuse_at = -1;
 
 static int is_refused(void) {
-    if (fail_at < 0) {
-        const char *text = getenv("FAIL_AT");
-        fail_at = text ? atol(text) : 0;
+    if (refuse_at < 0) {
+        const char *text = getenv("REFUSE_AT");
+        refuse_at = text ? atol(text) : 0;
     }
     requests++;
-    if (requests != fail_at) return 0;
+    if (requests != refuse_at) return 0;
     errno = ENOMEM;
     return 1;
 }
@@ -42,5 +42,5 @@ int posix_memalign(void **made, size_t alignment, size_t size) {
 
 __attribute__((destructor)) static void print_requests(void) {
     long counted = requests;
-    if (getenv("COUNT_ALLOCATIONS")) fprintf(stderr, "%ld\n", counted);
+    if (getenv("COUNT_REQUESTS")) fprintf(stderr, "%ld\n", counted);
 }
