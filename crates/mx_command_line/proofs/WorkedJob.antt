@@ -6,6 +6,7 @@ use Rattle.clap.specs.declared.builder.value_parser.Reading.TheVariants.{AsWritt
 use Rattle.mx_intake.proofs.Worked.{intake_on_literals}
 use Rattle.mx_answers.specs.declared.question.Question.TheVariants.{Life, Due, Forecast, Limits}
 use Rattle.mx_command_line.specs.Job.{Job, tries, makes, lists, enters, imports, loads, serves, job_said, number_within}
+use Rattle.mx_command_line.specs.declared.words.TheConstants.{MOST_PORT, MOST_CONNECTIONS}
 
 -- what is found for a name with one value
 abbrev row : List ℕ × List ℕ → Row
@@ -64,6 +65,10 @@ loaded_by_no_document = refl
 
 served : asked (codes "serve") ((codes "FILE", codes "records") ∷ (codes "PORT", codes "8080") ∷ (codes "COUNT", codes "3") ∷ []) ≡ Some (serves (codes "records") 8080 3)
 served = refl
+
+-- the greatest port, and the most connections
+most_served : MOST_PORT ∷ MOST_CONNECTIONS ∷ [] ≡ 65535 ∷ 1000000 ∷ []
+most_served = refl
 
 -- a port is from 1 to 65,535
 ports : map (λ port. number_within 65535 (codes "PORT") (row (codes "PORT", port) ∷ [])) (codes "0" ∷ codes "1" ∷ codes "65535" ∷ codes "65536" ∷ codes "x" ∷ []) ≡ None ∷ Some 1 ∷ Some 65535 ∷ None ∷ None ∷ []
