@@ -1,6 +1,6 @@
 # The commands of this repository. README.md says what they need and print.
 .DEFAULT_GOAL := run
-.PHONY: run test plants install
+.PHONY: run test plants long install
 
 RT      ?= rt
 PREFIX  ?= /usr/local
@@ -15,21 +15,27 @@ run:
 	echo "not built yet: running unproved (make office builds the proved program)" >&2; \
 	cd crates/mx_cli && $(RT) try -- $(EXAMPLE); fi
 
-# the gate, from nothing; where it passes, the program that it proved and ran is left
+# the gate, from nothing; first the pages are held to the tree; where it passes, the program that it proved and ran is left
 # as ./office, and the transcripts are compared with what that prints, the page of the file with a file that it makes, the
 # manual page with its helps, and the answers of its desk with what is written
 test:
 	@scripts/definitions --check
+	@scripts/docs --check
 	@RT_JOBS=$${RT_JOBS:-$(JOBS)} $(RT) ci
 	@install -m 755 crates/mx_cli/out/mx_cli office
 	@scripts/check-transcripts
 	@scripts/file-page
 	@scripts/man --check
-	@scripts/desk.py
+	@scripts/check-desk
 
 # the wrong bodies that are kept outside the gate: the checker has to refuse each, in rounds over a copy of the crates
 plants:
 	@scripts/try-plants
+
+# the trials that take long, side by side, in 45 minutes on four cores or in MINUTES; what each found goes to
+# docs/MEASURED.md
+long: office
+	@scripts/long $(if $(MINUTES),--minutes $(MINUTES)) $(if $(SEED),--seed $(SEED))
 
 # the proved program alone
 office: $(SOURCES)

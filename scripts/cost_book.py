@@ -1,4 +1,4 @@
-"""What scripts/cost.py hands to the program: books of any size, one further command of each kind, and long texts.
+"""What scripts/measure-cost hands to the program: books of any size, a further command of each kind, long texts.
 
 A book has three aircraft, each with an engine and a propeller, and a programme. Behind these first entries each twenty
 are two days of one aircraft in its turn: sixteen sectors, a deferred defect, its extension, the release of a task, and
@@ -8,7 +8,8 @@ again in the place of two sectors. No task is done after it was due.
 import typing
 from datetime import datetime, timedelta
 
-Command = typing.Dict[str, typing.Any]
+import office_facts
+from office_facts import Command
 
 TAILS = ["D-EAAA", "D-EBBB", "D-ECCC"]
 TAIL = TAILS[0]
@@ -25,7 +26,7 @@ TASKS = [
     ("OVERHAUL", "part:IO360", "hours = 2000, days = 4380", "hours = 2000, days = 4380"),
     ("PROPELLER", "part:HC2", "hours = 2400, cycles = 9000", "hours = 2400, cycles = 9000"),
 ]
-HEADER = "tail,page,line,off,on,cycles"
+HEADER = office_facts.HEADER.decode().strip()
 
 
 def text_of(moment: datetime) -> str:

@@ -1,4 +1,4 @@
-"""What SQLite does of the program's work, for scripts/cost.py: its lists as one statement, and its rows as INSERTs.
+"""What SQLite does of the program's work, for scripts/measure-cost: its lists as statements, its rows as INSERTs.
 
 The statements read the tables that the program made, and answer line by line what it prints. They count a task from
 what was reached when it was last done, which is right where no task is done after it was due.
@@ -11,10 +11,8 @@ import sqlite3
 import typing
 from datetime import date
 
-TABLES = [
-    "entry", "aircraft", "place", "component", "programme", "task", "opening", "crs", "crs_line", "extension", "defect",
-    "sector1", "fit1", "removal1",
-]
+from office_facts import OWN_TABLE
+
 Rows = typing.Dict[str, typing.Set[typing.Tuple[object, ...]]]
 
 
@@ -155,10 +153,11 @@ def copy_of(file: pathlib.Path, copy: pathlib.Path) -> pathlib.Path:
 
 
 def rows_of(file: pathlib.Path) -> Rows:
-    """All rows of a file, read by SQLite from a copy."""
+    """All rows of the entries of a file, by their tables, read by SQLite from a copy."""
     copy = copy_of(file, file.with_name("read.db"))
     with contextlib.closing(sqlite3.connect(copy)) as conn:
-        return {table: set(conn.execute(f"SELECT * FROM {table}")) for table in TABLES}
+        names = [name for (name,) in conn.execute("SELECT name FROM sqlite_schema WHERE type = 'table'")]
+        return {table: set(conn.execute(f"SELECT * FROM {table}")) for table in names if table != OWN_TABLE}
 
 
 def literal(value: object) -> str:
@@ -170,7 +169,7 @@ def literal(value: object) -> str:
 def inserts(before: Rows, after: Rows) -> str:
     """The transactions that make the rows of one file those of another: one for each entry, synced."""
     by_entry: typing.Dict[object, typing.List[str]] = {}
-    for table in TABLES:
+    for table in after:
         for row in sorted(after[table] - before[table], key=lambda row: (row[0], str(row[1]))):
             values = ", ".join(map(literal, row))
             by_entry.setdefault(row[0], []).append(f"INSERT INTO {table} VALUES ({values});")

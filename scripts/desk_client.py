@@ -1,4 +1,4 @@
-"""What the scripts that ask the desk share: the worked book, requests, the program as it serves, ways to send."""
+"""What the scripts that ask the desk share: requests, the program as it serves, ways to send."""
 import json
 import pathlib
 import random
@@ -8,50 +8,7 @@ import subprocess
 import time
 import typing
 
-TOP = pathlib.Path(__file__).resolve().parent.parent
 PATIENCE = 60  # seconds
-
-# ── the worked book ──
-
-AIRCRAFT = {
-    "do": "add-aircraft", "doc": "A1", "tail": "D-ABCD", "kind": "C172", "birth": "2000-01-01", "minutes": 60000,
-    "cycles": 800, "as_of": "2024-01-01T00:00",
-    "positions": [{"position": "ENG", "part": "IO360"}, {"position": "PROP", "part": "HC2"}],
-}
-ANNUAL = {
-    "do": "opening", "doc": "O1", "tail": "D-ABCD", "kind": "C172", "task": "ANNUAL", "minutes": 59000, "cycles": 780,
-    "day": "2023-06-01",
-}
-PROGRAMME = b"""kind = "C172"
-revision = 1
-[[task]]
-id = "100H"
-applies = "airframe"
-first = { hours = 1050 }
-repeat = { hours = 100 }
-tolerance = { hours = 10 }
-[[task]]
-id = "ANNUAL"
-applies = "airframe"
-first = { days = 365 }
-repeat = { days = 365 }
-tolerance = { days = 30 }
-[[task]]
-id = "OVH"
-applies = "part:IO360"
-first = { hours = 2000 }
-repeat = { hours = 2000 }
-"""
-HEADER = b"tail,page,line,off,on,cycles\n"
-FIRST_ROW = b"D-ABCD,12,1,2024-03-01T08:00,2024-03-01T09:30,1\n"
-
-DUE_PATH = "/aircraft/D-ABCD/due/2024-03-10"
-LIFE_PATH = "/aircraft/D-ABCD/life"
-DUE = """due D-ABCD 2024-03-10 1001:30 801
-OK airframe 100H h=48:30 c=- d=-
-OK airframe ANNUAL h=- c=- d=82
-end 2
-"""
 
 # ── requests ──
 
@@ -71,10 +28,6 @@ def post(path: str, body: bytes) -> bytes:
 
 def entries(*commands: object) -> bytes:
     return post("/entries", json.dumps(commands).encode())
-
-
-def sector(page: int, line: int, off: str, on: str, cycles: int = 1) -> typing.Dict[str, object]:
-    return {"do": "sector", "tail": "D-ABCD", "page": page, "line": line, "off": off, "on": on, "cycles": cycles}
 
 
 # ── the program ──

@@ -7,23 +7,17 @@ import threading
 import typing
 
 import desk_client
-from desk_client import AIRCRAFT, ANNUAL, HEADER, PROGRAMME, Desk, entries, sector, whole
+from desk_client import Desk, entries, get, whole
 from model import csv_text, json_text, office, toml_text
 from model.commands import Book, Entry
-from model.http_text import Asked
+from model.http_text import Asked, asked_of
 from model.judge import enter
 from model.playing import words_of
-from model.texts import day_of
+from office_facts import AIRCRAFT, COMMANDS, HEADER, PROGRAMME, QUESTIONS, TABLES, TAIL, Command, path_of
 
-TABLES = {
-    "office", "entry", "aircraft", "place", "component", "programme", "task", "opening", "crs", "crs_line",
-    "extension", "defect", "sector1", "fit1", "removal1",
-}
-DAY = day_of("2024-03-10")
-LISTS = [  # what is asked of the file that a stop leaves
-    Asked("life", ("D-ABCD",), b""), Asked("due", ("D-ABCD", DAY), b""), Asked("limits", ("D-ABCD", DAY), b""),
-    Asked("life", ("D-EFGH",), b""),
-]
+ALL_TABLES = set(TABLES)
+# What is asked of the file that a stop leaves.
+LISTS = [asked_of(get(path)) for path in [*map(path_of, QUESTIONS), path_of("life", "D-EFGH")]]
 Program = typing.List[str]  # the program, behind what is to be loaded in front of it
 
 
@@ -90,14 +84,14 @@ class Started:
 class Posting:
     """A run of `serve`: a client posts commands, each once the one before is answered, and keeps the answers."""
 
-    def __init__(self, program: Program, file: pathlib.Path, commands: typing.List[object]) -> None:
+    def __init__(self, program: Program, file: pathlib.Path, commands: typing.List[Command]) -> None:
         self.desk = Desk([*program, "serve"], file, len(commands))
         self.process = self.desk.process
         self.answers = ""
         self.client = threading.Thread(target=self.post, args=[commands])
         self.client.start()
 
-    def post(self, commands: typing.List[object]) -> None:
+    def post(self, commands: typing.List[Command]) -> None:
         for command in commands:
             try:
                 came = whole(self.desk, entries(command)).decode()
@@ -152,14 +146,14 @@ class Init(Word):
         else:
             tables = tables_by_sqlite(file)
             found = "the whole book" if tables else "a file without tables"
-        if tables not in (set(), TABLES):
+        if tables not in (set(), ALL_TABLES):
             raise Bad(f"half of the tables: {sorted(tables)}")
         if ended.acknowledged == "created\n" and not tables:
             raise Bad("an acknowledged book is lost")
         again = (5, b"", b"fault exists\n") if tables else (0, b"created\n", b"")
         want("init once more", again, self.run(file, "init"))
-        want("the tables then", TABLES, tables_by_sqlite(file))
-        want("life", (1, b"refused 20\n", b""), self.run(file, "life", "D-ABCD"))
+        want("the tables then", ALL_TABLES, tables_by_sqlite(file))
+        want("life", (1, b"refused 20\n", b""), self.run(file, "life", TAIL))
         return found
 
 
@@ -211,7 +205,7 @@ class Entering(Word):
         return [self.run(file, asked.word, *words_of(asked)) for asked in LISTS]
 
     def after(self, file: pathlib.Path, ended: Ended) -> str:
-        want("the tables", TABLES, tables_by_sqlite(file))
+        want("the tables", ALL_TABLES, tables_by_sqlite(file))
         found = self.lists_found(file)
         again = self.run(file, *self.words(file, self.asked))
         kept = next((n for n in range(len(self.books)) if found == self.lists[n] and again == self.again[n]), None)
@@ -230,33 +224,12 @@ def made(*commands: object) -> bytes:
     return entries(*commands).partition(b"\r\n\r\n")[2]
 
 
-def dated(do: str, doc: str, day: int, **more: object) -> typing.Dict[str, object]:
-    """A command at eight o'clock on this day of March."""
-    return {"do": do, "doc": doc, "moment": f"2024-03-{day:02}T08:00", **more}
-
-
-TEN_KINDS: typing.List[typing.Dict[str, object]] = [
-    AIRCRAFT, ANNUAL, sector(11, 1, "2024-02-01T08:00", "2024-02-01T09:30"),
-    {"do": "add-component", "doc": "C1", "serial": "E1", "part": "IO360", "birth": "2014-03-11", "minutes": 92010,
-     "cycles": 1600, "as_of": "2024-01-01T00:00"},
-    dated("fit", "F1", 1, serial="E1", tail="D-ABCD", position="ENG"),
-    sector(11, 2, "2024-03-02T08:00", "2024-03-02T08:45"),
-    dated("defer", "X1", 3, tail="D-ABCD", reference="21-31-01", category="B"),
-    dated("defer", "X2", 3, tail="D-ABCD", reference="33-40-01", category="A", days=20),
-    {"do": "extend", "doc": "Y1", "defect": "X1", "day": "2024-03-04", "days": 2},
-    dated("release", "R1", 5, tail="D-ABCD", lines=[
-        {"defect": "X2"}, {"tail": "D-ABCD", "task": "ANNUAL"}, {"serial": "E1", "task": "OVH"}]),
-    dated("remove", "M1", 6, serial="E1"),
-    {**AIRCRAFT, "doc": "A2", "tail": "D-EFGH"},
-]
-
-
 class Enter(Entering):
-    """`enter FILE ENTRIES`, with commands of all nine kinds that it takes, behind a programme."""
+    """`enter FILE ENTRIES`, with commands of all kinds that it takes, behind a programme."""
 
     name = "enter"
     earlier = [Asked("programme", ("P1",), PROGRAMME)]
-    asked = Asked("enter", (), made(*TEN_KINDS))
+    asked = Asked("enter", (), made(*COMMANDS))
 
 
 class Serve(Enter):
@@ -265,7 +238,7 @@ class Serve(Enter):
     name = "serve"
 
     def start(self, program: Program, file: pathlib.Path) -> typing.Union[Started, Posting]:
-        return Posting(program, file, list(TEN_KINDS))
+        return Posting(program, file, COMMANDS)
 
 
 class Programme(Entering):

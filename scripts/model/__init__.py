@@ -1,1 +1,1 @@
-"""A plain model of what the office answers, written from docs/DEFINITIONS.md; scripts/compare.py asks it."""
+"""A plain model of what the office answers, written from docs/DEFINITIONS.md; scripts/compare-model asks it."""

@@ -1,23 +1,18 @@
--- Worked lists of a book, their texts, and what is told of rows, computed from the definitions.
+-- Worked lists of a book, their texts, and lines of faults, computed from the definitions.
 use Rattle.std.proofs.Common.{refl, ◌≡◌, List, [], ◌∷◌, true, false, Some, None}
-use Rattle.std.specs.Prelude.{codes, map}
+use Rattle.std.specs.Prelude.{codes, map, is_some}
 use Rattle.std.specs.Fmt.{digits}
 use Rattle.mx_base.specs.Calendar.{date_of}
 use Rattle.mx_base.specs.Texts.{day_text}
 use Rattle.mx_command.specs.Act.{Entry, Added, Flown}
-use Rattle.mx_book.specs.declared.verdict.Refusal.TheVariants.{UnknownAircraft}
-use Rattle.mx_book.specs.declared.verdict.Reply.TheVariants.{Accepted, Already, Refused}
 use Rattle.mx_layout.specs.declared.fault.Table.TheVariants as name
 use Rattle.mx_office.specs.declared.fault.Fault.TheVariants as office
 use Rattle.mx_intake.proofs.Worked.{intake_on_literals}
-use Rattle.mx_import.specs.declared.report.RowReply.TheVariants.{Entered, Bad}
 use Rattle.mx_answers.specs.declared.question.Question.TheVariants as asked
 use Rattle.mx_answers.specs.declared.question.Report.TheVariants as report
-use Rattle.mx_answers.specs.Asking.{due_of, forecast_of, is_in_reach, life_of, limits_of, tail_of}
+use Rattle.mx_answers.specs.Asking.{doc_of, due_question, forecast_question, is_in_reach, life_question, limits_question, tail_of}
 use Rattle.mx_answers.specs.FaultLine.{intake_words, line_of, office_words}
 use Rattle.mx_answers.specs.Question.{report_lines, report_of}
-use Rattle.mx_answers.specs.Replies.{is_refusal, lines_of}
-use Rattle.mx_answers.specs.Rows.{is_bad, is_refused_row}
 
 -- D-ABCD, built on 2000-01-01, with 60,000 minutes and 800 cycles as of 2024-01-01T00:00, and its sector of 90 minutes and one cycle
 abbrev flown : List Entry
@@ -57,14 +52,18 @@ of_another = refl
 registrations : map tail_of (codes "D-ABCDEF" ∷ codes "D-ABCDEFG" ∷ codes "d-abcd" ∷ codes "" ∷ []) ≡ Some (codes "D-ABCDEF") ∷ None ∷ None ∷ None ∷ []
 registrations = refl
 
-life_asked : map life_of (codes "D-ABCD" ∷ codes "d-abcd" ∷ []) ≡ Some (asked.Life (codes "D-ABCD")) ∷ None ∷ []
+-- a document has up to 40 characters
+longest_document : map (λ text. is_some (doc_of text)) (codes "0123456789012345678901234567890123456789" ∷ codes "01234567890123456789012345678901234567890" ∷ []) ≡ true ∷ false ∷ []
+longest_document = refl
+
+life_asked : map life_question (codes "D-ABCD" ∷ codes "d-abcd" ∷ []) ≡ Some (asked.Life (codes "D-ABCD")) ∷ None ∷ []
 life_asked = refl
 
-due_asked : map (due_of (codes "D-ABCD")) (codes "2024-03-10" ∷ codes "2024-3-10" ∷ []) ≡ Some (asked.Due (codes "D-ABCD") 19792) ∷ None ∷ []
+due_asked : map (due_question (codes "D-ABCD")) (codes "2024-03-10" ∷ codes "2024-3-10" ∷ []) ≡ Some (asked.Due (codes "D-ABCD") 19792) ∷ None ∷ []
 unfolding intake_on_literals
 due_asked = refl
 
-limits_asked : map (limits_of (codes "D-ABCD")) (codes "2024-03-10" ∷ codes "2024-02-30" ∷ []) ≡ Some (asked.Limits (codes "D-ABCD") 19792) ∷ None ∷ []
+limits_asked : map (limits_question (codes "D-ABCD")) (codes "2024-03-10" ∷ codes "2024-02-30" ∷ []) ≡ Some (asked.Limits (codes "D-ABCD") 19792) ∷ None ∷ []
 unfolding intake_on_literals
 limits_asked = refl
 
@@ -75,11 +74,11 @@ farthest = refl
 beyond : is_in_reach 3651 1440 50 ∷ is_in_reach 3650 1441 50 ∷ is_in_reach 3650 1440 51 ∷ [] ≡ false ∷ false ∷ false ∷ []
 beyond = refl
 
-forecast_asked : forecast_of (codes "D-ABCD") (codes "2024-03-10") 30 120 4 ≡ Some (asked.Forecast (codes "D-ABCD") 19792 30 120 4)
+forecast_asked : forecast_question (codes "D-ABCD") (codes "2024-03-10") 30 120 4 ≡ Some (asked.Forecast (codes "D-ABCD") 19792 30 120 4)
 unfolding intake_on_literals
 forecast_asked = refl
 
-forecast_too_far : forecast_of (codes "D-ABCD") (codes "2024-03-10") 3651 120 4 ≡ None
+forecast_too_far : forecast_question (codes "D-ABCD") (codes "2024-03-10") 3651 120 4 ≡ None
 unfolding intake_on_literals
 forecast_too_far = refl
 
@@ -103,22 +102,6 @@ text_of_a_forecast = refl
 text_of_limits : report_lines (report.Limits (record { tail = codes "D-ABCD"; day = 19792; rows = [] })) ≡ codes "limits D-ABCD 2024-03-10\nend 0\n"
 unfolding digits day_text date_of
 text_of_limits = refl
-
--- ── replies and rows ──
-
-replies : lines_of (Accepted 1 ∷ Refused UnknownAircraft ∷ []) ≡ codes "accepted 1\nrefused 20\n"
-unfolding digits
-replies = refl
-
-refusals : map is_refusal (Accepted 1 ∷ Already 1 ∷ Refused UnknownAircraft ∷ []) ≡ false ∷ false ∷ true ∷ []
-refusals = refl
-
--- a row that is bad was not refused, and one that was refused is not bad
-bad_rows : map is_bad (Entered (Accepted 2) ∷ Entered (Refused UnknownAircraft) ∷ Bad (record { number = 65; entry = 3 }) ∷ []) ≡ false ∷ false ∷ true ∷ []
-bad_rows = refl
-
-refused_rows : map is_refused_row (Entered (Accepted 2) ∷ Entered (Refused UnknownAircraft) ∷ Bad (record { number = 65; entry = 3 }) ∷ []) ≡ false ∷ true ∷ false ∷ []
-refused_rows = refl
 
 -- ── the line of a fault ──
 

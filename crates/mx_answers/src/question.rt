@@ -46,7 +46,7 @@ pub enum Report {
 }
 
 // Asks for the life of an aircraft.
-fn life_of<S: Alter>(alloc: Global, office: &mut Office<S>, tail: &Tail) -> Result<Report, Ask>
+fn life_report<S: Alter>(alloc: Global, office: &mut Office<S>, tail: &Tail) -> Result<Report, Ask>
     ensures asked { IsAsked Ask.Failed office.old office.new result }
     ensures answered { IsAnsweredBy (λ book. found_or Refusal.UnknownAircraft
         (option_map report.Life (life_list book tail.now))) office.old office.new result }
@@ -59,7 +59,7 @@ fn life_of<S: Alter>(alloc: Global, office: &mut Office<S>, tail: &Tail) -> Resu
 }
 
 // Asks for what is due on an aircraft.
-fn due_of<S: Alter>(
+fn due_report<S: Alter>(
     alloc: Global,
     office: &mut Office<S>,
     tail: &Tail,
@@ -77,7 +77,7 @@ fn due_of<S: Alter>(
 }
 
 // Asks for the forecast of an aircraft.
-fn forecast_of<S: Alter>(
+fn forecast_report<S: Alter>(
     alloc: Global,
     office: &mut Office<S>,
     tail: &Tail,
@@ -99,7 +99,7 @@ fn forecast_of<S: Alter>(
 }
 
 // Asks for the limits of an aircraft.
-fn limits_of<S: Alter>(
+fn limits_report<S: Alter>(
     alloc: Global,
     office: &mut Office<S>,
     tail: &Tail,
@@ -129,15 +129,15 @@ pub fn ask<S: Alter>(
     ensures kind { IfOk result (IsOfKind question.now) }
 {
     match question {
-        Question::Life(tail) => life_of(alloc, office, tail),
-        Question::Due(tail, day) => due_of(alloc, office, tail, *day),
+        Question::Life(tail) => life_report(alloc, office, tail),
+        Question::Due(tail, day) => due_report(alloc, office, tail, *day),
         Question::Forecast {
             tail,
             day,
             days,
             minutes,
             cycles,
-        } => forecast_of(alloc, office, tail, *day, *days, *minutes, *cycles),
-        Question::Limits(tail, day) => limits_of(alloc, office, tail, *day),
+        } => forecast_report(alloc, office, tail, *day, *days, *minutes, *cycles),
+        Question::Limits(tail, day) => limits_report(alloc, office, tail, *day),
     }
 }

@@ -13,9 +13,10 @@ use mx_book::Book;
 use mx_cases::{Unmade, append_word, number_text};
 use mx_register::merge::{Registers, merge};
 use mx_register::{
-    PlaceRow, RemovalRow, document_of_defect, seq_of_defect, seq_of_serial, seq_of_tail,
-    serial_of_component, tail_of_aircraft,
+    document_of_defect, seq_of_defect, seq_of_serial, seq_of_tail, serial_of_component,
+    tail_of_aircraft,
 };
+use mx_typed_rows::{PlaceRow, RemovalRow};
 use std::alloc::Global;
 
 // What the registers give: no book, the same book, or another and its first entry that differs.

@@ -4,7 +4,7 @@ use crate::shown::{append_category, append_day, append_moment, append_opening};
 use crate::tasks::{append_applies, append_limit, append_tolerance};
 use mx_base::Use;
 use mx_cases::{append_number, append_word};
-use mx_register::{
+use mx_typed_rows::{
     AircraftRow, ComponentRow, DeferralRow, EntryKind, EntryRow, ExtensionRow, FittingRow,
     OpeningRow, PlaceRow, ProgrammeRow, ReleaseLineRow, ReleaseRow, RemovalRow, SectorRow, TaskRow,
 };

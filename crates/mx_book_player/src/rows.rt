@@ -6,7 +6,7 @@ use mx_command::Command;
 use mx_register::merge::Registers;
 use mx_register::{
     aircraft_row, component_row, deferral_row, entry_row, extension_row, fitting_row, opening_row,
-    place_row, programme_row, release_line_row, release_row, removal_row, sector_row,
+    or_zero, place_row, programme_row, release_line_row, release_row, removal_row, sector_row,
     seq_of_defect, seq_of_item, seq_of_place, seq_of_serial, seq_of_tail, task_row,
 };
 use std::alloc::Global;
@@ -69,7 +69,7 @@ fn push_opening(
     entry: &Command,
 ) -> Result<(), Unmade> {
     if let Some(opening) = entry.stated_opening() {
-        let item = seq_of_item(book, &opening.item).unwrap_or(0);
+        let item = or_zero(seq_of_item(book, &opening.item));
         rows.openings.push(opening_row(seq, item, opening))?;
     }
     Ok(())
@@ -78,17 +78,17 @@ fn push_opening(
 // Adds the rows of what an entry with this number says was done.
 fn push_done(rows: &mut Registers, book: &Book, seq: u32, entry: &Command) -> Result<(), Unmade> {
     if let Some(sector) = entry.flown_sector() {
-        let aircraft = seq_of_tail(book, &sector.tail).unwrap_or(0);
+        let aircraft = or_zero(seq_of_tail(book, &sector.tail));
         rows.sectors.push(sector_row(seq, aircraft, sector))?;
     }
     if let Some(fitting) = entry.fitting() {
-        let component = seq_of_serial(book, &fitting.serial).unwrap_or(0);
-        let aircraft = seq_of_tail(book, &fitting.tail).unwrap_or(0);
+        let component = or_zero(seq_of_serial(book, &fitting.serial));
+        let aircraft = or_zero(seq_of_tail(book, &fitting.tail));
         let row = fitting_row(seq, component, aircraft, fitting);
         rows.fittings.push(row)?;
     }
     if let Some(removal) = entry.removal() {
-        let component = seq_of_serial(book, &removal.serial).unwrap_or(0);
+        let component = or_zero(seq_of_serial(book, &removal.serial));
         rows.removals.push(removal_row(seq, component, removal))?;
     }
     Ok(())
@@ -102,7 +102,7 @@ fn push_release(
     entry: &Command,
 ) -> Result<(), Unmade> {
     if let Some(release) = entry.release() {
-        let item = seq_of_place(book, &release.place).unwrap_or(0);
+        let item = or_zero(seq_of_place(book, &release.place));
         rows.releases.push(release_row(seq, item, release))?;
     }
     let mut number = 0u32;
@@ -122,11 +122,11 @@ fn push_deferred(
     entry: &Command,
 ) -> Result<(), Unmade> {
     if let Some(deferral) = entry.deferral() {
-        let aircraft = seq_of_tail(book, &deferral.tail).unwrap_or(0);
+        let aircraft = or_zero(seq_of_tail(book, &deferral.tail));
         rows.deferrals.push(deferral_row(seq, aircraft, deferral))?;
     }
     if let Some(extension) = entry.extension() {
-        let defect = seq_of_defect(book, &extension.defect).unwrap_or(0);
+        let defect = or_zero(seq_of_defect(book, &extension.defect));
         rows.extensions.push(extension_row(seq, defect, extension))?;
     }
     Ok(())

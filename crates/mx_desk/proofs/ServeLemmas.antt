@@ -15,8 +15,8 @@ use Rattle.mx_request.specs.Routes.{Asked}
 use Rattle.mx_request.specs.declared.rejection.Rejection.{Rejection}
 use Rattle.mx_desk.specs.Answer.{Answer, rejection_answer}
 use Rattle.mx_desk.specs.Answered.{AnswersIfRoom}
-use Rattle.mx_answers.specs.Asking.{due_of, life_of, limits_of}
-use Rattle.mx_desk.specs.Request.{Request, enters, imports, asks, unread, rejected, entering, entering_one, loading, importing, asking, doc_of, forecast_in_digits, request_of}
+use Rattle.mx_answers.specs.Asking.{doc_of, due_question, life_question, limits_question}
+use Rattle.mx_desk.specs.Request.{Request, enters, imports, asks, unread, rejected, entering, entering_one, loading, importing, asking, forecast_in_digits, request_of}
 use Rattle.mx_desk.specs.Served.{AnswersBytes, AnswersHead, AnswersInput, IsCut, IsRead, ServesInput, allows, behind_head, by_body, bytes_of}
 use Rattle.mx_intake.specs.Entries.{entries_of_text}
 use Rattle.mx_intake.specs.Loading.{entry_of_programme}
@@ -68,10 +68,10 @@ none_allowed (place.Programme, doc ∷ more) body = allowed_loading (doc_of doc)
 none_allowed (place.Sectors, parts) body = allowed_importing (sector_rows body)
 none_allowed (place.Due, []) body = refl
 none_allowed (place.Due, tail ∷ []) body = refl
-none_allowed (place.Due, tail ∷ day ∷ more) body = allowed_asking (due_of tail day)
+none_allowed (place.Due, tail ∷ day ∷ more) body = allowed_asking (due_question tail day)
 none_allowed (place.Limits, []) body = refl
 none_allowed (place.Limits, tail ∷ []) body = refl
-none_allowed (place.Limits, tail ∷ day ∷ more) body = allowed_asking (limits_of tail day)
+none_allowed (place.Limits, tail ∷ day ∷ more) body = allowed_asking (limits_question tail day)
 none_allowed (place.Forecast, []) body = refl
 none_allowed (place.Forecast, a ∷ []) body = refl
 none_allowed (place.Forecast, a ∷ b ∷ []) body = refl
@@ -79,7 +79,7 @@ none_allowed (place.Forecast, a ∷ b ∷ c ∷ []) body = refl
 none_allowed (place.Forecast, a ∷ b ∷ c ∷ d ∷ []) body = refl
 none_allowed (place.Forecast, tail ∷ day ∷ days ∷ minutes ∷ cycles ∷ more) body = allowed_asking (forecast_in_digits tail day days minutes cycles)
 none_allowed (place.Life, []) body = refl
-none_allowed (place.Life, tail ∷ more) body = allowed_asking (life_of tail)
+none_allowed (place.Life, tail ∷ more) body = allowed_asking (life_question tail)
 
 module _ {S : Type 0} {g : Ghosts S} (old new : Office S g) where
   -- an answer has what follows from what it has

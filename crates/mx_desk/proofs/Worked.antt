@@ -21,7 +21,7 @@ use Rattle.mx_request.specs.declared.rejection.Rejection.TheVariants.{BadRequest
 use Rattle.mx_request.specs.declared.routes.Place.TheVariants as place
 use Rattle.mx_desk.specs.declared.fault.DeskFault.TheVariants as desk
 use Rattle.mx_desk.specs.Answer.{replies_answer, rows_answer, list_answer, fault_answer, book_list_answer, answer_of}
-use Rattle.mx_desk.specs.Request.{Request, enters, imports, asks, unread, rejected, commands_of, entering, entering_one, loading, importing, asking, doc_of, forecast_in_digits, request_of}
+use Rattle.mx_desk.specs.Request.{Request, enters, imports, asks, unread, rejected, commands_of, entering, entering_one, loading, importing, asking, forecast_in_digits, request_of}
 use Rattle.mx_desk.specs.Served.{behind_head, bytes_of, fault_of_input}
 
 -- ── answers ──
@@ -144,10 +144,6 @@ no_log_given = refl
 
 no_question : asking None ≡ rejected BadRequest
 no_question = refl
-
--- a document has up to 40 characters
-longest_document : map (λ text. is_some (doc_of text)) (codes "0123456789012345678901234567890123456789" ∷ codes "01234567890123456789012345678901234567890" ∷ []) ≡ true ∷ false ∷ []
-longest_document = refl
 
 -- a number has up to 6 digits
 most_digits : map (λ days. is_some (forecast_in_digits (codes "D-ABCD") (codes "2024-03-10") days (codes "120") (codes "4"))) (codes "003650" ∷ codes "0003650" ∷ []) ≡ true ∷ false ∷ []

@@ -13,14 +13,14 @@ use Rattle.mx_office.specs.declared.fault.Ask.{Ask}
 use Rattle.mx_office.specs.declared.fault.Ask.TheVariants.{Refused, Failed}
 use Rattle.mx_office.specs.declared.fault.Fault.{Fault}
 use Rattle.mx_office.specs.declared.fault.Fault.TheVariants.{Memory}
+use Rattle.mx_reports.specs.Replies.{is_refusal, lines_of}
 use Rattle.mx_reports.specs.ReplyText.{reply_line}
 use Rattle.mx_import.specs.Rows.{good_rows, told}
 use Rattle.mx_import.specs.Text.{row_lines}
+use Rattle.mx_import.specs.Told.{is_bad, is_refused_row}
 use Rattle.mx_import.specs.declared.report.RowReply.{RowReply}
 use Rattle.mx_answers.specs.FaultLine.{intake_words, line_of, office_words}
 use Rattle.mx_answers.specs.Question.{report_lines, report_of}
-use Rattle.mx_answers.specs.Replies.{is_refusal, lines_of}
-use Rattle.mx_answers.specs.Rows.{is_bad, is_refused_row}
 use Rattle.mx_answers.specs.declared.question.Report.{Report}
 use Rattle.mx_request.specs.Rejected.{rejection_body, rejection_status}
 use Rattle.mx_request.specs.declared.rejection.Rejection.{Rejection}

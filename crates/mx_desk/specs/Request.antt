@@ -1,16 +1,14 @@
 -- What a request asks of an office, by its route, the parts of its path, and its body.
 use Rattle.std.specs.Prelude.{ℕ, List, [], ◌∷◌, Option, Some, None, Result, Ok, Err}
-use Rattle.mx_base.specs.Identifier.{is_graphic}
 use Rattle.mx_command.specs.Act.{Entry}
 use Rattle.mx_intake.specs.Entries.{entries_of_text}
 use Rattle.mx_intake.specs.Form.{if_read}
 use Rattle.mx_intake.specs.Loading.{entry_of_programme}
 use Rattle.mx_intake.specs.Number.{number_of_digits}
 use Rattle.mx_intake.specs.Sectors.{sector_rows}
-use Rattle.mx_intake.specs.Vocabulary.{identifier_of}
 use Rattle.mx_intake.specs.declared.fault.IntakeFault.{IntakeFault}
 use Rattle.mx_import.specs.Rows.{good_rows}
-use Rattle.mx_answers.specs.Asking.{due_of, forecast_of, life_of, limits_of}
+use Rattle.mx_answers.specs.Asking.{doc_of, due_question, forecast_question, life_question, limits_question}
 use Rattle.mx_answers.specs.declared.question.Question.{Question}
 use Rattle.mx_request.specs.Routes.{Asked}
 use Rattle.mx_request.specs.declared.rejection.Rejection.{Rejection}
@@ -57,15 +55,12 @@ asking None = rejected BadRequest
 
 -- ── the parts of a path ──
 
-abbrev pub doc_of : List ℕ → Option (List ℕ)
-doc_of text = identifier_of is_graphic 40 text
-
 -- the question for a forecast, whose numbers have 1 to 6 digits
 abbrev pub forecast_in_digits : List ℕ → List ℕ → List ℕ → List ℕ → List ℕ → Option Question
 forecast_in_digits tail day days minutes cycles =
     if_read (number_of_digits days) (λ within.
     if_read (number_of_digits minutes) (λ m.
-    if_read (number_of_digits cycles) (λ c. forecast_of tail day within m c)))
+    if_read (number_of_digits cycles) (λ c. forecast_question tail day within m c)))
 
 -- ── the request ──
 
@@ -74,8 +69,8 @@ abbrev pub request_of : Asked → List ℕ → Request
 request_of (place.Entries, _) body = entering (entries_of_text body)
 request_of (place.Programme, doc ∷ _) body = loading (doc_of doc) body
 request_of (place.Sectors, _) body = importing (sector_rows body)
-request_of (place.Due, tail ∷ day ∷ _) body = asking (due_of tail day)
-request_of (place.Limits, tail ∷ day ∷ _) body = asking (limits_of tail day)
+request_of (place.Due, tail ∷ day ∷ _) body = asking (due_question tail day)
+request_of (place.Limits, tail ∷ day ∷ _) body = asking (limits_question tail day)
 request_of (place.Forecast, tail ∷ day ∷ days ∷ minutes ∷ cycles ∷ _) body = asking (forecast_in_digits tail day days minutes cycles)
-request_of (place.Life, tail ∷ _) body = asking (life_of tail)
+request_of (place.Life, tail ∷ _) body = asking (life_question tail)
 request_of _ body = rejected BadRequest

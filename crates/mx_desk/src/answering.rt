@@ -9,13 +9,13 @@ ghost use Rattle.mx_desk.specs.Answered.{AnswersIfRoom};
 ghost use Rattle.mx_desk.specs.Request.{asking, request_of};
 ghost use Rattle.mx_desk.specs.Served.{KeepsBook, LeavesBehind, Serves};
 
-use crate::entering::{enter, import_log, load};
+use crate::entering::{enter_listed, import_log, load};
 use crate::fault::DeskFault;
-use crate::listing::list;
+use crate::listing::ask_list;
 use crate::parts::forecast_in_digits;
 use crate::respond::rejection_response;
 use http::Response;
-use mx_answers::{Question, due_of, life_of, limits_of};
+use mx_answers::{Question, due_question, life_question, limits_question};
 use mx_office::Office;
 use mx_request::{Rejection, Route};
 use sqlite::Alter;
@@ -32,7 +32,7 @@ fn list_if_read<S: Alter>(
     ensures memory { IfErr result (λ fault. fault ≡ DeskFault.Memory) }
 {
     match question {
-        Some(question) => list(alloc, office, &question),
+        Some(question) => ask_list(alloc, office, &question),
         None => rejection_response(alloc, Rejection::BadRequest),
     }
 }
@@ -49,11 +49,11 @@ fn ask_office<S: Alter>(
     ensures memory { IfErr result (λ fault. fault ≡ DeskFault.Memory) }
 {
     match route {
-        Route::Entries => enter(alloc, office, body),
+        Route::Entries => enter_listed(alloc, office, body),
         Route::Programme { doc } => load(alloc, office, doc, body),
         Route::Sectors => import_log(alloc, office, body),
-        Route::Due { tail, day } => list_if_read(alloc, office, due_of(tail, day)),
-        Route::Limits { tail, day } => list_if_read(alloc, office, limits_of(tail, day)),
+        Route::Due { tail, day } => list_if_read(alloc, office, due_question(tail, day)),
+        Route::Limits { tail, day } => list_if_read(alloc, office, limits_question(tail, day)),
         Route::Forecast {
             tail,
             day,
@@ -65,7 +65,7 @@ fn ask_office<S: Alter>(
             office,
             forecast_in_digits(tail, day, days, minutes, cycles),
         ),
-        Route::Life { tail } => list_if_read(alloc, office, life_of(tail)),
+        Route::Life { tail } => list_if_read(alloc, office, life_question(tail)),
     }
 }
 
@@ -73,7 +73,7 @@ fn ask_office<S: Alter>(
 /// question changes no table. 200, or 409 where something was refused; 400 where a part of the path or the text of the body
 /// can't be read, and then nothing was entered; 503 where the office was stopped, with the replies so far and the line of the
 /// fault. An error only where memory runs out for the answer: of the commands some may have been entered then.
-pub fn answer<S: Alter>(
+pub fn route_response<S: Alter>(
     alloc: Global,
     office: &mut Office<S>,
     route: &Route<'_>,

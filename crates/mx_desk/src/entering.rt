@@ -3,19 +3,20 @@ ghost use Rattle.std.specs.Prelude.{◌≡◌, IfOk, IfErr};
 ghost use Rattle.http.specs.Response.{body_of, head_of};
 ghost use Rattle.mx_intake.specs.Entries.{entries_of_text};
 ghost use Rattle.mx_intake.specs.Sectors.{sector_rows};
+ghost use Rattle.mx_answers.specs.Asking.{doc_of};
 ghost use Rattle.mx_desk.specs.Answer.{replies_answer, rows_answer};
 ghost use Rattle.mx_desk.specs.Answered.{AnswersIfRoom, Enters};
-ghost use Rattle.mx_desk.specs.Request.{doc_of, entering, importing, loading};
+ghost use Rattle.mx_desk.specs.Request.{entering, importing, loading};
 
 use crate::fault::DeskFault;
 use crate::parts::read_doc;
 use crate::respond::{fault_response, lines_response, rejection_response};
 use http::Response;
-use mx_answers::{has_bad, has_refusal, has_refused, replies_text};
 use mx_command::Command;
-use mx_import::{ImportReport, import_text, report_text};
+use mx_import::{ImportReport, has_bad, has_refused, import_text, report_text};
 use mx_intake::{commands_of_json, programme_of};
 use mx_office::{Office, Outcomes};
+use mx_reports::{has_refusal, replies_text};
 use mx_request::Rejection;
 use sqlite::Alter;
 use std::alloc::Global;
@@ -64,7 +65,7 @@ fn enter_commands<S: Alter>(
 }
 
 /// Enters the commands of a JSON text.
-pub(crate) fn enter<S: Alter>(
+pub(crate) fn enter_listed<S: Alter>(
     alloc: Global,
     office: &mut Office<S>,
     body: &[u8],

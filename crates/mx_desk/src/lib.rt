@@ -9,7 +9,7 @@ mod parts;
 mod respond;
 mod serve;
 
-pub use answering::answer;
+pub use answering::route_response;
 pub use fault::DeskFault;
 pub use mx_request::{NoRoute, Route, route};
 pub use serve::serve_one;

@@ -37,7 +37,7 @@ fn refusal_response(alloc: Global, refusal: Refusal) -> Result<Response<Vec<u8>>
 }
 
 /// Asks an office for a list. No table changes.
-pub(crate) fn list<S: Alter>(
+pub(crate) fn ask_list<S: Alter>(
     alloc: Global,
     office: &mut Office<S>,
     question: &Question,

@@ -1,8 +1,9 @@
 //! The parts of a path: documents, and the numbers of a forecast.
 ghost use Rattle.std.specs.Prelude.{◌≡◌};
-ghost use Rattle.mx_desk.specs.Request.{doc_of, forecast_in_digits};
+ghost use Rattle.mx_answers.specs.Asking.{doc_of};
+ghost use Rattle.mx_desk.specs.Request.{forecast_in_digits};
 
-use mx_answers::{Question, forecast_of};
+use mx_answers::{Question, forecast_question};
 use mx_base::Doc;
 use mx_intake::{read_identifier, read_number};
 
@@ -26,5 +27,5 @@ pub(crate) fn forecast_in_digits(
     let days = read_number(days.as_bytes())?;
     let minutes = read_number(minutes.as_bytes())?;
     let cycles = read_number(cycles.as_bytes())?;
-    forecast_of(tail, day, days, minutes, cycles)
+    forecast_question(tail, day, days, minutes, cycles)
 }

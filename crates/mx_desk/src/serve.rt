@@ -12,7 +12,7 @@ ghost use Rattle.mx_request.specs.Response.{response_bytes};
 ghost use Rattle.mx_request.specs.Routes.{asked};
 ghost use Rattle.mx_desk.specs.Served.{AnswersBytes, AnswersHead, AnswersInput, KeepsBook, LeavesBook, ServesInput, by_body};
 
-use crate::answering::answer;
+use crate::answering::route_response;
 use crate::fault::{DeskFault, of_input};
 use http::Response;
 use mx_office::Office;
@@ -66,7 +66,7 @@ fn answer_route<S: Alter, R: Read>(
     match read_body(alloc, reader, begun, length) {
         Err(fault) => Err(of_input(fault)),
         Ok(None) => reject(alloc, Rejection::BadRequest),
-        Ok(Some(body)) => bytes_of(alloc, answer(alloc, office, route, &body)),
+        Ok(Some(body)) => bytes_of(alloc, route_response(alloc, office, route, &body)),
     }
 }
 

@@ -1,6 +1,6 @@
 -- Worked imports, computed from the definitions: a log of three rows, of which the second is bad.
-use Rattle.std.proofs.Common.{refl, ◌≡◌, ℕ, List, [], ◌∷◌, Result, Ok, Err}
-use Rattle.std.specs.Prelude.{codes}
+use Rattle.std.proofs.Common.{refl, ◌≡◌, ℕ, List, [], ◌∷◌, true, false, Result, Ok, Err}
+use Rattle.std.specs.Prelude.{codes, map}
 use Rattle.std.specs.Fmt.{digits}
 use Rattle.mx_command.specs.Act.{Entry, Flown}
 use Rattle.mx_book.specs.declared.verdict.Refusal.TheVariants.{UnknownAircraft}
@@ -10,6 +10,7 @@ use Rattle.mx_intake.specs.declared.fault.IntakeFault.{IntakeFault}
 use Rattle.mx_import.specs.declared.report.RowReply.TheVariants.{Entered, Bad}
 use Rattle.mx_import.specs.Rows.{good_rows, told}
 use Rattle.mx_import.specs.Text.{row_lines}
+use Rattle.mx_import.specs.Told.{is_bad, is_refused_row}
 
 abbrev flight : ℕ → Entry
 flight page = record { doc = codes "TL/D-ABCD"; act = Flown (record { tail = codes "D-ABCD"; page = page; line = 1; off = 0; on = 90; cycles = 1 }) }
@@ -36,3 +37,10 @@ lines_of_three = refl
 
 no_lines : row_lines [] ≡ []
 no_lines = refl
+
+-- a row that is bad was not refused, and one that was refused is not bad
+bad_rows : map is_bad (Entered (Accepted 2) ∷ Entered (Refused UnknownAircraft) ∷ Bad (fault 65 3) ∷ []) ≡ false ∷ false ∷ true ∷ []
+bad_rows = refl
+
+refused_rows : map is_refused_row (Entered (Accepted 2) ∷ Entered (Refused UnknownAircraft) ∷ Bad (fault 65 3) ∷ []) ≡ false ∷ true ∷ false ∷ []
+refused_rows = refl

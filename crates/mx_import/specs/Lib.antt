@@ -1,3 +1,4 @@
 pub mod Import
 pub mod Rows
 pub mod Text
+pub mod Told

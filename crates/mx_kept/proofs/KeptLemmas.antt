@@ -20,7 +20,7 @@ use Rattle.sqlite_schema.specs.declared.schema.Index.{Index}
 use Rattle.mx_layout.proofs.ReadLemmas.{scan_by, first_key, two_keys, sorts_by_first, sorts_by_two}
 use Rattle.mx_layout.proofs.WriteLemmas.{added, uncounted}
 use Rattle.std.specs.Prelude.{All, IsSorted, pos}
-use Rattle.mx_register.specs.Rising.{IsFrom}
+use Rattle.mx_typed_rows.specs.Rising.{IsFrom}
 use Rattle.mx_kept.proofs.OrderLemmas.{first_ascends}
 use Rattle.mx_kept.specs.Kept.{Kept}
 use Rattle.mx_kept.specs.Family.{IsReadable, IsReadableAs}

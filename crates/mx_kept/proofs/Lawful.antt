@@ -8,23 +8,23 @@ use Rattle.mx_base.specs.declared.amounts.Tolerance.{Tolerance}
 use Rattle.mx_base.proofs.RoundTrips.{moment_text_injective}
 use Rattle.mx_command.specs.declared.deferral.Category.{Category}
 use Rattle.mx_command.specs.declared.deferral.Category.TheVariants as categories
-use Rattle.mx_register.specs.declared.rows.EntryKind.{EntryKind}
-use Rattle.mx_register.specs.declared.rows.EntryKind.TheVariants as kinds
-use Rattle.mx_register.specs.declared.rows.EntryRow.{EntryRow}
-use Rattle.mx_register.specs.declared.rows.AircraftRow.{AircraftRow}
-use Rattle.mx_register.specs.declared.rows.PlaceRow.{PlaceRow}
-use Rattle.mx_register.specs.declared.rows.RemovalRow.{RemovalRow}
-use Rattle.mx_register.specs.declared.rows.ComponentRow.{ComponentRow}
-use Rattle.mx_register.specs.declared.rows.SectorRow.{SectorRow}
-use Rattle.mx_register.specs.declared.rows.FittingRow.{FittingRow}
-use Rattle.mx_register.specs.declared.rows.ProgrammeRow.{ProgrammeRow}
-use Rattle.mx_register.specs.declared.rows.TaskRow.{TaskRow}
-use Rattle.mx_register.specs.declared.rows.OpeningRow.{OpeningRow}
-use Rattle.mx_register.specs.declared.rows.ReleaseRow.{ReleaseRow}
-use Rattle.mx_register.specs.declared.rows.ReleaseLineRow.{ReleaseLineRow}
-use Rattle.mx_register.specs.declared.rows.DeferralRow.{DeferralRow}
-use Rattle.mx_register.specs.declared.rows.ExtensionRow.{ExtensionRow}
-use Rattle.mx_register.specs.Rows.{kind_number, category_number, days_stated, place_key, task_key, release_line_key, FitsFitting, FitsSector, FitsComponent, FitsEntry, FitsAircraft, FitsPlace, FitsRemoval, FitsProgramme, FitsTask, FitsOpening, FitsRelease, FitsReleaseLine, FitsDeferral, FitsExtension}
+use Rattle.mx_typed_rows.specs.declared.rows.EntryKind.{EntryKind}
+use Rattle.mx_typed_rows.specs.declared.rows.EntryKind.TheVariants as kinds
+use Rattle.mx_typed_rows.specs.declared.rows.EntryRow.{EntryRow}
+use Rattle.mx_typed_rows.specs.declared.rows.AircraftRow.{AircraftRow}
+use Rattle.mx_typed_rows.specs.declared.rows.PlaceRow.{PlaceRow}
+use Rattle.mx_typed_rows.specs.declared.rows.RemovalRow.{RemovalRow}
+use Rattle.mx_typed_rows.specs.declared.rows.ComponentRow.{ComponentRow}
+use Rattle.mx_typed_rows.specs.declared.rows.SectorRow.{SectorRow}
+use Rattle.mx_typed_rows.specs.declared.rows.FittingRow.{FittingRow}
+use Rattle.mx_typed_rows.specs.declared.rows.ProgrammeRow.{ProgrammeRow}
+use Rattle.mx_typed_rows.specs.declared.rows.TaskRow.{TaskRow}
+use Rattle.mx_typed_rows.specs.declared.rows.OpeningRow.{OpeningRow}
+use Rattle.mx_typed_rows.specs.declared.rows.ReleaseRow.{ReleaseRow}
+use Rattle.mx_typed_rows.specs.declared.rows.ReleaseLineRow.{ReleaseLineRow}
+use Rattle.mx_typed_rows.specs.declared.rows.DeferralRow.{DeferralRow}
+use Rattle.mx_typed_rows.specs.declared.rows.ExtensionRow.{ExtensionRow}
+use Rattle.mx_typed_rows.specs.Rows.{kind_number, category_number, days_stated, place_key, task_key, release_line_key, FitsFitting, FitsSector, FitsComponent, FitsEntry, FitsAircraft, FitsPlace, FitsRemoval, FitsProgramme, FitsTask, FitsOpening, FitsRelease, FitsReleaseLine, FitsDeferral, FitsExtension}
 use Rattle.mx_layout.specs.TableName.{TableName}
 use Rattle.mx_layout.specs.declared.fault.Table.TheVariants.{Entry, Aircraft, Place, Component, Programme, Task, Opening, Crs, CrsLine, Defect, Extension, Sector1, Fit1, Removal1}
 use Rattle.mx_layout.specs.Tables.{component, sector1, fit1, entry, aircraft, place, programme, task, opening, crs, crs_line, defect, extension, removal1}

@@ -4,21 +4,21 @@ use Rattle.sqlite.specs.declared.types.Value.TheVariants.{Int, Text}
 use Rattle.mx_base.specs.Texts.{moment_text}
 use Rattle.mx_layout.specs.Reading.{by_first, by_two}
 use Rattle.mx_layout.specs.declared.fault.Table.TheVariants.{Entry, Aircraft, Place, Component, Programme, Task, Opening, Crs, CrsLine, Defect, Extension, Sector1, Fit1, Removal1}
-use Rattle.mx_register.specs.declared.rows.EntryRow.{EntryRow}
-use Rattle.mx_register.specs.declared.rows.AircraftRow.{AircraftRow}
-use Rattle.mx_register.specs.declared.rows.PlaceRow.{PlaceRow}
-use Rattle.mx_register.specs.declared.rows.RemovalRow.{RemovalRow}
-use Rattle.mx_register.specs.declared.rows.ComponentRow.{ComponentRow}
-use Rattle.mx_register.specs.declared.rows.SectorRow.{SectorRow}
-use Rattle.mx_register.specs.declared.rows.FittingRow.{FittingRow}
-use Rattle.mx_register.specs.declared.rows.ProgrammeRow.{ProgrammeRow}
-use Rattle.mx_register.specs.declared.rows.TaskRow.{TaskRow}
-use Rattle.mx_register.specs.declared.rows.OpeningRow.{OpeningRow}
-use Rattle.mx_register.specs.declared.rows.ReleaseRow.{ReleaseRow}
-use Rattle.mx_register.specs.declared.rows.ReleaseLineRow.{ReleaseLineRow}
-use Rattle.mx_register.specs.declared.rows.DeferralRow.{DeferralRow}
-use Rattle.mx_register.specs.declared.rows.ExtensionRow.{ExtensionRow}
-use Rattle.mx_register.specs.Rows.{kind_number, category_number, days_stated, place_key, task_key, release_line_key, FitsEntry, FitsAircraft, FitsPlace, FitsComponent, FitsProgramme, FitsTask, FitsOpening, FitsRelease, FitsReleaseLine, FitsDeferral, FitsExtension, FitsSector, FitsFitting, FitsRemoval}
+use Rattle.mx_typed_rows.specs.declared.rows.EntryRow.{EntryRow}
+use Rattle.mx_typed_rows.specs.declared.rows.AircraftRow.{AircraftRow}
+use Rattle.mx_typed_rows.specs.declared.rows.PlaceRow.{PlaceRow}
+use Rattle.mx_typed_rows.specs.declared.rows.RemovalRow.{RemovalRow}
+use Rattle.mx_typed_rows.specs.declared.rows.ComponentRow.{ComponentRow}
+use Rattle.mx_typed_rows.specs.declared.rows.SectorRow.{SectorRow}
+use Rattle.mx_typed_rows.specs.declared.rows.FittingRow.{FittingRow}
+use Rattle.mx_typed_rows.specs.declared.rows.ProgrammeRow.{ProgrammeRow}
+use Rattle.mx_typed_rows.specs.declared.rows.TaskRow.{TaskRow}
+use Rattle.mx_typed_rows.specs.declared.rows.OpeningRow.{OpeningRow}
+use Rattle.mx_typed_rows.specs.declared.rows.ReleaseRow.{ReleaseRow}
+use Rattle.mx_typed_rows.specs.declared.rows.ReleaseLineRow.{ReleaseLineRow}
+use Rattle.mx_typed_rows.specs.declared.rows.DeferralRow.{DeferralRow}
+use Rattle.mx_typed_rows.specs.declared.rows.ExtensionRow.{ExtensionRow}
+use Rattle.mx_typed_rows.specs.Rows.{kind_number, category_number, days_stated, place_key, task_key, release_line_key, FitsEntry, FitsAircraft, FitsPlace, FitsComponent, FitsProgramme, FitsTask, FitsOpening, FitsRelease, FitsReleaseLine, FitsDeferral, FitsExtension, FitsSector, FitsFitting, FitsRemoval}
 use Rattle.mx_kept.specs.Keys.{one_key, two_key}
 use Rattle.mx_kept.specs.Values.{number_or_null, text_or_null, flag}
 use Rattle.mx_kept.specs.Kept.{Kept}

@@ -1,4 +1,4 @@
-//! Tests of the desk over the loopback, in one process: two connections are served, and a port that is taken is told.
+//! A test of serving over the loopback, in one process: two connections are served, one after the other.
 #![tactic(auto)]
 
 #[cfg(test)]

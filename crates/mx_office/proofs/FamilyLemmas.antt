@@ -13,11 +13,11 @@ use Rattle.sqlite.specs.Tree.{Trees}
 use Rattle.sqlite_schema.specs.declared.schema.Index.{Index}
 use Rattle.mx_command.specs.Act.{Entry}
 use Rattle.mx_command.specs.Shape.{has_shape}
+use Rattle.mx_typed_rows.specs.Rising.{IsRising}
+use Rattle.mx_typed_rows.proofs.SortedLemmas.{sorted_once, IsRising-map, IsFrom-map, IsFrom-rising}
 use Rattle.mx_register.specs.declared.merge.Registers.{Registers}
 use Rattle.mx_register.specs.Registers.{gives}
-use Rattle.mx_register.specs.Rising.{IsRising}
 use Rattle.mx_register.proofs.RegisterLemmas.{entry_rows-rising, aircraft_rows-rising, place_rows-rising, component_rows-rising, programme_rows-rising, task_rows-rising, opening_rows-rising, sector_rows-rising, fitting_rows-rising, removal_rows-rising, release_rows-rising, release_line_rows-rising, deferral_rows-rising, extension_rows-rising}
-use Rattle.mx_register.proofs.SortedLemmas.{sorted_once, IsRising-map, IsFrom-map, IsFrom-rising}
 use Rattle.mx_layout.specs.TableName.{TableName}
 use Rattle.mx_layout.specs.declared.fault.Table.TheVariants as table
 use Rattle.mx_layout.specs.declared.points.Point.{Point}

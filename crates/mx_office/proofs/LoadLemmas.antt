@@ -9,10 +9,10 @@ use Rattle.sqlite.specs.Order.{Row}
 use Rattle.sqlite.specs.Tree.{Trees}
 use Rattle.mx_command.specs.Act.{Entry}
 use Rattle.mx_book.specs.Book.{IsBook}
+use Rattle.mx_typed_rows.specs.Rising.{IsFrom}
+use Rattle.mx_typed_rows.proofs.SortedLemmas.{sorted_once}
 use Rattle.mx_register.specs.declared.merge.Registers.{Registers}
 use Rattle.mx_register.specs.Registers.{gives, AreRegistersOf}
-use Rattle.mx_register.specs.Rising.{IsFrom}
-use Rattle.mx_register.proofs.SortedLemmas.{sorted_once}
 use Rattle.mx_register.proofs.MergeLemmas.{book_once}
 use Rattle.mx_layout.specs.TableName.{TableName}
 use Rattle.mx_layout.specs.declared.fault.Table.TheVariants as table

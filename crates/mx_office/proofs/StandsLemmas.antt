@@ -13,7 +13,7 @@ use Rattle.mx_command.specs.Shape.{has_shape}
 use Rattle.mx_book.specs.declared.verdict.Verdict.TheVariants.{New}
 use Rattle.mx_book.specs.Judge.{judge}
 use Rattle.mx_book.proofs.JudgeLemmas.{IsBook-entered}
-use Rattle.mx_register.specs.declared.rows.EntryRow.{EntryRow}
+use Rattle.mx_typed_rows.specs.declared.rows.EntryRow.{EntryRow}
 use Rattle.mx_register.specs.declared.added.AddedRows.{AddedRows}
 use Rattle.mx_register.specs.Added.{AreAddedRows}
 use Rattle.mx_register.specs.Registers.{gives, entry_added}

@@ -65,7 +65,7 @@ fn add_rows<S: Alter>(
 }
 
 // Adds the rows of a command that was judged new against the book.
-fn add<S: Alter>(
+fn add_command<S: Alter>(
     tx: &mut Transaction<'_, S>,
     book: &Book,
     command: &Command,
@@ -95,9 +95,9 @@ fn add<S: Alter>(
     add_rows(tx, book, command, rows)
 }
 
-/// Enters a command that was judged new, in one commit. Whatever is answered, a crash leaves the book from
+/// Adds the rows of a command that was judged new, in one commit. Whatever is answered, a crash leaves the book from
 /// before or the one with the command.
-pub(crate) fn enter<S: Alter>(
+pub(crate) fn commit_command<S: Alter>(
     conn: &mut Connection<S>,
     book: &Book,
     command: &Command,
@@ -119,7 +119,7 @@ pub(crate) fn enter<S: Alter>(
         → Leaves (state S.Store conn.new) (IsEither book.now (book.now ++ command.now ∷ [])) }
 {
     let mut tx = conn.transaction();
-    add(&mut tx, book, command, rows)?;
+    add_command(&mut tx, book, command, rows)?;
     match tx.commit() {
         Ok(_) => Ok(()),
         Err(_) => Err(TableFault::Store),

@@ -8,7 +8,7 @@ ghost use Rattle.mx_layout.specs.Crash.{Leaves, ChangesNothing};
 ghost use Rattle.mx_kept.specs.Schemas.{HasOwn1};
 ghost use Rattle.mx_office.specs.Stands.{HoldsBook, IsEntered, IsReasonFor, Rests, IsEither, WasEntered};
 
-use crate::adding::enter;
+use crate::adding::commit_command;
 use crate::fault::Fault;
 use crate::loading::load_book;
 use mx_book::{Book, Reply, Verdict};
@@ -47,7 +47,7 @@ pub(crate) fn answer_by<S: Alter>(
         Verdict::New => {
             let seq = book.len() + 1;
             let rows = added_rows(alloc, book, command)?;
-            match enter(conn, book, command, rows) {
+            match commit_command(conn, book, command, rows) {
                 Ok(()) => Ok(Reply::Accepted(seq)),
                 Err(_) => Err(Fault::Store),
             }
@@ -56,7 +56,7 @@ pub(crate) fn answer_by<S: Alter>(
 }
 
 /// Judges a command against the book that the tables hold, and enters it in one commit where it is new.
-pub(crate) fn answer<S: Alter>(
+pub(crate) fn answer_command<S: Alter>(
     alloc: Global,
     conn: &mut Connection<S>,
     command: &Command,

@@ -15,7 +15,7 @@ ghost use Rattle.mx_kept.specs.Schemas.{HasOwn1};
 ghost use Rattle.mx_office.specs.Faults.{open_answer, IsReason, IsUnopened};
 ghost use Rattle.mx_office.specs.Stands.{HoldsBook, IsReasonFor, NoneAccepted, RanOver, Rests, IsEither, WasEntered};
 
-use crate::answering::answer;
+use crate::answering::answer_command;
 use crate::fault::{Fault, OpenFault, Outcomes, open_fault_of};
 use crate::loading::load_book;
 use crate::running::run_by;
@@ -154,7 +154,7 @@ impl<S: Alter> Office<S> {
         if self.needs_reopen {
             return Err(Fault::NeedsReopen);
         }
-        let answered = answer(alloc, &mut self.conn, command);
+        let answered = answer_command(alloc, &mut self.conn, command);
         if answered == Err(Fault::Store) {
             self.needs_reopen = true;
         }

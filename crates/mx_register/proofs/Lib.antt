@@ -6,7 +6,6 @@ pub mod TaskLemmas
 pub mod ReleaseLemmas
 pub mod MergeLemmas
 pub mod SoundLemmas
-pub mod SortedLemmas
 pub mod RegisterLemmas
 pub mod Worked
 pub mod WorkedProgrammes

@@ -1,9 +1,9 @@
 -- The rows that a command adds beside its entry, as the code has them.
 use Rattle.std.specs.Prelude.{◌≡◌, List, All}
 use Rattle.mx_command.specs.Act.{Act, Entry}
+use Rattle.mx_typed_rows.specs.Rows.{FitsAircraft, FitsPlace, FitsComponent, FitsProgramme, FitsTask, FitsOpening, FitsSector, FitsFitting, FitsRemoval, FitsRelease, FitsReleaseLine, FitsDeferral, FitsExtension}
 use Rattle.mx_register.specs.declared.added.AddedRows.{AddedRows}
 use Rattle.mx_register.specs.Registers.{aircraft_by, places_by, components_by, programmes_by, tasks_by, openings_by, sectors_by, fittings_by, removals_by, releases_by, release_lines_by, deferrals_by, extensions_by}
-use Rattle.mx_register.specs.Rows.{FitsAircraft, FitsPlace, FitsComponent, FitsProgramme, FitsTask, FitsOpening, FitsSector, FitsFitting, FitsRemoval, FitsRelease, FitsReleaseLine, FitsDeferral, FitsExtension}
 
 -- the rows are those that an entry adds to a register, behind the entries before it, and each can be kept in its columns
 abbrev pub AreAdded : {Row : Type 0} → (Row → Type 0) → (List Entry → Act → List Row) → List Row → List Entry → Entry → Type 0

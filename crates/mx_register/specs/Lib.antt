@@ -1,8 +1,6 @@
-pub mod Rows
 pub mod Names
 pub mod Lines
 pub mod Registers
-pub mod Rising
 pub mod Merge
 pub mod Left
 pub mod Added

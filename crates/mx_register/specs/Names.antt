@@ -46,7 +46,7 @@ abbrev pub seq_of_item : List Entry → Item → Option ℕ
 seq_of_item book (Airframe tail) = seq_of_tail book tail
 seq_of_item book (Component serial) = seq_of_serial book serial
 
--- the number, or 0, which no entry has
+-- the number of the entry that a name was found at, or 0, which no entry has: a command that was judged new names only what the book has
 abbrev pub or_zero : Option ℕ → ℕ
 or_zero number = unwrap_or number 0
 

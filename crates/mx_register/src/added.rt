@@ -1,21 +1,21 @@
 //! The rows that a command adds beside its entry, register by register, behind the entries of a book.
 ghost use Rattle.std.specs.Prelude.{◌≡◌, [], ◌∷◌, IfOk};
+ghost use Rattle.mx_typed_rows.specs.Rows.{FitsAircraft, FitsComponent, FitsDeferral, FitsExtension, FitsFitting, FitsOpening, FitsPlace, FitsProgramme, FitsRelease, FitsReleaseLine, FitsRemoval, FitsSector, FitsTask};
 ghost use Rattle.mx_register.specs.Registers.{aircraft_by, components_by, deferrals_by, extensions_by, fittings_by, openings_by, places_by, programmes_by, release_lines_by, releases_by, removals_by, sectors_by, tasks_by};
 ghost use Rattle.mx_register.specs.Added.{AreAdded, AreAddedRows};
-ghost use Rattle.mx_register.specs.Rows.{FitsAircraft, FitsComponent, FitsDeferral, FitsExtension, FitsFitting, FitsOpening, FitsPlace, FitsProgramme, FitsRelease, FitsReleaseLine, FitsRemoval, FitsSector, FitsTask};
 
-use crate::names::{seq_of_defect, seq_of_item, seq_of_place, seq_of_serial, seq_of_tail};
+use crate::names::{or_zero, seq_of_defect, seq_of_item, seq_of_place, seq_of_serial, seq_of_tail};
 use crate::registers::{
     aircraft_row, component_row, deferral_row, extension_row, fitting_row, opening_row, place_row,
     programme_row, release_line_row, release_row, removal_row, sector_row, task_row,
 };
-use crate::rows::{
-    AircraftRow, ComponentRow, DeferralRow, ExtensionRow, FittingRow, OpeningRow, PlaceRow,
-    ProgrammeRow, ReleaseLineRow, ReleaseRow, RemovalRow, SectorRow, TaskRow,
-};
 use mx_base::Kind;
 use mx_book::{Book, NoMemory};
 use mx_command::Command;
+use mx_typed_rows::{
+    AircraftRow, ComponentRow, DeferralRow, ExtensionRow, FittingRow, OpeningRow, PlaceRow,
+    ProgrammeRow, ReleaseLineRow, ReleaseRow, RemovalRow, SectorRow, TaskRow,
+};
 use std::alloc::Global;
 
 /// The rows that a command adds beside its entry, to each register.
@@ -142,7 +142,7 @@ fn opening_rows(alloc: Global, book: &Book, command: &Command) -> Result<Vec<Ope
     match command.stated_opening() {
         None => Ok(Vec::new(alloc)),
         Some(opening) => {
-            let item = seq_of_item(book, &opening.item).unwrap_or(0);
+            let item = or_zero(seq_of_item(book, &opening.item));
             one(alloc, opening_row(book.len() + 1, item, opening))
         }
     }
@@ -155,7 +155,7 @@ fn sector_rows(alloc: Global, book: &Book, command: &Command) -> Result<Vec<Sect
     match command.flown_sector() {
         None => Ok(Vec::new(alloc)),
         Some(sector) => {
-            let aircraft = seq_of_tail(book, &sector.tail).unwrap_or(0);
+            let aircraft = or_zero(seq_of_tail(book, &sector.tail));
             one(alloc, sector_row(book.len() + 1, aircraft, sector))
         }
     }
@@ -169,8 +169,8 @@ fn fitting_rows(alloc: Global, book: &Book, command: &Command) -> Result<Vec<Fit
     match command.fitting() {
         None => Ok(Vec::new(alloc)),
         Some(fitting) => {
-            let component = seq_of_serial(book, &fitting.serial).unwrap_or(0);
-            let aircraft = seq_of_tail(book, &fitting.tail).unwrap_or(0);
+            let component = or_zero(seq_of_serial(book, &fitting.serial));
+            let aircraft = or_zero(seq_of_tail(book, &fitting.tail));
             one(
                 alloc,
                 fitting_row(book.len() + 1, component, aircraft, fitting),
@@ -187,7 +187,7 @@ fn removal_rows(alloc: Global, book: &Book, command: &Command) -> Result<Vec<Rem
     match command.removal() {
         None => Ok(Vec::new(alloc)),
         Some(removal) => {
-            let component = seq_of_serial(book, &removal.serial).unwrap_or(0);
+            let component = or_zero(seq_of_serial(book, &removal.serial));
             one(alloc, removal_row(book.len() + 1, component, removal))
         }
     }
@@ -203,7 +203,7 @@ fn release_rows(alloc: Global, book: &Book, command: &Command) -> Result<Vec<Rel
     match command.release() {
         None => Ok(Vec::new(alloc)),
         Some(release) => {
-            let item = seq_of_place(book, &release.place).unwrap_or(0);
+            let item = or_zero(seq_of_place(book, &release.place));
             one(alloc, release_row(book.len() + 1, item, release))
         }
     }
@@ -245,7 +245,7 @@ fn deferral_rows(
     match command.deferral() {
         None => Ok(Vec::new(alloc)),
         Some(deferral) => {
-            let aircraft = seq_of_tail(book, &deferral.tail).unwrap_or(0);
+            let aircraft = or_zero(seq_of_tail(book, &deferral.tail));
             one(alloc, deferral_row(book.len() + 1, aircraft, deferral))
         }
     }
@@ -263,7 +263,7 @@ fn extension_rows(
     match command.extension() {
         None => Ok(Vec::new(alloc)),
         Some(extension) => {
-            let defect = seq_of_defect(book, &extension.defect).unwrap_or(0);
+            let defect = or_zero(seq_of_defect(book, &extension.defect));
             one(alloc, extension_row(book.len() + 1, defect, extension))
         }
     }

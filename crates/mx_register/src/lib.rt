@@ -6,20 +6,19 @@ pub mod laws;
 pub mod merge;
 pub mod names;
 pub mod registers;
-pub mod rows;
 mod said;
 mod taking;
 
 pub use added::{AddedRows, added_rows};
+pub use mx_typed_rows::{
+    AircraftRow, ComponentRow, DeferralRow, EntryKind, EntryRow, ExtensionRow, FittingRow,
+    OpeningRow, PlaceRow, ProgrammeRow, ReleaseLineRow, ReleaseRow, RemovalRow, SectorRow, TaskRow,
+};
 pub use names::{
-    document_of_defect, item_of_entry, seq_of_defect, seq_of_item, seq_of_place, seq_of_serial,
-    seq_of_tail, serial_of_component, tail_of_aircraft,
+    document_of_defect, item_of_entry, or_zero, seq_of_defect, seq_of_item, seq_of_place,
+    seq_of_serial, seq_of_tail, serial_of_component, tail_of_aircraft,
 };
 pub use registers::{
     aircraft_row, component_row, deferral_row, entry_row, extension_row, fitting_row, opening_row,
     place_row, programme_row, release_line_row, release_row, removal_row, sector_row, task_row,
-};
-pub use rows::{
-    AircraftRow, ComponentRow, DeferralRow, EntryKind, EntryRow, ExtensionRow, FittingRow,
-    OpeningRow, PlaceRow, ProgrammeRow, ReleaseLineRow, ReleaseRow, RemovalRow, SectorRow, TaskRow,
 };

@@ -7,14 +7,14 @@ ghost use Rattle.mx_register.specs.Registers.{AreRegistersOf};
 ghost use Rattle.mx_register.specs.Merge.{are_defects_taken, are_items_taken, are_moves_taken, are_programmes_taken, are_releases_taken, are_taken, command_of, is_next, merged, take_by, take_command};
 ghost use Rattle.mx_register.specs.Left.{all_rows, rest_of, taken};
 
-use crate::rows::{
-    AircraftRow, ComponentRow, DeferralRow, EntryRow, ExtensionRow, FittingRow, OpeningRow,
-    PlaceRow, ProgrammeRow, ReleaseLineRow, ReleaseRow, RemovalRow, SectorRow, TaskRow,
-};
 use crate::taking::{Left, take_said};
 use mx_base::Doc;
 use mx_book::{Book, NoMemory, Verdict};
 use mx_command::{Body, Command, MakeFault};
+use mx_typed_rows::{
+    AircraftRow, ComponentRow, DeferralRow, EntryRow, ExtensionRow, FittingRow, OpeningRow,
+    PlaceRow, ProgrammeRow, ReleaseLineRow, ReleaseRow, RemovalRow, SectorRow, TaskRow,
+};
 use std::alloc::Global;
 
 /// The rows of every register, each in the order of its key.

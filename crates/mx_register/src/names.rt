@@ -3,7 +3,7 @@ ghost use Rattle.std.specs.Prelude.{◌≡◌};
 ghost use Rattle.std.specs.List.{position};
 ghost use Rattle.mx_command.specs.Act.{act_of};
 ghost use Rattle.mx_book.specs.Judge.{item_at as item_of_place};
-ghost use Rattle.mx_register.specs.Names.{adds_named, defect_at, defect_deferred, item_added, item_at, seq_of_defect, seq_of_item, seq_of_serial, seq_of_tail, serial_added, serial_at, tail_added, tail_at};
+ghost use Rattle.mx_register.specs.Names.{adds_named, defect_at, defect_deferred, item_added, item_at, or_zero, seq_of_defect, seq_of_item, seq_of_serial, seq_of_tail, serial_added, serial_at, tail_added, tail_at};
 
 use mx_base::{Doc, Serial, Tail};
 use mx_book::Book;
@@ -110,6 +110,14 @@ pub fn seq_of_place(book: &Book, place: &Place) -> Option<u32>
         Place::Aircraft(tail) => seq_of_tail(book, tail),
         Place::Shop(serial, _) => seq_of_serial(book, serial),
     }
+}
+
+/// The number of the entry that a name was found at, or 0, which no entry has: a command that was judged new names only
+/// what the book has.
+pub fn or_zero(seq: Option<u32>) -> u32
+    ensures { result ≡ or_zero seq }
+{
+    seq.unwrap_or(0)
 }
 
 /// The registration of the aircraft that the entry with a number added.

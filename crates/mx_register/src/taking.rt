@@ -5,10 +5,6 @@ ghost use Rattle.mx_register.specs.Merge.{take_aircraft, take_by, take_component
 ghost use Rattle.mx_register.specs.Left.{rest_of, said};
 
 use crate::names::{document_of_defect, item_of_entry, serial_of_component, tail_of_aircraft};
-use crate::rows::{
-    AircraftRow, ComponentRow, DeferralRow, EntryKind, EntryRow, ExtensionRow, FittingRow,
-    OpeningRow, PlaceRow, ProgrammeRow, ReleaseLineRow, ReleaseRow, RemovalRow, SectorRow, TaskRow,
-};
 use crate::said::{
     applies_to, body_of_aircraft, body_of_component, body_of_deferral, body_of_extension,
     body_of_fitting, body_of_opening, body_of_programme, body_of_release, body_of_removal,
@@ -17,6 +13,10 @@ use crate::said::{
 use mx_base::{Part, Position};
 use mx_book::Book;
 use mx_command::{Applies, Body, Item, Line, Task};
+use mx_typed_rows::{
+    AircraftRow, ComponentRow, DeferralRow, EntryKind, EntryRow, ExtensionRow, FittingRow,
+    OpeningRow, PlaceRow, ProgrammeRow, ReleaseLineRow, ReleaseRow, RemovalRow, SectorRow, TaskRow,
+};
 use std::alloc::{AllocError, Global};
 
 /// The rows that no entry has taken.

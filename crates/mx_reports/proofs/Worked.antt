@@ -1,6 +1,6 @@
 -- Worked texts, computed from the definitions.
-use Rattle.std.proofs.Common.{refl, ◌≡◌, [], ◌∷◌}
-use Rattle.std.specs.Prelude.{codes}
+use Rattle.std.proofs.Common.{refl, ◌≡◌, [], ◌∷◌, true, false}
+use Rattle.std.specs.Prelude.{codes, map}
 use Rattle.std.specs.Fmt.{digits}
 use Rattle.std.specs.List.{flat_map}
 use Rattle.mx_base.specs.Calendar.{date_of}
@@ -8,6 +8,7 @@ use Rattle.mx_base.specs.Texts.{day_text, moment_text}
 use Rattle.mx_book.specs.declared.verdict.Refusal.TheVariants.{Conflict, Full, UnknownAircraft, UnknownComponent, UnknownPosition, UnknownProgramme, UnknownTask, UnknownDefect, AircraftExists, ComponentExists, PositionTaken, AlreadyFitted, NotFitted, WrongPart, ItemElsewhere, TaskClosed, LifeLimit, DefectClosed, OutOfOrder, NotExtendable, AlreadyExtended, ExtensionTooLong, IntervalEnded, WrongRevision, OtherAircraft, OpeningTooLate, OpeningTooLarge, RepeatedLine}
 use Rattle.mx_book.specs.declared.verdict.Reply.TheVariants.{Accepted, Already, Refused}
 use Rattle.mx_reports.specs.LifeText.{life_lines}
+use Rattle.mx_reports.specs.Replies.{is_refusal, lines_of}
 use Rattle.mx_reports.specs.ReplyText.{reply_line}
 use Rattle.mx_reports.specs.Words.{StartsWith}
 
@@ -95,6 +96,15 @@ out_of_order = refl
 wrong_revision : reply_line (Refused (WrongRevision 2)) ≡ codes "refused 46 2\n"
 unfolding digits
 wrong_revision = refl
+
+-- a line for each reply
+replies : lines_of (Accepted 1 ∷ Refused UnknownAircraft ∷ []) ≡ codes "accepted 1\nrefused 20\n"
+unfolding digits
+replies = refl
+
+-- a refusal alone is one
+refusals : map is_refusal (Accepted 1 ∷ Already 1 ∷ Refused UnknownAircraft ∷ []) ≡ false ∷ false ∷ true ∷ []
+refusals = refl
 
 -- a text begins with itself and with a shorter one, and not with another
 begins : StartsWith (codes "end") (codes "end 1")

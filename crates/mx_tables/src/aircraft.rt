@@ -3,7 +3,7 @@
 use crate::column::{day_at, graphic_at, moment_at, number_at, tail_at};
 use crate::stored::{Insert, Stored, Texts, insert_values};
 use mx_layout::{Table, TableFault};
-use mx_register::AircraftRow;
+use mx_typed_rows::AircraftRow;
 use sqlite::{Alter, Row, Transaction, params};
 
 impl Stored for AircraftRow {

@@ -6,7 +6,7 @@ use crate::column::{
 };
 use crate::stored::{Insert, Stored, Texts, insert_values};
 use mx_layout::{Table, TableFault};
-use mx_register::DeferralRow;
+use mx_typed_rows::DeferralRow;
 use sqlite::{Alter, Row, Transaction, params};
 
 impl Stored for DeferralRow {

@@ -2,13 +2,13 @@
 ghost use Rattle.std.specs.Prelude.{◌≡◌, ◌≢◌, ◌<◌, pos, length, MatchOption};
 ghost use Rattle.sqlite.specs.declared.types.Value.TheVariants.{Int};
 ghost use Rattle.sqlite.specs.Order.{column};
-ghost use Rattle.mx_register.specs.Rows.{kind_number};
-ghost use Rattle.mx_register.specs.declared.rows.EntryKind.{EntryKind};
+ghost use Rattle.mx_typed_rows.specs.Rows.{kind_number};
+ghost use Rattle.mx_typed_rows.specs.declared.rows.EntryKind.{EntryKind};
 
 use crate::column::{graphic_at, number_at};
 use crate::stored::{Insert, Stored, Texts, insert_values};
 use mx_layout::{Table, TableFault};
-use mx_register::{EntryKind, EntryRow};
+use mx_typed_rows::{EntryKind, EntryRow};
 use sqlite::{Alter, Row, Transaction, params};
 
 // The number that stands for a kind in its column.

@@ -3,7 +3,7 @@
 use crate::column::{day_at, number_at};
 use crate::stored::{Insert, Stored, Texts, insert_values};
 use mx_layout::{Table, TableFault};
-use mx_register::ExtensionRow;
+use mx_typed_rows::ExtensionRow;
 use sqlite::{Alter, Row, Transaction, params};
 
 impl Stored for ExtensionRow {

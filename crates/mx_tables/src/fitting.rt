@@ -3,7 +3,7 @@
 use crate::column::{graphic_at, number_at, text_of, written_moment_at};
 use crate::stored::{Insert, Stored, Texts, insert_values};
 use mx_layout::{Table, TableFault};
-use mx_register::FittingRow;
+use mx_typed_rows::FittingRow;
 use sqlite::{Alter, Row, Transaction, params};
 
 impl Stored for FittingRow {

@@ -16,7 +16,7 @@
 //!
 //! # To add a table
 //!
-//! For a table whose row type stands in `mx_register` with its `Fits`. Its key is its first column, an
+//! For a table whose row type stands in `mx_typed_rows` with its `Fits`. Its key is its first column, an
 //! `INTEGER PRIMARY KEY`, or its first two, a `PRIMARY KEY` of both. Where no layout has it, first `mx_layout`:
 //! `Table`, its name, `table_name`, `table_named`; its columns and tree, `layout_1`; its text in `create_text`,
 //! `CreateTexts` and `create_texts`; `tables_1`, `.._defined`, `.._next`, `advance`, `others_empty`; and how many there

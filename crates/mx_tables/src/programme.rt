@@ -3,7 +3,7 @@
 use crate::column::{graphic_at, number_at};
 use crate::stored::{Insert, Stored, Texts, insert_values};
 use mx_layout::{Table, TableFault};
-use mx_register::ProgrammeRow;
+use mx_typed_rows::ProgrammeRow;
 use sqlite::{Alter, Row, Transaction, params};
 
 impl Stored for ProgrammeRow {

@@ -3,7 +3,7 @@
 use crate::column::{graphic_or_null_at, moment_at, number_at, text_if_any};
 use crate::stored::{Insert, Stored, Texts, insert_values};
 use mx_layout::{Table, TableFault};
-use mx_register::ReleaseRow;
+use mx_typed_rows::ReleaseRow;
 use sqlite::{Alter, Row, Transaction, params};
 
 impl Stored for ReleaseRow {

@@ -4,7 +4,7 @@
 use crate::column::{graphic_or_null_at, number_at, number_if_any, number_or_null_at, text_if_any};
 use crate::stored::{Insert, Stored, Texts, insert_values};
 use mx_layout::{Table, TableFault};
-use mx_register::ReleaseLineRow;
+use mx_typed_rows::ReleaseLineRow;
 use sqlite::{Alter, Row, Transaction, params};
 
 impl Stored for ReleaseLineRow {

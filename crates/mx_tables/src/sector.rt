@@ -3,7 +3,7 @@
 use crate::column::{number_at, text_of, written_moment_at};
 use crate::stored::{Insert, Stored, Texts, insert_values};
 use mx_layout::{Table, TableFault};
-use mx_register::SectorRow;
+use mx_typed_rows::SectorRow;
 use sqlite::{Alter, Row, Transaction, params};
 
 impl Stored for SectorRow {

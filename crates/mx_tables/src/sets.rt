@@ -29,7 +29,7 @@ pub trait Tables: Sized {
         ensures reads { ReadsTables IsIn AreRows
             (state S.Store tx.old.conn.now) (state S.Store tx.new.conn.now) result };
 
-    /// InsertsRow the rows, each to its table.
+    /// Adds the rows, each to its table.
     fn write<S: Alter>(&self, tx: &mut Transaction<'_, S>) -> Result<(), TableFault>
         ensures same_reference { tx.new.conn.ghost_name ≡ tx.old.conn.ghost_name }
         ensures writes { WritesTables IsIn (onto self.now)

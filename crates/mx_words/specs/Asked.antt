@@ -1,13 +1,13 @@
 -- What is asked of the office in a file, and its answer.
 use Rattle.std.specs.Prelude.{◌≡◌, ℕ, List, length}
-use Rattle.mx_words.specs.Entered.{AreReplyLines}
-use Rattle.mx_words.specs.Imported.{AreRowLines}
-use Rattle.mx_words.specs.Printed.{IsListAnswer}
-use Rattle.mx_words.specs.Served.{served_line}
+use Rattle.mx_jobs.specs.Entered.{AreReplyLines}
+use Rattle.mx_jobs.specs.Imported.{AreRowLines}
+use Rattle.mx_jobs.specs.Printed.{IsListAnswer}
+use Rattle.mx_serve.specs.Served.{served_line}
 use Rattle.mx_words.specs.declared.files.Asked.{Asked}
 use Rattle.mx_words.specs.declared.files.Asked.TheVariants.{List as ForList, Enter, Import, Serve}
-use Rattle.mx_words.specs.declared.fault.Ending.{Ending}
-use Rattle.mx_words.specs.declared.fault.Ending.TheVariants.{Done}
+use Rattle.mx_jobs.specs.declared.fault.Ending.{Ending}
+use Rattle.mx_jobs.specs.declared.fault.Ending.TheVariants.{Done}
 
 -- the text and the ending are those of some list of the kind that is asked for, of as many replies as there are commands, of the rows of a log, or of so many connections
 abbrev pub IsAnswer : Asked → List ℕ → Ending → Type 0

@@ -5,14 +5,15 @@ use Rattle.clap.specs.Values.{kind_of}
 use Rattle.clap.specs.declared.error.Error.{Error}
 use Rattle.clap.specs.declared.parser.matches.ArgMatches.{ArgMatches}
 use Rattle.clap.specs.declared.error.kind.ErrorKind.TheVariants.{DisplayHelp, DisplayVersion}
-use Rattle.mx_words.specs.Entered.{AreReplyLines, AreSomeReplyLines}
-use Rattle.mx_words.specs.Imported.{AreRowLines}
-use Rattle.mx_words.specs.Printed.{IsListAnswer}
-use Rattle.mx_words.specs.Served.{served_line}
-use Rattle.mx_words.specs.Trial.{is_trial_shaped, trial_commands, TellsTrial}
-use Rattle.mx_words.specs.Job.{Job, said, tries, makes, lists, enters, imports, loads, serves}
-use Rattle.mx_words.specs.declared.fault.Ending.{Ending}
-use Rattle.mx_words.specs.declared.fault.Ending.TheVariants.{Done}
+use Rattle.mx_jobs.specs.Entered.{AreReplyLines, AreSomeReplyLines}
+use Rattle.mx_jobs.specs.Imported.{AreRowLines}
+use Rattle.mx_jobs.specs.Printed.{IsListAnswer}
+use Rattle.mx_serve.specs.Served.{served_line}
+use Rattle.mx_command_line.specs.Trial.{is_trial_shaped, trial_commands}
+use Rattle.mx_jobs.specs.Tried.{TellsTrial}
+use Rattle.mx_command_line.specs.Job.{Job, said, tries, makes, lists, enters, imports, loads, serves}
+use Rattle.mx_jobs.specs.declared.fault.Ending.{Ending}
+use Rattle.mx_jobs.specs.declared.fault.Ending.TheVariants.{Done}
 
 -- the text and the ending are those of this job
 abbrev pub IsDone : Job → List ℕ → Ending → Type 0

@@ -1,12 +1,2 @@
 pub mod Asked
-pub mod CommandLine
 pub mod Done
-pub mod Entered
-pub mod Imported
-pub mod FaultLine
-pub mod Job
-pub mod Number
-pub mod Printed
-pub mod Served
-pub mod Status
-pub mod Trial

@@ -3,25 +3,20 @@
 ghost use Rattle.std.specs.Prelude.{◌≡◌, ◌↔◌, ◌⊎◌, ◌+◌, ◌≤◌, ◌++◌, false, codes, OnOk, OnErr, IfOk, IfErr, vec_len};
 ghost use Rattle.std.specs.Vec.{vec_capacity};
 ghost use Rattle.mx_words.specs.Asked.{IsAnswer};
-ghost use Rattle.mx_words.specs.Entered.{AreReplyLines, AreSomeReplyLines};
-ghost use Rattle.mx_words.specs.Imported.{AreRowLines};
-ghost use Rattle.mx_words.specs.Printed.{IsListAnswer};
-ghost use Rattle.mx_words.specs.Served.{served_line};
-ghost use Rattle.mx_words.specs.Status.{LeavesUnread, Shows, stop_status};
+ghost use Rattle.mx_jobs.specs.Entered.{AreReplyLines, AreSomeReplyLines};
+ghost use Rattle.mx_jobs.specs.Imported.{AreRowLines};
+ghost use Rattle.mx_jobs.specs.Printed.{IsListAnswer};
+ghost use Rattle.mx_serve.specs.Served.{served_line};
+ghost use Rattle.mx_jobs.specs.Status.{LeavesUnread, Shows, stop_status};
 
-use crate::entering::enter_all;
-use crate::fault::{Ending, Stop};
-use crate::importing::import_all;
-use crate::listing::print_list;
-use crate::making::{CREATED, make_book};
-use crate::opening::open;
-use crate::serving::serve_all;
 use mx_answers::Question;
 use mx_base::Doc;
 use mx_command::Command;
 use mx_intake::{IntakeFault, MOST_BYTES, READ_FAILED, commands_of_json, programme_of, read_all};
+use mx_jobs::{CREATED, Ending, Stop, enter_all, import_all, make_book, open, print_list};
 use mx_layout::TableFault;
 use mx_office::{Fault, Office, OpenFault};
+use mx_serve::serve_connections;
 use sqlite::{Alter, Connection, Error, ErrorCode, FileFrom, FileStore, Wary};
 use std::io::ErrorKind;
 use std::net::{Ipv4Addr, SocketAddr, SocketAddrV4, TcpListener};
@@ -99,13 +94,16 @@ fn serve_at<S: Alter>(
         rt,
         SocketAddr::V4(SocketAddrV4::new(Ipv4Addr::LOCALHOST, port)),
     ) {
-        Ok(listener) => serve_all(rt.alloc(), office, &listener, count, out),
+        Ok(listener) => match serve_connections(rt.alloc(), office, &listener, count, out) {
+            Ok(()) => Ok(Ending::Done),
+            Err(fault) => Err(Stop::Office(fault)),
+        },
         Err(_) => Err(Stop::Net),
     }
 }
 
 // Appends what an office answers. It says what is printed alone, as `made_in`.
-fn answer<S: Alter>(
+fn answer_asked<S: Alter>(
     rt: &HostRuntime,
     office: &mut Office<S>,
     asked: Asked<'_>,
@@ -142,12 +140,12 @@ fn answer_in<S: Alter + Drop>(
     ensures opening { IfErr result (λ stop. stop_status stop ≡ 5) }
 {
     let mut office = open(conn)?;
-    let answered = answer(rt, &mut office, asked, out);
+    let answered = answer_asked(rt, &mut office, asked, out);
     Ok((office.close(), answered))
 }
 
 /// Makes an empty book in a file, and appends `created`.
-pub(crate) fn init(rt: &HostRuntime, file: &str, out: &mut Vec<u8>) -> Result<Ending, Stop>
+pub(crate) fn init_file(rt: &HostRuntime, file: &str, out: &mut Vec<u8>) -> Result<Ending, Stop>
     ensures done { IfOk result (λ ending. (ending ≡ Ending.Done)
         × (out.new.items ≡ out.old.items ++ codes "created\n")) }
     ensures unprinted { OnErr result (out.new.items ≡ out.old.items) }
@@ -205,7 +203,7 @@ fn answer_file(
 }
 
 /// Appends the list of an aircraft that a question asks for.
-pub(crate) fn list(
+pub(crate) fn list_file(
     rt: &HostRuntime,
     file: &str,
     question: &Question,
@@ -246,7 +244,7 @@ fn programme_in(rt: &HostRuntime, doc: Doc, toml: &str) -> Result<Command, Intak
 
 /// Enters the commands of a file, and appends a line for each reply. Nothing is opened where the file
 /// gives no commands.
-pub(crate) fn enter(
+pub(crate) fn enter_file(
     rt: &HostRuntime,
     file: &str,
     entries: &str,
@@ -264,7 +262,7 @@ pub(crate) fn enter(
 
 /// Enters the maintenance programme of a file by a document, and appends the line of the reply. Nothing is opened where
 /// the file states none.
-pub(crate) fn programme(
+pub(crate) fn programme_file(
     rt: &HostRuntime,
     file: &str,
     doc: Doc,
@@ -283,7 +281,7 @@ pub(crate) fn programme(
 
 /// Imports the sector log of a file, and appends a line for each row. The log is opened first, then the database, and
 /// then the log is read.
-pub(crate) fn import(
+pub(crate) fn import_file(
     rt: &HostRuntime,
     file: &str,
     csv: &str,
@@ -300,7 +298,7 @@ pub(crate) fn import(
 }
 
 /// Serves connections at a port of the loopback with the office in a file, and appends how many they were.
-pub(crate) fn serve(
+pub(crate) fn serve_file(
     rt: &HostRuntime,
     file: &str,
     port: u16,

@@ -1,23 +1,11 @@
-//! The words of the program `office`: what each does, what it prints to which stream, and the
-//! status. Each word is a function over an open database or office, whose contract says what is
-//! printed and what becomes of the tables; around them stands a shell that reads the words and
-//! opens files.
+//! The words of the program `office`, over files: each opens a file, hands it to what the word does over an open database or
+//! office, and closes it; what that prints goes to the two streams, and its ending gives the status.
 #![tactic(auto)]
 
-mod command_line;
-mod entering;
-mod fault;
 mod files;
-mod help;
-mod importing;
-mod listing;
-mod making;
-mod opening;
-mod printing;
 pub mod run;
-pub mod serving;
 mod trial;
-mod words;
+mod usage;
 
+pub use mx_serve::serve_on;
 pub use run::run_words;
-pub use serving::serve_on;

@@ -2,17 +2,16 @@
 ghost use Rattle.std.specs.Prelude.{◌≡◌, ◌≢◌, ◌↔◌, ◌⊎◌, ◌≤◌, ◌++◌, None, Some, IfOk, IfErr};
 ghost use Rattle.std.specs.Io.KnownBytes.{Keeps};
 ghost use Rattle.mx_words.specs.Done.{IsAnswered, IsDone, IsEnded, IsEndedForSome, LacksShape};
-ghost use Rattle.mx_words.specs.Job.{job_of, said};
-ghost use Rattle.mx_words.specs.Status.{LeavesUnread, Shows, stop_status};
+ghost use Rattle.mx_command_line.specs.Job.{job_of, said};
+ghost use Rattle.mx_jobs.specs.Status.{LeavesUnread, Shows, stop_status};
 
-use crate::command_line::command;
-use crate::fault::{Ending, Stop};
-use crate::files::{enter, import, init, list, programme, serve};
-use crate::printing::{print_done, print_usage};
+use crate::files::{enter_file, import_file, init_file, list_file, programme_file, serve_file};
 use crate::trial::try_out;
-use crate::words::{Words, words_of};
+use crate::usage::print_usage;
 use clap::ArgMatches;
 use clap::error::ErrorKind;
+use mx_command_line::{Words, command, words_of};
+use mx_jobs::{Ending, Stop, print_done};
 use std::io::Write;
 
 fn perform(rt: &HostRuntime, words: &Words<'_>, out: &mut Vec<u8>) -> Result<Ending, Stop>
@@ -25,12 +24,12 @@ fn perform(rt: &HostRuntime, words: &Words<'_>, out: &mut Vec<u8>) -> Result<End
 {
     match words {
         Words::Try(trial) => try_out(rt.alloc(), trial, out),
-        Words::Init { file } => init(rt, file, out),
-        Words::List { file, question } => list(rt, file, question, out),
-        Words::Enter { file, entries } => enter(rt, file, entries, out),
-        Words::Import { file, csv } => import(rt, file, csv, out),
-        Words::Programme { file, doc, toml } => programme(rt, file, *doc, toml, out),
-        Words::Serve { file, port, count } => serve(rt, file, *port, *count, out),
+        Words::Init { file } => init_file(rt, file, out),
+        Words::List { file, question } => list_file(rt, file, question, out),
+        Words::Enter { file, entries } => enter_file(rt, file, entries, out),
+        Words::Import { file, csv } => import_file(rt, file, csv, out),
+        Words::Programme { file, doc, toml } => programme_file(rt, file, *doc, toml, out),
+        Words::Serve { file, port, count } => serve_file(rt, file, *port, *count, out),
     }
 }
 
@@ -55,7 +54,7 @@ fn perform_all(
 }
 
 // Does what the words ask for, prints it, and answers the status.
-fn answer<O: Write, E: Write>(
+fn answer_words<O: Write, E: Write>(
     rt: &HostRuntime,
     matches: &ArgMatches<'_>,
     out: &mut O,
@@ -105,6 +104,6 @@ pub fn run_words<O: Write, E: Write>(
             print_done(&[], Err(Stop::MakeMemory), out, err).status
         }
         Err(error) => print_usage(&error, out, err).status,
-        Ok(matches) => answer(rt, &matches, out, err),
+        Ok(matches) => answer_words(rt, &matches, out, err),
     }
 }

@@ -16,14 +16,14 @@ returns-in-Ok-None-clause-answered g c = λ left known.
 
 pub returns-in-Ok-Some-clause-answered : goal.returns-in-Ok-Some-clause-answered
 returns-in-Ok-Some-clause-answered g c = λ left known.
-    a_body c.args.office.now c.answer.new.office (asked c.args.route.now) c.deref.result.now c.answer.result (λ r. ((head_of r).status, (body_of r).items)) c.bytes_of.result (λ text. text.items)
+    a_body c.args.office.now c.route_response.new.office (asked c.args.route.now) c.deref.result.now c.route_response.result (λ r. ((head_of r).status, (body_of r).items)) c.bytes_of.result (λ text. text.items)
     (whole_body c.args.length (c.args.begun.now ++ left))
     (sym (c.in-Ok-Some.ensures.body left known) ∙ ap (option_map (λ v. v.items)) c.in-Ok-Some.field-0-is ∙ sym (ap Some c.deref.ensures.value))
-    c.answer.ensures.answered c.bytes_of.ensures.bytes
+    c.route_response.ensures.answered c.bytes_of.ensures.bytes
 
 pub returns-in-Ok-Some-clause-crash : goal.returns-in-Ok-Some-clause-crash
 returns-in-Ok-Some-clause-crash g c = λ book rests.
-    let left = c.answer.ensures.crash book rests in
+    let left = c.route_response.ensures.crash book rests in
     (request_of (asked c.args.route.now) c.deref.result.now, left.0, left.1)
 
 pub returns-in-Err-clause-crash : goal.returns-in-Err-clause-crash

@@ -1,0 +1,5 @@
+pub mod CommandLineLemmas
+pub mod NumberLemmas
+mod WorkedCommandLine
+mod WorkedJob
+mod WorkedTrial

@@ -1,0 +1,4 @@
+pub mod CommandLine
+pub mod Job
+pub mod Number
+pub mod Trial

@@ -1,0 +1,5 @@
+pub mod QuestionLemmas
+pub mod TrialLemmas
+mod WorkedFaults
+mod WorkedStatus
+mod WorkedTrial

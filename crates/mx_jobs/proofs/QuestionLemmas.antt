@@ -1,0 +1,54 @@
+-- What is printed of an answer of the office.
+use Rattle.std.proofs.Common.{◌≡◌, refl, sym, ap, ◌∙◌, inl, inr, ℕ, List, ◌++◌, Option, Some, None, Result, Ok, Err, OnOk, IfOk}
+use Rattle.mx_command.specs.Act.{Entry}
+use Rattle.mx_book.specs.declared.verdict.Refusal.{Refusal}
+use Rattle.mx_book.specs.declared.verdict.Refusal.TheVariants.{UnknownAircraft}
+use Rattle.mx_book.specs.declared.verdict.Reply.TheVariants as reply
+use Rattle.mx_office.specs.declared.fault.Ask.{Ask}
+use Rattle.mx_office.specs.declared.fault.Ask.TheVariants.{Failed, Refused}
+use Rattle.mx_office.specs.declared.fault.Fault.{Fault}
+use Rattle.mx_office.specs.Faults.{found_or, IsAnswer}
+use Rattle.mx_reports.specs.ReplyText.{reply_line}
+use Rattle.mx_jobs.specs.Printed.{IsListAnswer, Tells, list_answer, list_ending}
+use Rattle.mx_answers.specs.Question.{IsOfKind, report_lines, report_of}
+use Rattle.mx_jobs.specs.declared.fault.Ending.{Ending}
+use Rattle.mx_jobs.specs.declared.fault.Ending.TheVariants as ending
+use Rattle.mx_jobs.specs.declared.fault.Stop.{Stop}
+use Rattle.mx_answers.specs.declared.question.Question.{Question}
+use Rattle.mx_answers.specs.declared.question.Report.{Report}
+
+-- a list of the kind that was asked for was appended
+pub shown_report : (question : Question) (list : Report) (old new : List ℕ) (result : Result Ending Stop) → IsOfKind question list → OnOk result (new ≡ old ++ report_lines list)
+    → IfOk result (λ e. e ≡ ending.Done) → IfOk result (λ e. (text : List ℕ) × (new ≡ old ++ text) × IsListAnswer question text e)
+shown_report question list old new (Ok e) kind printed done = (report_lines list, printed, inl (list, kind, refl, done))
+shown_report question list old new (Err stop) kind printed done = tt
+
+refused_as : (question : Question) (book : List Entry) (refusal : Refusal) (old new : List ℕ) (e : Ending) (o : Option Report) → report_of book question ≡ o
+    → IsAnswer (found_or UnknownAircraft o) (Err (Refused refusal)) → new ≡ old ++ reply_line (reply.Refused refusal) → e ≡ ending.Refused → Tells question book old new e
+refused_as question book refusal old new e None is (inl same) printed done =
+    let unknown : refusal ≡ UnknownAircraft = cc in
+    record {
+      text = printed ∙ ap (λ (r : Refusal). old ++ reply_line (reply.Refused r)) unknown ∙ ap (λ (o : Option Report). old ++ list_answer o) (sym is);
+      ending_is = done ∙ ap list_ending (sym is);
+    }
+refused_as question book refusal old new e (Some list) is (inl same) printed done = (cc)
+refused_as question book refusal old new e o is (inr (inl memory)) printed done = (cc)
+refused_as question book refusal old new e o is (inr (inr store)) printed done = (cc)
+
+-- a refusal was appended, which is the answer of the book that was asked
+pub tells_refusal : (question : Question) (book : List Entry) (refusal : Refusal) (old new : List ℕ) (result : Result Ending Stop)
+    → IsAnswer (found_or UnknownAircraft (report_of book question)) (Err (Refused refusal)) → OnOk result (new ≡ old ++ reply_line (reply.Refused refusal)) → IfOk result (λ e. e ≡ ending.Refused)
+    → IfOk result (Tells question book old new)
+tells_refusal question book refusal old new (Ok e) is printed done = refused_as question book refusal old new e (report_of book question) refl is printed done
+tells_refusal question book refusal old new (Err stop) is printed done = tt
+
+-- the same over whichever book has what is said of it
+pub held_refusal : (P : List Entry → Type 0) (question : Question) (book : List Entry) (refusal : Refusal) (old new : List ℕ) (result : Result Ending Stop)
+    → P book → Err (Refused refusal) ≡ found_or UnknownAircraft (report_of book question) → OnOk result (new ≡ old ++ reply_line (reply.Refused refusal)) → IfOk result (λ e. e ≡ ending.Refused)
+    → IfOk result (λ e. (b : List Entry) × P b × Tells question b old new e)
+held_refusal P question book refusal old new (Ok e) holds same printed done = (book, holds, refused_as question book refusal old new e (report_of book question) refl (inl same) printed done)
+held_refusal P question book refusal old new (Err stop) holds same printed done = tt
+
+-- what was refused has not failed
+pub not_failed : (r : Result Report Ask) (why : Ask) (refusal : Refusal) (fault : Fault) → r ≡ Err why → why ≡ Refused refusal → r ≡ Err (Failed fault) → ⊥
+not_failed r why refusal fault is refused failed = (cc)

@@ -1,0 +1,44 @@
+-- The line on standard error that says why the program ends before its work is done.
+use Rattle.std.specs.Prelude.{ℕ, List, ◌++◌, codes}
+use Rattle.std.specs.Fmt.{decimal}
+use Rattle.mx_layout.specs.declared.fault.TableFault.{TableFault}
+use Rattle.mx_layout.specs.declared.fault.TableFault.TheVariants as table
+use Rattle.mx_layout.specs.Names.{table_name}
+use Rattle.mx_office.specs.declared.fault.OpenFault.{OpenFault}
+use Rattle.mx_office.specs.declared.fault.OpenFault.TheVariants as opening
+use Rattle.mx_answers.specs.FaultLine.{intake_words, line_of, office_words}
+use Rattle.mx_jobs.specs.declared.fault.Stop.{Stop}
+use Rattle.mx_jobs.specs.declared.fault.Stop.TheVariants.{Words, Shape, Intake, MakeMemory, Create, Open, Net, Office, Print}
+
+-- why no book was made, in a word or two
+abbrev pub create_words : TableFault → List ℕ
+create_words table.Memory = codes "memory"
+create_words table.Store = codes "store"
+create_words table.NotOurs = codes "not-ours"
+create_words table.Exists = codes "exists"
+create_words (table.Damaged name) = codes "damaged " ++ table_name name
+
+-- why no office was opened
+abbrev pub open_words : OpenFault → List ℕ
+open_words opening.Memory = codes "memory"
+open_words opening.Store = codes "store"
+open_words opening.NotOurs = codes "not-ours"
+open_words (opening.NewerLayout layout) = codes "newer " ++ decimal layout
+open_words (opening.Damaged name) = codes "damaged " ++ table_name name
+open_words (opening.OlderLayout layout) = codes "older " ++ decimal layout
+
+-- why the program ends
+abbrev pub stop_words : Stop → List ℕ
+stop_words Words = codes "words"
+stop_words Shape = codes "shape"
+stop_words (Intake fault) = intake_words fault
+stop_words MakeMemory = codes "memory"
+stop_words Print = codes "memory"
+stop_words (Create fault) = create_words fault
+stop_words (Open fault) = open_words fault
+stop_words Net = codes "net"
+stop_words (Office fault) = office_words fault
+
+-- the line of a stop
+abbrev pub fault_line : Stop → List ℕ
+fault_line stop = line_of (stop_words stop)

@@ -1,0 +1,33 @@
+-- What a question for a list of an aircraft prints.
+use Rattle.std.specs.Prelude.{◌≡◌, ◌⊎◌, ℕ, List, ◌++◌, Option, Some, None}
+use Rattle.mx_command.specs.Act.{Entry}
+use Rattle.mx_book.specs.declared.verdict.Refusal.{Refusal}
+use Rattle.mx_book.specs.declared.verdict.Refusal.TheVariants.{UnknownAircraft}
+use Rattle.mx_book.specs.declared.verdict.Reply.TheVariants as reply
+use Rattle.mx_reports.specs.ReplyText.{reply_line}
+use Rattle.mx_answers.specs.Question.{IsOfKind, report_lines, report_of}
+use Rattle.mx_jobs.specs.declared.fault.Ending.{Ending}
+use Rattle.mx_jobs.specs.declared.fault.Ending.TheVariants.{Done, Refused}
+use Rattle.mx_answers.specs.declared.question.Question.{Question}
+use Rattle.mx_answers.specs.declared.question.Report.{Report}
+
+-- the text of a list, or of the refusal where the registration is unknown
+abbrev pub list_answer : Option Report → List ℕ
+list_answer (Some list) = report_lines list
+list_answer None = reply_line (reply.Refused UnknownAircraft)
+
+-- how the question ends: refused where the registration is unknown
+abbrev pub list_ending : Option Report → Ending
+list_ending (Some list) = Done
+list_ending None = Refused
+
+-- the list of the book that is asked for, or the refusal, was appended, and the ending is its
+pub record Tells (question : Question) (book : List Entry) (old new : List ℕ) (ending : Ending) : Type 0 where
+  pub text : new ≡ old ++ list_answer (report_of book question)
+  pub ending_is : ending ≡ list_ending (report_of book question)
+
+-- the text is some list of the kind that is asked for and all was done, or some refusal
+abbrev pub IsListAnswer : Question → List ℕ → Ending → Type 0
+IsListAnswer question text ending =
+    ((list : Report) × IsOfKind question list × (text ≡ report_lines list) × (ending ≡ Done))
+    ⊎ ((refusal : Refusal) × (text ≡ reply_line (reply.Refused refusal)) × (ending ≡ Refused))

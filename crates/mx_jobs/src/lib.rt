@@ -1,0 +1,21 @@
+//! What a word of the program does over an open database or office, what it prints, and how it ends: the status, and the line
+//! of what stopped it.
+#![tactic(auto)]
+
+mod entering;
+mod fault;
+mod importing;
+mod listing;
+mod making;
+mod opening;
+mod printing;
+mod trying;
+
+pub use entering::enter_all;
+pub use fault::{BAD_WORDS, Ending, STOPPED, Stop};
+pub use importing::import_all;
+pub use listing::print_list;
+pub use making::{CREATED, make_book};
+pub use opening::open;
+pub use printing::{Printed, print_done};
+pub use trying::try_in_memory;

@@ -1,0 +1,70 @@
+//! `try`: commands that are entered into a store in memory, and the life of an aircraft behind them.
+ghost use Rattle.std.specs.Prelude.{◌≡◌, ◌≤◌, [], false, IfOk, IfErr};
+ghost use Rattle.sqlite.specs.Held.{state};
+ghost use Rattle.sqlite.specs.State.{HasCleanDisk};
+ghost use Rattle.sqlite.specs.Steps.{over_memory};
+ghost use Rattle.mx_office.specs.Stands.{Rests};
+ghost use Rattle.mx_jobs.specs.Status.{stop_status};
+ghost use Rattle.mx_jobs.specs.Tried.{TellsTrial};
+
+use crate::entering::enter_all;
+use crate::fault::{Ending, Stop};
+use crate::listing::print_list;
+use crate::opening::open;
+use mx_answers::Question;
+use mx_base::Tail;
+use mx_command::Command;
+use mx_layout::{Layout, create};
+use mx_office::{Office, OpenFault};
+use sqlite::{Alter, Connection, MemStore};
+use std::alloc::Global;
+
+// An office in memory, which rests as the book with no entry.
+fn new_office(alloc: Global) -> Result<Office<MemStore>, Stop>
+    ensures ready { IfOk result (λ office. office.needs_reopen ≡ false) }
+    ensures empty { IfOk result (λ office. Rests (state over_memory office.conn) []) }
+    ensures status { IfErr result (λ stop. stop_status stop ≡ 5) }
+{
+    let Ok(mut conn) = Connection::open_in_memory(alloc) else {
+        return Err(Stop::Open(OpenFault::Memory));
+    };
+    if let Err(fault) = create(&mut conn, Layout(1)) {
+        return Err(Stop::Create(fault));
+    }
+    open(conn)
+}
+
+// Applies the commands of a trial, and appends the replies and the life of its aircraft.
+fn try_commands<S: Alter>(
+    alloc: Global,
+    office: &mut Office<S>,
+    commands: &[Command],
+    tail: &Tail,
+    out: &mut Vec<u8>,
+) -> Result<Ending, Stop>
+    ensures exact { (book : _) → office.old.needs_reopen ≡ false
+        → Rests (state S.Store office.old.conn) book
+        → HasCleanDisk (state S.Store office.new.conn)
+        → IfOk result (TellsTrial book commands.now tail.now out.old.items out.new.items) }
+    ensures status { IfErr result (λ stop. stop_status stop ≡ 4) }
+{
+    let entered = enter_all(alloc, office, commands, out)?;
+    let asked = print_list(alloc, office, &Question::Life(*tail), out)?;
+    Ok(entered.or(asked))
+}
+
+/// Enters commands into a store in memory, each in a commit of its own, and appends the replies and the life of an aircraft.
+pub fn try_in_memory(
+    alloc: Global,
+    commands: &[Command],
+    tail: &Tail,
+    out: &mut Vec<u8>,
+) -> Result<Ending, Stop>
+    ensures exact { IfOk result (TellsTrial [] commands.now tail.now out.old.items out.new.items) }
+    ensures status { IfErr result (λ stop. 4 ≤ stop_status stop) }
+{
+    let mut office = new_office(alloc)?;
+    let tried = try_commands(alloc, &mut office, commands, tail, out);
+    drop(office.close());
+    tried
+}
