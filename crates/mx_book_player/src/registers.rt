@@ -20,8 +20,8 @@ use mx_typed_rows::{PlaceRow, RemovalRow};
 use std::alloc::Global;
 
 // What the registers give: no book, the same book, or another and its first entry that differs.
-fn book_of(alloc: Global, book: &Book, rows: &Registers) -> Result<String, Unmade> {
-    let Some(found) = merge(alloc, rows)? else {
+fn book_of(alloc: Global, book: &Book, kept: &Registers) -> Result<String, Unmade> {
+    let Some(found) = merge(alloc, kept)? else {
         return Ok(String::from_str(alloc, "no book")?);
     };
     if are_same(found.as_slice(), book.as_slice()) {
@@ -39,27 +39,27 @@ fn book_of(alloc: Global, book: &Book, rows: &Registers) -> Result<String, Unmad
 
 // registers: what the registers of the book give.
 fn registers(alloc: Global, book: &Book) -> Result<String, Unmade> {
-    let rows = rows_of(alloc, book)?;
-    book_of(alloc, book, &rows)
+    let kept = rows_of(alloc, book)?;
+    book_of(alloc, book, &kept)
 }
 
 // Leaves only so many rows of a table, the first.
-fn keep_first(rows: &mut Registers, table: &str, count: usize) -> Result<(), Unmade> {
+fn keep_first(kept: &mut Registers, table: &str, count: usize) -> Result<(), Unmade> {
     match table {
-        "entries" => rows.entries.truncate(count),
-        "aircraft" => rows.aircraft.truncate(count),
-        "places" => rows.places.truncate(count),
-        "components" => rows.components.truncate(count),
-        "programmes" => rows.programmes.truncate(count),
-        "tasks" => rows.tasks.truncate(count),
-        "openings" => rows.openings.truncate(count),
-        "sectors" => rows.sectors.truncate(count),
-        "fittings" => rows.fittings.truncate(count),
-        "removals" => rows.removals.truncate(count),
-        "releases" => rows.releases.truncate(count),
-        "release-lines" => rows.release_lines.truncate(count),
-        "deferrals" => rows.deferrals.truncate(count),
-        "extensions" => rows.extensions.truncate(count),
+        "entries" => kept.entries.truncate(count),
+        "aircraft" => kept.rows.aircraft.truncate(count),
+        "places" => kept.rows.places.truncate(count),
+        "components" => kept.rows.components.truncate(count),
+        "programmes" => kept.rows.programmes.truncate(count),
+        "tasks" => kept.rows.tasks.truncate(count),
+        "openings" => kept.rows.openings.truncate(count),
+        "releases" => kept.rows.releases.truncate(count),
+        "release-lines" => kept.rows.release_lines.truncate(count),
+        "deferrals" => kept.rows.deferrals.truncate(count),
+        "extensions" => kept.rows.extensions.truncate(count),
+        "sectors" => kept.rows.sectors.truncate(count),
+        "fittings" => kept.rows.fittings.truncate(count),
+        "removals" => kept.rows.removals.truncate(count),
         _ => return Err(Unmade::NoSuchLine),
     }
     Ok(())
@@ -67,19 +67,19 @@ fn keep_first(rows: &mut Registers, table: &str, count: usize) -> Result<(), Unm
 
 // registers first N TABLE: what they give where a table has only its first rows.
 fn registers_first(alloc: Global, book: &Book, count: &str, table: &str) -> Result<String, Unmade> {
-    let mut rows = rows_of(alloc, book)?;
-    keep_first(&mut rows, table, count.parse::<usize>()?)?;
-    book_of(alloc, book, &rows)
+    let mut kept = rows_of(alloc, book)?;
+    keep_first(&mut kept, table, count.parse::<usize>()?)?;
+    book_of(alloc, book, &kept)
 }
 
 // registers sectors-of N: what they give where each sector names the entry N as that of its aircraft.
 fn registers_sectors_of(alloc: Global, book: &Book, seq: &str) -> Result<String, Unmade> {
     let seq = seq.parse::<u32>()?;
-    let mut rows = rows_of(alloc, book)?;
-    for row in rows.sectors.iter_mut() {
+    let mut kept = rows_of(alloc, book)?;
+    for row in kept.rows.sectors.iter_mut() {
         row.aircraft = seq;
     }
-    book_of(alloc, book, &rows)
+    book_of(alloc, book, &kept)
 }
 
 // SEQ LINE POSITION PART
@@ -108,15 +108,15 @@ fn removal_of(words: &[&str]) -> Result<RemovalRow, Unmade> {
 }
 
 // Appends a row: place SEQ LINE POSITION PART, or removal SEQ COMPONENT MOMENT.
-fn push_row(rows: &mut Registers, row: &[&str]) -> Result<(), Unmade> {
+fn push_row(kept: &mut Registers, row: &[&str]) -> Result<(), Unmade> {
     match row {
         ["place", words @ ..] => {
             let place = place_of(words)?;
-            rows.places.push(place)?;
+            kept.rows.places.push(place)?;
         }
         ["removal", words @ ..] => {
             let removal = removal_of(words)?;
-            rows.removals.push(removal)?;
+            kept.rows.removals.push(removal)?;
         }
         _ => return Err(Unmade::NoSuchLine),
     }
@@ -125,29 +125,29 @@ fn push_row(rows: &mut Registers, row: &[&str]) -> Result<(), Unmade> {
 
 // registers with ROW: what they give with a row behind the others of its table.
 fn registers_with(alloc: Global, book: &Book, row: &[&str]) -> Result<String, Unmade> {
-    let mut rows = rows_of(alloc, book)?;
-    push_row(&mut rows, row)?;
-    book_of(alloc, book, &rows)
+    let mut kept = rows_of(alloc, book)?;
+    push_row(&mut kept, row)?;
+    book_of(alloc, book, &kept)
 }
 
 // rows TABLE: the rows of a table, joined by ` / `.
 fn rows(alloc: Global, book: &Book, table: &str) -> Result<String, Unmade> {
-    let rows = rows_of(alloc, book)?;
+    let kept = rows_of(alloc, book)?;
     let text = match table {
-        "entries" => entries_text(alloc, rows.entries.as_slice()),
-        "aircraft" => aircraft_text(alloc, rows.aircraft.as_slice()),
-        "places" => places_text(alloc, rows.places.as_slice()),
-        "components" => components_text(alloc, rows.components.as_slice()),
-        "programmes" => programmes_text(alloc, rows.programmes.as_slice()),
-        "tasks" => tasks_text(alloc, rows.tasks.as_slice()),
-        "openings" => openings_text(alloc, rows.openings.as_slice()),
-        "sectors" => sectors_text(alloc, rows.sectors.as_slice()),
-        "fittings" => fittings_text(alloc, rows.fittings.as_slice()),
-        "removals" => removals_text(alloc, rows.removals.as_slice()),
-        "releases" => releases_text(alloc, rows.releases.as_slice()),
-        "release-lines" => release_lines_text(alloc, rows.release_lines.as_slice()),
-        "deferrals" => deferrals_text(alloc, rows.deferrals.as_slice()),
-        "extensions" => extensions_text(alloc, rows.extensions.as_slice()),
+        "entries" => entries_text(alloc, kept.entries.as_slice()),
+        "aircraft" => aircraft_text(alloc, kept.rows.aircraft.as_slice()),
+        "places" => places_text(alloc, kept.rows.places.as_slice()),
+        "components" => components_text(alloc, kept.rows.components.as_slice()),
+        "programmes" => programmes_text(alloc, kept.rows.programmes.as_slice()),
+        "tasks" => tasks_text(alloc, kept.rows.tasks.as_slice()),
+        "openings" => openings_text(alloc, kept.rows.openings.as_slice()),
+        "releases" => releases_text(alloc, kept.rows.releases.as_slice()),
+        "release-lines" => release_lines_text(alloc, kept.rows.release_lines.as_slice()),
+        "deferrals" => deferrals_text(alloc, kept.rows.deferrals.as_slice()),
+        "extensions" => extensions_text(alloc, kept.rows.extensions.as_slice()),
+        "sectors" => sectors_text(alloc, kept.rows.sectors.as_slice()),
+        "fittings" => fittings_text(alloc, kept.rows.fittings.as_slice()),
+        "removals" => removals_text(alloc, kept.rows.removals.as_slice()),
         _ => return Err(Unmade::NoSuchLine),
     };
     Ok(text?)

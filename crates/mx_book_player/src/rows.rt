@@ -9,31 +9,30 @@ use mx_register::{
     or_zero, place_row, programme_row, release_line_row, release_row, removal_row, sector_row,
     seq_of_defect, seq_of_item, seq_of_place, seq_of_serial, seq_of_tail, task_row,
 };
+use mx_typed_rows::RegisterRows;
 use std::alloc::Global;
 
-// Registers without rows.
-fn no_rows(alloc: Global) -> Registers {
-    Registers {
-        entries: Vec::new(alloc),
+// No rows of any register.
+fn no_rows(alloc: Global) -> RegisterRows {
+    RegisterRows {
         aircraft: Vec::new(alloc),
         places: Vec::new(alloc),
         components: Vec::new(alloc),
         programmes: Vec::new(alloc),
         tasks: Vec::new(alloc),
         openings: Vec::new(alloc),
-        sectors: Vec::new(alloc),
-        fittings: Vec::new(alloc),
-        removals: Vec::new(alloc),
         releases: Vec::new(alloc),
         release_lines: Vec::new(alloc),
         deferrals: Vec::new(alloc),
         extensions: Vec::new(alloc),
+        sectors: Vec::new(alloc),
+        fittings: Vec::new(alloc),
+        removals: Vec::new(alloc),
     }
 }
 
 // Adds the rows of what an entry with this number adds to the records.
-fn push_added(rows: &mut Registers, seq: u32, entry: &Command) -> Result<(), Unmade> {
-    rows.entries.push(entry_row(seq, entry))?;
+fn push_added(rows: &mut RegisterRows, seq: u32, entry: &Command) -> Result<(), Unmade> {
     if let Some(aircraft) = entry.added_aircraft() {
         rows.aircraft.push(aircraft_row(seq, aircraft))?;
     }
@@ -49,7 +48,7 @@ fn push_added(rows: &mut Registers, seq: u32, entry: &Command) -> Result<(), Unm
 }
 
 // Adds the rows of the programme that an entry with this number loads.
-fn push_programme(rows: &mut Registers, seq: u32, entry: &Command) -> Result<(), Unmade> {
+fn push_programme(rows: &mut RegisterRows, seq: u32, entry: &Command) -> Result<(), Unmade> {
     if let Some(programme) = entry.loaded_programme() {
         rows.programmes.push(programme_row(seq, programme))?;
     }
@@ -63,7 +62,7 @@ fn push_programme(rows: &mut Registers, seq: u32, entry: &Command) -> Result<(),
 
 // Adds the row of the opening that an entry with this number states.
 fn push_opening(
-    rows: &mut Registers,
+    rows: &mut RegisterRows,
     book: &Book,
     seq: u32,
     entry: &Command,
@@ -76,7 +75,12 @@ fn push_opening(
 }
 
 // Adds the rows of what an entry with this number says was done.
-fn push_done(rows: &mut Registers, book: &Book, seq: u32, entry: &Command) -> Result<(), Unmade> {
+fn push_done(
+    rows: &mut RegisterRows,
+    book: &Book,
+    seq: u32,
+    entry: &Command,
+) -> Result<(), Unmade> {
     if let Some(sector) = entry.flown_sector() {
         let aircraft = or_zero(seq_of_tail(book, &sector.tail));
         rows.sectors.push(sector_row(seq, aircraft, sector))?;
@@ -96,7 +100,7 @@ fn push_done(rows: &mut Registers, book: &Book, seq: u32, entry: &Command) -> Re
 
 // Adds the rows of the release that an entry with this number says.
 fn push_release(
-    rows: &mut Registers,
+    rows: &mut RegisterRows,
     book: &Book,
     seq: u32,
     entry: &Command,
@@ -116,7 +120,7 @@ fn push_release(
 
 // Adds the row of the deferral or the extension that an entry with this number says.
 fn push_deferred(
-    rows: &mut Registers,
+    rows: &mut RegisterRows,
     book: &Book,
     seq: u32,
     entry: &Command,
@@ -134,10 +138,12 @@ fn push_deferred(
 
 /// The registers of a book.
 pub fn rows_of(alloc: Global, book: &Book) -> Result<Registers, Unmade> {
+    let mut entries = Vec::new(alloc);
     let mut rows = no_rows(alloc);
     let mut seq = 0u32;
     for entry in book.as_slice() {
         seq = seq.saturating_add(1);
+        entries.push(entry_row(seq, entry))?;
         push_added(&mut rows, seq, entry)?;
         push_programme(&mut rows, seq, entry)?;
         push_opening(&mut rows, book, seq, entry)?;
@@ -145,5 +151,5 @@ pub fn rows_of(alloc: Global, book: &Book) -> Result<Registers, Unmade> {
         push_release(&mut rows, book, seq, entry)?;
         push_deferred(&mut rows, book, seq, entry)?;
     }
-    Ok(rows)
+    Ok(Registers { entries, rows })
 }

@@ -1,5 +1,6 @@
 -- What is read from the tables, and what they stand for.
 use Rattle.std.proofs.Common.{◌≡◌, ◌⊎◌, inl, inr, Some, None, List, [], ◌∷◌, ◌++◌, All, refl, sym, ap, subst, ◌∙◌, arith, Result, Ok, Err}
+use Rattle.std.specs.Prelude.{Vec}
 use Rattle.std.specs.List.{AllByRecursion}
 use Rattle.std.specs.Result.{IsErr, IsErrAnd, MatchResult}
 use Rattle.std.specs.List.Sorted.{IsPermutation}
@@ -9,6 +10,10 @@ use Rattle.sqlite.specs.Order.{Row}
 use Rattle.sqlite.specs.Tree.{Trees}
 use Rattle.mx_command.specs.Act.{Entry}
 use Rattle.mx_book.specs.Book.{IsBook}
+use Rattle.std.specs.declared.alloc.Global.{Global}
+use Rattle.mx_typed_rows.specs.declared.rows.EntryRow.{EntryRow}
+use Rattle.mx_typed_rows.specs.declared.register_rows.RegisterRows.{RegisterRows}
+use Rattle.mx_typed_rows.specs.Pairs.{RegisterPairs, rows_in_pairs}
 use Rattle.mx_typed_rows.specs.Rising.{IsFrom}
 use Rattle.mx_typed_rows.proofs.SortedLemmas.{sorted_once}
 use Rattle.mx_register.specs.declared.merge.Registers.{Registers}
@@ -39,6 +44,12 @@ use Rattle.mx_office.proofs.FamilyLemmas.{facts, AllOf, each_from, each_of, each
 -- what is read of all tables is the rows of each
 pub have_rows : (trees : Trees) (r : Registers) → AllOf (λ name. AreRead (register_of name) trees r) registers_1 → HaveRowsOf trees r
 have_rows trees r are = each_from (λ name. AreRead (register_of name) trees r) registers_1 are
+
+-- and so it is where all but the entries stood in pairs
+pub have_pairs : (trees : Trees) (entries : Vec EntryRow Global) (rows : RegisterRows) (pairs : RegisterPairs) → rows ≡ rows_in_pairs pairs
+    → AllOf (λ name. AreRead (register_of name) trees (record { entries = entries; rows = rows_in_pairs pairs })) registers_1 → HaveRowsOf trees (record { entries = entries; rows = rows })
+have_pairs trees entries rows pairs is are =
+    subst (λ (v : RegisterRows). HaveRowsOf trees (record { entries = entries; rows = v })) (sym is) (have_rows trees (record { entries = entries; rows = rows_in_pairs pairs }) are)
 
 from_each : (r : Registers) (book : List Entry) → AllByRecursion (λ name. IsReadOf (register_of name) r book) registers_1 → AreRegistersOf r book
 from_each r book each = record { entries = each.0; aircraft = each.1.0; places = each.1.1.0; components = each.1.1.1.0; programmes = each.1.1.1.1.0; tasks = each.1.1.1.1.1.0; openings = each.1.1.1.1.1.1.0; releases = each.1.1.1.1.1.1.1.0; release_lines = each.1.1.1.1.1.1.1.1.0; deferrals = each.1.1.1.1.1.1.1.1.1.0; extensions = each.1.1.1.1.1.1.1.1.1.1.0; sectors = each.1.1.1.1.1.1.1.1.1.1.1.0; fittings = each.1.1.1.1.1.1.1.1.1.1.1.1.0; removals = each.1.1.1.1.1.1.1.1.1.1.1.1.1.0 }

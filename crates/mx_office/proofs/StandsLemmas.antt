@@ -14,7 +14,7 @@ use Rattle.mx_book.specs.declared.verdict.Verdict.TheVariants.{New}
 use Rattle.mx_book.specs.Judge.{judge}
 use Rattle.mx_book.proofs.JudgeLemmas.{IsBook-entered}
 use Rattle.mx_typed_rows.specs.declared.rows.EntryRow.{EntryRow}
-use Rattle.mx_register.specs.declared.added.AddedRows.{AddedRows}
+use Rattle.mx_typed_rows.specs.declared.register_rows.RegisterRows.{RegisterRows}
 use Rattle.mx_register.specs.Added.{AreAddedRows}
 use Rattle.mx_register.specs.Registers.{gives, entry_added}
 use Rattle.mx_register.proofs.RegisterLemmas.{gives-more}
@@ -37,19 +37,19 @@ use Rattle.mx_office.proofs.FamilyLemmas.{Facts, facts, each_weaker, each_with, 
 -- ── one line for each table ──
 
 -- the rows of a command beside its entry, table on table
-abbrev pub onto_rest : AddedRows → TableName → List Row → List Row
+abbrev pub onto_rest : RegisterRows → TableName → List Row → List Row
 onto_rest v name rows =
     on_top kept_removal1 v.removals.items name (on_top kept_fit1 v.fittings.items name (on_top kept_sector1 v.sectors.items name (on_top kept_extension v.extensions.items name (on_top kept_defect v.deferrals.items name (on_top kept_crs_line v.release_lines.items name (on_top kept_crs v.releases.items name (on_top kept_opening v.openings.items name (on_top kept_task v.tasks.items name (on_top kept_programme v.programmes.items name (on_top kept_component v.components.items name (on_top kept_place v.places.items name (on_top kept_aircraft v.aircraft.items name rows))))))))))))
 
-pub keeps_rest : (v : AddedRows) (name : TableName) (xs ys : List Row) → IsPermutation xs ys → IsPermutation (onto_rest v name xs) (onto_rest v name ys)
+pub keeps_rest : (v : RegisterRows) (name : TableName) (xs ys : List Row) → IsPermutation xs ys → IsPermutation (onto_rest v name xs) (onto_rest v name ys)
 keeps_rest v name xs ys same =
     on_top_keeps kept_removal1 _ name _ _ (on_top_keeps kept_fit1 _ name _ _ (on_top_keeps kept_sector1 _ name _ _ (on_top_keeps kept_extension _ name _ _ (on_top_keeps kept_defect _ name _ _ (on_top_keeps kept_crs_line _ name _ _ (on_top_keeps kept_crs _ name _ _ (on_top_keeps kept_opening _ name _ _ (on_top_keeps kept_task _ name _ _ (on_top_keeps kept_programme _ name _ _ (on_top_keeps kept_component _ name _ _ (on_top_keeps kept_place _ name _ _ (on_top_keeps kept_aircraft _ name xs ys same))))))))))))
 
 -- the rows of a command, table on table
-abbrev pub onto_all : List EntryRow → AddedRows → TableName → List Row → List Row
+abbrev pub onto_all : List EntryRow → RegisterRows → TableName → List Row → List Row
 onto_all e v name rows = onto_rest v name (on_top kept_entry e name rows)
 
-onto_is : (before : List Entry) (c : Entry) (e : List EntryRow) (v : AddedRows) → e ≡ entry_added before c → AreAddedRows before c v → (name : TableName) (rows : List Row) → onto_all e v name rows ≡ with_command before c name rows
+onto_is : (before : List Entry) (c : Entry) (e : List EntryRow) (v : RegisterRows) → e ≡ entry_added before c → AreAddedRows before c v → (name : TableName) (rows : List Row) → onto_all e v name rows ≡ with_command before c name rows
 onto_is before c e v entry are table.Entry rows = λ i. map kept_entry.as_cells (entry i) ++ rows
 onto_is before c e v entry are table.Aircraft rows = λ i. map kept_aircraft.as_cells (are.aircraft.0 i) ++ rows
 onto_is before c e v entry are table.Place rows = λ i. map kept_place.as_cells (are.places.0 i) ++ rows
@@ -67,7 +67,7 @@ onto_is before c e v entry are table.Removal1 rows = λ i. map kept_removal1.as_
 onto_is before c e v entry are table.Office rows = refl
 
 -- tables that gained those rows gained the rows of the command
-pub gains_command : (before : List Entry) (command : Entry) (old new : Database) (e : List EntryRow) (v : AddedRows) → e ≡ entry_added before command → AreAddedRows before command v
+pub gains_command : (before : List Entry) (command : Entry) (old new : Database) (e : List EntryRow) (v : RegisterRows) → e ≡ entry_added before command → AreAddedRows before command v
     → GainsRows (onto_all e v) old new → GainsRows (with_command before command) old new
 gains_command before command old new e v entry are gains = record {
   schema = gains.schema;

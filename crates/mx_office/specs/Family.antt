@@ -21,19 +21,19 @@ pub data Register : Type 1 where
 -- the register that the table with a name keeps
 abbrev pub register_of : TableName → Register
 register_of table.Entry = of kept_entry entry_added (λ r. r.entries.items)
-register_of table.Aircraft = of kept_aircraft (λ before c. aircraft_by before c.act) (λ r. r.aircraft.items)
-register_of table.Place = of kept_place (λ before c. places_by before c.act) (λ r. r.places.items)
-register_of table.Component = of kept_component (λ before c. components_by before c.act) (λ r. r.components.items)
-register_of table.Programme = of kept_programme (λ before c. programmes_by before c.act) (λ r. r.programmes.items)
-register_of table.Task = of kept_task (λ before c. tasks_by before c.act) (λ r. r.tasks.items)
-register_of table.Opening = of kept_opening (λ before c. openings_by before c.act) (λ r. r.openings.items)
-register_of table.Crs = of kept_crs (λ before c. releases_by before c.act) (λ r. r.releases.items)
-register_of table.CrsLine = of kept_crs_line (λ before c. release_lines_by before c.act) (λ r. r.release_lines.items)
-register_of table.Defect = of kept_defect (λ before c. deferrals_by before c.act) (λ r. r.deferrals.items)
-register_of table.Extension = of kept_extension (λ before c. extensions_by before c.act) (λ r. r.extensions.items)
-register_of table.Sector1 = of kept_sector1 (λ before c. sectors_by before c.act) (λ r. r.sectors.items)
-register_of table.Fit1 = of kept_fit1 (λ before c. fittings_by before c.act) (λ r. r.fittings.items)
-register_of table.Removal1 = of kept_removal1 (λ before c. removals_by before c.act) (λ r. r.removals.items)
+register_of table.Aircraft = of kept_aircraft (λ before c. aircraft_by before c.act) (λ r. r.rows.aircraft.items)
+register_of table.Place = of kept_place (λ before c. places_by before c.act) (λ r. r.rows.places.items)
+register_of table.Component = of kept_component (λ before c. components_by before c.act) (λ r. r.rows.components.items)
+register_of table.Programme = of kept_programme (λ before c. programmes_by before c.act) (λ r. r.rows.programmes.items)
+register_of table.Task = of kept_task (λ before c. tasks_by before c.act) (λ r. r.rows.tasks.items)
+register_of table.Opening = of kept_opening (λ before c. openings_by before c.act) (λ r. r.rows.openings.items)
+register_of table.Crs = of kept_crs (λ before c. releases_by before c.act) (λ r. r.rows.releases.items)
+register_of table.CrsLine = of kept_crs_line (λ before c. release_lines_by before c.act) (λ r. r.rows.release_lines.items)
+register_of table.Defect = of kept_defect (λ before c. deferrals_by before c.act) (λ r. r.rows.deferrals.items)
+register_of table.Extension = of kept_extension (λ before c. extensions_by before c.act) (λ r. r.rows.extensions.items)
+register_of table.Sector1 = of kept_sector1 (λ before c. sectors_by before c.act) (λ r. r.rows.sectors.items)
+register_of table.Fit1 = of kept_fit1 (λ before c. fittings_by before c.act) (λ r. r.rows.fittings.items)
+register_of table.Removal1 = of kept_removal1 (λ before c. removals_by before c.act) (λ r. r.rows.removals.items)
 register_of _ = none
 
 -- the tables of layout 1 that commands write, in the order in which they are read

@@ -14,8 +14,9 @@ ghost use Rattle.mx_office.specs.Stands.{Enters, FitsNext, HoldsBook, IsEntered,
 use mx_book::{Book, Verdict};
 use mx_command::Command;
 use mx_layout::TableFault;
-use mx_register::{AddedRows, entry_row};
+use mx_register::entry_row;
 use mx_tables::{Insert, Tables};
+use mx_typed_rows::RegisterRows;
 use sqlite::{Alter, Connection, Transaction};
 
 // Adds the rows of a command, in every table that it has rows in.
@@ -23,7 +24,7 @@ fn add_rows<S: Alter>(
     tx: &mut Transaction<'_, S>,
     book: &Book,
     command: &Command,
-    rows: AddedRows,
+    rows: RegisterRows,
 ) -> Result<(), TableFault>
     requires { AreAddedRows book.now command.now rows }
     ensures same_reference { tx.new.conn.ghost_name ≡ tx.old.conn.ghost_name }
@@ -39,26 +40,7 @@ fn add_rows<S: Alter>(
     ensures fits { FitsNext book.now command.now }
     ensures within { IsWithin (state S.Store tx.old.conn.now) (state S.Store tx.new.conn.now) }
 {
-    let AddedRows {
-        aircraft,
-        places,
-        components,
-        programmes,
-        tasks,
-        openings,
-        releases,
-        release_lines,
-        deferrals,
-        extensions,
-        sectors,
-        fittings,
-        removals,
-    } = rows;
-    let flown = (sectors, (fittings, removals));
-    let deferred = (deferrals, (extensions, flown));
-    let released = (releases, (release_lines, deferred));
-    let maintained = (programmes, (tasks, (openings, released)));
-    let beside = (aircraft, (places, (components, maintained)));
+    let beside = rows.into_pairs();
     let entry = entry_row(book.len() + 1, command);
     entry.insert(tx)?;
     beside.write(tx)
@@ -69,7 +51,7 @@ fn add_command<S: Alter>(
     tx: &mut Transaction<'_, S>,
     book: &Book,
     command: &Command,
-    rows: AddedRows,
+    rows: RegisterRows,
 ) -> Result<(), TableFault>
     requires { AreAddedRows book.now command.now rows }
     ensures same_reference { tx.new.conn.ghost_name ≡ tx.old.conn.ghost_name }
@@ -101,7 +83,7 @@ pub(crate) fn commit_command<S: Alter>(
     conn: &mut Connection<S>,
     book: &Book,
     command: &Command,
-    rows: AddedRows,
+    rows: RegisterRows,
 ) -> Result<(), TableFault>
     requires idle { conn.old.in_transaction ≡ false }
     requires added { AreAddedRows book.now command.now rows }

@@ -15,6 +15,7 @@ use mx_book::Book;
 use mx_layout::{Table, TableFault};
 use mx_register::merge::{Registers, merge};
 use mx_tables::Tables;
+use mx_typed_rows::RegisterRows;
 use sqlite::{Alter, Connection, Transaction};
 use std::alloc::Global;
 
@@ -43,27 +44,9 @@ fn read_registers<S: Alter>(
         → (table : _) → result ≡ Err (TableFault.Damaged table) → IsDamaged old.now.trees table }
     ensures within { IsWithin (state S.Store tx.old.conn.now) (state S.Store tx.new.conn.now) }
 {
-    let (entries, (aircraft, (places, (components, maintained)))) = Tables::read(alloc, tx)?;
-    let (programmes, (tasks, (openings, released))) = maintained;
-    let (releases, (release_lines, deferred)) = released;
-    let (deferrals, (extensions, flown)) = deferred;
-    let (sectors, (fittings, removals)) = flown;
-    Ok(Registers {
-        entries,
-        aircraft,
-        places,
-        components,
-        programmes,
-        tasks,
-        openings,
-        releases,
-        release_lines,
-        deferrals,
-        extensions,
-        sectors,
-        fittings,
-        removals,
-    })
+    let (entries, beside) = Tables::read(alloc, tx)?;
+    let rows = RegisterRows::from_pairs(beside);
+    Ok(Registers { entries, rows })
 }
 
 // The book that the tables hold, read inside a transaction.

@@ -49,13 +49,13 @@ in_front before act rest = record {
   programmes = programmes_by before act ++ rest.programmes;
   tasks = tasks_by before act ++ rest.tasks;
   openings = openings_by before act ++ rest.openings;
-  sectors = sectors_by before act ++ rest.sectors;
-  fittings = fittings_by before act ++ rest.fittings;
-  removals = removals_by before act ++ rest.removals;
   releases = releases_by before act ++ rest.releases;
   release_lines = release_lines_by before act ++ rest.release_lines;
   deferrals = deferrals_by before act ++ rest.deferrals;
   extensions = extensions_by before act ++ rest.extensions;
+  sectors = sectors_by before act ++ rest.sectors;
+  fittings = fittings_by before act ++ rest.fittings;
+  removals = removals_by before act ++ rest.removals;
 }
 
 first_found : {Row : Type 0} (seq_of : Row → ℕ) (row : Row) (rows : List Row) → first_of_entry seq_of (seq_of row) (row ∷ rows) ≡ Some (row, rows)
@@ -138,13 +138,13 @@ all_later before later = record {
   programmes = gives_by programmes_by before later;
   tasks = gives_by tasks_by before later;
   openings = gives_by openings_by before later;
-  sectors = gives_by sectors_by before later;
-  fittings = gives_by fittings_by before later;
-  removals = gives_by removals_by before later;
   releases = gives_by releases_by before later;
   release_lines = gives_by release_lines_by before later;
   deferrals = gives_by deferrals_by before later;
   extensions = gives_by extensions_by before later;
+  sectors = gives_by sectors_by before later;
+  fittings = gives_by fittings_by before later;
+  removals = gives_by removals_by before later;
 }
 
 other_number : (n m : ℕ) → n ≤ m → (m + 1 == n) ≡ false
@@ -181,7 +181,7 @@ merged_gives before (entry ∷ later) judged shaped =
     (merged_gives (before ++ entry ∷ []) later new.1 shape.1 ∙ ap (λ (book : List Entry). Some book) (append_assoc before (entry ∷ []) later))
 
 registers_rest : (registers : Registers) (book : List Entry) → AreRegistersOf registers book → all_rows registers ≡ all_later [] book
-registers_rest registers book are i = record { aircraft = are.aircraft i; places = are.places i; components = are.components i; programmes = are.programmes i; tasks = are.tasks i; openings = are.openings i; sectors = are.sectors i; fittings = are.fittings i; removals = are.removals i; releases = are.releases i; release_lines = are.release_lines i; deferrals = are.deferrals i; extensions = are.extensions i }
+registers_rest registers book are i = record { aircraft = are.aircraft i; places = are.places i; components = are.components i; programmes = are.programmes i; tasks = are.tasks i; openings = are.openings i; releases = are.releases i; release_lines = are.release_lines i; deferrals = are.deferrals i; extensions = are.extensions i; sectors = are.sectors i; fittings = are.fittings i; removals = are.removals i }
 
 -- from the registers of a book the merge gives the book
 pub merged_from : (registers : Registers) (book : List Entry) → IsBook book → AreRegistersOf registers book → merged [] registers.entries.items (all_rows registers) ≡ Some book
@@ -197,16 +197,16 @@ pub record HaveSameRegisters (one other : List Entry) : Type 0 where
   pub programmes : programme_rows one ≡ programme_rows other
   pub tasks : task_rows one ≡ task_rows other
   pub openings : opening_rows one ≡ opening_rows other
-  pub sectors : sector_rows one ≡ sector_rows other
-  pub fittings : fitting_rows one ≡ fitting_rows other
-  pub removals : removal_rows one ≡ removal_rows other
   pub releases : release_rows one ≡ release_rows other
   pub release_lines : release_line_rows one ≡ release_line_rows other
   pub deferrals : deferral_rows one ≡ deferral_rows other
   pub extensions : extension_rows one ≡ extension_rows other
+  pub sectors : sector_rows one ≡ sector_rows other
+  pub fittings : fitting_rows one ≡ fitting_rows other
+  pub removals : removal_rows one ≡ removal_rows other
 
 same_later : (one other : List Entry) → HaveSameRegisters one other → all_later [] one ≡ all_later [] other
-same_later one other same i = record { aircraft = same.aircraft i; places = same.places i; components = same.components i; programmes = same.programmes i; tasks = same.tasks i; openings = same.openings i; sectors = same.sectors i; fittings = same.fittings i; removals = same.removals i; releases = same.releases i; release_lines = same.release_lines i; deferrals = same.deferrals i; extensions = same.extensions i }
+same_later one other same i = record { aircraft = same.aircraft i; places = same.places i; components = same.components i; programmes = same.programmes i; tasks = same.tasks i; openings = same.openings i; releases = same.releases i; release_lines = same.release_lines i; deferrals = same.deferrals i; extensions = same.extensions i; sectors = same.sectors i; fittings = same.fittings i; removals = same.removals i }
 
 -- books with the same registers are one
 pub book_once : (one other : List Entry) → HaveSameRegisters one other → IsBook one → IsBook other → one ≡ other

@@ -267,13 +267,13 @@ ends before rest book h same =
         programmes = programmes.0 i;
         tasks = programmes.1 i;
         openings = programmes.2 i;
-        sectors = moves.0 i;
-        fittings = moves.1 i;
-        removals = moves.2 i;
         releases = no_rows rest.releases releases.0 i;
         release_lines = no_rows rest.release_lines releases.1 i;
         deferrals = no_rows rest.deferrals defects.0 i;
         extensions = no_rows rest.extensions defects.1 i;
+        sectors = moves.0 i;
+        fittings = moves.1 i;
+        removals = moves.2 i;
       };
     }
 
@@ -312,13 +312,13 @@ merged_sound registers book h =
       programmes = ap (λ (r : Rest). r.programmes) rows;
       tasks = ap (λ (r : Rest). r.tasks) rows;
       openings = ap (λ (r : Rest). r.openings) rows;
-      sectors = ap (λ (r : Rest). r.sectors) rows;
-      fittings = ap (λ (r : Rest). r.fittings) rows;
-      removals = ap (λ (r : Rest). r.removals) rows;
       releases = ap (λ (r : Rest). r.releases) rows;
       release_lines = ap (λ (r : Rest). r.release_lines) rows;
       deferrals = ap (λ (r : Rest). r.deferrals) rows;
       extensions = ap (λ (r : Rest). r.extensions) rows;
+      sectors = ap (λ (r : Rest). r.sectors) rows;
+      fittings = ap (λ (r : Rest). r.fittings) rows;
+      removals = ap (λ (r : Rest). r.removals) rows;
     }
 
 sound_if : (registers : Registers) (found : Option (List Entry)) → found ≡ merged [] registers.entries.items (all_rows registers) → IfSome found (λ book. AreRegistersOf registers book)

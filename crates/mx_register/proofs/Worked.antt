@@ -68,7 +68,7 @@ abbrev removed_row : ℕ → ℕ → RemovalRow
 removed_row seq component = record { seq = seq; component = component; moment = at 19783 9 30 }
 
 abbrev pub no_rows : Rest
-no_rows = record { aircraft = []; places = []; components = []; programmes = []; tasks = []; openings = []; sectors = []; fittings = []; removals = []; releases = []; release_lines = []; deferrals = []; extensions = [] }
+no_rows = record { aircraft = []; places = []; components = []; programmes = []; tasks = []; openings = []; releases = []; release_lines = []; deferrals = []; extensions = []; sectors = []; fittings = []; removals = [] }
 
 -- the rows of every register but that of the entries
 abbrev rows : Rest

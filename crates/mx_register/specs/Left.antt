@@ -7,11 +7,11 @@ use Rattle.mx_register.specs.Merge.{Rest}
 
 -- the rows that are left
 abbrev pub rest_of : Left → Rest
-rest_of rows = record { aircraft = rows.aircraft.now; places = rows.places.now; components = rows.components.now; programmes = rows.programmes.now; tasks = rows.tasks.now; openings = rows.openings.now; sectors = rows.sectors.now; fittings = rows.fittings.now; removals = rows.removals.now; releases = rows.releases.now; release_lines = rows.release_lines.now; deferrals = rows.deferrals.now; extensions = rows.extensions.now }
+rest_of rows = record { aircraft = rows.aircraft.now; places = rows.places.now; components = rows.components.now; programmes = rows.programmes.now; tasks = rows.tasks.now; openings = rows.openings.now; releases = rows.releases.now; release_lines = rows.release_lines.now; deferrals = rows.deferrals.now; extensions = rows.extensions.now; sectors = rows.sectors.now; fittings = rows.fittings.now; removals = rows.removals.now }
 
 -- the rows of all registers but that of the entries
 abbrev pub all_rows : Registers → Rest
-all_rows r = record { aircraft = r.aircraft.items; places = r.places.items; components = r.components.items; programmes = r.programmes.items; tasks = r.tasks.items; openings = r.openings.items; sectors = r.sectors.items; fittings = r.fittings.items; removals = r.removals.items; releases = r.releases.items; release_lines = r.release_lines.items; deferrals = r.deferrals.items; extensions = r.extensions.items }
+all_rows r = record { aircraft = r.rows.aircraft.items; places = r.rows.places.items; components = r.rows.components.items; programmes = r.rows.programmes.items; tasks = r.rows.tasks.items; openings = r.rows.openings.items; releases = r.rows.releases.items; release_lines = r.rows.release_lines.items; deferrals = r.rows.deferrals.items; extensions = r.rows.extensions.items; sectors = r.rows.sectors.items; fittings = r.rows.fittings.items; removals = r.rows.removals.items }
 
 -- what was said, and the rows that are left
 abbrev pub said : Body × Left → Act × Rest

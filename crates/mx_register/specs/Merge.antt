@@ -43,13 +43,13 @@ pub record Rest : Type 0 where
   pub programmes : List ProgrammeRow
   pub tasks : List TaskRow
   pub openings : List OpeningRow
-  pub sectors : List SectorRow
-  pub fittings : List FittingRow
-  pub removals : List RemovalRow
   pub releases : List ReleaseRow
   pub release_lines : List ReleaseLineRow
   pub deferrals : List DeferralRow
   pub extensions : List ExtensionRow
+  pub sectors : List SectorRow
+  pub fittings : List FittingRow
+  pub removals : List RemovalRow
 
 -- ── what rows say ──
 

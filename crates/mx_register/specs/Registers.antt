@@ -264,16 +264,16 @@ extension_rows book = gives_by extensions_by [] book
 -- the registers are those of the book
 pub record AreRegistersOf (r : Registers) (book : List Entry) : Type 0 where
   pub entries : r.entries.items ≡ entry_rows book
-  pub aircraft : r.aircraft.items ≡ aircraft_rows book
-  pub places : r.places.items ≡ place_rows book
-  pub components : r.components.items ≡ component_rows book
-  pub programmes : r.programmes.items ≡ programme_rows book
-  pub tasks : r.tasks.items ≡ task_rows book
-  pub openings : r.openings.items ≡ opening_rows book
-  pub sectors : r.sectors.items ≡ sector_rows book
-  pub fittings : r.fittings.items ≡ fitting_rows book
-  pub removals : r.removals.items ≡ removal_rows book
-  pub releases : r.releases.items ≡ release_rows book
-  pub release_lines : r.release_lines.items ≡ release_line_rows book
-  pub deferrals : r.deferrals.items ≡ deferral_rows book
-  pub extensions : r.extensions.items ≡ extension_rows book
+  pub aircraft : r.rows.aircraft.items ≡ aircraft_rows book
+  pub places : r.rows.places.items ≡ place_rows book
+  pub components : r.rows.components.items ≡ component_rows book
+  pub programmes : r.rows.programmes.items ≡ programme_rows book
+  pub tasks : r.rows.tasks.items ≡ task_rows book
+  pub openings : r.rows.openings.items ≡ opening_rows book
+  pub releases : r.rows.releases.items ≡ release_rows book
+  pub release_lines : r.rows.release_lines.items ≡ release_line_rows book
+  pub deferrals : r.rows.deferrals.items ≡ deferral_rows book
+  pub extensions : r.rows.extensions.items ≡ extension_rows book
+  pub sectors : r.rows.sectors.items ≡ sector_rows book
+  pub fittings : r.rows.fittings.items ≡ fitting_rows book
+  pub removals : r.rows.removals.items ≡ removal_rows book

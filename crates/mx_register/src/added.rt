@@ -14,27 +14,9 @@ use mx_book::{Book, NoMemory};
 use mx_command::Command;
 use mx_typed_rows::{
     AircraftRow, ComponentRow, DeferralRow, ExtensionRow, FittingRow, OpeningRow, PlaceRow,
-    ProgrammeRow, ReleaseLineRow, ReleaseRow, RemovalRow, SectorRow, TaskRow,
+    ProgrammeRow, RegisterRows, ReleaseLineRow, ReleaseRow, RemovalRow, SectorRow, TaskRow,
 };
 use std::alloc::Global;
-
-/// The rows that a command adds beside its entry, to each register.
-#[derive(Drop)]
-pub struct AddedRows {
-    pub aircraft: Vec<AircraftRow>,
-    pub places: Vec<PlaceRow>,
-    pub components: Vec<ComponentRow>,
-    pub programmes: Vec<ProgrammeRow>,
-    pub tasks: Vec<TaskRow>,
-    pub openings: Vec<OpeningRow>,
-    pub sectors: Vec<SectorRow>,
-    pub fittings: Vec<FittingRow>,
-    pub removals: Vec<RemovalRow>,
-    pub releases: Vec<ReleaseRow>,
-    pub release_lines: Vec<ReleaseLineRow>,
-    pub deferrals: Vec<DeferralRow>,
-    pub extensions: Vec<ExtensionRow>,
-}
 
 // A register with one row.
 fn one<R: Drop>(alloc: Global, row: R) -> Result<Vec<R>, NoMemory>
@@ -270,22 +252,22 @@ fn extension_rows(
 }
 
 /// The rows that a command adds beside its entry, behind the entries of a book.
-pub fn added_rows(alloc: Global, book: &Book, command: &Command) -> Result<AddedRows, NoMemory>
+pub fn added_rows(alloc: Global, book: &Book, command: &Command) -> Result<RegisterRows, NoMemory>
     ensures { IfOk result (AreAddedRows book.now command.now) }
 {
-    Ok(AddedRows {
+    Ok(RegisterRows {
         aircraft: aircraft_rows(alloc, book, command)?,
         places: place_rows(alloc, book, command)?,
         components: component_rows(alloc, book, command)?,
         programmes: programme_rows(alloc, book, command)?,
         tasks: task_rows(alloc, book, command)?,
         openings: opening_rows(alloc, book, command)?,
-        sectors: sector_rows(alloc, book, command)?,
-        fittings: fitting_rows(alloc, book, command)?,
-        removals: removal_rows(alloc, book, command)?,
         releases: release_rows(alloc, book, command)?,
         release_lines: release_line_rows(alloc, book, command)?,
         deferrals: deferral_rows(alloc, book, command)?,
         extensions: extension_rows(alloc, book, command)?,
+        sectors: sector_rows(alloc, book, command)?,
+        fittings: fitting_rows(alloc, book, command)?,
+        removals: removal_rows(alloc, book, command)?,
     })
 }

@@ -9,10 +9,11 @@ pub mod registers;
 mod said;
 mod taking;
 
-pub use added::{AddedRows, added_rows};
+pub use added::added_rows;
 pub use mx_typed_rows::{
     AircraftRow, ComponentRow, DeferralRow, EntryKind, EntryRow, ExtensionRow, FittingRow,
-    OpeningRow, PlaceRow, ProgrammeRow, ReleaseLineRow, ReleaseRow, RemovalRow, SectorRow, TaskRow,
+    OpeningRow, PlaceRow, ProgrammeRow, RegisterRows, ReleaseLineRow, ReleaseRow, RemovalRow,
+    SectorRow, TaskRow,
 };
 pub use names::{
     document_of_defect, item_of_entry, or_zero, seq_of_defect, seq_of_item, seq_of_place,

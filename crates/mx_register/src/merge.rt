@@ -11,29 +11,14 @@ use crate::taking::{Left, take_said};
 use mx_base::Doc;
 use mx_book::{Book, NoMemory, Verdict};
 use mx_command::{Body, Command, MakeFault};
-use mx_typed_rows::{
-    AircraftRow, ComponentRow, DeferralRow, EntryRow, ExtensionRow, FittingRow, OpeningRow,
-    PlaceRow, ProgrammeRow, ReleaseLineRow, ReleaseRow, RemovalRow, SectorRow, TaskRow,
-};
+use mx_typed_rows::{EntryRow, RegisterRows};
 use std::alloc::Global;
 
 /// The rows of every register, each in the order of its key.
 #[derive(Drop)]
 pub struct Registers {
     pub entries: Vec<EntryRow>,
-    pub aircraft: Vec<AircraftRow>,
-    pub places: Vec<PlaceRow>,
-    pub components: Vec<ComponentRow>,
-    pub programmes: Vec<ProgrammeRow>,
-    pub tasks: Vec<TaskRow>,
-    pub openings: Vec<OpeningRow>,
-    pub sectors: Vec<SectorRow>,
-    pub fittings: Vec<FittingRow>,
-    pub removals: Vec<RemovalRow>,
-    pub releases: Vec<ReleaseRow>,
-    pub release_lines: Vec<ReleaseLineRow>,
-    pub deferrals: Vec<DeferralRow>,
-    pub extensions: Vec<ExtensionRow>,
+    pub rows: RegisterRows,
 }
 
 // All rows but those of the entries.
@@ -41,19 +26,19 @@ fn rows_of(registers: &Registers) -> Left<'_>
     ensures { rest_of result ≡ all_rows registers.now }
 {
     Left {
-        aircraft: registers.aircraft.as_slice(),
-        places: registers.places.as_slice(),
-        components: registers.components.as_slice(),
-        programmes: registers.programmes.as_slice(),
-        tasks: registers.tasks.as_slice(),
-        openings: registers.openings.as_slice(),
-        sectors: registers.sectors.as_slice(),
-        fittings: registers.fittings.as_slice(),
-        removals: registers.removals.as_slice(),
-        releases: registers.releases.as_slice(),
-        release_lines: registers.release_lines.as_slice(),
-        deferrals: registers.deferrals.as_slice(),
-        extensions: registers.extensions.as_slice(),
+        aircraft: registers.rows.aircraft.as_slice(),
+        places: registers.rows.places.as_slice(),
+        components: registers.rows.components.as_slice(),
+        programmes: registers.rows.programmes.as_slice(),
+        tasks: registers.rows.tasks.as_slice(),
+        openings: registers.rows.openings.as_slice(),
+        releases: registers.rows.releases.as_slice(),
+        release_lines: registers.rows.release_lines.as_slice(),
+        deferrals: registers.rows.deferrals.as_slice(),
+        extensions: registers.rows.extensions.as_slice(),
+        sectors: registers.rows.sectors.as_slice(),
+        fittings: registers.rows.fittings.as_slice(),
+        removals: registers.rows.removals.as_slice(),
     }
 }
 

@@ -28,13 +28,13 @@ pub(crate) struct Left<'a> {
     pub(crate) programmes: &'a [ProgrammeRow],
     pub(crate) tasks: &'a [TaskRow],
     pub(crate) openings: &'a [OpeningRow],
-    pub(crate) sectors: &'a [SectorRow],
-    pub(crate) fittings: &'a [FittingRow],
-    pub(crate) removals: &'a [RemovalRow],
     pub(crate) releases: &'a [ReleaseRow],
     pub(crate) release_lines: &'a [ReleaseLineRow],
     pub(crate) deferrals: &'a [DeferralRow],
     pub(crate) extensions: &'a [ExtensionRow],
+    pub(crate) sectors: &'a [SectorRow],
+    pub(crate) fittings: &'a [FittingRow],
+    pub(crate) removals: &'a [RemovalRow],
 }
 
 // The positions of the entry with this number, and the rows behind them.

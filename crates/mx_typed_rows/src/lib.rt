@@ -1,8 +1,10 @@
 //! The row of each table as a type: what its columns hold, and what fits them.
 #![tactic(auto)]
 
+pub mod register_rows;
 pub mod rows;
 
+pub use register_rows::{RegisterPairs, RegisterRows};
 pub use rows::{
     AircraftRow, ComponentRow, DeferralRow, EntryKind, EntryRow, ExtensionRow, FittingRow,
     OpeningRow, PlaceRow, ProgrammeRow, ReleaseLineRow, ReleaseRow, RemovalRow, SectorRow, TaskRow,

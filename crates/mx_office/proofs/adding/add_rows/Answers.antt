@@ -1,5 +1,7 @@
-use Rattle.std.proofs.Common.{◌+◌, [], ◌∷◌, ap, ◌∙◌}
+use Rattle.std.proofs.Common.{◌+◌, [], ◌∷◌, sym, ap, subst, ◌∙◌}
 use Rattle.sqlite.specs.Held.{state}
+use Rattle.mx_typed_rows.specs.Pairs.{rows_in_pairs}
+use Rattle.mx_register.specs.Added.{AreAddedRows}
 use Rattle.mx_register.specs.Registers.{entry_row}
 use Rattle.mx_kept.specs.Cells.{kept_entry}
 use Rattle.mx_kept.proofs.SchemaLemmas.{permanent_too}
@@ -14,9 +16,10 @@ returns-clause-adds g c clean begun has =
     let s0 = state g.S.Store c.args.tx.now.conn.now in
     let s1 = state g.S.Store c.insert.new.tx.conn.now in
     let s2 = state g.S.Store c.write.new.tx.conn.now in
-    let v = c.args.rows in
+    let v = rows_in_pairs c.into_pairs-beside.result in
+    let are = subst (AreAddedRows c.args.book.now c.args.command.now) (sym c.into_pairs-beside.ensures) c.requires in
     let x = c.entry_row-entry.result in
     let entry = ap (λ e. e ∷ []) (c.entry_row-entry.ensures.row ∙ ap (λ n. entry_row (n + 1) c.args.command.now) c.len.ensures.len) in
     let it = one_then kept_entry x _ (onto_rest v) (keeps_rest v) s0 s1 s2 c.in_ok-insert.field-0 c.write.result c.in_ok-insert.ensures.inserts c.write.ensures.writes in
-    on_weaker c.write.result (gains_command c.args.book.now c.args.command.now s0.now s2.now (x ∷ []) v entry c.requires)
+    on_weaker c.write.result (gains_command c.args.book.now c.args.command.now s0.now s2.now (x ∷ []) v entry are)
     (it.gains clean begun (permanent_too _ has) (all_in _ has registers_1).1)

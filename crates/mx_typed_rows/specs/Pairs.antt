@@ -1,0 +1,56 @@
+-- The rows of every register but that of the entries in pairs: those of one table, and behind them those of the others.
+use Rattle.std.specs.Prelude.{Vec}
+use Rattle.std.specs.declared.alloc.Global.{Global}
+use Rattle.mx_typed_rows.specs.declared.rows.AircraftRow.{AircraftRow}
+use Rattle.mx_typed_rows.specs.declared.rows.PlaceRow.{PlaceRow}
+use Rattle.mx_typed_rows.specs.declared.rows.ComponentRow.{ComponentRow}
+use Rattle.mx_typed_rows.specs.declared.rows.ProgrammeRow.{ProgrammeRow}
+use Rattle.mx_typed_rows.specs.declared.rows.TaskRow.{TaskRow}
+use Rattle.mx_typed_rows.specs.declared.rows.OpeningRow.{OpeningRow}
+use Rattle.mx_typed_rows.specs.declared.rows.ReleaseRow.{ReleaseRow}
+use Rattle.mx_typed_rows.specs.declared.rows.ReleaseLineRow.{ReleaseLineRow}
+use Rattle.mx_typed_rows.specs.declared.rows.DeferralRow.{DeferralRow}
+use Rattle.mx_typed_rows.specs.declared.rows.ExtensionRow.{ExtensionRow}
+use Rattle.mx_typed_rows.specs.declared.rows.SectorRow.{SectorRow}
+use Rattle.mx_typed_rows.specs.declared.rows.FittingRow.{FittingRow}
+use Rattle.mx_typed_rows.specs.declared.rows.RemovalRow.{RemovalRow}
+use Rattle.mx_typed_rows.specs.declared.register_rows.RegisterRows.{RegisterRows}
+
+-- pairs from the sectors, the deferrals, the releases, the programmes on, and all
+abbrev pub FlownPairs : Type 0
+FlownPairs = Vec SectorRow Global × (Vec FittingRow Global × Vec RemovalRow Global)
+
+abbrev pub DeferredPairs : Type 0
+DeferredPairs = Vec DeferralRow Global × (Vec ExtensionRow Global × FlownPairs)
+
+abbrev pub ReleasedPairs : Type 0
+ReleasedPairs = Vec ReleaseRow Global × (Vec ReleaseLineRow Global × DeferredPairs)
+
+abbrev pub MaintainedPairs : Type 0
+MaintainedPairs = Vec ProgrammeRow Global × (Vec TaskRow Global × (Vec OpeningRow Global × ReleasedPairs))
+
+abbrev pub RegisterPairs : Type 0
+RegisterPairs = Vec AircraftRow Global × (Vec PlaceRow Global × (Vec ComponentRow Global × MaintainedPairs))
+
+-- the rows that stand in the pairs
+abbrev pub rows_in_pairs : RegisterPairs → RegisterRows
+rows_in_pairs pairs =
+    let maintained = pairs.1.1.1 in
+    let released = maintained.1.1.1 in
+    let deferred = released.1.1 in
+    let flown = deferred.1.1 in
+    record {
+      aircraft = pairs.0;
+      places = pairs.1.0;
+      components = pairs.1.1.0;
+      programmes = maintained.0;
+      tasks = maintained.1.0;
+      openings = maintained.1.1.0;
+      releases = released.0;
+      release_lines = released.1.0;
+      deferrals = deferred.0;
+      extensions = deferred.1.0;
+      sectors = flown.0;
+      fittings = flown.1.0;
+      removals = flown.1.1;
+    }
