@@ -80,5 +80,5 @@ Example:\n  office programme fleet.db AMP-C172-1 examples/c172-1.toml";
 pub(crate) const SERVE: &str = "\
 Each connection asks once: POST /entries, /programmes/DOC or /sectors, or GET /aircraft/TAIL/life,\n\
 /due/DAY, /limits/DAY or /forecast/DAY/DAYS/MINUTES/CYCLES. It answers what the words print;\n\
-README.md has the statuses. Behind the last connection it prints `served COUNT`.\n\n\
+docs/DESK.md has the statuses. Behind the last connection it prints `served COUNT`.\n\n\
 Example:\n  office serve fleet.db 8043 1";

@@ -6,7 +6,7 @@ use Rattle.mx_office.specs.declared.fault.Fault.{Fault}
 use Rattle.mx_layout.specs.declared.fault.Table.{Table}
 use Rattle.mx_office.specs.declared.fault.Fault.TheVariants.{Memory, Store, Damaged}
 use Rattle.mx_office.specs.declared.fault.Ask.{Ask}
-use Rattle.mx_office.specs.declared.fault.Ask.TheVariants.{Refused, Failed}
+use Rattle.mx_office.specs.declared.fault.Ask.TheVariants.{Failed}
 use Rattle.mx_office.specs.declared.fault.OpenFault.{OpenFault}
 use Rattle.mx_office.specs.declared.fault.OpenFault.TheVariants as unopened
 use Rattle.mx_layout.specs.declared.fault.TableFault.{TableFault}

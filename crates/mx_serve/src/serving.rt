@@ -75,7 +75,8 @@ pub fn serve_connections<S: Alter>(
     ensures served { OnOk result (out.new.items ≡ out.old.items ++ served_line count) }
     ensures stops { IfErr result (λ fault. (fault ≡ Fault.Memory)
         ⊎ ((fault ≡ Fault.Store) × (office.new.needs_reopen ≡ true))) }
-    ensures ready { office.old.needs_reopen ≡ false → OnOk result (office.new.needs_reopen ≡ false) }
+    ensures ready { office.old.needs_reopen ≡ false
+        → OnOk result (office.new.needs_reopen ≡ false) }
     ensures kept { KeepsBook office.old office.new }
     ensures crash { (book : _) → Rests (state S.Store office.old.conn) book → (commands : _)
         × LeavesSome (book_run book commands) (state S.Store office.new.conn) }
