@@ -10,6 +10,7 @@ pub mod deferral;
 mod document;
 pub mod fitting;
 pub mod item;
+mod of_kind;
 pub mod opening;
 pub mod programme;
 pub mod programme_shape;

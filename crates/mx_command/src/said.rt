@@ -1,6 +1,6 @@
 //! What a body says, each kind of command as one value.
 ghost use Rattle.std.specs.Prelude.{◌≡◌};
-ghost use Rattle.mx_command.specs.Act.{act_of, aircraft_of, component_of, programme_of, opening_of, sector_of, fitting_of, removal_of, release_of, deferral_of, extension_of};
+ghost use Rattle.mx_command.specs.Act.{act_of};
 ghost use Rattle.mx_command.specs.Said.{act_said};
 
 use crate::aircraft::Aircraft;
@@ -156,106 +156,6 @@ impl Body {
                 day: *day,
                 days: *days,
             }),
-        }
-    }
-
-    /// The aircraft that it adds.
-    pub fn added_aircraft(&self) -> Option<Aircraft>
-        ensures { result ≡ aircraft_of (act_of self.now) }
-    {
-        match self.said() {
-            Said::Aircraft(aircraft, _) => Some(aircraft),
-            _ => None,
-        }
-    }
-
-    /// The component that it adds.
-    pub fn added_component(&self) -> Option<Component>
-        ensures { result ≡ component_of (act_of self.now) }
-    {
-        match self.said() {
-            Said::Component(component) => Some(component),
-            _ => None,
-        }
-    }
-
-    /// The revision of a programme that it loads.
-    pub fn loaded_programme(&self) -> Option<Programme>
-        ensures { result ≡ programme_of (act_of self.now) }
-    {
-        match self.said() {
-            Said::Programme(programme, _) => Some(programme),
-            _ => None,
-        }
-    }
-
-    /// The opening that it states.
-    pub fn stated_opening(&self) -> Option<Opening>
-        ensures { result ≡ opening_of (act_of self.now) }
-    {
-        match self.said() {
-            Said::Opening(opening) => Some(opening),
-            _ => None,
-        }
-    }
-
-    /// The sector that was flown.
-    pub fn flown_sector(&self) -> Option<Sector>
-        ensures { result ≡ sector_of (act_of self.now) }
-    {
-        match self.said() {
-            Said::Sector(sector) => Some(sector),
-            _ => None,
-        }
-    }
-
-    /// The fitting of a component.
-    pub fn fitting(&self) -> Option<Fitting>
-        ensures { result ≡ fitting_of (act_of self.now) }
-    {
-        match self.said() {
-            Said::Fitting(fitting) => Some(fitting),
-            _ => None,
-        }
-    }
-
-    /// The removal of a component.
-    pub fn removal(&self) -> Option<Removal>
-        ensures { result ≡ removal_of (act_of self.now) }
-    {
-        match self.said() {
-            Said::Removal(removal) => Some(removal),
-            _ => None,
-        }
-    }
-
-    /// The release of maintenance, its lines aside.
-    pub fn release(&self) -> Option<Release>
-        ensures { result ≡ release_of (act_of self.now) }
-    {
-        match self.said() {
-            Said::Release(release, _) => Some(release),
-            _ => None,
-        }
-    }
-
-    /// The deferral of a defect.
-    pub fn deferral(&self) -> Option<Deferral>
-        ensures { result ≡ deferral_of (act_of self.now) }
-    {
-        match self.said() {
-            Said::Deferral(deferral) => Some(deferral),
-            _ => None,
-        }
-    }
-
-    /// The extension of the interval of a defect.
-    pub fn extension(&self) -> Option<Extension>
-        ensures { result ≡ extension_of (act_of self.now) }
-    {
-        match self.said() {
-            Said::Extension(extension) => Some(extension),
-            _ => None,
         }
     }
 }
