@@ -1,3 +1,4 @@
 pub mod ServedLemmas
 pub mod ServeLemmas
 pub mod Worked
+mod WorkedServing

@@ -2,3 +2,4 @@ pub mod Answer
 pub mod Answered
 pub mod Request
 pub mod Served
+pub mod Serving

@@ -1,4 +1,5 @@
-//! The desk: requests over HTTP, one a connection, answered by an office with what the words of the program print.
+//! The desk: requests over HTTP, one a connection, answered by an office with what the words of the program print; and one
+//! connection after the other at a port.
 #![tactic(auto)]
 
 mod answering;
@@ -8,8 +9,10 @@ mod listing;
 mod parts;
 mod respond;
 mod serve;
+mod serving;
 
 pub use answering::route_response;
 pub use fault::DeskFault;
 pub use mx_request::{NoRoute, Route, route};
 pub use serve::serve_one;
+pub use serving::{serve_connections, serve_on};

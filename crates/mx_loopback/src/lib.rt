@@ -1,5 +1,8 @@
-//! A test of serving over the loopback, in one process: two connections are served, one after the other.
+//! Tests over the loopback, each in one process: two connections are served, one after the other; and a port that is taken is
+//! told.
 #![tactic(auto)]
 
+#[cfg(test)]
+mod taken_port;
 #[cfg(test)]
 mod tests;

@@ -2,10 +2,10 @@
 ghost use Rattle.std.specs.Prelude.{◌≡◌, false};
 
 use mx_book::Reply;
+use mx_desk::serve_on;
 use mx_intake::commands_of_json;
 use mx_layout::{Layout, create};
 use mx_office::{Office, open_office};
-use mx_serve::serve_on;
 use sqlite::{Alter, Connection};
 use std::io::{Read, Write};
 use std::net::{OpenListener, TcpListener, TcpStream};

@@ -3,7 +3,7 @@ use Rattle.std.specs.Prelude.{◌≡◌, ℕ, List, length}
 use Rattle.mx_jobs.specs.Entered.{AreReplyLines}
 use Rattle.mx_jobs.specs.Imported.{AreRowLines}
 use Rattle.mx_jobs.specs.Printed.{IsListAnswer}
-use Rattle.mx_serve.specs.Served.{served_line}
+use Rattle.mx_desk.specs.Serving.{served_line}
 use Rattle.mx_words.specs.declared.files.Asked.{Asked}
 use Rattle.mx_words.specs.declared.files.Asked.TheVariants.{List as ForList, Enter, Import, Serve}
 use Rattle.mx_jobs.specs.declared.fault.Ending.{Ending}

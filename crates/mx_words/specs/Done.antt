@@ -8,7 +8,7 @@ use Rattle.clap.specs.declared.error.kind.ErrorKind.TheVariants.{DisplayHelp, Di
 use Rattle.mx_jobs.specs.Entered.{AreReplyLines, AreSomeReplyLines}
 use Rattle.mx_jobs.specs.Imported.{AreRowLines}
 use Rattle.mx_jobs.specs.Printed.{IsListAnswer}
-use Rattle.mx_serve.specs.Served.{served_line}
+use Rattle.mx_desk.specs.Serving.{served_line}
 use Rattle.mx_command_line.specs.Trial.{is_trial_shaped, trial_commands}
 use Rattle.mx_jobs.specs.Tried.{TellsTrial}
 use Rattle.mx_command_line.specs.Job.{Job, said, tries, makes, lists, enters, imports, loads, serves}

@@ -7,5 +7,5 @@ pub mod run;
 mod trial;
 mod usage;
 
-pub use mx_serve::serve_on;
+pub use mx_desk::serve_on;
 pub use run::run_words;

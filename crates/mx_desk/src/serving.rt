@@ -5,11 +5,11 @@ ghost use Rattle.sqlite.specs.Held.{state};
 ghost use Rattle.mx_book.specs.Run.{book_run};
 ghost use Rattle.mx_office.specs.Stands.{Rests};
 ghost use Rattle.mx_desk.specs.Served.{KeepsBook, LeavesBook, LeavesSome};
-ghost use Rattle.mx_serve.specs.Served.{served_line};
+ghost use Rattle.mx_desk.specs.Serving.{served_line};
 
+use crate::serve::serve_one;
 use itoa::Buffer;
 use mx_answers::write_fault;
-use mx_desk::serve_one;
 use mx_office::{Fault, Office};
 use sqlite::Alter;
 use std::alloc::{AllocError, Global};

@@ -2,7 +2,7 @@
 use Rattle.std.proofs.Common.{refl, ◌≡◌}
 use Rattle.std.specs.Prelude.{codes}
 use Rattle.std.specs.Fmt.{digits}
-use Rattle.mx_serve.specs.Served.{served_line}
+use Rattle.mx_desk.specs.Serving.{served_line}
 
 one : served_line 1 ≡ codes "served 1\n"
 unfolding digits
