@@ -17,7 +17,7 @@ run:
 
 # the gate, from nothing; first the pages are held to the tree; where it passes, the program that it proved and ran is left
 # as ./office, and the transcripts are compared with what that prints, the page of the file with a file that it makes, the
-# manual page with its helps, and the answers of its desk with what is written
+# manual page with its helps, the answers of its desk with what is written, and the work of its words with bounds
 test:
 	@scripts/definitions --check
 	@scripts/docs --check
@@ -27,6 +27,7 @@ test:
 	@scripts/file-page
 	@scripts/man --check
 	@scripts/check-desk
+	@scripts/check-work
 
 # the wrong bodies that are kept outside the gate: the checker has to refuse each, in rounds over a copy of the crates
 plants:

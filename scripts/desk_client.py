@@ -154,6 +154,25 @@ def given_up(desk: Desk, request: bytes) -> bytes:
     return b""
 
 
+def behind_another(desk: Desk, request: bytes) -> bytes:
+    """All of it has come before the program looks at it, since another peer is served first. It takes two connections."""
+    with desk.connect() as first, desk.connect() as peer:
+        peer.setsockopt(socket.SOL_SOCKET, socket.SO_SNDBUF, 1 << 20)
+        send(peer, request)
+        first.shutdown(socket.SHUT_WR)
+        received(first)
+        return received(peer)
+
+
+def elsewhere(desk: Desk, address: bytes) -> bytes:
+    """Whether a connection at another address of the machine is taken or refused. It takes none where it is refused."""
+    try:
+        socket.create_connection((address.decode(), desk.port), timeout=PATIENCE).close()
+    except ConnectionRefusedError:
+        return b"refused"
+    return b"taken"
+
+
 def by_curl(desk: Desk, request: bytes) -> bytes:
     """The request is a path, and behind it on further lines a body, if it has one."""
     path, _, body = request.decode().partition("\n")

@@ -7,10 +7,10 @@ use Rattle.mx_book.specs.declared.verdict.Refusal.{Refusal}
 use Rattle.mx_office.specs.declared.fault.Ask.{Ask}
 use Rattle.mx_office.specs.declared.fault.Ask.TheVariants.{Failed}
 use Rattle.mx_office.specs.declared.fault.Fault.{Fault}
-use Rattle.mx_office.specs.declared.fault.Fault.TheVariants.{Store, NeedsReopen, Damaged}
+use Rattle.mx_office.specs.declared.fault.Fault.TheVariants.{Damaged}
 use Rattle.mx_office.specs.declared.office.Office.{Office}
 use Rattle.mx_office.specs.Faults.{found_or, IsAnswer}
-use Rattle.mx_office.specs.Questions.{IsAnsweredBy, IsAsked}
+use Rattle.mx_office.specs.Questions.{IsAnsweredBy}
 
 module _ {X Y : Type 0} (f : X → Y) where
   -- the answer with what was found as another thing
@@ -30,15 +30,6 @@ module _ {X Y : Type 0} (f : X → Y) where
   failed_as (Err why) fault h = let same : why ≡ Failed fault = cc in ap Err same
 
   module _ {S : Type 0} {g : Ghosts S} (old new : Office S g) (result : Result X Ask) where
-    pub asked_as : IsAsked Failed old new result → IsAsked Failed old new (as_answer result)
-    asked_as h = record {
-      reopen = λ doubt. (ap as_answer (h.reopen doubt).0, (h.reopen doubt).1);
-      usable = λ ready e. h.usable ready (failed_as result NeedsReopen e);
-      goes_on = λ ready other. h.goes_on ready (λ e. other (ap as_answer e));
-      stopped = λ e. h.stopped (failed_as result Store e);
-      untouched = h.untouched;
-    }
-
     pub answered_as : (refusal : Refusal) (said : List Entry → Option X) → IsAnsweredBy (λ book. found_or refusal (said book)) old new result
         → IsAnsweredBy (λ book. found_or refusal (option_map f (said book))) old new (as_answer result)
     answered_as refusal said h = record {

@@ -6,7 +6,8 @@ ghost use Rattle.mx_book.specs.Forecast.{forecast};
 ghost use Rattle.mx_book.specs.LimitList.{limits};
 ghost use Rattle.mx_book.specs.Lists.{life_list};
 ghost use Rattle.mx_office.specs.Faults.{found_or};
-ghost use Rattle.mx_office.specs.Questions.{IsAnsweredBy, IsAsked};
+ghost use Rattle.mx_office.specs.Calls.{stop_asking, IsAsked};
+ghost use Rattle.mx_office.specs.Questions.{IsAnsweredBy};
 ghost use Rattle.mx_answers.specs.Question.{IsOfKind, report_of};
 ghost use Rattle.mx_answers.specs.declared.question.Question.TheVariants as asked;
 ghost use Rattle.mx_answers.specs.declared.question.Report.TheVariants as report;
@@ -47,7 +48,7 @@ pub enum Report {
 
 // Asks for the life of an aircraft.
 fn life_report<S: Alter>(alloc: Global, office: &mut Office<S>, tail: &Tail) -> Result<Report, Ask>
-    ensures asked { IsAsked Ask.Failed office.old office.new result }
+    ensures asked { IsAsked (stop_asking result) office.old office.new }
     ensures answered { IsAnsweredBy (λ book. found_or Refusal.UnknownAircraft
         (option_map report.Life (life_list book tail.now))) office.old office.new result }
     ensures kind { IfOk result (IsOfKind (asked.Life tail.now)) }
@@ -65,7 +66,7 @@ fn due_report<S: Alter>(
     tail: &Tail,
     day: Day,
 ) -> Result<Report, Ask>
-    ensures asked { IsAsked Ask.Failed office.old office.new result }
+    ensures asked { IsAsked (stop_asking result) office.old office.new }
     ensures answered { IsAnsweredBy (λ book. found_or Refusal.UnknownAircraft
         (option_map report.Due (due_list book tail.now day))) office.old office.new result }
     ensures kind { IfOk result (IsOfKind (asked.Due tail.now day)) }
@@ -86,7 +87,7 @@ fn forecast_report<S: Alter>(
     minutes: u32,
     cycles: u32,
 ) -> Result<Report, Ask>
-    ensures asked { IsAsked Ask.Failed office.old office.new result }
+    ensures asked { IsAsked (stop_asking result) office.old office.new }
     ensures answered { IsAnsweredBy (λ book. found_or Refusal.UnknownAircraft
         (option_map report.Forecast (forecast book tail.now day days minutes cycles)))
         office.old office.new result }
@@ -105,7 +106,7 @@ fn limits_report<S: Alter>(
     tail: &Tail,
     day: Day,
 ) -> Result<Report, Ask>
-    ensures asked { IsAsked Ask.Failed office.old office.new result }
+    ensures asked { IsAsked (stop_asking result) office.old office.new }
     ensures answered { IsAnsweredBy (λ book. found_or Refusal.UnknownAircraft
         (option_map report.Limits (limits book tail.now day))) office.old office.new result }
     ensures kind { IfOk result (IsOfKind (asked.Limits tail.now day)) }
@@ -122,7 +123,7 @@ pub fn ask<S: Alter>(
     office: &mut Office<S>,
     question: &Question,
 ) -> Result<Report, Ask>
-    ensures asked { IsAsked Ask.Failed office.old office.new result }
+    ensures asked { IsAsked (stop_asking result) office.old office.new }
     ensures answered { IsAnsweredBy
         (λ book. found_or Refusal.UnknownAircraft (report_of book question.now))
         office.old office.new result }

@@ -1,7 +1,7 @@
 -- The lives of items: bounds of their sectors, and what an entry adds.
 use Rattle.std.proofs.Common.{arith, refl, sym, subst, ap, ◌∙◌, ◌≡◌, ℕ, ◌+◌, ◌-◌, ◌*◌, ◌≤◌, length, List, [], ◌∷◌, Bool, true, false, cond, ◌&&◌, Option, Some, None, zero-add}
 use Rattle.std.proofs.lemmas.Bool.Decides.{nat_tests}
-use Rattle.std.specs.Prelude.{find, filter}
+use Rattle.std.specs.Prelude.{find, filter, IfSome}
 use Rattle.std.specs.List.{cons_option, list_all}
 use Rattle.std.specs.Option.{option_map}
 use Rattle.mx_command.specs.Act.{Act, Entry, Added, Listed, Flown, aircraft_of, component_of, sector_of}
@@ -17,6 +17,7 @@ use Rattle.mx_book.specs.Register.{register, aircraft, component}
 use Rattle.mx_due.specs.Due.{IsLife}
 use Rattle.mx_book.specs.Life.{opening_of, life_until, selected, share, use_after, minutes_of, cycles_of, is_credited, has_landed_by}
 use Rattle.mx_book.specs.Lists.{use_or_none}
+use Rattle.mx_book.specs.Book.{IsBook}
 
 pub both_true : (p q : Bool) → p && q ≡ true → (p ≡ true) × (q ≡ true)
 both_true true true h = (refl, refl)
@@ -158,3 +159,8 @@ module _ (book : List Entry) (item : Item) (until : Option ℕ) where
 -- the life of an item is within the bounds of a life
 pub life_bounded : (book : List Entry) (item : Item) (until : Option ℕ) → length book ≤ 1000000 → list_all has_shape book ≡ true → IsLife (use_or_none (life_until book item until))
 life_bounded book item until few shaped = life_within book item until few shaped (opening_of book item) refl
+
+-- the life of an item of a book is within the bounds of a life, if it has one
+pub life_in_bounds : (book : List Entry) (item : Item) (until : Option ℕ) (found : Option Use) → IsBook book → found ≡ life_until book item until → IfSome found IsLife
+life_in_bounds book item until None is_book is = tt
+life_in_bounds book item until (Some life) is_book is = subst IsLife (ap use_or_none (sym is)) (life_bounded book item until is_book.few is_book.shaped)

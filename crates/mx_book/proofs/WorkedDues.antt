@@ -73,6 +73,13 @@ first_dues = refl
 due_of_another_kind : due first_four (Airframe abcd) (codes "PA28") (codes "100H") ≡ None
 due_of_another_kind = refl
 
+-- of an item that is unknown nothing is due
+due_of_an_unknown_airframe : due first_four (Airframe efgh) c172 (codes "100H") ≡ None
+due_of_an_unknown_airframe = refl
+
+due_of_an_unknown_component : due first_four (Component (codes "E9")) c172 (codes "OVH") ≡ None
+due_of_an_unknown_component = refl
+
 base_stated : base first_four (Airframe abcd) (codes "ANNUAL") ≡ Some (based 59000 780 19509)
 base_stated = refl
 

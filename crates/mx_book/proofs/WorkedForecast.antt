@@ -1,12 +1,11 @@
 -- Worked forecasts: of the first aircraft, of one that is not flown, of a disc, of deferred defects.
-use Rattle.std.proofs.Common.{refl, ◌≡◌, ℕ, List, [], ◌∷◌, Some, None}
+use Rattle.std.proofs.Common.{refl, ◌≡◌, List, [], ◌∷◌, Some, None}
 use Rattle.std.specs.Prelude.{codes, pos}
 use Rattle.mx_base.specs.declared.amounts.Status.TheVariants as statuses
 use Rattle.mx_command.specs.Act.{Entry, Deferred}
 use Rattle.mx_command.specs.declared.deferral.Category.TheVariants.{B}
 use Rattle.mx_book.specs.declared.due_row.DueRow.{DueRow}
 use Rattle.mx_book.specs.declared.due_row.DueRow.TheVariants.{Defect as DefectRow}
-use Rattle.mx_book.specs.declared.forecast.ForecastRow.{ForecastRow}
 use Rattle.mx_book.specs.Forecast.{forecast, forecast_rows}
 use Rattle.mx_book.proofs.Worked.{at, abcd, logged}
 use Rattle.mx_book.proofs.WorkedFittings.{efgh, first_aircraft}

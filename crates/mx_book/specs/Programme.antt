@@ -1,5 +1,5 @@
 -- The programme in force of a kind, what its tasks apply to, and what was accomplished of them.
-use Rattle.std.specs.Prelude.{ℕ, ◌+◌, List, Bool, true, false, ◌&&◌, Option, Some, None, if◌then◌else◌, find, fold}
+use Rattle.std.specs.Prelude.{ℕ, ◌+◌, List, Bool, false, ◌&&◌, Option, Some, None, if◌then◌else◌, find, fold, is_some}
 use Rattle.std.specs.List.{list_any}
 use Rattle.std.specs.Option.{option_map, option_map_or, option_and_then}
 use Rattle.mx_base.specs.declared.amounts.Use.{Use}
@@ -51,9 +51,9 @@ next_revision book kind = option_map_or (λ n. n + 1) (revision_in_force book ki
 abbrev pub task_in_force : List Entry → List ℕ → List ℕ → Option Task
 task_in_force book kind id = option_and_then (find (λ t. same_text t.id id)) (tasks_in_force book kind)
 
--- what is done on every airframe is done on an airframe, and what is done on a part on each component of that part
+-- what is done on every airframe is done on each that is known, and what is done on a part on each component of that part
 abbrev pub is_done_on : List Entry → Item → Applies → Bool
-is_done_on book (Airframe tail) ToAirframe = true
+is_done_on book (Airframe tail) ToAirframe = is_some (aircraft book tail)
 is_done_on book (Component serial) (ToPart part) = is_of_part book serial part
 is_done_on book _ _ = false
 

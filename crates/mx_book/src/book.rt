@@ -1,6 +1,7 @@
 //! The book: the plain program, which keeps the entries alone and reads them anew for each answer.
-ghost use Rattle.std.specs.Prelude.{◌≡◌, ◌+◌, ◌↔◌, [], ◌∷◌, ◌++◌, length, IsTrue, OnOk, OnErr, IfOk, IfErr};
+ghost use Rattle.std.specs.Prelude.{◌≡◌, ◌+◌, ◌↔◌, [], ◌∷◌, ◌++◌, length, IsTrue, OnOk, OnErr, IfOk, IfErr, IfSome};
 ghost use Rattle.std.specs.Option.{option_copied};
+ghost use Rattle.mx_due.specs.Due.{IsLife};
 ghost use Rattle.mx_book.specs.Life.{life_now, life_at};
 ghost use Rattle.mx_book.specs.Lists.{life_list};
 ghost use Rattle.mx_book.specs.Base.{base, due};
@@ -123,16 +124,20 @@ impl Book {
         }
     }
 
-    /// The life of an item up to a moment, or `None` where the item is unknown.
+    /// The life of an item up to a moment, at most 1,540,000,000 minutes and 51,000,000 cycles, or `None` where the item is
+    /// unknown.
     pub fn life(&self, item: &Item, moment: Moment) -> Option<Use>
-        ensures { result ≡ life_at self.now item.now moment }
+        ensures life { result ≡ life_at self.now item.now moment }
+        ensures bounded { IfSome result IsLife }
     {
         life(self.entries.as_slice(), item, Some(moment.number()))
     }
 
-    /// The life of an item with all of its sectors, or `None` where the item is unknown.
+    /// The life of an item with all of its sectors, at most 1,540,000,000 minutes and 51,000,000 cycles, or `None` where the
+    /// item is unknown.
     pub fn life_now(&self, item: &Item) -> Option<Use>
-        ensures { result ≡ life_now self.now item.now }
+        ensures life { result ≡ life_now self.now item.now }
+        ensures bounded { IfSome result IsLife }
     {
         life(self.entries.as_slice(), item, None)
     }

@@ -145,8 +145,8 @@ pub(crate) fn is_task_of(entries: &[Command], item: &Item, task: &Task) -> bool
     ensures { result ≡ applies_to entries.now item.now task.now }
 {
     match item {
-        Item::Airframe(_) => match task.applies {
-            Applies::Airframe => true,
+        Item::Airframe(tail) => match task.applies {
+            Applies::Airframe => aircraft_of_tail(entries, tail).is_some(),
             Applies::Part(_) => false,
         },
         Item::Component(serial) => match &task.applies {

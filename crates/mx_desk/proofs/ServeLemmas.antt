@@ -1,6 +1,8 @@
 -- From a head and what is behind it to the input, and from an answer to the bytes of one.
-use Rattle.std.proofs.Common.{◌≡◌, ◌⊎◌, refl, sym, ap, ◌∙◌, subst, inl, inr, ℕ, ◌≤◌, List, [], ◌∷◌, ◌++◌, Bool, length, take, drop, Option, Some, None, Result, Ok, Err, true, false, IfOk, IfSome, IsOkAnd, OnErr, OnOk, ◌-◌, arith, length-drop}
-use Rattle.std.proofs.lemmas.List.{take-append-le, take_all, drop-append-le}
+use Rattle.std.proofs.Common.{◌≡◌, ◌⊎◌, refl, sym, ap, ◌∙◌, subst, inl, inr, ℕ, ◌≤◌, List, [], ◌∷◌, ◌++◌, Bool, length, take, drop, Option, Some, None, Result, Ok, Err, true, false, IfOk, IfSome, IsOkAnd, OnErr, OnOk, ◌-◌, arith, append_assoc, length-drop}
+use Rattle.std.proofs.lemmas.List.{take-append-le, take_all, drop-append-le, take-append-drop, append-nil}
+use Rattle.std.proofs.Math.Seq.{take-append_seam}
+use Rattle.std.specs.Io.KnownBytes.{Appends, Keeps}
 use Rattle.std.specs.Prelude.{⊤, is_err}
 use Rattle.sqlite.specs.Store.{Ghosts}
 use Rattle.sqlite.specs.State.{HasCleanDisk}
@@ -17,7 +19,7 @@ use Rattle.mx_desk.specs.Answer.{Answer, rejection_answer}
 use Rattle.mx_desk.specs.Answered.{AnswersIfRoom}
 use Rattle.mx_answers.specs.Asking.{doc_of, due_question, life_question, limits_question}
 use Rattle.mx_desk.specs.Request.{Request, enters, imports, asks, unread, rejected, entering, entering_one, loading, importing, asking, forecast_in_digits, request_of}
-use Rattle.mx_desk.specs.Served.{AnswersBytes, AnswersHead, AnswersInput, IsCut, IsRead, ServesInput, allows, behind_head, by_body, bytes_of}
+use Rattle.mx_desk.specs.Served.{AnswersBytes, AnswersHead, AnswersInput, AppendsSome, IsCut, IsRead, ServesInput, allows, behind_head, by_body, bytes_of}
 use Rattle.mx_intake.specs.Entries.{entries_of_text}
 use Rattle.mx_intake.specs.Loading.{entry_of_programme}
 use Rattle.mx_intake.specs.Sectors.{sector_rows}
@@ -92,7 +94,7 @@ module _ {S : Type 0} {g : Ghosts S} (old new : Office S g) where
   weaker request P Q then (inr (same, is)) = inr (same, then _ is)
 
   -- the answer itself
-  an_answer : (request : Request) (P : Answer → Type 0) → AnswersIfRoom request old new P → (answer : Answer) × P answer × AnswersIfRoom request old new (λ a. answer ≡ a)
+  pub an_answer : (request : Request) (P : Answer → Type 0) → AnswersIfRoom request old new P → (answer : Answer) × P answer × AnswersIfRoom request old new (λ a. answer ≡ a)
   an_answer (enters commands) P (inl (said, stopped, entered, is)) = (_, is, inl (said, stopped, entered, refl))
   an_answer (imports rows) P (inl (said, stopped, entered, is)) = (_, is, inl (said, stopped, entered, refl))
   an_answer (asks question) P (inl (result, asked, answered, kind, is)) = (_, is, inl (result, asked, answered, kind, refl))
@@ -204,3 +206,60 @@ some_has {X} o x P is holds = subst (λ (found : Option X). IfSome found P) is h
 pub done_has : {X E : Type 0} → (result : Result X E) (b : Bool) (P : Type 0) → b ≡ is_err result → b ≡ false → OnOk result P → P
 done_has (Ok x) b P is well holds = holds
 done_has (Err e) b P is well holds = elim (no_error b is well) [ ]
+
+-- and what was an error failed
+pub failed_has : {X E : Type 0} → (result : Result X E) (b : Bool) (P : Type 0) → b ≡ is_err result → b ≡ true → OnErr result P → P
+failed_has (Ok x) b P is failed holds = elim (no_error b failed is) [ ]
+failed_has (Err e) b P is failed holds = holds
+
+-- ── a text that is written part by part ──
+
+-- what was written so far, and what is left of the text
+pub record IsPartWritten (old new : Option (List ℕ)) (text rest : List ℕ) : Type 0 where
+  pub front : List ℕ
+  pub is : text ≡ front ++ rest
+  pub written : Appends old new front
+
+appends_none : (o : Option (List ℕ)) → Appends o o []
+appends_none None = tt
+appends_none (Some xs) = sym (append-nil xs)
+
+appends_more : (o m n : Option (List ℕ)) (xs ys : List ℕ) → Appends o m xs → Appends m n ys → Appends o n (xs ++ ys)
+appends_more None m n xs ys a b = tt
+appends_more (Some o) None n xs ys a b = absurd a
+appends_more (Some o) (Some m) None xs ys a b = absurd b
+appends_more (Some o) (Some m) (Some n) xs ys a b = b ∙ ap (λ front. front ++ ys) a ∙ append_assoc o xs ys
+
+-- nothing was written yet
+pub none_written : (o : Option (List ℕ)) (text : List ℕ) → IsPartWritten o o text text
+none_written o text = record { front = []; is = refl; written = appends_none o }
+
+-- one more write
+pub more_written : (o m n : Option (List ℕ)) (text rest : List ℕ) (count : ℕ) → IsPartWritten o m text rest → Appends m n (take count rest) → IsPartWritten o n text (drop count rest)
+more_written o m n text rest count so_far more = record {
+  front = so_far.front ++ take count rest;
+  is = so_far.is ∙ ap (λ behind. so_far.front ++ behind) (sym (take-append-drop count rest)) ∙ sym (append_assoc so_far.front (take count rest) (drop count rest));
+  written = appends_more o m n so_far.front (take count rest) so_far.written more;
+}
+
+-- all was written
+pub all_written : (o n : Option (List ℕ)) (text rest : List ℕ) → rest ≡ [] → IsPartWritten o n text rest → Appends o n text
+all_written o n text rest none it =
+    let whole : text ≡ it.front = it.is ∙ ap (λ behind. it.front ++ behind) none ∙ append-nil it.front in
+    subst (Appends o n) (sym whole) it.written
+
+-- what was written so far is a beginning of the text
+pub begun_written : (o n : Option (List ℕ)) (text rest : List ℕ) → IsPartWritten o n text rest → AppendsSome o n text
+begun_written o n text rest it =
+    let front : take (length it.front) text ≡ it.front = ap (take (length it.front)) it.is ∙ take-append_seam it.front rest in
+    (length it.front, subst (Appends o n) (sym front) it.written)
+
+-- nothing more is written behind a write that failed
+pub some_written : (o m n : Option (List ℕ)) (text rest : List ℕ) → IsPartWritten o m text rest → Keeps m n → AppendsSome o n text
+some_written o m n text rest it same =
+    begun_written o n text rest (record { front = it.front; is = it.is; written = subst (Appends o n) (append-nil it.front) (appends_more o m n it.front [] it.written (kept_appends m n same)) })
+  where
+    kept_appends : (m n : Option (List ℕ)) → Keeps m n → Appends m n []
+    kept_appends None n same = tt
+    kept_appends (Some xs) None same = absurd same
+    kept_appends (Some xs) (Some ys) same = same ∙ sym (append-nil xs)

@@ -12,21 +12,21 @@ use Rattle.mx_layout.specs.Crash.{Leaves}
 use Rattle.mx_layout.specs.Tables.{layout_1}
 use Rattle.mx_layout.proofs.CrashLemmas.{rests_kept}
 use Rattle.mx_office.specs.Faults.{found_or, IsAnswer}
-use Rattle.mx_office.specs.Office.{office_state, IsReady}
-use Rattle.mx_office.specs.Questions.{IsAnsweredBy, IsAsked}
+use Rattle.mx_office.proofs.CallLemmas.{stopped_asking}
+use Rattle.mx_office.specs.Calls.{stop_asking, IsAsked, IsRun}
+use Rattle.mx_office.specs.Office.{office_state, IsReady, StandsFor}
+use Rattle.mx_office.specs.Questions.{IsAnsweredBy}
 use Rattle.mx_office.specs.Stands.{IsEither, Rests, Stands}
 use Rattle.mx_office.specs.declared.fault.Ask.{Ask}
-use Rattle.mx_office.specs.declared.fault.Ask.TheVariants.{Failed}
 use Rattle.mx_office.specs.declared.fault.Fault.{Fault}
 use Rattle.mx_office.specs.declared.fault.Fault.TheVariants.{Memory, Store, NeedsReopen, Damaged}
 use Rattle.mx_office.specs.declared.office.Office.{Office}
-use Rattle.mx_import.specs.Import.{IsRun}
 use Rattle.mx_import.specs.Rows.{good_rows, told}
 use Rattle.mx_answers.specs.Question.{report_of}
 use Rattle.mx_answers.specs.declared.question.Question.{Question}
 use Rattle.mx_answers.specs.declared.question.Report.{Report}
 use Rattle.mx_desk.specs.Answer.{Answer, answer_of, list_answer, replies_answer, rows_answer}
-use Rattle.mx_desk.specs.Answered.{AnswersIfRoom, IsEntered}
+use Rattle.mx_desk.specs.Answered.{AnswersIfRoom}
 use Rattle.mx_desk.specs.Request.{Request, enters, imports, asks, unread, rejected, commands_of}
 use Rattle.mx_desk.specs.Served.{IsServed, LeavesBehind, LeavesSome, Serves}
 
@@ -37,16 +37,18 @@ not_both b ready doubt = (cc)
 rests_either : (book : List Entry) (other : List Entry) (s : State) → Rests s book → Leaves s (IsEither book other)
 rests_either book other s rests = λ clean db may. inl (rests.crash clean db may)
 
-module _ (book : List Entry) (commands : List Entry) (said : List Reply) (stopped : Option Fault) (old new : State) (rests : Rests old book) (clean : HasCleanDisk new) (run : IsRun commands said stopped old new) where
-  served_run : (request : Request) (answer : Answer) → commands_of request ≡ commands → answer ≡ answer_of book request (length said) stopped → IsServed book request (length said) stopped answer new
-  served_run request answer same is = record {
-    counted = subst (λ (cs : List Entry). length said ≤ length cs) (sym same) run.counted;
-    done = λ none. subst (λ (cs : List Entry). length said ≡ length cs) (sym same) (run.done none);
-    answered = is;
-    whole = run.whole book rests clean;
-    kept = λ other. subst (λ (cs : List Entry). Rests new (book_run book (take (length said) cs))) (sym same) (run.kept book rests other);
-    crash = subst (λ (cs : List Entry). Leaves new (IsEither (book_run book (take (length said) cs)) (book_run book (take (length said + 1) cs)))) (sym same) (run.crash book rests);
-  }
+module _ {S : Type 0} {g : Ghosts S} (book : List Entry) (commands : List Entry) (said : List Reply) (stopped : Option Fault) (old new : Office S g) (stands : StandsFor old book) (clean : HasCleanDisk (office_state new)) (run : IsRun commands said stopped old new) where
+  served_run : (request : Request) (answer : Answer) → commands_of request ≡ commands → answer ≡ answer_of book request (length said) stopped → IsServed book request (length said) stopped answer (office_state new)
+  served_run request answer same is =
+      let over = run.over_book book stands in
+      record {
+        counted = subst (λ (cs : List Entry). length said ≤ length cs) (sym same) run.counted;
+        done = λ none. subst (λ (cs : List Entry). length said ≡ length cs) (sym same) (run.done none);
+        answered = is;
+        whole = over.whole clean;
+        kept = λ other. subst (λ (cs : List Entry). Rests (office_state new) (book_run book (take (length said) cs))) (sym same) (over.kept other);
+        crash = subst (λ (cs : List Entry). Leaves (office_state new) (IsEither (book_run book (take (length said) cs)) (book_run book (take (length said + 1) cs)))) (sym same) over.crash;
+      }
 
 -- a request that hands in nothing
 served_nothing : (book : List Entry) (request : Request) (stopped : Option Fault) (answer : Answer) (new : State) → commands_of request ≡ [] → Rests new book
@@ -74,29 +76,29 @@ module _ {S : Type 0} {g : Ghosts S} (book : List Entry) (old new : Office S g) 
       inl (0, Some Store, served_nothing book (asks question) (Some Store) answer (office_state new) refl kept (λ table damaged. (cc)) (is ∙ ap list_answer store))
 
   served_asked : (question : Question) (result : Result Report Ask) (answer : Answer) (b : Bool) → old.needs_reopen ≡ b
-      → IsAsked Failed old new result → IsAnsweredBy (λ entries. found_or UnknownAircraft (report_of entries question)) old new result
+      → IsAsked (stop_asking result) old new → IsAnsweredBy (λ entries. found_or UnknownAircraft (report_of entries question)) old new result
       → answer ≡ list_answer result → Serves book (asks question) answer (office_state new)
   served_asked question result answer false ready asked answered is =
       served_list question result answer (rests_kept layout_1 (λ (trees : Trees). Stands trees book) (office_state old) (office_state new) (asked.untouched ready) rests) (answered.exact book ready rests clean) is
   served_asked question result answer true doubt asked answered is =
-      let stopped = asked.reopen doubt in
-      inl (0, Some NeedsReopen, served_nothing book (asks question) (Some NeedsReopen) answer (office_state new) refl (unchanged stopped.1) (λ table damaged. (cc)) (is ∙ ap list_answer stopped.0))
+      let stopped = asked.doubt.reopen doubt in
+      inl (0, Some NeedsReopen, served_nothing book (asks question) (Some NeedsReopen) answer (office_state new) refl (unchanged stopped.1) (λ table damaged. (cc)) (is ∙ ap list_answer (stopped_asking result NeedsReopen stopped.0)))
 
   -- what an office that answers a request makes of the book, and its answer
   pub serves : (request : Request) (answer : Answer) → AnswersIfRoom request old new (λ a. answer ≡ a) → Serves book request answer (office_state new)
-  serves (enters commands) answer (inl (said, stopped, entered, is)) =
+  serves (enters commands) answer (inl (said, stopped, run, is)) =
       inl (
         length said,
         stopped,
-        served_run book commands said stopped (office_state old) (office_state new) rests clean entered.run (enters commands) answer refl
-            (is ∙ ap (λ (given : List Reply). replies_answer given stopped) (entered.run.answered book rests clean)),
+        served_run book commands said stopped old new rests clean run (enters commands) answer refl
+            (is ∙ ap (λ (given : List Reply). replies_answer given stopped) ((run.over_book book rests).answered clean)),
       )
-  serves (imports rows) answer (inl (said, stopped, entered, is)) =
+  serves (imports rows) answer (inl (said, stopped, run, is)) =
       inl (
         length said,
         stopped,
-        served_run book (good_rows rows) said stopped (office_state old) (office_state new) rests clean entered.run (imports rows) answer refl
-            (is ∙ ap (λ (given : List Reply). rows_answer (told rows given) stopped) (entered.run.answered book rests clean)),
+        served_run book (good_rows rows) said stopped old new rests clean run (imports rows) answer refl
+            (is ∙ ap (λ (given : List Reply). rows_answer (told rows given) stopped) ((run.over_book book rests).answered clean)),
       )
   serves (asks question) answer (inl (result, asked, answered, kind, is)) = served_asked question result answer old.needs_reopen refl asked answered is
   serves (unread fault) answer (inl (same, is)) = inl (0, None, served_nothing book (unread fault) None answer (office_state new) refl (unchanged same) (λ table damaged. (cc)) is)
@@ -113,14 +115,14 @@ module _ {S : Type 0} {g : Ghosts S} (book : List Entry) (old new : Office S g) 
   left_same : (request : Request) → new ≡ old → (n : ℕ) × LeavesBehind book request n (office_state new)
   left_same request same = (0, rests_either book _ (office_state new) (subst (λ (o : Office S g). Rests (office_state o) book) (sym same) rests))
 
-  left_asked : (question : Question) (result : Result Report Ask) (b : Bool) → old.needs_reopen ≡ b → IsAsked Failed old new result → (n : ℕ) × LeavesBehind book (asks question) n (office_state new)
+  left_asked : (question : Question) (result : Result Report Ask) (b : Bool) → old.needs_reopen ≡ b → IsAsked (stop_asking result) old new → (n : ℕ) × LeavesBehind book (asks question) n (office_state new)
   left_asked question result false ready asked = (0, rests_either book _ (office_state new) (rests_kept layout_1 (λ (trees : Trees). Stands trees book) (office_state old) (office_state new) (asked.untouched ready) rests))
-  left_asked question result true doubt asked = left_same (asks question) (asked.reopen doubt).1
+  left_asked question result true doubt asked = left_same (asks question) (asked.doubt.reopen doubt).1
 
   -- what a crash leaves of the book behind a request, whatever is answered
   pub leaves : (request : Request) (P : Answer → Type 0) → AnswersIfRoom request old new P → (n : ℕ) × LeavesBehind book request n (office_state new)
-  leaves (enters commands) P (inl (said, stopped, entered, is)) = (length said, entered.run.crash book rests)
-  leaves (imports rows) P (inl (said, stopped, entered, is)) = (length said, entered.run.crash book rests)
+  leaves (enters commands) P (inl (said, stopped, run, is)) = (length said, (run.over_book book rests).crash)
+  leaves (imports rows) P (inl (said, stopped, run, is)) = (length said, (run.over_book book rests).crash)
   leaves (asks question) P (inl (result, asked, answered, kind, is)) = left_asked question result old.needs_reopen refl asked
   leaves (unread fault) P (inl (same, is)) = left_same (unread fault) same
   leaves (rejected why) P (inl (same, is)) = left_same (rejected why) same
@@ -129,17 +131,17 @@ module _ {S : Type 0} {g : Ghosts S} (book : List Entry) (old new : Office S g) 
   kept_same : new ≡ old → (commands : List Entry) × Rests (office_state new) (book_run book commands)
   kept_same same = ([], subst (λ (o : Office S g). Rests (office_state o) book) (sym same) rests)
 
-  kept_asked : (result : Result Report Ask) (b : Bool) → old.needs_reopen ≡ b → IsAsked Failed old new result → (commands : List Entry) × Rests (office_state new) (book_run book commands)
+  kept_asked : (result : Result Report Ask) (b : Bool) → old.needs_reopen ≡ b → IsAsked (stop_asking result) old new → (commands : List Entry) × Rests (office_state new) (book_run book commands)
   kept_asked result false ready asked = ([], rests_kept layout_1 (λ (trees : Trees). Stands trees book) (office_state old) (office_state new) (asked.untouched ready) rests)
-  kept_asked result true doubt asked = kept_same (asked.reopen doubt).1
+  kept_asked result true doubt asked = kept_same (asked.doubt.reopen doubt).1
 
-  kept_run : (commands : List Entry) (said : List Reply) (stopped : Option Fault) → IsReady new → IsEntered commands said stopped old new → (handed : List Entry) × Rests (office_state new) (book_run book handed)
-  kept_run commands said stopped ready entered = (take (length said) commands, entered.run.kept book rests (λ store. not_both new.needs_reopen ready (entered.stops store)))
+  kept_run : (commands : List Entry) (said : List Reply) (stopped : Option Fault) → IsReady new → IsRun commands said stopped old new → (handed : List Entry) × Rests (office_state new) (book_run book handed)
+  kept_run commands said stopped ready run = (take (length said) commands, (run.over_book book rests).kept (λ store. not_both new.needs_reopen ready (run.doubt.stopped store)))
 
   -- an office that goes on after a request rests at the book behind some commands
   pub stays : (request : Request) (P : Answer → Type 0) → IsReady new → AnswersIfRoom request old new P → (commands : List Entry) × Rests (office_state new) (book_run book commands)
-  stays (enters commands) P ready (inl (said, stopped, entered, is)) = kept_run commands said stopped ready entered
-  stays (imports rows) P ready (inl (said, stopped, entered, is)) = kept_run (good_rows rows) said stopped ready entered
+  stays (enters commands) P ready (inl (said, stopped, run, is)) = kept_run commands said stopped ready run
+  stays (imports rows) P ready (inl (said, stopped, run, is)) = kept_run (good_rows rows) said stopped ready run
   stays (asks question) P ready (inl (result, asked, answered, kind, is)) = kept_asked result old.needs_reopen refl asked
   stays (unread fault) P ready (inl (same, is)) = kept_same same
   stays (rejected why) P ready (inl (same, is)) = kept_same same

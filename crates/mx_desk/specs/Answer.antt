@@ -1,6 +1,9 @@
 -- What a request is answered: a status, and a body that is what the words of the program print.
-use Rattle.std.specs.Prelude.{ℕ, List, ◌++◌, ◌||◌, take, Bool, nat_eq, Option, Some, None, Result, Ok, Err, if◌then◌else◌}
+use Rattle.std.specs.Prelude.{◌≡◌, ℕ, List, [], ◌++◌, ◌||◌, take, Bool, nat_eq, Option, Some, None, Result, Ok, Err, if◌then◌else◌}
 use Rattle.std.specs.List.{list_any}
+use Rattle.http.specs.Response.{head_of}
+use Rattle.http.specs.declared.response.Response.{Response}
+use Rattle.http.specs.declared.version.TheConstants.Version.{HTTP_11}
 use Rattle.mx_command.specs.Act.{Entry}
 use Rattle.mx_book.specs.Run.{replies}
 use Rattle.mx_book.specs.declared.verdict.Refusal.TheVariants.{UnknownAircraft}
@@ -24,6 +27,8 @@ use Rattle.mx_answers.specs.Question.{report_lines, report_of}
 use Rattle.mx_answers.specs.declared.question.Report.{Report}
 use Rattle.mx_request.specs.Rejected.{rejection_body, rejection_status}
 use Rattle.mx_request.specs.declared.rejection.Rejection.{Rejection}
+use Rattle.mx_desk.specs.declared.fault.DeskFault.{DeskFault}
+use Rattle.mx_desk.specs.declared.fault.DeskFault.TheVariants as desk
 use Rattle.mx_desk.specs.Request.{Request, enters, imports, asks, unread, rejected}
 
 -- the status and the body
@@ -67,6 +72,11 @@ fault_answer fault = if nat_eq fault.number MEMORY then stop_answer Memory else 
 
 abbrev pub rejection_answer : Rejection → Answer
 rejection_answer why = (rejection_status why, rejection_body why)
+
+-- a response was made, of HTTP/1.1 and with no header field, since those that an answer has are written with its bytes; or memory ran out for it
+abbrev pub IsMade : {X : Type 0} → Result (Response X) DeskFault → Type 0
+IsMade (Ok r) = ((head_of r).version ≡ HTTP_11) × ((head_of r).headers ≡ [])
+IsMade (Err fault) = fault ≡ desk.Memory
 
 -- ── of a book ──
 

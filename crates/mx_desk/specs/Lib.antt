@@ -3,3 +3,4 @@ pub mod Answered
 pub mod Request
 pub mod Served
 pub mod Serving
+pub mod Taken

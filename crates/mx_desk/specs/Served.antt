@@ -1,5 +1,6 @@
 -- What becomes of a book that a request is answered by; and what an input asks for.
-use Rattle.std.specs.Prelude.{◌≡◌, ◌≢◌, ◌⊎◌, ◌+◌, ◌≤◌, ℕ, List, length, take, drop, Bool, Option, Some, None, Result, Ok, Err}
+use Rattle.std.specs.Prelude.{◌≡◌, ◌≢◌, ◌⊎◌, ◌+◌, ◌≤◌, ℕ, List, [], length, take, drop, Bool, Option, Some, None, Result, Ok, Err}
+use Rattle.std.specs.Io.KnownBytes.{Appends, Keeps}
 use Rattle.sqlite.specs.State.{State}
 use Rattle.sqlite.specs.Store.{Ghosts}
 use Rattle.mx_command.specs.Act.{Entry}
@@ -84,6 +85,10 @@ allows (unread fault) = None
 abbrev pub bytes_of : Request → Answer → List ℕ
 bytes_of request answer = response_bytes answer.0 (allows request) answer.1
 
+-- a beginning of a text was appended, and nothing behind it
+abbrev pub AppendsSome : Option (List ℕ) → Option (List ℕ) → List ℕ → Type 0
+AppendsSome old new text = (n : ℕ) × Appends old new (take n text)
+
 module _ {S : Type 0} {g : Ghosts S} where
   -- whatever book an office stood for, a crash leaves it behind some commands
   abbrev pub LeavesBook : Office S g → Office S g → Type 0
@@ -110,6 +115,24 @@ module _ {S : Type 0} {g : Ghosts S} where
 abbrev pub ServesInput : List Entry → List ℕ → State → (List ℕ → Type 0) → Type 0
 ServesInput book input new P =
     (request : Request) × (answer : Answer) × IsRead input request × Serves book request answer new × P (bytes_of request answer)
+
+-- ── a connection ──
+
+-- what a call wrote of an answer, by what it answered: all of it; a beginning, where a write failed; nothing, where it was stopped before
+abbrev pub Writes : {X : Type 0} → Result X DeskFault → Option (List ℕ) → Option (List ℕ) → List ℕ → Type 0
+Writes (Ok x) old new text = Appends old new text
+Writes (Err desk.Write) old new text = AppendsSome old new text
+Writes (Err desk.Memory) old new text = Keeps old new
+Writes (Err desk.Read) old new text = Keeps old new
+
+-- an input was not answered, and what was written before stands as it was
+pub record IsSilent {X S : Type 0} {g : Ghosts S} (input : List ℕ) (result : Result X DeskFault) (old new : Office S g) (was is : Option (List ℕ)) : Type 0 where
+  -- it has no byte, or memory ran out or a read failed before anything was asked
+  pub why : (input ≡ []) ⊎ (result ≡ Err desk.Memory) ⊎ (result ≡ Err desk.Read)
+  -- the office is as it was
+  pub unasked : new ≡ old
+  -- nothing was written
+  pub unwritten : Keeps was is
 
 -- why a request could not be read
 abbrev pub fault_of_input : InputFault → DeskFault

@@ -1,10 +1,10 @@
 //! The answer of an office to a request.
-ghost use Rattle.std.specs.Prelude.{◌≡◌, ℕ, IfOk, IfErr};
+ghost use Rattle.std.specs.Prelude.{◌≡◌, ℕ, IfOk};
 ghost use Rattle.http.specs.Response.{body_of, head_of};
-ghost use Rattle.sqlite.specs.Held.{state};
 ghost use Rattle.sqlite.specs.State.{HasCleanDisk};
-ghost use Rattle.mx_office.specs.Stands.{Rests};
+ghost use Rattle.mx_office.specs.Office.{office_state, StandsFor};
 ghost use Rattle.mx_request.specs.Routes.{asked};
+ghost use Rattle.mx_desk.specs.Answer.{IsMade};
 ghost use Rattle.mx_desk.specs.Answered.{AnswersIfRoom};
 ghost use Rattle.mx_desk.specs.Request.{asking, request_of};
 ghost use Rattle.mx_desk.specs.Served.{KeepsBook, LeavesBehind, Serves};
@@ -29,7 +29,7 @@ fn list_if_read<S: Alter>(
 ) -> Result<Response<Vec<u8>>, DeskFault>
     ensures answered { AnswersIfRoom (asking question) office.old office.new
         (λ a. IfOk result (λ r. ((head_of r).status, (body_of r).items) ≡ a)) }
-    ensures memory { IfErr result (λ fault. fault ≡ DeskFault.Memory) }
+    ensures made { IsMade result }
 {
     match question {
         Some(question) => ask_list(alloc, office, &question),
@@ -46,7 +46,7 @@ fn ask_office<S: Alter>(
 ) -> Result<Response<Vec<u8>>, DeskFault>
     ensures answered { AnswersIfRoom (request_of (asked route.now) body.now) office.old office.new
         (λ a. IfOk result (λ r. ((head_of r).status, (body_of r).items) ≡ a)) }
-    ensures memory { IfErr result (λ fault. fault ≡ DeskFault.Memory) }
+    ensures made { IsMade result }
 {
     match route {
         Route::Entries => enter_listed(alloc, office, body),
@@ -80,19 +80,19 @@ pub fn route_response<S: Alter>(
     body: &[u8],
 ) -> Result<Response<Vec<u8>>, DeskFault>
     // The answer of a book, and the book behind it.
-    ensures served { (book : _) → Rests (state S.Store office.old.conn) book
-        → HasCleanDisk (state S.Store office.new.conn) → IfOk result
+    ensures served { (book : _) → StandsFor office.old book
+        → HasCleanDisk (office_state office.new) → IfOk result
         (λ r. Serves book (request_of (asked route.now) body.now)
-        ((head_of r).status, (body_of r).items) (state S.Store office.new.conn)) }
-    ensures crash { (book : _) → Rests (state S.Store office.old.conn) book → (n : ℕ)
+        ((head_of r).status, (body_of r).items) (office_state office.new)) }
+    ensures crash { (book : _) → StandsFor office.old book → (n : ℕ)
         × LeavesBehind book (request_of (asked route.now) body.now) n
-        (state S.Store office.new.conn) }
+        (office_state office.new) }
     ensures kept { KeepsBook office.old office.new }
 
     // Whatever the tables hold.
     ensures answered { AnswersIfRoom (request_of (asked route.now) body.now) office.old office.new
         (λ a. IfOk result (λ r. ((head_of r).status, (body_of r).items) ≡ a)) }
-    ensures memory { IfErr result (λ fault. fault ≡ DeskFault.Memory) }
+    ensures made { IsMade result }
 {
     ask_office(alloc, office, route, body)
 }

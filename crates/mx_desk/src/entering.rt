@@ -1,11 +1,12 @@
 //! The answer to commands that are handed in: those of a JSON text, a maintenance programme, the sectors of a log.
-ghost use Rattle.std.specs.Prelude.{◌≡◌, IfOk, IfErr};
+ghost use Rattle.std.specs.Prelude.{◌≡◌, IfOk};
 ghost use Rattle.http.specs.Response.{body_of, head_of};
 ghost use Rattle.mx_intake.specs.Entries.{entries_of_text};
 ghost use Rattle.mx_intake.specs.Sectors.{sector_rows};
 ghost use Rattle.mx_answers.specs.Asking.{doc_of};
-ghost use Rattle.mx_desk.specs.Answer.{replies_answer, rows_answer};
-ghost use Rattle.mx_desk.specs.Answered.{AnswersIfRoom, Enters};
+ghost use Rattle.mx_desk.specs.Answer.{IsMade, replies_answer, rows_answer};
+ghost use Rattle.mx_office.specs.Calls.{Runs};
+ghost use Rattle.mx_desk.specs.Answered.{AnswersIfRoom};
 ghost use Rattle.mx_desk.specs.Request.{entering, importing, loading};
 
 use crate::fault::DeskFault;
@@ -26,7 +27,7 @@ use std::slice;
 fn replies_response(alloc: Global, outcomes: &Outcomes) -> Result<Response<Vec<u8>>, DeskFault>
     ensures answer { IfOk result (λ r. ((head_of r).status, (body_of r).items)
         ≡ replies_answer outcomes.now.replies.items outcomes.now.stopped) }
-    ensures memory { IfErr result (λ fault. fault ≡ DeskFault.Memory) }
+    ensures made { IsMade result }
 {
     let mut lines = Vec::new(alloc);
     replies_text(&mut lines, &outcomes.replies)?;
@@ -42,7 +43,7 @@ fn replies_response(alloc: Global, outcomes: &Outcomes) -> Result<Response<Vec<u
 fn rows_response(alloc: Global, report: &ImportReport) -> Result<Response<Vec<u8>>, DeskFault>
     ensures answer { IfOk result (λ r. ((head_of r).status, (body_of r).items)
         ≡ rows_answer report.now.rows.items report.now.stopped) }
-    ensures memory { IfErr result (λ fault. fault ≡ DeskFault.Memory) }
+    ensures made { IsMade result }
 {
     let mut lines = Vec::new(alloc);
     report_text(&mut lines, &report.rows)?;
@@ -56,9 +57,9 @@ fn enter_commands<S: Alter>(
     office: &mut Office<S>,
     commands: &[Command],
 ) -> Result<Response<Vec<u8>>, DeskFault>
-    ensures entered { Enters commands.now office.old office.new (λ a. IfOk result
-        (λ r. ((head_of r).status, (body_of r).items) ≡ a)) }
-    ensures memory { IfErr result (λ fault. fault ≡ DeskFault.Memory) }
+    ensures ran { Runs commands.now office.old office.new (λ said stop. IfOk result
+        (λ r. ((head_of r).status, (body_of r).items) ≡ replies_answer said stop)) }
+    ensures made { IsMade result }
 {
     let outcomes = office.run(alloc, commands);
     replies_response(alloc, &outcomes)
@@ -72,7 +73,7 @@ pub(crate) fn enter_listed<S: Alter>(
 ) -> Result<Response<Vec<u8>>, DeskFault>
     ensures answered { AnswersIfRoom (entering (entries_of_text body.now)) office.old office.new
         (λ a. IfOk result (λ r. ((head_of r).status, (body_of r).items) ≡ a)) }
-    ensures memory { IfErr result (λ fault. fault ≡ DeskFault.Memory) }
+    ensures made { IsMade result }
 {
     match commands_of_json(alloc, body) {
         Ok(commands) => enter_commands(alloc, office, &commands),
@@ -89,7 +90,7 @@ pub(crate) fn load<S: Alter>(
 ) -> Result<Response<Vec<u8>>, DeskFault>
     ensures answered { AnswersIfRoom (loading (doc_of doc.now) body.now) office.old office.new
         (λ a. IfOk result (λ r. ((head_of r).status, (body_of r).items) ≡ a)) }
-    ensures memory { IfErr result (λ fault. fault ≡ DeskFault.Memory) }
+    ensures made { IsMade result }
 {
     let Some(doc) = read_doc(doc) else {
         return rejection_response(alloc, Rejection::BadRequest);
@@ -108,7 +109,7 @@ pub(crate) fn import_log<S: Alter>(
 ) -> Result<Response<Vec<u8>>, DeskFault>
     ensures answered { AnswersIfRoom (importing (sector_rows body.now)) office.old office.new
         (λ a. IfOk result (λ r. ((head_of r).status, (body_of r).items) ≡ a)) }
-    ensures memory { IfErr result (λ fault. fault ≡ DeskFault.Memory) }
+    ensures made { IsMade result }
 {
     match import_text(alloc, office, body) {
         Ok(report) => rows_response(alloc, &report),

@@ -15,4 +15,4 @@ pub use answering::route_response;
 pub use fault::DeskFault;
 pub use mx_request::{NoRoute, Route, route};
 pub use serve::serve_one;
-pub use serving::{serve_connections, serve_on};
+pub use serving::serve_on;

@@ -1,8 +1,8 @@
 //! The answer to a question: the list of an aircraft.
-ghost use Rattle.std.specs.Prelude.{◌≡◌, Ok, Err, IfOk, IfErr};
+ghost use Rattle.std.specs.Prelude.{◌≡◌, Ok, Err, IfOk};
 ghost use Rattle.http.specs.Response.{body_of, head_of};
-ghost use Rattle.mx_desk.specs.Answer.{list_answer};
-ghost use Rattle.mx_desk.specs.Answered.{Asks};
+ghost use Rattle.mx_answers.specs.Asked.{Asks};
+ghost use Rattle.mx_desk.specs.Answer.{IsMade, list_answer};
 
 use crate::fault::DeskFault;
 use crate::respond::{response, stop_response};
@@ -18,7 +18,7 @@ use std::alloc::Global;
 fn report_response(alloc: Global, report: &Report) -> Result<Response<Vec<u8>>, DeskFault>
     ensures answer { IfOk result (λ r. ((head_of r).status, (body_of r).items)
         ≡ list_answer (Ok report.now)) }
-    ensures memory { IfErr result (λ fault. fault ≡ DeskFault.Memory) }
+    ensures made { IsMade result }
 {
     let mut body = Vec::new(alloc);
     list_text(&mut body, report)?;
@@ -29,7 +29,7 @@ fn report_response(alloc: Global, report: &Report) -> Result<Response<Vec<u8>>, 
 fn refusal_response(alloc: Global, refusal: Refusal) -> Result<Response<Vec<u8>>, DeskFault>
     ensures answer { IfOk result (λ r. ((head_of r).status, (body_of r).items)
         ≡ list_answer (Err (Ask.Refused refusal))) }
-    ensures memory { IfErr result (λ fault. fault ≡ DeskFault.Memory) }
+    ensures made { IsMade result }
 {
     let mut body = Vec::new(alloc);
     reply_text(&mut body, &Reply::Refused(refusal))?;
@@ -42,9 +42,9 @@ pub(crate) fn ask_list<S: Alter>(
     office: &mut Office<S>,
     question: &Question,
 ) -> Result<Response<Vec<u8>>, DeskFault>
-    ensures asked { Asks question.now office.old office.new (λ a. IfOk result
-        (λ r. ((head_of r).status, (body_of r).items) ≡ a)) }
-    ensures memory { IfErr result (λ fault. fault ≡ DeskFault.Memory) }
+    ensures asked { Asks question.now office.old office.new (λ answer. IfOk result
+        (λ r. ((head_of r).status, (body_of r).items) ≡ list_answer answer)) }
+    ensures made { IsMade result }
 {
     match ask(alloc, office, question) {
         Ok(report) => report_response(alloc, &report),

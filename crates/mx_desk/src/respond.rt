@@ -1,7 +1,8 @@
 //! Responses: a status and a body.
-ghost use Rattle.std.specs.Prelude.{◌≡◌, ◌++◌, OnOk, IfOk, IfErr};
+ghost use Rattle.std.specs.Prelude.{◌≡◌, [], ◌++◌, OnOk, IfOk, IfErr};
 ghost use Rattle.http.specs.Response.{body_of, head_of};
-ghost use Rattle.mx_desk.specs.Answer.{done_status, fault_answer, lines_answer, rejection_answer, stop_answer, stop_line};
+ghost use Rattle.http.specs.declared.version.TheConstants.Version.{HTTP_11};
+ghost use Rattle.mx_desk.specs.Answer.{IsMade, done_status, fault_answer, lines_answer, rejection_answer, stop_answer, stop_line};
 
 use crate::fault::DeskFault;
 use http::response::Parts;
@@ -15,6 +16,8 @@ use std::alloc::Global;
 /// A response with this status and body.
 pub(crate) fn response(alloc: Global, status: StatusCode, body: Vec<u8>) -> Response<Vec<u8>>
     ensures status { (head_of result).status ≡ status }
+    ensures version { (head_of result).version ≡ HTTP_11 }
+    ensures fields { (head_of result).headers ≡ [] }
     ensures body { body_of result ≡ body }
 {
     let mut parts = Parts::new(alloc);
@@ -53,7 +56,7 @@ pub(crate) fn lines_response(
 ) -> Result<Response<Vec<u8>>, DeskFault>
     ensures answer { IfOk result (λ r. ((head_of r).status, (body_of r).items)
         ≡ lines_answer is_refused lines.items stopped) }
-    ensures memory { IfErr result (λ fault. fault ≡ DeskFault.Memory) }
+    ensures made { IsMade result }
 {
     let Some(fault) = stopped else {
         return Ok(response(alloc, done_status(is_refused), lines));
@@ -66,7 +69,7 @@ pub(crate) fn lines_response(
 pub(crate) fn stop_response(alloc: Global, fault: Fault) -> Result<Response<Vec<u8>>, DeskFault>
     ensures answer { IfOk result (λ r. ((head_of r).status, (body_of r).items)
         ≡ stop_answer fault) }
-    ensures memory { IfErr result (λ fault. fault ≡ DeskFault.Memory) }
+    ensures made { IsMade result }
 {
     let mut body = Vec::new(alloc);
     append_stop(&mut body, fault)?;
@@ -80,7 +83,7 @@ pub(crate) fn fault_response(
 ) -> Result<Response<Vec<u8>>, DeskFault>
     ensures answer { IfOk result (λ r. ((head_of r).status, (body_of r).items)
         ≡ fault_answer fault) }
-    ensures memory { IfErr result (λ fault. fault ≡ DeskFault.Memory) }
+    ensures made { IsMade result }
 {
     if fault.number == MEMORY {
         return stop_response(alloc, Fault::Memory);
@@ -99,7 +102,7 @@ pub(crate) fn rejection_response(
 ) -> Result<Response<Vec<u8>>, DeskFault>
     ensures answer { IfOk result (λ r. ((head_of r).status, (body_of r).items)
         ≡ rejection_answer why) }
-    ensures memory { IfErr result (λ fault. fault ≡ DeskFault.Memory) }
+    ensures made { IsMade result }
 {
     let mut body = Vec::new(alloc);
     body.extend_from_slice(why.body())?;

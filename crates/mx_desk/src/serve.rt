@@ -1,16 +1,18 @@
 //! One connection: a request is read, an office answers it, and the answer is written.
-ghost use Rattle.std.specs.Prelude.{◌≡◌, ◌≢◌, ◌⊎◌, ◌++◌, ⊤, ◌↔◌, [], Some, None, Err, IfSome, OnOk, OnErr, IfOk, IfErr, IsOkAnd};
-ghost use Rattle.std.specs.Io.KnownBytes.{Appends, Keeps};
+ghost use Rattle.std.specs.Prelude.{◌≡◌, ◌≢◌, ◌⊎◌, ◌++◌, ⊤, ◌↔◌, [], Some, None, Ok, Err, IfSome, OnOk, OnErr, IfOk, IfErr, IsOkAnd};
+ghost use Rattle.std.specs.Io.KnownBytes.{Appends};
 ghost use Rattle.http.specs.Response.{body_of, head_of as parts_of};
-ghost use Rattle.sqlite.specs.Held.{state};
 ghost use Rattle.sqlite.specs.State.{HasCleanDisk};
-ghost use Rattle.mx_office.specs.Stands.{Rests};
+ghost use Rattle.mx_office.specs.Office.{office_state, StandsFor};
 ghost use Rattle.mx_request.specs.Body.{whole_body};
 ghost use Rattle.mx_request.specs.Head.{head_of};
+ghost use Rattle.mx_request.specs.Input.{TakesAtMost};
 ghost use Rattle.mx_request.specs.Rejected.{rejection_allows, rejection_body, rejection_status};
 ghost use Rattle.mx_request.specs.Response.{response_bytes};
 ghost use Rattle.mx_request.specs.Routes.{asked};
-ghost use Rattle.mx_desk.specs.Served.{AnswersBytes, AnswersHead, AnswersInput, KeepsBook, LeavesBook, ServesInput, by_body};
+ghost use Rattle.mx_desk.specs.Answer.{IsMade};
+ghost use Rattle.mx_desk.specs.Taken.{TakesBehind, TakesBody, TakesRequest, missing_of};
+ghost use Rattle.mx_desk.specs.Served.{AnswersBytes, AnswersHead, AnswersInput, AppendsSome, IsSilent, KeepsBook, LeavesBook, ServesInput, Writes, by_body};
 
 use crate::answering::route_response;
 use crate::fault::{DeskFault, of_input};
@@ -37,8 +39,7 @@ fn bytes_of(
 ) -> Result<Vec<u8>, DeskFault>
     ensures bytes { IfOk result (λ text. IsOkAnd answered (λ r. text.items
         ≡ response_bytes (parts_of r).status None (body_of r).items)) }
-    ensures memory { IfErr answered (λ fault. fault ≡ DeskFault.Memory)
-        → IfErr result (λ fault. fault ≡ DeskFault.Memory) }
+    ensures memory { IsMade answered → IfErr result (λ fault. fault ≡ DeskFault.Memory) }
 {
     match answered {
         Ok(response) => Ok(response_bytes(alloc, response.status(), None, response.body())?),
@@ -58,6 +59,8 @@ fn answer_route<S: Alter, R: Read>(
     ensures answered { (left : _) → R.remaining reader.old ≡ Some left
         → AnswersBytes (by_body (asked route.now) (whole_body length (begun.now ++ left)))
         office.old office.new (λ bytes. IfOk result (λ text. text.items ≡ bytes)) }
+    ensures takes { TakesAtMost (R.remaining reader.old) (R.remaining reader.new)
+        (missing_of (Ok (asked route.now, length)) begun.now) }
     ensures unread { result ≡ Err DeskFault.Read → office.new ≡ office.old }
     ensures written { result ≢ Err DeskFault.Write }
     ensures crash { LeavesBook office.old office.new }
@@ -84,6 +87,8 @@ fn answer_head<S: Alter, R: Read>(
     ensures stopped { (left : _) → R.remaining reader.old ≡ Some left
         → OnErr result ((office.new ≡ office.old)
         ⊎ AnswersHead head.now (begun.now ++ left) office.old office.new (λ bytes. ⊤)) }
+    ensures takes { OnOk result (TakesBody head.now begun.now (R.remaining reader.old)
+        (R.remaining reader.new)) }
     ensures unread { result ≡ Err DeskFault.Read → office.new ≡ office.old }
     ensures written { result ≢ Err DeskFault.Write }
     ensures crash { LeavesBook office.old office.new }
@@ -111,6 +116,8 @@ fn answer_bytes<S: Alter, R: Read>(
         → input ≡ bytes.now ++ rest → head_of bytes.now ≡ head_of input
         → OnErr result ((office.new ≡ office.old)
         ⊎ AnswersInput input office.old office.new (λ bytes. ⊤)) }
+    ensures takes { OnOk result (TakesBehind (head_of bytes.now) bytes.now
+        (R.remaining reader.old) (R.remaining reader.new)) }
     ensures unread { result ≡ Err DeskFault.Read → office.new ≡ office.old }
     ensures written { result ≢ Err DeskFault.Write }
     ensures crash { LeavesBook office.old office.new }
@@ -133,10 +140,12 @@ fn answer_input<S: Alter, R: Read>(
         (λ bytes. text.items ≡ bytes))) }
     ensures silent { (input : _) → R.remaining reader.old ≡ Some input → IfOk result
         (λ found. (found ≡ None) ↔ (input ≡ [])) }
+    ensures takes { (input : _) → R.remaining reader.old ≡ Some input
+        → OnOk result (TakesRequest input (R.remaining reader.new)) }
     ensures unasked { IfOk result (λ found. found ≡ None → office.new ≡ office.old) }
     ensures stopped { (input : _) → R.remaining reader.old ≡ Some input
         → OnErr result ((office.new ≡ office.old)
-        ⊎ AnswersInput input office.old office.new (λ bytes. ⊤)) }
+        ⊎ ((input ≢ []) × AnswersInput input office.old office.new (λ bytes. ⊤))) }
     ensures unread { result ≡ Err DeskFault.Read → office.new ≡ office.old }
     ensures written { result ≢ Err DeskFault.Write }
     ensures crash { LeavesBook office.old office.new }
@@ -155,43 +164,58 @@ fn answer_input<S: Alter, R: Read>(
     }
 }
 
+// Writes a text. Where a write fails or takes nothing, a beginning of the text was written, and nothing behind it.
+fn write_text<W: Write>(writer: &mut W, text: &[u8]) -> Result<(), DeskFault>
+    ensures written { OnOk result
+        (Appends (W.contents writer.old) (W.contents writer.new) text.now) }
+    ensures cut { OnErr result
+        (AppendsSome (W.contents writer.old) (W.contents writer.new) text.now) }
+{
+    let mut rest = text;
+    while !rest.is_empty() {
+        match writer.write(rest) {
+            Ok(count) if count > 0 => rest = &rest[count..],
+            _ => return Err(DeskFault::Write),
+        }
+    }
+    Ok(())
+}
+
 /// Serves one connection: reads a request, has the office answer it, and writes the answer. Of a request no more is read than
 /// its head and its body; to no byte nothing is answered. Where a read fails nothing was asked or written; where memory runs
-/// out nothing was written; where a write fails, what the commands did stands.
+/// out nothing was written; where a write fails, what the commands did stands, and a beginning of the answer was written.
 pub fn serve_one<S: Alter, R: Read, W: Write>(
     alloc: Global,
     office: &mut Office<S>,
     reader: &mut R,
     writer: &mut W,
 ) -> Result<(), DeskFault>
-    // The answer of a book to the bytes that were read, the book behind it, and what a crash leaves.
-    ensures served { (book : _) (input : _) → Rests (state S.Store office.old.conn) book
-        → HasCleanDisk (state S.Store office.new.conn) → R.remaining reader.old ≡ Some input
-        → input ≢ [] → OnOk result (ServesInput book input (state S.Store office.new.conn)
-        (Appends (W.contents writer.old) (W.contents writer.new))) }
-    ensures unwritten { (book : _) (input : _) → Rests (state S.Store office.old.conn) book
-        → HasCleanDisk (state S.Store office.new.conn) → R.remaining reader.old ≡ Some input
-        → result ≡ Err DeskFault.Write
-        → ServesInput book input (state S.Store office.new.conn) (λ bytes. ⊤) }
+    // Whatever the tables hold: what the office was asked, and what was written of its answer.
+    ensures answered { (input : _) → R.remaining reader.old ≡ Some input
+        → IsSilent input result office.old office.new (W.contents writer.old) (W.contents writer.new)
+        ⊎ ((input ≢ []) × AnswersInput input office.old office.new
+        (Writes result (W.contents writer.old) (W.contents writer.new))) }
+
+    // The answer of a book, the book behind it, and what a crash leaves.
+    ensures served { (book input : _) → StandsFor office.old book
+        → HasCleanDisk (office_state office.new) → R.remaining reader.old ≡ Some input
+        → IsSilent input result office.old office.new (W.contents writer.old) (W.contents writer.new)
+        ⊎ ((input ≢ []) × ServesInput book input (office_state office.new)
+        (Writes result (W.contents writer.old) (W.contents writer.new))) }
     ensures crash { LeavesBook office.old office.new }
     ensures kept { KeepsBook office.old office.new }
 
-    // Whatever the tables hold.
-    ensures answered { (input : _) → R.remaining reader.old ≡ Some input → input ≢ []
-        → OnOk result (AnswersInput input office.old office.new
-        (Appends (W.contents writer.old) (W.contents writer.new))) }
-    ensures stopped { (input : _) → R.remaining reader.old ≡ Some input
-        → OnErr result ((office.new ≡ office.old)
-        ⊎ AnswersInput input office.old office.new (λ bytes. ⊤)) }
-    ensures silent { R.remaining reader.old ≡ Some [] → OnOk result ((office.new ≡ office.old)
-        × Keeps (W.contents writer.old) (W.contents writer.new)) }
+    // What is taken of a reader; and what stays where it fails, or memory runs out.
+    ensures takes { (input : _) → R.remaining reader.old ≡ Some input
+        → result ≢ Err DeskFault.Memory → result ≢ Err DeskFault.Read
+        → TakesRequest input (R.remaining reader.new) }
     ensures quiet { IfErr result (λ fault. fault ≢ DeskFault.Write → writer.new ≡ writer.old) }
     ensures unread { result ≡ Err DeskFault.Read → office.new ≡ office.old }
 {
     let Some(text) = answer_input(alloc, office, reader)? else {
         return Ok(());
     };
-    if writer.write_all(&text).is_err() {
+    if write_text(writer, &text).is_err() {
         return Err(DeskFault::Write);
     }
     Ok(())

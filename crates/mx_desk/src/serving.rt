@@ -1,9 +1,8 @@
 //! An open office at a listener, one connection after the other, and what is printed of that.
 ghost use Rattle.std.specs.Prelude.{◌≡◌, ◌⊎◌, ◌++◌, false, true, IfErr, OnOk, OnErr};
 ghost use Rattle.std.specs.Io.KnownBytes.{Appends};
-ghost use Rattle.sqlite.specs.Held.{state};
 ghost use Rattle.mx_book.specs.Run.{book_run};
-ghost use Rattle.mx_office.specs.Stands.{Rests};
+ghost use Rattle.mx_office.specs.Office.{office_state, IsInDoubt, IsReady, StandsFor};
 ghost use Rattle.mx_desk.specs.Served.{KeepsBook, LeavesBook, LeavesSome};
 ghost use Rattle.mx_desk.specs.Serving.{served_line};
 
@@ -63,9 +62,9 @@ fn serve_next<S: Alter>(alloc: Global, office: &mut Office<S>, listener: &TcpLis
     }
 }
 
-/// Serves so many connections, one after the other, and appends how many they were. It ends before that, with `Store`, once
-/// the office has to be opened again; `Memory` where memory runs out for what is appended.
-pub fn serve_connections<S: Alter>(
+// Serves so many connections, one after the other, and appends how many they were. It ends before that, with `Store`, once
+// the office has to be opened again; `Memory` where memory runs out for what is appended.
+fn serve_connections<S: Alter>(
     alloc: Global,
     office: &mut Office<S>,
     listener: &TcpListener,
@@ -74,12 +73,12 @@ pub fn serve_connections<S: Alter>(
 ) -> Result<(), Fault>
     ensures served { OnOk result (out.new.items ≡ out.old.items ++ served_line count) }
     ensures stops { IfErr result (λ fault. (fault ≡ Fault.Memory)
-        ⊎ ((fault ≡ Fault.Store) × (office.new.needs_reopen ≡ true))) }
-    ensures ready { office.old.needs_reopen ≡ false
-        → OnOk result (office.new.needs_reopen ≡ false) }
+        ⊎ ((fault ≡ Fault.Store) × IsInDoubt office.new)) }
+    ensures ready { IsReady office.old
+        → OnOk result (IsReady office.new) }
     ensures kept { KeepsBook office.old office.new }
-    ensures crash { (book : _) → Rests (state S.Store office.old.conn) book → (commands : _)
-        × LeavesSome (book_run book commands) (state S.Store office.new.conn) }
+    ensures crash { (book : _) → StandsFor office.old book → (commands : _)
+        × LeavesSome (book_run book commands) (office_state office.new) }
 {
     for _ in 0..count {
         serve_next(alloc, office, listener);
@@ -128,11 +127,11 @@ pub fn serve_on<S: Alter, O: Write, E: Write>(
     ensures printed { result ≡ 0
         → Appends (O.contents out.old) (O.contents out.new) (served_line count) }
     ensures quiet { result ≡ 0 → err.new ≡ err.old }
-    ensures stopped { office.old.needs_reopen ≡ false → office.new.needs_reopen ≡ true
+    ensures stopped { IsReady office.old → IsInDoubt office.new
         → result ≡ 4 }
     ensures kept { KeepsBook office.old office.new }
-    ensures crash { (book : _) → Rests (state S.Store office.old.conn) book → (commands : _)
-        × LeavesSome (book_run book commands) (state S.Store office.new.conn) }
+    ensures crash { (book : _) → StandsFor office.old book → (commands : _)
+        × LeavesSome (book_run book commands) (office_state office.new) }
 {
     let mut text = Vec::new(rt.alloc());
     let served = serve_connections(rt.alloc(), office, listener, count, &mut text);

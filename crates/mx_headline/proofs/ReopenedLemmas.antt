@@ -1,5 +1,5 @@
 -- The headline, from what the run, the reopening and the printing answer.
-use Rattle.std.proofs.Common.{◌≡◌, ◌≢◌, ℕ, List, length, take, ◌+◌, Some, Result, Ok, Err, IfOk, subst, sym}
+use Rattle.std.proofs.Common.{ℕ, List, take, Result, Ok, Err, IfOk, subst, sym}
 use Rattle.std.proofs.Math.Logic.{∥∥₁_elim, ∥∥₁_map, ∥∥₁_prop}
 use Rattle.sqlite_disk.specs.declared.Disk as disk
 use Rattle.sqlite_store.specs.declared.store.FileStore.{FileStore}
@@ -10,16 +10,14 @@ use Rattle.sqlite.specs.Tree.{Trees}
 use Rattle.sqlite.specs.State.{State, HasCleanDisk}
 use Rattle.mx_command.specs.Act.{Entry}
 use Rattle.mx_book.specs.Accepted.{accepted, HasAcknowledged}
-use Rattle.mx_book.specs.Run.{book_run, replies}
+use Rattle.mx_book.specs.Run.{book_run}
 use Rattle.mx_book.proofs.AcceptedLemmas.{acknowledged_stays}
-use Rattle.mx_layout.specs.declared.fault.Table.{Table}
-use Rattle.mx_layout.specs.Crash.{Leaves}
 use Rattle.mx_layout.specs.Found.{IsEndOf}
-use Rattle.mx_office.specs.declared.fault.Fault.TheVariants.{Store, Damaged}
 use Rattle.mx_office.specs.declared.fault.OpenFault.{OpenFault}
 use Rattle.mx_office.specs.declared.fault.Outcomes.{Outcomes}
+use Rattle.mx_office.specs.Calls.{RunsOver}
 use Rattle.mx_office.specs.Office.{office_state, StandsFor}
-use Rattle.mx_office.specs.Stands.{IsEither, Rests, Stands}
+use Rattle.mx_office.specs.Stands.{Stands}
 use Rattle.mx_headline.specs.declared.running.Reopened.{Reopened}
 use Rattle.mx_headline.specs.declared.running.Unopened.{Unopened}
 use Rattle.mx_headline.specs.declared.running.Unopened.TheVariants.{Database, Office}
@@ -28,13 +26,9 @@ use Rattle.mx_headline.specs.Ended.{IsEnded}
 use Rattle.mx_headline.specs.Reopened.{FindsUnopened, IsUnopened, KeepsUnopened, IsKeptUnopened, IsReopened, Reopens, IsReopenedTwice, ReopensTwice}
 use Rattle.mx_headline.proofs.KeptLemmas.{rests_as, book_left, is_book_kept}
 
--- what a run answered, and what it leaves
-pub record IsRun (before commands : List Entry) (outcomes : Outcomes) (end : State) : Type 0 where
-  pub clean : HasCleanDisk end
-  pub undamaged : (table : Table) → outcomes.stopped ≢ Some (Damaged table)
-  pub answered : outcomes.replies.items ≡ replies before (take (length outcomes.replies.items) commands)
-  pub kept : outcomes.stopped ≢ Some Store → Rests end (book_run before (take (length outcomes.replies.items) commands))
-  pub crash : Leaves end (IsEither (book_run before (take (length outcomes.replies.items) commands)) (book_run before (take (length outcomes.replies.items + 1) commands)))
+-- what a run of a book answered, and what it leaves
+abbrev pub HasRun : List Entry → List Entry → Outcomes → State → Type 0
+HasRun before commands outcomes end = RunsOver before commands outcomes.replies.items outcomes.stopped end
 
 -- the book of tables that a crash leaves
 pub record IsKeptIn (before commands : List Entry) (outcomes : Outcomes) (db : Trees) : Type 0 where
@@ -42,20 +36,20 @@ pub record IsKeptIn (before commands : List Entry) (outcomes : Outcomes) (db : T
   pub kept : IsBookKept before commands outcomes book
   pub stands : Stands db book
 
-pub is_kept_in : (before commands : List Entry) (outcomes : Outcomes) (end : State) → IsRun before commands outcomes end → (db : Trees) → end.may_leave db → IsKeptIn before commands outcomes db
-is_kept_in before commands outcomes end run db left =
-    let one = book_left end before commands outcomes run.kept run.crash run.clean db left in
-    record { book = book_run before (take one.0 commands); kept = is_book_kept before commands outcomes one.0 one.1 run.answered run.undamaged; stands = one.2 }
+pub is_kept_in : (before commands : List Entry) (outcomes : Outcomes) (end : State) → HasCleanDisk end → HasRun before commands outcomes end → (db : Trees) → end.may_leave db → IsKeptIn before commands outcomes db
+is_kept_in before commands outcomes end clean run db left =
+    let one = book_left end before commands outcomes run.kept run.crash clean db left in
+    record { book = book_run before (take one.0 commands); kept = is_book_kept before commands outcomes one.0 one.1 (run.answered clean) (run.whole clean); stands = one.2 }
 
-is_kept_unopened : (before commands : List Entry) (outcomes : Outcomes) (end now : State) (fault : OpenFault) → IsRun before commands outcomes end → IsUnopened end fault now → IsKeptUnopened before commands outcomes fault now
+is_kept_unopened : (before commands : List Entry) (outcomes : Outcomes) (end now : State) (fault : OpenFault) → HasRun before commands outcomes end → IsUnopened end fault now → IsKeptUnopened before commands outcomes fault now
 is_kept_unopened before commands outcomes end now fault run left =
-    let it = is_kept_in before commands outcomes end run left.found.tables left.found.left in
+    let it = is_kept_in before commands outcomes end left.clean run left.found.tables left.found.left in
     record { book = it.book; kept = it.kept; tables = rests_as end.may_leave now it.book left.found it.stands; reason = left.reason it.book it.stands }
 
-pub keeps_unopened : {D : Type 0} {g : disk.Ghosts D} (before commands : List Entry) (outcomes : Outcomes) (end : State) → (HasCleanDisk end → IsRun before commands outcomes end)
+pub keeps_unopened : {D : Type 0} {g : disk.Ghosts D} (before commands : List Entry) (outcomes : Outcomes) (end : State) → HasRun before commands outcomes end
     → (why : Unopened (FileStore D g)) → FindsUnopened end why → KeepsUnopened before commands outcomes why
 keeps_unopened before commands outcomes end run (Database error) left = tt
-keeps_unopened before commands outcomes end run (Office conn fault) left = λ clean. ∥∥₁_map (left clean) (λ one. is_kept_unopened before commands outcomes end (file_state conn) fault (run one.clean) one)
+keeps_unopened before commands outcomes end run (Office conn fault) left = λ clean. ∥∥₁_map (left clean) (λ one. is_kept_unopened before commands outcomes end (file_state conn) fault run one)
 
 -- two runs, one after the other
 is_reopened_twice : {S : Type 0} {g : Ghosts S} (before commands more : List Entry) (tail : List ℕ) (day : ℕ) (first second : Outcomes) (again : Reopened S g) (between : List Entry)
@@ -74,10 +68,10 @@ reopens_twice before commands more tail day first second one (Err why) found nex
 
 -- ── a process that ends ──
 
-pub is_ended : {D : Type 0} {g : disk.Ghosts D} (before commands : List Entry) (outcomes : Outcomes) (conn : Held (FileStore D g)) (store : FileStore D g) → (HasCleanDisk (file_state conn) → IsRun before commands outcomes (file_state conn))
+pub is_ended : {D : Type 0} {g : disk.Ghosts D} (before commands : List Entry) (outcomes : Outcomes) (conn : Held (FileStore D g)) (store : FileStore D g) → HasRun before commands outcomes (file_state conn)
     → IsEndOf conn store → IsEnded before commands (record { outcomes = outcomes; store = store })
 is_ended before commands outcomes conn store run left = record {
   conn = conn;
   left = left;
-  books = λ clean db may. let it = is_kept_in before commands outcomes (file_state conn) (run clean) db may in (it.book, it.kept, it.stands);
+  books = λ clean db may. let it = is_kept_in before commands outcomes (file_state conn) clean run db may in (it.book, it.kept, it.stands);
 }

@@ -1,16 +1,16 @@
 //! The import of a sector log into an office.
-ghost use Rattle.std.specs.Prelude.{◌≡◌, ◌≢◌, ◌+◌, Some, None, Ok, Err, true, false, IfOk, IfErr, OnErr};
-ghost use Rattle.sqlite.specs.Held.{state};
+ghost use Rattle.std.specs.Prelude.{◌≡◌, ◌≢◌, ◌+◌, Ok, Err, IfOk, IfErr, OnErr};
 ghost use Rattle.mx_intake.specs.Input.{TakesAtMost};
 ghost use Rattle.mx_intake.specs.Sectors.{sector_rows};
 ghost use Rattle.mx_intake.specs.declared.fault.TheConstants.{MEMORY};
-ghost use Rattle.mx_import.specs.Import.{AreRowsOf, IsFaultOf, IsRun};
+ghost use Rattle.mx_import.specs.Import.{AreRowsOf, IsFaultOf};
+ghost use Rattle.mx_office.specs.Calls.{IsRun};
 ghost use Rattle.mx_import.specs.Rows.{good_rows, told};
 
 use crate::report::ImportReport;
 use crate::rows::{commands_of_rows, tell_rows};
 use mx_intake::{IntakeFault, MOST_BYTES, read_all, sectors_of_csv};
-use mx_office::{Fault, Office};
+use mx_office::Office;
 use sqlite::Alter;
 use std::alloc::Global;
 use std::io::Read;
@@ -23,26 +23,15 @@ pub fn import_text<S: Alter>(
     office: &mut Office<S>,
     bytes: &[u8],
 ) -> Result<ImportReport, IntakeFault>
-    // What the rows are told, and what becomes of the tables.
+    // What the rows are told, and what the run of the good ones did to the office.
     ensures imported { IfOk result (λ report. (rows : _) × (said : _)
         × (sector_rows bytes.now ≡ Ok rows) × (report.rows.items ≡ told rows said)
-        × IsRun (good_rows rows) said report.stopped
-        (state S.Store office.old.conn) (state S.Store office.new.conn)) }
+        × IsRun (good_rows rows) said report.stopped office.old office.new) }
 
     // A fault of the whole text: nothing was entered.
     ensures fault { IfErr result (λ f. f.number ≢ MEMORY → sector_rows bytes.now ≡ Err f) }
     ensures memory { IfErr result (λ f. f.number ≡ MEMORY → f.entry ≡ 0) }
     ensures unread { OnErr result (office.new ≡ office.old) }
-
-    // Whether the office goes on.
-    ensures reopen { office.old.needs_reopen ≡ true → IfOk result
-        (λ report. (report.stopped ≡ Some Fault.NeedsReopen) × (office.new ≡ office.old)) }
-    ensures usable { office.old.needs_reopen ≡ false
-        → IfOk result (λ report. report.stopped ≢ Some Fault.NeedsReopen) }
-    ensures goes_on { office.old.needs_reopen ≡ false → IfOk result
-        (λ report. report.stopped ≢ Some Fault.Store → office.new.needs_reopen ≡ false) }
-    ensures stopped { IfOk result
-        (λ report. report.stopped ≡ Some Fault.Store → office.new.needs_reopen ≡ true) }
 {
     let rows = sectors_of_csv(alloc, bytes)?;
     let room = Vec::with_capacity(alloc, rows.len())?;
@@ -61,27 +50,16 @@ pub fn import<S: Alter, R: Read>(
     office: &mut Office<S>,
     reader: &mut R,
 ) -> Result<ImportReport, IntakeFault>
-    // What the rows are told, and what becomes of the tables.
+    // What the rows are told, and what the run of the good ones did to the office.
     ensures imported { IfOk result (λ report. (rows : _) × (said : _)
         × AreRowsOf (R.remaining reader.old) rows × (report.rows.items ≡ told rows said)
-        × IsRun (good_rows rows) said report.stopped
-        (state S.Store office.old.conn) (state S.Store office.new.conn)) }
+        × IsRun (good_rows rows) said report.stopped office.old office.new) }
 
     // A fault of the whole text: nothing was entered.
     ensures fault { IfErr result (IsFaultOf (R.remaining reader.old)) }
     ensures unread { OnErr result (office.new ≡ office.old) }
     ensures takes { TakesAtMost (R.remaining reader.old) (R.remaining reader.new)
         (MOST_BYTES + 1) }
-
-    // Whether the office goes on.
-    ensures reopen { office.old.needs_reopen ≡ true → IfOk result
-        (λ report. (report.stopped ≡ Some Fault.NeedsReopen) × (office.new ≡ office.old)) }
-    ensures usable { office.old.needs_reopen ≡ false
-        → IfOk result (λ report. report.stopped ≢ Some Fault.NeedsReopen) }
-    ensures goes_on { office.old.needs_reopen ≡ false → IfOk result
-        (λ report. report.stopped ≢ Some Fault.Store → office.new.needs_reopen ≡ false) }
-    ensures stopped { IfOk result
-        (λ report. report.stopped ≡ Some Fault.Store → office.new.needs_reopen ≡ true) }
 {
     let bytes = read_all(alloc, reader, MOST_BYTES)?;
     import_text(alloc, office, &bytes)

@@ -1,5 +1,6 @@
 -- The records of a text, as a reader gives them one after another.
-use Rattle.std.proofs.Common.{◌≡◌, ◌≤◌, ◌<◌, ◌+◌, ℕ, zero, suc, List, [], ◌∷◌, length, Bool, true, false, Some, None, refl, sym, ap, ◌∙◌, arith}
+use Rattle.std.proofs.Common.{◌≡◌, ◌≤◌, ◌<◌, ◌+◌, ℕ, zero, suc, List, [], ◌∷◌, length, take, Bool, true, false, Some, None, refl, sym, ap, ◌∙◌, arith}
+use Rattle.std.proofs.lemmas.List.{take_all}
 use Rattle.csv.specs.Machine.{Read, ends_at_end, is_end, next_record, step}
 use Rattle.csv.specs.Reading.{AreRecords, Reached, records, records_from}
 use Rattle.csv.specs.declared.parser.Config.{Config}
@@ -80,3 +81,35 @@ reached_all cfg (suc n) s (c ∷ rest) (row ∷ rows) s2 ys h r e =
 -- the records that were read to the end of a text are all its records
 pub are_records : (cfg : Config) (xs : List ℕ) (rows : List (List (List ℕ))) → AreRecords cfg st.StartRecord xs rows → rows ≡ records cfg xs
 are_records cfg xs rows a = reached_all cfg (length xs + 1) st.StartRecord xs rows a.0 a.1 (omega arith) a.2 a.3
+
+-- the records that were read to the end of a text are its first ones, where no more are wanted
+pub are_first_records : (cfg : Config) (xs : List ℕ) (rows : List (List (List ℕ))) (wanted : ℕ) → length rows ≤ wanted → AreRecords cfg st.StartRecord xs rows
+    → rows ≡ take wanted (records cfg xs)
+are_first_records cfg xs rows wanted few a =
+    let all = are_records cfg xs rows a in
+    sym (take_all wanted rows few) ∙ ap (take wanted) all
+
+-- ── the first records ──
+
+one_behind_end : (cfg : Config) (n : ℕ) (p : Read) (rs : List (List (List ℕ))) (s2 : State) (ys : List ℕ) → p.1 ≡ st.StartRecord → p.2 ≡ []
+    → Reached cfg p.1 p.2 rs s2 ys → rs ≡ take (length rs) (records_from cfg n p.1 p.2)
+one_behind_end cfg n p rs s2 ys start empty h =
+    let none = none_reached cfg rs s2 ys (rw (start, empty) at h) in
+    rw none refl
+
+reached_first : (cfg : Config) (n : ℕ) (s : State) (xs : List ℕ) (rows : List (List (List ℕ))) (s2 : State) (ys : List ℕ) → length xs < n
+    → Reached cfg s xs rows s2 ys → rows ≡ take (length rows) (records_from cfg n s xs)
+unfolding Reached records_from
+reached_first cfg zero s xs rows s2 ys h r = absurd (omega (arith, h))
+reached_first cfg (suc n) s xs [] s2 ys h r = refl
+reached_first cfg (suc n) s [] (row ∷ rows) s2 ys h r =
+    let fresh = ends_fresh cfg s r.0 r.1 in
+    rw (r.1, r.2) (ap (λ more. r.0.0 ∷ more) (one_behind_end cfg n r.0 rows s2 ys fresh.0 fresh.1 r.3))
+reached_first cfg (suc n) s (c ∷ rest) (row ∷ rows) s2 ys h r =
+    let less = takes_a_byte cfg s c rest r.0 r.1 in
+    rw (r.1, r.2) (ap (λ more. r.0.0 ∷ more) (reached_first cfg n r.0.1 r.0.2 rows s2 ys (omega (arith, h, less)) r.3))
+
+-- the records that were read of a text are its first ones
+pub were_first : (cfg : Config) (xs : List ℕ) (rows : List (List (List ℕ))) (s2 : State) (ys : List ℕ) → Reached cfg st.StartRecord xs rows s2 ys
+    → rows ≡ take (length rows) (records cfg xs)
+were_first cfg xs rows s2 ys r = reached_first cfg (length xs + 1) st.StartRecord xs rows s2 ys (omega arith) r

@@ -11,6 +11,7 @@ use Rattle.mx_command.specs.declared.sector.Sector.{Sector}
 use Rattle.mx_intake.specs.declared.fault.IntakeFault.{IntakeFault}
 use Rattle.mx_intake.specs.declared.fault.TheConstants.{BAD_VALUE, BAD_HEADER, TOO_LONG, BAD_ROW}
 use Rattle.mx_intake.specs.declared.sector_rows.TheConstants.{MOST_ROWS}
+use Rattle.mx_intake.specs.declared.text.TheConstants.{MOST_BYTES}
 use Rattle.mx_intake.specs.Fault.{fault}
 use Rattle.mx_intake.specs.Form.{if_read, if_shaped}
 use Rattle.mx_intake.specs.Forms.{logged}
@@ -101,6 +102,8 @@ abbrev pub rows_under_header : List (List (List ℕ)) → Result (List (Result E
 rows_under_header [] = Err (fault BAD_HEADER 0)
 rows_under_header (first ∷ rows) = if is_header first then rows_if_few rows else Err (fault BAD_HEADER 0)
 
--- what the rows of a text give, or the fault of the whole text
+-- what the rows of a text give, or the fault of the whole text: it has at most 8,388,608 bytes
 abbrev pub sector_rows : List ℕ → Result (List (Result Entry IntakeFault)) IntakeFault
-sector_rows bytes = rows_under_header (records default_config (strip_bom bytes))
+sector_rows bytes =
+    if nat_lt MOST_BYTES (length bytes) then Err (fault TOO_LONG 0)
+    else rows_under_header (records default_config (strip_bom bytes))

@@ -1,5 +1,5 @@
 //! The records of a text of comma-separated fields.
-ghost use Rattle.std.specs.Prelude.{◌≡◌, true, IfOk, IfErr, map};
+ghost use Rattle.std.specs.Prelude.{◌≡◌, ◌<◌, true, IfOk, IfErr, map, take};
 ghost use Rattle.csv.specs.Reading.{default_config, error_kind, records, stops_reader, strip_bom};
 ghost use Rattle.csv.specs.Records.{fields_of};
 ghost use Rattle.mx_intake.specs.declared.fault.TheConstants.{MEMORY};
@@ -19,10 +19,16 @@ fn fault_of(error: &Error) -> IntakeFault
     }
 }
 
-/// All records of a text, behind a byte order mark where it begins with one. Want of memory is the only fault.
-pub(crate) fn all_records(alloc: Global, bytes: &[u8]) -> Result<Vec<ByteRecord>, IntakeFault>
+/// The first records of a text, as many as are wanted or all that it has, behind a byte order mark where it begins with
+/// one. Nothing behind them is read. Want of memory is the only fault.
+pub(crate) fn first_records(
+    alloc: Global,
+    bytes: &[u8],
+    wanted: usize,
+) -> Result<Vec<ByteRecord>, IntakeFault>
+    requires { 0 < wanted }
     ensures ok { IfOk result (λ v. map fields_of v.items
-        ≡ records default_config (strip_bom bytes.now)) }
+        ≡ take wanted (records default_config (strip_bom bytes.now))) }
     ensures memory { IfErr result (λ f. f ≡ fault MEMORY 0) }
 {
     let reader = ReaderBuilder::new()
@@ -34,6 +40,9 @@ pub(crate) fn all_records(alloc: Global, bytes: &[u8]) -> Result<Vec<ByteRecord>
         match row {
             Ok(row) => rows.push(row).map_err(AllocError::from)?,
             Err(error) => return Err(fault_of(&error)),
+        }
+        if rows.len() == wanted {
+            return Ok(rows);
         }
     }
     Ok(rows)

@@ -3,17 +3,21 @@ ghost use Rattle.std.specs.Prelude.{◌≡◌, ◌≢◌, ◌≤◌, Ok, Err, If
 ghost use Rattle.csv.specs.Records.{fields_of};
 ghost use Rattle.mx_intake.specs.declared.fault.TheConstants.{MEMORY};
 ghost use Rattle.mx_intake.specs.Fault.{fault};
-ghost use Rattle.mx_intake.specs.Sectors.{is_field, is_header, rows_from, sector_rows};
+ghost use Rattle.mx_intake.specs.Sectors.{is_field, is_header, rows_from, rows_under_header, sector_rows};
 
 use crate::fault::{BAD_HEADER, IntakeFault, TOO_LONG, of_whole};
-use crate::records::all_records;
+use crate::records::first_records;
 use crate::sector_row::{FIELDS, row_of};
+use crate::text::MOST_BYTES;
 use csv::ByteRecord;
 use mx_command::Command;
 use std::alloc::{AllocError, Global};
 
 /// The most rows of a log.
 pub const MOST_ROWS: usize = 100_000;
+
+/// The most records that are read: the header, the rows, and one more, which shows that there are too many.
+const MOST_RECORDS: usize = MOST_ROWS + 2;
 
 /// Whether a field has these bytes.
 fn is_field(row: &ByteRecord, place: usize, bytes: &[u8]) -> bool
@@ -55,23 +59,17 @@ fn rows_of(
     Ok(rows)
 }
 
-/// What each row of a log gives, in order: the command of a sector, or the fault of the row, whose entry is the number of
-/// the row, counted from 1. The log is a text of records as the library `csv` reads them, behind a byte order mark where
-/// it begins with one: fields between commas, in double quotes or not, and no blank line is a record. Its first record is
-/// `tail,page,line,off,on,cycles`, and below it are at most 100,000 rows.
-///
-/// Of a row: 68 other than six fields, which are then not read; 63 a field that can't be read, or is not UTF-8; 65 a shape
-/// that no sector has. Page, line and cycles have 1 to 6 digits. Of the whole text, which is entry 0: 66 no such header,
-/// or no record at all; 67 more rows. 60, of entry 0, is want of memory.
-pub fn sectors_of_csv(
+// What the records of a log give, the first of which is to be its header.
+fn rows_under_header(
     alloc: Global,
-    bytes: &[u8],
+    records: &[ByteRecord],
 ) -> Result<Vec<Result<Command, IntakeFault>>, IntakeFault>
-    ensures ok { IfOk result (λ rows. sector_rows bytes.now ≡ Ok rows.items) }
-    ensures err { IfErr result (λ f. f.number ≢ MEMORY → sector_rows bytes.now ≡ Err f) }
+    ensures ok { IfOk result
+        (λ rows. rows_under_header (map fields_of records.now) ≡ Ok rows.items) }
+    ensures err { IfErr result (λ f. f.number ≢ MEMORY
+        → rows_under_header (map fields_of records.now) ≡ Err f) }
     ensures memory { IfErr result (λ f. f.number ≡ MEMORY → f.entry ≡ 0) }
 {
-    let records = all_records(alloc, bytes)?;
     let Some((header, rows)) = records.split_first() else {
         return Err(of_whole(BAD_HEADER));
     };
@@ -82,4 +80,28 @@ pub fn sectors_of_csv(
         return Err(of_whole(TOO_LONG));
     }
     rows_of(alloc, rows)
+}
+
+/// What each row of a log gives, in order: the command of a sector, or the fault of the row, whose entry is the number of
+/// the row, counted from 1. The log is a text of records as the library `csv` reads them, behind a byte order mark where
+/// it begins with one: fields between commas, in double quotes or not, and no blank line is a record. Its first record is
+/// `tail,page,line,off,on,cycles`, and below it are at most 100,000 rows.
+///
+/// Of a row: 68 other than six fields, which are then not read; 63 a field that can't be read, or is not UTF-8; 65 a shape
+/// that no sector has. Page, line and cycles have 1 to 6 digits. Of the whole text, which is entry 0: 67 more than
+/// 8,388,608 bytes, whatever else is wrong with them; 66 no such header, or no record at all; 67 more rows. 60, of entry 0,
+/// is want of memory. Nothing is read behind the first row that is one too many.
+pub fn sectors_of_csv(
+    alloc: Global,
+    bytes: &[u8],
+) -> Result<Vec<Result<Command, IntakeFault>>, IntakeFault>
+    ensures ok { IfOk result (λ rows. sector_rows bytes.now ≡ Ok rows.items) }
+    ensures err { IfErr result (λ f. f.number ≢ MEMORY → sector_rows bytes.now ≡ Err f) }
+    ensures memory { IfErr result (λ f. f.number ≡ MEMORY → f.entry ≡ 0) }
+{
+    if bytes.len() > MOST_BYTES {
+        return Err(of_whole(TOO_LONG));
+    }
+    let records = first_records(alloc, bytes, MOST_RECORDS)?;
+    rows_under_header(alloc, &records)
 }

@@ -1,3 +1,4 @@
+pub mod EnteredLemmas
 pub mod QuestionLemmas
 pub mod TrialLemmas
 mod WorkedFaults

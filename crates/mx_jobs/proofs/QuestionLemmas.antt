@@ -4,9 +4,7 @@ use Rattle.mx_command.specs.Act.{Entry}
 use Rattle.mx_book.specs.declared.verdict.Refusal.{Refusal}
 use Rattle.mx_book.specs.declared.verdict.Refusal.TheVariants.{UnknownAircraft}
 use Rattle.mx_book.specs.declared.verdict.Reply.TheVariants as reply
-use Rattle.mx_office.specs.declared.fault.Ask.{Ask}
-use Rattle.mx_office.specs.declared.fault.Ask.TheVariants.{Failed, Refused}
-use Rattle.mx_office.specs.declared.fault.Fault.{Fault}
+use Rattle.mx_office.specs.declared.fault.Ask.TheVariants.{Refused}
 use Rattle.mx_office.specs.Faults.{found_or, IsAnswer}
 use Rattle.mx_reports.specs.ReplyText.{reply_line}
 use Rattle.mx_jobs.specs.Printed.{IsListAnswer, Tells, list_answer, list_ending}
@@ -41,14 +39,3 @@ pub tells_refusal : (question : Question) (book : List Entry) (refusal : Refusal
     → IfOk result (Tells question book old new)
 tells_refusal question book refusal old new (Ok e) is printed done = refused_as question book refusal old new e (report_of book question) refl is printed done
 tells_refusal question book refusal old new (Err stop) is printed done = tt
-
--- the same over whichever book has what is said of it
-pub held_refusal : (P : List Entry → Type 0) (question : Question) (book : List Entry) (refusal : Refusal) (old new : List ℕ) (result : Result Ending Stop)
-    → P book → Err (Refused refusal) ≡ found_or UnknownAircraft (report_of book question) → OnOk result (new ≡ old ++ reply_line (reply.Refused refusal)) → IfOk result (λ e. e ≡ ending.Refused)
-    → IfOk result (λ e. (b : List Entry) × P b × Tells question b old new e)
-held_refusal P question book refusal old new (Ok e) holds same printed done = (book, holds, refused_as question book refusal old new e (report_of book question) refl (inl same) printed done)
-held_refusal P question book refusal old new (Err stop) holds same printed done = tt
-
--- what was refused has not failed
-pub not_failed : (r : Result Report Ask) (why : Ask) (refusal : Refusal) (fault : Fault) → r ≡ Err why → why ≡ Refused refusal → r ≡ Err (Failed fault) → ⊥
-not_failed r why refusal fault is refused failed = (cc)

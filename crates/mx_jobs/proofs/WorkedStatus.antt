@@ -1,6 +1,6 @@
 -- Worked statuses, computed from the definitions.
 use Rattle.std.proofs.Common.{refl, ◌≡◌, [], ◌∷◌, Some, None, true, false}
-use Rattle.std.specs.Prelude.{codes, map}
+use Rattle.std.specs.Prelude.{codes, map, Ok, Err}
 use Rattle.std.specs.Fmt.{digits}
 use Rattle.mx_layout.specs.declared.fault.TableFault.TheVariants as table
 use Rattle.mx_office.specs.declared.fault.Fault.TheVariants as office
@@ -17,7 +17,7 @@ use Rattle.mx_base.specs.Texts.{day_text}
 use Rattle.mx_import.specs.declared.report.RowReply.TheVariants as row
 use Rattle.mx_jobs.specs.Imported.{import_ending}
 use Rattle.mx_reports.specs.Replies.{is_refusal}
-use Rattle.mx_jobs.specs.Status.{stop_status, ending_status, graver, run_ending}
+use Rattle.mx_jobs.specs.Status.{stop_status, ending_status, done_status, graver, run_ending}
 
 -- words that the program does not take
 bad_words : map stop_status (Words ∷ Shape ∷ []) ≡ 2 ∷ 2 ∷ []
@@ -120,3 +120,7 @@ bad_row_before_a_refused_one = refl
 
 bad_row_behind_a_refused_one : import_ending (row.Entered (reply.Refused UnknownAircraft) ∷ row.Bad (record { number = 63; entry = 2 }) ∷ row.Entered (Accepted 2) ∷ []) ≡ Bad
 bad_row_behind_a_refused_one = refl
+
+-- a word that came to its end, and words that were stopped before and behind an office
+ends_of_words : map done_status (Ok Done ∷ Ok Refused ∷ Ok Bad ∷ Err Shape ∷ Err (Office office.Store) ∷ Err MakeMemory ∷ []) ≡ 0 ∷ 1 ∷ 3 ∷ 2 ∷ 4 ∷ 5 ∷ []
+ends_of_words = refl

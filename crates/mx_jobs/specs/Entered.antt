@@ -1,15 +1,13 @@
--- What is printed of commands that are entered, and what becomes of the tables where a fault stops them.
-use Rattle.std.specs.Prelude.{◌≡◌, ◌≢◌, ℕ, ◌+◌, ◌≤◌, List, ◌++◌, take, length}
-use Rattle.sqlite.specs.State.{State}
+-- What is printed of commands that are entered.
+use Rattle.std.specs.Prelude.{◌≡◌, ℕ, List, ◌++◌, length, Option, Some, None, Result, Ok, Err}
 use Rattle.mx_command.specs.Act.{Entry}
-use Rattle.mx_book.specs.Run.{book_run, replies}
+use Rattle.mx_book.specs.Run.{replies}
 use Rattle.mx_book.specs.declared.verdict.Reply.{Reply}
-use Rattle.mx_layout.specs.Crash.{Leaves}
-use Rattle.mx_office.specs.Stands.{Rests, IsEither}
 use Rattle.mx_office.specs.declared.fault.Fault.{Fault}
-use Rattle.mx_office.specs.declared.fault.Fault.TheVariants.{Store}
 use Rattle.mx_reports.specs.Replies.{lines_of}
 use Rattle.mx_jobs.specs.declared.fault.Ending.{Ending}
+use Rattle.mx_jobs.specs.declared.fault.Stop.{Stop}
+use Rattle.mx_jobs.specs.declared.fault.Stop.TheVariants.{Office, Print}
 use Rattle.mx_jobs.specs.Status.{run_ending}
 
 -- the lines of the replies to commands over a book
@@ -30,10 +28,9 @@ pub record TellsReplies (book commands : List Entry) (old new : List ℕ) (endin
   pub text : new ≡ old ++ reply_lines book commands
   pub ending_is : ending ≡ run_ending (replies book commands)
 
--- A fault stopped a run over a book behind its first n commands: their replies were appended, and the tables stand for
--- the book after them; where the store failed, a crash leaves that book or the one with the next command.
-pub record StopsBehind (n : ℕ) (fault : Fault) (book commands : List Entry) (old new : List ℕ) (after : State) : Type 0 where
-  pub given : n ≤ length commands
-  pub text : new ≡ old ++ reply_lines book (take n commands)
-  pub kept : fault ≢ Store → Rests after (book_run book (take n commands))
-  pub crash : Leaves after (IsEither (book_run book (take n commands)) (book_run book (take (n + 1) commands)))
+-- What was appended of a run with these replies that this stopped, if anything did: a line for each reply, and the ending is theirs or tells what stopped it; nothing was appended where memory ran out for the lines.
+abbrev pub PrintsRun : List ℕ → List ℕ → Result Ending Stop → List Reply → Option Fault → Type 0
+PrintsRun old new (Ok ending) said stop = (stop ≡ None) × (new ≡ old ++ lines_of said) × (ending ≡ run_ending said)
+PrintsRun old new (Err (Office fault)) said stop = (stop ≡ Some fault) × (new ≡ old ++ lines_of said)
+PrintsRun old new (Err Print) said stop = new ≡ old
+PrintsRun old new (Err _) said stop = ⊥

@@ -1,12 +1,14 @@
 -- What is printed of a sector log that is imported, and how the word ends.
 use Rattle.std.specs.Prelude.{◌≡◌, ℕ, List, Option, Result, if◌then◌else◌}
 use Rattle.std.specs.List.{list_any}
-use Rattle.sqlite.specs.State.{State}
+use Rattle.sqlite.specs.Store.{Ghosts}
 use Rattle.mx_command.specs.Act.{Entry}
 use Rattle.mx_book.specs.declared.verdict.Reply.{Reply}
 use Rattle.mx_intake.specs.declared.fault.IntakeFault.{IntakeFault}
+use Rattle.mx_office.specs.Calls.{IsRun}
 use Rattle.mx_office.specs.declared.fault.Fault.{Fault}
-use Rattle.mx_import.specs.Import.{AreRowsOf, IsRun}
+use Rattle.mx_office.specs.declared.office.Office.{Office}
+use Rattle.mx_import.specs.Import.{AreRowsOf}
 use Rattle.mx_import.specs.Rows.{good_rows, told}
 use Rattle.mx_import.specs.Text.{row_lines}
 use Rattle.mx_import.specs.Told.{is_bad, is_refused_row}
@@ -23,7 +25,7 @@ abbrev pub AreRowLines : List ℕ → Ending → Type 0
 AreRowLines text ending = (rows : List RowReply) × (text ≡ row_lines rows) × (ending ≡ import_ending rows)
 
 -- the rows are told so: those of what a reader had left, the good ones handed in one after the other up to this fault, if any
-abbrev pub AreTold : Option (List ℕ) → Option Fault → List RowReply → State → State → Type 0
+abbrev pub AreTold : {S : Type 0} {g : Ghosts S} → Option (List ℕ) → Option Fault → List RowReply → Office S g → Office S g → Type 0
 AreTold left stopped rows before after =
     (given : List (Result Entry IntakeFault)) × (said : List Reply) × AreRowsOf left given × (rows ≡ told given said)
     × IsRun (good_rows given) said stopped before after

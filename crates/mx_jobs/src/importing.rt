@@ -1,6 +1,5 @@
 //! Importing a sector log into an open office: a line for each row.
 ghost use Rattle.std.specs.Prelude.{◌≡◌, ◌⊎◌, ◌++◌, Some, None, IfOk, IfErr};
-ghost use Rattle.sqlite.specs.Held.{state};
 ghost use Rattle.mx_import.specs.Import.{AreRowsOf, IsFaultOf};
 ghost use Rattle.mx_import.specs.Text.{row_lines};
 ghost use Rattle.mx_jobs.specs.Imported.{import_ending, AreTold};
@@ -34,6 +33,7 @@ fn print_report(out: &mut Vec<u8>, report: &ImportReport) -> Result<Ending, Stop
     ensures stopped { (fault : _) → result ≡ Err (Stop.Office fault) → (out.new.items
         ≡ out.old.items ++ row_lines report.now.rows.items)
         × (report.now.stopped ≡ Some fault) }
+    ensures unprinted { result ≡ Err Stop.Print → out.new.items ≡ out.old.items }
     ensures status { IfErr result (λ stop. stop_status stop ≡ 4) }
 {
     if report_text(out, &report.rows).is_err() {
@@ -46,7 +46,8 @@ fn print_report(out: &mut Vec<u8>, report: &ImportReport) -> Result<Ending, Stop
 }
 
 /// Enters the sectors of a log that a reader gives, each in a commit of its own, up to the first fault of the office, and
-/// appends a line for each row. Where memory runs out for the lines the answer is `Print`, whatever else stopped it.
+/// appends a line for each row. Where memory runs out for the lines the answer is `Print`, whatever else stopped
+/// it, and nothing is appended.
 pub fn import_all<S: Alter, R: Read>(
     alloc: Global,
     office: &mut Office<S>,
@@ -55,16 +56,15 @@ pub fn import_all<S: Alter, R: Read>(
 ) -> Result<Ending, Stop>
     ensures ended { IfOk result (λ ending. (rows : _) × (out.new.items
         ≡ out.old.items ++ row_lines rows) × (ending ≡ import_ending rows)
-        × AreTold (R.remaining reader.old) None rows
-        (state S.Store office.old.conn) (state S.Store office.new.conn)) }
+        × AreTold (R.remaining reader.old) None rows office.old office.new) }
     ensures stopped { (fault : _) → result ≡ Err (Stop.Office fault) → (rows : _)
         × (out.new.items ≡ out.old.items ++ row_lines rows)
-        × AreTold (R.remaining reader.old) (Some fault) rows
-        (state S.Store office.old.conn) (state S.Store office.new.conn) }
+        × AreTold (R.remaining reader.old) (Some fault) rows office.old office.new }
     ensures unread { IfErr result (λ stop. stop_status stop ≡ 3
         → (out.new.items ≡ out.old.items) × (office.new ≡ office.old)) }
     ensures fault { (fault : _) → result ≡ Err (Stop.Intake fault)
         → IsFaultOf (R.remaining reader.old) fault }
+    ensures unprinted { result ≡ Err Stop.Print → out.new.items ≡ out.old.items }
     ensures lines { result ≡ Err Stop.Print → (rows : _)
         × AreRowsOf (R.remaining reader.old) rows }
     ensures status { IfErr result (λ stop. (stop_status stop ≡ 3) ⊎ (stop_status stop ≡ 4)) }

@@ -1,19 +1,17 @@
 //! The list that an open office answers with, as text.
-ghost use Rattle.std.specs.Prelude.{◌≡◌, ◌≢◌, ◌++◌, false, true, OnOk, OnErr, IfOk, IfErr};
-ghost use Rattle.sqlite.specs.Held.{state};
+ghost use Rattle.std.specs.Prelude.{◌≡◌, ◌++◌, OnOk, OnErr, IfOk, IfErr};
 ghost use Rattle.sqlite.specs.State.{HasCleanDisk};
-ghost use Rattle.mx_layout.specs.Crash.{ChangesNothing};
-ghost use Rattle.mx_kept.specs.Schemas.{HasOwn1};
-ghost use Rattle.mx_office.specs.Stands.{HoldsBook, IsReasonFor, Rests};
+ghost use Rattle.mx_office.specs.Office.{office_state, IsReady, StandsFor};
 ghost use Rattle.mx_reports.specs.ReplyText.{reply_line};
+ghost use Rattle.mx_answers.specs.Asked.{Asks};
 ghost use Rattle.mx_answers.specs.Question.{report_lines};
-ghost use Rattle.mx_jobs.specs.Printed.{IsListAnswer, Tells};
+ghost use Rattle.mx_jobs.specs.Printed.{IsListAnswer, PrintsAnswer, Tells};
 ghost use Rattle.mx_jobs.specs.Status.{Shows, stop_status};
 
 use crate::fault::{Ending, Stop};
 use mx_answers::{Question, Report, ask, list_text};
 use mx_book::{Refusal, Reply};
-use mx_office::{Ask, Fault, Office};
+use mx_office::{Ask, Office};
 use mx_reports::reply_text;
 use sqlite::Alter;
 use std::alloc::Global;
@@ -52,35 +50,17 @@ pub fn print_list<S: Alter>(
     question: &Question,
     out: &mut Vec<u8>,
 ) -> Result<Ending, Stop>
-    // What is printed: of the book that the tables stand for, of whichever book has their rows, and
-    // in any case.
-    ensures exact { (book : _) → office.old.needs_reopen ≡ false
-        → Rests (state S.Store office.old.conn) book
-        → HasCleanDisk (state S.Store office.new.conn)
+    // What became of the office, and what was appended of its answer.
+    ensures asked { Asks question.now office.old office.new
+        (PrintsAnswer out.old.items out.new.items result) }
+
+    // What is printed: of the book that the tables stand for, and in any case.
+    ensures exact { (book : _) → IsReady office.old → StandsFor office.old book
+        → HasCleanDisk (office_state office.new)
         → IfOk result (Tells question.now book out.old.items out.new.items) }
-    ensures sound { HasCleanDisk (state S.Store office.new.conn)
-        → HasOwn1 (state S.Store office.old.conn).now.schema
-        → IfOk result (λ ending. (book : _)
-        × HoldsBook (state S.Store office.old.conn).now.trees book
-        × Tells question.now book out.old.items out.new.items ending) }
     ensures shown { IfOk result (Shows (IsListAnswer question.now) out.old.items out.new.items) }
     ensures unprinted { OnErr result (out.new.items ≡ out.old.items) }
-
-    // What becomes of the tables, and why there is no answer.
-    ensures untouched { office.old.needs_reopen ≡ false
-        → ChangesNothing (state S.Store office.old.conn) (state S.Store office.new.conn) }
-    ensures damaged { HasCleanDisk (state S.Store office.new.conn)
-        → HasOwn1 (state S.Store office.old.conn).now.schema
-        → (table : _) → result ≡ Err (Stop.Office (Fault.Damaged table))
-        → IsReasonFor (state S.Store office.old.conn).now.trees table }
     ensures status { IfErr result (λ stop. stop_status stop ≡ 4) }
-
-    // Whether the office goes on.
-    ensures reopen { office.old.needs_reopen ≡ false → IfErr result
-        (λ stop. stop ≢ Stop.Office Fault.NeedsReopen) }
-    ensures goes_on { office.old.needs_reopen ≡ false → result ≢ Err (Stop.Office Fault.Store)
-        → office.new.needs_reopen ≡ false }
-    ensures stopped { result ≡ Err (Stop.Office Fault.Store) → office.new.needs_reopen ≡ true }
 {
     match ask(alloc, office, question) {
         Ok(report) => append_report(out, &report),

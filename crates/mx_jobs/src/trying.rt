@@ -1,9 +1,7 @@
 //! `try`: commands that are entered into a store in memory, and the life of an aircraft behind them.
-ghost use Rattle.std.specs.Prelude.{◌≡◌, ◌≤◌, [], false, IfOk, IfErr};
-ghost use Rattle.sqlite.specs.Held.{state};
+ghost use Rattle.std.specs.Prelude.{◌≡◌, ◌≤◌, [], IfOk, IfErr};
 ghost use Rattle.sqlite.specs.State.{HasCleanDisk};
-ghost use Rattle.sqlite.specs.Steps.{over_memory};
-ghost use Rattle.mx_office.specs.Stands.{Rests};
+ghost use Rattle.mx_office.specs.Office.{office_state, IsReady, StandsFor};
 ghost use Rattle.mx_jobs.specs.Status.{stop_status};
 ghost use Rattle.mx_jobs.specs.Tried.{TellsTrial};
 
@@ -21,8 +19,8 @@ use std::alloc::Global;
 
 // An office in memory, which rests as the book with no entry.
 fn new_office(alloc: Global) -> Result<Office<MemStore>, Stop>
-    ensures ready { IfOk result (λ office. office.needs_reopen ≡ false) }
-    ensures empty { IfOk result (λ office. Rests (state over_memory office.conn) []) }
+    ensures ready { IfOk result IsReady }
+    ensures empty { IfOk result (λ office. StandsFor office []) }
     ensures status { IfErr result (λ stop. stop_status stop ≡ 5) }
 {
     let Ok(mut conn) = Connection::open_in_memory(alloc) else {
@@ -42,9 +40,8 @@ fn try_commands<S: Alter>(
     tail: &Tail,
     out: &mut Vec<u8>,
 ) -> Result<Ending, Stop>
-    ensures exact { (book : _) → office.old.needs_reopen ≡ false
-        → Rests (state S.Store office.old.conn) book
-        → HasCleanDisk (state S.Store office.new.conn)
+    ensures exact { (book : _) → IsReady office.old → StandsFor office.old book
+        → HasCleanDisk (office_state office.new)
         → IfOk result (TellsTrial book commands.now tail.now out.old.items out.new.items) }
     ensures status { IfErr result (λ stop. stop_status stop ≡ 4) }
 {

@@ -4,3 +4,4 @@ pub mod OntoLemmas
 pub mod OrderLemmas
 pub mod SchemaLemmas
 pub mod ValueLemmas
+mod WorkedCells

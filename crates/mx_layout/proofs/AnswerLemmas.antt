@@ -12,7 +12,7 @@ use Rattle.mx_layout.specs.declared.fault.TableFault.TheVariants.{Memory, Store,
 use Rattle.mx_layout.specs.Contents.{rows_in}
 use Rattle.mx_layout.specs.Crash.{StaysInside}
 use Rattle.mx_layout.specs.Listed.{FindsNoOffice}
-use Rattle.mx_layout.specs.Point.{point_cells, point_text, FitsPoint, IsStop, IsFaultOf, IsUnread, IsNoPoint, HoldsPoint, ReadsPoint, ReadsExactly, ReadsNone, unnamed}
+use Rattle.mx_layout.specs.Point.{AnswersPoint, point_cells, point_text, FitsPoint, IsStop, IsFaultOf, IsUnread, IsNoPoint, HoldsPoint, ReadsPoint, ReadsExactly, ReadsNone, unnamed}
 use Rattle.mx_layout.specs.Tables.{office, HasOffice}
 use Rattle.mx_layout.proofs.InsideLemmas.{shown_stays}
 use Rattle.mx_layout.proofs.ListedLemmas.{absent_point}
@@ -39,6 +39,11 @@ IsPointOf {V} items old new result =
     ((v : V) × Shown point_text [] old new (items v) × MatchResult result (λ p. items v ≡ point_cells p ∷ []) (IsNoPoint (items v)))
     ⊎ (((fault : TableFault) × (result ≡ Err fault) × IsStop fault)
     ⊎ ((refused : CompileError) × (result ≡ Err NotOurs) × (FailsToQuery point_text [] old new (SqlInputError refused) ⊎ IsTooLate point_text [] old new (SqlInputError refused))))
+
+-- the same without the vector that held the rows
+pub answers_point : {V : Type 0} (items : V → List Row) (old new : State) (result : Result Point TableFault) → IsPointOf items old new result → AnswersPoint old new result
+answers_point items old new result (inl found) = inl (items found.0, found.1, found.2)
+answers_point items old new result (inr other) = inr other
 
 pub point_of_answer : {V : Type 0} (items : V → List Row) (old new : State) (answer : Result V Error) (result : Result Point TableFault)
     → IfOk answer (λ v. MatchResult result (λ p. items v ≡ point_cells p ∷ []) (IsNoPoint (items v))) → IfErr answer (λ error. IsErrAnd result (IsUnread error))
@@ -100,6 +105,15 @@ module _ {V : Type 0} (items : V → List Row) (old new : State) (result : Resul
     | inr (inl stop) ↦ rw stop.1 (inl stop.2)
     | inr (inr refused) ↦ rw refused.1 (inr refl)
   ]
+
+-- where no table is named office no point is answered
+pub unnamed_none : (read : Result Point TableFault) → IsStop (unnamed read) ⊎ (unnamed read ≡ NotOurs)
+unnamed_none (Ok p) = inr refl
+unnamed_none (Err Memory) = inl (inl refl)
+unnamed_none (Err Store) = inl (inr refl)
+unnamed_none (Err NotOurs) = inr refl
+unnamed_none (Err Exists) = inr refl
+unnamed_none (Err (Damaged table)) = inr refl
 
 -- where a call that answered would be no answer, no table being named office, the call stopped
 pub unnamed_stops : {P : Type 0} (read : Result Point TableFault) → MatchResult read (λ _. P) (λ fault. IsStop fault ⊎ P) → (P → ⊥) → IsStop (unnamed read)

@@ -11,7 +11,12 @@ use Rattle.sqlite.specs.declared.error.Error.{Error}
 use Rattle.sqlite.specs.declared.error.Error.TheVariants.{SqliteFailure, SqlInputError}
 use Rattle.sqlite.specs.declared.error.ErrorCode.TheVariants.{OutOfMemory}
 use Rattle.sqlite.specs.Effect.{Database}
+use Rattle.sqlite.specs.Store.{Ghosts}
+use Rattle.sqlite.specs.Held.{Held, state}
+use Rattle.sqlite.specs.State.{State, Shown, FailsToQuery, IsTooLate}
+use Rattle.sqlite_resolve.specs.declared.error.CompileError.{CompileError}
 use Rattle.mx_layout.specs.Contents.{rows_in}
+use Rattle.mx_layout.specs.Listed.{LacksOffice}
 use Rattle.mx_layout.specs.Reading.{HasOther, IsRowOf}
 use Rattle.mx_layout.specs.Tables.{office, HasOffice}
 
@@ -73,6 +78,19 @@ ReadsNone answer = MatchResult answer (λ _. ⊥) (λ fault. IsStop fault ⊎ (f
 -- the text that reads the point
 abbrev pub point_text : List ℕ
 point_text = codes "SELECT id, layout, step, mark FROM office ORDER BY id"
+
+-- the query of `office` was answered so, whatever the schema is, and this was made of it: it showed rows, of which the point is the only one, or they say why there is none; the call stopped; or its text was refused
+abbrev pub AnswersPoint : State → State → Result Point TableFault → Type 0
+AnswersPoint old new answer =
+    ((rows : List Row) × Shown point_text [] old new rows × MatchResult answer (λ p. rows ≡ point_cells p ∷ []) (IsNoPoint rows))
+    ⊎ (((fault : TableFault) × (answer ≡ Err fault) × IsStop fault)
+    ⊎ ((refused : CompileError) × (answer ≡ Err NotOurs) × (FailsToQuery point_text [] old new (SqlInputError refused) ⊎ IsTooLate point_text [] old new (SqlInputError refused))))
+
+-- the point of a database was read so, whatever its schema is: by its query, or no table is named `office`
+abbrev pub TellsPoint : {S : Type 0} → Ghosts S → Held S → Result Point TableFault → Type 0
+TellsPoint {S} g old answer =
+    (LacksOffice (state g old).now.schema × ReadsNone answer)
+    ⊎ ((before after : Held S) × ((state g before).now ≡ (state g old).now) × AnswersPoint (state g before) (state g after) answer)
 
 -- the text that writes the point
 abbrev pub insert_office_text : List ℕ

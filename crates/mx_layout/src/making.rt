@@ -5,7 +5,7 @@ ghost use Rattle.sqlite.specs.State.{HasCleanDisk, IsUnchanged};
 ghost use Rattle.sqlite.specs.Held.{state};
 ghost use Rattle.sqlite_catalog.specs.Listing.{IsSound};
 ghost use Rattle.sqlite_trees.specs.View.{doubt};
-ghost use Rattle.mx_layout.specs.Crash.{Leaves, RestsAs, StaysInside, IsWithin, ChangesNothing};
+ghost use Rattle.mx_layout.specs.Crash.{Leaves, RestsAs, StaysIn, IsWithin, ChangesNothing};
 ghost use Rattle.mx_layout.specs.Listed.{IsRefusal};
 ghost use Rattle.mx_layout.specs.Making.{create_texts, IsBlank, IsEmptyBook};
 ghost use Rattle.mx_layout.specs.Point.{point_cells, IsFaultOf, IsStop};
@@ -60,13 +60,13 @@ fn create_text(at: u8) -> &'static str
 /// Makes the tables of layout 1 in the open transaction, one after another.
 fn make_tables<S: Alter>(tx: &mut Transaction<'_, S>) -> Result<(), Error>
     ensures same_reference { tx.new.conn.ghost_name ≡ tx.old.conn.ghost_name }
-    ensures mode { HasCleanDisk (state S.Store tx.new.conn.now)
-        → IsTrue (state S.Store tx.old.conn.now).in_transaction
-        → OnOk result (IsTrue (state S.Store tx.new.conn.now).in_transaction) }
-    ensures makes { HasCleanDisk (state S.Store tx.new.conn.now)
-        → IsTrue (state S.Store tx.old.conn.now).in_transaction
-        → IsBlank no_schema (state S.Store tx.old.conn.now).now
-        → OnOk result (IsBlank layout_1 (state S.Store tx.new.conn.now).now) }
+    ensures mode { let new = state S.Store tx.new.conn.now in
+        HasCleanDisk new → IsTrue (state S.Store tx.old.conn.now).in_transaction
+        → OnOk result (IsTrue new.in_transaction) }
+    ensures makes { let old = state S.Store tx.old.conn.now in
+        let new = state S.Store tx.new.conn.now in
+        HasCleanDisk new → IsTrue old.in_transaction → IsBlank no_schema old.now
+        → OnOk result (IsBlank layout_1 new.now) }
     ensures within { IsWithin (state S.Store tx.old.conn.now) (state S.Store tx.new.conn.now) }
 {
     for at in 0..15 {
@@ -77,17 +77,11 @@ fn make_tables<S: Alter>(tx: &mut Transaction<'_, S>) -> Result<(), Error>
 
 /// Adds the row of the point.
 fn insert_office<S: Alter>(tx: &mut Transaction<'_, S>, point: &Point) -> Result<usize, Error>
-    ensures same_reference { tx.new.conn.ghost_name ≡ tx.old.conn.ghost_name }
-    ensures inside { HasCleanDisk (state S.Store tx.new.conn.now)
-        → IsTrue (state S.Store tx.old.conn.now).in_transaction
-        → OnOk result (StaysInside (state S.Store tx.old.conn.now) (state S.Store
-        tx.new.conn.now)) }
-    ensures adds { HasCleanDisk (state S.Store tx.new.conn.now)
-        → IsTrue (state S.Store tx.old.conn.now).in_transaction
-        → (state S.Store tx.old.conn.now).now.schema ≡ layout_1
-        → OnOk result (Gains office (point_cells point.now) (state S.Store tx.old.conn.now).now
-        (state S.Store tx.new.conn.now).now) }
-    ensures within { IsWithin (state S.Store tx.old.conn.now) (state S.Store tx.new.conn.now) }
+    ensures stays { StaysIn S.Store (OnOk result) tx.old tx.new }
+    ensures adds { let old = state S.Store tx.old.conn.now in
+        let new = state S.Store tx.new.conn.now in
+        HasCleanDisk new → IsTrue old.in_transaction → old.now.schema ≡ layout_1
+        → OnOk result (Gains office (point_cells point.now) old.now new.now) }
 {
     tx.execute(
         "INSERT INTO office (id, layout, step, mark) VALUES (1, ?1, ?2, ?3)",
@@ -98,17 +92,11 @@ fn insert_office<S: Alter>(tx: &mut Transaction<'_, S>, point: &Point) -> Result
 /// Makes the tables of the layout and the row of its point in the open transaction.
 fn fill<S: Alter>(tx: &mut Transaction<'_, S>, layout: Layout) -> Result<(), Error>
     requires { layout.0 ≡ 1 }
-    ensures same_reference { tx.new.conn.ghost_name ≡ tx.old.conn.ghost_name }
-    ensures inside { HasCleanDisk (state S.Store tx.new.conn.now)
-        → IsTrue (state S.Store tx.old.conn.now).in_transaction
-        → OnOk result (StaysInside (state S.Store tx.old.conn.now) (state S.Store
-        tx.new.conn.now)) }
-    ensures makes { HasCleanDisk (state S.Store tx.new.conn.now)
-        → IsTrue (state S.Store tx.old.conn.now).in_transaction
-        → IsBlank no_schema (state S.Store tx.old.conn.now).now
-        → OnOk result (((state S.Store tx.new.conn.now).now.schema ≡ layout_1)
-        × IsEmptyBook (state S.Store tx.new.conn.now).now.trees) }
-    ensures within { IsWithin (state S.Store tx.old.conn.now) (state S.Store tx.new.conn.now) }
+    ensures stays { StaysIn S.Store (OnOk result) tx.old tx.new }
+    ensures makes { let old = state S.Store tx.old.conn.now in
+        let new = state S.Store tx.new.conn.now in
+        HasCleanDisk new → IsTrue old.in_transaction → IsBlank no_schema old.now
+        → OnOk result ((new.now.schema ≡ layout_1) × IsEmptyBook new.now.trees) }
 {
     make_tables(tx)?;
     let point = Point {
@@ -136,9 +124,8 @@ fn ask<S: Alter>(tx: &mut Transaction<'_, S>) -> Result<(), TableFault>
     ensures same_reference { tx.new.conn.ghost_name ≡ tx.old.conn.ghost_name }
     ensures open { HasCleanDisk (state S.Store tx.new.conn.now)
         → OnOk result (IsTrue (state S.Store tx.old.conn.now).is_open) }
-    ensures unchanged { HasCleanDisk (state S.Store tx.new.conn.now)
-        → OnOk result (IsUnchanged (state S.Store tx.old.conn.now) (state S.Store
-        tx.new.conn.now)) }
+    ensures unchanged { let new = state S.Store tx.new.conn.now in
+        HasCleanDisk new → OnOk result (IsUnchanged (state S.Store tx.old.conn.now) new) }
     ensures stopped { IfErr result IsStop }
     ensures within { IsWithin (state S.Store tx.old.conn.now) (state S.Store tx.new.conn.now) }
 {
@@ -153,22 +140,17 @@ fn fill_new<S: Alter>(
     refusal: Option<TableFault>,
 ) -> Result<(), TableFault>
     requires { layout.0 ≡ 1 }
-    ensures same_reference { tx.new.conn.ghost_name ≡ tx.old.conn.ghost_name }
-    ensures inside { HasCleanDisk (state S.Store tx.new.conn.now)
-        → IsTrue (state S.Store tx.old.conn.now).in_transaction
-        → OnOk result (StaysInside (state S.Store tx.old.conn.now) (state S.Store
-        tx.new.conn.now)) }
-    ensures makes { HasCleanDisk (state S.Store tx.new.conn.now)
-        → IsTrue (state S.Store tx.old.conn.now).in_transaction
-        → IsBlank no_schema (state S.Store tx.old.conn.now).now
-        → OnOk result (((state S.Store tx.new.conn.now).now.schema ≡ layout_1)
-        × IsEmptyBook (state S.Store tx.new.conn.now).now.trees) }
-    ensures open { HasCleanDisk (state S.Store tx.new.conn.now) → MatchResult result
-        (λ _. IsTrue (state S.Store tx.old.conn.now).is_open) (λ fault. IsStop fault
-        ⊎ IsTrue (state S.Store tx.old.conn.now).is_open) }
+    ensures stays { StaysIn S.Store (OnOk result) tx.old tx.new }
+    ensures makes { let old = state S.Store tx.old.conn.now in
+        let new = state S.Store tx.new.conn.now in
+        HasCleanDisk new → IsTrue old.in_transaction → IsBlank no_schema old.now
+        → OnOk result ((new.now.schema ≡ layout_1) × IsEmptyBook new.now.trees) }
+    ensures open { let old = state S.Store tx.old.conn.now in
+        HasCleanDisk (state S.Store tx.new.conn.now)
+        → MatchResult result (λ _. IsTrue old.is_open) (λ fault. IsStop fault
+        ⊎ IsTrue old.is_open) }
     ensures unless { OnOk result (refusal ≡ None) }
     ensures faults { IfErr result (λ fault. IsStop fault ⊎ (refusal ≡ Some fault)) }
-    ensures within { IsWithin (state S.Store tx.old.conn.now) (state S.Store tx.new.conn.now) }
 {
     ask(tx)?;
     if let Some(fault) = refusal {
@@ -201,12 +183,12 @@ pub fn create<S: Alter>(conn: &mut Connection<S>, layout: Layout) -> Result<(), 
         → ChangesNothing (state S.Store conn.old) (state S.Store conn.new)) }
     ensures not_here { RestsAs (state S.Store conn.old) no_schema (IsSound no_schema)
         → HasCleanDisk (state S.Store conn.new) → IfErr result IsStop }
-    ensures taken { HasCleanDisk (state S.Store conn.new)
-        → (IsTrue (state S.Store conn.old).is_open
-        → (state S.Store conn.old).now.schema ≢ no_schema) → IsErr result }
-    ensures kept { (IsTrue (state S.Store conn.old).is_open
-        → (state S.Store conn.old).now.schema ≢ no_schema)
-        → ChangesNothing (state S.Store conn.old) (state S.Store conn.new) }
+    ensures taken { let old = state S.Store conn.old in
+        HasCleanDisk (state S.Store conn.new) → (IsTrue old.is_open
+        → old.now.schema ≢ no_schema) → IsErr result }
+    ensures kept { let old = state S.Store conn.old in
+        (IsTrue old.is_open → old.now.schema ≢ no_schema)
+        → ChangesNothing old (state S.Store conn.new) }
     ensures faults { IfErr result (λ fault. IsStop fault
         ⊎ IsRefusal (state S.Store conn.old).now.schema fault) }
 {

@@ -6,9 +6,9 @@ ghost use Rattle.sqlite.specs.Order.{column};
 ghost use Rattle.sqlite.specs.State.{HasCleanDisk, IsUnchanged};
 ghost use Rattle.sqlite.specs.Held.{state};
 ghost use Rattle.mx_layout.specs.Contents.{rows_in};
-ghost use Rattle.mx_layout.specs.Crash.{StaysInside, IsWithin, ChangesNothing};
+ghost use Rattle.mx_layout.specs.Crash.{StaysIn, ChangesNothing};
 ghost use Rattle.mx_layout.specs.Listed.{FindsNoOffice, LacksOffice};
-ghost use Rattle.mx_layout.specs.Point.{point_cells, FitsPoint, IsPoint, HoldsBelow, IsStop, IsUnread, IsNoPoint, HoldsPoint, ReadsPoint, ReadsExactly, ReadsNone, unnamed};
+ghost use Rattle.mx_layout.specs.Point.{point_cells, FitsPoint, IsPoint, HoldsBelow, IsStop, IsUnread, IsNoPoint, HoldsPoint, AnswersPoint, TellsPoint, ReadsPoint, ReadsExactly, ReadsNone, unnamed};
 ghost use Rattle.mx_layout.specs.Tables.{office, HasOffice};
 
 use crate::fault::{Table, TableFault, fault_of};
@@ -97,30 +97,25 @@ fn point_found(answer: Result<Vec<Row>, Error>) -> Result<Point, TableFault>
 /// `NotOurs` where the file's tables have no such statement, or `office` has not exactly one row;
 /// `Damaged(Table::Office)` where that row is no point; else `Memory` or `Store`.
 pub fn point_in<S: Alter>(tx: &mut Transaction<'_, S>) -> Result<Point, TableFault>
-    ensures same_reference { tx.new.conn.ghost_name ≡ tx.old.conn.ghost_name }
-    ensures inside { HasCleanDisk (state S.Store tx.new.conn.now)
-        → IsTrue (state S.Store tx.old.conn.now).in_transaction
-        → OnOk result (StaysInside (state S.Store tx.old.conn.now) (state S.Store
-        tx.new.conn.now)) }
-    ensures unchanged { HasCleanDisk (state S.Store tx.new.conn.now)
-        → HasOffice (state S.Store tx.old.conn.now).now.schema
-        → OnOk result (IsUnchanged (state S.Store tx.old.conn.now) (state S.Store
-        tx.new.conn.now)) }
-    ensures reads { HasCleanDisk (state S.Store tx.new.conn.now)
-        → (IsTrue (state S.Store tx.old.conn.now).is_open
-        → HasOffice (state S.Store tx.old.conn.now).now.schema)
-        → ReadsPoint (rows_in office (state S.Store tx.old.conn.now).now.trees) result }
-    ensures exact { (p : Point) → HasCleanDisk (state S.Store tx.new.conn.now)
-        → (IsTrue (state S.Store tx.old.conn.now).is_open
-        → HoldsPoint p (state S.Store tx.old.conn.now).now) → FitsPoint p
-        → ReadsExactly p result }
-    ensures absent { HasCleanDisk (state S.Store tx.new.conn.now)
-        → (IsTrue (state S.Store tx.old.conn.now).is_open
-        → FindsNoOffice (state S.Store tx.old.conn.now).now.schema) → ReadsNone result }
-    ensures open { HasCleanDisk (state S.Store tx.new.conn.now) → MatchResult result
-        (λ _. IsTrue (state S.Store tx.old.conn.now).is_open) (λ fault. IsStop fault
-        ⊎ IsTrue (state S.Store tx.old.conn.now).is_open) }
-    ensures within { IsWithin (state S.Store tx.old.conn.now) (state S.Store tx.new.conn.now) }
+    ensures stays { StaysIn S.Store (OnOk result) tx.old tx.new }
+    ensures unchanged { let old = state S.Store tx.old.conn.now in
+        let new = state S.Store tx.new.conn.now in
+        HasCleanDisk new → HasOffice old.now.schema → OnOk result (IsUnchanged old new) }
+    ensures answered { HasCleanDisk (state S.Store tx.new.conn.now)
+        → AnswersPoint (state S.Store tx.old.conn.now) (state S.Store tx.new.conn.now) result }
+    ensures reads { let old = state S.Store tx.old.conn.now in
+        HasCleanDisk (state S.Store tx.new.conn.now) → (IsTrue old.is_open
+        → HasOffice old.now.schema) → ReadsPoint (rows_in office old.now.trees) result }
+    ensures exact { let old = state S.Store tx.old.conn.now in
+        (p : Point) → HasCleanDisk (state S.Store tx.new.conn.now) → (IsTrue old.is_open
+        → HoldsPoint p old.now) → FitsPoint p → ReadsExactly p result }
+    ensures absent { let old = state S.Store tx.old.conn.now in
+        HasCleanDisk (state S.Store tx.new.conn.now) → (IsTrue old.is_open
+        → FindsNoOffice old.now.schema) → ReadsNone result }
+    ensures open { let old = state S.Store tx.old.conn.now in
+        HasCleanDisk (state S.Store tx.new.conn.now)
+        → MatchResult result (λ _. IsTrue old.is_open) (λ fault. IsStop fault
+        ⊎ IsTrue old.is_open) }
 {
     let answer = tx.query_all("SELECT id, layout, step, mark FROM office ORDER BY id", &[]);
     point_found(answer)
@@ -145,19 +140,20 @@ pub fn point<S: Alter>(conn: &mut Connection<S>) -> Result<Point, TableFault>
     requires { conn.old.in_transaction ≡ false }
     ensures idle { conn.new.in_transaction ≡ false }
     ensures unchanged { ChangesNothing (state S.Store conn.old) (state S.Store conn.new) }
-    ensures reads { HasCleanDisk (state S.Store conn.new)
-        → (IsTrue (state S.Store conn.old).is_open
-        → HasOffice (state S.Store conn.old).now.schema)
-        → ReadsPoint (rows_in office (state S.Store conn.old).now.trees) result }
-    ensures exact { (p : Point) → HasCleanDisk (state S.Store conn.new)
-        → (IsTrue (state S.Store conn.old).is_open → HoldsPoint p (state S.Store conn.old).now)
-        → FitsPoint p → ReadsExactly p result }
-    ensures absent { HasCleanDisk (state S.Store conn.new)
-        → (IsTrue (state S.Store conn.old).is_open
-        → LacksOffice (state S.Store conn.old).now.schema) → ReadsNone result }
-    ensures open { HasCleanDisk (state S.Store conn.new) → MatchResult result
-        (λ _. IsTrue (state S.Store conn.old).is_open) (λ fault. IsStop fault
-        ⊎ IsTrue (state S.Store conn.old).is_open) }
+    ensures told { HasCleanDisk (state S.Store conn.new) → TellsPoint S.Store conn.old result }
+    ensures reads { let old = state S.Store conn.old in
+        HasCleanDisk (state S.Store conn.new) → (IsTrue old.is_open → HasOffice old.now.schema)
+        → ReadsPoint (rows_in office old.now.trees) result }
+    ensures exact { let old = state S.Store conn.old in
+        (p : Point) → HasCleanDisk (state S.Store conn.new) → (IsTrue old.is_open
+        → HoldsPoint p old.now) → FitsPoint p → ReadsExactly p result }
+    ensures absent { let old = state S.Store conn.old in
+        HasCleanDisk (state S.Store conn.new) → (IsTrue old.is_open
+        → LacksOffice old.now.schema) → ReadsNone result }
+    ensures open { let old = state S.Store conn.old in
+        HasCleanDisk (state S.Store conn.new)
+        → MatchResult result (λ _. IsTrue old.is_open) (λ fault. IsStop fault
+        ⊎ IsTrue old.is_open) }
 {
     let named = has_office(conn);
     let mut tx = conn.transaction();

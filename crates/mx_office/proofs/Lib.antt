@@ -2,7 +2,9 @@ pub mod FamilyLemmas
 pub mod LoadLemmas
 pub mod StandsLemmas
 pub mod OfficeLemmas
+pub mod OnTopLemmas
 pub mod RunLemmas
 pub mod AnswerLemmas
+pub mod CallLemmas
 pub mod Worked
 pub mod WorkedDefects

@@ -1,5 +1,7 @@
+pub mod Calls
 pub mod Faults
 pub mod Family
 pub mod Office
+pub mod Opening
 pub mod Questions
 pub mod Stands

@@ -1,5 +1,5 @@
 -- The tables that stand for a book. No definition here names a table but that of the point.
-use Rattle.std.specs.Prelude.{⊤, ◌≡◌, ◌⊎◌, ℕ, IsTrue, List, [], ◌∷◌, ◌++◌, All, Contains, IsPermutation}
+use Rattle.std.specs.Prelude.{⊤, ◌≡◌, ◌⊎◌, ◌≤◌, ◌+◌, ℕ, IsTrue, List, [], ◌∷◌, ◌++◌, length, take, Option, Some, All, Contains, IsPermutation}
 use Rattle.std.specs.List.{AllByRecursion}
 use Rattle.sqlite.specs.Order.{Row}
 use Rattle.sqlite.specs.Schema.{Schema}
@@ -28,6 +28,8 @@ use Rattle.mx_layout.specs.Tables.{layout_1}
 use Rattle.mx_kept.specs.Family.{IsReadable}
 use Rattle.mx_kept.specs.Schemas.{HasOwn1}
 use Rattle.mx_tables.specs.Sets.{GainsRows, IsDamaged}
+use Rattle.mx_office.specs.declared.fault.Fault.{Fault}
+use Rattle.mx_office.specs.declared.fault.Fault.TheVariants.{Store}
 use Rattle.mx_office.specs.Family.{added, register_of, registers_1, AreGiven, AreRead, FitsAt}
 
 -- ── the rows of a book ──
@@ -103,6 +105,16 @@ pub record Enters (book : List Entry) (command : Entry) (old new : Database) : T
   pub gains : GainsRows (with_command book command) old new
   pub holds : HoldsBook new.trees (book ++ command ∷ [])
 
+-- no command writes the table
+abbrev pub IsUnwritten : TableName → Type 0
+IsUnwritten name = (before : List Entry) (command : Entry) → added name before command ≡ []
+
+-- commands were entered on top of tables that held this book: they hold the book behind the commands, and a table that no command writes is as it was
+pub record HasOnTop (book commands : List Entry) (old : Database) (trees : Trees) : Type 0 where
+  pub held : HoldsBook old.trees book
+  pub holds : HoldsBook trees (book_run book commands)
+  pub others : (name : TableName) → IsUnwritten name → Contains old.schema.tables (table_named name) → IsPermutation (rows_in (table_named name) old.trees) (rows_in (table_named name) trees)
+
 -- ── between two calls ──
 
 -- no transaction is open, and the tables, and each state of them that a crash may leave, stand for the book
@@ -134,6 +146,22 @@ pub record Holds (s : State) (book : List Entry) : Type 0 where
   pub has : IsTrue s.is_open → HasOwn1 s.now.schema
   pub holds : IsTrue s.is_open → HoldsBook s.now.trees book
   pub settled : IsTrue s.is_open → s.now ≡ s.committed
+
+-- what a crash may leave of the commit of one command, beside the tables from before: where those held this book, they have the command on top
+pub record MayEnter (book : List Entry) (command : Entry) (old : State) (trees : Trees) : Type 0 where
+  pub was_open : IsTrue old.is_open
+  pub on_top : HasOwn1 old.now.schema → HoldsBook old.now.trees book → HasOnTop book (command ∷ []) old.now trees
+
+-- as many commands reached the tables as have a reply, or fewer; or one more, where the store failed
+abbrev pub IsReached : List Reply → Option Fault → ℕ → Type 0
+IsReached said stop count = (count ≤ length said) ⊎ ((stop ≡ Some Store) × (count ≡ length said + 1))
+
+-- what a crash may leave of commands that were handed in, beside the tables from before: those have the first of the commands on top
+pub record MayLeave (book commands : List Entry) (said : List Reply) (stop : Option Fault) (old : State) (trees : Trees) : Type 0 where
+  pub was_open : IsTrue old.is_open
+  pub count : ℕ
+  pub reached : IsReached said stop count
+  pub on_top : HasOnTop book (take count commands) old.now trees
 
 -- the tables held a book to which these are the replies, and they hold the book after the commands
 pub record RanOver (commands : List Entry) (said : List Reply) (old new : State) : Type 0 where

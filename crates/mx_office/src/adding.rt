@@ -1,15 +1,15 @@
 //! Adding a command that was judged new, in one commit.
 ghost use Rattle.std.specs.Prelude.{◌≡◌, ◌⊎◌, ◌≤◌, [], ◌∷◌, ◌++◌, false, IsTrue, OnOk};
-ghost use Rattle.sqlite.specs.State.{HasCleanDisk};
+ghost use Rattle.sqlite.specs.State.{HasCleanDisk, Survives};
 ghost use Rattle.sqlite.specs.Held.{state};
 ghost use Rattle.sqlite_trees.specs.View.{doubt};
 ghost use Rattle.mx_book.specs.Judge.{judge};
 ghost use Rattle.mx_register.specs.Added.{AreAddedRows};
-ghost use Rattle.mx_layout.specs.Crash.{Leaves, StaysInside, IsWithin};
+ghost use Rattle.mx_layout.specs.Crash.{Leaves, StaysIn};
 ghost use Rattle.mx_layout.specs.Tables.{layout_1};
 ghost use Rattle.mx_kept.specs.Schemas.{HasOwn1};
 ghost use Rattle.mx_tables.specs.Sets.{GainsRows};
-ghost use Rattle.mx_office.specs.Stands.{Enters, FitsNext, HoldsBook, IsEntered, Stands, Rests, IsEither, with_command};
+ghost use Rattle.mx_office.specs.Stands.{Enters, FitsNext, HoldsBook, IsEntered, MayEnter, Stands, Rests, IsEither, with_command};
 
 use mx_book::{Book, Verdict};
 use mx_command::Command;
@@ -27,18 +27,13 @@ fn add_rows<S: Alter>(
     rows: RegisterRows,
 ) -> Result<(), TableFault>
     requires { AreAddedRows book.now command.now rows }
-    ensures same_reference { tx.new.conn.ghost_name ≡ tx.old.conn.ghost_name }
-    ensures inside { let old = state S.Store tx.old.conn.now in
-        let new = state S.Store tx.new.conn.now in
-        HasCleanDisk new → IsTrue old.in_transaction
-        → OnOk result (StaysInside old new) }
+    ensures stays { StaysIn S.Store (OnOk result) tx.old tx.new }
     ensures adds { let old = state S.Store tx.old.conn.now in
         let new = state S.Store tx.new.conn.now in
         HasCleanDisk new → IsTrue old.in_transaction
         → HasOwn1 old.now.schema
         → OnOk result (GainsRows (with_command book.now command.now) old.now new.now) }
     ensures fits { FitsNext book.now command.now }
-    ensures within { IsWithin (state S.Store tx.old.conn.now) (state S.Store tx.new.conn.now) }
 {
     let beside = rows.into_pairs();
     let entry = entry_row(book.len() + 1, command);
@@ -54,11 +49,7 @@ fn add_command<S: Alter>(
     rows: RegisterRows,
 ) -> Result<(), TableFault>
     requires { AreAddedRows book.now command.now rows }
-    ensures same_reference { tx.new.conn.ghost_name ≡ tx.old.conn.ghost_name }
-    ensures inside { let old = state S.Store tx.old.conn.now in
-        let new = state S.Store tx.new.conn.now in
-        HasCleanDisk new → IsTrue old.in_transaction
-        → OnOk result (StaysInside old new) }
+    ensures stays { StaysIn S.Store (OnOk result) tx.old tx.new }
     ensures enters { let old = state S.Store tx.old.conn.now in
         let new = state S.Store tx.new.conn.now in
         HasCleanDisk new → IsTrue old.in_transaction → HasOwn1 old.now.schema
@@ -70,7 +61,6 @@ fn add_command<S: Alter>(
         → Stands old.now.trees book.now → judge book.now command.now ≡ Verdict.New
         → OnOk result ((new.now.schema ≡ layout_1)
         × Stands new.now.trees (book.now ++ command.now ∷ [])) }
-    ensures within { IsWithin (state S.Store tx.old.conn.now) (state S.Store tx.new.conn.now) }
 {
     // A command has its shape.
     let _ = command.doc();
@@ -90,6 +80,9 @@ pub(crate) fn commit_command<S: Alter>(
     ensures idle { conn.new.in_transaction ≡ false }
     ensures clean { doubt (state S.Store conn.old).is_clean
         ≤ doubt (state S.Store conn.new).is_clean }
+    ensures survives { judge book.now command.now ≡ Verdict.New
+        → Survives (state S.Store conn.old) (state S.Store conn.new)
+        (MayEnter book.now command.now (state S.Store conn.old)) }
     ensures entered { HasCleanDisk (state S.Store conn.new)
         → OnOk result (IsEntered book.now command.now (state S.Store conn.old) (state S.Store
         conn.new)) }

@@ -4,13 +4,16 @@
 
 mod adding;
 mod answering;
+mod calls;
 pub mod fault;
 pub mod laws;
 mod loading;
 pub mod office;
+mod opening;
 mod questions;
 mod running;
 
 pub use fault::{Ask, Fault, OpenFault, Outcomes};
 pub use mx_book::Reply;
-pub use office::{Office, open_office};
+pub use office::Office;
+pub use opening::{NEWEST_LAYOUT, open_office};

@@ -3,7 +3,7 @@ ghost use Rattle.std.specs.Prelude.{◌≡◌, ◌≢◌, ◌⊎◌, false, IfOk
 ghost use Rattle.sqlite.specs.State.{HasCleanDisk};
 ghost use Rattle.sqlite.specs.Held.{state};
 ghost use Rattle.mx_register.specs.Registers.{AreRegistersOf};
-ghost use Rattle.mx_layout.specs.Crash.{StaysInside, IsWithin, ChangesNothing};
+ghost use Rattle.mx_layout.specs.Crash.{StaysIn, ChangesNothing};
 ghost use Rattle.mx_layout.specs.Tables.{layout_1};
 ghost use Rattle.mx_kept.specs.Schemas.{HasOwn1};
 ghost use Rattle.mx_tables.specs.Calls.{OnRead};
@@ -24,11 +24,7 @@ fn read_registers<S: Alter>(
     alloc: Global,
     tx: &mut Transaction<'_, S>,
 ) -> Result<Registers, TableFault>
-    ensures same_reference { tx.new.conn.ghost_name ≡ tx.old.conn.ghost_name }
-    ensures inside { let old = state S.Store tx.old.conn.now in
-        let new = state S.Store tx.new.conn.now in
-        HasCleanDisk new → IsTrue old.in_transaction
-        → OnRead result (StaysInside old new) }
+    ensures stays { StaysIn S.Store (OnRead result) tx.old tx.new }
     ensures exact { let old = state S.Store tx.old.conn.now in
         let new = state S.Store tx.new.conn.now in (book : _) → HasCleanDisk new
         → HasOwn1 old.now.schema → Stands old.now.trees book → MatchResult result
@@ -42,7 +38,6 @@ fn read_registers<S: Alter>(
         let new = state S.Store tx.new.conn.now in
         HasCleanDisk new → HasOwn1 old.now.schema
         → (table : _) → result ≡ Err (TableFault.Damaged table) → IsDamaged old.now.trees table }
-    ensures within { IsWithin (state S.Store tx.old.conn.now) (state S.Store tx.new.conn.now) }
 {
     let (entries, beside) = Tables::read(alloc, tx)?;
     let rows = RegisterRows::from_pairs(beside);
@@ -51,12 +46,9 @@ fn read_registers<S: Alter>(
 
 // The book that the tables hold, read inside a transaction.
 fn load<S: Alter>(alloc: Global, tx: &mut Transaction<'_, S>) -> Result<Book, Fault>
-    ensures same_reference { tx.new.conn.ghost_name ≡ tx.old.conn.ghost_name }
+    ensures stays { StaysIn S.Store
+        (λ P. result ≢ Err Fault.Memory → result ≢ Err Fault.Store → P) tx.old tx.new }
     ensures usable { result ≢ Err Fault.NeedsReopen }
-    ensures inside { let old = state S.Store tx.old.conn.now in
-        let new = state S.Store tx.new.conn.now in
-        HasCleanDisk new → IsTrue old.in_transaction
-        → result ≢ Err Fault.Memory → result ≢ Err Fault.Store → StaysInside old new }
     ensures exact { let old = state S.Store tx.old.conn.now in
         let new = state S.Store tx.new.conn.now in (book : _) → HasCleanDisk new
         → old.now.schema ≡ layout_1 → Stands old.now.trees book → MatchResult result (λ b. b ≡ book)
@@ -69,7 +61,6 @@ fn load<S: Alter>(alloc: Global, tx: &mut Transaction<'_, S>) -> Result<Book, Fa
         let new = state S.Store tx.new.conn.now in
         HasCleanDisk new → HasOwn1 old.now.schema
         → (table : _) → result ≡ Err (Fault.Damaged table) → IsReasonFor old.now.trees table }
-    ensures within { IsWithin (state S.Store tx.old.conn.now) (state S.Store tx.new.conn.now) }
 {
     let registers = match read_registers(alloc, tx) {
         Ok(registers) => registers,

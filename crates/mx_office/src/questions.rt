@@ -1,7 +1,6 @@
 //! The questions that an office is asked: lists, lives and entries. None of them changes a table.
-ghost use Rattle.std.specs.Prelude.{◌≡◌, ◌⊎◌, false, IfOk, MatchResult};
+ghost use Rattle.std.specs.Prelude.{◌≡◌, ◌⊎◌, IfOk, MatchResult};
 ghost use Rattle.sqlite.specs.State.{HasCleanDisk};
-ghost use Rattle.sqlite.specs.Held.{state};
 ghost use Rattle.mx_book.specs.Book.{entries_from};
 ghost use Rattle.mx_book.specs.DueList.{due_list};
 ghost use Rattle.mx_book.specs.Forecast.{forecast};
@@ -9,9 +8,11 @@ ghost use Rattle.mx_book.specs.Life.{life_now};
 ghost use Rattle.mx_book.specs.LimitList.{limits};
 ghost use Rattle.mx_book.specs.Lists.{life_list};
 ghost use Rattle.mx_kept.specs.Schemas.{HasOwn1};
+ghost use Rattle.mx_office.specs.Calls.{stop_asking, stop_in, IsAsked};
 ghost use Rattle.mx_office.specs.Faults.{found_or, unknown};
-ghost use Rattle.mx_office.specs.Questions.{IsAnsweredBy, IsAsked};
-ghost use Rattle.mx_office.specs.Stands.{HoldsBook, IsReasonFor, Rests};
+ghost use Rattle.mx_office.specs.Office.{office_state, IsReady, StandsFor};
+ghost use Rattle.mx_office.specs.Questions.{IsAnsweredBy};
+ghost use Rattle.mx_office.specs.Stands.{HoldsBook, IsReasonFor};
 
 use crate::fault::{Ask, Fault};
 use crate::office::Office;
@@ -35,7 +36,7 @@ impl<S: Alter> Office<S> {
     /// The due list of an aircraft on a day. `Refused(UnknownAircraft)` where no aircraft has the registration. No table
     /// changes.
     pub fn due_rows(&mut self, alloc: Global, tail: Tail, day: Day) -> Result<DueList, Ask>
-        ensures asked { IsAsked Ask.Failed self.old self.new result }
+        ensures asked { IsAsked (stop_asking result) self.old self.new }
         ensures answered { IsAnsweredBy
             (λ book. found_or Refusal.UnknownAircraft (due_list book tail day))
             self.old self.new result }
@@ -58,7 +59,7 @@ impl<S: Alter> Office<S> {
         minutes: u32,
         cycles: u32,
     ) -> Result<ForecastList, Ask>
-        ensures asked { IsAsked Ask.Failed self.old self.new result }
+        ensures asked { IsAsked (stop_asking result) self.old self.new }
         ensures answered { IsAnsweredBy
             (λ book. found_or Refusal.UnknownAircraft (forecast book tail day days minutes cycles))
             self.old self.new result }
@@ -73,7 +74,7 @@ impl<S: Alter> Office<S> {
     /// The limits of an aircraft on a day, those of its open defects. `Refused(UnknownAircraft)` where no aircraft has
     /// the registration. No table changes.
     pub fn limits_rows(&mut self, alloc: Global, tail: Tail, day: Day) -> Result<LimitList, Ask>
-        ensures asked { IsAsked Ask.Failed self.old self.new result }
+        ensures asked { IsAsked (stop_asking result) self.old self.new }
         ensures answered { IsAnsweredBy
             (λ book. found_or Refusal.UnknownAircraft (limits book tail day))
             self.old self.new result }
@@ -88,7 +89,7 @@ impl<S: Alter> Office<S> {
     /// The life list of an aircraft. `Refused(UnknownAircraft)` where no aircraft has the registration.
     /// No table changes.
     pub fn life_rows(&mut self, alloc: Global, tail: Tail) -> Result<LifeList, Ask>
-        ensures asked { IsAsked Ask.Failed self.old self.new result }
+        ensures asked { IsAsked (stop_asking result) self.old self.new }
         ensures answered { IsAnsweredBy
             (λ book. found_or Refusal.UnknownAircraft (life_list book tail))
             self.old self.new result }
@@ -103,7 +104,7 @@ impl<S: Alter> Office<S> {
     /// The life of an item with all of its sectors. `Refused(UnknownAircraft)` or `Refused(UnknownComponent)`
     /// where the item is unknown. No table changes.
     pub fn life(&mut self, alloc: Global, item: &Item) -> Result<Use, Ask>
-        ensures asked { IsAsked Ask.Failed self.old self.new result }
+        ensures asked { IsAsked (stop_asking result) self.old self.new }
         ensures answered { IsAnsweredBy
             (λ book. found_or (unknown item.now) (life_now book item.now))
             self.old self.new result }
@@ -118,19 +119,19 @@ impl<S: Alter> Office<S> {
     /// The first commands, at most `at_most`, of those whose number is at least `from`, in their order. No table
     /// changes.
     pub fn entries(&mut self, alloc: Global, from: u32, at_most: u32) -> Result<Vec<Command>, Fault>
-        ensures asked { IsAsked (λ fault. fault) self.old self.new result }
-        ensures exact { (book : _) → self.old.needs_reopen ≡ false
-            → Rests (state S.Store self.old.conn) book → HasCleanDisk (state S.Store self.new.conn)
+        ensures asked { IsAsked (stop_in result) self.old self.new }
+        ensures exact { (book : _) → IsReady self.old → StandsFor self.old book
+            → HasCleanDisk (office_state self.new)
             → MatchResult result (λ v. v.items ≡ entries_from from at_most book)
             (λ fault. (fault ≡ Fault.Memory) ⊎ (fault ≡ Fault.Store)) }
-        ensures sound { HasCleanDisk (state S.Store self.new.conn)
-            → HasOwn1 (state S.Store self.old.conn).now.schema → IfOk result (λ v. (book : _)
-            × HoldsBook (state S.Store self.old.conn).now.trees book
+        ensures sound { HasCleanDisk (office_state self.new)
+            → HasOwn1 (office_state self.old).now.schema → IfOk result (λ v. (book : _)
+            × HoldsBook (office_state self.old).now.trees book
             × (v.items ≡ entries_from from at_most book)) }
-        ensures damaged { HasCleanDisk (state S.Store self.new.conn)
-            → HasOwn1 (state S.Store self.old.conn).now.schema → (table : _)
+        ensures damaged { HasCleanDisk (office_state self.new)
+            → HasOwn1 (office_state self.old).now.schema → (table : _)
             → result ≡ Err (Fault.Damaged table)
-            → IsReasonFor (state S.Store self.old.conn).now.trees table }
+            → IsReasonFor (office_state self.old).now.trees table }
     {
         let book = self.book(alloc)?;
         Ok(book.entries(alloc, from, at_most)?)

@@ -1,11 +1,11 @@
 //! Commands one after the other, each judged against the book after those before it: the book is read once, and held.
 ghost use Rattle.std.specs.Prelude.{◌≡◌, ◌≢◌, ◌⊎◌, ◌≤◌, ◌<◌, ◌+◌, [], length, take, Some, None, false, OnOk, IfSome, vec_capacity};
-ghost use Rattle.sqlite.specs.State.{HasCleanDisk};
+ghost use Rattle.sqlite.specs.State.{HasCleanDisk, Survives};
 ghost use Rattle.sqlite.specs.Held.{state};
 ghost use Rattle.sqlite_trees.specs.View.{doubt};
 ghost use Rattle.mx_book.specs.Run.{book_after, book_run, reply, replies};
 ghost use Rattle.mx_layout.specs.Crash.{Leaves};
-ghost use Rattle.mx_office.specs.Stands.{Holds, NoneAccepted, Rests, IsEither};
+ghost use Rattle.mx_office.specs.Stands.{Holds, MayLeave, NoneAccepted, Rests, IsEither};
 
 use crate::answering::answer_by;
 use crate::fault::{Fault, Outcomes};
@@ -58,6 +58,9 @@ pub(crate) fn run_by<S: Alter>(
         ≡ replies book (take (length result.replies.items) commands.now) }
     ensures untouched { NoneAccepted result.replies.items → result.stopped ≢ Some Fault.Store
         → conn.new ≡ conn.old }
+    ensures survives { let old = state S.Store conn.old in
+        Survives old (state S.Store conn.new) (λ trees. Holds old book
+        → MayLeave book commands.now result.replies.items result.stopped old trees) }
     ensures holds { HasCleanDisk (state S.Store conn.new) → Holds (state S.Store conn.old) book
         → result.stopped ≢ Some Fault.Store → Holds (state S.Store conn.new)
         (book_run book (take (length result.replies.items) commands.now)) }

@@ -18,4 +18,4 @@ pub use life::life_text;
 pub use limits::limits_text;
 pub use replies::{has_refusal, is_refused, replies_text};
 pub use reply::reply_text;
-pub use text::{Text, append_whole};
+pub use text::{Text, append_all, append_whole};

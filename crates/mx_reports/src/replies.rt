@@ -1,9 +1,9 @@
 //! The replies to commands: whether one is a refusal, and a line for each.
-ghost use Rattle.std.specs.Prelude.{◌≡◌, ◌++◌, OnOk};
+ghost use Rattle.std.specs.Prelude.{◌≡◌, ◌++◌, OnOk, OnErr};
 ghost use Rattle.std.specs.List.{list_any};
 ghost use Rattle.mx_reports.specs.Replies.{is_refusal, lines_of};
 
-use crate::reply::reply_text;
+use crate::text::append_all;
 use mx_book::Reply;
 use std::alloc::AllocError;
 
@@ -24,12 +24,10 @@ pub fn has_refusal(replies: &[Reply]) -> bool
     replies.iter().any(|reply| is_refused(reply))
 }
 
-/// Appends a line for each reply. Where memory runs out, a part of them may have been appended.
+/// Appends a line for each reply, or leaves the items as they were where memory runs out.
 pub fn replies_text(out: &mut Vec<u8>, replies: &[Reply]) -> Result<(), AllocError>
-    ensures { OnOk result (out.new.items ≡ out.old.items ++ lines_of replies.now) }
+    ensures printed { OnOk result (out.new.items ≡ out.old.items ++ lines_of replies.now) }
+    ensures unchanged { OnErr result (out.new.items ≡ out.old.items) }
 {
-    for reply in replies {
-        reply_text(out, reply)?;
-    }
-    Ok(())
+    append_all(out, replies)
 }

@@ -26,6 +26,19 @@ pub(crate) fn append_rows<T: Text>(out: &mut Vec<u8>, rows: &[T]) -> Result<(), 
     Ok(())
 }
 
+/// Appends the texts of rows, one behind the other, or leaves the items as they were where memory runs out.
+pub fn append_all<T: Text>(out: &mut Vec<u8>, rows: &[T]) -> Result<(), AllocError>
+    ensures printed { OnOk result (out.new.items ≡ out.old.items ++ flat_map T.text rows.now) }
+    ensures unchanged { OnErr result (out.new.items ≡ out.old.items) }
+{
+    let before = out.len();
+    let done = append_rows(out, rows);
+    if done.is_err() {
+        out.truncate(before);
+    }
+    done
+}
+
 /// Appends a text whole, or leaves the items as they were where memory runs out.
 pub fn append_whole<T: Text>(out: &mut Vec<u8>, whole: &T) -> Result<(), AllocError>
     ensures printed { OnOk result (out.new.items ≡ out.old.items ++ T.text whole.now) }

@@ -1,5 +1,5 @@
 -- The body of a request, as far as it was read.
-use Rattle.std.proofs.Common.{◌≡◌, ◌≤◌, ◌<◌, ◌+◌, ⊎_elim, ℕ, List, [], ◌∷◌, ◌++◌, length, take, cond, min, Option, Some, None, refl, sym, ap, ◌∙◌, append_assoc, append-nil, arith, length-append, length-take}
+use Rattle.std.proofs.Common.{◌≡◌, ◌≤◌, ◌<◌, ◌+◌, ◌-◌, ⊎_elim, ℕ, List, [], ◌∷◌, ◌++◌, length, take, cond, min, Option, Some, None, refl, sym, ap, ◌∙◌, append_assoc, append-nil, arith, length-append, length-take}
 use Rattle.std.proofs.lemmas.Bool.{cases_lt, le-leb, lt-leb}
 use Rattle.std.proofs.lemmas.List.{take-append-le, take_all}
 use Rattle.std.proofs.Math.Seq.{take-append_seam}
@@ -85,10 +85,10 @@ missing (Some o) (Some rest) begun body size b e h left is =
     let short : length (begun ++ o) < size = omega (arith, length-append begun o, ap length e) in
     sym (ap (λ t. cond t (Some (take size (begun ++ o))) None) (lt-leb size (length (begun ++ o)) short)) ∙ ap (λ l. whole_body size (begun ++ l)) (cc)
 
--- no more was taken than the body has
-pub takes_of : (o n : Option (List ℕ)) (begun body : List ℕ) (size : ℕ) → IsBegun o n begun size body → TakesAtMost o n size
+-- no more was taken than was missing
+pub takes_of : (o n : Option (List ℕ)) (begun body : List ℕ) (size : ℕ) → IsBegun o n begun size body → TakesAtMost o n (size - length begun)
 takes_of o n begun body size b = (b.taken, b.consumed, omega (arith, sizes o n begun body size b, b.within))
 
-pub takes_at_fault : (o m n : Option (List ℕ)) (begun body : List ℕ) (size k : ℕ) → IsBegun o m begun size body → TakesAtMost m n k → length body + k ≤ size → TakesAtMost o n size
+pub takes_at_fault : (o m n : Option (List ℕ)) (begun body : List ℕ) (size k : ℕ) → IsBegun o m begun size body → TakesAtMost m n k → length body + k ≤ size → TakesAtMost o n (size - length begun)
 takes_at_fault o m n begun body size k b more h =
-    takes_on o m n b.taken k size b.consumed more (omega (arith, sizes o m begun body size b))
+    takes_on o m n b.taken k (size - length begun) b.consumed more (omega (arith, sizes o m begun body size b))

@@ -1,6 +1,6 @@
 //! The body of a request.
 ghost use Rattle.std.specs.Prelude.{◌≡◌, ◌++◌, Some, IfOk, IfSome, option_map, vec_len};
-ghost use Rattle.mx_request.specs.Body.{whole_body};
+ghost use Rattle.mx_request.specs.Body.{missing, whole_body};
 ghost use Rattle.mx_request.specs.Input.{TakesAtMost};
 
 use crate::input::{InputFault, front_of, read_some};
@@ -19,7 +19,8 @@ pub fn read_body<R: Read>(
     ensures body { (left : _) → R.remaining reader.old ≡ Some left → IfOk result (λ found.
         option_map (λ v. v.items) found ≡ whole_body length (begun.now ++ left)) }
     ensures size { IfOk result (λ found. IfSome found (λ v. vec_len v ≡ length)) }
-    ensures takes { TakesAtMost (R.remaining reader.old) (R.remaining reader.new) length }
+    ensures takes { TakesAtMost (R.remaining reader.old) (R.remaining reader.new)
+        (missing length begun.now) }
 {
     let mut body = Vec::from_slice(alloc, front_of(begun, length))?;
     while body.len() < length {

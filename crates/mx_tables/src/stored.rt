@@ -7,7 +7,7 @@ ghost use Rattle.sqlite.specs.Values.{bound};
 ghost use Rattle.sqlite.specs.State.{HasCleanDisk, IsUnchanged};
 ghost use Rattle.sqlite.specs.Held.{state};
 ghost use Rattle.mx_layout.specs.Contents.{rows_in};
-ghost use Rattle.mx_layout.specs.Crash.{StaysInside, IsWithin};
+ghost use Rattle.mx_layout.specs.Crash.{StaysIn};
 ghost use Rattle.mx_layout.specs.Point.{IsFaultOf};
 ghost use Rattle.mx_layout.specs.Reading.{AreAllBy, HasOther};
 ghost use Rattle.mx_layout.specs.Writing.{Gains};
@@ -112,10 +112,7 @@ fn read_rows<S: Alter, R: Stored + Drop>(
     table: mx_layout::Table,
     sql: &str,
 ) -> Result<Vec<R>, TableFault>
-    ensures same_reference { tx.new.conn.ghost_name ≡ tx.old.conn.ghost_name }
-    ensures inside { let old = state S.Store tx.old.conn.now in
-        let new = state S.Store tx.new.conn.now in
-        HasCleanDisk new → IsTrue old.in_transaction → OnRead result (StaysInside old new) }
+    ensures stays { StaysIn S.Store (OnRead result) tx.old tx.new }
     ensures rows { let old = state S.Store tx.old.conn.now in
         let new = state S.Store tx.new.conn.now in
         (shown : Table) (order : List Value → List Value → Ordering)
@@ -136,7 +133,6 @@ fn read_rows<S: Alter, R: Stored + Drop>(
         → ShowsAll sql.now shown order old new → HasCleanDisk new
         → result ≡ Err (TableFault.Damaged table)
         → HasOther (IsReadableAs R.kept) (rows_in shown old.now.trees) }
-    ensures within { IsWithin (state S.Store tx.old.conn.now) (state S.Store tx.new.conn.now) }
 {
     let answer = tx.query_all(sql, &[]);
     answered(alloc, table, answer)
@@ -148,17 +144,13 @@ fn insert_row<S: Alter>(
     sql: &str,
     params: &[ValueRef<'_>],
 ) -> Result<(), TableFault>
-    ensures same_reference { tx.new.conn.ghost_name ≡ tx.old.conn.ghost_name }
-    ensures inside { let old = state S.Store tx.old.conn.now in
-        let new = state S.Store tx.new.conn.now in
-        HasCleanDisk new → IsTrue old.in_transaction → OnOk result (StaysInside old new) }
+    ensures stays { StaysIn S.Store (OnOk result) tx.old tx.new }
     ensures adds { let old = state S.Store tx.old.conn.now in
         let new = state S.Store tx.new.conn.now in
         (table : Table) (row : List Value) → AddsRow sql.now table row old new
         → bound params.now ≡ row → HasCleanDisk new
         → IsTrue old.in_transaction → OnOk result (Gains table row old.now new.now) }
     ensures cause { IfErr result (λ e. (e ≡ TableFault.Memory) ⊎ (e ≡ TableFault.Store)) }
-    ensures within { IsWithin (state S.Store tx.old.conn.now) (state S.Store tx.new.conn.now) }
 {
     match tx.execute(sql, params) {
         Ok(_) => Ok(()),

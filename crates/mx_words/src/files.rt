@@ -12,7 +12,7 @@ ghost use Rattle.mx_jobs.specs.Status.{LeavesUnread, Shows, stop_status};
 use mx_answers::Question;
 use mx_base::Doc;
 use mx_command::Command;
-use mx_desk::serve_connections;
+use mx_desk::serve_on;
 use mx_intake::{IntakeFault, MOST_BYTES, READ_FAILED, commands_of_json, programme_of, read_all};
 use mx_jobs::{CREATED, Ending, Stop, enter_all, import_all, make_book, open, print_list};
 use mx_layout::TableFault;
@@ -78,7 +78,18 @@ pub(crate) enum Asked<'a> {
     Serve { port: u16, count: u32 },
 }
 
-// Serves connections at a port of the loopback.
+// What stopped the serving: the store, once the office has to be opened again, else want of memory for what is printed.
+fn stop_of<S: Alter>(office: &Office<S>) -> Stop
+    ensures { stop_status result ≡ 4 }
+{
+    if office.needs_reopen() {
+        Stop::Office(Fault::Store)
+    } else {
+        Stop::Office(Fault::Memory)
+    }
+}
+
+// Serves connections at a port of the loopback. The line of a fault is printed at the end, as that of each word.
 fn serve_at<S: Alter>(
     rt: &HostRuntime,
     office: &mut Office<S>,
@@ -94,10 +105,13 @@ fn serve_at<S: Alter>(
         rt,
         SocketAddr::V4(SocketAddrV4::new(Ipv4Addr::LOCALHOST, port)),
     ) {
-        Ok(listener) => match serve_connections(rt.alloc(), office, &listener, count, out) {
-            Ok(()) => Ok(Ending::Done),
-            Err(fault) => Err(Stop::Office(fault)),
-        },
+        Ok(listener) => {
+            let mut told = Vec::new(rt.alloc());
+            match serve_on(rt, office, &listener, count, out, &mut told) {
+                0 => Ok(Ending::Done),
+                _ => Err(stop_of(office)),
+            }
+        }
         Err(_) => Err(Stop::Net),
     }
 }

@@ -16,13 +16,13 @@ returns-in-Ok-open_office-clause-headline g c before commands left was clean =
     let now = office_state c.print_due-printed.new.office in
     let ready = c.in-Ok-open_office.ensures.ready in
     let unprinted = c.print_due-printed.ensures.untouched ready in
-    let nothing = c.in-Ok-open_office.ensures.unchanged in
+    let nothing = c.in-Ok-open_office.ensures.left.unchanged in
     let then : HasCleanDisk opened = omega (arith, unprinted.survives.clean) in
     let early : HasCleanDisk mid = omega (arith, nothing.survives.clean) in
     let sure = left.left.clean was.clean in
     ∥∥₁_map (c.in-Ok.ensures.found left.conn left.left was early) (λ found.
     let one = left.books sure found.tables found.left in
-    let rests = c.in-Ok-open_office.ensures.kept one.0 (rests_as (file_state left.conn).may_leave mid one.0 found one.2) in
+    let rests = c.in-Ok-open_office.ensures.left.kept one.0 (rests_as (file_state left.conn).may_leave mid one.0 found one.2) in
     record {
       book = one.0;
       kept = one.1;
@@ -37,10 +37,10 @@ pub returns-in-Err-open_office-clause-unopened : goal.returns-in-Err-open_office
 returns-in-Err-open_office-clause-unopened g c before commands left was clean =
     let mid = file_state c.in-Ok.conn in
     let failed = c.in-Err-open_office.ensures in
-    let nothing = failed.unchanged in
+    let nothing = failed.left.unchanged in
     let early : HasCleanDisk mid = omega (arith, nothing.survives.clean) in
     let sure = left.left.clean was.clean in
     ∥∥₁_map (c.in-Ok.ensures.found left.conn left.left was early) (λ found.
     let one = left.books sure found.tables found.left in
     let rests = rests_as (file_state left.conn).may_leave mid one.0 found one.2 in
-    record { book = one.0; kept = one.1; tables = failed.kept one.0 rests; reason = failed.whole one.0 rests clean })
+    record { book = one.0; kept = one.1; tables = failed.left.kept one.0 rests; reason = (failed.reason clean).whole one.0 rests })

@@ -1,7 +1,6 @@
 use Rattle.std.proofs.Common.{subst, sym}
-use Rattle.sqlite.specs.State.{HasCleanDisk}
 use Rattle.sqlite.specs.Files.{file_state}
-use Rattle.mx_headline.proofs.ReopenedLemmas.{IsRun, is_ended}
+use Rattle.mx_headline.proofs.ReopenedLemmas.{HasRun, is_ended}
 use Rattle.mx_headline.proofs.next_process.run_and_end.Goals as goal
 
 pub returns-clause-ended : goal.returns-clause-ended
@@ -10,6 +9,4 @@ returns-clause-ended g c before rests =
     let outcomes = c.run-outcomes.result in
     let commands = c.args.commands.now in
     is_ended before commands outcomes c.close.result c.end_process.result
-    (subst (λ h. HasCleanDisk (file_state h) → IsRun before commands outcomes (file_state h)) (sym c.close.ensures)
-    (λ sure. record { clean = sure; undamaged = ran.whole before rests sure; answered = ran.replies before rests sure; kept = ran.kept before rests; crash = ran.crash before rests }))
-    c.end_process.ensures
+    (subst (λ h. HasRun before commands outcomes (file_state h)) (sym c.close.ensures) (ran.over_book before rests)) c.end_process.ensures

@@ -12,7 +12,7 @@ pub returns-in-Ok-open_office-clause-found : goal.returns-in-Ok-open_office-clau
 returns-in-Ok-open_office-clause-found g c clean =
     let mid = file_state c.in-Ok.conn in
     let now = file_state c.in-Ok-open_office.again.conn in
-    let nothing = c.in-Ok-open_office.ensures.unchanged in
+    let nothing = c.in-Ok-open_office.ensures.left.unchanged in
     let early : HasCleanDisk mid = omega (arith, nothing.survives.clean) in
     subst (λ h. ∥ IsFound (file_state h).may_leave now ∥₁) c.close.ensures (∥∥₁_map (c.in-Ok.ensures.found early) (found_kept (file_state c.close.result).may_leave mid now nothing))
 
@@ -23,12 +23,12 @@ returns-in-Err-open_office-clause-unopened g c clean =
     let mid = file_state c.in-Ok.conn in
     let fault = c.in-Err-open_office.fault in
     let now = file_state c.in-Err-open_office.conn in
-    let nothing = c.in-Err-open_office.ensures.unchanged in
+    let nothing = c.in-Err-open_office.ensures.left.unchanged in
     let early : HasCleanDisk mid = omega (arith, nothing.survives.clean) in
     let sure : HasCleanDisk was = c.in-Ok.ensures.clean early in
     subst (λ h. ∥ IsUnopened (file_state h) fault now ∥₁) c.close.ensures (∥∥₁_map (c.in-Ok.ensures.found early)
     (λ found. record {
       clean = sure;
       found = found_kept was.may_leave mid now nothing found;
-      reason = λ book stands. c.in-Err-open_office.ensures.whole book (rests_as was.may_leave mid book found stands) clean;
+      reason = λ book stands. (c.in-Err-open_office.ensures.reason clean).whole book (rests_as was.may_leave mid book found stands);
     }))

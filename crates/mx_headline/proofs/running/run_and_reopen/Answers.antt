@@ -6,7 +6,7 @@ use Rattle.mx_layout.proofs.CrashLemmas.{rests_kept}
 use Rattle.mx_office.specs.Office.{office_state}
 use Rattle.mx_office.specs.Stands.{Stands}
 use Rattle.mx_headline.proofs.KeptLemmas.{rests_as}
-use Rattle.mx_headline.proofs.ReopenedLemmas.{IsRun, is_kept_in, keeps_unopened}
+use Rattle.mx_headline.proofs.ReopenedLemmas.{is_kept_in, keeps_unopened}
 use Rattle.mx_headline.proofs.running.run_and_reopen.Goals as goal
 
 pub returns-in-Ok-clause-clean : goal.returns-in-Ok-clause-clean
@@ -14,7 +14,7 @@ returns-in-Ok-clause-clean g c clean =
     let nothing = c.print_due-printed.ensures.untouched c.in-Ok.ensures.ready in
     let end = office_state c.run-outcomes.new.self in
     let sure : HasCleanDisk end = c.in-Ok.ensures.clean (omega (arith, nothing.survives.clean)) in
-    omega (arith, c.run-outcomes.ensures.clean)
+    omega (arith, c.run-outcomes.ensures.doubt.clean)
 
 pub returns-in-Ok-clause-goes_on : goal.returns-in-Ok-clause-goes_on
 returns-in-Ok-clause-goes_on g c = record { ready = c.print_due-printed.ensures.goes_on c.in-Ok.ensures.ready; stopped = c.print_due-printed.ensures.stopped }
@@ -31,9 +31,8 @@ returns-in-Ok-clause-headline g c before rests clean =
     let nothing = c.print_due-printed.ensures.untouched ready in
     let early : HasCleanDisk mid = omega (arith, nothing.survives.clean) in
     let sure : HasCleanDisk end = c.in-Ok.ensures.clean early in
-    let run : IsRun before commands outcomes end = record { clean = sure; undamaged = ran.whole before rests sure; answered = ran.replies before rests sure; kept = ran.kept before rests; crash = ran.crash before rests } in
     ∥∥₁_map (c.in-Ok.ensures.found early) (λ found.
-    let it = is_kept_in before commands outcomes end run found.tables found.left in
+    let it = is_kept_in before commands outcomes end sure (ran.over_book before rests) found.tables found.left in
     let rests' = rests_as end.may_leave mid it.book found it.stands in
     record {
       book = it.book;
@@ -46,5 +45,4 @@ pub returns-in-Err-clause-unopened : goal.returns-in-Err-clause-unopened
 returns-in-Err-clause-unopened g c before rests =
     let ran = c.run-outcomes.ensures in
     let end = office_state c.run-outcomes.new.self in
-    keeps_unopened before c.args.commands.now c.run-outcomes.result end
-    (λ sure. record { clean = sure; undamaged = ran.whole before rests sure; answered = ran.replies before rests sure; kept = ran.kept before rests; crash = ran.crash before rests }) c.in-Err.why c.in-Err.ensures.unopened
+    keeps_unopened before c.args.commands.now c.run-outcomes.result end (ran.over_book before rests) c.in-Err.why c.in-Err.ensures.unopened

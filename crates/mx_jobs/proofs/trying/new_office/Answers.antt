@@ -1,6 +1,12 @@
 use Rattle.std.proofs.Common.{[]}
-use Rattle.mx_jobs.proofs.TrialLemmas.{memory_rests, made_rests}
+use Rattle.sqlite.specs.Held.{state}
+use Rattle.sqlite.specs.Steps.{over_memory}
+use Rattle.mx_office.specs.Office.{office_state, StandsFor}
+use Rattle.mx_office.specs.Opening.{LeavesAll}
+use Rattle.mx_jobs.proofs.TrialLemmas.{if_ok_then, memory_rests, made_rests}
 use Rattle.mx_jobs.proofs.trying.new_office.Goals as goal
 
 pub returns-clause-empty : goal.returns-clause-empty
-returns-clause-empty c = c.open.ensures.kept [] (made_rests c.create.new.conn (c.in_default-create.ensures.made (memory_rests c.in-Ok.conn c.in-Ok.ensures.empty)))
+returns-clause-empty c =
+    let made = made_rests c.create.new.conn (c.in_default-create.ensures.made (memory_rests c.in-Ok.conn c.in-Ok.ensures.empty)) in
+    if_ok_then c.open.result (λ office. LeavesAll (state over_memory c.create.new.conn) (office_state office)) (λ office. StandsFor office []) (λ office left. left.kept [] made) c.open.ensures.left

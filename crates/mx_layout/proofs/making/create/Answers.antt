@@ -16,7 +16,7 @@ returns-in-Ok-clause-made g c bare =
     let same : end ≡ c.conn-2-1.given.0 = search rules in
     subst (λ h. RestsAs (state g.S.Store h) layout_1 IsEmptyBook) same
     (commits_ok g.S.Store no_schema layout_1 (IsSound no_schema) IsEmptyBook c.args.conn.now c.transaction-tx.result.conn.now c.fill_new.new.tx.conn.now c.transaction-tx.ensures.begun bare
-    c.fill_new.ensures.within c.in_default.ensures.inside (λ clean within schema sound. c.in_default.ensures.makes clean within (bare_blank tx.now schema sound)) end c.commit.ensures.survives
+    c.fill_new.ensures.stays.within c.in_default.ensures.stays.inside (λ clean within schema sound. c.in_default.ensures.makes clean within (bare_blank tx.now schema sound)) end c.commit.ensures.survives
     g.met.S.Store.settled (λ clean. (c.in-Ok.ensures.ok clean).1))
 
 pub returns-in-Ok-clause-crash : goal.returns-in-Ok-clause-crash
@@ -26,7 +26,7 @@ returns-in-Ok-clause-crash g c bare =
     let same : end ≡ c.conn-2-1.given.0 = search rules in
     subst (λ h. Leaves (state g.S.Store h) (λ db. IsSound no_schema db ⊎ IsEmptyBook db)) same
     (commits_either g.S.Store no_schema layout_1 (IsSound no_schema) IsEmptyBook c.args.conn.now c.transaction-tx.result.conn.now c.fill_new.new.tx.conn.now c.transaction-tx.ensures.begun bare
-    c.fill_new.ensures.within c.in_default.ensures.inside (λ clean within schema sound. c.in_default.ensures.makes clean within (bare_blank tx.now schema sound)) end c.commit.ensures.survives)
+    c.fill_new.ensures.stays.within c.in_default.ensures.stays.inside (λ clean within schema sound. c.in_default.ensures.makes clean within (bare_blank tx.now schema sound)) end c.commit.ensures.survives)
 
 pub returns-in-Err-commit-clause-crash : goal.returns-in-Err-commit-clause-crash
 returns-in-Err-commit-clause-crash g c bare =
@@ -35,4 +35,4 @@ returns-in-Err-commit-clause-crash g c bare =
     let same : end ≡ c.conn-2-1.given.0 = search rules in
     subst (λ h. Leaves (state g.S.Store h) (λ db. IsSound no_schema db ⊎ IsEmptyBook db)) same
     (commits_either g.S.Store no_schema layout_1 (IsSound no_schema) IsEmptyBook c.args.conn.now c.transaction-tx.result.conn.now c.fill_new.new.tx.conn.now c.transaction-tx.ensures.begun bare
-    c.fill_new.ensures.within c.in_default.ensures.inside (λ clean within schema sound. c.in_default.ensures.makes clean within (bare_blank tx.now schema sound)) end c.commit.ensures.survives)
+    c.fill_new.ensures.stays.within c.in_default.ensures.stays.inside (λ clean within schema sound. c.in_default.ensures.makes clean within (bare_blank tx.now schema sound)) end c.commit.ensures.survives)

@@ -1,4 +1,4 @@
-use Rattle.std.proofs.Common.{◌≡◌, ap, arith}
+use Rattle.std.proofs.Common.{rules, ◌≡◌, ap, arith}
 use Rattle.sqlite.specs.Held.{state}
 use Rattle.sqlite.specs.State.{HasCleanDisk}
 use Rattle.mx_layout.specs.declared.points.Point.{Point}
@@ -7,30 +7,33 @@ use Rattle.mx_layout.proofs.CrashLemmas.{within_then, stays_after}
 use Rattle.mx_layout.proofs.FillLemmas.{empty_book}
 use Rattle.mx_layout.proofs.making.fill.Goals as goal
 
-pub returns-in_err-insert_office-clause-within : goal.returns-in_err-insert_office-clause-within
-returns-in_err-insert_office-clause-within g c =
-    within_then (state g.S.Store c.args.tx.now.conn.now) (state g.S.Store c.make_tables.new.tx.conn.now) (state g.S.Store c.insert_office.new.tx.conn.now)
-    c.make_tables.ensures.within c.in_ok-make_tables.ensures.mode c.insert_office.ensures.within
+pub returns-in_err-insert_office-clause-stays : goal.returns-in_err-insert_office-clause-stays
+returns-in_err-insert_office-clause-stays g c = record {
+  same_reference = search rules;
+  inside = search rules;
+  within = within_then (state g.S.Store c.args.tx.now.conn.now) (state g.S.Store c.make_tables.new.tx.conn.now) (state g.S.Store c.insert_office.new.tx.conn.now)
+      c.make_tables.ensures.within c.in_ok-make_tables.ensures.mode c.insert_office.ensures.stays.within;
+}
 
-pub returns-clause-inside : goal.returns-clause-inside
-returns-clause-inside g c clean inside =
+pub returns-clause-stays : goal.returns-clause-stays
+returns-clause-stays g c =
     let first = state g.S.Store c.args.tx.now.conn.now in
     let old = state g.S.Store c.make_tables.new.tx.conn.now in
-    let early : HasCleanDisk old = omega (arith, c.insert_office.ensures.within.survives.clean) in
-    stays_after first old (state g.S.Store c.insert_office.new.tx.conn.now) (λ now. c.make_tables.ensures.within.kept now inside) early
-    (c.in_ok-insert_office.ensures.inside clean (c.in_ok-make_tables.ensures.mode early inside))
+    let new = state g.S.Store c.insert_office.new.tx.conn.now in
+    record {
+      same_reference = search rules;
+      inside = λ clean inside.
+          let early : HasCleanDisk old = omega (arith, c.insert_office.ensures.stays.within.survives.clean) in
+          stays_after first old new (λ now. c.make_tables.ensures.within.kept now inside) early (c.in_ok-insert_office.ensures.stays.inside clean (c.in_ok-make_tables.ensures.mode early inside));
+      within = within_then first old new c.make_tables.ensures.within c.in_ok-make_tables.ensures.mode c.insert_office.ensures.stays.within;
+    }
 
 pub returns-clause-makes : goal.returns-clause-makes
 returns-clause-makes g c clean inside blank =
     let old = state g.S.Store c.make_tables.new.tx.conn.now in
-    let early : HasCleanDisk old = omega (arith, c.insert_office.ensures.within.survives.clean) in
+    let early : HasCleanDisk old = omega (arith, c.insert_office.ensures.stays.within.survives.clean) in
     let made = c.in_ok-make_tables.ensures.makes early inside blank in
     let p : Point = record { layout = c.args.layout.0; step = 0; mark = 0 } in
     let first : p ≡ first_point = ap (λ n. let q : Point = record { layout = n; step = 0; mark = 0 } in q) c.requires in
     empty_book p old.now (state g.S.Store c.insert_office.new.tx.conn.now).now first made
     (c.in_ok-insert_office.ensures.adds clean (c.in_ok-make_tables.ensures.mode early inside) made.schema_is)
-
-pub returns-clause-within : goal.returns-clause-within
-returns-clause-within g c =
-    within_then (state g.S.Store c.args.tx.now.conn.now) (state g.S.Store c.make_tables.new.tx.conn.now) (state g.S.Store c.insert_office.new.tx.conn.now)
-    c.make_tables.ensures.within c.in_ok-make_tables.ensures.mode c.insert_office.ensures.within

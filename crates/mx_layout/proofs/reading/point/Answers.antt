@@ -1,8 +1,8 @@
-use Rattle.std.proofs.Common.{rules, ◌≡◌, inl, arith}
+use Rattle.std.proofs.Common.{rules, ◌≡◌, refl, inl, inr, arith}
 use Rattle.sqlite.specs.Held.{state}
 use Rattle.sqlite.specs.State.{HasCleanDisk}
 use Rattle.mx_layout.specs.Listed.{LacksOffice}
-use Rattle.mx_layout.proofs.AnswerLemmas.{unnamed_stops}
+use Rattle.mx_layout.proofs.AnswerLemmas.{unnamed_none, unnamed_stops}
 use Rattle.mx_layout.proofs.ListedLemmas.{not_lacking}
 use Rattle.mx_layout.proofs.reading.point.Goals as goal
 
@@ -25,3 +25,16 @@ returns-clause-exact g c p clean holds fits =
     let lacks : LacksOffice c.args.conn.now.schema = search rules in
     let opened = rw c.transaction-tx.ensures.begun at (c.point_in-read.ensures.open early) in
     rw c.unnamed.ensures (unnamed_stops c.point_in-read.result opened (λ is_open. not_lacking c.args.conn.now.schema (holds is_open).0 lacks))
+
+pub returns-then-named-clause-told : goal.returns-then-named-clause-told
+returns-then-named-clause-told g c clean =
+    let end = c.drop-tx.new.self.0 in
+    let same : end ≡ c.conn-1.given.0 = search rules in
+    let late : HasCleanDisk (state g.S.Store end) = rw same clean in
+    let early : HasCleanDisk (state g.S.Store c.point_in-read.new.tx.conn.now) = omega (arith, c.drop-tx.ensures.survives.clean) in
+    inr (c.transaction-tx.result.conn.now, c.point_in-read.new.tx.conn.now, rw c.transaction-tx.ensures.begun refl, c.point_in-read.ensures.answered early)
+
+pub returns-clause-told : goal.returns-clause-told
+returns-clause-told g c clean =
+    let lacks : LacksOffice c.args.conn.now.schema = search rules in
+    inl (lacks, rw c.unnamed.ensures (unnamed_none c.point_in-read.result))

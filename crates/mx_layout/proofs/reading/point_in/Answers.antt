@@ -1,17 +1,21 @@
 use Rattle.std.proofs.Common.{[]}
 use Rattle.sqlite.specs.Held.{state}
 use Rattle.mx_layout.specs.Point.{point_text}
-use Rattle.mx_layout.proofs.AnswerLemmas.{point_of_answer, point_inside, point_unchanged, point_reads, point_exact, point_open, point_absent}
+use Rattle.mx_layout.proofs.AnswerLemmas.{answers_point, point_of_answer, point_inside, point_unchanged, point_reads, point_exact, point_open, point_absent}
 use Rattle.mx_layout.proofs.QueryLemmas.{query_within}
 use Rattle.mx_layout.proofs.reading.point_in.Goals as goal
 
-pub returns-clause-inside : goal.returns-clause-inside
-returns-clause-inside g c clean =
+pub returns-clause-stays : goal.returns-clause-stays
+returns-clause-stays g c =
     let old = state g.S.Store c.args.tx.now.conn.now in
     let new = state g.S.Store c.query_all-answer.new.self.conn.now in
     let ran = c.query_all-answer.ensures in
     let found = c.point_found.ensures in
-    point_inside (λ v. v.items) old new c.point_found.result (point_of_answer (λ v. v.items) old new c.query_all-answer.result c.point_found.result found.found found.stopped (ran.ok clean) (ran.err clean))
+    record {
+      same_reference = ran.same_reference;
+      inside = λ clean. point_inside (λ v. v.items) old new c.point_found.result (point_of_answer (λ v. v.items) old new c.query_all-answer.result c.point_found.result found.found found.stopped (ran.ok clean) (ran.err clean));
+      within = query_within (λ v. v.items) old new point_text [] c.query_all-answer.result ran.survives ran.ok ran.err;
+    }
 
 pub returns-clause-unchanged : goal.returns-clause-unchanged
 returns-clause-unchanged g c clean =
@@ -53,6 +57,10 @@ returns-clause-open g c clean =
     let found = c.point_found.ensures in
     point_open (λ v. v.items) old new c.point_found.result (point_of_answer (λ v. v.items) old new c.query_all-answer.result c.point_found.result found.found found.stopped (ran.ok clean) (ran.err clean))
 
-pub returns-clause-within : goal.returns-clause-within
-returns-clause-within g c =
-    query_within (λ v. v.items) (state g.S.Store c.args.tx.now.conn.now) (state g.S.Store c.query_all-answer.new.self.conn.now) point_text [] c.query_all-answer.result c.query_all-answer.ensures.survives c.query_all-answer.ensures.ok c.query_all-answer.ensures.err
+pub returns-clause-answered : goal.returns-clause-answered
+returns-clause-answered g c clean =
+    let old = state g.S.Store c.args.tx.now.conn.now in
+    let new = state g.S.Store c.query_all-answer.new.self.conn.now in
+    let ran = c.query_all-answer.ensures in
+    let found = c.point_found.ensures in
+    answers_point (λ v. v.items) old new c.point_found.result (point_of_answer (λ v. v.items) old new c.query_all-answer.result c.point_found.result found.found found.stopped (ran.ok clean) (ran.err clean))

@@ -13,6 +13,6 @@ returns-clause-inserts g c =
     record {
       gains = λ clean inside has. r.adds (table_named k.name) (k.as_cells c.args.row.now) (adds_row old.now.schema k.insert (table_named k.name) (k.as_cells c.args.row.now) (g.met.R.Stored.lawful.adds old.now.schema has c.args.row.now) old new refl) c.requires clean inside;
       cause = r.cause;
-      inside = r.inside;
-      within = r.within;
+      inside = r.stays.inside;
+      within = r.stays.within;
     }

@@ -9,15 +9,17 @@ use Rattle.mx_kept.specs.Family.{IsReadableAs}
 use Rattle.mx_tables.proofs.AnswerLemmas.{answer_read, answer_rows, answer_damaged}
 use Rattle.mx_tables.proofs.stored.read_rows.Goals as goal
 
-pub returns-clause-within : goal.returns-clause-within
-returns-clause-within g c =
-    query_within (λ v. v.items) (state g.S.Store c.args.tx.now.conn.now) (state g.S.Store c.query_all-answer.new.self.conn.now) c.args.sql.now [] c.query_all-answer.result c.query_all-answer.ensures.survives c.query_all-answer.ensures.ok c.query_all-answer.ensures.err
-
-pub returns-clause-inside : goal.returns-clause-inside
-returns-clause-inside g c clean inside =
+pub returns-clause-stays : goal.returns-clause-stays
+returns-clause-stays g c =
     let old = state g.S.Store c.args.tx.now.conn.now in
     let new = state g.S.Store c.query_all-answer.new.self.conn.now in
-    answer_read (StaysInside old new) c.query_all-answer.result c.answered.result c.answered.ensures.stopped (IfOk-weaker c.query_all-answer.result _ _ (λ v shown. shown_stays old new c.args.sql.now [] v.items inside shown) (c.query_all-answer.ensures.ok clean))
+    let ran = c.query_all-answer.ensures in
+    record {
+      same_reference = ran.same_reference;
+      inside = λ clean inside.
+          answer_read (StaysInside old new) c.query_all-answer.result c.answered.result c.answered.ensures.stopped (IfOk-weaker c.query_all-answer.result _ _ (λ v shown. shown_stays old new c.args.sql.now [] v.items inside shown) (ran.ok clean));
+      within = query_within (λ v. v.items) old new c.args.sql.now [] c.query_all-answer.result ran.survives ran.ok ran.err;
+    }
 
 pub returns-clause-unchanged : goal.returns-clause-unchanged
 returns-clause-unchanged g c shown order shows clean =

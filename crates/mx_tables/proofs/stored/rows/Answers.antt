@@ -17,6 +17,6 @@ returns-clause-reads g c =
       cause = r.cause;
       damaged = λ clean has is. r.damaged (table_named k.name) k.order (shows has) clean is;
       unchanged = λ clean has. r.unchanged (table_named k.name) k.order (shows has) clean;
-      inside = r.inside;
-      within = r.within;
+      inside = r.stays.inside;
+      within = r.stays.within;
     }

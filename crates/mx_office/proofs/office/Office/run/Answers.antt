@@ -1,52 +1,35 @@
-use Rattle.std.proofs.Common.{◌≡◌, ◌+◌, length, take, subst, arith}
+use Rattle.std.proofs.Common.{rules, arith, ◌≡◌, ◌<◌, ap, subst, sym, List, [], length, Some, Err}
+use Rattle.mx_book.specs.declared.verdict.Reply.{Reply}
+use Rattle.mx_office.specs.Calls.{IsRun}
 use Rattle.sqlite.specs.Held.{state}
-use Rattle.sqlite.specs.State.{HasCleanDisk}
-use Rattle.mx_book.specs.Run.{book_run, replies}
-use Rattle.mx_layout.specs.Tables.{layout_1}
-use Rattle.mx_layout.proofs.CrashLemmas.{rests_kept}
-use Rattle.mx_office.specs.Stands.{Stands}
-use Rattle.mx_office.proofs.OfficeLemmas.{either_made, loaded_rests, rests_made}
-use Rattle.mx_office.proofs.RunLemmas.{loaded_holds}
+use Rattle.mx_office.specs.Office.{office_state}
+use Rattle.mx_office.proofs.CallLemmas.{err_is, run_handed, run_stopped}
 use Rattle.mx_office.proofs.office.Office.run.Goals as goal
 
-pub returns-clause-replies : goal.returns-clause-replies
-returns-clause-replies g c book rests clean =
-    let early : HasCleanDisk (state g.S.Store c.book.new.self.conn) = omega (arith, c.run_by-outcomes.ensures.clean) in
-    let said = c.run_by-outcomes.result.replies.items in
-    subst (λ b. said ≡ replies b (take (length said) c.args.commands.now)) (c.in-Ok-book.ensures.exact book c.if-self.false rests early) c.run_by-outcomes.ensures.replies
+pub returns : goal.returns
+returns g c =
+    let read = c.in-Ok-book.ensures in
+    let ran = c.run_by-outcomes in
+    let new = state g.S.Store ran.new.conn in
+    run_handed c.args.commands.now ran.result.replies.items ran.result.stopped c.args.self.now c.book.new.self _ c.in-Ok-book.book read.asked read.exact read.sound
+    (λ clean ready. read.was_open clean ready (λ same. cc) (λ same. cc))
+    (record {
+      clean = ran.ensures.clean;
+      stops = ran.ensures.stops;
+      answered = ran.ensures.replies;
+      untouched = λ none other. ap (state g.S.Store) (ran.ensures.untouched none other);
+      survives = ran.ensures.survives;
+      holds = ran.ensures.holds;
+      kept = ran.ensures.kept;
+      crash = ran.ensures.crash;
+    })
+    ran.ensures.counted ran.ensures.done ran.ensures.cut (search rules) (search rules)
 
-pub returns-clause-sound : goal.returns-clause-sound
-returns-clause-sound g c clean has settled some other =
-    let first = state g.S.Store c.args.self.now.conn in
-    let mid = state g.S.Store c.book.new.self.conn in
-    let early : HasCleanDisk mid = omega (arith, c.run_by-outcomes.ensures.clean) in
-    let held = c.in-Ok-book.ensures.sound early has in
-    record {
-      book = c.in-Ok-book.book;
-      held = held;
-      are_replies = c.run_by-outcomes.ensures.replies;
-      after = c.run_by-outcomes.ensures.holds clean (loaded_holds first mid c.in-Ok-book.book early has settled held (c.book.ensures.untouched c.if-self.false)) other;
-    }
-
-pub returns-clause-kept : goal.returns-clause-kept
-returns-clause-kept g c book rests other =
-    let first = state g.S.Store c.args.self.now.conn in
-    let mid = state g.S.Store c.book.new.self.conn in
-    let new = state g.S.Store c.run_by-outcomes.new.conn in
-    let later = c.run_by-outcomes.ensures.clean in
-    let exact = c.in-Ok-book.ensures.exact book c.if-self.false rests in
-    let had = rests_kept layout_1 (λ trees. Stands trees book) first mid (c.book.ensures.untouched c.if-self.false) rests in
-    let said = take (length c.run_by-outcomes.result.replies.items) c.args.commands.now in
-    rests_made mid new book c.in-Ok-book.book later exact (λ b. book_run b said) (c.run_by-outcomes.ensures.kept (loaded_rests mid new book c.in-Ok-book.book later exact had) other)
-
-pub returns-clause-crash : goal.returns-clause-crash
-returns-clause-crash g c book rests =
-    let first = state g.S.Store c.args.self.now.conn in
-    let mid = state g.S.Store c.book.new.self.conn in
-    let new = state g.S.Store c.run_by-outcomes.new.conn in
-    let later = c.run_by-outcomes.ensures.clean in
-    let exact = c.in-Ok-book.ensures.exact book c.if-self.false rests in
-    let had = rests_kept layout_1 (λ trees. Stands trees book) first mid (c.book.ensures.untouched c.if-self.false) rests in
-    let count = length c.run_by-outcomes.result.replies.items in
-    either_made mid new book c.in-Ok-book.book later exact (λ b. book_run b (take count c.args.commands.now)) (λ b. book_run b (take (count + 1) c.args.commands.now))
-    (c.run_by-outcomes.ensures.crash (loaded_rests mid new book c.in-Ok-book.book later exact had))
+pub returns-in-Err : goal.returns-in-Err
+returns-in-Err g c =
+    let read = c.in-Err.ensures in
+    let none : c.in-Ok.replies.items ≡ [] = search rules in
+    let some : 0 < length c.args.commands.now = search (rules, arith) in
+    subst (λ (said : List Reply). IsRun c.args.commands.now said (Some c.in-Err.fault) c.args.self.now c.book.new.self) (sym none)
+    (run_stopped c.args.commands.now c.in-Err.fault c.args.self.now c.book.new.self read.asked read.exact some
+    (λ clean ready memory store. read.was_open clean ready (λ same. memory (err_is same)) (λ same. store (err_is same))) (λ clean has table same. read.damaged clean has table (ap Err same)))

@@ -1,0 +1,113 @@
+-- What a call that hands commands to an office does to it, and what it promises, whichever call it is.
+use Rattle.std.specs.Prelude.{◌≡◌, ◌≢◌, ◌⊎◌, ◌≤◌, ◌<◌, ◌+◌, List, [], ◌∷◌, length, take, IsTrue, Option, Some, None, Result, Ok, Err}
+use Rattle.sqlite.specs.Store.{Ghosts}
+use Rattle.sqlite.specs.State.{State, HasCleanDisk, Survives}
+use Rattle.sqlite_trees.specs.View.{doubt}
+use Rattle.mx_command.specs.Act.{Entry}
+use Rattle.mx_book.specs.Run.{book_run, replies}
+use Rattle.mx_book.specs.declared.verdict.Reply.{Reply}
+use Rattle.mx_layout.specs.TableName.{TableName}
+use Rattle.mx_layout.specs.Crash.{Leaves, ChangesNothing}
+use Rattle.mx_kept.specs.Schemas.{HasOwn1}
+use Rattle.mx_office.specs.declared.fault.Ask.{Ask}
+use Rattle.mx_office.specs.declared.fault.Ask.TheVariants.{Refused, Failed}
+use Rattle.mx_office.specs.declared.fault.Fault.{Fault}
+use Rattle.mx_office.specs.declared.fault.Fault.TheVariants.{Memory, Store, NeedsReopen, Damaged}
+use Rattle.mx_office.specs.declared.office.Office.{Office}
+use Rattle.mx_office.specs.Office.{office_state, IsReady, IsInDoubt, StandsFor}
+use Rattle.mx_office.specs.Stands.{HoldsBook, IsEither, IsReasonFor, MayLeave, NoneAccepted, RanOver, Rests}
+
+-- ── what stopped a call ──
+
+-- the fault that a call answers, if it answers one
+abbrev pub stop_in : {X : Type 0} → Result X Fault → Option Fault
+stop_in (Ok x) = None
+stop_in (Err fault) = Some fault
+
+-- the fault that stopped a question, if one did: a refusal stops none
+abbrev pub stop_of : Ask → Option Fault
+stop_of (Refused refusal) = None
+stop_of (Failed fault) = Some fault
+
+abbrev pub stop_asking : {X : Type 0} → Result X Ask → Option Fault
+stop_asking (Ok x) = None
+stop_asking (Err why) = stop_of why
+
+-- the replies to one command: the one that was given, or none
+abbrev pub replies_in : Result Reply Fault → List Reply
+replies_in (Ok reply) = reply ∷ []
+replies_in (Err fault) = []
+
+-- ── over the tables of a book ──
+
+-- commands were handed in where the tables stood for this book: the first of them got these replies, and this stopped it before the next one, if anything did
+pub record RunsOver (book commands : List Entry) (said : List Reply) (stop : Option Fault) (new : State) : Type 0 where
+  -- each reply is that of the book behind the commands before it
+  pub answered : HasCleanDisk new → said ≡ replies book (take (length said) commands)
+  -- no table of a book is damaged
+  pub whole : HasCleanDisk new → (table : TableName) → stop ≢ Some (Damaged table)
+  -- the tables stand for the book behind the commands that have a reply
+  pub kept : stop ≢ Some Store → Rests new (book_run book (take (length said) commands))
+  -- a crash leaves that book, or the one behind the next command
+  pub crash : Leaves new (IsEither (book_run book (take (length said) commands)) (book_run book (take (length said + 1) commands)))
+
+-- ── whether the office goes on ──
+
+-- a call was stopped by this, if by anything
+pub record MarksDoubt {S : Type 0} {g : Ghosts S} (stop : Option Fault) (old new : Office S g) : Type 0 where
+  -- an office that has to be opened again is asked nothing: the call says so, and leaves it as it was
+  pub reopen : IsInDoubt old → (stop ≡ Some NeedsReopen) × (new ≡ old)
+  -- no other office says so
+  pub usable : IsReady old → stop ≢ Some NeedsReopen
+  -- it goes on, unless its store failed
+  pub goes_on : IsReady old → stop ≢ Some Store → IsReady new
+  -- and where its store failed it has to be opened again
+  pub stopped : stop ≡ Some Store → IsInDoubt new
+  -- what the disk failed in is not forgotten
+  pub clean : doubt (office_state old).is_clean ≤ doubt (office_state new).is_clean
+
+-- a call that changes no table was stopped by this, if by anything
+pub record IsAsked {S : Type 0} {g : Ghosts S} (stop : Option Fault) (old new : Office S g) : Type 0 where
+  -- whether the office goes on
+  pub doubt : MarksDoubt stop old new
+  -- no table changes
+  pub untouched : IsReady old → ChangesNothing (office_state old) (office_state new)
+
+-- ── over whatever rows ──
+
+-- commands were handed to an office, whatever rows its tables have: the first of them got these replies, and this stopped it before the next one, if anything did
+pub record RunsOverRows {S : Type 0} {g : Ghosts S} (commands : List Entry) (said : List Reply) (stop : Option Fault) (old new : Office S g) : Type 0 where
+  -- where no command was accepted no table changes
+  pub untouched : IsReady old → NoneAccepted said → stop ≢ Some Store → (new ≡ old) ⊎ ChangesNothing (office_state old) (office_state new)
+  -- whatever it answered, a crash leaves the tables from before, or those with the first of the commands on top: as many as have a reply at most, or one more where the store failed
+  pub crash : HasOwn1 (office_state old).now.schema → (office_state old).now ≡ (office_state old).committed → Survives (office_state old) (office_state new) (λ trees. (book : List Entry) × MayLeave book commands said stop (office_state old) trees)
+  -- a call that memory and the store did not stop found the connection open
+  pub was_open : IsReady old → commands ≢ [] → HasCleanDisk (office_state new) → stop ≢ Some Memory → stop ≢ Some Store → IsTrue (office_state old).is_open
+  -- what was replied is what some book replies that the tables held
+  pub told : HasCleanDisk (office_state new) → HasOwn1 (office_state old).now.schema → said ≢ [] → (book : List Entry) × HoldsBook (office_state old).now.trees book × (said ≡ replies book (take (length said) commands))
+  -- and they hold that book behind the commands that have a reply
+  pub sound : HasCleanDisk (office_state new) → HasOwn1 (office_state old).now.schema → (office_state old).now ≡ (office_state old).committed → said ≢ [] → stop ≢ Some Store
+      → RanOver (take (length said) commands) said (office_state old) (office_state new)
+  -- a table is told to be damaged for a reason, before any reply
+  pub damaged : HasCleanDisk (office_state new) → HasOwn1 (office_state old).now.schema → (table : TableName) → stop ≡ Some (Damaged table) → (said ≡ []) × IsReasonFor (office_state old).now.trees table
+
+-- ── a run ──
+
+-- commands were handed to an office, one after the other, each in a commit of its own: the first of them got these replies, and this stopped it before the next one, if anything did
+pub record IsRun {S : Type 0} {g : Ghosts S} (commands : List Entry) (said : List Reply) (stop : Option Fault) (old new : Office S g) : Type 0 where
+  -- no command has two replies
+  pub counted : length said ≤ length commands
+  -- each has one where nothing stopped it
+  pub done : stop ≡ None → length said ≡ length commands
+  -- what stopped it stopped it before a command, or before it looked for one
+  pub cut : IsReady old → stop ≢ None → (length said < length commands) ⊎ ((commands ≡ []) × (stop ≡ Some Memory) × (new ≡ old))
+  -- whether the office goes on
+  pub doubt : MarksDoubt stop old new
+  -- what becomes of a book
+  pub over_book : (book : List Entry) → StandsFor old book → RunsOver book commands said stop (office_state new)
+  -- what becomes of any rows
+  pub over_rows : RunsOverRows commands said stop old new
+
+-- commands were handed in, and P holds of the replies and of what stopped them, if anything did
+abbrev pub Runs : {S : Type 0} {g : Ghosts S} → List Entry → Office S g → Office S g → (List Reply → Option Fault → Type 0) → Type 0
+Runs commands old new P = (said : List Reply) × (stop : Option Fault) × IsRun commands said stop old new × P said stop

@@ -1,0 +1,7 @@
+//! Tests of what is told of an input that can't be read, and of how far one is read.
+#![tactic(auto)]
+
+#[cfg(test)]
+mod in_parts;
+#[cfg(test)]
+mod tests;
