@@ -1,8 +1,8 @@
 -- Deferred defects: the open one of one entry, and what releases and extensions that are entered do to them.
-use Rattle.std.proofs.Common.{arith, refl, sym, ap, ◌∙◌, ◌≡◌, ℕ, ◌+◌, ◌*◌, ◌≤◌, get_or, List, [], ◌∷◌, ◌++◌, Bool, true, false, cond, not, ◌&&◌, ◌||◌, Option, Some, None, append-nil}
+use Rattle.std.proofs.Common.{arith, refl, sym, ap, ◌∙◌, ◌≡◌, ℕ, ◌+◌, ◌*◌, ◌≤◌, List, [], ◌∷◌, ◌++◌, Bool, true, false, cond, not, ◌&&◌, ◌||◌, Option, Some, None, append-nil}
 use Rattle.std.specs.Prelude.{filter, find, nat_lt, is_some, is_none, IsSomeAnd}
 use Rattle.std.specs.List.{cons_option, flat_map, list_any}
-use Rattle.std.specs.Option.{option_map, option_map_or, option_and_then, option_or}
+use Rattle.std.specs.Option.{option_map_or, option_and_then, option_or}
 use Rattle.std.proofs.lemmas.Bool.Decides.{nat_tests}
 use Rattle.std.proofs.lemmas.List.Elements.{filter_map-append}
 use Rattle.std.proofs.lemmas.List.Folds.{find-append, list_any-append}
@@ -13,12 +13,11 @@ use Rattle.mx_command.specs.declared.release.Line.{Line}
 use Rattle.mx_command.specs.declared.release.Release.{Release}
 use Rattle.mx_command.proofs.SameLemmas.{text_same}
 use Rattle.mx_book.specs.declared.defects.Defect.{Defect}
-use Rattle.mx_book.specs.declared.verdict.Refusal.TheVariants.{UnknownDefect, DefectClosed, AlreadyExtended, ExtensionTooLong}
 use Rattle.mx_book.specs.declared.verdict.Verdict.TheVariants.{New}
 use Rattle.mx_book.specs.Register.{register}
 use Rattle.mx_book.specs.Defect.{day_found, days_extended, defect, defects, deferred_by, extension, interval, is_open, is_rectified, last_permitted, open_defects, open_from, rectifies}
-use Rattle.mx_book.specs.Judge.{judge, refusals, interval_exceeded, line_defects}
-use Rattle.mx_book.proofs.JudgeLemmas.{new-passes, when-false}
+use Rattle.mx_book.specs.Judge.{judge, interval_exceeded, line_defects}
+use Rattle.mx_book.proofs.PassLemmas.{new-passes}
 
 module _ (book : List Entry) (tail : List ℕ) (entry : Entry) where
   -- where an entry defers a defect that is open, that is the open one among it
@@ -78,7 +77,7 @@ released_leaves book tail doc release lines =
 -- a release that is new rectifies no defect a second time
 pub new_rectifies_once : (book : List Entry) (doc : List ℕ) (release : Release) (lines : List Line)
     → judge book (record { doc = doc; act = Released release lines }) ≡ New → list_any (is_rectified book) (flat_map line_defects lines) ≡ false
-new_rectifies_once book doc release lines new = when-false (list_any (is_rectified book) (flat_map line_defects lines)) DefectClosed (new-passes 16 book (record { doc = doc; act = Released release lines }) new)
+new_rectifies_once book doc release lines new = (new-passes book (record { doc = doc; act = Released release lines }) new).defect_closed
 
 -- ── extensions ──
 
@@ -86,7 +85,7 @@ not_some : (o : Option Extension) → is_some o ≡ false → o ≡ None
 not_some None h = refl
 not_some (Some x) h = (cc)
 
-not_exceeded : (b : Bool) (most : ℕ) → option_map ExtensionTooLong (cond b (Some most) None) ≡ None → b ≡ false
+not_exceeded : (b : Bool) (most : ℕ) → cond b (Some most) None ≡ None → b ≡ false
 not_exceeded true most h = (cc)
 not_exceeded false most h = refl
 
@@ -103,7 +102,7 @@ extension_entered book doc x h =
     ∙ ap (λ b. cond b (Some x) None) same
 
 doubled : (book : List Entry) (doc : List ℕ) (x : Extension) (o : Option Defect) → defect book x.defect ≡ o → is_none o || false ≡ false
-    → extension book x.defect ≡ None → option_map ExtensionTooLong (option_and_then (interval_exceeded x.days) o) ≡ None
+    → extension book x.defect ≡ None → option_and_then (interval_exceeded x.days) o ≡ None
     → IsSomeAnd o (λ d. last_permitted (book ++ record { doc = doc; act = Extended x } ∷ []) d ≤ day_found d + 2 * interval d.deferral.category)
 doubled book doc x None found known first short = (cc)
 doubled book doc x (Some d) found known first short =
@@ -117,6 +116,6 @@ doubled book doc x (Some d) found known first short =
 pub new_doubles : (book : List Entry) (doc : List ℕ) (x : Extension) → judge book (record { doc = doc; act = Extended x }) ≡ New
     → IsSomeAnd (defect book x.defect) (λ d. last_permitted (book ++ record { doc = doc; act = Extended x } ∷ []) d ≤ day_found d + 2 * interval d.deferral.category)
 new_doubles book doc x new =
-    let passes : (k : ℕ) → get_or (refusals book (Extended x)) k None ≡ None = λ k. new-passes k book (record { doc = doc; act = Extended x }) new in
-    doubled book doc x (defect book x.defect) refl (when-false (is_none (defect book x.defect) || false) UnknownDefect (passes 6))
-    (not_some (extension book x.defect) (when-false (is_some (extension book x.defect)) AlreadyExtended (passes 19))) (passes 20)
+    let passes = new-passes book (record { doc = doc; act = Extended x }) new in
+    doubled book doc x (defect book x.defect) refl passes.unknown_defect
+    (not_some (extension book x.defect) passes.already_extended) passes.extension_too_long

@@ -1,34 +1,16 @@
 -- What a verdict says of the book, and that a book stays one.
-use Rattle.std.proofs.Common.{arith, refl, sym, subst, ap, ◌∙◌, ◌≡◌, ℕ, ◌+◌, ◌≤◌, zero, suc, length, get_or, List, [], ◌∷◌, ◌++◌, Bool, true, false, cond, ◌&&◌, ◌||◌, Option, Some, None, append_assoc, append-nil, length-append}
-use Rattle.std.proofs.lemmas.Bool.Decides.{nat_tests}
-use Rattle.std.specs.Prelude.{nat_le, is_some}
+use Rattle.std.proofs.Common.{arith, refl, sym, subst, ap, ◌∙◌, ◌≡◌, ℕ, List, [], ◌∷◌, ◌++◌, Bool, true, false, cond, ◌&&◌, Option, Some, None, append_assoc, append-nil, length-append}
 use Rattle.std.specs.List.{list_all}
 use Rattle.std.specs.Option.{option_map}
-use Rattle.mx_command.specs.Act.{Act, Entry, Added, Listed, Loaded, Opened, Flown, Fitted, Removed, Released, Deferred, Extended, aircraft_of, component_of, programme_of, opening_of, sector_of, fitting_of, removal_of, release_of, lines_of, deferral_of, extension_of}
-use Rattle.mx_command.specs.Same.{same_entry}
+use Rattle.mx_command.specs.Act.{Entry}
 use Rattle.mx_command.specs.Shape.{has_shape}
-use Rattle.mx_command.specs.declared.aircraft.Aircraft.{Aircraft}
-use Rattle.mx_command.specs.declared.component.Component.{Component}
-use Rattle.mx_command.specs.declared.deferral.Deferral.{Deferral}
-use Rattle.mx_command.specs.declared.deferral.Extension.{Extension}
-use Rattle.mx_command.specs.declared.fitting.Fitting.{Fitting}
-use Rattle.mx_command.specs.declared.fitting.Removal.{Removal}
-use Rattle.mx_command.specs.declared.opening.Opening.{Opening}
-use Rattle.mx_command.specs.declared.programme.Programme.{Programme}
-use Rattle.mx_command.specs.declared.programme.Task.{Task}
-use Rattle.mx_command.specs.declared.release.Release.{Release}
-use Rattle.mx_command.specs.declared.sector.Sector.{Sector}
 use Rattle.mx_book.specs.declared.verdict.Refusal.{Refusal}
-use Rattle.mx_book.specs.declared.verdict.Refusal.TheVariants.{Full, Conflict, PositionTaken, AlreadyFitted}
 use Rattle.mx_book.specs.declared.verdict.Verdict.{Verdict}
 use Rattle.mx_book.specs.declared.verdict.Verdict.TheVariants.{New, Already, Refused}
-use Rattle.mx_book.specs.Judge.{judge, judge_by, known_from, known_same, refusals, first_of, when, is_full, verdict_of}
-use Rattle.mx_book.specs.Span.{fitted, is_taken}
+use Rattle.mx_book.specs.Judge.{judge, judge_by, known_from, refusals, first_of, verdict_of}
+use Rattle.mx_book.specs.Asking.{known_same}
 use Rattle.mx_book.specs.Book.{is_new, is_book_from, IsBook}
-
--- what refuses the same that a command says refuses the command
-pub refusals_of : (book : List Entry) (act same : Act) (r : Option Refusal) → same ≡ act → r ≡ first_of (refusals book same) → r ≡ first_of (refusals book act)
-refusals_of book act same r e h = h ∙ ap (λ x. first_of (refusals book x)) e
+use Rattle.mx_book.proofs.PassLemmas.{new-room}
 
 refused_by : (book : List Entry) (command : Entry) (why : Refusal) (o : Option (ℕ × Entry)) → None ≡ option_map (known_same command) o → Some why ≡ first_of (refusals book command.act) → Refused why ≡ judge_by book command o
 refused_by book command why None unknown h = ap verdict_of h
@@ -37,64 +19,6 @@ refused_by book command why (Some known) unknown h = (cc)
 -- a command whose document is new is refused by what refuses it
 pub refused_new : (book : List Entry) (command : Entry) (why : Refusal) → None ≡ option_map (known_same command) (known_from command.doc 1 book) → Some why ≡ first_of (refusals book command.act) → Refused why ≡ judge book command
 refused_new book command why unknown h = refused_by book command why (known_from command.doc 1 book) unknown h
-
-when_none : (b : Bool) (refusal : Refusal) (others : List (Option Refusal)) → first_of (when b refusal ∷ others) ≡ None → b ≡ false
-when_none true refusal others h = (cc)
-when_none false refusal others h = refl
-
-neither : (p q : Bool) → p || q ≡ false → p ≡ false
-neither true q h = h
-neither false q h = refl
-
-few_entries : (book : List Entry) (act : Act) → is_full book act ≡ false → nat_le 1000000 (length book) ≡ false
-few_entries book (Added a positions) h = neither _ _ h
-few_entries book (Listed c) h = neither _ _ h
-few_entries book _ h = h
-
-unrefused : (r : Option Refusal) → verdict_of r ≡ New → r ≡ None
-unrefused None h = refl
-unrefused (Some refusal) h = (cc)
-
-known_old : (b : Bool) (seq : ℕ) (r : Option Refusal) → cond b (Already seq) (Refused (Conflict seq)) ≡ New → r ≡ None
-known_old true seq r h = (cc)
-known_old false seq r h = (cc)
-
-new_by : (book : List Entry) (command : Entry) (o : Option (ℕ × Entry)) → judge_by book command o ≡ New → first_of (refusals book command.act) ≡ None
-new_by book command (Some known) h = known_old (same_entry known.1 command) known.0 _ h
-new_by book command None h = unrefused (first_of (refusals book command.act)) h
-
--- a command that is new is not refused
-pub new-unrefused : (book : List Entry) (command : Entry) → judge book command ≡ New → first_of (refusals book command.act) ≡ None
-new-unrefused book command h = new_by book command (known_from command.doc 1 book) h
-
--- where none of some refusals applies, the one at a place does not
-none_at : (k : ℕ) (others : List (Option Refusal)) → first_of others ≡ None → get_or others k None ≡ None
-none_at k [] h = refl
-none_at k (Some refusal ∷ others) h = (cc)
-none_at zero (None ∷ others) h = refl
-none_at (suc k) (None ∷ others) h = none_at k others h
-
--- a command that is new is not refused by the refusal at a place among all, from 0
-pub new-passes : (k : ℕ) (book : List Entry) (command : Entry) → judge book command ≡ New → get_or (refusals book command.act) k None ≡ None
-new-passes k book command h = none_at k (refusals book command.act) (new-unrefused book command h)
-
-pub when-false : (b : Bool) (refusal : Refusal) → when b refusal ≡ None → b ≡ false
-when-false true refusal h = (cc)
-when-false false refusal h = refl
-
--- a fitting that is new finds the position free, and the component fitted nowhere
-pub new-fitting : (book : List Entry) (command : Entry) (f : Fitting) → judge book command ≡ New → command.act ≡ Fitted f → (is_taken book f.tail f.position ≡ false) × (is_some (fitted book f.serial) ≡ false)
-new-fitting book command f new says =
-    let passes : (k : ℕ) → get_or (refusals book (Fitted f)) k None ≡ None = λ k. subst (λ act. get_or (refusals book act) k None ≡ None) says (new-passes k book command new) in
-    (when-false (is_taken book f.tail f.position) PositionTaken (passes 9), when-false (is_some (fitted book f.serial)) AlreadyFitted (passes 10))
-
-room_for : (n : ℕ) → nat_le 1000000 n ≡ false → n + 1 ≤ 1000000
-room_for n h = grind (arith, nat_tests)
-
--- there is room for a command that is new
-pub new-room : (book : List Entry) (command : Entry) → judge book command ≡ New → length book + 1 ≤ 1000000
-new-room book command h =
-    room_for (length book) (few_entries book command.act (when_none (is_full book command.act) Full _ (new_by book command (known_from command.doc 1 book) h)))
 
 and_of : (p q : Bool) → p ≡ true → q ≡ true → p && q ≡ true
 and_of p q h k = ap (λ b. b && q) h ∙ k

@@ -1,8 +1,13 @@
 pub mod AcceptedLemmas
+pub mod AnswerLemmas
 pub mod BaseLemmas
+pub mod Chaining
 pub mod DefectLemmas
+pub mod FactsLemmas
 pub mod FindLemmas
+pub mod FittedLemmas
 pub mod ForecastLemmas
+pub mod Gathering
 pub mod GrowthLemmas
 pub mod JudgeLemmas
 pub mod KnownLemmas
@@ -10,6 +15,8 @@ pub mod LifeLemmas
 pub mod ListLemmas
 pub mod NamedLemmas
 pub mod OrderLaws
+pub mod PassLemmas
+pub mod ReleaseLemmas
 pub mod RevisionLemmas
 pub mod SpanLemmas
 pub mod Worked
@@ -21,3 +28,4 @@ pub mod WorkedReleases
 pub mod WorkedDefects
 pub mod WorkedLimits
 pub mod WorkedForecast
+pub mod WorkedQuestions

@@ -1,7 +1,7 @@
 -- Tests that all of a list pass: what is found in it, what is left of it, and the same list in order.
-use Rattle.std.proofs.Common.{rules, ◌≡◌, refl, sym, subst, ap, ◌∙◌, List, [], ◌∷◌, ◌++◌, append_assoc, Bool, true, false, cond, ◌&&◌, Option, Some, None, IfSome}
+use Rattle.std.proofs.Common.{rules, ◌≡◌, refl, sym, subst, ap, ◌∙◌, List, [], ◌∷◌, Bool, true, false, cond, ◌&&◌, Option, Some, IfSome}
 use Rattle.std.specs.Prelude.{find}
-use Rattle.std.specs.List.{cons_option, filter_map, list_all}
+use Rattle.std.specs.List.{list_all}
 use Rattle.mx_command.specs.Programme.{task_shape}
 use Rattle.mx_command.specs.declared.programme.Task.{Task}
 use Rattle.mx_book.specs.Order.{placed, put_in, in_order}
@@ -28,19 +28,6 @@ found_passes p test [] h = search rules
 found_passes p test (x ∷ xs) h =
     let both = both_true (test x) (list_all test xs) h in
     found_at p test x xs (p x) both.0 (found_passes p test xs both.1)
-
--- with what the first gives gathered, the others give the rest
-pub gathered : {X Y : Type 0} (pick : X → Option Y) (xs later : List X) (x : X) (y : Y) (done whole : List Y) → xs ≡ x ∷ later → done ++ filter_map pick xs ≡ whole → pick x ≡ Some y → (done ++ y ∷ []) ++ filter_map pick later ≡ whole
-gathered pick xs later x y done whole e i h =
-    append_assoc done (y ∷ []) (filter_map pick later)
-    ∙ ap (λ o. done ++ cons_option o (filter_map pick later)) (sym h)
-    ∙ ap (λ l. done ++ filter_map pick l) (sym e) ∙ i
-
--- where the first gives nothing, the others give the rest
-pub passed : {X Y : Type 0} (pick : X → Option Y) (xs later : List X) (x : X) (done whole : List Y) → xs ≡ x ∷ later → done ++ filter_map pick xs ≡ whole → pick x ≡ None → done ++ filter_map pick later ≡ whole
-passed pick xs later x done whole e i h =
-    ap (λ o. done ++ cons_option o (filter_map pick later)) (sym h)
-    ∙ ap (λ l. done ++ filter_map pick l) (sym e) ∙ i
 
 -- a task that is found among some of their shape has its shape
 pub found_task : (p : Task → Bool) (tasks : List Task) (found : Option Task) → found ≡ find p tasks → list_all task_shape tasks ≡ true → IfSome found (λ t. task_shape t ≡ true)

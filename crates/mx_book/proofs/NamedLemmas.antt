@@ -1,5 +1,5 @@
 -- What the lines of a release name, line by line.
-use Rattle.std.proofs.Common.{refl, sym, ap, ◌∙◌, ◌≡◌, List, [], ◌∷◌, ◌++◌, Bool, false, ◌||◌}
+use Rattle.std.proofs.Common.{refl, sym, ap, ◌∙◌, ◌≡◌, List, [], ◌∷◌, ◌++◌, Bool, ◌||◌}
 use Rattle.std.specs.List.{list_any, flat_map}
 use Rattle.std.proofs.lemmas.List.Folds.{list_any-append}
 
@@ -8,13 +8,8 @@ pub any_named : {X Y : Type 0} (test : Y → Bool) (named : X → List Y) (xs : 
 any_named test named [] = refl
 any_named test named (x ∷ xs) = list_any-append test (named x) (flat_map named xs) ∙ ap (λ b. list_any test (named x) || b) (any_named test named xs)
 
--- so do the first things, or what the others name
-any_with : {X Y : Type 0} (test : Y → Bool) (first : List Y) (named : X → List Y) (xs : List X) (a b : Bool) → a ≡ list_any test first → b ≡ list_any (λ x. list_any test (named x)) xs
-    → a || b ≡ list_any test (first ++ flat_map named xs)
-any_with test first named xs a b e f =
-    ap (λ p. p || b) e ∙ ap (λ q. list_any test first || q) (f ∙ sym (any_named test named xs)) ∙ sym (list_any-append test first (flat_map named xs))
-
--- where the first things pass none, what the others name decides
-pub any_behind : {X Y : Type 0} (test : Y → Bool) (first : List Y) (named : X → List Y) (xs : List X) (a b : Bool) → a ≡ list_any test first → a ≡ false → b ≡ list_any (λ x. list_any test (named x)) xs
-    → b ≡ list_any test (first ++ flat_map named xs)
-any_behind test first named xs a b e missed f = ap (λ p. p || b) (sym missed) ∙ any_with test first named xs a b e f
+-- so it is where the first things are tested apart
+pub any_of_both : {X Y : Type 0} (test : Y → Bool) (first : List Y) (named : X → List Y) (xs : List X)
+    → list_any test first || list_any (λ x. list_any test (named x)) xs ≡ list_any test (first ++ flat_map named xs)
+any_of_both test first named xs =
+    ap (λ q. list_any test first || q) (sym (any_named test named xs)) ∙ sym (list_any-append test first (flat_map named xs))

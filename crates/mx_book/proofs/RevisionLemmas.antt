@@ -2,7 +2,7 @@
 use Rattle.std.proofs.Common.{arith, refl, sym, subst, ap, ◌∙◌, ◌≡◌, ℕ, ◌+◌, length, List, [], ◌∷◌, ◌++◌, Bool, true, false, cond, Option, Some, None, IfSome, append_assoc, append-nil, length-append}
 use Rattle.std.specs.Prelude.{nat_eq}
 use Rattle.std.specs.List.{cons_option}
-use Rattle.std.specs.Option.{option_map, option_map_or}
+use Rattle.std.specs.Option.{option_map_or}
 use Rattle.std.proofs.lemmas.Bool.Decides.{nat_tests}
 use Rattle.std.proofs.lemmas.List.Elements.{filter_map-append}
 use Rattle.std.proofs.lemmas.List.Sums.{fold-append}
@@ -11,24 +11,15 @@ use Rattle.mx_command.specs.Same.{same_text}
 use Rattle.mx_command.specs.declared.programme.Programme.{Programme}
 use Rattle.mx_command.specs.declared.programme.Task.{Task}
 use Rattle.mx_command.proofs.SameLemmas.{text_same}
-use Rattle.mx_book.specs.declared.verdict.Refusal.{Refusal}
-use Rattle.mx_book.specs.declared.verdict.Refusal.TheVariants.{Full, WrongRevision}
 use Rattle.mx_book.specs.declared.verdict.Verdict.TheVariants.{New}
 use Rattle.mx_book.specs.Register.{register}
 use Rattle.mx_book.specs.Programme.{last_of, tasks_loaded, revision_loaded, revision_in_force, next_revision}
-use Rattle.mx_book.specs.Judge.{judge, refusals, first_of, when, is_full, revision_missed}
+use Rattle.mx_book.specs.Judge.{judge}
 use Rattle.mx_book.specs.Book.{is_new, is_book_from, IsBook}
-use Rattle.mx_book.proofs.JudgeLemmas.{both_true, is_new-New, new-unrefused}
+use Rattle.mx_book.proofs.JudgeLemmas.{both_true, is_new-New}
+use Rattle.mx_book.proofs.PassLemmas.{new-passes_as}
 
 -- ── a programme that is new has the next revision ──
-
-not_full : (full : Bool) (others : List (Option Refusal)) → first_of (when full Full ∷ others) ≡ None → first_of others ≡ None
-not_full true others h = (cc)
-not_full false others h = h
-
-none_missed : (missed : Option ℕ) (others : List (Option Refusal)) → first_of (option_map WrongRevision missed ∷ others) ≡ None → missed ≡ None
-none_missed None others h = refl
-none_missed (Some expected) others h = (cc)
 
 expected_by : (test : Bool) (revision expected : ℕ) → nat_eq revision expected ≡ test → cond test None (Some expected) ≡ None → revision ≡ expected
 expected_by true revision expected is h = grind (arith, nat_tests)
@@ -36,9 +27,8 @@ expected_by false revision expected is h = (cc)
 
 new-revision : (book : List Entry) (command : Entry) (p : Programme) (tasks : List Task) → judge book command ≡ New → command.act ≡ Loaded p tasks → p.revision ≡ next_revision book p.kind
 new-revision book command p tasks new says =
-    let none : first_of (refusals book (Loaded p tasks)) ≡ None = subst (λ act. first_of (refusals book act) ≡ None) says (new-unrefused book command new) in
     let expected = next_revision book p.kind in
-    expected_by (nat_eq p.revision expected) p.revision expected refl (none_missed (revision_missed p.revision expected) _ (not_full (is_full book (Loaded p tasks)) _ none))
+    expected_by (nat_eq p.revision expected) p.revision expected refl (new-passes_as book command (Loaded p tasks) new says).wrong_revision
 
 -- ── entry by entry ──
 

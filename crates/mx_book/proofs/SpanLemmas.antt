@@ -15,7 +15,8 @@ use Rattle.mx_book.specs.Register.{register}
 use Rattle.mx_book.specs.Span.{Span, first_removal, span_begun, spans, fitted, is_taken, is_open_on, open_spans_of, open_spans_at}
 use Rattle.mx_book.specs.Judge.{judge}
 use Rattle.mx_book.specs.Book.{is_new, is_book_from, IsBook}
-use Rattle.mx_book.proofs.JudgeLemmas.{both_true, is_new-New, new-fitting}
+use Rattle.mx_book.proofs.JudgeLemmas.{both_true, is_new-New}
+use Rattle.mx_book.proofs.PassLemmas.{new-fitting}
 
 -- the span of a fitting that these entries follow
 abbrev span_of : Fitting → List Entry → Span

@@ -1,6 +1,6 @@
 -- Worked examples: the ends of spans, clocks, limits and pages, and which refusal comes first.
 use Rattle.std.proofs.Common.{refl, ap, ◌∙◌, ◌≡◌, ℕ, List, [], ◌∷◌, ◌++◌, length, true, false, Some, None}
-use Rattle.std.specs.Prelude.{codes, nat_le, ◌||◌, map}
+use Rattle.std.specs.Prelude.{codes, nat_le, nat_lt, not, ◌||◌, map}
 use Rattle.mx_command.specs.Act.{Entry, Added, Listed, Flown, aircraft_of, component_of}
 use Rattle.mx_command.specs.declared.aircraft.Aircraft.{Aircraft}
 use Rattle.mx_command.specs.declared.component.Component.{Component as Listing}
@@ -112,16 +112,16 @@ full_of_entries : (book : List Entry) (s : Sector) → length book ≡ 1000000 �
 full_of_entries book s h = ap (nat_le 1000000) h
 
 last_aircraft : (book : List Entry) (a : Aircraft) → length book ≡ 100 → length (register aircraft_of book) ≡ 49 → is_full book (Added a []) ≡ false
-last_aircraft book a h g = ap (λ n. nat_le 1000000 n || nat_le 50 (length (register aircraft_of book))) h ∙ ap (nat_le 50) g
+last_aircraft book a h g = ap (λ n. nat_le 1000000 n || not (nat_lt (length (register aircraft_of book)) 50)) h ∙ ap (λ n. not (nat_lt n 50)) g
 
 full_of_aircraft : (book : List Entry) (a : Aircraft) → length book ≡ 100 → length (register aircraft_of book) ≡ 50 → is_full book (Added a []) ≡ true
-full_of_aircraft book a h g = ap (λ n. nat_le 1000000 n || nat_le 50 (length (register aircraft_of book))) h ∙ ap (nat_le 50) g
+full_of_aircraft book a h g = ap (λ n. nat_le 1000000 n || not (nat_lt (length (register aircraft_of book)) 50)) h ∙ ap (λ n. not (nat_lt n 50)) g
 
 last_component : (book : List Entry) (c : Listing) → length book ≡ 9000 → length (register component_of book) ≡ 4999 → is_full book (Listed c) ≡ false
-last_component book c h g = ap (λ n. nat_le 1000000 n || nat_le 5000 (length (register component_of book))) h ∙ ap (nat_le 5000) g
+last_component book c h g = ap (λ n. nat_le 1000000 n || not (nat_lt (length (register component_of book)) 5000)) h ∙ ap (λ n. not (nat_lt n 5000)) g
 
 full_of_components : (book : List Entry) (c : Listing) → length book ≡ 9000 → length (register component_of book) ≡ 5000 → is_full book (Listed c) ≡ true
-full_of_components book c h g = ap (λ n. nat_le 1000000 n || nat_le 5000 (length (register component_of book))) h ∙ ap (nat_le 5000) g
+full_of_components book c h g = ap (λ n. nat_le 1000000 n || not (nat_lt (length (register component_of book)) 5000)) h ∙ ap (λ n. not (nat_lt n 5000)) g
 
 -- ── entries and pages ──
 

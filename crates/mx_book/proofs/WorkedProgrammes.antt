@@ -86,7 +86,7 @@ first_revisions : map (λ n. judged first_four (load (codes "PA28") n (annual �
 first_revisions = refl
 
 -- the second revision has no inspection every 100 hours
-abbrev second_revision : List Entry
+abbrev pub second_revision : List Entry
 second_revision = first_four ++ logged (codes "P2") (load c172 2 (annual ∷ overhaul ∷ [])) ∷ []
 
 in_force : tasks_in_force second_revision c172 ≡ Some (annual ∷ overhaul ∷ [])

@@ -1,7 +1,7 @@
 -- The due list of an aircraft: what is due on its airframe and on what is fitted to it, and its open defects.
-use Rattle.std.specs.Prelude.{ℕ, pos, List, [], ◌++◌, map, Bool, Option, Some, None}
+use Rattle.std.specs.Prelude.{ℕ, pos, List, ◌++◌, map, Bool, Option, Some, None}
 use Rattle.std.specs.List.{filter_map, flat_map}
-use Rattle.std.specs.Option.{option_map, option_map_or}
+use Rattle.std.specs.Option.{option_map}
 use Rattle.mx_base.specs.declared.amounts.Limit.{Limit}
 use Rattle.mx_base.specs.declared.amounts.Use.{Use}
 use Rattle.mx_command.specs.Act.{Entry}
@@ -18,7 +18,7 @@ use Rattle.mx_book.specs.declared.life_list.FittedPart.{FittedPart}
 use Rattle.mx_book.specs.Register.{aircraft}
 use Rattle.mx_book.specs.Life.{life_now}
 use Rattle.mx_book.specs.Lists.{use_or_none, parts}
-use Rattle.mx_book.specs.Programme.{tasks_in_force}
+use Rattle.mx_book.specs.Programme.{tasks_or_none}
 use Rattle.mx_book.specs.Base.{due_by}
 use Rattle.mx_book.specs.Defect.{last_permitted, letter_of, open_defects}
 use Rattle.mx_book.specs.LimitList.{days_left}
@@ -29,9 +29,13 @@ use Rattle.mx_book.specs.Order.{in_order, text_before}
 abbrev pub row_by_due : ℕ → Use → Option (List ℕ × List ℕ) → Task → Limit → DueRow
 row_by_due day life place t due = TaskRow (status_of (left_of due life day) t.tolerance) place t.id (left_of due life day)
 
--- the row of a task of an item, where something is due; a component stands in its place, with its position and its serial number
-abbrev pub task_row : List Entry → ℕ → Item → Option (List ℕ × List ℕ) → Task → Option DueRow
-task_row book day item place t = option_map (row_by_due day (use_or_none (life_now book item)) place t) (due_by book item t)
+-- the row of a task of an item that has this life, where something is due; a component stands in its place, with its position and its serial number
+abbrev pub row_with : List Entry → ℕ → Item → Use → Option (List ℕ × List ℕ) → Task → Option DueRow
+row_with book day item life place t = option_map (row_by_due day life place t) (due_by book item t)
+
+-- the rows of an item that has this life, in the order of these tasks
+abbrev pub rows_with : List Entry → ℕ → Item → Use → Option (List ℕ × List ℕ) → List Task → List DueRow
+rows_with book day item life place tasks = filter_map (row_with book day item life place) tasks
 
 -- one task comes before another: by their names
 abbrev pub task_before : Task → Task → Bool
@@ -39,11 +43,11 @@ task_before a b = text_before a.id b.id
 
 -- the tasks of the programme in force of a kind by name, none where it has no programme
 abbrev pub tasks_by_name : List Entry → List ℕ → List Task
-tasks_by_name book kind = in_order task_before (option_map_or (λ tasks. tasks) (tasks_in_force book kind) [])
+tasks_by_name book kind = in_order task_before (tasks_or_none book kind)
 
 -- the rows of an item, in the order of these tasks
 abbrev pub rows_of_item : List Entry → ℕ → List Task → Item → Option (List ℕ × List ℕ) → List DueRow
-rows_of_item book day tasks item place = filter_map (task_row book day item place) tasks
+rows_of_item book day tasks item place = rows_with book day item (use_or_none (life_now book item)) place tasks
 
 -- the rows of a component in its position
 abbrev pub rows_of_part : List Entry → ℕ → List Task → FittedPart → List DueRow

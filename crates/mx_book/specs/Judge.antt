@@ -2,7 +2,7 @@
 use Rattle.std.specs.Prelude.{ℕ, ◌+◌, ◌/◌, max, nat_eq, nat_lt, nat_le, length, List, [], ◌∷◌, ◌++◌, ◌&&◌, Bool, true, false, not, ◌||◌, Option, Some, None, is_some, is_none, if◌then◌else◌}
 use Rattle.std.specs.List.{list_any, flat_map}
 use Rattle.std.specs.Option.{option_map, option_map_or, option_and_then}
-use Rattle.mx_command.specs.Act.{Act, Entry, Added, Listed, Loaded, Opened, Flown, Fitted, Removed, Released, Deferred, Extended, aircraft_of, component_of}
+use Rattle.mx_command.specs.Act.{Act, Entry, Added, Listed, Loaded, Opened, Flown, Fitted, Removed, Released, Deferred, Extended}
 use Rattle.mx_command.specs.Bounds.{are_distinct}
 use Rattle.mx_command.specs.Same.{same_text, same_line, same_entry}
 use Rattle.mx_command.specs.declared.item.Item.{Item}
@@ -11,12 +11,12 @@ use Rattle.mx_command.specs.declared.release.Line.{Line}
 use Rattle.mx_command.specs.declared.release.Line.TheVariants.{Done, Rectified}
 use Rattle.mx_command.specs.declared.release.Place.{Place}
 use Rattle.mx_command.specs.declared.release.Place.TheVariants.{Aircraft, Shop}
-use Rattle.mx_book.specs.declared.judging.TheConstants.{MOST_ENTRIES, MOST_AIRCRAFT, MOST_COMPONENTS}
+use Rattle.mx_book.specs.declared.judging.TheConstants.{MOST_ENTRIES}
 use Rattle.mx_book.specs.declared.verdict.Refusal.{Refusal}
 use Rattle.mx_book.specs.declared.verdict.Refusal.TheVariants.{Conflict, Full, UnknownAircraft, UnknownComponent, UnknownPosition, UnknownProgramme, UnknownTask, UnknownDefect, AircraftExists, ComponentExists, PositionTaken, AlreadyFitted, NotFitted, WrongPart, ItemElsewhere, TaskClosed, LifeLimit, DefectClosed, OutOfOrder, NotExtendable, AlreadyExtended, ExtensionTooLong, IntervalEnded, WrongRevision, OtherAircraft, OpeningTooLate, OpeningTooLarge, RepeatedLine}
 use Rattle.mx_book.specs.declared.verdict.Verdict.{Verdict}
 use Rattle.mx_book.specs.declared.verdict.Verdict.TheVariants.{New, Already, Refused}
-use Rattle.mx_book.specs.Register.{register, aircraft, component, part_at, is_of_part, as_of}
+use Rattle.mx_book.specs.Register.{aircraft, component, part_at, is_of_part, found_of, as_of, is_other_kind_in, has_room_for_aircraft, has_room_for_component}
 use Rattle.mx_book.specs.Span.{fitted, tail_fitted, is_taken}
 use Rattle.mx_book.specs.Life.{clock, opening_of}
 use Rattle.mx_book.specs.declared.defects.Defect.{Defect}
@@ -111,8 +111,8 @@ defects_named _ = []
 
 -- there is no room: 1,000,000 entries, 50 aircraft for one more, or 5,000 components for one more
 abbrev pub is_full : List Entry → Act → Bool
-is_full book (Added a positions) = nat_le MOST_ENTRIES (length book) || nat_le MOST_AIRCRAFT (length (register aircraft_of book))
-is_full book (Listed c) = nat_le MOST_ENTRIES (length book) || nat_le MOST_COMPONENTS (length (register component_of book))
+is_full book (Added a positions) = nat_le MOST_ENTRIES (length book) || not (has_room_for_aircraft book)
+is_full book (Listed c) = nat_le MOST_ENTRIES (length book) || not (has_room_for_component book)
 is_full book _ = nat_le MOST_ENTRIES (length book)
 
 -- a registration is named that no aircraft has
@@ -246,9 +246,13 @@ clock_where_fitted book serial = option_map_or (λ tail. clock book (Airframe ta
 abbrev pub found_after : ℕ → Defect → Option ℕ
 found_after day d = if nat_lt day (day_found d) then Some d.deferral.moment else None
 
--- the clock that a command comes before: a sector takes off before that of its airframe; a fitting or a removal is before the greater of the airframe's and the component's; a release is before that of its place, and a defect found before that of its airframe; an interval is extended before the day on which the defect was found, the moment of that
+-- the earliest moment at which an aircraft takes off for its next sector: the clock of its airframe
+abbrev pub earliest_takeoff : List Entry → List ℕ → ℕ
+earliest_takeoff book tail = clock book (Airframe tail)
+
+-- the clock that a command comes before: a sector takes off before the earliest take-off of its aircraft; a fitting or a removal is before the greater of the airframe's and the component's; a release is before that of its place, and a defect found before that of its airframe; an interval is extended before the day on which the defect was found, the moment of that
 abbrev pub too_early : List Entry → Act → Option ℕ
-too_early book (Flown s) = clock_passed s.off (clock book (Airframe s.tail))
+too_early book (Flown s) = clock_passed s.off (earliest_takeoff book s.tail)
 too_early book (Fitted f) = clock_passed f.moment (max (clock book (Airframe f.tail)) (clock book (Component f.serial)))
 too_early book (Removed r) = clock_passed r.moment (max (clock_where_fitted book r.serial) (clock book (Component r.serial)))
 too_early book (Released r lines) = clock_passed r.moment (clock book (item_at r.place))
@@ -295,8 +299,7 @@ wrong_revision book _ = None
 
 -- the item is an airframe of another kind
 abbrev pub is_of_other_kind : List Entry → List ℕ → Item → Bool
-is_of_other_kind book kind (Airframe tail) = option_map_or (λ a. not (same_text a.kind kind)) (aircraft book tail) false
-is_of_other_kind book kind (Component serial) = false
+is_of_other_kind book kind item = is_other_kind_in kind (found_of book item)
 
 -- the defect is of another aircraft than the one at the place, or the place is a shop
 abbrev pub is_of_other_aircraft : List Entry → Place → List ℕ → Bool
@@ -393,7 +396,3 @@ judge_by book command None = verdict_of (first_of (refusals book command.act))
 -- the verdict on a command: Already where an entry has its document and equal contents, else the first refusal, else New
 abbrev pub judge : List Entry → Entry → Verdict
 judge book command = judge_by book command (known_from command.doc 1 book)
-
--- the number of a known entry, and whether the command is the same
-abbrev pub known_same : Entry → ℕ × Entry → ℕ × Bool
-known_same command known = (known.0, same_entry known.1 command)

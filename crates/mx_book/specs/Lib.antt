@@ -5,6 +5,12 @@ pub mod Life
 pub mod Programme
 pub mod Defect
 pub mod Judge
+pub mod Reading
+pub mod Memory
+pub mod Plain
+pub mod Asking
+pub mod Facts
+pub mod Fitted
 pub mod Book
 pub mod Run
 pub mod Order

@@ -10,7 +10,9 @@ use Rattle.mx_command.specs.declared.item.Item.TheVariants.{Airframe, Component}
 use Rattle.mx_command.specs.declared.release.Place.{Place}
 use Rattle.mx_command.specs.declared.release.Place.TheVariants as places
 use Rattle.mx_command.specs.declared.sector.Sector.{Sector}
-use Rattle.mx_book.specs.Register.{register, aircraft, component}
+use Rattle.mx_book.specs.declared.found.Found.{Found}
+use Rattle.mx_book.specs.declared.found.Found.TheVariants as founds
+use Rattle.mx_book.specs.Register.{register, found_of}
 use Rattle.mx_book.specs.Span.{Span, spans, spans_of, span_begun}
 
 -- the sector is flown within the span: with its aircraft, taken off from the fitting on, and landed by the removal
@@ -44,10 +46,14 @@ cycles_of (s ∷ sectors) = s.cycles + cycles_of sectors
 abbrev pub use_after : List Sector → Use → Use
 use_after sectors opening = record { minutes = opening.minutes + minutes_of sectors; cycles = opening.cycles + cycles_of sectors }
 
+-- the use that what was found brought with it
+abbrev pub opening_in : Found → Option Use
+opening_in (founds.Airframe found) = option_map (λ a. a.opening) found
+opening_in (founds.Component found) = option_map (λ c. c.opening) found
+
 -- the use that an item brought with it
 abbrev pub opening_of : List Entry → Item → Option Use
-opening_of book (Airframe tail) = option_map (λ a. a.opening) (aircraft book tail)
-opening_of book (Component serial) = option_map (λ c. c.opening) (component book serial)
+opening_of book item = opening_in (found_of book item)
 
 -- the sector has landed by the moment, where one is named
 abbrev pub has_landed_by : Option ℕ → Sector → Bool

@@ -8,7 +8,7 @@ use Rattle.mx_command.specs.declared.item.Item.TheVariants.{Airframe, Component}
 use Rattle.mx_book.specs.declared.life_list.FittedPart.{FittedPart}
 use Rattle.mx_book.specs.declared.life_list.LifeList.{LifeList}
 use Rattle.mx_book.specs.Register.{aircraft, component}
-use Rattle.mx_book.specs.Span.{Span, spans, span_begun, is_open_on}
+use Rattle.mx_book.specs.Span.{Span, spans, is_open_on}
 use Rattle.mx_book.specs.Life.{life_now}
 use Rattle.mx_book.specs.Order.{in_order, text_before}
 
@@ -40,9 +40,3 @@ parts book tail = in_order part_before (parts_from book tail book)
 -- the life list of an aircraft: its kind, the life of its airframe, and that of each component fitted to it
 abbrev pub life_list : List Entry → List ℕ → Option LifeList
 life_list book tail = option_map (λ a. record { tail = tail; kind = a.kind; life = use_or_none (life_now book (Airframe tail)); parts = parts book tail }) (aircraft book tail)
-
--- ── how the plain program finds the parts: entry by entry ──
-
--- the component that one entry leaves fitted to the aircraft
-abbrev pub parts_begun : List Entry → List ℕ → Entry → List Entry → List FittedPart
-parts_begun book tail entry later = filter_map (part_of book) (filter (is_open_on tail) (span_begun entry.act later))

@@ -1,12 +1,11 @@
 -- The programme in force of a kind, what its tasks apply to, and what was accomplished of them.
-use Rattle.std.specs.Prelude.{ℕ, ◌+◌, List, Bool, false, ◌&&◌, Option, Some, None, if◌then◌else◌, find, fold, is_some}
+use Rattle.std.specs.Prelude.{ℕ, ◌+◌, List, [], Bool, false, ◌&&◌, Option, Some, None, if◌then◌else◌, find, fold, is_some}
 use Rattle.std.specs.List.{list_any}
 use Rattle.std.specs.Option.{option_map, option_map_or, option_and_then}
 use Rattle.mx_base.specs.declared.amounts.Use.{Use}
 use Rattle.mx_command.specs.Act.{Act, Entry, Loaded, Opened, Released}
 use Rattle.mx_command.specs.Same.{same_text, same_item}
 use Rattle.mx_command.specs.declared.item.Item.{Item}
-use Rattle.mx_command.specs.declared.item.Item.TheVariants.{Airframe, Component}
 use Rattle.mx_command.specs.declared.programme.Applies.{Applies}
 use Rattle.mx_command.specs.declared.programme.Applies.TheVariants.{Airframe as ToAirframe, Part as ToPart}
 use Rattle.mx_command.specs.declared.programme.Task.{Task}
@@ -16,7 +15,9 @@ use Rattle.mx_command.specs.declared.release.Place.{Place}
 use Rattle.mx_command.specs.declared.release.Place.TheVariants.{Aircraft, Shop}
 use Rattle.mx_due.specs.Due.{first_due}
 use Rattle.mx_due.specs.Left.{left_of, is_used_up}
-use Rattle.mx_book.specs.Register.{register, aircraft, birth, is_of_part}
+use Rattle.mx_book.specs.declared.found.Found.{Found}
+use Rattle.mx_book.specs.declared.found.Found.TheVariants as founds
+use Rattle.mx_book.specs.Register.{register, aircraft, birth, found_of}
 use Rattle.mx_book.specs.Life.{life_now}
 
 -- ── programmes ──
@@ -39,6 +40,10 @@ revision_loaded kind _ = None
 abbrev pub tasks_in_force : List Entry → List ℕ → Option (List Task)
 tasks_in_force book kind = last_of (register (tasks_loaded kind) book)
 
+-- the same, none where it has no programme
+abbrev pub tasks_or_none : List Entry → List ℕ → List Task
+tasks_or_none book kind = option_map_or (λ tasks. tasks) (tasks_in_force book kind) []
+
 -- the revision of the programme in force of a kind
 abbrev pub revision_in_force : List Entry → List ℕ → Option ℕ
 revision_in_force book kind = last_of (register (revision_loaded kind) book)
@@ -51,15 +56,15 @@ next_revision book kind = option_map_or (λ n. n + 1) (revision_in_force book ki
 abbrev pub task_in_force : List Entry → List ℕ → List ℕ → Option Task
 task_in_force book kind id = option_and_then (find (λ t. same_text t.id id)) (tasks_in_force book kind)
 
--- what is done on every airframe is done on each that is known, and what is done on a part on each component of that part
-abbrev pub is_done_on : List Entry → Item → Applies → Bool
-is_done_on book (Airframe tail) ToAirframe = is_some (aircraft book tail)
-is_done_on book (Component serial) (ToPart part) = is_of_part book serial part
-is_done_on book _ _ = false
+-- what is done on every airframe is done on each that was found, and what is done on a part on each component of that part
+abbrev pub is_done_in : Found → Applies → Bool
+is_done_in (founds.Airframe found) ToAirframe = is_some found
+is_done_in (founds.Component found) (ToPart part) = option_map_or (λ c. same_text c.part part) found false
+is_done_in _ _ = false
 
 -- the task applies to the item
 abbrev pub applies_to : List Entry → Item → Task → Bool
-applies_to book item t = is_done_on book item t.applies
+applies_to book item t = is_done_in (found_of book item) t.applies
 
 -- ── by which programme work is done ──
 

@@ -1,4 +1,4 @@
-//! The base that the next due of a task is counted from, and when a task is due.
+//! The base that the next due of a task is counted from.
 ghost use Rattle.std.specs.Prelude.{◌≡◌, ◌≤◌, length, true, IfSome};
 ghost use Rattle.std.specs.List.{list_all};
 ghost use Rattle.std.specs.Option.{option_and_then};
@@ -9,14 +9,15 @@ ghost use Rattle.mx_due.specs.Due.{IsLife, IsBase, due_after};
 ghost use Rattle.mx_book.specs.Register.{birth};
 ghost use Rattle.mx_book.specs.Life.{life_at};
 ghost use Rattle.mx_book.specs.Lists.{use_or_none};
-ghost use Rattle.mx_book.specs.Base.{DoneIn, accomplished_by, task_then, base_of, base_from, base, due_by, due};
+ghost use Rattle.mx_book.specs.Base.{DoneIn, accomplished_by, task_then, base_of, base_from, base};
 ghost use Rattle.mx_book.specs.declared.judging.TheConstants.{MOST_ENTRIES};
 
+use crate::found::{birth_of, item_of_place, kind_of_place};
 use crate::life_list::life_or_none;
 use crate::lives::life;
-use crate::programmes::{is_done_by, is_task_of, kind_of_place, task_of_kind};
-use crate::register::birth_of;
-use mx_base::{Base, Day, Kind, Limit, Moment, TaskId, Use, day_of};
+use crate::programmes::{is_done_by, task_of_kind};
+use crate::register::found_of;
+use mx_base::{Base, Day, Limit, Moment, TaskId, Use, day_of};
 use mx_command::{Body, Command, Item, Line, Release, Task};
 use mx_due::{base_done, due_after};
 
@@ -42,7 +43,8 @@ fn task_in_force_then(
     ensures task { result ≡ task_then entries.now number release.now id.now }
     ensures shape { IfSome result (λ t. task_shape t ≡ true) }
 {
-    match kind_of_place(entries, &release.place) {
+    let found = found_of(entries, &item_of_place(&release.place));
+    match kind_of_place(&release.place, &found) {
         Some(kind) => task_of_kind(&entries[..number], &kind, id),
         None => None,
     }
@@ -60,7 +62,7 @@ fn due_then(
     ensures { result ≡ option_and_then (due_after before (birth entries.now item.now)) task }
 {
     match task {
-        Some(task) => due_after(before, birth_of(entries, item), &task),
+        Some(task) => due_after(before, birth_of(&found_of(entries, item)), &task),
         None => None,
     }
 }
@@ -204,39 +206,4 @@ pub(crate) fn last_base(entries: &[Command], item: &Item, id: &TaskId) -> Option
         rest = later;
     }
     last
-}
-
-/// When a task of a programme is due on an item, or `None` where it does not apply to it or is due no more.
-pub(crate) fn due_of_task(entries: &[Command], item: &Item, task: &Task) -> Option<Limit>
-    requires few { length entries.now ≤ MOST_ENTRIES }
-    requires shaped { list_all has_shape entries.now ≡ true }
-    requires shape { task_shape task.now ≡ true }
-    ensures { result ≡ due_by entries.now item.now task.now }
-{
-    if is_task_of(entries, item, task) {
-        due_after(
-            last_base(entries, item, &task.id),
-            birth_of(entries, item),
-            task,
-        )
-    } else {
-        None
-    }
-}
-
-/// When the task with a name in the programme in force of a kind is due on an item.
-pub(crate) fn due_of_kind(
-    entries: &[Command],
-    item: &Item,
-    kind: &Kind,
-    id: &TaskId,
-) -> Option<Limit>
-    requires few { length entries.now ≤ MOST_ENTRIES }
-    requires shaped { list_all has_shape entries.now ≡ true }
-    ensures { result ≡ due entries.now item.now kind.now id.now }
-{
-    match task_of_kind(entries, kind, id) {
-        Some(task) => due_of_task(entries, item, &task),
-        None => None,
-    }
 }

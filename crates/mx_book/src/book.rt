@@ -12,15 +12,17 @@ ghost use Rattle.mx_book.specs.LimitList.{limits};
 ghost use Rattle.mx_book.specs.Judge.{judge};
 ghost use Rattle.mx_book.specs.Book.{entry_at, entries_from, IsBook};
 
-use crate::bases::{due_of_kind, last_base};
+use crate::bases::last_base;
 use crate::defects::{Defect, list_open_defects};
 use crate::due_lists::list_dues;
 use crate::due_row::DueList;
+use crate::dues::due_of_kind;
 use crate::forecast::{ForecastList, list_forecast};
 use crate::judging::verdict_on;
 use crate::life_list::{LifeList, list_lives};
 use crate::limit_list::{LimitList, list_limits};
 use crate::lives::life;
+use crate::plain::{Plain, unless_no_memory};
 use crate::verdict::Verdict;
 use mx_base::{Base, Day, Kind, Limit, Moment, Tail, TaskId, Use};
 use mx_command::{Command, Item};
@@ -104,7 +106,11 @@ impl Book {
     pub fn judge(&self, command: &Command) -> Verdict
         ensures { result ≡ judge self.now command.now }
     {
-        verdict_on(self.entries.as_slice(), command)
+        let mut records = Plain { book: self };
+        match verdict_on(&mut records, command) {
+            Ok(verdict) => verdict,
+            Err(never) => match never {},
+        }
     }
 
     /// Enters a command that is judged new, and answers its number. Where memory runs out the command is
@@ -155,7 +161,11 @@ impl Book {
     pub fn due(&self, item: &Item, kind: &Kind, task: &TaskId) -> Option<Limit>
         ensures { result ≡ due self.now item.now kind.now task.now }
     {
-        due_of_kind(self.entries.as_slice(), item, kind, task)
+        let mut records = Plain { book: self };
+        match due_of_kind(&mut records, item, kind, task) {
+            Ok(due) => due,
+            Err(never) => match never {},
+        }
     }
 
     /// The due list of an aircraft on a day, or `None` where the registration is unknown. `NoMemory` where memory
@@ -168,7 +178,8 @@ impl Book {
     ) -> Result<Option<DueList>, NoMemory>
         ensures { IfOk result (λ list. list ≡ due_list self.now tail.now day) }
     {
-        Ok(list_dues(alloc, self.entries.as_slice(), tail, day)?)
+        let mut records = Plain { book: self };
+        unless_no_memory(list_dues(&mut records, alloc, tail, day))
     }
 
     /// The forecast of an aircraft: what is reached within so many days of a day, at these minutes and cycles a day, or
@@ -184,8 +195,8 @@ impl Book {
     ) -> Result<Option<ForecastList>, NoMemory>
         ensures { IfOk result (λ list. list ≡ forecast self.now tail.now day days minutes cycles) }
     {
-        let entries = self.entries.as_slice();
-        Ok(list_forecast(alloc, entries, tail, day, days, minutes, cycles)?)
+        let mut records = Plain { book: self };
+        unless_no_memory(list_forecast(&mut records, alloc, tail, day, days, minutes, cycles))
     }
 
     /// The open defects of an aircraft, in the order of their entries; none of an unknown registration. `NoMemory` where
@@ -206,7 +217,8 @@ impl Book {
     ) -> Result<Option<LimitList>, NoMemory>
         ensures { IfOk result (λ list. list ≡ limits self.now tail.now day) }
     {
-        Ok(list_limits(alloc, self.entries.as_slice(), tail, day)?)
+        let mut records = Plain { book: self };
+        unless_no_memory(list_limits(&mut records, alloc, tail, day))
     }
 
     /// The life list of an aircraft, or `None` where the registration is unknown. `NoMemory` where memory
@@ -214,7 +226,8 @@ impl Book {
     pub fn life_list(&self, alloc: Global, tail: &Tail) -> Result<Option<LifeList>, NoMemory>
         ensures { IfOk result (λ list. list ≡ life_list self.now tail.now) }
     {
-        Ok(list_lives(alloc, self.entries.as_slice(), tail)?)
+        let mut records = Plain { book: self };
+        unless_no_memory(list_lives(&mut records, alloc, tail))
     }
 
     /// A copy of the first entries, at most `at_most`, of those whose number is at least `from`, in their order.

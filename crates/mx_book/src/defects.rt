@@ -1,8 +1,8 @@
 //! Deferred defects: which are open, and the last day on which each may be.
-ghost use Rattle.std.specs.Prelude.{◌≡◌, [], ◌∷◌, ◌++◌, pos, IfOk};
+ghost use Rattle.std.specs.Prelude.{◌≡◌, ◌+◌, [], ◌∷◌, pos, IfOk};
 ghost use Rattle.std.specs.List.{cons_option, list_any};
 ghost use Rattle.mx_command.specs.Act.{lines_of};
-ghost use Rattle.mx_book.specs.Defect.{deferred_by, defect, rectifies, is_rectified, extension, days_extended, interval, is_stated, letter_of, last_permitted, is_open, open_from, open_defects};
+ghost use Rattle.mx_book.specs.Defect.{deferred_by, defect, rectifies, is_rectified, extension, day_found, interval, is_stated, letter_of, is_open, open_from, open_defects};
 
 use mx_base::{Doc, Tail, day_of};
 use mx_command::{Category, Command, Deferral, Extension, Line};
@@ -74,16 +74,6 @@ pub(crate) fn extension_of_defect(entries: &[Command], doc: &Doc) -> Option<Exte
         .find(|extension| extension.defect == *doc)
 }
 
-/// The days by which the interval of a defect was extended.
-pub(crate) fn extension_days(entries: &[Command], doc: &Doc) -> u32
-    ensures { result ≡ days_extended entries.now doc.now }
-{
-    match extension_of_defect(entries, doc) {
-        Some(extension) => extension.days,
-        None => 0,
-    }
-}
-
 /// The interval of a category: the days after the day of discovery within which a defect is rectified.
 pub(crate) fn interval_of(category: &Category) -> u32
     ensures { result ≡ interval category.now }
@@ -118,14 +108,13 @@ pub(crate) fn category_letter(category: &Category) -> char
     }
 }
 
-/// The last day on which a defect may be open, by its number, which may be past the last of the calendar.
-pub(crate) fn last_day_of(entries: &[Command], defect: &Defect) -> i64
-    ensures { result ≡ pos (last_permitted entries.now defect.now) }
+/// The last day on which a defect may be open, where its interval was extended by so many days: by its number, which may
+/// be past the last of the calendar.
+pub(crate) fn last_day_with(defect: &Defect, days: u32) -> i64
+    ensures { result ≡ pos (day_found defect.now + interval defect.now.deferral.category + days) }
 {
     let found = day_of(defect.deferral.moment);
-    i64::from(found.number())
-        + i64::from(interval_of(&defect.deferral.category))
-        + i64::from(extension_days(entries, &defect.doc))
+    i64::from(found.number()) + i64::from(interval_of(&defect.deferral.category)) + i64::from(days)
 }
 
 // Whether a defect is of this aircraft, and was not rectified.

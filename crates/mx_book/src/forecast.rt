@@ -1,18 +1,19 @@
 //! The forecast of an aircraft: after how many days each row of its due list is reached, at the rate that it is flown.
-ghost use Rattle.std.specs.Prelude.{◌≡◌, ◌≤◌, length, true, IfOk};
-ghost use Rattle.std.specs.List.{filter_map, list_all};
-ghost use Rattle.mx_command.specs.Shape.{has_shape};
+ghost use Rattle.std.specs.Prelude.{◌≡◌, IfOk};
+ghost use Rattle.std.specs.List.{filter_map};
 ghost use Rattle.mx_due.specs.Reach.{IsLeastIfAny};
 ghost use Rattle.mx_book.specs.Forecast.{is_reached_after, row_after, forecast_row, sooner, forecast};
+ghost use Rattle.mx_book.specs.Memory.{with_memory};
 ghost use Rattle.mx_book.specs.Ranks.{forecast_rank};
-ghost use Rattle.mx_book.specs.declared.judging.TheConstants.{MOST_ENTRIES};
+ghost use Rattle.mx_book.specs.Reading.{Answers};
 
 use crate::due_lists::placed_rows;
 use crate::due_row::DueRow;
+use crate::list_questions::aircraft_of;
+use crate::lists::Lists;
 use crate::order::{Placed, Rows, sorted};
-use crate::register::aircraft_of_tail;
+use crate::stop::Stop;
 use mx_base::{Day, Tail};
-use mx_command::Command;
 use mx_due::{days_to_reach, days_to_reach_some};
 use std::alloc::{AllocError, Global};
 
@@ -124,35 +125,32 @@ fn rows_within(
     Ok(rows)
 }
 
-/// The forecast of an aircraft from a day on, or `None` where the registration is unknown. An error where memory runs out.
-pub(crate) fn list_forecast(
+/// The forecast of an aircraft from a day on, or `None` where the registration is unknown. Or why it stopped: memory
+/// ran out, or a question was not answered.
+pub fn list_forecast<R: Lists>(
+    records: &mut R,
     alloc: Global,
-    entries: &[Command],
     tail: &Tail,
     day: Day,
     days: u32,
     minutes: u32,
     cycles: u32,
-) -> Result<Option<ForecastList>, AllocError>
-    requires few { length entries.now ≤ MOST_ENTRIES }
-    requires shaped { list_all has_shape entries.now ≡ true }
-    ensures { IfOk result
-        (λ list. list ≡ forecast entries.now tail.now day days minutes cycles) }
+) -> Result<Option<ForecastList>, Stop<R::Fault>>
+    ensures { Answers (with_memory R.reading) records.old records.new result
+        (λ book. forecast book tail.now day days minutes cycles) }
 {
-    match aircraft_of_tail(entries, tail) {
-        None => Ok(None),
-        Some(aircraft) => {
-            let all = placed_rows(alloc, entries, tail, &aircraft.kind, day)?;
-            let reached = rows_within(alloc, all.as_slice(), day, days, minutes, cycles)?;
-            let rows = sorted(reached)?;
-            Ok(Some(ForecastList {
-                tail: *tail,
-                day,
-                days,
-                minutes,
-                cycles,
-                rows,
-            }))
-        }
-    }
+    let Some(aircraft) = aircraft_of(records, tail)? else {
+        return Ok(None);
+    };
+    let all = placed_rows(records, alloc, tail, &aircraft.kind, day)?;
+    let reached = rows_within(alloc, all.as_slice(), day, days, minutes, cycles)?;
+    let rows = sorted(reached)?;
+    Ok(Some(ForecastList {
+        tail: *tail,
+        day,
+        days,
+        minutes,
+        cycles,
+        rows,
+    }))
 }

@@ -1,36 +1,57 @@
 //! Judging the deferral of a defect, and the extension of its interval.
-ghost use Rattle.std.specs.Prelude.{◌≡◌, ℕ, pos, nat_le, nat_lt, length, false, Option, Some, None, if◌then◌else◌};
-ghost use Rattle.mx_command.specs.Act.{Deferred, Extended};
-ghost use Rattle.mx_book.specs.Defect.{defect as defect_by};
+ghost use Rattle.std.specs.Prelude.{◌≡◌, ℕ, pos, nat_le, nat_lt, length, false, is_some, List, Some, None, if◌then◌else◌};
+ghost use Rattle.mx_command.specs.Act.{Entry, Deferred, Extended};
+ghost use Rattle.mx_book.specs.Defect.{defect as defect_by, days_extended, is_rectified, extension as extension_by, last_permitted};
 ghost use Rattle.mx_book.specs.Judge.{refusals, first_of};
+ghost use Rattle.mx_book.specs.Reading.{Answers};
 ghost use Rattle.mx_book.specs.declared.judging.TheConstants.{MOST_ENTRIES};
 
-use crate::defects::{
-    Defect, defect_of_document, extension_of_defect, has_stated_days, interval_of, last_day_of,
-    was_rectified,
-};
+use crate::defects::{Defect, has_stated_days, interval_of, last_day_with};
 use crate::judging::MOST_ENTRIES;
-use crate::lives::clock_of_airframe;
-use crate::register::aircraft_of_tail;
+use crate::records::Records;
 use crate::verdict::Refusal;
-use mx_base::{Day, day_of};
-use mx_command::{Command, Deferral, Extension};
+use mx_base::{Day, Doc, day_of};
+use mx_command::{Deferral, Extension, Item};
+
+/// The days by which the interval of a defect was extended.
+pub(crate) fn extension_days<R: Records>(records: &mut R, doc: &Doc) -> Result<u32, R::Fault>
+    ensures { Answers R.reading records.old records.new result
+        (λ book. days_extended book doc.now) }
+{
+    match records.extension(doc)? {
+        Some(extension) => Ok(extension.days),
+        None => Ok(0),
+    }
+}
+
+// The last day on which a defect may be open, by its number, which may be past the last of the calendar.
+fn last_day_of<R: Records>(records: &mut R, defect: &Defect) -> Result<i64, R::Fault>
+    ensures { Answers R.reading records.old records.new result
+        (λ book. pos (last_permitted book defect.now)) }
+{
+    let days = extension_days(records, &defect.doc)?;
+    Ok(last_day_with(defect, days))
+}
 
 /// Why a defect is not deferred.
-pub(crate) fn refusal_of_deferral(entries: &[Command], deferral: &Deferral) -> Option<Refusal>
-    ensures { result ≡ first_of (refusals entries.now (Deferred deferral.now)) }
+pub(crate) fn refusal_of_deferral<R: Records>(
+    records: &mut R,
+    deferral: &Deferral,
+) -> Result<Option<Refusal>, R::Fault>
+    ensures { Answers R.reading records.old records.new result
+        (λ book. first_of (refusals book (Deferred deferral.now))) }
 {
-    if entries.len() >= MOST_ENTRIES {
-        return Some(Refusal::Full);
+    if records.entry_count()? >= MOST_ENTRIES {
+        return Ok(Some(Refusal::Full));
     }
-    if aircraft_of_tail(entries, &deferral.tail).is_none() {
-        return Some(Refusal::UnknownAircraft);
+    if records.aircraft(&deferral.tail)?.is_none() {
+        return Ok(Some(Refusal::UnknownAircraft));
     }
-    let clock = clock_of_airframe(entries, &deferral.tail);
+    let clock = records.clock(&Item::Airframe(deferral.tail))?;
     if deferral.moment < clock {
-        Some(Refusal::OutOfOrder(clock))
+        Ok(Some(Refusal::OutOfOrder(clock)))
     } else {
-        None
+        Ok(None)
     }
 }
 
@@ -45,13 +66,23 @@ fn passed(last: i64, day: Day) -> Option<Day>
     }
 }
 
-// Why the interval of this defect is not extended, where there is room for an entry.
-fn refusal_by_defect(entries: &[Command], extension: &Extension, defect: &Defect) -> Option<Refusal>
-    requires room { nat_le MOST_ENTRIES (length entries.now) ≡ false }
-    requires known { defect_by entries.now extension.now.defect ≡ Some defect.now }
-    ensures { result ≡ first_of (refusals entries.now (Extended extension.now)) }
+// Why the interval of this defect is not extended, where there is room for an entry: by whether it was rectified, whether
+// its interval was extended, and the last day on which it may be open.
+fn refusal_by_defect(
+    extension: &Extension,
+    defect: &Defect,
+    rectified: bool,
+    extended: bool,
+    last: i64,
+) -> Option<Refusal>
+    ensures { (book : List Entry) → nat_le MOST_ENTRIES (length book) ≡ false
+        → Some defect.now ≡ defect_by book extension.now.defect
+        → rectified ≡ is_rectified book extension.now.defect
+        → extended ≡ is_some (extension_by book extension.now.defect)
+        → last ≡ pos (last_permitted book defect.now)
+        → result ≡ first_of (refusals book (Extended extension.now)) }
 {
-    if was_rectified(entries, &extension.defect) {
+    if rectified {
         return Some(Refusal::DefectClosed);
     }
     if extension.day < day_of(defect.deferral.moment) {
@@ -60,28 +91,35 @@ fn refusal_by_defect(entries: &[Command], extension: &Extension, defect: &Defect
     if has_stated_days(&defect.deferral.category) {
         return Some(Refusal::NotExtendable);
     }
-    if extension_of_defect(entries, &extension.defect).is_some() {
+    if extended {
         return Some(Refusal::AlreadyExtended);
     }
     let most = interval_of(&defect.deferral.category);
     if most < extension.days {
         return Some(Refusal::ExtensionTooLong(most));
     }
-    match passed(last_day_of(entries, defect), extension.day) {
+    match passed(last, extension.day) {
         Some(last) => Some(Refusal::IntervalEnded(last)),
         None => None,
     }
 }
 
 /// Why the interval of a defect is not extended.
-pub(crate) fn refusal_of_extension(entries: &[Command], extension: &Extension) -> Option<Refusal>
-    ensures { result ≡ first_of (refusals entries.now (Extended extension.now)) }
+pub(crate) fn refusal_of_extension<R: Records>(
+    records: &mut R,
+    extension: &Extension,
+) -> Result<Option<Refusal>, R::Fault>
+    ensures { Answers R.reading records.old records.new result
+        (λ book. first_of (refusals book (Extended extension.now))) }
 {
-    if entries.len() >= MOST_ENTRIES {
-        return Some(Refusal::Full);
+    if records.entry_count()? >= MOST_ENTRIES {
+        return Ok(Some(Refusal::Full));
     }
-    match defect_of_document(entries, &extension.defect) {
-        None => Some(Refusal::UnknownDefect),
-        Some(defect) => refusal_by_defect(entries, extension, &defect),
-    }
+    let Some(defect) = records.defect(&extension.defect)? else {
+        return Ok(Some(Refusal::UnknownDefect));
+    };
+    let rectified = records.is_rectified(&extension.defect)?;
+    let extended = records.extension(&extension.defect)?.is_some();
+    let last = last_day_of(records, &defect)?;
+    Ok(refusal_by_defect(extension, &defect, rectified, extended, last))
 }

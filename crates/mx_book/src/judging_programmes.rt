@@ -1,55 +1,50 @@
 //! Judging the revision of a programme that is loaded, and the task of an item that is opened.
-ghost use Rattle.std.specs.Prelude.{◌≡◌, List, false};
-ghost use Rattle.std.specs.Option.{option_map_or};
-ghost use Rattle.mx_command.specs.Act.{Loaded, Opened};
+ghost use Rattle.std.specs.Prelude.{◌≡◌, List, Some, false, is_none, length, nat_le};
+ghost use Rattle.std.specs.List.{list_any};
+ghost use Rattle.mx_command.specs.Act.{Entry, Loaded, Opened};
 ghost use Rattle.mx_command.specs.declared.programme.Task.{Task};
-ghost use Rattle.mx_book.specs.Judge.{is_of_other_kind, opening_too_large, refusals, first_of};
+ghost use Rattle.mx_command.specs.declared.opening.Opening.{Opening};
+ghost use Rattle.mx_book.specs.Register.{aircraft, component, found_of};
+ghost use Rattle.mx_book.specs.Judge.{item_tails, item_serials, opening_too_late, opening_too_large, refusals, first_of};
+ghost use Rattle.mx_book.specs.Asking.{task_of};
+ghost use Rattle.mx_book.specs.Facts.{opening_facts};
+ghost use Rattle.mx_book.specs.Reading.{Answers};
+ghost use Rattle.mx_book.specs.declared.judging.TheConstants.{MOST_ENTRIES};
 
+use crate::facts::OpeningFacts;
+use crate::found::{Found, as_of, is_other_aircraft, is_task_of, opening_use};
 use crate::judging::MOST_ENTRIES;
-use crate::judging_items::{is_unknown_airframe, is_unknown_component};
-use crate::lives::opening_use;
-use crate::programmes::{
-    is_task_of, programme_in_force, revision_expected, task_of_kind, was_accomplished,
-};
-use crate::register::{aircraft_of_tail, as_of_item};
+use crate::judging_items::{found_of, is_unknown_airframe, is_unknown_component};
+use crate::records::Records;
 use crate::verdict::Refusal;
-use mx_base::{Kind, day_of};
-use mx_command::{Command, Item, Opening, Programme};
+use mx_base::day_of;
+use mx_command::{Opening, Programme, Task};
 
 /// Why a programme is not loaded.
-pub(crate) fn refusal_of_programme(entries: &[Command], programme: &Programme) -> Option<Refusal>
-    ensures { (tasks : List Task) → result
-        ≡ first_of (refusals entries.now (Loaded programme.now tasks)) }
+pub(crate) fn refusal_of_programme<R: Records>(
+    records: &mut R,
+    programme: &Programme,
+) -> Result<Option<Refusal>, R::Fault>
+    ensures { (tasks : List Task) → Answers R.reading records.old records.new result
+        (λ book. first_of (refusals book (Loaded programme.now tasks))) }
 {
-    if entries.len() >= MOST_ENTRIES {
-        return Some(Refusal::Full);
+    if records.entry_count()? >= MOST_ENTRIES {
+        return Ok(Some(Refusal::Full));
     }
-    let expected = revision_expected(entries, &programme.kind);
+    let expected = records.next_revision(&programme.kind)?;
     if programme.revision == expected {
-        None
+        Ok(None)
     } else {
-        Some(Refusal::WrongRevision(expected))
-    }
-}
-
-// Whether an item is an airframe of another kind.
-fn is_other_aircraft(entries: &[Command], kind: &Kind, item: &Item) -> bool
-    ensures { result ≡ is_of_other_kind entries.now kind.now item.now }
-{
-    match item {
-        Item::Airframe(tail) => match aircraft_of_tail(entries, tail) {
-            Some(aircraft) => aircraft.kind != *kind,
-            None => false,
-        },
-        Item::Component(_) => false,
+        Ok(Some(Refusal::WrongRevision(expected)))
     }
 }
 
 // Whether an opening has more use than its item brought with it.
-fn is_too_large(entries: &[Command], opening: &Opening) -> bool
-    ensures { result ≡ opening_too_large entries.now (Opened opening.now) }
+fn is_too_large(found: &Found, opening: &Opening) -> bool
+    ensures { (book : List Entry) → found.now ≡ found_of book opening.now.item
+        → result ≡ opening_too_large book (Opened opening.now) }
 {
-    match opening_use(entries, &opening.item) {
+    match opening_use(found) {
         Some(most) => {
             most.minutes < opening.use_then.minutes || most.cycles < opening.use_then.cycles
         }
@@ -57,42 +52,86 @@ fn is_too_large(entries: &[Command], opening: &Opening) -> bool
     }
 }
 
-/// Why a task is not opened.
-pub(crate) fn refusal_of_opening(entries: &[Command], opening: &Opening) -> Option<Refusal>
-    ensures { result ≡ first_of (refusals entries.now (Opened opening.now)) }
+// Whether the day of an opening is after that of its item's own opening.
+fn is_too_late(found: &Found, opening: &Opening) -> bool
+    ensures { (book : List Entry) → found.now ≡ found_of book opening.now.item
+        → result ≡ opening_too_late book (Opened opening.now) }
 {
-    if entries.len() >= MOST_ENTRIES {
-        return Some(Refusal::Full);
-    }
-    if is_unknown_airframe(entries, &opening.item) {
-        return Some(Refusal::UnknownAircraft);
-    }
-    if is_unknown_component(entries, &opening.item) {
-        return Some(Refusal::UnknownComponent);
-    }
-    if programme_in_force(entries, &opening.kind).is_none() {
-        return Some(Refusal::UnknownProgramme);
-    }
-    let Some(task) = task_of_kind(entries, &opening.kind, &opening.task) else {
+    day_of(as_of(found)) < opening.day
+}
+
+// What there is against the opening of this task.
+fn facts_of_opening<R: Records>(
+    records: &mut R,
+    opening: &Opening,
+    task: &Task,
+) -> Result<OpeningFacts, R::Fault>
+    ensures { Answers R.reading records.old records.new result
+        (λ book. opening_facts book opening.now task.now) }
+{
+    let found = found_of(records, &opening.item)?;
+    Ok(OpeningFacts {
+        applies: is_task_of(&found, task),
+        accomplished: records.is_accomplished(&opening.item, &opening.task)?,
+        other_kind: is_other_aircraft(&found, &opening.kind),
+        too_late: is_too_late(&found, opening),
+        too_large: is_too_large(&found, opening),
+    })
+}
+
+// Why this task is not opened on a known item, where there is room for an entry.
+fn refusal_by_facts(task: &Task, facts: &OpeningFacts) -> Option<Refusal>
+    ensures { (book : List Entry) (o : Opening) → nat_le MOST_ENTRIES (length book) ≡ false
+        → false ≡ list_any (λ tail. is_none (aircraft book tail)) (item_tails o.item)
+        → false ≡ list_any (λ serial. is_none (component book serial)) (item_serials o.item)
+        → Some (Some task.now) ≡ task_of book o.kind o.task
+        → facts.now ≡ opening_facts book o task.now
+        → result ≡ first_of (refusals book (Opened o)) }
+{
+    if !facts.applies {
         return Some(Refusal::UnknownTask);
-    };
-    if !is_task_of(entries, &opening.item, &task) {
-        return Some(Refusal::UnknownTask);
     }
-    if was_accomplished(entries, &opening.item, &opening.task) {
+    if facts.accomplished {
         return Some(Refusal::TaskClosed);
     }
     if task.retire {
         return Some(Refusal::LifeLimit);
     }
-    if is_other_aircraft(entries, &opening.kind, &opening.item) {
+    if facts.other_kind {
         return Some(Refusal::OtherAircraft);
     }
-    if day_of(as_of_item(entries, &opening.item)) < opening.day {
+    if facts.too_late {
         return Some(Refusal::OpeningTooLate);
     }
-    if is_too_large(entries, opening) {
+    if facts.too_large {
         return Some(Refusal::OpeningTooLarge);
     }
     None
+}
+
+/// Why a task is not opened.
+pub(crate) fn refusal_of_opening<R: Records>(
+    records: &mut R,
+    opening: &Opening,
+) -> Result<Option<Refusal>, R::Fault>
+    ensures { Answers R.reading records.old records.new result
+        (λ book. first_of (refusals book (Opened opening.now))) }
+{
+    if records.entry_count()? >= MOST_ENTRIES {
+        return Ok(Some(Refusal::Full));
+    }
+    if is_unknown_airframe(records, &opening.item)? {
+        return Ok(Some(Refusal::UnknownAircraft));
+    }
+    if is_unknown_component(records, &opening.item)? {
+        return Ok(Some(Refusal::UnknownComponent));
+    }
+    let Some(found) = records.task(&opening.kind, &opening.task)? else {
+        return Ok(Some(Refusal::UnknownProgramme));
+    };
+    let Some(task) = found else {
+        return Ok(Some(Refusal::UnknownTask));
+    };
+    let facts = facts_of_opening(records, opening, &task)?;
+    Ok(refusal_by_facts(&task, &facts))
 }

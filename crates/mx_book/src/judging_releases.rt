@@ -1,192 +1,211 @@
-//! Judging a release: each of its lines against the book before it, and its place.
-ghost use Rattle.std.specs.Prelude.{◌≡◌, true, false, not, is_none};
+//! Judging a release: what there is against its place and each of its lines is gathered, and then judged.
+ghost use Rattle.std.specs.Prelude.{◌≡◌, ◌&&◌, List, not, ℕ};
 ghost use Rattle.std.specs.List.{list_any};
-ghost use Rattle.std.specs.Option.{option_map_or};
-ghost use Rattle.mx_command.specs.Act.{Released};
+ghost use Rattle.mx_book.specs.Judge.{fitted_in_shop, is_of_other_aircraft, refusals, first_of};
+ghost use Rattle.mx_book.specs.Defect.{defect as defect_by};
+ghost use Rattle.mx_command.specs.Act.{Entry, Released};
 ghost use Rattle.mx_command.specs.Bounds.{are_distinct};
-ghost use Rattle.mx_command.specs.Same.{same_text, same_line};
-ghost use Rattle.mx_book.specs.Register.{aircraft, component};
-ghost use Rattle.mx_book.specs.Span.{tail_fitted};
-ghost use Rattle.mx_book.specs.Life.{clock};
-ghost use Rattle.mx_book.specs.Programme.{task_at};
-ghost use Rattle.mx_book.specs.Judge.{item_at, line_tails, line_serials, names_unknown_aircraft, names_unknown_component, line_without_programme, line_of_unknown_task, fitted_in_shop, is_at, line_of_item_elsewhere, line_of_closed_task, line_of_retirement, refusals, first_of};
+ghost use Rattle.mx_command.specs.Same.{same_line};
+ghost use Rattle.mx_book.specs.Reading.{Answers};
+ghost use Rattle.mx_book.specs.Asking.{task_by};
+ghost use Rattle.mx_book.specs.Facts.{is_applied, has_no_repeat, is_retiring, work_facts, rectified_facts, line_facts, lines_facts, place_facts, release_refusals};
 
+use crate::defects::Defect;
+use crate::facts::{LineFacts, PlaceFacts, either, no_facts};
+use crate::found::{is_task_of, item_of_place, kind_of_place};
 use crate::judging::MOST_ENTRIES;
-use crate::judging_items::{is_unknown_airframe, is_unknown_component};
-use crate::judging_rectified::{have_closed_defect, have_other_aircraft, have_unknown_defect};
-use crate::lives::{clock_of_airframe, clock_of_component};
-use crate::programmes::{is_task_of, task_of_place, tasks_of_place, was_accomplished};
-use crate::spans::fitted_to;
+use crate::judging_items::{found_of, is_item_at, is_unknown_airframe, is_unknown_component};
+use crate::records::Records;
 use crate::verdict::Refusal;
-use mx_base::{Moment, Serial, Tail, TaskId};
-use mx_command::{Command, Item, Line, Place, Release};
+use mx_base::{Doc, Kind, TaskId};
+use mx_command::{Item, Line, Place, Release, Task};
 
-// ── what a release names ──
+// The task with a name in the programme of a kind, where there is a kind.
+fn task_by<R: Records>(
+    records: &mut R,
+    kind: &Option<Kind>,
+    id: &TaskId,
+) -> Result<Option<Option<Task>>, R::Fault>
+    ensures { Answers R.reading records.old records.new result
+        (λ book. task_by book kind.now id.now) }
+{
+    match kind {
+        Some(kind) => records.task(kind, id),
+        None => Ok(None),
+    }
+}
 
-// The item whose records a release at a place goes into.
-fn item_of_place(place: &Place) -> Item
-    ensures { result ≡ item_at place.now }
+// Whether the task that was found applies to the item.
+fn is_applicable<R: Records>(
+    records: &mut R,
+    item: &Item,
+    task: &Option<Option<Task>>,
+) -> Result<bool, R::Fault>
+    ensures { Answers R.reading records.old records.new result
+        (λ book. is_applied book item.now task.now) }
+{
+    match task {
+        Some(Some(task)) => Ok(is_task_of(&found_of(records, item)?, task)),
+        _ => Ok(false),
+    }
+}
+
+// Whether the task that was found has no repeat, or none was found.
+fn is_without_repeat(task: &Option<Option<Task>>) -> bool
+    ensures { result ≡ has_no_repeat task.now }
+{
+    match task {
+        Some(Some(task)) => task.repeat.is_none(),
+        _ => true,
+    }
+}
+
+// Whether a task that was accomplished, or not, has no repeat that was found.
+fn is_closed(accomplished: bool, task: &Option<Option<Task>>) -> bool
+    ensures { result ≡ accomplished && has_no_repeat task.now }
+{
+    accomplished && is_without_repeat(task)
+}
+
+// Whether the task that was found retires its item.
+fn is_retirement(task: &Option<Option<Task>>) -> bool
+    ensures { result ≡ is_retiring task.now }
+{
+    match task {
+        Some(Some(task)) => task.retire,
+        _ => false,
+    }
+}
+
+// What there is against a line that certifies work on an item.
+fn facts_of_work<R: Records>(
+    records: &mut R,
+    place: &Place,
+    kind: &Option<Kind>,
+    item: &Item,
+    id: &TaskId,
+) -> Result<LineFacts, R::Fault>
+    ensures { Answers R.reading records.old records.new result
+        (λ book. work_facts book place.now item.now id.now (task_by book kind.now id.now)) }
+{
+    let unknown_aircraft = is_unknown_airframe(records, item)?;
+    let unknown_component = is_unknown_component(records, item)?;
+    let task = task_by(records, kind, id)?;
+    let applies = is_applicable(records, item, &task)?;
+    let present = is_item_at(records, place, item)?;
+    let accomplished = records.is_accomplished(item, id)?;
+    Ok(LineFacts {
+        unknown_aircraft,
+        unknown_component,
+        without_programme: task.is_none(),
+        unknown_task: !applies,
+        unknown_defect: false,
+        item_elsewhere: !present,
+        closed_task: is_closed(accomplished, &task),
+        retirement: is_retirement(&task),
+        closed_defect: false,
+        other_aircraft: false,
+    })
+}
+
+// Whether a defect is of another aircraft than the one at a place, or the place is a shop.
+fn is_elsewhere(place: &Place, defect: &Option<Defect>) -> bool
+    ensures { (book : List Entry) (doc : List ℕ) → defect.now ≡ defect_by book doc
+        → result ≡ is_of_other_aircraft book place.now doc }
 {
     match place {
-        Place::Aircraft(tail) => Item::Airframe(*tail),
-        Place::Shop(serial, _) => Item::Component(*serial),
-    }
-}
-
-// Whether a line names an airframe that is unknown.
-fn is_line_of_unknown_airframe(entries: &[Command], line: &Line) -> bool
-    ensures { result ≡ list_any (λ tail. is_none (aircraft entries.now tail))
-        (line_tails line.now) }
-{
-    match line {
-        Line::Done(item, _) => is_unknown_airframe(entries, item),
-        Line::Rectified(_) => false,
-    }
-}
-
-// Whether one of some lines names an airframe that is unknown.
-fn have_unknown_airframe(entries: &[Command], lines: &[Line]) -> bool
-    ensures { result ≡ list_any (λ line. list_any (λ tail. is_none (aircraft entries.now tail))
-        (line_tails line)) lines.now }
-{
-    lines
-        .iter()
-        .any(|line| is_line_of_unknown_airframe(entries, line))
-}
-
-// Whether a release names an aircraft that is unknown.
-fn is_of_unknown_aircraft(entries: &[Command], release: &Release, lines: &[Line]) -> bool
-    ensures { result ≡ names_unknown_aircraft entries.now (Released release.now lines.now) }
-{
-    is_unknown_airframe(entries, &item_of_place(&release.place))
-        || have_unknown_airframe(entries, lines)
-}
-
-// Whether a line names a component that is unknown.
-fn is_line_of_unknown_component(entries: &[Command], line: &Line) -> bool
-    ensures { result ≡ list_any (λ serial. is_none (component entries.now serial))
-        (line_serials line.now) }
-{
-    match line {
-        Line::Done(item, _) => is_unknown_component(entries, item),
-        Line::Rectified(_) => false,
-    }
-}
-
-// Whether one of some lines names a component that is unknown.
-fn have_unknown_component(entries: &[Command], lines: &[Line]) -> bool
-    ensures { result ≡ list_any (λ line. list_any (λ serial. is_none (component entries.now serial))
-        (line_serials line)) lines.now }
-{
-    lines
-        .iter()
-        .any(|line| is_line_of_unknown_component(entries, line))
-}
-
-// Whether a release names a component that is unknown.
-fn is_of_unknown_component(entries: &[Command], release: &Release, lines: &[Line]) -> bool
-    ensures { result ≡ names_unknown_component entries.now (Released release.now lines.now) }
-{
-    is_unknown_component(entries, &item_of_place(&release.place))
-        || have_unknown_component(entries, lines)
-}
-
-// ── what its lines certify ──
-
-// Whether a line certifies a task where no programme is in force.
-fn is_line_without_programme(entries: &[Command], place: &Place, line: &Line) -> bool
-    ensures { result ≡ line_without_programme entries.now place.now line.now }
-{
-    match line {
-        Line::Done(_, _) => tasks_of_place(entries, place).is_none(),
-        Line::Rectified(_) => false,
-    }
-}
-
-// Whether one of some lines certifies a task where no programme is in force.
-fn are_without_programme(entries: &[Command], place: &Place, lines: &[Line]) -> bool
-    ensures { result ≡ list_any (line_without_programme entries.now place.now) lines.now }
-{
-    lines
-        .iter()
-        .any(|line| is_line_without_programme(entries, place, line))
-}
-
-// Whether a line certifies a task that is not in force at the place, or does not apply to the item.
-fn is_line_of_unknown_task(entries: &[Command], place: &Place, line: &Line) -> bool
-    ensures { result ≡ line_of_unknown_task entries.now place.now line.now }
-{
-    match line {
-        Line::Done(item, id) => match task_of_place(entries, place, id) {
-            Some(task) => !is_task_of(entries, item, &task),
-            None => true,
-        },
-        Line::Rectified(_) => false,
-    }
-}
-
-// Whether one of some lines certifies a task that is not in force at the place, or does not apply to the item.
-fn have_unknown_task(entries: &[Command], place: &Place, lines: &[Line]) -> bool
-    ensures { result ≡ list_any (line_of_unknown_task entries.now place.now) lines.now }
-{
-    lines
-        .iter()
-        .any(|line| is_line_of_unknown_task(entries, place, line))
-}
-
-// Whether a task was accomplished that has no repeat in force at the place.
-fn is_without_repeat(entries: &[Command], place: &Place, id: &TaskId) -> bool
-    ensures { result ≡ option_map_or (λ t. is_none t.repeat)
-        (task_at entries.now place.now id.now) true }
-{
-    match task_of_place(entries, place, id) {
-        Some(task) => task.repeat.is_none(),
-        None => true,
-    }
-}
-
-// Whether a line certifies a task that was accomplished, and has no repeat in force at the place.
-fn is_line_of_closed_task(entries: &[Command], place: &Place, line: &Line) -> bool
-    ensures { result ≡ line_of_closed_task entries.now place.now line.now }
-{
-    match line {
-        Line::Done(item, id) => {
-            was_accomplished(entries, item, id) && is_without_repeat(entries, place, id)
-        }
-        Line::Rectified(_) => false,
-    }
-}
-
-// Whether one of some lines certifies a task that was accomplished, and has no repeat in force at the place.
-fn have_closed_task(entries: &[Command], place: &Place, lines: &[Line]) -> bool
-    ensures { result ≡ list_any (line_of_closed_task entries.now place.now) lines.now }
-{
-    lines
-        .iter()
-        .any(|line| is_line_of_closed_task(entries, place, line))
-}
-
-// Whether a line certifies a task that retires its item.
-fn is_line_of_retirement(entries: &[Command], place: &Place, line: &Line) -> bool
-    ensures { result ≡ line_of_retirement entries.now place.now line.now }
-{
-    match line {
-        Line::Done(_, id) => match task_of_place(entries, place, id) {
-            Some(task) => task.retire,
+        Place::Aircraft(tail) => match defect {
+            Some(defect) => defect.deferral.tail != *tail,
             None => false,
         },
-        Line::Rectified(_) => false,
+        Place::Shop(_, _) => true,
     }
 }
 
-// Whether one of some lines certifies a task that retires its item.
-fn have_retirement(entries: &[Command], place: &Place, lines: &[Line]) -> bool
-    ensures { result ≡ list_any (line_of_retirement entries.now place.now) lines.now }
+// What there is against a line that certifies that a defect was rectified.
+fn facts_of_rectified<R: Records>(
+    records: &mut R,
+    place: &Place,
+    doc: &Doc,
+) -> Result<LineFacts, R::Fault>
+    ensures { Answers R.reading records.old records.new result
+        (λ book. rectified_facts book place.now doc.now) }
 {
-    lines
-        .iter()
-        .any(|line| is_line_of_retirement(entries, place, line))
+    let defect = records.defect(doc)?;
+    let rectified = records.is_rectified(doc)?;
+    Ok(LineFacts {
+        unknown_defect: defect.is_none(),
+        closed_defect: rectified,
+        other_aircraft: is_elsewhere(place, &defect),
+        ..no_facts()
+    })
 }
+
+// What there is against a line.
+fn facts_of_line<R: Records>(
+    records: &mut R,
+    place: &Place,
+    kind: &Option<Kind>,
+    line: &Line,
+) -> Result<LineFacts, R::Fault>
+    ensures { Answers R.reading records.old records.new result
+        (λ book. line_facts book place.now kind.now line.now) }
+{
+    match line {
+        Line::Done(item, id) => facts_of_work(records, place, kind, item, id),
+        Line::Rectified(doc) => facts_of_rectified(records, place, doc),
+    }
+}
+
+// What there is against some lines.
+fn facts_of_lines<R: Records>(
+    records: &mut R,
+    place: &Place,
+    kind: &Option<Kind>,
+    lines: &[Line],
+) -> Result<LineFacts, R::Fault>
+    ensures { Answers R.reading records.old records.new result
+        (λ book. lines_facts book place.now kind.now lines.now) }
+{
+    let mut all = no_facts();
+    let mut rest = lines;
+    while let Some((line, later)) = rest.split_first() {
+        let facts = facts_of_line(records, place, kind, line)?;
+        all = either(&all, &facts);
+        rest = later;
+    }
+    Ok(all)
+}
+
+// ── the place ──
+
+// Whether a place is a shop, and its component is fitted to an aircraft.
+fn is_shop_of_fitted<R: Records>(records: &mut R, place: &Place) -> Result<bool, R::Fault>
+    ensures { Answers R.reading records.old records.new result
+        (λ book. fitted_in_shop book place.now) }
+{
+    match place {
+        Place::Aircraft(_) => Ok(false),
+        Place::Shop(serial, _) => Ok(records.tail_fitted(serial)?.is_some()),
+    }
+}
+
+// What there is against a place.
+fn facts_of_place<R: Records>(records: &mut R, place: &Place) -> Result<PlaceFacts, R::Fault>
+    ensures { Answers R.reading records.old records.new result
+        (λ book. place_facts book place.now) }
+{
+    let item = item_of_place(place);
+    Ok(PlaceFacts {
+        unknown_aircraft: is_unknown_airframe(records, &item)?,
+        unknown_component: is_unknown_component(records, &item)?,
+        kind: kind_of_place(place, &found_of(records, &item)?),
+        fitted_in_shop: is_shop_of_fitted(records, place)?,
+        clock: records.clock(&item)?,
+    })
+}
+
+// ── the release ──
 
 // Whether a line is among others.
 #[tactic(auto, using(mx_command::proofs::SameLemmas::line_is))]
@@ -210,124 +229,70 @@ fn have_line_twice(lines: &[Line]) -> bool
     false
 }
 
-// ── where and when the work was done ──
-
-// Whether a place is a shop, and its component is fitted to an aircraft.
-fn is_shop_of_fitted(entries: &[Command], place: &Place) -> bool
-    ensures { result ≡ fitted_in_shop entries.now place.now }
-{
-    match place {
-        Place::Aircraft(_) => false,
-        Place::Shop(serial, _) => fitted_to(entries, serial).is_some(),
-    }
-}
-
-// Whether a component is fitted to this aircraft.
-fn is_fitted_to(entries: &[Command], serial: &Serial, tail: &Tail) -> bool
-    ensures { result ≡ option_map_or (λ t. same_text t tail.now)
-        (tail_fitted entries.now serial.now) false }
-{
-    match fitted_to(entries, serial) {
-        Some(fitted) => fitted == *tail,
-        None => false,
-    }
-}
-
-// Whether an item is at a place: the airframe of the aircraft, a component fitted to it, or the component in the shop.
-fn is_item_at(entries: &[Command], place: &Place, item: &Item) -> bool
-    ensures { result ≡ is_at entries.now place.now item.now }
-{
-    match place {
-        Place::Aircraft(tail) => match item {
-            Item::Airframe(named) => *named == *tail,
-            Item::Component(serial) => is_fitted_to(entries, serial, tail),
-        },
-        Place::Shop(serial, _) => match item {
-            Item::Airframe(_) => false,
-            Item::Component(named) => *named == *serial,
-        },
-    }
-}
-
-// Whether a line certifies work on an item that is elsewhere.
-fn is_line_of_item_elsewhere(entries: &[Command], place: &Place, line: &Line) -> bool
-    ensures { result ≡ line_of_item_elsewhere entries.now place.now line.now }
-{
-    match line {
-        Line::Done(item, _) => !is_item_at(entries, place, item),
-        Line::Rectified(_) => false,
-    }
-}
-
-// Whether one of some lines certifies work on an item that is elsewhere.
-fn have_item_elsewhere(entries: &[Command], place: &Place, lines: &[Line]) -> bool
-    ensures { result ≡ list_any (line_of_item_elsewhere entries.now place.now) lines.now }
-{
-    lines
-        .iter()
-        .any(|line| is_line_of_item_elsewhere(entries, place, line))
-}
-
-// The clock of what is at a place: of the airframe, or of the component in the shop.
-fn clock_of_place(entries: &[Command], place: &Place) -> Moment
-    ensures { result ≡ clock entries.now (item_at place.now) }
-{
-    match place {
-        Place::Aircraft(tail) => clock_of_airframe(entries, tail),
-        Place::Shop(serial, _) => clock_of_component(entries, serial),
-    }
-}
-
-/// Why a release is not entered.
-pub(crate) fn refusal_of_release(
-    entries: &[Command],
+// Why a release is not entered, by what there is against its place and its lines, where there is room for an entry.
+fn refusal_by_facts(
     release: &Release,
     lines: &[Line],
+    at: &PlaceFacts,
+    facts: &LineFacts,
 ) -> Option<Refusal>
-    ensures { result ≡ first_of (refusals entries.now (Released release.now lines.now)) }
+    ensures { result ≡ first_of (release_refusals at.now facts.now release.now.moment lines.now) }
 {
-    if entries.len() >= MOST_ENTRIES {
-        return Some(Refusal::Full);
-    }
-    if is_of_unknown_aircraft(entries, release, lines) {
+    if at.unknown_aircraft || facts.unknown_aircraft {
         return Some(Refusal::UnknownAircraft);
     }
-    if is_of_unknown_component(entries, release, lines) {
+    if at.unknown_component || facts.unknown_component {
         return Some(Refusal::UnknownComponent);
     }
-    if are_without_programme(entries, &release.place, lines) {
+    if facts.without_programme {
         return Some(Refusal::UnknownProgramme);
     }
-    if have_unknown_task(entries, &release.place, lines) {
+    if facts.unknown_task {
         return Some(Refusal::UnknownTask);
     }
-    if have_unknown_defect(entries, lines) {
+    if facts.unknown_defect {
         return Some(Refusal::UnknownDefect);
     }
-    if is_shop_of_fitted(entries, &release.place) {
+    if at.fitted_in_shop {
         return Some(Refusal::AlreadyFitted);
     }
-    if have_item_elsewhere(entries, &release.place, lines) {
+    if facts.item_elsewhere {
         return Some(Refusal::ItemElsewhere);
     }
-    if have_closed_task(entries, &release.place, lines) {
+    if facts.closed_task {
         return Some(Refusal::TaskClosed);
     }
-    if have_retirement(entries, &release.place, lines) {
+    if facts.retirement {
         return Some(Refusal::LifeLimit);
     }
-    if have_closed_defect(entries, lines) {
+    if facts.closed_defect {
         return Some(Refusal::DefectClosed);
     }
-    let clock = clock_of_place(entries, &release.place);
-    if release.moment < clock {
-        return Some(Refusal::OutOfOrder(clock));
+    if release.moment < at.clock {
+        return Some(Refusal::OutOfOrder(at.clock));
     }
-    if have_other_aircraft(entries, &release.place, lines) {
+    if facts.other_aircraft {
         return Some(Refusal::OtherAircraft);
     }
     if have_line_twice(lines) {
         return Some(Refusal::RepeatedLine);
     }
     None
+}
+
+/// Why a release is not entered.
+pub(crate) fn refusal_of_release<R: Records>(
+    records: &mut R,
+    release: &Release,
+    lines: &[Line],
+) -> Result<Option<Refusal>, R::Fault>
+    ensures { Answers R.reading records.old records.new result
+        (λ book. first_of (refusals book (Released release.now lines.now))) }
+{
+    if records.entry_count()? >= MOST_ENTRIES {
+        return Ok(Some(Refusal::Full));
+    }
+    let at = facts_of_place(records, &release.place)?;
+    let facts = facts_of_lines(records, &release.place, &at.kind, lines)?;
+    Ok(refusal_by_facts(release, lines, &at, &facts))
 }

@@ -1,18 +1,19 @@
 //! The life list of an aircraft: what is fitted to it, and the lives.
-ghost use Rattle.std.specs.Prelude.{◌≡◌, ◌≤◌, [], length, true, IfOk};
-ghost use Rattle.std.specs.List.{cons_option, list_all};
-ghost use Rattle.mx_command.specs.Shape.{has_shape};
-ghost use Rattle.mx_book.specs.Lists.{life_list, use_or_none, part_in, part_before, parts_begun, parts_from, parts};
+ghost use Rattle.std.specs.Prelude.{◌≡◌};
+ghost use Rattle.std.specs.List.{filter_map};
+ghost use Rattle.mx_book.specs.Fitted.{part_of_place};
+ghost use Rattle.mx_book.specs.Lists.{life_list, use_or_none, part_in, part_before, parts};
+ghost use Rattle.mx_book.specs.Memory.{with_memory, seen_as};
 ghost use Rattle.mx_book.specs.Ranks.{parts_rank};
-ghost use Rattle.mx_book.specs.declared.judging.TheConstants.{MOST_ENTRIES};
+ghost use Rattle.mx_book.specs.Reading.{Answers};
 
-use crate::lives::life;
+use crate::list_questions::{aircraft_of, life_of};
+use crate::lists::Lists;
 use crate::order::{Placed, Rows, sorted};
-use crate::register::{aircraft_of_tail, component_of_serial};
-use crate::spans::removed_at;
+use crate::stop::Stop;
 use mx_base::{Kind, Part, Position, Serial, Tail, Use};
-use mx_command::{Command, Fitting, Item};
-use std::alloc::{AllocError, Global};
+use mx_command::Item;
+use std::alloc::Global;
 
 /// A component in a position of an aircraft, with its life.
 #[derive(Clone, Copy, Debug, PartialEq, Eq)]
@@ -63,100 +64,96 @@ pub(crate) fn life_or_none(life: Option<Use>) -> Use
     }
 }
 
-// The component of a fitting in its position, with its life.
-fn part_of_fitting(entries: &[Command], fitting: &Fitting) -> Option<FittedPart>
-    requires few { length entries.now ≤ MOST_ENTRIES }
-    requires shaped { list_all has_shape entries.now ≡ true }
-    ensures { result ≡ part_in entries.now fitting.now.position fitting.now.serial }
+// The component in a position, with its life, where it is known.
+fn part_with_life<R: Lists>(
+    records: &mut R,
+    position: &Position,
+    serial: &Serial,
+) -> Result<Option<FittedPart>, R::Fault>
+    ensures { Answers R.reading records.old records.new result
+        (λ book. part_in book position.now serial.now) }
 {
-    match component_of_serial(entries, &fitting.serial) {
-        None => None,
-        Some(component) => Some(FittedPart {
-            position: fitting.position,
-            serial: fitting.serial,
-            part: component.part,
-            life: life_or_none(life(entries, &Item::Component(fitting.serial), None)),
-        }),
+    let Some(component) = records.component(serial)? else {
+        return Ok(None);
+    };
+    let life = records.life(&Item::Component(*serial))?;
+    Ok(Some(FittedPart {
+        position: *position,
+        serial: *serial,
+        part: component.part,
+        life: life_or_none(life),
+    }))
+}
+
+// The component in a place, with its life, where it is known.
+fn part_in_place<R: Lists>(
+    records: &mut R,
+    place: &(Position, Serial),
+) -> Result<Option<FittedPart>, Stop<R::Fault>>
+    ensures { Answers (with_memory R.reading) records.old records.new result
+        (λ book. part_of_place book place.now) }
+{
+    match part_with_life(records, &place.0, &place.1) {
+        Ok(part) => Ok(part),
+        Err(fault) => Err(Stop::Fault(fault)),
     }
 }
 
-// The component that an entry leaves fitted to an aircraft.
-fn part_begun(
-    entries: &[Command],
-    tail: &Tail,
-    entry: &Command,
-    later: &[Command],
-) -> Option<FittedPart>
-    requires few { length entries.now ≤ MOST_ENTRIES }
-    requires shaped { list_all has_shape entries.now ≡ true }
-    ensures { cons_option result [] ≡ parts_begun entries.now tail.now entry.now later.now }
-{
-    match entry.fitting() {
-        None => None,
-        Some(fitting) => {
-            if fitting.tail == *tail && removed_at(later, &fitting.serial).is_none() {
-                part_of_fitting(entries, &fitting)
-            } else {
-                None
-            }
-        }
-    }
-}
-
-// The components that are fitted to an aircraft, in the order of their fittings.
-fn gathered_parts(
+// The components in these places, each with its life.
+fn parts_in_places<R: Lists>(
+    records: &mut R,
     alloc: Global,
-    entries: &[Command],
-    tail: &Tail,
-) -> Result<Vec<FittedPart>, AllocError>
-    requires few { length entries.now ≤ MOST_ENTRIES }
-    requires shaped { list_all has_shape entries.now ≡ true }
-    ensures { IfOk result (λ rows. rows.items ≡ parts_from entries.now tail.now entries.now) }
+    places: &[(Position, Serial)],
+) -> Result<Vec<FittedPart>, Stop<R::Fault>>
+    ensures { Answers (with_memory R.reading) records.old records.new
+        (seen_as (λ parts. parts.items) result)
+        (λ book. filter_map (part_of_place book) places.now) }
 {
-    let mut fitted = Vec::new(alloc);
-    let mut rest = entries;
-    while let Some((entry, later)) = rest.split_first() {
-        if let Some(part) = part_begun(entries, tail, entry, later) {
-            fitted.push(part)?;
+    let mut parts = Vec::new(alloc);
+    let mut rest = places;
+    while let Some((place, later)) = rest.split_first() {
+        if let Some(part) = part_in_place(records, place)? {
+            parts.push(part)?;
         }
         rest = later;
     }
-    Ok(fitted)
+    Ok(parts)
 }
 
-/// The components that are fitted to an aircraft, by position. An error where memory runs out.
-pub(crate) fn parts_by_position(
+/// The components that are fitted to an aircraft, by position, each with its life.
+pub(crate) fn parts_by_position<R: Lists>(
+    records: &mut R,
     alloc: Global,
-    entries: &[Command],
     tail: &Tail,
-) -> Result<Rows<FittedPart>, AllocError>
-    requires few { length entries.now ≤ MOST_ENTRIES }
-    requires shaped { list_all has_shape entries.now ≡ true }
-    ensures { IfOk result (λ rows. rows ≡ parts entries.now tail.now) }
+) -> Result<Rows<FittedPart>, Stop<R::Fault>>
+    ensures { Answers (with_memory R.reading) records.old records.new result
+        (λ book. parts book tail.now) }
 {
-    sorted(gathered_parts(alloc, entries, tail)?)
+    let places = records.fitted(alloc, tail)?;
+    let parts = parts_in_places(records, alloc, places.as_slice())?;
+    let rows = sorted(parts)?;
+    Ok(rows)
 }
 
-/// The life list of an aircraft, or `None` where the registration is unknown. An error where memory runs out.
-pub(crate) fn list_lives(
+/// The life list of an aircraft, or `None` where the registration is unknown. Or why it stopped: memory ran out, or a
+/// question was not answered.
+pub fn list_lives<R: Lists>(
+    records: &mut R,
     alloc: Global,
-    entries: &[Command],
     tail: &Tail,
-) -> Result<Option<LifeList>, AllocError>
-    requires few { length entries.now ≤ MOST_ENTRIES }
-    requires shaped { list_all has_shape entries.now ≡ true }
-    ensures { IfOk result (λ list. list ≡ life_list entries.now tail.now) }
+) -> Result<Option<LifeList>, Stop<R::Fault>>
+    ensures { Answers (with_memory R.reading) records.old records.new result
+        (λ book. life_list book tail.now) }
 {
-    match aircraft_of_tail(entries, tail) {
-        None => Ok(None),
-        Some(aircraft) => {
-            let parts = parts_by_position(alloc, entries, tail)?;
-            Ok(Some(LifeList {
-                tail: *tail,
-                kind: aircraft.kind,
-                life: life_or_none(life(entries, &Item::Airframe(*tail), None)),
-                parts,
-            }))
-        }
-    }
+    let Some(aircraft) = aircraft_of(records, tail)? else {
+        return Ok(None);
+    };
+    let parts = parts_by_position(records, alloc, tail)?;
+    let life = life_of(records, &Item::Airframe(*tail))?;
+    Ok(Some(LifeList {
+        tail: *tail,
+        kind: aircraft.kind,
+        life,
+        parts,
+    }))
 }

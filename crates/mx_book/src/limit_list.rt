@@ -1,15 +1,20 @@
 //! The limits of an aircraft: the last day of each of its open defects.
-ghost use Rattle.std.specs.Prelude.{◌≡◌, map, IfOk};
-ghost use Rattle.mx_book.specs.LimitList.{limit_before, limit_row, limit_rows, limits};
+ghost use Rattle.std.specs.Prelude.{◌≡◌, map, List};
+ghost use Rattle.mx_command.specs.Act.{Entry};
+ghost use Rattle.mx_book.specs.Defect.{days_extended};
+ghost use Rattle.mx_book.specs.LimitList.{limit_before, limit_row, limits};
+ghost use Rattle.mx_book.specs.Memory.{with_memory, seen_as};
 ghost use Rattle.mx_book.specs.Ranks.{limits_rank};
+ghost use Rattle.mx_book.specs.Reading.{Answers};
 
-use crate::defects::{Defect, category_letter, extension_days, last_day_of, list_open_defects};
+use crate::defects::{Defect, category_letter, last_day_with};
+use crate::list_questions::{aircraft_of, days_of_extension};
+use crate::lists::Lists;
 use crate::order::{Placed, Rows, sorted};
-use crate::register::aircraft_of_tail;
+use crate::stop::Stop;
 use mx_base::{Day, Doc, MelRef, Status, Tail, day_of};
-use mx_command::Command;
 use mx_due::status_by;
-use std::alloc::{AllocError, Global};
+use std::alloc::Global;
 
 /// An open defect, and how long it may stay open.
 #[derive(Clone, Copy, Debug, PartialEq, Eq)]
@@ -53,11 +58,12 @@ pub struct LimitList {
     pub rows: Rows<LimitRow>,
 }
 
-// The row of an open defect.
-fn limit_of_defect(entries: &[Command], day: Day, defect: &Defect) -> LimitRow
-    ensures { result ≡ limit_row entries.now day defect.now }
+// The limit of an open defect whose interval was extended by so many days.
+fn limit_of_defect(day: Day, defect: &Defect, days: u32) -> LimitRow
+    ensures { (book : List Entry) → days ≡ days_extended book defect.now.doc
+        → result ≡ limit_row book day defect.now }
 {
-    let last = last_day_of(entries, defect);
+    let last = last_day_with(defect, days);
     let left = last - i64::from(day.number());
     LimitRow {
         status: status_by(0, left),
@@ -65,49 +71,52 @@ fn limit_of_defect(entries: &[Command], day: Day, defect: &Defect) -> LimitRow
         letter: category_letter(&defect.deferral.category),
         reference: defect.deferral.reference,
         found: day_of(defect.deferral.moment),
-        extension: extension_days(entries, &defect.doc),
+        extension: days,
         last,
         left,
     }
 }
 
-// The rows of defects, in their order.
-fn limits_of_defects(
+// The limits of defects, in their order.
+fn limits_of_defects<R: Lists>(
+    records: &mut R,
     alloc: Global,
-    entries: &[Command],
     day: Day,
     defects: &[Defect],
-) -> Result<Vec<LimitRow>, AllocError>
-    ensures { IfOk result (λ rows. rows.items ≡ map (limit_row entries.now day) defects.now) }
+) -> Result<Vec<LimitRow>, Stop<R::Fault>>
+    ensures { Answers (with_memory R.reading) records.old records.new
+        (seen_as (λ rows. rows.items) result) (λ book. map (limit_row book day) defects.now) }
 {
     let mut rows = Vec::new(alloc);
     let mut rest = defects;
     while let Some((defect, later)) = rest.split_first() {
-        rows.push(limit_of_defect(entries, day, defect))?;
+        let days = days_of_extension(records, &defect.doc)?;
+        rows.push(limit_of_defect(day, defect, days))?;
         rest = later;
     }
     Ok(rows)
 }
 
-/// The limits of an aircraft on a day, or `None` where the registration is unknown. An error where memory runs out.
-pub(crate) fn list_limits(
+/// The limits of an aircraft on a day, or `None` where the registration is unknown. Or why it stopped: memory ran out, or
+/// a question was not answered.
+pub fn list_limits<R: Lists>(
+    records: &mut R,
     alloc: Global,
-    entries: &[Command],
     tail: &Tail,
     day: Day,
-) -> Result<Option<LimitList>, AllocError>
-    ensures { IfOk result (λ list. list ≡ limits entries.now tail.now day) }
+) -> Result<Option<LimitList>, Stop<R::Fault>>
+    ensures { Answers (with_memory R.reading) records.old records.new result
+        (λ book. limits book tail.now day) }
 {
-    match aircraft_of_tail(entries, tail) {
-        None => Ok(None),
-        Some(_) => {
-            let open = list_open_defects(alloc, entries, tail)?;
-            let rows = sorted(limits_of_defects(alloc, entries, day, open.as_slice())?)?;
-            Ok(Some(LimitList {
-                tail: *tail,
-                day,
-                rows,
-            }))
-        }
+    if aircraft_of(records, tail)?.is_none() {
+        return Ok(None);
     }
+    let open = records.open_defects(alloc, tail)?;
+    let limits = limits_of_defects(records, alloc, day, open.as_slice())?;
+    let rows = sorted(limits)?;
+    Ok(Some(LimitList {
+        tail: *tail,
+        day,
+        rows,
+    }))
 }

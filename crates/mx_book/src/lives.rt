@@ -4,10 +4,11 @@ ghost use Rattle.std.specs.List.{flat_map, list_all};
 ghost use Rattle.mx_command.specs.Act.{Flown};
 ghost use Rattle.mx_command.specs.Shape.{has_shape, use_shape, sector_shape};
 ghost use Rattle.mx_command.specs.declared.item.Item.TheVariants.{Airframe, Component};
-ghost use Rattle.mx_book.specs.Life.{selected, is_credited, has_landed_by, share, use_after, opening_of, life_until, latest, if_at_aircraft, if_in_shop, airframe_moments, component_moments, clock};
+ghost use Rattle.mx_book.specs.Life.{selected, is_credited, has_landed_by, share, use_after, life_until, latest, if_at_aircraft, if_in_shop, airframe_moments, component_moments, clock};
 ghost use Rattle.mx_book.specs.declared.judging.TheConstants.{MOST_ENTRIES};
 
-use crate::register::{aircraft_of_tail, component_of_serial};
+use crate::found::opening_use;
+use crate::register::found_of;
 use crate::spans::{is_within_span, latest_removal};
 use mx_base::{Moment, Serial, Tail, Use};
 use mx_command::{Body, Command, Item, Place, Sector};
@@ -24,18 +25,6 @@ fn is_credited_with(entries: &[Command], item: &Item, sector: &Sector) -> bool
     match item {
         Item::Airframe(tail) => sector.tail == *tail,
         Item::Component(serial) => is_within_span(entries, serial, sector),
-    }
-}
-
-/// The use that an item brought with it.
-pub(crate) fn opening_use(entries: &[Command], item: &Item) -> Option<Use>
-    ensures { result ≡ opening_of entries.now item.now }
-{
-    match item {
-        Item::Airframe(tail) => { aircraft_of_tail(entries, tail).map(|aircraft| aircraft.opening) }
-        Item::Component(serial) => {
-            component_of_serial(entries, serial).map(|component| component.opening)
-        }
     }
 }
 
@@ -99,7 +88,7 @@ pub(crate) fn life(entries: &[Command], item: &Item, until: Option<u32>) -> Opti
     requires shaped { list_all has_shape entries.now ≡ true }
     ensures { result ≡ life_until entries.now item.now until }
 {
-    match opening_use(entries, item) {
+    match opening_use(&found_of(entries, item)) {
         None => None,
         Some(opening) => Some(use_after_sectors(entries, item, until, opening)),
     }
@@ -206,8 +195,8 @@ fn moment_of_component(serial: &Serial, entry: &Command) -> Moment
     }
 }
 
-/// The clock of a component: the latest moment that the entries have of it.
-pub(crate) fn clock_of_component(entries: &[Command], serial: &Serial) -> Moment
+// The clock of a component: the latest moment that the entries have of it.
+fn clock_of_component(entries: &[Command], serial: &Serial) -> Moment
     ensures { result ≡ clock entries.now (Component serial.now) }
 {
     let mut clock = Moment::FIRST;
@@ -217,4 +206,14 @@ pub(crate) fn clock_of_component(entries: &[Command], serial: &Serial) -> Moment
         rest = later;
     }
     clock
+}
+
+/// The clock of an item.
+pub(crate) fn clock_of_item(entries: &[Command], item: &Item) -> Moment
+    ensures { result ≡ clock entries.now item.now }
+{
+    match item {
+        Item::Airframe(tail) => clock_of_airframe(entries, tail),
+        Item::Component(serial) => clock_of_component(entries, serial),
+    }
 }

@@ -1,19 +1,22 @@
-//! The programme in force of a kind or at a place, what its tasks apply to, and what was accomplished of them.
-ghost use Rattle.std.specs.Prelude.{◌≡◌, ◌≤◌, length, true, find, IfSome};
+//! The programme in force of a kind, what its tasks apply to, and what was accomplished of them.
+ghost use Rattle.std.specs.Prelude.{◌≡◌, ◌≤◌, length, true, find, IfOk, IfSome};
 ghost use Rattle.std.specs.List.{list_all, list_any};
 ghost use Rattle.std.specs.Option.{option_copied};
 ghost use Rattle.mx_command.specs.Programme.{task_shape};
 ghost use Rattle.mx_command.specs.Same.{same_text};
 ghost use Rattle.mx_command.specs.Shape.{has_shape};
-ghost use Rattle.mx_book.specs.Programme.{tasks_loaded, revision_loaded, tasks_in_force, revision_in_force, next_revision, task_in_force, applies_to, kind_at, tasks_at, task_at, is_done, accomplishes, is_accomplished, is_at_end, is_ended_by, life_ended};
+ghost use Rattle.mx_book.specs.Programme.{tasks_loaded, revision_loaded, tasks_in_force, tasks_or_none, revision_in_force, next_revision, task_in_force, is_done, accomplishes, is_accomplished, is_at_end, is_ended_by, life_ended};
+ghost use Rattle.mx_book.specs.Asking.{task_of};
 ghost use Rattle.mx_book.specs.declared.judging.TheConstants.{MOST_ENTRIES};
 ghost use Rattle.mx_command.specs.declared.programme_shape.TheConstants.{LAST_REVISION};
 
+use crate::found::{birth_of, is_task_of};
 use crate::lives::life;
-use crate::register::{aircraft_of_tail, birth_of, is_component_of_part};
+use crate::register::found_of;
 use mx_base::{Day, Kind, TaskId, Use};
-use mx_command::{Applies, Command, Item, Line, Place, Task};
+use mx_command::{Command, Item, Line, Task};
 use mx_due::{first_due, is_used_up, left_of};
+use std::alloc::{AllocError, Global};
 
 // The tasks that an entry loads for a kind, each of its shape.
 fn tasks_loaded_by<'a>(entry: &'a Command, kind: &Kind) -> Option<&'a [Task]>
@@ -32,8 +35,8 @@ fn tasks_loaded_by<'a>(entry: &'a Command, kind: &Kind) -> Option<&'a [Task]>
     }
 }
 
-/// The tasks of the programme in force of a kind, each of its shape, or `None` where the kind has no programme.
-pub(crate) fn programme_in_force<'a>(entries: &'a [Command], kind: &Kind) -> Option<&'a [Task]>
+// The tasks of the programme in force of a kind, each of its shape, or `None` where the kind has no programme.
+fn programme_in_force<'a>(entries: &'a [Command], kind: &Kind) -> Option<&'a [Task]>
     ensures tasks { option_copied result ≡ tasks_in_force entries.now kind.now }
     ensures shape { IfSome (option_copied result) (λ tasks. list_all task_shape tasks ≡ true) }
 {
@@ -46,6 +49,22 @@ pub(crate) fn programme_in_force<'a>(entries: &'a [Command], kind: &Kind) -> Opt
         rest = later;
     }
     found
+}
+
+/// The tasks of the programme in force of a kind, each of its shape, none where it has no programme. An error where memory
+/// runs out.
+pub(crate) fn tasks_of_kind(
+    alloc: Global,
+    entries: &[Command],
+    kind: &Kind,
+) -> Result<Vec<Task>, AllocError>
+    ensures tasks { IfOk result (λ tasks. tasks.items ≡ tasks_or_none entries.now kind.now) }
+    ensures shape { IfOk result (λ tasks. list_all task_shape tasks.items ≡ true) }
+{
+    match programme_in_force(entries, kind) {
+        Some(tasks) => Vec::from_slice(alloc, tasks),
+        None => Ok(Vec::new(alloc)),
+    }
 }
 
 // The revision that an entry loads for a kind.
@@ -98,6 +117,23 @@ fn task_among(tasks: &[Task], id: &TaskId) -> Option<Task>
     tasks.iter().copied().find(|task| task.id == *id)
 }
 
+/// The task with a name in the programme in force of a kind, of its shape: `None` where the kind has no programme, and
+/// `Some(None)` where the programme does not have the task.
+#[tactic(auto, using(crate::proofs::ListLemmas::found_task))]
+pub(crate) fn task_in_programme(
+    entries: &[Command],
+    kind: &Kind,
+    id: &TaskId,
+) -> Option<Option<Task>>
+    ensures task { result ≡ task_of entries.now kind.now id.now }
+    ensures shape { IfSome result (λ task. IfSome task (λ t. task_shape t ≡ true)) }
+{
+    match programme_in_force(entries, kind) {
+        Some(tasks) => Some(task_among(tasks, id)),
+        None => None,
+    }
+}
+
 /// The task with a name in the programme in force of a kind, of its shape.
 #[tactic(auto, using(crate::proofs::ListLemmas::found_task))]
 pub(crate) fn task_of_kind(entries: &[Command], kind: &Kind, id: &TaskId) -> Option<Task>
@@ -107,52 +143,6 @@ pub(crate) fn task_of_kind(entries: &[Command], kind: &Kind, id: &TaskId) -> Opt
     match programme_in_force(entries, kind) {
         Some(tasks) => task_among(tasks, id),
         None => None,
-    }
-}
-
-/// The kind whose programme work at a place is done by: that of the aircraft, or the one that the shop names.
-pub(crate) fn kind_of_place(entries: &[Command], place: &Place) -> Option<Kind>
-    ensures { result ≡ kind_at entries.now place.now }
-{
-    match place {
-        Place::Aircraft(tail) => aircraft_of_tail(entries, tail).map(|aircraft| aircraft.kind),
-        Place::Shop(_, kind) => Some(*kind),
-    }
-}
-
-/// The tasks of the programme in force at a place.
-pub(crate) fn tasks_of_place<'a>(entries: &'a [Command], place: &Place) -> Option<&'a [Task]>
-    ensures { option_copied result ≡ tasks_at entries.now place.now }
-{
-    match kind_of_place(entries, place) {
-        Some(kind) => programme_in_force(entries, &kind),
-        None => None,
-    }
-}
-
-/// The task with a name in the programme in force at a place.
-pub(crate) fn task_of_place(entries: &[Command], place: &Place, id: &TaskId) -> Option<Task>
-    ensures { result ≡ task_at entries.now place.now id.now }
-{
-    match tasks_of_place(entries, place) {
-        Some(tasks) => task_among(tasks, id),
-        None => None,
-    }
-}
-
-/// Whether a task applies to an item.
-pub(crate) fn is_task_of(entries: &[Command], item: &Item, task: &Task) -> bool
-    ensures { result ≡ applies_to entries.now item.now task.now }
-{
-    match item {
-        Item::Airframe(tail) => match task.applies {
-            Applies::Airframe => aircraft_of_tail(entries, tail).is_some(),
-            Applies::Part(_) => false,
-        },
-        Item::Component(serial) => match &task.applies {
-            Applies::Airframe => false,
-            Applies::Part(part) => is_component_of_part(entries, serial, part),
-        },
     }
 }
 
@@ -199,10 +189,11 @@ fn is_retired_by(entries: &[Command], item: &Item, life: &Use, day: Day, task: &
     requires { task_shape task.now ≡ true }
     ensures { result ≡ is_at_end entries.now item.now life.now day task.now }
 {
-    if !task.retire || !is_task_of(entries, item, task) {
+    let found = found_of(entries, item);
+    if !task.retire || !is_task_of(&found, task) {
         return false;
     }
-    let due = first_due(birth_of(entries, item), task);
+    let due = first_due(birth_of(&found), task);
     is_used_up(&left_of(&due, life, day))
 }
 

@@ -1,10 +1,35 @@
-//! Finding a row in the registers of a book.
-ghost use Rattle.std.specs.Prelude.{◌≡◌, length};
+//! Finding an entry by its document, and a row in the registers of a book.
+ghost use Rattle.std.specs.Prelude.{◌≡◌, ◌≤◌, length};
+ghost use Rattle.std.specs.Option.{option_map};
 ghost use Rattle.mx_command.specs.Act.{aircraft_of, component_of};
-ghost use Rattle.mx_book.specs.Register.{register, aircraft, component, is_of_part, birth, as_of, positions_added, part_among, part_at};
+ghost use Rattle.mx_book.specs.Register.{register, aircraft, component, found_of, has_room_for_aircraft, has_room_for_component, positions_added, part_among, part_at};
+ghost use Rattle.mx_book.specs.Judge.{known_from};
+ghost use Rattle.mx_book.specs.Asking.{known_same};
+ghost use Rattle.mx_book.specs.declared.judging.TheConstants.{MOST_ENTRIES};
 
-use mx_base::{Day, Moment, Part, Position, Serial, Tail, day_of};
+use crate::found::Found;
+use crate::judging::{MOST_AIRCRAFT, MOST_COMPONENTS};
+use mx_base::{Part, Position, Serial, Tail};
 use mx_command::{Aircraft, Command, Component, Item};
+
+/// The number of the entry with the document of a command, and whether it is the same command.
+pub(crate) fn known(entries: &[Command], command: &Command) -> Option<(u32, bool)>
+    requires few { length entries.now ≤ MOST_ENTRIES }
+    ensures { result ≡ option_map (known_same command.now)
+        (known_from command.now.doc 1 entries.now) }
+{
+    let doc = command.doc();
+    let mut seq = 1u32;
+    let mut rest = entries;
+    while let Some((entry, later)) = rest.split_first() {
+        if entry.doc() == doc {
+            return Some((seq, entry.is_same(command)));
+        }
+        seq += 1;
+        rest = later;
+    }
+    None
+}
 
 /// The aircraft with this registration.
 pub(crate) fn aircraft_of_tail(entries: &[Command], tail: &Tail) -> Option<Aircraft>
@@ -16,8 +41,8 @@ pub(crate) fn aircraft_of_tail(entries: &[Command], tail: &Tail) -> Option<Aircr
         .find(|aircraft| aircraft.tail == *tail)
 }
 
-/// How many aircraft there are.
-pub(crate) fn aircraft_count(entries: &[Command]) -> usize
+// How many aircraft there are.
+fn aircraft_count(entries: &[Command]) -> usize
     ensures { result ≡ length (register aircraft_of entries.now) }
 {
     let mut count = 0;
@@ -31,6 +56,13 @@ pub(crate) fn aircraft_count(entries: &[Command]) -> usize
     count
 }
 
+/// Whether there is room for one more aircraft.
+pub(crate) fn has_room_for_aircraft(entries: &[Command]) -> bool
+    ensures { result ≡ has_room_for_aircraft entries.now }
+{
+    aircraft_count(entries) < MOST_AIRCRAFT
+}
+
 /// The component with this serial number.
 pub(crate) fn component_of_serial(entries: &[Command], serial: &Serial) -> Option<Component>
     ensures { result ≡ component entries.now serial.now }
@@ -41,8 +73,8 @@ pub(crate) fn component_of_serial(entries: &[Command], serial: &Serial) -> Optio
         .find(|component| component.serial == *serial)
 }
 
-/// How many components there are.
-pub(crate) fn component_count(entries: &[Command]) -> usize
+// How many components there are.
+fn component_count(entries: &[Command]) -> usize
     ensures { result ≡ length (register component_of entries.now) }
 {
     let mut count = 0;
@@ -56,45 +88,20 @@ pub(crate) fn component_count(entries: &[Command]) -> usize
     count
 }
 
-/// Whether a component is of a part.
-pub(crate) fn is_component_of_part(entries: &[Command], serial: &Serial, part: &Part) -> bool
-    ensures { result ≡ is_of_part entries.now serial.now part.now }
+/// Whether there is room for one more component.
+pub(crate) fn has_room_for_component(entries: &[Command]) -> bool
+    ensures { result ≡ has_room_for_component entries.now }
 {
-    match component_of_serial(entries, serial) {
-        Some(component) => component.part == *part,
-        None => false,
-    }
+    component_count(entries) < MOST_COMPONENTS
 }
 
-/// The day on which an item was built, or the first of all where the item is unknown.
-pub(crate) fn birth_of(entries: &[Command], item: &Item) -> Day
-    ensures { result ≡ birth entries.now item.now }
+/// What the registers have of an item.
+pub(crate) fn found_of(entries: &[Command], item: &Item) -> Found
+    ensures { result ≡ found_of entries.now item.now }
 {
     match item {
-        Item::Airframe(tail) => match aircraft_of_tail(entries, tail) {
-            Some(aircraft) => aircraft.birth,
-            None => day_of(Moment::FIRST),
-        },
-        Item::Component(serial) => match component_of_serial(entries, serial) {
-            Some(component) => component.birth,
-            None => day_of(Moment::FIRST),
-        },
-    }
-}
-
-/// The moment up to which the opening of an item counts, or the first of all where the item is unknown.
-pub(crate) fn as_of_item(entries: &[Command], item: &Item) -> Moment
-    ensures { result ≡ as_of entries.now item.now }
-{
-    match item {
-        Item::Airframe(tail) => match aircraft_of_tail(entries, tail) {
-            Some(aircraft) => aircraft.as_of,
-            None => Moment::FIRST,
-        },
-        Item::Component(serial) => match component_of_serial(entries, serial) {
-            Some(component) => component.as_of,
-            None => Moment::FIRST,
-        },
+        Item::Airframe(tail) => Found::Airframe(aircraft_of_tail(entries, tail)),
+        Item::Component(serial) => Found::Component(component_of_serial(entries, serial)),
     }
 }
 

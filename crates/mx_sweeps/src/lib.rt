@@ -9,16 +9,24 @@
 //! - `keep`, `restore`: keeps a copy of the files, and takes it back;
 //! - `open [log CALLS] [db CALLS] [pages PAGES]`: opens the office; the log holds so many pages before it is copied;
 //! - `list COMMAND`, `list`: puts a command behind those of the list, or empties it;
-//! - `stops-of-making`, `stops-of-commands`, `doubts`: sweeps, which play such lines over copies (`sweep_lines`).
+//! - `stops-of-making`, `stops-of-commands`, `doubts`: sweeps, which play such lines over copies (`sweep_lines`);
+//! - `questions`: a sweep over the questions of the book of that list.
 //!
 //! Lines in the open office: commands, and the questions that the disks answer; `close`, `end` and `power` leave it.
+//!
+//! Beside them stands a book whose questions run out (`failing`), by which commands are judged and lists are made
+//! (`interrupted`): its clauses say that nothing but the plain book's answer or its fault comes of that, and `questions`
+//! shows that both come.
 #![tactic(auto)]
 
 mod again;
 mod doubts;
+pub mod failing;
+pub mod interrupted;
 mod plain;
 mod player;
 pub mod program;
+mod running_out;
 mod settings;
 mod stops_of_commands;
 mod stops_of_making;

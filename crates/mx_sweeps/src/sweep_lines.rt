@@ -2,6 +2,7 @@
 
 use crate::doubts::Doubts;
 use crate::player::Player;
+use crate::running_out::stops_of_questions;
 use crate::settings::end_of;
 use crate::stops_of_commands::{CommandStops, plain_of};
 use crate::stops_of_making::MakingStops;
@@ -87,6 +88,9 @@ fn played<D: Disks>(
             (*file, *pages, *at_least),
         ),
         ["doubts", end, at_least] => doubts(alloc, player, end, at_least),
+        ["questions", tail, day, at_least] => {
+            stops_of_questions(alloc, player.list(), (*tail, *day, *at_least))
+        }
         _ => Err(Unmade::NoSuchLine),
     }
 }
@@ -95,13 +99,17 @@ fn played<D: Disks>(
 pub(crate) fn is_sweep(words: &[&str]) -> bool {
     matches!(
         words,
-        ["stops-of-making" | "stops-of-commands" | "doubts", ..]
+        [
+            "stops-of-making" | "stops-of-commands" | "doubts" | "questions",
+            ..
+        ]
     )
 }
 
-/// What a sweep is answered: `stops-of-making FILE AT_LEAST`, `stops-of-commands FILE pages PAGES AT_LEAST` or
-/// `doubts END AT_LEAST`. The two last hand the list of commands in to the office that the files hold. It plays its lines
-/// over copies, so that the player stays as it is.
+/// What a sweep is answered: `stops-of-making FILE AT_LEAST`, `stops-of-commands FILE pages PAGES AT_LEAST`,
+/// `doubts END AT_LEAST` or `questions TAIL DAY AT_LEAST`. The second and the third hand the list of commands in to the
+/// office that the files hold; the last asks the book of the list, and no file. It plays its lines over copies, so that the
+/// player stays as it is.
 pub(crate) fn answer_of_sweep<D: Disks>(
     alloc: Global,
     player: &Player<D>,

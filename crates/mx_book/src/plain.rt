@@ -1,0 +1,151 @@
+//! The plain book as records: it reads its entries anew for each question, and answers each.
+ghost use Rattle.std.specs.Prelude.{◌≡◌, IfOk};
+ghost use Rattle.mx_book.specs.Plain.{plain_reading};
+
+use crate::bases::last_base;
+use crate::book::{Book, NoMemory};
+use crate::defects::{
+    Defect, defect_of_document, extension_of_defect, list_open_defects, was_rectified,
+};
+use crate::lists::Lists;
+use crate::lives::{clock_of_airframe, clock_of_item, life};
+use crate::programmes::{
+    is_retired, revision_expected, task_in_programme, tasks_of_kind, was_accomplished,
+};
+use crate::records::Records;
+use crate::register::{
+    aircraft_of_tail, component_of_serial, has_room_for_aircraft, has_room_for_component, known,
+    part_at_position,
+};
+use crate::spans::{fitted_to, is_position_taken, places_fitted};
+use crate::stop::Stop;
+use mx_base::{Base, Day, Doc, Kind, Moment, Part, Position, Serial, Tail, TaskId, Use};
+use mx_command::{Aircraft, Command, Component, Extension, Item, Task};
+use std::alloc::Global;
+use std::convert::Infallible;
+
+/// A book that is read in place: no question changes it, and none is left without an answer.
+#[derive(Drop)]
+pub struct Plain<'a> {
+    /// The book.
+    pub book: &'a Book,
+}
+
+impl<'a> Records for Plain<'a> {
+    type Fault = Infallible;
+
+    ghost reading = { plain_reading };
+
+    fn entry_count(&mut self) -> Result<usize, Infallible> {
+        Ok(self.book.len() as usize)
+    }
+
+    fn has_room_for_aircraft(&mut self) -> Result<bool, Infallible> {
+        Ok(has_room_for_aircraft(self.book.as_slice()))
+    }
+
+    fn has_room_for_component(&mut self) -> Result<bool, Infallible> {
+        Ok(has_room_for_component(self.book.as_slice()))
+    }
+
+    fn known(&mut self, command: &Command) -> Result<Option<(u32, bool)>, Infallible> {
+        Ok(known(self.book.as_slice(), command))
+    }
+
+    fn aircraft(&mut self, tail: &Tail) -> Result<Option<Aircraft>, Infallible> {
+        Ok(aircraft_of_tail(self.book.as_slice(), tail))
+    }
+
+    fn component(&mut self, serial: &Serial) -> Result<Option<Component>, Infallible> {
+        Ok(component_of_serial(self.book.as_slice(), serial))
+    }
+
+    fn part_at(&mut self, tail: &Tail, position: &Position) -> Result<Option<Part>, Infallible> {
+        Ok(part_at_position(self.book.as_slice(), tail, position))
+    }
+
+    fn is_taken(&mut self, tail: &Tail, position: &Position) -> Result<bool, Infallible> {
+        Ok(is_position_taken(self.book.as_slice(), tail, position))
+    }
+
+    fn tail_fitted(&mut self, serial: &Serial) -> Result<Option<Tail>, Infallible> {
+        Ok(fitted_to(self.book.as_slice(), serial))
+    }
+
+    fn is_retired(&mut self, kind: &Kind, item: &Item, day: Day) -> Result<bool, Infallible> {
+        Ok(is_retired(self.book.as_slice(), kind, item, day))
+    }
+
+    fn clock(&mut self, item: &Item) -> Result<Moment, Infallible> {
+        Ok(clock_of_item(self.book.as_slice(), item))
+    }
+
+    fn earliest_takeoff(&mut self, tail: &Tail) -> Result<Moment, Infallible> {
+        Ok(clock_of_airframe(self.book.as_slice(), tail))
+    }
+
+    fn next_revision(&mut self, kind: &Kind) -> Result<u32, Infallible> {
+        Ok(revision_expected(self.book.as_slice(), kind))
+    }
+
+    fn task(&mut self, kind: &Kind, id: &TaskId) -> Result<Option<Option<Task>>, Infallible> {
+        Ok(task_in_programme(self.book.as_slice(), kind, id))
+    }
+
+    fn is_accomplished(&mut self, item: &Item, id: &TaskId) -> Result<bool, Infallible> {
+        Ok(was_accomplished(self.book.as_slice(), item, id))
+    }
+
+    fn defect(&mut self, doc: &Doc) -> Result<Option<Defect>, Infallible> {
+        Ok(defect_of_document(self.book.as_slice(), doc))
+    }
+
+    fn is_rectified(&mut self, doc: &Doc) -> Result<bool, Infallible> {
+        Ok(was_rectified(self.book.as_slice(), doc))
+    }
+
+    fn extension(&mut self, doc: &Doc) -> Result<Option<Extension>, Infallible> {
+        Ok(extension_of_defect(self.book.as_slice(), doc))
+    }
+}
+
+impl<'a> Lists for Plain<'a> {
+    fn life(&mut self, item: &Item) -> Result<Option<Use>, Infallible> {
+        Ok(life(self.book.as_slice(), item, None))
+    }
+
+    fn base(&mut self, item: &Item, task: &TaskId) -> Result<Option<Base>, Infallible> {
+        Ok(last_base(self.book.as_slice(), item, task))
+    }
+
+    fn tasks(&mut self, alloc: Global, kind: &Kind) -> Result<Vec<Task>, Stop<Infallible>> {
+        Ok(tasks_of_kind(alloc, self.book.as_slice(), kind)?)
+    }
+
+    fn fitted(
+        &mut self,
+        alloc: Global,
+        tail: &Tail,
+    ) -> Result<Vec<(Position, Serial)>, Stop<Infallible>> {
+        Ok(places_fitted(alloc, self.book.as_slice(), tail)?)
+    }
+
+    fn open_defects(
+        &mut self,
+        alloc: Global,
+        tail: &Tail,
+    ) -> Result<Vec<Defect>, Stop<Infallible>> {
+        Ok(list_open_defects(alloc, self.book.as_slice(), tail)?)
+    }
+}
+
+/// What is answered of a book: nothing but want of memory stops it.
+pub(crate) fn unless_no_memory<T>(answer: Result<T, Stop<Infallible>>) -> Result<T, NoMemory>
+    ensures { IfOk result (λ value. answer ≡ Ok value) }
+{
+    match answer {
+        Ok(value) => Ok(value),
+        Err(Stop::NoMemory) => Err(NoMemory),
+        Err(Stop::Fault(never)) => match never {},
+    }
+}

@@ -1,0 +1,168 @@
+//! A book whose questions run out. Each command of a list is judged, and each list of an aircraft is made, by no question,
+//! by one, and so on until it is answered: before that each is stopped by the fault in wait.
+
+use crate::failing::Interrupted;
+use crate::interrupted::{
+    dues_interrupted, forecast_interrupted, judge_interrupted, limits_interrupted,
+    lives_interrupted,
+};
+use crate::plain::append_reply_to;
+use crate::sweep::{Wrong, must};
+use mx_base::{Day, Tail};
+use mx_book::{Book, Stop};
+use mx_cases::Unmade;
+use mx_command::Command;
+use std::alloc::Global;
+
+// The number of questions by which everything is to be answered.
+const MOST_QUESTIONS: u32 = 10_000;
+
+// The lists of an aircraft.
+#[derive(Clone, Copy)]
+enum List {
+    Life,
+    Dues,
+    Limits,
+    Forecast,
+}
+
+const ALL_STOPPED: &str = "every question stops what is asked";
+
+// Whether this stop is the fault in wait.
+fn is_in_wait(stop: Stop<Interrupted>, code: u32) -> Result<(), Wrong> {
+    match stop {
+        Stop::NoMemory => Err(Wrong::Unmade(Unmade::Memory)),
+        Stop::Fault(fault) => must(fault.code == code, "another fault than the one in wait"),
+    }
+}
+
+// Whether there is an answer, where no other fault than the one in wait stopped it.
+fn is_answered<T: Drop>(answer: Result<T, Stop<Interrupted>>, code: u32) -> Result<bool, Wrong> {
+    match answer {
+        Ok(_) => Ok(true),
+        Err(stop) => {
+            is_in_wait(stop, code)?;
+            Ok(false)
+        }
+    }
+}
+
+// Whether a command is judged by so many questions.
+fn is_judged(book: &Book, command: &Command, questions: u32) -> Result<bool, Wrong> {
+    match judge_interrupted(book, command, questions, questions) {
+        Ok(_) => Ok(true),
+        Err(fault) => {
+            is_in_wait(Stop::Fault(fault), questions)?;
+            Ok(false)
+        }
+    }
+}
+
+// The number of questions by which a command is judged.
+fn questions_of_command(book: &Book, command: &Command) -> Result<u32, Wrong> {
+    for questions in 0..MOST_QUESTIONS {
+        if is_judged(book, command, questions)? {
+            return Ok(questions);
+        }
+    }
+    Err(Wrong::Found("a command that is never judged"))
+}
+
+// Judges commands, and enters those that are new: the number of questions.
+fn questions_of_commands(
+    alloc: Global,
+    book: &mut Book,
+    commands: &[Command],
+) -> Result<u32, Wrong> {
+    let mut questions = 0u32;
+    for command in commands {
+        let more = questions_of_command(book, command)?;
+        questions = questions.saturating_add(more);
+        append_reply_to(alloc, &mut Vec::new(alloc), book, command)?;
+    }
+    Ok(questions)
+}
+
+// Whether a list is made by so many questions.
+fn is_listed(
+    alloc: Global,
+    book: &Book,
+    list: List,
+    tail: &Tail,
+    day: Day,
+    questions: u32,
+) -> Result<bool, Wrong> {
+    let n = questions;
+    match list {
+        List::Life => is_answered(lives_interrupted(book, alloc, tail, n, n), n),
+        List::Dues => is_answered(dues_interrupted(book, alloc, tail, day, n, n), n),
+        List::Limits => is_answered(limits_interrupted(book, alloc, tail, day, n, n), n),
+        List::Forecast => {
+            let answer = forecast_interrupted(book, alloc, tail, day, 365, 120, 1, n, n);
+            is_answered(answer, n)
+        }
+    }
+}
+
+// The number of questions by which a list is made.
+fn questions_of_list(
+    alloc: Global,
+    book: &Book,
+    list: List,
+    tail: &Tail,
+    day: Day,
+) -> Result<u32, Wrong> {
+    for questions in 0..MOST_QUESTIONS {
+        if is_listed(alloc, book, list, tail, day, questions)? {
+            return Ok(questions);
+        }
+    }
+    Err(Wrong::Found("a list that is never made"))
+}
+
+// Makes each list of an aircraft: the number of questions.
+fn questions_of_lists(alloc: Global, book: &Book, tail: &Tail, day: Day) -> Result<u32, Wrong> {
+    let life = questions_of_list(alloc, book, List::Life, tail, day)?;
+    let dues = questions_of_list(alloc, book, List::Dues, tail, day)?;
+    let limits = questions_of_list(alloc, book, List::Limits, tail, day)?;
+    let forecast = questions_of_list(alloc, book, List::Forecast, tail, day)?;
+    Ok(
+        life.saturating_add(dues)
+            .saturating_add(limits)
+            .saturating_add(forecast),
+    )
+}
+
+// Asks everything, which is to take at least so many questions.
+fn all_asked(
+    alloc: Global,
+    commands: &[Command],
+    tail: &Tail,
+    day: Day,
+    at_least: u32,
+) -> Result<(), Wrong> {
+    let mut book = Book::new(alloc);
+    let judged = questions_of_commands(alloc, &mut book, commands)?;
+    let listed = questions_of_lists(alloc, &book, tail, day)?;
+    must(
+        judged.saturating_add(listed) >= at_least,
+        "fewer questions than that",
+    )
+}
+
+/// What is answered to `questions TAIL DAY AT_LEAST`, over the book of a list of commands: there are at least so many
+/// questions, and each stops what is asked.
+pub(crate) fn stops_of_questions(
+    alloc: Global,
+    commands: &[Command],
+    (tail, day, at_least): (&str, &str, &str),
+) -> Result<String, Unmade> {
+    let tail = Tail::read(tail)?;
+    let day = Day::read(day)?;
+    let at_least = at_least.parse::<u32>()?;
+    match all_asked(alloc, commands, &tail, day, at_least) {
+        Ok(()) => Ok(String::from_str(alloc, ALL_STOPPED)?),
+        Err(Wrong::Found(what)) => Ok(String::from_str(alloc, what)?),
+        Err(Wrong::Unmade(error)) => Err(error),
+    }
+}
