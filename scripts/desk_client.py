@@ -99,8 +99,8 @@ def send(peer: socket.socket, request: bytes) -> None:
         pass
 
 
-def received(peer: socket.socket) -> bytes:
-    """All that comes until the other side ends the connection."""
+def received(peer: socket.socket, reset: bytes = b"") -> bytes:
+    """All that comes until the other side ends the connection, and what a reset in place of an end is told as."""
     came = b""
     try:
         while True:
@@ -109,7 +109,7 @@ def received(peer: socket.socket) -> bytes:
                 return came
             came += more
     except ConnectionResetError:
-        return came
+        return came + reset
     except socket.timeout:
         return came + f"(and no end within {PATIENCE} s)".encode()
 
@@ -155,13 +155,14 @@ def given_up(desk: Desk, request: bytes) -> bytes:
 
 
 def behind_another(desk: Desk, request: bytes) -> bytes:
-    """All of it has come before the program looks at it, since another peer is served first. It takes two connections."""
+    """All of it has come before the program looks at it, since another peer is served first, so that the connection ends
+    without a reset, which may take an answer away that is not read yet. It takes two connections."""
     with desk.connect() as first, desk.connect() as peer:
         peer.setsockopt(socket.SOL_SOCKET, socket.SO_SNDBUF, 1 << 20)
         send(peer, request)
         first.shutdown(socket.SHUT_WR)
         received(first)
-        return received(peer)
+        return received(peer, b"(and a reset)")
 
 
 def elsewhere(desk: Desk, address: bytes) -> bytes:
