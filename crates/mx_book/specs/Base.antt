@@ -1,15 +1,16 @@
 -- The base that the next due of a task is counted from, by what was accomplished, and when the task is due.
 use Rattle.std.specs.Prelude.{ℕ, ◌+◌, ◌/◌, List, [], ◌∷◌, ◌++◌, Option, Some, None, if◌then◌else◌, filter, fold, map, take}
-use Rattle.std.specs.Option.{option_and_then}
+use Rattle.std.specs.Option.{option_and_then, option_map_or}
 use Rattle.mx_base.specs.declared.amounts.Base.{Base}
 use Rattle.mx_base.specs.declared.amounts.Limit.{Limit}
+use Rattle.mx_base.specs.declared.amounts.Use.{Use}
 use Rattle.mx_command.specs.Act.{Act, Entry, Opened, Released}
 use Rattle.mx_command.specs.Same.{same_text, same_item}
 use Rattle.mx_command.specs.declared.item.Item.{Item}
 use Rattle.mx_command.specs.declared.opening.Opening.{Opening}
 use Rattle.mx_command.specs.declared.programme.Task.{Task}
 use Rattle.mx_command.specs.declared.release.Release.{Release}
-use Rattle.mx_due.specs.Due.{due_after, base_done}
+use Rattle.mx_due.specs.Due.{due_after, lesser}
 use Rattle.mx_book.specs.Register.{birth}
 use Rattle.mx_book.specs.Life.{life_at}
 use Rattle.mx_book.specs.Lists.{use_or_none}
@@ -39,12 +40,28 @@ accomplishments book item id = accomplished_from 1 item id book
 abbrev pub task_then : List Entry → ℕ → Release → List ℕ → Option Task
 task_then book k r id = option_and_then (λ kind. task_in_force (take k book) kind id) (kind_at book r.place)
 
--- the base of an accomplishment, behind one with this base, if any: what an opening states, and for work that was done what was reached at its moment or what was due then, as base_done has it
+-- a use and a day as a base
+abbrev pub base_at : Use → ℕ → Base
+base_at life day = record { minutes = life.minutes; cycles = life.cycles; day = day }
+
+-- the value of an accomplishment: what an opening states, or what the item had reached at the moment of the release
+abbrev pub value_of : List Entry → Item → Accomplishment → Base
+value_of book item (Stated o) = base_at o.use_then o.day
+value_of book item (DoneIn k r) = base_at (use_or_none (life_at book item r.moment)) (r.moment / 1440)
+
+-- when the task was due at an accomplishment, where it was, behind one with this base, if any: at an opening never
+abbrev pub due_of : List Entry → Item → List ℕ → Option Base → Accomplishment → Option Limit
+due_of book item id before (Stated o) = None
+due_of book item id before (DoneIn k r) = option_and_then (due_after before (birth book item)) (task_then book k r id)
+
+-- a value, or what was due in the dimensions in which that is less
+abbrev pub lesser_base : Base → Option Limit → Base
+lesser_base value due =
+    option_map_or (λ limit. record { minutes = lesser value.minutes limit.minutes; cycles = lesser value.cycles limit.cycles; day = lesser value.day limit.days }) due value
+
+-- the base of an accomplishment, behind one with this base, if any: its value, or what was due then where that is less
 abbrev pub base_of : List Entry → Item → List ℕ → Option Base → Accomplishment → Base
-base_of book item id before (Stated o) = record { minutes = o.use_then.minutes; cycles = o.use_then.cycles; day = o.day }
-base_of book item id before (DoneIn k r) =
-    base_done (use_or_none (life_at book item r.moment)) (r.moment / 1440)
-    (option_and_then (due_after before (birth book item)) (task_then book k r id))
+base_of book item id before a = lesser_base (value_of book item a) (due_of book item id before a)
 
 -- the base of the last of some accomplishments, behind one with this base, if any
 abbrev pub base_from : List Entry → Item → List ℕ → Option Base → List Accomplishment → Option Base

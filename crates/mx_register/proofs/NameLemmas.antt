@@ -18,8 +18,8 @@ use Rattle.mx_book.specs.Judge.{judge, known_from}
 use Rattle.mx_book.specs.Book.{is_new, is_book_from, entry_at}
 use Rattle.mx_book.proofs.JudgeLemmas.{both_true, is_new-New}
 use Rattle.mx_book.proofs.KnownLemmas.{unknown_document}
-use Rattle.mx_register.specs.Names.{adds_named, number_from, said_at, tail_added, serial_added, defect_deferred, item_added, seq_of_tail, seq_of_serial, seq_of_defect, seq_of_item, tail_at, serial_at, defect_at, item_at, or_zero}
-use Rattle.mx_register.proofs.NewLemmas.{added_is_unknown, listed_is_unknown, has_item}
+use Rattle.mx_register.specs.Names.{adds_named, number_from, said_at, tail_added, serial_added, defect_deferred, item_added, seq_of_tail, seq_of_serial, seq_of_defect, seq_of_item, tail_at, serial_at, defect_at, item_at, or_zero, has_item}
+use Rattle.mx_register.proofs.NewLemmas.{added_is_unknown, listed_is_unknown}
 
 named : (o : Option (List ℕ)) (name : List ℕ) → option_map_or (λ added. same_text added name) o false ≡ true → o ≡ Some name
 named None name h = (cc)

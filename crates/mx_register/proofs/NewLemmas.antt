@@ -24,6 +24,7 @@ use Rattle.mx_book.specs.Register.{aircraft, component}
 use Rattle.mx_book.specs.Defect.{defect}
 use Rattle.mx_book.specs.Judge.{judge, judge_by, refusals, first_of, when, verdict_of, is_full, names_unknown_aircraft, names_unknown_component, names_unknown_position, names_unknown_programme, names_unknown_task, names_unknown_defect, aircraft_exists, component_exists, item_tails, item_serials, item_at, line_tails, line_serials, line_defects}
 use Rattle.mx_book.specs.Book.{is_new}
+use Rattle.mx_register.specs.Names.{has_item}
 use Rattle.mx_book.proofs.JudgeLemmas.{is_new-New}
 use Rattle.mx_book.proofs.KnownLemmas.{unknown_document}
 
@@ -97,11 +98,6 @@ deferred_is_known book doc d h = known (is_some (aircraft book d.tail)) (is_fres
 -- an extension that is entered names a defect
 pub extended_is_known : (book : List Entry) (doc : List ℕ) (x : Extension) → is_new (judge book (record { doc = doc; act = Extended x })) ≡ true → is_some (defect book x.defect) ≡ true
 extended_is_known book doc x h = known (is_some (defect book x.defect)) (is_fresh book (record { doc = doc; act = Extended x }) h).defect_known
-
--- the book has the item
-abbrev pub has_item : List Entry → Item → Bool
-has_item book (items.Airframe tail) = is_some (aircraft book tail)
-has_item book (items.Component serial) = is_some (component book serial)
 
 -- one of the registrations is that of no aircraft
 abbrev some_unknown_tail : List Entry → List (List ℕ) → Bool

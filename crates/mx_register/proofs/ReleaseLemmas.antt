@@ -16,11 +16,11 @@ use Rattle.mx_book.specs.Judge.{item_at as item_of_place}
 use Rattle.mx_typed_rows.specs.declared.rows.ReleaseRow.{ReleaseRow}
 use Rattle.mx_typed_rows.specs.declared.rows.ReleaseLineRow.{ReleaseLineRow}
 use Rattle.mx_typed_rows.specs.Rows.{line_key, release_line_key}
-use Rattle.mx_register.specs.Names.{item_at, defect_at, seq_of_item, or_zero}
+use Rattle.mx_register.specs.Names.{item_at, defect_at, seq_of_item, or_zero, has_item}
 use Rattle.mx_register.specs.Registers.{kind_in_shop, release_line_row}
 use Rattle.mx_register.specs.Merge.{place_of, place_said, line_of, lines_of_release}
 use Rattle.mx_register.proofs.NameLemmas.{item_known, item_number, defect_known, defect_number}
-use Rattle.mx_register.proofs.NewLemmas.{has_item, has_line, HasLines}
+use Rattle.mx_register.proofs.NewLemmas.{has_line, HasLines}
 use Rattle.mx_register.proofs.TakeLemmas.{AreOnLines, AreOfLines, IsSaid, same_some}
 
 -- ── places ──

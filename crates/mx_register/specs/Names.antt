@@ -1,5 +1,5 @@
 -- The things that entries add, by name and by number: which entry added the aircraft with a registration, or the component with a serial number, or deferred the defect that has a document.
-use Rattle.std.specs.Prelude.{ℕ, ◌+◌, List, [], ◌∷◌, Bool, false, Option, Some, None, unwrap_or, if◌then◌else◌}
+use Rattle.std.specs.Prelude.{ℕ, ◌+◌, List, [], ◌∷◌, Bool, false, Option, Some, None, is_some, unwrap_or, if◌then◌else◌}
 use Rattle.std.specs.Option.{option_and_then, option_map, option_map_or}
 use Rattle.mx_command.specs.Act.{Act, Entry, Added, Listed, aircraft_of, component_of}
 use Rattle.mx_command.specs.Same.{same_text}
@@ -7,6 +7,7 @@ use Rattle.mx_command.specs.declared.item.Item.{Item}
 use Rattle.mx_command.specs.declared.item.Item.TheVariants.{Airframe, Component}
 use Rattle.mx_book.specs.Book.{entry_at}
 use Rattle.mx_book.specs.Defect.{deferred_by}
+use Rattle.mx_book.specs.Register.{aircraft, component}
 
 -- the registration of the aircraft that an entry adds, where it adds one
 abbrev pub tail_added : Entry → Option (List ℕ)
@@ -75,3 +76,8 @@ item_added _ = None
 -- the item that the entry with this number added
 abbrev pub item_at : List Entry → ℕ → Option Item
 item_at book seq = said_at (λ entry. item_added entry.act) book seq
+
+-- the book has the item
+abbrev pub has_item : List Entry → Item → Bool
+has_item book (Airframe tail) = is_some (aircraft book tail)
+has_item book (Component serial) = is_some (component book serial)

@@ -11,9 +11,9 @@ mod taking;
 
 pub use added::added_rows;
 pub use mx_typed_rows::{
-    AircraftRow, ComponentRow, DeferralRow, EntryKind, EntryRow, ExtensionRow, FittingRow,
+    AircraftRow, BaseRow, ComponentRow, DeferralRow, EntryKind, EntryRow, ExtensionRow, FittingRow,
     OpeningRow, PlaceRow, ProgrammeRow, RegisterRows, ReleaseLineRow, ReleaseRow, RemovalRow,
-    SectorRow, TaskRow,
+    SectorRow, SpanRow, TaskRow, TotalRow,
 };
 pub use names::{
     document_of_defect, item_of_entry, or_zero, seq_of_defect, seq_of_item, seq_of_place,

@@ -1,9 +1,11 @@
--- The rows of the registers: their kinds and categories by number, and which rows can be kept in columns.
-use Rattle.std.specs.Prelude.{ℕ, ◌+◌, ◌*◌, ◌<◌, ◌≤◌, ◌^◌, Option, Some, None, IfSome}
+-- The rows of the registers and of the kept tables: their kinds and categories by number, and which rows can be kept in columns.
+use Rattle.std.specs.Prelude.{ℕ, ◌+◌, ◌*◌, ◌<◌, ◌≤◌, ◌^◌, List, ◌∷◌, Option, Some, None, IfSome}
 use Rattle.mx_base.specs.Calendar.{last_day, last_moment}
 use Rattle.mx_base.specs.Identifier.{IsIdentifier, is_graphic, is_tail_character}
+use Rattle.mx_base.specs.declared.amounts.Base.{Base}
 use Rattle.mx_base.specs.declared.amounts.Limit.{Limit}
 use Rattle.mx_base.specs.declared.amounts.Tolerance.{Tolerance}
+use Rattle.mx_base.specs.declared.amounts.Use.{Use}
 use Rattle.mx_command.specs.declared.deferral.Category.{Category}
 use Rattle.mx_command.specs.declared.deferral.Category.TheVariants.{A, B, C, D}
 use Rattle.mx_typed_rows.specs.declared.rows.EntryKind.{EntryKind}
@@ -22,6 +24,9 @@ use Rattle.mx_typed_rows.specs.declared.rows.ReleaseRow.{ReleaseRow}
 use Rattle.mx_typed_rows.specs.declared.rows.ReleaseLineRow.{ReleaseLineRow}
 use Rattle.mx_typed_rows.specs.declared.rows.DeferralRow.{DeferralRow}
 use Rattle.mx_typed_rows.specs.declared.rows.ExtensionRow.{ExtensionRow}
+use Rattle.mx_typed_rows.specs.declared.rows.SpanRow.{SpanRow}
+use Rattle.mx_typed_rows.specs.declared.rows.TotalRow.{TotalRow}
+use Rattle.mx_typed_rows.specs.declared.rows.BaseRow.{BaseRow}
 
 -- the number of a kind of entry, in the order of the commands
 abbrev pub kind_number : EntryKind → ℕ
@@ -63,6 +68,10 @@ task_key row = line_key row.seq row.line
 -- the place of a line of a release among all: by the number of the release's entry, and then by its line
 abbrev pub release_line_key : ReleaseLineRow → ℕ
 release_line_key row = line_key row.seq row.line
+
+-- the key of a last base: the number of its item, and its task
+abbrev pub base_key : BaseRow → List ℕ
+base_key row = row.item ∷ row.task
 
 -- the number has 32 bits and the document is one
 pub record FitsEntry (row : EntryRow) : Type 0 where
@@ -191,3 +200,36 @@ pub record FitsExtension (row : ExtensionRow) : Type 0 where
   pub defect : row.defect < 2 ^ 32
   pub day : row.day ≤ last_day
   pub days : row.days < 2 ^ 32
+
+-- the numbers have 32 bits, those of the removal where there is one, the position is an identifier, and the moments are in the calendar
+pub record FitsSpan (row : SpanRow) : Type 0 where
+  pub fit_seq : row.fit_seq < 2 ^ 32
+  pub component : row.component < 2 ^ 32
+  pub aircraft : row.aircraft < 2 ^ 32
+  pub position : IsIdentifier is_graphic 16 row.position
+  pub from : row.from ≤ last_moment
+  pub remove_seq : IfSome row.remove_seq (λ n. n < 2 ^ 32)
+  pub to : IfSome row.to (λ moment. moment ≤ last_moment)
+
+-- the numbers have 32 bits
+pub record FitsUse (use_then : Use) : Type 0 where
+  pub minutes : use_then.minutes < 2 ^ 32
+  pub cycles : use_then.cycles < 2 ^ 32
+
+-- the numbers have 32 bits, and the clock is in the calendar
+pub record FitsTotal (row : TotalRow) : Type 0 where
+  pub item : row.item < 2 ^ 32
+  pub life : FitsUse row.life
+  pub clock : row.clock ≤ last_moment
+
+-- the numbers have 32 bits, and the day is in the calendar
+pub record FitsBaseValue (base : Base) : Type 0 where
+  pub minutes : base.minutes < 2 ^ 32
+  pub cycles : base.cycles < 2 ^ 32
+  pub day : base.day ≤ last_day
+
+-- the numbers have 32 bits, the task is an identifier, and the day is in the calendar
+pub record FitsBase (row : BaseRow) : Type 0 where
+  pub item : row.item < 2 ^ 32
+  pub task : IsIdentifier is_graphic 16 row.task
+  pub base : FitsBaseValue row.base

@@ -1,8 +1,10 @@
-//! The rows of the registers. A column `seq` holds the number of the entry; a column `aircraft`, `component` or `item`
-//! the number of the entry that added it, and a column `defect` that of the entry that deferred it.
+//! The rows of the registers, and of the tables that are kept beside them. A column `seq` holds the number of the entry; a
+//! column `aircraft`, `component` or `item` the number of the entry that added it, and a column `defect` that of the entry
+//! that deferred it.
 
 use mx_base::{
-    Day, Doc, Kind, Limit, MelRef, Moment, Part, Position, Serial, Tail, TaskId, Tolerance,
+    Base, Day, Doc, Kind, Limit, MelRef, Moment, Part, Position, Serial, Tail, TaskId, Tolerance,
+    Use,
 };
 use mx_command::Category;
 
@@ -175,4 +177,34 @@ pub struct ExtensionRow {
     pub day: Day,
     /// By so many days.
     pub days: u32,
+}
+
+/// A component in a position of an aircraft, from its fitting to its removal.
+#[derive(Clone, Copy, Debug, PartialEq, Eq)]
+pub struct SpanRow {
+    /// The number of the entry that fitted it.
+    pub fit_seq: u32,
+    pub component: u32,
+    pub aircraft: u32,
+    pub position: Position,
+    pub from: Moment,
+    /// The number of the entry that removed it, or `None` while it is fitted.
+    pub remove_seq: Option<u32>,
+    pub to: Option<Moment>,
+}
+
+/// The life of an aircraft or a component now, and its clock.
+#[derive(Clone, Copy, Debug, PartialEq, Eq)]
+pub struct TotalRow {
+    pub item: u32,
+    pub life: Use,
+    pub clock: Moment,
+}
+
+/// The last base of a task of an item, which its next due is counted from.
+#[derive(Clone, Copy, Debug, PartialEq, Eq)]
+pub struct BaseRow {
+    pub item: u32,
+    pub task: TaskId,
+    pub base: Base,
 }

@@ -1,0 +1,13 @@
+pub mod PointLemmas
+pub mod StepLemmas
+pub mod OneBook
+pub mod MoveLemmas
+pub mod NextLemmas
+pub mod NextComponents
+pub mod CommitLemmas
+pub mod StayLemmas
+pub mod ReachLemmas
+pub mod EndLemmas
+pub mod StandingLemmas
+pub mod LeftLemmas
+pub mod WorkedPoints
