@@ -1,5 +1,5 @@
 -- The law of a table from what is computed of its texts, for every table alike.
-use Rattle.std.proofs.Common.{◌≡◌, ℕ, suc, length, drop, List, [], ◌∷◌, map, slice_get, false, ℤ, Some, sym, subst, ◌++◌}
+use Rattle.std.proofs.Common.{◌≡◌, ◌⊎◌, inl, inr, ℕ, zero, suc, length, drop, List, [], ◌∷◌, map, slice_get, false, ℤ, Some, sym, subst, ◌++◌, arith}
 use Rattle.sqlite.specs.Order.{Row, column}
 use Rattle.sqlite.specs.Table.{Table}
 use Rattle.sqlite.specs.Schema.{Schema}
@@ -19,10 +19,10 @@ use Rattle.mx_layout.specs.Reading.{by_first, by_two}
 use Rattle.sqlite_schema.specs.declared.schema.Index.{Index}
 use Rattle.mx_layout.proofs.ReadLemmas.{scan_by, first_key, two_keys, sorts_by_first, sorts_by_two}
 use Rattle.mx_layout.proofs.WriteLemmas.{added, uncounted}
-use Rattle.std.specs.Prelude.{All, IsSorted, pos}
+use Rattle.std.specs.Prelude.{All, Contains, IsSorted, pos}
 use Rattle.mx_typed_rows.specs.Rising.{IsFrom}
 use Rattle.mx_kept.proofs.OrderLemmas.{first_ascends}
-use Rattle.mx_kept.specs.Kept.{Kept}
+use Rattle.mx_kept.specs.Kept.{Kept, over}
 use Rattle.mx_kept.specs.Family.{IsReadable, IsReadableAs}
 use Rattle.mx_kept.specs.Meanings.{MeansAll, MeansAdded, IsLawful}
 use Rattle.mx_kept.specs.Schemas.{HasBehind, permanent}
@@ -87,6 +87,12 @@ StoresNext table row = (db : Trees) → (added db table (next_terms table) (suc 
 
 -- ── the law of a table, from what is computed of it ──
 
+-- what is found at a place is contained
+get_contains : {X : Type 0} (xs : List X) (at : ℕ) (x : X) → slice_get xs at ≡ Some x → Contains xs x
+get_contains [] at x is = cc
+get_contains (y ∷ ys) zero x is = (0, omega arith, cc)
+get_contains (y ∷ ys) (suc at) x is = let below = get_contains ys at x is in let low = below.1 in (suc below.0, omega arith, below.2)
+
 module _ {X : Type 0} (k : Kept X) (own : List Table) (behind : (schema : Schema) → k.IsIn schema → HasBehind own schema) (at : ℕ)
     (same : uncounted (table_named k.name) ≡ table_named k.name)
     (there : (rest : List Table) (more : List Index) → slice_get (permanent (own ++ rest) more).tables at ≡ Some (table_named k.name))
@@ -95,12 +101,16 @@ module _ {X : Type 0} (k : Kept X) (own : List Table) (behind : (schema : Schema
   abbrev table : Table
   table = table_named k.name
 
+  contains : (schema : Schema) → k.IsIn schema → Contains schema.tables table
+  contains schema h = let has = behind schema h in subst (λ (s : Schema). Contains s.tables table) (sym has.is) (get_contains (permanent (own ++ has.rest) has.more).tables at table (there has.rest has.more))
+
   -- the first column is the rowid
   pub first_keyed : k.order ≡ by_first
       → ((rest : List Table) (more : List Index) → HasTexts k (permanent (own ++ rest) more) at table)
       → (λ (r : Row). eval_all (shown_terms table) ([] ∷ r ∷ [])) ≡ cells table → ((r : Row) → column r 0 ≡ column (eval_all (shown_terms table) ([] ∷ r ∷ [])) 0)
       → ((x : X) → StoresOne table (k.as_cells x)) → ((x : X) → cells table (stored_row (k.as_cells x)) ≡ k.as_cells x) → ((x : X) → column (k.as_cells x) 0 ≡ Int (pos (k.key x))) → IsLawful k
   first_keyed ordered texts shows at_first stores shown first = record {
+    there = contains;
     shows = λ schema h. (let has = behind schema h in let is = (texts has.rest has.more).0 in
         subst (λ s. MeansAll s k.select table k.order) (sym has.is) (subst (MeansAll (permanent (own ++ has.rest) has.more) k.select table) (sym ordered)
         (record { keys = first_key; project = shown_terms table; names = map (λ (c : Column). c.name) table.columns; is = is.0; unlisted = is.1; plain = is.2; shows = shows; sorts = sorts_by_first (shown_terms table) at_first; low = low })));
@@ -119,6 +129,7 @@ module _ {X : Type 0} (k : Kept X) (own : List Table) (behind : (schema : Schema
       → (λ (r : Row). eval_all (behind_terms table) ([] ∷ r ∷ [])) ≡ cells table → ((r : Row) → column r 1 ≡ column (eval_all (behind_terms table) ([] ∷ r ∷ [])) 0) → ((r : Row) → column r 2 ≡ column (eval_all (behind_terms table) ([] ∷ r ∷ [])) 1)
       → ((x : X) → StoresNext table (k.as_cells x)) → ((n : ℤ) (x : X) → cells table (Int n ∷ k.as_cells x) ≡ k.as_cells x) → ((xs : List X) → All k.Fits xs → IsSorted by_two (map k.as_cells xs) → IsFrom k.key 0 xs) → IsLawful k
   two_keyed ordered texts shows first second stores shown ascend = record {
+    there = contains;
     shows = λ schema h. (let has = behind schema h in let is = (texts has.rest has.more).0 in
         subst (λ s. MeansAll s k.select table k.order) (sym has.is) (subst (MeansAll (permanent (own ++ has.rest) has.more) k.select table) (sym ordered)
         (record { keys = two_keys; project = behind_terms table; names = map (λ (c : Column). c.name) table.columns; is = is.0; unlisted = is.1; plain = is.2; shows = shows; sorts = sorts_by_two (behind_terms table) first second; low = low })));
@@ -130,3 +141,15 @@ module _ {X : Type 0} (k : Kept X) (own : List Table) (behind : (schema : Schema
     keyed = keyed;
     in_order = subst (λ o. (xs : List X) → All k.Fits xs → IsSorted o (map k.as_cells xs) → IsFrom k.key 0 xs) (sym ordered) ascend;
   }
+
+-- a table that stands at one place in some schemas, and at another in others
+pub either_lawful : {X : Type 0} (k : Kept X) (P Q : Schema → Type 0) → IsLawful (over k P) → IsLawful (over k Q) → IsLawful (over k (λ s. P s ⊎ Q s))
+either_lawful k P Q a b = record {
+  there = λ schema h. elim h [ inl one ↦ a.there schema one | inr other ↦ b.there schema other ];
+  shows = λ schema h. elim h [ inl one ↦ a.shows schema one | inr other ↦ b.shows schema other ];
+  adds = λ schema h x. elim h [ inl one ↦ a.adds schema one x | inr other ↦ b.adds schema other x ];
+  once = a.once;
+  tells = a.tells;
+  keyed = a.keyed;
+  in_order = a.in_order;
+}

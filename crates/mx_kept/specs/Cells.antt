@@ -3,7 +3,7 @@ use Rattle.std.specs.Prelude.{pos, [], ◌∷◌, codes}
 use Rattle.sqlite.specs.declared.types.Value.TheVariants.{Int, Text}
 use Rattle.mx_base.specs.Texts.{moment_text}
 use Rattle.mx_layout.specs.Reading.{by_first, by_two}
-use Rattle.mx_layout.specs.declared.fault.Table.TheVariants.{Entry, Aircraft, Place, Component, Programme, Task, Opening, Crs, CrsLine, Defect, Extension, Sector1, Fit1, Removal1}
+use Rattle.mx_layout.specs.declared.fault.Table.TheVariants.{Entry, Aircraft, Place, Component, Programme, Task, Opening, Crs, CrsLine, Defect, Extension, Sector1, Fit1, Removal1, Span2, Total2, Base2}
 use Rattle.mx_typed_rows.specs.declared.rows.EntryRow.{EntryRow}
 use Rattle.mx_typed_rows.specs.declared.rows.AircraftRow.{AircraftRow}
 use Rattle.mx_typed_rows.specs.declared.rows.PlaceRow.{PlaceRow}
@@ -18,11 +18,14 @@ use Rattle.mx_typed_rows.specs.declared.rows.ReleaseRow.{ReleaseRow}
 use Rattle.mx_typed_rows.specs.declared.rows.ReleaseLineRow.{ReleaseLineRow}
 use Rattle.mx_typed_rows.specs.declared.rows.DeferralRow.{DeferralRow}
 use Rattle.mx_typed_rows.specs.declared.rows.ExtensionRow.{ExtensionRow}
-use Rattle.mx_typed_rows.specs.Rows.{kind_number, category_number, days_stated, place_key, task_key, release_line_key, FitsEntry, FitsAircraft, FitsPlace, FitsComponent, FitsProgramme, FitsTask, FitsOpening, FitsRelease, FitsReleaseLine, FitsDeferral, FitsExtension, FitsSector, FitsFitting, FitsRemoval}
+use Rattle.mx_typed_rows.specs.declared.rows.SpanRow.{SpanRow}
+use Rattle.mx_typed_rows.specs.declared.rows.TotalRow.{TotalRow}
+use Rattle.mx_typed_rows.specs.declared.rows.BaseRow.{BaseRow}
+use Rattle.mx_typed_rows.specs.Rows.{kind_number, category_number, days_stated, place_key, task_key, release_line_key, FitsEntry, FitsAircraft, FitsPlace, FitsComponent, FitsProgramme, FitsTask, FitsOpening, FitsRelease, FitsReleaseLine, FitsDeferral, FitsExtension, FitsSector, FitsFitting, FitsRemoval, FitsSpan, FitsTotal, FitsBase}
 use Rattle.mx_kept.specs.Keys.{one_key, two_key}
 use Rattle.mx_kept.specs.Values.{number_or_null, text_or_null, flag}
 use Rattle.mx_kept.specs.Kept.{Kept}
-use Rattle.mx_kept.specs.Schemas.{HasPermanent, HasOwn1}
+use Rattle.mx_kept.specs.Schemas.{HasPermanent, HasOwn1, HasSpans, HasTotals, HasOwn2}
 
 -- entries, as the rows of `entry`
 abbrev pub kept_entry : Kept EntryRow
@@ -220,5 +223,47 @@ kept_removal1 = record {
   as_cells = λ r. Int (pos r.seq) ∷ Int (pos r.component) ∷ Text (moment_text r.moment) ∷ [];
   Fits = FitsRemoval;
   key = λ r. r.seq;
+  cells_key = one_key;
+}
+
+-- where components are fitted, as the rows of `span2`
+abbrev pub kept_span2 : Kept SpanRow
+kept_span2 = record {
+  name = Span2;
+  IsIn = HasSpans;
+  select = codes "SELECT fit_seq, component, aircraft, position, from_min, remove_seq, to_min FROM span2 ORDER BY fit_seq";
+  insert = codes "INSERT INTO span2 (fit_seq, component, aircraft, position, from_min, remove_seq, to_min) VALUES (?1, ?2, ?3, ?4, ?5, ?6, ?7)";
+  order = by_first;
+  as_cells = λ r. Int (pos r.fit_seq) ∷ Int (pos r.component) ∷ Int (pos r.aircraft) ∷ Text r.position ∷ Int (pos r.from) ∷ number_or_null r.remove_seq ∷ number_or_null r.to ∷ [];
+  Fits = FitsSpan;
+  key = λ r. r.fit_seq;
+  cells_key = one_key;
+}
+
+-- lives now, as the rows of `total2`
+abbrev pub kept_total2 : Kept TotalRow
+kept_total2 = record {
+  name = Total2;
+  IsIn = HasTotals;
+  select = codes "SELECT item, minutes, cycles, clock FROM total2 ORDER BY item";
+  insert = codes "INSERT INTO total2 (item, minutes, cycles, clock) VALUES (?1, ?2, ?3, ?4)";
+  order = by_first;
+  as_cells = λ r. Int (pos r.item) ∷ Int (pos r.life.minutes) ∷ Int (pos r.life.cycles) ∷ Int (pos r.clock) ∷ [];
+  Fits = FitsTotal;
+  key = λ r. r.item;
+  cells_key = one_key;
+}
+
+-- last bases, as the rows of `base2`
+abbrev pub kept_base2 : Kept BaseRow
+kept_base2 = record {
+  name = Base2;
+  IsIn = HasOwn2;
+  select = codes "SELECT item, task, minutes, cycles, day FROM base2 ORDER BY item, task";
+  insert = codes "INSERT INTO base2 (item, task, minutes, cycles, day) VALUES (?1, ?2, ?3, ?4, ?5)";
+  order = by_two;
+  as_cells = λ r. Int (pos r.item) ∷ Text r.task ∷ Int (pos r.life.minutes) ∷ Int (pos r.life.cycles) ∷ Int (pos r.day) ∷ [];
+  Fits = FitsBase;
+  key = λ r. r.item;
   cells_key = one_key;
 }

@@ -16,3 +16,7 @@ pub record Kept (X : Type 0) : Type 1 where
   pub Fits : X → Type 0
   pub key : X → ℕ
   pub cells_key : Row → ℕ
+
+-- the same table, in these schemas
+abbrev pub over : {X : Type 0} → Kept X → (Schema → Type 0) → Kept X
+over k IsIn = record k { IsIn = IsIn }

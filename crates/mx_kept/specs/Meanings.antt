@@ -1,5 +1,5 @@
 -- What the two texts of a table mean over a schema, and what makes them those of the table.
-use Rattle.std.specs.Prelude.{⊤, ◌≡◌, ℕ, List, [], ◌∷◌, Some, false, slice_get, map, All, IsSorted}
+use Rattle.std.specs.Prelude.{⊤, ◌≡◌, ℕ, List, [], ◌∷◌, Some, false, slice_get, map, All, Contains, IsSorted}
 use Rattle.std.specs.declared.cmp.Ordering.{Ordering}
 use Rattle.sqlite.specs.Order.{Row}
 use Rattle.sqlite.specs.Table.{Table}
@@ -16,11 +16,11 @@ use Rattle.mx_typed_rows.specs.Rising.{IsFrom}
 use Rattle.mx_layout.specs.Contents.{cells}
 use Rattle.mx_layout.specs.Names.{table_named}
 use Rattle.mx_layout.specs.TableName.{TableName}
-use Rattle.mx_layout.specs.declared.fault.Table.TheVariants.{Entry, Aircraft, Place, Component, Programme, Task, Opening, Crs, CrsLine, Defect, Extension, Sector1, Fit1, Removal1}
+use Rattle.mx_layout.specs.declared.fault.Table.TheVariants.{Entry, Aircraft, Place, Component, Programme, Task, Opening, Crs, CrsLine, Defect, Extension, Sector1, Fit1, Removal1, Span2, Total2, Base2}
 use Rattle.mx_layout.proofs.ReadLemmas.{scan_by, Sorts}
 use Rattle.mx_layout.proofs.WriteLemmas.{added, uncounted}
 use Rattle.mx_kept.specs.Kept.{Kept}
-use Rattle.mx_kept.specs.Cells.{kept_entry, kept_aircraft, kept_place, kept_component, kept_programme, kept_task, kept_opening, kept_crs, kept_crs_line, kept_defect, kept_extension, kept_sector1, kept_fit1, kept_removal1}
+use Rattle.mx_kept.specs.Cells.{kept_entry, kept_aircraft, kept_place, kept_component, kept_programme, kept_task, kept_opening, kept_crs, kept_crs_line, kept_defect, kept_extension, kept_sector1, kept_fit1, kept_removal1, kept_span2, kept_total2, kept_base2}
 use Rattle.mx_kept.specs.Family.{IsReadable, IsReadableAs}
 
 -- over this schema the text is understood as the plan that shows all rows of the table in this order, and nothing else
@@ -48,8 +48,9 @@ pub record MeansAdded (schema : Schema) (text : List ℕ) (table : Table) (row :
   pub news : (db : Trees) → (added db table terms width row).news ≡ stored db ∷ []
   pub shown : (db : Trees) → cells table (stored db) ≡ row
 
--- The law of a table: in each schema that has it the texts show all of its rows, and add one; rows that fit and have the same values are one; a row of the table's type in the family is one of this; the key is seen in the values, and rows in the order of the table ascend by it.
+-- The law of a table: each schema that has it has the table of its name, and there the texts show all of its rows, and add one; rows that fit and have the same values are one; a row of the table's type in the family is one of this; the key is seen in the values, and rows in the order of the table ascend by it.
 pub record IsLawful {X : Type 0} (k : Kept X) : Type 0 where
+  pub there : (schema : Schema) → k.IsIn schema → Contains schema.tables (table_named k.name)
   pub shows : (schema : Schema) → k.IsIn schema → MeansAll schema k.select (table_named k.name) k.order
   pub adds : (schema : Schema) → k.IsIn schema → (x : X) → MeansAdded schema k.insert (table_named k.name) (k.as_cells x)
   pub once : (a b : X) → k.Fits a → k.Fits b → k.as_cells a ≡ k.as_cells b → a ≡ b
@@ -73,4 +74,7 @@ IsLawfulAt Extension = IsLawful kept_extension
 IsLawfulAt Sector1 = IsLawful kept_sector1
 IsLawfulAt Fit1 = IsLawful kept_fit1
 IsLawfulAt Removal1 = IsLawful kept_removal1
+IsLawfulAt Span2 = IsLawful kept_span2
+IsLawfulAt Total2 = IsLawful kept_total2
+IsLawfulAt Base2 = IsLawful kept_base2
 IsLawfulAt _ = ⊤

@@ -1,9 +1,9 @@
 -- The schemas that have a table, whatever else they have: every layout, and every point between two.
-use Rattle.std.specs.Prelude.{◌≡◌, List, [], ◌∷◌, ◌++◌, codes}
+use Rattle.std.specs.Prelude.{◌≡◌, ◌⊎◌, List, [], ◌∷◌, ◌++◌, codes}
 use Rattle.sqlite.specs.Table.{Table}
 use Rattle.sqlite.specs.Schema.{Schema}
 use Rattle.sqlite_schema.specs.declared.schema.Index.{Index}
-use Rattle.mx_layout.specs.Tables.{office, entry, aircraft, place, component, programme, task, opening, crs, crs_line, extension, defect, sector1, fit1, removal1, unique}
+use Rattle.mx_layout.specs.Tables.{office, entry, aircraft, place, component, programme, task, opening, crs, crs_line, extension, defect, sector1, fit1, removal1, sector2, span2, total2, base2, unique}
 
 -- the permanent tables and then any others, and their indexes
 abbrev pub permanent : List Table → List Index → Schema
@@ -22,6 +22,14 @@ permanent rest more = record {
 abbrev pub own_1 : List Table
 own_1 = sector1 ∷ fit1 ∷ removal1 ∷ []
 
+-- the tables of layout 2 that stand behind the permanent ones
+abbrev pub own_2 : List Table
+own_2 = sector2 ∷ span2 ∷ total2 ∷ base2 ∷ []
+
+-- those that stand there while components are moved from layout 1 to layout 2
+abbrev pub own_moving : List Table
+own_moving = fit1 ∷ removal1 ∷ sector2 ∷ span2 ∷ []
+
 -- the schema has the permanent tables, behind them these, and then any others
 pub record HasBehind (own : List Table) (schema : Schema) : Type 0 where
   pub rest : List Table
@@ -35,3 +43,15 @@ HasPermanent = HasBehind []
 -- the schema has the permanent tables and those of layout 1
 abbrev pub HasOwn1 : Schema → Type 0
 HasOwn1 = HasBehind own_1
+
+-- the schema has the permanent tables and those of layout 2
+abbrev pub HasOwn2 : Schema → Type 0
+HasOwn2 = HasBehind own_2
+
+-- the schema has the permanent tables and spans: while components are moved, and from then on
+abbrev pub HasSpans : Schema → Type 0
+HasSpans schema = HasBehind own_moving schema ⊎ HasBehind (sector2 ∷ span2 ∷ []) schema
+
+-- the schema has the permanent tables and totals: once all components are moved
+abbrev pub HasTotals : Schema → Type 0
+HasTotals = HasBehind (sector2 ∷ span2 ∷ total2 ∷ [])

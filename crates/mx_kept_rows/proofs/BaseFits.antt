@@ -23,7 +23,7 @@ use Rattle.mx_book.specs.Lists.{use_or_none}
 use Rattle.mx_book.specs.Programme.{is_done}
 use Rattle.mx_book.specs.Register.{birth}
 use Rattle.mx_book.proofs.LifeLemmas.{life_bounded}
-use Rattle.mx_typed_rows.specs.Rows.{FitsBase, FitsBaseValue}
+use Rattle.mx_typed_rows.specs.Rows.{FitsBase, FitsBaseValue, base_row_with}
 use Rattle.mx_kept_rows.specs.Bases.{base_row, base_rows, base_rows_of, each_once, task_done, tasks_accomplished, tasks_by}
 use Rattle.mx_kept_rows.specs.Fits.{FitRegisters}
 use Rattle.mx_kept_rows.specs.Items.{items}
@@ -130,7 +130,7 @@ module _ (book : List Entry) (b : IsBook book) (h : SayFit book) where
   rows_of x low [] k = tt
   rows_of x low (id ∷ ids) k = at (base book x.1 id) (base_fits book b x.1 id h) (rows_of x low ids k.1)
     where
-      at : (o : Option Base) → IfSome o FitsBaseValue → AllByRecursion FitsBase (filter_map (base_row book x) ids) → AllByRecursion FitsBase (cons_option (option_map (λ base. record { item = x.0; task = id; base = base }) o) (filter_map (base_row book x) ids))
+      at : (o : Option Base) → IfSome o FitsBaseValue → AllByRecursion FitsBase (filter_map (base_row book x) ids) → AllByRecursion FitsBase (cons_option (option_map (λ base. base_row_with x.0 id base) o) (filter_map (base_row book x) ids))
       at None fits rest = rest
       at (Some value) fits rest = (record { item = low; task = k.0; base = fits }, rest)
 

@@ -20,6 +20,7 @@ use Rattle.mx_book.proofs.NamedLemmas.{any_named}
 use Rattle.mx_register.specs.Names.{item_added, item_at}
 use Rattle.mx_register.specs.Registers.{gives_by, next}
 use Rattle.mx_typed_rows.specs.declared.rows.BaseRow.{BaseRow}
+use Rattle.mx_typed_rows.specs.Rows.{base_in_row, base_row_with}
 use Rattle.mx_kept_rows.specs.Bases.{base_in, base_row, base_rows, base_rows_of, each_once, task_done, tasks_accomplished, tasks_by}
 use Rattle.mx_kept_rows.specs.Items.{items, items_by}
 use Rattle.mx_kept_rows.proofs.ItemNumbers.{items_numbered}
@@ -85,7 +86,7 @@ module _ (book : List Entry) (n : ℕ) (id : List ℕ) where
   is_row row = nat_eq row.item n && same_text row.task id
 
   abbrev found : List BaseRow → Option Base
-  found rows = option_map (λ (row : BaseRow). row.base) (find is_row rows)
+  found rows = option_map base_in_row (find is_row rows)
 
   none_unless : (test : Bool) (b : Option Base) → is_some b ≡ test → cond test b None ≡ b
   none_unless true b h = refl
@@ -105,7 +106,7 @@ module _ (book : List Entry) (n : ℕ) (id : List ℕ) where
       nothing false e = sym e
 
       there : (c : Bool) (b : Base) → same_text x id ≡ c → base book item x ≡ Some b → found (filter_map (base_row book (n, item)) xs) ≡ cond (list_any (λ t. same_text t id) xs) (base book item id) None
-          → option_map (λ (row : BaseRow). row.base) (cond (true && c) (Some (record { item = n; task = x; base = b })) (find is_row (filter_map (base_row book (n, item)) xs))) ≡ cond (c || list_any (λ t. same_text t id) xs) (base book item id) None
+          → option_map base_in_row (cond (true && c) (Some (base_row_with n x b)) (find is_row (filter_map (base_row book (n, item)) xs))) ≡ cond (c || list_any (λ t. same_text t id) xs) (base book item id) None
       there true b e f rest = sym f ∙ ap (base book item) ((text_same x id).0 e)
       there false b e f rest = rest
 
@@ -115,9 +116,9 @@ module _ (book : List Entry) (n : ℕ) (id : List ℕ) where
       absent false e f rest = rest
 
       at : (o : Option Base) → base book item x ≡ o → found (filter_map (base_row book (n, item)) xs) ≡ cond (list_any (λ t. same_text t id) xs) (base book item id) None
-          → found (cons_option (option_map (λ b. record { item = n; task = x; base = b }) o) (filter_map (base_row book (n, item)) xs)) ≡ cond (same_text x id || list_any (λ t. same_text t id) xs) (base book item id) None
+          → found (cons_option (option_map (λ b. base_row_with n x b) o) (filter_map (base_row book (n, item)) xs)) ≡ cond (same_text x id || list_any (λ t. same_text t id) xs) (base book item id) None
       at (Some b) e rest =
-          ap (λ c. option_map (λ (row : BaseRow). row.base) (cond (c && same_text x id) (Some (record { item = n; task = x; base = b })) (find is_row (filter_map (base_row book (n, item)) xs)))) self
+          ap (λ c. option_map base_in_row (cond (c && same_text x id) (Some (base_row_with n x b)) (find is_row (filter_map (base_row book (n, item)) xs)))) self
           ∙ there (same_text x id) b refl e rest
       at None e rest = absent (same_text x id) refl e rest
 
@@ -126,9 +127,9 @@ module _ (book : List Entry) (n : ℕ) (id : List ℕ) where
   rows_of_other x e [] = refl
   rows_of_other x e (t ∷ ts) = at (base book x.1 t) (rows_of_other x e ts)
     where
-      at : (o : Option Base) → find is_row (filter_map (base_row book x) ts) ≡ None → find is_row (cons_option (option_map (λ b. record { item = x.0; task = t; base = b }) o) (filter_map (base_row book x) ts)) ≡ None
+      at : (o : Option Base) → find is_row (filter_map (base_row book x) ts) ≡ None → find is_row (cons_option (option_map (λ b. base_row_with x.0 t b) o) (filter_map (base_row book x) ts)) ≡ None
       at None rest = rest
-      at (Some b) rest = ap (λ c. cond (c && same_text t id) (Some (record { item = x.0; task = t; base = b })) (find is_row (filter_map (base_row book x) ts))) e ∙ rest
+      at (Some b) rest = ap (λ c. cond (c && same_text t id) (Some (base_row_with x.0 t b)) (find is_row (filter_map (base_row book x) ts))) e ∙ rest
 
   map_or : {X Y : Type 0} (f : X → Y) (o p : Option X) → option_map f (option_or o p) ≡ option_or (option_map f o) (option_map f p)
   map_or f None p = refl
@@ -144,8 +145,8 @@ module _ (book : List Entry) (n : ℕ) (id : List ℕ) where
       → found (flat_map (base_rows_of book) xs) ≡ cond (list_any (λ (x : ℕ × Item). nat_eq x.0 n) xs) (base book item id) None
   rows_of_items item [] h = refl
   rows_of_items item (x ∷ xs) h =
-      ap (option_map (λ (row : BaseRow). row.base)) (find-append is_row (base_rows_of book x) (flat_map (base_rows_of book) xs))
-      ∙ map_or (λ (row : BaseRow). row.base) (find is_row (base_rows_of book x)) (find is_row (flat_map (base_rows_of book) xs))
+      ap (option_map base_in_row) (find-append is_row (base_rows_of book x) (flat_map (base_rows_of book) xs))
+      ∙ map_or base_in_row (find is_row (base_rows_of book x)) (find is_row (flat_map (base_rows_of book) xs))
       ∙ ap (option_or (found (base_rows_of book x))) (rows_of_items item xs h.1)
       ∙ at (nat_eq x.0 n) refl
     where
@@ -162,7 +163,7 @@ module _ (book : List Entry) (n : ℕ) (id : List ℕ) where
           ∙ rows_of_item item (tasks_accomplished book item)
           ∙ none_unless (list_any (λ t. same_text t id) (tasks_accomplished book item)) (base book item id) (sym (accomplished_based book item id)) in
           ap (λ o. option_or o (cond (list_any (λ (x : ℕ × Item). nat_eq x.0 n) xs) (base book item id) None)) own ∙ or_same (base book item id) (list_any (λ (x : ℕ × Item). nat_eq x.0 n) xs)
-      at false e = ap (λ o. option_or (option_map (λ (row : BaseRow). row.base) o) (cond (list_any (λ (x : ℕ × Item). nat_eq x.0 n) xs) (base book item id) None)) (rows_of_other x e (tasks_accomplished book x.1))
+      at false e = ap (λ o. option_or (option_map base_in_row o) (cond (list_any (λ (x : ℕ × Item). nat_eq x.0 n) xs) (base book item id) None)) (rows_of_other x e (tasks_accomplished book x.1))
 
 -- ── the item with a number ──
 

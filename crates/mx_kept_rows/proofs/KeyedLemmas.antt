@@ -14,6 +14,7 @@ use Rattle.mx_command.proofs.SameLemmas.{text_same}
 use Rattle.mx_book.specs.Base.{base}
 use Rattle.mx_typed_rows.specs.Rising.{IsRising}
 use Rattle.mx_typed_rows.specs.declared.rows.BaseRow.{BaseRow}
+use Rattle.mx_typed_rows.specs.Rows.{base_in_row, base_row_with}
 use Rattle.mx_kept_rows.specs.Bases.{AreKeyedOnce, base_in, base_row, base_rows, base_rows_of, each_once, is_keyed, tasks_accomplished}
 use Rattle.mx_kept_rows.specs.Items.{items}
 use Rattle.mx_kept_rows.proofs.ItemOrder.{items_from}
@@ -37,7 +38,7 @@ abbrev pub without : ℕ → List ℕ → List BaseRow → List BaseRow
 without n id rows = filter (λ row. not (is_keyed n id row)) rows
 
 abbrev row_of : ℕ → List ℕ → Base → BaseRow
-row_of n id b = record { item = n; task = id; base = b }
+row_of n id b = base_row_with n id b
 
 some_fewer : (q p : BaseRow → Bool) (xs : List BaseRow) → list_any q xs ≡ false → list_any q (filter p xs) ≡ false
 some_fewer q p [] h = refl
@@ -65,7 +66,7 @@ none_in : (n : ℕ) (id : List ℕ) (xs : List BaseRow) → list_any (is_keyed n
 none_in n id [] h = refl
 none_in n id (x ∷ xs) h =
     let parts = neither (is_keyed n id x) (list_any (is_keyed n id) xs) h in
-    ap (λ b. option_map (λ (row : BaseRow). row.base) (cond b (Some x) (find (is_keyed n id) xs))) parts.0 ∙ none_in n id xs parts.1
+    ap (λ b. option_map base_in_row (cond b (Some x) (find (is_keyed n id) xs))) parts.0 ∙ none_in n id xs parts.1
 
 pub gone : (n : ℕ) (id : List ℕ) (xs : List BaseRow) → list_any (is_keyed n id) (without n id xs) ≡ false
 gone n id [] = refl
@@ -80,15 +81,15 @@ others_stay n m id other [] h = refl
 others_stay n m id other (x ∷ xs) h = at (is_keyed n id x) refl (others_stay n m id other xs h)
   where
     at : (b : Bool) → is_keyed n id x ≡ b → base_in (without n id xs) m other ≡ base_in xs m other
-        → base_in (cond (not b) (x ∷ without n id xs) (without n id xs)) m other ≡ option_map (λ (row : BaseRow). row.base) (cond (is_keyed m other x) (Some x) (find (is_keyed m other) xs))
+        → base_in (cond (not b) (x ∷ without n id xs) (without n id xs)) m other ≡ option_map base_in_row (cond (is_keyed m other x) (Some x) (find (is_keyed m other) xs))
     at true e rest =
         let parts = both (nat_eq x.item n) (same_text x.task id) e in
         let apart : is_keyed m other x ≡ false = ap (λ k. nat_eq k m && same_text x.task other) ((Decides-eqb x.item n).0 parts.0) ∙ ap (λ (t : List ℕ). nat_eq n m && same_text t other) ((text_same x.task id).0 parts.1) ∙ h in
-        rest ∙ sym (ap (λ b. option_map (λ (row : BaseRow). row.base) (cond b (Some x) (find (is_keyed m other) xs))) apart)
+        rest ∙ sym (ap (λ b. option_map base_in_row (cond b (Some x) (find (is_keyed m other) xs))) apart)
     at false e rest = pick (is_keyed m other x) rest
       where
         pick : (b : Bool) → base_in (without n id xs) m other ≡ base_in xs m other
-            → option_map (λ (row : BaseRow). row.base) (cond b (Some x) (find (is_keyed m other) (without n id xs))) ≡ option_map (λ (row : BaseRow). row.base) (cond b (Some x) (find (is_keyed m other) xs))
+            → option_map base_in_row (cond b (Some x) (find (is_keyed m other) (without n id xs))) ≡ option_map base_in_row (cond b (Some x) (find (is_keyed m other) xs))
         pick true rest = refl
         pick false rest = rest
 
@@ -97,14 +98,14 @@ taken_out : (n : ℕ) (id : List ℕ) (b : Base) (xs : List BaseRow) → AreKeye
 taken_out n id b [] k h = (cc)
 taken_out n id b (x ∷ xs) k h = at (is_keyed n id x) refl h (taken_out n id b xs k.1)
   where
-    at : (c : Bool) → is_keyed n id x ≡ c → option_map (λ (row : BaseRow). row.base) (cond c (Some x) (find (is_keyed n id) xs)) ≡ Some b → (base_in xs n id ≡ Some b → IsPermutation xs (row_of n id b ∷ without n id xs))
+    at : (c : Bool) → is_keyed n id x ≡ c → option_map base_in_row (cond c (Some x) (find (is_keyed n id) xs)) ≡ Some b → (base_in xs n id ≡ Some b → IsPermutation xs (row_of n id b ∷ without n id xs))
         → IsPermutation (x ∷ xs) (row_of n id b ∷ cond (not c) (x ∷ without n id xs) (without n id xs))
     at true e h rest =
         let parts = both (nat_eq x.item n) (same_text x.task id) e in
         let number = (Decides-eqb x.item n).0 parts.0 in
         let task = (text_same x.task id).0 parts.1 in
-        let value : x.base ≡ b = cc in
-        let same : x ≡ row_of n id b = ap (λ k. row_of k x.task x.base) number ∙ ap (λ (t : List ℕ). row_of n t x.base) task ∙ ap (row_of n id) value in
+        let value : base_in_row x ≡ b = cc in
+        let same : x ≡ row_of n id b = ap (λ k. row_of k x.task (base_in_row x)) number ∙ ap (λ (t : List ℕ). row_of n t (base_in_row x)) task ∙ ap (row_of n id) value in
         let alone : list_any (is_keyed n id) xs ≡ false = ap (λ k. list_any (is_keyed k id) xs) (sym number) ∙ ap (λ (t : List ℕ). list_any (is_keyed x.item t) xs) (sym task) ∙ k.0 in
         subst (λ (l : List BaseRow). IsPermutation (x ∷ xs) l) (ap (λ r. r ∷ xs) same ∙ ap (λ l. row_of n id b ∷ l) (sym (none_without n id xs alone))) (IsPermutation-refl (x ∷ xs))
     at false e h rest =
@@ -118,14 +119,14 @@ self_keyed x = ap (λ b. b && same_text x.task x.task) ((Decides-eqb x.item x.it
 pub keyed_same : (xs ys : List BaseRow) → AreKeyedOnce xs → AreKeyedOnce ys → ((n : ℕ) (id : List ℕ) → base_in xs n id ≡ base_in ys n id) → IsPermutation xs ys
 keyed_same [] [] k l same = IsPermutation-refl []
 keyed_same [] (y ∷ ys) k l same =
-    let there : base_in (y ∷ ys) y.item y.task ≡ Some y.base = ap (λ b. option_map (λ (row : BaseRow). row.base) (cond b (Some y) (find (is_keyed y.item y.task) ys))) (self_keyed y) in
-    let none : None ≡ Some y.base = same y.item y.task ∙ there in absurd (no_some y.base none)
+    let there : base_in (y ∷ ys) y.item y.task ≡ Some (base_in_row y) = ap (λ b. option_map base_in_row (cond b (Some y) (find (is_keyed y.item y.task) ys))) (self_keyed y) in
+    let none : None ≡ Some (base_in_row y) = same y.item y.task ∙ there in absurd (no_some (base_in_row y) none)
   where
     no_some : (b : Base) → None ≡ Some b → ⊥
     no_some b e = (cc)
 keyed_same (x ∷ xs) ys k l same =
-    let here : base_in (x ∷ xs) x.item x.task ≡ Some x.base = ap (λ b. option_map (λ (row : BaseRow). row.base) (cond b (Some x) (find (is_keyed x.item x.task) xs))) (self_keyed x) in
-    let out = taken_out x.item x.task x.base ys l (sym (same x.item x.task) ∙ here) in
+    let here : base_in (x ∷ xs) x.item x.task ≡ Some (base_in_row x) = ap (λ b. option_map base_in_row (cond b (Some x) (find (is_keyed x.item x.task) xs))) (self_keyed x) in
+    let out = taken_out x.item x.task (base_in_row x) ys l (sym (same x.item x.task) ∙ here) in
     IsPermutation-trans (x ∷ xs) (x ∷ without x.item x.task ys) ys
     (IsPermutation-cons x xs (without x.item x.task ys) (keyed_same xs (without x.item x.task ys) k.1 (keyed_fewer (λ row. not (is_keyed x.item x.task row)) ys l) rest))
     (IsPermutation-sym ys (x ∷ without x.item x.task ys) out)
@@ -133,7 +134,7 @@ keyed_same (x ∷ xs) ys k l same =
     rest : (n : ℕ) (id : List ℕ) → base_in xs n id ≡ base_in (without x.item x.task ys) n id
     rest n id = at (is_keyed n id x) refl (same n id)
       where
-        at : (c : Bool) → is_keyed n id x ≡ c → option_map (λ (row : BaseRow). row.base) (cond c (Some x) (find (is_keyed n id) xs)) ≡ base_in ys n id → base_in xs n id ≡ base_in (without x.item x.task ys) n id
+        at : (c : Bool) → is_keyed n id x ≡ c → option_map base_in_row (cond c (Some x) (find (is_keyed n id) xs)) ≡ base_in ys n id → base_in xs n id ≡ base_in (without x.item x.task ys) n id
         at true e s =
             let parts = both (nat_eq x.item n) (same_text x.task id) e in
             let number = (Decides-eqb x.item n).0 parts.0 in
@@ -187,7 +188,7 @@ module _ (book : List Entry) where
       both_false true b h = h
       both_false false b h = refl
 
-      at : (o : Option Base) → same_text t id ≡ false → list_any (is_keyed n id) (filter_map (base_row book x) ts) ≡ false → list_any (is_keyed n id) (cons_option (option_map (λ b. record { item = x.0; task = t; base = b }) o) (filter_map (base_row book x) ts)) ≡ false
+      at : (o : Option Base) → same_text t id ≡ false → list_any (is_keyed n id) (filter_map (base_row book x) ts) ≡ false → list_any (is_keyed n id) (cons_option (option_map (λ b. base_row_with x.0 t b) o) (filter_map (base_row book x) ts)) ≡ false
       at None e rest = rest
       at (Some b) e rest = none_of (nat_eq x.0 n && same_text t id) (list_any (is_keyed n id) (filter_map (base_row book x) ts)) (both_false (nat_eq x.0 n) (same_text t id) e) rest
 
@@ -195,7 +196,7 @@ module _ (book : List Entry) where
   one_item x [] h = tt
   one_item x (t ∷ ts) h = at (base book x.1 t) (one_item x ts h.1)
     where
-      at : (o : Option Base) → AreKeyedOnce (filter_map (base_row book x) ts) → AreKeyedOnce (cons_option (option_map (λ b. record { item = x.0; task = t; base = b }) o) (filter_map (base_row book x) ts))
+      at : (o : Option Base) → AreKeyedOnce (filter_map (base_row book x) ts) → AreKeyedOnce (cons_option (option_map (λ b. base_row_with x.0 t b) o) (filter_map (base_row book x) ts))
       at None rest = rest
       at (Some b) rest = (no_row x x.0 t ts h.0, rest)
 
@@ -204,7 +205,7 @@ module _ (book : List Entry) where
   other_item x n id [] h = refl
   other_item x n id (t ∷ ts) h = at (base book x.1 t) (other_item x n id ts h)
     where
-      at : (o : Option Base) → list_any (is_keyed n id) (filter_map (base_row book x) ts) ≡ false → list_any (is_keyed n id) (cons_option (option_map (λ b. record { item = x.0; task = t; base = b }) o) (filter_map (base_row book x) ts)) ≡ false
+      at : (o : Option Base) → list_any (is_keyed n id) (filter_map (base_row book x) ts) ≡ false → list_any (is_keyed n id) (cons_option (option_map (λ b. base_row_with x.0 t b) o) (filter_map (base_row book x) ts)) ≡ false
       at None rest = rest
       at (Some b) rest = none_of (nat_eq x.0 n && same_text t id) (list_any (is_keyed n id) (filter_map (base_row book x) ts)) (ap (λ c. c && same_text t id) h) rest
 
@@ -222,8 +223,8 @@ module _ (book : List Entry) where
   joined x [] ys h k apart = k
   joined x (t ∷ ts) ys h k apart = at (base book x.1 t) h (λ g. joined x ts ys g k apart)
     where
-      at : (o : Option Base) → AreKeyedOnce (cons_option (option_map (λ b. record { item = x.0; task = t; base = b }) o) (filter_map (base_row book x) ts)) → (AreKeyedOnce (filter_map (base_row book x) ts) → AreKeyedOnce (filter_map (base_row book x) ts ++ ys))
-          → AreKeyedOnce (cons_option (option_map (λ b. record { item = x.0; task = t; base = b }) o) (filter_map (base_row book x) ts) ++ ys)
+      at : (o : Option Base) → AreKeyedOnce (cons_option (option_map (λ b. base_row_with x.0 t b) o) (filter_map (base_row book x) ts)) → (AreKeyedOnce (filter_map (base_row book x) ts) → AreKeyedOnce (filter_map (base_row book x) ts ++ ys))
+          → AreKeyedOnce (cons_option (option_map (λ b. base_row_with x.0 t b) o) (filter_map (base_row book x) ts) ++ ys)
       at None h rest = rest h
       at (Some b) h rest = (list_any-append (is_keyed x.0 t) (filter_map (base_row book x) ts) ys ∙ none_of (list_any (is_keyed x.0 t) (filter_map (base_row book x) ts)) (list_any (is_keyed x.0 t) ys) h.0 (apart t), rest h.1)
 

@@ -19,6 +19,7 @@ use Rattle.mx_register.specs.Names.{has_item, item_at, or_zero, seq_of_item}
 use Rattle.mx_register.proofs.NameLemmas.{item_known, item_number}
 use Rattle.mx_register.proofs.NewLemmas.{opened_is_known}
 use Rattle.mx_typed_rows.specs.declared.rows.BaseRow.{BaseRow}
+use Rattle.mx_typed_rows.specs.Rows.{base_in_row, base_row_with}
 use Rattle.mx_kept_rows.specs.Bases.{base_in, base_row, base_rows, base_rows_of, is_keyed, tasks_accomplished}
 use Rattle.mx_kept_rows.specs.Items.{items}
 use Rattle.mx_kept_rows.proofs.DoneLemmas.{accomplishments-more, done_there, item_same}
@@ -55,9 +56,9 @@ module _ (book : List Entry) (n : ℕ) (id : List ℕ) where
   rows_of_other x e [] = refl
   rows_of_other x e (t ∷ ts) = at (base book x.1 t) (rows_of_other x e ts)
     where
-      at : (o : Option Base) → find (is_keyed n id) (filter_map (base_row book x) ts) ≡ None → find (is_keyed n id) (cons_option (option_map (λ b. record { item = x.0; task = t; base = b }) o) (filter_map (base_row book x) ts)) ≡ None
+      at : (o : Option Base) → find (is_keyed n id) (filter_map (base_row book x) ts) ≡ None → find (is_keyed n id) (cons_option (option_map (λ b. base_row_with x.0 t b) o) (filter_map (base_row book x) ts)) ≡ None
       at None rest = rest
-      at (Some b) rest = ap (λ c. cond (c && same_text t id) (Some (record { item = x.0; task = t; base = b })) (find (is_keyed n id) (filter_map (base_row book x) ts))) e ∙ rest
+      at (Some b) rest = ap (λ c. cond (c && same_text t id) (Some (base_row_with x.0 t b)) (find (is_keyed n id) (filter_map (base_row book x) ts))) e ∙ rest
 
   none_found : (xs : List (ℕ × Item)) → AllByRecursion (λ (x : ℕ × Item). item_at book x.0 ≡ Some x.1) xs → item_at book n ≡ None → find (is_keyed n id) (flat_map (base_rows_of book) xs) ≡ None
   none_found [] h none = refl
@@ -72,7 +73,7 @@ module _ (book : List Entry) (n : ℕ) (id : List ℕ) where
 
 -- there is no row of a number that no item has
 pub no_rows : (book : List Entry) (n : ℕ) (id : List ℕ) → IsBook book → item_at book n ≡ None → base_in (base_rows book) n id ≡ None
-no_rows book n id b none = ap (option_map (λ (row : BaseRow). row.base)) (none_found book n id (items book) (items_numbered book b) none)
+no_rows book n id b none = ap (option_map base_in_row) (none_found book n id (items book) (items_numbered book b) none)
 
 -- ── an item that is not in the book has no base there ──
 

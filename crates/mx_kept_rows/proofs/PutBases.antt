@@ -25,6 +25,7 @@ use Rattle.mx_register.specs.Names.{has_item, item_at, or_zero, seq_of_item}
 use Rattle.mx_register.proofs.NameLemmas.{item_known, item_number}
 use Rattle.mx_register.proofs.NewLemmas.{HasLines, opened_is_known, released_is_known}
 use Rattle.mx_typed_rows.specs.declared.rows.BaseRow.{BaseRow}
+use Rattle.mx_typed_rows.specs.Rows.{base_in_row, base_row_with}
 use Rattle.mx_kept_rows.specs.Bases.{base_in, base_put, base_rows, base_set, base_stated, bases_by, bases_put}
 use Rattle.mx_kept_rows.specs.Changes.{due_at, sectors_late}
 use Rattle.mx_kept_rows.proofs.BaseGrowth.{timely_none_late}
@@ -44,7 +45,7 @@ module _ (book : List Entry) (b : IsBook book) (r : Release) (n : ℕ) (id : Lis
   reached item task = base_done (use_or_none (life_now book item)) (r.moment / 1440) (due_at book r.place item task)
 
   abbrev row_set : Item → List ℕ → BaseRow
-  row_set item task = record { item = or_zero (seq_of_item book item); task = task; base = reached item task }
+  row_set item task = base_row_with (or_zero (seq_of_item book item)) task (reached item task)
 
   first_or_rest : (c any : Bool) (own value : Base) (o : Option Base) → (c ≡ true → own ≡ value) → cond any (Some value) (cond c (Some own) o) ≡ cond (c || any) (Some value) o
   first_or_rest true true own value o same = refl
@@ -85,8 +86,8 @@ module _ (book : List Entry) (doc : List ℕ) (n : ℕ) (id : List ℕ) (b : IsB
       → base_in (bases_put (bases_by book act) (base_rows book)) n id ≡ base (book ++ record { doc = doc; act = act } ∷ []) item id
   of_item (Opened o) item new shape late h =
       put_in (base_stated book o) (base_rows book) n id
-      ∙ ap (λ c. cond (c && same_text o.task id) (Some (base_stated book o).base) (base_in (base_rows book) n id)) (number_same book o.item item n b (opened_is_known book doc o (ap is_new new)) h)
-      ∙ ap (cond (same_item o.item item && same_text o.task id) (Some (base_stated book o).base)) (base_in_rows book n item id b h)
+      ∙ ap (λ c. cond (c && same_text o.task id) (Some (base_in_row (base_stated book o))) (base_in (base_rows book) n id)) (number_same book o.item item n b (opened_is_known book doc o (ap is_new new)) h)
+      ∙ ap (cond (same_item o.item item && same_text o.task id) (Some (base_in_row (base_stated book o)))) (base_in_rows book n item id b h)
       ∙ sym (opened-base book doc o item id b new shape)
   of_item (Released r lines) item new shape late h =
       lines_put book b r n id item h lines (released_is_known book doc r lines (ap is_new new)).1 (base_rows book)
@@ -98,7 +99,7 @@ module _ (book : List Entry) (doc : List ℕ) (n : ℕ) (id : List ℕ) (b : IsB
   of_none : (act : Act) → judge book (record { doc = doc; act = act }) ≡ New → item_at book n ≡ None → base_in (bases_put (bases_by book act) (base_rows book)) n id ≡ None
   of_none (Opened o) new h =
       put_in (base_stated book o) (base_rows book) n id
-      ∙ ap (λ c. cond (c && same_text o.task id) (Some (base_stated book o).base) (base_in (base_rows book) n id)) (number_other book o.item n (opened_is_known book doc o (ap is_new new)) h)
+      ∙ ap (λ c. cond (c && same_text o.task id) (Some (base_in_row (base_stated book o))) (base_in (base_rows book) n id)) (number_other book o.item n (opened_is_known book doc o (ap is_new new)) h)
       ∙ no_rows book n id b h
   of_none (Released r lines) new h = lines_leave book b r n id h lines (released_is_known book doc r lines (ap is_new new)).1 (base_rows book) ∙ no_rows book n id b h
   of_none act new h = no_rows book n id b h

@@ -3,14 +3,15 @@ use Rattle.std.proofs.Common.{refl, ◌≡◌, ℕ, List, [], ◌∷◌, Bool, t
 use Rattle.std.specs.Prelude.{not, find}
 use Rattle.std.specs.Option.{option_map}
 use Rattle.mx_typed_rows.specs.declared.rows.BaseRow.{BaseRow}
+use Rattle.mx_typed_rows.specs.Rows.{base_in_row}
 use Rattle.mx_kept_rows.specs.Bases.{AreKeyedOnce, base_in, base_put, bases_put, is_keyed}
 use Rattle.mx_kept_rows.proofs.KeyedLemmas.{gone, keyed_fewer, others_stay, without}
 
 -- a row that is put has its key, and the others say what they said
-pub put_in : (row : BaseRow) (rows : List BaseRow) (n : ℕ) (id : List ℕ) → base_in (base_put row rows) n id ≡ cond (is_keyed n id row) (Some row.base) (base_in rows n id)
+pub put_in : (row : BaseRow) (rows : List BaseRow) (n : ℕ) (id : List ℕ) → base_in (base_put row rows) n id ≡ cond (is_keyed n id row) (Some (base_in_row row)) (base_in rows n id)
 put_in row rows n id = at (is_keyed n id row) refl
   where
-    at : (b : Bool) → is_keyed n id row ≡ b → option_map (λ (r : BaseRow). r.base) (cond b (Some row) (find (is_keyed n id) (without row.item row.task rows))) ≡ cond b (Some row.base) (base_in rows n id)
+    at : (b : Bool) → is_keyed n id row ≡ b → option_map base_in_row (cond b (Some row) (find (is_keyed n id) (without row.item row.task rows))) ≡ cond b (Some (base_in_row row)) (base_in rows n id)
     at true e = refl
     at false e = others_stay row.item n row.task id rows e
 

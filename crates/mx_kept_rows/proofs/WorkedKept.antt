@@ -14,6 +14,7 @@ use Rattle.mx_book.proofs.WorkedProgrammes.{c172, first_programme}
 use Rattle.mx_typed_rows.specs.declared.rows.BaseRow.{BaseRow}
 use Rattle.mx_typed_rows.specs.declared.rows.SpanRow.{SpanRow}
 use Rattle.mx_typed_rows.specs.declared.rows.TotalRow.{TotalRow}
+use Rattle.mx_typed_rows.specs.Rows.{base_row_with}
 use Rattle.mx_kept_rows.specs.Bases.{base_in, base_rows, bases_by, bases_put}
 use Rattle.mx_kept_rows.specs.Changes.{clock_of_place}
 use Rattle.mx_kept_rows.specs.Items.{items}
@@ -90,7 +91,7 @@ totals_found = refl
 -- ── last bases ──
 
 abbrev pub base_of_task : ℕ → List ℕ → ℕ → ℕ → ℕ → BaseRow
-base_of_task item task minutes cycles day = record { item = item; task = task; base = record { minutes = minutes; cycles = cycles; day = day } }
+base_of_task item task minutes cycles day = base_row_with item task (record { minutes = minutes; cycles = cycles; day = day })
 
 no_bases : base_rows in_service ≡ []
 no_bases = refl

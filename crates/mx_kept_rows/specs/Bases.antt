@@ -14,7 +14,7 @@ use Rattle.mx_due.specs.Due.{base_done}
 use Rattle.mx_book.specs.Base.{base, base_at}
 use Rattle.mx_book.specs.Life.{life_now}
 use Rattle.mx_book.specs.Lists.{use_or_none}
-use Rattle.mx_typed_rows.specs.Rows.{base_key}
+use Rattle.mx_typed_rows.specs.Rows.{base_key, base_in_row, base_row_with}
 use Rattle.mx_typed_rows.specs.declared.rows.BaseRow.{BaseRow}
 use Rattle.mx_kept_rows.specs.Changes.{due_at}
 use Rattle.mx_kept_rows.specs.Items.{items, number_of_item}
@@ -41,7 +41,7 @@ tasks_accomplished book item = each_once (flat_map (λ entry. tasks_by item entr
 
 -- the row of the last base of a task of an item with its number
 abbrev pub base_row : List Entry → ℕ × Item → List ℕ → Option BaseRow
-base_row book numbered id = option_map (λ b. record { item = numbered.0; task = id; base = b }) (base book numbered.1 id)
+base_row book numbered id = option_map (λ b. base_row_with numbered.0 id b) (base book numbered.1 id)
 
 -- the rows of an item with its number
 abbrev pub base_rows_of : List Entry → ℕ × Item → List BaseRow
@@ -59,7 +59,7 @@ is_keyed number id row = same_text (base_key row) (number ∷ id)
 
 -- the base in the row of a task of the item with a number, where there is such a row
 abbrev pub base_in : List BaseRow → ℕ → List ℕ → Option Base
-base_in rows number id = option_map (λ row. row.base) (find (is_keyed number id) rows)
+base_in rows number id = option_map base_in_row (find (is_keyed number id) rows)
 
 -- no two rows are of one task of one item
 abbrev pub AreKeyedOnce : List BaseRow → Type 0
@@ -83,7 +83,7 @@ base_reached book r item id = base_done (use_or_none (life_now book item)) (r.mo
 
 -- the row of a task that a line of a release certifies as done
 abbrev pub base_set : List Entry → Release → Line → Option BaseRow
-base_set book r (Done item task) = Some (record { item = number_of_item book item; task = task; base = base_reached book r item task })
+base_set book r (Done item task) = Some (base_row_with (number_of_item book item) task (base_reached book r item task))
 base_set book r (Rectified doc) = None
 
 -- the base that an opening states
@@ -92,7 +92,7 @@ stated_base o = base_at o.use_then o.day
 
 -- the row that an opening states
 abbrev pub base_stated : List Entry → Opening → BaseRow
-base_stated book o = record { item = number_of_item book o.item; task = o.task; base = stated_base o }
+base_stated book o = base_row_with (number_of_item book o.item) o.task (stated_base o)
 
 -- the rows that a command sets, in the order of its lines
 abbrev pub bases_by : List Entry → Act → List BaseRow

@@ -10,18 +10,27 @@ use Rattle.sqlite.specs.Does.{Tally, lacks_sequence}
 use Rattle.sqlite.specs.Effect.{Database}
 use Rattle.sqlite.specs.declared.error.Error.{Error}
 use Rattle.sqlite.specs.State.{State, Executes, ExecutesInside, Writes}
-use Rattle.sqlite.proofs.Callers.{runs_as}
+use Rattle.sqlite.specs.Compile.{table_defined_by}
+use Rattle.sqlite.specs.Listing.{understood}
+use Rattle.sqlite.proofs.Callers.{IsPlain, command_of, statement_of, runs_as}
 use Rattle.sqlite_catalog.specs.Listing.{IsSound}
 use Rattle.mx_layout.specs.Making.{IsBlank}
-use Rattle.mx_layout.proofs.CreateTextLemmas.{Defines}
 use Rattle.mx_layout.proofs.WriteLemmas.{went, same_value}
+
+-- the text is the whole of one CREATE TABLE over the schema, and defines the table but for its tree
+pub record Defines (schema : Schema) (text : List ℕ) (table : Table) : Type 0 where
+  pub command : command_of (understood schema text) ≡ CreateTable
+  pub whole : statement_of text (understood schema text) ≡ text
+  pub plain : IsPlain (understood schema text)
+  pub defined : table_defined_by text ≡ Ok (record table { tree = 0 })
+  pub uncounted : table.is_counted ≡ false
 
 -- a fact of each of some, and of one more
 and_last : {A : Type 0} (P : A → Type 0) (xs : List A) (x : A) → AllByRecursion P xs → P x → AllByRecursion P (xs ++ x ∷ [])
 and_last P [] x all last = (last, tt)
 and_last P (y ∷ ys) x all last = (all.0, and_last P ys x all.1 last)
 
-kept_empty : (old new : Trees) (tables : List Table) → KeepsRows tables old new → AllByRecursion (λ t. old t.tree ≡ []) tables → AllByRecursion (λ t. new t.tree ≡ []) tables
+pub kept_empty : (old new : Trees) (tables : List Table) → KeepsRows tables old new → AllByRecursion (λ t. old t.tree ≡ []) tables → AllByRecursion (λ t. new t.tree ≡ []) tables
 kept_empty old new [] kept empty = tt
 kept_empty old new (t ∷ tables) kept empty = (kept.0 ∙ empty.0, kept_empty old new tables kept.1 empty.1)
 

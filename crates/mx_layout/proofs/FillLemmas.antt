@@ -1,6 +1,8 @@
 -- The row of the point, and what the tables of a new book are.
-use Rattle.std.proofs.Common.{◌≡◌, ◌≢◌, ℕ, pos, List, [], ◌∷◌, map, Result, OnOk, refl, ap, subst, ◌∙◌, arith}
+use Rattle.std.proofs.Common.{◌≡◌, ◌≢◌, inl, inr, ℕ, pos, List, [], ◌∷◌, map, Result, OnOk, refl, sym, ap, subst, ◌∙◌, arith}
+use Rattle.std.specs.Prelude.{Contains}
 use Rattle.std.specs.List.Sorted.{IsPermutation}
+use Rattle.std.proofs.lemmas.List.Elements.{All-contains, All-from_recursion}
 use Rattle.sqlite.specs.declared.types.Value.TheVariants.{Null, Int}
 use Rattle.sqlite.specs.Order.{Row}
 use Rattle.sqlite.specs.Term.{Term, lit, col}
@@ -18,23 +20,33 @@ use Rattle.sqlite_tied.specs.Compute.{everything}
 use Rattle.sqlite_catalog.specs.Listing.{IsSound}
 use Rattle.mx_layout.specs.declared.points.Point.{Point}
 use Rattle.mx_layout.specs.Contents.{cells, rows_in, Adds}
-use Rattle.mx_layout.specs.Making.{IsBlank, IsEmptyBook, first_point}
+use Rattle.mx_layout.specs.Making.{IsBlank, IsEmptyAt, IsEmptyIn, settled}
 use Rattle.mx_layout.specs.Names.{table_named}
 use Rattle.mx_layout.specs.Point.{point_cells, insert_office_text}
+use Rattle.mx_layout.specs.Steps.{schema_of, IsLayout}
 use Rattle.mx_layout.specs.TableName.{TableName}
 use Rattle.mx_layout.specs.declared.fault.Table.TheVariants as table
-use Rattle.mx_layout.specs.Tables.{no_schema, layout_1, office, entry, aircraft, place, component, programme, task, opening, crs, crs_line, extension, defect, sector1, fit1, removal1}
+use Rattle.mx_layout.specs.Tables.{no_schema, layout_1, layout_2, office}
 use Rattle.mx_layout.specs.Writing.{Gains}
 use Rattle.mx_layout.proofs.InsideLemmas.{gains}
 use Rattle.mx_layout.proofs.RowLemmas.{cast_int, cast_null}
+use Rattle.mx_layout.proofs.TreeLemmas.{same_tree}
 use Rattle.mx_layout.proofs.WriteLemmas.{added, inserts}
 
 abbrev terms : List Term
 terms = lit (Int (pos 1)) ∷ lit Null ∷ col 0 0 ∷ col 0 1 ∷ col 0 2 ∷ []
 
-insert_is : (command_of (understood layout_1 insert_office_text) ≡ Insert 0 (Values terms 5)) × IsPlain (understood layout_1 insert_office_text)
+-- over this schema the text that adds the row of the point is understood as that, and nothing else
+abbrev AddsPoint : Schema → Type 0
+AddsPoint schema = (command_of (understood schema insert_office_text) ≡ Insert 0 (Values terms 5)) × IsPlain (understood schema insert_office_text)
+
+in_layout_1 : AddsPoint layout_1
 unfolding understood everything
-insert_is = (refl, (refl, refl))
+in_layout_1 = (refl, (refl, refl))
+
+in_layout_2 : AddsPoint layout_2
+unfolding understood everything
+in_layout_2 = (refl, (refl, refl))
 
 abbrev pub bound_point : Point → Row
 bound_point p = Int (pos p.layout) ∷ Int (pos p.step) ∷ Int (pos p.mark) ∷ []
@@ -45,9 +57,12 @@ stored p = Int (pos 1) ∷ Null ∷ bound_point p
 news_are : (p : Point) (db : Trees) → (added db office terms 5 (bound_point p)).news ≡ stored p ∷ []
 news_are p db = simp (cast_int, cast_null) refl
 
-pub office_gains : (p : Point) (old new : State) (ran : Result ℕ Error) → old.now.schema ≡ layout_1 → ExecutesInside 0 insert_office_text (bound_point p) old new ran → OnOk ran (Gains office (point_cells p) old.now new.now)
-office_gains p old new ran has h = gains old new insert_office_text (bound_point p) office (point_cells p) ran
-    (inserts layout_1 0 office terms 5 insert_office_text (bound_point p) (point_cells p) (λ _. stored p) refl insert_is.0 insert_is.1 (λ _. refl) (news_are p) (λ _. refl) old has new) h
+pub office_gains : (layout : ℕ) → IsLayout layout → (p : Point) (old new : State) (ran : Result ℕ Error) → old.now.schema ≡ schema_of layout → ExecutesInside 0 insert_office_text (bound_point p) old new ran
+    → OnOk ran (Gains office (point_cells p) old.now new.now)
+office_gains layout (inl one) p old new ran has h = gains old new insert_office_text (bound_point p) office (point_cells p) ran
+    (inserts layout_1 0 office terms 5 insert_office_text (bound_point p) (point_cells p) (λ _. stored p) refl in_layout_1.0 in_layout_1.1 (λ _. refl) (news_are p) (λ _. refl) old (has ∙ ap schema_of one) new) h
+office_gains layout (inr two) p old new ran has h = gains old new insert_office_text (bound_point p) office (point_cells p) ran
+    (inserts layout_2 0 office terms 5 insert_office_text (bound_point p) (point_cells p) (λ _. stored p) refl in_layout_2.0 in_layout_2.1 (λ _. refl) (news_are p) (λ _. refl) old (has ∙ ap schema_of two) new) h
 
 -- with no table there is nothing that could have a row
 pub bare_blank : (db : Database) → db.schema ≡ no_schema → IsSound no_schema db.trees → IsBlank no_schema db
@@ -57,36 +72,36 @@ still_empty : (table : Table) (old new : Trees) → new table.tree ≡ old table
 still_empty table old new same none = ap (map (cells table)) (same ∙ none)
 
 -- each table but office stays empty
-others_empty : (old new : Database) → IsBlank layout_1 old → Adds layout_1.tables office (point_cells first_point) old.trees new.trees → (name : TableName) → name ≢ table.Office → rows_in (table_named name) new.trees ≡ []
-others_empty old new blank adds table.Office other = absurd (other refl)
-others_empty old new blank adds table.Entry other = still_empty entry old.trees new.trees (adds.others.1.0 (λ is. omega arith)) blank.empty.1.0
-others_empty old new blank adds table.Aircraft other = still_empty aircraft old.trees new.trees (adds.others.1.1.0 (λ is. omega arith)) blank.empty.1.1.0
-others_empty old new blank adds table.Place other = still_empty place old.trees new.trees (adds.others.1.1.1.0 (λ is. omega arith)) blank.empty.1.1.1.0
-others_empty old new blank adds table.Component other = still_empty component old.trees new.trees (adds.others.1.1.1.1.0 (λ is. omega arith)) blank.empty.1.1.1.1.0
-others_empty old new blank adds table.Programme other = still_empty programme old.trees new.trees (adds.others.1.1.1.1.1.0 (λ is. omega arith)) blank.empty.1.1.1.1.1.0
-others_empty old new blank adds table.Task other = still_empty task old.trees new.trees (adds.others.1.1.1.1.1.1.0 (λ is. omega arith)) blank.empty.1.1.1.1.1.1.0
-others_empty old new blank adds table.Opening other = still_empty opening old.trees new.trees (adds.others.1.1.1.1.1.1.1.0 (λ is. omega arith)) blank.empty.1.1.1.1.1.1.1.0
-others_empty old new blank adds table.Crs other = still_empty crs old.trees new.trees (adds.others.1.1.1.1.1.1.1.1.0 (λ is. omega arith)) blank.empty.1.1.1.1.1.1.1.1.0
-others_empty old new blank adds table.CrsLine other = still_empty crs_line old.trees new.trees (adds.others.1.1.1.1.1.1.1.1.1.0 (λ is. omega arith)) blank.empty.1.1.1.1.1.1.1.1.1.0
-others_empty old new blank adds table.Extension other = still_empty extension old.trees new.trees (adds.others.1.1.1.1.1.1.1.1.1.1.0 (λ is. omega arith)) blank.empty.1.1.1.1.1.1.1.1.1.1.0
-others_empty old new blank adds table.Defect other = still_empty defect old.trees new.trees (adds.others.1.1.1.1.1.1.1.1.1.1.1.0 (λ is. omega arith)) blank.empty.1.1.1.1.1.1.1.1.1.1.1.0
-others_empty old new blank adds table.Sector1 other = still_empty sector1 old.trees new.trees (adds.others.1.1.1.1.1.1.1.1.1.1.1.1.0 (λ is. omega arith)) blank.empty.1.1.1.1.1.1.1.1.1.1.1.1.0
-others_empty old new blank adds table.Fit1 other = still_empty fit1 old.trees new.trees (adds.others.1.1.1.1.1.1.1.1.1.1.1.1.1.0 (λ is. omega arith)) blank.empty.1.1.1.1.1.1.1.1.1.1.1.1.1.0
-others_empty old new blank adds table.Removal1 other = still_empty removal1 old.trees new.trees (adds.others.1.1.1.1.1.1.1.1.1.1.1.1.1.1.0 (λ is. omega arith)) blank.empty.1.1.1.1.1.1.1.1.1.1.1.1.1.1.0
+others_empty : (schema : Schema) (at : Point) (old new : Database) → IsBlank schema old → Adds schema.tables office (point_cells at) old.trees new.trees
+    → (name : TableName) → Contains schema.tables (table_named name) → name ≢ table.Office → rows_in (table_named name) new.trees ≡ []
+others_empty schema at old new blank adds name there other =
+    let Keeps = λ (t : Table). t.tree ≢ office.tree → new.trees t.tree ≡ old.trees t.tree in
+    let IsBare = λ (t : Table). old.trees t.tree ≡ [] in
+    still_empty (table_named name) old.trees new.trees
+    (All-contains Keeps schema.tables (table_named name) (All-from_recursion Keeps schema.tables adds.others) there (λ same. other (same_tree name table.Office same)))
+    (All-contains IsBare schema.tables (table_named name) (All-from_recursion IsBare schema.tables blank.empty) there)
 
--- the tables of layout 1 without a row, and then the row of the point
-pub empty_book : (p : Point) (old new : Database) → p ≡ first_point → IsBlank layout_1 old → Gains office (point_cells p) old new → (new.schema ≡ layout_1) × IsEmptyBook new.trees
-empty_book p old new first blank gained =
-    let schema : new.schema ≡ layout_1 = gained.schema ∙ blank.schema_is in
+-- tables without a row, and then the row of the point
+pub empty_at : (schema : Schema) → Contains schema.tables office → (p : Point) (old new : Database) → IsBlank schema old → Gains office (point_cells p) old new → (new.schema ≡ schema) × IsEmptyAt schema p new.trees
+empty_at schema there p old new blank gained =
+    let IsBare = λ (t : Table). old.trees t.tree ≡ [] in
+    let same : new.schema ≡ schema = gained.schema ∙ blank.schema_is in
     let adds = subst (λ (s : Schema). Adds s.tables office (point_cells p) old.trees new.trees) blank.schema_is gained.adds in
-    let none : rows_in office old.trees ≡ [] = ap (map (cells office)) blank.empty.0 in
-    let one : IsPermutation (point_cells p ∷ []) (rows_in office new.trees) = subst (λ rows. IsPermutation (point_cells p ∷ rows) (rows_in office new.trees)) none adds.gained in
-    let points : rows_in office new.trees ≡ point_cells first_point ∷ [] = one_permutation (point_cells p) (rows_in office new.trees) one ∙ ap (λ q. point_cells q ∷ []) first in
-    let others = subst (λ (q : Point). Adds layout_1.tables office (point_cells q) old.trees new.trees) first adds in (
-      schema,
+    let none : rows_in office old.trees ≡ [] = ap (map (cells office)) (All-contains IsBare schema.tables office (All-from_recursion IsBare schema.tables blank.empty) there) in
+    let one : IsPermutation (point_cells p ∷ []) (rows_in office new.trees) = subst (λ rows. IsPermutation (point_cells p ∷ rows) (rows_in office new.trees)) none adds.gained in (
+      same,
       record {
-        sound = subst (λ s. IsSound s new.trees) schema gained.sound;
-        points = points;
-        others = others_empty old new blank others;
+        sound = subst (λ s. IsSound s new.trees) same gained.sound;
+        points = one_permutation (point_cells p) (rows_in office new.trees) one;
+        others = others_empty schema p old new blank adds;
       },
     )
+
+-- each layout has the table of the point
+has_office : (layout : ℕ) → IsLayout layout → Contains (schema_of layout).tables office
+has_office layout (inl one) = subst (λ n. Contains (schema_of n).tables office) (sym one) (0, omega arith, refl)
+has_office layout (inr two) = subst (λ n. Contains (schema_of n).tables office) (sym two) (0, omega arith, refl)
+
+-- the tables of a layout without a row, and then the row of its settled point
+pub empty_book : (layout : ℕ) → IsLayout layout → (old new : Database) → IsBlank (schema_of layout) old → Gains office (point_cells (settled layout)) old new → (new.schema ≡ schema_of layout) × IsEmptyIn layout new.trees
+empty_book layout is old new blank gained = empty_at (schema_of layout) (has_office layout is) (settled layout) old new blank gained

@@ -2,7 +2,7 @@ pub mod AbsentLemmas
 pub mod AnswerLemmas
 pub mod CrashLemmas
 pub mod CreateLemmas
-pub mod CreateTextLemmas
+pub mod DropLemmas
 pub mod FillLemmas
 pub mod FoundLemmas
 pub mod InsideLemmas
@@ -11,4 +11,6 @@ pub mod PointLemmas
 pub mod QueryLemmas
 pub mod ReadLemmas
 pub mod RowLemmas
+pub mod StepLemmas
+pub mod TreeLemmas
 pub mod WriteLemmas

@@ -1,4 +1,4 @@
--- The texts that make the tables of layout 1.
+-- The texts that make and drop the tables of the layouts.
 use Rattle.std.specs.Prelude.{ℕ, List, codes}
 
 -- the text that makes the table of this name
@@ -46,3 +46,25 @@ fit1_text = codes "CREATE TABLE fit1 (seq INTEGER PRIMARY KEY, component INTEGER
 
 abbrev pub removal1_text : List ℕ
 removal1_text = codes "CREATE TABLE removal1 (seq INTEGER PRIMARY KEY, component INTEGER NOT NULL, moment TEXT NOT NULL) STRICT"
+
+abbrev pub sector2_text : List ℕ
+sector2_text = codes "CREATE TABLE sector2 (seq INTEGER PRIMARY KEY, aircraft INTEGER NOT NULL, page INTEGER NOT NULL, line INTEGER NOT NULL, took_off INTEGER NOT NULL, landed INTEGER NOT NULL, cycles INTEGER NOT NULL) STRICT"
+
+abbrev pub span2_text : List ℕ
+span2_text = codes "CREATE TABLE span2 (fit_seq INTEGER PRIMARY KEY, component INTEGER NOT NULL, aircraft INTEGER NOT NULL, position TEXT NOT NULL, from_min INTEGER NOT NULL, remove_seq INTEGER, to_min INTEGER) STRICT"
+
+abbrev pub total2_text : List ℕ
+total2_text = codes "CREATE TABLE total2 (item INTEGER PRIMARY KEY, minutes INTEGER NOT NULL, cycles INTEGER NOT NULL, clock INTEGER NOT NULL) STRICT"
+
+abbrev pub base2_text : List ℕ
+base2_text = codes "CREATE TABLE base2 (item INTEGER NOT NULL, task TEXT NOT NULL, minutes INTEGER NOT NULL, cycles INTEGER NOT NULL, day INTEGER NOT NULL, PRIMARY KEY (item, task)) STRICT"
+
+-- the text that drops the table of this name
+abbrev pub sector1_dropped : List ℕ
+sector1_dropped = codes "DROP TABLE sector1"
+
+abbrev pub fit1_dropped : List ℕ
+fit1_dropped = codes "DROP TABLE fit1"
+
+abbrev pub removal1_dropped : List ℕ
+removal1_dropped = codes "DROP TABLE removal1"

@@ -6,6 +6,7 @@ pub mod Listed
 pub mod Making
 pub mod Point
 pub mod Reading
+pub mod Steps
 pub mod Tables
 pub mod Writing
 pub mod Names

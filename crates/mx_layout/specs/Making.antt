@@ -1,5 +1,5 @@
 -- The tables of an empty book, and how they come to be made.
-use Rattle.std.specs.Prelude.{◌≡◌, ◌≢◌, ℕ, false, List, [], ◌∷◌, codes}
+use Rattle.std.specs.Prelude.{◌≡◌, ◌≢◌, ℕ, false, List, [], ◌∷◌, Contains, codes}
 use Rattle.std.specs.List.{AllByRecursion}
 use Rattle.sqlite.specs.Schema.{Schema}
 use Rattle.sqlite.specs.Tree.{Trees}
@@ -8,15 +8,11 @@ use Rattle.sqlite_catalog.specs.Listing.{IsSound}
 use Rattle.mx_layout.specs.declared.points.Point.{Point}
 use Rattle.mx_layout.specs.Contents.{rows_in}
 use Rattle.mx_layout.specs.Point.{point_cells}
+use Rattle.mx_layout.specs.Steps.{schema_of}
 use Rattle.mx_layout.specs.Names.{table_named}
 use Rattle.mx_layout.specs.TableName.{TableName}
 use Rattle.mx_layout.specs.declared.fault.Table.TheVariants as table
 use Rattle.mx_layout.specs.Tables.{layout_1, office}
-use Rattle.mx_layout.specs.CreateTexts.{office_text, entry_text, aircraft_text, place_text, component_text, programme_text, task_text, opening_text, crs_text, crs_line_text, extension_text, defect_text, sector1_text, fit1_text, removal1_text}
-
--- the texts that make the tables of layout 1, in the order in which they run
-abbrev pub create_texts : List (List ℕ)
-create_texts = office_text ∷ entry_text ∷ aircraft_text ∷ place_text ∷ component_text ∷ programme_text ∷ task_text ∷ opening_text ∷ crs_text ∷ crs_line_text ∷ extension_text ∷ defect_text ∷ sector1_text ∷ fit1_text ∷ removal1_text ∷ []
 
 -- the text that asks for a row of no table
 abbrev pub ask_text : List ℕ
@@ -29,12 +25,24 @@ pub record IsBlank (schema : Schema) (db : Database) : Type 0 where
   pub uncounted : AllByRecursion (λ t. t.is_counted ≡ false) schema.tables
   pub sound : IsSound schema db.trees
 
+-- the point of a file that has a layout, where no move has begun
+abbrev pub settled : ℕ → Point
+settled layout = record { layout = layout; step = 0; mark = 0 }
+
 -- the point of a file that was just made in layout 1
 abbrev pub first_point : Point
-first_point = record { layout = 1; step = 0; mark = 0 }
+first_point = settled 1
 
--- the tables of layout 1 with no entry: office has the row of the first point, and no other table has a row
-pub record IsEmptyBook (trees : Trees) : Type 0 where
-  pub sound : IsSound layout_1 trees
-  pub points : rows_in office trees ≡ point_cells first_point ∷ []
-  pub others : (name : TableName) → name ≢ table.Office → rows_in (table_named name) trees ≡ []
+-- the tables of this schema with no entry, at this point: office has the row of the point, and no other table has a row
+pub record IsEmptyAt (schema : Schema) (at : Point) (trees : Trees) : Type 0 where
+  pub sound : IsSound schema trees
+  pub points : rows_in office trees ≡ point_cells at ∷ []
+  pub others : (name : TableName) → Contains schema.tables (table_named name) → name ≢ table.Office → rows_in (table_named name) trees ≡ []
+
+-- the tables of a layout with no entry, at its settled point
+abbrev pub IsEmptyIn : ℕ → Trees → Type 0
+IsEmptyIn layout = IsEmptyAt (schema_of layout) (settled layout)
+
+-- the tables of layout 1 with no entry, at its settled point
+abbrev pub IsEmptyBook : Trees → Type 0
+IsEmptyBook = IsEmptyAt layout_1 first_point

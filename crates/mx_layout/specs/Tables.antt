@@ -1,4 +1,4 @@
--- The tables of layout 1: their columns and keys, and the schema that they make.
+-- The tables of layouts 1 and 2: their columns and keys, and the schemas that they make.
 use Rattle.std.specs.Prelude.{◌≡◌, ℕ, pos, Bool, true, false, List, [], ◌∷◌, Some, None, codes}
 use Rattle.sqlite.specs.Collation.TheVariants.{Binary}
 use Rattle.sqlite.specs.declared.types.Value.TheVariants.{Null, Int}
@@ -98,6 +98,22 @@ fit1 = keyed (codes "fit1") 19 (integer (codes "seq") false ∷ integer (codes "
 abbrev pub removal1 : Table
 removal1 = keyed (codes "removal1") 20 (integer (codes "seq") false ∷ integer (codes "component") true ∷ text (codes "moment") true ∷ [])
 
+-- a sector, its moments as numbers
+abbrev pub sector2 : Table
+sector2 = keyed (codes "sector2") 21 (integer (codes "seq") false ∷ integer (codes "aircraft") true ∷ integer (codes "page") true ∷ integer (codes "line") true ∷ integer (codes "took_off") true ∷ integer (codes "landed") true ∷ integer (codes "cycles") true ∷ [])
+
+-- where a component is or was fitted, from a moment on and, where it was removed, to a moment
+abbrev pub span2 : Table
+span2 = keyed (codes "span2") 22 (integer (codes "fit_seq") false ∷ integer (codes "component") true ∷ integer (codes "aircraft") true ∷ text (codes "position") true ∷ integer (codes "from_min") true ∷ integer (codes "remove_seq") false ∷ integer (codes "to_min") false ∷ [])
+
+-- the life now of an aircraft or a component, and its clock
+abbrev pub total2 : Table
+total2 = keyed (codes "total2") 23 (integer (codes "item") false ∷ integer (codes "minutes") true ∷ integer (codes "cycles") true ∷ integer (codes "clock") true ∷ [])
+
+-- the last base of a task of an item
+abbrev pub base2 : Table
+base2 = record (keyed (codes "base2") 24 (integer (codes "item") true ∷ text (codes "task") true ∷ integer (codes "minutes") true ∷ integer (codes "cycles") true ∷ integer (codes "day") true ∷ [])) { key = None; primary = 1 ∷ 2 ∷ []; uniques = (1 ∷ 2 ∷ []) ∷ []; orders = plain ∷ [] }
+
 -- the index that keeps one text or one compound key unique
 abbrev pub unique : List ℕ → ℕ → ℕ → List ℕ → Index
 unique name tree table columns = record { name = name; tree = tree; table = table; columns = columns; order = plain; is_unique = true }
@@ -112,6 +128,20 @@ layout_1 = record {
       ∷ unique (codes "sqlite_autoindex_component_1") 8 7 (2 ∷ [])
       ∷ unique (codes "sqlite_autoindex_task_1") 11 10 (1 ∷ 2 ∷ [])
       ∷ unique (codes "sqlite_autoindex_crs_line_1") 15 14 (1 ∷ 2 ∷ []) ∷ [];
+  views = [];
+}
+
+-- the schema of layout 2
+abbrev pub layout_2 : Schema
+layout_2 = record {
+  tables = office ∷ entry ∷ aircraft ∷ place ∷ component ∷ programme ∷ task ∷ opening ∷ crs ∷ crs_line ∷ extension ∷ defect ∷ sector2 ∷ span2 ∷ total2 ∷ base2 ∷ [];
+  indexes = unique (codes "sqlite_autoindex_entry_1") 2 1 (2 ∷ [])
+      ∷ unique (codes "sqlite_autoindex_aircraft_1") 4 3 (2 ∷ [])
+      ∷ unique (codes "sqlite_autoindex_place_1") 6 5 (1 ∷ 2 ∷ [])
+      ∷ unique (codes "sqlite_autoindex_component_1") 8 7 (2 ∷ [])
+      ∷ unique (codes "sqlite_autoindex_task_1") 11 10 (1 ∷ 2 ∷ [])
+      ∷ unique (codes "sqlite_autoindex_crs_line_1") 15 14 (1 ∷ 2 ∷ [])
+      ∷ unique (codes "sqlite_autoindex_base2_1") 25 24 (1 ∷ 2 ∷ []) ∷ [];
   views = [];
 }
 

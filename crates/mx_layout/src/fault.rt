@@ -25,6 +25,10 @@ pub enum Table {
     Sector1,
     Fit1,
     Removal1,
+    Sector2,
+    Span2,
+    Total2,
+    Base2,
 }
 
 impl Table {
@@ -48,6 +52,10 @@ impl Table {
             Table::Sector1 => "sector1",
             Table::Fit1 => "fit1",
             Table::Removal1 => "removal1",
+            Table::Sector2 => "sector2",
+            Table::Span2 => "span2",
+            Table::Total2 => "total2",
+            Table::Base2 => "base2",
         }
     }
 }

@@ -1,15 +1,16 @@
 //! Making the tables of an empty book, in one commit.
 
-ghost use Rattle.std.specs.Prelude.{◌≡◌, ◌≢◌, ◌⊎◌, ◌<◌, ◌≤◌, [], ◌∷◌, true, false, Some, None, slice_get, IsTrue, IfOk, IfErr, OnOk, IsOk, IsErr, IsErrAnd, MatchResult};
+ghost use Rattle.std.specs.Prelude.{◌≡◌, ◌≢◌, ◌⊎◌, ℕ, ◌<◌, ◌≤◌, [], ◌∷◌, true, false, Some, None, slice_get, IsTrue, IfOk, IfErr, OnOk, IsOk, IsErr, IsErrAnd, MatchResult};
 ghost use Rattle.sqlite.specs.State.{HasCleanDisk, IsUnchanged};
 ghost use Rattle.sqlite.specs.Held.{state};
 ghost use Rattle.sqlite_catalog.specs.Listing.{IsSound};
 ghost use Rattle.sqlite_trees.specs.View.{doubt};
 ghost use Rattle.mx_layout.specs.Crash.{Leaves, RestsAs, StaysIn, IsWithin, ChangesNothing};
 ghost use Rattle.mx_layout.specs.Listed.{IsRefusal};
-ghost use Rattle.mx_layout.specs.Making.{create_texts, IsBlank, IsEmptyBook};
+ghost use Rattle.mx_layout.specs.Making.{IsBlank, IsEmptyIn};
 ghost use Rattle.mx_layout.specs.Point.{point_cells, IsFaultOf, IsStop};
-ghost use Rattle.mx_layout.specs.Tables.{layout_1, no_schema, office};
+ghost use Rattle.mx_layout.specs.Steps.{step_texts, steps_of, schema_of, IsLayout};
+ghost use Rattle.mx_layout.specs.Tables.{no_schema, office};
 ghost use Rattle.mx_layout.specs.Writing.{Gains};
 
 use crate::fault::{TableFault, fault_of};
@@ -17,10 +18,18 @@ use crate::listed::refusal_of;
 use crate::points::{Layout, Point};
 use sqlite::{Alter, Connection, Error, Row, Transaction, params};
 
-/// The text that makes the table at this place of layout 1.
-fn create_text(at: u8) -> &'static str
-    requires { at < 15 }
-    ensures { slice_get create_texts at ≡ Some result.now }
+/// How many statements make a layout of no table.
+fn steps_of(layout: Layout) -> u8
+    ensures value { result ≡ steps_of layout.0 }
+    ensures bound { result ≤ 22 }
+{
+    if layout.0 == 1 { 15 } else { 22 }
+}
+
+/// The statement at this place: 15 make layout 1, and those of the moves behind them each further layout.
+fn step_text(at: u8) -> &'static str
+    requires { at < 22 }
+    ensures { slice_get step_texts at ≡ Some result.now }
 {
     match at {
         0 =>
@@ -53,12 +62,24 @@ fn create_text(at: u8) -> &'static str
             "CREATE TABLE fit1 (seq INTEGER PRIMARY KEY, component INTEGER NOT NULL, aircraft INTEGER NOT NULL, position TEXT NOT NULL, moment TEXT NOT NULL) STRICT",
         14 =>
             "CREATE TABLE removal1 (seq INTEGER PRIMARY KEY, component INTEGER NOT NULL, moment TEXT NOT NULL) STRICT",
+        15 =>
+            "CREATE TABLE sector2 (seq INTEGER PRIMARY KEY, aircraft INTEGER NOT NULL, page INTEGER NOT NULL, line INTEGER NOT NULL, took_off INTEGER NOT NULL, landed INTEGER NOT NULL, cycles INTEGER NOT NULL) STRICT",
+        16 => "DROP TABLE sector1",
+        17 =>
+            "CREATE TABLE span2 (fit_seq INTEGER PRIMARY KEY, component INTEGER NOT NULL, aircraft INTEGER NOT NULL, position TEXT NOT NULL, from_min INTEGER NOT NULL, remove_seq INTEGER, to_min INTEGER) STRICT",
+        18 => "DROP TABLE fit1",
+        19 => "DROP TABLE removal1",
+        20 =>
+            "CREATE TABLE total2 (item INTEGER PRIMARY KEY, minutes INTEGER NOT NULL, cycles INTEGER NOT NULL, clock INTEGER NOT NULL) STRICT",
+        21 =>
+            "CREATE TABLE base2 (item INTEGER NOT NULL, task TEXT NOT NULL, minutes INTEGER NOT NULL, cycles INTEGER NOT NULL, day INTEGER NOT NULL, PRIMARY KEY (item, task)) STRICT",
         _ => "",
     }
 }
 
-/// Makes the tables of layout 1 in the open transaction, one after another.
-fn make_tables<S: Alter>(tx: &mut Transaction<'_, S>) -> Result<(), Error>
+/// Makes the tables of the layout in the open transaction, statement after statement.
+fn make_tables<S: Alter>(tx: &mut Transaction<'_, S>, layout: Layout) -> Result<(), Error>
+    requires { IsLayout layout.0 }
     ensures same_reference { tx.new.conn.ghost_name ≡ tx.old.conn.ghost_name }
     ensures mode { let new = state S.Store tx.new.conn.now in
         HasCleanDisk new → IsTrue (state S.Store tx.old.conn.now).in_transaction
@@ -66,22 +87,22 @@ fn make_tables<S: Alter>(tx: &mut Transaction<'_, S>) -> Result<(), Error>
     ensures makes { let old = state S.Store tx.old.conn.now in
         let new = state S.Store tx.new.conn.now in
         HasCleanDisk new → IsTrue old.in_transaction → IsBlank no_schema old.now
-        → OnOk result (IsBlank layout_1 new.now) }
+        → OnOk result (IsBlank (schema_of layout.0) new.now) }
     ensures within { IsWithin (state S.Store tx.old.conn.now) (state S.Store tx.new.conn.now) }
 {
-    for at in 0..15 {
-        tx.execute(create_text(at), &[])?;
+    for at in 0..steps_of(layout) {
+        tx.execute(step_text(at), &[])?;
     }
     Ok(())
 }
 
-/// Adds the row of the point.
+/// Adds the row of the point, in a schema of any layout.
 fn insert_office<S: Alter>(tx: &mut Transaction<'_, S>, point: &Point) -> Result<usize, Error>
     ensures stays { StaysIn S.Store (OnOk result) tx.old tx.new }
     ensures adds { let old = state S.Store tx.old.conn.now in
         let new = state S.Store tx.new.conn.now in
-        HasCleanDisk new → IsTrue old.in_transaction → old.now.schema ≡ layout_1
-        → OnOk result (Gains office (point_cells point.now) old.now new.now) }
+        (layout : ℕ) → IsLayout layout → HasCleanDisk new → IsTrue old.in_transaction
+        → old.now.schema ≡ schema_of layout → OnOk result (Gains office (point_cells point.now) old.now new.now) }
 {
     tx.execute(
         "INSERT INTO office (id, layout, step, mark) VALUES (1, ?1, ?2, ?3)",
@@ -91,14 +112,15 @@ fn insert_office<S: Alter>(tx: &mut Transaction<'_, S>, point: &Point) -> Result
 
 /// Makes the tables of the layout and the row of its point in the open transaction.
 fn fill<S: Alter>(tx: &mut Transaction<'_, S>, layout: Layout) -> Result<(), Error>
-    requires { layout.0 ≡ 1 }
+    requires { IsLayout layout.0 }
     ensures stays { StaysIn S.Store (OnOk result) tx.old tx.new }
     ensures makes { let old = state S.Store tx.old.conn.now in
         let new = state S.Store tx.new.conn.now in
         HasCleanDisk new → IsTrue old.in_transaction → IsBlank no_schema old.now
-        → OnOk result ((new.now.schema ≡ layout_1) × IsEmptyBook new.now.trees) }
+        → OnOk result ((new.now.schema ≡ schema_of layout.0)
+        × IsEmptyIn layout.0 new.now.trees) }
 {
-    make_tables(tx)?;
+    make_tables(tx, layout)?;
     let point = Point {
         layout: layout.0,
         step: 0,
@@ -139,12 +161,13 @@ fn fill_new<S: Alter>(
     layout: Layout,
     refusal: Option<TableFault>,
 ) -> Result<(), TableFault>
-    requires { layout.0 ≡ 1 }
+    requires { IsLayout layout.0 }
     ensures stays { StaysIn S.Store (OnOk result) tx.old tx.new }
     ensures makes { let old = state S.Store tx.old.conn.now in
         let new = state S.Store tx.new.conn.now in
         HasCleanDisk new → IsTrue old.in_transaction → IsBlank no_schema old.now
-        → OnOk result ((new.now.schema ≡ layout_1) × IsEmptyBook new.now.trees) }
+        → OnOk result ((new.now.schema ≡ schema_of layout.0)
+        × IsEmptyIn layout.0 new.now.trees) }
     ensures open { let old = state S.Store tx.old.conn.now in
         HasCleanDisk (state S.Store tx.new.conn.now)
         → MatchResult result (λ _. IsTrue old.is_open) (λ fault. IsStop fault
@@ -171,14 +194,15 @@ fn fill_new<S: Alter>(
 /// the commit, which may have been made.
 pub fn create<S: Alter>(conn: &mut Connection<S>, layout: Layout) -> Result<(), TableFault>
     requires idle { conn.old.in_transaction ≡ false }
-    requires built { layout.0 ≡ 1 }
+    requires built { IsLayout layout.0 }
     ensures idle { conn.new.in_transaction ≡ false }
     ensures clean { doubt (state S.Store conn.old).is_clean ≤ doubt (state S.Store
         conn.new).is_clean }
     ensures made { RestsAs (state S.Store conn.old) no_schema (IsSound no_schema)
-        → OnOk result (RestsAs (state S.Store conn.new) layout_1 IsEmptyBook) }
+        → OnOk result (RestsAs (state S.Store conn.new) (schema_of layout.0)
+        (IsEmptyIn layout.0)) }
     ensures crash { RestsAs (state S.Store conn.old) no_schema (IsSound no_schema)
-        → Leaves (state S.Store conn.new) (λ db. IsSound no_schema db ⊎ IsEmptyBook db) }
+        → Leaves (state S.Store conn.new) (λ db. IsSound no_schema db ⊎ IsEmptyIn layout.0 db) }
     ensures unchanged { IfErr result (λ fault. fault ≢ TableFault.Store
         → ChangesNothing (state S.Store conn.old) (state S.Store conn.new)) }
     ensures not_here { RestsAs (state S.Store conn.old) no_schema (IsSound no_schema)

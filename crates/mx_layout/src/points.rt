@@ -1,7 +1,7 @@
 //! The layouts by number, and the point that a file is at: a layout, and how far a move to the next one has
 //! come.
 
-/// A layout of the tables, by its number: 1 so far.
+/// A layout of the tables, by its number: 1 or 2.
 #[derive(Clone, Copy, Debug, PartialEq, Eq)]
 pub struct Layout(pub u8);
 

@@ -1,5 +1,5 @@
 -- What holds of each register of the family, and what follows for all of them alike.
-use Rattle.std.proofs.Common.{◌≡◌, ℕ, ◌+◌, ◌*◌, ◌^◌, true, List, [], ◌∷◌, ◌++◌, map, length, All, refl, sym, ap, ap₂, subst, ◌∙◌, slice_index_or}
+use Rattle.std.proofs.Common.{◌≡◌, ℕ, ◌+◌, ◌*◌, ◌^◌, true, List, [], ◌∷◌, ◌++◌, map, length, All, refl, sym, ap, ap₂, subst, ◌∙◌, slice_index_or, arith}
 use Rattle.std.specs.Prelude.{⊤, Contains}
 use Rattle.std.specs.List.{list_all, AllByRecursion}
 use Rattle.std.specs.List.Sorted.{IsPermutation}
@@ -8,9 +8,7 @@ use Rattle.std.proofs.lemmas.List.Sorted.{IsPermutation-trans, IsPermutation-sym
 use Rattle.std.proofs.lemmas.List.Elements.{All-map, All-head, All-tail, All-nil, All-append, All-cons, All-weaker, Contains-append_left}
 use Rattle.sqlite.specs.Order.{Row}
 use Rattle.sqlite.specs.Schema.{Schema}
-use Rattle.sqlite.specs.Table.{Table}
 use Rattle.sqlite.specs.Tree.{Trees}
-use Rattle.sqlite_schema.specs.declared.schema.Index.{Index}
 use Rattle.mx_command.specs.Act.{Entry}
 use Rattle.mx_command.specs.Shape.{has_shape}
 use Rattle.mx_typed_rows.specs.Rising.{IsRising}
@@ -27,8 +25,8 @@ use Rattle.mx_layout.specs.Tables.{layout_1}
 use Rattle.mx_kept.specs.Kept.{Kept}
 use Rattle.mx_kept.specs.Family.{IsReadable, IsReadableAs}
 use Rattle.mx_kept.specs.Meanings.{IsLawful}
-use Rattle.mx_kept.specs.Schemas.{HasOwn1, permanent, own_1}
-use Rattle.mx_kept.proofs.SchemaLemmas.{in_layout_1, permanent_too}
+use Rattle.mx_kept.specs.Schemas.{HasOwn1}
+use Rattle.mx_kept.proofs.SchemaLemmas.{permanent_too}
 use Rattle.mx_kept.proofs.Lawful.{entry_lawful, aircraft_lawful, place_lawful, component_lawful, programme_lawful, task_lawful, opening_lawful, crs_lawful, crs_line_lawful, defect_lawful, extension_lawful, sector1_lawful, fit1_lawful, removal1_lawful}
 use Rattle.mx_tables.specs.Sets.{AreRowsOf}
 use Rattle.mx_office.specs.Family.{Register, of, none, register_of, registers_1, rows_by, FitBy, AreGiven, AreRead}
@@ -102,12 +100,13 @@ each_from P (name ∷ other ∷ names) all = (all.0, each_from P (other ∷ name
 
 -- ── which schemas have the tables ──
 
--- a schema with the tables of layout 1 has each table with a name
-in_own : (rest : List Table) (more : List Index) (name : TableName) → Contains (permanent (own_1 ++ rest) more).tables (table_named name)
-in_own rest more name = Contains-append_left layout_1.tables rest (table_named name) (in_layout_1 name)
+-- each register is a table of layout 1
+pub are_tables : AllByRecursion (λ name. Contains layout_1.tables (table_named name)) registers_1
+are_tables = ((1, omega arith, refl), ((2, omega arith, refl), ((3, omega arith, refl), ((4, omega arith, refl), ((5, omega arith, refl), ((6, omega arith, refl), ((7, omega arith, refl), ((8, omega arith, refl), ((9, omega arith, refl), ((11, omega arith, refl), ((10, omega arith, refl), ((12, omega arith, refl), ((13, omega arith, refl), ((14, omega arith, refl), tt))))))))))))))
 
 pub in_schema : (schema : Schema) → HasOwn1 schema → AllByRecursion (λ name. Contains schema.tables (table_named name)) registers_1
-in_schema schema has = each_of (λ name. Contains schema.tables (table_named name)) (λ name. subst (λ (s : Schema). Contains s.tables (table_named name)) (sym has.is) (in_own has.rest has.more name)) registers_1
+in_schema schema has = each_weaker (λ name. Contains layout_1.tables (table_named name)) (λ name. Contains schema.tables (table_named name))
+    (λ name there. subst (λ (s : Schema). Contains s.tables (table_named name)) (sym has.is) (Contains-append_left layout_1.tables has.rest (table_named name) there)) registers_1 are_tables
 
 -- ── what entries give, and whether it fits ──
 

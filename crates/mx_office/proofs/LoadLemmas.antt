@@ -1,6 +1,6 @@
 -- What is read from the tables, and what they stand for.
 use Rattle.std.proofs.Common.{◌≡◌, ◌⊎◌, inl, inr, Some, None, List, [], ◌∷◌, ◌++◌, All, refl, sym, ap, subst, ◌∙◌, arith, Result, Ok, Err}
-use Rattle.std.specs.Prelude.{Vec}
+use Rattle.std.specs.Prelude.{Contains, Vec}
 use Rattle.std.specs.List.{AllByRecursion}
 use Rattle.std.specs.Result.{IsErr, IsErrAnd, MatchResult}
 use Rattle.std.specs.List.Sorted.{IsPermutation}
@@ -28,16 +28,15 @@ use Rattle.mx_layout.specs.Contents.{rows_in}
 use Rattle.mx_layout.specs.Making.{IsEmptyBook, first_point}
 use Rattle.mx_layout.specs.Names.{table_named}
 use Rattle.mx_layout.specs.Point.{point_cells}
-use Rattle.mx_layout.specs.Tables.{office}
+use Rattle.mx_layout.specs.Tables.{layout_1, office}
 use Rattle.mx_kept.specs.Family.{IsReadable}
-use Rattle.mx_kept.proofs.SchemaLemmas.{in_layout_1}
 use Rattle.mx_tables.specs.Sets.{IsDamaged}
 use Rattle.mx_office.specs.declared.fault.Fault.{Fault}
 use Rattle.mx_office.specs.declared.fault.Fault.TheVariants as fault
 use Rattle.mx_office.specs.Faults.{fault_from}
 use Rattle.mx_office.specs.Family.{none, register_of, registers_1, rows_by, AreGiven, AreRead, FitsAt}
 use Rattle.mx_office.specs.Stands.{Stands, HoldsBook, HaveRowsOf, IsOfNoBook, EachHas, first_rows, rows_given}
-use Rattle.mx_office.proofs.FamilyLemmas.{facts, AllOf, each_from, each_of, each_weaker, each_with, IsReadOf, AreSame, read_at, given_at, fit_at, same_at, given_from, readable_read, readable_given}
+use Rattle.mx_office.proofs.FamilyLemmas.{are_tables, facts, AllOf, each_from, each_of, each_weaker, each_with, IsReadOf, AreSame, read_at, given_at, fit_at, same_at, given_from, readable_read, readable_given}
 
 -- ── one line for each table ──
 
@@ -91,7 +90,8 @@ pub stands_holds : (trees : Trees) (book : List Entry) → Stands trees book →
 stands_holds trees book stands = record {
   is_book = stands.is.is_book;
   fit = each_of (λ name. EachHas (FitsAt name) [] book) stands.is.fit registers_1;
-  tables = each_of (λ name. AreGiven (register_of name) trees book) (λ name. given_from name (register_of name) (facts name) first_point trees book (stands.is.tables name (in_layout_1 name))) registers_1;
+  tables = each_weaker (λ name. Contains layout_1.tables (table_named name)) (λ name. AreGiven (register_of name) trees book)
+      (λ name there. given_from name (register_of name) (facts name) first_point trees book (stands.is.tables name there)) registers_1 are_tables;
 }
 
 -- tables hold at most one book
@@ -115,19 +115,19 @@ readable_first : (at : Point) (name : TableName) → All (IsReadable name) (firs
 readable_first at table.Office = All-cons (IsReadable table.Office) (point_cells at) [] tt (All-nil (IsReadable table.Office))
 readable_first at name = All-nil (IsReadable name)
 
-pub none_damaged : (trees : Trees) (book : List Entry) → Stands trees book → (name : TableName) → IsDamaged trees name → ⊥
-none_damaged trees book stands name other =
+pub none_damaged : (trees : Trees) (book : List Entry) → Stands trees book → (name : TableName) → Contains layout_1.tables (table_named name) → IsDamaged trees name → ⊥
+none_damaged trees book stands name there other =
     let good = All-append (IsReadable name) (first_rows first_point name) _ (readable_first first_point name) (readable_given name (register_of name) (facts name) book (stands.is.fit name)) in
-    other.2 (All-contains (IsReadable name) (rows_in (table_named name) trees) other.0 (All-permutation (IsReadable name) _ _ (stands.is.tables name (in_layout_1 name)) good) other.1)
+    other.2 (All-contains (IsReadable name) (rows_in (table_named name) trees) other.0 (All-permutation (IsReadable name) _ _ (stands.is.tables name there) good) other.1)
 
 -- a reader that stopped stops the one that calls it: over tables that stand for a book, never for damage
 pub stops_reading : {V : Type 0} (P : V → Type 0) (trees : Trees) (book : List Entry) → Stands trees book → (result : Result V TableFault) (why : TableFault) → IsErr result × IsErrAnd result (λ it. it ≡ why)
-    → (why ≡ stop.Memory) ⊎ ((why ≡ stop.Store) ⊎ ((name : TableName) × (why ≡ stop.Damaged name))) → ((name : TableName) → why ≡ stop.Damaged name → IsDamaged trees name)
+    → (why ≡ stop.Memory) ⊎ ((why ≡ stop.Store) ⊎ ((name : TableName) × (why ≡ stop.Damaged name))) → ((name : TableName) → why ≡ stop.Damaged name → Contains layout_1.tables (table_named name) × IsDamaged trees name)
     → MatchResult result P (λ e. (e ≡ stop.Memory) ⊎ (e ≡ stop.Store))
 stops_reading P trees book stands (Ok v) why is cause damage = (cc)
 stops_reading P trees book stands (Err e) why is (inl memory) damage = inl (is.1 ∙ memory)
 stops_reading P trees book stands (Err e) why is (inr (inl store)) damage = inr (is.1 ∙ store)
-stops_reading P trees book stands (Err e) why is (inr (inr it)) damage = absurd (none_damaged trees book stands it.0 (damage it.0 it.1))
+stops_reading P trees book stands (Err e) why is (inr (inr it)) damage = let at = damage it.0 it.1 in absurd (none_damaged trees book stands it.0 at.0 at.1)
 
 -- the table that is answered damaged is damaged
 pub damage_of : {V : Type 0} (trees : Trees) (result : Result V TableFault) (why : TableFault) → IsErr result × IsErrAnd result (λ it. it ≡ why) → ((name : TableName) → why ≡ stop.Damaged name → IsDamaged trees name)
@@ -171,15 +171,15 @@ none_gives before (c ∷ book) = none_gives (before ++ c ∷ []) book
 -- the tables of a book are at the settled point of layout 1
 pub stands_point : (trees : Trees) (book : List Entry) → Stands trees book → rows_in office trees ≡ point_cells first_point ∷ []
 stands_point trees book stands =
-    one_row (point_cells first_point) (rows_in office trees) (subst (λ rows. IsPermutation (point_cells first_point ∷ rows) (rows_in office trees)) (none_gives [] book) (stands.is.tables table.Office (in_layout_1 table.Office)))
+    one_row (point_cells first_point) (rows_in office trees) (subst (λ rows. IsPermutation (point_cells first_point ∷ rows) (rows_in office trees)) (none_gives [] book) (stands.is.tables table.Office (0, omega arith, refl)))
 
 -- a table that has just these rows
 has_just : (name : TableName) (trees : Trees) (rows : List Row) → rows_in (table_named name) trees ≡ rows → IsPermutation rows (rows_in (table_named name) trees)
 has_just name trees rows same = subst (IsPermutation rows) (sym same) (IsPermutation-refl rows)
 
-empty_tables : (trees : Trees) → IsEmptyBook trees → (name : TableName) → IsPermutation (rows_given first_point [] name) (rows_in (table_named name) trees)
-empty_tables trees made table.Office = has_just table.Office trees (point_cells first_point ∷ []) made.points
-empty_tables trees made name = has_just name trees [] (made.others name (λ is. cc))
+empty_tables : (trees : Trees) → IsEmptyBook trees → (name : TableName) → Contains layout_1.tables (table_named name) → IsPermutation (rows_given first_point [] name) (rows_in (table_named name) trees)
+empty_tables trees made table.Office there = has_just table.Office trees (point_cells first_point ∷ []) made.points
+empty_tables trees made name there = has_just name trees [] (made.others name there (λ is. cc))
 
 -- tables that were just made are those of no entry
 pub empty_stands : (trees : Trees) → IsEmptyBook trees → Stands trees []
@@ -188,6 +188,6 @@ empty_stands trees made = record {
     sound = made.sound;
     is_book = record { few = omega arith; shaped = refl; judged = refl };
     fit = λ name. tt;
-    tables = λ name _. empty_tables trees made name;
+    tables = λ name there. empty_tables trees made name there;
   };
 }

@@ -64,7 +64,7 @@ onto_is before c e v entry are table.Extension rows = λ i. map kept_extension.a
 onto_is before c e v entry are table.Sector1 rows = λ i. map kept_sector1.as_cells (are.sectors.0 i) ++ rows
 onto_is before c e v entry are table.Fit1 rows = λ i. map kept_fit1.as_cells (are.fittings.0 i) ++ rows
 onto_is before c e v entry are table.Removal1 rows = λ i. map kept_removal1.as_cells (are.removals.0 i) ++ rows
-onto_is before c e v entry are table.Office rows = refl
+onto_is before c e v entry are _ rows = refl
 
 -- tables that gained those rows gained the rows of the command
 pub gains_command : (before : List Entry) (command : Entry) (old new : Database) (e : List EntryRow) (v : RegisterRows) → e ≡ entry_added before command → AreAddedRows before command v

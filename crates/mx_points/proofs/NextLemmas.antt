@@ -11,6 +11,7 @@ use Rattle.mx_book.specs.Base.{base}
 use Rattle.mx_book.specs.Programme.{last_of}
 use Rattle.mx_typed_rows.specs.Rising.{IsRising}
 use Rattle.mx_typed_rows.specs.declared.rows.BaseRow.{BaseRow}
+use Rattle.mx_typed_rows.specs.Rows.{base_row_with}
 use Rattle.mx_kept_rows.specs.Bases.{base_row, base_rows, base_rows_of, tasks_accomplished}
 use Rattle.mx_kept_rows.specs.Items.{items}
 use Rattle.mx_points.specs.Moves.{IsNext}
@@ -59,7 +60,7 @@ rows_of_one : (book : List Entry) (P : ℕ → Type 0) (x : ℕ × Item) → P x
 rows_of_one book P x h [] = tt
 rows_of_one book P x h (id ∷ ids) = at (base book x.1 id) (rows_of_one book P x h ids)
   where
-    at : (o : Option Base) → AllByRecursion (λ (row : BaseRow). P row.item) (filter_map (base_row book x) ids) → AllByRecursion (λ (row : BaseRow). P row.item) (cons_option (option_map (λ b. record { item = x.0; task = id; base = b }) o) (filter_map (base_row book x) ids))
+    at : (o : Option Base) → AllByRecursion (λ (row : BaseRow). P row.item) (filter_map (base_row book x) ids) → AllByRecursion (λ (row : BaseRow). P row.item) (cons_option (option_map (λ b. base_row_with x.0 id b) o) (filter_map (base_row book x) ids))
     at None rest = rest
     at (Some b) rest = (h, rest)
 

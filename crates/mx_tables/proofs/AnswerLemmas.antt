@@ -41,7 +41,7 @@ not_read P (Damaged t) why = absurd (not_damaged (Damaged t) why t refl)
 
 -- ── what a query answered, and what was made of it ──
 
-stopped_ok : {W : Type 0} (P : W → Type 0) (result : Result W TableFault) → IsErr result → IfOk result P
+pub stopped_ok : {W : Type 0} (P : W → Type 0) (result : Result W TableFault) → IsErr result → IfOk result P
 stopped_ok P (Ok w) is = absurd (cc)
 stopped_ok P (Err e) is = tt
 
@@ -49,7 +49,7 @@ stopped_read : {W : Type 0} (P : Type 0) (error : Error) (result : Result W Tabl
 stopped_read P error (Ok w) stopped = let is = stopped.0 in absurd (cc)
 stopped_read P error (Err fault) stopped = not_read P fault stopped.1.0
 
-stopped_damaged : {W : Type 0} (error : Error) (result : Result W TableFault) (t : TableName) → IsErr result × IfErr result (IsFaultOf error) → result ≡ Err (Damaged t) → ⊥
+pub stopped_damaged : {W : Type 0} (error : Error) (result : Result W TableFault) (t : TableName) → IsErr result × IfErr result (IsFaultOf error) → result ≡ Err (Damaged t) → ⊥
 stopped_damaged error (Ok w) t stopped is = cc
 stopped_damaged error (Err fault) t stopped is = never_damaged fault stopped.1.0 is
 

@@ -13,10 +13,10 @@ use Rattle.sqlite.specs.Schema.{Schema}
 use Rattle.sqlite.specs.Tree.{Trees}
 use Rattle.sqlite.specs.Effect.{Database}
 use Rattle.sqlite.specs.State.{State, HasCleanDisk}
+use Rattle.sqlite.proofs.Callers.{unchanged_then}
 use Rattle.mx_layout.specs.TableName.{TableName}
-use Rattle.mx_layout.specs.declared.fault.Table.TheVariants.{Office, Entry, Aircraft, Place, Component, Programme, Task, Opening, Crs, CrsLine, Extension, Defect, Sector1, Fit1, Removal1}
 use Rattle.mx_layout.specs.declared.fault.TableFault.{TableFault}
-use Rattle.mx_layout.specs.declared.fault.TableFault.TheVariants.{Memory, Store, Damaged}
+use Rattle.mx_layout.specs.declared.fault.TableFault.TheVariants.{Memory, Store, NotOurs, Exists, Damaged}
 use Rattle.mx_layout.specs.Contents.{cells, rows_in}
 use Rattle.mx_layout.specs.Names.{table_named}
 use Rattle.mx_layout.specs.Reading.{HasOther}
@@ -25,39 +25,12 @@ use Rattle.mx_kept.specs.Kept.{Kept}
 use Rattle.mx_kept.specs.Family.{IsReadableAs, on_top}
 use Rattle.mx_kept.specs.Meanings.{IsLawful}
 use Rattle.mx_layout.specs.Reading.{AreAllBy}
-use Rattle.mx_tables.specs.Calls.{ReadsRows, InsertsRow}
+use Rattle.mx_tables.specs.Calls.{OnRead, ReadsRows, InsertsRow}
 use Rattle.mx_tables.specs.Sets.{GainsRows, IsDamaged, AreRowsOf, ReadsTables, WritesTables, IsInside}
 use Rattle.mx_layout.specs.Crash.{StaysInside, IsWithin}
 use Rattle.mx_layout.proofs.CrashLemmas.{within_then, stays_then}
-use Rattle.std.specs.Prelude.{IsErr}
-
--- ── a table is known by its tree ──
-
-by_tree : ℕ → TableName
-by_tree n =
-    cond (n == 0) Office (cond (n == 1) Entry (cond (n == 3) Aircraft (cond (n == 5) Place (cond (n == 7) Component (cond (n == 9) Programme (cond (n == 10) Task
-    (cond (n == 12) Opening (cond (n == 13) Crs (cond (n == 14) CrsLine (cond (n == 16) Extension (cond (n == 17) Defect (cond (n == 18) Sector1 (cond (n == 19) Fit1 Removal1)))))))))))))
-
-found_by_tree : (name : TableName) → by_tree (table_named name).tree ≡ name
-unfolding by_tree
-found_by_tree Office = refl
-found_by_tree Entry = refl
-found_by_tree Aircraft = refl
-found_by_tree Place = refl
-found_by_tree Component = refl
-found_by_tree Programme = refl
-found_by_tree Task = refl
-found_by_tree Opening = refl
-found_by_tree Crs = refl
-found_by_tree CrsLine = refl
-found_by_tree Extension = refl
-found_by_tree Defect = refl
-found_by_tree Sector1 = refl
-found_by_tree Fit1 = refl
-found_by_tree Removal1 = refl
-
-same_tree : (one other : TableName) → (table_named one).tree ≡ (table_named other).tree → one ≡ other
-same_tree one other same = sym (found_by_tree one) ∙ ap by_tree same ∙ found_by_tree other
+use Rattle.mx_layout.proofs.TreeLemmas.{same_tree}
+use Rattle.std.specs.Prelude.{IsErr, IsErrAnd}
 
 not_same : (n m : ℕ) → (n == m) ≡ false → m ≢ n
 not_same n m h same = grind (arith, nat_tests)
@@ -129,6 +102,7 @@ reads_one {X} {V} k items law old new result r = record {
   rows = λ clean has. both result (r.rows clean has) r.fits;
   cause = caused result r.cause;
   damaged = λ clean has name. damages result name r.cause (r.damaged clean has);
+  there = λ schema has name. contained schema result name (law.there schema has) r.cause;
   unchanged = r.unchanged;
   inside = r.inside;
   within = r.within;
@@ -143,6 +117,13 @@ reads_one {X} {V} k items law old new result r = record {
     caused (Err e) (inl memory) = inl memory
     caused (Err e) (inr (inl store)) = inr (inl store)
     caused (Err e) (inr (inr damaged)) = inr (inr (k.name, damaged))
+
+    contained : (schema : Schema) (result : Result V TableFault) (name : TableName) → Contains schema.tables (table_named k.name) → IfErr result (λ e. (e ≡ Memory) ⊎ ((e ≡ Store) ⊎ (e ≡ Damaged k.name)))
+        → IfErr result (λ e. e ≡ Damaged name → Contains schema.tables (table_named name))
+    contained schema (Ok v) name there why = tt
+    contained schema (Err e) name there (inl memory) = λ is. absurd (cc)
+    contained schema (Err e) name there (inr (inl store)) = λ is. absurd (cc)
+    contained schema (Err e) name there (inr (inr damaged)) = λ is. (let same : k.name ≡ name = cc in subst (λ n. Contains schema.tables (table_named n)) same there)
 
     damages : (result : Result V TableFault) (name : TableName) → IfErr result (λ e. (e ≡ Memory) ⊎ ((e ≡ Store) ⊎ (e ≡ Damaged k.name))) → (result ≡ Err (Damaged k.name) → HasOther (IsReadableAs k) (rows_in (table_named k.name) old.now.trees))
         → IfErr result (λ e. e ≡ Damaged name → IsDamaged old.now.trees name)
@@ -199,3 +180,32 @@ one_then k x Two two keeps old mid new t second a b =
       inside = λ clean begun. (let stays = a.inside (early clean) begun in on_weaker second (stays_then old mid new stays) (b.inside clean (stays.mode, stays.is_open)));
       within = within_then old mid new a.within (λ clean begun. (a.inside clean begun).mode) b.within;
     }
+
+on_read_weaker : {T P Q : Type 0} (r : Result T TableFault) → (P → Q) → OnRead r P → OnRead r Q
+on_read_weaker (Ok v) f h = f h
+on_read_weaker (Err Memory) f h = tt
+on_read_weaker (Err Store) f h = tt
+on_read_weaker (Err NotOurs) f h = tt
+on_read_weaker (Err Exists) f h = tt
+on_read_weaker (Err (Damaged t)) f h = f h
+
+-- some tables that were read, and then others that were not
+pub reads_stopped : {T U V : Type 0} (One Two : Schema → Type 0) (OneRows : Trees → T → Type 0) (TwoRows : Trees → U → Type 0) (Rows : Trees → V → Type 0) (old mid new : State) (t : T) (e : TableFault)
+    → ReadsTables One OneRows old mid (Ok t) → ReadsTables Two TwoRows mid new (Err e) → ReadsTables (λ s. One s × Two s) Rows old new (Err e)
+reads_stopped {T} {U} {V} One Two OneRows TwoRows Rows old mid new t e a b =
+    let early : HasCleanDisk new → HasCleanDisk mid = λ clean. omega (arith, b.within.survives.clean) in
+    record {
+      rows = λ _ _. tt;
+      cause = b.cause;
+      damaged = λ clean has name is. (let same = (a.unchanged (early clean) has.0).0.now_is in
+          subst (λ (db : Database). IsDamaged db.trees name) same (b.damaged clean (subst (λ (db : Database). Two db.schema) (sym same) has.1) name is));
+      there = λ schema has name. b.there schema has.1 name;
+      unchanged = λ clean has. (let first = a.unchanged (early clean) has.0 in
+          on_read_weaker {T = V} (Err e) (unchanged_then old mid new first) (b.unchanged clean (subst (λ (db : Database). Two db.schema) (sym first.0.now_is) has.1)));
+      inside = λ clean begun. (let first = a.inside (early clean) begun in on_read_weaker {T = V} (Err e) (stays_then old mid new first) (b.inside clean first.mode));
+      within = within_then old mid new a.within (λ clean begun. (a.inside clean begun).mode) b.within;
+    }
+
+pub reads_fault : {V : Type 0} (IsIn : Schema → Type 0) (Rows : Trees → V → Type 0) (old new : State) (e : TableFault) (result : Result V TableFault) → IsErrAnd result (λ x. x ≡ e) → ReadsTables IsIn Rows old new (Err e) → ReadsTables IsIn Rows old new result
+reads_fault IsIn Rows old new e (Ok v) is h = absurd is
+reads_fault IsIn Rows old new e (Err x) is h = subst (λ f. ReadsTables IsIn Rows old new (Err f)) (sym is) h

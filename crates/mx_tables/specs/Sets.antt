@@ -24,11 +24,12 @@ IsDamaged trees name = HasOther (IsReadable name) (rows_in (table_named name) tr
 abbrev pub AreRowsOf : {X : Type 0} → Kept X → Trees → List X → Type 0
 AreRowsOf k trees xs = AreAllBy k.order (table_named k.name) trees (map k.as_cells xs) × All k.Fits xs
 
--- some tables were read, or a row of one is none of its type, and nothing changed; or the call stopped
+-- some tables were read, or a row of one of them is none of its type, and nothing changed; or the call stopped
 pub record ReadsTables {V : Type 0} (IsIn : Schema → Type 0) (AreRows : Trees → V → Type 0) (old new : State) (result : Result V TableFault) : Type 0 where
   pub rows : HasCleanDisk new → IsIn old.now.schema → IfOk result (AreRows old.now.trees)
   pub cause : IfErr result (λ e. (e ≡ Memory) ⊎ ((e ≡ Store) ⊎ ((name : TableName) × (e ≡ Damaged name))))
   pub damaged : HasCleanDisk new → IsIn old.now.schema → (name : TableName) → IfErr result (λ e. e ≡ Damaged name → IsDamaged old.now.trees name)
+  pub there : (schema : Schema) → IsIn schema → (name : TableName) → IfErr result (λ e. e ≡ Damaged name → Contains schema.tables (table_named name))
   pub unchanged : HasCleanDisk new → IsIn old.now.schema → OnRead result (IsUnchanged old new)
   pub inside : HasCleanDisk new → IsTrue old.in_transaction → OnRead result (StaysInside old new)
   pub within : IsWithin old new

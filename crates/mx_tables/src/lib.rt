@@ -1,6 +1,6 @@
-//! The tables as sets of typed rows. SQL for rows is in this crate and in no crate above it: there a table
-//! is what `rows` gives for its type, in the order of its key, and `insert` adds one row to it. Each call is made
-//! inside a `Transaction`, which the caller commits or drops.
+//! The tables as sets of typed rows. SQL for all rows of a table is in this crate, that for chosen rows in
+//! `mx_chosen`, and none in a crate above these: there a table is what `rows` gives for its type, in the order of its
+//! key, and `insert` adds one row to it. Each call is made inside a `Transaction`, which the caller commits or drops.
 //!
 //! # What is promised
 //!
@@ -18,17 +18,17 @@
 //!
 //! For a table whose row type stands in `mx_typed_rows` with its `Fits`. Its key is its first column, an
 //! `INTEGER PRIMARY KEY`, or its first two, a `PRIMARY KEY` of both. Where no layout has it, first `mx_layout`:
-//! `Table`, its name, `table_name`, `table_named`; its columns and tree, `layout_1`; its text in `create_text`,
-//! `CreateTexts` and `create_texts`; `tables_1`, `.._defined`, `.._next`, `advance`, `others_empty`; and how many there
-//! are (`create_text`, `make_tables` and its answers, `last_stage`, `advance`). Then `own_1` and `in_layout_1` of
-//! `mx_kept`, and here `by_tree` and `found_by_tree`.
+//! `Table`, its name, `table_name`, `table_named`; its columns and tree, and the schema of its layout; its text in
+//! `step_text` and `CreateTexts`; its statement in `steps` and `step_texts`, and what that makes, in `StepLemmas`;
+//! `by_tree` and `found_by_tree` of `TreeLemmas`. Then `mx_kept/specs/Schemas.antt`: which schemas have it.
 //!
 //! 1. `mx_kept/specs/Cells.antt`: how its rows are kept, and its line in `specs/Family.antt`.
 //! 2. `mx_kept/proofs/Lawful.antt`, from one that is there: rows with the same values are one, what the two
 //!    texts are understood as, by `refl`, what a row is stored as, and `TABLE_lawful`, with `first_keyed` or
 //!    `two_keyed` and the place of the table in the schema, from 0. Where a `refl` is refused, the text and the
-//!    table differ. A table of a layout stands behind `own_1`, a permanent one behind nothing. Its line of
-//!    `IsLawfulAt` in `specs/Meanings.antt` and of `each_lawful`.
+//!    table differ. A table of a layout stands behind those that come before it there, at each point of a move where
+//!    it stands (`span2` at two), a permanent one behind nothing. Its line of `IsLawfulAt` in `specs/Meanings.antt`
+//!    and of `each_lawful`.
 //! 3. `src/NOUN.rt`, from one that is there, with its line here: `Stored`, whose `read` tests the number of
 //!    columns and takes each by a function of `column.rt`; `Insert`, which passes each value in the order of the
 //!    columns. A kind of value that no table has had needs a function in `column.rt`, whose contract says of what
@@ -45,6 +45,7 @@
 #![tactic(auto)]
 
 mod aircraft;
+mod base;
 mod column;
 mod component;
 mod deferral;
@@ -59,8 +60,10 @@ mod release_line;
 mod removal;
 mod sector;
 pub mod sets;
+mod span;
 pub mod stored;
 mod task;
+mod total;
 
 pub use mx_layout::{Layout, Point, Table, TableFault, create, point};
 pub use sets::Tables;

@@ -83,9 +83,9 @@ fn typed<R: Stored + Drop>(
     Ok(rows)
 }
 
-// What a query answered, by the type of its rows. `Damaged` with the table where one is none; where there is no
-// answer, the fault that the error is.
-fn answered<R: Stored + Drop>(
+/// What a query answered, by the type of its rows. `Damaged` with the table where one is none; where there is no
+/// answer, the fault that the error is.
+pub fn answered<R: Stored + Drop>(
     alloc: Global,
     table: mx_layout::Table,
     answer: Result<Vec<Row>, Error>,

@@ -73,6 +73,14 @@ release_line_key row = line_key row.seq row.line
 abbrev pub base_key : BaseRow → List ℕ
 base_key row = row.item ∷ row.task
 
+-- the base in the row of a last base
+abbrev pub base_in_row : BaseRow → Base
+base_in_row row = record { minutes = row.life.minutes; cycles = row.life.cycles; day = row.day }
+
+-- the row of this base of a task, of the item with this number
+abbrev pub base_row_with : ℕ → List ℕ → Base → BaseRow
+base_row_with number task base = record { item = number; task = task; life = record { minutes = base.minutes; cycles = base.cycles }; day = base.day }
+
 -- the number has 32 bits and the document is one
 pub record FitsEntry (row : EntryRow) : Type 0 where
   pub seq : row.seq < 2 ^ 32
@@ -232,4 +240,4 @@ pub record FitsBaseValue (base : Base) : Type 0 where
 pub record FitsBase (row : BaseRow) : Type 0 where
   pub item : row.item < 2 ^ 32
   pub task : IsIdentifier is_graphic 16 row.task
-  pub base : FitsBaseValue row.base
+  pub base : FitsBaseValue (base_in_row row)

@@ -3,8 +3,7 @@
 //! that deferred it.
 
 use mx_base::{
-    Base, Day, Doc, Kind, Limit, MelRef, Moment, Part, Position, Serial, Tail, TaskId, Tolerance,
-    Use,
+    Day, Doc, Kind, Limit, MelRef, Moment, Part, Position, Serial, Tail, TaskId, Tolerance, Use,
 };
 use mx_command::Category;
 
@@ -206,5 +205,7 @@ pub struct TotalRow {
 pub struct BaseRow {
     pub item: u32,
     pub task: TaskId,
-    pub base: Base,
+    /// The life at which the task was done.
+    pub life: Use,
+    pub day: Day,
 }

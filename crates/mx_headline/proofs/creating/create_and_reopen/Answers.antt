@@ -1,5 +1,11 @@
+use Rattle.std.proofs.Common.{◌⊎◌, OnOk, subst}
 use Rattle.std.proofs.Math.Logic.{∥∥₁_map}
 use Rattle.sqlite.specs.Files.{file_state}
+use Rattle.sqlite_catalog.specs.Listing.{IsSound}
+use Rattle.mx_layout.specs.Crash.{Leaves, RestsAs}
+use Rattle.mx_layout.specs.Making.{IsEmptyIn}
+use Rattle.mx_layout.specs.Steps.{schema_of}
+use Rattle.mx_layout.specs.Tables.{no_schema}
 use Rattle.mx_headline.proofs.CreatedLemmas.{is_made, if_opened, finds_before, unless_store}
 use Rattle.mx_headline.proofs.creating.create_and_reopen.Goals as goal
 
@@ -8,8 +14,11 @@ returns-clause-headline g c bare =
     let old = file_state c.args.conn in
     let end = file_state c.create-answer.new.conn in
     let made = c.create-answer.ensures in
+    let first = c.requires.built in
+    let crash = subst (λ n. Leaves end (λ db. IsSound no_schema db ⊎ IsEmptyIn n db)) first (made.crash bare) in
+    let is_there = subst (λ n. OnOk c.create-answer.result (RestsAs end (schema_of n) (IsEmptyIn n))) first (made.made bare) in
     if_opened c.reopen-again.result c.reopen-again.ensures.clean c.reopen-again.ensures.found (λ again sure found clean.
-    ∥∥₁_map (found clean) (λ one. is_made old end (file_state again) (sure clean) bare (made.crash bare) one c.create-answer.result (made.made bare) made.unchanged))
+    ∥∥₁_map (found clean) (λ one. is_made old end (file_state again) (sure clean) bare crash one c.create-answer.result is_there made.unchanged))
 
 pub returns-clause-kept : goal.returns-clause-kept
 returns-clause-kept g c taken =

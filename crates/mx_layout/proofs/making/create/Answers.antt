@@ -2,8 +2,9 @@ use Rattle.std.proofs.Common.{rules, ◌≡◌, ◌⊎◌, subst}
 use Rattle.sqlite.specs.Held.{state}
 use Rattle.sqlite_catalog.specs.Listing.{IsSound}
 use Rattle.mx_layout.specs.Crash.{Leaves, RestsAs}
-use Rattle.mx_layout.specs.Making.{IsEmptyBook}
-use Rattle.mx_layout.specs.Tables.{no_schema, layout_1}
+use Rattle.mx_layout.specs.Making.{IsEmptyIn}
+use Rattle.mx_layout.specs.Steps.{schema_of}
+use Rattle.mx_layout.specs.Tables.{no_schema}
 use Rattle.mx_layout.proofs.CrashLemmas.{commits_either, commits_ok}
 use Rattle.mx_layout.proofs.FillLemmas.{bare_blank}
 use Rattle.mx_layout.proofs.making.create.Goals as goal
@@ -14,8 +15,8 @@ returns-in-Ok-clause-made g c bare =
     let tx = state g.S.Store c.transaction-tx.result.conn.now in
     let end = c.commit.new.self.0 in
     let same : end ≡ c.conn-2-1.given.0 = search rules in
-    subst (λ h. RestsAs (state g.S.Store h) layout_1 IsEmptyBook) same
-    (commits_ok g.S.Store no_schema layout_1 (IsSound no_schema) IsEmptyBook c.args.conn.now c.transaction-tx.result.conn.now c.fill_new.new.tx.conn.now c.transaction-tx.ensures.begun bare
+    subst (λ h. RestsAs (state g.S.Store h) (schema_of c.args.layout.0) (IsEmptyIn c.args.layout.0)) same
+    (commits_ok g.S.Store no_schema (schema_of c.args.layout.0) (IsSound no_schema) (IsEmptyIn c.args.layout.0) c.args.conn.now c.transaction-tx.result.conn.now c.fill_new.new.tx.conn.now c.transaction-tx.ensures.begun bare
     c.fill_new.ensures.stays.within c.in_default.ensures.stays.inside (λ clean within schema sound. c.in_default.ensures.makes clean within (bare_blank tx.now schema sound)) end c.commit.ensures.survives
     g.met.S.Store.settled (λ clean. (c.in-Ok.ensures.ok clean).1))
 
@@ -24,8 +25,8 @@ returns-in-Ok-clause-crash g c bare =
     let tx = state g.S.Store c.transaction-tx.result.conn.now in
     let end = c.commit.new.self.0 in
     let same : end ≡ c.conn-2-1.given.0 = search rules in
-    subst (λ h. Leaves (state g.S.Store h) (λ db. IsSound no_schema db ⊎ IsEmptyBook db)) same
-    (commits_either g.S.Store no_schema layout_1 (IsSound no_schema) IsEmptyBook c.args.conn.now c.transaction-tx.result.conn.now c.fill_new.new.tx.conn.now c.transaction-tx.ensures.begun bare
+    subst (λ h. Leaves (state g.S.Store h) (λ db. IsSound no_schema db ⊎ IsEmptyIn c.args.layout.0 db)) same
+    (commits_either g.S.Store no_schema (schema_of c.args.layout.0) (IsSound no_schema) (IsEmptyIn c.args.layout.0) c.args.conn.now c.transaction-tx.result.conn.now c.fill_new.new.tx.conn.now c.transaction-tx.ensures.begun bare
     c.fill_new.ensures.stays.within c.in_default.ensures.stays.inside (λ clean within schema sound. c.in_default.ensures.makes clean within (bare_blank tx.now schema sound)) end c.commit.ensures.survives)
 
 pub returns-in-Err-commit-clause-crash : goal.returns-in-Err-commit-clause-crash
@@ -33,6 +34,6 @@ returns-in-Err-commit-clause-crash g c bare =
     let tx = state g.S.Store c.transaction-tx.result.conn.now in
     let end = c.commit.new.self.0 in
     let same : end ≡ c.conn-2-1.given.0 = search rules in
-    subst (λ h. Leaves (state g.S.Store h) (λ db. IsSound no_schema db ⊎ IsEmptyBook db)) same
-    (commits_either g.S.Store no_schema layout_1 (IsSound no_schema) IsEmptyBook c.args.conn.now c.transaction-tx.result.conn.now c.fill_new.new.tx.conn.now c.transaction-tx.ensures.begun bare
+    subst (λ h. Leaves (state g.S.Store h) (λ db. IsSound no_schema db ⊎ IsEmptyIn c.args.layout.0 db)) same
+    (commits_either g.S.Store no_schema (schema_of c.args.layout.0) (IsSound no_schema) (IsEmptyIn c.args.layout.0) c.args.conn.now c.transaction-tx.result.conn.now c.fill_new.new.tx.conn.now c.transaction-tx.ensures.begun bare
     c.fill_new.ensures.stays.within c.in_default.ensures.stays.inside (λ clean within schema sound. c.in_default.ensures.makes clean within (bare_blank tx.now schema sound)) end c.commit.ensures.survives)

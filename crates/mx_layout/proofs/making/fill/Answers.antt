@@ -1,8 +1,6 @@
-use Rattle.std.proofs.Common.{rules, ◌≡◌, ap, arith}
+use Rattle.std.proofs.Common.{rules, arith}
 use Rattle.sqlite.specs.Held.{state}
 use Rattle.sqlite.specs.State.{HasCleanDisk}
-use Rattle.mx_layout.specs.declared.points.Point.{Point}
-use Rattle.mx_layout.specs.Making.{first_point}
 use Rattle.mx_layout.proofs.CrashLemmas.{within_then, stays_after}
 use Rattle.mx_layout.proofs.FillLemmas.{empty_book}
 use Rattle.mx_layout.proofs.making.fill.Goals as goal
@@ -33,7 +31,5 @@ returns-clause-makes g c clean inside blank =
     let old = state g.S.Store c.make_tables.new.tx.conn.now in
     let early : HasCleanDisk old = omega (arith, c.insert_office.ensures.stays.within.survives.clean) in
     let made = c.in_ok-make_tables.ensures.makes early inside blank in
-    let p : Point = record { layout = c.args.layout.0; step = 0; mark = 0 } in
-    let first : p ≡ first_point = ap (λ n. let q : Point = record { layout = n; step = 0; mark = 0 } in q) c.requires in
-    empty_book p old.now (state g.S.Store c.insert_office.new.tx.conn.now).now first made
-    (c.in_ok-insert_office.ensures.adds clean (c.in_ok-make_tables.ensures.mode early inside) made.schema_is)
+    empty_book c.args.layout.0 c.requires old.now (state g.S.Store c.insert_office.new.tx.conn.now).now made
+    (c.in_ok-insert_office.ensures.adds c.args.layout.0 c.requires clean (c.in_ok-make_tables.ensures.mode early inside) made.schema_is)

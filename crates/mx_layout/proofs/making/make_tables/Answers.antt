@@ -2,10 +2,10 @@ use Rattle.std.proofs.Common.{◌≡◌, ◌<◌, Ok, refl, sym, subst, ◌∙�
 use Rattle.sqlite.specs.Held.{state}
 use Rattle.sqlite.specs.State.{HasCleanDisk}
 use Rattle.mx_layout.specs.Making.{IsBlank}
+use Rattle.mx_layout.specs.Steps.{steps_of}
 use Rattle.mx_layout.proofs.CrashLemmas.{within_itself, within_then}
-use Rattle.mx_layout.proofs.CreateLemmas.{creates_blank}
-use Rattle.mx_layout.proofs.CreateTextLemmas.{stage, first_stage, last_stage, advance}
 use Rattle.mx_layout.proofs.InsideLemmas.{keeps_commit}
+use Rattle.mx_layout.proofs.StepLemmas.{schema_at, first_schema, last_schema, leads}
 use Rattle.mx_layout.proofs.making.make_tables.Goals as goal
 
 pub loop-at-init : goal.loop-at-init
@@ -13,7 +13,7 @@ loop-at-init g c = record {
   same_reference = refl;
   within = within_itself _;
   mode = λ _ inside. inside;
-  blank = λ _ _ blank. subst (λ s. IsBlank s (state g.S.Store c.args.tx.now.conn.now).now) (sym first_stage) blank;
+  blank = λ _ _ blank. subst (λ s. IsBlank s (state g.S.Store c.args.tx.now.conn.now).now) (sym first_schema) blank;
 }
 
 pub loop-at-preserved : goal.loop-at-preserved
@@ -30,10 +30,8 @@ loop-at-preserved g c =
           (c.in_ok-execute.ensures.runs clean (c.loop-at.invariant.mode early inside)).1.mode;
       blank = λ clean inside blank.
           let early : HasCleanDisk old = omega (arith, c.execute.ensures.survives.clean) in
-          let low : c.loop-at.at < 15 = omega arith in
-          let it = advance c.loop-at.at c.create_text.result.now low c.create_text.ensures in
-          subst (λ s. IsBlank s new.now) it.next
-          (creates_blank (stage c.loop-at.at) c.create_text.result.now it.table it.defines old new (c.loop-at.invariant.blank early inside blank) (Ok c.in_ok-execute.field-0) (c.in_ok-execute.ensures.runs clean (c.loop-at.invariant.mode early inside)));
+          leads c.loop-at.at c.step_text.result.now c.step_text.ensures old new (c.loop-at.invariant.blank early inside blank) (Ok c.in_ok-execute.field-0)
+          (c.in_ok-execute.ensures.runs clean (c.loop-at.invariant.mode early inside));
     }
 
 pub returns-in_err-execute-clause-within : goal.returns-in_err-execute-clause-within
@@ -49,8 +47,8 @@ returns-clause-mode g c = c.loop-at.invariant.mode
 
 pub returns-clause-makes : goal.returns-clause-makes
 returns-clause-makes g c clean inside blank =
-    let all : c.loop-at.at ≡ 15 = omega arith in
-    subst (λ s. IsBlank s (state g.S.Store c.loop-at.tx.conn.now).now) last_stage (rw all at (c.loop-at.invariant.blank clean inside blank))
+    let all : c.loop-at.at ≡ steps_of c.args.layout.0 = omega arith in
+    subst (λ s. IsBlank s (state g.S.Store c.loop-at.tx.conn.now).now) (last_schema c.args.layout.0 c.requires) (subst (λ n. IsBlank (schema_at n) (state g.S.Store c.loop-at.tx.conn.now).now) all (c.loop-at.invariant.blank clean inside blank))
 
 pub returns-clause-within : goal.returns-clause-within
 returns-clause-within g c = c.loop-at.invariant.within

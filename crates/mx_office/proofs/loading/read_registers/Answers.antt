@@ -1,6 +1,8 @@
 use Rattle.sqlite.specs.Held.{state}
 use Rattle.mx_register.specs.declared.merge.Registers.{Registers}
 use Rattle.mx_register.specs.Registers.{AreRegistersOf}
+use Rattle.mx_layout.specs.Tables.{layout_1}
+use Rattle.mx_kept.proofs.SchemaLemmas.{layout_1_has}
 use Rattle.mx_office.specs.Family.{registers_1}
 use Rattle.mx_office.proofs.FamilyLemmas.{all_in}
 use Rattle.mx_office.proofs.LoadLemmas.{have_pairs, registers_read, stands_holds, stops_reading, damage_of}
@@ -9,7 +11,8 @@ use Rattle.mx_office.proofs.loading.read_registers.Goals as goal
 pub returns-in_err-entries-clause-exact : goal.returns-in_err-entries-clause-exact
 returns-in_err-entries-clause-exact g c book clean has stands =
     let read = c.in_err-entries.ensures.reads in
-    stops_reading (λ registers. AreRegistersOf registers book) _ book stands c.from_residual.result c.in_err-entries.field-0.0 c.from_residual.ensures read.cause (read.damaged clean (all_in _ has registers_1))
+    stops_reading (λ registers. AreRegistersOf registers book) _ book stands c.from_residual.result c.in_err-entries.field-0.0 c.from_residual.ensures read.cause
+    (λ name is. (read.there layout_1 (all_in _ layout_1_has registers_1) name is, read.damaged clean (all_in _ has registers_1) name is))
 
 pub returns-in_err-entries-clause-damaged : goal.returns-in_err-entries-clause-damaged
 returns-in_err-entries-clause-damaged g c clean has table said =

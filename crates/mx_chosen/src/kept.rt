@@ -1,0 +1,120 @@
+//! Spans, totals and last bases that are chosen.
+ghost use Rattle.std.specs.Prelude.{◌≡◌, pos};
+ghost use Rattle.sqlite.specs.declared.types.Value.TheVariants.{Int};
+ghost use Rattle.sqlite.specs.Held.{state};
+ghost use Rattle.mx_kept.specs.Cells.{kept_span2, kept_total2, kept_base2};
+ghost use Rattle.mx_chosen.specs.Calls.{ReadsBy};
+
+use crate::chosen::rows_chosen;
+use mx_layout::TableFault;
+use mx_typed_rows::{BaseRow, SpanRow, TotalRow};
+use sqlite::{Alter, Transaction, params};
+use std::alloc::Global;
+
+/// The span that an entry began: at most one.
+pub fn span2_by_fit_seq<S: Alter>(
+    alloc: Global,
+    tx: &mut Transaction<'_, S>,
+    fit_seq: u32,
+) -> Result<Vec<SpanRow>, TableFault>
+    ensures same_reference { tx.new.conn.ghost_name ≡ tx.old.conn.ghost_name }
+    ensures reads { ReadsBy kept_span2 0 (Int (pos fit_seq))
+        (state S.Store tx.old.conn.now) (state S.Store tx.new.conn.now) result }
+{
+    rows_chosen(
+        alloc,
+        tx,
+        "SELECT fit_seq, component, aircraft, position, from_min, remove_seq, to_min FROM span2 WHERE fit_seq = ?1 ORDER BY fit_seq",
+        params![fit_seq],
+    )
+}
+
+/// The spans of a component: where it is and was fitted.
+pub fn span2_by_component<S: Alter>(
+    alloc: Global,
+    tx: &mut Transaction<'_, S>,
+    component: u32,
+) -> Result<Vec<SpanRow>, TableFault>
+    ensures same_reference { tx.new.conn.ghost_name ≡ tx.old.conn.ghost_name }
+    ensures reads { ReadsBy kept_span2 1 (Int (pos component))
+        (state S.Store tx.old.conn.now) (state S.Store tx.new.conn.now) result }
+{
+    rows_chosen(
+        alloc,
+        tx,
+        "SELECT fit_seq, component, aircraft, position, from_min, remove_seq, to_min FROM span2 WHERE component = ?1 ORDER BY fit_seq",
+        params![component],
+    )
+}
+
+/// The spans of an aircraft: where its components are and were fitted.
+pub fn span2_by_aircraft<S: Alter>(
+    alloc: Global,
+    tx: &mut Transaction<'_, S>,
+    aircraft: u32,
+) -> Result<Vec<SpanRow>, TableFault>
+    ensures same_reference { tx.new.conn.ghost_name ≡ tx.old.conn.ghost_name }
+    ensures reads { ReadsBy kept_span2 2 (Int (pos aircraft))
+        (state S.Store tx.old.conn.now) (state S.Store tx.new.conn.now) result }
+{
+    rows_chosen(
+        alloc,
+        tx,
+        "SELECT fit_seq, component, aircraft, position, from_min, remove_seq, to_min FROM span2 WHERE aircraft = ?1 ORDER BY fit_seq",
+        params![aircraft],
+    )
+}
+
+/// The span that an entry ended: at most one.
+pub fn span2_by_remove_seq<S: Alter>(
+    alloc: Global,
+    tx: &mut Transaction<'_, S>,
+    remove_seq: u32,
+) -> Result<Vec<SpanRow>, TableFault>
+    ensures same_reference { tx.new.conn.ghost_name ≡ tx.old.conn.ghost_name }
+    ensures reads { ReadsBy kept_span2 5 (Int (pos remove_seq))
+        (state S.Store tx.old.conn.now) (state S.Store tx.new.conn.now) result }
+{
+    rows_chosen(
+        alloc,
+        tx,
+        "SELECT fit_seq, component, aircraft, position, from_min, remove_seq, to_min FROM span2 WHERE remove_seq = ?1 ORDER BY fit_seq",
+        params![remove_seq],
+    )
+}
+
+/// The total of an item: at most one.
+pub fn total2_by_item<S: Alter>(
+    alloc: Global,
+    tx: &mut Transaction<'_, S>,
+    item: u32,
+) -> Result<Vec<TotalRow>, TableFault>
+    ensures same_reference { tx.new.conn.ghost_name ≡ tx.old.conn.ghost_name }
+    ensures reads { ReadsBy kept_total2 0 (Int (pos item))
+        (state S.Store tx.old.conn.now) (state S.Store tx.new.conn.now) result }
+{
+    rows_chosen(
+        alloc,
+        tx,
+        "SELECT item, minutes, cycles, clock FROM total2 WHERE item = ?1 ORDER BY item",
+        params![item],
+    )
+}
+
+/// The last bases of an item.
+pub fn base2_by_item<S: Alter>(
+    alloc: Global,
+    tx: &mut Transaction<'_, S>,
+    item: u32,
+) -> Result<Vec<BaseRow>, TableFault>
+    ensures same_reference { tx.new.conn.ghost_name ≡ tx.old.conn.ghost_name }
+    ensures reads { ReadsBy kept_base2 0 (Int (pos item))
+        (state S.Store tx.old.conn.now) (state S.Store tx.new.conn.now) result }
+{
+    rows_chosen(
+        alloc,
+        tx,
+        "SELECT item, task, minutes, cycles, day FROM base2 WHERE item = ?1 ORDER BY item, task",
+        params![item],
+    )
+}

@@ -1,0 +1,13 @@
+//! Rows of a table that are chosen by what stands in their columns: read in the order of the key or page by page, deleted,
+//! and replaced. Each call is made inside a `Transaction`, which the caller commits or drops.
+#![tactic(auto)]
+
+pub mod changes;
+pub mod chosen;
+pub mod defects;
+pub mod entries;
+pub mod items;
+pub mod kept;
+pub mod pages;
+pub mod programmes;
+pub mod works;

@@ -1,0 +1,175 @@
+-- What each statement of the layouts makes of tables without a row, one after another.
+use Rattle.std.proofs.Common.{◌≡◌, ◌⊎◌, inl, inr, ℕ, zero, suc, ◌+◌, List, [], ◌∷◌, take, slice_get, false, Some, Result, OnOk, refl, sym, ap, subst, ◌∙◌, arith}
+use Rattle.std.specs.Prelude.{⊤}
+use Rattle.sqlite.specs.Table.{Table}
+use Rattle.sqlite.specs.Schema.{Schema}
+use Rattle.sqlite.specs.Change.{created, without_table}
+use Rattle.sqlite.specs.State.{State, ExecutesInside}
+use Rattle.sqlite.specs.declared.error.Error.{Error}
+use Rattle.sqlite.specs.Listing.{understood}
+use Rattle.sqlite_tied.specs.Compute.{everything}
+use Rattle.mx_layout.specs.Contents.{HasNoReferences}
+use Rattle.mx_layout.specs.CreateTexts.{office_text, entry_text, aircraft_text, place_text, component_text, programme_text, task_text, opening_text, crs_text, crs_line_text, extension_text, defect_text, sector1_text, fit1_text, removal1_text, sector2_text, sector1_dropped, span2_text, fit1_dropped, removal1_dropped, total2_text, base2_text}
+use Rattle.mx_layout.specs.Making.{IsBlank}
+use Rattle.mx_layout.specs.Steps.{after, steps, steps_of, step_texts, schema_of, IsLayout, LayoutsMeet}
+use Rattle.mx_layout.specs.Tables.{no_schema, layout_1, layout_2, office, entry, aircraft, place, component, programme, task, opening, crs, crs_line, extension, defect, sector1, fit1, removal1, sector2, span2, total2, base2}
+use Rattle.mx_layout.proofs.CreateLemmas.{Defines, creates_blank}
+use Rattle.mx_layout.proofs.DropLemmas.{MeansRemoved, none_refer, removes_blank}
+
+-- the schema after so many of the statements
+unfoldable pub schema_at : ℕ → Schema
+schema_at n = after (take n steps) no_schema
+
+pub first_schema : schema_at 0 ≡ no_schema
+unfolding schema_at
+first_schema = refl
+
+layout_1_schema : schema_at 15 ≡ layout_1
+unfolding schema_at everything
+layout_1_schema = refl
+
+layout_2_schema : schema_at 22 ≡ layout_2
+unfolding schema_at everything
+layout_2_schema = refl
+
+-- the statements of a layout end with its schema
+pub last_schema : (layout : ℕ) → IsLayout layout → schema_at (steps_of layout) ≡ schema_of layout
+last_schema layout (inl one) = subst (λ n. schema_at (steps_of n) ≡ schema_of n) (sym one) layout_1_schema
+last_schema layout (inr two) = subst (λ n. schema_at (steps_of n) ≡ schema_of n) (sym two) layout_2_schema
+
+pub meet : LayoutsMeet
+unfolding everything
+meet = record { first = refl; second = refl }
+
+-- ── each statement ──
+
+-- the text at a place makes a table, and the schema of the next place with it
+pub record Making (n : ℕ) (text : List ℕ) : Type 0 where
+  pub table : Table
+  pub defines : Defines (schema_at n) text table
+  pub next : created (schema_at n) table ≡ schema_at (n + 1)
+
+-- the text at a place drops a table, and leaves the schema of the next place
+pub record Dropping (n : ℕ) (text : List ℕ) : Type 0 where
+  pub table : Table
+  pub means : MeansRemoved (schema_at n) text table
+  pub free : HasNoReferences (schema_at n)
+  pub next : without_table (schema_at n) table.tree ≡ schema_at (n + 1)
+
+-- the text at a place leads to the schema of the next place
+abbrev pub Advances : ℕ → List ℕ → Type 0
+Advances n text = Making n text ⊎ Dropping n text
+
+office_made : Making 0 office_text
+unfolding schema_at understood everything
+office_made = record { table = office; defines = record { command = refl; whole = refl; plain = (refl, refl); defined = refl; uncounted = refl }; next = refl }
+
+entry_made : Making 1 entry_text
+unfolding schema_at understood everything
+entry_made = record { table = entry; defines = record { command = refl; whole = refl; plain = (refl, refl); defined = refl; uncounted = refl }; next = refl }
+
+aircraft_made : Making 2 aircraft_text
+unfolding schema_at understood everything
+aircraft_made = record { table = aircraft; defines = record { command = refl; whole = refl; plain = (refl, refl); defined = refl; uncounted = refl }; next = refl }
+
+place_made : Making 3 place_text
+unfolding schema_at understood everything
+place_made = record { table = place; defines = record { command = refl; whole = refl; plain = (refl, refl); defined = refl; uncounted = refl }; next = refl }
+
+component_made : Making 4 component_text
+unfolding schema_at understood everything
+component_made = record { table = component; defines = record { command = refl; whole = refl; plain = (refl, refl); defined = refl; uncounted = refl }; next = refl }
+
+programme_made : Making 5 programme_text
+unfolding schema_at understood everything
+programme_made = record { table = programme; defines = record { command = refl; whole = refl; plain = (refl, refl); defined = refl; uncounted = refl }; next = refl }
+
+task_made : Making 6 task_text
+unfolding schema_at understood everything
+task_made = record { table = task; defines = record { command = refl; whole = refl; plain = (refl, refl); defined = refl; uncounted = refl }; next = refl }
+
+opening_made : Making 7 opening_text
+unfolding schema_at understood everything
+opening_made = record { table = opening; defines = record { command = refl; whole = refl; plain = (refl, refl); defined = refl; uncounted = refl }; next = refl }
+
+crs_made : Making 8 crs_text
+unfolding schema_at understood everything
+crs_made = record { table = crs; defines = record { command = refl; whole = refl; plain = (refl, refl); defined = refl; uncounted = refl }; next = refl }
+
+crs_line_made : Making 9 crs_line_text
+unfolding schema_at understood everything
+crs_line_made = record { table = crs_line; defines = record { command = refl; whole = refl; plain = (refl, refl); defined = refl; uncounted = refl }; next = refl }
+
+extension_made : Making 10 extension_text
+unfolding schema_at understood everything
+extension_made = record { table = extension; defines = record { command = refl; whole = refl; plain = (refl, refl); defined = refl; uncounted = refl }; next = refl }
+
+defect_made : Making 11 defect_text
+unfolding schema_at understood everything
+defect_made = record { table = defect; defines = record { command = refl; whole = refl; plain = (refl, refl); defined = refl; uncounted = refl }; next = refl }
+
+sector1_made : Making 12 sector1_text
+unfolding schema_at understood everything
+sector1_made = record { table = sector1; defines = record { command = refl; whole = refl; plain = (refl, refl); defined = refl; uncounted = refl }; next = refl }
+
+fit1_made : Making 13 fit1_text
+unfolding schema_at understood everything
+fit1_made = record { table = fit1; defines = record { command = refl; whole = refl; plain = (refl, refl); defined = refl; uncounted = refl }; next = refl }
+
+removal1_made : Making 14 removal1_text
+unfolding schema_at understood everything
+removal1_made = record { table = removal1; defines = record { command = refl; whole = refl; plain = (refl, refl); defined = refl; uncounted = refl }; next = refl }
+
+sector2_made : Making 15 sector2_text
+unfolding schema_at understood everything
+sector2_made = record { table = sector2; defines = record { command = refl; whole = refl; plain = (refl, refl); defined = refl; uncounted = refl }; next = refl }
+
+sector1_gone : Dropping 16 sector1_dropped
+unfolding schema_at understood everything
+sector1_gone = record { table = sector1; means = record { at = 12; there = refl; is = refl; plain = (refl, refl); uncounted = refl }; free = none_refer (schema_at 16).tables refl; next = refl }
+
+span2_made : Making 17 span2_text
+unfolding schema_at understood everything
+span2_made = record { table = span2; defines = record { command = refl; whole = refl; plain = (refl, refl); defined = refl; uncounted = refl }; next = refl }
+
+fit1_gone : Dropping 18 fit1_dropped
+unfolding schema_at understood everything
+fit1_gone = record { table = fit1; means = record { at = 12; there = refl; is = refl; plain = (refl, refl); uncounted = refl }; free = none_refer (schema_at 18).tables refl; next = refl }
+
+removal1_gone : Dropping 19 removal1_dropped
+unfolding schema_at understood everything
+removal1_gone = record { table = removal1; means = record { at = 12; there = refl; is = refl; plain = (refl, refl); uncounted = refl }; free = none_refer (schema_at 19).tables refl; next = refl }
+
+total2_made : Making 20 total2_text
+unfolding schema_at understood everything
+total2_made = record { table = total2; defines = record { command = refl; whole = refl; plain = (refl, refl); defined = refl; uncounted = refl }; next = refl }
+
+base2_made : Making 21 base2_text
+unfolding schema_at understood everything
+base2_made = record { table = base2; defines = record { command = refl; whole = refl; plain = (refl, refl); defined = refl; uncounted = refl }; next = refl }
+
+-- texts, each of which leads on from the place before it
+abbrev AllAdvance : ℕ → List (List ℕ) → Type 0
+AllAdvance n [] = ⊤
+AllAdvance n (text ∷ texts) = Advances n text × AllAdvance (n + 1) texts
+
+all_advance : AllAdvance 0 step_texts
+all_advance = (inl office_made, (inl entry_made, (inl aircraft_made, (inl place_made, (inl component_made, (inl programme_made, (inl task_made, (inl opening_made, (inl crs_made, (inl crs_line_made, (inl extension_made, (inl defect_made, (inl sector1_made, (inl fit1_made, (inl removal1_made, (inl sector2_made, (inr sector1_gone, (inl span2_made, (inr fit1_gone, (inr removal1_gone, (inl total2_made, (inl base2_made, tt))))))))))))))))))))))
+
+advance_from : (n k : ℕ) (texts : List (List ℕ)) (text : List ℕ) → AllAdvance n texts → slice_get texts k ≡ Some text → Advances (n + k) text
+advance_from n k [] text all is = absurd cc
+advance_from n zero (first ∷ texts) text all is =
+    let same : first ≡ text = cc in
+    let none : n ≡ n + 0 = omega arith in
+    subst (λ m. Advances m text) none (subst (Advances n) same all.0)
+advance_from n (suc k) (first ∷ texts) text all is =
+    let one : n + 1 + k ≡ n + suc k = omega arith in
+    subst (λ m. Advances m text) one (advance_from (n + 1) k texts text all.1 is)
+
+-- the statement at a place, over tables without a row
+pub leads : (n : ℕ) (text : List ℕ) → slice_get step_texts n ≡ Some text → (old new : State) → IsBlank (schema_at n) old.now → (r : Result ℕ Error) → ExecutesInside 0 text [] old new r
+    → OnOk r (IsBlank (schema_at (n + 1)) new.now)
+leads n text is old new blank r h = let here : 0 + n ≡ n = omega arith in elim (subst (λ m. Advances m text) here (advance_from 0 n step_texts text all_advance is)) [
+  | inl it ↦ subst (λ s. OnOk r (IsBlank s new.now)) it.next (creates_blank (schema_at n) text it.table it.defines old new blank r h)
+  | inr it ↦ subst (λ s. OnOk r (IsBlank s new.now)) it.next (removes_blank (schema_at n) text it.table it.means old new blank it.free r h)
+]

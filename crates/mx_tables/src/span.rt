@@ -1,0 +1,60 @@
+//! The table `span2`: where each component is or was fitted.
+
+use crate::column::{
+    graphic_at, moment_at, moment_if_any, moment_or_null_at, number_at, number_if_any,
+    number_or_null_at,
+};
+use crate::stored::{Insert, Stored, Texts, insert_values};
+use mx_layout::{Table, TableFault};
+use mx_typed_rows::SpanRow;
+use sqlite::{Alter, Row, Transaction, params};
+
+impl Stored for SpanRow {
+    ghost use Rattle.mx_kept.specs.Cells.{kept_span2};
+    ghost use Rattle.mx_kept.proofs.Lawful.{span2_lawful};
+
+    ghost kept = { kept_span2 };
+
+    ghost lawful = { span2_lawful };
+
+    fn texts() -> Texts {
+        Texts {
+            table: Table::Span2,
+            select: "SELECT fit_seq, component, aircraft, position, from_min, remove_seq, to_min FROM span2 ORDER BY fit_seq",
+            insert: "INSERT INTO span2 (fit_seq, component, aircraft, position, from_min, remove_seq, to_min) VALUES (?1, ?2, ?3, ?4, ?5, ?6, ?7)",
+        }
+    }
+
+    fn read(row: &Row) -> Option<SpanRow> {
+        if row.column_count() != 7 {
+            return None;
+        }
+        Some(SpanRow {
+            fit_seq: number_at(row, 0)?,
+            component: number_at(row, 1)?,
+            aircraft: number_at(row, 2)?,
+            position: graphic_at(row, 3)?,
+            from: moment_at(row, 4)?,
+            remove_seq: number_or_null_at(row, 5)?,
+            to: moment_or_null_at(row, 6)?,
+        })
+    }
+}
+
+impl Insert for SpanRow {
+    fn insert<S: Alter>(&self, tx: &mut Transaction<'_, S>) -> Result<(), TableFault> {
+        insert_values(
+            tx,
+            self,
+            params![
+                self.fit_seq,
+                self.component,
+                self.aircraft,
+                self.position.as_str(),
+                self.from.number(),
+                number_if_any(self.remove_seq),
+                moment_if_any(self.to),
+            ],
+        )
+    }
+}

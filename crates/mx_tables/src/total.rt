@@ -1,0 +1,54 @@
+//! The table `total2`: the life now of each aircraft and component, and its clock.
+
+use crate::column::{moment_at, number_at};
+use crate::stored::{Insert, Stored, Texts, insert_values};
+use mx_base::Use;
+use mx_layout::{Table, TableFault};
+use mx_typed_rows::TotalRow;
+use sqlite::{Alter, Row, Transaction, params};
+
+impl Stored for TotalRow {
+    ghost use Rattle.mx_kept.specs.Cells.{kept_total2};
+    ghost use Rattle.mx_kept.proofs.Lawful.{total2_lawful};
+
+    ghost kept = { kept_total2 };
+
+    ghost lawful = { total2_lawful };
+
+    fn texts() -> Texts {
+        Texts {
+            table: Table::Total2,
+            select: "SELECT item, minutes, cycles, clock FROM total2 ORDER BY item",
+            insert: "INSERT INTO total2 (item, minutes, cycles, clock) VALUES (?1, ?2, ?3, ?4)",
+        }
+    }
+
+    fn read(row: &Row) -> Option<TotalRow> {
+        if row.column_count() != 4 {
+            return None;
+        }
+        Some(TotalRow {
+            item: number_at(row, 0)?,
+            life: Use {
+                minutes: number_at(row, 1)?,
+                cycles: number_at(row, 2)?,
+            },
+            clock: moment_at(row, 3)?,
+        })
+    }
+}
+
+impl Insert for TotalRow {
+    fn insert<S: Alter>(&self, tx: &mut Transaction<'_, S>) -> Result<(), TableFault> {
+        insert_values(
+            tx,
+            self,
+            params![
+                self.item,
+                self.life.minutes,
+                self.life.cycles,
+                self.clock.number(),
+            ],
+        )
+    }
+}
