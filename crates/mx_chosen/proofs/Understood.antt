@@ -1,9 +1,14 @@
 -- The texts that show chosen rows or delete them: what each is understood as, computed.
-use Rattle.std.proofs.Common.{◌≡◌, ℕ, List, [], ◌∷◌, ◌++◌, None, Some, refl}
+use Rattle.std.proofs.Common.{◌≡◌, ℕ, Bool, ◌&&◌, ap, List, [], ◌∷◌, ◌++◌, None, Some, refl}
 use Rattle.std.specs.List.{list_all}
-use Rattle.sqlite.specs.Order.{Row}
+use Rattle.sqlite.specs.Order.{Row, column}
 use Rattle.sqlite.specs.Table.{Table}
-use Rattle.sqlite.specs.Term.{holds}
+use Rattle.sqlite.specs.Term.{Term, lit, col, holds}
+use Rattle.sqlite_schema.specs.Names.{place_of}
+use Rattle.sqlite_sql.specs.Term.{op2}
+use Rattle.sqlite_sql.specs.declared.ops.BinaryOp.TheVariants.{Is}
+use Rattle.sqlite.specs.Collation.TheVariants.{Binary}
+use Rattle.sqlite.specs.declared.types.Value.TheVariants.{Null}
 use Rattle.sqlite.specs.Listing.{understood}
 use Rattle.sqlite_schema.specs.declared.schema.Index.{Index}
 use Rattle.sqlite_sql.specs.declared.ops.CompareOp.TheVariants.{Eq, Gt, Le}
@@ -15,19 +20,19 @@ use Rattle.mx_kept.specs.Kept.{over}
 use Rattle.mx_kept.specs.Schemas.{permanent, own_1, own_2, own_moving, HasBehind}
 use Rattle.mx_chosen.specs.Choices.{backward}
 use Rattle.mx_chosen.specs.Lookups.{FindsFirst, Finds, Deletes}
-use Rattle.mx_chosen.specs.Texts.{by_value, by_values, above, up_to, any_row, entry_by_seq, entry_by_doc, aircraft_by_seq, aircraft_by_tail, place_by_seq, component_by_seq, component_by_serial, programme_by_seq, programme_by_kind, task_by_seq, opening_by_seq, opening_by_item, crs_by_seq, crs_line_by_seq, crs_line_by_defect, defect_by_seq, defect_by_aircraft, extension_by_seq, extension_by_defect, span2_by_fit_seq, span2_by_component, span2_by_aircraft, span2_by_remove_seq, total2_by_item, base2_by_item, sector1_page, extension_page, last_entry, sector1_gone, fit1_gone, total2_gone, base2_gone}
+use Rattle.mx_chosen.specs.Texts.{by_value, by_values, open_by, open_spans_by_component, open_spans_by_aircraft, above, up_to, any_row, entry_by_seq, entry_by_doc, aircraft_by_seq, aircraft_by_tail, place_by_seq, component_by_seq, component_by_serial, programme_by_seq, programme_by_kind, task_by_seq, opening_by_seq, opening_by_item, crs_by_seq, crs_line_by_seq, crs_line_by_defect, defect_by_seq, defect_by_aircraft, extension_by_seq, extension_by_defect, span2_by_fit_seq, span2_by_component, span2_by_aircraft, span2_by_remove_seq, total2_by_item, base2_by_item, sector1_page, extension_page, last_entry, sector1_gone, fit1_gone, total2_gone, base2_gone}
 use Rattle.mx_chosen.proofs.LookupLemmas.{Chooses, ChoosesFirst, ChoosesLast, ChoosesByTwo, Drops, given_at, first_found, first_page, last_found, two_found, deleted, either_finds}
-use Rattle.mx_chosen.proofs.EqualLemmas.{one_equal, two_equal}
+use Rattle.mx_chosen.proofs.EqualLemmas.{one_equal, two_equal, missing}
 
 -- spans stand at one place while components are moved, and at another from then on
-spans_found : (text : List ℕ) (at : ℕ) → ((values r : Row) → list_all (holds (values ∷ r ∷ [])) (given_at Eq span2 at 0 ∷ []) ≡ by_value at values (cells span2 r))
-    → ((rest : List Table) (more : List Index) → Chooses (permanent (own_moving ++ rest) more) text span2 (given_at Eq span2 at 0 ∷ []))
-    → ((rest : List Table) (more : List Index) → Chooses (permanent ((sector2 ∷ span2 ∷ []) ++ rest) more) text span2 (given_at Eq span2 at 0 ∷ [])) → Finds kept_span2 text (by_value at)
-spans_found text at picks moving settled =
-    either_finds kept_span2 (HasBehind own_moving) (HasBehind (sector2 ∷ span2 ∷ [])) text None kept_span2.order (by_value at) (in_place own_moving moving) (in_place (sector2 ∷ span2 ∷ []) settled)
+spans_found : (text : List ℕ) (tests : List Term) (chosen : Row → Row → Bool) → ((values r : Row) → list_all (holds (values ∷ r ∷ [])) tests ≡ chosen values (cells span2 r))
+    → ((rest : List Table) (more : List Index) → Chooses (permanent (own_moving ++ rest) more) text span2 tests)
+    → ((rest : List Table) (more : List Index) → Chooses (permanent ((sector2 ∷ span2 ∷ []) ++ rest) more) text span2 tests) → Finds kept_span2 text chosen
+spans_found text tests chosen picks moving settled =
+    either_finds kept_span2 (HasBehind own_moving) (HasBehind (sector2 ∷ span2 ∷ [])) text None kept_span2.order chosen (in_place own_moving moving) (in_place (sector2 ∷ span2 ∷ []) settled)
   where
-    in_place : (own : List Table) → ((rest : List Table) (more : List Index) → Chooses (permanent (own ++ rest) more) text span2 (given_at Eq span2 at 0 ∷ [])) → Finds (over kept_span2 (HasBehind own)) text (by_value at)
-    in_place own texts = first_found (over kept_span2 (HasBehind own)) own (λ _ has. has) text (given_at Eq span2 at 0 ∷ []) (by_value at) (λ _. refl) picks refl texts (λ _. refl) (λ _ _. refl)
+    in_place : (own : List Table) → ((rest : List Table) (more : List Index) → Chooses (permanent (own ++ rest) more) text span2 tests) → Finds (over kept_span2 (HasBehind own)) text chosen
+    in_place own texts = first_found (over kept_span2 (HasBehind own)) own (λ _ has. has) text tests chosen (λ _. refl) picks refl texts (λ _. refl) (λ _ _. refl)
 
 -- ── look-ups by the value in one column ──
 
@@ -173,7 +178,7 @@ unfolding understood everything
 span2_by_fit_seq_texts rest more = (refl, refl, (refl, refl))
 
 pub span2_by_fit_seq_finds : Finds kept_span2 span2_by_fit_seq (by_value 0)
-span2_by_fit_seq_finds = spans_found span2_by_fit_seq 0 (λ _ _. one_equal _ _ refl) span2_by_fit_seq_moving span2_by_fit_seq_texts
+span2_by_fit_seq_finds = spans_found span2_by_fit_seq (given_at Eq span2 0 0 ∷ []) (by_value 0) (λ _ _. one_equal _ _ refl) span2_by_fit_seq_moving span2_by_fit_seq_texts
 
 span2_by_component_moving : (rest : List Table) (more : List Index) → Chooses (permanent (own_moving ++ rest) more) span2_by_component span2 (given_at Eq span2 1 0 ∷ [])
 unfolding understood everything
@@ -184,7 +189,7 @@ unfolding understood everything
 span2_by_component_texts rest more = (refl, refl, (refl, refl))
 
 pub span2_by_component_finds : Finds kept_span2 span2_by_component (by_value 1)
-span2_by_component_finds = spans_found span2_by_component 1 (λ _ _. one_equal _ _ refl) span2_by_component_moving span2_by_component_texts
+span2_by_component_finds = spans_found span2_by_component (given_at Eq span2 1 0 ∷ []) (by_value 1) (λ _ _. one_equal _ _ refl) span2_by_component_moving span2_by_component_texts
 
 span2_by_aircraft_moving : (rest : List Table) (more : List Index) → Chooses (permanent (own_moving ++ rest) more) span2_by_aircraft span2 (given_at Eq span2 2 0 ∷ [])
 unfolding understood everything
@@ -195,7 +200,7 @@ unfolding understood everything
 span2_by_aircraft_texts rest more = (refl, refl, (refl, refl))
 
 pub span2_by_aircraft_finds : Finds kept_span2 span2_by_aircraft (by_value 2)
-span2_by_aircraft_finds = spans_found span2_by_aircraft 2 (λ _ _. one_equal _ _ refl) span2_by_aircraft_moving span2_by_aircraft_texts
+span2_by_aircraft_finds = spans_found span2_by_aircraft (given_at Eq span2 2 0 ∷ []) (by_value 2) (λ _ _. one_equal _ _ refl) span2_by_aircraft_moving span2_by_aircraft_texts
 
 span2_by_remove_seq_moving : (rest : List Table) (more : List Index) → Chooses (permanent (own_moving ++ rest) more) span2_by_remove_seq span2 (given_at Eq span2 5 0 ∷ [])
 unfolding understood everything
@@ -206,7 +211,7 @@ unfolding understood everything
 span2_by_remove_seq_texts rest more = (refl, refl, (refl, refl))
 
 pub span2_by_remove_seq_finds : Finds kept_span2 span2_by_remove_seq (by_value 5)
-span2_by_remove_seq_finds = spans_found span2_by_remove_seq 5 (λ _ _. one_equal _ _ refl) span2_by_remove_seq_moving span2_by_remove_seq_texts
+span2_by_remove_seq_finds = spans_found span2_by_remove_seq (given_at Eq span2 5 0 ∷ []) (by_value 5) (λ _ _. one_equal _ _ refl) span2_by_remove_seq_moving span2_by_remove_seq_texts
 
 total2_by_item_texts : (rest : List Table) (more : List Index) → Chooses (permanent ((sector2 ∷ span2 ∷ total2 ∷ []) ++ rest) more) total2_by_item total2 (given_at Eq total2 0 0 ∷ [])
 unfolding understood everything
@@ -221,6 +226,34 @@ base2_by_item_texts rest more = (refl, refl, (refl, refl))
 
 pub base2_by_item_finds : Finds kept_base2 base2_by_item (by_value 0)
 base2_by_item_finds = two_found kept_base2 own_2 (λ _ has. has) base2_by_item (given_at Eq base2 0 0 ∷ []) (by_value 0) (λ _. refl) (λ _ _. one_equal _ _ refl) refl base2_by_item_texts (λ _. refl) (λ _ _. refl) (λ _ _. refl)
+
+-- ── open spans ──
+
+-- the tests of a span that nothing ended
+abbrev open_tests : ℕ → List Term
+open_tests at = given_at Eq span2 at 0 ∷ op2 (Is Binary) (col 1 (place_of span2 5)) (lit Null) ∷ []
+
+open_spans_by_component_moving : (rest : List Table) (more : List Index) → Chooses (permanent (own_moving ++ rest) more) open_spans_by_component span2 (open_tests 1)
+unfolding understood everything
+open_spans_by_component_moving rest more = (refl, refl, (refl, refl))
+
+open_spans_by_component_texts : (rest : List Table) (more : List Index) → Chooses (permanent ((sector2 ∷ span2 ∷ []) ++ rest) more) open_spans_by_component span2 (open_tests 1)
+unfolding understood everything
+open_spans_by_component_texts rest more = (refl, refl, (refl, refl))
+
+pub open_spans_by_component_finds : Finds kept_span2 open_spans_by_component (open_by 1)
+open_spans_by_component_finds = spans_found open_spans_by_component (open_tests 1) (open_by 1) (λ values r. two_equal _ _ _ (ap (λ b. by_value 1 values (cells span2 r) && b) (missing (column r (place_of span2 5))))) open_spans_by_component_moving open_spans_by_component_texts
+
+open_spans_by_aircraft_moving : (rest : List Table) (more : List Index) → Chooses (permanent (own_moving ++ rest) more) open_spans_by_aircraft span2 (open_tests 2)
+unfolding understood everything
+open_spans_by_aircraft_moving rest more = (refl, refl, (refl, refl))
+
+open_spans_by_aircraft_texts : (rest : List Table) (more : List Index) → Chooses (permanent ((sector2 ∷ span2 ∷ []) ++ rest) more) open_spans_by_aircraft span2 (open_tests 2)
+unfolding understood everything
+open_spans_by_aircraft_texts rest more = (refl, refl, (refl, refl))
+
+pub open_spans_by_aircraft_finds : Finds kept_span2 open_spans_by_aircraft (open_by 2)
+open_spans_by_aircraft_finds = spans_found open_spans_by_aircraft (open_tests 2) (open_by 2) (λ values r. two_equal _ _ _ (ap (λ b. by_value 2 values (cells span2 r) && b) (missing (column r (place_of span2 5))))) open_spans_by_aircraft_moving open_spans_by_aircraft_texts
 
 -- ── pages, and the last row ──
 

@@ -1,7 +1,7 @@
 -- The texts that show chosen rows, or delete them, and by which values they are chosen.
 use Rattle.std.specs.Prelude.{ℕ, Bool, List, codes, ◌&&◌}
 use Rattle.sqlite.specs.Order.{Row, column}
-use Rattle.mx_chosen.specs.Choices.{has_value, is_above, is_up_to, is_any}
+use Rattle.mx_chosen.specs.Choices.{has_value, is_open, is_above, is_up_to, is_any}
 
 -- the rows with the first value in this column
 abbrev pub by_value : ℕ → Row → Row → Bool
@@ -10,6 +10,10 @@ by_value at values = has_value at (column values 0)
 -- the rows with the first two values in these columns
 abbrev pub by_values : ℕ → ℕ → Row → Row → Bool
 by_values one two values row = has_value one (column values 0) row && has_value two (column values 1) row
+
+-- the spans with the first value in this column that nothing ended
+abbrev pub open_by : ℕ → Row → Row → Bool
+open_by at values = is_open at (column values 0)
 
 -- the rows with more than the first value in this column
 abbrev pub above : ℕ → Row → Row → Bool
@@ -99,6 +103,14 @@ total2_by_item = codes "SELECT item, minutes, cycles, clock FROM total2 WHERE it
 
 abbrev pub base2_by_item : List ℕ
 base2_by_item = codes "SELECT item, task, minutes, cycles, day FROM base2 WHERE item = ?1 ORDER BY item, task"
+
+-- ── open spans ──
+
+abbrev pub open_spans_by_component : List ℕ
+open_spans_by_component = codes "SELECT fit_seq, component, aircraft, position, from_min, remove_seq, to_min FROM span2 WHERE component = ?1 AND remove_seq IS NULL ORDER BY fit_seq"
+
+abbrev pub open_spans_by_aircraft : List ℕ
+open_spans_by_aircraft = codes "SELECT fit_seq, component, aircraft, position, from_min, remove_seq, to_min FROM span2 WHERE aircraft = ?1 AND remove_seq IS NULL ORDER BY fit_seq"
 
 -- ── pages, and the last row ──
 

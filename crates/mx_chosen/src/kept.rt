@@ -1,9 +1,10 @@
 //! Spans, totals and last bases that are chosen.
-ghost use Rattle.std.specs.Prelude.{◌≡◌, pos};
+ghost use Rattle.std.specs.Prelude.{◌≡◌, pos, None};
 ghost use Rattle.sqlite.specs.declared.types.Value.TheVariants.{Int};
 ghost use Rattle.sqlite.specs.Held.{state};
 ghost use Rattle.mx_kept.specs.Cells.{kept_span2, kept_total2, kept_base2};
-ghost use Rattle.mx_chosen.specs.Calls.{ReadsBy};
+ghost use Rattle.mx_chosen.specs.Choices.{is_open};
+ghost use Rattle.mx_chosen.specs.Calls.{ReadsBy, ReadsFirst};
 
 use crate::chosen::rows_chosen;
 use mx_layout::TableFault;
@@ -80,6 +81,44 @@ pub fn span2_by_remove_seq<S: Alter>(
         tx,
         "SELECT fit_seq, component, aircraft, position, from_min, remove_seq, to_min FROM span2 WHERE remove_seq = ?1 ORDER BY fit_seq",
         params![remove_seq],
+    )
+}
+
+/// The span of a component that nothing ended: where it is fitted, at most one.
+pub fn open_spans_by_component<S: Alter>(
+    alloc: Global,
+    tx: &mut Transaction<'_, S>,
+    component: u32,
+) -> Result<Vec<SpanRow>, TableFault>
+    ensures same_reference { tx.new.conn.ghost_name ≡ tx.old.conn.ghost_name }
+    ensures reads { ReadsFirst kept_span2 None kept_span2.order
+        (is_open 1 (Int (pos component))) (λ rows. rows.items)
+        (state S.Store tx.old.conn.now) (state S.Store tx.new.conn.now) result }
+{
+    rows_chosen(
+        alloc,
+        tx,
+        "SELECT fit_seq, component, aircraft, position, from_min, remove_seq, to_min FROM span2 WHERE component = ?1 AND remove_seq IS NULL ORDER BY fit_seq",
+        params![component],
+    )
+}
+
+/// The spans of an aircraft that nothing ended: what is fitted to it.
+pub fn open_spans_by_aircraft<S: Alter>(
+    alloc: Global,
+    tx: &mut Transaction<'_, S>,
+    aircraft: u32,
+) -> Result<Vec<SpanRow>, TableFault>
+    ensures same_reference { tx.new.conn.ghost_name ≡ tx.old.conn.ghost_name }
+    ensures reads { ReadsFirst kept_span2 None kept_span2.order
+        (is_open 2 (Int (pos aircraft))) (λ rows. rows.items)
+        (state S.Store tx.old.conn.now) (state S.Store tx.new.conn.now) result }
+{
+    rows_chosen(
+        alloc,
+        tx,
+        "SELECT fit_seq, component, aircraft, position, from_min, remove_seq, to_min FROM span2 WHERE aircraft = ?1 AND remove_seq IS NULL ORDER BY fit_seq",
+        params![aircraft],
     )
 }
 
