@@ -148,7 +148,7 @@ no_defect = refl
 
 -- X2 was rectified on 2024-02-22, day 19,775
 abbrev pub once_rectified : List Entry
-once_rectified = three_deferred ++ logged (codes "W1") (rectify (Aircraft old) (at 19775 9 0) (x2 ∷ [])) ∷ []
+once_rectified = three_deferred ++ logged (codes "WO1") (rectify (Aircraft old) (at 19775 9 0) (x2 ∷ [])) ∷ []
 
 once_rectified-book : is_book once_rectified ≡ true
 once_rectified-book = refl
@@ -184,7 +184,7 @@ repeated_line : map (λ docs. judged three_deferred (rectify (Aircraft old) (at 
 repeated_line = refl
 
 -- two defects in one release
-both_rectified : map (is_rectified (book_after three_deferred (logged (codes "W1") (rectify (Aircraft old) (at 19775 9 0) (x3 ∷ x1 ∷ []))))) (x1 ∷ x2 ∷ x3 ∷ []) ≡ true ∷ false ∷ true ∷ []
+both_rectified : map (is_rectified (book_after three_deferred (logged (codes "WO1") (rectify (Aircraft old) (at 19775 9 0) (x3 ∷ x1 ∷ []))))) (x1 ∷ x2 ∷ x3 ∷ []) ≡ true ∷ false ∷ true ∷ []
 both_rectified = refl
 
 -- ── twenty lines ──
@@ -199,7 +199,7 @@ nineteen_deferred = on_another ++ first_programme ∷ map (λ doc. logged doc (d
 
 -- all of them rectified on 2024-03-06, and these lines beside them
 abbrev twenty_lines : List Line → Entry
-twenty_lines lines = logged (codes "W1") (Released (record { place = Aircraft abcd; moment = at 19788 0 0 }) (map Rectified nineteen ++ lines))
+twenty_lines lines = logged (codes "WO1") (Released (record { place = Aircraft abcd; moment = at 19788 0 0 }) (map Rectified nineteen ++ lines))
 
 twenty_lines-shape : has_shape (twenty_lines (Done (Component e1) (codes "OVH") ∷ [])) ≡ true
 twenty_lines-shape = refl
@@ -217,7 +217,7 @@ all_rectified = refl
 -- ── of two refusals the one with the lesser number ──
 
 -- before the clock of D-OLD1: of a defect that was rectified, of one of D-EFGH, of one that is named twice
-before_the_clock : map (λ docs. judged (beside_another ++ logged (codes "W1") (rectify (Aircraft old) (at 19775 9 0) (x2 ∷ [])) ∷ []) (rectify (Aircraft old) (at 19775 8 59) docs))
+before_the_clock : map (λ docs. judged (beside_another ++ logged (codes "WO1") (rectify (Aircraft old) (at 19775 9 0) (x2 ∷ [])) ∷ []) (rectify (Aircraft old) (at 19775 8 59) docs))
     ((x2 ∷ []) ∷ (codes "Z1" ∷ []) ∷ (x1 ∷ x1 ∷ []) ∷ [])
     ≡ Refused DefectClosed ∷ Refused (OutOfOrder (at 19775 9 0)) ∷ Refused (OutOfOrder (at 19775 9 0)) ∷ []
 before_the_clock = refl

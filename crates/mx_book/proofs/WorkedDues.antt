@@ -99,7 +99,7 @@ abbrev inspected : List ℕ → ℕ → Entry
 inspected doc day = released doc (Aircraft abcd) (at day 10 0) (Done (Airframe abcd) (codes "100H") ∷ [])
 
 abbrev done_at : ℕ → List Entry
-done_at minutes = with_life minutes ∷ first_programme ∷ inspected (codes "W1") 19790 ∷ []
+done_at minutes = with_life minutes ∷ first_programme ∷ inspected (codes "WO1") 19790 ∷ []
 
 -- done late, at 63,400 minutes, it is due again 100 hours from where it was due; done early, from there
 base_of_late_work : base (done_at 63400) (Airframe abcd) (codes "100H") ≡ Some (based 63000 800 19790)
@@ -116,7 +116,7 @@ due_after_the_tolerance : map (λ minutes. due (done_at minutes) (Airframe abcd)
 due_after_the_tolerance = refl
 
 -- done a second time at the same life, which is before it was due, it counts from there
-done_twice : base (done_at 63400 ++ inspected (codes "W2") 19791 ∷ []) (Airframe abcd) (codes "100H") ≡ Some (based 63400 800 19791)
+done_twice : base (done_at 63400 ++ inspected (codes "WO2") 19791 ∷ []) (Airframe abcd) (codes "100H") ≡ Some (based 63400 800 19791)
 done_twice = refl
 
 -- revision 2 has it every 50 hours: the base stays, and the next due counts by the new repeat
@@ -133,7 +133,7 @@ first_earlier = record hundred_hours { first = minutes_alone 60000 }
 base_by_the_revision_then : base (done_at 63400 ++ logged (codes "P2") (load c172 2 (first_earlier ∷ [])) ∷ []) (Airframe abcd) (codes "100H") ≡ Some (based 63000 800 19790)
 base_by_the_revision_then = refl
 
-base_by_the_revision_now : base (with_life 63400 ∷ first_programme ∷ logged (codes "P2") (load c172 2 (first_earlier ∷ [])) ∷ inspected (codes "W1") 19790 ∷ []) (Airframe abcd) (codes "100H")
+base_by_the_revision_now : base (with_life 63400 ∷ first_programme ∷ logged (codes "P2") (load c172 2 (first_earlier ∷ [])) ∷ inspected (codes "WO1") 19790 ∷ []) (Airframe abcd) (codes "100H")
     ≡ Some (based 60000 800 19790)
 base_by_the_revision_now = refl
 
@@ -141,7 +141,7 @@ base_by_the_revision_now = refl
 abbrev by_hours_or_days : Task
 by_hours_or_days = record hundred_hours { first = record { minutes = Some 63000; cycles = None; days = Some 9000 }; repeat = Some (record { minutes = Some 6000; cycles = None; days = Some 365 }) }
 
-dimension_by_dimension : due (with_life 63400 ∷ logged (codes "P1") (load c172 1 (by_hours_or_days ∷ [])) ∷ inspected (codes "W1") 19790 ∷ []) (Airframe abcd) c172 (codes "100H")
+dimension_by_dimension : due (with_life 63400 ∷ logged (codes "P1") (load c172 1 (by_hours_or_days ∷ [])) ∷ inspected (codes "WO1") 19790 ∷ []) (Airframe abcd) c172 (codes "100H")
     ≡ Some (record { minutes = Some 69000; cycles = None; days = Some 20155 })
 dimension_by_dimension = refl
 
@@ -158,9 +158,9 @@ statuses_of_the_inspection = refl
 
 -- E1, which was replaced by E2 after 1,090 minutes, is overhauled on 2024-03-02
 abbrev overhauled : List Entry
-overhauled = replaced ++ first_programme ∷ released (codes "W1") (Shop e1 c172) (at 19784 0 0) (Done (Component e1) (codes "OVH") ∷ []) ∷ []
+overhauled = replaced ++ first_programme ∷ released (codes "WO1") (Shop e1 c172) (at 19784 0 0) (Done (Component e1) (codes "OVH") ∷ []) ∷ []
 
-overhauled-shapes : list_all has_shape (released (codes "W1") (Shop e1 c172) (at 19784 0 0) (Done (Component e1) (codes "OVH") ∷ []) ∷ []) ≡ true
+overhauled-shapes : list_all has_shape (released (codes "WO1") (Shop e1 c172) (at 19784 0 0) (Done (Component e1) (codes "OVH") ∷ []) ∷ []) ≡ true
 overhauled-shapes = refl
 
 overhauled-book : is_book overhauled ≡ true

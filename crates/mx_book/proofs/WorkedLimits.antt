@@ -74,7 +74,7 @@ list_of_three = refl
 
 -- the day before, on it, and the day after
 abbrev x2_alone : List Entry
-x2_alone = three_deferred ++ logged (codes "W1") (rectify (Aircraft old) (at 19773 12 0) (x1 ∷ x3 ∷ [])) ∷ []
+x2_alone = three_deferred ++ logged (codes "WO1") (rectify (Aircraft old) (at 19773 12 0) (x1 ∷ x3 ∷ [])) ∷ []
 
 statuses_of_x2 : map (limit_rows x2_alone old) (19750 ∷ 19751 ∷ 19752 ∷ [])
     ≡ (limit statuses.Ok x2 66 19748 0 19751 (pos 1) ∷ []) ∷ (limit statuses.Due x2 66 19748 0 19751 (pos 0) ∷ []) ∷ (limit statuses.Overdue x2 66 19748 0 19751 (neg_ℤ (pos 1)) ∷ []) ∷ []

@@ -57,11 +57,11 @@ in_shop serial lines = released (Shop serial c172) 0 0 lines
 
 -- E1 is overhauled in a shop
 abbrev e1_overhauled : Entry
-e1_overhauled = logged (codes "W1") (in_shop e1 (overhaul_done e1 ∷ []))
+e1_overhauled = logged (codes "WO1") (in_shop e1 (overhaul_done e1 ∷ []))
 
 -- and D-ABCD inspected, with its engine
 abbrev inspected : Entry
-inspected = logged (codes "W2") (released (Aircraft abcd) 12 0 (hundred_hours_done ∷ annual_done ∷ overhaul_done e2 ∷ []))
+inspected = logged (codes "WO2") (released (Aircraft abcd) 12 0 (hundred_hours_done ∷ annual_done ∷ overhaul_done e2 ∷ []))
 
 abbrev maintained : List Entry
 maintained = in_service ++ e1_overhauled ∷ inspected ∷ []
@@ -74,7 +74,7 @@ accepted : is_book maintained ≡ true
 accepted = refl
 
 -- the ninth and the tenth entry; the same again is known, and with other lines in conflict
-replied : replies in_service (e1_overhauled ∷ inspected ∷ e1_overhauled ∷ logged (codes "W1") (in_shop e1 (overhaul_done e2 ∷ [])) ∷ [])
+replied : replies in_service (e1_overhauled ∷ inspected ∷ e1_overhauled ∷ logged (codes "WO1") (in_shop e1 (overhaul_done e2 ∷ [])) ∷ [])
     ≡ answers.Accepted 9 ∷ answers.Accepted 10 ∷ answers.Already 9 ∷ answers.Refused (Conflict 9) ∷ []
 replied = refl
 
@@ -162,7 +162,7 @@ clocks : map (clock maintained) (Airframe abcd ∷ Component e1 ∷ Component e2
 clocks = refl
 
 -- work at another aircraft leaves it as it is
-clock_beside_another : clock (beside_another c172 ++ logged (codes "W3") (released (Aircraft efgh) 12 0 (Done (Airframe efgh) (codes "100H") ∷ [])) ∷ []) (Airframe abcd) ≡ at 19783 9 30
+clock_beside_another : clock (beside_another c172 ++ logged (codes "WO3") (released (Aircraft efgh) 12 0 (Done (Airframe efgh) (codes "100H") ∷ [])) ∷ []) (Airframe abcd) ≡ at 19783 9 30
 clock_beside_another = refl
 
 -- a sector that takes off before the release
@@ -193,7 +193,7 @@ abbrev modified : Line
 modified = Done (Airframe abcd) (codes "MOD")
 
 abbrev once_modified : List Entry
-once_modified = in_service ++ second_programme ∷ logged (codes "W3") (at_abcd (modified ∷ hundred_hours_done ∷ [])) ∷ []
+once_modified = in_service ++ second_programme ∷ logged (codes "WO3") (at_abcd (modified ∷ hundred_hours_done ∷ [])) ∷ []
 
 accepted_once : is_book once_modified ≡ true
 accepted_once = refl

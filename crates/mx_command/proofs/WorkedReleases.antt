@@ -39,16 +39,16 @@ many_lines (suc n) = Done (items.Airframe abcd) ((33 + n) ∷ []) ∷ many_lines
 
 -- ── shape ──
 
-lines_of_the_shape : list_all (λ n. has_shape (command (codes "W1") (at_abcd (many_lines n)))) (1 ∷ 2 ∷ 19 ∷ 20 ∷ []) ≡ true
+lines_of_the_shape : list_all (λ n. has_shape (command (codes "WO1") (at_abcd (many_lines n)))) (1 ∷ 2 ∷ 19 ∷ 20 ∷ []) ≡ true
 unfolding many_lines
 lines_of_the_shape = refl
 
-lines_past_the_shape : list_any (λ n. has_shape (command (codes "W1") (at_abcd (many_lines n)))) (0 ∷ 21 ∷ 22 ∷ []) ≡ false
+lines_past_the_shape : list_any (λ n. has_shape (command (codes "WO1") (at_abcd (many_lines n)))) (0 ∷ 21 ∷ 22 ∷ []) ≡ false
 unfolding many_lines
 lines_past_the_shape = refl
 
 -- in a shop too; that a line stands twice, or names what is elsewhere, is a book's to refuse
-releases_of_the_shape : list_all (λ act. has_shape (command (codes "W1") act)) (in_shop (overhauled ∷ []) ∷ in_shop (inspected ∷ []) ∷ at_abcd (inspected ∷ inspected ∷ []) ∷ []) ≡ true
+releases_of_the_shape : list_all (λ act. has_shape (command (codes "WO1") act)) (in_shop (overhauled ∷ []) ∷ in_shop (inspected ∷ []) ∷ at_abcd (inspected ∷ inspected ∷ []) ∷ []) ≡ true
 releases_of_the_shape = refl
 
 -- none has a document of the log

@@ -17,13 +17,13 @@ use Rattle.mx_intake.proofs.Worked.{intake_on_literals}
 -- what the list of one release gives, by the keys that are written for its place
 abbrev release_with_place : List ℕ → Result (List Entry) IntakeFault
 release_with_place keys =
-    entries_of_text (codes "[{\"do\":\"release\",\"doc\":\"W1\"," ++ keys
+    entries_of_text (codes "[{\"do\":\"release\",\"doc\":\"WO1\"," ++ keys
     ++ codes "\"moment\":\"1970-01-02T23:59\",\"lines\":[{\"tail\":\"D-ABCD\",\"task\":\"ANNUAL\"}]}]")
 
 -- that release
 abbrev release_of_place : Place → Entry
 release_of_place place =
-    record { doc = codes "W1"; act = Released (record { place = place; moment = 2879 }) (Done (Airframe (codes "D-ABCD")) (codes "ANNUAL") ∷ []) }
+    record { doc = codes "WO1"; act = Released (record { place = place; moment = 2879 }) (Done (Airframe (codes "D-ABCD")) (codes "ANNUAL") ∷ []) }
 
 release_at_an_aircraft : release_with_place (codes "\"tail\":\"D-ABCD\",") ≡ Ok (release_of_place (Aircraft (codes "D-ABCD")) ∷ [])
 unfolding intake_on_literals
@@ -81,11 +81,11 @@ two_places_and_a_note = refl
 
 -- ── its other keys ──
 
-release_without_moment : entries_of_text (codes "[{\"do\":\"release\",\"doc\":\"W1\",\"tail\":\"D-ABCD\",\"lines\":[{\"tail\":\"D-ABCD\",\"task\":\"ANNUAL\"}]}]") ≡ Err (fault 62 1)
+release_without_moment : entries_of_text (codes "[{\"do\":\"release\",\"doc\":\"WO1\",\"tail\":\"D-ABCD\",\"lines\":[{\"tail\":\"D-ABCD\",\"task\":\"ANNUAL\"}]}]") ≡ Err (fault 62 1)
 unfolding intake_on_literals
 release_without_moment = refl
 
-release_without_lines : entries_of_text (codes "[{\"do\":\"release\",\"doc\":\"W1\",\"tail\":\"D-ABCD\",\"moment\":\"1970-01-02T23:59\"}]") ≡ Err (fault 62 1)
+release_without_lines : entries_of_text (codes "[{\"do\":\"release\",\"doc\":\"WO1\",\"tail\":\"D-ABCD\",\"moment\":\"1970-01-02T23:59\"}]") ≡ Err (fault 62 1)
 unfolding intake_on_literals
 release_without_lines = refl
 
@@ -99,11 +99,11 @@ release_by_a_page = refl
 -- what the list of one release gives, by what is written at `lines`
 abbrev release_with_lines : List ℕ → Result (List Entry) IntakeFault
 release_with_lines lines =
-    entries_of_text (codes "[{\"do\":\"release\",\"doc\":\"W1\",\"tail\":\"D\",\"moment\":\"1970-01-02T23:59\",\"lines\":" ++ lines ++ codes "}]")
+    entries_of_text (codes "[{\"do\":\"release\",\"doc\":\"WO1\",\"tail\":\"D\",\"moment\":\"1970-01-02T23:59\",\"lines\":" ++ lines ++ codes "}]")
 
 -- that release
 abbrev release_of_lines : List Line → Entry
-release_of_lines lines = record { doc = codes "W1"; act = Released (record { place = Aircraft (codes "D"); moment = 2879 }) lines }
+release_of_lines lines = record { doc = codes "WO1"; act = Released (record { place = Aircraft (codes "D"); moment = 2879 }) lines }
 
 lines_of_two_items : release_with_lines (codes "[{\"task\":\"OVH\",\"serial\":\"E1\"},{\"tail\":\"D\",\"task\":\"100H\"}]")
     ≡ Ok (release_of_lines (Done (Component (codes "E1")) (codes "OVH") ∷ Done (Airframe (codes "D")) (codes "100H") ∷ []) ∷ [])

@@ -173,7 +173,7 @@ task_stated : map (λ item. tasks_by item opening) three ≡ (codes "ANNUAL" ∷
 task_stated = refl
 
 -- a task that was done twice is named once
-tasks_of_e1 : tasks_accomplished (overhauled ++ logged (codes "W3") overhaul_of_e1 ∷ []) (Component e1) ≡ codes "OVH" ∷ []
+tasks_of_e1 : tasks_accomplished (overhauled ++ logged (codes "WO3") overhaul_of_e1 ∷ []) (Component e1) ≡ codes "OVH" ∷ []
 tasks_of_e1 = refl
 
 texts_once : each_once (codes "A" ∷ codes "B" ∷ codes "A" ∷ []) ≡ codes "A" ∷ codes "B" ∷ []

@@ -34,10 +34,10 @@ abbrev pub work_on_abcd : Act
 work_on_abcd = Released (record { place = Aircraft abcd; moment = at 19784 12 0 }) (Done (Airframe abcd) (codes "100H") ∷ Done (Airframe abcd) (codes "ANNUAL") ∷ Done (Component e2) (codes "OVH") ∷ [])
 
 abbrev pub overhauled : List Entry
-overhauled = in_service ++ logged (codes "W1") overhaul_of_e1 ∷ []
+overhauled = in_service ++ logged (codes "WO1") overhaul_of_e1 ∷ []
 
 abbrev maintained : List Entry
-maintained = overhauled ++ logged (codes "W2") work_on_abcd ∷ []
+maintained = overhauled ++ logged (codes "WO2") work_on_abcd ∷ []
 
 accepted : is_book maintained ≡ true
 accepted = refl

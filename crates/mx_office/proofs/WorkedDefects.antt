@@ -24,11 +24,11 @@ deferred moment reference category = Deferred (record { tail = abcd; moment = mo
 abbrev defects : List Entry
 defects = first_aircraft ∷ logged (codes "D1") (deferred (at 19784 10 0) (codes "34-11-1") (A 5)) ∷ logged (codes "D2") (deferred (at 19785 8 0) (codes "21-60-1") D)
     ∷ logged (codes "X1") (Extended (record { defect = codes "D2"; day = 19786; days = 3 }))
-    ∷ logged (codes "W1") (Released (record { place = place.Aircraft abcd; moment = at 19786 12 0 }) (Rectified (codes "D1") ∷ [])) ∷ []
+    ∷ logged (codes "WO1") (Released (record { place = place.Aircraft abcd; moment = at 19786 12 0 }) (Rectified (codes "D1") ∷ [])) ∷ []
 
 five_entries : rows_given first_point defects Entries
     ≡ (number 1 ∷ Text (codes "A1") ∷ number 1 ∷ []) ∷ (number 2 ∷ Text (codes "D1") ∷ number 9 ∷ []) ∷ (number 3 ∷ Text (codes "D2") ∷ number 9 ∷ [])
-    ∷ (number 4 ∷ Text (codes "X1") ∷ number 10 ∷ []) ∷ (number 5 ∷ Text (codes "W1") ∷ number 8 ∷ []) ∷ []
+    ∷ (number 4 ∷ Text (codes "X1") ∷ number 10 ∷ []) ∷ (number 5 ∷ Text (codes "WO1") ∷ number 8 ∷ []) ∷ []
 five_entries = refl
 
 -- a category that states no days has none

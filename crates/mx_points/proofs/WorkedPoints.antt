@@ -153,7 +153,7 @@ sectors_split = refl
 abbrev opened : List Entry
 opened = first_aircraft ∷ logged (codes "C1") (engine_with e1) ∷ logged (codes "P1") (load c172 1 (hundred_hours ∷ annual ∷ overhaul ∷ []))
     ∷ logged (codes "O1") (open_task (Airframe abcd) c172 (codes "ANNUAL") 59000 780 19509)
-    ∷ logged (codes "W1") (Released (record { place = Aircraft abcd; moment = at 19784 0 0 }) (Rectified (codes "X0") ∷ []))
+    ∷ logged (codes "WO1") (Released (record { place = Aircraft abcd; moment = at 19784 0 0 }) (Rectified (codes "X0") ∷ []))
     ∷ logged (codes "X1") (Deferred (record { tail = abcd; moment = at 19784 0 0; reference = codes "21-31-01"; category = C }))
     ∷ logged (codes "E1") (Extended (record { defect = codes "X1"; day = 19785; days = 3 })) ∷ []
 

@@ -53,7 +53,7 @@ released = Released (record { place = Aircraft abcd; moment = at 19786 12 0 }) (
 
 abbrev defects : List Entry
 defects = first_aircraft ∷ logged (codes "P1") (loaded 1 (hundred_hours ∷ once ∷ [])) ∷ logged d1 stated ∷ logged d2 within_three
-    ∷ logged (codes "X1") extended ∷ logged (codes "W1") released ∷ []
+    ∷ logged (codes "X1") extended ∷ logged (codes "WO1") released ∷ []
 
 shapes : list_all has_shape defects ≡ true
 shapes = refl
@@ -63,7 +63,7 @@ accepted = refl
 
 abbrev entries : List EntryRow
 entries = entry 1 (codes "A1") kinds.AddAircraft ∷ entry 2 (codes "P1") kinds.LoadProgramme ∷ entry 3 (codes "D1") kinds.Defer ∷ entry 4 (codes "D2") kinds.Defer
-    ∷ entry 5 (codes "X1") kinds.Extend ∷ entry 6 (codes "W1") kinds.Release ∷ []
+    ∷ entry 5 (codes "X1") kinds.Extend ∷ entry 6 (codes "WO1") kinds.Release ∷ []
 
 -- the first deferral, with this number for its aircraft
 abbrev stated_row : ℕ → DeferralRow
@@ -113,7 +113,7 @@ release_lines_listed = refl
 -- ── documents and numbers ──
 
 -- a document by which no defect was deferred, and one that no entry has
-numbers_of_defects : map (seq_of_defect defects) (d1 ∷ d2 ∷ codes "A1" ∷ codes "X1" ∷ codes "W1" ∷ codes "D3" ∷ []) ≡ Some 3 ∷ Some 4 ∷ None ∷ None ∷ None ∷ None ∷ []
+numbers_of_defects : map (seq_of_defect defects) (d1 ∷ d2 ∷ codes "A1" ∷ codes "X1" ∷ codes "WO1" ∷ codes "D3" ∷ []) ≡ Some 3 ∷ Some 4 ∷ None ∷ None ∷ None ∷ None ∷ []
 numbers_of_defects = refl
 
 -- an entry that defers nothing, and numbers that no entry has

@@ -37,7 +37,7 @@ in_shop = released (Shop e2 c172) (at 19785 12 0) (Done (items.Component e2) (co
 
 abbrev releases : List Entry
 releases = first_aircraft ∷ logged (codes "C1") (engine_with e1) ∷ logged (codes "P1") (loaded 1 (hundred_hours ∷ once ∷ [])) ∷ logged (codes "C2") (engine_with e2)
-    ∷ logged (codes "F1") (fit e1 abcd engine (at 19754 0 0)) ∷ logged (codes "W1") at_aircraft ∷ logged (codes "W2") in_shop ∷ []
+    ∷ logged (codes "F1") (fit e1 abcd engine (at 19754 0 0)) ∷ logged (codes "WO1") at_aircraft ∷ logged (codes "WO2") in_shop ∷ []
 
 shapes : list_all has_shape releases ≡ true
 shapes = refl
@@ -47,7 +47,7 @@ accepted = refl
 
 abbrev entries : List EntryRow
 entries = entry 1 (codes "A1") kinds.AddAircraft ∷ entry 2 (codes "C1") kinds.AddComponent ∷ entry 3 (codes "P1") kinds.LoadProgramme ∷ entry 4 (codes "C2") kinds.AddComponent
-    ∷ entry 5 (codes "F1") kinds.Fit ∷ entry 6 (codes "W1") kinds.Release ∷ entry 7 (codes "W2") kinds.Release ∷ []
+    ∷ entry 5 (codes "F1") kinds.Fit ∷ entry 6 (codes "WO1") kinds.Release ∷ entry 7 (codes "WO2") kinds.Release ∷ []
 
 -- the release at the aircraft, with this number for its item and with this kind
 abbrev aircraft_release : ℕ → Option (List ℕ) → ReleaseRow
