@@ -1,4 +1,4 @@
--- The law of each table: what its two texts mean, computed, and that its cells tell rows apart.
+-- The law of each permanent table and of each of layout 1: what its two texts mean, computed, and that its cells tell rows apart.
 use Rattle.std.proofs.Common.{◌≡◌, ◌∙◌, ◌==◌, cond, ℕ, Option, Some, None, List, [], ◌∷◌, ◌++◌, slice_get, refl, sym, ap, ap₂}
 use Rattle.sqlite.specs.Table.{Table}
 use Rattle.sqlite.specs.Listing.{understood}
@@ -34,7 +34,7 @@ use Rattle.mx_layout.specs.Tables.{component, sector1, fit1, entry, aircraft, pl
 use Rattle.mx_layout.proofs.RowLemmas.{cast_int, cast_null}
 use Rattle.mx_kept.specs.Cells.{kept_component, kept_sector1, kept_fit1, kept_entry, kept_aircraft, kept_place, kept_programme, kept_task, kept_opening, kept_crs, kept_crs_line, kept_defect, kept_extension, kept_removal1, kept_span2, kept_total2, kept_base2}
 use Rattle.mx_kept.specs.Meanings.{IsLawful, IsLawfulAt}
-use Rattle.mx_kept.specs.Schemas.{permanent, own_1, own_2, own_moving, HasBehind}
+use Rattle.mx_kept.specs.Schemas.{permanent, own_1, own_2, own_moving, HasBehind, HasOwn1}
 use Rattle.mx_kept.proofs.OrderLemmas.{two_ascend, first_part_ascends}
 use Rattle.mx_kept.proofs.ValueLemmas.{cast-number_or_null, cast-text_or_null, number_once, text_once, flag_once, limit_once}
 use Rattle.mx_kept.proofs.KeptLemmas.{HasTexts, HasTextsByTwo, StoresOne, StoresNext, first_keyed, two_keyed, either_lawful}
@@ -120,11 +120,19 @@ removal1_texts : (rest : List Table) (more : List Index) → HasTexts kept_remov
 unfolding understood everything
 removal1_texts rest more = ((refl, refl, (refl, refl)), (refl, (refl, refl)))
 
+removal1_moving_texts : (rest : List Table) (more : List Index) → HasTexts kept_removal1 (permanent (own_moving ++ rest) more) 13 removal1
+unfolding understood everything
+removal1_moving_texts rest more = ((refl, refl, (refl, refl)), (refl, (refl, refl)))
+
 removal1_stores : (r : RemovalRow) → StoresOne removal1 (kept_removal1.as_cells r)
 removal1_stores r db = simp (cast_int, cast_null) refl
 
+removal1_lawful_in : (own : List Table) (at : ℕ) → ((rest : List Table) (more : List Index) → slice_get (permanent (own ++ rest) more).tables at ≡ Some removal1)
+    → ((rest : List Table) (more : List Index) → HasTexts kept_removal1 (permanent (own ++ rest) more) at removal1) → IsLawful (over kept_removal1 (HasBehind own))
+removal1_lawful_in own at there texts = first_keyed (over kept_removal1 (HasBehind own)) own (λ _ has. has) at refl there (λ _. refl) removal_once (λ _ h. h) (λ _. refl) refl texts refl (λ _. refl) removal1_stores (λ _. refl) (λ _. refl)
+
 pub removal1_lawful : IsLawful kept_removal1
-removal1_lawful = first_keyed kept_removal1 own_1 (λ _ has. has) 14 refl (λ _ _. refl) (λ _. refl) removal_once (λ _ h. h) (λ _. refl) refl removal1_texts refl (λ _. refl) removal1_stores (λ _. refl) (λ _. refl)
+removal1_lawful = either_lawful kept_removal1 HasOwn1 (HasBehind own_moving) (removal1_lawful_in own_1 14 (λ _ _. refl) removal1_texts) (removal1_lawful_in own_moving 13 (λ _ _. refl) removal1_moving_texts)
 
 same_component : (a b : ComponentRow) → a.seq ≡ b.seq → a.serial ≡ b.serial → a.part ≡ b.part → a.birth ≡ b.birth → a.minutes ≡ b.minutes → a.cycles ≡ b.cycles → a.as_of ≡ b.as_of → a ≡ b
 same_component a b seq serial part birth minutes cycles as_of i = record { seq = seq i; serial = serial i; part = part i; birth = birth i; minutes = minutes i; cycles = cycles i; as_of = as_of i }
@@ -142,7 +150,7 @@ component_stores r db = simp (cast_int, cast_null) refl
 pub component_lawful : IsLawful kept_component
 component_lawful = first_keyed kept_component [] (λ _ has. has) 4 refl (λ _ _. refl) (λ _. refl) component_once (λ _ h. h) (λ _. refl) refl component_texts refl (λ _. refl) component_stores (λ _. refl) (λ _. refl)
 
-same_sector : (a b : SectorRow) → a.seq ≡ b.seq → a.aircraft ≡ b.aircraft → a.page ≡ b.page → a.line ≡ b.line → a.took_off ≡ b.took_off → a.landed ≡ b.landed → a.cycles ≡ b.cycles → a ≡ b
+pub same_sector : (a b : SectorRow) → a.seq ≡ b.seq → a.aircraft ≡ b.aircraft → a.page ≡ b.page → a.line ≡ b.line → a.took_off ≡ b.took_off → a.landed ≡ b.landed → a.cycles ≡ b.cycles → a ≡ b
 same_sector a b seq aircraft page line took_off landed cycles i =
     record { seq = seq i; aircraft = aircraft i; page = page i; line = line i; took_off = took_off i; landed = landed i; cycles = cycles i }
 
@@ -170,11 +178,19 @@ fit1_texts : (rest : List Table) (more : List Index) → HasTexts kept_fit1 (per
 unfolding understood everything
 fit1_texts rest more = ((refl, refl, (refl, refl)), (refl, (refl, refl)))
 
+fit1_moving_texts : (rest : List Table) (more : List Index) → HasTexts kept_fit1 (permanent (own_moving ++ rest) more) 12 fit1
+unfolding understood everything
+fit1_moving_texts rest more = ((refl, refl, (refl, refl)), (refl, (refl, refl)))
+
 fit1_stores : (r : FittingRow) → StoresOne fit1 (kept_fit1.as_cells r)
 fit1_stores r db = simp (cast_int, cast_null) refl
 
+fit1_lawful_in : (own : List Table) (at : ℕ) → ((rest : List Table) (more : List Index) → slice_get (permanent (own ++ rest) more).tables at ≡ Some fit1)
+    → ((rest : List Table) (more : List Index) → HasTexts kept_fit1 (permanent (own ++ rest) more) at fit1) → IsLawful (over kept_fit1 (HasBehind own))
+fit1_lawful_in own at there texts = first_keyed (over kept_fit1 (HasBehind own)) own (λ _ has. has) at refl there (λ _. refl) fitting_once (λ _ h. h) (λ _. refl) refl texts refl (λ _. refl) fit1_stores (λ _. refl) (λ _. refl)
+
 pub fit1_lawful : IsLawful kept_fit1
-fit1_lawful = first_keyed kept_fit1 own_1 (λ _ has. has) 13 refl (λ _ _. refl) (λ _. refl) fitting_once (λ _ h. h) (λ _. refl) refl fit1_texts refl (λ _. refl) fit1_stores (λ _. refl) (λ _. refl)
+fit1_lawful = either_lawful kept_fit1 HasOwn1 (HasBehind own_moving) (fit1_lawful_in own_1 13 (λ _ _. refl) fit1_texts) (fit1_lawful_in own_moving 12 (λ _ _. refl) fit1_moving_texts)
 
 same_programme : (a b : ProgrammeRow) → a.seq ≡ b.seq → a.kind ≡ b.kind → a.revision ≡ b.revision → a ≡ b
 same_programme a b seq kind revision i = record { seq = seq i; kind = kind i; revision = revision i }
@@ -306,82 +322,3 @@ extension_stores r db = simp (cast_int, cast_null) refl
 
 pub extension_lawful : IsLawful kept_extension
 extension_lawful = first_keyed kept_extension [] (λ _ has. has) 10 refl (λ _ _. refl) (λ _. refl) extension_once (λ _ h. h) (λ _. refl) refl extension_texts refl (λ _. refl) extension_stores (λ _. refl) (λ _. refl)
-
-same_span : (a b : SpanRow) → a.fit_seq ≡ b.fit_seq → a.component ≡ b.component → a.aircraft ≡ b.aircraft → a.position ≡ b.position → a.from ≡ b.from → a.remove_seq ≡ b.remove_seq → a.to ≡ b.to → a ≡ b
-same_span a b fit_seq component aircraft position from remove_seq to i =
-    record { fit_seq = fit_seq i; component = component i; aircraft = aircraft i; position = position i; from = from i; remove_seq = remove_seq i; to = to i }
-
-span_once : (a b : SpanRow) → FitsSpan a → FitsSpan b → kept_span2.as_cells a ≡ kept_span2.as_cells b → a ≡ b
-span_once a b fits_a fits_b e = same_span a b (cc) (cc) (cc) (cc) (cc) (number_once _ _ (cc)) (number_once _ _ (cc))
-
-span2_moving_texts : (rest : List Table) (more : List Index) → HasTexts kept_span2 (permanent (own_moving ++ rest) more) 15 span2
-unfolding understood everything
-span2_moving_texts rest more = ((refl, refl, (refl, refl)), (refl, (refl, refl)))
-
-span2_texts : (rest : List Table) (more : List Index) → HasTexts kept_span2 (permanent ((sector2 ∷ span2 ∷ []) ++ rest) more) 13 span2
-unfolding understood everything
-span2_texts rest more = ((refl, refl, (refl, refl)), (refl, (refl, refl)))
-
-span2_stores : (r : SpanRow) → StoresOne span2 (kept_span2.as_cells r)
-span2_stores r db = simp (cast_int, cast_null, cast-number_or_null) refl
-
-span2_lawful_in : (own : List Table) (at : ℕ) → ((rest : List Table) (more : List Index) → slice_get (permanent (own ++ rest) more).tables at ≡ Some span2)
-    → ((rest : List Table) (more : List Index) → HasTexts kept_span2 (permanent (own ++ rest) more) at span2) → IsLawful (over kept_span2 (HasBehind own))
-span2_lawful_in own at there texts = first_keyed (over kept_span2 (HasBehind own)) own (λ _ has. has) at refl there (λ _. refl) span_once (λ _ h. h) (λ _. refl) refl texts refl (λ _. refl) span2_stores (λ _. refl) (λ _. refl)
-
-pub span2_lawful : IsLawful kept_span2
-span2_lawful = either_lawful kept_span2 (HasBehind own_moving) (HasBehind (sector2 ∷ span2 ∷ []))
-    (span2_lawful_in own_moving 15 (λ _ _. refl) span2_moving_texts) (span2_lawful_in (sector2 ∷ span2 ∷ []) 13 (λ _ _. refl) span2_texts)
-
-same_total : (a b : TotalRow) → a.item ≡ b.item → a.life.minutes ≡ b.life.minutes → a.life.cycles ≡ b.life.cycles → a.clock ≡ b.clock → a ≡ b
-same_total a b item minutes cycles clock i = record { item = item i; life = record { minutes = minutes i; cycles = cycles i }; clock = clock i }
-
-total_once : (a b : TotalRow) → FitsTotal a → FitsTotal b → kept_total2.as_cells a ≡ kept_total2.as_cells b → a ≡ b
-total_once a b fits_a fits_b e = same_total a b (cc) (cc) (cc) (cc)
-
-total2_texts : (rest : List Table) (more : List Index) → HasTexts kept_total2 (permanent ((sector2 ∷ span2 ∷ total2 ∷ []) ++ rest) more) 14 total2
-unfolding understood everything
-total2_texts rest more = ((refl, refl, (refl, refl)), (refl, (refl, refl)))
-
-total2_stores : (r : TotalRow) → StoresOne total2 (kept_total2.as_cells r)
-total2_stores r db = simp (cast_int, cast_null) refl
-
-pub total2_lawful : IsLawful kept_total2
-total2_lawful = first_keyed kept_total2 (sector2 ∷ span2 ∷ total2 ∷ []) (λ _ has. has) 14 refl (λ _ _. refl) (λ _. refl) total_once (λ _ h. h) (λ _. refl) refl total2_texts refl (λ _. refl) total2_stores (λ _. refl) (λ _. refl)
-
-same_base : (a b : BaseRow) → a.item ≡ b.item → a.task ≡ b.task → a.life.minutes ≡ b.life.minutes → a.life.cycles ≡ b.life.cycles → a.day ≡ b.day → a ≡ b
-same_base a b item task minutes cycles day i = record { item = item i; task = task i; life = record { minutes = minutes i; cycles = cycles i }; day = day i }
-
-base_once : (a b : BaseRow) → FitsBase a → FitsBase b → kept_base2.as_cells a ≡ kept_base2.as_cells b → a ≡ b
-base_once a b fits_a fits_b e = same_base a b (cc) (cc) (cc) (cc) (cc)
-
-base2_texts : (rest : List Table) (more : List Index) → HasTextsByTwo kept_base2 (permanent (own_2 ++ rest) more) 15 base2
-unfolding understood everything
-base2_texts rest more = ((refl, refl, (refl, refl)), (refl, (refl, refl)))
-
-base2_stores : (r : BaseRow) → StoresNext base2 (kept_base2.as_cells r)
-base2_stores r db = simp (cast_int, cast_null) refl
-
-pub base2_lawful : IsLawful kept_base2
-base2_lawful = two_keyed kept_base2 own_2 (λ _ has. has) 15 refl (λ _ _. refl) (λ _. refl) base_once (λ _ h. h) (λ _. refl) refl base2_texts refl (λ _. refl) (λ _. refl) base2_stores (λ _ _. refl) (first_part_ascends kept_base2.as_cells FitsBase (λ (r : BaseRow). r.item) (λ _. refl))
-
--- each table by its name
-pub each_lawful : (name : TableName) → IsLawfulAt name
-each_lawful Entry = entry_lawful
-each_lawful Aircraft = aircraft_lawful
-each_lawful Place = place_lawful
-each_lawful Component = component_lawful
-each_lawful Programme = programme_lawful
-each_lawful Task = task_lawful
-each_lawful Opening = opening_lawful
-each_lawful Crs = crs_lawful
-each_lawful CrsLine = crs_line_lawful
-each_lawful Defect = defect_lawful
-each_lawful Extension = extension_lawful
-each_lawful Sector1 = sector1_lawful
-each_lawful Fit1 = fit1_lawful
-each_lawful Removal1 = removal1_lawful
-each_lawful Span2 = span2_lawful
-each_lawful Total2 = total2_lawful
-each_lawful Base2 = base2_lawful
-each_lawful _ = tt

@@ -1,5 +1,8 @@
+pub mod HeldLemmas
 pub mod KeptLemmas
 pub mod Lawful
+pub mod MovedLawful
+pub mod EachLawful
 pub mod OntoLemmas
 pub mod OrderLemmas
 pub mod SchemaLemmas

@@ -3,13 +3,14 @@ use Rattle.std.specs.Prelude.{pos, [], ◌∷◌, codes}
 use Rattle.sqlite.specs.declared.types.Value.TheVariants.{Int, Text}
 use Rattle.mx_base.specs.Texts.{moment_text}
 use Rattle.mx_layout.specs.Reading.{by_first, by_two}
-use Rattle.mx_layout.specs.declared.fault.Table.TheVariants.{Entry, Aircraft, Place, Component, Programme, Task, Opening, Crs, CrsLine, Defect, Extension, Sector1, Fit1, Removal1, Span2, Total2, Base2}
+use Rattle.mx_layout.specs.declared.fault.Table.TheVariants.{Entry, Aircraft, Place, Component, Programme, Task, Opening, Crs, CrsLine, Defect, Extension, Sector1, Fit1, Removal1, Sector2, Span2, Total2, Base2}
 use Rattle.mx_typed_rows.specs.declared.rows.EntryRow.{EntryRow}
 use Rattle.mx_typed_rows.specs.declared.rows.AircraftRow.{AircraftRow}
 use Rattle.mx_typed_rows.specs.declared.rows.PlaceRow.{PlaceRow}
 use Rattle.mx_typed_rows.specs.declared.rows.RemovalRow.{RemovalRow}
 use Rattle.mx_typed_rows.specs.declared.rows.ComponentRow.{ComponentRow}
 use Rattle.mx_typed_rows.specs.declared.rows.SectorRow.{SectorRow}
+use Rattle.mx_typed_rows.specs.declared.rows.Sector2Row.{Sector2Row}
 use Rattle.mx_typed_rows.specs.declared.rows.FittingRow.{FittingRow}
 use Rattle.mx_typed_rows.specs.declared.rows.ProgrammeRow.{ProgrammeRow}
 use Rattle.mx_typed_rows.specs.declared.rows.TaskRow.{TaskRow}
@@ -24,8 +25,8 @@ use Rattle.mx_typed_rows.specs.declared.rows.BaseRow.{BaseRow}
 use Rattle.mx_typed_rows.specs.Rows.{kind_number, category_number, days_stated, place_key, task_key, release_line_key, FitsEntry, FitsAircraft, FitsPlace, FitsComponent, FitsProgramme, FitsTask, FitsOpening, FitsRelease, FitsReleaseLine, FitsDeferral, FitsExtension, FitsSector, FitsFitting, FitsRemoval, FitsSpan, FitsTotal, FitsBase}
 use Rattle.mx_kept.specs.Keys.{one_key, two_key}
 use Rattle.mx_kept.specs.Values.{number_or_null, text_or_null, flag}
-use Rattle.mx_kept.specs.Kept.{Kept}
-use Rattle.mx_kept.specs.Schemas.{HasPermanent, HasOwn1, HasSpans, HasTotals, HasOwn2}
+use Rattle.mx_kept.specs.Kept.{Kept, held}
+use Rattle.mx_kept.specs.Schemas.{HasPermanent, HasOwn1, HasSpans, HasTotals, HasOwn2, HasFittings, HasSectors2}
 
 -- entries, as the rows of `entry`
 abbrev pub kept_entry : Kept EntryRow
@@ -202,7 +203,7 @@ kept_sector1 = record {
 abbrev pub kept_fit1 : Kept FittingRow
 kept_fit1 = record {
   name = Fit1;
-  IsIn = HasOwn1;
+  IsIn = HasFittings;
   select = codes "SELECT seq, component, aircraft, position, moment FROM fit1 ORDER BY seq";
   insert = codes "INSERT INTO fit1 (seq, component, aircraft, position, moment) VALUES (?1, ?2, ?3, ?4, ?5)";
   order = by_first;
@@ -216,7 +217,7 @@ kept_fit1 = record {
 abbrev pub kept_removal1 : Kept RemovalRow
 kept_removal1 = record {
   name = Removal1;
-  IsIn = HasOwn1;
+  IsIn = HasFittings;
   select = codes "SELECT seq, component, moment FROM removal1 ORDER BY seq";
   insert = codes "INSERT INTO removal1 (seq, component, moment) VALUES (?1, ?2, ?3)";
   order = by_first;
@@ -225,6 +226,24 @@ kept_removal1 = record {
   key = λ r. r.seq;
   cells_key = one_key;
 }
+
+-- sectors, as the rows of `sector2`
+abbrev pub kept_sector2 : Kept SectorRow
+kept_sector2 = record {
+  name = Sector2;
+  IsIn = HasSectors2;
+  select = codes "SELECT seq, aircraft, page, line, took_off, landed, cycles FROM sector2 ORDER BY seq";
+  insert = codes "INSERT INTO sector2 (seq, aircraft, page, line, took_off, landed, cycles) VALUES (?1, ?2, ?3, ?4, ?5, ?6, ?7)";
+  order = by_first;
+  as_cells = λ r. Int (pos r.seq) ∷ Int (pos r.aircraft) ∷ Int (pos r.page) ∷ Int (pos r.line) ∷ Int (pos r.took_off) ∷ Int (pos r.landed) ∷ Int (pos r.cycles) ∷ [];
+  Fits = FitsSector;
+  key = λ r. r.seq;
+  cells_key = one_key;
+}
+
+-- the same, by the type of its rows
+abbrev pub kept_sector2_rows : Kept Sector2Row
+kept_sector2_rows = held kept_sector2 (λ r. r.sector)
 
 -- where components are fitted, as the rows of `span2`
 abbrev pub kept_span2 : Kept SpanRow

@@ -20,3 +20,17 @@ pub record Kept (X : Type 0) : Type 1 where
 -- the same table, in these schemas
 abbrev pub over : {X : Type 0} → Kept X → (Schema → Type 0) → Kept X
 over k IsIn = record k { IsIn = IsIn }
+
+-- the same table, of things that hold what stands in it
+abbrev pub held : {X Y : Type 0} → Kept X → (Y → X) → Kept Y
+held k inner = record {
+  name = k.name;
+  IsIn = k.IsIn;
+  select = k.select;
+  insert = k.insert;
+  order = k.order;
+  as_cells = λ y. k.as_cells (inner y);
+  Fits = λ y. k.Fits (inner y);
+  key = λ y. k.key (inner y);
+  cells_key = k.cells_key;
+}

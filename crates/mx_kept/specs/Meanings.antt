@@ -16,11 +16,11 @@ use Rattle.mx_typed_rows.specs.Rising.{IsFrom}
 use Rattle.mx_layout.specs.Contents.{cells}
 use Rattle.mx_layout.specs.Names.{table_named}
 use Rattle.mx_layout.specs.TableName.{TableName}
-use Rattle.mx_layout.specs.declared.fault.Table.TheVariants.{Entry, Aircraft, Place, Component, Programme, Task, Opening, Crs, CrsLine, Defect, Extension, Sector1, Fit1, Removal1, Span2, Total2, Base2}
+use Rattle.mx_layout.specs.declared.fault.Table.TheVariants.{Entry, Aircraft, Place, Component, Programme, Task, Opening, Crs, CrsLine, Defect, Extension, Sector1, Fit1, Removal1, Sector2, Span2, Total2, Base2}
 use Rattle.mx_layout.proofs.ReadLemmas.{scan_by, Sorts}
 use Rattle.mx_layout.proofs.WriteLemmas.{added, uncounted}
 use Rattle.mx_kept.specs.Kept.{Kept}
-use Rattle.mx_kept.specs.Cells.{kept_entry, kept_aircraft, kept_place, kept_component, kept_programme, kept_task, kept_opening, kept_crs, kept_crs_line, kept_defect, kept_extension, kept_sector1, kept_fit1, kept_removal1, kept_span2, kept_total2, kept_base2}
+use Rattle.mx_kept.specs.Cells.{kept_entry, kept_aircraft, kept_place, kept_component, kept_programme, kept_task, kept_opening, kept_crs, kept_crs_line, kept_defect, kept_extension, kept_sector1, kept_fit1, kept_removal1, kept_sector2, kept_span2, kept_total2, kept_base2}
 use Rattle.mx_kept.specs.Family.{IsReadable, IsReadableAs}
 
 -- over this schema the text is understood as the plan that shows all rows of the table in this order, and nothing else
@@ -74,6 +74,7 @@ IsLawfulAt Extension = IsLawful kept_extension
 IsLawfulAt Sector1 = IsLawful kept_sector1
 IsLawfulAt Fit1 = IsLawful kept_fit1
 IsLawfulAt Removal1 = IsLawful kept_removal1
+IsLawfulAt Sector2 = IsLawful kept_sector2
 IsLawfulAt Span2 = IsLawful kept_span2
 IsLawfulAt Total2 = IsLawful kept_total2
 IsLawfulAt Base2 = IsLawful kept_base2

@@ -48,6 +48,14 @@ HasOwn1 = HasBehind own_1
 abbrev pub HasOwn2 : Schema → Type 0
 HasOwn2 = HasBehind own_2
 
+-- the schema has the permanent tables, fittings and removals: until components have been moved
+abbrev pub HasFittings : Schema → Type 0
+HasFittings schema = HasOwn1 schema ⊎ HasBehind own_moving schema
+
+-- the schema has the permanent tables and the sectors of layout 2: while sectors are moved, while components are, and from then on
+abbrev pub HasSectors2 : Schema → Type 0
+HasSectors2 schema = HasBehind (sector1 ∷ fit1 ∷ removal1 ∷ sector2 ∷ []) schema ⊎ (HasBehind own_moving schema ⊎ HasBehind (sector2 ∷ []) schema)
+
 -- the schema has the permanent tables and spans: while components are moved, and from then on
 abbrev pub HasSpans : Schema → Type 0
 HasSpans schema = HasBehind own_moving schema ⊎ HasBehind (sector2 ∷ span2 ∷ []) schema

@@ -5,6 +5,7 @@ pub mod CreateLemmas
 pub mod DropLemmas
 pub mod FillLemmas
 pub mod FoundLemmas
+pub mod IndexLemmas
 pub mod InsideLemmas
 pub mod ListedLemmas
 pub mod PointLemmas

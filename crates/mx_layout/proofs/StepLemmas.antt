@@ -3,18 +3,20 @@ use Rattle.std.proofs.Common.{◌≡◌, ◌⊎◌, inl, inr, ℕ, zero, suc, �
 use Rattle.std.specs.Prelude.{⊤}
 use Rattle.sqlite.specs.Table.{Table}
 use Rattle.sqlite.specs.Schema.{Schema}
-use Rattle.sqlite.specs.Change.{created, without_table}
+use Rattle.sqlite.specs.Change.{created, without_table, with_index}
 use Rattle.sqlite.specs.State.{State, ExecutesInside}
 use Rattle.sqlite.specs.declared.error.Error.{Error}
 use Rattle.sqlite.specs.Listing.{understood}
+use Rattle.sqlite_schema.specs.declared.schema.Index.{Index}
 use Rattle.sqlite_tied.specs.Compute.{everything}
 use Rattle.mx_layout.specs.Contents.{HasNoReferences}
-use Rattle.mx_layout.specs.CreateTexts.{office_text, entry_text, aircraft_text, place_text, component_text, programme_text, task_text, opening_text, crs_text, crs_line_text, extension_text, defect_text, sector1_text, fit1_text, removal1_text, sector2_text, sector1_dropped, span2_text, fit1_dropped, removal1_dropped, total2_text, base2_text}
+use Rattle.mx_layout.specs.CreateTexts.{office_text, entry_text, aircraft_text, place_text, component_text, programme_text, task_text, opening_text, crs_text, crs_line_text, extension_text, defect_text, sector1_text, fit1_text, removal1_text, sector2_text, sector1_dropped, span2_text, fit1_dropped, removal1_dropped, total2_text, base2_text, span2_by_component_text, span2_by_aircraft_text, span2_by_remove_seq_text, crs_line_by_defect_text, extension_by_defect_text, defect_by_aircraft_text}
 use Rattle.mx_layout.specs.Making.{IsBlank}
 use Rattle.mx_layout.specs.Steps.{after, steps, steps_of, step_texts, schema_of, IsLayout, LayoutsMeet}
-use Rattle.mx_layout.specs.Tables.{no_schema, layout_1, layout_2, office, entry, aircraft, place, component, programme, task, opening, crs, crs_line, extension, defect, sector1, fit1, removal1, sector2, span2, total2, base2}
+use Rattle.mx_layout.specs.Tables.{no_schema, layout_1, layout_2, office, entry, aircraft, place, component, programme, task, opening, crs, crs_line, extension, defect, sector1, fit1, removal1, sector2, span2, total2, base2, span2_by_component, span2_by_aircraft, span2_by_remove_seq, crs_line_by_defect, extension_by_defect, defect_by_aircraft}
 use Rattle.mx_layout.proofs.CreateLemmas.{Defines, creates_blank}
 use Rattle.mx_layout.proofs.DropLemmas.{MeansRemoved, none_refer, removes_blank}
+use Rattle.mx_layout.proofs.IndexLemmas.{MeansIndexed, indexes_blank}
 
 -- the schema after so many of the statements
 unfoldable pub schema_at : ℕ → Schema
@@ -28,7 +30,7 @@ layout_1_schema : schema_at 15 ≡ layout_1
 unfolding schema_at everything
 layout_1_schema = refl
 
-layout_2_schema : schema_at 22 ≡ layout_2
+layout_2_schema : schema_at 28 ≡ layout_2
 unfolding schema_at everything
 layout_2_schema = refl
 
@@ -56,9 +58,16 @@ pub record Dropping (n : ℕ) (text : List ℕ) : Type 0 where
   pub free : HasNoReferences (schema_at n)
   pub next : without_table (schema_at n) table.tree ≡ schema_at (n + 1)
 
+-- the text at a place makes an index of a table, and the schema of the next place with it
+pub record Indexing (n : ℕ) (text : List ℕ) : Type 0 where
+  pub table : Table
+  pub index : Index
+  pub means : MeansIndexed (schema_at n) text table index
+  pub next : with_index (schema_at n) index ≡ schema_at (n + 1)
+
 -- the text at a place leads to the schema of the next place
 abbrev pub Advances : ℕ → List ℕ → Type 0
-Advances n text = Making n text ⊎ Dropping n text
+Advances n text = Making n text ⊎ (Dropping n text ⊎ Indexing n text)
 
 office_made : Making 0 office_text
 unfolding schema_at understood everything
@@ -132,21 +141,45 @@ span2_made : Making 17 span2_text
 unfolding schema_at understood everything
 span2_made = record { table = span2; defines = record { command = refl; whole = refl; plain = (refl, refl); defined = refl; uncounted = refl }; next = refl }
 
-fit1_gone : Dropping 18 fit1_dropped
+span2_by_component_made : Indexing 18 span2_by_component_text
 unfolding schema_at understood everything
-fit1_gone = record { table = fit1; means = record { at = 12; there = refl; is = refl; plain = (refl, refl); uncounted = refl }; free = none_refer (schema_at 18).tables refl; next = refl }
+span2_by_component_made = record { table = span2; index = span2_by_component; means = record { at = 15; there = refl; is = refl; whole = refl; plain = (refl, refl); defined = refl; tree = refl }; next = refl }
 
-removal1_gone : Dropping 19 removal1_dropped
+span2_by_aircraft_made : Indexing 19 span2_by_aircraft_text
 unfolding schema_at understood everything
-removal1_gone = record { table = removal1; means = record { at = 12; there = refl; is = refl; plain = (refl, refl); uncounted = refl }; free = none_refer (schema_at 19).tables refl; next = refl }
+span2_by_aircraft_made = record { table = span2; index = span2_by_aircraft; means = record { at = 15; there = refl; is = refl; whole = refl; plain = (refl, refl); defined = refl; tree = refl }; next = refl }
 
-total2_made : Making 20 total2_text
+span2_by_remove_seq_made : Indexing 20 span2_by_remove_seq_text
+unfolding schema_at understood everything
+span2_by_remove_seq_made = record { table = span2; index = span2_by_remove_seq; means = record { at = 15; there = refl; is = refl; whole = refl; plain = (refl, refl); defined = refl; tree = refl }; next = refl }
+
+fit1_gone : Dropping 21 fit1_dropped
+unfolding schema_at understood everything
+fit1_gone = record { table = fit1; means = record { at = 12; there = refl; is = refl; plain = (refl, refl); uncounted = refl }; free = none_refer (schema_at 21).tables refl; next = refl }
+
+removal1_gone : Dropping 22 removal1_dropped
+unfolding schema_at understood everything
+removal1_gone = record { table = removal1; means = record { at = 12; there = refl; is = refl; plain = (refl, refl); uncounted = refl }; free = none_refer (schema_at 22).tables refl; next = refl }
+
+total2_made : Making 23 total2_text
 unfolding schema_at understood everything
 total2_made = record { table = total2; defines = record { command = refl; whole = refl; plain = (refl, refl); defined = refl; uncounted = refl }; next = refl }
 
-base2_made : Making 21 base2_text
+base2_made : Making 24 base2_text
 unfolding schema_at understood everything
 base2_made = record { table = base2; defines = record { command = refl; whole = refl; plain = (refl, refl); defined = refl; uncounted = refl }; next = refl }
+
+crs_line_by_defect_made : Indexing 25 crs_line_by_defect_text
+unfolding schema_at understood everything
+crs_line_by_defect_made = record { table = crs_line; index = crs_line_by_defect; means = record { at = 9; there = refl; is = refl; whole = refl; plain = (refl, refl); defined = refl; tree = refl }; next = refl }
+
+extension_by_defect_made : Indexing 26 extension_by_defect_text
+unfolding schema_at understood everything
+extension_by_defect_made = record { table = extension; index = extension_by_defect; means = record { at = 10; there = refl; is = refl; whole = refl; plain = (refl, refl); defined = refl; tree = refl }; next = refl }
+
+defect_by_aircraft_made : Indexing 27 defect_by_aircraft_text
+unfolding schema_at understood everything
+defect_by_aircraft_made = record { table = defect; index = defect_by_aircraft; means = record { at = 11; there = refl; is = refl; whole = refl; plain = (refl, refl); defined = refl; tree = refl }; next = refl }
 
 -- texts, each of which leads on from the place before it
 abbrev AllAdvance : ℕ → List (List ℕ) → Type 0
@@ -154,7 +187,8 @@ AllAdvance n [] = ⊤
 AllAdvance n (text ∷ texts) = Advances n text × AllAdvance (n + 1) texts
 
 all_advance : AllAdvance 0 step_texts
-all_advance = (inl office_made, (inl entry_made, (inl aircraft_made, (inl place_made, (inl component_made, (inl programme_made, (inl task_made, (inl opening_made, (inl crs_made, (inl crs_line_made, (inl extension_made, (inl defect_made, (inl sector1_made, (inl fit1_made, (inl removal1_made, (inl sector2_made, (inr sector1_gone, (inl span2_made, (inr fit1_gone, (inr removal1_gone, (inl total2_made, (inl base2_made, tt))))))))))))))))))))))
+all_advance =
+    (inl office_made, (inl entry_made, (inl aircraft_made, (inl place_made, (inl component_made, (inl programme_made, (inl task_made, (inl opening_made, (inl crs_made, (inl crs_line_made, (inl extension_made, (inl defect_made, (inl sector1_made, (inl fit1_made, (inl removal1_made, (inl sector2_made, (inr (inl sector1_gone), (inl span2_made, (inr (inr span2_by_component_made), (inr (inr span2_by_aircraft_made), (inr (inr span2_by_remove_seq_made), (inr (inl fit1_gone), (inr (inl removal1_gone), (inl total2_made, (inl base2_made, (inr (inr crs_line_by_defect_made), (inr (inr extension_by_defect_made), (inr (inr defect_by_aircraft_made), tt))))))))))))))))))))))))))))
 
 advance_from : (n k : ℕ) (texts : List (List ℕ)) (text : List ℕ) → AllAdvance n texts → slice_get texts k ≡ Some text → Advances (n + k) text
 advance_from n k [] text all is = absurd cc
@@ -171,5 +205,6 @@ pub leads : (n : ℕ) (text : List ℕ) → slice_get step_texts n ≡ Some text
     → OnOk r (IsBlank (schema_at (n + 1)) new.now)
 leads n text is old new blank r h = let here : 0 + n ≡ n = omega arith in elim (subst (λ m. Advances m text) here (advance_from 0 n step_texts text all_advance is)) [
   | inl it ↦ subst (λ s. OnOk r (IsBlank s new.now)) it.next (creates_blank (schema_at n) text it.table it.defines old new blank r h)
-  | inr it ↦ subst (λ s. OnOk r (IsBlank s new.now)) it.next (removes_blank (schema_at n) text it.table it.means old new blank it.free r h)
+  | inr (inl it) ↦ subst (λ s. OnOk r (IsBlank s new.now)) it.next (removes_blank (schema_at n) text it.table it.means old new blank it.free r h)
+  | inr (inr it) ↦ subst (λ s. OnOk r (IsBlank s new.now)) it.next (indexes_blank (schema_at n) text it.table it.index it.means old new blank r h)
 ]

@@ -7,7 +7,7 @@ use Rattle.mx_layout.specs.Names.{table_named}
 by_tree : ℕ → TableName
 by_tree n =
     cond (n == 0) Office (cond (n == 1) Entry (cond (n == 3) Aircraft (cond (n == 5) Place (cond (n == 7) Component (cond (n == 9) Programme (cond (n == 10) Task
-    (cond (n == 12) Opening (cond (n == 13) Crs (cond (n == 14) CrsLine (cond (n == 16) Extension (cond (n == 17) Defect (cond (n == 18) Sector1 (cond (n == 19) Fit1 (cond (n == 20) Removal1 (cond (n == 21) Sector2 (cond (n == 22) Span2 (cond (n == 23) Total2 Base2)))))))))))))))))
+    (cond (n == 12) Opening (cond (n == 13) Crs (cond (n == 14) CrsLine (cond (n == 16) Extension (cond (n == 17) Defect (cond (n == 18) Sector1 (cond (n == 19) Fit1 (cond (n == 20) Removal1 (cond (n == 21) Sector2 (cond (n == 22) Span2 (cond (n == 26) Total2 Base2)))))))))))))))))
 
 found_by_tree : (name : TableName) → by_tree (table_named name).tree ≡ name
 unfolding by_tree

@@ -68,3 +68,22 @@ fit1_dropped = codes "DROP TABLE fit1"
 
 abbrev pub removal1_dropped : List ℕ
 removal1_dropped = codes "DROP TABLE removal1"
+
+-- the text that makes the index of this name
+abbrev pub span2_by_component_text : List ℕ
+span2_by_component_text = codes "CREATE INDEX span2_by_component ON span2 (component)"
+
+abbrev pub span2_by_aircraft_text : List ℕ
+span2_by_aircraft_text = codes "CREATE INDEX span2_by_aircraft ON span2 (aircraft)"
+
+abbrev pub span2_by_remove_seq_text : List ℕ
+span2_by_remove_seq_text = codes "CREATE INDEX span2_by_remove_seq ON span2 (remove_seq)"
+
+abbrev pub crs_line_by_defect_text : List ℕ
+crs_line_by_defect_text = codes "CREATE INDEX crs_line_by_defect ON crs_line (defect)"
+
+abbrev pub extension_by_defect_text : List ℕ
+extension_by_defect_text = codes "CREATE INDEX extension_by_defect ON extension (defect)"
+
+abbrev pub defect_by_aircraft_text : List ℕ
+defect_by_aircraft_text = codes "CREATE INDEX defect_by_aircraft ON defect (aircraft)"

@@ -108,15 +108,43 @@ span2 = keyed (codes "span2") 22 (integer (codes "fit_seq") false ∷ integer (c
 
 -- the life now of an aircraft or a component, and its clock
 abbrev pub total2 : Table
-total2 = keyed (codes "total2") 23 (integer (codes "item") false ∷ integer (codes "minutes") true ∷ integer (codes "cycles") true ∷ integer (codes "clock") true ∷ [])
+total2 = keyed (codes "total2") 26 (integer (codes "item") false ∷ integer (codes "minutes") true ∷ integer (codes "cycles") true ∷ integer (codes "clock") true ∷ [])
 
 -- the last base of a task of an item
 abbrev pub base2 : Table
-base2 = record (keyed (codes "base2") 24 (integer (codes "item") true ∷ text (codes "task") true ∷ integer (codes "minutes") true ∷ integer (codes "cycles") true ∷ integer (codes "day") true ∷ [])) { key = None; primary = 1 ∷ 2 ∷ []; uniques = (1 ∷ 2 ∷ []) ∷ []; orders = plain ∷ [] }
+base2 = record (keyed (codes "base2") 27 (integer (codes "item") true ∷ text (codes "task") true ∷ integer (codes "minutes") true ∷ integer (codes "cycles") true ∷ integer (codes "day") true ∷ [])) { key = None; primary = 1 ∷ 2 ∷ []; uniques = (1 ∷ 2 ∷ []) ∷ []; orders = plain ∷ [] }
 
 -- the index that keeps one text or one compound key unique
 abbrev pub unique : List ℕ → ℕ → ℕ → List ℕ → Index
 unique name tree table columns = record { name = name; tree = tree; table = table; columns = columns; order = plain; is_unique = true }
+
+-- the index of a table by the column at this place, counted from 1
+abbrev pub index_by : List ℕ → ℕ → Table → ℕ → Index
+index_by name tree table at = record (unique name tree table.tree (at ∷ [])) { is_unique = false }
+
+-- where each component is or was fitted
+abbrev pub span2_by_component : Index
+span2_by_component = index_by (codes "span2_by_component") 23 span2 2
+
+-- what is or was fitted to each aircraft
+abbrev pub span2_by_aircraft : Index
+span2_by_aircraft = index_by (codes "span2_by_aircraft") 24 span2 3
+
+-- what each removal ended
+abbrev pub span2_by_remove_seq : Index
+span2_by_remove_seq = index_by (codes "span2_by_remove_seq") 25 span2 6
+
+-- what rectified each defect
+abbrev pub crs_line_by_defect : Index
+crs_line_by_defect = index_by (codes "crs_line_by_defect") 29 crs_line 5
+
+-- the extensions of each defect
+abbrev pub extension_by_defect : Index
+extension_by_defect = index_by (codes "extension_by_defect") 30 extension 2
+
+-- the defects of each aircraft
+abbrev pub defect_by_aircraft : Index
+defect_by_aircraft = index_by (codes "defect_by_aircraft") 31 defect 2
 
 -- the schema of layout 1
 abbrev pub layout_1 : Schema
@@ -141,7 +169,9 @@ layout_2 = record {
       ∷ unique (codes "sqlite_autoindex_component_1") 8 7 (2 ∷ [])
       ∷ unique (codes "sqlite_autoindex_task_1") 11 10 (1 ∷ 2 ∷ [])
       ∷ unique (codes "sqlite_autoindex_crs_line_1") 15 14 (1 ∷ 2 ∷ [])
-      ∷ unique (codes "sqlite_autoindex_base2_1") 25 24 (1 ∷ 2 ∷ []) ∷ [];
+      ∷ span2_by_component ∷ span2_by_aircraft ∷ span2_by_remove_seq
+      ∷ unique (codes "sqlite_autoindex_base2_1") 28 27 (1 ∷ 2 ∷ [])
+      ∷ crs_line_by_defect ∷ extension_by_defect ∷ defect_by_aircraft ∷ [];
   views = [];
 }
 

@@ -21,14 +21,14 @@ use sqlite::{Alter, Connection, Error, Row, Transaction, params};
 /// How many statements make a layout of no table.
 fn steps_of(layout: Layout) -> u8
     ensures value { result ≡ steps_of layout.0 }
-    ensures bound { result ≤ 22 }
+    ensures bound { result ≤ 28 }
 {
-    if layout.0 == 1 { 15 } else { 22 }
+    if layout.0 == 1 { 15 } else { 28 }
 }
 
 /// The statement at this place: 15 make layout 1, and those of the moves behind them each further layout.
 fn step_text(at: u8) -> &'static str
-    requires { at < 22 }
+    requires { at < 28 }
     ensures { slice_get step_texts at ≡ Some result.now }
 {
     match at {
@@ -67,12 +67,18 @@ fn step_text(at: u8) -> &'static str
         16 => "DROP TABLE sector1",
         17 =>
             "CREATE TABLE span2 (fit_seq INTEGER PRIMARY KEY, component INTEGER NOT NULL, aircraft INTEGER NOT NULL, position TEXT NOT NULL, from_min INTEGER NOT NULL, remove_seq INTEGER, to_min INTEGER) STRICT",
-        18 => "DROP TABLE fit1",
-        19 => "DROP TABLE removal1",
-        20 =>
+        18 => "CREATE INDEX span2_by_component ON span2 (component)",
+        19 => "CREATE INDEX span2_by_aircraft ON span2 (aircraft)",
+        20 => "CREATE INDEX span2_by_remove_seq ON span2 (remove_seq)",
+        21 => "DROP TABLE fit1",
+        22 => "DROP TABLE removal1",
+        23 =>
             "CREATE TABLE total2 (item INTEGER PRIMARY KEY, minutes INTEGER NOT NULL, cycles INTEGER NOT NULL, clock INTEGER NOT NULL) STRICT",
-        21 =>
+        24 =>
             "CREATE TABLE base2 (item INTEGER NOT NULL, task TEXT NOT NULL, minutes INTEGER NOT NULL, cycles INTEGER NOT NULL, day INTEGER NOT NULL, PRIMARY KEY (item, task)) STRICT",
+        25 => "CREATE INDEX crs_line_by_defect ON crs_line (defect)",
+        26 => "CREATE INDEX extension_by_defect ON extension (defect)",
+        27 => "CREATE INDEX defect_by_aircraft ON defect (aircraft)",
         _ => "",
     }
 }

@@ -9,7 +9,7 @@ use sqlite::{Alter, Row, Transaction, params};
 
 impl Stored for BaseRow {
     ghost use Rattle.mx_kept.specs.Cells.{kept_base2};
-    ghost use Rattle.mx_kept.proofs.Lawful.{base2_lawful};
+    ghost use Rattle.mx_kept.proofs.MovedLawful.{base2_lawful};
 
     ghost kept = { kept_base2 };
 

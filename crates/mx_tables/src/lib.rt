@@ -59,6 +59,7 @@ mod release;
 mod release_line;
 mod removal;
 mod sector;
+mod sector2;
 pub mod sets;
 mod span;
 pub mod stored;

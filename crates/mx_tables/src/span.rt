@@ -11,7 +11,7 @@ use sqlite::{Alter, Row, Transaction, params};
 
 impl Stored for SpanRow {
     ghost use Rattle.mx_kept.specs.Cells.{kept_span2};
-    ghost use Rattle.mx_kept.proofs.Lawful.{span2_lawful};
+    ghost use Rattle.mx_kept.proofs.MovedLawful.{span2_lawful};
 
     ghost kept = { kept_span2 };
 

@@ -9,7 +9,7 @@ use sqlite::{Alter, Row, Transaction, params};
 
 impl Stored for TotalRow {
     ghost use Rattle.mx_kept.specs.Cells.{kept_total2};
-    ghost use Rattle.mx_kept.proofs.Lawful.{total2_lawful};
+    ghost use Rattle.mx_kept.proofs.MovedLawful.{total2_lawful};
 
     ghost kept = { kept_total2 };
 

@@ -7,6 +7,6 @@ pub mod rows;
 pub use register_rows::{RegisterPairs, RegisterRows};
 pub use rows::{
     AircraftRow, BaseRow, ComponentRow, DeferralRow, EntryKind, EntryRow, ExtensionRow, FittingRow,
-    OpeningRow, PlaceRow, ProgrammeRow, ReleaseLineRow, ReleaseRow, RemovalRow, SectorRow, SpanRow,
-    TaskRow, TotalRow,
+    OpeningRow, PlaceRow, ProgrammeRow, ReleaseLineRow, ReleaseRow, RemovalRow, Sector2Row,
+    SectorRow, SpanRow, TaskRow, TotalRow,
 };

@@ -75,6 +75,12 @@ pub struct SectorRow {
     pub cycles: u32,
 }
 
+/// A sector of an aircraft, as the table of layout 2 keeps it.
+#[derive(Clone, Copy, Debug, PartialEq, Eq)]
+pub struct Sector2Row {
+    pub sector: SectorRow,
+}
+
 /// A component fitted to a position of an aircraft.
 #[derive(Clone, Copy, Debug, PartialEq, Eq)]
 pub struct FittingRow {

@@ -1,0 +1,58 @@
+//! The table `sector2`: every sector, its moments as numbers.
+
+use crate::column::{moment_at, number_at};
+use crate::stored::{Insert, Stored, Texts, insert_values};
+use mx_layout::{Table, TableFault};
+use mx_typed_rows::{Sector2Row, SectorRow};
+use sqlite::{Alter, Row, Transaction, params};
+
+impl Stored for Sector2Row {
+    ghost use Rattle.mx_kept.specs.Cells.{kept_sector2_rows};
+    ghost use Rattle.mx_kept.proofs.MovedLawful.{sector2_row_lawful};
+
+    ghost kept = { kept_sector2_rows };
+
+    ghost lawful = { sector2_row_lawful };
+
+    fn texts() -> Texts {
+        Texts {
+            table: Table::Sector2,
+            select: "SELECT seq, aircraft, page, line, took_off, landed, cycles FROM sector2 ORDER BY seq",
+            insert: "INSERT INTO sector2 (seq, aircraft, page, line, took_off, landed, cycles) VALUES (?1, ?2, ?3, ?4, ?5, ?6, ?7)",
+        }
+    }
+
+    fn read(row: &Row) -> Option<Sector2Row> {
+        if row.column_count() != 7 {
+            return None;
+        }
+        let sector = SectorRow {
+            seq: number_at(row, 0)?,
+            aircraft: number_at(row, 1)?,
+            page: number_at(row, 2)?,
+            line: number_at(row, 3)?,
+            took_off: moment_at(row, 4)?,
+            landed: moment_at(row, 5)?,
+            cycles: number_at(row, 6)?,
+        };
+        Some(Sector2Row { sector })
+    }
+}
+
+impl Insert for Sector2Row {
+    fn insert<S: Alter>(&self, tx: &mut Transaction<'_, S>) -> Result<(), TableFault> {
+        insert_values(
+            tx,
+            self,
+            params![
+                self.sector.seq,
+                self.sector.aircraft,
+                self.sector.page,
+                self.sector.line,
+                self.sector.took_off.number(),
+                self.sector.landed.number(),
+                self.sector.cycles,
+            ],
+        )
+    }
+}
