@@ -1,5 +1,5 @@
 -- The texts that show chosen rows or delete them: what each is understood as, computed.
-use Rattle.std.proofs.Common.{◌≡◌, ℕ, Bool, ◌&&◌, ap, List, [], ◌∷◌, ◌++◌, None, Some, refl}
+use Rattle.std.proofs.Common.{◌≡◌, ◌⊎◌, slice_get, ℕ, Bool, ◌&&◌, ap, List, [], ◌∷◌, ◌++◌, None, Some, refl}
 use Rattle.std.specs.List.{list_all}
 use Rattle.sqlite.specs.Order.{Row, column}
 use Rattle.sqlite.specs.Table.{Table}
@@ -14,14 +14,14 @@ use Rattle.sqlite_schema.specs.declared.schema.Index.{Index}
 use Rattle.sqlite_sql.specs.declared.ops.CompareOp.TheVariants.{Eq, Gt, Le}
 use Rattle.sqlite_tied.specs.Compute.{everything}
 use Rattle.mx_layout.specs.Contents.{cells}
-use Rattle.mx_layout.specs.Tables.{entry, aircraft, place, component, programme, task, opening, crs, crs_line, extension, defect, sector1, fit1, sector2, span2, total2, base2}
-use Rattle.mx_kept.specs.Cells.{kept_entry, kept_aircraft, kept_place, kept_component, kept_programme, kept_task, kept_opening, kept_crs, kept_crs_line, kept_extension, kept_defect, kept_sector1, kept_fit1, kept_span2, kept_total2, kept_base2}
+use Rattle.mx_layout.specs.Tables.{entry, aircraft, place, component, programme, task, opening, crs, crs_line, extension, defect, sector1, fit1, removal1, sector2, span2, total2, base2}
+use Rattle.mx_kept.specs.Cells.{kept_entry, kept_aircraft, kept_place, kept_component, kept_programme, kept_task, kept_opening, kept_crs, kept_crs_line, kept_extension, kept_defect, kept_sector1, kept_fit1, kept_sector2_rows, kept_span2, kept_total2, kept_base2}
 use Rattle.mx_kept.specs.Kept.{over}
-use Rattle.mx_kept.specs.Schemas.{permanent, own_1, own_2, own_moving, HasBehind}
+use Rattle.mx_kept.specs.Schemas.{permanent, own_1, own_2, own_moving, HasBehind, HasOwn1}
 use Rattle.mx_chosen.specs.Choices.{backward}
 use Rattle.mx_chosen.specs.Lookups.{FindsFirst, Finds, Deletes}
-use Rattle.mx_chosen.specs.Texts.{by_value, by_values, open_by, open_spans_by_component, open_spans_by_aircraft, above, up_to, any_row, entry_by_seq, entry_by_doc, aircraft_by_seq, aircraft_by_tail, place_by_seq, component_by_seq, component_by_serial, programme_by_seq, programme_by_kind, task_by_seq, opening_by_seq, opening_by_item, crs_by_seq, crs_line_by_seq, crs_line_by_defect, defect_by_seq, defect_by_aircraft, extension_by_seq, extension_by_defect, span2_by_fit_seq, span2_by_component, span2_by_aircraft, span2_by_remove_seq, total2_by_item, base2_by_item, sector1_page, extension_page, last_entry, sector1_gone, fit1_gone, total2_gone, base2_gone}
-use Rattle.mx_chosen.proofs.LookupLemmas.{Chooses, ChoosesFirst, ChoosesLast, ChoosesByTwo, Drops, given_at, first_found, first_page, last_found, two_found, deleted, either_finds}
+use Rattle.mx_chosen.specs.Texts.{sector2_by_seq, by_value, by_values, open_by, open_spans_by_component, open_spans_by_aircraft, above, up_to, any_row, entry_by_seq, entry_by_doc, aircraft_by_seq, aircraft_by_tail, place_by_seq, component_by_seq, component_by_serial, programme_by_seq, programme_by_kind, task_by_seq, opening_by_seq, opening_by_item, crs_by_seq, crs_line_by_seq, crs_line_by_defect, defect_by_seq, defect_by_aircraft, extension_by_seq, extension_by_defect, span2_by_fit_seq, span2_by_component, span2_by_aircraft, span2_by_remove_seq, total2_by_item, base2_by_item, sector1_page, extension_page, last_entry, sector1_gone, fit1_gone, total2_gone, base2_gone}
+use Rattle.mx_chosen.proofs.LookupLemmas.{Chooses, ChoosesFirst, ChoosesLast, ChoosesByTwo, Drops, given_at, first_found, first_page, last_found, two_found, deleted, either_finds, either_deletes}
 use Rattle.mx_chosen.proofs.EqualLemmas.{one_equal, two_equal, missing}
 
 -- spans stand at one place while components are moved, and at another from then on
@@ -33,6 +33,19 @@ spans_found text tests chosen picks moving settled =
   where
     in_place : (own : List Table) → ((rest : List Table) (more : List Index) → Chooses (permanent (own ++ rest) more) text span2 tests) → Finds (over kept_span2 (HasBehind own)) text chosen
     in_place own texts = first_found (over kept_span2 (HasBehind own)) own (λ _ has. has) text tests chosen (λ _. refl) picks refl texts (λ _. refl) (λ _ _. refl)
+
+-- sectors of layout 2 stand at three places: while sectors are moved, while components are, and from then on
+sectors_found : (text : List ℕ) (tests : List Term) (chosen : Row → Row → Bool) → ((values r : Row) → list_all (holds (values ∷ r ∷ [])) tests ≡ chosen values (cells sector2 r))
+    → ((rest : List Table) (more : List Index) → Chooses (permanent ((sector1 ∷ fit1 ∷ removal1 ∷ sector2 ∷ []) ++ rest) more) text sector2 tests)
+    → ((rest : List Table) (more : List Index) → Chooses (permanent (own_moving ++ rest) more) text sector2 tests)
+    → ((rest : List Table) (more : List Index) → Chooses (permanent ((sector2 ∷ []) ++ rest) more) text sector2 tests) → Finds kept_sector2_rows text chosen
+sectors_found text tests chosen picks first moving settled =
+    either_finds kept_sector2_rows (HasBehind (sector1 ∷ fit1 ∷ removal1 ∷ sector2 ∷ [])) (λ s. HasBehind own_moving s ⊎ HasBehind (sector2 ∷ []) s) text None kept_sector2_rows.order chosen
+    (in_place (sector1 ∷ fit1 ∷ removal1 ∷ sector2 ∷ []) first)
+    (either_finds kept_sector2_rows (HasBehind own_moving) (HasBehind (sector2 ∷ [])) text None kept_sector2_rows.order chosen (in_place own_moving moving) (in_place (sector2 ∷ []) settled))
+  where
+    in_place : (own : List Table) → ((rest : List Table) (more : List Index) → Chooses (permanent (own ++ rest) more) text sector2 tests) → Finds (over kept_sector2_rows (HasBehind own)) text chosen
+    in_place own texts = first_found (over kept_sector2_rows (HasBehind own)) own (λ _ has. has) text tests chosen (λ _. refl) picks refl texts (λ _. refl) (λ _ _. refl)
 
 -- ── look-ups by the value in one column ──
 
@@ -227,6 +240,21 @@ base2_by_item_texts rest more = (refl, refl, (refl, refl))
 pub base2_by_item_finds : Finds kept_base2 base2_by_item (by_value 0)
 base2_by_item_finds = two_found kept_base2 own_2 (λ _ has. has) base2_by_item (given_at Eq base2 0 0 ∷ []) (by_value 0) (λ _. refl) (λ _ _. one_equal _ _ refl) refl base2_by_item_texts (λ _. refl) (λ _ _. refl) (λ _ _. refl)
 
+sector2_by_seq_first : (rest : List Table) (more : List Index) → Chooses (permanent ((sector1 ∷ fit1 ∷ removal1 ∷ sector2 ∷ []) ++ rest) more) sector2_by_seq sector2 (given_at Eq sector2 0 0 ∷ [])
+unfolding understood everything
+sector2_by_seq_first rest more = (refl, refl, (refl, refl))
+
+sector2_by_seq_moving : (rest : List Table) (more : List Index) → Chooses (permanent (own_moving ++ rest) more) sector2_by_seq sector2 (given_at Eq sector2 0 0 ∷ [])
+unfolding understood everything
+sector2_by_seq_moving rest more = (refl, refl, (refl, refl))
+
+sector2_by_seq_texts : (rest : List Table) (more : List Index) → Chooses (permanent ((sector2 ∷ []) ++ rest) more) sector2_by_seq sector2 (given_at Eq sector2 0 0 ∷ [])
+unfolding understood everything
+sector2_by_seq_texts rest more = (refl, refl, (refl, refl))
+
+pub sector2_by_seq_finds : Finds kept_sector2_rows sector2_by_seq (by_value 0)
+sector2_by_seq_finds = sectors_found sector2_by_seq (given_at Eq sector2 0 0 ∷ []) (by_value 0) (λ _ _. one_equal _ _ refl) sector2_by_seq_first sector2_by_seq_moving sector2_by_seq_texts
+
 -- ── open spans ──
 
 -- the tests of a span that nothing ended
@@ -291,8 +319,16 @@ fit1_gone_texts : (rest : List Table) (more : List Index) → Drops (permanent (
 unfolding understood everything
 fit1_gone_texts rest more = (refl, (refl, refl))
 
+fit1_gone_moving : (rest : List Table) (more : List Index) → Drops (permanent (own_moving ++ rest) more) fit1_gone 12 fit1 (given_at Eq fit1 1 0 ∷ [])
+unfolding understood everything
+fit1_gone_moving rest more = (refl, (refl, refl))
+
+fit1_gone_in : (own : List Table) (at : ℕ) → ((rest : List Table) (more : List Index) → slice_get (permanent (own ++ rest) more).tables at ≡ Some fit1)
+    → ((rest : List Table) (more : List Index) → Drops (permanent (own ++ rest) more) fit1_gone at fit1 (given_at Eq fit1 1 0 ∷ [])) → Deletes (over kept_fit1 (HasBehind own)) fit1_gone (by_value 1)
+fit1_gone_in own at there texts = deleted (over kept_fit1 (HasBehind own)) own (λ _ has. has) fit1_gone (given_at Eq fit1 1 0 ∷ []) (by_value 1) (λ _. refl) (λ _ _. one_equal _ _ refl) at there texts
+
 pub fit1_gone_deletes : Deletes kept_fit1 fit1_gone (by_value 1)
-fit1_gone_deletes = deleted kept_fit1 own_1 (λ _ has. has) fit1_gone (given_at Eq fit1 1 0 ∷ []) (by_value 1) (λ _. refl) (λ _ _. one_equal _ _ refl) 13 (λ _ _. refl) fit1_gone_texts
+fit1_gone_deletes = either_deletes kept_fit1 HasOwn1 (HasBehind own_moving) fit1_gone (by_value 1) (fit1_gone_in own_1 13 (λ _ _. refl) fit1_gone_texts) (fit1_gone_in own_moving 12 (λ _ _. refl) fit1_gone_moving)
 
 total2_gone_texts : (rest : List Table) (more : List Index) → Drops (permanent ((sector2 ∷ span2 ∷ total2 ∷ []) ++ rest) more) total2_gone 14 total2 (given_at Eq total2 0 0 ∷ [])
 unfolding understood everything

@@ -98,6 +98,9 @@ span2_by_aircraft = codes "SELECT fit_seq, component, aircraft, position, from_m
 abbrev pub span2_by_remove_seq : List ℕ
 span2_by_remove_seq = codes "SELECT fit_seq, component, aircraft, position, from_min, remove_seq, to_min FROM span2 WHERE remove_seq = ?1 ORDER BY fit_seq"
 
+abbrev pub sector2_by_seq : List ℕ
+sector2_by_seq = codes "SELECT seq, aircraft, page, line, took_off, landed, cycles FROM sector2 WHERE seq = ?1 ORDER BY seq"
+
 abbrev pub total2_by_item : List ℕ
 total2_by_item = codes "SELECT item, minutes, cycles, clock FROM total2 WHERE item = ?1 ORDER BY item"
 

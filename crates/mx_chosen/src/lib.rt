@@ -10,4 +10,5 @@ pub mod items;
 pub mod kept;
 pub mod pages;
 pub mod programmes;
+pub mod sectors;
 pub mod works;

@@ -1,5 +1,5 @@
 -- What holds of each register of the family, and what follows for all of them alike.
-use Rattle.std.proofs.Common.{◌≡◌, ℕ, ◌+◌, ◌*◌, ◌^◌, true, List, [], ◌∷◌, ◌++◌, map, length, All, refl, sym, ap, ap₂, subst, ◌∙◌, slice_index_or, arith}
+use Rattle.std.proofs.Common.{inl, ◌≡◌, ℕ, ◌+◌, ◌*◌, ◌^◌, true, List, [], ◌∷◌, ◌++◌, map, length, All, refl, sym, ap, ap₂, subst, ◌∙◌, slice_index_or, arith}
 use Rattle.std.specs.Prelude.{⊤, Contains}
 use Rattle.std.specs.List.{list_all, AllByRecursion}
 use Rattle.std.specs.List.Sorted.{IsPermutation}
@@ -64,8 +64,8 @@ facts table.CrsLine = record { law = crs_line_lawful; rise = λ book shaped. (1 
 facts table.Defect = record { law = defect_lawful; rise = λ book shaped. (1, length book + 1, deferral_rows-rising book shaped); is_named = refl; readable = λ _ h. h; no_first = λ _. refl; is_in = permanent_too }
 facts table.Extension = record { law = extension_lawful; rise = λ book shaped. (1, length book + 1, extension_rows-rising book shaped); is_named = refl; readable = λ _ h. h; no_first = λ _. refl; is_in = permanent_too }
 facts table.Sector1 = record { law = sector1_lawful; rise = λ book shaped. (1, length book + 1, sector_rows-rising book shaped); is_named = refl; readable = λ _ h. h; no_first = λ _. refl; is_in = λ _ has. has }
-facts table.Fit1 = record { law = fit1_lawful; rise = λ book shaped. (1, length book + 1, fitting_rows-rising book shaped); is_named = refl; readable = λ _ h. h; no_first = λ _. refl; is_in = λ _ has. has }
-facts table.Removal1 = record { law = removal1_lawful; rise = λ book shaped. (1, length book + 1, removal_rows-rising book shaped); is_named = refl; readable = λ _ h. h; no_first = λ _. refl; is_in = λ _ has. has }
+facts table.Fit1 = record { law = fit1_lawful; rise = λ book shaped. (1, length book + 1, fitting_rows-rising book shaped); is_named = refl; readable = λ _ h. h; no_first = λ _. refl; is_in = λ _ has. inl has }
+facts table.Removal1 = record { law = removal1_lawful; rise = λ book shaped. (1, length book + 1, removal_rows-rising book shaped); is_named = refl; readable = λ _ h. h; no_first = λ _. refl; is_in = λ _ has. inl has }
 facts _ = tt
 
 -- ── tables by name ──
