@@ -10,11 +10,18 @@ use mx_office::{Ask, Fault, Office, Outcomes};
 use sqlite::{Alter, Connection};
 use std::alloc::Global;
 
-/// Makes an empty book.
+/// Makes an empty book of layout 1.
 pub(crate) fn created<S: Alter>(conn: &mut Connection<S>) -> Result<(), TableFault>
     requires { conn.old.in_transaction ≡ false }
 {
     create(conn, Layout(1))
+}
+
+/// Makes an empty book of layout 2.
+pub(crate) fn created_next<S: Alter>(conn: &mut Connection<S>) -> Result<(), TableFault>
+    requires { conn.old.in_transaction ≡ false }
+{
+    create(conn, Layout(2))
 }
 
 /// What the office answers to the command.

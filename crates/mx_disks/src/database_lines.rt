@@ -1,10 +1,11 @@
 //! What is asked of the database that files hold, without an office.
 ghost use Rattle.std.specs.Prelude.{◌≡◌, false};
 
-use crate::calls::created;
+use crate::calls::{created, created_next};
+use crate::kept_lines::answer_of_kept_rows;
 use crate::texts::{append_error, append_table_fault, error_text, room};
 use mx_cases::{Unmade, append_joined, append_word, or_none};
-use mx_layout::point;
+use mx_layout::{TableFault, point};
 use sqlite::types::ValueRef;
 use sqlite::{Alter, Connection, Row};
 use std::alloc::{AllocError, Global};
@@ -80,15 +81,29 @@ fn point_text<S: Alter>(alloc: Global, conn: &mut Connection<S>) -> Result<Strin
     Ok(text)
 }
 
-// Makes an empty book: `ok`, or why it was not made.
-fn made<S: Alter>(alloc: Global, conn: &mut Connection<S>) -> Result<String, AllocError>
+// Whether an empty book was made: `ok`, or why it was not.
+fn made(out: &mut String, made: Result<(), TableFault>) -> Result<(), AllocError> {
+    match made {
+        Ok(()) => out.push_str("ok"),
+        Err(fault) => append_table_fault(out, fault),
+    }
+}
+
+// Makes an empty book.
+fn make<S: Alter>(alloc: Global, conn: &mut Connection<S>) -> Result<String, AllocError>
     requires { conn.old.in_transaction ≡ false }
 {
     let mut text = room(alloc)?;
-    match created(conn) {
-        Ok(()) => text.push_str("ok")?,
-        Err(fault) => append_table_fault(&mut text, fault)?,
-    }
+    made(&mut text, created(conn))?;
+    Ok(text)
+}
+
+// Makes an empty book of layout 2.
+fn make_next<S: Alter>(alloc: Global, conn: &mut Connection<S>) -> Result<String, AllocError>
+    requires { conn.old.in_transaction ≡ false }
+{
+    let mut text = room(alloc)?;
+    made(&mut text, created_next(conn))?;
     Ok(text)
 }
 
@@ -101,7 +116,7 @@ fn statement_of(alloc: Global, words: &[&str]) -> Result<String, AllocError> {
     Ok(sql)
 }
 
-/// What a database answers to a line: `make`, `point`, `ask QUERY` or `sql STATEMENT`.
+/// What a database answers to a line: `make`, `make-next`, `point`, `ask QUERY`, `sql STATEMENT`, or one of kept rows.
 pub(crate) fn answer_of_database<S: Alter>(
     alloc: Global,
     conn: &mut Connection<S>,
@@ -110,7 +125,8 @@ pub(crate) fn answer_of_database<S: Alter>(
     requires { conn.old.in_transaction ≡ false }
 {
     match words {
-        ["make"] => Ok(made(alloc, conn)?),
+        ["make"] => Ok(make(alloc, conn)?),
+        ["make-next"] => Ok(make_next(alloc, conn)?),
         ["point"] => Ok(point_text(alloc, conn)?),
         ["ask", query @ ..] => {
             let sql = statement_of(alloc, query)?;
@@ -120,6 +136,7 @@ pub(crate) fn answer_of_database<S: Alter>(
             let sql = statement_of(alloc, statement)?;
             Ok(changed(alloc, conn, sql.as_str())?)
         }
+        ["kept", line @ ..] => answer_of_kept_rows(alloc, conn, line),
         _ => Err(Unmade::NoSuchLine),
     }
 }

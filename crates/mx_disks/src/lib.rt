@@ -1,10 +1,16 @@
 //! An office over files in memory that stop, lose power and are opened again, asked in lines.
 //!
 //! Lines over the files, each over a database that is opened anew:
-//! - `make`: makes an empty book;
+//! - `make`, `make-next`: makes an empty book of layout 1, of layout 2;
 //! - `point`: the layout, step and mark that it is at;
 //! - `ask QUERY`, `sql STATEMENT`: the rows of a query; a statement that changes the files;
 //! - `open`: opens the office.
+//!
+//! Lines over kept rows, of a database of layout 2, each in a transaction of its own:
+//! - `kept new ITEM MINUTES CYCLES MOMENT`, `kept clock ITEM MOMENT`, `kept credit MINUTES CYCLES ITEM ..`: adds a total, sets its
+//!   clock, adds a use to the lives of items; `kept total ITEM`;
+//! - `kept done ITEM TASK MINUTES CYCLES DAY`, `kept base ITEM TASK`: when a task was last done on an item;
+//! - `kept fitted AIRCRAFT`, `kept end COMPONENT ENTRY MOMENT`: what is fitted; ends the span of a component.
 //!
 //! Lines in the open office:
 //! - a command, in the words that `mx_cases` reads: hands it in; `run` the commands of a list, and `first` the first;
@@ -21,6 +27,7 @@ mod calls;
 mod database_lines;
 pub mod disks;
 mod files;
+mod kept_lines;
 mod office_lines;
 mod texts;
 

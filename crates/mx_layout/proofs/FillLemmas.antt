@@ -1,16 +1,18 @@
 -- The row of the point, and what the tables of a new book are.
-use Rattle.std.proofs.Common.{◌≡◌, ◌≢◌, inl, inr, ℕ, pos, List, [], ◌∷◌, map, Result, OnOk, refl, sym, ap, subst, ◌∙◌, arith}
-use Rattle.std.specs.Prelude.{Contains}
+use Rattle.std.proofs.Common.{◌≡◌, ◌≢◌, inl, inr, ℕ, zero, suc, pos, List, [], ◌∷◌, map, Result, OnOk, refl, sym, ap, subst, ◌∙◌, arith}
+use Rattle.std.specs.Prelude.{Contains, IsTrue}
+use Rattle.std.specs.List.{AllByRecursion}
 use Rattle.std.specs.List.Sorted.{IsPermutation}
 use Rattle.std.proofs.lemmas.List.Elements.{All-contains, All-from_recursion}
 use Rattle.sqlite.specs.declared.types.Value.TheVariants.{Null, Int}
 use Rattle.sqlite.specs.Order.{Row}
 use Rattle.sqlite.specs.Term.{Term, lit, col}
 use Rattle.sqlite.specs.Table.{Table}
+use Rattle.sqlite.specs.View.{is_int}
 use Rattle.sqlite.specs.Schema.{Schema}
 use Rattle.sqlite.specs.Source.TheVariants.{Values}
 use Rattle.sqlite.specs.Command.TheVariants.{Insert}
-use Rattle.sqlite.specs.Tree.{Trees}
+use Rattle.sqlite.specs.Tree.{Trees, rowid, IsTable}
 use Rattle.sqlite.specs.Effect.{Database}
 use Rattle.sqlite.specs.Listing.{understood}
 use Rattle.sqlite.specs.declared.error.Error.{Error}
@@ -19,7 +21,7 @@ use Rattle.sqlite.proofs.Callers.{IsPlain, command_of, one_permutation}
 use Rattle.sqlite_tied.specs.Compute.{everything}
 use Rattle.sqlite_catalog.specs.Listing.{IsSound}
 use Rattle.mx_layout.specs.declared.points.Point.{Point}
-use Rattle.mx_layout.specs.Contents.{cells, rows_in, Adds}
+use Rattle.mx_layout.specs.Contents.{cells, rows_in, Adds, Rises}
 use Rattle.mx_layout.specs.Making.{IsBlank, IsEmptyAt, IsEmptyIn, settled}
 use Rattle.mx_layout.specs.Names.{table_named}
 use Rattle.mx_layout.specs.Point.{point_cells, insert_office_text}
@@ -81,6 +83,24 @@ others_empty schema at old new blank adds name there other =
     (All-contains Keeps schema.tables (table_named name) (All-from_recursion Keeps schema.tables adds.others) there (λ same. other (same_tree name table.Office same)))
     (All-contains IsBare schema.tables (table_named name) (All-from_recursion IsBare schema.tables blank.empty) there)
 
+-- rows that are none rise
+none_rise : (rows : List Row) → rows ≡ [] → IsTable rows × AllByRecursion (λ r. IsTrue (is_int (rowid r))) rows
+none_rise rows is = (subst IsTable (sym is) tt, subst (AllByRecursion (λ r. IsTrue (is_int (rowid r)))) (sym is) tt)
+
+rise_at : (n : ℕ) (old new : Trees) → Rises office new → (n ≢ 0 → new n ≡ old n) → old n ≡ [] → IsTable (new n) × AllByRecursion (λ r. IsTrue (is_int (rowid r))) (new n)
+rise_at zero old new first same none = (first.up, first.numbers)
+rise_at (suc n) old new first same none = none_rise (new (suc n)) (same (λ is. omega arith) ∙ none)
+
+-- the rowids of each table rise
+all_rise : (schema : Schema) (old new : Database) → IsBlank schema old → Rises office new.trees → AllByRecursion (λ t. t.tree ≢ office.tree → new.trees t.tree ≡ old.trees t.tree) schema.tables
+    → (name : TableName) → Contains schema.tables (table_named name) → Rises (table_named name) new.trees
+all_rise schema old new blank first others name there =
+    let Keeps = λ (t : Table). t.tree ≢ office.tree → new.trees t.tree ≡ old.trees t.tree in
+    let IsBare = λ (t : Table). old.trees t.tree ≡ [] in
+    let up = rise_at (table_named name).tree old.trees new.trees first (All-contains Keeps schema.tables (table_named name) (All-from_recursion Keeps schema.tables others) there)
+            (All-contains IsBare schema.tables (table_named name) (All-from_recursion IsBare schema.tables blank.empty) there) in
+    record { up = up.0; numbers = up.1 }
+
 -- tables without a row, and then the row of the point
 pub empty_at : (schema : Schema) → Contains schema.tables office → (p : Point) (old new : Database) → IsBlank schema old → Gains office (point_cells p) old new → (new.schema ≡ schema) × IsEmptyAt schema p new.trees
 empty_at schema there p old new blank gained =
@@ -88,12 +108,14 @@ empty_at schema there p old new blank gained =
     let same : new.schema ≡ schema = gained.schema ∙ blank.schema_is in
     let adds = subst (λ (s : Schema). Adds s.tables office (point_cells p) old.trees new.trees) blank.schema_is gained.adds in
     let none : rows_in office old.trees ≡ [] = ap (map (cells office)) (All-contains IsBare schema.tables office (All-from_recursion IsBare schema.tables blank.empty) there) in
+    let before = none_rise (old.trees office.tree) (All-contains IsBare schema.tables office (All-from_recursion IsBare schema.tables blank.empty) there) in
     let one : IsPermutation (point_cells p ∷ []) (rows_in office new.trees) = subst (λ rows. IsPermutation (point_cells p ∷ rows) (rows_in office new.trees)) none adds.gained in (
       same,
       record {
         sound = subst (λ s. IsSound s new.trees) same gained.sound;
         points = one_permutation (point_cells p) (rows_in office new.trees) one;
         others = others_empty schema p old new blank adds;
+        rises = all_rise schema old new blank (adds.rises (record { up = before.0; numbers = before.1 })) adds.others;
       },
     )
 

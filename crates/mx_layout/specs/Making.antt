@@ -6,7 +6,7 @@ use Rattle.sqlite.specs.Tree.{Trees}
 use Rattle.sqlite.specs.Effect.{Database}
 use Rattle.sqlite_catalog.specs.Listing.{IsSound}
 use Rattle.mx_layout.specs.declared.points.Point.{Point}
-use Rattle.mx_layout.specs.Contents.{rows_in}
+use Rattle.mx_layout.specs.Contents.{rows_in, Rises}
 use Rattle.mx_layout.specs.Point.{point_cells}
 use Rattle.mx_layout.specs.Steps.{schema_of}
 use Rattle.mx_layout.specs.Names.{table_named}
@@ -33,11 +33,12 @@ settled layout = record { layout = layout; step = 0; mark = 0 }
 abbrev pub first_point : Point
 first_point = settled 1
 
--- the tables of this schema with no entry, at this point: office has the row of the point, and no other table has a row
+-- the tables of this schema with no entry, at this point: office has the row of the point, no other table has a row, and the rowids of each rise
 pub record IsEmptyAt (schema : Schema) (at : Point) (trees : Trees) : Type 0 where
   pub sound : IsSound schema trees
   pub points : rows_in office trees ≡ point_cells at ∷ []
   pub others : (name : TableName) → Contains schema.tables (table_named name) → name ≢ table.Office → rows_in (table_named name) trees ≡ []
+  pub rises : (name : TableName) → Contains schema.tables (table_named name) → Rises (table_named name) trees
 
 -- the tables of a layout with no entry, at its settled point
 abbrev pub IsEmptyIn : ℕ → Trees → Type 0

@@ -1,6 +1,6 @@
 -- Questions of a book that are counted.
-use Rattle.std.proofs.Common.{arith, refl, sym, subst, ◌∙◌, ◌≡◌, List}
-use Rattle.std.specs.Prelude.{Result, Ok}
+use Rattle.std.proofs.Common.{ℕ, ap, arith, refl, sym, subst, ◌∙◌, ◌≡◌, List}
+use Rattle.std.specs.Prelude.{Result, Ok, Err, MatchResult}
 use Rattle.std.specs.declared.convert.Infallible.{Infallible}
 use Rattle.mx_command.specs.Act.{Entry}
 use Rattle.mx_book.specs.Memory.{StopsBy, with_memory}
@@ -42,3 +42,19 @@ unasked s = record { book = refl; code = refl; left = omega arith }
 pub waited : (start new : Failing) (stop : Stop Interrupted) → StopsBy failing_reading start new stop → IsStop start.code stop
 waited start new NoMemory h = tt
 waited start new (Fault fault) h = h.told
+
+module _ {A : Type 0} (start new : Failing) (what : List Entry → A) where
+  -- what comes of records that were not asked before
+  pub ends : (result : Result A (Stop Interrupted)) → Answers (with_memory failing_reading) start new result what
+      → MatchResult result (λ a. a ≡ what start.book.now) (IsStop start.code)
+  ends (Ok a) k = k.exact start start.book.now refl (unasked start) tt
+  ends (Err stop) k = waited start new stop (k.asked start (unasked start))
+
+  -- the same of questions that take no memory
+  pub ends_alone : (result : Result A Interrupted) → Answers failing_reading start new result what
+      → MatchResult result (λ a. a ≡ what start.book.now) (λ fault. fault ≡ record { code = start.code })
+  ends_alone (Ok a) k = k.exact start start.book.now refl (unasked start) tt
+  ends_alone (Err fault) k = ap coded (k.asked start (unasked start)).told
+    where
+      coded : ℕ → Interrupted
+      coded n = record { code = n }

@@ -1,14 +1,5 @@
-use Rattle.std.proofs.Common.{refl}
-use Rattle.mx_sweeps.specs.declared.failing.Failing.{Failing}
-use Rattle.mx_sweeps.proofs.FailingLemmas.{unasked, waited}
+use Rattle.mx_sweeps.proofs.FailingLemmas.{ends}
 use Rattle.mx_sweeps.proofs.interrupted.dues_interrupted.Goals as goal
 
-pub returns-in-Ok : goal.returns-in-Ok
-returns-in-Ok c =
-    let start : Failing = record { book = c.args.book; left = c.args.questions; code = c.args.code } in
-    c.in-Ok.ensures.exact start c.args.book.now refl (unasked start) tt
-
-pub returns-in-Err : goal.returns-in-Err
-returns-in-Err c =
-    let start : Failing = record { book = c.args.book; left = c.args.questions; code = c.args.code } in
-    waited start c.list_dues.new.records c.in-Err.stop (c.in-Err.ensures.asked start (unasked start))
+pub returns : goal.returns
+returns c = ends c.args.records c.list_dues.new.records _ c.list_dues.result c.list_dues.ensures

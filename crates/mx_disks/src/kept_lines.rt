@@ -1,0 +1,253 @@
+//! What is asked of the totals, last bases and spans that layout 2 keeps, each line in a transaction of its own.
+ghost use Rattle.std.specs.Prelude.{◌≡◌, false, nat_eq};
+ghost use Rattle.mx_command.specs.Bounds.{are_distinct};
+
+use crate::texts::{append_error, append_table_fault, room};
+use mx_base::{Day, Moment, TaskId, Use};
+use mx_cases::{Unmade, append_joined, or_none};
+use mx_chosen::changes::set_base;
+use mx_layout::TableFault;
+use mx_totals::bases::base_row;
+use mx_totals::spans::{FittedComponent, end_span2, fitted};
+use mx_totals::totals::{Total, credit, new_total, set_clock, total};
+use mx_typed_rows::BaseRow;
+use sqlite::{Alter, Connection, Transaction};
+use std::alloc::{AllocError, Global};
+
+// The minutes and cycles that two words say.
+fn use_of(minutes: &str, cycles: &str) -> Result<Use, Unmade> {
+    let minutes = minutes.parse::<u32>()?;
+    let cycles = cycles.parse::<u32>()?;
+    Ok(Use { minutes, cycles })
+}
+
+// Commits what was done: `ok`, or why it was not done or not committed.
+fn committed<S: Alter>(
+    alloc: Global,
+    tx: Transaction<'_, S>,
+    done: Result<(), TableFault>,
+) -> Result<String, Unmade> {
+    let mut text = room(alloc)?;
+    match done {
+        Ok(()) => match tx.commit() {
+            Ok(()) => text.push_str("ok")?,
+            Err(error) => append_error(&mut text, error)?,
+        },
+        Err(fault) => append_table_fault(&mut text, fault)?,
+    }
+    Ok(text)
+}
+
+// Why nothing was read.
+fn unread(alloc: Global, fault: TableFault) -> Result<String, Unmade> {
+    let mut text = room(alloc)?;
+    append_table_fault(&mut text, fault)?;
+    Ok(text)
+}
+
+// Adds the total of an item: `new ITEM MINUTES CYCLES MOMENT`.
+fn add<S: Alter>(
+    alloc: Global,
+    conn: &mut Connection<S>,
+    item: &str,
+    total: Total,
+) -> Result<String, Unmade>
+    requires { conn.old.in_transaction ≡ false }
+{
+    let item = item.parse::<u32>()?;
+    let mut tx = conn.transaction();
+    let done = new_total(&mut tx, item, total);
+    committed(alloc, tx, done)
+}
+
+// The total of an item: `total ITEM`.
+fn total_text<S: Alter>(
+    alloc: Global,
+    conn: &mut Connection<S>,
+    item: &str,
+) -> Result<String, Unmade>
+    requires { conn.old.in_transaction ≡ false }
+{
+    let item = item.parse::<u32>()?;
+    let mut tx = conn.transaction();
+    match total(alloc, &mut tx, item) {
+        Ok(found) => {
+            let minutes = found.life.minutes;
+            let cycles = found.life.cycles;
+            let clock = found.clock.text();
+            let clock = clock.as_str();
+            Ok(format!(in alloc; "{minutes} {cycles} {clock}")?)
+        }
+        Err(fault) => unread(alloc, fault),
+    }
+}
+
+// Sets the clock of an item: `clock ITEM MOMENT`.
+fn clock<S: Alter>(
+    alloc: Global,
+    conn: &mut Connection<S>,
+    item: &str,
+    clock: &str,
+) -> Result<String, Unmade>
+    requires { conn.old.in_transaction ≡ false }
+{
+    let item = item.parse::<u32>()?;
+    let clock = Moment::read(clock)?;
+    let mut tx = conn.transaction();
+    let done = set_clock(alloc, &mut tx, item, clock);
+    committed(alloc, tx, done)
+}
+
+// Whether no number stands in the list twice.
+fn are_distinct(numbers: &[u32]) -> bool
+    ensures { result ≡ are_distinct nat_eq numbers.now }
+{
+    let mut rest = numbers;
+    while let Some((number, later)) = rest.split_first() {
+        if later.contains(number) {
+            return false;
+        }
+        rest = later;
+    }
+    true
+}
+
+// Adds a use to the lives of items: `credit MINUTES CYCLES ITEM ..`, no item twice.
+fn credit_all<S: Alter>(
+    alloc: Global,
+    conn: &mut Connection<S>,
+    added: Use,
+    words: &[&str],
+) -> Result<String, Unmade>
+    requires { conn.old.in_transaction ≡ false }
+{
+    let mut items = Vec::new(alloc);
+    for word in words {
+        let item = word.parse::<u32>()?;
+        items.push(item)?;
+    }
+    if !are_distinct(&items) {
+        return Err(Unmade::NoSuchLine);
+    }
+    let mut tx = conn.transaction();
+    let done = credit(alloc, &mut tx, &items, added);
+    committed(alloc, tx, done)
+}
+
+// Writes when a task was last done on an item: `done ITEM TASK MINUTES CYCLES DAY`.
+fn done<S: Alter>(
+    alloc: Global,
+    conn: &mut Connection<S>,
+    row: &BaseRow,
+) -> Result<String, Unmade>
+    requires { conn.old.in_transaction ≡ false }
+{
+    let mut tx = conn.transaction();
+    let done = set_base(&mut tx, row);
+    committed(alloc, tx, done)
+}
+
+// When a task was last done on an item: `base ITEM TASK`.
+fn base_text<S: Alter>(
+    alloc: Global,
+    conn: &mut Connection<S>,
+    item: &str,
+    task: &str,
+) -> Result<String, Unmade>
+    requires { conn.old.in_transaction ≡ false }
+{
+    let item = item.parse::<u32>()?;
+    let task = TaskId::read(task)?;
+    let mut tx = conn.transaction();
+    match base_row(alloc, &mut tx, item, &task) {
+        Ok(Some(row)) => {
+            let minutes = row.life.minutes;
+            let cycles = row.life.cycles;
+            let day = row.day.text();
+            let day = day.as_str();
+            Ok(format!(in alloc; "{minutes} {cycles} {day}")?)
+        }
+        Ok(None) => Ok(String::from_str("none", alloc)?),
+        Err(fault) => unread(alloc, fault),
+    }
+}
+
+fn components_text(alloc: Global, found: &[FittedComponent]) -> Result<String, AllocError> {
+    let mut text = String::new(alloc);
+    for it in found {
+        append_joined(&mut text, it.position.as_str())?;
+        let component = it.component;
+        write!(text, " {component}")?;
+    }
+    or_none(text)
+}
+
+// What is fitted to an aircraft, each position with its component: `fitted AIRCRAFT`.
+fn fitted_text<S: Alter>(
+    alloc: Global,
+    conn: &mut Connection<S>,
+    aircraft: &str,
+) -> Result<String, Unmade>
+    requires { conn.old.in_transaction ≡ false }
+{
+    let aircraft = aircraft.parse::<u32>()?;
+    let mut tx = conn.transaction();
+    match fitted(alloc, &mut tx, aircraft) {
+        Ok(found) => Ok(components_text(alloc, &found)?),
+        Err(fault) => unread(alloc, fault),
+    }
+}
+
+// Ends the span in which a component is fitted: `end COMPONENT ENTRY MOMENT`.
+fn end<S: Alter>(
+    alloc: Global,
+    conn: &mut Connection<S>,
+    component: &str,
+    entry: &str,
+    to: &str,
+) -> Result<String, Unmade>
+    requires { conn.old.in_transaction ≡ false }
+{
+    let component = component.parse::<u32>()?;
+    let entry = entry.parse::<u32>()?;
+    let to = Moment::read(to)?;
+    let mut tx = conn.transaction();
+    let done = end_span2(alloc, &mut tx, component, entry, to);
+    committed(alloc, tx, done)
+}
+
+/// What the kept rows of a database answer to a line behind `kept`.
+pub(crate) fn answer_of_kept_rows<S: Alter>(
+    alloc: Global,
+    conn: &mut Connection<S>,
+    words: &[&str],
+) -> Result<String, Unmade>
+    requires { conn.old.in_transaction ≡ false }
+{
+    match words {
+        ["new", item, minutes, cycles, moment] => {
+            let life = use_of(minutes, cycles)?;
+            let clock = Moment::read(moment)?;
+            add(alloc, conn, item, Total { life, clock })
+        }
+        ["total", item] => total_text(alloc, conn, item),
+        ["credit", minutes, cycles, items @ ..] => {
+            let added = use_of(minutes, cycles)?;
+            credit_all(alloc, conn, added, items)
+        }
+        ["clock", item, moment] => clock(alloc, conn, item, moment),
+        ["done", item, task, minutes, cycles, day] => {
+            let row = BaseRow {
+                item: item.parse::<u32>()?,
+                task: TaskId::read(task)?,
+                life: use_of(minutes, cycles)?,
+                day: Day::read(day)?,
+            };
+            done(alloc, conn, &row)
+        }
+        ["base", item, task] => base_text(alloc, conn, item, task),
+        ["fitted", aircraft] => fitted_text(alloc, conn, aircraft),
+        ["end", component, entry, moment] => end(alloc, conn, component, entry, moment),
+        _ => Err(Unmade::NoSuchLine),
+    }
+}
