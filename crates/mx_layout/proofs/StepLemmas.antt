@@ -12,7 +12,7 @@ use Rattle.sqlite_tied.specs.Compute.{everything}
 use Rattle.mx_layout.specs.Contents.{HasNoReferences}
 use Rattle.mx_layout.specs.CreateTexts.{office_text, entry_text, aircraft_text, place_text, component_text, programme_text, task_text, opening_text, crs_text, crs_line_text, extension_text, defect_text, sector1_text, fit1_text, removal1_text, sector2_text, sector1_dropped, span2_text, fit1_dropped, removal1_dropped, total2_text, base2_text, span2_by_component_text, span2_by_aircraft_text, span2_by_remove_seq_text, crs_line_by_defect_text, extension_by_defect_text, defect_by_aircraft_text}
 use Rattle.mx_layout.specs.Making.{IsBlank}
-use Rattle.mx_layout.specs.Steps.{after, steps, steps_of, step_texts, schema_of, IsLayout, LayoutsMeet}
+use Rattle.mx_layout.specs.Steps.{schema_after, steps_of, step_texts, schema_of, IsLayout, LayoutsMeet}
 use Rattle.mx_layout.specs.Tables.{no_schema, layout_1, layout_2, office, entry, aircraft, place, component, programme, task, opening, crs, crs_line, extension, defect, sector1, fit1, removal1, sector2, span2, total2, base2, span2_by_component, span2_by_aircraft, span2_by_remove_seq, crs_line_by_defect, extension_by_defect, defect_by_aircraft}
 use Rattle.mx_layout.proofs.CreateLemmas.{Defines, creates_blank}
 use Rattle.mx_layout.proofs.DropLemmas.{MeansRemoved, none_refer, removes_blank}
@@ -20,7 +20,7 @@ use Rattle.mx_layout.proofs.IndexLemmas.{MeansIndexed, indexes_blank}
 
 -- the schema after so many of the statements
 unfoldable pub schema_at : ℕ → Schema
-schema_at n = after (take n steps) no_schema
+schema_at n = schema_after n
 
 pub first_schema : schema_at 0 ≡ no_schema
 unfolding schema_at

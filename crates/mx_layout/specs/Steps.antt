@@ -38,6 +38,10 @@ step_texts = office_text ∷ entry_text ∷ aircraft_text ∷ place_text ∷ com
     ∷ span2_by_component_text ∷ span2_by_aircraft_text ∷ span2_by_remove_seq_text ∷ fit1_dropped ∷ removal1_dropped ∷ total2_text ∷ base2_text
     ∷ crs_line_by_defect_text ∷ extension_by_defect_text ∷ defect_by_aircraft_text ∷ []
 
+-- the schema that so many of them make of no table
+abbrev pub schema_after : ℕ → Schema
+schema_after n = after (take n steps) no_schema
+
 -- how many of them make a layout
 abbrev pub steps_of : ℕ → ℕ
 steps_of layout = if nat_eq layout 1 then 15 else 28
@@ -52,5 +56,5 @@ IsLayout layout = (layout ≡ 1) ⊎ (layout ≡ 2)
 
 -- over no table the statements of a layout make its schema, tree for tree, however a file comes there
 pub record LayoutsMeet : Type 0 where
-  pub first : after (take (steps_of 1) steps) no_schema ≡ layout_1
-  pub second : after (take (steps_of 2) steps) no_schema ≡ layout_2
+  pub first : schema_after (steps_of 1) ≡ layout_1
+  pub second : schema_after (steps_of 2) ≡ layout_2
