@@ -23,12 +23,13 @@
 //! `by_tree` and `found_by_tree` of `TreeLemmas`. Then `mx_kept/specs/Schemas.antt`: which schemas have it.
 //!
 //! 1. `mx_kept/specs/Cells.antt`: how its rows are kept, and its line in `specs/Family.antt`.
-//! 2. `mx_kept/proofs/Lawful.antt`, from one that is there: rows with the same values are one, what the two
+//! 2. `mx_kept/proofs/MovedLawful.antt`, from one that is there: rows with the same values are one, what the two
 //!    texts are understood as, by `refl`, what a row is stored as, and `TABLE_lawful`, with `first_keyed` or
 //!    `two_keyed` and the place of the table in the schema, from 0. Where a `refl` is refused, the text and the
 //!    table differ. A table of a layout stands behind those that come before it there, at each point of a move where
-//!    it stands (`span2` at two), a permanent one behind nothing. Its line of `IsLawfulAt` in `specs/Meanings.antt`
-//!    and of `each_lawful`.
+//!    it stands (`span2` at two, `sector2` at three), a permanent one behind nothing. Its line of `IsLawfulAt` in
+//!    `specs/Meanings.antt` and of `each_lawful` in `proofs/EachLawful.antt`. Where another table has rows of the same
+//!    type, a type of its own holds them (`held`, `Sector2Row`).
 //! 3. `src/NOUN.rt`, from one that is there, with its line here: `Stored`, whose `read` tests the number of
 //!    columns and takes each by a function of `column.rt`; `Insert`, which passes each value in the order of the
 //!    columns. A kind of value that no table has had needs a function in `column.rt`, whose contract says of what
@@ -36,6 +37,9 @@
 //! 4. The answer of `read` where there are more than three columns, alike for all but its name.
 //! 5. Plants: two columns swapped in either text, two values swapped in `insert` or `read`, a text with no
 //!    ORDER BY, the name of another table.
+//!
+//! A table of four columns costs 53 lines of code, its row and its two impls (64 with seven columns), and 42 of definitions
+//! and proofs; each further place where it stands 8.
 //!
 //! A column that may be NULL is kept by `number_or_null` or `text_or_null` of `mx_kept/specs/Values.antt`, one that
 //! says whether by `flag`, a limit by three numbers, a category by its number and the days that it states. They are
