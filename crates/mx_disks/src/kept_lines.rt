@@ -135,11 +135,7 @@ fn credit_all<S: Alter>(
 }
 
 // Writes when a task was last done on an item: `done ITEM TASK MINUTES CYCLES DAY`.
-fn done<S: Alter>(
-    alloc: Global,
-    conn: &mut Connection<S>,
-    row: &BaseRow,
-) -> Result<String, Unmade>
+fn done<S: Alter>(alloc: Global, conn: &mut Connection<S>, row: &BaseRow) -> Result<String, Unmade>
     requires { conn.old.in_transaction ≡ false }
 {
     let mut tx = conn.transaction();

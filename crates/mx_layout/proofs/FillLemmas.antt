@@ -98,7 +98,7 @@ all_rise schema old new blank first others name there =
     let Keeps = λ (t : Table). t.tree ≢ office.tree → new.trees t.tree ≡ old.trees t.tree in
     let IsBare = λ (t : Table). old.trees t.tree ≡ [] in
     let up = rise_at (table_named name).tree old.trees new.trees first (All-contains Keeps schema.tables (table_named name) (All-from_recursion Keeps schema.tables others) there)
-            (All-contains IsBare schema.tables (table_named name) (All-from_recursion IsBare schema.tables blank.empty) there) in
+    (All-contains IsBare schema.tables (table_named name) (All-from_recursion IsBare schema.tables blank.empty) there) in
     record { up = up.0; numbers = up.1 }
 
 -- tables without a row, and then the row of the point
