@@ -107,6 +107,9 @@ total2_by_item = codes "SELECT item, minutes, cycles, clock FROM total2 WHERE it
 abbrev pub base2_by_item : List ℕ
 base2_by_item = codes "SELECT item, task, minutes, cycles, day FROM base2 WHERE item = ?1 ORDER BY item, task"
 
+abbrev pub base2_by_item_and_task : List ℕ
+base2_by_item_and_task = codes "SELECT item, task, minutes, cycles, day FROM base2 WHERE item = ?1 AND task = ?2 ORDER BY item, task"
+
 -- ── open spans ──
 
 abbrev pub open_spans_by_component : List ℕ
@@ -133,6 +136,9 @@ sector1_gone = codes "DELETE FROM sector1 WHERE seq <= ?1"
 
 abbrev pub fit1_gone : List ℕ
 fit1_gone = codes "DELETE FROM fit1 WHERE component = ?1"
+
+abbrev pub span2_gone : List ℕ
+span2_gone = codes "DELETE FROM span2 WHERE fit_seq = ?1"
 
 abbrev pub total2_gone : List ℕ
 total2_gone = codes "DELETE FROM total2 WHERE item = ?1"

@@ -2,13 +2,13 @@
 ghost use Rattle.std.specs.Prelude.{◌≡◌, ◌&&◌, pos};
 ghost use Rattle.sqlite.specs.declared.types.Value.TheVariants.{Int, Text};
 ghost use Rattle.sqlite.specs.Held.{state};
-ghost use Rattle.mx_kept.specs.Cells.{kept_sector1, kept_fit1, kept_total2, kept_base2};
+ghost use Rattle.mx_kept.specs.Cells.{kept_sector1, kept_fit1, kept_span2, kept_total2, kept_base2};
 ghost use Rattle.mx_chosen.specs.Choices.{has_value, is_up_to};
 ghost use Rattle.mx_chosen.specs.Calls.{DeletesRows, ReplacesRows};
 
 use crate::chosen::{delete_rows, replace_rows};
 use mx_layout::TableFault;
-use mx_typed_rows::{BaseRow, FittingRow, SectorRow, TotalRow};
+use mx_typed_rows::{BaseRow, FittingRow, SectorRow, SpanRow, TotalRow};
 use sqlite::{Alter, Transaction, params};
 
 /// Deletes the sectors of `sector1` up to this entry.
@@ -30,6 +30,20 @@ pub fn delete_fit1<S: Alter>(tx: &mut Transaction<'_, S>, component: u32) -> Res
         tx,
         "DELETE FROM fit1 WHERE component = ?1",
         params![component],
+    )
+}
+
+/// Writes a span, in place of the one that the same entry began.
+pub fn set_span2<S: Alter>(tx: &mut Transaction<'_, S>, row: &SpanRow) -> Result<(), TableFault>
+    ensures same_reference { tx.new.conn.ghost_name ≡ tx.old.conn.ghost_name }
+    ensures replaces { ReplacesRows kept_span2 (has_value 0 (Int (pos row.now.fit_seq))) row.now
+        (state S.Store tx.old.conn.now) (state S.Store tx.new.conn.now) result }
+{
+    replace_rows(
+        tx,
+        "DELETE FROM span2 WHERE fit_seq = ?1",
+        params![row.fit_seq],
+        row,
     )
 }
 

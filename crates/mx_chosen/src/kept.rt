@@ -1,12 +1,13 @@
 //! Spans, totals and last bases that are chosen.
-ghost use Rattle.std.specs.Prelude.{◌≡◌, pos, None};
-ghost use Rattle.sqlite.specs.declared.types.Value.TheVariants.{Int};
+ghost use Rattle.std.specs.Prelude.{◌≡◌, ◌&&◌, pos, None};
+ghost use Rattle.sqlite.specs.declared.types.Value.TheVariants.{Int, Text};
 ghost use Rattle.sqlite.specs.Held.{state};
 ghost use Rattle.mx_kept.specs.Cells.{kept_span2, kept_total2, kept_base2};
-ghost use Rattle.mx_chosen.specs.Choices.{is_open};
+ghost use Rattle.mx_chosen.specs.Choices.{has_value, is_open};
 ghost use Rattle.mx_chosen.specs.Calls.{ReadsBy, ReadsFirst};
 
 use crate::chosen::rows_chosen;
+use mx_base::TaskId;
 use mx_layout::TableFault;
 use mx_typed_rows::{BaseRow, SpanRow, TotalRow};
 use sqlite::{Alter, Transaction, params};
@@ -155,5 +156,25 @@ pub fn base2_by_item<S: Alter>(
         tx,
         "SELECT item, task, minutes, cycles, day FROM base2 WHERE item = ?1 ORDER BY item, task",
         params![item],
+    )
+}
+
+/// The last base of a task of an item: at most one.
+pub fn base2_by_item_and_task<S: Alter>(
+    alloc: Global,
+    tx: &mut Transaction<'_, S>,
+    item: u32,
+    task: &TaskId,
+) -> Result<Vec<BaseRow>, TableFault>
+    ensures same_reference { tx.new.conn.ghost_name ≡ tx.old.conn.ghost_name }
+    ensures reads { ReadsFirst kept_base2 None kept_base2.order
+        (λ cells. has_value 0 (Int (pos item)) cells && has_value 1 (Text task.now) cells)
+        (λ rows. rows.items) (state S.Store tx.old.conn.now) (state S.Store tx.new.conn.now) result }
+{
+    rows_chosen(
+        alloc,
+        tx,
+        "SELECT item, task, minutes, cycles, day FROM base2 WHERE item = ?1 AND task = ?2 ORDER BY item, task",
+        params![item, task.as_str()],
     )
 }

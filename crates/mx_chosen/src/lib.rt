@@ -4,6 +4,7 @@
 
 pub mod changes;
 pub mod chosen;
+pub mod counts;
 pub mod defects;
 pub mod entries;
 pub mod items;

@@ -1,0 +1,6 @@
+pub mod Calls
+pub mod Single
+pub mod Totals
+pub mod Bases
+pub mod Spans
+pub mod Steps
