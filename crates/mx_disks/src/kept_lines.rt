@@ -99,7 +99,7 @@ fn clock<S: Alter>(
 }
 
 // Whether no number stands in the list twice.
-fn are_distinct(numbers: &[u32]) -> bool
+fn stand_once(numbers: &[u32]) -> bool
     ensures { result ≡ are_distinct nat_eq numbers.now }
 {
     let mut rest = numbers;
@@ -126,7 +126,7 @@ fn credit_all<S: Alter>(
         let item = word.parse::<u32>()?;
         items.push(item)?;
     }
-    if !are_distinct(&items) {
+    if !stand_once(&items) {
         return Err(Unmade::NoSuchLine);
     }
     let mut tx = conn.transaction();

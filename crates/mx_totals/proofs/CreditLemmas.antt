@@ -1,5 +1,5 @@
 -- Lives that a use is added to: all are read, and then each is written in place of what it was.
-use Rattle.std.proofs.Common.{◌≡◌, ◌⊎◌, inl, inr, ℕ, ◌+◌, ◌<◌, pos, Bool, true, false, not, ◌||◌, eqb, cond, List, [], ◌∷◌, ◌++◌, map, filter, take, length, get_or, All, Any, Ok, Err, Result, OnOk, IfOk, IsTrue, IsPermutation, refl, sym, ap, subst, ◌∙◌, arith}
+use Rattle.std.proofs.Common.{◌≡◌, ◌⊎◌, inl, inr, ℕ, ◌+◌, ◌<◌, pos, Bool, true, false, not, ◌||◌, ◌&&◌, eqb, cond, List, [], ◌∷◌, ◌++◌, map, filter, take, length, get_or, All, Any, Ok, Err, Result, OnOk, IfOk, IsTrue, IsPermutation, refl, sym, ap, subst, ◌∙◌, arith}
 use Rattle.std.specs.Prelude.{nat_eq, if◌then◌else◌}
 use Rattle.std.specs.List.{AllByRecursion, IsDistinct, list_any}
 use Rattle.std.proofs.lemmas.Bool.Decides.{nat_tests}
@@ -10,6 +10,7 @@ use Rattle.sqlite.specs.Order.{Row}
 use Rattle.sqlite.specs.Collation.TheVariants.{Binary}
 use Rattle.sqlite_schema.specs.Rules.{equal}
 use Rattle.mx_base.specs.declared.amounts.Use.{Use}
+use Rattle.mx_command.specs.Bounds.{are_distinct}
 use Rattle.mx_typed_rows.specs.declared.rows.TotalRow.{TotalRow}
 use Rattle.mx_kept.specs.Cells.{kept_total2}
 use Rattle.mx_chosen.proofs.EqualLemmas.{equal_numbers}
@@ -17,6 +18,33 @@ use Rattle.mx_totals.specs.Calls.{change_where}
 use Rattle.mx_totals.specs.Single.{IsOnly}
 use Rattle.mx_totals.specs.Totals.{is_of_item, is_of_any, credited, total_with, IsCredited, AreCredited, totals_put}
 use Rattle.mx_totals.proofs.RowLemmas.{passes_only, split_one, filter_either, same_else, map_same, number_is}
+
+or_first : (p q : Bool) → p || q ≡ false → p ≡ false
+or_first false q h = refl
+or_first true q h = cc
+
+or_second : (p q : Bool) → p || q ≡ false → q ≡ false
+or_second false q h = h
+or_second true q h = cc
+
+and_first : (p q : Bool) → not p && q ≡ true → p ≡ false
+and_first false q h = refl
+and_first true q h = cc
+
+and_second : (p q : Bool) → p && q ≡ true → q ≡ true
+and_second true q h = h
+and_second false q h = cc
+
+none_same : (n : ℕ) (ns : List ℕ) → list_any (nat_eq n) ns ≡ false → AllByRecursion (λ m. nat_eq n m ≡ false) ns
+none_same n [] none = tt
+none_same n (m ∷ ns) none = (or_first (nat_eq n m) (list_any (nat_eq n) ns) none, none_same n ns (or_second (nat_eq n m) (list_any (nat_eq n) ns) none))
+
+-- among numbers that are distinct none stands twice
+pub no_two : (ns : List ℕ) → are_distinct nat_eq ns ≡ true → IsDistinct nat_eq ns
+unfolding IsDistinct
+no_two [] is = tt
+no_two (n ∷ ns) is =
+    (none_same n ns (and_first (list_any (nat_eq n) ns) (are_distinct nat_eq ns) is), no_two ns (and_second (not (list_any (nat_eq n) ns)) (are_distinct nat_eq ns) is))
 
 -- the one total of an item has its number
 pub item_is : (item : ℕ) (rows : List Row) (x : TotalRow) → IsOnly kept_total2 (is_of_item item) rows x → x.item ≡ item

@@ -1,6 +1,6 @@
 //! The total of an item: its life now, and its clock.
 ghost use Rattle.std.specs.Prelude.{◌≡◌, ◌≢◌, ◌⊎◌, ◌∷◌, ⊤, List, map, All, Any, IsTrue, OnOk, IfErr, nat_eq};
-ghost use Rattle.std.specs.List.{IsDistinct};
+ghost use Rattle.mx_command.specs.Bounds.{are_distinct};
 ghost use Rattle.sqlite.specs.Order.{Row};
 ghost use Rattle.sqlite.specs.State.{HasCleanDisk};
 ghost use Rattle.sqlite.specs.Held.{state};
@@ -141,7 +141,7 @@ pub fn credit<S: Alter>(
     items: &[u32],
     added: Use,
 ) -> Result<(), TableFault>
-    requires { IsDistinct nat_eq items.now }
+    requires { are_distinct nat_eq items.now ≡ true }
     ensures same_reference { tx.new.conn.ghost_name ≡ tx.old.conn.ghost_name }
     ensures changes { ChangesRows kept_total2 (change_where (is_of_any items.now) (credited added))
         (λ rows. All (CanCredit added rows) items.now)

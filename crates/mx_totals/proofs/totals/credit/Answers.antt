@@ -2,6 +2,7 @@ use Rattle.std.proofs.Common.{List, subst}
 use Rattle.sqlite.specs.Held.{state}
 use Rattle.mx_typed_rows.specs.declared.rows.TotalRow.{TotalRow}
 use Rattle.mx_totals.specs.Steps.{PutsTotals}
+use Rattle.mx_totals.proofs.CreditLemmas.{no_two}
 use Rattle.mx_totals.proofs.StepLemmas.{read_then_put, totals_unread}
 use Rattle.mx_totals.proofs.totals.credit.Goals as goal
 
@@ -10,7 +11,7 @@ returns-clause-changes g c =
     let old = state g.S.Store c.args.tx.now.conn.now in
     let mid = state g.S.Store c.rows_with.new.tx.conn.now in
     let new = state g.S.Store c.put_rows.new.tx.conn.now in
-    read_then_put c.args.added c.args.items.now (λ rows. rows.items) c.in_ok-rows.rows old mid new c.put_rows.result c.requires c.in_ok-rows.ensures.reads
+    read_then_put c.args.added c.args.items.now (λ rows. rows.items) c.in_ok-rows.rows old mid new c.put_rows.result (no_two c.args.items.now c.requires) c.in_ok-rows.ensures.reads
     (subst (λ (xs : List TotalRow). PutsTotals xs mid new c.put_rows.result) c.deref.ensures.value c.put_rows.ensures.puts)
 
 pub returns-in_err-rows-clause-changes : goal.returns-in_err-rows-clause-changes
