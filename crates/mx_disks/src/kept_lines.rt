@@ -8,8 +8,9 @@ use mx_cases::{Unmade, append_joined, or_none};
 use mx_chosen::changes::set_base;
 use mx_layout::TableFault;
 use mx_totals::bases::base_row;
+use mx_totals::lives::Total;
 use mx_totals::spans::{FittedComponent, end_span2, fitted};
-use mx_totals::totals::{Total, credit, new_total, set_clock, total};
+use mx_totals::totals::{credit, new_total, set_clock, total};
 use mx_typed_rows::BaseRow;
 use sqlite::{Alter, Connection, Transaction};
 use std::alloc::{AllocError, Global};
@@ -143,7 +144,7 @@ fn done<S: Alter>(alloc: Global, conn: &mut Connection<S>, row: &BaseRow) -> Res
     committed(alloc, tx, done)
 }
 
-// When a task was last done on an item: `base ITEM TASK`.
+// The life of an item when a task was last done on it, and the number of that day: `base ITEM TASK`.
 fn base_text<S: Alter>(
     alloc: Global,
     conn: &mut Connection<S>,
@@ -159,11 +160,10 @@ fn base_text<S: Alter>(
         Ok(Some(row)) => {
             let minutes = row.life.minutes;
             let cycles = row.life.cycles;
-            let day = row.day.text();
-            let day = day.as_str();
+            let day = row.day.number();
             Ok(format!(in alloc; "{minutes} {cycles} {day}")?)
         }
-        Ok(None) => Ok(String::from_str("none", alloc)?),
+        Ok(None) => Ok(or_none(String::new(alloc))?),
         Err(fault) => unread(alloc, fault),
     }
 }
