@@ -1,5 +1,5 @@
 //! The total of an item: its life now, and its clock.
-ghost use Rattle.std.specs.Prelude.{◌≡◌, ◌≢◌, ◌⊎◌, ◌∷◌, ⊤, List, map, All, Any, IsTrue, OnOk, IfErr, nat_eq};
+ghost use Rattle.std.specs.Prelude.{◌≡◌, ◌≢◌, ◌⊎◌, ◌∷◌, ⊤, List, map, All, Any, IsTrue, OnOk, IfErr, nat_eq, true};
 ghost use Rattle.mx_command.specs.Bounds.{are_distinct};
 ghost use Rattle.sqlite.specs.Order.{Row};
 ghost use Rattle.sqlite.specs.State.{HasCleanDisk};
