@@ -169,7 +169,8 @@ pub fn base2_by_item_and_task<S: Alter>(
     ensures same_reference { tx.new.conn.ghost_name ≡ tx.old.conn.ghost_name }
     ensures reads { ReadsFirst kept_base2 None kept_base2.order
         (λ cells. has_value 0 (Int (pos item)) cells && has_value 1 (Text task.now) cells)
-        (λ rows. rows.items) (state S.Store tx.old.conn.now) (state S.Store tx.new.conn.now) result }
+        (λ rows. rows.items)
+        (state S.Store tx.old.conn.now) (state S.Store tx.new.conn.now) result }
 {
     rows_chosen(
         alloc,

@@ -16,8 +16,8 @@ use mx_typed_rows::BaseRow;
 use sqlite::{Alter, Transaction};
 use std::alloc::Global;
 
-/// The last base of a task of an item, or `None` where the task was never accomplished of it. `Damaged` with `base2` where
-/// there is more than one, or one that can't be read; `Memory` for want of memory, and `Store` for an error of the store.
+/// The last base of a task of an item, or `None` where it has none. `Damaged` with `base2` where there is more than one, or
+/// one that can't be read; `Memory` for want of memory, and `Store` for an error of the store.
 pub fn base_row<S: Alter>(
     alloc: Global,
     tx: &mut Transaction<'_, S>,
@@ -33,8 +33,8 @@ pub fn base_row<S: Alter>(
     one_or_none(Table::Base2, read)
 }
 
-/// Writes the last base of a task of an item, in place of the one that it had, if it had one. `Memory` for want of memory, and
-/// `Store` for an error of the store.
+/// Writes the last base of a task of an item, in place of the one that it had, if it had one. `Memory` for want of
+/// memory, and `Store` for an error of the store.
 pub fn set_base<S: Alter>(tx: &mut Transaction<'_, S>, row: &BaseRow) -> Result<(), TableFault>
     ensures same_reference { tx.new.conn.ghost_name ≡ tx.old.conn.ghost_name }
     ensures replaces { ReplacesRows kept_base2 (is_of_task row.now.item row.now.task) row.now

@@ -1,9 +1,9 @@
-//! Totals, last bases and what is fitted: each is read, and changed in place. Each call is made inside a `Transaction`, which
-//! the caller commits or drops.
+//! Totals, last bases and what is fitted: each is read, and changed in place. Each call is made inside a `Transaction`,
+//! which the caller commits or drops.
 #![tactic(auto)]
 
 pub mod bases;
 pub mod lives;
-pub mod single;
+mod single;
 pub mod spans;
 pub mod totals;

@@ -4,8 +4,9 @@ ghost use Rattle.mx_totals.specs.Single.{only_of, one_or_none_of};
 
 use mx_layout::{Table, TableFault};
 
-/// The one row that was read. `Damaged` with the table where it is none, or more than one; the fault, where nothing was read.
-pub fn only<R: Copy>(table: Table, read: Result<Vec<R>, TableFault>) -> Result<R, TableFault>
+// The one row that was read. `Damaged` with the table where it is none, or more than one; the fault, where nothing was
+// read.
+pub(crate) fn only<R: Copy>(table: Table, read: Result<Vec<R>, TableFault>) -> Result<R, TableFault>
     ensures { result ≡ only_of table read }
 {
     match read {
@@ -17,9 +18,9 @@ pub fn only<R: Copy>(table: Table, read: Result<Vec<R>, TableFault>) -> Result<R
     }
 }
 
-/// The one row that was read, or `None` where there is none. `Damaged` with the table where there is more than one; the
-/// fault, where nothing was read.
-pub fn one_or_none<R: Copy>(
+// The one row that was read, or `None` where there is none. `Damaged` with the table where there is more than one; the
+// fault, where nothing was read.
+pub(crate) fn one_or_none<R: Copy>(
     table: Table,
     read: Result<Vec<R>, TableFault>,
 ) -> Result<Option<R>, TableFault>

@@ -54,25 +54,25 @@ fn open_span<S: Alter>(
     only(Table::Span2, read)
 }
 
-/// What is fitted to an aircraft, in the order in which it was fitted. `Damaged` with `span2` where an open span of the
-/// aircraft can't be read; `Memory` for want of memory, and `Store` for an error of the store.
+/// What is fitted to an aircraft, in the order of the entries that fitted it. `Damaged` with `span2` where an open span of
+/// the aircraft can't be read; `Memory` for want of memory, and `Store` for an error of the store.
 pub fn fitted<S: Alter>(
     alloc: Global,
     tx: &mut Transaction<'_, S>,
     aircraft: u32,
 ) -> Result<Vec<FittedComponent>, TableFault>
     ensures same_reference { tx.new.conn.ghost_name ≡ tx.old.conn.ghost_name }
-    ensures reads { ReadsFrom kept_span2 (λ rows components. AreFitted aircraft rows components.items)
-        (HasOtherFitted aircraft)
+    ensures reads { ReadsFrom kept_span2
+        (λ rows components. AreFitted aircraft rows components.items) (HasOtherFitted aircraft)
         (state S.Store tx.old.conn.now) (state S.Store tx.new.conn.now) result }
 {
     let spans = open_spans_by_aircraft(alloc, tx, aircraft)?;
     Ok(fitted_by(alloc, &spans)?)
 }
 
-/// Ends the open span of a component by this entry, at this moment. `Damaged` with `span2`, and nothing changed, where the
-/// component has no open span, more than one, or one that can't be read; `Memory` for want of memory, and `Store` for an
-/// error of the store.
+/// Ends the open span of a component by this entry, at this moment. `Damaged` with `span2`, and nothing changed, where
+/// the component has no open span, more than one, or one that can't be read; `Memory` for want of memory, and `Store`
+/// for an error of the store.
 pub fn end_span2<S: Alter>(
     alloc: Global,
     tx: &mut Transaction<'_, S>,

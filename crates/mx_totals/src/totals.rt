@@ -1,14 +1,13 @@
 //! The total of an item: its life now, and its clock.
-ghost use Rattle.std.specs.Prelude.{◌≡◌, ◌≢◌, ◌⊎◌, ◌∷◌, ⊤, List, map, All, Any, IsTrue, OnOk, IfErr, nat_eq, true};
+ghost use Rattle.std.specs.Prelude.{◌≡◌, ◌⊎◌, ◌∷◌, ⊤, All, Any, IsTrue, OnOk, IfErr, nat_eq, true};
 ghost use Rattle.mx_command.specs.Bounds.{are_distinct};
-ghost use Rattle.sqlite.specs.Order.{Row};
 ghost use Rattle.sqlite.specs.State.{HasCleanDisk};
 ghost use Rattle.sqlite.specs.Held.{state};
 ghost use Rattle.mx_kept.specs.Cells.{kept_total2};
 ghost use Rattle.mx_tables.specs.Calls.{OnRead};
 ghost use Rattle.mx_totals.specs.Calls.{ReadsFrom, ChangesRows, change_where};
 ghost use Rattle.mx_totals.specs.Single.{IsOnly, HasOne};
-ghost use Rattle.mx_totals.specs.Totals.{total_row, is_of_item, is_of_any, credited, clocked, CanCredit, IsCredited, AreCredited, totals_put};
+ghost use Rattle.mx_totals.specs.Totals.{total_row, is_of_item, is_of_any, credited, clocked, CanCredit, IsCredited};
 ghost use Rattle.mx_totals.specs.Steps.{ReadsTotals, PutsTotals};
 
 use crate::lives::{Total, life_with};
@@ -87,8 +86,8 @@ fn put_rows<S: Alter>(tx: &mut Transaction<'_, S>, rows: &[TotalRow]) -> Result<
     Ok(())
 }
 
-/// The total of an item. `Damaged` with `total2` where the item has no row there, more than one, or one that can't be read;
-/// `Memory` for want of memory, and `Store` for an error of the store.
+/// The total of an item. `Damaged` with `total2` where the item has no row there, more than one, or one that can't be
+/// read; `Memory` for want of memory, and `Store` for an error of the store.
 pub fn total<S: Alter>(
     alloc: Global,
     tx: &mut Transaction<'_, S>,
@@ -132,9 +131,9 @@ pub fn new_total<S: Alter>(
 }
 
 /// Adds the use to the life of each of these items, and to no other: all lives are read before the first is written.
-/// `Damaged` with `total2`, and nothing changed, where one of the items has no row there, more than one, one that can't be
-/// read, or a life that the sum would be past the most of: 1,540,000,000 minutes and 51,000,000 cycles. `Memory` for want
-/// of memory, and `Store` for an error of the store.
+/// `Damaged` with `total2`, and nothing changed, where one of the items has no row there, more than one, one that can't
+/// be read, or a life that the sum would take past the most: 1,540,000,000 minutes and 51,000,000 cycles. `Memory` for
+/// want of memory, and `Store` for an error of the store.
 pub fn credit<S: Alter>(
     alloc: Global,
     tx: &mut Transaction<'_, S>,
