@@ -19,19 +19,17 @@ use mx_command::{Command, Item};
 use std::alloc::Global;
 
 /// The verdict on a command, or the fault of the question that there was none for.
-pub fn judge_interrupted(
-    mut records: Failing<'_>,
-    command: &Command,
-) -> Result<Verdict, Interrupted>
+pub fn judge_interrupted(records: Failing<'_>, command: &Command) -> Result<Verdict, Interrupted>
     ensures { MatchResult result (λ verdict. verdict ≡ judge records.book.now command.now)
         (λ fault. fault ≡ record { code = records.code }) }
 {
-    verdict_on(&mut records, command)
+    let mut asked = records;
+    verdict_on(&mut asked, command)
 }
 
 /// When a task is due on an item, or the fault of the question that there was none for.
 pub fn due_interrupted(
-    mut records: Failing<'_>,
+    records: Failing<'_>,
     item: &Item,
     kind: &Kind,
     task: &TaskId,
@@ -39,12 +37,13 @@ pub fn due_interrupted(
     ensures { MatchResult result (λ limit. limit ≡ due records.book.now item.now kind.now task.now)
         (λ fault. fault ≡ record { code = records.code }) }
 {
-    due_of_kind(&mut records, item, kind, task)
+    let mut asked = records;
+    due_of_kind(&mut asked, item, kind, task)
 }
 
 /// The due list of an aircraft, or the fault of the question that there was none for, or that memory ran out.
 pub fn dues_interrupted(
-    mut records: Failing<'_>,
+    records: Failing<'_>,
     alloc: Global,
     tail: &Tail,
     day: Day,
@@ -52,24 +51,26 @@ pub fn dues_interrupted(
     ensures { MatchResult result (λ list. list ≡ due_list records.book.now tail.now day)
         (IsStop records.code) }
 {
-    list_dues(&mut records, alloc, tail, day)
+    let mut asked = records;
+    list_dues(&mut asked, alloc, tail, day)
 }
 
 /// The life list of an aircraft, or the fault of the question that there was none for, or that memory ran out.
 pub fn lives_interrupted(
-    mut records: Failing<'_>,
+    records: Failing<'_>,
     alloc: Global,
     tail: &Tail,
 ) -> Result<Option<LifeList>, Stop<Interrupted>>
     ensures { MatchResult result (λ list. list ≡ life_list records.book.now tail.now)
         (IsStop records.code) }
 {
-    list_lives(&mut records, alloc, tail)
+    let mut asked = records;
+    list_lives(&mut asked, alloc, tail)
 }
 
 /// The limits of an aircraft, or the fault of the question that there was none for, or that memory ran out.
 pub fn limits_interrupted(
-    mut records: Failing<'_>,
+    records: Failing<'_>,
     alloc: Global,
     tail: &Tail,
     day: Day,
@@ -77,12 +78,13 @@ pub fn limits_interrupted(
     ensures { MatchResult result (λ list. list ≡ limits records.book.now tail.now day)
         (IsStop records.code) }
 {
-    list_limits(&mut records, alloc, tail, day)
+    let mut asked = records;
+    list_limits(&mut asked, alloc, tail, day)
 }
 
 /// The forecast of an aircraft, or the fault of the question that there was none for, or that memory ran out.
 pub fn forecast_interrupted(
-    mut records: Failing<'_>,
+    records: Failing<'_>,
     alloc: Global,
     tail: &Tail,
     day: Day,
@@ -94,5 +96,6 @@ pub fn forecast_interrupted(
         (λ list. list ≡ forecast records.book.now tail.now day days minutes cycles)
         (IsStop records.code) }
 {
-    list_forecast(&mut records, alloc, tail, day, days, minutes, cycles)
+    let mut asked = records;
+    list_forecast(&mut asked, alloc, tail, day, days, minutes, cycles)
 }
