@@ -1,19 +1,15 @@
 -- Rows that are changed: they are read, and then each comes in place of what it was.
-use Rattle.std.proofs.Common.{◌≡◌, ◌⊎◌, Bool, List, [], ◌∷◌, filter, not, Ok, Err, Result, OnOk, IsTrue, IsPermutation, refl, sym, ap, subst, ◌∙◌, arith}
+use Rattle.std.proofs.Common.{◌≡◌, Bool, List, [], ◌∷◌, filter, not, Ok, Err, Result, OnOk, IsTrue, IsPermutation, sym, ap, subst, ◌∙◌, arith}
 use Rattle.std.specs.Prelude.{IsErrAnd, ⊤}
-use Rattle.std.specs.List.{AllByRecursion}
 use Rattle.std.proofs.lemmas.List.Sorted.{IsPermutation-trans}
 use Rattle.sqlite.specs.Order.{Row}
 use Rattle.sqlite.specs.Table.{Table}
-use Rattle.sqlite.specs.Schema.{Schema}
-use Rattle.sqlite.specs.Tree.{Trees}
 use Rattle.sqlite.specs.Effect.{Database}
 use Rattle.sqlite.specs.State.{State, HasCleanDisk}
 use Rattle.mx_layout.specs.declared.fault.TableFault.{TableFault}
 use Rattle.mx_layout.specs.Contents.{rows_in, HasNoReferences, Rises}
 use Rattle.mx_layout.specs.Crash.{IsWithin}
 use Rattle.mx_layout.specs.Names.{table_named}
-use Rattle.mx_layout.specs.Writing.{Gains}
 use Rattle.mx_layout.proofs.CrashLemmas.{within_then, stays_then}
 use Rattle.mx_kept.specs.Kept.{Kept}
 use Rattle.mx_tables.specs.Calls.{OnRead, InsertsRow}

@@ -1,10 +1,10 @@
 -- Lives that a use is added to: all are read, and then each is written in place of what it was.
-use Rattle.std.proofs.Common.{◌≡◌, ◌⊎◌, inl, inr, ℕ, ◌+◌, ◌<◌, pos, Bool, true, false, not, ◌||◌, ◌&&◌, eqb, cond, List, [], ◌∷◌, ◌++◌, map, filter, take, length, get_or, All, Any, Ok, Err, Result, OnOk, IfOk, IsTrue, IsPermutation, refl, sym, ap, subst, ◌∙◌, arith}
+use Rattle.std.proofs.Common.{◌≡◌, ℕ, pos, Bool, true, false, not, ◌||◌, ◌&&◌, cond, List, [], ◌∷◌, ◌++◌, map, filter, IsPermutation, refl, sym, ap, subst, ◌∙◌, arith}
 use Rattle.std.specs.Prelude.{nat_eq, if◌then◌else◌}
 use Rattle.std.specs.List.{AllByRecursion, IsDistinct, list_any}
 use Rattle.std.proofs.lemmas.Bool.Decides.{nat_tests}
-use Rattle.std.proofs.lemmas.List.Sorted.{IsPermutation-refl, IsPermutation-trans, IsPermutation-map, IsPermutation-cons}
-use Rattle.sqlite_keyed.proofs.ListLemmas.{IsPermutation-same, IsPermutation-filter}
+use Rattle.std.proofs.lemmas.List.Sorted.{IsPermutation-trans, IsPermutation-map}
+use Rattle.sqlite_keyed.proofs.ListLemmas.{IsPermutation-same}
 use Rattle.sqlite.specs.declared.types.Value.TheVariants.{Int}
 use Rattle.sqlite.specs.Order.{Row}
 use Rattle.sqlite.specs.Collation.TheVariants.{Binary}
@@ -16,7 +16,7 @@ use Rattle.mx_kept.specs.Cells.{kept_total2}
 use Rattle.mx_chosen.proofs.EqualLemmas.{equal_numbers}
 use Rattle.mx_totals.specs.Calls.{change_where}
 use Rattle.mx_totals.specs.Single.{IsOnly}
-use Rattle.mx_totals.specs.Totals.{is_of_item, is_of_any, credited, total_with, IsCredited, AreCredited, totals_put}
+use Rattle.mx_totals.specs.Totals.{is_of_item, is_of_any, credited, IsCredited, AreCredited, totals_put}
 use Rattle.mx_totals.proofs.RowLemmas.{passes_only, split_one, filter_either, same_else, map_same, number_is}
 
 or_first : (p q : Bool) → p || q ≡ false → p ≡ false

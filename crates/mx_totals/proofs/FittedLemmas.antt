@@ -1,12 +1,12 @@
 -- What is fitted to an aircraft, from its open spans.
-use Rattle.std.proofs.Common.{◌≡◌, ◌⊎◌, inl, inr, ℕ, pos, List, map, filter, Vec, None, Ok, Err, Result, IsTrue, IsPermutation, Contains, refl, sym, subst}
+use Rattle.std.proofs.Common.{◌≡◌, inl, ℕ, pos, map, filter, Vec, None, Ok, Err, Result, IsPermutation, refl, sym, subst}
 use Rattle.std.specs.Prelude.{IsErrAnd, IsSorted}
 use Rattle.std.proofs.lemmas.List.Sorted.{IsPermutation-sym, Contains-permutation}
 use Rattle.sqlite.specs.declared.types.Value.TheVariants.{Int}
 use Rattle.sqlite.specs.State.{State}
 use Rattle.mx_typed_rows.specs.declared.rows.SpanRow.{SpanRow}
 use Rattle.mx_layout.specs.declared.fault.TableFault.{TableFault}
-use Rattle.mx_layout.specs.declared.fault.TableFault.TheVariants.{Memory, Damaged}
+use Rattle.mx_layout.specs.declared.fault.TableFault.TheVariants.{Memory}
 use Rattle.mx_layout.specs.Contents.{rows_in}
 use Rattle.mx_layout.specs.Tables.{span2}
 use Rattle.mx_kept.specs.Cells.{kept_span2}

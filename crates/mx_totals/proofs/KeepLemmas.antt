@@ -1,6 +1,6 @@
 -- Calls one after another that change nothing.
-use Rattle.std.proofs.Common.{◌≡◌, ◌⊎◌, inl, inr, Ok, Err, Result, OnOk, IfErr, IsTrue, refl, sym, ap, subst, ◌∙◌}
-use Rattle.sqlite.specs.State.{State, Shows, KeepsCounts, IsUnchanged}
+use Rattle.std.proofs.Common.{◌≡◌, ◌⊎◌, inl, inr, Ok, Err, Result, OnOk, IfErr, refl, sym, subst, ◌∙◌}
+use Rattle.sqlite.specs.State.{State, IsUnchanged}
 use Rattle.mx_layout.specs.TableName.{TableName}
 use Rattle.mx_layout.specs.declared.fault.TableFault.{TableFault}
 use Rattle.mx_layout.specs.declared.fault.TableFault.TheVariants.{Memory, Store, NotOurs, Exists, Damaged}

@@ -1,7 +1,6 @@
 -- What is read of a table, from the chosen rows that are read.
 use Rattle.std.proofs.Common.{◌≡◌, inl, inr, Bool, List, [], ◌∷◌, map, filter, Option, None, Some, Vec, Ok, Err, Result, All, refl, sym, ap, subst, ◌∙◌, IsTrue, Contains, arith}
 use Rattle.std.specs.Prelude.{IsErrAnd}
-use Rattle.std.specs.Option.{option_map}
 use Rattle.std.specs.List.Sorted.{IsPermutation}
 use Rattle.std.proofs.lemmas.List.Sorted.{IsPermutation-sym}
 use Rattle.sqlite_rules.proofs.ListLemmas.{has_contained}

@@ -1,8 +1,7 @@
 -- Totals that are read one after another, and then written one after another.
-use Rattle.std.proofs.Common.{◌≡◌, ◌≢◌, ◌⊎◌, inl, inr, ℕ, ◌<◌, pos, List, [], ◌∷◌, ◌++◌, filter, not, length, get_or, All, Any, Ok, Err, Result, OnOk, IfErr, IsTrue, refl, sym, ap, subst, ◌∙◌, arith}
+use Rattle.std.proofs.Common.{◌≡◌, ◌≢◌, inl, ℕ, ◌<◌, List, [], ◌∷◌, ◌++◌, not, length, get_or, All, Any, Ok, Err, Result, OnOk, refl, sym, subst, ◌∙◌, arith}
 use Rattle.std.specs.Prelude.{IsErrAnd, nat_eq}
 use Rattle.std.specs.List.{AllByRecursion, IsDistinct}
-use Rattle.std.specs.List.Sorted.{IsPermutation}
 use Rattle.std.proofs.lemmas.List.Elements.{All-nil, All-cons}
 use Rattle.std.proofs.lemmas.List.Sorted.{IsPermutation-refl, IsPermutation-trans, IsPermutation-cons}
 use Rattle.sqlite_keyed.proofs.ListLemmas.{IsPermutation-same, IsPermutation-filter}
@@ -15,19 +14,18 @@ use Rattle.sqlite.specs.State.{State, HasCleanDisk}
 use Rattle.mx_base.specs.declared.amounts.Use.{Use}
 use Rattle.mx_typed_rows.specs.declared.rows.TotalRow.{TotalRow}
 use Rattle.mx_layout.specs.declared.fault.TableFault.{TableFault}
-use Rattle.mx_layout.specs.declared.fault.TableFault.TheVariants.{Memory, Store, Damaged}
+use Rattle.mx_layout.specs.declared.fault.TableFault.TheVariants.{Memory}
 use Rattle.mx_layout.specs.declared.fault.Table.TheVariants.{Total2}
 use Rattle.mx_layout.specs.Contents.{rows_in, HasNoReferences, Rises}
 use Rattle.mx_layout.specs.Crash.{IsWithin}
 use Rattle.mx_layout.specs.Tables.{total2}
 use Rattle.mx_layout.proofs.CrashLemmas.{within_then, within_itself, stays_then}
 use Rattle.mx_kept.specs.Cells.{kept_total2}
-use Rattle.mx_tables.specs.Calls.{OnRead}
 use Rattle.mx_chosen.specs.Choices.{Replaces}
 use Rattle.mx_chosen.specs.Calls.{ReplacesRows}
 use Rattle.mx_totals.specs.Calls.{change_where, Becomes, ReadsFrom, ChangesRows}
 use Rattle.mx_totals.specs.Totals.{is_of_item, is_of_any, credited, CanCredit, IsCredited, AreCredited, totals_put}
-use Rattle.mx_totals.specs.Steps.{Keeps, ReadsTotals, PutsTotals}
+use Rattle.mx_totals.specs.Steps.{ReadsTotals, PutsTotals}
 use Rattle.mx_totals.proofs.ReadLemmas.{stopped_is}
 use Rattle.mx_totals.proofs.KeepLemmas.{keeps_itself, keeps_then, unchanged_after, stays_itself, on_ok, on_ok_weaker, on_read, not_damaged, caused, read_weaker, at_damage}
 use Rattle.mx_totals.proofs.CreditLemmas.{credited_put, credited_more, put_more}

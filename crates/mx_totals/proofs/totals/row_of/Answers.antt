@@ -1,5 +1,4 @@
-use Rattle.std.proofs.Common.{pos, sym, subst}
-use Rattle.sqlite.specs.declared.types.Value.TheVariants.{Int}
+use Rattle.std.proofs.Common.{sym, subst}
 use Rattle.sqlite.specs.Held.{state}
 use Rattle.mx_kept.specs.Cells.{kept_total2}
 use Rattle.mx_totals.specs.Calls.{ReadsFrom}

@@ -1,4 +1,4 @@
-use Rattle.std.proofs.Common.{ap, subst, ◌≡◌}
+use Rattle.std.proofs.Common.{ap, subst}
 use Rattle.sqlite.specs.Held.{state}
 use Rattle.mx_due.specs.Due.{IsLife}
 use Rattle.mx_base.specs.declared.amounts.Use.{Use}

@@ -1,4 +1,4 @@
-use Rattle.std.proofs.Common.{refl, ◌∙◌, ◌≡◌, ◌+◌, ◌<◌, ℕ, suc, get_or, length, List, ◌++◌, [], ◌∷◌, take, Ok, sym, subst, ap, arith}
+use Rattle.std.proofs.Common.{◌∙◌, ◌≡◌, ◌+◌, ◌<◌, ℕ, suc, get_or, length, List, ◌++◌, [], ◌∷◌, take, Ok, sym, subst, arith}
 use Rattle.std.proofs.lemmas.List.{get_or_default}
 use Rattle.std.proofs.Math.Seq.{take-suc}
 use Rattle.sqlite.specs.Held.{state}
