@@ -6,3 +6,4 @@ pub mod CreditLemmas
 pub mod SpanLemmas
 pub mod FittedLemmas
 pub mod StepLemmas
+mod WorkedTotals
