@@ -12,90 +12,128 @@ ghost use Rattle.mx_sweeps.specs.Failing.{IsStop};
 use crate::failing::{Failing, Interrupted};
 use mx_base::{Day, Kind, Limit, Tail, TaskId};
 use mx_book::{
-    DueList, ForecastList, LifeList, LimitList, Stop, Verdict, due_of_kind, list_dues,
+    Book, DueList, ForecastList, LifeList, LimitList, Stop, Verdict, due_of_kind, list_dues,
     list_forecast, list_limits, list_lives, verdict_on,
 };
 use mx_command::{Command, Item};
 use std::alloc::Global;
 
-/// The verdict on a command, or the fault of the question that there was none for.
-pub fn judge_interrupted(records: Failing<'_>, command: &Command) -> Result<Verdict, Interrupted>
-    ensures { MatchResult result (λ verdict. verdict ≡ judge records.book.now command.now)
-        (λ fault. fault ≡ record { code = records.code }) }
+/// The verdict on a command by at most so many questions, or the fault of the next.
+pub fn judge_interrupted(
+    book: &Book,
+    command: &Command,
+    questions: u32,
+    code: u32,
+) -> Result<Verdict, Interrupted>
+    ensures { MatchResult result (λ verdict. verdict ≡ judge book.now command.now)
+        (λ fault. fault ≡ record { code = code }) }
 {
-    let mut asked = records;
-    verdict_on(&mut asked, command)
+    let mut records = Failing {
+        book,
+        left: questions,
+        code,
+    };
+    verdict_on(&mut records, command)
 }
 
-/// When a task is due on an item, or the fault of the question that there was none for.
+/// When a task is due on an item, by at most so many questions, or the fault of the next.
 pub fn due_interrupted(
-    records: Failing<'_>,
+    book: &Book,
     item: &Item,
     kind: &Kind,
     task: &TaskId,
+    questions: u32,
+    code: u32,
 ) -> Result<Option<Limit>, Interrupted>
-    ensures { MatchResult result (λ limit. limit ≡ due records.book.now item.now kind.now task.now)
-        (λ fault. fault ≡ record { code = records.code }) }
+    ensures { MatchResult result (λ limit. limit ≡ due book.now item.now kind.now task.now)
+        (λ fault. fault ≡ record { code = code }) }
 {
-    let mut asked = records;
-    due_of_kind(&mut asked, item, kind, task)
+    let mut records = Failing {
+        book,
+        left: questions,
+        code,
+    };
+    due_of_kind(&mut records, item, kind, task)
 }
 
-/// The due list of an aircraft, or the fault of the question that there was none for, or that memory ran out.
+/// The due list of an aircraft by at most so many questions, or the fault of the next, or that memory ran out.
 pub fn dues_interrupted(
-    records: Failing<'_>,
+    book: &Book,
     alloc: Global,
     tail: &Tail,
     day: Day,
+    questions: u32,
+    code: u32,
 ) -> Result<Option<DueList>, Stop<Interrupted>>
-    ensures { MatchResult result (λ list. list ≡ due_list records.book.now tail.now day)
-        (IsStop records.code) }
+    ensures { MatchResult result (λ list. list ≡ due_list book.now tail.now day)
+        (IsStop code) }
 {
-    let mut asked = records;
-    list_dues(&mut asked, alloc, tail, day)
+    let mut records = Failing {
+        book,
+        left: questions,
+        code,
+    };
+    list_dues(&mut records, alloc, tail, day)
 }
 
-/// The life list of an aircraft, or the fault of the question that there was none for, or that memory ran out.
+/// The life list of an aircraft by at most so many questions, or the fault of the next, or that memory ran out.
 pub fn lives_interrupted(
-    records: Failing<'_>,
+    book: &Book,
     alloc: Global,
     tail: &Tail,
+    questions: u32,
+    code: u32,
 ) -> Result<Option<LifeList>, Stop<Interrupted>>
-    ensures { MatchResult result (λ list. list ≡ life_list records.book.now tail.now)
-        (IsStop records.code) }
+    ensures { MatchResult result (λ list. list ≡ life_list book.now tail.now)
+        (IsStop code) }
 {
-    let mut asked = records;
-    list_lives(&mut asked, alloc, tail)
+    let mut records = Failing {
+        book,
+        left: questions,
+        code,
+    };
+    list_lives(&mut records, alloc, tail)
 }
 
-/// The limits of an aircraft, or the fault of the question that there was none for, or that memory ran out.
+/// The limits of an aircraft by at most so many questions, or the fault of the next, or that memory ran out.
 pub fn limits_interrupted(
-    records: Failing<'_>,
+    book: &Book,
     alloc: Global,
     tail: &Tail,
     day: Day,
+    questions: u32,
+    code: u32,
 ) -> Result<Option<LimitList>, Stop<Interrupted>>
-    ensures { MatchResult result (λ list. list ≡ limits records.book.now tail.now day)
-        (IsStop records.code) }
+    ensures { MatchResult result (λ list. list ≡ limits book.now tail.now day)
+        (IsStop code) }
 {
-    let mut asked = records;
-    list_limits(&mut asked, alloc, tail, day)
+    let mut records = Failing {
+        book,
+        left: questions,
+        code,
+    };
+    list_limits(&mut records, alloc, tail, day)
 }
 
-/// The forecast of an aircraft, or the fault of the question that there was none for, or that memory ran out.
+/// The forecast of an aircraft by at most so many questions, or the fault of the next, or that memory ran out.
 pub fn forecast_interrupted(
-    records: Failing<'_>,
+    book: &Book,
     alloc: Global,
     tail: &Tail,
     day: Day,
     days: u32,
     minutes: u32,
     cycles: u32,
+    questions: u32,
+    code: u32,
 ) -> Result<Option<ForecastList>, Stop<Interrupted>>
-    ensures { MatchResult result
-        (λ list. list ≡ forecast records.book.now tail.now day days minutes cycles)
-        (IsStop records.code) }
+    ensures { MatchResult result (λ list. list ≡ forecast book.now tail.now day days minutes cycles)
+        (IsStop code) }
 {
-    let mut asked = records;
-    list_forecast(&mut asked, alloc, tail, day, days, minutes, cycles)
+    let mut records = Failing {
+        book,
+        left: questions,
+        code,
+    };
+    list_forecast(&mut records, alloc, tail, day, days, minutes, cycles)
 }

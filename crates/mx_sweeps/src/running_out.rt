@@ -1,7 +1,7 @@
 //! A book whose questions run out. Each command of a list is judged, and each list of an aircraft is made, by no question,
 //! by one, and so on until it is answered: before that each is stopped by the fault in wait.
 
-use crate::failing::{Failing, Interrupted};
+use crate::failing::Interrupted;
 use crate::interrupted::{
     dues_interrupted, forecast_interrupted, judge_interrupted, limits_interrupted,
     lives_interrupted,
@@ -47,18 +47,9 @@ fn is_answered<T: Drop>(answer: Result<T, Stop<Interrupted>>, code: u32) -> Resu
     }
 }
 
-// A book that answers so many questions, and then tells their number.
-fn running_out(book: &Book, questions: u32) -> Failing<'_> {
-    Failing {
-        book,
-        left: questions,
-        code: questions,
-    }
-}
-
 // Whether a command is judged by so many questions.
 fn is_judged(book: &Book, command: &Command, questions: u32) -> Result<bool, Wrong> {
-    match judge_interrupted(running_out(book, questions), command) {
+    match judge_interrupted(book, command, questions, questions) {
         Ok(_) => Ok(true),
         Err(fault) => {
             is_in_wait(Stop::Fault(fault), questions)?;
@@ -102,13 +93,12 @@ fn is_listed(
     questions: u32,
 ) -> Result<bool, Wrong> {
     let n = questions;
-    let records = running_out(book, n);
     match list {
-        List::Life => is_answered(lives_interrupted(records, alloc, tail), n),
-        List::Dues => is_answered(dues_interrupted(records, alloc, tail, day), n),
-        List::Limits => is_answered(limits_interrupted(records, alloc, tail, day), n),
+        List::Life => is_answered(lives_interrupted(book, alloc, tail, n, n), n),
+        List::Dues => is_answered(dues_interrupted(book, alloc, tail, day, n, n), n),
+        List::Limits => is_answered(limits_interrupted(book, alloc, tail, day, n, n), n),
         List::Forecast => {
-            let answer = forecast_interrupted(records, alloc, tail, day, 365, 120, 1);
+            let answer = forecast_interrupted(book, alloc, tail, day, 365, 120, 1, n, n);
             is_answered(answer, n)
         }
     }
