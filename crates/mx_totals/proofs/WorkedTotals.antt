@@ -1,5 +1,5 @@
 -- Worked rows: what becomes of the rows of totals, spans and last bases, by hand.
-use Rattle.std.proofs.Common.{◌≡◌, ℕ, refl, pos, true, false, map, filter, List, [], ◌∷◌}
+use Rattle.std.proofs.Common.{◌≡◌, ℕ, refl, Some, None, Ok, Err, pos, true, false, map, filter, List, [], ◌∷◌}
 use Rattle.std.specs.Prelude.{codes}
 use Rattle.sqlite.specs.Order.{Row}
 use Rattle.sqlite.specs.declared.types.Value.TheVariants.{Int, Text, Null}
@@ -8,11 +8,14 @@ use Rattle.sqlite_value.specs.Order.{value_cmp}
 use lib.Ieee.{is_nan, lt}
 use Rattle.mx_base.specs.declared.amounts.Use.{Use}
 use Rattle.mx_typed_rows.specs.declared.rows.TotalRow.{TotalRow}
+use Rattle.mx_layout.specs.declared.fault.Table.TheVariants.{Total2, Base2}
+use Rattle.mx_layout.specs.declared.fault.TableFault.TheVariants.{Store, Damaged}
 use Rattle.mx_totals.specs.declared.lives.Total.{Total}
 use Rattle.mx_totals.specs.Bases.{is_of_task}
 use Rattle.mx_totals.specs.Calls.{change_where}
-use Rattle.mx_totals.specs.Spans.{ended}
-use Rattle.mx_totals.specs.Totals.{clocked, credited, is_of_any, is_of_item, life_with, total_row, totals_put}
+use Rattle.mx_totals.specs.Single.{one_in, only_of, one_or_none_in, one_or_none_of}
+use Rattle.mx_totals.specs.Spans.{ended, fitted_by}
+use Rattle.mx_totals.specs.Totals.{clocked, credited, is_of_any, is_of_item, life_with, total_row, total_with, totals_put}
 
 -- 60,000 minutes and 800 cycles of items 1 and 2, 1,000 and 100 of item 3, up to the first moment of 2024
 row : (item minutes cycles clock : ℕ) → Row
@@ -63,3 +66,22 @@ bases_of : filter (is_of_task 1 (codes "100H")) ((Int (pos 1) ∷ Text (codes "1
     ≡ (Int (pos 1) ∷ Text (codes "100H") ∷ []) ∷ []
 unfolding binary value_cmp is_nan lt
 bases_of = refl
+
+-- one row is taken where there is one, and a table with more is damaged
+found_one : (one_in {X = ℕ} Total2 (7 ∷ []) ≡ Ok 7) × (one_in {X = ℕ} Total2 (7 ∷ 8 ∷ []) ≡ Err (Damaged Total2)) × (one_in {X = ℕ} Total2 [] ≡ Err (Damaged Total2))
+found_one = (refl, refl, refl)
+
+found_any : (one_or_none_in {X = ℕ} Base2 (7 ∷ []) ≡ Ok (Some 7)) × (one_or_none_in {X = ℕ} Base2 (7 ∷ 8 ∷ []) ≡ Err (Damaged Base2)) × (one_or_none_in {X = ℕ} Base2 [] ≡ Ok None)
+found_any = (refl, refl, refl)
+
+-- what stopped the reading is told
+stopped : (only_of {X = ℕ} {A = ℕ} Total2 (Err Store) ≡ Err Store) × (one_or_none_of {X = ℕ} {A = ℕ} Base2 (Err Store) ≡ Err Store)
+stopped = (refl, refl)
+
+-- the position and the component of a span
+fitted : fitted_by (record { fit_seq = 4; component = 2; aircraft = 1; position = codes "ENG"; from = 28401120; remove_seq = None; to = None }) ≡ record { position = codes "ENG"; component = 2 }
+fitted = refl
+
+-- a total keeps its item and its clock
+flown : total_with sector (record { item = 3; life = record { minutes = 1000; cycles = 100 }; clock = 28401120 }) ≡ record { item = 3; life = record { minutes = 1030; cycles = 101 }; clock = 28401120 }
+flown = refl
