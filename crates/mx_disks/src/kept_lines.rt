@@ -28,12 +28,13 @@ fn committed<S: Alter>(
     done: Result<(), TableFault>,
 ) -> Result<String, Unmade> {
     let mut text = room(alloc)?;
-    match done {
-        Ok(()) => match tx.commit() {
-            Ok(()) => text.push_str("ok")?,
-            Err(error) => append_error(&mut text, error)?,
-        },
-        Err(fault) => append_table_fault(&mut text, fault)?,
+    if let Err(fault) = done {
+        append_table_fault(&mut text, fault)?;
+        return Ok(text);
+    }
+    match tx.commit() {
+        Ok(()) => text.push_str("ok")?,
+        Err(error) => append_error(&mut text, error)?,
     }
     Ok(text)
 }
