@@ -3,8 +3,9 @@ ghost use Rattle.std.specs.Prelude.{◌≡◌, false, IfErr};
 
 use crate::database_lines::answer_of_database;
 use crate::office_lines::answer_of_office;
-use crate::texts::{append_open_fault, room};
+use crate::texts::append_open_fault;
 use mx_cases::{Asked, Unmade};
+use mx_kept_lines::room;
 use mx_office::{Office, OpenFault, open_office};
 use sqlite::{Alter, Connection};
 use std::alloc::Global;

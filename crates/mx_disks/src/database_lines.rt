@@ -2,9 +2,9 @@
 ghost use Rattle.std.specs.Prelude.{◌≡◌, false};
 
 use crate::calls::{created, created_next};
-use crate::kept_lines::answer_of_kept_rows;
-use crate::texts::{append_error, append_table_fault, error_text, room};
+use crate::texts::{append_error, error_text};
 use mx_cases::{Unmade, append_joined, append_word, or_none};
+use mx_kept_lines::{answer_of_kept_rows, append_table_fault, room};
 use mx_layout::{TableFault, point};
 use sqlite::types::ValueRef;
 use sqlite::{Alter, Connection, Row};

@@ -3,8 +3,9 @@
 use crate::files::{
     Fused, Held, Pair, asked_in, asked_of_files, copied, empty_files, left_by, lose_power,
 };
-use crate::texts::{append_error, room};
+use crate::texts::append_error;
 use mx_cases::{Asked, Disks, Setting, Unmade};
+use mx_kept_lines::room;
 use mx_office::Office;
 use std::alloc::{AllocError, Global};
 

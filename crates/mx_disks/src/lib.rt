@@ -27,7 +27,6 @@ mod calls;
 mod database_lines;
 pub mod disks;
 mod files;
-mod kept_lines;
 mod office_lines;
 mod texts;
 

@@ -3,10 +3,11 @@
 use crate::calls::{
     applied, dues_of, entries_of, forecast_of, is_in_doubt, life_of, limits_of, list_of, ran,
 };
-use crate::texts::{answers_in, append_fault, ask_text, room};
+use crate::texts::{answers_in, append_fault, ask_text};
 use mx_base::{Day, Serial, Tail};
 use mx_cases::{Asked, Unmade, command_of, documents, joined_lines, room_for_replies, yes_or_no};
 use mx_command::{Command, Item};
+use mx_kept_lines::room;
 use mx_office::{Ask, Fault, Office};
 use mx_reports::{Text, append_whole};
 use sqlite::Alter;

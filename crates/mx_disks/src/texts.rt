@@ -3,20 +3,10 @@
 
 use mx_book::Reply;
 use mx_cases::{Unmade, append_joined, or_none, replies_in, room_for_replies};
-use mx_layout::{Table, TableFault};
+use mx_kept_lines::{append_damaged, room};
 use mx_office::{Ask, Fault, OpenFault};
 use sqlite::{Constraint, Error, ErrorCode};
 use std::alloc::{AllocError, Global};
-
-/// Room for one answer.
-pub(crate) fn room(alloc: Global) -> Result<String, AllocError> {
-    String::with_capacity(alloc, 64)
-}
-
-fn append_damaged(out: &mut String, table: Table) -> Result<(), AllocError> {
-    out.push_str("fault damaged ")?;
-    out.push_str(table.name())
-}
 
 /// Appends why a call of an office was stopped.
 pub(crate) fn append_fault(out: &mut String, fault: Fault) -> Result<(), AllocError> {
@@ -37,17 +27,6 @@ pub(crate) fn append_open_fault(out: &mut String, fault: OpenFault) -> Result<()
         OpenFault::NewerLayout(layout) => write!(out, "fault newer {layout}"),
         OpenFault::OlderLayout(layout) => write!(out, "fault older {layout}"),
         OpenFault::Damaged(table) => append_damaged(out, table),
-    }
-}
-
-/// Appends why a call on the tables did not do its work.
-pub(crate) fn append_table_fault(out: &mut String, fault: TableFault) -> Result<(), AllocError> {
-    match fault {
-        TableFault::Memory => out.push_str("fault memory"),
-        TableFault::Store => out.push_str("fault store"),
-        TableFault::NotOurs => out.push_str("fault not-ours"),
-        TableFault::Exists => out.push_str("fault exists"),
-        TableFault::Damaged(table) => append_damaged(out, table),
     }
 }
 

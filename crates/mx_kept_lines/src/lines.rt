@@ -2,7 +2,7 @@
 ghost use Rattle.std.specs.Prelude.{◌≡◌, false, nat_eq};
 ghost use Rattle.mx_command.specs.Bounds.{are_distinct};
 
-use crate::texts::{append_error, append_table_fault, room};
+use crate::texts::{append_table_fault, room};
 use mx_base::{Day, Moment, TaskId, Use};
 use mx_cases::{Unmade, append_joined, or_none};
 use mx_layout::TableFault;
@@ -34,7 +34,7 @@ fn committed<S: Alter>(
     }
     match tx.commit() {
         Ok(()) => text.push_str("ok")?,
-        Err(error) => append_error(&mut text, error)?,
+        Err(_) => append_table_fault(&mut text, TableFault::Store)?,
     }
     Ok(text)
 }
@@ -213,7 +213,7 @@ fn end<S: Alter>(
 }
 
 /// What the kept rows of a database answer to a line behind `kept`.
-pub(crate) fn answer_of_kept_rows<S: Alter>(
+pub fn answer_of_kept_rows<S: Alter>(
     alloc: Global,
     conn: &mut Connection<S>,
     words: &[&str],
