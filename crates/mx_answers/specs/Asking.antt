@@ -1,7 +1,7 @@
 -- What texts name and ask for, if each of them can be read: a registration, a document, and the question for a list of an aircraft.
 use Rattle.std.specs.Prelude.{ℕ, List, Bool, ◌&&◌, nat_le, Option, Some, None, if◌then◌else◌}
 use Rattle.mx_base.specs.Identifier.{is_graphic, is_tail_character}
-use Rattle.mx_book.specs.declared.forecast.TheConstants.{MOST_DAYS, MOST_MINUTES, MOST_CYCLES}
+use Rattle.mx_lists.specs.declared.forecast.TheConstants.{MOST_DAYS, MOST_MINUTES, MOST_CYCLES}
 use Rattle.mx_intake.specs.Form.{if_read}
 use Rattle.mx_intake.specs.Vocabulary.{day_of_text, identifier_of}
 use Rattle.mx_answers.specs.declared.question.Question.{Question}

@@ -2,10 +2,10 @@
 use Rattle.std.specs.Prelude.{ℕ, List, Option, ⊤}
 use Rattle.std.specs.Option.{option_map}
 use Rattle.mx_command.specs.Act.{Entry}
-use Rattle.mx_book.specs.DueList.{due_list}
-use Rattle.mx_book.specs.Forecast.{forecast}
-use Rattle.mx_book.specs.LimitList.{limits}
-use Rattle.mx_book.specs.Lists.{life_list}
+use Rattle.mx_lists.specs.DueList.{due_list}
+use Rattle.mx_lists.specs.Forecast.{forecast}
+use Rattle.mx_lists.specs.LimitList.{limits}
+use Rattle.mx_lists.specs.Lists.{life_list}
 use Rattle.mx_reports.specs.DueText.{due_lines}
 use Rattle.mx_reports.specs.ForecastText.{forecast_lines}
 use Rattle.mx_reports.specs.LifeText.{life_lines}

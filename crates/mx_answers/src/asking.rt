@@ -3,8 +3,8 @@ ghost use Rattle.std.specs.Prelude.{◌≡◌};
 ghost use Rattle.mx_answers.specs.Asking.{due_question, forecast_question, is_in_reach, life_question, limits_question};
 
 use crate::question::Question;
-use mx_book::{MOST_CYCLES, MOST_DAYS, MOST_MINUTES};
 use mx_intake::{read_day, read_identifier};
+use mx_lists::{MOST_CYCLES, MOST_DAYS, MOST_MINUTES};
 
 /// The question for the life of an aircraft, or `None` where the text is no registration.
 pub fn life_question(tail: &str) -> Option<Question>

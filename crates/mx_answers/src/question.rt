@@ -1,10 +1,10 @@
 //! Questions for a list of an aircraft, and what an open office answers.
 ghost use Rattle.std.specs.Prelude.{IfOk};
 ghost use Rattle.std.specs.Option.{option_map};
-ghost use Rattle.mx_book.specs.DueList.{due_list};
-ghost use Rattle.mx_book.specs.Forecast.{forecast};
-ghost use Rattle.mx_book.specs.LimitList.{limits};
-ghost use Rattle.mx_book.specs.Lists.{life_list};
+ghost use Rattle.mx_lists.specs.DueList.{due_list};
+ghost use Rattle.mx_lists.specs.Forecast.{forecast};
+ghost use Rattle.mx_lists.specs.LimitList.{limits};
+ghost use Rattle.mx_lists.specs.Lists.{life_list};
 ghost use Rattle.mx_office.specs.Faults.{found_or};
 ghost use Rattle.mx_office.specs.Calls.{stop_asking, IsAsked};
 ghost use Rattle.mx_office.specs.Questions.{IsAnsweredBy};
@@ -13,7 +13,8 @@ ghost use Rattle.mx_answers.specs.declared.question.Question.TheVariants as aske
 ghost use Rattle.mx_answers.specs.declared.question.Report.TheVariants as report;
 
 use mx_base::{Day, Tail};
-use mx_book::{DueList, ForecastList, LifeList, LimitList, Refusal};
+use mx_book::Refusal;
+use mx_lists::{DueList, ForecastList, LifeList, LimitList};
 use mx_office::{Ask, Office};
 use sqlite::Alter;
 use std::alloc::Global;

@@ -1,6 +1,5 @@
 -- Loops that ask records for each of some values.
-use Rattle.std.proofs.Common.{◌≡◌, ◌∙◌, refl, sym, ap, List, [], ◌∷◌, ◌++◌, map, append_assoc, Option, Some, None, Ok}
-use Rattle.std.specs.List.{cons_option, filter_map}
+use Rattle.std.proofs.Common.{◌≡◌, List, Ok}
 use Rattle.mx_command.specs.Act.{Entry}
 use Rattle.mx_book.specs.Reading.{Reading, Answers}
 
@@ -27,20 +26,3 @@ goes_on so had step = record {
 pub gathered : {S F X : Type 0} {r : Reading S F} {first records : S} {left whole : List Entry → X}
     → Gathers r first records left whole → (all : X) → ((book : List Entry) → left book ≡ whole book → all ≡ whole book) → Answers r first records (Ok all) whole
 gathered so all step = record { asked = so.asked; clean = so.clean; exact = λ start book s h k. step book (so.exact start book s h k) }
-
--- with the row of the first put behind those that are had, the others give the rest
-pub row_put : {X Y : Type 0} (f : X → Y) (xs later : List X) (x : X) (y : Y) (done more whole : List Y) → xs ≡ x ∷ later → more ≡ done ++ y ∷ [] → y ≡ f x → done ++ map f xs ≡ whole → more ++ map f later ≡ whole
-row_put f xs later x y done more whole is put same i =
-    ap (λ m. m ++ map f later) put ∙ append_assoc done (y ∷ []) (map f later)
-    ∙ ap (λ z. done ++ z ∷ map f later) same ∙ ap (λ l. done ++ map f l) (sym is) ∙ i
-
-joined : {Y : Type 0} (o : Option Y) (l : List Y) → cons_option o [] ++ l ≡ cons_option o l
-joined None l = refl
-joined (Some y) l = refl
-
--- the same, where the first may give none
-pub found_put : {X Y : Type 0} (pick : X → Option Y) (xs later : List X) (x : X) (found : Option Y) (done more whole : List Y) → xs ≡ x ∷ later → more ≡ done ++ cons_option found [] → found ≡ pick x → done ++ filter_map pick xs ≡ whole → more ++ filter_map pick later ≡ whole
-found_put pick xs later x found done more whole is put same i =
-    ap (λ m. m ++ filter_map pick later) put ∙ append_assoc done (cons_option found []) (filter_map pick later)
-    ∙ ap (λ l. done ++ l) (joined found (filter_map pick later))
-    ∙ ap (λ o. done ++ cons_option o (filter_map pick later)) same ∙ ap (λ l. done ++ filter_map pick l) (sym is) ∙ i

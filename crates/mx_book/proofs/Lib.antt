@@ -5,8 +5,6 @@ pub mod Chaining
 pub mod DefectLemmas
 pub mod FactsLemmas
 pub mod FindLemmas
-pub mod FittedLemmas
-pub mod ForecastLemmas
 pub mod Gathering
 pub mod GrowthLemmas
 pub mod JudgeLemmas
@@ -14,7 +12,6 @@ pub mod KnownLemmas
 pub mod LifeLemmas
 pub mod ListLemmas
 pub mod NamedLemmas
-pub mod OrderLaws
 pub mod PassLemmas
 pub mod ReleaseLemmas
 pub mod RevisionLemmas
@@ -23,9 +20,6 @@ pub mod Worked
 pub mod WorkedFittings
 pub mod WorkedBounds
 pub mod WorkedProgrammes
-pub mod WorkedDues
 pub mod WorkedReleases
 pub mod WorkedDefects
-pub mod WorkedLimits
-pub mod WorkedForecast
 pub mod WorkedQuestions

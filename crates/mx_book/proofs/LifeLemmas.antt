@@ -15,8 +15,7 @@ use Rattle.mx_command.specs.declared.component.Component.{Component}
 use Rattle.mx_command.specs.Same.{same_text}
 use Rattle.mx_book.specs.Register.{register, aircraft, component}
 use Rattle.mx_due.specs.Due.{IsLife}
-use Rattle.mx_book.specs.Life.{opening_of, life_until, selected, share, use_after, minutes_of, cycles_of, is_credited, has_landed_by}
-use Rattle.mx_book.specs.Lists.{use_or_none}
+use Rattle.mx_book.specs.Life.{opening_of, life_until, selected, share, use_after, minutes_of, cycles_of, is_credited, has_landed_by, use_or_none}
 use Rattle.mx_book.specs.Book.{IsBook}
 
 pub both_true : (p q : Bool) → p && q ≡ true → (p ≡ true) × (q ≡ true)

@@ -13,7 +13,6 @@ use Rattle.mx_book.specs.Judge.{judge}
 use Rattle.mx_book.specs.Book.{is_book, entry_at}
 use Rattle.mx_book.specs.declared.verdict.Reply.TheVariants as answers
 use Rattle.mx_book.specs.Run.{replies, book_run}
-use Rattle.mx_book.specs.Lists.{life_list}
 use Rattle.mx_book.specs.Accepted.{accepted, is_accepted}
 
 -- a moment: a day from 1970, hours and minutes; 2024-01-01 is day 19,723
@@ -133,12 +132,6 @@ unknown_tail = refl
 
 unknown_serial : life_now first_two (Component (codes "E1")) ≡ None
 unknown_serial = refl
-
-no_list : life_list first_two (codes "D-NONE") ≡ None
-no_list = refl
-
-listed : life_list first_two abcd ≡ Some (record { tail = abcd; kind = codes "C172"; life = used 60090 801; parts = [] })
-listed = refl
 
 -- entries by their numbers
 first_entry : entry_at first_two 1 ≡ Some a1

@@ -15,7 +15,6 @@ use Rattle.mx_book.specs.Judge.{judge, is_full, refusal_number}
 use Rattle.mx_book.specs.Book.{entry_at, entries_from}
 use Rattle.mx_book.proofs.Worked.{at, used, abcd, a1, logged, first_sector, first_two}
 use Rattle.mx_book.proofs.WorkedFittings.{engine, propeller, e1, e2, engine_with, fit, remove, first_aircraft, replaced, without_engine, on_another, two_parts}
-use Rattle.mx_book.specs.declared.forecast.TheConstants.{MOST_DAYS, MOST_MINUTES, MOST_CYCLES}
 use Rattle.mx_book.specs.declared.judging.TheConstants.{MOST_ENTRIES, MOST_AIRCRAFT, MOST_COMPONENTS}
 
 -- ── the ends of a span ──
@@ -148,7 +147,3 @@ page_past_the_last = refl
 -- entries, aircraft and components
 most_of_a_book : MOST_ENTRIES ∷ MOST_AIRCRAFT ∷ MOST_COMPONENTS ∷ [] ≡ 1000000 ∷ 50 ∷ 5000 ∷ []
 most_of_a_book = refl
-
--- days ahead, and minutes and cycles a day
-most_of_a_forecast : MOST_DAYS ∷ MOST_MINUTES ∷ MOST_CYCLES ∷ [] ≡ 3650 ∷ 1440 ∷ 50 ∷ []
-most_of_a_forecast = refl

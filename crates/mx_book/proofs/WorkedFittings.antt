@@ -14,7 +14,6 @@ use Rattle.mx_book.specs.Life.{life_at, life_now, clock}
 use Rattle.mx_book.specs.Judge.{judge}
 use Rattle.mx_book.specs.Book.{is_book}
 use Rattle.mx_book.specs.Run.{replies}
-use Rattle.mx_book.specs.Lists.{life_list}
 use Rattle.mx_book.proofs.Worked.{at, used, abcd, logged, first_sector}
 
 abbrev pub efgh : List ℕ
@@ -182,19 +181,9 @@ removed_too_early = refl
 removed_at_the_clock : judge fitted_once (logged (codes "X1") (remove e1 (at 19783 9 30))) ≡ New
 removed_at_the_clock = refl
 
--- ── lists ──
+-- ── two parts ──
 
--- the part in its position
-listed_part : life_list replaced abcd ≡ Some (record {
-  tail = abcd;
-  kind = codes "C172";
-  life = used 60090 801;
-  parts =
-      record { position = engine; serial = e2; part = codes "IO360"; life = used 1000 100 } ∷ [];
-})
-listed_part = refl
-
--- two parts, fitted in the other order than that of their positions
+-- fitted in the other order than that of their positions
 abbrev pub two_parts : List Entry
 two_parts = first_aircraft ∷ logged (codes "C3") (Listed (record { serial = codes "P1"; part = codes "HC2"; birth = 14610; opening = used 500 50; as_of = at 19723 0 0 }))
     ∷ logged (codes "F4") (fit (codes "P1") abcd propeller (at 19754 0 0))
@@ -202,13 +191,3 @@ two_parts = first_aircraft ∷ logged (codes "C3") (Listed (record { serial = co
 
 two_parts-book : is_book two_parts ≡ true
 two_parts-book = refl
-
-listed_by_position : life_list two_parts abcd ≡ Some (record {
-  tail = abcd;
-  kind = codes "C172";
-  life = used 60090 801;
-  parts =
-      record { position = engine; serial = e1; part = codes "IO360"; life = used 1090 101 }
-      ∷ record { position = propeller; serial = codes "P1"; part = codes "HC2"; life = used 590 51 } ∷ [];
-})
-listed_by_position = refl

@@ -1,13 +1,11 @@
--- Worked examples of what is asked of records: a known entry, a task of a programme, and what is fitted by places.
+-- Worked examples of what is asked of records: a known entry, and a task of a programme.
 use Rattle.std.proofs.Common.{refl, ◌≡◌, ℕ, List, [], ◌∷◌, Bool, true, false, Option, Some, None}
 use Rattle.std.specs.Prelude.{codes}
 use Rattle.std.specs.Option.{option_map}
 use Rattle.mx_command.specs.Act.{Entry}
 use Rattle.mx_book.specs.Judge.{known_from}
 use Rattle.mx_book.specs.Asking.{known_same, task_of, task_by}
-use Rattle.mx_book.specs.Fitted.{fitted_on}
-use Rattle.mx_book.proofs.Worked.{abcd, a1, first_sector, first_two}
-use Rattle.mx_book.proofs.WorkedFittings.{efgh, engine, propeller, e1, two_parts, without_engine, on_another}
+use Rattle.mx_book.proofs.Worked.{a1, first_sector, first_two}
 use Rattle.mx_book.proofs.WorkedProgrammes.{c172, overhaul, second_revision}
 
 -- the entry with the document of a command, by its number, and whether it says the same
@@ -39,13 +37,3 @@ task_by_kind = refl
 
 no_kind : task_by second_revision None (codes "OVH") ≡ None
 no_kind = refl
-
--- two components in the order of their fittings, and none behind the removals
-fitted_two : fitted_on abcd two_parts ≡ (propeller, codes "P1") ∷ (engine, e1) ∷ []
-fitted_two = refl
-
-fitted_none : fitted_on abcd without_engine ≡ []
-fitted_none = refl
-
-fitted_on_another : fitted_on efgh on_another ≡ (engine, e1) ∷ []
-fitted_on_another = refl

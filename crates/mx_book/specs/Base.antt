@@ -1,4 +1,4 @@
--- The base that the next due of a task is counted from, by what was accomplished, and when the task is due.
+-- The base that the next due of a task is counted from, by what was accomplished.
 use Rattle.std.specs.Prelude.{ℕ, ◌+◌, ◌/◌, List, [], ◌∷◌, ◌++◌, Option, Some, None, if◌then◌else◌, filter, fold, map, take}
 use Rattle.std.specs.Option.{option_and_then, option_map_or}
 use Rattle.mx_base.specs.declared.amounts.Base.{Base}
@@ -12,9 +12,8 @@ use Rattle.mx_command.specs.declared.programme.Task.{Task}
 use Rattle.mx_command.specs.declared.release.Release.{Release}
 use Rattle.mx_due.specs.Due.{due_after, lesser}
 use Rattle.mx_book.specs.Register.{birth}
-use Rattle.mx_book.specs.Life.{life_at}
-use Rattle.mx_book.specs.Lists.{use_or_none}
-use Rattle.mx_book.specs.Programme.{task_in_force, applies_to, kind_at, is_done}
+use Rattle.mx_book.specs.Life.{life_at, use_or_none}
+use Rattle.mx_book.specs.Programme.{task_in_force, kind_at, is_done}
 
 -- an accomplishment of a task of an item: stated by an opening, or done in a release, which is the entry with a number
 pub data Accomplishment : Type 0 where
@@ -70,11 +69,3 @@ base_from book item id before more = fold (λ b a. Some (base_of book item id b 
 -- the base of the last accomplishment of a task of an item
 abbrev pub base : List Entry → Item → List ℕ → Option Base
 base book item id = base_from book item id None (accomplishments book item id)
-
--- when a task of a programme is due on an item, where it applies to it and is due
-abbrev pub due_by : List Entry → Item → Task → Option Limit
-due_by book item t = if applies_to book item t then due_after (base book item t.id) (birth book item) t else None
-
--- when the task with this name in the programme in force of a kind is due on an item
-abbrev pub due : List Entry → Item → List ℕ → List ℕ → Option Limit
-due book item kind id = option_and_then (due_by book item) (task_in_force book kind id)

@@ -72,6 +72,11 @@ life_at book item moment = life_until book item (Some moment)
 abbrev pub life_now : List Entry → Item → Option Use
 life_now book item = life_until book item None
 
+-- the use, or none
+abbrev pub use_or_none : Option Use → Use
+use_or_none None = record { minutes = 0; cycles = 0 }
+use_or_none (Some u) = u
+
 -- the greatest of some moments
 abbrev pub latest : List ℕ → ℕ
 latest [] = 0

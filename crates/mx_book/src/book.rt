@@ -3,28 +3,16 @@ ghost use Rattle.std.specs.Prelude.{◌≡◌, ◌+◌, ◌↔◌, [], ◌∷◌
 ghost use Rattle.std.specs.Option.{option_copied};
 ghost use Rattle.mx_due.specs.Due.{IsLife};
 ghost use Rattle.mx_book.specs.Life.{life_now, life_at};
-ghost use Rattle.mx_book.specs.Lists.{life_list};
-ghost use Rattle.mx_book.specs.Base.{base, due};
 ghost use Rattle.mx_book.specs.Defect.{open_defects};
-ghost use Rattle.mx_book.specs.DueList.{due_list};
-ghost use Rattle.mx_book.specs.Forecast.{forecast};
-ghost use Rattle.mx_book.specs.LimitList.{limits};
 ghost use Rattle.mx_book.specs.Judge.{judge};
 ghost use Rattle.mx_book.specs.Book.{entry_at, entries_from, IsBook};
 
-use crate::bases::last_base;
 use crate::defects::{Defect, list_open_defects};
-use crate::due_lists::list_dues;
-use crate::due_row::DueList;
-use crate::dues::due_of_kind;
-use crate::forecast::{ForecastList, list_forecast};
 use crate::judging::verdict_on;
-use crate::life_list::{LifeList, list_lives};
-use crate::limit_list::{LimitList, list_limits};
 use crate::lives::life;
-use crate::plain::{Plain, unless_no_memory};
+use crate::plain::Plain;
 use crate::verdict::Verdict;
-use mx_base::{Base, Day, Kind, Limit, Moment, Tail, TaskId, Use};
+use mx_base::{Moment, Tail, Use};
 use mx_command::{Command, Item};
 use std::alloc::{AllocError, Global};
 use std::marker::Model;
@@ -148,86 +136,12 @@ impl Book {
         life(self.entries.as_slice(), item, None)
     }
 
-    /// The point that the next due of a task of an item is counted from: that of its last accomplishment, or `None` without
-    /// one.
-    pub fn base(&self, item: &Item, task: &TaskId) -> Option<Base>
-        ensures { result ≡ base self.now item.now task.now }
-    {
-        last_base(self.entries.as_slice(), item, task)
-    }
-
-    /// When the task with a name in the programme in force of a kind is due on an item: minutes, cycles, and a day by its
-    /// number, which may be past the last. `None` where no such task applies to the item, or it is due no more.
-    pub fn due(&self, item: &Item, kind: &Kind, task: &TaskId) -> Option<Limit>
-        ensures { result ≡ due self.now item.now kind.now task.now }
-    {
-        let mut records = Plain { book: self };
-        match due_of_kind(&mut records, item, kind, task) {
-            Ok(due) => due,
-            Err(never) => match never {},
-        }
-    }
-
-    /// The due list of an aircraft on a day, or `None` where the registration is unknown. `NoMemory` where memory
-    /// runs out.
-    pub fn due_list(
-        &self,
-        alloc: Global,
-        tail: &Tail,
-        day: Day,
-    ) -> Result<Option<DueList>, NoMemory>
-        ensures { IfOk result (λ list. list ≡ due_list self.now tail.now day) }
-    {
-        let mut records = Plain { book: self };
-        unless_no_memory(list_dues(&mut records, alloc, tail, day))
-    }
-
-    /// The forecast of an aircraft: what is reached within so many days of a day, at these minutes and cycles a day, or
-    /// `None` where the registration is unknown. `NoMemory` where memory runs out.
-    pub fn forecast(
-        &self,
-        alloc: Global,
-        tail: &Tail,
-        day: Day,
-        days: u32,
-        minutes: u32,
-        cycles: u32,
-    ) -> Result<Option<ForecastList>, NoMemory>
-        ensures { IfOk result (λ list. list ≡ forecast self.now tail.now day days minutes cycles) }
-    {
-        let mut records = Plain { book: self };
-        unless_no_memory(list_forecast(&mut records, alloc, tail, day, days, minutes, cycles))
-    }
-
     /// The open defects of an aircraft, in the order of their entries; none of an unknown registration. `NoMemory` where
     /// memory runs out.
     pub fn open_defects(&self, alloc: Global, tail: &Tail) -> Result<Vec<Defect>, NoMemory>
         ensures { IfOk result (λ defects. defects.items ≡ open_defects self.now tail.now) }
     {
         Ok(list_open_defects(alloc, self.entries.as_slice(), tail)?)
-    }
-
-    /// The limits of an aircraft on a day, or `None` where the registration is unknown. `NoMemory` where memory
-    /// runs out.
-    pub fn limits(
-        &self,
-        alloc: Global,
-        tail: &Tail,
-        day: Day,
-    ) -> Result<Option<LimitList>, NoMemory>
-        ensures { IfOk result (λ list. list ≡ limits self.now tail.now day) }
-    {
-        let mut records = Plain { book: self };
-        unless_no_memory(list_limits(&mut records, alloc, tail, day))
-    }
-
-    /// The life list of an aircraft, or `None` where the registration is unknown. `NoMemory` where memory
-    /// runs out.
-    pub fn life_list(&self, alloc: Global, tail: &Tail) -> Result<Option<LifeList>, NoMemory>
-        ensures { IfOk result (λ list. list ≡ life_list self.now tail.now) }
-    {
-        let mut records = Plain { book: self };
-        unless_no_memory(list_lives(&mut records, alloc, tail))
     }
 
     /// A copy of the first entries, at most `at_most`, of those whose number is at least `from`, in their order.

@@ -97,7 +97,7 @@ pub(crate) fn has_stated_days(category: &Category) -> bool
 }
 
 /// The letter of a category.
-pub(crate) fn category_letter(category: &Category) -> char
+pub fn category_letter(category: &Category) -> char
     ensures { result ≡ letter_of category.now }
 {
     match category {
@@ -110,7 +110,7 @@ pub(crate) fn category_letter(category: &Category) -> char
 
 /// The last day on which a defect may be open, where its interval was extended by so many days: by its number, which may
 /// be past the last of the calendar.
-pub(crate) fn last_day_with(defect: &Defect, days: u32) -> i64
+pub fn last_day_with(defect: &Defect, days: u32) -> i64
     ensures { result ≡ pos (day_found defect.now + interval defect.now.deferral.category + days) }
 {
     let found = day_of(defect.deferral.moment);
@@ -141,7 +141,7 @@ fn open_defect(entries: &[Command], tail: &Tail, entry: &Command) -> Option<Defe
 }
 
 /// The open defects of an aircraft, in the order of their entries. An error where memory runs out.
-pub(crate) fn list_open_defects(
+pub fn list_open_defects(
     alloc: Global,
     entries: &[Command],
     tail: &Tail,

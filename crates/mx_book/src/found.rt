@@ -11,7 +11,7 @@ use mx_command::{Aircraft, Applies, Component, Item, Place, Task};
 
 /// The aircraft or the component that an item names, where there is one.
 #[derive(Clone, Copy)]
-pub(crate) enum Found {
+pub enum Found {
     /// The aircraft with the registration of an airframe.
     Airframe(Option<Aircraft>),
     /// The component with a serial number.
@@ -19,7 +19,7 @@ pub(crate) enum Found {
 }
 
 /// The day on which an item was built, or the first of all where the item is unknown.
-pub(crate) fn birth_of(found: &Found) -> Day
+pub fn birth_of(found: &Found) -> Day
     ensures { result ≡ birth_in found.now }
 {
     match found {
@@ -52,7 +52,7 @@ pub(crate) fn opening_use(found: &Found) -> Option<Use>
 }
 
 /// Whether a task applies to an item.
-pub(crate) fn is_task_of(found: &Found, task: &Task) -> bool
+pub fn is_task_of(found: &Found, task: &Task) -> bool
     ensures { result ≡ is_done_in found.now task.now.applies }
 {
     match &task.applies {
@@ -75,7 +75,7 @@ pub(crate) fn is_other_aircraft(found: &Found, kind: &Kind) -> bool
 }
 
 /// The item whose records a release at a place goes into.
-pub(crate) fn item_of_place(place: &Place) -> Item
+pub fn item_of_place(place: &Place) -> Item
     ensures { result ≡ item_at place.now }
 {
     match place {
@@ -86,7 +86,7 @@ pub(crate) fn item_of_place(place: &Place) -> Item
 
 /// The kind whose programme work at a place is done by, where this was found of the place's item: that of the aircraft, or
 /// the one that the shop names.
-pub(crate) fn kind_of_place(place: &Place, found: &Found) -> Option<Kind>
+pub fn kind_of_place(place: &Place, found: &Found) -> Option<Kind>
     ensures { (book : List Entry) → found.now ≡ found_of book (item_at place.now)
         → result ≡ kind_at book place.now }
 {

@@ -14,7 +14,7 @@ use mx_base::{Day, Doc, day_of};
 use mx_command::{Deferral, Extension, Item};
 
 /// The days by which the interval of a defect was extended.
-pub(crate) fn extension_days<R: Records>(records: &mut R, doc: &Doc) -> Result<u32, R::Fault>
+pub fn extension_days<R: Records>(records: &mut R, doc: &Doc) -> Result<u32, R::Fault>
     ensures { Answers R.reading records.old records.new result
         (λ book. days_extended book doc.now) }
 {

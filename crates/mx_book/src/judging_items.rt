@@ -42,7 +42,7 @@ pub(crate) fn is_unknown_component<R: Records>(
 }
 
 /// What the registers have of an item.
-pub(crate) fn found_of<R: Records>(records: &mut R, item: &Item) -> Result<Found, R::Fault>
+pub fn found_of<R: Records>(records: &mut R, item: &Item) -> Result<Found, R::Fault>
     ensures { Answers R.reading records.old records.new result (λ book. found_of book item.now) }
 {
     match item {

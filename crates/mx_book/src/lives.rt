@@ -83,7 +83,7 @@ fn use_after_sectors(entries: &[Command], item: &Item, until: Option<u32>, openi
 }
 
 /// The life of an item, up to the moment with a number where one is named.
-pub(crate) fn life(entries: &[Command], item: &Item, until: Option<u32>) -> Option<Use>
+pub fn life(entries: &[Command], item: &Item, until: Option<u32>) -> Option<Use>
     requires few { length entries.now ≤ MOST_ENTRIES }
     requires shaped { list_all has_shape entries.now ≡ true }
     ensures { result ≡ life_until entries.now item.now until }

@@ -1,27 +1,18 @@
 //! The plain book as records: it reads its entries anew for each question, and answers each.
-ghost use Rattle.std.specs.Prelude.{◌≡◌, IfOk};
 ghost use Rattle.mx_book.specs.Plain.{plain_reading};
 
-use crate::bases::last_base;
-use crate::book::{Book, NoMemory};
-use crate::defects::{
-    Defect, defect_of_document, extension_of_defect, list_open_defects, was_rectified,
-};
-use crate::lists::Lists;
-use crate::lives::{clock_of_airframe, clock_of_item, life};
-use crate::programmes::{
-    is_retired, revision_expected, task_in_programme, tasks_of_kind, was_accomplished,
-};
+use crate::book::Book;
+use crate::defects::{Defect, defect_of_document, extension_of_defect, was_rectified};
+use crate::lives::{clock_of_airframe, clock_of_item};
+use crate::programmes::{is_retired, revision_expected, task_in_programme, was_accomplished};
 use crate::records::Records;
 use crate::register::{
     aircraft_of_tail, component_of_serial, has_room_for_aircraft, has_room_for_component, known,
     part_at_position,
 };
-use crate::spans::{fitted_to, is_position_taken, places_fitted};
-use crate::stop::Stop;
-use mx_base::{Base, Day, Doc, Kind, Moment, Part, Position, Serial, Tail, TaskId, Use};
+use crate::spans::{fitted_to, is_position_taken};
+use mx_base::{Day, Doc, Kind, Moment, Part, Position, Serial, Tail, TaskId};
 use mx_command::{Aircraft, Command, Component, Extension, Item, Task};
-use std::alloc::Global;
 use std::convert::Infallible;
 
 /// A book that is read in place: no question changes it, and none is left without an answer.
@@ -106,46 +97,5 @@ impl<'a> Records for Plain<'a> {
 
     fn extension(&mut self, doc: &Doc) -> Result<Option<Extension>, Infallible> {
         Ok(extension_of_defect(self.book.as_slice(), doc))
-    }
-}
-
-impl<'a> Lists for Plain<'a> {
-    fn life(&mut self, item: &Item) -> Result<Option<Use>, Infallible> {
-        Ok(life(self.book.as_slice(), item, None))
-    }
-
-    fn base(&mut self, item: &Item, task: &TaskId) -> Result<Option<Base>, Infallible> {
-        Ok(last_base(self.book.as_slice(), item, task))
-    }
-
-    fn tasks(&mut self, alloc: Global, kind: &Kind) -> Result<Vec<Task>, Stop<Infallible>> {
-        Ok(tasks_of_kind(alloc, self.book.as_slice(), kind)?)
-    }
-
-    fn fitted(
-        &mut self,
-        alloc: Global,
-        tail: &Tail,
-    ) -> Result<Vec<(Position, Serial)>, Stop<Infallible>> {
-        Ok(places_fitted(alloc, self.book.as_slice(), tail)?)
-    }
-
-    fn open_defects(
-        &mut self,
-        alloc: Global,
-        tail: &Tail,
-    ) -> Result<Vec<Defect>, Stop<Infallible>> {
-        Ok(list_open_defects(alloc, self.book.as_slice(), tail)?)
-    }
-}
-
-/// What is answered of a book: nothing but want of memory stops it.
-pub(crate) fn unless_no_memory<T>(answer: Result<T, Stop<Infallible>>) -> Result<T, NoMemory>
-    ensures { IfOk result (λ value. answer ≡ Ok value) }
-{
-    match answer {
-        Ok(value) => Ok(value),
-        Err(Stop::NoMemory) => Err(NoMemory),
-        Err(Stop::Fault(never)) => match never {},
     }
 }

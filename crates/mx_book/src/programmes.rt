@@ -53,7 +53,7 @@ fn programme_in_force<'a>(entries: &'a [Command], kind: &Kind) -> Option<&'a [Ta
 
 /// The tasks of the programme in force of a kind, each of its shape, none where it has no programme. An error where memory
 /// runs out.
-pub(crate) fn tasks_of_kind(
+pub fn tasks_of_kind(
     alloc: Global,
     entries: &[Command],
     kind: &Kind,
@@ -136,7 +136,7 @@ pub(crate) fn task_in_programme(
 
 /// The task with a name in the programme in force of a kind, of its shape.
 #[tactic(auto, using(crate::proofs::ListLemmas::found_task))]
-pub(crate) fn task_of_kind(entries: &[Command], kind: &Kind, id: &TaskId) -> Option<Task>
+pub fn task_of_kind(entries: &[Command], kind: &Kind, id: &TaskId) -> Option<Task>
     ensures task { result ≡ task_in_force entries.now kind.now id.now }
     ensures shape { IfSome result (λ t. task_shape t ≡ true) }
 {
@@ -148,7 +148,7 @@ pub(crate) fn task_of_kind(entries: &[Command], kind: &Kind, id: &TaskId) -> Opt
 
 /// Whether a line certifies that the task of an item was done.
 #[tactic(auto, using(mx_command::proofs::SameLemmas::item_is))]
-pub(crate) fn is_done_by(line: &Line, item: &Item, id: &TaskId) -> bool
+pub fn is_done_by(line: &Line, item: &Item, id: &TaskId) -> bool
     ensures { result ≡ is_done item.now id.now line.now }
 {
     match line {

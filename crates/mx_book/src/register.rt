@@ -96,7 +96,7 @@ pub(crate) fn has_room_for_component(entries: &[Command]) -> bool
 }
 
 /// What the registers have of an item.
-pub(crate) fn found_of(entries: &[Command], item: &Item) -> Found
+pub fn found_of(entries: &[Command], item: &Item) -> Found
     ensures { result ≡ found_of entries.now item.now }
 {
     match item {

@@ -1,17 +1,15 @@
 //! Where components were fitted, and from when to when: each fitting with the first later removal of its
 //! component.
-ghost use Rattle.std.specs.Prelude.{◌≡◌, [], find, IfOk};
+ghost use Rattle.std.specs.Prelude.{◌≡◌, [], find};
 ghost use Rattle.std.specs.List.{cons_option, list_any};
 ghost use Rattle.mx_command.specs.Act.{removal_of};
 ghost use Rattle.mx_command.specs.Same.{same_text};
 ghost use Rattle.mx_book.specs.Register.{register};
 ghost use Rattle.mx_book.specs.Span.{first_removal, spans_of, spans_begun_of, tail_fitted, is_taken};
-ghost use Rattle.mx_book.specs.Fitted.{fitted_on, fitted_begun};
 ghost use Rattle.mx_book.specs.Life.{has_landed_by, is_within, latest, removals_from, removals_begun};
 
 use mx_base::{Moment, Position, Serial, Tail};
 use mx_command::{Command, Removal, Sector};
-use std::alloc::{AllocError, Global};
 
 // The first removal of a component.
 fn removal_of_serial(entries: &[Command], serial: &Serial) -> Option<Removal>
@@ -23,8 +21,8 @@ fn removal_of_serial(entries: &[Command], serial: &Serial) -> Option<Removal>
         .find(|removal| removal.serial == *serial)
 }
 
-// The number of the moment at which a component is first removed.
-fn removed_at(entries: &[Command], serial: &Serial) -> Option<u32>
+/// The number of the moment at which a component is first removed.
+pub fn removed_at(entries: &[Command], serial: &Serial) -> Option<u32>
     ensures { result ≡ first_removal serial.now entries.now }
 {
     match removal_of_serial(entries, serial) {
@@ -106,42 +104,6 @@ pub(crate) fn is_position_taken(entries: &[Command], tail: &Tail, position: &Pos
         rest = later;
     }
     false
-}
-
-// The position and the component that an entry leaves fitted to an aircraft.
-fn place_begun(entry: &Command, later: &[Command], tail: &Tail) -> Option<(Position, Serial)>
-    ensures { cons_option result [] ≡ fitted_begun tail.now entry.now later.now }
-{
-    match entry.fitting() {
-        None => None,
-        Some(fitting) => {
-            if fitting.tail == *tail && removed_at(later, &fitting.serial).is_none() {
-                Some((fitting.position, fitting.serial))
-            } else {
-                None
-            }
-        }
-    }
-}
-
-/// The components that are fitted to an aircraft, each behind its position, in the order of their fittings. An error where
-/// memory runs out.
-pub(crate) fn places_fitted(
-    alloc: Global,
-    entries: &[Command],
-    tail: &Tail,
-) -> Result<Vec<(Position, Serial)>, AllocError>
-    ensures { IfOk result (λ places. places.items ≡ fitted_on tail.now entries.now) }
-{
-    let mut places = Vec::new(alloc);
-    let mut rest = entries;
-    while let Some((entry, later)) = rest.split_first() {
-        if let Some(place) = place_begun(entry, later, tail) {
-            places.push(place)?;
-        }
-        rest = later;
-    }
-    Ok(places)
 }
 
 // The moment at which a component is first removed, or the first of all.

@@ -6,6 +6,7 @@ use mx_cases::{
     Unmade, append_number, command_of, documents, listed, number_text, verdict_text, yes_or_no,
 };
 use mx_command::{Command, Item};
+use mx_lists::life_list_of;
 use std::alloc::Global;
 
 /// The first command that isn't the one in its place among others.
@@ -88,7 +89,7 @@ fn life(alloc: Global, book: &Book, item: &Item, until: &[&str]) -> Result<Strin
 
 // list TAIL: the lines of the life list.
 fn list(alloc: Global, book: &Book, tail: &str) -> Result<String, Unmade> {
-    Ok(listed(alloc, book.life_list(alloc, &Tail::read(tail)?)?)?)
+    Ok(listed(alloc, life_list_of(book, alloc, &Tail::read(tail)?)?)?)
 }
 
 /// The answer to a question on the book, or `None` where it is none.

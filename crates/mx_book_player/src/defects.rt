@@ -3,6 +3,7 @@
 use mx_base::{Day, Tail};
 use mx_book::Book;
 use mx_cases::{Unmade, append_joined, listed, or_none};
+use mx_lists::limits_of;
 use std::alloc::Global;
 
 // open-defects TAIL: the documents of the open defects, in the order of their entries.
@@ -17,7 +18,7 @@ fn open_defects(alloc: Global, book: &Book, tail: &str) -> Result<String, Unmade
 // limits TAIL DAY: the lines of the limits.
 fn limits(alloc: Global, book: &Book, tail: &str, day: &str) -> Result<String, Unmade> {
     let tail = Tail::read(tail)?;
-    Ok(listed(alloc, book.limits(alloc, &tail, Day::read(day)?)?)?)
+    Ok(listed(alloc, limits_of(book, alloc, &tail, Day::read(day)?)?)?)
 }
 
 /// The answer to a question on deferred defects, or `None` where it is none.

@@ -5,6 +5,7 @@ use mx_base::{Base, Day, Kind, Limit, Tail, TaskId};
 use mx_book::Book;
 use mx_cases::{Unmade, append_number, item_of, listed, number_text};
 use mx_command::Item;
+use mx_lists::{base_of_item, due_list_of, due_of_item, forecast_of};
 use std::alloc::{AllocError, Global};
 
 // MINUTES CYCLES DAY, the day by its number; `none` where nothing was accomplished.
@@ -21,7 +22,7 @@ fn base_text(alloc: Global, base: Option<Base>) -> Result<String, AllocError> {
 // base ITEM NAME TASK: the base of the last accomplishment.
 fn base(alloc: Global, book: &Book, item: &Item, task: &str) -> Result<String, Unmade> {
     let task = TaskId::read(task)?;
-    Ok(base_text(alloc, book.base(item, &task))?)
+    Ok(base_text(alloc, base_of_item(book, item, &task))?)
 }
 
 // MINUTES/CYCLES/DAY with `-` in a dimension without a due; `none` where nothing is due.
@@ -38,13 +39,13 @@ fn limit_text(alloc: Global, due: Option<Limit>) -> Result<String, AllocError> {
 fn due(alloc: Global, book: &Book, item: &Item, kind: &str, task: &str) -> Result<String, Unmade> {
     let kind = Kind::read(kind)?;
     let task = TaskId::read(task)?;
-    Ok(limit_text(alloc, book.due(item, &kind, &task))?)
+    Ok(limit_text(alloc, due_of_item(book, item, &kind, &task))?)
 }
 
 // due TAIL DAY: the lines of the due list.
 fn due_list(alloc: Global, book: &Book, tail: &str, day: &str) -> Result<String, Unmade> {
     let tail = Tail::read(tail)?;
-    Ok(listed(alloc, book.due_list(alloc, &tail, Day::read(day)?)?)?)
+    Ok(listed(alloc, due_list_of(book, alloc, &tail, Day::read(day)?)?)?)
 }
 
 // forecast TAIL DAY DAYS MINUTES CYCLES: the lines of the forecast.
@@ -63,7 +64,7 @@ fn forecast(
     let cycles = cycles.parse::<u32>()?;
     Ok(listed(
         alloc,
-        book.forecast(alloc, &tail, day, days, minutes, cycles)?,
+        forecast_of(book, alloc, &tail, day, days, minutes, cycles)?,
     )?)
 }
 

@@ -3,7 +3,8 @@
 ghost use Rattle.std.specs.Prelude.{◌≡◌, false};
 
 use mx_base::{Day, Tail, Use};
-use mx_book::{DueList, ForecastList, LifeList, LimitList, Reply};
+use mx_book::Reply;
+use mx_lists::{DueList, ForecastList, LifeList, LimitList};
 use mx_command::{Command, Item};
 use mx_layout::{Layout, TableFault, create};
 use mx_office::{Ask, Fault, Office, Outcomes};

@@ -8,7 +8,7 @@ use Rattle.sqlite.specs.Files.{file_state}
 use Rattle.mx_command.specs.Act.{Entry}
 use Rattle.mx_book.specs.declared.verdict.Refusal.TheVariants.{UnknownAircraft}
 use Rattle.mx_book.specs.Accepted.{HasAcknowledged}
-use Rattle.mx_book.specs.DueList.{due_list}
+use Rattle.mx_lists.specs.DueList.{due_list}
 use Rattle.mx_layout.specs.Found.{IsFound}
 use Rattle.mx_office.specs.declared.fault.Ask.{Ask}
 use Rattle.mx_office.specs.declared.fault.Ask.TheVariants.{Refused, Failed}

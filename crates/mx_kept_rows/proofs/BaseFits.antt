@@ -18,8 +18,7 @@ use Rattle.mx_command.specs.declared.release.Release.{Release}
 use Rattle.mx_due.specs.Due.{IsLife, base_done, due_after, lesser}
 use Rattle.mx_book.specs.Base.{Accomplishment, Stated, DoneIn, accomplished_by, accomplished_from, accomplishments, base, base_from, base_of, task_then}
 use Rattle.mx_book.specs.Book.{IsBook}
-use Rattle.mx_book.specs.Life.{life_at}
-use Rattle.mx_book.specs.Lists.{use_or_none}
+use Rattle.mx_book.specs.Life.{life_at, use_or_none}
 use Rattle.mx_book.specs.Programme.{is_done}
 use Rattle.mx_book.specs.Register.{birth}
 use Rattle.mx_book.proofs.LifeLemmas.{life_bounded}

@@ -22,8 +22,7 @@ use Rattle.mx_book.specs.declared.verdict.Verdict.TheVariants.{New}
 use Rattle.mx_book.specs.Register.{birth}
 use Rattle.mx_book.specs.Book.{IsBook}
 use Rattle.mx_book.specs.Judge.{judge, is_at}
-use Rattle.mx_book.specs.Life.{clock, credited, is_credited, has_landed_by, use_after, life_at, opening_of}
-use Rattle.mx_book.specs.Lists.{use_or_none}
+use Rattle.mx_book.specs.Life.{clock, credited, is_credited, has_landed_by, use_after, life_at, opening_of, use_or_none}
 use Rattle.mx_book.specs.Programme.{kind_at, task_in_force}
 use Rattle.mx_book.specs.Base.{Accomplishment, Stated, DoneIn, accomplished_by, accomplishments, base, base_of, base_from, task_then}
 use Rattle.mx_kept_rows.specs.Changes.{clock_of_place, sectors_given, sectors_late}

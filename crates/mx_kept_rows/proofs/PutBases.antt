@@ -17,8 +17,7 @@ use Rattle.mx_book.specs.declared.verdict.Verdict.TheVariants.{New}
 use Rattle.mx_book.specs.Base.{base}
 use Rattle.mx_book.specs.Book.{IsBook, is_new}
 use Rattle.mx_book.specs.Judge.{judge}
-use Rattle.mx_book.specs.Life.{clock, life_now}
-use Rattle.mx_book.specs.Lists.{use_or_none}
+use Rattle.mx_book.specs.Life.{clock, life_now, use_or_none}
 use Rattle.mx_book.specs.Programme.{is_done}
 use Rattle.mx_book.proofs.JudgeLemmas.{IsBook-entered, both_true}
 use Rattle.mx_register.specs.Names.{has_item, item_at, or_zero, seq_of_item}

@@ -26,8 +26,7 @@ use Rattle.mx_book.specs.Register.{register, birth}
 use Rattle.mx_book.specs.Book.{IsBook}
 use Rattle.mx_book.specs.Judge.{judge, is_at, item_at, fitted_in_shop}
 use Rattle.mx_book.specs.Span.{Span, spans, fitted}
-use Rattle.mx_book.specs.Life.{clock, is_credited, is_within, has_landed_by, use_after, opening_of, life_at, life_now}
-use Rattle.mx_book.specs.Lists.{use_or_none}
+use Rattle.mx_book.specs.Life.{clock, is_credited, is_within, has_landed_by, use_after, opening_of, life_at, life_now, use_or_none}
 use Rattle.mx_book.specs.Programme.{is_done, kind_at, tasks_in_force, tasks_loaded, task_in_force, task_at, last_of}
 use Rattle.mx_book.specs.Base.{Stated, DoneIn, accomplished_by, base, base_from, task_then}
 use Rattle.mx_kept_rows.specs.Changes.{IsTimed, clock_of_place, due_at, sectors_late}

@@ -20,8 +20,7 @@ use Rattle.mx_book.specs.Register.{aircraft, component}
 use Rattle.mx_book.specs.Book.{IsBook, is_new}
 use Rattle.mx_book.specs.Judge.{judge, item_at}
 use Rattle.mx_book.specs.Span.{Span, spans, fitted}
-use Rattle.mx_book.specs.Life.{latest, if_same, if_at_aircraft, if_in_shop, clock, credited, has_landed_by, opening_of, use_after, life_now}
-use Rattle.mx_book.specs.Lists.{use_or_none}
+use Rattle.mx_book.specs.Life.{latest, if_same, if_at_aircraft, if_in_shop, clock, credited, has_landed_by, opening_of, use_after, life_now, use_or_none}
 use Rattle.mx_register.specs.Registers.{next}
 use Rattle.mx_register.proofs.NewLemmas.{added_is_unknown, listed_is_unknown, flown_is_known, fitted_is_known, removed_is_known, deferred_is_known, released_is_known}
 use Rattle.mx_register.proofs.RegisterLemmas.{gives-more}

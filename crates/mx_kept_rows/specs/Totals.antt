@@ -5,8 +5,7 @@ use Rattle.std.specs.Option.{option_map_or}
 use Rattle.mx_command.specs.Act.{Act, Entry, Added, Listed, Flown, Fitted, Removed, Released, Deferred}
 use Rattle.mx_command.specs.declared.item.Item.{Item}
 use Rattle.mx_command.specs.declared.sector.Sector.{Sector}
-use Rattle.mx_book.specs.Life.{life_now, clock, latest, use_after}
-use Rattle.mx_book.specs.Lists.{use_or_none}
+use Rattle.mx_book.specs.Life.{life_now, clock, latest, use_after, use_or_none}
 use Rattle.mx_register.specs.Names.{item_at}
 use Rattle.mx_register.specs.Registers.{next}
 use Rattle.mx_typed_rows.specs.declared.rows.SpanRow.{SpanRow}

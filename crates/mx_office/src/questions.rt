@@ -2,11 +2,11 @@
 ghost use Rattle.std.specs.Prelude.{◌≡◌, ◌⊎◌, IfOk, MatchResult};
 ghost use Rattle.sqlite.specs.State.{HasCleanDisk};
 ghost use Rattle.mx_book.specs.Book.{entries_from};
-ghost use Rattle.mx_book.specs.DueList.{due_list};
-ghost use Rattle.mx_book.specs.Forecast.{forecast};
+ghost use Rattle.mx_lists.specs.DueList.{due_list};
+ghost use Rattle.mx_lists.specs.Forecast.{forecast};
 ghost use Rattle.mx_book.specs.Life.{life_now};
-ghost use Rattle.mx_book.specs.LimitList.{limits};
-ghost use Rattle.mx_book.specs.Lists.{life_list};
+ghost use Rattle.mx_lists.specs.LimitList.{limits};
+ghost use Rattle.mx_lists.specs.Lists.{life_list};
 ghost use Rattle.mx_kept.specs.Schemas.{HasOwn1};
 ghost use Rattle.mx_office.specs.Calls.{stop_asking, stop_in, IsAsked};
 ghost use Rattle.mx_office.specs.Faults.{found_or, unknown};
@@ -17,8 +17,11 @@ ghost use Rattle.mx_office.specs.Stands.{HoldsBook, IsReasonFor};
 use crate::fault::{Ask, Fault};
 use crate::office::Office;
 use mx_base::{Day, Tail, Use};
-use mx_book::{DueList, ForecastList, LifeList, LimitList, Refusal};
+use mx_book::Refusal;
 use mx_command::{Command, Item};
+use mx_lists::{
+    DueList, ForecastList, LifeList, LimitList, due_list_of, forecast_of, life_list_of, limits_of,
+};
 use sqlite::Alter;
 use std::alloc::Global;
 
@@ -42,7 +45,7 @@ impl<S: Alter> Office<S> {
             self.old self.new result }
     {
         let book = self.book(alloc)?;
-        match book.due_list(alloc, &tail, day)? {
+        match due_list_of(&book, alloc, &tail, day)? {
             Some(list) => Ok(list),
             None => Err(Ask::Refused(Refusal::UnknownAircraft)),
         }
@@ -65,7 +68,7 @@ impl<S: Alter> Office<S> {
             self.old self.new result }
     {
         let book = self.book(alloc)?;
-        match book.forecast(alloc, &tail, day, days, minutes, cycles)? {
+        match forecast_of(&book, alloc, &tail, day, days, minutes, cycles)? {
             Some(list) => Ok(list),
             None => Err(Ask::Refused(Refusal::UnknownAircraft)),
         }
@@ -80,7 +83,7 @@ impl<S: Alter> Office<S> {
             self.old self.new result }
     {
         let book = self.book(alloc)?;
-        match book.limits(alloc, &tail, day)? {
+        match limits_of(&book, alloc, &tail, day)? {
             Some(list) => Ok(list),
             None => Err(Ask::Refused(Refusal::UnknownAircraft)),
         }
@@ -95,7 +98,7 @@ impl<S: Alter> Office<S> {
             self.old self.new result }
     {
         let book = self.book(alloc)?;
-        match book.life_list(alloc, &tail)? {
+        match life_list_of(&book, alloc, &tail)? {
             Some(list) => Ok(list),
             None => Err(Ask::Refused(Refusal::UnknownAircraft)),
         }

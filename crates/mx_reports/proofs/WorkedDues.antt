@@ -5,9 +5,9 @@ use Rattle.std.specs.Fmt.{digits}
 use Rattle.mx_base.specs.Calendar.{date_of}
 use Rattle.mx_base.specs.Texts.{day_text}
 use Rattle.mx_base.specs.declared.amounts.Status.TheVariants as statuses
-use Rattle.mx_book.specs.declared.due_row.DueList.{DueList}
-use Rattle.mx_book.specs.declared.due_row.DueRow.{DueRow}
-use Rattle.mx_book.specs.declared.due_row.DueRow.TheVariants.{Task as TaskRow, Defect as DefectRow}
+use Rattle.mx_lists.specs.declared.due_row.DueList.{DueList}
+use Rattle.mx_lists.specs.declared.due_row.DueRow.{DueRow}
+use Rattle.mx_lists.specs.declared.due_row.DueRow.TheVariants.{Task as TaskRow, Defect as DefectRow}
 use Rattle.mx_reports.specs.DueText.{place_words, left_hours, left_number, row_line, due_lines}
 use Rattle.mx_reports.specs.DefectText.{defect_words, until_line}
 use Rattle.mx_reports.specs.Words.{status_word}

@@ -5,9 +5,9 @@ use Rattle.std.specs.Fmt.{digits}
 use Rattle.mx_base.specs.Calendar.{date_of}
 use Rattle.mx_base.specs.Texts.{day_text}
 use Rattle.mx_base.specs.declared.amounts.Status.TheVariants as statuses
-use Rattle.mx_book.specs.declared.due_row.DueRow.TheVariants.{Task as TaskRow, Defect as DefectRow}
-use Rattle.mx_book.specs.declared.forecast.ForecastList.{ForecastList}
-use Rattle.mx_book.specs.declared.forecast.ForecastRow.{ForecastRow}
+use Rattle.mx_lists.specs.declared.due_row.DueRow.TheVariants.{Task as TaskRow, Defect as DefectRow}
+use Rattle.mx_lists.specs.declared.forecast.ForecastList.{ForecastList}
+use Rattle.mx_lists.specs.declared.forecast.ForecastRow.{ForecastRow}
 use Rattle.mx_reports.specs.DueText.{place_words}
 use Rattle.mx_reports.specs.ForecastText.{forecast_lines}
 

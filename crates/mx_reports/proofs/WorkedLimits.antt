@@ -5,8 +5,8 @@ use Rattle.std.specs.Fmt.{digits}
 use Rattle.mx_base.specs.Calendar.{date_of}
 use Rattle.mx_base.specs.Texts.{day_text}
 use Rattle.mx_base.specs.declared.amounts.Status.TheVariants as statuses
-use Rattle.mx_book.specs.declared.limit_list.LimitList.{LimitList}
-use Rattle.mx_book.specs.declared.limit_list.LimitRow.{LimitRow}
+use Rattle.mx_lists.specs.declared.limit_list.LimitList.{LimitList}
+use Rattle.mx_lists.specs.declared.limit_list.LimitRow.{LimitRow}
 use Rattle.mx_reports.specs.DefectText.{defect_words, until_line}
 use Rattle.mx_reports.specs.LimitText.{found_words, limit_line, limit_lines}
 use Rattle.mx_reports.specs.Words.{status_word}

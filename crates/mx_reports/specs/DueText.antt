@@ -4,9 +4,9 @@ use Rattle.std.specs.Fmt.{signed_decimal}
 use Rattle.std.specs.List.{flat_map}
 use Rattle.mx_base.specs.Texts.{day_text, hours_text}
 use Rattle.mx_base.specs.declared.amounts.Left.{Left}
-use Rattle.mx_book.specs.declared.due_row.DueList.{DueList}
-use Rattle.mx_book.specs.declared.due_row.DueRow.{DueRow}
-use Rattle.mx_book.specs.declared.due_row.DueRow.TheVariants.{Task as TaskRow, Defect as DefectRow}
+use Rattle.mx_lists.specs.declared.due_row.DueList.{DueList}
+use Rattle.mx_lists.specs.declared.due_row.DueRow.{DueRow}
+use Rattle.mx_lists.specs.declared.due_row.DueRow.TheVariants.{Task as TaskRow, Defect as DefectRow}
 use Rattle.mx_reports.specs.DefectText.{defect_words, until_line}
 use Rattle.mx_reports.specs.Words.{spaced, status_word, use_words, end_line}
 

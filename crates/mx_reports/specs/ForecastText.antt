@@ -3,10 +3,10 @@ use Rattle.std.specs.Prelude.{ℕ, List, [], ◌∷◌, ◌++◌, codes, length,
 use Rattle.std.specs.Fmt.{decimal}
 use Rattle.std.specs.List.{flat_map}
 use Rattle.mx_base.specs.Texts.{day_text, day_number_text}
-use Rattle.mx_book.specs.declared.due_row.DueRow.{DueRow}
-use Rattle.mx_book.specs.declared.due_row.DueRow.TheVariants.{Task as TaskRow, Defect as DefectRow}
-use Rattle.mx_book.specs.declared.forecast.ForecastList.{ForecastList}
-use Rattle.mx_book.specs.declared.forecast.ForecastRow.{ForecastRow}
+use Rattle.mx_lists.specs.declared.due_row.DueRow.{DueRow}
+use Rattle.mx_lists.specs.declared.due_row.DueRow.TheVariants.{Task as TaskRow, Defect as DefectRow}
+use Rattle.mx_lists.specs.declared.forecast.ForecastList.{ForecastList}
+use Rattle.mx_lists.specs.declared.forecast.ForecastRow.{ForecastRow}
 use Rattle.mx_reports.specs.DueText.{place_words}
 use Rattle.mx_reports.specs.Words.{spaced, end_line}
 

@@ -1,8 +1,8 @@
 -- The text of a life list.
 use Rattle.std.specs.Prelude.{ℕ, ◌+◌, List, [], ◌∷◌, ◌++◌, codes, length}
 use Rattle.std.specs.List.{flat_map}
-use Rattle.mx_book.specs.declared.life_list.FittedPart.{FittedPart}
-use Rattle.mx_book.specs.declared.life_list.LifeList.{LifeList}
+use Rattle.mx_lists.specs.declared.life_list.FittedPart.{FittedPart}
+use Rattle.mx_lists.specs.declared.life_list.LifeList.{LifeList}
 use Rattle.mx_reports.specs.Words.{spaced, use_words, end_line}
 
 -- life TAIL; airframe KIND HOURS CYCLES

@@ -3,8 +3,8 @@ use Rattle.std.specs.Prelude.{ℕ, List, [], ◌∷◌, ◌++◌, codes, length}
 use Rattle.std.specs.Fmt.{decimal}
 use Rattle.std.specs.List.{flat_map}
 use Rattle.mx_base.specs.Texts.{day_text}
-use Rattle.mx_book.specs.declared.limit_list.LimitList.{LimitList}
-use Rattle.mx_book.specs.declared.limit_list.LimitRow.{LimitRow}
+use Rattle.mx_lists.specs.declared.limit_list.LimitList.{LimitList}
+use Rattle.mx_lists.specs.declared.limit_list.LimitRow.{LimitRow}
 use Rattle.mx_reports.specs.DefectText.{defect_words, until_line}
 use Rattle.mx_reports.specs.Words.{spaced, status_word, end_line}
 

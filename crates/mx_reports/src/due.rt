@@ -9,7 +9,7 @@ use crate::defect::{append_defect, append_until};
 use crate::text::{Text, append_rows, append_whole};
 use crate::words::{append_day, append_end, append_signed, append_status, append_use, append_word};
 use mx_base::{Doc, Left, MelRef, Position, Serial, Status, TaskId, print_hours};
-use mx_book::{DueList, DueRow};
+use mx_lists::{DueList, DueRow};
 use std::alloc::AllocError;
 
 #[tactic(auto, using(crate::proofs::StartsLemmas::starts_further))]

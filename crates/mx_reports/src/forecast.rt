@@ -9,7 +9,7 @@ use crate::defect::append_day_number;
 use crate::due::append_place;
 use crate::text::{Text, append_rows, append_whole};
 use crate::words::{append_day, append_end, append_number, append_signed, append_word};
-use mx_book::{DueRow, ForecastList, ForecastRow};
+use mx_lists::{DueRow, ForecastList, ForecastRow};
 use std::alloc::AllocError;
 
 #[tactic(auto, using(crate::proofs::StartsLemmas::starts_further))]

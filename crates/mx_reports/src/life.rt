@@ -5,7 +5,7 @@ ghost use Rattle.mx_reports.specs.LifeText.{head_lines, part_line, life_lines};
 
 use crate::text::{Text, append_rows, append_whole};
 use crate::words::{append_end, append_use, append_word};
-use mx_book::{FittedPart, LifeList};
+use mx_lists::{FittedPart, LifeList};
 use std::alloc::AllocError;
 
 #[tactic(auto, using(crate::proofs::StartsLemmas::starts_further))]

@@ -8,7 +8,7 @@ use crate::defect::{append_defect, append_until};
 use crate::text::{Text, append_rows, append_whole};
 use crate::words::{append_day, append_end, append_signed, append_status, append_word};
 use mx_base::{Day, print_day};
-use mx_book::{LimitList, LimitRow};
+use mx_lists::{LimitList, LimitRow};
 use std::alloc::AllocError;
 
 #[tactic(auto, using(crate::proofs::StartsLemmas::starts_further), unfolding(crate::specs::LimitText::found_words))]

@@ -3,12 +3,12 @@ use Rattle.std.proofs.Common.{ℕ, ap, arith, refl, sym, subst, ◌∙◌, ◌�
 use Rattle.std.specs.Prelude.{Result, Ok, Err, MatchResult}
 use Rattle.std.specs.declared.convert.Infallible.{Infallible}
 use Rattle.mx_command.specs.Act.{Entry}
-use Rattle.mx_book.specs.Memory.{StopsBy, with_memory}
+use Rattle.mx_lists.specs.Memory.{StopsBy, with_memory}
 use Rattle.mx_book.specs.Plain.{plain_reading}
 use Rattle.mx_book.specs.Reading.{Answers}
 use Rattle.mx_book.specs.declared.plain.Plain.{Plain}
-use Rattle.mx_book.specs.declared.stop.Stop.{Stop}
-use Rattle.mx_book.specs.declared.stop.Stop.TheVariants.{NoMemory, Fault}
+use Rattle.mx_lists.specs.declared.stop.Stop.{Stop}
+use Rattle.mx_lists.specs.declared.stop.Stop.TheVariants.{NoMemory, Fault}
 use Rattle.mx_sweeps.specs.Failing.{ReadOn, IsStop, failing_reading}
 use Rattle.mx_sweeps.specs.declared.failing.Failing.{Failing}
 use Rattle.mx_sweeps.specs.declared.failing.Interrupted.{Interrupted}

@@ -1,8 +1,8 @@
 -- A book as records whose questions run out.
 use Rattle.std.specs.Prelude.{◌≡◌, ◌≤◌, ℕ, ⊤}
 use Rattle.mx_book.specs.Reading.{Reading}
-use Rattle.mx_book.specs.declared.stop.Stop.{Stop}
-use Rattle.mx_book.specs.declared.stop.Stop.TheVariants.{NoMemory, Fault}
+use Rattle.mx_lists.specs.declared.stop.Stop.{Stop}
+use Rattle.mx_lists.specs.declared.stop.Stop.TheVariants.{NoMemory, Fault}
 use Rattle.mx_sweeps.specs.declared.failing.Failing.{Failing}
 use Rattle.mx_sweeps.specs.declared.failing.Interrupted.{Interrupted}
 

@@ -1,12 +1,13 @@
 //! A book whose questions run out, as records: it shows that judging and the lists hand a fault on.
 ghost use Rattle.std.specs.Prelude.{◌≡◌, ◌+◌, OnOk, OnErr};
-ghost use Rattle.mx_book.specs.Memory.{with_memory};
+ghost use Rattle.mx_lists.specs.Memory.{with_memory};
 ghost use Rattle.mx_book.specs.Reading.{GoesOn};
 ghost use Rattle.mx_sweeps.specs.Failing.{failing_reading};
 
 use mx_base::{Base, Day, Doc, Kind, Moment, Part, Position, Serial, Tail, TaskId, Use};
-use mx_book::{Book, Defect, Lists, Plain, Records, Stop};
+use mx_book::{Book, Defect, Plain, Records};
 use mx_command::{Aircraft, Command, Component, Extension, Item, Task};
+use mx_lists::{Lists, Stop};
 use std::alloc::Global;
 use std::convert::Infallible;
 

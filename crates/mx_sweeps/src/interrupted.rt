@@ -1,21 +1,22 @@
 //! Judging and the lists by a book whose questions run out: each is what the plain book answers, or the fault of the first
 //! question past the last.
 ghost use Rattle.std.specs.Prelude.{◌≡◌, MatchResult};
-ghost use Rattle.mx_book.specs.Base.{due};
-ghost use Rattle.mx_book.specs.DueList.{due_list};
-ghost use Rattle.mx_book.specs.Forecast.{forecast};
+ghost use Rattle.mx_lists.specs.Dues.{due};
+ghost use Rattle.mx_lists.specs.DueList.{due_list};
+ghost use Rattle.mx_lists.specs.Forecast.{forecast};
 ghost use Rattle.mx_book.specs.Judge.{judge};
-ghost use Rattle.mx_book.specs.LimitList.{limits};
-ghost use Rattle.mx_book.specs.Lists.{life_list};
+ghost use Rattle.mx_lists.specs.LimitList.{limits};
+ghost use Rattle.mx_lists.specs.Lists.{life_list};
 ghost use Rattle.mx_sweeps.specs.Failing.{IsStop};
 
 use crate::failing::{Failing, Interrupted};
 use mx_base::{Day, Kind, Limit, Tail, TaskId};
-use mx_book::{
-    Book, DueList, ForecastList, LifeList, LimitList, Stop, Verdict, due_of_kind, list_dues,
-    list_forecast, list_limits, list_lives, verdict_on,
-};
+use mx_book::{Book, Verdict, verdict_on};
 use mx_command::{Command, Item};
+use mx_lists::{
+    DueList, ForecastList, LifeList, LimitList, Stop, due_of_kind, list_dues, list_forecast,
+    list_limits, list_lives,
+};
 use std::alloc::Global;
 
 /// The verdict on a command by at most so many questions, or the fault of the next.

@@ -1,5 +1,5 @@
 use Rattle.std.proofs.Common.{Some, ◌∙◌, ap, sym}
-use Rattle.mx_book.specs.Lists.{life_list}
+use Rattle.mx_lists.specs.Lists.{life_list}
 use Rattle.mx_book.specs.declared.verdict.Refusal.TheVariants.{UnknownAircraft}
 use Rattle.mx_office.specs.Faults.{found_or}
 use Rattle.mx_office.proofs.AnswerLemmas.{found_question, stopped_question}

@@ -1,0 +1,10 @@
+pub mod FittedLemmas
+pub mod ForecastLemmas
+pub mod Gathering
+pub mod InOrder
+pub mod OrderLaws
+pub mod Told
+pub mod WorkedLives
+pub mod WorkedDues
+pub mod WorkedLimits
+pub mod WorkedForecast

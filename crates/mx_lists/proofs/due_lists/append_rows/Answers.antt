@@ -1,0 +1,15 @@
+use Rattle.mx_command.specs.Programme.{task_shape}
+use Rattle.mx_lists.proofs.InOrder.{all_left}
+use Rattle.mx_lists.specs.DueList.{row_with}
+use Rattle.mx_book.proofs.Gathering.{goes_on}
+use Rattle.mx_lists.proofs.Gathering.{found_put}
+use Rattle.mx_lists.proofs.due_lists.append_rows.Goals as goal
+
+pub loop-task-preserved : goal.loop-task-preserved
+loop-task-preserved g c = record {
+  left =
+      goes_on c.loop-task.invariant.left c.in_ok-found.ensures (λ book is.
+      found_put (row_with book c.args.day c.args.item.now c.args.life.now c.args.place.now) c.loop-task.rest.now c.in-Some.later.now c.in-Some.task.now _ c.loop-task.rows.items _ _
+      c.in-Some.ensures.cases.0 c.in_ok-push_found.ensures is);
+  shape = (all_left task_shape c.loop-task.rest.now c.in-Some.later.now c.in-Some.task.now c.in-Some.ensures.cases.0 c.loop-task.invariant.shape).1;
+}

@@ -1,0 +1,19 @@
+-- When a task is due on an item: counted from its base, or from the item's birth.
+use Rattle.std.specs.Prelude.{ℕ, List, Option, None, if◌then◌else◌}
+use Rattle.std.specs.Option.{option_and_then}
+use Rattle.mx_base.specs.declared.amounts.Limit.{Limit}
+use Rattle.mx_command.specs.Act.{Entry}
+use Rattle.mx_command.specs.declared.item.Item.{Item}
+use Rattle.mx_command.specs.declared.programme.Task.{Task}
+use Rattle.mx_due.specs.Due.{due_after}
+use Rattle.mx_book.specs.Register.{birth}
+use Rattle.mx_book.specs.Programme.{task_in_force, applies_to}
+use Rattle.mx_book.specs.Base.{base}
+
+-- when a task of a programme is due on an item, where it applies to it and is due
+abbrev pub due_by : List Entry → Item → Task → Option Limit
+due_by book item t = if applies_to book item t then due_after (base book item t.id) (birth book item) t else None
+
+-- when the task with this name in the programme in force of a kind is due on an item
+abbrev pub due : List Entry → Item → List ℕ → List ℕ → Option Limit
+due book item kind id = option_and_then (due_by book item) (task_in_force book kind id)

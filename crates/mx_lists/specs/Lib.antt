@@ -1,0 +1,10 @@
+pub mod Memory
+pub mod Fitted
+pub mod Order
+pub mod Lists
+pub mod DueRow
+pub mod Dues
+pub mod LimitList
+pub mod DueList
+pub mod Forecast
+pub mod Ranks

@@ -1,0 +1,43 @@
+-- The orders of rows are orders: of two, at most one comes before the other, and ties tie.
+use Rattle.std.specs.Prelude.{ℤ, int_lt, ◌≡◌, false, true}
+use Rattle.std.specs.Cmp.{IsStrictWeakOrder}
+use Rattle.std.specs.Cmp.Lexicographic.{nat_list_cmp_total}
+use Rattle.std.proofs.Common.{arith}
+use Rattle.std.proofs.lemmas.Int.{ints}
+use Rattle.std.proofs.lemmas.List.Sorted.{ranks_by, IsStrictWeakOrder-by_number}
+use Rattle.mx_command.specs.declared.programme.Task.{Task}
+use Rattle.mx_lists.specs.declared.due_row.DueRow.{DueRow}
+use Rattle.mx_lists.specs.declared.forecast.ForecastRow.{ForecastRow}
+use Rattle.mx_lists.specs.declared.life_list.FittedPart.{FittedPart}
+use Rattle.mx_lists.specs.declared.limit_list.LimitRow.{LimitRow}
+use Rattle.mx_lists.specs.DueRow.{status_rank, row_status, row_before}
+use Rattle.mx_lists.specs.DueList.{task_before}
+use Rattle.mx_lists.specs.Forecast.{sooner}
+use Rattle.mx_lists.specs.LimitList.{limit_before}
+use Rattle.mx_lists.specs.Lists.{part_before}
+
+-- the order of parts by their positions is an order
+pub parts_rank : IsStrictWeakOrder part_before
+parts_rank = ranks_by nat_list_cmp_total (λ (p : FittedPart). p.position)
+
+-- the order of tasks by their names is an order
+pub tasks_rank : IsStrictWeakOrder task_before
+tasks_rank = ranks_by nat_list_cmp_total (λ (t : Task). t.id)
+
+-- the order of rows by how they stand is an order
+pub due_rows_rank : IsStrictWeakOrder row_before
+due_rows_rank = IsStrictWeakOrder-by_number (λ (r : DueRow). status_rank (row_status r))
+
+-- the order of a forecast by numbers of days is an order
+pub forecast_rank : IsStrictWeakOrder sooner
+forecast_rank = IsStrictWeakOrder-by_number (λ (r : ForecastRow). r.after)
+
+ints_one_way : (x y : ℤ) → int_lt x y ≡ true → int_lt y x ≡ false
+ints_one_way x y h = grind (arith, ints)
+
+ints_chain : (x y z : ℤ) → int_lt x y ≡ false → int_lt y z ≡ false → int_lt x z ≡ false
+ints_chain x y z h k = grind (arith, ints)
+
+-- the order of limits by their last days is an order
+pub limits_rank : IsStrictWeakOrder limit_before
+limits_rank = record { one_way = λ (x : LimitRow) (y : LimitRow). ints_one_way x.last y.last; chain = λ (x : LimitRow) (y : LimitRow) (z : LimitRow). ints_chain x.last y.last z.last }

@@ -1,0 +1,67 @@
+//! When a task is due on an item: counted from the base of its last accomplishment, or from the item's birth.
+ghost use Rattle.std.specs.Prelude.{◌≡◌, true};
+ghost use Rattle.mx_command.specs.Programme.{task_shape};
+ghost use Rattle.mx_due.specs.Due.{due_after};
+ghost use Rattle.mx_book.specs.Base.{base};
+ghost use Rattle.mx_lists.specs.Dues.{due_by, due};
+ghost use Rattle.mx_book.specs.Register.{birth_in};
+ghost use Rattle.mx_book.specs.Reading.{Answers};
+
+use crate::lists::Lists;
+use mx_base::{Kind, Limit, TaskId};
+use mx_book::Records;
+use mx_book::found::{Found, birth_of, is_task_of};
+use mx_book::judging_items::found_of;
+use mx_command::{Item, Task};
+use mx_due::due_after;
+
+// When a task that applies to an item, of which this was found, is due on it, or `None` where it is due no more.
+fn due_of_applied<R: Lists>(
+    records: &mut R,
+    item: &Item,
+    found: &Found,
+    task: &Task,
+) -> Result<Option<Limit>, R::Fault>
+    requires { task_shape task.now ≡ true }
+    ensures { Answers R.reading records.old records.new result
+        (λ book. due_after (base book item.now task.now.id) (birth_in found.now) task.now) }
+{
+    let base = records.base(item, &task.id)?;
+    Ok(due_after(base, birth_of(found), task))
+}
+
+/// When a task of a programme is due on an item, or `None` where it does not apply to it or is due no more.
+pub(crate) fn due_of_task<R: Lists>(
+    records: &mut R,
+    item: &Item,
+    task: &Task,
+) -> Result<Option<Limit>, R::Fault>
+    requires { task_shape task.now ≡ true }
+    ensures { Answers R.reading records.old records.new result
+        (λ book. due_by book item.now task.now) }
+{
+    let found = found_of(records, item)?;
+    if is_task_of(&found, task) {
+        due_of_applied(records, item, &found, task)
+    } else {
+        Ok(None)
+    }
+}
+
+/// When the task with a name in the programme in force of a kind is due on an item: minutes, cycles, and a day by its
+/// number, which may be past the last. `None` where no such task applies to the item, or it is due no more. Or the fault of
+/// the question that was not answered.
+pub fn due_of_kind<R: Lists>(
+    records: &mut R,
+    item: &Item,
+    kind: &Kind,
+    id: &TaskId,
+) -> Result<Option<Limit>, R::Fault>
+    ensures { Answers R.reading records.old records.new result
+        (λ book. due book item.now kind.now id.now) }
+{
+    match records.task(kind, id)? {
+        Some(Some(task)) => due_of_task(records, item, &task),
+        _ => Ok(None),
+    }
+}

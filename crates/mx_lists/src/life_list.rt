@@ -1,0 +1,160 @@
+//! The life list of an aircraft: what is fitted to it, and the lives.
+ghost use Rattle.std.specs.Prelude.{◌≡◌};
+ghost use Rattle.std.specs.List.{filter_map};
+ghost use Rattle.mx_lists.specs.Fitted.{part_of_place};
+ghost use Rattle.mx_lists.specs.Lists.{life_list, part_in, part_before, parts};
+ghost use Rattle.mx_book.specs.Life.{use_or_none};
+ghost use Rattle.mx_lists.specs.Memory.{with_memory, seen_as};
+ghost use Rattle.mx_lists.specs.Ranks.{parts_rank};
+ghost use Rattle.mx_book.specs.Reading.{Answers};
+
+use crate::list_questions::{aircraft_of, life_of};
+use crate::lists::Lists;
+use crate::order::{Placed, Rows, sorted};
+use crate::stop::Stop;
+use mx_base::{Kind, Part, Position, Serial, Tail, Use};
+use mx_command::Item;
+use std::alloc::Global;
+
+/// A component in a position of an aircraft, with its life.
+#[derive(Clone, Copy, Debug, PartialEq, Eq)]
+pub struct FittedPart {
+    /// The position of the aircraft.
+    pub position: Position,
+    /// The serial number of the component.
+    pub serial: Serial,
+    /// The part that it is one of.
+    pub part: Part,
+    /// Its life with all sectors that it is credited with.
+    pub life: Use,
+}
+
+impl Placed for FittedPart {
+    ghost before = { part_before };
+
+    ghost ranks = { parts_rank };
+
+    fn before(&self, other: &FittedPart) -> bool {
+        self.position < other.position
+    }
+}
+
+/// The life of an aircraft's airframe, and that of each component fitted to it.
+#[derive(Debug, Drop, PartialEq, Eq)]
+pub struct LifeList {
+    /// The registration of the aircraft.
+    pub tail: Tail,
+    /// Its kind.
+    pub kind: Kind,
+    /// The life of its airframe with all sectors.
+    pub life: Use,
+    /// The components fitted to it, by position.
+    pub parts: Rows<FittedPart>,
+}
+
+/// The life, or none at all.
+pub(crate) fn life_or_none(life: Option<Use>) -> Use
+    ensures { result ≡ use_or_none life }
+{
+    match life {
+        Some(life) => life,
+        None => Use {
+            minutes: 0,
+            cycles: 0,
+        },
+    }
+}
+
+// The component in a position, with its life, where it is known.
+fn part_with_life<R: Lists>(
+    records: &mut R,
+    position: &Position,
+    serial: &Serial,
+) -> Result<Option<FittedPart>, R::Fault>
+    ensures { Answers R.reading records.old records.new result
+        (λ book. part_in book position.now serial.now) }
+{
+    let Some(component) = records.component(serial)? else {
+        return Ok(None);
+    };
+    let life = records.life(&Item::Component(*serial))?;
+    Ok(Some(FittedPart {
+        position: *position,
+        serial: *serial,
+        part: component.part,
+        life: life_or_none(life),
+    }))
+}
+
+// The component in a place, with its life, where it is known.
+fn part_in_place<R: Lists>(
+    records: &mut R,
+    place: &(Position, Serial),
+) -> Result<Option<FittedPart>, Stop<R::Fault>>
+    ensures { Answers (with_memory R.reading) records.old records.new result
+        (λ book. part_of_place book place.now) }
+{
+    match part_with_life(records, &place.0, &place.1) {
+        Ok(part) => Ok(part),
+        Err(fault) => Err(Stop::Fault(fault)),
+    }
+}
+
+// The components in these places, each with its life.
+fn parts_in_places<R: Lists>(
+    records: &mut R,
+    alloc: Global,
+    places: &[(Position, Serial)],
+) -> Result<Vec<FittedPart>, Stop<R::Fault>>
+    ensures { Answers (with_memory R.reading) records.old records.new
+        (seen_as (λ parts. parts.items) result)
+        (λ book. filter_map (part_of_place book) places.now) }
+{
+    let mut parts = Vec::new(alloc);
+    let mut rest = places;
+    while let Some((place, later)) = rest.split_first() {
+        if let Some(part) = part_in_place(records, place)? {
+            parts.push(part)?;
+        }
+        rest = later;
+    }
+    Ok(parts)
+}
+
+/// The components that are fitted to an aircraft, by position, each with its life.
+pub(crate) fn parts_by_position<R: Lists>(
+    records: &mut R,
+    alloc: Global,
+    tail: &Tail,
+) -> Result<Rows<FittedPart>, Stop<R::Fault>>
+    ensures { Answers (with_memory R.reading) records.old records.new result
+        (λ book. parts book tail.now) }
+{
+    let places = records.fitted(alloc, tail)?;
+    let parts = parts_in_places(records, alloc, places.as_slice())?;
+    let rows = sorted(parts)?;
+    Ok(rows)
+}
+
+/// The life list of an aircraft, or `None` where the registration is unknown. Or why it stopped: memory ran out, or a
+/// question was not answered.
+pub fn list_lives<R: Lists>(
+    records: &mut R,
+    alloc: Global,
+    tail: &Tail,
+) -> Result<Option<LifeList>, Stop<R::Fault>>
+    ensures { Answers (with_memory R.reading) records.old records.new result
+        (λ book. life_list book tail.now) }
+{
+    let Some(aircraft) = aircraft_of(records, tail)? else {
+        return Ok(None);
+    };
+    let parts = parts_by_position(records, alloc, tail)?;
+    let life = life_of(records, &Item::Airframe(*tail))?;
+    Ok(Some(LifeList {
+        tail: *tail,
+        kind: aircraft.kind,
+        life,
+        parts,
+    }))
+}

@@ -1,0 +1,53 @@
+//! Questions that several lists ask of records, where memory may run out as well.
+ghost use Rattle.mx_book.specs.Defect.{days_extended};
+ghost use Rattle.mx_book.specs.Life.{life_now, use_or_none};
+ghost use Rattle.mx_book.specs.Register.{aircraft};
+ghost use Rattle.mx_lists.specs.Memory.{with_memory};
+ghost use Rattle.mx_book.specs.Reading.{Answers};
+
+use crate::life_list::life_or_none;
+use crate::lists::Lists;
+use crate::stop::Stop;
+use mx_base::{Doc, Tail, Use};
+use mx_book::Records;
+use mx_book::judging_defects::extension_days;
+use mx_command::{Aircraft, Item};
+
+/// The aircraft with a registration.
+pub(crate) fn aircraft_of<R: Lists>(
+    records: &mut R,
+    tail: &Tail,
+) -> Result<Option<Aircraft>, Stop<R::Fault>>
+    ensures { Answers (with_memory R.reading) records.old records.new result
+        (λ book. aircraft book tail.now) }
+{
+    match records.aircraft(tail) {
+        Ok(aircraft) => Ok(aircraft),
+        Err(fault) => Err(Stop::Fault(fault)),
+    }
+}
+
+/// The life of an item with all of its sectors, or none at all where the item is unknown.
+pub(crate) fn life_of<R: Lists>(records: &mut R, item: &Item) -> Result<Use, Stop<R::Fault>>
+    ensures { Answers (with_memory R.reading) records.old records.new result
+        (λ book. use_or_none (life_now book item.now)) }
+{
+    match records.life(item) {
+        Ok(life) => Ok(life_or_none(life)),
+        Err(fault) => Err(Stop::Fault(fault)),
+    }
+}
+
+/// The days by which the interval of a defect was extended.
+pub(crate) fn days_of_extension<R: Records>(
+    records: &mut R,
+    doc: &Doc,
+) -> Result<u32, Stop<R::Fault>>
+    ensures { Answers (with_memory R.reading) records.old records.new result
+        (λ book. days_extended book doc.now) }
+{
+    match extension_days(records, doc) {
+        Ok(days) => Ok(days),
+        Err(fault) => Err(Stop::Fault(fault)),
+    }
+}

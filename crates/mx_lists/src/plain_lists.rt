@@ -1,0 +1,56 @@
+//! The plain book as records of which lists are made.
+ghost use Rattle.std.specs.Prelude.{◌≡◌, IfOk};
+
+use crate::bases::last_base;
+use crate::fitted::places_fitted;
+use crate::lists::Lists;
+use crate::stop::Stop;
+use mx_base::{Base, Kind, Position, Serial, Tail, TaskId, Use};
+use mx_book::defects::list_open_defects;
+use mx_book::lives::life;
+use mx_book::programmes::tasks_of_kind;
+use mx_book::{Defect, NoMemory, Plain};
+use mx_command::{Item, Task};
+use std::alloc::Global;
+use std::convert::Infallible;
+
+impl<'a> Lists for Plain<'a> {
+    fn life(&mut self, item: &Item) -> Result<Option<Use>, Infallible> {
+        Ok(life(self.book.as_slice(), item, None))
+    }
+
+    fn base(&mut self, item: &Item, task: &TaskId) -> Result<Option<Base>, Infallible> {
+        Ok(last_base(self.book.as_slice(), item, task))
+    }
+
+    fn tasks(&mut self, alloc: Global, kind: &Kind) -> Result<Vec<Task>, Stop<Infallible>> {
+        Ok(tasks_of_kind(alloc, self.book.as_slice(), kind)?)
+    }
+
+    fn fitted(
+        &mut self,
+        alloc: Global,
+        tail: &Tail,
+    ) -> Result<Vec<(Position, Serial)>, Stop<Infallible>> {
+        Ok(places_fitted(alloc, self.book.as_slice(), tail)?)
+    }
+
+    fn open_defects(
+        &mut self,
+        alloc: Global,
+        tail: &Tail,
+    ) -> Result<Vec<Defect>, Stop<Infallible>> {
+        Ok(list_open_defects(alloc, self.book.as_slice(), tail)?)
+    }
+}
+
+/// What is answered of a book: nothing but want of memory stops it.
+pub(crate) fn unless_no_memory<T>(answer: Result<T, Stop<Infallible>>) -> Result<T, NoMemory>
+    ensures { IfOk result (λ value. answer ≡ Ok value) }
+{
+    match answer {
+        Ok(value) => Ok(value),
+        Err(Stop::NoMemory) => Err(NoMemory),
+        Err(Stop::Fault(never)) => match never {},
+    }
+}
