@@ -1,8 +1,8 @@
 -- Tests that all of a list pass: what is left of it, and the same list in order.
 use Rattle.std.proofs.Common.{◌≡◌, refl, sym, ap, ◌∙◌, List, [], ◌∷◌, Bool, true, false, cond, ◌&&◌}
 use Rattle.std.specs.List.{list_all}
-use Rattle.mx_lists.specs.Order.{placed, put_in, in_order}
 use Rattle.mx_book.proofs.JudgeLemmas.{both_true}
+use Rattle.mx_lists.specs.Order.{placed, put_in, in_order}
 
 and_of : (p q : Bool) → p ≡ true → q ≡ true → p && q ≡ true
 and_of p q h k = ap (λ b. b && q) h ∙ k

@@ -15,15 +15,15 @@ use Rattle.mx_command.specs.declared.release.Line.{Line}
 use Rattle.mx_command.specs.declared.release.Line.TheVariants.{Done}
 use Rattle.mx_command.specs.declared.release.Place.{Place}
 use Rattle.mx_command.specs.declared.release.Place.TheVariants.{Aircraft, Shop}
-use Rattle.mx_lists.specs.declared.due_row.DueRow.{DueRow}
-use Rattle.mx_lists.specs.declared.due_row.DueRow.TheVariants.{Task as TaskRow}
 use Rattle.mx_book.specs.Book.{is_book}
 use Rattle.mx_book.specs.Base.{base}
-use Rattle.mx_lists.specs.Dues.{due}
-use Rattle.mx_lists.specs.DueList.{due_rows, due_list}
 use Rattle.mx_book.proofs.Worked.{at, used, abcd, logged}
 use Rattle.mx_book.proofs.WorkedFittings.{efgh, engine, propeller, e1, e2, fit, engine_with, first_aircraft, replaced}
 use Rattle.mx_book.proofs.WorkedProgrammes.{c172, minutes_alone, cycles_alone, days_alone, hundred_hours, annual, overhaul, load, first_programme, first_four, disc, llp1}
+use Rattle.mx_lists.specs.declared.due_row.DueRow.{DueRow}
+use Rattle.mx_lists.specs.declared.due_row.DueRow.TheVariants.{Task as TaskRow}
+use Rattle.mx_lists.specs.Dues.{due}
+use Rattle.mx_lists.specs.DueList.{due_rows, due_list}
 
 abbrev pub minutes_left : ℤ → Left
 minutes_left n = record { minutes = Some n; cycles = None; days = None }

@@ -4,13 +4,13 @@ use Rattle.std.specs.Prelude.{codes, pos}
 use Rattle.mx_base.specs.declared.amounts.Status.TheVariants as statuses
 use Rattle.mx_command.specs.Act.{Entry, Deferred}
 use Rattle.mx_command.specs.declared.deferral.Category.TheVariants.{B}
+use Rattle.mx_book.proofs.Worked.{at, abcd, logged}
+use Rattle.mx_book.proofs.WorkedFittings.{efgh, first_aircraft}
+use Rattle.mx_book.proofs.WorkedProgrammes.{c172, first_four}
 use Rattle.mx_lists.specs.declared.due_row.DueRow.{DueRow}
 use Rattle.mx_lists.specs.declared.due_row.DueRow.TheVariants.{Defect as DefectRow}
 use Rattle.mx_lists.specs.declared.forecast.TheConstants.{MOST_DAYS, MOST_MINUTES, MOST_CYCLES}
 use Rattle.mx_lists.specs.Forecast.{forecast, forecast_rows}
-use Rattle.mx_book.proofs.Worked.{at, abcd, logged}
-use Rattle.mx_book.proofs.WorkedFittings.{efgh, first_aircraft}
-use Rattle.mx_book.proofs.WorkedProgrammes.{c172, first_four}
 use Rattle.mx_lists.proofs.WorkedDues.{airframe_row, minutes_left}
 
 abbrev hundred_hours_row : DueRow

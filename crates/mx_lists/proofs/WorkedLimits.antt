@@ -10,19 +10,19 @@ use Rattle.mx_command.specs.declared.programme.Task.{Task}
 use Rattle.mx_command.specs.declared.release.Place.TheVariants.{Aircraft}
 use Rattle.mx_book.specs.declared.verdict.Refusal.TheVariants.{ExtensionTooLong}
 use Rattle.mx_book.specs.declared.verdict.Verdict.TheVariants.{New, Refused}
-use Rattle.mx_lists.specs.declared.due_row.DueRow.{DueRow}
-use Rattle.mx_lists.specs.declared.due_row.DueRow.TheVariants.{Defect as DefectRow}
-use Rattle.mx_lists.specs.declared.limit_list.LimitRow.{LimitRow}
 use Rattle.mx_book.specs.Defect.{defect, last_permitted, open_defects}
-use Rattle.mx_lists.specs.LimitList.{limit_rows, limits}
-use Rattle.mx_lists.specs.DueList.{due_rows, due_list}
 use Rattle.mx_book.specs.Judge.{judge}
 use Rattle.mx_book.specs.Book.{is_book}
 use Rattle.mx_book.proofs.Worked.{at, used, logged}
 use Rattle.mx_book.proofs.WorkedFittings.{efgh, second_aircraft}
 use Rattle.mx_book.proofs.WorkedProgrammes.{c172, minutes_alone, hundred_hours, load}
-use Rattle.mx_lists.proofs.WorkedDues.{minutes_left, airframe_row}
 use Rattle.mx_book.proofs.WorkedDefects.{old, x1, x2, x3, x4, defer, extend, rectify, three_deferred, once_extended, once_rectified, beside_another}
+use Rattle.mx_lists.specs.declared.due_row.DueRow.{DueRow}
+use Rattle.mx_lists.specs.declared.due_row.DueRow.TheVariants.{Defect as DefectRow}
+use Rattle.mx_lists.specs.declared.limit_list.LimitRow.{LimitRow}
+use Rattle.mx_lists.specs.LimitList.{limit_rows, limits}
+use Rattle.mx_lists.specs.DueList.{due_rows, due_list}
+use Rattle.mx_lists.proofs.WorkedDues.{minutes_left, airframe_row}
 
 -- the last days of some defects
 abbrev last_days : List Entry → List (List ℕ) → List (Option ℕ)

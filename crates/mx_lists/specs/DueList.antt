@@ -10,17 +10,17 @@ use Rattle.mx_command.specs.declared.item.Item.TheVariants.{Airframe, Component}
 use Rattle.mx_command.specs.declared.programme.Task.{Task}
 use Rattle.mx_due.specs.Left.{left_of}
 use Rattle.mx_due.specs.Status.{status_by, status_of}
-use Rattle.mx_lists.specs.declared.due_row.DueRow.{DueRow}
-use Rattle.mx_lists.specs.declared.due_row.DueRow.TheVariants.{Task as TaskRow, Defect as DefectRow}
 use Rattle.mx_book.specs.declared.defects.Defect.{Defect}
-use Rattle.mx_lists.specs.declared.due_row.DueList.{DueList}
-use Rattle.mx_lists.specs.declared.life_list.FittedPart.{FittedPart}
 use Rattle.mx_book.specs.Register.{aircraft}
 use Rattle.mx_book.specs.Life.{life_now, use_or_none}
-use Rattle.mx_lists.specs.Lists.{parts}
 use Rattle.mx_book.specs.Programme.{tasks_or_none}
-use Rattle.mx_lists.specs.Dues.{due_by}
 use Rattle.mx_book.specs.Defect.{last_permitted, letter_of, open_defects}
+use Rattle.mx_lists.specs.declared.due_row.DueRow.{DueRow}
+use Rattle.mx_lists.specs.declared.due_row.DueRow.TheVariants.{Task as TaskRow, Defect as DefectRow}
+use Rattle.mx_lists.specs.declared.due_row.DueList.{DueList}
+use Rattle.mx_lists.specs.declared.life_list.FittedPart.{FittedPart}
+use Rattle.mx_lists.specs.Lists.{parts}
+use Rattle.mx_lists.specs.Dues.{due_by}
 use Rattle.mx_lists.specs.LimitList.{days_left}
 use Rattle.mx_lists.specs.DueRow.{row_before}
 use Rattle.mx_lists.specs.Order.{in_order, text_before}

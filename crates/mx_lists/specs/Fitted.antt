@@ -1,9 +1,9 @@
 -- What is fitted to an aircraft by places, as lists ask it of records, and the parts that they make of the answer.
 use Rattle.std.specs.Prelude.{ℕ, List, map, filter, Option}
 use Rattle.mx_command.specs.Act.{Entry}
+use Rattle.mx_book.specs.Span.{Span, spans, span_begun, is_open_on}
 use Rattle.mx_lists.specs.declared.life_list.FittedPart.{FittedPart}
 use Rattle.mx_lists.specs.Lists.{part_in}
-use Rattle.mx_book.specs.Span.{Span, spans, span_begun, is_open_on}
 
 -- the position and the component of a span
 abbrev pub place_of : Span → List ℕ × List ℕ

@@ -4,11 +4,11 @@ use Rattle.std.specs.List.{filter_map}
 use Rattle.std.specs.Option.{option_map}
 use Rattle.mx_command.specs.Act.{Entry}
 use Rattle.mx_due.specs.Reach.{reaches, reaches_some, least_up_to}
+use Rattle.mx_book.specs.Register.{aircraft}
 use Rattle.mx_lists.specs.declared.due_row.DueRow.{DueRow}
 use Rattle.mx_lists.specs.declared.due_row.DueRow.TheVariants.{Task as TaskRow, Defect as DefectRow}
 use Rattle.mx_lists.specs.declared.forecast.ForecastRow.{ForecastRow}
 use Rattle.mx_lists.specs.declared.forecast.ForecastList.{ForecastList}
-use Rattle.mx_book.specs.Register.{aircraft}
 use Rattle.mx_lists.specs.DueList.{rows_by_place}
 use Rattle.mx_lists.specs.Order.{in_order}
 

@@ -5,10 +5,10 @@ use Rattle.mx_command.specs.Act.{Entry}
 use Rattle.mx_due.specs.Left.{left_until}
 use Rattle.mx_due.specs.Status.{status_by}
 use Rattle.mx_book.specs.declared.defects.Defect.{Defect}
-use Rattle.mx_lists.specs.declared.limit_list.LimitRow.{LimitRow}
-use Rattle.mx_lists.specs.declared.limit_list.LimitList.{LimitList}
 use Rattle.mx_book.specs.Register.{aircraft}
 use Rattle.mx_book.specs.Defect.{days_extended, day_found, last_permitted, letter_of, open_defects}
+use Rattle.mx_lists.specs.declared.limit_list.LimitRow.{LimitRow}
+use Rattle.mx_lists.specs.declared.limit_list.LimitList.{LimitList}
 use Rattle.mx_lists.specs.Order.{in_order}
 
 -- the days that are left on a day until the last one of a defect

@@ -4,11 +4,11 @@ use Rattle.std.specs.List.{filter_map}
 use Rattle.std.specs.Option.{option_map}
 use Rattle.mx_command.specs.Act.{Entry}
 use Rattle.mx_command.specs.declared.item.Item.TheVariants.{Airframe, Component}
-use Rattle.mx_lists.specs.declared.life_list.FittedPart.{FittedPart}
-use Rattle.mx_lists.specs.declared.life_list.LifeList.{LifeList}
 use Rattle.mx_book.specs.Register.{aircraft, component}
 use Rattle.mx_book.specs.Span.{Span, spans, is_open_on}
 use Rattle.mx_book.specs.Life.{life_now, use_or_none}
+use Rattle.mx_lists.specs.declared.life_list.FittedPart.{FittedPart}
+use Rattle.mx_lists.specs.declared.life_list.LifeList.{LifeList}
 use Rattle.mx_lists.specs.Order.{in_order, text_before}
 
 -- the component in a position, with its life

@@ -4,10 +4,10 @@ ghost use Rattle.std.specs.List.{cons_option, flat_map, list_all};
 ghost use Rattle.mx_command.specs.Act.{Entry};
 ghost use Rattle.mx_command.specs.Programme.{task_shape};
 ghost use Rattle.mx_book.specs.Defect.{days_extended};
+ghost use Rattle.mx_book.specs.Reading.{Answers};
 ghost use Rattle.mx_lists.specs.DueList.{row_by_due, task_before, tasks_by_name, row_with, rows_with, rows_of_item, rows_of_part, defect_row, rows_by_place, due_list};
 ghost use Rattle.mx_lists.specs.Memory.{with_memory, seen_as};
 ghost use Rattle.mx_lists.specs.Ranks.{tasks_rank};
-ghost use Rattle.mx_book.specs.Reading.{Answers};
 
 use crate::due_row::{DueList, DueRow};
 use crate::dues::due_of_task;

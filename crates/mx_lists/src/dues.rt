@@ -3,9 +3,9 @@ ghost use Rattle.std.specs.Prelude.{◌≡◌, true};
 ghost use Rattle.mx_command.specs.Programme.{task_shape};
 ghost use Rattle.mx_due.specs.Due.{due_after};
 ghost use Rattle.mx_book.specs.Base.{base};
-ghost use Rattle.mx_lists.specs.Dues.{due_by, due};
 ghost use Rattle.mx_book.specs.Register.{birth_in};
 ghost use Rattle.mx_book.specs.Reading.{Answers};
+ghost use Rattle.mx_lists.specs.Dues.{due_by, due};
 
 use crate::lists::Lists;
 use mx_base::{Kind, Limit, TaskId};

@@ -2,10 +2,10 @@
 ghost use Rattle.std.specs.Prelude.{◌≡◌, IfOk};
 ghost use Rattle.std.specs.List.{filter_map};
 ghost use Rattle.mx_due.specs.Reach.{IsLeastIfAny};
+ghost use Rattle.mx_book.specs.Reading.{Answers};
 ghost use Rattle.mx_lists.specs.Forecast.{is_reached_after, row_after, forecast_row, sooner, forecast};
 ghost use Rattle.mx_lists.specs.Memory.{with_memory};
 ghost use Rattle.mx_lists.specs.Ranks.{forecast_rank};
-ghost use Rattle.mx_book.specs.Reading.{Answers};
 
 use crate::due_lists::placed_rows;
 use crate::due_row::DueRow;

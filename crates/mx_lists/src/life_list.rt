@@ -1,12 +1,12 @@
 //! The life list of an aircraft: what is fitted to it, and the lives.
 ghost use Rattle.std.specs.Prelude.{◌≡◌};
 ghost use Rattle.std.specs.List.{filter_map};
+ghost use Rattle.mx_book.specs.Life.{use_or_none};
+ghost use Rattle.mx_book.specs.Reading.{Answers};
 ghost use Rattle.mx_lists.specs.Fitted.{part_of_place};
 ghost use Rattle.mx_lists.specs.Lists.{life_list, part_in, part_before, parts};
-ghost use Rattle.mx_book.specs.Life.{use_or_none};
 ghost use Rattle.mx_lists.specs.Memory.{with_memory, seen_as};
 ghost use Rattle.mx_lists.specs.Ranks.{parts_rank};
-ghost use Rattle.mx_book.specs.Reading.{Answers};
 
 use crate::list_questions::{aircraft_of, life_of};
 use crate::lists::Lists;

@@ -2,10 +2,10 @@
 ghost use Rattle.std.specs.Prelude.{◌≡◌, map, List};
 ghost use Rattle.mx_command.specs.Act.{Entry};
 ghost use Rattle.mx_book.specs.Defect.{days_extended};
+ghost use Rattle.mx_book.specs.Reading.{Answers};
 ghost use Rattle.mx_lists.specs.LimitList.{limit_before, limit_row, limits};
 ghost use Rattle.mx_lists.specs.Memory.{with_memory, seen_as};
 ghost use Rattle.mx_lists.specs.Ranks.{limits_rank};
-ghost use Rattle.mx_book.specs.Reading.{Answers};
 
 use crate::list_questions::{aircraft_of, days_of_extension};
 use crate::lists::Lists;

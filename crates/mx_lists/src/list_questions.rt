@@ -2,8 +2,8 @@
 ghost use Rattle.mx_book.specs.Defect.{days_extended};
 ghost use Rattle.mx_book.specs.Life.{life_now, use_or_none};
 ghost use Rattle.mx_book.specs.Register.{aircraft};
-ghost use Rattle.mx_lists.specs.Memory.{with_memory};
 ghost use Rattle.mx_book.specs.Reading.{Answers};
+ghost use Rattle.mx_lists.specs.Memory.{with_memory};
 
 use crate::life_list::life_or_none;
 use crate::lists::Lists;

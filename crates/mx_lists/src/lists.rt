@@ -7,9 +7,9 @@ ghost use Rattle.mx_book.specs.Base.{base};
 ghost use Rattle.mx_book.specs.Defect.{open_defects};
 ghost use Rattle.mx_book.specs.Life.{life_now};
 ghost use Rattle.mx_book.specs.Programme.{tasks_or_none};
+ghost use Rattle.mx_book.specs.Reading.{Answers};
 ghost use Rattle.mx_lists.specs.Fitted.{fitted_on};
 ghost use Rattle.mx_lists.specs.Memory.{with_memory, seen_as};
-ghost use Rattle.mx_book.specs.Reading.{Answers};
 
 use crate::stop::Stop;
 use mx_base::{Base, Kind, Position, Serial, Tail, TaskId, Use};

@@ -1,5 +1,5 @@
-use Rattle.mx_lists.specs.DueList.{defect_row}
 use Rattle.mx_book.proofs.Gathering.{goes_on}
+use Rattle.mx_lists.specs.DueList.{defect_row}
 use Rattle.mx_lists.proofs.Gathering.{row_put}
 use Rattle.mx_lists.proofs.due_lists.append_defects.Goals as goal
 

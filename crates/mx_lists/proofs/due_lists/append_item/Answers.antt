@@ -1,6 +1,6 @@
 use Rattle.std.proofs.Common.{ap, ◌++◌}
-use Rattle.mx_lists.specs.DueList.{rows_with}
 use Rattle.mx_book.proofs.Chaining.{after}
+use Rattle.mx_lists.specs.DueList.{rows_with}
 use Rattle.mx_lists.proofs.due_lists.append_item.Goals as goal
 
 pub returns : goal.returns

@@ -1,7 +1,7 @@
 use Rattle.std.proofs.Common.{◌++◌, length}
 use Rattle.std.specs.List.{flat_map}
-use Rattle.mx_lists.specs.DueList.{rows_of_part}
 use Rattle.mx_book.proofs.Gathering.{Gathers}
+use Rattle.mx_lists.specs.DueList.{rows_of_part}
 use Rattle.mx_lists.proofs.due_lists.append_parts.Given as goal
 
 -- so far, and what is left, give the whole

@@ -1,7 +1,7 @@
 use Rattle.mx_command.specs.Programme.{task_shape}
+use Rattle.mx_book.proofs.Gathering.{goes_on}
 use Rattle.mx_lists.proofs.InOrder.{all_left}
 use Rattle.mx_lists.specs.DueList.{row_with}
-use Rattle.mx_book.proofs.Gathering.{goes_on}
 use Rattle.mx_lists.proofs.Gathering.{found_put}
 use Rattle.mx_lists.proofs.due_lists.append_rows.Goals as goal
 

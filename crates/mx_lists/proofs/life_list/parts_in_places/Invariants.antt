@@ -1,7 +1,7 @@
 use Rattle.std.proofs.Common.{◌++◌, length}
 use Rattle.std.specs.List.{filter_map}
-use Rattle.mx_lists.specs.Fitted.{part_of_place}
 use Rattle.mx_book.proofs.Gathering.{Gathers}
+use Rattle.mx_lists.specs.Fitted.{part_of_place}
 use Rattle.mx_lists.proofs.life_list.parts_in_places.Given as goal
 
 -- so far, and what is left, give the whole

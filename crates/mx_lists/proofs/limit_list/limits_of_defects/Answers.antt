@@ -1,5 +1,5 @@
-use Rattle.mx_lists.specs.LimitList.{limit_row}
 use Rattle.mx_book.proofs.Gathering.{goes_on}
+use Rattle.mx_lists.specs.LimitList.{limit_row}
 use Rattle.mx_lists.proofs.Gathering.{row_put}
 use Rattle.mx_lists.proofs.limit_list.limits_of_defects.Goals as goal
 

@@ -1,7 +1,7 @@
 use Rattle.std.proofs.Common.{◌++◌, map, length}
+use Rattle.mx_book.proofs.Gathering.{Gathers}
 use Rattle.mx_lists.specs.LimitList.{limit_row}
 use Rattle.mx_lists.specs.Memory.{with_memory}
-use Rattle.mx_book.proofs.Gathering.{Gathers}
 use Rattle.mx_lists.proofs.limit_list.limits_of_defects.Given as goal
 
 -- so far, and what is left, give the whole
