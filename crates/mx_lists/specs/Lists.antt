@@ -1,5 +1,5 @@
 -- The lists that are asked of a book.
-use Rattle.std.specs.Prelude.{ℕ, List, Bool, Option, Some, None, filter}
+use Rattle.std.specs.Prelude.{ℕ, List, Bool, Option, filter}
 use Rattle.std.specs.List.{filter_map}
 use Rattle.std.specs.Option.{option_map}
 use Rattle.mx_command.specs.Act.{Entry}
