@@ -8,3 +8,4 @@ pub mod OrderLemmas
 pub mod SchemaLemmas
 pub mod ValueLemmas
 mod WorkedCells
+mod WorkedTexts

@@ -2,11 +2,11 @@
 use Rattle.std.specs.Prelude.{⊤, List, map, ◌++◌, nat_eq, if◌then◌else◌}
 use Rattle.sqlite.specs.Order.{Row}
 use Rattle.mx_layout.specs.TableName.{TableName}
-use Rattle.mx_layout.specs.declared.fault.Table.TheVariants.{Entry, Aircraft, Place, Component, Programme, Task, Opening, Crs, CrsLine, Defect, Extension, Sector1, Fit1, Removal1, Sector2, Span2, Total2, Base2}
+use Rattle.mx_layout.specs.declared.fault.Table.TheVariants as table
 use Rattle.mx_layout.specs.Names.{table_named}
 use Rattle.mx_layout.specs.Reading.{IsRowOf}
 use Rattle.mx_kept.specs.Kept.{Kept}
-use Rattle.mx_kept.specs.Cells.{kept_entry, kept_aircraft, kept_place, kept_component, kept_programme, kept_task, kept_opening, kept_crs, kept_crs_line, kept_defect, kept_extension, kept_sector1, kept_fit1, kept_removal1, kept_sector2, kept_span2, kept_total2, kept_base2}
+use Rattle.mx_kept.specs.Cells
 
 -- the row is that of something that can be kept in the table
 abbrev pub IsReadableAs : {X : Type 0} → Kept X → Row → Type 0
@@ -14,24 +14,24 @@ IsReadableAs k = IsRowOf k.as_cells k.Fits
 
 -- the row is of the type of the table with this name; of a table whose rows have no type nothing is asked
 abbrev pub IsReadable : TableName → Row → Type 0
-IsReadable Entry = IsReadableAs kept_entry
-IsReadable Aircraft = IsReadableAs kept_aircraft
-IsReadable Place = IsReadableAs kept_place
-IsReadable Component = IsReadableAs kept_component
-IsReadable Programme = IsReadableAs kept_programme
-IsReadable Task = IsReadableAs kept_task
-IsReadable Opening = IsReadableAs kept_opening
-IsReadable Crs = IsReadableAs kept_crs
-IsReadable CrsLine = IsReadableAs kept_crs_line
-IsReadable Defect = IsReadableAs kept_defect
-IsReadable Extension = IsReadableAs kept_extension
-IsReadable Sector1 = IsReadableAs kept_sector1
-IsReadable Fit1 = IsReadableAs kept_fit1
-IsReadable Removal1 = IsReadableAs kept_removal1
-IsReadable Sector2 = IsReadableAs kept_sector2
-IsReadable Span2 = IsReadableAs kept_span2
-IsReadable Total2 = IsReadableAs kept_total2
-IsReadable Base2 = IsReadableAs kept_base2
+IsReadable table.Entry = IsReadableAs Cells.kept_entry
+IsReadable table.Aircraft = IsReadableAs Cells.kept_aircraft
+IsReadable table.Place = IsReadableAs Cells.kept_place
+IsReadable table.Component = IsReadableAs Cells.kept_component
+IsReadable table.Programme = IsReadableAs Cells.kept_programme
+IsReadable table.Task = IsReadableAs Cells.kept_task
+IsReadable table.Opening = IsReadableAs Cells.kept_opening
+IsReadable table.Crs = IsReadableAs Cells.kept_crs
+IsReadable table.CrsLine = IsReadableAs Cells.kept_crs_line
+IsReadable table.Defect = IsReadableAs Cells.kept_defect
+IsReadable table.Extension = IsReadableAs Cells.kept_extension
+IsReadable table.Sector1 = IsReadableAs Cells.kept_sector1
+IsReadable table.Fit1 = IsReadableAs Cells.kept_fit1
+IsReadable table.Removal1 = IsReadableAs Cells.kept_removal1
+IsReadable table.Sector2 = IsReadableAs Cells.kept_sector2
+IsReadable table.Span2 = IsReadableAs Cells.kept_span2
+IsReadable table.Total2 = IsReadableAs Cells.kept_total2
+IsReadable table.Base2 = IsReadableAs Cells.kept_base2
 IsReadable _ = λ _. ⊤
 
 -- the rows on top of others, where these are of the same table

@@ -16,11 +16,11 @@ use Rattle.mx_typed_rows.specs.Rising.{IsFrom}
 use Rattle.mx_layout.specs.Contents.{cells}
 use Rattle.mx_layout.specs.Names.{table_named}
 use Rattle.mx_layout.specs.TableName.{TableName}
-use Rattle.mx_layout.specs.declared.fault.Table.TheVariants.{Entry, Aircraft, Place, Component, Programme, Task, Opening, Crs, CrsLine, Defect, Extension, Sector1, Fit1, Removal1, Sector2, Span2, Total2, Base2}
+use Rattle.mx_layout.specs.declared.fault.Table.TheVariants as table
 use Rattle.mx_layout.proofs.ReadLemmas.{scan_by, Sorts}
 use Rattle.mx_layout.proofs.WriteLemmas.{added, uncounted}
 use Rattle.mx_kept.specs.Kept.{Kept}
-use Rattle.mx_kept.specs.Cells.{kept_entry, kept_aircraft, kept_place, kept_component, kept_programme, kept_task, kept_opening, kept_crs, kept_crs_line, kept_defect, kept_extension, kept_sector1, kept_fit1, kept_removal1, kept_sector2, kept_span2, kept_total2, kept_base2}
+use Rattle.mx_kept.specs.Cells
 use Rattle.mx_kept.specs.Family.{IsReadable, IsReadableAs}
 
 -- over this schema the text is understood as the plan that shows all rows of the table in this order, and nothing else
@@ -60,22 +60,22 @@ pub record IsLawful {X : Type 0} (k : Kept X) : Type 0 where
 
 -- the rows of the table with this name are kept by its law; of a table whose rows have no type nothing is said
 abbrev pub IsLawfulAt : TableName → Type 0
-IsLawfulAt Entry = IsLawful kept_entry
-IsLawfulAt Aircraft = IsLawful kept_aircraft
-IsLawfulAt Place = IsLawful kept_place
-IsLawfulAt Component = IsLawful kept_component
-IsLawfulAt Programme = IsLawful kept_programme
-IsLawfulAt Task = IsLawful kept_task
-IsLawfulAt Opening = IsLawful kept_opening
-IsLawfulAt Crs = IsLawful kept_crs
-IsLawfulAt CrsLine = IsLawful kept_crs_line
-IsLawfulAt Defect = IsLawful kept_defect
-IsLawfulAt Extension = IsLawful kept_extension
-IsLawfulAt Sector1 = IsLawful kept_sector1
-IsLawfulAt Fit1 = IsLawful kept_fit1
-IsLawfulAt Removal1 = IsLawful kept_removal1
-IsLawfulAt Sector2 = IsLawful kept_sector2
-IsLawfulAt Span2 = IsLawful kept_span2
-IsLawfulAt Total2 = IsLawful kept_total2
-IsLawfulAt Base2 = IsLawful kept_base2
+IsLawfulAt table.Entry = IsLawful Cells.kept_entry
+IsLawfulAt table.Aircraft = IsLawful Cells.kept_aircraft
+IsLawfulAt table.Place = IsLawful Cells.kept_place
+IsLawfulAt table.Component = IsLawful Cells.kept_component
+IsLawfulAt table.Programme = IsLawful Cells.kept_programme
+IsLawfulAt table.Task = IsLawful Cells.kept_task
+IsLawfulAt table.Opening = IsLawful Cells.kept_opening
+IsLawfulAt table.Crs = IsLawful Cells.kept_crs
+IsLawfulAt table.CrsLine = IsLawful Cells.kept_crs_line
+IsLawfulAt table.Defect = IsLawful Cells.kept_defect
+IsLawfulAt table.Extension = IsLawful Cells.kept_extension
+IsLawfulAt table.Sector1 = IsLawful Cells.kept_sector1
+IsLawfulAt table.Fit1 = IsLawful Cells.kept_fit1
+IsLawfulAt table.Removal1 = IsLawful Cells.kept_removal1
+IsLawfulAt table.Sector2 = IsLawful Cells.kept_sector2
+IsLawfulAt table.Span2 = IsLawful Cells.kept_span2
+IsLawfulAt table.Total2 = IsLawful Cells.kept_total2
+IsLawfulAt table.Base2 = IsLawful Cells.kept_base2
 IsLawfulAt _ = ⊤

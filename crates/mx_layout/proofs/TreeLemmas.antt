@@ -12,24 +12,7 @@ by_tree n =
 found_by_tree : (name : TableName) → by_tree (table_named name).tree ≡ name
 unfolding by_tree
 found_by_tree Office = refl
-found_by_tree Entry = refl
-found_by_tree Aircraft = refl
-found_by_tree Place = refl
-found_by_tree Component = refl
-found_by_tree Programme = refl
-found_by_tree Task = refl
-found_by_tree Opening = refl
-found_by_tree Crs = refl
-found_by_tree CrsLine = refl
-found_by_tree Extension = refl
-found_by_tree Defect = refl
-found_by_tree Sector1 = refl
-found_by_tree Fit1 = refl
-found_by_tree Removal1 = refl
-found_by_tree Sector2 = refl
-found_by_tree Span2 = refl
-found_by_tree Total2 = refl
-found_by_tree Base2 = refl
+found_by_tree _ = refl
 
 -- two names of one tree are one
 pub same_tree : (one other : TableName) → (table_named one).tree ≡ (table_named other).tree → one ≡ other
