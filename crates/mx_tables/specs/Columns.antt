@@ -1,11 +1,16 @@
 -- What several columns of a row hold.
-use Rattle.std.specs.Prelude.{◌≡◌, ℕ, ◌+◌, pos}
+use Rattle.std.specs.Prelude.{◌≡◌, ℕ, ◌+◌, pos, map}
+use Rattle.std.specs.List.{range_with_len}
 use Rattle.sqlite.specs.declared.types.Value.TheVariants.{Int}
 use Rattle.sqlite.specs.Order.{Row, column}
 use Rattle.mx_base.specs.declared.amounts.Limit.{Limit}
 use Rattle.mx_command.specs.declared.deferral.Category.{Category}
 use Rattle.mx_typed_rows.specs.Rows.{category_number, days_stated}
 use Rattle.mx_kept.specs.Values.{number_or_null}
+
+-- the values in the first so many columns of a row
+abbrev pub columns_of : ℕ → Row → Row
+columns_of count row = map (column row) (range_with_len 0 count)
 
 -- three columns from this one on hold the limit: its minutes, its cycles and its days
 pub record HoldsLimit (row : Row) (at : ℕ) (limit : Limit) : Type 0 where

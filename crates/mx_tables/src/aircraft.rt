@@ -1,14 +1,10 @@
 //! The table `aircraft`: every aircraft, and the use that its airframe brought with it.
 
-use crate::column::{day_at, graphic_at, moment_at, number_at, tail_at};
-use crate::stored::{Insert, Stored, Texts, insert_values};
-use mx_layout::{Table, TableFault};
+use crate::prelude::*;
 use mx_typed_rows::AircraftRow;
-use sqlite::{Alter, Row, Transaction, params};
 
 impl Stored for AircraftRow {
-    ghost use Rattle.mx_kept.specs.Cells.{kept_aircraft};
-    ghost use Rattle.mx_kept.proofs.Lawful.{aircraft_lawful};
+    ghost use Rattle.mx_kept.{specs.Cells.kept_aircraft, proofs.Lawful.aircraft_lawful};
 
     ghost kept = { kept_aircraft };
 
@@ -23,9 +19,7 @@ impl Stored for AircraftRow {
     }
 
     fn read(row: &Row) -> Option<AircraftRow> {
-        if row.column_count() != 7 {
-            return None;
-        }
+        has_columns(row, 7)?;
         Some(AircraftRow {
             seq: number_at(row, 0)?,
             tail: tail_at(row, 1)?,
@@ -40,18 +34,15 @@ impl Stored for AircraftRow {
 
 impl Insert for AircraftRow {
     fn insert<S: Alter>(&self, tx: &mut Transaction<'_, S>) -> Result<(), TableFault> {
-        insert_values(
-            tx,
-            self,
-            params![
-                self.seq,
-                self.tail.as_str(),
-                self.kind.as_str(),
-                self.birth.number(),
-                self.minutes,
-                self.cycles,
-                self.as_of.number(),
-            ],
-        )
+        let values = params![
+            self.seq,
+            self.tail.as_str(),
+            self.kind.as_str(),
+            self.birth.number(),
+            self.minutes,
+            self.cycles,
+            self.as_of.number()
+        ];
+        insert_values(tx, self, values)
     }
 }

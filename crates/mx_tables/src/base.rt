@@ -1,15 +1,11 @@
 //! The table `base2`: the last base of each task that was accomplished of an item.
 
-use crate::column::{day_at, graphic_at, number_at};
-use crate::stored::{Insert, Stored, Texts, insert_values};
+use crate::prelude::*;
 use mx_base::Use;
-use mx_layout::{Table, TableFault};
 use mx_typed_rows::BaseRow;
-use sqlite::{Alter, Row, Transaction, params};
 
 impl Stored for BaseRow {
-    ghost use Rattle.mx_kept.specs.Cells.{kept_base2};
-    ghost use Rattle.mx_kept.proofs.MovedLawful.{base2_lawful};
+    ghost use Rattle.mx_kept.{specs.Cells.kept_base2, proofs.MovedLawful.base2_lawful};
 
     ghost kept = { kept_base2 };
 
@@ -24,9 +20,7 @@ impl Stored for BaseRow {
     }
 
     fn read(row: &Row) -> Option<BaseRow> {
-        if row.column_count() != 5 {
-            return None;
-        }
+        has_columns(row, 5)?;
         Some(BaseRow {
             item: number_at(row, 0)?,
             task: graphic_at(row, 1)?,
@@ -41,16 +35,13 @@ impl Stored for BaseRow {
 
 impl Insert for BaseRow {
     fn insert<S: Alter>(&self, tx: &mut Transaction<'_, S>) -> Result<(), TableFault> {
-        insert_values(
-            tx,
-            self,
-            params![
-                self.item,
-                self.task.as_str(),
-                self.life.minutes,
-                self.life.cycles,
-                self.day.number(),
-            ],
-        )
+        let values = params![
+            self.item,
+            self.task.as_str(),
+            self.life.minutes,
+            self.life.cycles,
+            self.day.number()
+        ];
+        insert_values(tx, self, values)
     }
 }

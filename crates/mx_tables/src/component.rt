@@ -1,14 +1,10 @@
 //! The table `component`: every component, and the use that it brought with it.
 
-use crate::column::{day_at, graphic_at, moment_at, number_at};
-use crate::stored::{Insert, Stored, Texts, insert_values};
-use mx_layout::{Table, TableFault};
+use crate::prelude::*;
 use mx_typed_rows::ComponentRow;
-use sqlite::{Alter, Row, Transaction, params};
 
 impl Stored for ComponentRow {
-    ghost use Rattle.mx_kept.specs.Cells.{kept_component};
-    ghost use Rattle.mx_kept.proofs.Lawful.{component_lawful};
+    ghost use Rattle.mx_kept.{specs.Cells.kept_component, proofs.Lawful.component_lawful};
 
     ghost kept = { kept_component };
 
@@ -23,9 +19,7 @@ impl Stored for ComponentRow {
     }
 
     fn read(row: &Row) -> Option<ComponentRow> {
-        if row.column_count() != 7 {
-            return None;
-        }
+        has_columns(row, 7)?;
         Some(ComponentRow {
             seq: number_at(row, 0)?,
             serial: graphic_at(row, 1)?,
@@ -40,18 +34,15 @@ impl Stored for ComponentRow {
 
 impl Insert for ComponentRow {
     fn insert<S: Alter>(&self, tx: &mut Transaction<'_, S>) -> Result<(), TableFault> {
-        insert_values(
-            tx,
-            self,
-            params![
-                self.seq,
-                self.serial.as_str(),
-                self.part.as_str(),
-                self.birth.number(),
-                self.minutes,
-                self.cycles,
-                self.as_of.number(),
-            ],
-        )
+        let values = params![
+            self.seq,
+            self.serial.as_str(),
+            self.part.as_str(),
+            self.birth.number(),
+            self.minutes,
+            self.cycles,
+            self.as_of.number()
+        ];
+        insert_values(tx, self, values)
     }
 }

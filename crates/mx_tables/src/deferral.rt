@@ -1,17 +1,11 @@
 //! The table `defect`: every deferral of a defect, its category in two columns, of which that of the days is NULL where
 //! it states none.
 
-use crate::column::{
-    category_at, days_of_category, graphic_at, moment_at, number_at, number_of_category,
-};
-use crate::stored::{Insert, Stored, Texts, insert_values};
-use mx_layout::{Table, TableFault};
+use crate::prelude::*;
 use mx_typed_rows::DeferralRow;
-use sqlite::{Alter, Row, Transaction, params};
 
 impl Stored for DeferralRow {
-    ghost use Rattle.mx_kept.specs.Cells.{kept_defect};
-    ghost use Rattle.mx_kept.proofs.Lawful.{defect_lawful};
+    ghost use Rattle.mx_kept.{specs.Cells.kept_defect, proofs.Lawful.defect_lawful};
 
     ghost kept = { kept_defect };
 
@@ -26,9 +20,7 @@ impl Stored for DeferralRow {
     }
 
     fn read(row: &Row) -> Option<DeferralRow> {
-        if row.column_count() != 6 {
-            return None;
-        }
+        has_columns(row, 6)?;
         Some(DeferralRow {
             seq: number_at(row, 0)?,
             aircraft: number_at(row, 1)?,
@@ -41,17 +33,14 @@ impl Stored for DeferralRow {
 
 impl Insert for DeferralRow {
     fn insert<S: Alter>(&self, tx: &mut Transaction<'_, S>) -> Result<(), TableFault> {
-        insert_values(
-            tx,
-            self,
-            params![
-                self.seq,
-                self.aircraft,
-                self.moment.number(),
-                self.reference.as_str(),
-                number_of_category(self.category),
-                days_of_category(self.category),
-            ],
-        )
+        let values = params![
+            self.seq,
+            self.aircraft,
+            self.moment.number(),
+            self.reference.as_str(),
+            number_of_category(self.category),
+            days_of_category(self.category)
+        ];
+        insert_values(tx, self, values)
     }
 }

@@ -5,11 +5,8 @@ ghost use Rattle.sqlite.specs.Order.{column};
 ghost use Rattle.mx_typed_rows.specs.Rows.{kind_number};
 ghost use Rattle.mx_typed_rows.specs.declared.rows.EntryKind.{EntryKind};
 
-use crate::column::{graphic_at, number_at};
-use crate::stored::{Insert, Stored, Texts, insert_values};
-use mx_layout::{Table, TableFault};
+use crate::prelude::*;
 use mx_typed_rows::{EntryKind, EntryRow};
-use sqlite::{Alter, Row, Transaction, params};
 
 // The number that stands for a kind in its column.
 fn number_of(kind: EntryKind) -> u32
@@ -51,8 +48,7 @@ fn kind_at(row: &Row, at: usize) -> Option<EntryKind>
 }
 
 impl Stored for EntryRow {
-    ghost use Rattle.mx_kept.specs.Cells.{kept_entry};
-    ghost use Rattle.mx_kept.proofs.Lawful.{entry_lawful};
+    ghost use Rattle.mx_kept.{specs.Cells.kept_entry, proofs.Lawful.entry_lawful};
 
     ghost kept = { kept_entry };
 
@@ -67,9 +63,7 @@ impl Stored for EntryRow {
     }
 
     fn read(row: &Row) -> Option<EntryRow> {
-        if row.column_count() != 3 {
-            return None;
-        }
+        has_columns(row, 3)?;
         Some(EntryRow {
             seq: number_at(row, 0)?,
             doc: graphic_at(row, 1)?,
@@ -80,10 +74,7 @@ impl Stored for EntryRow {
 
 impl Insert for EntryRow {
     fn insert<S: Alter>(&self, tx: &mut Transaction<'_, S>) -> Result<(), TableFault> {
-        insert_values(
-            tx,
-            self,
-            params![self.seq, self.doc.as_str(), number_of(self.kind),],
-        )
+        let values = params![self.seq, self.doc.as_str(), number_of(self.kind)];
+        insert_values(tx, self, values)
     }
 }

@@ -1,14 +1,10 @@
 //! The table `extension`: every extension of the interval within which a deferred defect is rectified.
 
-use crate::column::{day_at, number_at};
-use crate::stored::{Insert, Stored, Texts, insert_values};
-use mx_layout::{Table, TableFault};
+use crate::prelude::*;
 use mx_typed_rows::ExtensionRow;
-use sqlite::{Alter, Row, Transaction, params};
 
 impl Stored for ExtensionRow {
-    ghost use Rattle.mx_kept.specs.Cells.{kept_extension};
-    ghost use Rattle.mx_kept.proofs.Lawful.{extension_lawful};
+    ghost use Rattle.mx_kept.{specs.Cells.kept_extension, proofs.Lawful.extension_lawful};
 
     ghost kept = { kept_extension };
 
@@ -23,9 +19,7 @@ impl Stored for ExtensionRow {
     }
 
     fn read(row: &Row) -> Option<ExtensionRow> {
-        if row.column_count() != 4 {
-            return None;
-        }
+        has_columns(row, 4)?;
         Some(ExtensionRow {
             seq: number_at(row, 0)?,
             defect: number_at(row, 1)?,
@@ -37,10 +31,7 @@ impl Stored for ExtensionRow {
 
 impl Insert for ExtensionRow {
     fn insert<S: Alter>(&self, tx: &mut Transaction<'_, S>) -> Result<(), TableFault> {
-        insert_values(
-            tx,
-            self,
-            params![self.seq, self.defect, self.day.number(), self.days,],
-        )
+        let values = params![self.seq, self.defect, self.day.number(), self.days];
+        insert_values(tx, self, values)
     }
 }

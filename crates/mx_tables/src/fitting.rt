@@ -1,14 +1,10 @@
 //! The table `fit1`: every fitting, its moment as text.
 
-use crate::column::{graphic_at, number_at, text_of, written_moment_at};
-use crate::stored::{Insert, Stored, Texts, insert_values};
-use mx_layout::{Table, TableFault};
+use crate::prelude::*;
 use mx_typed_rows::FittingRow;
-use sqlite::{Alter, Row, Transaction, params};
 
 impl Stored for FittingRow {
-    ghost use Rattle.mx_kept.specs.Cells.{kept_fit1};
-    ghost use Rattle.mx_kept.proofs.Lawful.{fit1_lawful};
+    ghost use Rattle.mx_kept.{specs.Cells.kept_fit1, proofs.Lawful.fit1_lawful};
 
     ghost kept = { kept_fit1 };
 
@@ -23,9 +19,7 @@ impl Stored for FittingRow {
     }
 
     fn read(row: &Row) -> Option<FittingRow> {
-        if row.column_count() != 5 {
-            return None;
-        }
+        has_columns(row, 5)?;
         Some(FittingRow {
             seq: number_at(row, 0)?,
             component: number_at(row, 1)?,
@@ -38,16 +32,14 @@ impl Stored for FittingRow {
 
 impl Insert for FittingRow {
     fn insert<S: Alter>(&self, tx: &mut Transaction<'_, S>) -> Result<(), TableFault> {
-        insert_values(
-            tx,
-            self,
-            params![
-                self.seq,
-                self.component,
-                self.aircraft,
-                self.position.as_str(),
-                text_of(self.moment).as_str(),
-            ],
-        )
+        let moment = text_of(self.moment);
+        let values = params![
+            self.seq,
+            self.component,
+            self.aircraft,
+            self.position.as_str(),
+            moment.as_str()
+        ];
+        insert_values(tx, self, values)
     }
 }

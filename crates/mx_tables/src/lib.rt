@@ -58,6 +58,7 @@ mod extension;
 mod fitting;
 mod opening;
 mod place;
+mod prelude;
 mod programme;
 mod release;
 mod release_line;

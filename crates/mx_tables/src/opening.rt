@@ -1,14 +1,10 @@
 //! The table `opening`: every task that was accomplished before the records begin.
 
-use crate::column::{day_at, graphic_at, number_at};
-use crate::stored::{Insert, Stored, Texts, insert_values};
-use mx_layout::{Table, TableFault};
+use crate::prelude::*;
 use mx_typed_rows::OpeningRow;
-use sqlite::{Alter, Row, Transaction, params};
 
 impl Stored for OpeningRow {
-    ghost use Rattle.mx_kept.specs.Cells.{kept_opening};
-    ghost use Rattle.mx_kept.proofs.Lawful.{opening_lawful};
+    ghost use Rattle.mx_kept.{specs.Cells.kept_opening, proofs.Lawful.opening_lawful};
 
     ghost kept = { kept_opening };
 
@@ -23,9 +19,7 @@ impl Stored for OpeningRow {
     }
 
     fn read(row: &Row) -> Option<OpeningRow> {
-        if row.column_count() != 7 {
-            return None;
-        }
+        has_columns(row, 7)?;
         Some(OpeningRow {
             seq: number_at(row, 0)?,
             item: number_at(row, 1)?,
@@ -40,18 +34,15 @@ impl Stored for OpeningRow {
 
 impl Insert for OpeningRow {
     fn insert<S: Alter>(&self, tx: &mut Transaction<'_, S>) -> Result<(), TableFault> {
-        insert_values(
-            tx,
-            self,
-            params![
-                self.seq,
-                self.item,
-                self.kind.as_str(),
-                self.task.as_str(),
-                self.minutes,
-                self.cycles,
-                self.day.number(),
-            ],
-        )
+        let values = params![
+            self.seq,
+            self.item,
+            self.kind.as_str(),
+            self.task.as_str(),
+            self.minutes,
+            self.cycles,
+            self.day.number()
+        ];
+        insert_values(tx, self, values)
     }
 }

@@ -1,14 +1,10 @@
 //! The table `place`: every position of an aircraft.
 
-use crate::column::{graphic_at, number_at};
-use crate::stored::{Insert, Stored, Texts, insert_values};
-use mx_layout::{Table, TableFault};
+use crate::prelude::*;
 use mx_typed_rows::PlaceRow;
-use sqlite::{Alter, Row, Transaction, params};
 
 impl Stored for PlaceRow {
-    ghost use Rattle.mx_kept.specs.Cells.{kept_place};
-    ghost use Rattle.mx_kept.proofs.Lawful.{place_lawful};
+    ghost use Rattle.mx_kept.{specs.Cells.kept_place, proofs.Lawful.place_lawful};
 
     ghost kept = { kept_place };
 
@@ -23,9 +19,7 @@ impl Stored for PlaceRow {
     }
 
     fn read(row: &Row) -> Option<PlaceRow> {
-        if row.column_count() != 4 {
-            return None;
-        }
+        has_columns(row, 4)?;
         Some(PlaceRow {
             seq: number_at(row, 0)?,
             line: number_at(row, 1)?,
@@ -37,15 +31,12 @@ impl Stored for PlaceRow {
 
 impl Insert for PlaceRow {
     fn insert<S: Alter>(&self, tx: &mut Transaction<'_, S>) -> Result<(), TableFault> {
-        insert_values(
-            tx,
-            self,
-            params![
-                self.seq,
-                self.line,
-                self.position.as_str(),
-                self.part.as_str(),
-            ],
-        )
+        let values = params![
+            self.seq,
+            self.line,
+            self.position.as_str(),
+            self.part.as_str()
+        ];
+        insert_values(tx, self, values)
     }
 }

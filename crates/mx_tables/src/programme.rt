@@ -1,14 +1,10 @@
 //! The table `programme`: every revision of a maintenance programme.
 
-use crate::column::{graphic_at, number_at};
-use crate::stored::{Insert, Stored, Texts, insert_values};
-use mx_layout::{Table, TableFault};
+use crate::prelude::*;
 use mx_typed_rows::ProgrammeRow;
-use sqlite::{Alter, Row, Transaction, params};
 
 impl Stored for ProgrammeRow {
-    ghost use Rattle.mx_kept.specs.Cells.{kept_programme};
-    ghost use Rattle.mx_kept.proofs.Lawful.{programme_lawful};
+    ghost use Rattle.mx_kept.{specs.Cells.kept_programme, proofs.Lawful.programme_lawful};
 
     ghost kept = { kept_programme };
 
@@ -23,9 +19,7 @@ impl Stored for ProgrammeRow {
     }
 
     fn read(row: &Row) -> Option<ProgrammeRow> {
-        if row.column_count() != 3 {
-            return None;
-        }
+        has_columns(row, 3)?;
         Some(ProgrammeRow {
             seq: number_at(row, 0)?,
             kind: graphic_at(row, 1)?,
@@ -36,10 +30,7 @@ impl Stored for ProgrammeRow {
 
 impl Insert for ProgrammeRow {
     fn insert<S: Alter>(&self, tx: &mut Transaction<'_, S>) -> Result<(), TableFault> {
-        insert_values(
-            tx,
-            self,
-            params![self.seq, self.kind.as_str(), self.revision,],
-        )
+        let values = params![self.seq, self.kind.as_str(), self.revision];
+        insert_values(tx, self, values)
     }
 }

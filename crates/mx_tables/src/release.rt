@@ -1,14 +1,10 @@
 //! The table `crs`: every release to service, the kind of aircraft NULL where the work was done at an aircraft.
 
-use crate::column::{graphic_or_null_at, moment_at, number_at, text_if_any};
-use crate::stored::{Insert, Stored, Texts, insert_values};
-use mx_layout::{Table, TableFault};
+use crate::prelude::*;
 use mx_typed_rows::ReleaseRow;
-use sqlite::{Alter, Row, Transaction, params};
 
 impl Stored for ReleaseRow {
-    ghost use Rattle.mx_kept.specs.Cells.{kept_crs};
-    ghost use Rattle.mx_kept.proofs.Lawful.{crs_lawful};
+    ghost use Rattle.mx_kept.{specs.Cells.kept_crs, proofs.Lawful.crs_lawful};
 
     ghost kept = { kept_crs };
 
@@ -23,9 +19,7 @@ impl Stored for ReleaseRow {
     }
 
     fn read(row: &Row) -> Option<ReleaseRow> {
-        if row.column_count() != 4 {
-            return None;
-        }
+        has_columns(row, 4)?;
         Some(ReleaseRow {
             seq: number_at(row, 0)?,
             item: number_at(row, 1)?,
@@ -37,15 +31,12 @@ impl Stored for ReleaseRow {
 
 impl Insert for ReleaseRow {
     fn insert<S: Alter>(&self, tx: &mut Transaction<'_, S>) -> Result<(), TableFault> {
-        insert_values(
-            tx,
-            self,
-            params![
-                self.seq,
-                self.item,
-                text_if_any(&self.kind),
-                self.moment.number(),
-            ],
-        )
+        let values = params![
+            self.seq,
+            self.item,
+            text_if_any(&self.kind),
+            self.moment.number()
+        ];
+        insert_values(tx, self, values)
     }
 }

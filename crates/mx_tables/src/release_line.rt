@@ -1,15 +1,11 @@
 //! The table `crs_line`: every line of a release, what it certifies in columns that are NULL where it certifies none of
 //! that.
 
-use crate::column::{graphic_or_null_at, number_at, number_if_any, number_or_null_at, text_if_any};
-use crate::stored::{Insert, Stored, Texts, insert_values};
-use mx_layout::{Table, TableFault};
+use crate::prelude::*;
 use mx_typed_rows::ReleaseLineRow;
-use sqlite::{Alter, Row, Transaction, params};
 
 impl Stored for ReleaseLineRow {
-    ghost use Rattle.mx_kept.specs.Cells.{kept_crs_line};
-    ghost use Rattle.mx_kept.proofs.Lawful.{crs_line_lawful};
+    ghost use Rattle.mx_kept.{specs.Cells.kept_crs_line, proofs.Lawful.crs_line_lawful};
 
     ghost kept = { kept_crs_line };
 
@@ -24,9 +20,7 @@ impl Stored for ReleaseLineRow {
     }
 
     fn read(row: &Row) -> Option<ReleaseLineRow> {
-        if row.column_count() != 5 {
-            return None;
-        }
+        has_columns(row, 5)?;
         Some(ReleaseLineRow {
             seq: number_at(row, 0)?,
             line: number_at(row, 1)?,
@@ -39,16 +33,13 @@ impl Stored for ReleaseLineRow {
 
 impl Insert for ReleaseLineRow {
     fn insert<S: Alter>(&self, tx: &mut Transaction<'_, S>) -> Result<(), TableFault> {
-        insert_values(
-            tx,
-            self,
-            params![
-                self.seq,
-                self.line,
-                number_if_any(self.item),
-                text_if_any(&self.task),
-                number_if_any(self.defect),
-            ],
-        )
+        let values = params![
+            self.seq,
+            self.line,
+            number_if_any(self.item),
+            text_if_any(&self.task),
+            number_if_any(self.defect)
+        ];
+        insert_values(tx, self, values)
     }
 }

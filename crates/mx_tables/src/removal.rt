@@ -1,14 +1,10 @@
 //! The table `removal1`: every removal, its moment as text.
 
-use crate::column::{number_at, text_of, written_moment_at};
-use crate::stored::{Insert, Stored, Texts, insert_values};
-use mx_layout::{Table, TableFault};
+use crate::prelude::*;
 use mx_typed_rows::RemovalRow;
-use sqlite::{Alter, Row, Transaction, params};
 
 impl Stored for RemovalRow {
-    ghost use Rattle.mx_kept.specs.Cells.{kept_removal1};
-    ghost use Rattle.mx_kept.proofs.Lawful.{removal1_lawful};
+    ghost use Rattle.mx_kept.{specs.Cells.kept_removal1, proofs.Lawful.removal1_lawful};
 
     ghost kept = { kept_removal1 };
 
@@ -23,9 +19,7 @@ impl Stored for RemovalRow {
     }
 
     fn read(row: &Row) -> Option<RemovalRow> {
-        if row.column_count() != 3 {
-            return None;
-        }
+        has_columns(row, 3)?;
         Some(RemovalRow {
             seq: number_at(row, 0)?,
             component: number_at(row, 1)?,
@@ -36,10 +30,8 @@ impl Stored for RemovalRow {
 
 impl Insert for RemovalRow {
     fn insert<S: Alter>(&self, tx: &mut Transaction<'_, S>) -> Result<(), TableFault> {
-        insert_values(
-            tx,
-            self,
-            params![self.seq, self.component, text_of(self.moment).as_str(),],
-        )
+        let moment = text_of(self.moment);
+        let values = params![self.seq, self.component, moment.as_str()];
+        insert_values(tx, self, values)
     }
 }

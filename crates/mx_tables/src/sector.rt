@@ -1,14 +1,10 @@
 //! The table `sector1`: every sector, its moments as text.
 
-use crate::column::{number_at, text_of, written_moment_at};
-use crate::stored::{Insert, Stored, Texts, insert_values};
-use mx_layout::{Table, TableFault};
+use crate::prelude::*;
 use mx_typed_rows::SectorRow;
-use sqlite::{Alter, Row, Transaction, params};
 
 impl Stored for SectorRow {
-    ghost use Rattle.mx_kept.specs.Cells.{kept_sector1};
-    ghost use Rattle.mx_kept.proofs.Lawful.{sector1_lawful};
+    ghost use Rattle.mx_kept.{specs.Cells.kept_sector1, proofs.Lawful.sector1_lawful};
 
     ghost kept = { kept_sector1 };
 
@@ -23,9 +19,7 @@ impl Stored for SectorRow {
     }
 
     fn read(row: &Row) -> Option<SectorRow> {
-        if row.column_count() != 7 {
-            return None;
-        }
+        has_columns(row, 7)?;
         Some(SectorRow {
             seq: number_at(row, 0)?,
             aircraft: number_at(row, 1)?,
@@ -40,18 +34,17 @@ impl Stored for SectorRow {
 
 impl Insert for SectorRow {
     fn insert<S: Alter>(&self, tx: &mut Transaction<'_, S>) -> Result<(), TableFault> {
-        insert_values(
-            tx,
-            self,
-            params![
-                self.seq,
-                self.aircraft,
-                self.page,
-                self.line,
-                text_of(self.took_off).as_str(),
-                text_of(self.landed).as_str(),
-                self.cycles,
-            ],
-        )
+        let took_off = text_of(self.took_off);
+        let landed = text_of(self.landed);
+        let values = params![
+            self.seq,
+            self.aircraft,
+            self.page,
+            self.line,
+            took_off.as_str(),
+            landed.as_str(),
+            self.cycles
+        ];
+        insert_values(tx, self, values)
     }
 }

@@ -1,14 +1,10 @@
 //! The table `sector2`: every sector, its moments as numbers.
 
-use crate::column::{moment_at, number_at};
-use crate::stored::{Insert, Stored, Texts, insert_values};
-use mx_layout::{Table, TableFault};
+use crate::prelude::*;
 use mx_typed_rows::{Sector2Row, SectorRow};
-use sqlite::{Alter, Row, Transaction, params};
 
 impl Stored for Sector2Row {
-    ghost use Rattle.mx_kept.specs.Cells.{kept_sector2_rows};
-    ghost use Rattle.mx_kept.proofs.MovedLawful.{sector2_row_lawful};
+    ghost use Rattle.mx_kept.{specs.Cells.kept_sector2_rows, proofs.MovedLawful.sector2_row_lawful};
 
     ghost kept = { kept_sector2_rows };
 
@@ -23,9 +19,7 @@ impl Stored for Sector2Row {
     }
 
     fn read(row: &Row) -> Option<Sector2Row> {
-        if row.column_count() != 7 {
-            return None;
-        }
+        has_columns(row, 7)?;
         let sector = SectorRow {
             seq: number_at(row, 0)?,
             aircraft: number_at(row, 1)?,
@@ -41,18 +35,15 @@ impl Stored for Sector2Row {
 
 impl Insert for Sector2Row {
     fn insert<S: Alter>(&self, tx: &mut Transaction<'_, S>) -> Result<(), TableFault> {
-        insert_values(
-            tx,
-            self,
-            params![
-                self.sector.seq,
-                self.sector.aircraft,
-                self.sector.page,
-                self.sector.line,
-                self.sector.took_off.number(),
-                self.sector.landed.number(),
-                self.sector.cycles,
-            ],
-        )
+        let values = params![
+            self.sector.seq,
+            self.sector.aircraft,
+            self.sector.page,
+            self.sector.line,
+            self.sector.took_off.number(),
+            self.sector.landed.number(),
+            self.sector.cycles
+        ];
+        insert_values(tx, self, values)
     }
 }

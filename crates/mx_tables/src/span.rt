@@ -1,17 +1,10 @@
 //! The table `span2`: where each component is or was fitted.
 
-use crate::column::{
-    graphic_at, moment_at, moment_if_any, moment_or_null_at, number_at, number_if_any,
-    number_or_null_at,
-};
-use crate::stored::{Insert, Stored, Texts, insert_values};
-use mx_layout::{Table, TableFault};
+use crate::prelude::*;
 use mx_typed_rows::SpanRow;
-use sqlite::{Alter, Row, Transaction, params};
 
 impl Stored for SpanRow {
-    ghost use Rattle.mx_kept.specs.Cells.{kept_span2};
-    ghost use Rattle.mx_kept.proofs.MovedLawful.{span2_lawful};
+    ghost use Rattle.mx_kept.{specs.Cells.kept_span2, proofs.MovedLawful.span2_lawful};
 
     ghost kept = { kept_span2 };
 
@@ -26,9 +19,7 @@ impl Stored for SpanRow {
     }
 
     fn read(row: &Row) -> Option<SpanRow> {
-        if row.column_count() != 7 {
-            return None;
-        }
+        has_columns(row, 7)?;
         Some(SpanRow {
             fit_seq: number_at(row, 0)?,
             component: number_at(row, 1)?,
@@ -43,18 +34,15 @@ impl Stored for SpanRow {
 
 impl Insert for SpanRow {
     fn insert<S: Alter>(&self, tx: &mut Transaction<'_, S>) -> Result<(), TableFault> {
-        insert_values(
-            tx,
-            self,
-            params![
-                self.fit_seq,
-                self.component,
-                self.aircraft,
-                self.position.as_str(),
-                self.from.number(),
-                number_if_any(self.remove_seq),
-                moment_if_any(self.to),
-            ],
-        )
+        let values = params![
+            self.fit_seq,
+            self.component,
+            self.aircraft,
+            self.position.as_str(),
+            self.from.number(),
+            number_if_any(self.remove_seq),
+            moment_if_any(self.to)
+        ];
+        insert_values(tx, self, values)
     }
 }

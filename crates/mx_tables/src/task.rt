@@ -1,17 +1,11 @@
 //! The table `task`: every task of a programme, its limits in columns that are NULL where there is none.
 
-use crate::column::{
-    flag_at, graphic_at, graphic_or_null_at, limit_at, number_at, number_if_any, text_if_any,
-};
-use crate::stored::{Insert, Stored, Texts, insert_values};
+use crate::prelude::*;
 use mx_base::Tolerance;
-use mx_layout::{Table, TableFault};
 use mx_typed_rows::TaskRow;
-use sqlite::{Alter, Row, Transaction, params};
 
 impl Stored for TaskRow {
-    ghost use Rattle.mx_kept.specs.Cells.{kept_task};
-    ghost use Rattle.mx_kept.proofs.Lawful.{task_lawful};
+    ghost use Rattle.mx_kept.{specs.Cells.kept_task, proofs.Lawful.task_lawful};
 
     ghost kept = { kept_task };
 
@@ -26,9 +20,7 @@ impl Stored for TaskRow {
     }
 
     fn read(row: &Row) -> Option<TaskRow> {
-        if row.column_count() != 14 {
-            return None;
-        }
+        has_columns(row, 14)?;
         Some(TaskRow {
             seq: number_at(row, 0)?,
             line: number_at(row, 1)?,
@@ -48,25 +40,22 @@ impl Stored for TaskRow {
 
 impl Insert for TaskRow {
     fn insert<S: Alter>(&self, tx: &mut Transaction<'_, S>) -> Result<(), TableFault> {
-        insert_values(
-            tx,
-            self,
-            params![
-                self.seq,
-                self.line,
-                self.id.as_str(),
-                text_if_any(&self.part),
-                self.retire,
-                number_if_any(self.first.minutes),
-                number_if_any(self.first.cycles),
-                number_if_any(self.first.days),
-                number_if_any(self.repeat.minutes),
-                number_if_any(self.repeat.cycles),
-                number_if_any(self.repeat.days),
-                self.tolerance.minutes,
-                self.tolerance.cycles,
-                self.tolerance.days,
-            ],
-        )
+        let values = params![
+            self.seq,
+            self.line,
+            self.id.as_str(),
+            text_if_any(&self.part),
+            self.retire,
+            number_if_any(self.first.minutes),
+            number_if_any(self.first.cycles),
+            number_if_any(self.first.days),
+            number_if_any(self.repeat.minutes),
+            number_if_any(self.repeat.cycles),
+            number_if_any(self.repeat.days),
+            self.tolerance.minutes,
+            self.tolerance.cycles,
+            self.tolerance.days
+        ];
+        insert_values(tx, self, values)
     }
 }

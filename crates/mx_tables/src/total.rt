@@ -1,15 +1,11 @@
 //! The table `total2`: the life now of each aircraft and component, and its clock.
 
-use crate::column::{moment_at, number_at};
-use crate::stored::{Insert, Stored, Texts, insert_values};
+use crate::prelude::*;
 use mx_base::Use;
-use mx_layout::{Table, TableFault};
 use mx_typed_rows::TotalRow;
-use sqlite::{Alter, Row, Transaction, params};
 
 impl Stored for TotalRow {
-    ghost use Rattle.mx_kept.specs.Cells.{kept_total2};
-    ghost use Rattle.mx_kept.proofs.MovedLawful.{total2_lawful};
+    ghost use Rattle.mx_kept.{specs.Cells.kept_total2, proofs.MovedLawful.total2_lawful};
 
     ghost kept = { kept_total2 };
 
@@ -24,9 +20,7 @@ impl Stored for TotalRow {
     }
 
     fn read(row: &Row) -> Option<TotalRow> {
-        if row.column_count() != 4 {
-            return None;
-        }
+        has_columns(row, 4)?;
         Some(TotalRow {
             item: number_at(row, 0)?,
             life: Use {
@@ -40,15 +34,12 @@ impl Stored for TotalRow {
 
 impl Insert for TotalRow {
     fn insert<S: Alter>(&self, tx: &mut Transaction<'_, S>) -> Result<(), TableFault> {
-        insert_values(
-            tx,
-            self,
-            params![
-                self.item,
-                self.life.minutes,
-                self.life.cycles,
-                self.clock.number(),
-            ],
-        )
+        let values = params![
+            self.item,
+            self.life.minutes,
+            self.life.cycles,
+            self.clock.number()
+        ];
+        insert_values(tx, self, values)
     }
 }
