@@ -6,11 +6,7 @@
 //! - `ask QUERY`, `sql STATEMENT`: the rows of a query; a statement that changes the files;
 //! - `open`: opens the office.
 //!
-//! Lines over kept rows, of a database of layout 2, each in a transaction of its own:
-//! - `kept new ITEM MINUTES CYCLES MOMENT`, `kept clock ITEM MOMENT`, `kept credit MINUTES CYCLES ITEM ..`: adds a total, sets its
-//!   clock, adds a use to the lives of items; `kept total ITEM`;
-//! - `kept done ITEM TASK MINUTES CYCLES DAY`, `kept base ITEM TASK`: when a task was last done on an item;
-//! - `kept fitted AIRCRAFT`, `kept end COMPONENT ENTRY MOMENT`: what is fitted; ends the span of a component.
+//! Lines over kept rows, of a database of layout 2: `kept` before a line of `mx_kept_lines`, whose head lists them.
 //!
 //! Lines in the open office:
 //! - a command, in the words that `mx_cases` reads: hands it in; `run` the commands of a list, and `first` the first;
