@@ -12,27 +12,31 @@ use Rattle.mx_kept.specs.Cells
 abbrev pub IsReadableAs : {X : Type 0} → Kept X → Row → Type 0
 IsReadableAs k = IsRowOf k.as_cells k.Fits
 
+-- what is said of how the rows of the table with this name are kept, or else of a table whose rows have no type
+abbrev pub of_kept : (R : Type 1) → ((X : Type 0) → Kept X → R) → R → TableName → R
+of_kept R said none table.Entry = said _ Cells.kept_entry
+of_kept R said none table.Aircraft = said _ Cells.kept_aircraft
+of_kept R said none table.Place = said _ Cells.kept_place
+of_kept R said none table.Component = said _ Cells.kept_component
+of_kept R said none table.Programme = said _ Cells.kept_programme
+of_kept R said none table.Task = said _ Cells.kept_task
+of_kept R said none table.Opening = said _ Cells.kept_opening
+of_kept R said none table.Crs = said _ Cells.kept_crs
+of_kept R said none table.CrsLine = said _ Cells.kept_crs_line
+of_kept R said none table.Defect = said _ Cells.kept_defect
+of_kept R said none table.Extension = said _ Cells.kept_extension
+of_kept R said none table.Sector1 = said _ Cells.kept_sector1
+of_kept R said none table.Fit1 = said _ Cells.kept_fit1
+of_kept R said none table.Removal1 = said _ Cells.kept_removal1
+of_kept R said none table.Sector2 = said _ Cells.kept_sector2
+of_kept R said none table.Span2 = said _ Cells.kept_span2
+of_kept R said none table.Total2 = said _ Cells.kept_total2
+of_kept R said none table.Base2 = said _ Cells.kept_base2
+of_kept R said none _ = none
+
 -- the row is of the type of the table with this name; of a table whose rows have no type nothing is asked
 abbrev pub IsReadable : TableName → Row → Type 0
-IsReadable table.Entry = IsReadableAs Cells.kept_entry
-IsReadable table.Aircraft = IsReadableAs Cells.kept_aircraft
-IsReadable table.Place = IsReadableAs Cells.kept_place
-IsReadable table.Component = IsReadableAs Cells.kept_component
-IsReadable table.Programme = IsReadableAs Cells.kept_programme
-IsReadable table.Task = IsReadableAs Cells.kept_task
-IsReadable table.Opening = IsReadableAs Cells.kept_opening
-IsReadable table.Crs = IsReadableAs Cells.kept_crs
-IsReadable table.CrsLine = IsReadableAs Cells.kept_crs_line
-IsReadable table.Defect = IsReadableAs Cells.kept_defect
-IsReadable table.Extension = IsReadableAs Cells.kept_extension
-IsReadable table.Sector1 = IsReadableAs Cells.kept_sector1
-IsReadable table.Fit1 = IsReadableAs Cells.kept_fit1
-IsReadable table.Removal1 = IsReadableAs Cells.kept_removal1
-IsReadable table.Sector2 = IsReadableAs Cells.kept_sector2
-IsReadable table.Span2 = IsReadableAs Cells.kept_span2
-IsReadable table.Total2 = IsReadableAs Cells.kept_total2
-IsReadable table.Base2 = IsReadableAs Cells.kept_base2
-IsReadable _ = λ _. ⊤
+IsReadable = of_kept (Row → Type 0) (λ _ k. IsReadableAs k) (λ _. ⊤)
 
 -- the rows on top of others, where these are of the same table
 abbrev pub on_top : {X : Type 0} → Kept X → List X → TableName → List Row → List Row

@@ -16,12 +16,10 @@ use Rattle.mx_typed_rows.specs.Rising.{IsFrom}
 use Rattle.mx_layout.specs.Contents.{cells}
 use Rattle.mx_layout.specs.Names.{table_named}
 use Rattle.mx_layout.specs.TableName.{TableName}
-use Rattle.mx_layout.specs.declared.fault.Table.TheVariants as table
 use Rattle.mx_layout.proofs.ReadLemmas.{scan_by, Sorts}
 use Rattle.mx_layout.proofs.WriteLemmas.{added, uncounted}
 use Rattle.mx_kept.specs.Kept.{Kept}
-use Rattle.mx_kept.specs.Cells
-use Rattle.mx_kept.specs.Family.{IsReadable, IsReadableAs}
+use Rattle.mx_kept.specs.Family.{of_kept, IsReadable, IsReadableAs}
 
 -- over this schema the text is understood as the plan that shows all rows of the table in this order, and nothing else
 pub record MeansAll (schema : Schema) (text : List ℕ) (table : Table) (order : Row → Row → Ordering) : Type 0 where
@@ -60,22 +58,4 @@ pub record IsLawful {X : Type 0} (k : Kept X) : Type 0 where
 
 -- the rows of the table with this name are kept by its law; of a table whose rows have no type nothing is said
 abbrev pub IsLawfulAt : TableName → Type 0
-IsLawfulAt table.Entry = IsLawful Cells.kept_entry
-IsLawfulAt table.Aircraft = IsLawful Cells.kept_aircraft
-IsLawfulAt table.Place = IsLawful Cells.kept_place
-IsLawfulAt table.Component = IsLawful Cells.kept_component
-IsLawfulAt table.Programme = IsLawful Cells.kept_programme
-IsLawfulAt table.Task = IsLawful Cells.kept_task
-IsLawfulAt table.Opening = IsLawful Cells.kept_opening
-IsLawfulAt table.Crs = IsLawful Cells.kept_crs
-IsLawfulAt table.CrsLine = IsLawful Cells.kept_crs_line
-IsLawfulAt table.Defect = IsLawful Cells.kept_defect
-IsLawfulAt table.Extension = IsLawful Cells.kept_extension
-IsLawfulAt table.Sector1 = IsLawful Cells.kept_sector1
-IsLawfulAt table.Fit1 = IsLawful Cells.kept_fit1
-IsLawfulAt table.Removal1 = IsLawful Cells.kept_removal1
-IsLawfulAt table.Sector2 = IsLawful Cells.kept_sector2
-IsLawfulAt table.Span2 = IsLawful Cells.kept_span2
-IsLawfulAt table.Total2 = IsLawful Cells.kept_total2
-IsLawfulAt table.Base2 = IsLawful Cells.kept_base2
-IsLawfulAt _ = ⊤
+IsLawfulAt = of_kept (Type 0) (λ _ k. IsLawful k) ⊤
