@@ -18,28 +18,26 @@
 //!
 //! For a table whose row type stands in `mx_typed_rows` with its `Fits`. Its key is its first column, an
 //! `INTEGER PRIMARY KEY`, or its first two, a `PRIMARY KEY` of both. Where no layout has it, first `mx_layout`:
-//! `Table`, its name, `table_name`, `table_named`; its columns and tree, and the schema of its layout; its text in
-//! `step_text` and `CreateTexts`; its statement in `steps` and `step_texts`, and what that makes, in `StepLemmas`;
-//! `by_tree` and `found_by_tree` of `TreeLemmas`. Then `mx_kept/specs/Schemas.antt`: which schemas have it.
+//! `Table`, its name, `table_named`; its columns and tree, and the schema of its layout; its text in `step_text` and
+//! `CreateTexts`; its statement in `steps` and `step_texts`, and what that makes, in `StepLemmas`; `by_tree` of
+//! `TreeLemmas`. Then `mx_kept/specs/Schemas.antt`: which schemas have it.
 //!
-//! 1. `mx_kept/specs/Cells.antt`: how its rows are kept, and its line in `specs/Family.antt`.
-//! 2. `mx_kept/proofs/MovedLawful.antt`, from one that is there: rows with the same values are one, what the two
-//!    texts are understood as, by `refl`, what a row is stored as, and `TABLE_lawful`, with `first_keyed` or
-//!    `two_keyed` and the place of the table in the schema, from 0. Where a `refl` is refused, the text and the
-//!    table differ. A table of a layout stands behind those that come before it there, at each point of a move where
-//!    it stands (`span2` at two, `sector2` at three), a permanent one behind nothing. Its line of `IsLawfulAt` in
-//!    `specs/Meanings.antt` and of `each_lawful` in `proofs/EachLawful.antt`. Where another table has rows of the same
-//!    type, a type of its own holds them (`held`, `Sector2Row`).
-//! 3. `src/NOUN.rt`, from one that is there, with its line here: `Stored`, whose `read` tests the number of
-//!    columns and takes each by a function of `column.rt`; `Insert`, which passes each value in the order of the
-//!    columns. A kind of value that no table has had needs a function in `column.rt`, whose contract says of what
-//!    values it gives `None`.
-//! 4. The answer of `read` where there are more than three columns, alike for all but its name.
-//! 5. Plants: two columns swapped in either text, two values swapped in `insert` or `read`, a text with no
+//! 1. `mx_kept/specs/Cells.antt`: how its rows are kept, by `numbered` or, where two columns are its key, `lined`; its
+//!    two texts follow from its columns. Its line of `of_kept` in `specs/Family.antt`.
+//! 2. `mx_kept/proofs/MovedLawful.antt`: `TABLE_lawful`, by `first_keyed` or `two_keyed` with the place of the table in
+//!    the schema, from 0, what is computed there (`refl`), and how a row is had back from its values. Where the `refl` is
+//!    refused, the place, a kind of column or the text that is computed is another. A table of a layout stands behind
+//!    those that come before it there, at each point of a move where it stands (`span2` at two, `sector2` at three), a
+//!    permanent one behind nothing. Its line of `each_lawful` in `proofs/EachLawful.antt`. Where another table has rows
+//!    of the same type, a type of its own holds them (`held`, `Sector2Row`).
+//! 3. `src/NOUN.rt`, from one that is there, with its line here: `Stored`, whose texts are those of `mx_kept` written
+//!    out, and whose `read` asks for the number of columns and takes each by a function of `column.rt`; `Insert`, which
+//!    passes each value in the order of the columns. A kind of value that no table has had needs a function in
+//!    `column.rt`, whose contract says of what values it gives `None`, and its line in `prelude.rt`.
+//! 4. Plants: two columns swapped in either text, two values swapped in `insert` or `read`, a text with no
 //!    ORDER BY, the name of another table.
 //!
-//! A table of four columns costs 53 lines of code, its row and its two impls (64 with seven columns), and 42 of definitions
-//! and proofs; each further place where it stands 8.
+//! What it costs stands in docs/RECIPES.md.
 //!
 //! A column that may be NULL is kept by `number_or_null` or `text_or_null` of `mx_kept/specs/Values.antt`, one that
 //! says whether by `flag`, a limit by three numbers, a category by its number and the days that it states. They are
