@@ -49,218 +49,113 @@ sectors_found text tests chosen picks first moving settled =
 
 -- ── look-ups by the value in one column ──
 
-entry_by_seq_texts : (rest : List Table) (more : List Index) → Chooses (permanent rest more) entry_by_seq entry (given_at Eq entry 0 0 ∷ [])
-unfolding understood everything
-entry_by_seq_texts rest more = (refl, refl, (refl, refl))
-
 pub entry_by_seq_finds : Finds kept_entry entry_by_seq (by_value 0)
-entry_by_seq_finds = first_found kept_entry [] (λ _ has. has) entry_by_seq (given_at Eq entry 0 0 ∷ []) (by_value 0) (λ _. refl) (λ _ _. one_equal _ _ refl) refl entry_by_seq_texts (λ _. refl) (λ _ _. refl)
-
-entry_by_doc_texts : (rest : List Table) (more : List Index) → Chooses (permanent rest more) entry_by_doc entry (given_at Eq entry 1 0 ∷ [])
 unfolding understood everything
-entry_by_doc_texts rest more = (refl, refl, (refl, refl))
+entry_by_seq_finds = first_found kept_entry [] (λ _ has. has) entry_by_seq (given_at Eq entry 0 0 ∷ []) (by_value 0) (λ _. refl) (λ _ _. one_equal _ _ refl) refl (λ _ _. (refl, refl, (refl, refl))) (λ _. refl) (λ _ _. refl)
 
 pub entry_by_doc_finds : Finds kept_entry entry_by_doc (by_value 1)
-entry_by_doc_finds = first_found kept_entry [] (λ _ has. has) entry_by_doc (given_at Eq entry 1 0 ∷ []) (by_value 1) (λ _. refl) (λ _ _. one_equal _ _ refl) refl entry_by_doc_texts (λ _. refl) (λ _ _. refl)
-
-aircraft_by_seq_texts : (rest : List Table) (more : List Index) → Chooses (permanent rest more) aircraft_by_seq aircraft (given_at Eq aircraft 0 0 ∷ [])
 unfolding understood everything
-aircraft_by_seq_texts rest more = (refl, refl, (refl, refl))
+entry_by_doc_finds = first_found kept_entry [] (λ _ has. has) entry_by_doc (given_at Eq entry 1 0 ∷ []) (by_value 1) (λ _. refl) (λ _ _. one_equal _ _ refl) refl (λ _ _. (refl, refl, (refl, refl))) (λ _. refl) (λ _ _. refl)
 
 pub aircraft_by_seq_finds : Finds kept_aircraft aircraft_by_seq (by_value 0)
-aircraft_by_seq_finds = first_found kept_aircraft [] (λ _ has. has) aircraft_by_seq (given_at Eq aircraft 0 0 ∷ []) (by_value 0) (λ _. refl) (λ _ _. one_equal _ _ refl) refl aircraft_by_seq_texts (λ _. refl) (λ _ _. refl)
-
-aircraft_by_tail_texts : (rest : List Table) (more : List Index) → Chooses (permanent rest more) aircraft_by_tail aircraft (given_at Eq aircraft 1 0 ∷ [])
 unfolding understood everything
-aircraft_by_tail_texts rest more = (refl, refl, (refl, refl))
+aircraft_by_seq_finds = first_found kept_aircraft [] (λ _ has. has) aircraft_by_seq (given_at Eq aircraft 0 0 ∷ []) (by_value 0) (λ _. refl) (λ _ _. one_equal _ _ refl) refl (λ _ _. (refl, refl, (refl, refl))) (λ _. refl) (λ _ _. refl)
 
 pub aircraft_by_tail_finds : Finds kept_aircraft aircraft_by_tail (by_value 1)
-aircraft_by_tail_finds = first_found kept_aircraft [] (λ _ has. has) aircraft_by_tail (given_at Eq aircraft 1 0 ∷ []) (by_value 1) (λ _. refl) (λ _ _. one_equal _ _ refl) refl aircraft_by_tail_texts (λ _. refl) (λ _ _. refl)
-
-place_by_seq_texts : (rest : List Table) (more : List Index) → ChoosesByTwo (permanent rest more) place_by_seq place (given_at Eq place 0 0 ∷ [])
 unfolding understood everything
-place_by_seq_texts rest more = (refl, refl, (refl, refl))
+aircraft_by_tail_finds = first_found kept_aircraft [] (λ _ has. has) aircraft_by_tail (given_at Eq aircraft 1 0 ∷ []) (by_value 1) (λ _. refl) (λ _ _. one_equal _ _ refl) refl (λ _ _. (refl, refl, (refl, refl))) (λ _. refl) (λ _ _. refl)
 
 pub place_by_seq_finds : Finds kept_place place_by_seq (by_value 0)
-place_by_seq_finds = two_found kept_place [] (λ _ has. has) place_by_seq (given_at Eq place 0 0 ∷ []) (by_value 0) (λ _. refl) (λ _ _. one_equal _ _ refl) refl place_by_seq_texts (λ _. refl) (λ _ _. refl) (λ _ _. refl)
-
-component_by_seq_texts : (rest : List Table) (more : List Index) → Chooses (permanent rest more) component_by_seq component (given_at Eq component 0 0 ∷ [])
 unfolding understood everything
-component_by_seq_texts rest more = (refl, refl, (refl, refl))
+place_by_seq_finds = two_found kept_place [] (λ _ has. has) place_by_seq (given_at Eq place 0 0 ∷ []) (by_value 0) (λ _. refl) (λ _ _. one_equal _ _ refl) refl (λ _ _. (refl, refl, (refl, refl))) (λ _. refl) (λ _ _. refl) (λ _ _. refl)
 
 pub component_by_seq_finds : Finds kept_component component_by_seq (by_value 0)
-component_by_seq_finds = first_found kept_component [] (λ _ has. has) component_by_seq (given_at Eq component 0 0 ∷ []) (by_value 0) (λ _. refl) (λ _ _. one_equal _ _ refl) refl component_by_seq_texts (λ _. refl) (λ _ _. refl)
-
-component_by_serial_texts : (rest : List Table) (more : List Index) → Chooses (permanent rest more) component_by_serial component (given_at Eq component 1 0 ∷ [])
 unfolding understood everything
-component_by_serial_texts rest more = (refl, refl, (refl, refl))
+component_by_seq_finds = first_found kept_component [] (λ _ has. has) component_by_seq (given_at Eq component 0 0 ∷ []) (by_value 0) (λ _. refl) (λ _ _. one_equal _ _ refl) refl (λ _ _. (refl, refl, (refl, refl))) (λ _. refl) (λ _ _. refl)
 
 pub component_by_serial_finds : Finds kept_component component_by_serial (by_value 1)
-component_by_serial_finds = first_found kept_component [] (λ _ has. has) component_by_serial (given_at Eq component 1 0 ∷ []) (by_value 1) (λ _. refl) (λ _ _. one_equal _ _ refl) refl component_by_serial_texts (λ _. refl) (λ _ _. refl)
-
-programme_by_seq_texts : (rest : List Table) (more : List Index) → Chooses (permanent rest more) programme_by_seq programme (given_at Eq programme 0 0 ∷ [])
 unfolding understood everything
-programme_by_seq_texts rest more = (refl, refl, (refl, refl))
+component_by_serial_finds = first_found kept_component [] (λ _ has. has) component_by_serial (given_at Eq component 1 0 ∷ []) (by_value 1) (λ _. refl) (λ _ _. one_equal _ _ refl) refl (λ _ _. (refl, refl, (refl, refl))) (λ _. refl) (λ _ _. refl)
 
 pub programme_by_seq_finds : Finds kept_programme programme_by_seq (by_value 0)
-programme_by_seq_finds = first_found kept_programme [] (λ _ has. has) programme_by_seq (given_at Eq programme 0 0 ∷ []) (by_value 0) (λ _. refl) (λ _ _. one_equal _ _ refl) refl programme_by_seq_texts (λ _. refl) (λ _ _. refl)
-
-programme_by_kind_texts : (rest : List Table) (more : List Index) → Chooses (permanent rest more) programme_by_kind programme (given_at Eq programme 1 0 ∷ [])
 unfolding understood everything
-programme_by_kind_texts rest more = (refl, refl, (refl, refl))
+programme_by_seq_finds = first_found kept_programme [] (λ _ has. has) programme_by_seq (given_at Eq programme 0 0 ∷ []) (by_value 0) (λ _. refl) (λ _ _. one_equal _ _ refl) refl (λ _ _. (refl, refl, (refl, refl))) (λ _. refl) (λ _ _. refl)
 
 pub programme_by_kind_finds : Finds kept_programme programme_by_kind (by_value 1)
-programme_by_kind_finds = first_found kept_programme [] (λ _ has. has) programme_by_kind (given_at Eq programme 1 0 ∷ []) (by_value 1) (λ _. refl) (λ _ _. one_equal _ _ refl) refl programme_by_kind_texts (λ _. refl) (λ _ _. refl)
-
-task_by_seq_texts : (rest : List Table) (more : List Index) → ChoosesByTwo (permanent rest more) task_by_seq task (given_at Eq task 0 0 ∷ [])
 unfolding understood everything
-task_by_seq_texts rest more = (refl, refl, (refl, refl))
+programme_by_kind_finds = first_found kept_programme [] (λ _ has. has) programme_by_kind (given_at Eq programme 1 0 ∷ []) (by_value 1) (λ _. refl) (λ _ _. one_equal _ _ refl) refl (λ _ _. (refl, refl, (refl, refl))) (λ _. refl) (λ _ _. refl)
 
 pub task_by_seq_finds : Finds kept_task task_by_seq (by_value 0)
-task_by_seq_finds = two_found kept_task [] (λ _ has. has) task_by_seq (given_at Eq task 0 0 ∷ []) (by_value 0) (λ _. refl) (λ _ _. one_equal _ _ refl) refl task_by_seq_texts (λ _. refl) (λ _ _. refl) (λ _ _. refl)
-
-opening_by_seq_texts : (rest : List Table) (more : List Index) → Chooses (permanent rest more) opening_by_seq opening (given_at Eq opening 0 0 ∷ [])
 unfolding understood everything
-opening_by_seq_texts rest more = (refl, refl, (refl, refl))
+task_by_seq_finds = two_found kept_task [] (λ _ has. has) task_by_seq (given_at Eq task 0 0 ∷ []) (by_value 0) (λ _. refl) (λ _ _. one_equal _ _ refl) refl (λ _ _. (refl, refl, (refl, refl))) (λ _. refl) (λ _ _. refl) (λ _ _. refl)
 
 pub opening_by_seq_finds : Finds kept_opening opening_by_seq (by_value 0)
-opening_by_seq_finds = first_found kept_opening [] (λ _ has. has) opening_by_seq (given_at Eq opening 0 0 ∷ []) (by_value 0) (λ _. refl) (λ _ _. one_equal _ _ refl) refl opening_by_seq_texts (λ _. refl) (λ _ _. refl)
-
-opening_by_item_texts : (rest : List Table) (more : List Index) → Chooses (permanent rest more) opening_by_item opening (given_at Eq opening 1 0 ∷ [])
 unfolding understood everything
-opening_by_item_texts rest more = (refl, refl, (refl, refl))
+opening_by_seq_finds = first_found kept_opening [] (λ _ has. has) opening_by_seq (given_at Eq opening 0 0 ∷ []) (by_value 0) (λ _. refl) (λ _ _. one_equal _ _ refl) refl (λ _ _. (refl, refl, (refl, refl))) (λ _. refl) (λ _ _. refl)
 
 pub opening_by_item_finds : Finds kept_opening opening_by_item (by_value 1)
-opening_by_item_finds = first_found kept_opening [] (λ _ has. has) opening_by_item (given_at Eq opening 1 0 ∷ []) (by_value 1) (λ _. refl) (λ _ _. one_equal _ _ refl) refl opening_by_item_texts (λ _. refl) (λ _ _. refl)
-
-crs_by_seq_texts : (rest : List Table) (more : List Index) → Chooses (permanent rest more) crs_by_seq crs (given_at Eq crs 0 0 ∷ [])
 unfolding understood everything
-crs_by_seq_texts rest more = (refl, refl, (refl, refl))
+opening_by_item_finds = first_found kept_opening [] (λ _ has. has) opening_by_item (given_at Eq opening 1 0 ∷ []) (by_value 1) (λ _. refl) (λ _ _. one_equal _ _ refl) refl (λ _ _. (refl, refl, (refl, refl))) (λ _. refl) (λ _ _. refl)
 
 pub crs_by_seq_finds : Finds kept_crs crs_by_seq (by_value 0)
-crs_by_seq_finds = first_found kept_crs [] (λ _ has. has) crs_by_seq (given_at Eq crs 0 0 ∷ []) (by_value 0) (λ _. refl) (λ _ _. one_equal _ _ refl) refl crs_by_seq_texts (λ _. refl) (λ _ _. refl)
-
-crs_line_by_seq_texts : (rest : List Table) (more : List Index) → ChoosesByTwo (permanent rest more) crs_line_by_seq crs_line (given_at Eq crs_line 0 0 ∷ [])
 unfolding understood everything
-crs_line_by_seq_texts rest more = (refl, refl, (refl, refl))
+crs_by_seq_finds = first_found kept_crs [] (λ _ has. has) crs_by_seq (given_at Eq crs 0 0 ∷ []) (by_value 0) (λ _. refl) (λ _ _. one_equal _ _ refl) refl (λ _ _. (refl, refl, (refl, refl))) (λ _. refl) (λ _ _. refl)
 
 pub crs_line_by_seq_finds : Finds kept_crs_line crs_line_by_seq (by_value 0)
-crs_line_by_seq_finds = two_found kept_crs_line [] (λ _ has. has) crs_line_by_seq (given_at Eq crs_line 0 0 ∷ []) (by_value 0) (λ _. refl) (λ _ _. one_equal _ _ refl) refl crs_line_by_seq_texts (λ _. refl) (λ _ _. refl) (λ _ _. refl)
-
-crs_line_by_defect_texts : (rest : List Table) (more : List Index) → ChoosesByTwo (permanent rest more) crs_line_by_defect crs_line (given_at Eq crs_line 4 0 ∷ [])
 unfolding understood everything
-crs_line_by_defect_texts rest more = (refl, refl, (refl, refl))
+crs_line_by_seq_finds = two_found kept_crs_line [] (λ _ has. has) crs_line_by_seq (given_at Eq crs_line 0 0 ∷ []) (by_value 0) (λ _. refl) (λ _ _. one_equal _ _ refl) refl (λ _ _. (refl, refl, (refl, refl))) (λ _. refl) (λ _ _. refl) (λ _ _. refl)
 
 pub crs_line_by_defect_finds : Finds kept_crs_line crs_line_by_defect (by_value 4)
-crs_line_by_defect_finds = two_found kept_crs_line [] (λ _ has. has) crs_line_by_defect (given_at Eq crs_line 4 0 ∷ []) (by_value 4) (λ _. refl) (λ _ _. one_equal _ _ refl) refl crs_line_by_defect_texts (λ _. refl) (λ _ _. refl) (λ _ _. refl)
-
-defect_by_seq_texts : (rest : List Table) (more : List Index) → Chooses (permanent rest more) defect_by_seq defect (given_at Eq defect 0 0 ∷ [])
 unfolding understood everything
-defect_by_seq_texts rest more = (refl, refl, (refl, refl))
+crs_line_by_defect_finds = two_found kept_crs_line [] (λ _ has. has) crs_line_by_defect (given_at Eq crs_line 4 0 ∷ []) (by_value 4) (λ _. refl) (λ _ _. one_equal _ _ refl) refl (λ _ _. (refl, refl, (refl, refl))) (λ _. refl) (λ _ _. refl) (λ _ _. refl)
 
 pub defect_by_seq_finds : Finds kept_defect defect_by_seq (by_value 0)
-defect_by_seq_finds = first_found kept_defect [] (λ _ has. has) defect_by_seq (given_at Eq defect 0 0 ∷ []) (by_value 0) (λ _. refl) (λ _ _. one_equal _ _ refl) refl defect_by_seq_texts (λ _. refl) (λ _ _. refl)
-
-defect_by_aircraft_texts : (rest : List Table) (more : List Index) → Chooses (permanent rest more) defect_by_aircraft defect (given_at Eq defect 1 0 ∷ [])
 unfolding understood everything
-defect_by_aircraft_texts rest more = (refl, refl, (refl, refl))
+defect_by_seq_finds = first_found kept_defect [] (λ _ has. has) defect_by_seq (given_at Eq defect 0 0 ∷ []) (by_value 0) (λ _. refl) (λ _ _. one_equal _ _ refl) refl (λ _ _. (refl, refl, (refl, refl))) (λ _. refl) (λ _ _. refl)
 
 pub defect_by_aircraft_finds : Finds kept_defect defect_by_aircraft (by_value 1)
-defect_by_aircraft_finds = first_found kept_defect [] (λ _ has. has) defect_by_aircraft (given_at Eq defect 1 0 ∷ []) (by_value 1) (λ _. refl) (λ _ _. one_equal _ _ refl) refl defect_by_aircraft_texts (λ _. refl) (λ _ _. refl)
-
-extension_by_seq_texts : (rest : List Table) (more : List Index) → Chooses (permanent rest more) extension_by_seq extension (given_at Eq extension 0 0 ∷ [])
 unfolding understood everything
-extension_by_seq_texts rest more = (refl, refl, (refl, refl))
+defect_by_aircraft_finds = first_found kept_defect [] (λ _ has. has) defect_by_aircraft (given_at Eq defect 1 0 ∷ []) (by_value 1) (λ _. refl) (λ _ _. one_equal _ _ refl) refl (λ _ _. (refl, refl, (refl, refl))) (λ _. refl) (λ _ _. refl)
 
 pub extension_by_seq_finds : Finds kept_extension extension_by_seq (by_value 0)
-extension_by_seq_finds = first_found kept_extension [] (λ _ has. has) extension_by_seq (given_at Eq extension 0 0 ∷ []) (by_value 0) (λ _. refl) (λ _ _. one_equal _ _ refl) refl extension_by_seq_texts (λ _. refl) (λ _ _. refl)
-
-extension_by_defect_texts : (rest : List Table) (more : List Index) → Chooses (permanent rest more) extension_by_defect extension (given_at Eq extension 1 0 ∷ [])
 unfolding understood everything
-extension_by_defect_texts rest more = (refl, refl, (refl, refl))
+extension_by_seq_finds = first_found kept_extension [] (λ _ has. has) extension_by_seq (given_at Eq extension 0 0 ∷ []) (by_value 0) (λ _. refl) (λ _ _. one_equal _ _ refl) refl (λ _ _. (refl, refl, (refl, refl))) (λ _. refl) (λ _ _. refl)
 
 pub extension_by_defect_finds : Finds kept_extension extension_by_defect (by_value 1)
-extension_by_defect_finds = first_found kept_extension [] (λ _ has. has) extension_by_defect (given_at Eq extension 1 0 ∷ []) (by_value 1) (λ _. refl) (λ _ _. one_equal _ _ refl) refl extension_by_defect_texts (λ _. refl) (λ _ _. refl)
-
-span2_by_fit_seq_moving : (rest : List Table) (more : List Index) → Chooses (permanent (own_moving ++ rest) more) span2_by_fit_seq span2 (given_at Eq span2 0 0 ∷ [])
 unfolding understood everything
-span2_by_fit_seq_moving rest more = (refl, refl, (refl, refl))
-
-span2_by_fit_seq_texts : (rest : List Table) (more : List Index) → Chooses (permanent ((sector2 ∷ span2 ∷ []) ++ rest) more) span2_by_fit_seq span2 (given_at Eq span2 0 0 ∷ [])
-unfolding understood everything
-span2_by_fit_seq_texts rest more = (refl, refl, (refl, refl))
+extension_by_defect_finds = first_found kept_extension [] (λ _ has. has) extension_by_defect (given_at Eq extension 1 0 ∷ []) (by_value 1) (λ _. refl) (λ _ _. one_equal _ _ refl) refl (λ _ _. (refl, refl, (refl, refl))) (λ _. refl) (λ _ _. refl)
 
 pub span2_by_fit_seq_finds : Finds kept_span2 span2_by_fit_seq (by_value 0)
-span2_by_fit_seq_finds = spans_found span2_by_fit_seq (given_at Eq span2 0 0 ∷ []) (by_value 0) (λ _ _. one_equal _ _ refl) span2_by_fit_seq_moving span2_by_fit_seq_texts
-
-span2_by_component_moving : (rest : List Table) (more : List Index) → Chooses (permanent (own_moving ++ rest) more) span2_by_component span2 (given_at Eq span2 1 0 ∷ [])
 unfolding understood everything
-span2_by_component_moving rest more = (refl, refl, (refl, refl))
-
-span2_by_component_texts : (rest : List Table) (more : List Index) → Chooses (permanent ((sector2 ∷ span2 ∷ []) ++ rest) more) span2_by_component span2 (given_at Eq span2 1 0 ∷ [])
-unfolding understood everything
-span2_by_component_texts rest more = (refl, refl, (refl, refl))
+span2_by_fit_seq_finds = spans_found span2_by_fit_seq (given_at Eq span2 0 0 ∷ []) (by_value 0) (λ _ _. one_equal _ _ refl) (λ _ _. (refl, refl, (refl, refl))) (λ _ _. (refl, refl, (refl, refl)))
 
 pub span2_by_component_finds : Finds kept_span2 span2_by_component (by_value 1)
-span2_by_component_finds = spans_found span2_by_component (given_at Eq span2 1 0 ∷ []) (by_value 1) (λ _ _. one_equal _ _ refl) span2_by_component_moving span2_by_component_texts
-
-span2_by_aircraft_moving : (rest : List Table) (more : List Index) → Chooses (permanent (own_moving ++ rest) more) span2_by_aircraft span2 (given_at Eq span2 2 0 ∷ [])
 unfolding understood everything
-span2_by_aircraft_moving rest more = (refl, refl, (refl, refl))
-
-span2_by_aircraft_texts : (rest : List Table) (more : List Index) → Chooses (permanent ((sector2 ∷ span2 ∷ []) ++ rest) more) span2_by_aircraft span2 (given_at Eq span2 2 0 ∷ [])
-unfolding understood everything
-span2_by_aircraft_texts rest more = (refl, refl, (refl, refl))
+span2_by_component_finds = spans_found span2_by_component (given_at Eq span2 1 0 ∷ []) (by_value 1) (λ _ _. one_equal _ _ refl) (λ _ _. (refl, refl, (refl, refl))) (λ _ _. (refl, refl, (refl, refl)))
 
 pub span2_by_aircraft_finds : Finds kept_span2 span2_by_aircraft (by_value 2)
-span2_by_aircraft_finds = spans_found span2_by_aircraft (given_at Eq span2 2 0 ∷ []) (by_value 2) (λ _ _. one_equal _ _ refl) span2_by_aircraft_moving span2_by_aircraft_texts
-
-span2_by_remove_seq_moving : (rest : List Table) (more : List Index) → Chooses (permanent (own_moving ++ rest) more) span2_by_remove_seq span2 (given_at Eq span2 5 0 ∷ [])
 unfolding understood everything
-span2_by_remove_seq_moving rest more = (refl, refl, (refl, refl))
-
-span2_by_remove_seq_texts : (rest : List Table) (more : List Index) → Chooses (permanent ((sector2 ∷ span2 ∷ []) ++ rest) more) span2_by_remove_seq span2 (given_at Eq span2 5 0 ∷ [])
-unfolding understood everything
-span2_by_remove_seq_texts rest more = (refl, refl, (refl, refl))
+span2_by_aircraft_finds = spans_found span2_by_aircraft (given_at Eq span2 2 0 ∷ []) (by_value 2) (λ _ _. one_equal _ _ refl) (λ _ _. (refl, refl, (refl, refl))) (λ _ _. (refl, refl, (refl, refl)))
 
 pub span2_by_remove_seq_finds : Finds kept_span2 span2_by_remove_seq (by_value 5)
-span2_by_remove_seq_finds = spans_found span2_by_remove_seq (given_at Eq span2 5 0 ∷ []) (by_value 5) (λ _ _. one_equal _ _ refl) span2_by_remove_seq_moving span2_by_remove_seq_texts
-
-total2_by_item_texts : (rest : List Table) (more : List Index) → Chooses (permanent ((sector2 ∷ span2 ∷ total2 ∷ []) ++ rest) more) total2_by_item total2 (given_at Eq total2 0 0 ∷ [])
 unfolding understood everything
-total2_by_item_texts rest more = (refl, refl, (refl, refl))
+span2_by_remove_seq_finds = spans_found span2_by_remove_seq (given_at Eq span2 5 0 ∷ []) (by_value 5) (λ _ _. one_equal _ _ refl) (λ _ _. (refl, refl, (refl, refl))) (λ _ _. (refl, refl, (refl, refl)))
 
 pub total2_by_item_finds : Finds kept_total2 total2_by_item (by_value 0)
-total2_by_item_finds = first_found kept_total2 (sector2 ∷ span2 ∷ total2 ∷ []) (λ _ has. has) total2_by_item (given_at Eq total2 0 0 ∷ []) (by_value 0) (λ _. refl) (λ _ _. one_equal _ _ refl) refl total2_by_item_texts (λ _. refl) (λ _ _. refl)
-
-base2_by_item_texts : (rest : List Table) (more : List Index) → ChoosesByTwo (permanent (own_2 ++ rest) more) base2_by_item base2 (given_at Eq base2 0 0 ∷ [])
 unfolding understood everything
-base2_by_item_texts rest more = (refl, refl, (refl, refl))
+total2_by_item_finds = first_found kept_total2 (sector2 ∷ span2 ∷ total2 ∷ []) (λ _ has. has) total2_by_item (given_at Eq total2 0 0 ∷ []) (by_value 0) (λ _. refl) (λ _ _. one_equal _ _ refl) refl (λ _ _. (refl, refl, (refl, refl))) (λ _. refl) (λ _ _. refl)
 
 pub base2_by_item_finds : Finds kept_base2 base2_by_item (by_value 0)
-base2_by_item_finds = two_found kept_base2 own_2 (λ _ has. has) base2_by_item (given_at Eq base2 0 0 ∷ []) (by_value 0) (λ _. refl) (λ _ _. one_equal _ _ refl) refl base2_by_item_texts (λ _. refl) (λ _ _. refl) (λ _ _. refl)
-
-sector2_by_seq_first : (rest : List Table) (more : List Index) → Chooses (permanent ((sector1 ∷ fit1 ∷ removal1 ∷ sector2 ∷ []) ++ rest) more) sector2_by_seq sector2 (given_at Eq sector2 0 0 ∷ [])
 unfolding understood everything
-sector2_by_seq_first rest more = (refl, refl, (refl, refl))
-
-sector2_by_seq_moving : (rest : List Table) (more : List Index) → Chooses (permanent (own_moving ++ rest) more) sector2_by_seq sector2 (given_at Eq sector2 0 0 ∷ [])
-unfolding understood everything
-sector2_by_seq_moving rest more = (refl, refl, (refl, refl))
-
-sector2_by_seq_texts : (rest : List Table) (more : List Index) → Chooses (permanent ((sector2 ∷ []) ++ rest) more) sector2_by_seq sector2 (given_at Eq sector2 0 0 ∷ [])
-unfolding understood everything
-sector2_by_seq_texts rest more = (refl, refl, (refl, refl))
+base2_by_item_finds = two_found kept_base2 own_2 (λ _ has. has) base2_by_item (given_at Eq base2 0 0 ∷ []) (by_value 0) (λ _. refl) (λ _ _. one_equal _ _ refl) refl (λ _ _. (refl, refl, (refl, refl))) (λ _. refl) (λ _ _. refl) (λ _ _. refl)
 
 pub sector2_by_seq_finds : Finds kept_sector2_rows sector2_by_seq (by_value 0)
-sector2_by_seq_finds = sectors_found sector2_by_seq (given_at Eq sector2 0 0 ∷ []) (by_value 0) (λ _ _. one_equal _ _ refl) sector2_by_seq_first sector2_by_seq_moving sector2_by_seq_texts
-
-base2_by_item_and_task_texts : (rest : List Table) (more : List Index) → ChoosesByTwo (permanent (own_2 ++ rest) more) base2_by_item_and_task base2 (given_at Eq base2 0 0 ∷ given_at Eq base2 1 1 ∷ [])
 unfolding understood everything
-base2_by_item_and_task_texts rest more = (refl, refl, (refl, refl))
+sector2_by_seq_finds = sectors_found sector2_by_seq (given_at Eq sector2 0 0 ∷ []) (by_value 0) (λ _ _. one_equal _ _ refl) (λ _ _. (refl, refl, (refl, refl))) (λ _ _. (refl, refl, (refl, refl))) (λ _ _. (refl, refl, (refl, refl)))
 
 pub base2_by_item_and_task_finds : Finds kept_base2 base2_by_item_and_task (by_values 0 1)
-base2_by_item_and_task_finds = two_found kept_base2 own_2 (λ _ has. has) base2_by_item_and_task (given_at Eq base2 0 0 ∷ given_at Eq base2 1 1 ∷ []) (by_values 0 1) (λ _. refl) (λ _ _. two_equal _ _ _ refl) refl base2_by_item_and_task_texts (λ _. refl) (λ _ _. refl) (λ _ _. refl)
+unfolding understood everything
+base2_by_item_and_task_finds = two_found kept_base2 own_2 (λ _ has. has) base2_by_item_and_task (given_at Eq base2 0 0 ∷ given_at Eq base2 1 1 ∷ []) (by_values 0 1) (λ _. refl) (λ _ _. two_equal _ _ _ refl) refl (λ _ _. (refl, refl, (refl, refl))) (λ _. refl) (λ _ _. refl) (λ _ _. refl)
 
 -- ── open spans ──
 
@@ -268,99 +163,53 @@ base2_by_item_and_task_finds = two_found kept_base2 own_2 (λ _ has. has) base2_
 abbrev open_tests : ℕ → List Term
 open_tests at = given_at Eq span2 at 0 ∷ op2 (Is Binary) (col 1 (place_of span2 5)) (lit Null) ∷ []
 
-open_spans_by_component_moving : (rest : List Table) (more : List Index) → Chooses (permanent (own_moving ++ rest) more) open_spans_by_component span2 (open_tests 1)
-unfolding understood everything
-open_spans_by_component_moving rest more = (refl, refl, (refl, refl))
-
-open_spans_by_component_texts : (rest : List Table) (more : List Index) → Chooses (permanent ((sector2 ∷ span2 ∷ []) ++ rest) more) open_spans_by_component span2 (open_tests 1)
-unfolding understood everything
-open_spans_by_component_texts rest more = (refl, refl, (refl, refl))
-
 pub open_spans_by_component_finds : Finds kept_span2 open_spans_by_component (open_by 1)
-open_spans_by_component_finds = spans_found open_spans_by_component (open_tests 1) (open_by 1) (λ values r. two_equal _ _ _ (ap (λ b. by_value 1 values (cells span2 r) && b) (missing (column r (place_of span2 5))))) open_spans_by_component_moving open_spans_by_component_texts
-
-open_spans_by_aircraft_moving : (rest : List Table) (more : List Index) → Chooses (permanent (own_moving ++ rest) more) open_spans_by_aircraft span2 (open_tests 2)
 unfolding understood everything
-open_spans_by_aircraft_moving rest more = (refl, refl, (refl, refl))
-
-open_spans_by_aircraft_texts : (rest : List Table) (more : List Index) → Chooses (permanent ((sector2 ∷ span2 ∷ []) ++ rest) more) open_spans_by_aircraft span2 (open_tests 2)
-unfolding understood everything
-open_spans_by_aircraft_texts rest more = (refl, refl, (refl, refl))
+open_spans_by_component_finds = spans_found open_spans_by_component (open_tests 1) (open_by 1) (λ values r. two_equal _ _ _ (ap (λ b. by_value 1 values (cells span2 r) && b) (missing (column r (place_of span2 5))))) (λ _ _. (refl, refl, (refl, refl))) (λ _ _. (refl, refl, (refl, refl)))
 
 pub open_spans_by_aircraft_finds : Finds kept_span2 open_spans_by_aircraft (open_by 2)
-open_spans_by_aircraft_finds = spans_found open_spans_by_aircraft (open_tests 2) (open_by 2) (λ values r. two_equal _ _ _ (ap (λ b. by_value 2 values (cells span2 r) && b) (missing (column r (place_of span2 5))))) open_spans_by_aircraft_moving open_spans_by_aircraft_texts
+unfolding understood everything
+open_spans_by_aircraft_finds = spans_found open_spans_by_aircraft (open_tests 2) (open_by 2) (λ values r. two_equal _ _ _ (ap (λ b. by_value 2 values (cells span2 r) && b) (missing (column r (place_of span2 5))))) (λ _ _. (refl, refl, (refl, refl))) (λ _ _. (refl, refl, (refl, refl)))
 
 -- ── pages, and the last row ──
 
-sector1_page_texts : (rest : List Table) (more : List Index) → ChoosesFirst (permanent (own_1 ++ rest) more) sector1_page sector1 (given_at Gt sector1 0 0 ∷ []) 64
-unfolding understood everything
-sector1_page_texts rest more = (refl, refl, (refl, refl))
-
 pub sector1_page_finds : FindsFirst kept_sector1 sector1_page (Some 64) kept_sector1.order (above 0)
-sector1_page_finds = first_page kept_sector1 own_1 (λ _ has. has) sector1_page (given_at Gt sector1 0 0 ∷ []) (above 0) (λ _. refl) (λ _ _. one_equal _ _ refl) 64 refl sector1_page_texts (λ _. refl) (λ _ _. refl)
-
-extension_page_texts : (rest : List Table) (more : List Index) → ChoosesFirst (permanent rest more) extension_page extension (given_at Gt extension 0 0 ∷ []) 64
 unfolding understood everything
-extension_page_texts rest more = (refl, refl, (refl, refl))
+sector1_page_finds = first_page kept_sector1 own_1 (λ _ has. has) sector1_page (given_at Gt sector1 0 0 ∷ []) (above 0) (λ _. refl) (λ _ _. one_equal _ _ refl) 64 refl (λ _ _. (refl, refl, (refl, refl))) (λ _. refl) (λ _ _. refl)
 
 pub extension_page_finds : FindsFirst kept_extension extension_page (Some 64) kept_extension.order (above 0)
-extension_page_finds = first_page kept_extension [] (λ _ has. has) extension_page (given_at Gt extension 0 0 ∷ []) (above 0) (λ _. refl) (λ _ _. one_equal _ _ refl) 64 refl extension_page_texts (λ _. refl) (λ _ _. refl)
-
-last_entry_texts : (rest : List Table) (more : List Index) → ChoosesLast (permanent rest more) last_entry entry [] 1
 unfolding understood everything
-last_entry_texts rest more = (refl, refl, (refl, refl))
+extension_page_finds = first_page kept_extension [] (λ _ has. has) extension_page (given_at Gt extension 0 0 ∷ []) (above 0) (λ _. refl) (λ _ _. one_equal _ _ refl) 64 refl (λ _ _. (refl, refl, (refl, refl))) (λ _. refl) (λ _ _. refl)
 
 pub last_entry_finds : FindsFirst kept_entry last_entry (Some 1) (backward kept_entry.order) any_row
-last_entry_finds = last_found kept_entry [] (λ _ has. has) last_entry [] any_row (λ _. refl) (λ _ _. refl) 1 last_entry_texts (λ _. refl) (λ _ _. refl)
+unfolding understood everything
+last_entry_finds = last_found kept_entry [] (λ _ has. has) last_entry [] any_row (λ _. refl) (λ _ _. refl) 1 (λ _ _. (refl, refl, (refl, refl))) (λ _. refl) (λ _ _. refl)
 
 -- ── rows that are deleted ──
 
-sector1_gone_texts : (rest : List Table) (more : List Index) → Drops (permanent (own_1 ++ rest) more) sector1_gone 12 sector1 (given_at Le sector1 0 0 ∷ [])
-unfolding understood everything
-sector1_gone_texts rest more = (refl, (refl, refl))
-
 pub sector1_gone_deletes : Deletes kept_sector1 sector1_gone (up_to 0)
-sector1_gone_deletes = deleted kept_sector1 own_1 (λ _ has. has) sector1_gone (given_at Le sector1 0 0 ∷ []) (up_to 0) (λ _. refl) (λ _ _. one_equal _ _ refl) 12 (λ _ _. refl) sector1_gone_texts
-
-fit1_gone_texts : (rest : List Table) (more : List Index) → Drops (permanent (own_1 ++ rest) more) fit1_gone 13 fit1 (given_at Eq fit1 1 0 ∷ [])
 unfolding understood everything
-fit1_gone_texts rest more = (refl, (refl, refl))
-
-fit1_gone_moving : (rest : List Table) (more : List Index) → Drops (permanent (own_moving ++ rest) more) fit1_gone 12 fit1 (given_at Eq fit1 1 0 ∷ [])
-unfolding understood everything
-fit1_gone_moving rest more = (refl, (refl, refl))
+sector1_gone_deletes = deleted kept_sector1 own_1 (λ _ has. has) sector1_gone (given_at Le sector1 0 0 ∷ []) (up_to 0) (λ _. refl) (λ _ _. one_equal _ _ refl) 12 (λ _ _. refl) (λ _ _. (refl, (refl, refl)))
 
 fit1_gone_in : (own : List Table) (at : ℕ) → ((rest : List Table) (more : List Index) → slice_get (permanent (own ++ rest) more).tables at ≡ Some fit1)
     → ((rest : List Table) (more : List Index) → Drops (permanent (own ++ rest) more) fit1_gone at fit1 (given_at Eq fit1 1 0 ∷ [])) → Deletes (over kept_fit1 (HasBehind own)) fit1_gone (by_value 1)
 fit1_gone_in own at there texts = deleted (over kept_fit1 (HasBehind own)) own (λ _ has. has) fit1_gone (given_at Eq fit1 1 0 ∷ []) (by_value 1) (λ _. refl) (λ _ _. one_equal _ _ refl) at there texts
 
 pub fit1_gone_deletes : Deletes kept_fit1 fit1_gone (by_value 1)
-fit1_gone_deletes = either_deletes kept_fit1 HasOwn1 (HasBehind own_moving) fit1_gone (by_value 1) (fit1_gone_in own_1 13 (λ _ _. refl) fit1_gone_texts) (fit1_gone_in own_moving 12 (λ _ _. refl) fit1_gone_moving)
-
-span2_gone_moving : (rest : List Table) (more : List Index) → Drops (permanent (own_moving ++ rest) more) span2_gone 15 span2 (given_at Eq span2 0 0 ∷ [])
 unfolding understood everything
-span2_gone_moving rest more = (refl, (refl, refl))
-
-span2_gone_texts : (rest : List Table) (more : List Index) → Drops (permanent ((sector2 ∷ span2 ∷ []) ++ rest) more) span2_gone 13 span2 (given_at Eq span2 0 0 ∷ [])
-unfolding understood everything
-span2_gone_texts rest more = (refl, (refl, refl))
+fit1_gone_deletes = either_deletes kept_fit1 HasOwn1 (HasBehind own_moving) fit1_gone (by_value 1) (fit1_gone_in own_1 13 (λ _ _. refl) (λ _ _. (refl, (refl, refl)))) (fit1_gone_in own_moving 12 (λ _ _. refl) (λ _ _. (refl, (refl, refl))))
 
 pub span2_gone_deletes : Deletes kept_span2 span2_gone (by_value 0)
+unfolding understood everything
 span2_gone_deletes =
     either_deletes kept_span2 (HasBehind own_moving) (HasBehind (sector2 ∷ span2 ∷ [])) span2_gone (by_value 0)
-    (deleted (over kept_span2 (HasBehind own_moving)) own_moving (λ _ has. has) span2_gone (given_at Eq span2 0 0 ∷ []) (by_value 0) (λ _. refl) (λ _ _. one_equal _ _ refl) 15 (λ _ _. refl) span2_gone_moving)
-    (deleted (over kept_span2 (HasBehind (sector2 ∷ span2 ∷ []))) (sector2 ∷ span2 ∷ []) (λ _ has. has) span2_gone (given_at Eq span2 0 0 ∷ []) (by_value 0) (λ _. refl) (λ _ _. one_equal _ _ refl) 13 (λ _ _. refl) span2_gone_texts)
-
-total2_gone_texts : (rest : List Table) (more : List Index) → Drops (permanent ((sector2 ∷ span2 ∷ total2 ∷ []) ++ rest) more) total2_gone 14 total2 (given_at Eq total2 0 0 ∷ [])
-unfolding understood everything
-total2_gone_texts rest more = (refl, (refl, refl))
+    (deleted (over kept_span2 (HasBehind own_moving)) own_moving (λ _ has. has) span2_gone (given_at Eq span2 0 0 ∷ []) (by_value 0) (λ _. refl) (λ _ _. one_equal _ _ refl) 15 (λ _ _. refl) (λ _ _. (refl, (refl, refl))))
+    (deleted (over kept_span2 (HasBehind (sector2 ∷ span2 ∷ []))) (sector2 ∷ span2 ∷ []) (λ _ has. has) span2_gone (given_at Eq span2 0 0 ∷ []) (by_value 0) (λ _. refl) (λ _ _. one_equal _ _ refl) 13 (λ _ _. refl) (λ _ _. (refl, (refl, refl))))
 
 pub total2_gone_deletes : Deletes kept_total2 total2_gone (by_value 0)
-total2_gone_deletes = deleted kept_total2 (sector2 ∷ span2 ∷ total2 ∷ []) (λ _ has. has) total2_gone (given_at Eq total2 0 0 ∷ []) (by_value 0) (λ _. refl) (λ _ _. one_equal _ _ refl) 14 (λ _ _. refl) total2_gone_texts
-
-base2_gone_texts : (rest : List Table) (more : List Index) → Drops (permanent (own_2 ++ rest) more) base2_gone 15 base2 (given_at Eq base2 0 0 ∷ given_at Eq base2 1 1 ∷ [])
 unfolding understood everything
-base2_gone_texts rest more = (refl, (refl, refl))
+total2_gone_deletes = deleted kept_total2 (sector2 ∷ span2 ∷ total2 ∷ []) (λ _ has. has) total2_gone (given_at Eq total2 0 0 ∷ []) (by_value 0) (λ _. refl) (λ _ _. one_equal _ _ refl) 14 (λ _ _. refl) (λ _ _. (refl, (refl, refl)))
 
 pub base2_gone_deletes : Deletes kept_base2 base2_gone (by_values 0 1)
-base2_gone_deletes = deleted kept_base2 own_2 (λ _ has. has) base2_gone (given_at Eq base2 0 0 ∷ given_at Eq base2 1 1 ∷ []) (by_values 0 1) (λ _. refl) (λ _ _. two_equal _ _ _ refl) 15 (λ _ _. refl) base2_gone_texts
+unfolding understood everything
+base2_gone_deletes = deleted kept_base2 own_2 (λ _ has. has) base2_gone (given_at Eq base2 0 0 ∷ given_at Eq base2 1 1 ∷ []) (by_values 0 1) (λ _. refl) (λ _ _. two_equal _ _ _ refl) 15 (λ _ _. refl) (λ _ _. (refl, (refl, refl)))

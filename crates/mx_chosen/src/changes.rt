@@ -7,9 +7,8 @@ ghost use Rattle.mx_chosen.specs.Choices.{has_value, is_up_to};
 ghost use Rattle.mx_chosen.specs.Calls.{DeletesRows, ReplacesRows};
 
 use crate::chosen::{delete_rows, replace_rows};
-use mx_layout::TableFault;
+use crate::prelude::*;
 use mx_typed_rows::{BaseRow, FittingRow, SectorRow, SpanRow, TotalRow};
-use sqlite::{Alter, Transaction, params};
 
 /// Deletes the sectors of `sector1` up to this entry.
 pub fn delete_sector1<S: Alter>(tx: &mut Transaction<'_, S>, seq: u32) -> Result<(), TableFault>

@@ -5,11 +5,8 @@ ghost use Rattle.sqlite.specs.Held.{state};
 ghost use Rattle.mx_kept.specs.Cells.{kept_defect, kept_extension};
 ghost use Rattle.mx_chosen.specs.Calls.{ReadsBy};
 
-use crate::chosen::rows_chosen;
-use mx_layout::TableFault;
+use crate::prelude::*;
 use mx_typed_rows::{DeferralRow, ExtensionRow};
-use sqlite::{Alter, Transaction, params};
-use std::alloc::Global;
 
 /// The defect that an entry deferred: at most one.
 pub fn defect_by_seq<S: Alter>(

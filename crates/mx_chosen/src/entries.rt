@@ -5,12 +5,9 @@ ghost use Rattle.sqlite.specs.Held.{state};
 ghost use Rattle.mx_kept.specs.Cells.{kept_entry};
 ghost use Rattle.mx_chosen.specs.Calls.{ReadsBy};
 
-use crate::chosen::rows_chosen;
+use crate::prelude::*;
 use mx_base::Doc;
-use mx_layout::TableFault;
 use mx_typed_rows::EntryRow;
-use sqlite::{Alter, Transaction, params};
-use std::alloc::Global;
 
 /// The entry with a number: at most one.
 pub fn entry_by_seq<S: Alter>(

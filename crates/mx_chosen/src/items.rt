@@ -5,12 +5,9 @@ ghost use Rattle.sqlite.specs.Held.{state};
 ghost use Rattle.mx_kept.specs.Cells.{kept_aircraft, kept_place, kept_component};
 ghost use Rattle.mx_chosen.specs.Calls.{ReadsBy};
 
-use crate::chosen::rows_chosen;
+use crate::prelude::*;
 use mx_base::{Serial, Tail};
-use mx_layout::TableFault;
 use mx_typed_rows::{AircraftRow, ComponentRow, PlaceRow};
-use sqlite::{Alter, Transaction, params};
-use std::alloc::Global;
 
 /// The aircraft that an entry added: at most one.
 pub fn aircraft_by_seq<S: Alter>(

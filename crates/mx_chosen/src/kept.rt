@@ -6,12 +6,9 @@ ghost use Rattle.mx_kept.specs.Cells.{kept_span2, kept_total2, kept_base2};
 ghost use Rattle.mx_chosen.specs.Choices.{has_value, is_open};
 ghost use Rattle.mx_chosen.specs.Calls.{ReadsBy, ReadsFirst};
 
-use crate::chosen::rows_chosen;
+use crate::prelude::*;
 use mx_base::TaskId;
-use mx_layout::TableFault;
 use mx_typed_rows::{BaseRow, SpanRow, TotalRow};
-use sqlite::{Alter, Transaction, params};
-use std::alloc::Global;
 
 /// The span that an entry began: at most one.
 pub fn span2_by_fit_seq<S: Alter>(

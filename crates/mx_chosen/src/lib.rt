@@ -10,6 +10,7 @@ pub mod entries;
 pub mod items;
 pub mod kept;
 pub mod pages;
+mod prelude;
 pub mod programmes;
 pub mod sectors;
 pub mod works;

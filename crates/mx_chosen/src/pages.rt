@@ -6,11 +6,8 @@ ghost use Rattle.mx_kept.specs.Cells.{kept_entry, kept_sector1, kept_extension};
 ghost use Rattle.mx_chosen.specs.Choices.{is_above, is_any, backward};
 ghost use Rattle.mx_chosen.specs.Calls.{ReadsFirst};
 
-use crate::chosen::rows_chosen;
-use mx_layout::TableFault;
+use crate::prelude::*;
 use mx_typed_rows::{EntryRow, ExtensionRow, SectorRow};
-use sqlite::{Alter, Transaction, params};
-use std::alloc::Global;
 
 /// The next 64 sectors of `sector1` behind this entry.
 pub fn sector1_page<S: Alter>(

@@ -5,12 +5,9 @@ ghost use Rattle.sqlite.specs.Held.{state};
 ghost use Rattle.mx_kept.specs.Cells.{kept_programme, kept_task};
 ghost use Rattle.mx_chosen.specs.Calls.{ReadsBy};
 
-use crate::chosen::rows_chosen;
+use crate::prelude::*;
 use mx_base::Kind;
-use mx_layout::TableFault;
 use mx_typed_rows::{ProgrammeRow, TaskRow};
-use sqlite::{Alter, Transaction, params};
-use std::alloc::Global;
 
 /// The revision of a programme that an entry loaded: at most one.
 pub fn programme_by_seq<S: Alter>(

@@ -5,11 +5,8 @@ ghost use Rattle.sqlite.specs.Held.{state};
 ghost use Rattle.mx_kept.specs.Cells.{kept_sector2_rows};
 ghost use Rattle.mx_chosen.specs.Calls.{ReadsBy};
 
-use crate::chosen::rows_chosen;
-use mx_layout::TableFault;
+use crate::prelude::*;
 use mx_typed_rows::Sector2Row;
-use sqlite::{Alter, Transaction, params};
-use std::alloc::Global;
 
 /// The sector that an entry is: at most one.
 pub fn sector2_by_seq<S: Alter>(

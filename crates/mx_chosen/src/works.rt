@@ -5,11 +5,8 @@ ghost use Rattle.sqlite.specs.Held.{state};
 ghost use Rattle.mx_kept.specs.Cells.{kept_opening, kept_crs, kept_crs_line};
 ghost use Rattle.mx_chosen.specs.Calls.{ReadsBy};
 
-use crate::chosen::rows_chosen;
-use mx_layout::TableFault;
+use crate::prelude::*;
 use mx_typed_rows::{OpeningRow, ReleaseLineRow, ReleaseRow};
-use sqlite::{Alter, Transaction, params};
-use std::alloc::Global;
 
 /// The accomplishment before the records that an entry stated: at most one.
 pub fn opening_by_seq<S: Alter>(
