@@ -13,7 +13,7 @@ use Rattle.sqlite.specs.State.{State, HasCleanDisk, Shown, IsUnchanged, FailsToQ
 use Rattle.mx_layout.specs.Crash.{RestsAs}
 use Rattle.sqlite.specs.declared.error.Error.TheVariants.{SqlInputError}
 use Rattle.sqlite_resolve.specs.declared.error.CompileError.{CompileError}
-use Rattle.mx_layout.specs.declared.points.Point.{Point}
+use Rattle.mx_point.specs.declared.point.Point.{Point}
 use Rattle.mx_layout.specs.declared.fault.TableFault.{TableFault}
 use Rattle.mx_layout.specs.Contents.{rows_in}
 use Rattle.mx_layout.specs.Point.{point_cells, FitsPoint, IsPoint, HoldsBelow, IsStop, IsNoPoint, HoldsPoint, ReadsPoint, ReadsExactly, point_text}

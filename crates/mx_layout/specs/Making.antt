@@ -5,7 +5,8 @@ use Rattle.sqlite.specs.Schema.{Schema}
 use Rattle.sqlite.specs.Tree.{Trees}
 use Rattle.sqlite.specs.Effect.{Database}
 use Rattle.sqlite_catalog.specs.Listing.{IsSound}
-use Rattle.mx_layout.specs.declared.points.Point.{Point}
+use Rattle.mx_point.specs.declared.point.Point.{Point}
+use Rattle.mx_point.specs.Settled.{settled}
 use Rattle.mx_layout.specs.Contents.{rows_in, Rises}
 use Rattle.mx_layout.specs.Point.{point_cells}
 use Rattle.mx_layout.specs.Steps.{schema_of}
@@ -24,10 +25,6 @@ pub record IsBlank (schema : Schema) (db : Database) : Type 0 where
   pub empty : AllByRecursion (λ t. db.trees t.tree ≡ []) schema.tables
   pub uncounted : AllByRecursion (λ t. t.is_counted ≡ false) schema.tables
   pub sound : IsSound schema db.trees
-
--- the point of a file that has a layout, where no move has begun
-abbrev pub settled : ℕ → Point
-settled layout = record { layout = layout; step = 0; mark = 0 }
 
 -- the point of a file that was just made in layout 1
 abbrev pub first_point : Point

@@ -3,14 +3,14 @@
 #![tactic(auto)]
 
 pub mod fault;
+pub mod layout;
 mod listed;
 pub mod making;
-pub mod points;
 pub mod power;
 pub mod reading;
 
 pub use fault::{Table, TableFault};
+pub use layout::Layout;
 pub use making::create;
-pub use points::{Layout, Point};
 pub use power::{end_process, reopen, reopen_file};
 pub use reading::{point, point_in};

@@ -15,7 +15,8 @@ ghost use Rattle.mx_layout.specs.Writing.{Gains};
 
 use crate::fault::{TableFault, fault_of};
 use crate::listed::refusal_of;
-use crate::points::{Layout, Point};
+use crate::layout::Layout;
+use mx_point::Point;
 use sqlite::{Alter, Connection, Error, Row, Transaction, params};
 
 /// How many statements make a layout of no table.

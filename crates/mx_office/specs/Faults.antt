@@ -7,7 +7,7 @@ use Rattle.mx_book.specs.declared.verdict.Refusal.TheVariants.{UnknownAircraft, 
 use Rattle.mx_layout.specs.declared.fault.Table.TheVariants.{Office}
 use Rattle.mx_layout.specs.declared.fault.TableFault.{TableFault}
 use Rattle.mx_layout.specs.declared.fault.TableFault.TheVariants as table
-use Rattle.mx_layout.specs.declared.points.Point.{Point}
+use Rattle.mx_point.specs.declared.point.Point.{Point}
 use Rattle.mx_layout.specs.Point.{point_cells, IsPoint}
 use Rattle.mx_layout.specs.Reading.{HasOther}
 use Rattle.sqlite.specs.Order.{Row}

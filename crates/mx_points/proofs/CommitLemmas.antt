@@ -17,8 +17,9 @@ use Rattle.mx_kept_rows.specs.Items.{items}
 use Rattle.mx_kept_rows.proofs.ItemOrder.{items_from}
 use Rattle.mx_points.specs.Commits.{commits_left, later_commits, rounds, step_commits}
 use Rattle.mx_points.specs.Moves.{last_moved}
-use Rattle.mx_points.specs.Points.{is_on_way, moving, next_mark, next_point, numbers_left, numbers_of, on_to, settled, size_of}
-use Rattle.mx_points.specs.declared.points.Point.{Point}
+use Rattle.mx_points.specs.Points.{is_on_way, moving, next_mark, next_point, numbers_left, numbers_of, on_to, size_of}
+use Rattle.mx_point.specs.Settled.{settled}
+use Rattle.mx_point.specs.declared.point.Point.{Point}
 use Rattle.mx_points.proofs.NextLemmas.{numbers_rise, self}
 use Rattle.mx_points.proofs.PointLemmas.{above, left_less}
 use Rattle.mx_points.proofs.StepLemmas.{mark_bound, not_zero, rising_bound, step_after, step_on_way}

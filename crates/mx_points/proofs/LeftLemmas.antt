@@ -17,7 +17,7 @@ use Rattle.mx_kept_rows.proofs.ItemNumbers.{total_rows-changed}
 use Rattle.mx_kept_rows.proofs.SpanRows.{span_rows-more}
 use Rattle.mx_kept_rows.proofs.TableLemmas.{register_becomes}
 use Rattle.mx_kept_rows.proofs.TouchedLemmas.{spans_untouched, totals_untouched}
-use Rattle.mx_points.specs.declared.points.Point.{Point}
+use Rattle.mx_point.specs.declared.point.Point.{Point}
 use Rattle.mx_points.specs.Standing.{AreLeft, IsLeft}
 use Rattle.mx_points.specs.Tables.{Line, aircraft_all, components_all, deferrals_all, extensions_all, fittings_1, openings_all, places_all, programmes_all, release_lines_all, releases_all, removals_1, sectors_1, sectors_2, spans_2, stands_there, tasks_all, totals_2}
 

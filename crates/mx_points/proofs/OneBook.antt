@@ -23,7 +23,7 @@ use Rattle.mx_register.specs.Registers.{sector_rows, fitting_rows, removal_rows,
 use Rattle.mx_register.proofs.MergeLemmas.{HaveSameRegisters, book_once}
 use Rattle.mx_typed_rows.proofs.SortedLemmas.{sorted_once, IsFrom-rising}
 use Rattle.mx_register.proofs.RegisterLemmas.{entry_rows-rising, aircraft_rows-rising, place_rows-rising, component_rows-rising, programme_rows-rising, task_rows-rising, opening_rows-rising, sector_rows-rising, fitting_rows-rising, removal_rows-rising, release_rows-rising, release_line_rows-rising, deferral_rows-rising, extension_rows-rising}
-use Rattle.mx_points.specs.declared.points.Point.{Point}
+use Rattle.mx_point.specs.declared.point.Point.{Point}
 use Rattle.mx_typed_rows.specs.declared.rows.SpanRow.{SpanRow}
 use Rattle.mx_kept_rows.specs.Spans.{fitting_in, removal_in, span_rows}
 use Rattle.mx_points.specs.Points.{Step, has_moved, is_past, is_within_step, step_of}

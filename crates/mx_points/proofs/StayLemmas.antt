@@ -26,8 +26,9 @@ use Rattle.mx_typed_rows.specs.declared.rows.TotalRow.{TotalRow}
 use Rattle.mx_kept_rows.proofs.CreditLemmas.{filter_on}
 use Rattle.mx_kept_rows.proofs.DoneLemmas.{neither}
 use Rattle.mx_kept_rows.proofs.SpanRegisters.{fittings_in_spans}
-use Rattle.mx_points.specs.declared.points.Point.{Point}
-use Rattle.mx_points.specs.Points.{Step, has_moved, is_on_way, is_past, is_within_step, moving, next_mark, next_point, numbers_left, numbers_of, on_to, point_after, settled, size_of}
+use Rattle.mx_point.specs.declared.point.Point.{Point}
+use Rattle.mx_points.specs.Points.{Step, has_moved, is_on_way, is_past, is_within_step, moving, next_mark, next_point, numbers_left, numbers_of, on_to, point_after, size_of}
+use Rattle.mx_point.specs.Settled.{settled}
 use Rattle.mx_points.specs.Tables.{Line, bases_2, fittings_1, is_moved_at, removals_1, rows_at, sectors_1, sectors_2, spans_2, stands_there, totals_2}
 use Rattle.mx_points.specs.Moves.{AllStay, OthersStay, Stays}
 use Rattle.mx_points.proofs.NextLemmas.{rows_of_all, self}

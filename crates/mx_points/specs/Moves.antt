@@ -7,7 +7,7 @@ use Rattle.mx_kept_rows.specs.Totals.{total_rows}
 use Rattle.mx_points.specs.Points.{moving}
 use Rattle.mx_points.specs.Tables.{Line, bases_2, fittings_1, is_moved_at, removals_1, rows_at, sectors_1, sectors_2, spans_2, totals_2}
 use Rattle.mx_typed_rows.specs.declared.rows.TotalRow.{TotalRow}
-use Rattle.mx_points.specs.declared.points.Point.{Point}
+use Rattle.mx_point.specs.declared.point.Point.{Point}
 
 -- the rows with a number above a mark
 abbrev pub rows_beyond : {Row : Type 0} → (Row → ℕ) → ℕ → List Row → List Row

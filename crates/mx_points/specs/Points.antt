@@ -6,17 +6,14 @@ use Rattle.mx_book.specs.Programme.{last_of}
 use Rattle.mx_book.specs.declared.judging.TheConstants.{MOST_ENTRIES}
 use Rattle.mx_register.specs.Registers.{sector_rows, component_rows}
 use Rattle.mx_kept_rows.specs.Items.{items}
-use Rattle.mx_points.specs.declared.points.Point.{Point}
+use Rattle.mx_point.specs.declared.point.Point.{Point}
+use Rattle.mx_point.specs.Settled.{settled}
 
 -- ── points ──
 
 -- the number of the last step of the move from a layout to the next
 abbrev pub last_step : ℕ
 last_step = 4
-
--- the point of a file that has this layout, and is in no move
-abbrev pub settled : ℕ → Point
-settled layout = record { layout = layout; step = 0; mark = 0 }
 
 -- the point in a step of the move from layout 1, which has come up to a mark
 abbrev pub moving : ℕ → ℕ → Point

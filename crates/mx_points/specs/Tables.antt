@@ -25,7 +25,7 @@ use Rattle.mx_points.specs.Points.{Step, has_moved, is_past, is_within_step, ste
 use Rattle.mx_typed_rows.specs.declared.rows.BaseRow.{BaseRow}
 use Rattle.mx_typed_rows.specs.declared.rows.SpanRow.{SpanRow}
 use Rattle.mx_typed_rows.specs.declared.rows.TotalRow.{TotalRow}
-use Rattle.mx_points.specs.declared.points.Point.{Point}
+use Rattle.mx_point.specs.declared.point.Point.{Point}
 
 -- a table on the way: the rows that a book gives it, the number by which steps move a row, and the steps that bring its rows and that take them away, where there are any
 pub record Line (Row : Type 0) : Type 0 where

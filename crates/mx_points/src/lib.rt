@@ -6,4 +6,4 @@ pub mod moves;
 pub mod points;
 pub mod standing;
 
-pub use points::{LAST_MARK, Point, is_on_way, point_after};
+pub use points::{LAST_MARK, is_on_way, point_after};

@@ -1,21 +1,10 @@
 //! The points on the way from one layout to the next.
 ghost use Rattle.std.specs.Prelude.{◌≡◌};
 ghost use Rattle.mx_points.specs.Points.{is_on_way, point_after};
+use mx_point::Point;
 
 /// The greatest mark: no entry has a greater number.
 pub const LAST_MARK: u32 = 1_000_000;
-
-/// The point that a file is at: a layout, and how far a move to the next one has come. It is settled where step and mark
-/// are 0.
-#[derive(Clone, Copy, Debug, PartialEq, Eq)]
-pub struct Point {
-    /// The layout of its tables.
-    pub layout: u8,
-    /// The step of the move to the next layout.
-    pub step: u8,
-    /// The number of the entry up to which that step has come.
-    pub mark: u32,
-}
 
 /// Whether the point is on the way to the newest layout: settled at the one before, or in a step of the move from there.
 pub fn is_on_way(at: Point) -> bool

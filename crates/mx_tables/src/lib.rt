@@ -69,6 +69,6 @@ pub mod stored;
 mod task;
 mod total;
 
-pub use mx_layout::{Layout, Point, Table, TableFault, create, point};
+pub use mx_layout::{Layout, Table, TableFault, create, point};
 pub use sets::Tables;
 pub use stored::{Insert, Stored, rows};

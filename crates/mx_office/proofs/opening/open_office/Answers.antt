@@ -8,7 +8,7 @@ use Rattle.mx_office.proofs.AnswerLemmas.{open_stops, open_reason, open_absent}
 use Rattle.mx_office.proofs.LoadLemmas.{stands_point}
 use Rattle.mx_layout.specs.Point.{TellsPoint, point_cells}
 use Rattle.mx_office.specs.Faults.{open_answer}
-use Rattle.mx_layout.specs.declared.points.Point.{Point}
+use Rattle.mx_point.specs.declared.point.Point.{Point}
 use Rattle.mx_office.proofs.opening.open_office.Goals.{then-at-ne-NEWEST_LAYOUT-via-then-at-ne-NEWEST_LAYOUT, then-at-ne-NEWEST_LAYOUT-via-else-at-ne-NEWEST_LAYOUT+then-at-ne0, then-at-ne-NEWEST_LAYOUT-via-else-at-ne-NEWEST_LAYOUT+else-at-ne0+then-at-ne0-2}
 use Rattle.mx_office.proofs.opening.open_office.Goals as goal
 

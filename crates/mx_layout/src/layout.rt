@@ -1,0 +1,5 @@
+//! The layouts by number.
+
+/// A layout of the tables, by its number: 1 or 2.
+#[derive(Clone, Copy, Debug, PartialEq, Eq)]
+pub struct Layout(pub u8);
