@@ -5,7 +5,7 @@ use Rattle.sqlite.specs.Tree.{Trees}
 use Rattle.mx_command.specs.Act.{Entry}
 use Rattle.mx_register.specs.declared.merge.Registers.{Registers}
 use Rattle.mx_register.specs.Registers.{entry_added, aircraft_by, places_by, components_by, programmes_by, tasks_by, openings_by, sectors_by, fittings_by, removals_by, releases_by, release_lines_by, deferrals_by, extensions_by}
-use Rattle.mx_kept_rows.specs.Becomes.{Change, adding, bases_become, spans_become, totals_become}
+use Rattle.mx_kept_rows.specs.Becomes.{BecomesSome, Change, adding, bases_become, spans_become, totals_become}
 use Rattle.mx_point.specs.declared.point.Point.{Point}
 use Rattle.mx_points.specs.Tables.{Line, rows_at, is_table_at, entries_all, aircraft_all, places_all, components_all, programmes_all, tasks_all, openings_all, releases_all, release_lines_all, deferrals_all, extensions_all, sectors_1, fittings_1, removals_1, sectors_2, spans_2, totals_2, bases_2}
 use Rattle.mx_layout.specs.TableName.{TableName}
@@ -87,6 +87,15 @@ brought none at before command = []
 abbrev pub FitBrought : Rows → Point → List Entry → Entry → Type 0
 FitBrought (of k line change read) at before command = is_table_at line at ≡ true → All k.Fits (change before command [])
 FitBrought none at before command = ⊤
+
+-- with a new command its rows become what its line says
+abbrev pub BecomesBy : Rows → Type 0
+BecomesBy (of k line change read) = BecomesSome line.rows change
+BecomesBy none = ⊤
+
+-- at the point a command brings these rows to it, behind those from before
+abbrev pub Brings : Rows → Point → Type 0
+Brings rows at = (book : List Entry) (command : Entry) → given rows at (book ++ command ∷ []) ≡ given rows at book ++ brought rows at book command
 
 -- ── tables by name ──
 

@@ -1,5 +1,5 @@
 -- The schema of a file at a point, by the tables that stand there; and how many statements have made it.
-use Rattle.std.specs.Prelude.{◌≡◌, ◌⊎◌, ℕ, nat_eq, Bool, true, ◌||◌, List, [], ◌∷◌, map, filter, codes, if◌then◌else◌}
+use Rattle.std.specs.Prelude.{◌≡◌, ◌⊎◌, ℕ, nat_eq, true, ◌||◌, List, [], ◌∷◌, map, filter, codes, if◌then◌else◌}
 use Rattle.sqlite.specs.Table.{Table}
 use Rattle.sqlite.specs.Schema.{Schema}
 use Rattle.sqlite_schema.specs.declared.schema.Index.{Index}

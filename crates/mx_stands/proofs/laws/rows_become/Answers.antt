@@ -1,0 +1,8 @@
+use Rattle.mx_stands.proofs.ChangeLemmas.{become, brings}
+use Rattle.mx_stands.proofs.laws.rows_become.Goals as goal
+
+pub returns-clause-rows : goal.returns-clause-rows
+returns-clause-rows c = become
+
+pub returns-clause-registers : goal.returns-clause-registers
+returns-clause-registers c layout name is register there = brings layout is name register there
