@@ -15,7 +15,7 @@ use Rattle.mx_points.specs.Points.{moving}
 use Rattle.mx_layout.specs.TableName.{TableName}
 use Rattle.mx_layout.specs.declared.fault.Table.TheVariants as table
 use Rattle.mx_stands.specs.Family.{is_at, is_register, rows_of, own_names, permanent_names, first_rows, rows_given, added, registers_at}
-use Rattle.mx_stands.specs.Schemas.{indexes_at, statements_at}
+use Rattle.mx_stands.specs.Schemas.{indexes_at, schema_at, statements_at}
 
 -- ── tables ──
 
@@ -83,6 +83,19 @@ indexes_in_step_4 mark = refl
 indexes_at_layout_2 : names (settled 2) ≡ codes "span2_by_component" ∷ codes "span2_by_aircraft" ∷ codes "span2_by_remove_seq" ∷ codes "sqlite_autoindex_base2_1"
     ∷ codes "crs_line_by_defect" ∷ codes "extension_by_defect" ∷ codes "defect_by_aircraft" ∷ []
 indexes_at_layout_2 = refl
+
+-- ── trees ──
+
+-- the numbers of the trees of all tables, and of all indexes
+abbrev trees : Point → List (List ℕ)
+trees p = map (λ t. t.tree) (schema_at p).tables ∷ map (λ i. i.tree) (schema_at p).indexes ∷ []
+
+trees_at_layout_1 : trees (settled 1) ≡ (0 ∷ 1 ∷ 3 ∷ 5 ∷ 7 ∷ 9 ∷ 10 ∷ 12 ∷ 13 ∷ 14 ∷ 16 ∷ 17 ∷ 18 ∷ 19 ∷ 20 ∷ []) ∷ (2 ∷ 4 ∷ 6 ∷ 8 ∷ 11 ∷ 15 ∷ []) ∷ []
+trees_at_layout_1 = refl
+
+-- what a move makes has further numbers, and what it drops leaves a gap
+trees_at_layout_2 : trees (settled 2) ≡ (0 ∷ 1 ∷ 3 ∷ 5 ∷ 7 ∷ 9 ∷ 10 ∷ 12 ∷ 13 ∷ 14 ∷ 16 ∷ 17 ∷ 21 ∷ 22 ∷ 26 ∷ 27 ∷ []) ∷ (2 ∷ 4 ∷ 6 ∷ 8 ∷ 11 ∷ 15 ∷ 23 ∷ 24 ∷ 25 ∷ 28 ∷ 29 ∷ 30 ∷ 31 ∷ []) ∷ []
+trees_at_layout_2 = refl
 
 -- ── statements ──
 
