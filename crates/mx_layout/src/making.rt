@@ -14,8 +14,8 @@ ghost use Rattle.mx_layout.specs.Tables.{no_schema, office};
 ghost use Rattle.mx_layout.specs.Writing.{Gains};
 
 use crate::fault::{TableFault, fault_of};
-use crate::listed::refusal_of;
 use crate::layout::Layout;
+use crate::listed::refusal_of;
 use mx_point::Point;
 use sqlite::{Alter, Connection, Error, Row, Transaction, params};
 

@@ -1,6 +1,7 @@
 //! The points on the way from one layout to the next.
 ghost use Rattle.std.specs.Prelude.{◌≡◌};
 ghost use Rattle.mx_points.specs.Points.{is_on_way, point_after};
+
 use mx_point::Point;
 
 /// The greatest mark: no entry has a greater number.
