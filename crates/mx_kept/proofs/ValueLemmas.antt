@@ -4,7 +4,7 @@ use Rattle.sqlite.specs.Kind.TheVariants as kind
 use Rattle.sqlite.specs.Cast.{cast}
 use Rattle.sqlite.specs.Order.{Row, column}
 use Rattle.sqlite.specs.declared.types.Value.{Value}
-use Rattle.sqlite.specs.declared.types.Value.TheVariants.{Null, Int, Text}
+use Rattle.sqlite.specs.declared.types.Value.TheVariants.{Int, Text}
 use Rattle.mx_base.specs.declared.amounts.Limit.{Limit}
 use Rattle.mx_layout.proofs.RowLemmas.{cast_int, cast_null}
 use Rattle.mx_kept.specs.Keys.{number_of}
