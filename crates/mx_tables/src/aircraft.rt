@@ -1,7 +1,6 @@
 //! The table `aircraft`: every aircraft, and the use that its airframe brought with it.
 
 use crate::prelude::*;
-use mx_typed_rows::AircraftRow;
 
 impl Stored for AircraftRow {
     ghost use Rattle.mx_kept.{specs.Cells.kept_aircraft, proofs.Lawful.aircraft_lawful};

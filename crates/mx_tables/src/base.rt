@@ -2,7 +2,6 @@
 
 use crate::prelude::*;
 use mx_base::Use;
-use mx_typed_rows::BaseRow;
 
 impl Stored for BaseRow {
     ghost use Rattle.mx_kept.{specs.Cells.kept_base2, proofs.MovedLawful.base2_lawful};

@@ -1,7 +1,6 @@
 //! The table `component`: every component, and the use that it brought with it.
 
 use crate::prelude::*;
-use mx_typed_rows::ComponentRow;
 
 impl Stored for ComponentRow {
     ghost use Rattle.mx_kept.{specs.Cells.kept_component, proofs.Lawful.component_lawful};

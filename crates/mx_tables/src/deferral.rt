@@ -2,7 +2,6 @@
 //! it states none.
 
 use crate::prelude::*;
-use mx_typed_rows::DeferralRow;
 
 impl Stored for DeferralRow {
     ghost use Rattle.mx_kept.{specs.Cells.kept_defect, proofs.Lawful.defect_lawful};

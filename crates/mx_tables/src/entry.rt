@@ -6,7 +6,6 @@ ghost use Rattle.mx_typed_rows.specs.Rows.{kind_number};
 ghost use Rattle.mx_typed_rows.specs.declared.rows.EntryKind.{EntryKind};
 
 use crate::prelude::*;
-use mx_typed_rows::{EntryKind, EntryRow};
 
 // The number that stands for a kind in its column.
 fn number_of(kind: EntryKind) -> u32

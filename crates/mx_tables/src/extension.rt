@@ -1,7 +1,6 @@
 //! The table `extension`: every extension of the interval within which a deferred defect is rectified.
 
 use crate::prelude::*;
-use mx_typed_rows::ExtensionRow;
 
 impl Stored for ExtensionRow {
     ghost use Rattle.mx_kept.{specs.Cells.kept_extension, proofs.Lawful.extension_lawful};

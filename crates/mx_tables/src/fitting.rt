@@ -1,7 +1,6 @@
 //! The table `fit1`: every fitting, its moment as text.
 
 use crate::prelude::*;
-use mx_typed_rows::FittingRow;
 
 impl Stored for FittingRow {
     ghost use Rattle.mx_kept.{specs.Cells.kept_fit1, proofs.Lawful.fit1_lawful};

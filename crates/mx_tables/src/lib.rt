@@ -32,8 +32,8 @@
 //!    of the same type, a type of its own holds them (`held`, `Sector2Row`).
 //! 3. `src/NOUN.rt`, from one that is there, with its line here: `Stored`, whose texts are those of `mx_kept` written
 //!    out, and whose `read` asks for the number of columns and takes each by a function of `column.rt`; `Insert`, which
-//!    passes each value in the order of the columns. A kind of value that no table has had needs a function in
-//!    `column.rt`, whose contract says of what values it gives `None`, and its line in `prelude.rt`.
+//!    passes each value in the order of the columns. Its row type is a word of `prelude.rt`. A kind of value that no
+//!    table has had needs a function in `column.rt`, whose contract says of what values it gives `None`.
 //! 4. Plants: two columns swapped in either text, two values swapped in `insert` or `read`, a text with no
 //!    ORDER BY, the name of another table.
 //!

@@ -1,7 +1,6 @@
 //! The table `opening`: every task that was accomplished before the records begin.
 
 use crate::prelude::*;
-use mx_typed_rows::OpeningRow;
 
 impl Stored for OpeningRow {
     ghost use Rattle.mx_kept.{specs.Cells.kept_opening, proofs.Lawful.opening_lawful};

@@ -1,7 +1,6 @@
 //! The table `place`: every position of an aircraft.
 
 use crate::prelude::*;
-use mx_typed_rows::PlaceRow;
 
 impl Stored for PlaceRow {
     ghost use Rattle.mx_kept.{specs.Cells.kept_place, proofs.Lawful.place_lawful};

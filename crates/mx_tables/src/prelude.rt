@@ -7,4 +7,9 @@ pub(crate) use crate::column::{
 };
 pub(crate) use crate::stored::{Insert, Stored, Texts, insert_values};
 pub(crate) use mx_layout::{Table, TableFault};
+pub(crate) use mx_typed_rows::{
+    AircraftRow, BaseRow, ComponentRow, DeferralRow, EntryKind, EntryRow, ExtensionRow, FittingRow,
+    OpeningRow, PlaceRow, ProgrammeRow, ReleaseLineRow, ReleaseRow, RemovalRow, Sector2Row,
+    SectorRow, SpanRow, TaskRow, TotalRow,
+};
 pub(crate) use sqlite::{Alter, Row, Transaction, params};

@@ -1,7 +1,6 @@
 //! The table `programme`: every revision of a maintenance programme.
 
 use crate::prelude::*;
-use mx_typed_rows::ProgrammeRow;
 
 impl Stored for ProgrammeRow {
     ghost use Rattle.mx_kept.{specs.Cells.kept_programme, proofs.Lawful.programme_lawful};

@@ -1,7 +1,6 @@
 //! The table `crs`: every release to service, the kind of aircraft NULL where the work was done at an aircraft.
 
 use crate::prelude::*;
-use mx_typed_rows::ReleaseRow;
 
 impl Stored for ReleaseRow {
     ghost use Rattle.mx_kept.{specs.Cells.kept_crs, proofs.Lawful.crs_lawful};

@@ -2,7 +2,6 @@
 //! that.
 
 use crate::prelude::*;
-use mx_typed_rows::ReleaseLineRow;
 
 impl Stored for ReleaseLineRow {
     ghost use Rattle.mx_kept.{specs.Cells.kept_crs_line, proofs.Lawful.crs_line_lawful};

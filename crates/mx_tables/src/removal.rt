@@ -1,7 +1,6 @@
 //! The table `removal1`: every removal, its moment as text.
 
 use crate::prelude::*;
-use mx_typed_rows::RemovalRow;
 
 impl Stored for RemovalRow {
     ghost use Rattle.mx_kept.{specs.Cells.kept_removal1, proofs.Lawful.removal1_lawful};

@@ -1,7 +1,6 @@
 //! The table `sector1`: every sector, its moments as text.
 
 use crate::prelude::*;
-use mx_typed_rows::SectorRow;
 
 impl Stored for SectorRow {
     ghost use Rattle.mx_kept.{specs.Cells.kept_sector1, proofs.Lawful.sector1_lawful};

@@ -1,7 +1,6 @@
 //! The table `sector2`: every sector, its moments as numbers.
 
 use crate::prelude::*;
-use mx_typed_rows::{Sector2Row, SectorRow};
 
 impl Stored for Sector2Row {
     ghost use Rattle.mx_kept.{specs.Cells.kept_sector2_rows, proofs.MovedLawful.sector2_row_lawful};

@@ -1,7 +1,6 @@
 //! The table `span2`: where each component is or was fitted.
 
 use crate::prelude::*;
-use mx_typed_rows::SpanRow;
 
 impl Stored for SpanRow {
     ghost use Rattle.mx_kept.{specs.Cells.kept_span2, proofs.MovedLawful.span2_lawful};

@@ -2,7 +2,6 @@
 
 use crate::prelude::*;
 use mx_base::Tolerance;
-use mx_typed_rows::TaskRow;
 
 impl Stored for TaskRow {
     ghost use Rattle.mx_kept.{specs.Cells.kept_task, proofs.Lawful.task_lawful};

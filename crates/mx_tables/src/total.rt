@@ -2,7 +2,6 @@
 
 use crate::prelude::*;
 use mx_base::Use;
-use mx_typed_rows::TotalRow;
 
 impl Stored for TotalRow {
     ghost use Rattle.mx_kept.{specs.Cells.kept_total2, proofs.MovedLawful.total2_lawful};
