@@ -21,7 +21,7 @@ use Rattle.mx_kept.specs.Schemas.{permanent, own_1, own_2, own_moving, HasBehind
 use Rattle.mx_chosen.specs.Choices.{backward}
 use Rattle.mx_chosen.specs.Lookups.{FindsFirst, Finds, Deletes}
 use Rattle.mx_chosen.specs.Texts.{sector2_by_seq, by_value, by_values, open_by, open_spans_by_component, open_spans_by_aircraft, above, up_to, any_row, entry_by_seq, entry_by_doc, aircraft_by_seq, aircraft_by_tail, place_by_seq, component_by_seq, component_by_serial, programme_by_seq, programme_by_kind, task_by_seq, opening_by_seq, opening_by_item, crs_by_seq, crs_line_by_seq, crs_line_by_defect, defect_by_seq, defect_by_aircraft, extension_by_seq, extension_by_defect, span2_by_fit_seq, span2_by_component, span2_by_aircraft, span2_by_remove_seq, total2_by_item, base2_by_item, base2_by_item_and_task, sector1_page, extension_page, last_entry, sector1_gone, fit1_gone, span2_gone, total2_gone, base2_gone}
-use Rattle.mx_chosen.proofs.LookupLemmas.{Chooses, ChoosesFirst, ChoosesLast, ChoosesByTwo, Drops, given_at, first_found, first_page, last_found, two_found, deleted, either_finds, either_deletes}
+use Rattle.mx_chosen.proofs.LookupLemmas.{Chooses, Drops, given_at, first_found, first_page, last_found, two_found, deleted, either_finds, either_deletes}
 use Rattle.mx_chosen.proofs.EqualLemmas.{one_equal, two_equal, missing}
 
 -- spans stand at one place while components are moved, and at another from then on
