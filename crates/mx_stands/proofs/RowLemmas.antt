@@ -4,8 +4,9 @@ use Rattle.std.specs.Prelude.{⊤, All, slice_set}
 use Rattle.std.specs.List.{swap}
 use Rattle.std.specs.List.Sorted.{IsPermutation}
 use Rattle.std.proofs.lemmas.List.{length-map}
-use Rattle.std.proofs.lemmas.List.Elements.{All-map, All-head, All-tail, All-nil, All-weaker}
+use Rattle.std.proofs.lemmas.List.Elements.{All-map, All-from_recursion, All-head, All-tail, All-nil, All-weaker}
 use Rattle.std.proofs.lemmas.List.Sorted.{IsPermutation-refl, IsPermutation-sym, IsPermutation-trans, IsPermutation-swap, IsPermutation-keeps, All-permutation}
+use Rattle.sqlite.specs.Order.{Row}
 use Rattle.sqlite.specs.Tree.{Trees}
 use Rattle.mx_command.specs.Act.{Entry}
 use Rattle.mx_point.specs.declared.point.Point.{Point}
@@ -14,6 +15,7 @@ use Rattle.mx_points.specs.Tables.{rows_at}
 use Rattle.mx_points.proofs.OneBook.{one_book_at}
 use Rattle.mx_layout.specs.Contents.{rows_in}
 use Rattle.mx_layout.specs.Names.{table_named}
+use Rattle.mx_layout.specs.Point.{point_cells}
 use Rattle.mx_layout.specs.TableName.{TableName}
 use Rattle.mx_layout.specs.declared.fault.Table.TheVariants as table
 use Rattle.mx_kept.specs.Kept.{Kept}
@@ -130,3 +132,17 @@ one_book at trees one other has had = one_book_at at one other has.is_book had.i
 
     same : (name : TableName) → GivesSame (rows_of name) at one other
     same name = same_at name (rows_of name) (facts name) at trees one other (rows one has name) (rows other had name)
+
+-- ── one point ──
+
+same_point : (at other : Point) → at.layout ≡ other.layout → at.step ≡ other.step → at.mark ≡ other.mark → at ≡ other
+same_point at other layout step mark = λ i. record { layout = layout i; step = step i; mark = mark i }
+
+-- and at one point alone: the row of `office` is that of the point
+pub one_point : (at other : Point) (trees : Trees) (book another : List Entry) → HasRowsAt at trees book → HasRowsAt other trees another → at ≡ other
+one_point at other trees book another has had =
+    let stored = rows_in (table_named table.Office) trees in
+    let same : IsPermutation (point_cells at ∷ []) (point_cells other ∷ []) = IsPermutation-trans _ stored _ (has.tables table.Office refl) (IsPermutation-sym _ stored (had.tables table.Office refl)) in
+    let Is = λ (row : Row). row ≡ point_cells at in
+    let cells : point_cells other ≡ point_cells at = All-head Is (point_cells other) [] (All-permutation Is (point_cells at ∷ []) (point_cells other ∷ []) same (All-from_recursion Is (point_cells at ∷ []) (refl, tt))) in
+    same_point at other (cc) (cc) (cc)

@@ -37,10 +37,12 @@ pub fn new_tables_stand()
         → StandsAt (settled layout) trees [] }
 {}
 
-/// The tables at any point stand for at most one book.
+/// The tables at any point stand for at most one book, and at this point alone.
 pub fn tables_decide_the_book()
-    ensures { (at : Point) (trees : Trees) (one other : List Entry)
+    ensures book { (at : Point) (trees : Trees) (one other : List Entry)
         → HasRowsAt at trees one → HasRowsAt at trees other → one ≡ other }
+    ensures point { (at other : Point) (trees : Trees) (book another : List Entry)
+        → HasRowsAt at trees book → HasRowsAt other trees another → at ≡ other }
 {}
 
 /// The rows of tables that stand for a book are each of the type of their table.
