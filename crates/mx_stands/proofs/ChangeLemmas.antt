@@ -2,7 +2,7 @@
 use Rattle.std.proofs.Common.{◌≡◌, ◌∙◌, ℕ, true, List, [], ◌∷◌, ◌++◌, map, Some, None, sym, ap, ap₂, subst, cond}
 use Rattle.std.specs.List.Sorted.{IsPermutation}
 use Rattle.std.proofs.lemmas.List.{map-append}
-use Rattle.std.proofs.lemmas.List.Sorted.{IsPermutation-refl}
+use Rattle.std.proofs.lemmas.List.Sorted.{IsPermutation-map, IsPermutation-refl}
 use Rattle.mx_command.specs.Act.{Act, Entry}
 use Rattle.mx_book.proofs.JudgeLemmas.{both_true}
 use Rattle.mx_register.specs.Registers.{gives_by, entry_rows, entry_added, aircraft_by, places_by, components_by, programmes_by, tasks_by, openings_by, sectors_by, fittings_by, removals_by, releases_by, release_lines_by, deferrals_by, extensions_by}
@@ -15,10 +15,11 @@ use Rattle.mx_kept_rows.proofs.PutBases.{command_bases}
 use Rattle.mx_kept_rows.proofs.SpanRows.{span_rows-more}
 use Rattle.mx_kept_rows.proofs.TableLemmas.{register_becomes}
 use Rattle.mx_point.specs.Settled.{settled}
+use Rattle.mx_points.specs.Tables.{rows_at}
 use Rattle.mx_layout.specs.Steps.{IsLayout}
 use Rattle.mx_layout.specs.TableName.{TableName}
 use Rattle.mx_layout.specs.declared.fault.Table.TheVariants as table
-use Rattle.mx_stands.specs.Family.{Rows, of, none, rows_of, BecomesBy, Brings, is_there, is_register}
+use Rattle.mx_stands.specs.Family.{Rows, of, none, rows_of, BecomesAt, BecomesBy, Brings, is_there, is_register}
 use Rattle.mx_stands.proofs.FamilyLemmas.{Facts, facts, RegisterFacts, register_facts, never}
 
 in_some_order : {Row : Type 0} (rows : List Entry → List Row) (change : Change Row) → Becomes rows change → BecomesSome rows change
@@ -64,3 +65,18 @@ brings_at name none fact register layout is other _ = never other
 -- at a layout, to each register that a file has there
 pub brings : (layout : ℕ) → IsLayout layout → (name : TableName) → is_register (rows_of name) ≡ true → is_there (rows_of name) (settled layout) ≡ true → Brings (rows_of name) (settled layout)
 brings layout is name register there = brings_at name (rows_of name) (facts name) (register_facts name) layout is register there
+
+-- ── what stands in the tables of a layout ──
+
+-- at a layout, of the rows that stand in each table that a file has there
+pub become_at : (layout : ℕ) → IsLayout layout → (name : TableName) → is_there (rows_of name) (settled layout) ≡ true → BecomesAt (rows_of name) (settled layout)
+become_at layout is name = at name (rows_of name) (facts name) (become name)
+  where
+    at : (name : TableName) (f : Rows) → Facts name f → BecomesBy f → is_there f (settled layout) ≡ true → BecomesAt f (settled layout)
+    at name (of k line change read) fact becomes there = λ book command b new shape.
+        let before = fact.whole layout is there book in
+        let after = fact.whole layout is there (book ++ command ∷ []) in
+        IsPermutation-map k.as_cells (change book command (rows_at line (settled layout) book)) (rows_at line (settled layout) (book ++ command ∷ []))
+        (subst (λ rows. IsPermutation (change book command rows) (rows_at line (settled layout) (book ++ command ∷ []))) (sym before)
+        (subst (IsPermutation (change book command (line.rows book))) (sym after) (becomes book command b new shape)))
+    at name none fact becomes there = tt

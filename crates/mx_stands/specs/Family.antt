@@ -3,6 +3,10 @@ use Rattle.std.specs.Prelude.{⊤, ◌≡◌, ◌&&◌, Bool, true, false, List,
 use Rattle.sqlite.specs.Order.{Row}
 use Rattle.sqlite.specs.Tree.{Trees}
 use Rattle.mx_command.specs.Act.{Entry}
+use Rattle.mx_command.specs.Shape.{has_shape}
+use Rattle.mx_book.specs.Book.{IsBook}
+use Rattle.mx_book.specs.Judge.{judge}
+use Rattle.mx_book.specs.declared.verdict.Verdict.TheVariants.{New}
 use Rattle.mx_register.specs.declared.merge.Registers.{Registers}
 use Rattle.mx_register.specs.Registers.{entry_added, aircraft_by, places_by, components_by, programmes_by, tasks_by, openings_by, sectors_by, fittings_by, removals_by, releases_by, release_lines_by, deferrals_by, extensions_by}
 use Rattle.mx_kept_rows.specs.Becomes.{BecomesSome, Change, adding, bases_become, spans_become, totals_become}
@@ -92,6 +96,12 @@ FitBrought none at before command = ⊤
 abbrev pub BecomesBy : Rows → Type 0
 BecomesBy (of k line change read) = BecomesSome line.rows change
 BecomesBy none = ⊤
+
+-- at the point a new command makes of the rows that stand in it what its line says
+abbrev pub BecomesAt : Rows → Point → Type 0
+BecomesAt (of k line change read) at = (book : List Entry) (command : Entry) → IsBook book → judge book command ≡ New → has_shape command ≡ true
+    → IsPermutation (map k.as_cells (change book command (rows_at line at book))) (map k.as_cells (rows_at line at (book ++ command ∷ [])))
+BecomesAt none at = ⊤
 
 -- at the point a command brings these rows to it, behind those from before
 abbrev pub Brings : Rows → Point → Type 0

@@ -10,7 +10,7 @@ ghost use Rattle.mx_layout.specs.Names.{table_named};
 ghost use Rattle.mx_layout.specs.Steps.{IsLayout, schema_after, schema_of};
 ghost use Rattle.mx_layout.specs.TableName.{TableName};
 ghost use Rattle.mx_kept.specs.Family.{IsReadable};
-ghost use Rattle.mx_stands.specs.Family.{BecomesBy, Brings, is_at, is_register, is_there, rows_of};
+ghost use Rattle.mx_stands.specs.Family.{BecomesAt, BecomesBy, Brings, is_at, is_register, is_there, rows_of};
 ghost use Rattle.mx_stands.specs.Schemas.{IsOfFile, schema_at, statements_at};
 ghost use Rattle.mx_stands.specs.Stands.{HasRowsAt, StandsAt};
 
@@ -52,10 +52,12 @@ pub fn rows_are_readable()
         → All (IsReadable name) (rows_in (table_named name) trees) }
 {}
 
-/// With a new command the rows of each table become what its line says: a register gains what the command brings, and this
-/// stands behind the rows from before wherever no move is under way.
+/// With a new command the rows of each table become what its line says; so do those that stand in each table of a layout,
+/// and in a register what the command brings stands behind the rows from before.
 pub fn rows_become()
     ensures rows { (name : TableName) → BecomesBy (rows_of name) }
+    ensures tables { (layout : ℕ) (name : TableName) → IsLayout layout
+        → is_there (rows_of name) (settled layout) ≡ true → BecomesAt (rows_of name) (settled layout) }
     ensures registers { (layout : ℕ) (name : TableName) → IsLayout layout
         → is_register (rows_of name) ≡ true → is_there (rows_of name) (settled layout) ≡ true
         → Brings (rows_of name) (settled layout) }
