@@ -73,6 +73,7 @@ gains_command before command old new e v entry are gains = record {
   schema = gains.schema;
   sound = gains.sound;
   tables = λ name at. subst (λ rows. IsPermutation rows (rows_in (table_named name) new.trees)) (onto_is before command e v entry are name (rows_in (table_named name) old.trees)) (gains.tables name at);
+  rises = gains.rises;
 }
 
 -- ── for all tables alike ──

@@ -1,6 +1,7 @@
 -- What several tables come to, from what each does.
 use Rattle.std.proofs.Common.{IsTrue, ◌≡◌, ◌≢◌, ◌⊎◌, inl, inr, ℕ, ◌==◌, Bool, true, false, cond, List, [], ◌∷◌, ◌++◌, map, All, Ok, Err, Result, OnOk, refl, sym, ap, subst, ◌∙◌, arith}
 use Rattle.std.specs.Prelude.{Contains, IfOk, IfErr}
+use Rattle.std.specs.List.{AllByRecursion}
 use Rattle.std.specs.List.Sorted.{IsPermutation}
 use Rattle.std.proofs.lemmas.Bool.{eqb-true}
 use Rattle.std.proofs.lemmas.Bool.Decides.{nat_tests}
@@ -10,14 +11,15 @@ use Rattle.std.proofs.lemmas.List.Sorted.{IsPermutation-refl, IsPermutation-tran
 use Rattle.sqlite.specs.Order.{Row}
 use Rattle.sqlite.specs.Table.{Table}
 use Rattle.sqlite.specs.Schema.{Schema}
-use Rattle.sqlite.specs.Tree.{Trees}
+use Rattle.sqlite.specs.Tree.{Trees, rowid, IsTable}
+use Rattle.sqlite.specs.View.{is_int}
 use Rattle.sqlite.specs.Effect.{Database}
 use Rattle.sqlite.specs.State.{State, HasCleanDisk}
 use Rattle.sqlite.proofs.Callers.{unchanged_then}
 use Rattle.mx_layout.specs.TableName.{TableName}
 use Rattle.mx_layout.specs.declared.fault.TableFault.{TableFault}
 use Rattle.mx_layout.specs.declared.fault.TableFault.TheVariants.{Memory, Store, NotOurs, Exists, Damaged}
-use Rattle.mx_layout.specs.Contents.{cells, rows_in}
+use Rattle.mx_layout.specs.Contents.{cells, rows_in, Rises}
 use Rattle.mx_layout.specs.Names.{table_named}
 use Rattle.mx_layout.specs.Reading.{HasOther}
 use Rattle.mx_layout.specs.Writing.{Gains}
@@ -43,6 +45,7 @@ gains_none k db = record {
   schema = refl;
   sound = λ sound. sound;
   tables = λ name at. none ((table_named k.name).tree == (table_named name).tree) (rows_in (table_named name) db.trees);
+  rises = λ name at up. up;
 }
   where
     none : (b : Bool) (rows : List Row) → IsPermutation (cond b ([] ++ rows) rows) rows
@@ -51,6 +54,13 @@ gains_none k db = record {
 
 -- one row more
 module _ {X : Type 0} (k : Kept X) (done : List X) (x : X) (first old new : Database) (so_far : GainsRows (on_top k done) first old) (one : Gains (table_named k.name) (k.as_cells x) old new) where
+  -- each other table is as it was
+  as_it_was : (name : TableName) → Contains first.schema.tables (table_named name) → ((table_named k.name).tree == (table_named name).tree) ≡ false → new.trees (table_named name).tree ≡ old.trees (table_named name).tree
+  as_it_was name at same =
+      let there = subst (λ (s : Schema). Contains s.tables (table_named name)) (sym so_far.schema) at in
+      let P = λ (t : Table). t.tree ≢ (table_named k.name).tree → new.trees t.tree ≡ old.trees t.tree in
+      All-contains P old.schema.tables (table_named name) (All-from_recursion P old.schema.tables one.adds.others) there (not_same (table_named k.name).tree (table_named name).tree same)
+
   one_more : (name : TableName) → Contains first.schema.tables (table_named name) → (b : Bool) → ((table_named k.name).tree == (table_named name).tree) ≡ b
       → IsPermutation (cond b (map k.as_cells done ++ rows_in (table_named name) first.trees) (rows_in (table_named name) first.trees)) (rows_in (table_named name) old.trees)
       → IsPermutation (cond b (map k.as_cells (done ++ x ∷ []) ++ rows_in (table_named name) first.trees) (rows_in (table_named name) first.trees)) (rows_in (table_named name) new.trees)
@@ -65,16 +75,21 @@ module _ {X : Type 0} (k : Kept X) (done : List X) (x : X) (first old new : Data
       subst (λ rs. IsPermutation (rs ++ stored) (rows_in (table_named name) new.trees)) (sym (map-append k.as_cells done (x ∷ [])))
       (IsPermutation-trans ((had ++ row ∷ []) ++ stored) ((row ∷ had) ++ stored) _ swapped behind)
   one_more name at false same before =
-      let there = subst (λ (s : Schema). Contains s.tables (table_named name)) (sym so_far.schema) at in
-      let P = λ (t : Table). t.tree ≢ (table_named k.name).tree → new.trees t.tree ≡ old.trees t.tree in
-      let kept = All-contains P old.schema.tables (table_named name) (All-from_recursion P old.schema.tables one.adds.others) there (not_same (table_named k.name).tree (table_named name).tree same) in
-      subst (λ stored. IsPermutation (rows_in (table_named name) first.trees) (map (cells (table_named name)) stored)) (sym kept) before
+      subst (λ stored. IsPermutation (rows_in (table_named name) first.trees) (map (cells (table_named name)) stored)) (sym (as_it_was name at same)) before
+
+  still_rises : (name : TableName) → Contains first.schema.tables (table_named name) → (b : Bool) → ((table_named k.name).tree == (table_named name).tree) ≡ b → Rises (table_named name) old.trees → Rises (table_named name) new.trees
+  still_rises name at true same =
+      subst (λ n. Rises (table_named n) old.trees → Rises (table_named n) new.trees) (same_tree k.name name (eqb-true (table_named k.name).tree (table_named name).tree same)) one.adds.rises
+  still_rises name at false same = λ up.
+      let kept = sym (as_it_was name at same) in
+      record { up = subst IsTable kept up.up; numbers = subst (AllByRecursion (λ r. IsTrue (is_int (rowid r)))) kept up.numbers }
 
   pub gains_one : GainsRows (on_top k (done ++ x ∷ [])) first new
   gains_one = record {
     schema = one.schema ∙ so_far.schema;
     sound = λ sound. one.sound;
     tables = λ name at. one_more name at ((table_named k.name).tree == (table_named name).tree) refl (so_far.tables name at);
+    rises = λ name at up. still_rises name at ((table_named k.name).tree == (table_named name).tree) refl (so_far.rises name at up);
   }
 
 -- ── some tables, and then others ──
@@ -87,6 +102,7 @@ gains_then one two keeps old mid new first second = record {
   tables = λ name at.
       let there = subst (λ (s : Schema). Contains s.tables (table_named name)) (sym first.schema) at in
       IsPermutation-trans _ _ _ (keeps name _ _ (first.tables name at)) (second.tables name there);
+  rises = λ name at up. second.rises name (subst (λ (s : Schema). Contains s.tables (table_named name)) (sym first.schema) at) (first.rises name at up);
 }
 
 -- ── damage ──

@@ -8,7 +8,7 @@ use Rattle.sqlite.specs.State.{State, HasCleanDisk, IsUnchanged}
 use Rattle.mx_layout.specs.TableName.{TableName}
 use Rattle.mx_layout.specs.declared.fault.TableFault.{TableFault}
 use Rattle.mx_layout.specs.declared.fault.TableFault.TheVariants.{Memory, Store, Damaged}
-use Rattle.mx_layout.specs.Contents.{rows_in}
+use Rattle.mx_layout.specs.Contents.{rows_in, Rises}
 use Rattle.mx_layout.specs.Crash.{StaysInside, IsWithin}
 use Rattle.mx_layout.specs.Names.{table_named}
 use Rattle.mx_layout.specs.Reading.{AreAllBy, HasOther}
@@ -34,11 +34,12 @@ pub record ReadsTables {V : Type 0} (IsIn : Schema → Type 0) (AreRows : Trees 
   pub inside : HasCleanDisk new → IsTrue old.in_transaction → OnRead result (StaysInside old new)
   pub within : IsWithin old new
 
--- each table of the schema has what is on top of its rows from before
+-- each table of the schema has what is on top of its rows from before, and its rowids rise if they rose
 pub record GainsRows (onto : TableName → List Row → List Row) (old new : Database) : Type 0 where
   pub schema : new.schema ≡ old.schema
   pub sound : IsDatabase old → IsDatabase new
   pub tables : (name : TableName) → Contains old.schema.tables (table_named name) → IsPermutation (onto name (rows_in (table_named name) old.trees)) (rows_in (table_named name) new.trees)
+  pub rises : (name : TableName) → Contains old.schema.tables (table_named name) → Rises (table_named name) old.trees → Rises (table_named name) new.trees
 
 -- a transaction is open, and so is the connection
 abbrev pub IsInside : State → Type 0
