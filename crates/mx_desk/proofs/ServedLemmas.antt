@@ -2,21 +2,19 @@
 use Rattle.std.proofs.Common.{◌≡◌, ◌≢◌, refl, sym, ap, ◌∙◌, subst, inl, inr, ℕ, ◌≤◌, List, [], length, take, Option, Some, None, Result, Ok, Err, Bool, true, false, arith, ◌+◌, IfOk}
 use Rattle.sqlite.specs.Store.{Ghosts}
 use Rattle.sqlite.specs.State.{State, HasCleanDisk}
-use Rattle.sqlite.specs.Tree.{Trees}
 use Rattle.mx_command.specs.Act.{Entry}
 use Rattle.mx_book.specs.Run.{book_run}
 use Rattle.mx_book.specs.declared.verdict.Refusal.TheVariants.{UnknownAircraft}
 use Rattle.mx_book.specs.declared.verdict.Reply.{Reply}
 use Rattle.mx_layout.specs.TableName.{TableName}
 use Rattle.mx_layout.specs.Crash.{Leaves}
-use Rattle.mx_layout.specs.Tables.{layout_1}
-use Rattle.mx_layout.proofs.CrashLemmas.{rests_kept}
 use Rattle.mx_office.specs.Faults.{found_or, IsAnswer}
 use Rattle.mx_office.proofs.CallLemmas.{stopped_asking}
 use Rattle.mx_office.specs.Calls.{stop_asking, IsAsked, IsRun}
 use Rattle.mx_office.specs.Office.{office_state, IsReady, StandsFor}
 use Rattle.mx_office.specs.Questions.{IsAnsweredBy}
-use Rattle.mx_office.specs.Stands.{IsEither, Rests, Stands}
+use Rattle.mx_office.proofs.OfficeLemmas.{rests_still}
+use Rattle.mx_office.specs.Stands.{IsEither, Rests}
 use Rattle.mx_office.specs.declared.fault.Ask.{Ask}
 use Rattle.mx_office.specs.declared.fault.Fault.{Fault}
 use Rattle.mx_office.specs.declared.fault.Fault.TheVariants.{Memory, Store, NeedsReopen, Damaged}
@@ -79,7 +77,7 @@ module _ {S : Type 0} {g : Ghosts S} (book : List Entry) (old new : Office S g) 
       → IsAsked (stop_asking result) old new → IsAnsweredBy (λ entries. found_or UnknownAircraft (report_of entries question)) old new result
       → answer ≡ list_answer result → Serves book (asks question) answer (office_state new)
   served_asked question result answer false ready asked answered is =
-      served_list question result answer (rests_kept layout_1 (λ (trees : Trees). Stands trees book) (office_state old) (office_state new) (asked.untouched ready) rests) (answered.exact book ready rests clean) is
+      served_list question result answer (rests_still (office_state old) (office_state new) book (asked.untouched ready) rests) (answered.exact book ready rests clean) is
   served_asked question result answer true doubt asked answered is =
       let stopped = asked.doubt.reopen doubt in
       inl (0, Some NeedsReopen, served_nothing book (asks question) (Some NeedsReopen) answer (office_state new) refl (unchanged stopped.1) (λ table damaged. (cc)) (is ∙ ap list_answer (stopped_asking result NeedsReopen stopped.0)))
@@ -116,7 +114,7 @@ module _ {S : Type 0} {g : Ghosts S} (book : List Entry) (old new : Office S g) 
   left_same request same = (0, rests_either book _ (office_state new) (subst (λ (o : Office S g). Rests (office_state o) book) (sym same) rests))
 
   left_asked : (question : Question) (result : Result Report Ask) (b : Bool) → old.needs_reopen ≡ b → IsAsked (stop_asking result) old new → (n : ℕ) × LeavesBehind book (asks question) n (office_state new)
-  left_asked question result false ready asked = (0, rests_either book _ (office_state new) (rests_kept layout_1 (λ (trees : Trees). Stands trees book) (office_state old) (office_state new) (asked.untouched ready) rests))
+  left_asked question result false ready asked = (0, rests_either book _ (office_state new) (rests_still (office_state old) (office_state new) book (asked.untouched ready) rests))
   left_asked question result true doubt asked = left_same (asks question) (asked.doubt.reopen doubt).1
 
   -- what a crash leaves of the book behind a request, whatever is answered
@@ -132,7 +130,7 @@ module _ {S : Type 0} {g : Ghosts S} (book : List Entry) (old new : Office S g) 
   kept_same same = ([], subst (λ (o : Office S g). Rests (office_state o) book) (sym same) rests)
 
   kept_asked : (result : Result Report Ask) (b : Bool) → old.needs_reopen ≡ b → IsAsked (stop_asking result) old new → (commands : List Entry) × Rests (office_state new) (book_run book commands)
-  kept_asked result false ready asked = ([], rests_kept layout_1 (λ (trees : Trees). Stands trees book) (office_state old) (office_state new) (asked.untouched ready) rests)
+  kept_asked result false ready asked = ([], rests_still (office_state old) (office_state new) book (asked.untouched ready) rests)
   kept_asked result true doubt asked = kept_same (asked.doubt.reopen doubt).1
 
   kept_run : (commands : List Entry) (said : List Reply) (stopped : Option Fault) → IsReady new → IsRun commands said stopped old new → (handed : List Entry) × Rests (office_state new) (book_run book handed)

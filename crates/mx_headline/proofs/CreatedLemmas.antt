@@ -7,17 +7,19 @@ use Rattle.mx_layout.specs.declared.fault.TableFault.{TableFault}
 use Rattle.mx_layout.specs.declared.fault.TableFault.TheVariants.{Memory, Store, NotOurs, Exists, Damaged}
 use Rattle.mx_layout.specs.Crash.{Leaves, RestsAs, ChangesNothing}
 use Rattle.mx_layout.specs.Found.{IsFound, Finds}
-use Rattle.mx_layout.specs.Making.{IsEmptyBook}
-use Rattle.mx_layout.specs.Tables.{layout_1, no_schema}
+use Rattle.mx_layout.specs.Making.{IsEmptyIn}
+use Rattle.mx_layout.specs.Steps.{schema_of}
+use Rattle.mx_layout.specs.Tables.{no_schema}
 use Rattle.mx_layout.proofs.CrashLemmas.{rests_kept}
 use Rattle.mx_layout.proofs.FoundLemmas.{rests_found, found_before}
+use Rattle.mx_office.specs.Layout.{office_point}
 use Rattle.mx_office.specs.Stands.{Rests}
 use Rattle.mx_office.proofs.LoadLemmas.{empty_stands}
 use Rattle.mx_headline.specs.Created.{IsBare, IsMade}
 use Rattle.mx_headline.proofs.KeptLemmas.{rests_as}
 
-module _ (old end again : State) (clean : HasCleanDisk end) (bare : IsBare old) (crash : Leaves end (λ db. IsSound no_schema db ⊎ IsEmptyBook db)) (found : IsFound end.may_leave again) where
-  empty_book : IsEmptyBook found.tables → Rests again []
+module _ (old end again : State) (clean : HasCleanDisk end) (bare : IsBare old) (crash : Leaves end (λ db. IsSound no_schema db ⊎ IsEmptyIn office_point.layout db)) (found : IsFound end.may_leave again) where
+  empty_book : IsEmptyIn office_point.layout found.tables → Rests again []
   empty_book empty = rests_as end.may_leave again [] found (empty_stands found.tables empty)
 
   no_table : IsSound no_schema found.tables → IsBare again
@@ -26,7 +28,7 @@ module _ (old end again : State) (clean : HasCleanDisk end) (bare : IsBare old) 
   nothing_done : ChangesNothing old end → IsBare again
   nothing_done nothing = no_table ((rests_kept no_schema (IsSound no_schema) old end nothing bare).crash clean found.tables found.left)
 
-  pub is_made : {X : Type 0} (answer : Result X TableFault) → OnOk answer (RestsAs end layout_1 IsEmptyBook) → IfErr answer (λ fault. fault ≢ Store → ChangesNothing old end) → IsMade answer again
+  pub is_made : {X : Type 0} (answer : Result X TableFault) → OnOk answer (RestsAs end (schema_of office_point.layout) (IsEmptyIn office_point.layout)) → IfErr answer (λ fault. fault ≢ Store → ChangesNothing old end) → IsMade answer again
   is_made (Ok x) made unchanged = empty_book (made.crash clean found.tables found.left)
   is_made (Err Memory) made unchanged = nothing_done (unchanged (λ h. cc))
   is_made (Err Store) made unchanged = elim (crash clean found.tables found.left) [ inl none ↦ inr (no_table none) | inr empty ↦ inl (empty_book empty) ]

@@ -11,7 +11,6 @@ use Rattle.mx_book.specs.Book.{entry_at}
 use Rattle.mx_book.specs.Run.{book_run, replies}
 use Rattle.mx_book.proofs.GrowthLemmas.{book_run-append}
 use Rattle.mx_book.proofs.AcceptedLemmas.{run_accepts, run_prefix, replies_count, one_more, run_has}
-use Rattle.mx_layout.specs.Tables.{layout_1}
 use Rattle.mx_layout.specs.Crash.{Leaves}
 use Rattle.mx_layout.specs.Found.{IsFound}
 use Rattle.mx_layout.proofs.FoundLemmas.{rests_found}
@@ -19,12 +18,13 @@ use Rattle.mx_layout.specs.declared.fault.Table.{Table}
 use Rattle.mx_office.specs.declared.fault.Fault.{Fault}
 use Rattle.mx_office.specs.declared.fault.Fault.TheVariants.{Memory, Store, NeedsReopen, Damaged}
 use Rattle.mx_office.specs.declared.fault.Outcomes.{Outcomes}
+use Rattle.mx_office.specs.Layout.{office_schema}
 use Rattle.mx_office.specs.Stands.{Stands, Rests, IsEither}
 use Rattle.mx_headline.specs.Kept.{count_accepted, IsKept, IsBookKept}
 
 -- the tables that were found stand for the book, so they rest as it
 pub rests_as : (may_leave : Trees → Type 0) (again : State) (book : List Entry) (found : IsFound may_leave again) → Stands found.tables book → Rests again book
-rests_as may_leave again book found stands = rests_found may_leave again layout_1 (λ trees. Stands trees book) found stands.is.sound stands
+rests_as may_leave again book found stands = rests_found may_leave again office_schema (λ trees. Stands trees book) found stands.lies.sound stands
 
 is_store : (stopped : Option Fault) → (stopped ≡ Some Store) ⊎ (stopped ≢ Some Store)
 is_store None = inr (λ h. cc)

@@ -3,6 +3,7 @@ ghost use Rattle.std.specs.Prelude.{◌≡◌, ◌≢◌, false, IsTrue, IfOk, I
 ghost use Rattle.sqlite.specs.Files.{file_state};
 ghost use Rattle.mx_layout.specs.Found.{Finds};
 ghost use Rattle.mx_layout.specs.Tables.{no_schema};
+ghost use Rattle.mx_office.specs.Layout.{office_point};
 ghost use Rattle.mx_headline.specs.Created.{FindsMade, IsBare};
 
 use mx_layout::{Layout, TableFault, create, reopen};
@@ -27,7 +28,7 @@ pub fn create_and_reopen<D: Crash + Drop>(
     options: Options,
 ) -> Made<FileStore<D>>
     requires idle { conn.in_transaction ≡ false }
-    requires built { layout.0 ≡ 1 }
+    requires built { layout.0 ≡ office_point.layout }
     ensures idle { IfOk result.again (λ again. again.in_transaction ≡ false) }
     ensures headline { IsBare (file_state conn)
         → IfOk result.again (λ again. FindsMade result.answer (file_state again)) }

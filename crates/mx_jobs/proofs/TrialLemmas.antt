@@ -4,9 +4,11 @@ use Rattle.sqlite.specs.Held.{Held, state}
 use Rattle.sqlite.specs.Steps.{over_memory, IsEmpty}
 use Rattle.sqlite_catalog.specs.Listing.{IsSound}
 use Rattle.mx_layout.specs.Crash.{RestsAs}
-use Rattle.mx_layout.specs.Making.{IsEmptyBook}
-use Rattle.mx_layout.specs.Tables.{layout_1, no_schema}
+use Rattle.mx_layout.specs.Making.{IsEmptyIn}
+use Rattle.mx_layout.specs.Steps.{schema_of}
+use Rattle.mx_layout.specs.Tables.{no_schema}
 use Rattle.mx_layout.proofs.CrashLemmas.{rests_same}
+use Rattle.mx_office.specs.Layout.{office_point, office_schema}
 use Rattle.mx_office.specs.Stands.{Rests, Stands}
 use Rattle.mx_office.proofs.LoadLemmas.{empty_stands}
 
@@ -23,8 +25,8 @@ memory_rests conn (opens, live, empty) =
     }
 
 -- tables that were just made rest as the book with no entry
-pub made_rests : (conn : Held _) → RestsAs (state over_memory conn) layout_1 IsEmptyBook → Rests (state over_memory conn) []
-made_rests conn made = rests_same (state over_memory conn) layout_1 IsEmptyBook (λ trees. Stands trees []) (λ clean trees empty. empty_stands trees empty) made
+pub made_rests : (conn : Held _) → RestsAs (state over_memory conn) (schema_of office_point.layout) (IsEmptyIn office_point.layout) → Rests (state over_memory conn) []
+made_rests conn made = rests_same (state over_memory conn) office_schema (IsEmptyIn office_point.layout) (λ trees. Stands trees []) (λ clean trees empty. empty_stands trees empty) made
 
 -- what follows from what a result has, where it has it
 pub if_ok_then : {X E : Type 0} → (result : Result X E) (P Q : X → Type 0) → ((x : X) → P x → Q x) → IfOk result P → IfOk result Q

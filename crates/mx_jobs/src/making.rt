@@ -6,13 +6,16 @@ ghost use Rattle.sqlite.specs.State.{HasCleanDisk};
 ghost use Rattle.sqlite_catalog.specs.Listing.{IsSound};
 ghost use Rattle.mx_layout.specs.Crash.{Leaves, RestsAs, ChangesNothing};
 ghost use Rattle.mx_layout.specs.Listed.{IsRefusal};
-ghost use Rattle.mx_layout.specs.Making.{IsEmptyBook};
+ghost use Rattle.mx_layout.specs.Making.{IsEmptyIn};
 ghost use Rattle.mx_layout.specs.Point.{IsStop};
-ghost use Rattle.mx_layout.specs.Tables.{layout_1, no_schema};
+ghost use Rattle.mx_layout.specs.Steps.{schema_of};
+ghost use Rattle.mx_layout.specs.Tables.{no_schema};
+ghost use Rattle.mx_office.specs.Layout.{office_point};
 ghost use Rattle.mx_jobs.specs.Status.{stop_status};
 
 use crate::fault::Stop;
 use mx_layout::{Layout, TableFault, create};
+use mx_office::NEWEST_LAYOUT;
 use sqlite::{Alter, Connection};
 
 /// What is printed where a book was made.
@@ -40,9 +43,11 @@ pub fn make_book<S: Alter>(conn: &mut Connection<S>, out: &mut Vec<u8>) -> Resul
 
     // What becomes of the tables.
     ensures made { RestsAs (state S.Store conn.old) no_schema (IsSound no_schema)
-        → OnOk result (RestsAs (state S.Store conn.new) layout_1 IsEmptyBook) }
+        → OnOk result (RestsAs (state S.Store conn.new) (schema_of office_point.layout)
+        (IsEmptyIn office_point.layout)) }
     ensures crash { RestsAs (state S.Store conn.old) no_schema (IsSound no_schema)
-        → Leaves (state S.Store conn.new) (λ db. IsSound no_schema db ⊎ IsEmptyBook db) }
+        → Leaves (state S.Store conn.new)
+        (λ db. IsSound no_schema db ⊎ IsEmptyIn office_point.layout db) }
     ensures unchanged { IfErr result (λ stop. stop ≢ Stop.Create TableFault.Store
         → ChangesNothing (state S.Store conn.old) (state S.Store conn.new)) }
 
@@ -62,7 +67,7 @@ pub fn make_book<S: Alter>(conn: &mut Connection<S>, out: &mut Vec<u8>) -> Resul
         × (IsStop fault ⊎ IsRefusal (state S.Store conn.old).now.schema fault)) }
     ensures status { IfErr result (λ stop. stop_status stop ≡ 5) }
 {
-    match create(conn, Layout(1)) {
+    match create(conn, Layout(NEWEST_LAYOUT)) {
         Ok(()) => {
             append_created(out);
             Ok(())

@@ -13,7 +13,7 @@ use mx_answers::Question;
 use mx_base::Tail;
 use mx_command::Command;
 use mx_layout::{Layout, create};
-use mx_office::{Office, OpenFault};
+use mx_office::{NEWEST_LAYOUT, Office, OpenFault};
 use sqlite::{Alter, Connection, MemStore};
 use std::alloc::Global;
 
@@ -26,7 +26,7 @@ fn new_office(alloc: Global) -> Result<Office<MemStore>, Stop>
     let Ok(mut conn) = Connection::open_in_memory(alloc) else {
         return Err(Stop::Open(OpenFault::Memory));
     };
-    if let Err(fault) = create(&mut conn, Layout(1)) {
+    if let Err(fault) = create(&mut conn, Layout(NEWEST_LAYOUT)) {
         return Err(Stop::Create(fault));
     }
     open(conn)

@@ -5,7 +5,7 @@ use mx_book::Reply;
 use mx_desk::serve_on;
 use mx_intake::commands_of_json;
 use mx_layout::{Layout, create};
-use mx_office::{Office, open_office};
+use mx_office::{NEWEST_LAYOUT, Office, open_office};
 use sqlite::{Alter, Connection};
 use std::io::{Read, Write};
 use std::net::{OpenListener, TcpListener, TcpStream};
@@ -85,7 +85,7 @@ fn serve_one_aircraft<S: Alter>(rt: &HostRuntime, office: &mut Office<S>) -> Res
 fn serve_over<S: Alter + Drop>(rt: &HostRuntime, mut conn: Connection<S>) -> Result<(), Fail>
     requires { conn.in_transaction ≡ false }
 {
-    create(&mut conn, Layout(1))?;
+    create(&mut conn, Layout(NEWEST_LAYOUT))?;
     match open_office(conn) {
         Ok(mut office) => {
             let served = serve_one_aircraft(rt, &mut office);

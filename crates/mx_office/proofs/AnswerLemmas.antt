@@ -16,7 +16,7 @@ use Rattle.sqlite.specs.Order.{Row}
 use Rattle.sqlite.specs.State.{HasCleanDisk}
 use Rattle.sqlite.specs.Store.{Ghosts}
 use Rattle.mx_command.specs.Act.{Entry}
-use Rattle.mx_kept.specs.Schemas.{HasOwn1}
+use Rattle.mx_office.specs.Layout.{HasTables}
 use Rattle.mx_office.specs.declared.office.Office.{Office}
 use Rattle.mx_office.specs.Faults.{open_fault_from, found_or, IsAnswer, IsReason, IsUnopened}
 use Rattle.mx_office.specs.Office.{office_state, IsReady, StandsFor}
@@ -77,7 +77,7 @@ module _ {S : Type 0} {g : Ghosts S} {X : Type 0} (old new : Office S g) (result
   -- reading the book stopped
   pub stopped_question : {V : Type 0} (said : List Entry → Result X Ask) (f : Fault) → IsErr result × IsErrAnd result (λ it. it ≡ Failed f)
       → ((book : List Entry) → IsReady old → StandsFor old book → HasCleanDisk (office_state new) → (f ≡ Memory) ⊎ (f ≡ Store))
-      → (HasCleanDisk (office_state new) → HasOwn1 (office_state old).now.schema → (table : Table) → ◌≡◌ {A = Result V Fault} (Err f) (Err (Damaged table)) → IsReasonFor (office_state old).now.trees table)
+      → (HasCleanDisk (office_state new) → HasTables (office_state old).now.schema → (table : Table) → ◌≡◌ {A = Result V Fault} (Err f) (Err (Damaged table)) → IsReasonFor (office_state old).now.trees table)
       → IsAnsweredBy said old new result
   stopped_question said f is exact damaged = record {
     exact = λ book works rests clean. stopped_answer (said book) result f is (exact book works rests clean);
@@ -88,7 +88,7 @@ module _ {S : Type 0} {g : Ghosts S} {X : Type 0} (old new : Office S g) (result
   -- the book was read, and this is the answer of that book
   pub found_question : (refusal : Refusal) (found : List Entry → Option X) (held : List Entry) → result ≡ found_or refusal (found held)
       → ((book : List Entry) → IsReady old → StandsFor old book → HasCleanDisk (office_state new) → held ≡ book)
-      → (HasCleanDisk (office_state new) → HasOwn1 (office_state old).now.schema → HoldsBook (office_state old).now.trees held)
+      → (HasCleanDisk (office_state new) → HasTables (office_state old).now.schema → HoldsBook (office_state old).now.trees held)
       → IsAnsweredBy (λ book. found_or refusal (found book)) old new result
   found_question refusal found held is exact sound = record {
     exact = λ book works rests clean. inl (is ∙ ap (λ b. found_or refusal (found b)) (exact book works rests clean));

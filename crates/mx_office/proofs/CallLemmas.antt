@@ -13,18 +13,16 @@ use Rattle.mx_book.specs.declared.verdict.Reply.{Reply}
 use Rattle.mx_book.specs.declared.verdict.Reply.TheVariants as reply
 use Rattle.mx_layout.specs.TableName.{TableName}
 use Rattle.mx_layout.specs.Crash.{Leaves, ChangesNothing}
-use Rattle.mx_layout.specs.Tables.{layout_1}
-use Rattle.mx_layout.proofs.CrashLemmas.{rests_kept}
-use Rattle.mx_kept.specs.Schemas.{HasOwn1}
 use Rattle.mx_office.specs.Calls.{replies_in, stop_in, stop_of, stop_asking, IsAsked, MarksDoubt, RunsOver, RunsOverRows, IsRun}
+use Rattle.mx_office.specs.Layout.{HasTables}
 use Rattle.mx_office.specs.Office.{office_state, IsReady, IsInDoubt, StandsFor}
-use Rattle.mx_office.specs.Stands.{HasOnTop, Holds, HoldsBook, IsEither, IsEntered, IsReached, IsReasonFor, MayEnter, MayLeave, NoneAccepted, Rests, Stands}
+use Rattle.mx_office.specs.Stands.{HasOnTop, Holds, HoldsBook, IsEither, IsEntered, IsReached, IsReasonFor, MayEnter, MayLeave, NoneAccepted, Rests}
 use Rattle.mx_office.specs.declared.fault.Ask.{Ask}
 use Rattle.mx_office.specs.declared.fault.Ask.TheVariants.{Refused, Failed}
 use Rattle.mx_office.specs.declared.fault.Fault.{Fault}
 use Rattle.mx_office.specs.declared.fault.Fault.TheVariants.{Memory, Store, NeedsReopen, Damaged}
 use Rattle.mx_office.specs.declared.office.Office.{Office}
-use Rattle.mx_office.proofs.OfficeLemmas.{either_made, loaded_rests, rests_made}
+use Rattle.mx_office.proofs.OfficeLemmas.{either_made, loaded_rests, rests_made, rests_still}
 use Rattle.mx_office.proofs.OnTopLemmas.{survives_itself, survives_more, survives_same}
 use Rattle.mx_office.proofs.RunLemmas.{loaded_holds, next_holds}
 
@@ -53,7 +51,7 @@ module _ {S : Type 0} {g : Ghosts S} (commands : List Entry) (stop : Option Faul
       → (IsReady old → (new ≡ old) ⊎ ChangesNothing (office_state old) (office_state new))
       → Survives (office_state old) (office_state new) (λ _. ⊥)
       → (IsReady old → commands ≢ [] → HasCleanDisk (office_state new) → stop ≢ Some Memory → stop ≢ Some Store → IsTrue (office_state old).is_open)
-      → (HasCleanDisk (office_state new) → HasOwn1 (office_state old).now.schema → (table : TableName) → stop ≡ Some (Damaged table) → IsReasonFor (office_state old).now.trees table)
+      → (HasCleanDisk (office_state new) → HasTables (office_state old).now.schema → (table : TableName) → stop ≡ Some (Damaged table) → IsReasonFor (office_state old).now.trees table)
       → IsRun commands [] stop old new
   none_answered done cut doubt rests whole untouched survives was_open damaged = record {
     counted = (omega arith);
@@ -154,7 +152,7 @@ residual_is (Err it) fault is = ap Err is.1
 
 module _ {S : Type 0} {g : Ghosts S} (commands : List Entry) (fault : Fault) (old mid : Office S g) (asked : IsAsked (Some fault) old mid) (exact : (book : List Entry) → IsReady old → StandsFor old book → HasCleanDisk (office_state mid) → (fault ≡ Memory) ⊎ (fault ≡ Store)) where
   stopped_stands : (b : Bool) → old.needs_reopen ≡ b → (book : List Entry) → StandsFor old book → StandsFor mid book
-  stopped_stands false ready book stands = rests_kept layout_1 (λ trees. Stands trees book) (office_state old) (office_state mid) (asked.untouched ready) stands
+  stopped_stands false ready book stands = rests_still (office_state old) (office_state mid) book (asked.untouched ready) stands
   stopped_stands true doubt book stands = subst (λ (o : Office S g). StandsFor o book) (sym (asked.doubt.reopen doubt).1) stands
 
   stopped_whole : (b : Bool) → old.needs_reopen ≡ b → (book : List Entry) → StandsFor old book → HasCleanDisk (office_state mid) → (table : TableName) → Some fault ≢ Some (Damaged table)
@@ -167,7 +165,7 @@ module _ {S : Type 0} {g : Ghosts S} (commands : List Entry) (fault : Fault) (ol
 
   -- the book could not be read
   pub run_stopped : 0 < length commands → (HasCleanDisk (office_state mid) → IsReady old → fault ≢ Memory → fault ≢ Store → IsTrue (office_state old).is_open)
-      → (HasCleanDisk (office_state mid) → HasOwn1 (office_state old).now.schema → (table : TableName) → fault ≡ Damaged table → IsReasonFor (office_state old).now.trees table)
+      → (HasCleanDisk (office_state mid) → HasTables (office_state old).now.schema → (table : TableName) → fault ≡ Damaged table → IsReasonFor (office_state old).now.trees table)
       → IsRun commands [] (Some fault) old mid
   run_stopped some was_open damaged =
       none_answered commands (Some fault) old mid (λ none. cc) (λ _ _. inl some) asked.doubt (stopped_stands old.needs_reopen refl) (stopped_whole old.needs_reopen refl) (λ ready. inr (asked.untouched ready)) (stopped_survives old.needs_reopen refl)
@@ -190,7 +188,7 @@ pub record HandsIn (book commands : List Entry) (said : List Reply) (stop : Opti
   pub crash : Rests old book → Leaves new (IsEither (book_run book (take (length said) commands)) (book_run book (take (length said + 1) commands)))
 
 module _ {S : Type 0} {g : Ghosts S} (commands : List Entry) (said : List Reply) (stop : Option Fault) (old mid new : Office S g) (loaded : List Entry) (asked : IsAsked None old mid)
-    (exact : (book : List Entry) → IsReady old → StandsFor old book → HasCleanDisk (office_state mid) → loaded ≡ book) (sound : HasCleanDisk (office_state mid) → HasOwn1 (office_state old).now.schema → HoldsBook (office_state old).now.trees loaded)
+    (exact : (book : List Entry) → IsReady old → StandsFor old book → HasCleanDisk (office_state mid) → loaded ≡ book) (sound : HasCleanDisk (office_state mid) → HasTables (office_state old).now.schema → HoldsBook (office_state old).now.trees loaded)
     (was_open : HasCleanDisk (office_state mid) → IsReady old → IsTrue (office_state old).is_open) (handed : HandsIn loaded commands said stop (office_state mid) (office_state new)) where
   is_ready : IsReady old
   is_ready = answered_ready old mid asked
@@ -204,7 +202,7 @@ module _ {S : Type 0} {g : Ghosts S} (commands : List Entry) (said : List Reply)
   read_over : (book : List Entry) → StandsFor old book → RunsOver book commands said stop (office_state new)
   read_over book stands =
       let same = exact book is_ready stands in
-      let had = rests_kept layout_1 (λ trees. Stands trees book) (office_state old) (office_state mid) nothing stands in
+      let had = rests_still (office_state old) (office_state mid) book nothing stands in
       let rests = loaded_rests (office_state mid) (office_state new) book loaded handed.clean same had in
       record {
         answered = λ clean. subst (λ b. said ≡ replies b (take (length said) commands)) (same (early clean)) handed.answered;

@@ -1,78 +1,60 @@
--- What holds of each register of the family, and what follows for all of them alike.
-use Rattle.std.proofs.Common.{inl, ◌≡◌, ℕ, ◌+◌, ◌*◌, ◌^◌, true, List, [], ◌∷◌, ◌++◌, map, length, All, refl, sym, ap, ap₂, subst, ◌∙◌, slice_index_or, arith}
-use Rattle.std.specs.Prelude.{⊤, Contains}
+-- What follows for the registers of the office, for all alike, from what holds of each table of the family.
+use Rattle.std.proofs.Common.{inl, ◌≡◌, Bool, true, false, cond, ◌&&◌, List, [], ◌∷◌, ◌++◌, map, All, refl, sym, ap, subst, ◌∙◌, Some, None}
+use Rattle.std.specs.Prelude.{⊤, Contains, filter}
 use Rattle.std.specs.List.{list_all, AllByRecursion}
 use Rattle.std.specs.List.Sorted.{IsPermutation}
-use Rattle.std.proofs.lemmas.List.{map-append}
 use Rattle.std.proofs.lemmas.List.Sorted.{IsPermutation-trans, IsPermutation-sym, All-permutation}
-use Rattle.std.proofs.lemmas.List.Elements.{All-map, All-head, All-tail, All-nil, All-append, All-cons, All-weaker, Contains-append_left}
-use Rattle.sqlite.specs.Order.{Row}
+use Rattle.std.proofs.lemmas.List.Elements.{All-append, All-weaker, Contains-append_left}
 use Rattle.sqlite.specs.Schema.{Schema}
 use Rattle.sqlite.specs.Tree.{Trees}
 use Rattle.mx_command.specs.Act.{Entry}
 use Rattle.mx_command.specs.Shape.{has_shape}
-use Rattle.mx_typed_rows.specs.Rising.{IsRising}
 use Rattle.mx_typed_rows.proofs.SortedLemmas.{sorted_once, IsRising-map, IsFrom-map, IsFrom-rising}
 use Rattle.mx_register.specs.declared.merge.Registers.{Registers}
-use Rattle.mx_register.specs.Registers.{gives}
-use Rattle.mx_register.proofs.RegisterLemmas.{entry_rows-rising, aircraft_rows-rising, place_rows-rising, component_rows-rising, programme_rows-rising, task_rows-rising, opening_rows-rising, sector_rows-rising, fitting_rows-rising, removal_rows-rising, release_rows-rising, release_line_rows-rising, deferral_rows-rising, extension_rows-rising}
+use Rattle.mx_kept_rows.specs.Becomes.{Change}
+use Rattle.mx_points.specs.Tables.{Line, rows_at, is_table_at}
 use Rattle.mx_layout.specs.TableName.{TableName}
 use Rattle.mx_layout.specs.declared.fault.Table.TheVariants as table
-use Rattle.mx_point.specs.declared.point.Point.{Point}
 use Rattle.mx_layout.specs.Contents.{rows_in}
 use Rattle.mx_layout.specs.Names.{table_named}
-use Rattle.mx_layout.specs.Tables.{layout_1}
+use Rattle.mx_layout.specs.Steps.{IsLayout}
 use Rattle.mx_kept.specs.Kept.{Kept}
 use Rattle.mx_kept.specs.Family.{IsReadable, IsReadableAs}
 use Rattle.mx_kept.specs.Meanings.{IsLawful}
-use Rattle.mx_kept.specs.Schemas.{HasOwn1}
-use Rattle.mx_kept.proofs.SchemaLemmas.{permanent_too}
-use Rattle.mx_kept.proofs.Lawful.{entry_lawful, aircraft_lawful, place_lawful, component_lawful, programme_lawful, task_lawful, opening_lawful, crs_lawful, crs_line_lawful, defect_lawful, extension_lawful, sector1_lawful, fit1_lawful, removal1_lawful}
+use Rattle.mx_stands.specs.Family.{Rows, of, none, rows_of, first_rows, is_at, is_register, permanent_names, own_names, brought, given, AreGiven, Fit, FitBrought}
+use Rattle.mx_stands.specs.Schemas.{IsOfFile, indexes_at}
+use Rattle.mx_stands.proofs.FamilyLemmas.{AreFacts, Facts, facts, AreRegisterFacts, RegisterFacts, Rise, never}
+use Rattle.mx_stands.proofs.ChangeLemmas.{brings_at}
+use Rattle.mx_stands.proofs.PointLemmas.{and_left}
+use Rattle.mx_stands.proofs.RowLemmas.{cells_once, good_rows}
+use Rattle.mx_stands.proofs.SchemaLemmas.{has_tables}
 use Rattle.mx_tables.specs.Sets.{AreRowsOf}
-use Rattle.mx_office.specs.Family.{Register, of, none, register_of, registers_1, rows_by, FitBy, AreGiven, AreRead}
-use Rattle.mx_office.specs.Stands.{EachHas, first_rows}
+use Rattle.mx_office.specs.Layout.{office_point, office_schema, office_registers, HasTables}
+use Rattle.mx_office.specs.Stands.{AreRead}
 
--- ── one line for each table ──
+-- ── the point of the office ──
 
--- the rows rise by their key
-abbrev pub Rise : {X : Type 0} → (X → ℕ) → List X → Type 0
-Rise key rows = (low : ℕ) × (high : ℕ) × IsRising key low rows high
+pub is_layout : IsLayout office_point.layout
+is_layout = inl refl
 
--- what has to hold of the register that the table with a name keeps
-pub record AreFacts {X : Type 0} (name : TableName) (k : Kept X) (by : List Entry → Entry → List X) : Type 0 where
-  pub law : IsLawful k
-  pub rise : (book : List Entry) → list_all has_shape book ≡ true → Rise k.key (gives by [] book)
-  pub is_named : k.name ≡ name
-  pub readable : (row : Row) → IsReadableAs k row → IsReadable name row
-  pub no_first : (at : Point) → first_rows at name ≡ []
-  pub is_in : (schema : Schema) → HasOwn1 schema → k.IsIn schema
+pub is_of_file : IsOfFile office_point
+is_of_file = inl refl
 
-abbrev pub Facts : TableName → Register → Type 0
-Facts name (of k by read) = AreFacts name k by
-Facts name none = ⊤
+-- a table of the office with rows that commands write has a register, and rows are only added to it
+abbrev pub IsKept : Rows → Type 0
+IsKept (of k line change (Some read)) = is_table_at line office_point ≡ true
+IsKept (of k line change None) = ⊥
+IsKept none = ⊤
 
-pub facts : (name : TableName) → Facts name (register_of name)
-facts table.Entry = record { law = entry_lawful; rise = λ book shaped. (1, length book + 1, entry_rows-rising book shaped); is_named = refl; readable = λ _ h. h; no_first = λ _. refl; is_in = permanent_too }
-facts table.Aircraft = record { law = aircraft_lawful; rise = λ book shaped. (1, length book + 1, aircraft_rows-rising book shaped); is_named = refl; readable = λ _ h. h; no_first = λ _. refl; is_in = permanent_too }
-facts table.Place = record { law = place_lawful; rise = λ book shaped. (1 * 2 ^ 32, (length book + 1) * 2 ^ 32, place_rows-rising book shaped); is_named = refl; readable = λ _ h. h; no_first = λ _. refl; is_in = permanent_too }
-facts table.Component = record { law = component_lawful; rise = λ book shaped. (1, length book + 1, component_rows-rising book shaped); is_named = refl; readable = λ _ h. h; no_first = λ _. refl; is_in = permanent_too }
-facts table.Programme = record { law = programme_lawful; rise = λ book shaped. (1, length book + 1, programme_rows-rising book shaped); is_named = refl; readable = λ _ h. h; no_first = λ _. refl; is_in = permanent_too }
-facts table.Task = record { law = task_lawful; rise = λ book shaped. (1 * 2 ^ 32, (length book + 1) * 2 ^ 32, task_rows-rising book shaped); is_named = refl; readable = λ _ h. h; no_first = λ _. refl; is_in = permanent_too }
-facts table.Opening = record { law = opening_lawful; rise = λ book shaped. (1, length book + 1, opening_rows-rising book shaped); is_named = refl; readable = λ _ h. h; no_first = λ _. refl; is_in = permanent_too }
-facts table.Crs = record { law = crs_lawful; rise = λ book shaped. (1, length book + 1, release_rows-rising book shaped); is_named = refl; readable = λ _ h. h; no_first = λ _. refl; is_in = permanent_too }
-facts table.CrsLine = record { law = crs_line_lawful; rise = λ book shaped. (1 * 2 ^ 32, (length book + 1) * 2 ^ 32, release_line_rows-rising book shaped); is_named = refl; readable = λ _ h. h; no_first = λ _. refl; is_in = permanent_too }
-facts table.Defect = record { law = defect_lawful; rise = λ book shaped. (1, length book + 1, deferral_rows-rising book shaped); is_named = refl; readable = λ _ h. h; no_first = λ _. refl; is_in = permanent_too }
-facts table.Extension = record { law = extension_lawful; rise = λ book shaped. (1, length book + 1, extension_rows-rising book shaped); is_named = refl; readable = λ _ h. h; no_first = λ _. refl; is_in = permanent_too }
-facts table.Sector1 = record { law = sector1_lawful; rise = λ book shaped. (1, length book + 1, sector_rows-rising book shaped); is_named = refl; readable = λ _ h. h; no_first = λ _. refl; is_in = λ _ has. has }
-facts table.Fit1 = record { law = fit1_lawful; rise = λ book shaped. (1, length book + 1, fitting_rows-rising book shaped); is_named = refl; readable = λ _ h. h; no_first = λ _. refl; is_in = λ _ has. inl has }
-facts table.Removal1 = record { law = removal1_lawful; rise = λ book shaped. (1, length book + 1, removal_rows-rising book shaped); is_named = refl; readable = λ _ h. h; no_first = λ _. refl; is_in = λ _ has. inl has }
-facts _ = tt
+-- and so has each
+pub are_kept : (name : TableName) → is_at office_point name ≡ true → IsKept (rows_of name)
+are_kept table.Office there = tt
+are_kept table.Span2 there = never there
+are_kept table.Total2 there = never there
+are_kept table.Base2 there = never there
+are_kept name there = there
 
 -- ── tables by name ──
-
-pub each_of : (P : TableName → Type 0) → ((name : TableName) → P name) → (names : List TableName) → AllByRecursion P names
-each_of P h [] = tt
-each_of P h (name ∷ names) = (h name, each_of P h names)
 
 pub each_weaker : (P Q : TableName → Type 0) → ((name : TableName) → P name → Q name) → (names : List TableName) → AllByRecursion P names → AllByRecursion Q names
 each_weaker P Q h [] each = tt
@@ -82,163 +64,160 @@ pub each_with : (P Q R : TableName → Type 0) → ((name : TableName) → P nam
 each_with P Q R h [] each other = tt
 each_with P Q R h (name ∷ names) each other = (h name each.0 other.0, each_with P Q R h names each.1 other.1)
 
+passes : (test : TableName → Bool) (P : TableName → Type 0) (name : TableName) (names : List TableName) (b : Bool) → test name ≡ b → (test name ≡ true → P name) → AllByRecursion P (filter test names)
+    → AllByRecursion P (cond b (name ∷ filter test names) (filter test names))
+passes test P name names true is h rest = (h is, rest)
+passes test P name names false is h rest = rest
+
+-- of those that a test keeps
+pub each_passed : (test : TableName → Bool) (P : TableName → Type 0) → ((name : TableName) → test name ≡ true → P name) → (names : List TableName) → AllByRecursion P (filter test names)
+each_passed test P h [] = tt
+each_passed test P h (name ∷ names) = passes test P name names (test name) refl (h name) (each_passed test P h names)
+
 -- P of each name of a list, as a set of tables has it: the last stands alone
 abbrev pub AllOf : (TableName → Type 0) → List TableName → Type 0
 AllOf P [] = ⊤
 AllOf P (name ∷ []) = P name
 AllOf P (name ∷ other ∷ names) = P name × AllOf P (other ∷ names)
 
-pub all_of : (P : TableName → Type 0) → ((name : TableName) → P name) → (names : List TableName) → AllOf P names
-all_of P h [] = tt
-all_of P h (name ∷ []) = h name
-all_of P h (name ∷ other ∷ names) = (h name, all_of P h (other ∷ names))
+pub all_from : (P : TableName → Type 0) → (names : List TableName) → AllByRecursion P names → AllOf P names
+all_from P [] each = tt
+all_from P (name ∷ []) each = each.0
+all_from P (name ∷ other ∷ names) each = (each.0, all_from P (other ∷ names) each.1)
 
 pub each_from : (P : TableName → Type 0) → (names : List TableName) → AllOf P names → AllByRecursion P names
 each_from P [] all = tt
 each_from P (name ∷ []) all = (all, tt)
 each_from P (name ∷ other ∷ names) all = (all.0, each_from P (other ∷ names) all.1)
 
+-- of the registers of the office, which are all there
+pub each_register : (P : TableName → Type 0) → ((name : TableName) → is_at office_point name ≡ true → P name) → AllByRecursion P office_registers
+each_register P h =
+    each_passed (λ name. is_at office_point name && is_register (rows_of name)) P (λ name both. h name (and_left (is_at office_point name) (is_register (rows_of name)) both)) (permanent_names ++ own_names)
+
 -- ── which schemas have the tables ──
 
--- each register is a table of layout 1
-pub are_tables : AllByRecursion (λ name. Contains layout_1.tables (table_named name)) registers_1
-are_tables = ((1, omega arith, refl), ((2, omega arith, refl), ((3, omega arith, refl), ((4, omega arith, refl), ((5, omega arith, refl), ((6, omega arith, refl), ((7, omega arith, refl), ((8, omega arith, refl), ((9, omega arith, refl), ((11, omega arith, refl), ((10, omega arith, refl), ((12, omega arith, refl), ((13, omega arith, refl), ((14, omega arith, refl), tt))))))))))))))
+pub of_office : (schema : Schema) → schema ≡ office_schema → HasTables schema
+of_office schema is = record { rest = []; more = indexes_at office_point; is = is }
 
-pub in_schema : (schema : Schema) → HasOwn1 schema → AllByRecursion (λ name. Contains schema.tables (table_named name)) registers_1
-in_schema schema has = each_weaker (λ name. Contains layout_1.tables (table_named name)) (λ name. Contains schema.tables (table_named name))
-    (λ name there. subst (λ (s : Schema). Contains s.tables (table_named name)) (sym has.is) (Contains-append_left layout_1.tables has.rest (table_named name) there)) registers_1 are_tables
+pub in_schema : (schema : Schema) → HasTables schema → (name : TableName) → is_at office_point name ≡ true → Contains schema.tables (table_named name)
+in_schema schema has name there =
+    subst (λ (s : Schema). Contains s.tables (table_named name)) (sym has.is) (Contains-append_left office_schema.tables has.rest (table_named name) ((has_tables office_point name).0 there))
 
--- ── what entries give, and whether it fits ──
-
--- the cells of what entries give are what they give as cells
-pub map-gives : {X : Type 0} (as_cells : X → Row) (by : List Entry → Entry → List X) (before book : List Entry) → gives (λ b c. map as_cells (by b c)) before book ≡ map as_cells (gives by before book)
-map-gives as_cells by before [] = refl
-map-gives as_cells by before (c ∷ book) =
-    ap (λ rows. map as_cells (by before c) ++ rows) (map-gives as_cells by (before ++ c ∷ []) book) ∙ sym (map-append as_cells (by before c) (gives by (before ++ c ∷ []) book))
-
--- what each entry gives fits, and so does what all give
-pub fits_all : {X : Type 0} (P : X → Type 0) (by : List Entry → Entry → List X) (before book : List Entry) → EachHas (λ b c. All P (by b c)) before book → All P (gives by before book)
-fits_all P by before [] fit = All-nil P
-fits_all P by before (c ∷ book) fit = All-append P (by before c) (gives by (before ++ c ∷ []) book) fit.0 (fits_all P by (before ++ c ∷ []) book fit.1)
-
-parts_all : {X : Type 0} (P : X → Type 0) (xs ys : List X) → All P (xs ++ ys) → All P xs × All P ys
-parts_all P [] ys all = (All-nil P, all)
-parts_all P (x ∷ xs) ys all = let rest = parts_all P xs ys (All-tail P x (xs ++ ys) all) in (All-cons P x xs (All-head P x (xs ++ ys) all) rest.0, rest.1)
-
--- what all give fits, and so does what each entry gives
-all_fits : {X : Type 0} (P : X → Type 0) (by : List Entry → Entry → List X) (before book : List Entry) → All P (gives by before book) → EachHas (λ b c. All P (by b c)) before book
-all_fits P by before [] fit = tt
-all_fits P by before (c ∷ book) fit = let parts = parts_all P (by before c) (gives by (before ++ c ∷ []) book) fit in (parts.0, all_fits P by (before ++ c ∷ []) book parts.1)
-
-pub none_fits : (before book : List Entry) → EachHas (FitBy none) before book
-none_fits before [] = tt
-none_fits before (c ∷ book) = (tt, none_fits (before ++ c ∷ []) book)
-
--- a book gives no row to a table that keeps no register
-none_given : (P : Row → Type 0) (before book : List Entry) → All P (gives (rows_by none) before book)
-none_given P before [] = All-nil P
-none_given P before (c ∷ book) = none_given P (before ++ c ∷ []) book
-
--- ── a register that is kept ──
+-- ── rows that are kept ──
 
 module _ {X : Type 0} (k : Kept X) (law : IsLawful k) where
-  -- lists of rows that fit, with the same cells, are one list
-  cells_once : (xs ys : List X) → All k.Fits xs → All k.Fits ys → map k.as_cells xs ≡ map k.as_cells ys → xs ≡ ys
-  cells_once [] [] fits_x fits_y e = refl
-  cells_once [] (y ∷ ys) fits_x fits_y e = absurd cc
-  cells_once (x ∷ xs) [] fits_x fits_y e = absurd cc
-  cells_once (x ∷ xs) (y ∷ ys) fits_x fits_y e =
-      ap₂ ◌∷◌ (law.once x y (All-head k.Fits x xs fits_x) (All-head k.Fits y ys fits_y) (cc)) (cells_once xs ys (All-tail k.Fits x xs fits_x) (All-tail k.Fits y ys fits_y) (cc))
-
-  good_rows : (xs : List X) → All k.Fits xs → All (IsReadableAs k) (map k.as_cells xs)
-  good_rows xs fits = All-map (IsReadableAs k) k.as_cells xs (λ i d low. (slice_index_or xs i d, fits i d low, refl))
-
-  -- what is read is the register
-  read_is : (trees : Trees) (by : List Entry → Entry → List X) (book : List Entry) (low high : ℕ) → EachHas (λ b c. All k.Fits (by b c)) [] book → IsRising k.key low (gives by [] book) high
-      → IsPermutation (gives (λ b c. map k.as_cells (by b c)) [] book) (rows_in (table_named k.name) trees) → (xs : List X) → AreRowsOf k trees xs → xs ≡ gives by [] book
-  read_is trees by book low high fit up is xs are =
-      let register = gives by [] book in
-      let fitting = fits_all k.Fits by [] book fit in
-      let same = IsPermutation-trans _ _ _ (subst (λ rows. IsPermutation rows (rows_in (table_named k.name) trees)) (map-gives k.as_cells by [] book) is) are.0.all in
-      let rising = IsRising-map k.as_cells k.key k.cells_key law.keyed low high register up in
+  -- what is read of a table is what it was given
+  read_is : (trees : Trees) (rows : List X) → All k.Fits rows → Rise k.key rows → IsPermutation (map k.as_cells rows) (rows_in (table_named k.name) trees) → (xs : List X) → AreRowsOf k trees xs → xs ≡ rows
+  read_is trees rows fit up is xs are =
+      let same = IsPermutation-trans _ _ _ is are.0.all in
+      let rising = IsRising-map k.as_cells k.key k.cells_key law.keyed up.0 up.1 rows up.2 in
       let slow = IsFrom-map k.as_cells k.key k.cells_key law.keyed 0 xs (law.in_order xs are.1 are.0.sorted) in
-      sym (cells_once register xs fitting are.1 (sorted_once k.cells_key low 0 high (map k.as_cells register) (map k.as_cells xs) rising slow same))
+      sym (cells_once k law rows xs fit are.1 (sorted_once k.cells_key up.0 0 up.1 (map k.as_cells rows) (map k.as_cells xs) rising slow same))
 
-  -- two books that give a table its rows give it the same
-  same_rows : (trees : Trees) (by : List Entry → Entry → List X) (one other : List Entry) (low high least most : ℕ) → EachHas (λ b c. All k.Fits (by b c)) [] one → EachHas (λ b c. All k.Fits (by b c)) [] other
-      → IsRising k.key low (gives by [] one) high → IsRising k.key least (gives by [] other) most
-      → IsPermutation (gives (λ b c. map k.as_cells (by b c)) [] one) (rows_in (table_named k.name) trees) → IsPermutation (gives (λ b c. map k.as_cells (by b c)) [] other) (rows_in (table_named k.name) trees) → gives by [] one ≡ gives by [] other
-  same_rows trees by one other low high least most fit fits up ups is was =
-      let stored = rows_in (table_named k.name) trees in
-      let one_is = subst (λ rows. IsPermutation rows stored) (map-gives k.as_cells by [] one) is in
-      let other_is = subst (λ rows. IsPermutation rows stored) (map-gives k.as_cells by [] other) was in
-      let same = IsPermutation-trans _ _ _ one_is (IsPermutation-sym _ _ other_is) in
-      cells_once (gives by [] one) (gives by [] other) (fits_all k.Fits by [] one fit) (fits_all k.Fits by [] other fits)
-      (sorted_once k.cells_key low least high (map k.as_cells (gives by [] one)) (map k.as_cells (gives by [] other))
-      (IsRising-map k.as_cells k.key k.cells_key law.keyed low high (gives by [] one) up) (IsFrom-map k.as_cells k.key k.cells_key law.keyed least (gives by [] other) (IsFrom-rising k.key least most (gives by [] other) ups)) same)
+  -- rows that a table has twice are the same
+  same_rows : (trees : Trees) (ones others : List X) → All k.Fits ones → All k.Fits others → Rise k.key ones → Rise k.key others
+      → IsPermutation (map k.as_cells ones) (rows_in (table_named k.name) trees) → IsPermutation (map k.as_cells others) (rows_in (table_named k.name) trees) → ones ≡ others
+  same_rows trees ones others fit fits up ups is was =
+      let same = IsPermutation-trans _ _ _ is (IsPermutation-sym _ _ was) in
+      cells_once k law ones others fit fits
+      (sorted_once k.cells_key up.0 ups.0 up.1 (map k.as_cells ones) (map k.as_cells others)
+      (IsRising-map k.as_cells k.key k.cells_key law.keyed up.0 up.1 ones up.2) (IsFrom-map k.as_cells k.key k.cells_key law.keyed ups.0 others (IsFrom-rising k.key ups.0 ups.1 others ups.2)) same)
 
--- ── each register of the family ──
+-- ── a register ──
 
--- the schema has the table of the register
-abbrev pub HasIn : Schema → Register → Type 0
-HasIn schema (of k by read) = k.IsIn schema
+module _ {X : Type 0} (name : TableName) (k : Kept X) (line : Line X) (facts : AreFacts name k line) (there : is_table_at line office_point ≡ true) where
+  -- all rows that a book gives it stand there
+  all_there : (book : List Entry) → rows_at line office_point book ≡ line.rows book
+  all_there = facts.whole office_point.layout is_layout there
+
+  all_fit : (book : List Entry) → All k.Fits (rows_at line office_point book) → All k.Fits (line.rows book)
+  all_fit book = subst (All k.Fits) (all_there book)
+
+  all_given : (trees : Trees) (book : List Entry) → IsPermutation (map k.as_cells (rows_at line office_point book)) (rows_in (table_named k.name) trees) → IsPermutation (map k.as_cells (line.rows book)) (rows_in (table_named k.name) trees)
+  all_given trees book = subst (λ rows. IsPermutation (map k.as_cells rows) (rows_in (table_named k.name) trees)) (all_there book)
+
+  -- with a command it has the rows that the command brings
+  rows_more : (change : Change X) → AreRegisterFacts k line change → (book : List Entry) (command : Entry) → rows_at line office_point (book ++ command ∷ []) ≡ rows_at line office_point book ++ change book command []
+  rows_more change more book command = all_there (book ++ command ∷ []) ∙ more.more book command ∙ ap (λ rows. rows ++ change book command []) (sym (all_there book))
+
+-- the schema has the table
+abbrev pub HasIn : Schema → Rows → Type 0
+HasIn schema (of k line change read) = k.IsIn schema
 HasIn schema none = ⊤
 
-has_in : (schema : Schema) → HasOwn1 schema → (name : TableName) (f : Register) → Facts name f → HasIn schema f
-has_in schema has name (of k by read) facts = facts.is_in schema has
-has_in schema has name none facts = tt
+has_in : (schema : Schema) → HasTables schema → (name : TableName) (f : Rows) → Facts name f → IsKept f → HasIn schema f
+has_in schema has name (of k line change (Some read)) facts kept = facts.is_in office_point is_of_file kept schema has
+has_in schema has name (of k line change None) facts kept = absurd kept
+has_in schema has name none facts kept = tt
 
--- a schema with the tables of layout 1 has those of the registers
-pub all_in : (schema : Schema) → HasOwn1 schema → (names : List TableName) → AllOf (λ name. HasIn schema (register_of name)) names
-all_in schema has names = all_of (λ name. HasIn schema (register_of name)) (λ name. has_in schema has name (register_of name) (facts name)) names
+-- a schema with the tables of the office has those of the registers
+pub all_in : (schema : Schema) → HasTables schema → AllOf (λ name. HasIn schema (rows_of name)) office_registers
+all_in schema has =
+    all_from (λ name. HasIn schema (rows_of name)) office_registers (each_register (λ name. HasIn schema (rows_of name)) (λ name there. has_in schema has name (rows_of name) (facts name) (are_kept name there)))
 
 -- what was read of the register is what the book gives it
-abbrev pub IsReadOf : Register → Registers → List Entry → Type 0
-IsReadOf (of k by read) r book = read r ≡ gives by [] book
-IsReadOf none r book = ⊤
+abbrev pub IsReadOf : Rows → Registers → List Entry → Type 0
+IsReadOf (of k line change (Some read)) r book = read r ≡ line.rows book
+IsReadOf _ r book = ⊤
 
 -- the two books give the register the same
-abbrev pub AreSame : Register → List Entry → List Entry → Type 0
-AreSame (of k by read) one other = gives by [] one ≡ gives by [] other
-AreSame none one other = ⊤
+abbrev pub AreSame : Rows → List Entry → List Entry → Type 0
+AreSame (of k line change (Some read)) one other = line.rows one ≡ line.rows other
+AreSame _ one other = ⊤
 
-pub read_at : (name : TableName) (f : Register) → Facts name f → (trees : Trees) (r : Registers) (book : List Entry) → list_all has_shape book ≡ true → EachHas (FitBy f) [] book → AreGiven f trees book → AreRead f trees r → IsReadOf f r book
-read_at name (of k by read) facts trees r book shaped fit given are = let up = facts.rise book shaped in read_is k facts.law trees by book up.0 up.1 fit up.2 given (read r) are
-read_at name none facts trees r book shaped fit given are = tt
+pub read_at : (name : TableName) (f : Rows) → Facts name f → RegisterFacts f → IsKept f → (trees : Trees) (r : Registers) (book : List Entry) → list_all has_shape book ≡ true
+    → Fit f office_point book → AreGiven f office_point trees book → AreRead f trees r → IsReadOf f r book
+read_at name (of k line change (Some read)) facts more kept trees r book shaped fit given are =
+    read_is k facts.law trees (line.rows book) (all_fit name k line facts kept book fit) (more.rise book shaped) (all_given name k line facts kept trees book given) (read r) are
+read_at name (of k line change None) facts more kept trees r book shaped fit given are = tt
+read_at name none facts more kept trees r book shaped fit given are = tt
 
-pub given_at : (f : Register) (trees : Trees) (r : Registers) (book : List Entry) → AreRead f trees r → IsReadOf f r book → AreGiven f trees book
-given_at (of k by read) trees r book are is =
-    subst (λ rows. IsPermutation rows (rows_in (table_named k.name) trees)) (ap (map k.as_cells) is ∙ sym (map-gives k.as_cells by [] book)) (IsPermutation-sym _ _ are.0.all)
-given_at none trees r book are is = tt
+pub given_at : (name : TableName) (f : Rows) → Facts name f → IsKept f → (trees : Trees) (r : Registers) (book : List Entry) → AreRead f trees r → IsReadOf f r book → AreGiven f office_point trees book
+given_at name (of k line change (Some read)) facts kept trees r book are is =
+    subst (λ rows. IsPermutation rows (rows_in (table_named k.name) trees)) (ap (map k.as_cells) (is ∙ sym (all_there name k line facts kept book))) (IsPermutation-sym _ _ are.0.all)
+given_at name (of k line change None) facts kept trees r book are is = absurd are
+given_at name none facts kept trees r book are is = tt
 
-pub fit_at : (f : Register) (trees : Trees) (r : Registers) (book : List Entry) → AreRead f trees r → IsReadOf f r book → EachHas (FitBy f) [] book
-fit_at (of k by read) trees r book are is = all_fits k.Fits by [] book (subst (All k.Fits) is are.1)
-fit_at none trees r book are is = none_fits [] book
+pub fit_at : (name : TableName) (f : Rows) → Facts name f → IsKept f → (trees : Trees) (r : Registers) (book : List Entry) → AreRead f trees r → IsReadOf f r book → Fit f office_point book
+fit_at name (of k line change (Some read)) facts kept trees r book are is = subst (All k.Fits) (is ∙ sym (all_there name k line facts kept book)) are.1
+fit_at name (of k line change None) facts kept trees r book are is = absurd are
+fit_at name none facts kept trees r book are is = tt
 
-pub same_at : (name : TableName) (f : Register) → Facts name f → (trees : Trees) (one other : List Entry) → list_all has_shape one ≡ true → list_all has_shape other ≡ true
-    → EachHas (FitBy f) [] one → EachHas (FitBy f) [] other → AreGiven f trees one → AreGiven f trees other → AreSame f one other
-same_at name (of k by read) facts trees one other shaped others fit fits given was =
-    let up = facts.rise one shaped in
-    let ups = facts.rise other others in
-    same_rows k facts.law trees by one other up.0 up.1 ups.0 ups.1 fit fits up.2 ups.2 given was
-same_at name none facts trees one other shaped others fit fits given was = tt
+pub same_at : (name : TableName) (f : Rows) → Facts name f → RegisterFacts f → IsKept f → (trees : Trees) (one other : List Entry) → list_all has_shape one ≡ true → list_all has_shape other ≡ true
+    → Fit f office_point one → Fit f office_point other → AreGiven f office_point trees one → AreGiven f office_point trees other → AreSame f one other
+same_at name (of k line change (Some read)) facts more kept trees one other shaped others fit fits given was =
+    same_rows k facts.law trees (line.rows one) (line.rows other) (all_fit name k line facts kept one fit) (all_fit name k line facts kept other fits) (more.rise one shaped) (more.rise other others)
+    (all_given name k line facts kept trees one given) (all_given name k line facts kept trees other was)
+same_at name (of k line change None) facts more kept trees one other shaped others fit fits given was = tt
+same_at name none facts more kept trees one other shaped others fit fits given was = tt
 
 -- the rows that were read are all of the type of their table
-pub readable_read : (name : TableName) (f : Register) → Facts name f → (trees : Trees) (r : Registers) → AreRead f trees r → All (IsReadable name) (rows_in (table_named name) trees)
-readable_read name (of k by read) facts trees r are =
+pub readable_read : (name : TableName) (f : Rows) → Facts name f → (trees : Trees) (r : Registers) → AreRead f trees r → All (IsReadable name) (rows_in (table_named name) trees)
+readable_read name (of k line change (Some read)) facts trees r are =
     let good = All-permutation (IsReadableAs k) _ _ (IsPermutation-sym _ _ are.0.all) (good_rows k facts.law (read r) are.1) in
     All-weaker (IsReadableAs k) (IsReadable name) facts.readable (rows_in (table_named name) trees) (subst (λ n. All (IsReadableAs k) (rows_in (table_named n) trees)) facts.is_named good)
+readable_read name (of k line change None) facts trees r are = absurd are
 readable_read name none facts trees r are = absurd are
 
--- and so are those that a book gives
-pub readable_given : (name : TableName) (f : Register) → Facts name f → (book : List Entry) → EachHas (FitBy f) [] book → All (IsReadable name) (gives (rows_by f) [] book)
-readable_given name (of k by read) facts book fit =
-    All-weaker (IsReadableAs k) (IsReadable name) facts.readable _ (subst (All (IsReadableAs k)) (sym (map-gives k.as_cells by [] book)) (good_rows k facts.law (gives by [] book) (fits_all k.Fits by [] book fit)))
-readable_given name none facts book fit = none_given (IsReadable name) [] book
+-- ── with a command ──
 
--- a table that has the rows that a book gives it, by name
-pub given_from : (name : TableName) (f : Register) → Facts name f → (at : Point) (trees : Trees) (book : List Entry) → IsPermutation (first_rows at name ++ gives (rows_by f) [] book) (rows_in (table_named name) trees) → AreGiven f trees book
-given_from name (of k by read) facts at trees book is =
-    let rows = gives (λ b c. map k.as_cells (by b c)) [] book in
-    subst (λ n. IsPermutation rows (rows_in (table_named n) trees)) (sym facts.is_named) (subst (λ first. IsPermutation (first ++ rows) (rows_in (table_named name) trees)) (facts.no_first at) is)
-given_from name none facts at trees book is = tt
+pub given_more : (name : TableName) (f : Rows) → Facts name f → RegisterFacts f → IsKept f → (book : List Entry) (command : Entry) → given f office_point (book ++ command ∷ []) ≡ given f office_point book ++ brought f office_point book command
+given_more name (of k line change (Some read)) facts more kept book command = brings_at name (of k line change (Some read)) facts more office_point.layout is_layout refl kept book command
+given_more name (of k line change None) facts more kept book command = absurd kept
+given_more name none facts more kept book command = refl
+
+pub fit_more : (name : TableName) (f : Rows) → Facts name f → RegisterFacts f → IsKept f → (book : List Entry) (command : Entry) → Fit f office_point book → FitBrought f office_point book command → Fit f office_point (book ++ command ∷ [])
+fit_more name (of k line change (Some read)) facts more kept book command fit fits =
+    subst (All k.Fits) (sym (rows_more name k line facts kept change more book command)) (All-append k.Fits (rows_at line office_point book) (change book command []) fit (fits kept))
+fit_more name (of k line change None) facts more kept book command fit fits = absurd kept
+fit_more name none facts more kept book command fit fits = tt
+
+-- ── a table by its name ──
+
+-- a table that has the rows that a book gives it
+pub given_from : (name : TableName) (f : Rows) → Facts name f → (trees : Trees) (book : List Entry) → IsPermutation (first_rows office_point name ++ given f office_point book) (rows_in (table_named name) trees) → AreGiven f office_point trees book
+given_from name (of k line change read) facts trees book is =
+    let rows = map k.as_cells (rows_at line office_point book) in
+    subst (λ n. IsPermutation rows (rows_in (table_named n) trees)) (sym facts.is_named) (subst (λ first. IsPermutation (first ++ rows) (rows_in (table_named name) trees)) (facts.no_first office_point) is)
+given_from name none facts trees book is = tt

@@ -1,5 +1,5 @@
 -- The exits of a call of the office, over states.
-use Rattle.std.proofs.Common.{◌≡◌, ◌≢◌, inl, inr, ℕ, Result, Ok, Err, ◌+◌, ◌≤◌, false, cond, List, [], ◌∷◌, ◌++◌, sym, ap, subst, ◌∙◌, arith}
+use Rattle.std.proofs.Common.{◌≡◌, ◌≢◌, inl, inr, ℕ, Result, Ok, Err, ◌≤◌, false, cond, List, [], ◌∷◌, ◌++◌, sym, ap, subst, ◌∙◌, arith}
 use Rattle.std.specs.Prelude.{IfErr, IfOk, OnOk}
 use Rattle.sqlite.specs.State.{State, HasCleanDisk}
 use Rattle.sqlite_trees.specs.View.{doubt}
@@ -11,15 +11,19 @@ use Rattle.mx_book.specs.declared.verdict.Verdict.TheVariants.{New}
 use Rattle.mx_book.specs.Judge.{judge}
 use Rattle.mx_book.specs.Book.{is_new}
 use Rattle.mx_book.specs.Run.{book_after}
-use Rattle.mx_layout.specs.Tables.{layout_1}
 use Rattle.mx_layout.specs.Crash.{Leaves, ChangesNothing}
 use Rattle.mx_layout.proofs.CrashLemmas.{rests_kept, rests_same, leaves_same}
 use Rattle.mx_office.specs.declared.fault.Fault.{Fault}
 use Rattle.mx_office.specs.declared.fault.Fault.TheVariants.{Store}
+use Rattle.mx_office.specs.Layout.{office_schema}
 use Rattle.mx_office.specs.Stands.{Stands, Rests, IsEither}
 
+-- a call that changed nothing left the tables those of the book
+pub rests_still : (old new : State) (book : List Entry) → ChangesNothing old new → Rests old book → Rests new book
+rests_still old new book = rests_kept office_schema (λ trees. Stands trees book) old new
+
 pub rests_as : (s : State) (one other : List Entry) → (HasCleanDisk s → one ≡ other) → Rests s one → Rests s other
-rests_as s one other same r = rests_same s layout_1 (λ db. Stands db one) (λ db. Stands db other) (λ clean db is. subst (Stands db) (same clean) is) r
+rests_as s one other same r = rests_same s office_schema (λ db. Stands db one) (λ db. Stands db other) (λ clean db is. subst (Stands db) (same clean) is) r
 
 -- the book after a command that is new, and after any other
 pub after_new : (book : List Entry) (c : Entry) → judge book c ≡ New → book_after book c ≡ book ++ c ∷ []
@@ -57,4 +61,4 @@ if_ok_then (Err e) p f = tt
 -- a call that stopped, but not for the store, left the book as it was
 pub same_stopped : (result : Result Reply Fault) (old new : State) (book : List Entry) → Rests old book → (((seq : ℕ) → result ≢ Ok (Accepted seq)) → result ≢ Err Store → ChangesNothing old new) → IfErr result (λ fault. fault ≢ Store → Rests new book)
 same_stopped (Ok r) old new book rests untouched = tt
-same_stopped (Err fault) old new book rests untouched = λ other. rests_kept layout_1 (λ trees. Stands trees book) old new (untouched (λ seq is. cc) (λ is. other (cc))) rests
+same_stopped (Err fault) old new book rests untouched = λ other. rests_still old new book (untouched (λ seq is. cc) (λ is. other (cc))) rests

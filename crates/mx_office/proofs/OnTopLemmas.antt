@@ -1,5 +1,5 @@
 -- Commands on top of the tables of a book, and what a crash may leave of them.
-use Rattle.std.proofs.Common.{◌≡◌, ◌≢◌, ◌⊎◌, inl, inr, true, refl, sym, ap, subst, ◌∙◌, ◌+◌, ◌≤◌, ◌<◌, ℕ, IsTrue, List, [], ◌∷◌, ◌++◌, length, take, Option, None, Some, arith, append-nil}
+use Rattle.std.proofs.Common.{◌≡◌, ◌≢◌, inl, inr, true, refl, sym, ap, subst, ◌∙◌, ◌+◌, ◌≤◌, ℕ, IsTrue, List, [], ◌∷◌, ◌++◌, length, take, Option, Some, arith}
 use Rattle.std.specs.Prelude.{Contains}
 use Rattle.std.specs.List.Sorted.{IsPermutation}
 use Rattle.std.proofs.lemmas.List.Sorted.{IsPermutation-refl, IsPermutation-trans}
@@ -23,8 +23,8 @@ use Rattle.mx_book.proofs.GrowthLemmas.{book_run-append}
 use Rattle.mx_layout.specs.TableName.{TableName}
 use Rattle.mx_layout.specs.Contents.{rows_in}
 use Rattle.mx_layout.specs.Names.{table_named}
-use Rattle.mx_kept.specs.Schemas.{HasOwn1}
-use Rattle.mx_office.specs.Family.{added}
+use Rattle.mx_stands.specs.Family.{added}
+use Rattle.mx_office.specs.Layout.{office_point, HasTables}
 use Rattle.mx_office.specs.Stands.{Enters, HasOnTop, Holds, HoldsBook, IsEntered, IsUnwritten, MayEnter, MayLeave}
 use Rattle.mx_office.specs.declared.fault.Fault.{Fault}
 use Rattle.mx_office.specs.declared.fault.Fault.TheVariants.{Store}
@@ -34,7 +34,7 @@ use Rattle.mx_office.proofs.RunLemmas.{already_after, refused_after, was_new}
 -- ── one command ──
 
 -- a table that no command writes gained nothing
-unwritten : (name : TableName) → IsUnwritten name → (book : List Entry) (command : Entry) (old new : List Row) → IsPermutation (added name book command ++ old) new → IsPermutation old new
+unwritten : (name : TableName) → IsUnwritten name → (book : List Entry) (command : Entry) (old new : List Row) → IsPermutation (added office_point name book command ++ old) new → IsPermutation old new
 unwritten name none book command old new gained = subst (λ (rows : List Row). IsPermutation (rows ++ old) new) (none book command) gained
 
 -- a command that is new was entered
@@ -183,7 +183,7 @@ module _ {S : Type 0} (g : Ghosts S) (old tx last end : Held S) (begun : tx ≡ 
 
 module _ {S : Type 0} (g : Ghosts S) (old tx last : Held S) (begun : tx ≡ record old { in_transaction = true }) (book : List Entry) (command : Entry) (is_new : judge book command ≡ New)
     (inside : HasCleanDisk (state g last) → IsTrue (state g tx).in_transaction → StaysInside (state g tx) (state g last))
-    (enters : HasCleanDisk (state g last) → IsTrue (state g tx).in_transaction → HasOwn1 (state g tx).now.schema → HoldsBook (state g tx).now.trees book → judge book command ≡ New → Enters book command (state g tx).now (state g last).now) where
+    (enters : HasCleanDisk (state g last) → IsTrue (state g tx).in_transaction → HasTables (state g tx).now.schema → HoldsBook (state g tx).now.trees book → judge book command ≡ New → Enters book command (state g tx).now (state g last).now) where
   -- what the commit of a command that is new may leave
   pub may_enter : HasCleanDisk (state g last) → MayEnter book command (state g old) (state g last).now.trees
   may_enter clean =
@@ -192,5 +192,5 @@ module _ {S : Type 0} (g : Ghosts S) (old tx last : Held S) (begun : tx ≡ reco
       record {
         was_open = subst (λ (h : Held S). IsTrue (state g h).is_open) begun (inside clean within).was_open;
         on_top = λ has held. on_top_one book command (state g old).now (state g last).now held is_new
-            (subst (λ (d : Database). Enters book command d (state g last).now) same (enters clean within (subst (λ (d : Database). HasOwn1 d.schema) (sym same) has) (subst (λ (d : Database). HoldsBook d.trees book) (sym same) held) is_new));
+            (subst (λ (d : Database). Enters book command d (state g last).now) same (enters clean within (subst (λ (d : Database). HasTables d.schema) (sym same) has) (subst (λ (d : Database). HoldsBook d.trees book) (sym same) held) is_new));
       }

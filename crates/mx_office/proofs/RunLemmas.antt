@@ -16,7 +16,7 @@ use Rattle.mx_book.specs.declared.verdict.Verdict.{Verdict}
 use Rattle.mx_book.specs.declared.verdict.Verdict.TheVariants.{New, Already, Refused}
 use Rattle.mx_book.proofs.GrowthLemmas.{book_run-append, replies-append}
 use Rattle.mx_layout.specs.Crash.{ChangesNothing}
-use Rattle.mx_kept.specs.Schemas.{HasOwn1}
+use Rattle.mx_office.specs.Layout.{HasTables}
 use Rattle.mx_office.specs.declared.fault.Fault.{Fault}
 use Rattle.mx_office.specs.Stands.{Enters, Holds, HoldsBook, IsEntered, NoneAccepted, WasEntered}
 use Rattle.mx_office.proofs.OfficeLemmas.{after_new, after_old}
@@ -85,7 +85,7 @@ next_holds mid new b c (reply.Accepted seq) is entered same held =
     let at = it.was_open in
     let enters = it.enters (held.has at) (held.holds at) (was_new _ (judge b c) seq is) in
     record {
-      has = λ _. subst HasOwn1 (sym enters.gains.schema) (held.has at);
+      has = λ _. subst HasTables (sym enters.gains.schema) (held.has at);
       holds = λ _. subst (HoldsBook new.now.trees) (sym (accepted_after b c seq is)) enters.holds;
       settled = λ _. it.settled;
     }
@@ -93,24 +93,24 @@ next_holds mid new b c (reply.Already seq) is entered same held = still_holds mi
 next_holds mid new b c (reply.Refused why) is entered same held = still_holds mid new b _ (refused_after b c why is) (same (λ other is. cc)) held
 
 -- after the tables were read
-pub loaded_holds : (first mid : State) (book : List Entry) → HasCleanDisk mid → HasOwn1 first.now.schema → first.now ≡ first.committed → HoldsBook first.now.trees book → ChangesNothing first mid → Holds mid book
+pub loaded_holds : (first mid : State) (book : List Entry) → HasCleanDisk mid → HasTables first.now.schema → first.now ≡ first.committed → HoldsBook first.now.trees book → ChangesNothing first mid → Holds mid book
 loaded_holds first mid book clean has settled held nothing =
     let same : IsTrue mid.is_open → mid.now ≡ first.now = λ is_open. nothing.now_is clean is_open ∙ sym settled in
     record {
-      has = λ is_open. subst (λ (d : Database). HasOwn1 d.schema) (sym (same is_open)) has;
+      has = λ is_open. subst (λ (d : Database). HasTables d.schema) (sym (same is_open)) has;
       holds = λ is_open. subst (λ (d : Database). HoldsBook d.trees book) (sym (same is_open)) held;
       settled = λ is_open. nothing.now_is clean is_open ∙ sym (nothing.committed_is clean is_open);
     }
 
 -- ── what one command did, over tables that were read before ──
 
-pub was_entered : (old mid new : State) (b : List Entry) (c : Entry) (result : Result Reply Fault) → HasCleanDisk mid → HasOwn1 old.now.schema → old.now ≡ old.committed → ChangesNothing old mid → HoldsBook old.now.trees b → IfOk result (λ r. r ≡ reply b c)
+pub was_entered : (old mid new : State) (b : List Entry) (c : Entry) (result : Result Reply Fault) → HasCleanDisk mid → HasTables old.now.schema → old.now ≡ old.committed → ChangesNothing old mid → HoldsBook old.now.trees b → IfOk result (λ r. r ≡ reply b c)
     → IfOk result (λ r. (seq : ℕ) → r ≡ reply.Accepted seq → IsEntered b c mid new) → IfOk result (λ r. (seq : ℕ) → r ≡ reply.Accepted seq → WasEntered c r old new)
 was_entered old mid new b c (Err fault) clean has settled nothing held is entered = tt
 was_entered old mid new b c (Ok r) clean has settled nothing held is entered = λ seq said.
     let it = entered seq said in
     let same : mid.now ≡ old.now = nothing.now_is clean it.was_open ∙ sym settled in
-    let has_mid : HasOwn1 mid.now.schema = subst (λ (d : Database). HasOwn1 d.schema) (sym same) has in
+    let has_mid : HasTables mid.now.schema = subst (λ (d : Database). HasTables d.schema) (sym same) has in
     let held_mid : HoldsBook mid.now.trees b = subst (λ (d : Database). HoldsBook d.trees b) (sym same) held in
     record {
       book = b;

@@ -1,5 +1,5 @@
 -- The tables after one command more.
-use Rattle.std.proofs.Common.{◌≡◌, List, [], ◌∷◌, ◌++◌, map, true, refl, sym, ap, subst, ◌∙◌, append_assoc, append-nil}
+use Rattle.std.proofs.Common.{◌≡◌, List, [], ◌∷◌, ◌++◌, map, true, refl, sym, ap, subst, ◌∙◌, append_assoc}
 use Rattle.std.specs.Prelude.{Contains}
 use Rattle.std.specs.List.Sorted.{IsPermutation}
 use Rattle.std.proofs.lemmas.List.Sorted.{IsPermutation-trans, IsPermutation-append_comm, IsPermutation-append_right}
@@ -16,23 +16,21 @@ use Rattle.mx_book.proofs.JudgeLemmas.{IsBook-entered}
 use Rattle.mx_typed_rows.specs.declared.rows.EntryRow.{EntryRow}
 use Rattle.mx_typed_rows.specs.declared.register_rows.RegisterRows.{RegisterRows}
 use Rattle.mx_register.specs.Added.{AreAddedRows}
-use Rattle.mx_register.specs.Registers.{gives, entry_added}
-use Rattle.mx_register.proofs.RegisterLemmas.{gives-more}
+use Rattle.mx_register.specs.Registers.{entry_added}
 use Rattle.mx_layout.specs.TableName.{TableName}
 use Rattle.mx_layout.specs.declared.fault.Table.TheVariants as table
-use Rattle.mx_point.specs.declared.point.Point.{Point}
 use Rattle.mx_layout.specs.Contents.{rows_in}
-use Rattle.mx_layout.specs.Making.{first_point}
 use Rattle.mx_layout.specs.Names.{table_named}
-use Rattle.mx_layout.specs.Tables.{layout_1}
 use Rattle.mx_kept.specs.Family.{on_top}
-use Rattle.mx_kept.specs.Schemas.{HasOwn1}
 use Rattle.mx_kept.proofs.OntoLemmas.{on_top_keeps}
 use Rattle.mx_kept.specs.Cells.{kept_entry, kept_aircraft, kept_place, kept_component, kept_programme, kept_task, kept_opening, kept_crs, kept_crs_line, kept_defect, kept_extension, kept_sector1, kept_fit1, kept_removal1}
+use Rattle.mx_stands.specs.Family.{Rows, of, none, rows_of, first_rows, rows_given, is_at, added, brought, given, AreGiven, Fit}
+use Rattle.mx_stands.proofs.FamilyLemmas.{Facts, facts, RegisterFacts, register_facts}
+use Rattle.mx_stands.proofs.SchemaLemmas.{has_tables}
 use Rattle.mx_tables.specs.Sets.{GainsRows}
-use Rattle.mx_office.specs.Family.{Register, of, none, register_of, registers_1, added, rows_by, AreGiven, FitsAt}
-use Rattle.mx_office.specs.Stands.{Stands, StandsIn, HoldsBook, Enters, rows_given, first_rows, with_command, FitsNext, EachHas}
-use Rattle.mx_office.proofs.FamilyLemmas.{Facts, facts, each_weaker, each_with, in_schema}
+use Rattle.mx_office.specs.Layout.{office_point, office_registers, office_schema, HasTables}
+use Rattle.mx_office.specs.Stands.{Stands, HoldsBook, Enters, with_command, FitsNext}
+use Rattle.mx_office.proofs.FamilyLemmas.{IsKept, are_kept, each_register, each_with, fit_more, given_more, in_schema}
 
 -- ── one line for each table ──
 
@@ -78,55 +76,66 @@ gains_command before command old new e v entry are gains = record {
 
 -- ── for all tables alike ──
 
-each_more : (P : List Entry → Entry → Type 0) (before book : List Entry) (c : Entry) → EachHas P before book → P (before ++ book) c → EachHas P before (book ++ c ∷ [])
-each_more P before [] c each last = (subst (λ b. P b c) (append-nil before) last, tt)
-each_more P before (d ∷ book) c each last = (each.0, each_more P (before ++ d ∷ []) book c each.1 (subst (λ b. P b c) (sym (append_assoc before (d ∷ []) book)) last))
-
 -- rows that were those of the book before, and have those of the command on top, are those of the book with it
 more_rows : (given more stored new : List Row) → IsPermutation given stored → IsPermutation (more ++ stored) new → IsPermutation (given ++ more) new
 more_rows given more stored new is gained =
     IsPermutation-trans (given ++ more) (more ++ given) _ (IsPermutation-append_comm given more) (IsPermutation-trans (more ++ given) (more ++ stored) _ (IsPermutation-append_right more given stored is) gained)
 
--- the tables of a schema that stood for a book and gained the rows of a command that is new stand for the book with it
-stands_on : (schema : Schema) (at : Point) (old new : Database) (book : List Entry) (command : Entry) → old.schema ≡ schema → StandsIn schema at old.trees book → has_shape command ≡ true → judge book command ≡ New → FitsNext book command
-    → GainsRows (with_command book command) old new → (new.schema ≡ schema) × StandsIn schema at new.trees (book ++ command ∷ [])
-stands_on schema at old new book command has stands shape is_new fits gains =
-    let new_has = gains.schema ∙ has in (
+-- what a book gives a table with a command, and what is given to it by name
+given_by_name : (name : TableName) → is_at office_point name ≡ true → (book : List Entry) (command : Entry) → rows_given office_point (book ++ command ∷ []) name ≡ rows_given office_point book name ++ added office_point name book command
+given_by_name name there book command =
+    ap (λ rows. first_rows office_point name ++ rows) (given_more name (rows_of name) (facts name) (register_facts name) (are_kept name there) book command)
+    ∙ sym (append_assoc (first_rows office_point name) (given (rows_of name) office_point book) (added office_point name book command))
+
+-- the tables that stood for a book and gained the rows of a command that is new stand for the book with it
+pub stands_entered : (old new : Database) (book : List Entry) (command : Entry) → old.schema ≡ office_schema → Stands old.trees book → has_shape command ≡ true → judge book command ≡ New → FitsNext book command
+    → GainsRows (with_command book command) old new → (new.schema ≡ office_schema) × Stands new.trees (book ++ command ∷ [])
+stands_entered old new book command has stands shape is_new fits gains =
+    let new_has = gains.schema ∙ has in
+    let in_old : (name : TableName) → is_at office_point name ≡ true → Contains old.schema.tables (table_named name) = λ name there.
+    subst (λ (s : Schema). Contains s.tables (table_named name)) (sym has) ((has_tables office_point name).0 there) in (
       new_has,
       record {
-        sound = subst (λ (s : Schema). IsSound s new.trees) new_has (gains.sound (subst (λ (s : Schema). IsSound s old.trees) (sym has) stands.sound));
-        is_book = IsBook-entered book command stands.is_book shape is_new;
-        fit = λ name. each_more (FitsAt name) [] book command (stands.fit name) (fits name);
-        tables = λ name there.
-            let is : rows_given at (book ++ command ∷ []) name ≡ rows_given at book name ++ added name book command = ap (λ rows. first_rows at name ++ rows) (gives-more (added name) [] book command) ∙ sym (append_assoc (first_rows at name) (gives (added name) [] book) (added name book command)) in
-            subst (λ rows. IsPermutation rows (rows_in (table_named name) new.trees)) (sym is)
-            (more_rows (rows_given at book name) (added name book command) (rows_in (table_named name) old.trees) (rows_in (table_named name) new.trees) (stands.tables name there) (gains.tables name (subst (λ (s : Schema). Contains s.tables (table_named name)) (sym has) there)));
+        lies = record {
+          sound = subst (λ (s : Schema). IsSound s new.trees) new_has (gains.sound (subst (λ (s : Schema). IsSound s old.trees) (sym has) stands.lies.sound));
+          rises = λ name there. gains.rises name (in_old name there) (stands.lies.rises name there);
+        };
+        rows = record {
+          is_book = IsBook-entered book command stands.rows.is_book shape is_new;
+          point = stands.rows.point;
+          fit = λ name there. fit_more name (rows_of name) (facts name) (register_facts name) (are_kept name there) book command (stands.rows.fit name there) (fits name);
+          tables = λ name there. subst (λ rows. IsPermutation rows (rows_in (table_named name) new.trees)) (sym (given_by_name name there book command))
+              (more_rows (rows_given office_point book name) (added office_point name book command) (rows_in (table_named name) old.trees) (rows_in (table_named name) new.trees) (stands.rows.tables name there) (gains.tables name (in_old name there)));
+        };
       },
     )
 
-pub stands_entered : (old new : Database) (book : List Entry) (command : Entry) → old.schema ≡ layout_1 → Stands old.trees book → has_shape command ≡ true → judge book command ≡ New → FitsNext book command
-    → GainsRows (with_command book command) old new → (new.schema ≡ layout_1) × Stands new.trees (book ++ command ∷ [])
-stands_entered old new book command has stands shape is_new fits gains =
-    let on = stands_on layout_1 first_point old new book command has stands.is shape is_new fits gains in (on.0, record { is = on.1 })
-
 -- a register that gained the rows of the command
-more_at : (name : TableName) (f : Register) → Facts name f → (old new : Trees) (book : List Entry) (command : Entry) → AreGiven f old book → IsPermutation (rows_by f book command ++ rows_in (table_named name) old) (rows_in (table_named name) new)
-    → AreGiven f new (book ++ command ∷ [])
-more_at name (of k by read) facts old new book command is gained =
-    let cells = λ (b : List Entry) (c : Entry). map k.as_cells (by b c) in
-    let gained_here = subst (λ n. IsPermutation (cells book command ++ rows_in (table_named n) old) (rows_in (table_named n) new)) (sym facts.is_named) gained in
-    subst (λ rows. IsPermutation rows (rows_in (table_named k.name) new)) (sym (gives-more cells [] book command)) (more_rows (gives cells [] book) (cells book command) (rows_in (table_named k.name) old) (rows_in (table_named k.name) new) is gained_here)
-more_at name none facts old new book command is gained = tt
+more_at : (name : TableName) (f : Rows) → Facts name f → RegisterFacts f → IsKept f → (old new : Trees) (book : List Entry) (command : Entry) → AreGiven f office_point old book
+    → IsPermutation (brought f office_point book command ++ rows_in (table_named name) old) (rows_in (table_named name) new) → AreGiven f office_point new (book ++ command ∷ [])
+more_at name (of k line change read) facts more kept old new book command is gained =
+    let f = of k line change read in
+    let brings = brought f office_point book command in
+    let gained_here = subst (λ n. IsPermutation (brings ++ rows_in (table_named n) old) (rows_in (table_named n) new)) (sym facts.is_named) gained in
+    subst (λ rows. IsPermutation rows (rows_in (table_named k.name) new)) (sym (given_more name f facts more kept book command))
+    (more_rows (given f office_point book) brings (rows_in (table_named k.name) old) (rows_in (table_named k.name) new) is gained_here)
+more_at name none facts more kept old new book command is gained = tt
 
 -- the tables that held a book and gained the rows of a command that is new hold the book with it
-pub enters : (old new : Database) (book : List Entry) (command : Entry) → HasOwn1 old.schema → HoldsBook old.trees book → has_shape command ≡ true → judge book command ≡ New → FitsNext book command
+pub enters : (old new : Database) (book : List Entry) (command : Entry) → HasTables old.schema → HoldsBook old.trees book → has_shape command ≡ true → judge book command ≡ New → FitsNext book command
     → GainsRows (with_command book command) old new → Enters book command old new
-enters old new book command has holds shape is_new fits gains = record {
-  gains = gains;
-  holds = record {
-    is_book = IsBook-entered book command holds.is_book shape is_new;
-    fit = each_weaker (λ name. EachHas (FitsAt name) [] book) (λ name. EachHas (FitsAt name) [] (book ++ command ∷ [])) (λ name fit. each_more (FitsAt name) [] book command fit (fits name)) registers_1 holds.fit;
-    tables = each_with (λ name. Contains old.schema.tables (table_named name)) (λ name. AreGiven (register_of name) old.trees book) (λ name. AreGiven (register_of name) new.trees (book ++ command ∷ []))
-        (λ name there given. more_at name (register_of name) (facts name) old.trees new.trees book command given (gains.tables name there)) registers_1 (in_schema old.schema has) holds.tables;
-  };
-}
+enters old new book command has holds shape is_new fits gains =
+    let There : TableName → Type 0 = λ name. is_at office_point name ≡ true in
+    let there = each_register There (λ name there. there) in
+    let Had : TableName → Type 0 = λ name. Fit (rows_of name) office_point book in
+    let Given : TableName → Type 0 = λ name. AreGiven (rows_of name) office_point old.trees book in
+    record {
+      gains = gains;
+      holds = record {
+        is_book = IsBook-entered book command holds.is_book shape is_new;
+        fit = each_with There Had (λ name. Fit (rows_of name) office_point (book ++ command ∷ []))
+            (λ name there fit. fit_more name (rows_of name) (facts name) (register_facts name) (are_kept name there) book command fit (fits name)) office_registers there holds.fit;
+        tables = each_with There Given (λ name. AreGiven (rows_of name) office_point new.trees (book ++ command ∷ []))
+            (λ name there given. more_at name (rows_of name) (facts name) (register_facts name) (are_kept name there) old.trees new.trees book command given (gains.tables name (in_schema old.schema has name there))) office_registers there holds.tables;
+      };
+    }

@@ -15,52 +15,52 @@ use Rattle.mx_office.specs.declared.fault.Ask.TheVariants.{Refused}
 use Rattle.mx_office.specs.declared.fault.Fault.TheVariants as fault
 use Rattle.mx_office.specs.declared.fault.OpenFault.TheVariants as unopened
 use Rattle.mx_office.specs.Faults.{fault_from, found_or, open_answer, open_fault_from, unknown}
-use Rattle.mx_layout.specs.Making.{first_point}
-use Rattle.mx_office.specs.Stands.{rows_given}
+use Rattle.mx_stands.specs.Family.{rows_given}
+use Rattle.mx_office.specs.Layout.{office_point}
 
 number : ℕ → Value
 number n = Int (pos n)
 
 -- ── D-ABCD with two engines, one of them replaced after a sector ──
 
-at_the_first_point : rows_given first_point replaced Office ≡ (number 1 ∷ number 1 ∷ number 0 ∷ number 0 ∷ []) ∷ []
+at_the_first_point : rows_given office_point replaced Office ≡ (number 1 ∷ number 1 ∷ number 0 ∷ number 0 ∷ []) ∷ []
 unfolding number
 at_the_first_point = refl
 
-seven_entries : rows_given first_point replaced Entry
+seven_entries : rows_given office_point replaced Entry
     ≡ (number 1 ∷ Text (codes "A1") ∷ number 1 ∷ []) ∷ (number 2 ∷ Text (codes "C1") ∷ number 2 ∷ []) ∷ (number 3 ∷ Text (codes "C2") ∷ number 2 ∷ []) ∷ (number 4 ∷ Text (codes "F1") ∷ number 6 ∷ [])
     ∷ (number 5 ∷ Text (codes "TL/D-ABCD/12/1") ∷ number 5 ∷ []) ∷ (number 6 ∷ Text (codes "R1") ∷ number 7 ∷ []) ∷ (number 7 ∷ Text (codes "F2") ∷ number 6 ∷ []) ∷ []
 unfolding number
 seven_entries = refl
 
-one_aircraft : rows_given first_point replaced Aircraft ≡ (number 1 ∷ Text (codes "D-ABCD") ∷ Text (codes "C172") ∷ number 10957 ∷ number 60000 ∷ number 800 ∷ number 28401120 ∷ []) ∷ []
+one_aircraft : rows_given office_point replaced Aircraft ≡ (number 1 ∷ Text (codes "D-ABCD") ∷ Text (codes "C172") ∷ number 10957 ∷ number 60000 ∷ number 800 ∷ number 28401120 ∷ []) ∷ []
 unfolding number
 one_aircraft = refl
 
-two_positions : rows_given first_point replaced Place ≡ (number 1 ∷ number 1 ∷ Text (codes "ENG") ∷ Text (codes "IO360") ∷ []) ∷ (number 1 ∷ number 2 ∷ Text (codes "PROP") ∷ Text (codes "HC2") ∷ []) ∷ []
+two_positions : rows_given office_point replaced Place ≡ (number 1 ∷ number 1 ∷ Text (codes "ENG") ∷ Text (codes "IO360") ∷ []) ∷ (number 1 ∷ number 2 ∷ Text (codes "PROP") ∷ Text (codes "HC2") ∷ []) ∷ []
 unfolding number
 two_positions = refl
 
-two_engines : rows_given first_point replaced Component
+two_engines : rows_given office_point replaced Component
     ≡ (number 2 ∷ Text (codes "E1") ∷ Text (codes "IO360") ∷ number 14610 ∷ number 1000 ∷ number 100 ∷ number 28401120 ∷ [])
     ∷ (number 3 ∷ Text (codes "E2") ∷ Text (codes "IO360") ∷ number 14610 ∷ number 1000 ∷ number 100 ∷ number 28401120 ∷ []) ∷ []
 unfolding number
 two_engines = refl
 
-one_sector : rows_given first_point replaced Sector1 ≡ (number 5 ∷ number 1 ∷ number 12 ∷ number 1 ∷ Text (codes "2024-03-01T08:00") ∷ Text (codes "2024-03-01T09:30") ∷ number 1 ∷ []) ∷ []
+one_sector : rows_given office_point replaced Sector1 ≡ (number 5 ∷ number 1 ∷ number 12 ∷ number 1 ∷ Text (codes "2024-03-01T08:00") ∷ Text (codes "2024-03-01T09:30") ∷ number 1 ∷ []) ∷ []
 unfolding number digits moment_text day_text date_of
 one_sector = refl
 
-two_fittings : rows_given first_point replaced Fit1
+two_fittings : rows_given office_point replaced Fit1
     ≡ (number 4 ∷ number 2 ∷ number 1 ∷ Text (codes "ENG") ∷ Text (codes "2024-02-01T00:00") ∷ []) ∷ (number 7 ∷ number 3 ∷ number 1 ∷ Text (codes "ENG") ∷ Text (codes "2024-03-01T09:30") ∷ []) ∷ []
 unfolding number digits moment_text day_text date_of
 two_fittings = refl
 
-one_removal : rows_given first_point replaced Removal1 ≡ (number 6 ∷ number 2 ∷ Text (codes "2024-03-01T09:30") ∷ []) ∷ []
+one_removal : rows_given office_point replaced Removal1 ≡ (number 6 ∷ number 2 ∷ Text (codes "2024-03-01T09:30") ∷ []) ∷ []
 unfolding number digits moment_text day_text date_of
 one_removal = refl
 
-no_programme : rows_given first_point replaced Programme ≡ []
+no_programme : rows_given office_point replaced Programme ≡ []
 no_programme = refl
 
 -- ── what opening answers ──

@@ -8,12 +8,12 @@ use Rattle.mx_book.specs.Run.{book_run, replies}
 use Rattle.mx_book.specs.declared.verdict.Reply.{Reply}
 use Rattle.mx_layout.specs.TableName.{TableName}
 use Rattle.mx_layout.specs.Crash.{Leaves, ChangesNothing}
-use Rattle.mx_kept.specs.Schemas.{HasOwn1}
 use Rattle.mx_office.specs.declared.fault.Ask.{Ask}
 use Rattle.mx_office.specs.declared.fault.Ask.TheVariants.{Refused, Failed}
 use Rattle.mx_office.specs.declared.fault.Fault.{Fault}
 use Rattle.mx_office.specs.declared.fault.Fault.TheVariants.{Memory, Store, NeedsReopen, Damaged}
 use Rattle.mx_office.specs.declared.office.Office.{Office}
+use Rattle.mx_office.specs.Layout.{HasTables}
 use Rattle.mx_office.specs.Office.{office_state, IsReady, IsInDoubt, StandsFor}
 use Rattle.mx_office.specs.Stands.{HoldsBook, IsEither, IsReasonFor, MayLeave, NoneAccepted, RanOver, Rests}
 
@@ -80,16 +80,16 @@ pub record RunsOverRows {S : Type 0} {g : Ghosts S} (commands : List Entry) (sai
   -- where no command was accepted no table changes
   pub untouched : IsReady old → NoneAccepted said → stop ≢ Some Store → (new ≡ old) ⊎ ChangesNothing (office_state old) (office_state new)
   -- whatever it answered, a crash leaves the tables from before, or those with the first of the commands on top: as many as have a reply at most, or one more where the store failed
-  pub crash : HasOwn1 (office_state old).now.schema → (office_state old).now ≡ (office_state old).committed → Survives (office_state old) (office_state new) (λ trees. (book : List Entry) × MayLeave book commands said stop (office_state old) trees)
+  pub crash : HasTables (office_state old).now.schema → (office_state old).now ≡ (office_state old).committed → Survives (office_state old) (office_state new) (λ trees. (book : List Entry) × MayLeave book commands said stop (office_state old) trees)
   -- a call that memory and the store did not stop found the connection open
   pub was_open : IsReady old → commands ≢ [] → HasCleanDisk (office_state new) → stop ≢ Some Memory → stop ≢ Some Store → IsTrue (office_state old).is_open
   -- what was replied is what some book replies that the tables held
-  pub told : HasCleanDisk (office_state new) → HasOwn1 (office_state old).now.schema → said ≢ [] → (book : List Entry) × HoldsBook (office_state old).now.trees book × (said ≡ replies book (take (length said) commands))
+  pub told : HasCleanDisk (office_state new) → HasTables (office_state old).now.schema → said ≢ [] → (book : List Entry) × HoldsBook (office_state old).now.trees book × (said ≡ replies book (take (length said) commands))
   -- and they hold that book behind the commands that have a reply
-  pub sound : HasCleanDisk (office_state new) → HasOwn1 (office_state old).now.schema → (office_state old).now ≡ (office_state old).committed → said ≢ [] → stop ≢ Some Store
+  pub sound : HasCleanDisk (office_state new) → HasTables (office_state old).now.schema → (office_state old).now ≡ (office_state old).committed → said ≢ [] → stop ≢ Some Store
       → RanOver (take (length said) commands) said (office_state old) (office_state new)
   -- a table is told to be damaged for a reason, before any reply
-  pub damaged : HasCleanDisk (office_state new) → HasOwn1 (office_state old).now.schema → (table : TableName) → stop ≡ Some (Damaged table) → (said ≡ []) × IsReasonFor (office_state old).now.trees table
+  pub damaged : HasCleanDisk (office_state new) → HasTables (office_state old).now.schema → (table : TableName) → stop ≡ Some (Damaged table) → (said ≡ []) × IsReasonFor (office_state old).now.trees table
 
 -- ── a run ──
 

@@ -11,6 +11,7 @@ use Rattle.mx_point.specs.declared.point.Point.{Point}
 use Rattle.mx_layout.specs.Point.{point_cells, IsPoint}
 use Rattle.mx_layout.specs.Reading.{HasOther}
 use Rattle.sqlite.specs.Order.{Row}
+use Rattle.mx_office.specs.Layout.{office_point}
 use Rattle.mx_office.specs.declared.fault.Fault.{Fault}
 use Rattle.mx_office.specs.declared.fault.Fault.TheVariants.{Memory, Store, Damaged}
 use Rattle.mx_office.specs.declared.fault.OpenFault.{OpenFault}
@@ -34,13 +35,13 @@ open_fault_from table.Store = unopened.Store
 open_fault_from table.NotOurs = unopened.NotOurs
 open_fault_from table.Exists = unopened.Store
 
--- the point is settled at layout 1
-abbrev pub is_first : Point → Bool
-is_first p = nat_eq p.layout 1 && nat_eq p.step 0 && nat_eq p.mark 0
+-- the point is that of the office
+abbrev pub is_office_point : Point → Bool
+is_office_point p = nat_eq p.layout office_point.layout && nat_eq p.step office_point.step && nat_eq p.mark office_point.mark
 
--- why no office was opened, where the file is at this point: its layout is newer than 1, or no file can be at the point
+-- why no office was opened, where the file is at this point: its layout is newer than that of the office, or no file can be at the point
 abbrev pub open_answer : Point → Option OpenFault
-open_answer p = if nat_lt 1 p.layout then Some (unopened.NewerLayout p.layout) else if is_first p then None else Some (unopened.Damaged Office)
+open_answer p = if nat_lt office_point.layout p.layout then Some (unopened.NewerLayout p.layout) else if is_office_point p then None else Some (unopened.Damaged Office)
 
 -- why an item is unknown
 abbrev pub unknown : Item → Refusal

@@ -1,6 +1,6 @@
 pub mod Calls
 pub mod Faults
-pub mod Family
+pub mod Layout
 pub mod Office
 pub mod Opening
 pub mod Questions

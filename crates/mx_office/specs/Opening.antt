@@ -9,12 +9,12 @@ use Rattle.mx_point.specs.declared.point.Point.{Point}
 use Rattle.mx_layout.specs.Contents.{rows_in}
 use Rattle.mx_layout.specs.Crash.{ChangesNothing}
 use Rattle.mx_layout.specs.Listed.{LacksOffice}
-use Rattle.mx_layout.specs.Making.{first_point}
 use Rattle.mx_layout.specs.Point.{point_cells, FitsPoint, HoldsPoint, TellsPoint}
 use Rattle.mx_layout.specs.Tables.{office, HasOffice}
 use Rattle.mx_office.specs.declared.fault.OpenFault.{OpenFault}
 use Rattle.mx_office.specs.declared.fault.OpenFault.TheVariants as unopened
 use Rattle.mx_office.specs.Faults.{open_answer, open_fault_from, IsReason, IsUnopened}
+use Rattle.mx_office.specs.Layout.{office_point}
 use Rattle.mx_office.specs.Stands.{Rests}
 
 -- a call left the database as it was
@@ -26,8 +26,8 @@ pub record LeavesAll (old new : State) : Type 0 where
 
 -- what is known of a database in which an office was opened: nothing of its other tables, each of which is looked at by the calls that need it
 pub record WasOurs (was : State) : Type 0 where
-  -- its table `office` has one row, that of the settled point of layout 1
-  pub settled : (IsTrue was.is_open → HasOffice was.now.schema) → rows_in office was.now.trees ≡ point_cells first_point ∷ []
+  -- its table `office` has one row, that of the point of the office
+  pub settled : (IsTrue was.is_open → HasOffice was.now.schema) → rows_in office was.now.trees ≡ point_cells office_point ∷ []
   -- at no other point is one opened
   pub exact : (p : Point) → (IsTrue was.is_open → HoldsPoint p was.now) → FitsPoint p → open_answer p ≡ None
   -- nor where no table is named `office`
@@ -38,9 +38,9 @@ abbrev pub IsWhy : Result Point TableFault → OpenFault → Type 0
 IsWhy (Ok p) why = open_answer p ≡ Some why
 IsWhy (Err fault) why = why ≡ open_fault_from fault
 
--- the query of `office`, in whatever schema, says whether an office is opened: it showed the row of the settled point of layout 1 and no other, or it says why none is
+-- the query of `office`, in whatever schema, says whether an office is opened: it showed the row of the point of the office and no other, or it says why none is
 abbrev pub SaysPoint : {S : Type 0} → Ghosts S → Held S → Option OpenFault → Type 0
-SaysPoint g was None = TellsPoint g was (Ok first_point)
+SaysPoint g was None = TellsPoint g was (Ok office_point)
 SaysPoint g was (Some why) = (answer : Result Point TableFault) × TellsPoint g was answer × IsWhy answer why
 
 -- why no office was opened in a database

@@ -4,13 +4,13 @@ use Rattle.sqlite.specs.Store.{Ghosts}
 use Rattle.sqlite.specs.State.{HasCleanDisk}
 use Rattle.mx_command.specs.Act.{Entry}
 use Rattle.mx_layout.specs.TableName.{TableName}
-use Rattle.mx_kept.specs.Schemas.{HasOwn1}
 use Rattle.mx_office.specs.declared.fault.Ask.{Ask}
 use Rattle.mx_office.specs.declared.fault.Ask.TheVariants.{Failed}
 use Rattle.mx_office.specs.declared.fault.Fault.{Fault}
 use Rattle.mx_office.specs.declared.fault.Fault.TheVariants.{Damaged}
 use Rattle.mx_office.specs.declared.office.Office.{Office}
 use Rattle.mx_office.specs.Faults.{IsAnswer}
+use Rattle.mx_office.specs.Layout.{HasTables}
 use Rattle.mx_office.specs.Office.{office_state, IsReady, StandsFor}
 use Rattle.mx_office.specs.Stands.{HoldsBook, IsReasonFor}
 
@@ -19,6 +19,6 @@ pub record IsAnsweredBy {S : Type 0} {g : Ghosts S} {X : Type 0} (said : List En
   -- of the book that the tables stand for, unless memory or the store failed
   pub exact : (book : List Entry) → IsReady old → StandsFor old book → HasCleanDisk (office_state new) → IsAnswer (said book) result
   -- of whichever book the tables hold, if it was answered at all
-  pub sound : HasCleanDisk (office_state new) → HasOwn1 (office_state old).now.schema → ((fault : Fault) → result ≢ Err (Failed fault)) → (book : List Entry) × HoldsBook (office_state old).now.trees book × (result ≡ said book)
+  pub sound : HasCleanDisk (office_state new) → HasTables (office_state old).now.schema → ((fault : Fault) → result ≢ Err (Failed fault)) → (book : List Entry) × HoldsBook (office_state old).now.trees book × (result ≡ said book)
   -- a table is answered damaged for a reason
-  pub damaged : HasCleanDisk (office_state new) → HasOwn1 (office_state old).now.schema → (table : TableName) → result ≡ Err (Failed (Damaged table)) → IsReasonFor (office_state old).now.trees table
+  pub damaged : HasCleanDisk (office_state new) → HasTables (office_state old).now.schema → (table : TableName) → result ≡ Err (Failed (Damaged table)) → IsReasonFor (office_state old).now.trees table

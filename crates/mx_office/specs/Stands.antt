@@ -1,93 +1,53 @@
--- The tables that stand for a book. No definition here names a table but that of the point.
-use Rattle.std.specs.Prelude.{⊤, ◌≡◌, ◌⊎◌, ◌≤◌, ◌+◌, ℕ, IsTrue, List, [], ◌∷◌, ◌++◌, length, take, Option, Some, All, Contains, IsPermutation}
+-- The tables that stand for a book, at the point at which the office keeps them. No definition here names a table but that of the entries.
+use Rattle.std.specs.Prelude.{◌≡◌, ◌⊎◌, ◌≤◌, ◌+◌, ℕ, IsTrue, List, [], ◌∷◌, ◌++◌, length, take, Option, Some, All, Contains, IsPermutation}
 use Rattle.std.specs.List.{AllByRecursion}
 use Rattle.sqlite.specs.Order.{Row}
-use Rattle.sqlite.specs.Schema.{Schema}
 use Rattle.sqlite.specs.Tree.{Trees}
 use Rattle.sqlite.specs.Effect.{Database}
 use Rattle.sqlite.specs.State.{State}
-use Rattle.sqlite_catalog.specs.Listing.{IsSound}
 use Rattle.mx_command.specs.Act.{Entry}
-use Rattle.mx_book.specs.Book.{IsBook}
 use Rattle.mx_book.specs.Judge.{judge}
 use Rattle.mx_book.specs.Run.{book_run, reply, replies}
 use Rattle.mx_book.specs.declared.verdict.Reply.{Reply}
 use Rattle.mx_book.specs.declared.verdict.Reply.TheVariants.{Accepted}
 use Rattle.mx_book.specs.declared.verdict.Verdict.TheVariants.{New}
 use Rattle.mx_register.specs.declared.merge.Registers.{Registers}
-use Rattle.mx_register.specs.Registers.{gives}
 use Rattle.mx_layout.specs.TableName.{TableName}
 use Rattle.mx_layout.specs.declared.fault.Table.TheVariants as table
-use Rattle.mx_point.specs.declared.point.Point.{Point}
 use Rattle.mx_layout.specs.Contents.{rows_in}
-use Rattle.mx_layout.specs.Crash.{RestsAs}
-use Rattle.mx_layout.specs.Making.{first_point}
 use Rattle.mx_layout.specs.Names.{table_named}
-use Rattle.mx_layout.specs.Point.{point_cells}
-use Rattle.mx_layout.specs.Tables.{layout_1}
 use Rattle.mx_kept.specs.Family.{IsReadable}
-use Rattle.mx_kept.specs.Schemas.{HasOwn1}
-use Rattle.mx_tables.specs.Sets.{GainsRows, IsDamaged}
+use Rattle.mx_stands.specs.Family.{Rows, of, rows_of, added, FitBrought}
+use Rattle.mx_stands.specs.Stands.{HoldsAt, RestsAt, StandsAt, IsEither as IsEitherAt}
+use Rattle.mx_tables.specs.Sets.{AreRowsOf, GainsRows, IsDamaged}
+use Rattle.mx_office.specs.Layout.{office_point, office_registers, HasTables}
 use Rattle.mx_office.specs.declared.fault.Fault.{Fault}
 use Rattle.mx_office.specs.declared.fault.Fault.TheVariants.{Store}
-use Rattle.mx_office.specs.Family.{added, register_of, registers_1, AreGiven, AreRead, FitsAt}
-
--- ── the rows of a book ──
-
--- the rows of each table before any command, where the file is at this point
-abbrev pub first_rows : Point → TableName → List Row
-first_rows at table.Office = point_cells at ∷ []
-first_rows at _ = []
-
--- the rows that a book gives to each table of a file that is at this point
-abbrev pub rows_given : Point → List Entry → TableName → List Row
-rows_given at book name = first_rows at name ++ gives (added name) [] book
-
--- each entry has P, behind the entries before it
-abbrev pub EachHas : (List Entry → Entry → Type 0) → List Entry → List Entry → Type 0
-EachHas P before [] = ⊤
-EachHas P before (entry ∷ later) = P before entry × EachHas P (before ++ entry ∷ []) later
-
--- the rows of a command, behind the entries before it, can be kept in their columns
-abbrev pub FitsNext : List Entry → Entry → Type 0
-FitsNext before command = (name : TableName) → FitsAt name before command
-
--- the rows of the book can be kept in their columns
-abbrev pub FitBook : List Entry → Type 0
-FitBook book = (name : TableName) → EachHas (FitsAt name) [] book
 
 -- ── the tables of a book ──
 
--- the trees are the tables of this schema and no others, each table has exactly the rows that this book gives it at this point, and each row can be kept in its columns
-pub record StandsIn (schema : Schema) (at : Point) (trees : Trees) (book : List Entry) : Type 0 where
-  pub sound : IsSound schema trees
-  pub is_book : IsBook book
-  pub fit : FitBook book
-  pub tables : (name : TableName) → Contains schema.tables (table_named name) → IsPermutation (rows_given at book name) (rows_in (table_named name) trees)
+-- the trees are the tables of the office, and stand for this book
+abbrev pub Stands : Trees → List Entry → Type 0
+Stands = StandsAt office_point
 
--- the trees are the tables of layout 1, settled there, and stand for this book
-pub record Stands (trees : Trees) (book : List Entry) : Type 0 where
-  pub is : StandsIn layout_1 first_point trees book
-
--- each of these tables has exactly the rows that this book gives it, whatever the other tables have, and each row can be kept in its columns
-pub record HoldsIn (registers : List TableName) (trees : Trees) (book : List Entry) : Type 0 where
-  pub is_book : IsBook book
-  pub fit : AllByRecursion (λ name. EachHas (FitsAt name) [] book) registers
-  pub tables : AllByRecursion (λ name. AreGiven (register_of name) trees book) registers
-
--- the tables of layout 1 that commands write hold the rows of this book, whatever the other tables have
+-- the registers hold the rows of this book, whatever the other tables have
 abbrev pub HoldsBook : Trees → List Entry → Type 0
-HoldsBook = HoldsIn registers_1
+HoldsBook = HoldsAt office_point
 
 -- ── what was read ──
 
+-- what was read of a register is exactly the rows of its table, in their order; nothing else is read
+abbrev pub AreRead : Rows → Trees → Registers → Type 0
+AreRead (of k line change (Some read)) trees r = AreRowsOf k trees (read r)
+AreRead _ trees r = ⊥
+
 -- the registers that were read have exactly the rows of their tables, in their order
 abbrev pub HaveRowsOf : Trees → Registers → Type 0
-HaveRowsOf trees r = AllByRecursion (λ name. AreRead (register_of name) trees r) registers_1
+HaveRowsOf trees r = AllByRecursion (λ name. AreRead (rows_of name) trees r) office_registers
 
--- each row of the tables that commands write is of its table's type, and no book has these rows
+-- each row of the registers is of its table's type, and no book has these rows
 pub record IsOfNoBook (trees : Trees) : Type 0 where
-  pub readable : AllByRecursion (λ name. All (IsReadable name) (rows_in (table_named name) trees)) registers_1
+  pub readable : AllByRecursion (λ name. All (IsReadable name) (rows_in (table_named name) trees)) office_registers
   pub no_book : (book : List Entry) → HoldsBook trees book → ⊥
 
 -- why a table is answered damaged: some row of it is none of its type; and the entries, also where the rows are those of no book
@@ -96,9 +56,13 @@ IsReasonFor trees name = IsDamaged trees name ⊎ ((name ≡ table.Entry) × IsO
 
 -- ── one command ──
 
+-- the rows of a command, behind the entries before it, can be kept in their columns
+abbrev pub FitsNext : List Entry → Entry → Type 0
+FitsNext before command = (name : TableName) → FitBrought (rows_of name) office_point before command
+
 -- the rows of a command, on top of those that a table has
 abbrev pub with_command : List Entry → Entry → TableName → List Row → List Row
-with_command before command name rows = added name before command ++ rows
+with_command before command name rows = added office_point name before command ++ rows
 
 -- a command was entered behind the entries of a book: each table has the rows of the command on top of those from before, so that a table that it does not write is as it was, and the tables hold the book with the command
 pub record Enters (book : List Entry) (command : Entry) (old new : Database) : Type 0 where
@@ -107,7 +71,7 @@ pub record Enters (book : List Entry) (command : Entry) (old new : Database) : T
 
 -- no command writes the table
 abbrev pub IsUnwritten : TableName → Type 0
-IsUnwritten name = (before : List Entry) (command : Entry) → added name before command ≡ []
+IsUnwritten name = (before : List Entry) (command : Entry) → added office_point name before command ≡ []
 
 -- commands were entered on top of tables that held this book: they hold the book behind the commands, and a table that no command writes is as it was
 pub record HasOnTop (book commands : List Entry) (old : Database) (trees : Trees) : Type 0 where
@@ -119,11 +83,11 @@ pub record HasOnTop (book commands : List Entry) (old : Database) (trees : Trees
 
 -- no transaction is open, and the tables, and each state of them that a crash may leave, stand for the book
 abbrev pub Rests : State → List Entry → Type 0
-Rests s book = RestsAs s layout_1 (λ trees. Stands trees book)
+Rests = RestsAt office_point
 
 -- the tables stand for one of two books
 abbrev pub IsEither : List Entry → List Entry → Trees → Type 0
-IsEither one other trees = Stands trees one ⊎ Stands trees other
+IsEither = IsEitherAt office_point
 
 -- ── one call, over tables that hold a book and whatever else ──
 
@@ -131,7 +95,7 @@ IsEither one other trees = Stands trees one ⊎ Stands trees other
 pub record IsEntered (book : List Entry) (command : Entry) (old new : State) : Type 0 where
   pub was_open : IsTrue old.is_open
   pub settled : new.now ≡ new.committed
-  pub enters : HasOwn1 old.now.schema → HoldsBook old.now.trees book → judge book command ≡ New → Enters book command old.now new.now
+  pub enters : HasTables old.now.schema → HoldsBook old.now.trees book → judge book command ≡ New → Enters book command old.now new.now
 
 -- the tables held a book to which this is the reply, and the command was entered behind its entries, in the last commit
 pub record WasEntered (command : Entry) (said : Reply) (old new : State) : Type 0 where
@@ -143,14 +107,14 @@ pub record WasEntered (command : Entry) (said : Reply) (old new : State) : Type 
 
 -- while the connection is open, its tables are those of the last commit and hold this book
 pub record Holds (s : State) (book : List Entry) : Type 0 where
-  pub has : IsTrue s.is_open → HasOwn1 s.now.schema
+  pub has : IsTrue s.is_open → HasTables s.now.schema
   pub holds : IsTrue s.is_open → HoldsBook s.now.trees book
   pub settled : IsTrue s.is_open → s.now ≡ s.committed
 
 -- what a crash may leave of the commit of one command, beside the tables from before: where those held this book, they have the command on top
 pub record MayEnter (book : List Entry) (command : Entry) (old : State) (trees : Trees) : Type 0 where
   pub was_open : IsTrue old.is_open
-  pub on_top : HasOwn1 old.now.schema → HoldsBook old.now.trees book → HasOnTop book (command ∷ []) old.now trees
+  pub on_top : HasTables old.now.schema → HoldsBook old.now.trees book → HasOnTop book (command ∷ []) old.now trees
 
 -- as many commands reached the tables as have a reply, or fewer; or one more, where the store failed
 abbrev pub IsReached : List Reply → Option Fault → ℕ → Type 0

@@ -6,9 +6,8 @@ ghost use Rattle.sqlite_trees.specs.View.{doubt};
 ghost use Rattle.mx_book.specs.Judge.{judge};
 ghost use Rattle.mx_register.specs.Added.{AreAddedRows};
 ghost use Rattle.mx_layout.specs.Crash.{Leaves, StaysIn};
-ghost use Rattle.mx_layout.specs.Tables.{layout_1};
-ghost use Rattle.mx_kept.specs.Schemas.{HasOwn1};
 ghost use Rattle.mx_tables.specs.Sets.{GainsRows};
+ghost use Rattle.mx_office.specs.Layout.{office_schema, HasTables};
 ghost use Rattle.mx_office.specs.Stands.{Enters, FitsNext, HoldsBook, IsEntered, MayEnter, Stands, Rests, IsEither, with_command};
 
 use mx_book::{Book, Verdict};
@@ -31,7 +30,7 @@ fn add_rows<S: Alter>(
     ensures adds { let old = state S.Store tx.old.conn.now in
         let new = state S.Store tx.new.conn.now in
         HasCleanDisk new → IsTrue old.in_transaction
-        → HasOwn1 old.now.schema
+        → HasTables old.now.schema
         → OnOk result (GainsRows (with_command book.now command.now) old.now new.now) }
     ensures fits { FitsNext book.now command.now }
 {
@@ -52,14 +51,14 @@ fn add_command<S: Alter>(
     ensures stays { StaysIn S.Store (OnOk result) tx.old tx.new }
     ensures enters { let old = state S.Store tx.old.conn.now in
         let new = state S.Store tx.new.conn.now in
-        HasCleanDisk new → IsTrue old.in_transaction → HasOwn1 old.now.schema
+        HasCleanDisk new → IsTrue old.in_transaction → HasTables old.now.schema
         → HoldsBook old.now.trees book.now → judge book.now command.now ≡ Verdict.New
         → OnOk result (Enters book.now command.now old.now new.now) }
     ensures stands { let old = state S.Store tx.old.conn.now in
         let new = state S.Store tx.new.conn.now in
-        HasCleanDisk new → IsTrue old.in_transaction → old.now.schema ≡ layout_1
+        HasCleanDisk new → IsTrue old.in_transaction → old.now.schema ≡ office_schema
         → Stands old.now.trees book.now → judge book.now command.now ≡ Verdict.New
-        → OnOk result ((new.now.schema ≡ layout_1)
+        → OnOk result ((new.now.schema ≡ office_schema)
         × Stands new.now.trees (book.now ++ command.now ∷ [])) }
 {
     // A command has its shape.

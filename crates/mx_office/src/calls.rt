@@ -2,7 +2,7 @@
 ghost use Rattle.std.specs.Prelude.{◌≡◌, ◌≢◌, ◌⊎◌, [], ◌∷◌, IsTrue, IfOk, MatchResult};
 ghost use Rattle.sqlite.specs.State.{HasCleanDisk};
 ghost use Rattle.mx_layout.specs.Crash.{ChangesNothing};
-ghost use Rattle.mx_kept.specs.Schemas.{HasOwn1};
+ghost use Rattle.mx_office.specs.Layout.{HasTables};
 ghost use Rattle.mx_office.specs.Calls.{replies_in, stop_in, IsAsked, IsRun};
 ghost use Rattle.mx_office.specs.Office.{office_state, IsReady, StandsFor};
 ghost use Rattle.mx_office.specs.Stands.{HoldsBook, IsReasonFor, WasEntered};
@@ -29,7 +29,7 @@ impl<S: Alter> Office<S> {
             → result ≢ Err Fault.Store
             → ChangesNothing (office_state self.old) (office_state self.new) }
         ensures entered { HasCleanDisk (office_state self.new)
-            → HasOwn1 (office_state self.old).now.schema
+            → HasTables (office_state self.old).now.schema
             → (office_state self.old).now ≡ (office_state self.old).committed
             → IfOk result (λ said. (seq : _) → said ≡ Reply.Accepted seq
             → WasEntered command.now said (office_state self.old) (office_state self.new)) }
@@ -89,10 +89,10 @@ impl<S: Alter> Office<S> {
             → HasCleanDisk (office_state self.new) → MatchResult result (λ b. b ≡ book)
             (λ fault. (fault ≡ Fault.Memory) ⊎ (fault ≡ Fault.Store)) }
         ensures sound { HasCleanDisk (office_state self.new)
-            → HasOwn1 (office_state self.old).now.schema
+            → HasTables (office_state self.old).now.schema
             → IfOk result (HoldsBook (office_state self.old).now.trees) }
         ensures damaged { HasCleanDisk (office_state self.new)
-            → HasOwn1 (office_state self.old).now.schema → (table : _)
+            → HasTables (office_state self.old).now.schema → (table : _)
             → result ≡ Err (Fault.Damaged table)
             → IsReasonFor (office_state self.old).now.trees table }
     {

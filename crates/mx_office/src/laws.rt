@@ -2,7 +2,8 @@
 ghost use Rattle.std.specs.Prelude.{◌≡◌, [], List};
 ghost use Rattle.sqlite.specs.Tree.{Trees};
 ghost use Rattle.mx_command.specs.Act.{Entry};
-ghost use Rattle.mx_layout.specs.Making.{IsEmptyBook};
+ghost use Rattle.mx_layout.specs.Making.{IsEmptyIn};
+ghost use Rattle.mx_office.specs.Layout.{office_point};
 ghost use Rattle.mx_office.specs.Stands.{HoldsBook, Stands};
 
 /// Tables stand for at most one book.
@@ -13,7 +14,7 @@ pub fn tables_stand_for_one_book()
 
 /// Tables that were just made stand for the book with no entry.
 pub fn new_tables_stand_for_the_empty_book()
-    ensures { (trees : Trees) → IsEmptyBook trees → Stands trees [] }
+    ensures { (trees : Trees) → IsEmptyIn office_point.layout trees → Stands trees [] }
 {}
 
 /// Tables hold at most one book, whatever the tables that no command writes have.

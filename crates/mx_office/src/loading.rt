@@ -4,10 +4,9 @@ ghost use Rattle.sqlite.specs.State.{HasCleanDisk};
 ghost use Rattle.sqlite.specs.Held.{state};
 ghost use Rattle.mx_register.specs.Registers.{AreRegistersOf};
 ghost use Rattle.mx_layout.specs.Crash.{StaysIn, ChangesNothing};
-ghost use Rattle.mx_layout.specs.Tables.{layout_1};
-ghost use Rattle.mx_kept.specs.Schemas.{HasOwn1};
 ghost use Rattle.mx_tables.specs.Calls.{OnRead};
 ghost use Rattle.mx_tables.specs.Sets.{IsDamaged};
+ghost use Rattle.mx_office.specs.Layout.{office_schema, HasTables};
 ghost use Rattle.mx_office.specs.Stands.{HaveRowsOf, HoldsBook, IsReasonFor, Stands, Rests};
 
 use crate::fault::{Fault, fault_of};
@@ -27,16 +26,16 @@ fn read_registers<S: Alter>(
     ensures stays { StaysIn S.Store (OnRead result) tx.old tx.new }
     ensures exact { let old = state S.Store tx.old.conn.now in
         let new = state S.Store tx.new.conn.now in (book : _) → HasCleanDisk new
-        → HasOwn1 old.now.schema → Stands old.now.trees book → MatchResult result
+        → HasTables old.now.schema → Stands old.now.trees book → MatchResult result
         (λ registers. AreRegistersOf registers book) (λ fault. (fault ≡ TableFault.Memory)
         ⊎ (fault ≡ TableFault.Store)) }
     ensures rows { let old = state S.Store tx.old.conn.now in
         let new = state S.Store tx.new.conn.now in
-        HasCleanDisk new → HasOwn1 old.now.schema
+        HasCleanDisk new → HasTables old.now.schema
         → IfOk result (HaveRowsOf old.now.trees) }
     ensures damaged { let old = state S.Store tx.old.conn.now in
         let new = state S.Store tx.new.conn.now in
-        HasCleanDisk new → HasOwn1 old.now.schema
+        HasCleanDisk new → HasTables old.now.schema
         → (table : _) → result ≡ Err (TableFault.Damaged table) → IsDamaged old.now.trees table }
 {
     let (entries, beside) = Tables::read(alloc, tx)?;
@@ -51,15 +50,15 @@ fn load<S: Alter>(alloc: Global, tx: &mut Transaction<'_, S>) -> Result<Book, Fa
     ensures usable { result ≢ Err Fault.NeedsReopen }
     ensures exact { let old = state S.Store tx.old.conn.now in
         let new = state S.Store tx.new.conn.now in (book : _) → HasCleanDisk new
-        → old.now.schema ≡ layout_1 → Stands old.now.trees book → MatchResult result (λ b. b ≡ book)
+        → old.now.schema ≡ office_schema → Stands old.now.trees book → MatchResult result (λ b. b ≡ book)
         (λ fault. (fault ≡ Fault.Memory) ⊎ (fault ≡ Fault.Store)) }
     ensures sound { let old = state S.Store tx.old.conn.now in
         let new = state S.Store tx.new.conn.now in
-        HasCleanDisk new → HasOwn1 old.now.schema
+        HasCleanDisk new → HasTables old.now.schema
         → IfOk result (HoldsBook old.now.trees) }
     ensures damaged { let old = state S.Store tx.old.conn.now in
         let new = state S.Store tx.new.conn.now in
-        HasCleanDisk new → HasOwn1 old.now.schema
+        HasCleanDisk new → HasTables old.now.schema
         → (table : _) → result ≡ Err (Fault.Damaged table) → IsReasonFor old.now.trees table }
 {
     let registers = match read_registers(alloc, tx) {
@@ -90,10 +89,10 @@ pub(crate) fn load_book<S: Alter>(alloc: Global, conn: &mut Connection<S>) -> Re
         → HasCleanDisk (state S.Store conn.new) → MatchResult result (λ b. b ≡ book)
         (λ fault. (fault ≡ Fault.Memory) ⊎ (fault ≡ Fault.Store)) }
     ensures sound { HasCleanDisk (state S.Store conn.new)
-        → HasOwn1 (state S.Store conn.old).now.schema
+        → HasTables (state S.Store conn.old).now.schema
         → IfOk result (HoldsBook (state S.Store conn.old).now.trees) }
     ensures damaged { HasCleanDisk (state S.Store conn.new)
-        → HasOwn1 (state S.Store conn.old).now.schema
+        → HasTables (state S.Store conn.old).now.schema
         → (table : _) → result ≡ Err (Fault.Damaged table)
         → IsReasonFor (state S.Store conn.old).now.trees table }
 {

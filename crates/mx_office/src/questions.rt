@@ -7,7 +7,7 @@ ghost use Rattle.mx_lists.specs.Forecast.{forecast};
 ghost use Rattle.mx_book.specs.Life.{life_now};
 ghost use Rattle.mx_lists.specs.LimitList.{limits};
 ghost use Rattle.mx_lists.specs.Lists.{life_list};
-ghost use Rattle.mx_kept.specs.Schemas.{HasOwn1};
+ghost use Rattle.mx_office.specs.Layout.{HasTables};
 ghost use Rattle.mx_office.specs.Calls.{stop_asking, stop_in, IsAsked};
 ghost use Rattle.mx_office.specs.Faults.{found_or, unknown};
 ghost use Rattle.mx_office.specs.Office.{office_state, IsReady, StandsFor};
@@ -128,11 +128,11 @@ impl<S: Alter> Office<S> {
             → MatchResult result (λ v. v.items ≡ entries_from from at_most book)
             (λ fault. (fault ≡ Fault.Memory) ⊎ (fault ≡ Fault.Store)) }
         ensures sound { HasCleanDisk (office_state self.new)
-            → HasOwn1 (office_state self.old).now.schema → IfOk result (λ v. (book : _)
+            → HasTables (office_state self.old).now.schema → IfOk result (λ v. (book : _)
             × HoldsBook (office_state self.old).now.trees book
             × (v.items ≡ entries_from from at_most book)) }
         ensures damaged { HasCleanDisk (office_state self.new)
-            → HasOwn1 (office_state self.old).now.schema → (table : _)
+            → HasTables (office_state self.old).now.schema → (table : _)
             → result ≡ Err (Fault.Damaged table)
             → IsReasonFor (office_state self.old).now.trees table }
     {

@@ -2,10 +2,8 @@ use Rattle.std.proofs.Common.{arith}
 use Rattle.std.proofs.Math.Logic.{∥∥₁_map}
 use Rattle.sqlite.specs.State.{HasCleanDisk}
 use Rattle.sqlite.specs.Files.{file_state}
-use Rattle.mx_layout.specs.Tables.{layout_1}
-use Rattle.mx_layout.proofs.CrashLemmas.{rests_kept}
 use Rattle.mx_office.specs.Office.{office_state}
-use Rattle.mx_office.specs.Stands.{Stands}
+use Rattle.mx_office.proofs.OfficeLemmas.{rests_still}
 use Rattle.mx_headline.proofs.KeptLemmas.{rests_as}
 use Rattle.mx_headline.proofs.next_process.reopen_after.Goals as goal
 
@@ -26,7 +24,7 @@ returns-in-Ok-open_office-clause-headline g c before commands left was clean =
     record {
       book = one.0;
       kept = one.1;
-      tables = rests_kept layout_1 (λ trees. Stands trees one.0) opened now unprinted rests;
+      tables = rests_still opened now one.0 unprinted rests;
       printed = c.print_due-printed.ensures.printed one.0 ready rests clean;
     })
 

@@ -1,10 +1,8 @@
 use Rattle.std.proofs.Common.{arith}
 use Rattle.std.proofs.Math.Logic.{∥∥₁_map}
 use Rattle.sqlite.specs.State.{HasCleanDisk}
-use Rattle.mx_layout.specs.Tables.{layout_1}
-use Rattle.mx_layout.proofs.CrashLemmas.{rests_kept}
 use Rattle.mx_office.specs.Office.{office_state}
-use Rattle.mx_office.specs.Stands.{Stands}
+use Rattle.mx_office.proofs.OfficeLemmas.{rests_still}
 use Rattle.mx_headline.proofs.KeptLemmas.{rests_as}
 use Rattle.mx_headline.proofs.ReopenedLemmas.{is_kept_in, keeps_unopened}
 use Rattle.mx_headline.proofs.running.run_and_reopen.Goals as goal
@@ -37,7 +35,7 @@ returns-in-Ok-clause-headline g c before rests clean =
     record {
       book = it.book;
       kept = it.kept;
-      tables = rests_kept layout_1 (λ trees. Stands trees it.book) mid now nothing rests';
+      tables = rests_still mid now it.book nothing rests';
       printed = c.print_due-printed.ensures.printed it.book ready rests' clean;
     })
 

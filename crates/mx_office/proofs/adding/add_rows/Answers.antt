@@ -4,9 +4,7 @@ use Rattle.mx_typed_rows.specs.Pairs.{rows_in_pairs}
 use Rattle.mx_register.specs.Added.{AreAddedRows}
 use Rattle.mx_register.specs.Registers.{entry_row}
 use Rattle.mx_kept.specs.Cells.{kept_entry}
-use Rattle.mx_kept.proofs.SchemaLemmas.{permanent_too}
 use Rattle.mx_tables.proofs.SetLemmas.{one_then, on_weaker}
-use Rattle.mx_office.specs.Family.{registers_1}
 use Rattle.mx_office.proofs.FamilyLemmas.{all_in}
 use Rattle.mx_office.proofs.StandsLemmas.{gains_command, keeps_rest, onto_rest}
 use Rattle.mx_office.proofs.adding.add_rows.Goals as goal
@@ -22,4 +20,4 @@ returns-clause-adds g c clean begun has =
     let entry = ap (λ e. e ∷ []) (c.entry_row-entry.ensures.row ∙ ap (λ n. entry_row (n + 1) c.args.command.now) c.len.ensures.len) in
     let it = one_then kept_entry x _ (onto_rest v) (keeps_rest v) s0 s1 s2 c.in_ok-insert.field-0 c.write.result c.in_ok-insert.ensures.inserts c.write.ensures.writes in
     on_weaker c.write.result (gains_command c.args.book.now c.args.command.now s0.now s2.now (x ∷ []) v entry are)
-    (it.gains clean begun (permanent_too _ has) (all_in _ has registers_1).1)
+    (it.gains clean begun (all_in _ has).0 (all_in _ has).1)

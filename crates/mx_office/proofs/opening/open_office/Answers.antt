@@ -1,11 +1,9 @@
 use Rattle.std.proofs.Common.{◌≡◌, ◌∙◌, rules, inr, ap, sym, subst, arith, [], ◌∷◌, Ok, Err}
 use Rattle.sqlite.specs.Held.{state}
 use Rattle.sqlite.specs.State.{HasCleanDisk}
-use Rattle.mx_layout.specs.Making.{first_point}
-use Rattle.mx_layout.proofs.PointLemmas.{rests_holds}
-use Rattle.mx_office.specs.Stands.{Stands}
+use Rattle.mx_office.specs.Layout.{office_point}
 use Rattle.mx_office.proofs.AnswerLemmas.{open_stops, open_reason, open_absent}
-use Rattle.mx_office.proofs.LoadLemmas.{stands_point}
+use Rattle.mx_office.proofs.LoadLemmas.{rests_point}
 use Rattle.mx_layout.specs.Point.{TellsPoint, point_cells}
 use Rattle.mx_office.specs.Faults.{open_answer}
 use Rattle.mx_point.specs.declared.point.Point.{Point}
@@ -22,8 +20,8 @@ returns-in-Err-clause-reason g c clean =
       not_ours = search rules;
       absent = λ none. open_absent c.in-Err.fault c.open_fault_of.result c.open_fault_of.ensures (c.in-Err.ensures.absent clean none);
       whole = λ book rests.
-          let holds = rests_holds (state g.S.Store c.args.conn) (λ trees. Stands trees book) first_point (λ trees stands. stands_point trees book stands) rests early in
-          stops (c.in-Err.ensures.exact first_point clean holds (omega arith, omega arith, omega arith));
+          let holds = rests_point (state g.S.Store c.args.conn) book rests early in
+          stops (c.in-Err.ensures.exact office_point clean holds (omega arith, omega arith, omega arith));
     }
 
 pub returns-then-at-gt-NEWEST_LAYOUT-clause-reason : goal.returns-then-at-gt-NEWEST_LAYOUT-clause-reason
@@ -34,8 +32,8 @@ returns-then-at-gt-NEWEST_LAYOUT-clause-reason g c clean = record {
   absent = search rules;
   whole = λ book rests.
       let early : HasCleanDisk (state g.S.Store c.args.conn) = omega (arith, c.point.ensures.unchanged.survives.clean) in
-      let holds = rests_holds (state g.S.Store c.args.conn) (λ trees. Stands trees book) first_point (λ trees stands. stands_point trees book stands) rests early in
-      let same = c.in-Ok.ensures.exact first_point clean holds (omega arith, omega arith, omega arith) in
+      let holds = rests_point (state g.S.Store c.args.conn) book rests early in
+      let same = c.in-Ok.ensures.exact office_point clean holds (omega arith, omega arith, omega arith) in
       let layout = ap (λ (p : Point). p.layout) same in
       absurd (omega arith);
 }
@@ -48,8 +46,8 @@ returns-then-at-ne-NEWEST_LAYOUT-clause-reason g c clean = record {
   absent = search rules;
   whole = λ book rests.
       let early : HasCleanDisk (state g.S.Store c.args.conn) = omega (arith, c.point.ensures.unchanged.survives.clean) in
-      let holds = rests_holds (state g.S.Store c.args.conn) (λ trees. Stands trees book) first_point (λ trees stands. stands_point trees book stands) rests early in
-      let same = c.in-Ok.ensures.exact first_point clean holds (omega arith, omega arith, omega arith) in
+      let holds = rests_point (state g.S.Store c.args.conn) book rests early in
+      let same = c.in-Ok.ensures.exact office_point clean holds (omega arith, omega arith, omega arith) in
       let layout = ap (λ (p : Point). p.layout) same in
       let step = ap (λ (p : Point). p.step) same in
       let mark = ap (λ (p : Point). p.mark) same in
@@ -71,12 +69,12 @@ returns-then-at-ne-NEWEST_LAYOUT-clause-told g c clean = (Ok c.in-Ok.at, c.in-Ok
 
 pub returns-else-at-ne0-2-clause-told : goal.returns-else-at-ne0-2-clause-told
 returns-else-at-ne0-2-clause-told g c clean =
-    let same : c.in-Ok.at ≡ first_point = search rules in
+    let same : c.in-Ok.at ≡ office_point = search rules in
     subst (λ (p : Point). TellsPoint g.S.Store c.args.conn (Ok p)) same (c.in-Ok.ensures.told clean)
 
 pub returns-else-at-ne0-2-clause-ours : goal.returns-else-at-ne0-2-clause-ours
 returns-else-at-ne0-2-clause-ours g c clean =
-    let same : c.in-Ok.at ≡ first_point = search rules in
+    let same : c.in-Ok.at ≡ office_point = search rules in
     record {
       settled = λ has. c.in-Ok.ensures.reads clean has ∙ ap (λ (p : Point). point_cells p ∷ []) same;
       exact = λ p holds fits. ap open_answer (sym (c.in-Ok.ensures.exact p clean holds fits) ∙ same);

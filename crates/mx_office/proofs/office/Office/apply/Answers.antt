@@ -1,4 +1,4 @@
-use Rattle.std.proofs.Common.{rules, ◌≡◌, ◌∷◌, [], ap, sym, subst, arith, Result, Err}
+use Rattle.std.proofs.Common.{rules, ◌∷◌, [], ap, sym, subst, arith, Result, Err}
 use Rattle.sqlite.specs.Held.{state}
 use Rattle.sqlite.specs.State.{HasCleanDisk}
 use Rattle.mx_book.specs.declared.verdict.Reply.{Reply}

@@ -2,7 +2,6 @@ use Rattle.std.proofs.Common.{rules, arith, ◌≡◌, ◌<◌, ap, subst, sym, 
 use Rattle.mx_book.specs.declared.verdict.Reply.{Reply}
 use Rattle.mx_office.specs.Calls.{IsRun}
 use Rattle.sqlite.specs.Held.{state}
-use Rattle.mx_office.specs.Office.{office_state}
 use Rattle.mx_office.proofs.CallLemmas.{err_is, run_handed, run_stopped}
 use Rattle.mx_office.proofs.office.Office.run.Goals as goal
 
