@@ -1,21 +1,14 @@
 -- Which schemas have which tables.
-use Rattle.std.proofs.Common.{◌≡◌, inl, inr, List, [], ◌∷◌, ◌++◌, codes, refl, subst, sym}
+use Rattle.std.proofs.Common.{inr, List, [], ◌∷◌, ◌++◌, codes, refl}
 use Rattle.sqlite.specs.Schema.{Schema}
 use Rattle.mx_layout.specs.Tables.{layout_1, layout_2, unique, sector1, fit1, removal1, sector2, span2, total2, base2, span2_by_component, span2_by_aircraft, span2_by_remove_seq, crs_line_by_defect, extension_by_defect, defect_by_aircraft}
 use Rattle.mx_layout.specs.Steps.{schema_after}
 use Rattle.sqlite_schema.specs.declared.schema.Index.{Index}
 use Rattle.sqlite_tied.specs.Compute.{everything}
-use Rattle.mx_kept.specs.Schemas.{HasBehind, HasPermanent, HasOwn1, HasOwn2, HasFittings, HasSectors2, HasSpans, HasTotals, own_1, own_moving}
+use Rattle.mx_kept.specs.Schemas.{HasBehind, HasOwn1, HasOwn2, HasSectors2, HasSpans, HasTotals, own_moving}
 
 pub layout_1_has : HasOwn1 layout_1
 layout_1_has = record { rest = []; more = []; is = refl }
-
--- a schema with the tables of layout 1 has the permanent ones
-pub permanent_too : (schema : Schema) → HasOwn1 schema → HasPermanent schema
-permanent_too schema has = record { rest = own_1 ++ has.rest; more = has.more; is = has.is }
-
-pub has_own_1 : (schema : Schema) → schema ≡ layout_1 → HasOwn1 schema
-has_own_1 schema is = subst HasOwn1 (sym is) layout_1_has
 
 pub layout_2_has : HasOwn2 layout_2
 layout_2_has = record {

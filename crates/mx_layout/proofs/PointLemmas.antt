@@ -1,5 +1,5 @@
 -- The statement that reads office, and what its rows say.
-use Rattle.std.proofs.Common.{◌≡◌, ◌⊎◌, inl, inr, ℕ, ◌^◌, List, [], ◌∷◌, length, slice_index_or, codes, false, Ok, Err, Result, IsTrue, refl, sym, ap, subst, ◌∙◌, arith}
+use Rattle.std.proofs.Common.{◌≡◌, ◌⊎◌, inl, inr, ℕ, ◌^◌, List, [], ◌∷◌, length, slice_index_or, codes, false, Ok, Err, Result, refl, sym, ap, subst, ◌∙◌, arith}
 use Rattle.std.specs.Prelude.{MatchResult, Contains}
 use Rattle.std.proofs.lemmas.List.Sorted.{IsPermutation-sym, length_permutation}
 use Rattle.sqlite.specs.Order.{Row, column}
@@ -9,16 +9,15 @@ use Rattle.sqlite.specs.Command.TheVariants.{Select}
 use Rattle.sqlite.specs.Listing.{understood, reads_listing}
 use Rattle.sqlite.proofs.Callers.{IsPlain, command_of, one_permutation}
 use Rattle.sqlite_tied.specs.Compute.{everything}
-use Rattle.sqlite.specs.State.{State, HasCleanDisk, Shown, IsUnchanged, FailsToQuery}
-use Rattle.mx_layout.specs.Crash.{RestsAs}
+use Rattle.sqlite.specs.State.{State, Shown, IsUnchanged, FailsToQuery}
 use Rattle.sqlite.specs.declared.error.Error.TheVariants.{SqlInputError}
 use Rattle.sqlite_resolve.specs.declared.error.CompileError.{CompileError}
 use Rattle.mx_point.specs.declared.point.Point.{Point}
 use Rattle.mx_layout.specs.declared.fault.TableFault.{TableFault}
 use Rattle.mx_layout.specs.Contents.{rows_in}
-use Rattle.mx_layout.specs.Point.{point_cells, FitsPoint, IsPoint, HoldsBelow, IsStop, IsNoPoint, HoldsPoint, ReadsPoint, ReadsExactly, point_text}
+use Rattle.mx_layout.specs.Point.{point_cells, FitsPoint, IsPoint, HoldsBelow, IsStop, IsNoPoint, ReadsPoint, ReadsExactly, point_text}
 use Rattle.mx_layout.specs.Reading.{AreAll, by_first}
-use Rattle.mx_layout.specs.Tables.{layout_1, office, HasOffice}
+use Rattle.mx_layout.specs.Tables.{office, HasOffice}
 use Rattle.sqlite.specs.Schema.{Schema}
 use Rattle.sqlite.specs.Table.{Table}
 use Rattle.sqlite_schema.specs.declared.schema.Index.{Index}
@@ -37,10 +36,6 @@ with_office rest indexes views = record { tables = office ∷ rest; indexes = in
 
 pub is_with_office : (schema : Schema) (has : HasOffice schema) → schema ≡ with_office has.0 schema.indexes schema.views
 is_with_office schema has = ap (λ ts. let it : Schema = record schema { tables = ts } in it) has.1
-
--- layout 1 is one
-pub layout_1_has_office : (schema : Schema) → schema ≡ layout_1 → HasOffice schema
-layout_1_has_office schema is = (_, ap (λ (s : Schema). s.tables) is)
 
 select_is : (rest : List Table) (indexes : List Index) (views : List View) → let schema = with_office rest indexes views in
     (command_of (understood schema point_text) ≡ Select (record { lets = []; body = scan 0 project }) names) × (reads_listing schema point_text ≡ false) × IsPlain (understood schema point_text)
@@ -123,7 +118,3 @@ no_mark values h it = h (it.0.mark, ap (λ x. column x 3) it.2, it.1.2)
 pub open_either : {T : Type 0} {P : Type 0} (r : Result T TableFault) → P → MatchResult r (λ _. P) (λ fault. IsStop fault ⊎ P)
 open_either (Ok x) p = p
 open_either (Err e) p = inr p
-
--- the premise of `exact`, where each of the tables that the store rests with has this point
-pub rests_holds : (s : State) (P : Trees → Type 0) (p : Point) → ((trees : Trees) → P trees → rows_in office trees ≡ point_cells p ∷ []) → RestsAs s layout_1 P → HasCleanDisk s → IsTrue s.is_open → HoldsPoint p s.now
-rests_holds s P p holds rests clean is_open = (layout_1_has_office s.now.schema (rests.schema clean is_open), holds s.now.trees (rests.tables clean is_open))

@@ -13,7 +13,7 @@ use Rattle.mx_layout.specs.Steps.{schema_of}
 use Rattle.mx_layout.specs.Names.{table_named}
 use Rattle.mx_layout.specs.TableName.{TableName}
 use Rattle.mx_layout.specs.declared.fault.Table.TheVariants as table
-use Rattle.mx_layout.specs.Tables.{layout_1, office}
+use Rattle.mx_layout.specs.Tables.{office}
 
 -- the text that asks for a row of no table
 abbrev pub ask_text : List ℕ
@@ -26,10 +26,6 @@ pub record IsBlank (schema : Schema) (db : Database) : Type 0 where
   pub uncounted : AllByRecursion (λ t. t.is_counted ≡ false) schema.tables
   pub sound : IsSound schema db.trees
 
--- the point of a file that was just made in layout 1
-abbrev pub first_point : Point
-first_point = settled 1
-
 -- the tables of this schema with no entry, at this point: office has the row of the point, no other table has a row, and the rowids of each rise
 pub record IsEmptyAt (schema : Schema) (at : Point) (trees : Trees) : Type 0 where
   pub sound : IsSound schema trees
@@ -40,7 +36,3 @@ pub record IsEmptyAt (schema : Schema) (at : Point) (trees : Trees) : Type 0 whe
 -- the tables of a layout with no entry, at its settled point
 abbrev pub IsEmptyIn : ℕ → Trees → Type 0
 IsEmptyIn layout = IsEmptyAt (schema_of layout) (settled layout)
-
--- the tables of layout 1 with no entry, at its settled point
-abbrev pub IsEmptyBook : Trees → Type 0
-IsEmptyBook = IsEmptyAt layout_1 first_point
