@@ -1,0 +1,17 @@
+pub mod ListLemmas
+pub mod NumberLemmas
+pub mod RowLemmas
+pub mod EntryLemmas
+pub mod KnownLemmas
+pub mod SpanLemmas
+pub mod ThereLemmas
+pub mod FoundLemmas
+pub mod AnswerLemmas
+pub mod PlaceLemmas
+pub mod LifeLemmas
+pub mod OpenLemmas
+pub mod DeferralLemmas
+pub mod EqualLemmas
+pub mod LastLemmas
+pub mod ProgrammeLemmas
+pub mod WorkedFound

@@ -1,0 +1,48 @@
+-- Numbers of entries by the names of what they added, and names by these numbers, in rows that were found.
+use Rattle.std.specs.Prelude.{ℕ, List, Bool, true, false, Option, filter, find, slice_get}
+use Rattle.std.specs.Option.{option_map, option_map_or}
+use Rattle.mx_command.specs.Act.{Entry}
+use Rattle.mx_command.specs.Same.{same_text}
+use Rattle.mx_register.specs.Registers.{entry_rows}
+use Rattle.mx_typed_rows.specs.declared.rows.AircraftRow.{AircraftRow}
+use Rattle.mx_typed_rows.specs.declared.rows.ComponentRow.{ComponentRow}
+use Rattle.mx_typed_rows.specs.declared.rows.EntryKind.{EntryKind}
+use Rattle.mx_typed_rows.specs.declared.rows.EntryKind.TheVariants.{Defer}
+use Rattle.mx_typed_rows.specs.declared.rows.EntryRow.{EntryRow}
+
+-- the rows of the entries that have a document
+abbrev pub entries_with : List ℕ → List Entry → List EntryRow
+entries_with doc book = filter (λ row. same_text row.doc doc) (entry_rows book)
+
+-- the number of the first of these entries, or 0 where there is none
+abbrev pub last_number : List EntryRow → ℕ
+last_number rows = option_map_or (λ row. row.seq) (slice_get rows 0) 0
+
+-- the number of the first of these entries
+abbrev pub entry_number : List EntryRow → Option ℕ
+entry_number rows = option_map (λ row. row.seq) (slice_get rows 0)
+
+-- the number of the first of these aircraft
+abbrev pub aircraft_number : List AircraftRow → Option ℕ
+aircraft_number rows = option_map (λ row. row.seq) (slice_get rows 0)
+
+-- the number of the first of these components
+abbrev pub component_number : List ComponentRow → Option ℕ
+component_number rows = option_map (λ row. row.seq) (slice_get rows 0)
+
+-- the kind of entry that defers a defect
+abbrev pub is_deferral : EntryKind → Bool
+is_deferral Defer = true
+is_deferral _ = false
+
+-- the number of the first of these entries that defers a defect
+abbrev pub deferral_number : List EntryRow → Option ℕ
+deferral_number rows = option_map (λ row. row.seq) (find (λ row. is_deferral row.kind) rows)
+
+-- the registration of the first of these aircraft
+abbrev pub tail_in : List AircraftRow → Option (List ℕ)
+tail_in rows = option_map (λ row. row.tail) (slice_get rows 0)
+
+-- the serial number of the first of these components
+abbrev pub serial_in : List ComponentRow → Option (List ℕ)
+serial_in rows = option_map (λ row. row.serial) (slice_get rows 0)

@@ -1,0 +1,81 @@
+//! Totals and last bases that were found: clocks, lives, and what was accomplished.
+ghost use Rattle.std.specs.Prelude.{◌≡◌, ℕ, List, filter, is_some, nat_eq, true, None, Some};
+ghost use Rattle.mx_command.specs.Act.{Entry};
+ghost use Rattle.mx_command.specs.declared.item.Item.{Item};
+ghost use Rattle.mx_book.specs.Base.{base};
+ghost use Rattle.mx_book.specs.Book.{IsBook};
+ghost use Rattle.mx_book.specs.Life.{clock, life_now};
+ghost use Rattle.mx_book.specs.Programme.{is_accomplished};
+ghost use Rattle.mx_register.specs.Names.{seq_of_item};
+ghost use Rattle.mx_kept_rows.specs.Bases.{base_rows, is_keyed};
+ghost use Rattle.mx_kept_rows.specs.Totals.{total_rows};
+ghost use Rattle.mx_typed_rows.specs.declared.rows.TotalRow.{TotalRow};
+ghost use Rattle.mx_found.specs.Lives.{base_found, clock_in, life_in};
+
+use mx_base::{Base, Moment, Use};
+use mx_typed_rows::{BaseRow, TotalRow};
+
+/// The clock in the first of these totals, or `None` without one.
+pub fn clock_in(rows: &[TotalRow]) -> Option<Moment>
+    ensures { result ≡ clock_in rows.now }
+{
+    match rows.first() {
+        Some(row) => Some(row.clock),
+        None => None,
+    }
+}
+
+/// The life in the first of these totals, or `None` without one.
+pub fn life_in(rows: &[TotalRow]) -> Option<Use>
+    ensures { result ≡ life_in rows.now }
+{
+    match rows.first() {
+        Some(row) => Some(row.life),
+        None => None,
+    }
+}
+
+/// The base in the first of these rows, or `None` without one.
+pub fn base_found(rows: &[BaseRow]) -> Option<Base>
+    ensures { result ≡ base_found rows.now }
+{
+    match rows.first() {
+        Some(row) => Some(Base {
+            minutes: row.life.minutes,
+            cycles: row.life.cycles,
+            day: row.day.number(),
+        }),
+        None => None,
+    }
+}
+
+/// The total with the number of an item is there, and has its clock and its life; an item that is not there has the first
+/// moment as its clock, and no life.
+pub fn totals_are_found()
+    ensures clock { (book : List Entry) (item : Item) (n : ℕ) → IsBook book
+        → seq_of_item book item ≡ Some n
+        → clock_in (filter (λ (row : TotalRow). nat_eq row.item n) (total_rows book))
+        ≡ Some (clock book item) }
+    ensures life { (book : List Entry) (item : Item) (n : ℕ) → IsBook book
+        → seq_of_item book item ≡ Some n
+        → life_in (filter (λ (row : TotalRow). nat_eq row.item n) (total_rows book))
+        ≡ life_now book item }
+    ensures alive { (book : List Entry) (item : Item) (n : ℕ)
+        → seq_of_item book item ≡ Some n → is_some (life_now book item) ≡ true }
+    ensures no_clock { (book : List Entry) (item : Item) → IsBook book
+        → seq_of_item book item ≡ None → clock book item ≡ 0 }
+    ensures no_life { (book : List Entry) (item : Item)
+        → seq_of_item book item ≡ None → life_now book item ≡ None }
+{}
+
+/// The row of a task of the item with a number has its last base, and is there exactly where the task was accomplished;
+/// of an item that is not there nothing was.
+pub fn bases_are_found()
+    ensures base { (book : List Entry) (item : Item) (id : List ℕ) (n : ℕ) → IsBook book
+        → seq_of_item book item ≡ Some n
+        → base_found (filter (is_keyed n id) (base_rows book)) ≡ base book item id }
+    ensures accomplished { (book : List Entry) (item : Item) (id : List ℕ)
+        → is_some (base book item id) ≡ is_accomplished book item id }
+    ensures no_base { (book : List Entry) (item : Item) (id : List ℕ) → IsBook book
+        → seq_of_item book item ≡ None → base book item id ≡ None }
+{}

@@ -1,0 +1,4 @@
+pub mod ReadLemmas
+pub mod ChosenLemmas
+pub mod TableLemmas
+pub mod LookupLemmas

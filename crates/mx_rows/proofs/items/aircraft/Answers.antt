@@ -1,0 +1,8 @@
+use Rattle.std.proofs.Common.{◌∙◌, ap}
+use Rattle.mx_found.specs.Said.{aircraft_in}
+use Rattle.mx_found.proofs.FoundLemmas.{aircraft_is}
+use Rattle.mx_rows.proofs.ReadLemmas.{told}
+use Rattle.mx_rows.proofs.items.aircraft.Goals as goal
+
+pub returns-clause-reads : goal.returns-clause-reads
+returns-clause-reads g c = told _ _ _ _ _ _ (λ book b found. c.aircraft_in.ensures ∙ ap aircraft_in (c.deref.ensures.value ∙ found) ∙ aircraft_is book c.args.tail.now) c.in_ok-rows.ensures.reads

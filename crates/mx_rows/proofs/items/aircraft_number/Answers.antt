@@ -1,0 +1,8 @@
+use Rattle.std.proofs.Common.{◌∙◌, ap}
+use Rattle.mx_found.specs.Names.{aircraft_number}
+use Rattle.mx_found.proofs.FoundLemmas.{tail_is}
+use Rattle.mx_rows.proofs.ReadLemmas.{told}
+use Rattle.mx_rows.proofs.items.aircraft_number.Goals as goal
+
+pub returns-clause-reads : goal.returns-clause-reads
+returns-clause-reads g c = told _ _ _ _ _ _ (λ book b found. c.aircraft_number.ensures ∙ ap aircraft_number (c.deref.ensures.value ∙ found) ∙ tail_is book c.args.tail.now) c.in_ok-rows.ensures.reads

@@ -1,0 +1,8 @@
+use Rattle.std.proofs.Common.{◌∙◌, ap}
+use Rattle.mx_found.specs.Said.{component_in}
+use Rattle.mx_found.proofs.FoundLemmas.{component_is}
+use Rattle.mx_rows.proofs.ReadLemmas.{told}
+use Rattle.mx_rows.proofs.items.component.Goals as goal
+
+pub returns-clause-reads : goal.returns-clause-reads
+returns-clause-reads g c = told _ _ _ _ _ _ (λ book b found. c.component_in.ensures ∙ ap component_in (c.deref.ensures.value ∙ found) ∙ component_is book c.args.serial.now) c.in_ok-rows.ensures.reads

@@ -1,0 +1,25 @@
+use Rattle.std.proofs.Common.{◌∙◌, ap, sym}
+use Rattle.std.specs.Prelude.{is_some}
+use Rattle.std.specs.Option.{option_and_then}
+use Rattle.mx_register.specs.Names.{tail_at}
+use Rattle.mx_found.specs.Spans.{span_aircraft}
+use Rattle.mx_found.proofs.OpenLemmas.{fitted_nowhere, fitted_tail, fitted_there}
+use Rattle.mx_rows.proofs.ReadLemmas.{reads_then, told}
+use Rattle.mx_rows.proofs.spans.number_fitted.Goals as goal
+
+pub returns-in_ok-rows-in-Some-clause-reads : goal.returns-in_ok-rows-in-Some-clause-reads
+returns-in_ok-rows-in-Some-clause-reads g c =
+    told _ _ _ _ _ _
+    (λ book b both.
+    let number = sym both.0 ∙ c.in-Some.is in
+    let e = c.span_aircraft.ensures ∙ ap span_aircraft (c.deref.ensures.value ∙ both.1) in
+    record { tail = ap (option_and_then (tail_at book)) e ∙ fitted_tail book b c.args.serial.now c.in-Some.number number; there = ap is_some e ∙ fitted_there book b c.args.serial.now c.in-Some.number number })
+    (reads_then _ _ _ _ _ _ _ c.in_ok-found.ensures.reads c.in_ok-rows-in-Some.ensures.reads)
+
+pub returns-in-None-clause-reads : goal.returns-in-None-clause-reads
+returns-in-None-clause-reads g c =
+    told _ _ _ _ _ _
+    (λ book b found.
+    let nowhere = fitted_nowhere book b c.args.serial.now (sym found ∙ c.in-None.is) in
+    record { tail = sym nowhere; there = ap is_some (sym nowhere) })
+    c.in_ok-found.ensures.reads

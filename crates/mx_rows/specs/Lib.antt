@@ -1,0 +1,3 @@
+pub mod Keeping
+pub mod Reads
+pub mod Fitted

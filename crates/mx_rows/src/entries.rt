@@ -1,0 +1,54 @@
+//! How many entries there are, and the entry of a document.
+ghost use Rattle.std.specs.Prelude.{◌≡◌, ℕ, length};
+ghost use Rattle.std.specs.Option.{option_map};
+ghost use Rattle.sqlite.specs.Held.{state};
+ghost use Rattle.mx_command.specs.Act.{Entry};
+ghost use Rattle.mx_book.specs.Judge.{known_from};
+ghost use Rattle.mx_register.specs.Names.{seq_of_defect};
+ghost use Rattle.mx_rows.specs.Reads.{Reads};
+
+use crate::rows::{entries_of_doc, last_of_entries};
+use mx_base::Doc;
+use mx_found::entries::{deferral_number, entry_number, last_number};
+use mx_layout::TableFault;
+use sqlite::{Alter, Transaction};
+use std::alloc::Global;
+
+/// How many entries there are: the number of the last one.
+pub fn entry_count<S: Alter>(alloc: Global, tx: &mut Transaction<'_, S>) -> Result<u32, TableFault>
+    ensures same_reference { tx.new.conn.ghost_name ≡ tx.old.conn.ghost_name }
+    ensures reads { Reads (λ book count. count ≡ length book)
+        (state S.Store tx.old.conn.now) (state S.Store tx.new.conn.now) result }
+{
+    let rows = last_of_entries(alloc, tx)?;
+    Ok(last_number(&rows))
+}
+
+/// The number of the entry with this document.
+pub fn entry_of_doc<S: Alter>(
+    alloc: Global,
+    tx: &mut Transaction<'_, S>,
+    doc: &Doc,
+) -> Result<Option<u32>, TableFault>
+    ensures same_reference { tx.new.conn.ghost_name ≡ tx.old.conn.ghost_name }
+    ensures reads { Reads (λ book number. number
+        ≡ option_map (λ (known : ℕ × Entry). known.0) (known_from doc.now 1 book))
+        (state S.Store tx.old.conn.now) (state S.Store tx.new.conn.now) result }
+{
+    let rows = entries_of_doc(alloc, tx, doc)?;
+    Ok(entry_number(&rows))
+}
+
+/// The number of the entry that deferred the defect with this document.
+pub fn defect_number<S: Alter>(
+    alloc: Global,
+    tx: &mut Transaction<'_, S>,
+    doc: &Doc,
+) -> Result<Option<u32>, TableFault>
+    ensures same_reference { tx.new.conn.ghost_name ≡ tx.old.conn.ghost_name }
+    ensures reads { Reads (λ book number. number ≡ seq_of_defect book doc.now)
+        (state S.Store tx.old.conn.now) (state S.Store tx.new.conn.now) result }
+{
+    let rows = entries_of_doc(alloc, tx, doc)?;
+    Ok(deferral_number(&rows))
+}

@@ -1,0 +1,76 @@
+//! What is fitted where, by spans that nothing ended.
+ghost use Rattle.std.specs.Prelude.{◌≡◌};
+ghost use Rattle.sqlite.specs.Held.{state};
+ghost use Rattle.mx_book.specs.Span.{is_taken, tail_fitted};
+ghost use Rattle.mx_rows.specs.Fitted.{IsNumberFitted};
+ghost use Rattle.mx_rows.specs.Reads.{Reads};
+
+use crate::items::{aircraft_number, component_number, tail_of_number};
+use crate::rows::{open_spans_at, open_spans_of};
+use mx_base::{Position, Serial, Tail};
+use mx_found::spans::{is_taken_in, span_aircraft};
+use mx_layout::{Table, TableFault};
+use sqlite::{Alter, Transaction};
+use std::alloc::Global;
+
+/// Whether a component is fitted to the position of an aircraft.
+pub fn is_taken<S: Alter>(
+    alloc: Global,
+    tx: &mut Transaction<'_, S>,
+    tail: &Tail,
+    position: &Position,
+) -> Result<bool, TableFault>
+    ensures same_reference { tx.new.conn.ghost_name ≡ tx.old.conn.ghost_name }
+    ensures reads { Reads (λ book taken. taken ≡ is_taken book tail.now position.now)
+        (state S.Store tx.old.conn.now) (state S.Store tx.new.conn.now) result }
+{
+    let found = aircraft_number(alloc, tx, tail)?;
+    match found {
+        Some(number) => {
+            let rows = open_spans_at(alloc, tx, number)?;
+            Ok(is_taken_in(&rows, position))
+        }
+        None => Ok(false),
+    }
+}
+
+// The number of the aircraft that a component is fitted to.
+fn number_fitted<S: Alter>(
+    alloc: Global,
+    tx: &mut Transaction<'_, S>,
+    serial: &Serial,
+) -> Result<Option<u32>, TableFault>
+    ensures same_reference { tx.new.conn.ghost_name ≡ tx.old.conn.ghost_name }
+    ensures reads { Reads (IsNumberFitted serial.now)
+        (state S.Store tx.old.conn.now) (state S.Store tx.new.conn.now) result }
+{
+    let found = component_number(alloc, tx, serial)?;
+    match found {
+        Some(number) => {
+            let rows = open_spans_of(alloc, tx, number)?;
+            Ok(span_aircraft(&rows))
+        }
+        None => Ok(None),
+    }
+}
+
+/// The registration of the aircraft that a component is fitted to, or `None` where it is fitted nowhere. `Damaged` with
+/// `span2` where the span of the component names an aircraft that is not there.
+pub fn tail_fitted<S: Alter>(
+    alloc: Global,
+    tx: &mut Transaction<'_, S>,
+    serial: &Serial,
+) -> Result<Option<Tail>, TableFault>
+    ensures same_reference { tx.new.conn.ghost_name ≡ tx.old.conn.ghost_name }
+    ensures reads { Reads (λ book tail. tail ≡ tail_fitted book serial.now)
+        (state S.Store tx.old.conn.now) (state S.Store tx.new.conn.now) result }
+{
+    let found = number_fitted(alloc, tx, serial)?;
+    match found {
+        Some(number) => match tail_of_number(alloc, tx, number)? {
+            Some(tail) => Ok(Some(tail)),
+            None => Err(TableFault::Damaged(Table::Span2)),
+        },
+        None => Ok(None),
+    }
+}
