@@ -2,3 +2,4 @@ pub mod ReadLemmas
 pub mod ChosenLemmas
 pub mod TableLemmas
 pub mod LookupLemmas
+pub mod BookRows

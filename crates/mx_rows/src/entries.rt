@@ -7,8 +7,9 @@ ghost use Rattle.mx_book.specs.Judge.{known_from};
 ghost use Rattle.mx_register.specs.Names.{seq_of_defect};
 ghost use Rattle.mx_rows.specs.Reads.{Reads};
 
-use crate::rows::{entries_of_doc, last_of_entries};
 use mx_base::Doc;
+use mx_chosen::entries::entry_by_doc;
+use mx_chosen::pages::last_entry;
 use mx_found::entries::{deferral_number, entry_number, last_number};
 use mx_layout::TableFault;
 use sqlite::{Alter, Transaction};
@@ -20,7 +21,7 @@ pub fn entry_count<S: Alter>(alloc: Global, tx: &mut Transaction<'_, S>) -> Resu
     ensures reads { Reads (λ book count. count ≡ length book)
         (state S.Store tx.old.conn.now) (state S.Store tx.new.conn.now) result }
 {
-    let rows = last_of_entries(alloc, tx)?;
+    let rows = last_entry(alloc, tx)?;
     Ok(last_number(&rows))
 }
 
@@ -35,7 +36,7 @@ pub fn entry_of_doc<S: Alter>(
         ≡ option_map (λ (known : ℕ × Entry). known.0) (known_from doc.now 1 book))
         (state S.Store tx.old.conn.now) (state S.Store tx.new.conn.now) result }
 {
-    let rows = entries_of_doc(alloc, tx, doc)?;
+    let rows = entry_by_doc(alloc, tx, doc)?;
     Ok(entry_number(&rows))
 }
 
@@ -49,6 +50,6 @@ pub fn defect_number<S: Alter>(
     ensures reads { Reads (λ book number. number ≡ seq_of_defect book doc.now)
         (state S.Store tx.old.conn.now) (state S.Store tx.new.conn.now) result }
 {
-    let rows = entries_of_doc(alloc, tx, doc)?;
+    let rows = entry_by_doc(alloc, tx, doc)?;
     Ok(deferral_number(&rows))
 }

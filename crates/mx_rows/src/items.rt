@@ -5,8 +5,8 @@ ghost use Rattle.mx_book.specs.Register.{aircraft, component, part_at};
 ghost use Rattle.mx_register.specs.Names.{seq_of_item, seq_of_serial, seq_of_tail, tail_at};
 ghost use Rattle.mx_rows.specs.Reads.{Reads};
 
-use crate::rows::{aircraft_of_number, aircraft_of_tail, components_of_serial, places_of};
 use mx_base::{Part, Position, Serial, Tail};
+use mx_chosen::items::{aircraft_by_seq, aircraft_by_tail, component_by_serial, place_by_seq};
 use mx_command::{Aircraft, Component, Item};
 use mx_found::aircraft::{aircraft_in, aircraft_number as number_of_aircraft, part_in, tail_in};
 use mx_found::components::{component_in, component_number as number_of_component};
@@ -24,7 +24,7 @@ pub fn aircraft<S: Alter>(
     ensures reads { Reads (λ book found. found ≡ aircraft book tail.now)
         (state S.Store tx.old.conn.now) (state S.Store tx.new.conn.now) result }
 {
-    let rows = aircraft_of_tail(alloc, tx, tail)?;
+    let rows = aircraft_by_tail(alloc, tx, tail)?;
     Ok(aircraft_in(&rows))
 }
 
@@ -38,7 +38,7 @@ pub fn component<S: Alter>(
     ensures reads { Reads (λ book found. found ≡ component book serial.now)
         (state S.Store tx.old.conn.now) (state S.Store tx.new.conn.now) result }
 {
-    let rows = components_of_serial(alloc, tx, serial)?;
+    let rows = component_by_serial(alloc, tx, serial)?;
     Ok(component_in(&rows))
 }
 
@@ -52,7 +52,7 @@ pub fn aircraft_number<S: Alter>(
     ensures reads { Reads (λ book number. number ≡ seq_of_tail book tail.now)
         (state S.Store tx.old.conn.now) (state S.Store tx.new.conn.now) result }
 {
-    let rows = aircraft_of_tail(alloc, tx, tail)?;
+    let rows = aircraft_by_tail(alloc, tx, tail)?;
     Ok(number_of_aircraft(&rows))
 }
 
@@ -66,7 +66,7 @@ pub fn component_number<S: Alter>(
     ensures reads { Reads (λ book number. number ≡ seq_of_serial book serial.now)
         (state S.Store tx.old.conn.now) (state S.Store tx.new.conn.now) result }
 {
-    let rows = components_of_serial(alloc, tx, serial)?;
+    let rows = component_by_serial(alloc, tx, serial)?;
     Ok(number_of_component(&rows))
 }
 
@@ -96,7 +96,7 @@ pub fn tail_of_number<S: Alter>(
     ensures reads { Reads (λ book tail. tail ≡ tail_at book number)
         (state S.Store tx.old.conn.now) (state S.Store tx.new.conn.now) result }
 {
-    let rows = aircraft_of_number(alloc, tx, number)?;
+    let rows = aircraft_by_seq(alloc, tx, number)?;
     Ok(tail_in(&rows))
 }
 
@@ -114,7 +114,7 @@ pub fn part_at<S: Alter>(
     let found = aircraft_number(alloc, tx, tail)?;
     match found {
         Some(number) => {
-            let rows = places_of(alloc, tx, number)?;
+            let rows = place_by_seq(alloc, tx, number)?;
             Ok(part_in(&rows, position))
         }
         None => Ok(None),

@@ -6,5 +6,4 @@
 pub mod entries;
 pub mod items;
 pub mod lives;
-mod rows;
 pub mod spans;

@@ -7,8 +7,8 @@ ghost use Rattle.mx_book.specs.Life.{clock, life_now};
 ghost use Rattle.mx_rows.specs.Reads.{Reads};
 
 use crate::items::item_number;
-use crate::rows::totals_of;
 use mx_base::{Moment, Tail, Use};
+use mx_chosen::kept::total2_by_item;
 use mx_command::Item;
 use mx_found::lives::{clock_in, life_in};
 use mx_layout::{Table, TableFault};
@@ -29,7 +29,7 @@ pub fn clock<S: Alter>(
     let found = item_number(alloc, tx, item)?;
     match found {
         Some(number) => {
-            let rows = totals_of(alloc, tx, number)?;
+            let rows = total2_by_item(alloc, tx, number)?;
             match clock_in(&rows) {
                 Some(moment) => Ok(moment),
                 None => Err(TableFault::Damaged(Table::Total2)),
@@ -53,7 +53,7 @@ pub fn life<S: Alter>(
     let found = item_number(alloc, tx, item)?;
     match found {
         Some(number) => {
-            let rows = totals_of(alloc, tx, number)?;
+            let rows = total2_by_item(alloc, tx, number)?;
             match life_in(&rows) {
                 Some(life) => Ok(Some(life)),
                 None => Err(TableFault::Damaged(Table::Total2)),

@@ -6,8 +6,8 @@ ghost use Rattle.mx_rows.specs.Fitted.{IsNumberFitted};
 ghost use Rattle.mx_rows.specs.Reads.{Reads};
 
 use crate::items::{aircraft_number, component_number, tail_of_number};
-use crate::rows::{open_spans_at, open_spans_of};
 use mx_base::{Position, Serial, Tail};
+use mx_chosen::kept::{open_spans_by_aircraft, open_spans_by_component};
 use mx_found::spans::{is_taken_in, span_aircraft};
 use mx_layout::{Table, TableFault};
 use sqlite::{Alter, Transaction};
@@ -27,7 +27,7 @@ pub fn is_taken<S: Alter>(
     let found = aircraft_number(alloc, tx, tail)?;
     match found {
         Some(number) => {
-            let rows = open_spans_at(alloc, tx, number)?;
+            let rows = open_spans_by_aircraft(alloc, tx, number)?;
             Ok(is_taken_in(&rows, position))
         }
         None => Ok(false),
@@ -47,7 +47,7 @@ fn number_fitted<S: Alter>(
     let found = component_number(alloc, tx, serial)?;
     match found {
         Some(number) => {
-            let rows = open_spans_of(alloc, tx, number)?;
+            let rows = open_spans_by_component(alloc, tx, number)?;
             Ok(span_aircraft(&rows))
         }
         None => Ok(None),

@@ -1,7 +1,11 @@
 use Rattle.std.proofs.Common.{◌∙◌, ap}
 use Rattle.mx_found.specs.Names.{last_number}
-use Rattle.mx_rows.proofs.ReadLemmas.{told}
+use Rattle.mx_rows.proofs.LookupLemmas.{last_read}
+use Rattle.mx_rows.proofs.ReadLemmas.{stopped, told}
 use Rattle.mx_rows.proofs.entries.entry_count.Goals as goal
 
 pub returns-clause-reads : goal.returns-clause-reads
-returns-clause-reads g c = told _ _ _ _ _ _ (λ book b found. c.last_number.ensures ∙ ap last_number c.deref.ensures.value ∙ found) c.in_ok-rows.ensures.reads
+returns-clause-reads g c = told _ _ _ _ _ _ (λ book b found. c.last_number.ensures ∙ ap last_number c.deref.ensures.value ∙ found) (last_read _ _ _ _ c.in_ok-rows.ensures.reads)
+
+pub returns-in_err-rows-clause-reads : goal.returns-in_err-rows-clause-reads
+returns-in_err-rows-clause-reads g c = stopped _ _ _ _ c.in_err-rows.field-0.0 c.from_residual.result c.from_residual.ensures.1 (last_read _ _ _ _ c.in_err-rows.ensures.reads)

@@ -1,8 +1,12 @@
 use Rattle.std.proofs.Common.{◌∙◌, ap}
 use Rattle.mx_found.specs.Said.{aircraft_in}
 use Rattle.mx_found.proofs.FoundLemmas.{aircraft_is}
-use Rattle.mx_rows.proofs.ReadLemmas.{told}
+use Rattle.mx_rows.proofs.BookRows.{aircraft_of_tail}
+use Rattle.mx_rows.proofs.ReadLemmas.{stopped, told}
 use Rattle.mx_rows.proofs.items.aircraft.Goals as goal
 
 pub returns-clause-reads : goal.returns-clause-reads
-returns-clause-reads g c = told _ _ _ _ _ _ (λ book b found. c.aircraft_in.ensures ∙ ap aircraft_in (c.deref.ensures.value ∙ found) ∙ aircraft_is book c.args.tail.now) c.in_ok-rows.ensures.reads
+returns-clause-reads g c = told _ _ _ _ _ _ (λ book b found. c.aircraft_in.ensures ∙ ap aircraft_in (c.deref.ensures.value ∙ found) ∙ aircraft_is book c.args.tail.now) (aircraft_of_tail c.args.tail.now c.in_ok-rows.ensures.reads)
+
+pub returns-in_err-rows-clause-reads : goal.returns-in_err-rows-clause-reads
+returns-in_err-rows-clause-reads g c = stopped _ _ _ _ c.in_err-rows.field-0.0 c.from_residual.result c.from_residual.ensures.1 (aircraft_of_tail c.args.tail.now c.in_err-rows.ensures.reads)
