@@ -3,3 +3,5 @@ pub mod ChosenLemmas
 pub mod TableLemmas
 pub mod LookupLemmas
 pub mod BookRows
+pub mod AnyLemmas
+pub mod DamageLemmas

@@ -7,6 +7,7 @@ use Rattle.sqlite.specs.Order.{Row}
 use Rattle.sqlite.specs.State.{State, IsUnchanged}
 use Rattle.sqlite.specs.declared.types.Value.TheVariants.{Int, Text}
 use Rattle.sqlite.specs.Collation.TheVariants.{Binary}
+use Rattle.sqlite.specs.Tree.{Trees}
 use Rattle.sqlite_rules.specs.Lists.{Has}
 use Rattle.sqlite_rules.proofs.ListLemmas.{has_contained, contains_had}
 use Rattle.sqlite_schema.specs.Rules.{equal}
@@ -18,7 +19,9 @@ use Rattle.mx_register.specs.Registers.{entry_rows}
 use Rattle.mx_layout.specs.TableName.{TableName}
 use Rattle.mx_layout.specs.declared.fault.TableFault.{TableFault}
 use Rattle.mx_layout.specs.declared.fault.TableFault.TheVariants.{Memory, Store, Damaged}
+use Rattle.mx_layout.specs.Contents.{rows_in}
 use Rattle.mx_layout.specs.Names.{table_named}
+use Rattle.mx_layout.specs.Reading.{HasOther}
 use Rattle.mx_kept.specs.Cells.{kept_entry, kept_span2}
 use Rattle.mx_kept.specs.Kept.{Kept}
 use Rattle.mx_kept.specs.Family.{IsReadableAs}
@@ -31,6 +34,7 @@ use Rattle.mx_stands.specs.Schemas.{schema_at}
 use Rattle.mx_found.specs.Names.{last_number}
 use Rattle.mx_found.specs.Spans.{is_open_at, is_open_of}
 use Rattle.mx_found.proofs.FoundLemmas.{entries_counted, entries_numbered}
+use Rattle.mx_rows.specs.Damage.{IsDamaged}
 use Rattle.mx_rows.specs.Reads.{IsStop, Reads, rows_point}
 use Rattle.mx_rows.proofs.ChosenLemmas.{chosen_is, none_other, other_chosen}
 use Rattle.mx_rows.proofs.ReadLemmas.{map_ok, map_read}
@@ -73,6 +77,15 @@ damage_of name other (Err e) (inl memory) is = absurd cc
 damage_of name other (Err e) (inr (inl store)) is = absurd cc
 damage_of name other (Err e) (inr (inr damaged)) is = ap Err damaged
 
+-- a row of this table that is none of its type is its damage, and the damage that is told
+damaged_by : {X V : Type 0} (k : Kept X) (rows : List Entry → List X) → IsTable k rows → (other : TableName) (trees : Trees) (r : Result V TableFault) → r ≡ Err (Damaged k.name) → r ≡ Err (Damaged other)
+    → HasOther (IsReadableAs k) (rows_in (table_named k.name) trees) → IsDamaged other trees
+unfolding IsDamaged
+damaged_by k rows it other trees r mine is bad =
+    let one : Err (Damaged k.name) ≡ Err (Damaged other) = sym mine ∙ is in
+    let same : k.name ≡ other = cc in
+    subst (λ name. IsDamaged name trees) same (inl (bad.0, bad.1, λ good. bad.2 (it.readable bad.0 good)))
+
 module _ {X V : Type 0} (k : Kept X) (rows : List Entry → List X) (it : IsTable k rows) (chosen : Row → Bool) (picks : X → Bool) (same : (x : X) → chosen (k.as_cells x) ≡ picks x) (items : V → List X) where
   -- the rows that were chosen are those of the book that pass the test
   pub rows_read : (old new : State) (result : Result V TableFault) → ReadsFirst k None k.order chosen items old new result → Reads (λ book v. items v ≡ filter picks (rows book)) old new result
@@ -86,6 +99,10 @@ module _ {X V : Type 0} (k : Kept X) (rows : List Entry → List X) (it : IsTabl
         no_book = λ clean name is book stands.
             let bad = r.damaged clean (has_it stands.schema) (damage_of k.name name result r.cause is) in
             none_other k it.law old.now.trees (rows book) (it.keeps old.now.trees book stands.rows) (other_chosen (IsReadableAs k) (table_named k.name) chosen old.now.trees bad.0 bad.1 bad.2);
+        damaged = λ clean has name is.
+            let mine = damage_of k.name name result r.cause is in
+            let bad = r.damaged clean (has_it has) mine in
+            damaged_by k rows it name old.now.trees result mine is (other_chosen (IsReadableAs k) (table_named k.name) chosen old.now.trees bad.0 bad.1 bad.2);
         unchanged = λ clean has. map_read (IsUnchanged old new) (new.now ≡ old.now) result (λ still. still.0.now_is) (r.unchanged clean (has_it has));
         inside = r.inside;
         within = r.within;
@@ -110,6 +127,13 @@ pub last_read : {V : Type 0} (items : V → List EntryRow) (old new : State) (re
     → Reads (λ book v. last_number (items v) ≡ length book) old new result
 last_read items old new result r =
     let table = table_named kept_entry.name in
+    let other_first : ((rows : List Row) × AreFirst (Some 1) (backward kept_entry.order) table is_any old.now.trees rows × HasOther (IsReadableAs kept_entry) rows) → HasOther (IsReadableAs kept_entry) (rows_in table old.now.trees) =
+    λ bad.
+    let are = bad.1 in
+    let first = has_contained bad.0 bad.2.0 bad.2.1 in
+    let all : Has are.those bad.2.0 = taken_had 1 are.those bad.2.0 (subst (λ rs. Has rs bad.2.0) are.first first) in
+    let those : AreFirst None (backward kept_entry.order) table is_any old.now.trees are.those = record { those = are.those; are = are.are; first = refl } in
+    other_chosen (IsReadableAs kept_entry) table is_any old.now.trees are.those those (bad.2.0, contains_had are.those bad.2.0 all, bad.2.2) in
     let has_it : old.now.schema ≡ schema_at rows_point → kept_entry.IsIn old.now.schema = λ has. subst kept_entry.IsIn (sym has) entries.is_in in
     record {
       read = λ clean book stands.
@@ -119,14 +143,11 @@ last_read items old new result r =
           (λ v are. last_is (items v) ∙ last_tells old.now.trees (entry_rows book) (items v) numbered keeps.given are ∙ entries_counted book) (r.rows clean (has_it stands.schema));
       cause = stop_of kept_entry.name result r.cause;
       no_book = λ clean name is book stands.
-          let bad = r.damaged clean (has_it stands.schema) (damage_of kept_entry.name name result r.cause is) in
-          let rows = bad.0 in
-          let are = bad.1 in
-          let first = has_contained rows bad.2.0 bad.2.1 in
-          let all : Has are.those bad.2.0 = taken_had 1 are.those bad.2.0 (subst (λ rs. Has rs bad.2.0) are.first first) in
-          let those : AreFirst None (backward kept_entry.order) table is_any old.now.trees are.those = record { those = are.those; are = are.are; first = refl } in
           none_other kept_entry entries.law old.now.trees (entry_rows book) (entries.keeps old.now.trees book stands.rows)
-          (other_chosen (IsReadableAs kept_entry) table is_any old.now.trees are.those those (bad.2.0, contains_had are.those bad.2.0 all, bad.2.2));
+          (other_first (r.damaged clean (has_it stands.schema) (damage_of kept_entry.name name result r.cause is)));
+      damaged = λ clean has name is.
+          let mine = damage_of kept_entry.name name result r.cause is in
+          damaged_by kept_entry entry_rows entries name old.now.trees result mine is (other_first (r.damaged clean (has_it has) mine));
       unchanged = λ clean has. map_read (IsUnchanged old new) (new.now ≡ old.now) result (λ still. still.0.now_is) (r.unchanged clean (has_it has));
       inside = r.inside;
       within = r.within;

@@ -13,6 +13,7 @@ use Rattle.mx_layout.proofs.CrashLemmas.{stays_then, within_then}
 use Rattle.mx_tables.specs.Calls.{OnRead}
 use Rattle.mx_stands.specs.Schemas.{schema_at}
 use Rattle.mx_stands.specs.Stands.{HasRowsAt}
+use Rattle.mx_rows.specs.Damage.{IsDamaged}
 use Rattle.mx_rows.specs.Reads.{Reads, StandsFor, rows_point}
 
 -- a look-up that did not answer is one of anything
@@ -21,6 +22,7 @@ stops P Q old new e r = record {
   read = λ _ _ _. tt;
   cause = r.cause;
   no_book = λ clean name is. r.no_book clean name (let same : e ≡ fault.Damaged name = cc in ap Err same);
+  damaged = λ clean has name is. r.damaged clean has name (let same : e ≡ fault.Damaged name = cc in ap Err same);
   unchanged = r.unchanged;
   inside = r.inside;
   within = r.within;
@@ -37,17 +39,19 @@ told P Q old new v w so r = record {
   read = λ clean book stands. so book stands.rows.is_book (r.read clean book stands);
   cause = tt;
   no_book = λ clean name is. absurd cc;
+  damaged = λ clean has name is. absurd cc;
   unchanged = r.unchanged;
   inside = r.inside;
   within = r.within;
 }
 
--- what was answered is so of no book
-pub refused : {V W : Type 0} (P : List Entry → V → Type 0) (Q : List Entry → W → Type 0) (old new : State) (v : V) (name : TableName) → ((book : List Entry) → IsBook book → P book v → ⊥) → Reads P old new (Ok v) → Reads Q old new (Err (fault.Damaged name))
-refused P Q old new v name never r = record {
+-- what was answered is so of no book, and the table is damaged
+pub refused : {V W : Type 0} (P : List Entry → V → Type 0) (Q : List Entry → W → Type 0) (old new : State) (v : V) (name : TableName) → ((book : List Entry) → IsBook book → P book v → ⊥) → (HasCleanDisk new → old.now.schema ≡ schema_at rows_point → IsDamaged name old.now.trees) → Reads P old new (Ok v) → Reads Q old new (Err (fault.Damaged name))
+refused P Q old new v name never reason r = record {
   read = λ _ _ _. tt;
   cause = inr (inr (name, refl));
   no_book = λ clean _ _ book stands. never book stands.rows.is_book (r.read clean book stands);
+  damaged = λ clean has other is. (let same : name ≡ other = cc in subst (λ it. IsDamaged it old.now.trees) same (reason clean has));
   unchanged = r.unchanged;
   inside = r.inside;
   within = r.within;
@@ -76,6 +80,7 @@ reads_then P Q a b c v result one two =
       read = λ clean book stands. map_ok _ _ result (λ w q. (one.read (early clean) book stands, q)) (two.read clean book (stands_too clean book stands));
       cause = two.cause;
       no_book = λ clean name is book stands. two.no_book clean name is book (stands_too clean book stands);
+      damaged = λ clean has name is. subst (λ (d : Database). IsDamaged name d.trees) (same clean has) (two.damaged clean (has_too clean has) name is);
       unchanged = λ clean has. map_read _ _ result (λ more. more ∙ same clean has) (two.unchanged clean (has_too clean has));
       inside = λ clean begun. (let stays = one.inside (early clean) begun in map_read (StaysInside b c) (StaysInside a c) result (stays_then a b c stays) (two.inside clean stays.mode));
       within = within_then a b c one.within (λ clean begun. (one.inside clean begun).mode) two.within;
@@ -87,6 +92,7 @@ follows P Q old new result so r = record {
   read = λ clean book stands. map_ok (P book) (Q book) result (λ v p. so book v stands.rows.is_book p) (r.read clean book stands);
   cause = r.cause;
   no_book = r.no_book;
+  damaged = r.damaged;
   unchanged = r.unchanged;
   inside = r.inside;
   within = r.within;

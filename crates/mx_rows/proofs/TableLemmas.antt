@@ -1,6 +1,7 @@
 -- Each table, where the tables stand for a book: the rows that it keeps.
 use Rattle.std.proofs.Common.{◌≡◌, List, map, All, true, inr, refl, subst}
 use Rattle.std.specs.List.Sorted.{IsPermutation}
+use Rattle.sqlite.specs.Order.{Row}
 use Rattle.sqlite.specs.Tree.{Trees}
 use Rattle.mx_command.specs.Act.{Entry}
 use Rattle.mx_book.specs.Book.{IsBook}
@@ -14,6 +15,7 @@ use Rattle.mx_layout.specs.TableName.{TableName}
 use Rattle.mx_layout.specs.declared.fault.Table.TheVariants as table
 use Rattle.mx_layout.specs.Contents.{rows_in}
 use Rattle.mx_layout.specs.Names.{table_named}
+use Rattle.mx_kept.specs.Family.{IsReadable, IsReadableAs}
 use Rattle.mx_kept.specs.Kept.{Kept}
 use Rattle.mx_kept.specs.Cells.{kept_entry, kept_aircraft, kept_place, kept_component, kept_span2, kept_total2}
 use Rattle.mx_kept.specs.Meanings.{IsLawful}
@@ -23,22 +25,24 @@ use Rattle.mx_stands.proofs.FamilyLemmas.{AreFacts, Rise, facts, register_facts}
 use Rattle.mx_rows.specs.Keeping.{KeepsRows}
 use Rattle.mx_rows.specs.Reads.{rows_point}
 
--- the table has its law, the schema at the point has it, and where the tables stand for a book it keeps these rows of the book
+-- the table has its law, its rows are those of its name, the schema at the point has it, and where the tables stand for a book it keeps these rows of the book
 pub record IsTable {X : Type 0} (k : Kept X) (rows : List Entry → List X) : Type 0 where
   pub law : IsLawful k
+  pub readable : (row : Row) → IsReadable k.name row → IsReadableAs k row
   pub is_in : k.IsIn (schema_at rows_point)
   pub keeps : (trees : Trees) (book : List Entry) → HasRowsAt rows_point trees book → KeepsRows k trees (rows book)
 
 -- what the family says of a table makes it one
-table_is : {X : Type 0} (name : TableName) (k : Kept X) (line : Line X) → AreFacts name k line → is_table_at line rows_point ≡ true
+table_is : {X : Type 0} (name : TableName) (k : Kept X) (line : Line X) → AreFacts name k line → ((row : Row) → IsReadable k.name row → IsReadableAs k row) → is_table_at line rows_point ≡ true
     → ((book : List Entry) → IsBook book → Rise k.key (line.rows book))
     → ((trees : Trees) (book : List Entry) → HasRowsAt rows_point trees book → All k.Fits (rows_at line rows_point book))
     → ((trees : Trees) (book : List Entry) → HasRowsAt rows_point trees book → IsPermutation (map k.as_cells (rows_at line rows_point book)) (rows_in (table_named k.name) trees))
     → IsTable k line.rows
-table_is name k line fact there rise fits given =
+table_is name k line fact readable there rise fits given =
     let whole = fact.whole 2 (inr refl) there in
     record {
       law = fact.law;
+      readable = readable;
       is_in = fact.is_in rows_point (inr refl) there (schema_at rows_point) (record { rest = _; more = _; is = refl });
       keeps = λ trees book has. (let up = rise book has.is_book in record {
         low = up.0;
@@ -50,19 +54,19 @@ table_is name k line fact there rise fits given =
     }
 
 pub entries : IsTable kept_entry entry_rows
-entries = table_is table.Entry kept_entry entries_all (facts table.Entry) refl (λ book is. (register_facts table.Entry).rise book is.shaped) (λ trees book has. has.fit table.Entry refl) (λ trees book has. has.tables table.Entry refl)
+entries = table_is table.Entry kept_entry entries_all (facts table.Entry) (λ row is. is) refl (λ book is. (register_facts table.Entry).rise book is.shaped) (λ trees book has. has.fit table.Entry refl) (λ trees book has. has.tables table.Entry refl)
 
 pub aircraft : IsTable kept_aircraft aircraft_rows
-aircraft = table_is table.Aircraft kept_aircraft aircraft_all (facts table.Aircraft) refl (λ book is. (register_facts table.Aircraft).rise book is.shaped) (λ trees book has. has.fit table.Aircraft refl) (λ trees book has. has.tables table.Aircraft refl)
+aircraft = table_is table.Aircraft kept_aircraft aircraft_all (facts table.Aircraft) (λ row is. is) refl (λ book is. (register_facts table.Aircraft).rise book is.shaped) (λ trees book has. has.fit table.Aircraft refl) (λ trees book has. has.tables table.Aircraft refl)
 
 pub places : IsTable kept_place place_rows
-places = table_is table.Place kept_place places_all (facts table.Place) refl (λ book is. (register_facts table.Place).rise book is.shaped) (λ trees book has. has.fit table.Place refl) (λ trees book has. has.tables table.Place refl)
+places = table_is table.Place kept_place places_all (facts table.Place) (λ row is. is) refl (λ book is. (register_facts table.Place).rise book is.shaped) (λ trees book has. has.fit table.Place refl) (λ trees book has. has.tables table.Place refl)
 
 pub components : IsTable kept_component component_rows
-components = table_is table.Component kept_component components_all (facts table.Component) refl (λ book is. (register_facts table.Component).rise book is.shaped) (λ trees book has. has.fit table.Component refl) (λ trees book has. has.tables table.Component refl)
+components = table_is table.Component kept_component components_all (facts table.Component) (λ row is. is) refl (λ book is. (register_facts table.Component).rise book is.shaped) (λ trees book has. has.fit table.Component refl) (λ trees book has. has.tables table.Component refl)
 
 pub spans : IsTable kept_span2 span_rows
-spans = table_is table.Span2 kept_span2 spans_2 (facts table.Span2) refl (λ book is. (_, _, span_rows-rising book is)) (λ trees book has. has.fit table.Span2 refl) (λ trees book has. has.tables table.Span2 refl)
+spans = table_is table.Span2 kept_span2 spans_2 (facts table.Span2) (λ row is. is) refl (λ book is. (_, _, span_rows-rising book is)) (λ trees book has. has.fit table.Span2 refl) (λ trees book has. has.tables table.Span2 refl)
 
 pub totals : IsTable kept_total2 total_rows
-totals = table_is table.Total2 kept_total2 totals_2 (facts table.Total2) refl (λ book is. (_, _, total_rows-rising book)) (λ trees book has. has.fit table.Total2 refl) (λ trees book has. has.tables table.Total2 refl)
+totals = table_is table.Total2 kept_total2 totals_2 (facts table.Total2) (λ row is. is) refl (λ book is. (_, _, total_rows-rising book)) (λ trees book has. has.fit table.Total2 refl) (λ trees book has. has.tables table.Total2 refl)

@@ -1,3 +1,6 @@
 pub mod Keeping
+pub mod Damage
 pub mod Reads
+pub mod AnyRows
+pub mod Given
 pub mod Fitted

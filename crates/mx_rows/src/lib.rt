@@ -1,6 +1,7 @@
 //! The look-ups of the judge by rows. Each is made inside a `Transaction` over tables that stand for a book, and answers what
-//! the definition says of that book; none changes a row. `Memory` is want of memory, `Store` an error of the store, and
-//! `Damaged` says which table has a row that no book gives it.
+//! the definition says of that book; over any rows, what the rows that were chosen give. None changes a row. `Memory` is want
+//! of memory, `Store` an error of the store, and `Damaged` names a table that no book gives: one of the rows that were chosen
+//! from it can't be read, as none of its type, or lacks the row of another table that it needs.
 #![tactic(auto)]
 
 pub mod entries;

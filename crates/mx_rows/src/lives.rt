@@ -4,6 +4,8 @@ ghost use Rattle.sqlite.specs.Held.{state};
 ghost use Rattle.mx_command.specs.declared.item.Item.TheVariants.{Airframe};
 ghost use Rattle.mx_book.specs.Judge.{earliest_takeoff};
 ghost use Rattle.mx_book.specs.Life.{clock, life_now};
+ghost use Rattle.mx_rows.specs.AnyRows.{ReadsAny};
+ghost use Rattle.mx_rows.specs.Given.{ClockOf, LifeOf};
 ghost use Rattle.mx_rows.specs.Reads.{Reads};
 
 use crate::items::item_number;
@@ -16,7 +18,7 @@ use sqlite::{Alter, Transaction};
 use std::alloc::Global;
 
 /// The clock of an item: the latest moment that there is of it, or the first of all. `Damaged` with `total2` where the item
-/// is there without its total.
+/// is there and its total is not, or can't be read; with `aircraft` or `component` where a row with its name can't.
 pub fn clock<S: Alter>(
     alloc: Global,
     tx: &mut Transaction<'_, S>,
@@ -24,6 +26,8 @@ pub fn clock<S: Alter>(
 ) -> Result<Moment, TableFault>
     ensures same_reference { tx.new.conn.ghost_name ≡ tx.old.conn.ghost_name }
     ensures reads { Reads (λ book moment. moment ≡ clock book item.now)
+        (state S.Store tx.old.conn.now) (state S.Store tx.new.conn.now) result }
+    ensures any_rows { ReadsAny (ClockOf item.now)
         (state S.Store tx.old.conn.now) (state S.Store tx.new.conn.now) result }
 {
     let found = item_number(alloc, tx, item)?;
@@ -39,8 +43,8 @@ pub fn clock<S: Alter>(
     }
 }
 
-/// The life that an item has now, or `None` where it is not there. `Damaged` with `total2` where the item is there without
-/// its total.
+/// The life that an item has now, or `None` where it is not there. `Damaged` with `total2` where the item is there and its
+/// total is not, or can't be read; with `aircraft` or `component` where a row with its name can't.
 pub fn life<S: Alter>(
     alloc: Global,
     tx: &mut Transaction<'_, S>,
@@ -48,6 +52,8 @@ pub fn life<S: Alter>(
 ) -> Result<Option<Use>, TableFault>
     ensures same_reference { tx.new.conn.ghost_name ≡ tx.old.conn.ghost_name }
     ensures reads { Reads (λ book found. found ≡ life_now book item.now)
+        (state S.Store tx.old.conn.now) (state S.Store tx.new.conn.now) result }
+    ensures any_rows { ReadsAny (LifeOf item.now)
         (state S.Store tx.old.conn.now) (state S.Store tx.new.conn.now) result }
 {
     let found = item_number(alloc, tx, item)?;
@@ -63,7 +69,7 @@ pub fn life<S: Alter>(
     }
 }
 
-/// The earliest moment at which an aircraft takes off for its next sector: its clock.
+/// The earliest moment at which an aircraft takes off for its next sector: its clock. `Damaged` as for the clock.
 pub fn earliest_takeoff<S: Alter>(
     alloc: Global,
     tx: &mut Transaction<'_, S>,
@@ -71,6 +77,8 @@ pub fn earliest_takeoff<S: Alter>(
 ) -> Result<Moment, TableFault>
     ensures same_reference { tx.new.conn.ghost_name ≡ tx.old.conn.ghost_name }
     ensures reads { Reads (λ book moment. moment ≡ earliest_takeoff book tail.now)
+        (state S.Store tx.old.conn.now) (state S.Store tx.new.conn.now) result }
+    ensures any_rows { ReadsAny (ClockOf (Airframe tail.now))
         (state S.Store tx.old.conn.now) (state S.Store tx.new.conn.now) result }
 {
     clock(alloc, tx, &Item::Airframe(*tail))

@@ -3,6 +3,8 @@ ghost use Rattle.std.specs.Prelude.{◌≡◌};
 ghost use Rattle.sqlite.specs.Held.{state};
 ghost use Rattle.mx_book.specs.Span.{is_taken, tail_fitted};
 ghost use Rattle.mx_rows.specs.Fitted.{IsNumberFitted};
+ghost use Rattle.mx_rows.specs.AnyRows.{ReadsAny};
+ghost use Rattle.mx_rows.specs.Given.{IsTaken, NumberFitted, TailFitted};
 ghost use Rattle.mx_rows.specs.Reads.{Reads};
 
 use crate::items::{aircraft_number, component_number, tail_of_number};
@@ -13,7 +15,8 @@ use mx_layout::{Table, TableFault};
 use sqlite::{Alter, Transaction};
 use std::alloc::Global;
 
-/// Whether a component is fitted to the position of an aircraft.
+/// Whether a component is fitted to the position of an aircraft. `Damaged` with `aircraft` where a row with the registration
+/// can't be read, and with `span2` where an open span of the aircraft can't.
 pub fn is_taken<S: Alter>(
     alloc: Global,
     tx: &mut Transaction<'_, S>,
@@ -22,6 +25,8 @@ pub fn is_taken<S: Alter>(
 ) -> Result<bool, TableFault>
     ensures same_reference { tx.new.conn.ghost_name ≡ tx.old.conn.ghost_name }
     ensures reads { Reads (λ book taken. taken ≡ is_taken book tail.now position.now)
+        (state S.Store tx.old.conn.now) (state S.Store tx.new.conn.now) result }
+    ensures any_rows { ReadsAny (IsTaken tail.now position.now)
         (state S.Store tx.old.conn.now) (state S.Store tx.new.conn.now) result }
 {
     let found = aircraft_number(alloc, tx, tail)?;
@@ -43,6 +48,8 @@ fn number_fitted<S: Alter>(
     ensures same_reference { tx.new.conn.ghost_name ≡ tx.old.conn.ghost_name }
     ensures reads { Reads (IsNumberFitted serial.now)
         (state S.Store tx.old.conn.now) (state S.Store tx.new.conn.now) result }
+    ensures any_rows { ReadsAny (NumberFitted serial.now)
+        (state S.Store tx.old.conn.now) (state S.Store tx.new.conn.now) result }
 {
     let found = component_number(alloc, tx, serial)?;
     match found {
@@ -55,7 +62,8 @@ fn number_fitted<S: Alter>(
 }
 
 /// The registration of the aircraft that a component is fitted to, or `None` where it is fitted nowhere. `Damaged` with
-/// `span2` where the span of the component names an aircraft that is not there.
+/// `span2` where the open span of the component names an aircraft that is not there or can't be read; with `component` or
+/// `aircraft` where a row with the serial number, or with the number of the aircraft, can't.
 pub fn tail_fitted<S: Alter>(
     alloc: Global,
     tx: &mut Transaction<'_, S>,
@@ -63,6 +71,8 @@ pub fn tail_fitted<S: Alter>(
 ) -> Result<Option<Tail>, TableFault>
     ensures same_reference { tx.new.conn.ghost_name ≡ tx.old.conn.ghost_name }
     ensures reads { Reads (λ book tail. tail ≡ tail_fitted book serial.now)
+        (state S.Store tx.old.conn.now) (state S.Store tx.new.conn.now) result }
+    ensures any_rows { ReadsAny (TailFitted serial.now)
         (state S.Store tx.old.conn.now) (state S.Store tx.new.conn.now) result }
 {
     let found = number_fitted(alloc, tx, serial)?;
