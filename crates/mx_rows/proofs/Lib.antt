@@ -5,3 +5,5 @@ pub mod LookupLemmas
 pub mod BookRows
 pub mod AnyLemmas
 pub mod DamageLemmas
+pub mod EntryRows
+pub mod TellLemmas

@@ -1,5 +1,5 @@
 -- Look-ups one after another, whatever they ask.
-use Rattle.std.proofs.Common.{◌≡◌, inr, List, Ok, Err, Result, refl, sym, ap, subst, ◌∙◌, arith}
+use Rattle.std.proofs.Common.{◌≡◌, inl, inr, List, Ok, Err, Result, refl, sym, ap, subst, ◌∙◌, arith}
 use Rattle.std.specs.Prelude.{IsErrAnd, IfOk}
 use Rattle.sqlite.specs.Effect.{Database}
 use Rattle.sqlite.specs.State.{State, HasCleanDisk}
@@ -95,5 +95,16 @@ follows P Q old new result so r = record {
   damaged = r.damaged;
   unchanged = r.unchanged;
   inside = r.inside;
+  within = r.within;
+}
+
+-- memory ran out behind what was answered
+pub no_memory : {V W : Type 0} (P : List Entry → V → Type 0) (Q : List Entry → W → Type 0) (old new : State) (v : V) → Reads P old new (Ok v) → Reads Q old new (Err fault.Memory)
+no_memory P Q old new v r = record {
+  read = λ _ _ _. tt;
+  cause = inl refl;
+  no_book = λ clean name is. absurd cc;
+  unchanged = λ _ _. tt;
+  inside = λ _ _. tt;
   within = r.within;
 }

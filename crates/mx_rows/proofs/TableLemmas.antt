@@ -33,7 +33,7 @@ pub record IsTable {X : Type 0} (k : Kept X) (rows : List Entry → List X) : Ty
   pub keeps : (trees : Trees) (book : List Entry) → HasRowsAt rows_point trees book → KeepsRows k trees (rows book)
 
 -- what the family says of a table makes it one
-table_is : {X : Type 0} (name : TableName) (k : Kept X) (line : Line X) → AreFacts name k line → ((row : Row) → IsReadable k.name row → IsReadableAs k row) → is_table_at line rows_point ≡ true
+pub table_is : {X : Type 0} (name : TableName) (k : Kept X) (line : Line X) → AreFacts name k line → ((row : Row) → IsReadable k.name row → IsReadableAs k row) → is_table_at line rows_point ≡ true
     → ((book : List Entry) → IsBook book → Rise k.key (line.rows book))
     → ((trees : Trees) (book : List Entry) → HasRowsAt rows_point trees book → All k.Fits (rows_at line rows_point book))
     → ((trees : Trees) (book : List Entry) → HasRowsAt rows_point trees book → IsPermutation (map k.as_cells (rows_at line rows_point book)) (rows_in (table_named k.name) trees))

@@ -6,5 +6,11 @@
 
 pub mod entries;
 pub mod items;
+pub mod known;
+mod known_items;
+mod known_lines;
+mod known_moves;
+mod known_releases;
+mod known_works;
 pub mod lives;
 pub mod spans;
