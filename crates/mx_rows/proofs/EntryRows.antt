@@ -32,28 +32,28 @@ use Rattle.mx_rows.proofs.ReadLemmas.{map_ok}
 -- ── further tables ──
 
 programmes : IsTable kept_programme (rows_of given.programmes)
-programmes = table_is table.Programme kept_programme programmes_all (facts table.Programme) refl (λ book is. (register_facts table.Programme).rise book is.shaped) (λ trees book has. has.fit table.Programme refl) (λ trees book has. has.tables table.Programme refl)
+programmes = table_is table.Programme kept_programme programmes_all (facts table.Programme) (λ row is. is) refl (λ book is. (register_facts table.Programme).rise book is.shaped) (λ trees book has. has.fit table.Programme refl) (λ trees book has. has.tables table.Programme refl)
 
 tasks : IsTable kept_task (rows_of given.tasks)
-tasks = table_is table.Task kept_task tasks_all (facts table.Task) refl (λ book is. (register_facts table.Task).rise book is.shaped) (λ trees book has. has.fit table.Task refl) (λ trees book has. has.tables table.Task refl)
+tasks = table_is table.Task kept_task tasks_all (facts table.Task) (λ row is. is) refl (λ book is. (register_facts table.Task).rise book is.shaped) (λ trees book has. has.fit table.Task refl) (λ trees book has. has.tables table.Task refl)
 
 openings : IsTable kept_opening (rows_of given.openings)
-openings = table_is table.Opening kept_opening openings_all (facts table.Opening) refl (λ book is. (register_facts table.Opening).rise book is.shaped) (λ trees book has. has.fit table.Opening refl) (λ trees book has. has.tables table.Opening refl)
+openings = table_is table.Opening kept_opening openings_all (facts table.Opening) (λ row is. is) refl (λ book is. (register_facts table.Opening).rise book is.shaped) (λ trees book has. has.fit table.Opening refl) (λ trees book has. has.tables table.Opening refl)
 
 releases : IsTable kept_crs (rows_of given.releases)
-releases = table_is table.Crs kept_crs releases_all (facts table.Crs) refl (λ book is. (register_facts table.Crs).rise book is.shaped) (λ trees book has. has.fit table.Crs refl) (λ trees book has. has.tables table.Crs refl)
+releases = table_is table.Crs kept_crs releases_all (facts table.Crs) (λ row is. is) refl (λ book is. (register_facts table.Crs).rise book is.shaped) (λ trees book has. has.fit table.Crs refl) (λ trees book has. has.tables table.Crs refl)
 
 release_lines : IsTable kept_crs_line (rows_of given.release_lines)
-release_lines = table_is table.CrsLine kept_crs_line release_lines_all (facts table.CrsLine) refl (λ book is. (register_facts table.CrsLine).rise book is.shaped) (λ trees book has. has.fit table.CrsLine refl) (λ trees book has. has.tables table.CrsLine refl)
+release_lines = table_is table.CrsLine kept_crs_line release_lines_all (facts table.CrsLine) (λ row is. is) refl (λ book is. (register_facts table.CrsLine).rise book is.shaped) (λ trees book has. has.fit table.CrsLine refl) (λ trees book has. has.tables table.CrsLine refl)
 
 deferrals : IsTable kept_defect (rows_of given.deferrals)
-deferrals = table_is table.Defect kept_defect deferrals_all (facts table.Defect) refl (λ book is. (register_facts table.Defect).rise book is.shaped) (λ trees book has. has.fit table.Defect refl) (λ trees book has. has.tables table.Defect refl)
+deferrals = table_is table.Defect kept_defect deferrals_all (facts table.Defect) (λ row is. is) refl (λ book is. (register_facts table.Defect).rise book is.shaped) (λ trees book has. has.fit table.Defect refl) (λ trees book has. has.tables table.Defect refl)
 
 extensions : IsTable kept_extension (rows_of given.extensions)
-extensions = table_is table.Extension kept_extension extensions_all (facts table.Extension) refl (λ book is. (register_facts table.Extension).rise book is.shaped) (λ trees book has. has.fit table.Extension refl) (λ trees book has. has.tables table.Extension refl)
+extensions = table_is table.Extension kept_extension extensions_all (facts table.Extension) (λ row is. is) refl (λ book is. (register_facts table.Extension).rise book is.shaped) (λ trees book has. has.fit table.Extension refl) (λ trees book has. has.tables table.Extension refl)
 
 sectors : IsTable kept_sector2 (rows_of given.sectors)
-sectors = table_is table.Sector2 kept_sector2 sectors_2 (facts table.Sector2) refl (λ book is. (register_facts table.Sector2).rise book is.shaped) (λ trees book has. has.fit table.Sector2 refl) (λ trees book has. has.tables table.Sector2 refl)
+sectors = table_is table.Sector2 kept_sector2 sectors_2 (facts table.Sector2) (λ row is. is) refl (λ book is. (register_facts table.Sector2).rise book is.shaped) (λ trees book has. has.fit table.Sector2 refl) (λ trees book has. has.tables table.Sector2 refl)
 
 -- ── rows by the number of their entry ──
 
