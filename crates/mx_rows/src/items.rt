@@ -20,8 +20,7 @@ use mx_layout::TableFault;
 use sqlite::{Alter, Transaction};
 use std::alloc::Global;
 
-/// The aircraft with this registration. `Damaged` with `aircraft` where a row with the
-/// registration can't be read.
+/// The aircraft with this registration. `Damaged` with `aircraft` where a row with the registration can't be read.
 pub fn aircraft<S: Alter>(
     alloc: Global,
     tx: &mut Transaction<'_, S>,

@@ -1,7 +1,7 @@
 //! The look-ups of the judge by rows. Each is made inside a `Transaction` over tables that stand for a book, and answers what
 //! the definition says of that book; over any rows, what the rows that were chosen give. None changes a row. `Memory` is want
-//! of memory, `Store` an error of the store, and `Damaged` names a table that no book gives: one of the rows that were chosen
-//! from it can't be read, as none of its type, or lacks the row of another table that it needs.
+//! of memory, `Store` an error of the store, and `Damaged` names a table that no book gives: a row that was chosen from it
+//! can't be read, being none of its type, or names a row that another table lacks, or it lacks one that another's row needs.
 #![tactic(auto)]
 
 pub mod entries;
