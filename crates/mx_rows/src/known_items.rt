@@ -21,7 +21,7 @@ use std::alloc::Global;
 use std::slice;
 
 // Whether the row of the aircraft that the entry with a number adds is that of this one.
-pub(crate) fn is_aircraft_row<S: Alter>(
+fn is_aircraft_row<S: Alter>(
     alloc: Global,
     tx: &mut Transaction<'_, S>,
     seq: u32,
@@ -37,7 +37,7 @@ pub(crate) fn is_aircraft_row<S: Alter>(
 }
 
 // Whether the rows of the positions of the entry with a number are those of these.
-pub(crate) fn are_positions<S: Alter>(
+fn are_positions<S: Alter>(
     alloc: Global,
     tx: &mut Transaction<'_, S>,
     seq: u32,

@@ -73,7 +73,7 @@ fn line_row<S: Alter>(
 }
 
 // Whether the row of the release of the entry with a number is that of this one.
-pub(crate) fn is_release_row<S: Alter>(
+fn is_release_row<S: Alter>(
     alloc: Global,
     tx: &mut Transaction<'_, S>,
     seq: u32,
@@ -91,7 +91,7 @@ pub(crate) fn is_release_row<S: Alter>(
 }
 
 // Whether the rows of the lines of the entry with a number are those of these.
-pub(crate) fn are_lines<S: Alter>(
+fn are_lines<S: Alter>(
     alloc: Global,
     tx: &mut Transaction<'_, S>,
     seq: u32,

@@ -26,7 +26,7 @@ use std::alloc::Global;
 use std::slice;
 
 // Whether the row of the programme that the entry with a number loads is that of this one.
-pub(crate) fn is_programme_row<S: Alter>(
+fn is_programme_row<S: Alter>(
     alloc: Global,
     tx: &mut Transaction<'_, S>,
     seq: u32,
@@ -42,7 +42,7 @@ pub(crate) fn is_programme_row<S: Alter>(
 }
 
 // Whether the rows of the tasks of the entry with a number are those of these.
-pub(crate) fn are_tasks<S: Alter>(
+fn are_tasks<S: Alter>(
     alloc: Global,
     tx: &mut Transaction<'_, S>,
     seq: u32,
