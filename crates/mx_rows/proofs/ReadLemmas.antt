@@ -104,6 +104,7 @@ no_memory P Q old new v r = record {
   read = λ _ _ _. tt;
   cause = inl refl;
   no_book = λ clean name is. absurd cc;
+  damaged = λ clean has name is. absurd cc;
   unchanged = λ _ _. tt;
   inside = λ _ _. tt;
   within = r.within;
