@@ -9,6 +9,7 @@ pub mod FoundLemmas
 pub mod AnswerLemmas
 pub mod PlaceLemmas
 pub mod LifeLemmas
+pub mod BoundLemmas
 pub mod OpenLemmas
 pub mod DeferralLemmas
 pub mod EqualLemmas

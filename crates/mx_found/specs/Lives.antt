@@ -18,3 +18,7 @@ life_in rows = option_map (λ row. row.life) (slice_get rows 0)
 -- the base in the first of these rows
 abbrev pub base_found : List BaseRow → Option Base
 base_found rows = option_map base_in_row (slice_get rows 0)
+
+-- the life that a base has reached
+abbrev pub life_in_base : Base → Use
+life_in_base base = record { minutes = base.minutes; cycles = base.cycles }

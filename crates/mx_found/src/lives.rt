@@ -1,7 +1,9 @@
 //! Totals and last bases that were found: clocks, lives, and what was accomplished.
-ghost use Rattle.std.specs.Prelude.{◌≡◌, ℕ, List, filter, is_some, nat_eq, true, None, Some};
+ghost use Rattle.std.specs.Prelude.{◌≡◌, ◌≤◌, ◌↔◌, ℕ, List, filter, is_some, nat_eq, true, None, Some, IfSome, IsTrue};
+ghost use Rattle.mx_base.specs.Calendar.{last_day};
 ghost use Rattle.mx_command.specs.Act.{Entry};
 ghost use Rattle.mx_command.specs.declared.item.Item.{Item};
+ghost use Rattle.mx_due.specs.Due.{IsLife};
 ghost use Rattle.mx_book.specs.Base.{base};
 ghost use Rattle.mx_book.specs.Book.{IsBook};
 ghost use Rattle.mx_book.specs.Life.{clock, life_now};
@@ -10,10 +12,16 @@ ghost use Rattle.mx_register.specs.Names.{seq_of_item};
 ghost use Rattle.mx_kept_rows.specs.Bases.{base_rows, is_keyed};
 ghost use Rattle.mx_kept_rows.specs.Totals.{total_rows};
 ghost use Rattle.mx_typed_rows.specs.declared.rows.TotalRow.{TotalRow};
-ghost use Rattle.mx_found.specs.Lives.{base_found, clock_in, life_in};
+ghost use Rattle.mx_found.specs.Lives.{base_found, clock_in, life_in, life_in_base};
 
 use mx_base::{Base, Moment, Use};
 use mx_typed_rows::{BaseRow, TotalRow};
+
+/// The most minutes that a base has.
+const MOST_MINUTES: u32 = 1_540_000_000;
+
+/// The most cycles that a base has.
+const MOST_CYCLES: u32 = 51_000_000;
 
 /// The clock in the first of these totals, or `None` without one.
 pub fn clock_in(rows: &[TotalRow]) -> Option<Moment>
@@ -37,7 +45,8 @@ pub fn life_in(rows: &[TotalRow]) -> Option<Use>
 
 /// The base in the first of these rows, or `None` without one.
 pub fn base_found(rows: &[BaseRow]) -> Option<Base>
-    ensures { result ≡ base_found rows.now }
+    ensures found { result ≡ base_found rows.now }
+    ensures day { IfSome result (λ base. base.day ≤ last_day) }
 {
     match rows.first() {
         Some(row) => Some(Base {
@@ -47,6 +56,13 @@ pub fn base_found(rows: &[BaseRow]) -> Option<Base>
         }),
         None => None,
     }
+}
+
+/// Whether a base has minutes and cycles that a life can have.
+pub fn is_of_life(base: &Base) -> bool
+    ensures { IsTrue result ↔ IsLife (life_in_base base.now) }
+{
+    base.minutes <= MOST_MINUTES && base.cycles <= MOST_CYCLES
 }
 
 /// The total with the number of an item is there, and has its clock and its life; an item that is not there has the first
@@ -69,13 +85,15 @@ pub fn totals_are_found()
 {}
 
 /// The row of a task of the item with a number has its last base, and is there exactly where the task was accomplished;
-/// of an item that is not there nothing was.
+/// of an item that is not there nothing was. A base has minutes and cycles that a life can have.
 pub fn bases_are_found()
     ensures base { (book : List Entry) (item : Item) (id : List ℕ) (n : ℕ) → IsBook book
         → seq_of_item book item ≡ Some n
         → base_found (filter (is_keyed n id) (base_rows book)) ≡ base book item id }
     ensures accomplished { (book : List Entry) (item : Item) (id : List ℕ)
         → is_some (base book item id) ≡ is_accomplished book item id }
+    ensures bounded { (book : List Entry) (item : Item) (id : List ℕ) → IsBook book
+        → IfSome (base book item id) (λ base. IsLife (life_in_base base)) }
     ensures no_base { (book : List Entry) (item : Item) (id : List ℕ) → IsBook book
         → seq_of_item book item ≡ None → base book item id ≡ None }
 {}

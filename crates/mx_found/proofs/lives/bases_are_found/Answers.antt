@@ -1,4 +1,5 @@
 use Rattle.mx_book.proofs.BaseLemmas.{accomplished-base}
+use Rattle.mx_found.proofs.BoundLemmas.{base_low}
 use Rattle.mx_found.proofs.LifeLemmas.{base_is, no_base}
 use Rattle.mx_found.proofs.lives.bases_are_found.Goals as goal
 
@@ -7,6 +8,9 @@ returns-clause-base c = base_is
 
 pub returns-clause-accomplished : goal.returns-clause-accomplished
 returns-clause-accomplished c book item id = accomplished-base book item id
+
+pub returns-clause-bounded : goal.returns-clause-bounded
+returns-clause-bounded c book item id b = base_low book b item id
 
 pub returns-clause-no_base : goal.returns-clause-no_base
 returns-clause-no_base c = no_base
