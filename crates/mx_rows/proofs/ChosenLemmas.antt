@@ -58,9 +58,13 @@ other_chosen IsGood table chosen trees rows are it =
     let one : Contains stored it.0 = Contains-permutation rows stored it.0 (IsPermutation-sym _ _ shown) it.1 in
     (it.0, contains_had (rows_in table trees) it.0 (has_filtered chosen (rows_in table trees) it.0 (has_contained stored it.0 one)).0, it.2)
 
--- a table that keeps rows of a type has no other
-pub none_other : {X : Type 0} (k : Kept X) (law : IsLawful k) (trees : Trees) (rows : List X) → KeepsRows k trees rows → HasOther (IsReadableAs k) (rows_in (table_named k.name) trees) → ⊥
-none_other k law trees rows keeps other =
+-- a table with rows of a type has no other
+pub no_other : {X : Type 0} (k : Kept X) (law : IsLawful k) (trees : Trees) (rows : List X) → All k.Fits rows → IsPermutation (map k.as_cells rows) (rows_in (table_named k.name) trees) → HasOther (IsReadableAs k) (rows_in (table_named k.name) trees) → ⊥
+no_other k law trees rows fit given other =
     let stored = rows_in (table_named k.name) trees in
-    let good : All (IsReadableAs k) (map k.as_cells rows) = good_rows k law rows keeps.fit in
-    other.2 (All-contains (IsReadableAs k) stored other.0 (All-permutation (IsReadableAs k) _ _ keeps.given good) other.1)
+    let good : All (IsReadableAs k) (map k.as_cells rows) = good_rows k law rows fit in
+    other.2 (All-contains (IsReadableAs k) stored other.0 (All-permutation (IsReadableAs k) _ _ given good) other.1)
+
+-- so has one that keeps rows of the type
+pub none_other : {X : Type 0} (k : Kept X) (law : IsLawful k) (trees : Trees) (rows : List X) → KeepsRows k trees rows → HasOther (IsReadableAs k) (rows_in (table_named k.name) trees) → ⊥
+none_other k law trees rows keeps = no_other k law trees rows keeps.fit keeps.given

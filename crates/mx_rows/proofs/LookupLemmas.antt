@@ -5,9 +5,9 @@ use Rattle.std.specs.List.{range_with_len}
 use Rattle.std.proofs.lemmas.Map.Text.{is_eq-slice_cmp}
 use Rattle.sqlite.specs.Order.{Row}
 use Rattle.sqlite.specs.State.{State, IsUnchanged}
+use Rattle.sqlite.specs.Tree.{Trees}
 use Rattle.sqlite.specs.declared.types.Value.TheVariants.{Int, Text}
 use Rattle.sqlite.specs.Collation.TheVariants.{Binary}
-use Rattle.sqlite.specs.Tree.{Trees}
 use Rattle.sqlite_rules.specs.Lists.{Has}
 use Rattle.sqlite_rules.proofs.ListLemmas.{has_contained, contains_had}
 use Rattle.sqlite_schema.specs.Rules.{equal}
@@ -24,13 +24,15 @@ use Rattle.mx_layout.specs.Names.{table_named}
 use Rattle.mx_layout.specs.Reading.{HasOther}
 use Rattle.mx_kept.specs.Cells.{kept_entry, kept_span2}
 use Rattle.mx_kept.specs.Kept.{Kept}
-use Rattle.mx_kept.specs.Family.{IsReadableAs}
+use Rattle.mx_kept.specs.Family.{IsReadable, IsReadableAs}
+use Rattle.mx_kept.specs.Meanings.{IsLawful}
 use Rattle.mx_chosen.specs.Choices.{AreFirst, backward, is_any, is_missing, is_open}
 use Rattle.mx_chosen.specs.Calls.{ReadsFirst}
 use Rattle.mx_chosen.specs.Counts.{AreNumbered, last_number as counted}
 use Rattle.mx_chosen.proofs.LastLemmas.{last_tells}
 use Rattle.mx_chosen.proofs.EqualLemmas.{equal_numbers, equal_texts}
 use Rattle.mx_stands.specs.Schemas.{schema_at}
+use Rattle.mx_stands.specs.Stands.{HasRowsAt}
 use Rattle.mx_found.specs.Names.{last_number}
 use Rattle.mx_found.specs.Spans.{is_open_at, is_open_of}
 use Rattle.mx_found.proofs.FoundLemmas.{entries_counted, entries_numbered}
@@ -64,49 +66,58 @@ both_ok : {V : Type 0} (P Q R : V → Type 0) (r : Result V TableFault) → ((v 
 both_ok P Q R (Ok v) f p q = f v p q
 both_ok P Q R (Err e) f p q = tt
 
-stop_of : {V : Type 0} (name : TableName) (r : Result V TableFault) → IfErr r (λ e. (e ≡ Memory) ⊎ ((e ≡ Store) ⊎ (e ≡ Damaged name))) → IfErr r IsStop
+pub stop_of : {V : Type 0} (name : TableName) (r : Result V TableFault) → IfErr r (λ e. (e ≡ Memory) ⊎ ((e ≡ Store) ⊎ (e ≡ Damaged name))) → IfErr r IsStop
 stop_of name (Ok v) h = tt
 stop_of name (Err e) (inl memory) = inl memory
 stop_of name (Err e) (inr (inl store)) = inr (inl store)
 stop_of name (Err e) (inr (inr damaged)) = inr (inr (name, damaged))
 
 -- damage is that of this table
-damage_of : {V : Type 0} (name other : TableName) (r : Result V TableFault) → IfErr r (λ e. (e ≡ Memory) ⊎ ((e ≡ Store) ⊎ (e ≡ Damaged name))) → r ≡ Err (Damaged other) → r ≡ Err (Damaged name)
+pub damage_of : {V : Type 0} (name other : TableName) (r : Result V TableFault) → IfErr r (λ e. (e ≡ Memory) ⊎ ((e ≡ Store) ⊎ (e ≡ Damaged name))) → r ≡ Err (Damaged other) → r ≡ Err (Damaged name)
 damage_of name other (Ok v) h is = absurd cc
 damage_of name other (Err e) (inl memory) is = absurd cc
 damage_of name other (Err e) (inr (inl store)) is = absurd cc
 damage_of name other (Err e) (inr (inr damaged)) is = ap Err damaged
 
 -- a row of this table that is none of its type is its damage, and the damage that is told
-damaged_by : {X V : Type 0} (k : Kept X) (rows : List Entry → List X) → IsTable k rows → (other : TableName) (trees : Trees) (r : Result V TableFault) → r ≡ Err (Damaged k.name) → r ≡ Err (Damaged other)
+damaged_by : {X V : Type 0} (k : Kept X) → ((row : Row) → IsReadable k.name row → IsReadableAs k row) → (other : TableName) (trees : Trees) (r : Result V TableFault) → r ≡ Err (Damaged k.name) → r ≡ Err (Damaged other)
     → HasOther (IsReadableAs k) (rows_in (table_named k.name) trees) → IsDamaged other trees
 unfolding IsDamaged
-damaged_by k rows it other trees r mine is bad =
+damaged_by k readable other trees r mine is bad =
     let one : Err (Damaged k.name) ≡ Err (Damaged other) = sym mine ∙ is in
     let same : k.name ≡ other = cc in
-    subst (λ name. IsDamaged name trees) same (inl (bad.0, bad.1, λ good. bad.2 (it.readable bad.0 good)))
+    subst (λ name. IsDamaged name trees) same (inl (bad.0, bad.1, λ good. bad.2 (readable bad.0 good)))
 
-module _ {X V : Type 0} (k : Kept X) (rows : List Entry → List X) (it : IsTable k rows) (chosen : Row → Bool) (picks : X → Bool) (same : (x : X) → chosen (k.as_cells x) ≡ picks x) (items : V → List X) where
-  -- the rows that were chosen are those of the book that pass the test
-  pub rows_read : (old new : State) (result : Result V TableFault) → ReadsFirst k None k.order chosen items old new result → Reads (λ book v. items v ≡ filter picks (rows book)) old new result
-  rows_read old new result r =
-      let has_it : old.now.schema ≡ schema_at rows_point → k.IsIn old.now.schema = λ has. subst k.IsIn (sym has) it.is_in in
+module _ {X V : Type 0} (k : Kept X) (law : IsLawful k) (is_in : k.IsIn (schema_at rows_point)) (readable : (row : Row) → IsReadable k.name row → IsReadableAs k row) (chosen : Row → Bool) (items : V → List X) (Is : List Entry → V → Type 0) where
+  -- the rows that were chosen are what is so of them, where the tables stand for a book
+  pub chosen_read : ((trees : Trees) (book : List Entry) → HasRowsAt rows_point trees book → (v : V) → AreFirst None k.order (table_named k.name) chosen trees (map k.as_cells (items v)) → All k.Fits (items v) → Is book v)
+      → ((trees : Trees) (book : List Entry) → HasRowsAt rows_point trees book → HasOther (IsReadableAs k) (rows_in (table_named k.name) trees) → ⊥)
+      → (old new : State) (result : Result V TableFault) → ReadsFirst k None k.order chosen items old new result → Reads Is old new result
+  chosen_read so none old new result r =
+      let has_it : old.now.schema ≡ schema_at rows_point → k.IsIn old.now.schema = λ has. subst k.IsIn (sym has) is_in in
       record {
         read = λ clean book stands.
-            both_ok (λ v. AreFirst None k.order (table_named k.name) chosen old.now.trees (map k.as_cells (items v))) (λ v. All k.Fits (items v)) (λ v. items v ≡ filter picks (rows book)) result
-            (λ v are fits. chosen_is k it.law old.now.trees (rows book) (it.keeps old.now.trees book stands.rows) chosen picks same (items v) are fits) (r.rows clean (has_it stands.schema)) r.fits;
+            both_ok (λ v. AreFirst None k.order (table_named k.name) chosen old.now.trees (map k.as_cells (items v))) (λ v. All k.Fits (items v)) (Is book) result (so old.now.trees book stands.rows) (r.rows clean (has_it stands.schema)) r.fits;
         cause = stop_of k.name result r.cause;
         no_book = λ clean name is book stands.
             let bad = r.damaged clean (has_it stands.schema) (damage_of k.name name result r.cause is) in
-            none_other k it.law old.now.trees (rows book) (it.keeps old.now.trees book stands.rows) (other_chosen (IsReadableAs k) (table_named k.name) chosen old.now.trees bad.0 bad.1 bad.2);
+            none old.now.trees book stands.rows (other_chosen (IsReadableAs k) (table_named k.name) chosen old.now.trees bad.0 bad.1 bad.2);
         damaged = λ clean has name is.
             let mine = damage_of k.name name result r.cause is in
             let bad = r.damaged clean (has_it has) mine in
-            damaged_by k rows it name old.now.trees result mine is (other_chosen (IsReadableAs k) (table_named k.name) chosen old.now.trees bad.0 bad.1 bad.2);
+            damaged_by k readable name old.now.trees result mine is (other_chosen (IsReadableAs k) (table_named k.name) chosen old.now.trees bad.0 bad.1 bad.2);
         unchanged = λ clean has. map_read (IsUnchanged old new) (new.now ≡ old.now) result (λ still. still.0.now_is) (r.unchanged clean (has_it has));
         inside = r.inside;
         within = r.within;
       }
+
+module _ {X V : Type 0} (k : Kept X) (rows : List Entry → List X) (it : IsTable k rows) (chosen : Row → Bool) (picks : X → Bool) (same : (x : X) → chosen (k.as_cells x) ≡ picks x) (items : V → List X) where
+  -- the rows that were chosen are those of the book that pass the test
+  pub rows_read : (old new : State) (result : Result V TableFault) → ReadsFirst k None k.order chosen items old new result → Reads (λ book v. items v ≡ filter picks (rows book)) old new result
+  rows_read =
+      chosen_read k it.law it.is_in it.readable chosen items (λ book v. items v ≡ filter picks (rows book))
+      (λ trees book has v are fits. chosen_is k it.law trees (rows book) (it.keeps trees book has) chosen picks same (items v) are fits)
+      (λ trees book has. none_other k it.law trees (rows book) (it.keeps trees book has))
 
 -- ── the last entry ──
 
@@ -147,7 +158,7 @@ last_read items old new result r =
           (other_first (r.damaged clean (has_it stands.schema) (damage_of kept_entry.name name result r.cause is)));
       damaged = λ clean has name is.
           let mine = damage_of kept_entry.name name result r.cause is in
-          damaged_by kept_entry entry_rows entries name old.now.trees result mine is (other_first (r.damaged clean (has_it has) mine));
+          damaged_by kept_entry entries.readable name old.now.trees result mine is (other_first (r.damaged clean (has_it has) mine));
       unchanged = λ clean has. map_read (IsUnchanged old new) (new.now ≡ old.now) result (λ still. still.0.now_is) (r.unchanged clean (has_it has));
       inside = r.inside;
       within = r.within;
