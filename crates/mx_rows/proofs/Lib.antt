@@ -7,3 +7,5 @@ pub mod AnyLemmas
 pub mod DamageLemmas
 pub mod EntryRows
 pub mod TellLemmas
+pub mod WorkRows
+pub mod InForceLemmas

@@ -5,3 +5,4 @@ pub mod AnyRows
 pub mod Given
 pub mod Fitted
 pub mod Known
+pub mod InForce

@@ -13,4 +13,6 @@ mod known_moves;
 mod known_releases;
 mod known_works;
 pub mod lives;
+pub mod programmes;
+mod rows;
 pub mod spans;
