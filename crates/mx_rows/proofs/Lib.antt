@@ -9,3 +9,4 @@ pub mod EntryRows
 pub mod TellLemmas
 pub mod WorkRows
 pub mod InForceLemmas
+pub mod DefectLemmas

@@ -4,6 +4,7 @@
 //! can't be read, being none of its type, or names a row that another table lacks, or it lacks one that another's row needs.
 #![tactic(auto)]
 
+pub mod defects;
 pub mod entries;
 pub mod items;
 pub mod known;
