@@ -8,5 +8,6 @@ pub mod DamageLemmas
 pub mod EntryRows
 pub mod TellLemmas
 pub mod WorkRows
+pub mod BaseLookups
 pub mod InForceLemmas
 pub mod DefectLemmas

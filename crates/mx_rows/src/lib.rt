@@ -17,3 +17,4 @@ pub mod lives;
 pub mod programmes;
 mod rows;
 pub mod spans;
+pub mod work;
