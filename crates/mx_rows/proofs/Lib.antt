@@ -9,5 +9,6 @@ pub mod EntryRows
 pub mod TellLemmas
 pub mod WorkRows
 pub mod BaseLookups
+pub mod RoomLookups
 pub mod InForceLemmas
 pub mod DefectLemmas

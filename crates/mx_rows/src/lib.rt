@@ -15,6 +15,7 @@ mod known_releases;
 mod known_works;
 pub mod lives;
 pub mod programmes;
+pub mod rooms;
 mod rows;
 pub mod spans;
 pub mod work;
