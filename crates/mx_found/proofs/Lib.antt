@@ -11,7 +11,9 @@ pub mod PlaceLemmas
 pub mod LifeLemmas
 pub mod BoundLemmas
 pub mod OpenLemmas
+pub mod FittedLemmas
 pub mod DeferralLemmas
+pub mod OpenDefectLemmas
 pub mod EqualLemmas
 pub mod LastLemmas
 pub mod ProgrammeLemmas

@@ -14,6 +14,11 @@ pub filter_none : {A : Type 0} (p : A → Bool) (xs : List A) → AllByRecursion
 filter_none p [] h = refl
 filter_none p (x ∷ xs) h = rw (h.0, filter_none p xs h.1)
 
+-- what holds of each holds of each that is left
+pub all_left : {A : Type 0} (P : A → Type 0) (p : A → Bool) (xs : List A) → AllByRecursion P xs → AllByRecursion P (filter p xs)
+all_left P p [] h = tt
+all_left P p (x ∷ xs) h = elim (p x) as (λ b. AllByRecursion P (cond b (x ∷ filter p xs) (filter p xs))) [ true ↦ (h.0, all_left P p xs h.1) | false ↦ all_left P p xs h.1 ]
+
 -- equal lists have equal first elements, and equal others
 pub same_parts : {A : Type 0} (x y : A) (xs ys : List A) → x ∷ xs ≡ y ∷ ys → (x ≡ y) × (xs ≡ ys)
 same_parts x y xs ys h = (cc, cc)

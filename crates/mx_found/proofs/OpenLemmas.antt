@@ -34,7 +34,7 @@ end_if : (b : Bool) (k : ℕ) (r : Removal) (o : Option ℕ) (p : Option Removal
 end_if true k r o p h = refl
 end_if false k r o p h = h
 
-ends_alike : (serial : List ℕ) (k : ℕ) (later : List Entry) → is_none (removal_from serial k later) ≡ is_none (first_removal serial later)
+pub ends_alike : (serial : List ℕ) (k : ℕ) (later : List Entry) → is_none (removal_from serial k later) ≡ is_none (first_removal serial later)
 ends_alike serial k [] = refl
 ends_alike serial k (e ∷ later) = at e.act (ends_alike serial (k + 1) later)
   where

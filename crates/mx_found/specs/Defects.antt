@@ -1,13 +1,15 @@
 -- What the rows of deferrals, of extensions and of lines of releases that were found say.
-use Rattle.std.specs.Prelude.{ℕ, List, Bool, Option, Some, is_some, nat_eq, slice_get}
+use Rattle.std.specs.Prelude.{ℕ, List, Bool, Option, None, Some, if◌then◌else◌, filter, is_some, nat_eq, slice_get}
 use Rattle.std.specs.Option.{option_and_then, option_eq, option_map}
+use Rattle.mx_command.specs.Act.{Entry}
 use Rattle.mx_command.specs.declared.deferral.Extension.{Extension}
 use Rattle.mx_book.specs.declared.defects.Defect.{Defect}
+use Rattle.mx_register.specs.Registers.{release_line_rows}
 use Rattle.mx_typed_rows.specs.declared.rows.AircraftRow.{AircraftRow}
 use Rattle.mx_typed_rows.specs.declared.rows.DeferralRow.{DeferralRow}
 use Rattle.mx_typed_rows.specs.declared.rows.ExtensionRow.{ExtensionRow}
 use Rattle.mx_typed_rows.specs.declared.rows.ReleaseLineRow.{ReleaseLineRow}
-use Rattle.mx_found.specs.Names.{tail_in}
+use Rattle.mx_found.specs.Names.{doc_at, tail_in}
 
 -- the defect that the row of its deferral says, where this is its document and the registration of its aircraft
 abbrev pub defect_said : List ℕ → List ℕ → DeferralRow → Defect
@@ -36,3 +38,11 @@ rectifies defect row = option_eq nat_eq row.defect (Some defect)
 -- there is such a line
 abbrev pub is_rectified_in : List ReleaseLineRow → Bool
 is_rectified_in rows = is_some (slice_get rows 0)
+
+-- a line of a release of the book certifies that the defect with this number was rectified
+abbrev pub is_rectified_at : List Entry → ℕ → Bool
+is_rectified_at book defect = is_rectified_in (filter (rectifies defect) (release_line_rows book))
+
+-- the defect that the row of its deferral says, of the aircraft with this registration; none where it was rectified
+abbrev pub open_said : List Entry → List ℕ → DeferralRow → Option Defect
+open_said book tail row = if is_rectified_at book row.seq then None else option_map (λ doc. defect_said doc tail row) (doc_at book row.seq)

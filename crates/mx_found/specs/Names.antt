@@ -3,6 +3,7 @@ use Rattle.std.specs.Prelude.{ℕ, List, Bool, true, false, Option, filter, find
 use Rattle.std.specs.Option.{option_map, option_map_or}
 use Rattle.mx_command.specs.Act.{Entry}
 use Rattle.mx_command.specs.Same.{same_text}
+use Rattle.mx_book.specs.Book.{entry_at}
 use Rattle.mx_register.specs.Registers.{entry_rows}
 use Rattle.mx_typed_rows.specs.declared.rows.AircraftRow.{AircraftRow}
 use Rattle.mx_typed_rows.specs.declared.rows.ComponentRow.{ComponentRow}
@@ -29,6 +30,14 @@ aircraft_number rows = option_map (λ row. row.seq) (slice_get rows 0)
 -- the number of the first of these components
 abbrev pub component_number : List ComponentRow → Option ℕ
 component_number rows = option_map (λ row. row.seq) (slice_get rows 0)
+
+-- the document of the first of these entries
+abbrev pub doc_in : List EntryRow → Option (List ℕ)
+doc_in rows = option_map (λ row. row.doc) (slice_get rows 0)
+
+-- the document of the entry with a number
+abbrev pub doc_at : List Entry → ℕ → Option (List ℕ)
+doc_at book n = option_map (λ entry. entry.doc) (entry_at book n)
 
 -- the kind of entry that defers a defect
 abbrev pub is_deferral : EntryKind → Bool

@@ -2,9 +2,11 @@
 use Rattle.std.specs.Prelude.{ℕ, List, Bool, is_none, ◌&&◌, nat_eq, Option, Some, slice_get}
 use Rattle.std.specs.List.{list_any}
 use Rattle.std.specs.Option.{option_eq, option_map}
+use Rattle.mx_command.specs.Act.{Entry}
 use Rattle.mx_command.specs.Same.{same_text}
 use Rattle.mx_command.specs.declared.fitting.Fitting.{Fitting}
 use Rattle.mx_command.specs.declared.fitting.Removal.{Removal}
+use Rattle.mx_register.specs.Names.{serial_at}
 use Rattle.mx_typed_rows.specs.declared.rows.SpanRow.{SpanRow}
 
 -- the span is of the component with this number, and nothing removed it
@@ -18,6 +20,10 @@ is_open_at aircraft row = nat_eq row.aircraft aircraft && is_none row.remove_seq
 -- the number of the aircraft of the first of these spans
 abbrev pub span_aircraft : List SpanRow → Option ℕ
 span_aircraft rows = option_map (λ row. row.aircraft) (slice_get rows 0)
+
+-- the position of a span, and the serial number of its component
+abbrev pub place_said : List Entry → SpanRow → Option (List ℕ × List ℕ)
+place_said book row = option_map (λ serial. (row.position, serial)) (serial_at book row.component)
 
 -- one of these spans is in this position
 abbrev pub is_taken_in : List ℕ → List SpanRow → Bool

@@ -1,17 +1,19 @@
 //! Defects that were found, their extensions, and whether they were rectified.
-ghost use Rattle.std.specs.Prelude.{◌≡◌, ℕ, List, false, filter, is_some, nat_eq, true, None, Some, IsSomeAnd};
+ghost use Rattle.std.specs.Prelude.{◌≡◌, ℕ, List, [], false, filter, is_some, nat_eq, true, None, Some, IsSomeAnd};
+ghost use Rattle.std.specs.List.{filter_map, AllByRecursion};
 ghost use Rattle.mx_command.specs.Act.{Entry};
 ghost use Rattle.mx_book.specs.Book.{IsBook};
-ghost use Rattle.mx_book.specs.Defect.{defect, extension, is_rectified};
-ghost use Rattle.mx_register.specs.Names.{seq_of_defect};
+ghost use Rattle.mx_book.specs.Defect.{defect, extension, is_rectified, open_defects};
+ghost use Rattle.mx_register.specs.Names.{seq_of_defect, seq_of_tail};
 ghost use Rattle.mx_register.specs.Registers.{aircraft_rows, deferral_rows, extension_rows, release_line_rows};
 ghost use Rattle.mx_typed_rows.specs.declared.rows.AircraftRow.{AircraftRow};
 ghost use Rattle.mx_typed_rows.specs.declared.rows.DeferralRow.{DeferralRow};
 ghost use Rattle.mx_typed_rows.specs.declared.rows.ExtensionRow.{ExtensionRow};
-ghost use Rattle.mx_found.specs.Defects.{deferral_aircraft, defect_in, extension_in, is_rectified_in, rectifies};
+ghost use Rattle.mx_found.specs.Defects.{deferral_aircraft, defect_in, defect_said, extension_in, is_rectified_in, open_said, rectifies};
+ghost use Rattle.mx_found.specs.Names.{doc_at};
 
 use crate::aircraft::tail_in;
-use mx_base::Doc;
+use mx_base::{Doc, Tail};
 use mx_book::Defect;
 use mx_command::{Deferral, Extension};
 use mx_typed_rows::{AircraftRow, DeferralRow, ExtensionRow, ReleaseLineRow};
@@ -26,6 +28,21 @@ pub fn deferral_aircraft(rows: &[DeferralRow]) -> Option<u32>
     }
 }
 
+/// The defect that the row of its deferral says, where this is its document and the registration of its aircraft.
+pub fn defect_said(doc: &Doc, tail: &Tail, row: &DeferralRow) -> Defect
+    ensures { result ≡ defect_said doc.now tail.now row.now }
+{
+    Defect {
+        doc: *doc,
+        deferral: Deferral {
+            tail: *tail,
+            moment: row.moment,
+            reference: row.reference,
+            category: row.category,
+        },
+    }
+}
+
 /// The defect with a document that the first of these deferrals says, of the first of these aircraft; `None` without one
 /// or the other.
 pub fn defect_in(doc: &Doc, rows: &[DeferralRow], aircraft: &[AircraftRow]) -> Option<Defect>
@@ -33,15 +50,7 @@ pub fn defect_in(doc: &Doc, rows: &[DeferralRow], aircraft: &[AircraftRow]) -> O
 {
     match rows.first() {
         Some(row) => match tail_in(aircraft) {
-            Some(tail) => Some(Defect {
-                doc: *doc,
-                deferral: Deferral {
-                    tail,
-                    moment: row.moment,
-                    reference: row.reference,
-                    category: row.category,
-                },
-            }),
+            Some(tail) => Some(defect_said(doc, &tail, row)),
             None => None,
         },
         None => None,
@@ -99,4 +108,19 @@ pub fn extensions_and_rectifications_are_found()
         → seq_of_defect book doc ≡ None → extension book doc ≡ None }
     ensures not_rectified { (book : List Entry) (doc : List ℕ) → IsBook book
         → seq_of_defect book doc ≡ None → is_rectified book doc ≡ false }
+{}
+
+/// The deferrals with the number of an aircraft say its open defects, in the order of their entries, and the entry of each
+/// is there; an aircraft that is not there has none.
+pub fn open_defects_are_found()
+    ensures open { (book : List Entry) (tail : List ℕ) (n : ℕ) → IsBook book
+        → seq_of_tail book tail ≡ Some n
+        → filter_map (open_said book tail)
+        (filter (λ (row : DeferralRow). nat_eq row.aircraft n) (deferral_rows book))
+        ≡ open_defects book tail }
+    ensures there { (book : List Entry) (n : ℕ) → IsBook book
+        → AllByRecursion (λ (row : DeferralRow). is_some (doc_at book row.seq) ≡ true)
+        (filter (λ (row : DeferralRow). nat_eq row.aircraft n) (deferral_rows book)) }
+    ensures missed { (book : List Entry) (tail : List ℕ) → IsBook book
+        → seq_of_tail book tail ≡ None → open_defects book tail ≡ [] }
 {}

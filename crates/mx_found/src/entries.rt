@@ -1,5 +1,5 @@
 //! Entries that were found: how many there are, and the number of the one that has a document.
-ghost use Rattle.std.specs.Prelude.{◌≡◌, ℕ, List, length, map};
+ghost use Rattle.std.specs.Prelude.{◌≡◌, ℕ, List, filter, length, map, nat_eq};
 ghost use Rattle.std.specs.List.{range_with_len};
 ghost use Rattle.std.specs.Option.{option_map};
 ghost use Rattle.mx_command.specs.Act.{Entry};
@@ -7,8 +7,9 @@ ghost use Rattle.mx_book.specs.Judge.{known_from};
 ghost use Rattle.mx_register.specs.Names.{seq_of_defect};
 ghost use Rattle.mx_register.specs.Registers.{entry_rows};
 ghost use Rattle.mx_typed_rows.specs.declared.rows.EntryRow.{EntryRow};
-ghost use Rattle.mx_found.specs.Names.{deferral_number, entries_with, entry_number, is_deferral, last_number};
+ghost use Rattle.mx_found.specs.Names.{deferral_number, doc_at, doc_in, entries_with, entry_number, is_deferral, last_number};
 
+use mx_base::Doc;
 use mx_typed_rows::{EntryKind, EntryRow};
 
 /// The number of the first of these entries, or 0 where there is none. Of the last entry alone it is how many there are.
@@ -27,6 +28,16 @@ pub fn entry_number(rows: &[EntryRow]) -> Option<u32>
 {
     match rows.first() {
         Some(row) => Some(row.seq),
+        None => None,
+    }
+}
+
+/// The document of the first of these entries.
+pub fn doc_in(rows: &[EntryRow]) -> Option<Doc>
+    ensures { result ≡ doc_in rows.now }
+{
+    match rows.first() {
+        Some(row) => Some(row.doc),
         None => None,
     }
 }
@@ -63,4 +74,11 @@ pub fn entries_are_found_by_document()
         ≡ option_map (λ (known : ℕ × Entry). known.0) (known_from doc 1 book) }
     ensures defect { (book : List Entry) (doc : List ℕ)
         → deferral_number (entries_with doc book) ≡ seq_of_defect book doc }
+{}
+
+/// The row of an entry with a number has the document of that entry.
+pub fn documents_are_found()
+    ensures { (book : List Entry) (n : ℕ)
+        → doc_in (filter (λ (row : EntryRow). nat_eq row.seq n) (entry_rows book))
+        ≡ doc_at book n }
 {}

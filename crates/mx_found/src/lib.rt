@@ -22,6 +22,12 @@
 //! | `is_accomplished` | the item by its name, the base by its number and the task | `bases_are_found` |
 //! | `defect` | the entry by its document, the deferral by its number, the aircraft by number | `defects_are_found` |
 //! | `extension`, `is_rectified` | the entry by its document, rows by its number | `extensions_and_rectifications_are_found` |
+//!
+//! | Look-up of `Lists` | Rows that it asks for | Law |
+//! |---|---|---|
+//! | `tasks` | programmes of the kind, tasks by the number of the last | `tasks_are_found` |
+//! | `fitted` | the aircraft by its name, open spans by its number, the component of each by number | `fitted_places_are_found` |
+//! | `open_defects` | the aircraft by its name, deferrals by its number, lines and the entry of each by number | `open_defects_are_found`, `documents_are_found` |
 #![tactic(auto)]
 
 pub mod aircraft;

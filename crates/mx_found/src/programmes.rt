@@ -1,5 +1,5 @@
 //! Programmes that were found: the one in force, its tasks, and what it retires.
-ghost use Rattle.std.specs.Prelude.{◌≡◌, ◌<◌, ◌^◌, ℕ, List, false, map, true, None, Some};
+ghost use Rattle.std.specs.Prelude.{◌≡◌, ◌<◌, ◌^◌, ℕ, List, false, map, true, None, Some, IfOk};
 ghost use Rattle.std.specs.List.{list_all};
 ghost use Rattle.std.specs.Option.{option_map, option_map_or, SomeIff};
 ghost use Rattle.mx_base.specs.declared.amounts.Use.{Use};
@@ -22,6 +22,7 @@ use mx_base::{Day, Part, TaskId, Use};
 use mx_command::{Applies, Task};
 use mx_due::{first_due, is_used_up, left_of};
 use mx_typed_rows::{ProgrammeRow, TaskRow};
+use std::alloc::{AllocError, Global};
 
 /// The number of the last of these programmes.
 #[tactic(auto, using(crate::proofs::LastLemmas::last_is))]
@@ -82,6 +83,27 @@ pub fn has_task_shape(row: &TaskRow) -> bool
     ensures { result ≡ task_shape (task_said row.now) }
 {
     task_said(row).has_shape()
+}
+
+/// Whether each row says a task of its shape.
+pub fn have_task_shapes(rows: &[TaskRow]) -> bool
+    ensures { result ≡ list_all (λ (row : TaskRow). task_shape (task_said row)) rows.now }
+{
+    rows.iter().all(|row| has_task_shape(row))
+}
+
+/// The tasks that rows say, in their order. An error where memory runs out.
+pub fn tasks_said(alloc: Global, rows: &[TaskRow]) -> Result<Vec<Task>, AllocError>
+    ensures { IfOk result (λ tasks. tasks.items ≡ map task_said rows.now) }
+{
+    let mut tasks = Vec::new(alloc);
+    let mut rest = rows;
+    while let Some((row, later)) = rest.split_first() {
+        let task = task_said(row);
+        tasks.push(task)?;
+        rest = later;
+    }
+    Ok(tasks)
 }
 
 // Whether a task is done on this part, or on airframes where none is named, and nothing is left until it retires the item.

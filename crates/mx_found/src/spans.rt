@@ -1,12 +1,13 @@
 //! Spans that were found: where a component is fitted, whether a position is taken, and the moves that a span has.
-ghost use Rattle.std.specs.Prelude.{◌≡◌, ℕ, List, false, filter, is_some, None, Some};
+ghost use Rattle.std.specs.Prelude.{◌≡◌, ℕ, List, [], false, filter, is_some, map, true, None, Some};
+ghost use Rattle.std.specs.List.{filter_map, AllByRecursion};
 ghost use Rattle.std.specs.Option.{option_and_then};
 ghost use Rattle.mx_command.specs.Act.{Entry};
 ghost use Rattle.mx_book.specs.Book.{IsBook};
-ghost use Rattle.mx_book.specs.Span.{is_taken, tail_fitted};
+ghost use Rattle.mx_book.specs.Span.{is_open_on, is_taken, spans, tail_fitted};
 ghost use Rattle.mx_register.specs.Names.{seq_of_serial, seq_of_tail, tail_at};
 ghost use Rattle.mx_kept_rows.specs.Spans.{span_rows};
-ghost use Rattle.mx_found.specs.Spans.{is_open_at, is_open_of, is_taken_in, span_aircraft};
+ghost use Rattle.mx_found.specs.Spans.{is_open_at, is_open_of, is_taken_in, place_said, span_aircraft};
 
 use mx_base::Position;
 use mx_typed_rows::SpanRow;
@@ -52,4 +53,18 @@ pub fn taken_positions_are_found()
         ≡ is_taken book tail position }
     ensures missed { (book : List Entry) (tail position : List ℕ) → IsBook book
         → seq_of_tail book tail ≡ None → is_taken book tail position ≡ false }
+{}
+
+/// The open spans with the number of an aircraft say the components that are fitted to it, each behind its position, in
+/// the order of their fittings, and the component of each is there; nothing is fitted to an aircraft that is not there.
+pub fn fitted_places_are_found()
+    ensures places { (book : List Entry) (tail : List ℕ) (n : ℕ) → IsBook book
+        → seq_of_tail book tail ≡ Some n
+        → filter_map (place_said book) (filter (is_open_at n) (span_rows book))
+        ≡ map (λ s. (s.position, s.serial)) (filter (is_open_on tail) (spans book)) }
+    ensures there { (book : List Entry) (n : ℕ) → IsBook book
+        → AllByRecursion (λ row. is_some (place_said book row) ≡ true)
+        (filter (is_open_at n) (span_rows book)) }
+    ensures missed { (book : List Entry) (tail : List ℕ) → IsBook book
+        → seq_of_tail book tail ≡ None → filter (is_open_on tail) (spans book) ≡ [] }
 {}
