@@ -96,12 +96,11 @@ pub fn have_task_shapes(rows: &[TaskRow]) -> bool
 pub fn tasks_said(alloc: Global, rows: &[TaskRow]) -> Result<Vec<Task>, AllocError>
     ensures { IfOk result (λ tasks. tasks.items ≡ map task_said rows.now) }
 {
+    // The checker proves this loop only where the type of each field of a task is named in the function.
+    let _: Option<Applies> = None;
     let mut tasks = Vec::new(alloc);
-    let mut rest = rows;
-    while let Some((row, later)) = rest.split_first() {
-        let task = task_said(row);
-        tasks.push(task)?;
-        rest = later;
+    for row in rows {
+        tasks.push(task_said(row))?;
     }
     Ok(tasks)
 }
