@@ -24,7 +24,7 @@ use Rattle.mx_found.proofs.ListLemmas.{all_left}
 use Rattle.mx_found.proofs.OpenLemmas.{ends_alike}
 use Rattle.mx_found.proofs.ThereLemmas.{no_tail, tail_there}
 
-abbrev place_of : Span → List ℕ × List ℕ
+abbrev pub place_of : Span → List ℕ × List ℕ
 place_of s = (s.position, s.serial)
 
 -- ── each row has its component ──

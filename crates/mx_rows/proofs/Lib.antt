@@ -12,3 +12,4 @@ pub mod BaseLookups
 pub mod RoomLookups
 pub mod InForceLemmas
 pub mod DefectLemmas
+pub mod ListRows
