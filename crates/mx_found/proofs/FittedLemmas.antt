@@ -8,12 +8,11 @@ use Rattle.mx_command.specs.Same.{same_text}
 use Rattle.mx_book.specs.Book.{IsBook, is_book_from, is_new}
 use Rattle.mx_book.specs.Judge.{judge}
 use Rattle.mx_book.specs.Register.{aircraft, component}
-use Rattle.mx_book.specs.Span.{Span, first_removal, is_open_on, span_begun, spans}
+use Rattle.mx_book.specs.Span.{Span, is_open_on, span_begun, spans}
 use Rattle.mx_book.proofs.JudgeLemmas.{both_true}
 use Rattle.mx_register.specs.Names.{or_zero, seq_of_serial, seq_of_tail, serial_at}
 use Rattle.mx_register.proofs.NameLemmas.{serial_known}
 use Rattle.mx_register.proofs.NewLemmas.{fitted_is_known}
-use Rattle.mx_typed_rows.specs.declared.rows.SpanRow.{SpanRow}
 use Rattle.mx_kept_rows.specs.Spans.{span_row, span_rows, span_rows_from}
 use Rattle.mx_kept_rows.proofs.KnownLemmas.{aircraft_kept, component_kept, other_name, spans_placed}
 use Rattle.mx_kept_rows.proofs.NumbersThere.{one_tail_number, tail_number_kept}

@@ -6,7 +6,6 @@ use Rattle.std.specs.Option.{option_and_then, option_map, option_map_or}
 use Rattle.mx_command.specs.Act.{Act, Entry, Deferred}
 use Rattle.mx_command.specs.Same.{same_text}
 use Rattle.mx_command.proofs.SameLemmas.{text_same}
-use Rattle.mx_book.specs.declared.defects.Defect.{Defect}
 use Rattle.mx_book.specs.Book.{IsBook, is_book_from, is_new, entry_at}
 use Rattle.mx_book.specs.Defect.{deferred_by, defects, is_open, is_rectified, open_defects}
 use Rattle.mx_book.specs.Judge.{judge}
@@ -19,7 +18,7 @@ use Rattle.mx_register.proofs.NewLemmas.{deferred_is_known}
 use Rattle.mx_typed_rows.specs.declared.rows.DeferralRow.{DeferralRow}
 use Rattle.mx_typed_rows.specs.declared.rows.EntryRow.{EntryRow}
 use Rattle.mx_kept_rows.proofs.KnownLemmas.{aircraft_kept, other_name}
-use Rattle.mx_found.specs.Defects.{defect_said, is_rectified_at, open_said}
+use Rattle.mx_found.specs.Defects.{defect_said, open_said}
 use Rattle.mx_found.specs.Names.{doc_at, doc_in}
 use Rattle.mx_found.proofs.DeferralLemmas.{rectified_is}
 use Rattle.mx_found.proofs.EntryLemmas.{get_seam, given_by, rows_numbered}

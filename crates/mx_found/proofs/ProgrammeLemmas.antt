@@ -234,7 +234,7 @@ shapes_by : (doc : List ℕ) (act : Act) → has_shape (record { doc = doc; act 
 shapes_by doc (Loaded p ts) shape = shapes_in p ts (both_true (act_shape (Loaded p ts)) (doc_shape doc (Loaded p ts)) shape).0
 shapes_by doc _ shape = refl
 
-all_said : (rows : List TaskRow) → list_all (λ (row : TaskRow). task_shape (task_said row)) rows ≡ list_all task_shape (map task_said rows)
+pub all_said : (rows : List TaskRow) → list_all (λ (row : TaskRow). task_shape (task_said row)) rows ≡ list_all task_shape (map task_said rows)
 all_said [] = refl
 all_said (row ∷ rows) = ap (λ b. task_shape (task_said row) && b) (all_said rows)
 

@@ -1,10 +1,13 @@
 -- What look-ups find, one after another, and what is damaged where the second finds nothing.
-use Rattle.std.proofs.Common.{◌≡◌, ℕ, pos, ◌∙◌, List, [], ◌∷◌, Bool, map, filter, Option, None, Some, Ok, inl, refl, sym, ap, subst, arith}
+use Rattle.std.proofs.Common.{◌≡◌, ℕ, pos, true, ◌∙◌, List, [], ◌∷◌, Bool, map, filter, length, Option, None, Some, Ok, inl, refl, sym, ap, subst, arith}
 use Rattle.std.specs.List.Sorted.{IsPermutation}
 use Rattle.std.specs.Prelude.{Contains, slice_get}
 use Rattle.std.specs.Option.{option_map}
 use Rattle.std.proofs.lemmas.List.Sorted.{IsPermutation-sym, Contains-permutation, length_permutation}
+use Rattle.std.proofs.lemmas.List.Elements.{All-contains}
+use Rattle.sqlite_rules.specs.Lists.{Has}
 use Rattle.sqlite_rules.proofs.ListLemmas.{has_filtered, has_contained, contains_had}
+use Rattle.sqlite_rules.proofs.ProbeLemmas.{mapped_has}
 use Rattle.std.specs.declared.cmp.Ordering.{Ordering}
 use Rattle.sqlite.specs.declared.types.Value.TheVariants.{Int}
 use Rattle.sqlite.specs.Effect.{Database}
@@ -17,20 +20,25 @@ use Rattle.mx_layout.specs.Contents.{rows_in}
 use Rattle.mx_layout.specs.Crash.{IsWithin}
 use Rattle.mx_layout.specs.Names.{table_named}
 use Rattle.mx_kept.specs.Kept.{Kept}
-use Rattle.mx_chosen.specs.Choices.{has_value}
+use Rattle.mx_chosen.specs.Choices.{has_value, is_any}
 use Rattle.mx_chosen.specs.Calls.{ReadsFirst}
 use Rattle.mx_stands.specs.Schemas.{schema_at}
-use Rattle.mx_rows.specs.Damage.{IsUnmet}
+use Rattle.mx_rows.specs.Damage.{HasRow, IsKept, IsUnmet}
 use Rattle.mx_rows.specs.AnyRows.{AreChosen, ReadsAny, Gives, GivesFirst, GivesBy}
 use Rattle.mx_rows.specs.Reads.{Reads, rows_point}
 use Rattle.mx_rows.proofs.TableLemmas.{IsTable}
 
 -- ── what is found ──
 
--- what the chosen rows of a table give
+-- what the chosen rows of a table give that stands at the point
+pub given_in : {X V W : Type 0} {k : Kept X} (is_in : k.IsIn (schema_at rows_point)) {most : Option ℕ} {order : Row → Row → Ordering} {chosen : Row → Bool} {items : V → List X} {old new : State} {rows : V} (of : List X → W) {w : W}
+    → w ≡ of (items rows) → ReadsFirst k most order chosen items old new (Ok rows) → ReadsAny (GivesFirst k most order chosen of) old new (Ok w)
+given_in {k} is_in {most} {order} {chosen} {items} {old} {new} {rows} of is r = record { found = λ clean has. (items rows, record { are = r.rows clean (subst k.IsIn (sym has) is_in); fit = r.fits }, is) }
+
+-- so of a table of which it is known what it keeps
 pub gives : {X V W : Type 0} {k : Kept X} {book_rows : List Entry → List X} (it : IsTable k book_rows) {most : Option ℕ} {order : Row → Row → Ordering} {chosen : Row → Bool} {items : V → List X} {old new : State} {rows : V} (of : List X → W) {w : W}
     → w ≡ of (items rows) → ReadsFirst k most order chosen items old new (Ok rows) → ReadsAny (GivesFirst k most order chosen of) old new (Ok w)
-gives {k} it {most} {order} {chosen} {items} {old} {new} {rows} of is r = record { found = λ clean has. (items rows, record { are = r.rows clean (subst k.IsIn (sym has) it.is_in); fit = r.fits }, is) }
+gives it = given_in it.is_in
 
 -- what follows from what is answered
 pub any_so : {V W : Type 0} (P : Trees → V → Type 0) (Q : Trees → W → Type 0) (old new : State) (v : V) (w : W) → ((trees : Trees) → P trees v → Q trees w) → ReadsAny P old new (Ok v) → ReadsAny Q old new (Ok w)
@@ -66,41 +74,56 @@ by_none First none Then a b found is first = record { found = λ clean has. reco
 
 -- ── what is damaged ──
 
-permutation_none : {X : Type 0} (xs : List X) → IsPermutation xs [] → xs ≡ []
-permutation_none [] same = refl
-permutation_none (x ∷ xs) same = absurd (omega (arith, length_permutation (x ∷ xs) [] same))
+-- a list of length 0 is empty
+pub empty_is : {X : Type 0} (xs : List X) → length xs ≡ 0 → xs ≡ []
+empty_is [] h = refl
+empty_is (x ∷ xs) h = absurd cc
 
 module _ {X : Type 0} (k : Kept X) {chosen : Row → Bool} {trees : Trees} where
   -- the rows that the table has and that are chosen
   shown : (xs : List X) → AreChosen k None k.order chosen trees xs → IsPermutation (filter chosen (rows_in (table_named k.name) trees)) (map k.as_cells xs)
   shown xs chose = subst (IsPermutation (filter chosen (rows_in (table_named k.name) trees))) (sym chose.are.first) chose.are.are.all
 
-  -- one that is chosen is there
-  chosen_there : (x : X) (xs : List X) → AreChosen k None k.order chosen trees (x ∷ xs) → Contains (rows_in (table_named k.name) trees) (k.as_cells x)
-  chosen_there x xs chose =
+  -- one that is chosen is kept there
+  pub chosen_kept : (x : X) (xs : List X) → Has xs x → AreChosen k None k.order chosen trees xs → IsKept k trees x
+  chosen_kept x xs here chose =
       let all = rows_in (table_named k.name) trees in
-      let rows = map k.as_cells (x ∷ xs) in
-      let one : Contains (filter chosen all) (k.as_cells x) = Contains-permutation rows (filter chosen all) (k.as_cells x) (IsPermutation-sym _ _ (shown (x ∷ xs) chose)) (contains_had rows (k.as_cells x) (inl refl)) in
-      contains_had all (k.as_cells x) (has_filtered chosen all (k.as_cells x) (has_contained (filter chosen all) (k.as_cells x) one)).0
+      let rows = map k.as_cells xs in
+      let one : Contains (filter chosen all) (k.as_cells x) = Contains-permutation rows (filter chosen all) (k.as_cells x) (IsPermutation-sym _ _ (shown xs chose)) (contains_had rows (k.as_cells x) (mapped_has k.as_cells xs x here)) in
+      record {
+        fits = All-contains k.Fits xs x chose.fit (contains_had xs x here);
+        there = contains_had all (k.as_cells x) (has_filtered chosen all (k.as_cells x) (has_contained (filter chosen all) (k.as_cells x) one)).0;
+      }
 
   -- where none is chosen, the table has none to choose
   none_chosen : AreChosen k None k.order chosen trees [] → filter chosen (rows_in (table_named k.name) trees) ≡ []
-  none_chosen chose = permutation_none (filter chosen (rows_in (table_named k.name) trees)) (shown [] chose)
+  none_chosen chose = let there = filter chosen (rows_in (table_named k.name) trees) in empty_is there (sym (length_permutation there [] (shown [] chose)))
 
--- a row that was found names by a number what another table was asked for and does not have
-module _ {X Y W : Type 0} (k : Kept X) (other : Kept Y) (at : ℕ) (number : X → ℕ) (cells : (x : X) → column (k.as_cells x) at ≡ Int (pos (number x))) (told : TableName) {chosen : Row → Bool} {trees : Trees} {n : ℕ} (of : Y → W) where
-  unmet_by : (xs : List X) (ys : List Y) → AreChosen k None k.order chosen trees xs → AreChosen other None other.order (has_value 0 (Int (pos n))) trees ys → Some n ≡ option_map number (slice_get xs 0) → None ≡ option_map of (slice_get ys 0)
-      → IsUnmet (record { from = k.name; at = at; to = other.name; told = told }) trees
-  unmet_by [] ys are none is missing = absurd cc
-  unmet_by (x ∷ xs) (y ∷ ys) are none is missing = absurd cc
-  unmet_by (x ∷ xs) [] are none is missing =
-      let same : n ≡ number x = cc in
-      record {
-        row = k.as_cells x;
-        there = chosen_there k x xs are;
-        missed = subst (λ cell. filter (has_value 0 cell) (rows_in (table_named other.name) trees) ≡ []) (ap (λ m. Int (pos m)) same ∙ sym (cells x)) (none_chosen other none);
-      }
+-- the first of some rows, where it says this
+first_says : {X W : Type 0} (of : X → W) (xs : List X) (w : W) → Some w ≡ option_map of (slice_get xs 0) → (x : X) × Has xs x × (w ≡ of x)
+first_says of [] w is = absurd cc
+first_says of (x ∷ xs) w is = (x, inl refl, cc)
 
-  pub unmet : Gives k chosen (λ rows. option_map number (slice_get rows 0)) trees (Some n) → Gives other (has_value 0 (Int (pos n))) (λ rows. option_map of (slice_get rows 0)) trees None
-      → IsUnmet (record { from = k.name; at = at; to = other.name; told = told }) trees
-  unmet one none = unmet_by one.0 none.0 one.1 none.1 one.2 none.2
+-- the first of the rows that are chosen is kept
+pub first_kept : {X W : Type 0} (k : Kept X) {chosen : Row → Bool} {trees : Trees} (of : X → W) (w : W) → Gives k chosen (λ rows. option_map of (slice_get rows 0)) trees (Some w) → HasRow k (λ x. w ≡ of x) trees
+first_kept k of w gave = let one = first_says of gave.0 w gave.2 in (one.0, chosen_kept k one.0 gave.0 one.1 gave.1, one.2)
+
+-- a row that is kept names by a number what another table was asked for and does not have
+module _ {X Y W : Type 0} (k : Kept X) (other : Kept Y) (at : ℕ) (number : X → ℕ) (cells : (x : X) → column (k.as_cells x) at ≡ Int (pos (number x))) (has : Row → Bool) (told : TableName) {trees : Trees} {n : ℕ} (of : Y → W) where
+  unmet_by : (x : X) (ys : List Y) → IsKept k trees x → has (k.as_cells x) ≡ true → n ≡ number x → AreChosen other None other.order (has_value 0 (Int (pos n))) trees ys → None ≡ option_map of (slice_get ys 0) → IsUnmet (record { from = k.name; has = has; at = at; to = other.name; told = told }) trees
+  unmet_by x (y ∷ ys) kept asks same none missing = absurd cc
+  unmet_by x [] kept asks same none missing = record {
+    row = k.as_cells x;
+    there = kept.there;
+    has = asks;
+    missed = subst (λ cell. filter (has_value 0 cell) (rows_in (table_named other.name) trees) ≡ []) (ap (λ m. Int (pos m)) same ∙ sym (cells x)) (none_chosen other none);
+  }
+
+  pub kept_unmet : (x : X) → IsKept k trees x → has (k.as_cells x) ≡ true → n ≡ number x → Gives other (has_value 0 (Int (pos n))) (λ rows. option_map of (slice_get rows 0)) trees None → IsUnmet (record { from = k.name; has = has; at = at; to = other.name; told = told }) trees
+  kept_unmet x kept asks same none = unmet_by x none.0 kept asks same none.1 none.2
+
+-- the first row that was found names it
+pub unmet : {X Y W : Type 0} (k : Kept X) (other : Kept Y) (at : ℕ) (number : X → ℕ) (cells : (x : X) → column (k.as_cells x) at ≡ Int (pos (number x))) (told : TableName) {chosen : Row → Bool} {trees : Trees} {n : ℕ} (of : Y → W)
+    → Gives k chosen (λ rows. option_map number (slice_get rows 0)) trees (Some n) → Gives other (has_value 0 (Int (pos n))) (λ rows. option_map of (slice_get rows 0)) trees None
+    → IsUnmet (record { from = k.name; has = is_any; at = at; to = other.name; told = told }) trees
+unmet k other at number cells told {n = n} of one none = let row = first_kept k number n one in kept_unmet k other at number cells is_any told of row.0 row.1 refl row.2 none

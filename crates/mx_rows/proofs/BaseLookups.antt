@@ -1,5 +1,5 @@
 -- The row of the last base of a task of an item, where the tables stand for a book. The rows of a book are not listed in the order of the key, but there is at most one of each.
-use Rattle.std.proofs.Common.{arith, ◌≡◌, ◌∙◌, inl, inr, ◌⊎◌, ℕ, pos, Bool, true, false, ◌&&◌, ◌||◌, cond, List, [], ◌∷◌, map, filter, length, None, Vec, Result, refl, sym, ap, ap₂, subst}
+use Rattle.std.proofs.Common.{◌≡◌, ◌∙◌, inl, inr, ◌⊎◌, ℕ, pos, Bool, true, false, ◌&&◌, ◌||◌, cond, List, [], ◌∷◌, map, filter, length, None, Ok, Vec, Result, refl, sym, ap, ap₂, subst}
 use Rattle.std.specs.Prelude.{All, IsPermutation, nat_eq}
 use Rattle.std.specs.List.{list_any}
 use Rattle.std.specs.declared.alloc.Global.{Global}
@@ -32,7 +32,9 @@ use Rattle.mx_stands.specs.Schemas.{schema_at}
 use Rattle.mx_stands.specs.Stands.{HasRowsAt}
 use Rattle.mx_stands.proofs.FamilyLemmas.{facts}
 use Rattle.mx_stands.proofs.RowLemmas.{rows_once}
+use Rattle.mx_rows.specs.AnyRows.{Gives, ReadsAny}
 use Rattle.mx_rows.specs.Reads.{Reads, rows_point}
+use Rattle.mx_rows.proofs.AnyLemmas.{empty_is, given_in}
 use Rattle.mx_rows.proofs.ChosenLemmas.{no_other}
 use Rattle.mx_rows.proofs.LookupLemmas.{chosen_read, number_is, text_is}
 
@@ -60,10 +62,6 @@ one_keyed n id (row ∷ rows) once = at (is_keyed n id row) refl (one_keyed n id
         let task = (text_same row.task id).0 parts.1 in
         let alone : list_any (is_keyed n id) rows ≡ false = ap (λ k. list_any (is_keyed k id) rows) (sym item) ∙ ap (λ (t : List ℕ). list_any (is_keyed row.item t) rows) (sym task) ∙ once.0 in
         inr (row, ap (λ l. row ∷ l) (none_left (is_keyed n id) rows alone))
-
-empty_is : {X : Type 0} (xs : List X) → length xs ≡ 0 → xs ≡ []
-empty_is [] h = refl
-empty_is (x ∷ xs) h = absurd cc
 
 -- so in another order they are the same
 same_order : {X : Type 0} (xs ys : List X) → (xs ≡ []) ⊎ ((x : X) × (xs ≡ x ∷ [])) → IsPermutation xs ys → ys ≡ xs
@@ -108,6 +106,11 @@ keyed_is n id trees book has xs are fits =
 
 pub base_by_key : (n : ℕ) (id : List ℕ) (old new : State) (result : Result (Vec BaseRow Global) TableFault) → ReadsFirst kept_base2 None kept_base2.order (is_of n id) (λ rows. rows.items) old new result → Reads (λ book rows. rows.items ≡ filter (is_keyed n id) (base_rows book)) old new result
 base_by_key n id =
-    chosen_read kept_base2 base2_lawful bases_in (is_of n id) (λ (v : Vec BaseRow Global). v.items) (λ book v. v.items ≡ filter (is_keyed n id) (base_rows book))
+    chosen_read kept_base2 base2_lawful bases_in (λ row is. is) (is_of n id) (λ (v : Vec BaseRow Global). v.items) (λ book v. v.items ≡ filter (is_keyed n id) (base_rows book))
     (λ trees book has v are fits. keyed_is n id trees book has v.items are fits)
     (λ trees book has. no_other kept_base2 base2_lawful trees (base_rows book) (bases_fit trees book has) (bases_given trees book has))
+
+-- what the rows of bases that are chosen give
+pub bases_give : {V W : Type 0} {chosen : Row → Bool} {items : V → List BaseRow} {old new : State} {rows : V} (of : List BaseRow → W) {w : W} → w ≡ of (items rows) → ReadsFirst kept_base2 None kept_base2.order chosen items old new (Ok rows)
+    → ReadsAny (Gives kept_base2 chosen of) old new (Ok w)
+bases_give = given_in bases_in

@@ -1,5 +1,5 @@
 -- The defect that the rows with its number and with that of its aircraft say.
-use Rattle.std.proofs.Common.{◌≡◌, ◌∙◌, ℕ, List, filter, Option, Some, None, sym, ap, ap₂, subst}
+use Rattle.std.proofs.Common.{◌≡◌, ◌∙◌, ℕ, List, filter, Option, Some, None, sym, ap, subst}
 use Rattle.std.specs.Prelude.{IsSomeAnd, nat_eq}
 use Rattle.mx_command.specs.Act.{Entry}
 use Rattle.mx_book.specs.Book.{IsBook}

@@ -1,5 +1,5 @@
 -- What the rows of the tasks in force say: the task with a name, and whether one of them retires an item.
-use Rattle.std.proofs.Common.{◌≡◌, ◌∙◌, ℕ, Bool, true, false, cond, List, [], ◌∷◌, Option, Some, None, refl, sym, ap, ap₂}
+use Rattle.std.proofs.Common.{◌≡◌, ◌∙◌, ℕ, Bool, true, false, cond, List, [], ◌∷◌, map, Option, Some, None, refl, sym, ap, ap₂}
 use Rattle.std.specs.Prelude.{IfSome, find}
 use Rattle.std.specs.List.{list_all}
 use Rattle.std.specs.Option.{option_map, option_map_or}
@@ -14,13 +14,13 @@ use Rattle.mx_command.specs.declared.item.Item.TheVariants.{Airframe, Component 
 use Rattle.mx_book.specs.Asking.{task_of}
 use Rattle.mx_book.specs.Book.{IsBook}
 use Rattle.mx_book.specs.Life.{life_now}
-use Rattle.mx_book.specs.Programme.{life_ended}
+use Rattle.mx_book.specs.Programme.{life_ended, tasks_or_none}
 use Rattle.mx_book.specs.Register.{aircraft, component, found_of}
 use Rattle.mx_book.proofs.JudgeLemmas.{both_true}
 use Rattle.mx_register.specs.Merge.{task_said}
 use Rattle.mx_typed_rows.specs.declared.rows.TaskRow.{TaskRow}
 use Rattle.mx_found.specs.Programmes.{is_retired_in, programme_number, programmes_of, task_in, tasks_with}
-use Rattle.mx_found.proofs.ProgrammeLemmas.{airframe_ended, component_ended, task_is}
+use Rattle.mx_found.proofs.ProgrammeLemmas.{airframe_ended, component_ended, task_is, tasks_are}
 use Rattle.mx_rows.specs.InForce.{born_as, rows_in_force}
 
 map_twice : {X Y Z : Type 0} (f : X → Y) (g : Y → Z) (o : Option X) → option_map g (option_map f o) ≡ option_map (λ x. g (f x)) o
@@ -35,6 +35,13 @@ or_twice f g z (Some x) = refl
 pub task_found : (book : List Entry) (kind id : List ℕ) (found : Option (List TaskRow)) → IsBook book → found ≡ rows_in_force kind book → option_map (λ rows. task_in rows id) found ≡ task_of book kind id
 task_found book kind id found b e =
     ap (option_map (λ rows. task_in rows id)) e ∙ map_twice (λ n. tasks_with n book) (λ rows. task_in rows id) (programme_number (programmes_of kind book)) ∙ task_is kind book id b
+
+-- they say the tasks, and none without a programme
+pub tasks_found : (book : List Entry) (kind : List ℕ) (found : Option (List TaskRow)) → IsBook book → found ≡ rows_in_force kind book → option_map_or (map task_said) found [] ≡ tasks_or_none book kind
+tasks_found book kind found b e =
+    let number = programme_number (programmes_of kind book) in
+    ap (λ o. option_map_or (map task_said) o []) e ∙ or_twice (λ n. tasks_with n book) (map task_said) [] number ∙ sym (or_twice (λ n. map task_said (tasks_with n book)) (λ tasks. tasks) [] number)
+    ∙ ap (λ o. option_map_or (λ tasks. tasks) o []) (tasks_are kind book b)
 
 -- a task that is found among rows of tasks of their shape has its shape
 pub task_shaped : (rows : List TaskRow) (id : List ℕ) → list_all (λ (row : TaskRow). task_shape (task_said row)) rows ≡ true → IfSome (task_in rows id) (λ t. task_shape t ≡ true)

@@ -5,11 +5,10 @@ pub mod LookupLemmas
 pub mod BookRows
 pub mod AnyLemmas
 pub mod DamageLemmas
-pub mod EntryRows
+pub mod SectorRows
 pub mod TellLemmas
-pub mod WorkRows
 pub mod BaseLookups
 pub mod RoomLookups
 pub mod InForceLemmas
 pub mod DefectLemmas
-pub mod ListRows
+pub mod WalkLemmas

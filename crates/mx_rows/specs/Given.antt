@@ -1,14 +1,15 @@
 -- What each look-up that goes through tables answers over any rows.
-use Rattle.std.specs.Prelude.{ℕ, false, pos, List, Bool, Option, Some, None, IsSome}
+use Rattle.std.specs.Prelude.{ℕ, false, true, pos, List, Bool, Option, Some, None, IsSome}
 use Rattle.sqlite.specs.declared.types.Value.TheVariants.{Int, Text}
 use Rattle.sqlite.specs.Tree.{Trees}
 use Rattle.mx_base.specs.declared.amounts.Use.{Use}
 use Rattle.mx_command.specs.declared.item.Item.{Item}
 use Rattle.mx_command.specs.declared.item.Item.TheVariants.{Airframe, Component}
-use Rattle.mx_kept.specs.Cells.{kept_aircraft, kept_place, kept_component, kept_span2, kept_total2}
+use Rattle.mx_kept.specs.Cells.{kept_aircraft, kept_component, kept_crs_line, kept_entry, kept_place, kept_span2, kept_total2}
 use Rattle.mx_chosen.specs.Choices.{has_value, is_open}
+use Rattle.mx_found.specs.Defects.{is_rectified_in}
 use Rattle.mx_found.specs.Lives.{clock_in, life_in}
-use Rattle.mx_found.specs.Names.{aircraft_number, component_number, tail_in}
+use Rattle.mx_found.specs.Names.{aircraft_number, component_number, deferral_number, doc_in, serial_in, tail_in}
 use Rattle.mx_found.specs.Said.{part_in}
 use Rattle.mx_found.specs.Spans.{is_taken_in, span_aircraft}
 use Rattle.mx_rows.specs.AnyRows.{Gives, GivesBy}
@@ -25,6 +26,27 @@ ComponentNumber serial = Gives kept_component (has_value 1 (Text serial)) compon
 abbrev pub ItemNumber : Item → Trees → Option ℕ → Type 0
 ItemNumber (Airframe tail) = AircraftNumber tail
 ItemNumber (Component serial) = ComponentNumber serial
+
+-- the number of the entry with this document that defers a defect
+abbrev pub DefectNumber : List ℕ → Trees → Option ℕ → Type 0
+DefectNumber doc = Gives kept_entry (has_value 1 (Text doc)) deferral_number
+
+-- the document of the entry with this number
+abbrev pub DocOfNumber : ℕ → Trees → Option (List ℕ) → Type 0
+DocOfNumber n = Gives kept_entry (has_value 0 (Int (pos n))) doc_in
+
+-- the serial number of the component with this number
+abbrev pub SerialOfNumber : ℕ → Trees → Option (List ℕ) → Type 0
+SerialOfNumber n = Gives kept_component (has_value 0 (Int (pos n))) serial_in
+
+-- whether a line of a release has the number of the defect
+abbrev pub IsRectifiedAt : ℕ → Trees → Bool → Type 0
+IsRectifiedAt n = Gives kept_crs_line (has_value 4 (Int (pos n))) is_rectified_in
+
+-- the document of the entry with the number of the defect, where no line has that number
+abbrev pub DocIfOpen : ℕ → Trees → Option (Option (List ℕ)) → Type 0
+DocIfOpen n trees None = IsRectifiedAt n trees true
+DocIfOpen n trees (Some doc) = IsRectifiedAt n trees false × DocOfNumber n trees doc
 
 -- the registration of the aircraft with this number
 abbrev pub TailOfNumber : ℕ → Trees → Option (List ℕ) → Type 0

@@ -8,8 +8,9 @@ ghost use Rattle.mx_book.specs.Judge.{known_from};
 ghost use Rattle.mx_register.specs.Names.{seq_of_defect};
 ghost use Rattle.mx_kept.specs.Cells.{kept_entry};
 ghost use Rattle.mx_chosen.specs.Choices.{backward, has_value, is_any};
-ghost use Rattle.mx_found.specs.Names.{deferral_number, entry_number, last_number};
+ghost use Rattle.mx_found.specs.Names.{entry_number, last_number};
 ghost use Rattle.mx_rows.specs.AnyRows.{Gives, GivesFirst, ReadsAny};
+ghost use Rattle.mx_rows.specs.Given.{DefectNumber};
 ghost use Rattle.mx_rows.specs.Reads.{Reads};
 
 use mx_base::Doc;
@@ -59,7 +60,7 @@ pub fn defect_number<S: Alter>(
     ensures same_reference { tx.new.conn.ghost_name ≡ tx.old.conn.ghost_name }
     ensures reads { Reads (λ book number. number ≡ seq_of_defect book doc.now)
         (state S.Store tx.old.conn.now) (state S.Store tx.new.conn.now) result }
-    ensures any_rows { ReadsAny (Gives kept_entry (has_value 1 (Text doc.now)) deferral_number)
+    ensures any_rows { ReadsAny (DefectNumber doc.now)
         (state S.Store tx.old.conn.now) (state S.Store tx.new.conn.now) result }
 {
     let rows = entry_by_doc(alloc, tx, doc)?;

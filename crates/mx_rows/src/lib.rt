@@ -1,10 +1,8 @@
-//! The look-ups of the judge by rows. Each is made inside a `Transaction` over tables that stand for a book, and answers what
-//! the definition says of that book; over any rows, what the rows that were chosen give. None changes a row. `Memory` is want
-//! of memory, `Store` an error of the store, and `Damaged` names a table that no book gives: a row that was chosen from it
-//! can't be read, being none of its type, or names a row that another table lacks, or it lacks one that another's row needs.
-//! The look-ups of the judge and of the lists by rows. Each is made inside a `Transaction` over tables that stand for a book, and answers what
-//! the definition says of that book; none changes a row. `Memory` is want of memory, `Store` an error of the store, and
-//! `Damaged` says which table has a row that no book gives it.
+//! The look-ups of the judge and of the lists by rows. Each is made inside a `Transaction` over tables that stand for a book,
+//! and answers what the definition says of that book; over any rows, what the rows that were chosen give. None changes a row.
+//! `Memory` is want of memory, `Store` an error of the store, and `Damaged` names a table that no book gives: a row that was
+//! chosen from it can't be read, being none of its type, or names a row that another table lacks, or it lacks one that another's
+//! row needs; or what its rows say is past what the office needs.
 #![tactic(auto)]
 
 pub mod defects;
@@ -20,6 +18,5 @@ pub mod lists;
 pub mod lives;
 pub mod programmes;
 pub mod rooms;
-mod rows;
 pub mod spans;
 pub mod work;

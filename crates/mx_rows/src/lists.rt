@@ -13,22 +13,24 @@ ghost use Rattle.mx_typed_rows.specs.declared.rows.DeferralRow.{DeferralRow};
 ghost use Rattle.mx_found.specs.Defects.{is_rectified_at, open_said};
 ghost use Rattle.mx_found.specs.Names.{doc_at};
 ghost use Rattle.mx_found.specs.Spans.{is_open_at, place_said};
+ghost use Rattle.mx_rows.specs.AnyRows.{ReadsAny};
+ghost use Rattle.mx_rows.specs.Given.{DocIfOpen, DocOfNumber, SerialOfNumber};
 ghost use Rattle.mx_rows.specs.Reads.{Reads};
 
 use crate::items::aircraft_number;
+use crate::programmes::rows_in_force;
 use mx_base::{Doc, Kind, Position, Serial, Tail};
 use mx_book::Defect;
 use mx_chosen::defects::defect_by_aircraft;
 use mx_chosen::entries::entry_by_seq;
 use mx_chosen::items::component_by_seq;
 use mx_chosen::kept::open_spans_by_aircraft;
-use mx_chosen::programmes::{programme_by_kind, task_by_seq};
 use mx_chosen::works::crs_line_by_defect;
 use mx_command::{Category, Task};
 use mx_found::components::serial_in;
 use mx_found::defects::{defect_said, is_rectified_in};
 use mx_found::entries::doc_in;
-use mx_found::programmes::{have_task_shapes, programme_number, tasks_said};
+use mx_found::programmes::tasks_said;
 use mx_layout::{Table, TableFault};
 use sqlite::{Alter, Transaction};
 use std::alloc::Global;
@@ -45,16 +47,9 @@ pub fn tasks<S: Alter>(
         (state S.Store tx.old.conn.now) (state S.Store tx.new.conn.now) result }
     ensures shape { IfOk result (λ tasks. list_all task_shape tasks.items ≡ true) }
 {
-    let programmes = programme_by_kind(alloc, tx, kind)?;
-    match programme_number(&programmes) {
-        Some(number) => {
-            let rows = task_by_seq(alloc, tx, number)?;
-            if have_task_shapes(&rows) {
-                Ok(tasks_said(alloc, &rows)?)
-            } else {
-                Err(TableFault::Damaged(Table::Task))
-            }
-        }
+    let found = rows_in_force(alloc, tx, kind)?;
+    match found {
+        Some(rows) => Ok(tasks_said(alloc, &rows)?),
         None => Ok(Vec::new(alloc)),
     }
 }
@@ -67,6 +62,8 @@ fn serial_of_number<S: Alter>(
 ) -> Result<Option<Serial>, TableFault>
     ensures same_reference { tx.new.conn.ghost_name ≡ tx.old.conn.ghost_name }
     ensures reads { Reads (λ book serial. serial ≡ serial_at book number)
+        (state S.Store tx.old.conn.now) (state S.Store tx.new.conn.now) result }
+    ensures any_rows { ReadsAny (SerialOfNumber number)
         (state S.Store tx.old.conn.now) (state S.Store tx.new.conn.now) result }
 {
     let rows = component_by_seq(alloc, tx, number)?;
@@ -127,6 +124,8 @@ fn doc_of_number<S: Alter>(
     ensures same_reference { tx.new.conn.ghost_name ≡ tx.old.conn.ghost_name }
     ensures reads { Reads (λ book doc. doc ≡ doc_at book number)
         (state S.Store tx.old.conn.now) (state S.Store tx.new.conn.now) result }
+    ensures any_rows { ReadsAny (DocOfNumber number)
+        (state S.Store tx.old.conn.now) (state S.Store tx.new.conn.now) result }
 {
     let rows = entry_by_seq(alloc, tx, number)?;
     Ok(doc_in(&rows))
@@ -141,6 +140,8 @@ fn doc_if_open<S: Alter>(
     ensures same_reference { tx.new.conn.ghost_name ≡ tx.old.conn.ghost_name }
     ensures reads { Reads (λ book found. found
         ≡ (if is_rectified_at book defect then None else Some (doc_at book defect)))
+        (state S.Store tx.old.conn.now) (state S.Store tx.new.conn.now) result }
+    ensures any_rows { ReadsAny (DocIfOpen defect)
         (state S.Store tx.old.conn.now) (state S.Store tx.new.conn.now) result }
 {
     let lines = crs_line_by_defect(alloc, tx, defect)?;
@@ -172,8 +173,10 @@ fn defects_left<S: Alter>(
     while let Some((row, later)) = rest.split_first() {
         let found = doc_if_open(alloc, tx, row.seq)?;
         match found {
-            Some(Some(doc)) => open.push(defect_said(&doc, tail, row))?,
-            Some(None) => return Err(TableFault::Damaged(Table::Defect)),
+            Some(known) => match known {
+                Some(doc) => open.push(defect_said(&doc, tail, row))?,
+                None => return Err(TableFault::Damaged(Table::Defect)),
+            },
             None => {}
         }
         rest = later;

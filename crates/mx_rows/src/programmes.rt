@@ -18,7 +18,7 @@ use mx_base::{Day, Kind, Part, TaskId};
 use mx_chosen::programmes::{programme_by_kind, task_by_seq};
 use mx_command::{Item, Task};
 use mx_found::programmes::{
-    has_task_shape, is_retired_in, programme_number, revision_after, task_in,
+    have_task_shapes, is_retired_in, programme_number, revision_after, task_in,
 };
 use mx_layout::{Table, TableFault};
 use mx_typed_rows::TaskRow;
@@ -43,16 +43,9 @@ pub fn next_revision<S: Alter>(
     }
 }
 
-// Whether each row says a task of its shape.
-fn have_task_shapes(rows: &[TaskRow]) -> bool
-    ensures { result ≡ list_all (λ (row : TaskRow). task_shape (task_said row)) rows.now }
-{
-    rows.iter().all(|row| has_task_shape(row))
-}
-
 // The rows of the tasks of the programme in force of a kind, each of a task of its shape; `None` without a programme.
 // `Damaged` with `task` where a task lacks its shape.
-fn rows_in_force<S: Alter>(
+pub(crate) fn rows_in_force<S: Alter>(
     alloc: Global,
     tx: &mut Transaction<'_, S>,
     kind: &Kind,

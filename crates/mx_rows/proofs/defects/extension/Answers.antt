@@ -2,12 +2,12 @@ use Rattle.std.proofs.Common.{◌∙◌, ap, sym}
 use Rattle.mx_found.specs.Defects.{extension_in}
 use Rattle.mx_found.proofs.DeferralLemmas.{extension_is, no_extension}
 use Rattle.mx_rows.proofs.ReadLemmas.{reads_then, stopped, told}
-use Rattle.mx_rows.proofs.WorkRows.{extensions_by_defect}
+use Rattle.mx_rows.proofs.BookRows.{extensions_of_defect}
 use Rattle.mx_rows.proofs.defects.extension.Goals as goal
 
 pub returns-in_err-rows-in-Some-clause-reads : goal.returns-in_err-rows-in-Some-clause-reads
 returns-in_err-rows-in-Some-clause-reads g c =
-    stopped _ _ _ _ _ _ c.from_residual-in_err-rows-in-Some.ensures.1 (reads_then _ _ _ _ _ _ _ c.in_ok-found.ensures.reads (extensions_by_defect _ _ _ _ c.in_err-rows-in-Some.ensures.reads))
+    stopped _ _ _ _ _ _ c.from_residual-in_err-rows-in-Some.ensures.1 (reads_then _ _ _ _ _ _ _ c.in_ok-found.ensures.reads (extensions_of_defect _ c.in_err-rows-in-Some.ensures.reads))
 
 pub returns-in_ok-rows-in-Some-clause-reads : goal.returns-in_ok-rows-in-Some-clause-reads
 returns-in_ok-rows-in-Some-clause-reads g c =
@@ -15,7 +15,7 @@ returns-in_ok-rows-in-Some-clause-reads g c =
     (λ book b both.
     let doc = c.args.doc.now in
     c.extension_in.ensures ∙ ap (extension_in doc) (c.deref.ensures.value ∙ both.1) ∙ extension_is book b doc c.in-Some.number (sym both.0 ∙ c.in-Some.is))
-    (reads_then _ _ _ _ _ _ _ c.in_ok-found.ensures.reads (extensions_by_defect _ _ _ _ c.in_ok-rows-in-Some.ensures.reads))
+    (reads_then _ _ _ _ _ _ _ c.in_ok-found.ensures.reads (extensions_of_defect _ c.in_ok-rows-in-Some.ensures.reads))
 
 pub returns-in-None-clause-reads : goal.returns-in-None-clause-reads
 returns-in-None-clause-reads g c = told _ _ _ _ _ _ (λ book b found. sym (no_extension book b c.args.doc.now (sym found ∙ c.in-None.is))) c.in_ok-found.ensures.reads

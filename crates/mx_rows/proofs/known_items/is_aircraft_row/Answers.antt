@@ -1,13 +1,13 @@
 use Rattle.std.proofs.Common.{[], ◌∷◌, ap, ◌∙◌}
 use Rattle.mx_register.specs.Registers.{aircraft_row}
 use Rattle.mx_found.specs.Given as registers
-use Rattle.mx_rows.proofs.EntryRows.{aircraft_read}
+use Rattle.mx_rows.proofs.BookRows.{aircraft_of_number}
 use Rattle.mx_rows.proofs.ReadLemmas.{stopped, told}
 use Rattle.mx_rows.proofs.TellLemmas.{compared}
 use Rattle.mx_rows.proofs.known_items.is_aircraft_row.Goals as goal
 
 pub returns-in_err-rows-clause-reads : goal.returns-in_err-rows-clause-reads
-returns-in_err-rows-clause-reads g c = stopped _ _ _ _ _ _ c.from_residual.ensures.1 (aircraft_read c.args.seq _ _ _ c.in_err-rows.ensures.reads)
+returns-in_err-rows-clause-reads g c = stopped _ _ _ _ _ _ c.from_residual.ensures.1 (aircraft_of_number c.args.seq c.in_err-rows.ensures.reads)
 
 pub returns-clause-reads : goal.returns-clause-reads
 returns-clause-reads g c =
@@ -15,4 +15,4 @@ returns-clause-reads g c =
     let x = c.args.aircraft in
     told _ _ _ _ _ _
     (λ book b read. compared registers.aircraft n (λ _. aircraft_row n x ∷ []) book _ _ _ c.are_same_aircraft.ensures (c.deref.ensures.value ∙ read) (c.from_ref.ensures.value ∙ ap (λ row. row ∷ []) c.aircraft_row-row.ensures.row))
-    (aircraft_read n _ _ _ c.in_ok-rows.ensures.reads)
+    (aircraft_of_number n c.in_ok-rows.ensures.reads)

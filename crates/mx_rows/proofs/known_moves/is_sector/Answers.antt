@@ -4,7 +4,7 @@ use Rattle.mx_typed_rows.specs.declared.rows.Sector2Row.{Sector2Row}
 use Rattle.mx_register.specs.Names.{or_zero, seq_of_tail}
 use Rattle.mx_register.specs.Registers.{sector_row}
 use Rattle.mx_found.specs.Given as registers
-use Rattle.mx_rows.proofs.EntryRows.{sectors_read}
+use Rattle.mx_rows.proofs.SectorRows.{sectors_read}
 use Rattle.mx_rows.proofs.ReadLemmas.{reads_then, stopped, told}
 use Rattle.mx_rows.proofs.TellLemmas.{compared, tells}
 use Rattle.mx_rows.proofs.known_moves.is_sector.Goals as goal

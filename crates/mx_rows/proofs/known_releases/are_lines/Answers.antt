@@ -1,20 +1,20 @@
 use Rattle.std.proofs.Common.{rules, ◌≡◌, ◌++◌, ◌∷◌, refl, sym, ap}
 use Rattle.mx_register.specs.Lines.{lines_from}
 use Rattle.mx_register.specs.Registers.{release_line_row}
-use Rattle.mx_rows.proofs.EntryRows.{release_lines_read}
+use Rattle.mx_rows.proofs.BookRows.{lines_of}
 use Rattle.mx_rows.proofs.ReadLemmas.{reads_then, stopped, told}
 use Rattle.mx_rows.proofs.TellLemmas.{one_more}
 use Rattle.mx_rows.proofs.known_releases.are_lines.Goals as goal
 
 pub returns-in_err-rows-clause-reads : goal.returns-in_err-rows-clause-reads
-returns-in_err-rows-clause-reads g c = stopped _ _ _ _ _ _ c.from_residual.ensures.1 (release_lines_read c.args.seq _ _ _ c.in_err-rows.ensures.reads)
+returns-in_err-rows-clause-reads g c = stopped _ _ _ _ _ _ c.from_residual.ensures.1 (lines_of c.args.seq c.in_err-rows.ensures.reads)
 
 pub loop-certified-init : goal.loop-certified-init
 loop-certified-init g c = record {
   count = refl;
   same_reference = search rules;
   reads = told _ _ _ _ _ _ (λ book b read. (read, ap (λ rows. rows ++ lines_from (release_line_row book) c.args.seq 1 c.args.lines.now) (sym c.new-given.ensures.items)))
-      (release_lines_read c.args.seq _ _ _ c.in_ok-rows.ensures.reads);
+      (lines_of c.args.seq c.in_ok-rows.ensures.reads);
 }
 
 pub loop-certified-preserved : goal.loop-certified-preserved

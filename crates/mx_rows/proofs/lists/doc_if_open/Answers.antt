@@ -1,7 +1,9 @@
-use Rattle.std.proofs.Common.{◌≡◌, ◌∙◌, ap, cond, false, None, Some, sym, true}
+use Rattle.std.proofs.Common.{◌≡◌, ◌∙◌, ap, arith, cond, false, None, Some, sym, true}
 use Rattle.mx_found.specs.Defects.{is_rectified_at, is_rectified_in}
 use Rattle.mx_found.specs.Names.{doc_at}
-use Rattle.mx_rows.proofs.ListRows.{lines_of_defect}
+use Rattle.mx_rows.proofs.BookRows.{lines_of_defect}
+use Rattle.mx_rows.proofs.AnyLemmas.{any_later, gives}
+use Rattle.mx_rows.proofs.TableLemmas.{release_lines}
 use Rattle.mx_rows.proofs.ReadLemmas.{reads_then, stopped, told}
 use Rattle.mx_rows.proofs.lists.doc_if_open.Goals as goal
 
@@ -27,3 +29,14 @@ returns-clause-reads g c =
     let left : is_rectified_at book c.args.defect ≡ false = sym (c.is_rectified_in.ensures ∙ ap is_rectified_in (c.deref.ensures.value ∙ both.0)) ∙ c.if-is_rectified_in.false in
     ap Some both.1 ∙ sym (ap (λ t. cond t None (Some (doc_at book c.args.defect))) left))
     (reads_then _ _ _ _ _ _ _ (lines_of_defect c.args.defect c.in_ok-lines.ensures.reads) c.in_ok-doc.ensures.reads)
+
+pub returns-then-is_rectified_in-clause-any_rows : goal.returns-then-is_rectified_in-clause-any_rows
+returns-then-is_rectified_in-clause-any_rows g c =
+    record { found = (gives release_lines is_rectified_in (sym c.if-is_rectified_in.true ∙ c.is_rectified_in.ensures ∙ ap is_rectified_in c.deref.ensures.value) c.in_ok-lines.ensures.reads).found }
+
+pub returns-clause-any_rows : goal.returns-clause-any_rows
+returns-clause-any_rows g c =
+    let lines = c.in_ok-lines.ensures.reads in
+    let doc = c.in_ok-doc.ensures in
+    let rectified = gives release_lines is_rectified_in (sym c.if-is_rectified_in.false ∙ c.is_rectified_in.ensures ∙ ap is_rectified_in c.deref.ensures.value) lines in
+    record { found = λ clean has. (rectified.found (omega (arith, doc.reads.within.survives.clean)) has, (any_later _ _ _ _ _ _ _ (lines_of_defect c.args.defect lines) doc.reads.within doc.any_rows).found clean has) }

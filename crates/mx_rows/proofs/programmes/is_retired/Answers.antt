@@ -1,4 +1,4 @@
-use Rattle.std.proofs.Common.{◌≡◌, ◌∙◌, ap, sym, None, Vec}
+use Rattle.std.proofs.Common.{◌∙◌, ap, sym, None, Vec}
 use Rattle.std.specs.Option.{option_map}
 use Rattle.std.specs.declared.alloc.Global.{Global}
 use Rattle.mx_typed_rows.specs.declared.rows.TaskRow.{TaskRow}

@@ -5,7 +5,9 @@ use Rattle.mx_layout.specs.declared.fault.Table.TheVariants as table
 use Rattle.mx_found.specs.Lives.{base_found, life_in_base}
 use Rattle.mx_found.proofs.BoundLemmas.{base_low}
 use Rattle.mx_found.proofs.LifeLemmas.{base_is, no_base}
-use Rattle.mx_rows.proofs.BaseLookups.{base_by_key}
+use Rattle.mx_rows.proofs.AnyLemmas.{any_later}
+use Rattle.mx_rows.proofs.BaseLookups.{base_by_key, bases_give}
+use Rattle.mx_rows.proofs.DamageLemmas.{base_past}
 use Rattle.mx_rows.proofs.ReadLemmas.{reads_then, refused, stopped, told}
 use Rattle.mx_rows.proofs.work.base.Goals as goal
 
@@ -31,6 +33,8 @@ returns-in-Some-base_found-clause-reads g c =
     let low = subst (λ o. IfSome o (λ base. IsLife (life_in_base base))) (sym made ∙ c.in-Some-base_found.is) (base_low book b item id) in
     let e = sym c.if-is_of_life.false ∙ c.is_of_life.ensures.1 low in
     absurd cc)
+    (λ clean has. base_past _ c.in-Some-base_found.base (λ low. (let e = sym c.if-is_of_life.false ∙ c.is_of_life.ensures.1 low in absurd cc))
+    ((any_later _ _ _ _ _ _ _ c.in_ok-found.ensures.reads c.in_ok-rows-in-Some.ensures.reads.within (bases_give base_found (sym c.in-Some-base_found.is ∙ c.base_found.ensures.found ∙ ap base_found c.deref.ensures.value) c.in_ok-rows-in-Some.ensures.reads)).found clean has))
     (reads_then _ _ _ _ _ _ _ c.in_ok-found.ensures.reads (base_by_key c.in-Some.number c.args.id.now _ _ _ c.in_ok-rows-in-Some.ensures.reads))
 
 pub returns-in-Some-clause-reads : goal.returns-in-Some-clause-reads
