@@ -8,7 +8,7 @@ use Rattle.mx_office.specs.Questions.{IsAnsweredBy}
 use Rattle.mx_office.specs.declared.fault.Ask.{Ask}
 use Rattle.mx_office.specs.declared.office.Office.{Office}
 use Rattle.mx_answers.specs.Question.{IsOfKind, report_of}
-use Rattle.mx_answers.specs.declared.question.Question.{Question}
+use Rattle.mx_questions.specs.declared.question.Question.{Question}
 use Rattle.mx_answers.specs.declared.question.Report.{Report}
 
 -- a question was asked, no table changed, and P holds of the answer: of the book that the tables stand for, or of whichever book they hold

@@ -1,4 +1,3 @@
 pub mod Asked
-pub mod Asking
 pub mod FaultLine
 pub mod Question

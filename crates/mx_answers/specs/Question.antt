@@ -10,8 +10,8 @@ use Rattle.mx_reports.specs.DueText.{due_lines}
 use Rattle.mx_reports.specs.ForecastText.{forecast_lines}
 use Rattle.mx_reports.specs.LifeText.{life_lines}
 use Rattle.mx_reports.specs.LimitText.{limit_lines}
-use Rattle.mx_answers.specs.declared.question.Question.{Question}
-use Rattle.mx_answers.specs.declared.question.Question.TheVariants as asked
+use Rattle.mx_questions.specs.declared.question.Question.{Question}
+use Rattle.mx_questions.specs.declared.question.Question.TheVariants as asked
 use Rattle.mx_answers.specs.declared.question.Report.{Report}
 use Rattle.mx_answers.specs.declared.question.Report.TheVariants as report
 

@@ -1,4 +1,4 @@
-//! Questions for a list of an aircraft, and what an open office answers.
+//! What an open office answers to a question for a list of an aircraft.
 ghost use Rattle.std.specs.Prelude.{IfOk};
 ghost use Rattle.std.specs.Option.{option_map};
 ghost use Rattle.mx_lists.specs.DueList.{due_list};
@@ -8,35 +8,17 @@ ghost use Rattle.mx_lists.specs.Lists.{life_list};
 ghost use Rattle.mx_office.specs.Faults.{found_or};
 ghost use Rattle.mx_office.specs.Calls.{stop_asking, IsAsked};
 ghost use Rattle.mx_office.specs.Questions.{IsAnsweredBy};
+ghost use Rattle.mx_questions.specs.declared.question.Question.TheVariants as asked;
 ghost use Rattle.mx_answers.specs.Question.{IsOfKind, report_of};
-ghost use Rattle.mx_answers.specs.declared.question.Question.TheVariants as asked;
 ghost use Rattle.mx_answers.specs.declared.question.Report.TheVariants as report;
 
 use mx_base::{Day, Tail};
 use mx_book::Refusal;
 use mx_lists::{DueList, ForecastList, LifeList, LimitList};
 use mx_office::{Ask, Office};
+use mx_questions::Question;
 use sqlite::Alter;
 use std::alloc::Global;
-
-/// A question for a list of an aircraft.
-#[derive(Clone, Copy)]
-pub enum Question {
-    /// Its life.
-    Life(Tail),
-    /// What is due on it, and what is left until then on a day.
-    Due(Tail, Day),
-    /// What will be due on it within so many days of a day, at so many minutes and cycles a day.
-    Forecast {
-        tail: Tail,
-        day: Day,
-        days: u32,
-        minutes: u32,
-        cycles: u32,
-    },
-    /// The last days of its open defects, and what is left until then on a day.
-    Limits(Tail, Day),
-}
 
 /// A list of an aircraft.
 #[derive(Drop)]

@@ -12,9 +12,9 @@ ghost use Rattle.mx_command_line.specs.Job.{number_within, said, serving, tail_a
 
 use crate::trial::Trial;
 use clap::ArgMatches;
-use mx_answers::{Question, due_question, forecast_question, life_question, limits_question};
 use mx_base::{Doc, Moment, Tail};
 use mx_intake::{read_identifier, read_moment};
+use mx_questions::{Question, due_question, forecast_question, life_question, limits_question};
 
 /// The greatest port.
 const MOST_PORT: u32 = 65_535;

@@ -21,7 +21,7 @@ use Rattle.mx_office.specs.declared.fault.Fault.TheVariants.{Memory, Store, Need
 use Rattle.mx_office.specs.declared.office.Office.{Office}
 use Rattle.mx_import.specs.Rows.{good_rows, told}
 use Rattle.mx_answers.specs.Question.{report_of}
-use Rattle.mx_answers.specs.declared.question.Question.{Question}
+use Rattle.mx_questions.specs.declared.question.Question.{Question}
 use Rattle.mx_answers.specs.declared.question.Report.{Report}
 use Rattle.mx_desk.specs.Answer.{Answer, answer_of, list_answer, replies_answer, rows_answer}
 use Rattle.mx_desk.specs.Answered.{AnswersIfRoom}

@@ -14,7 +14,7 @@ use Rattle.mx_intake.specs.Fault.{fault}
 use Rattle.mx_intake.specs.Number.{number_of_digits}
 use Rattle.mx_intake.proofs.Worked.{intake_on_literals}
 use Rattle.mx_import.specs.declared.report.RowReply.TheVariants as row
-use Rattle.mx_answers.specs.declared.question.Question.TheVariants.{Life, Due, Forecast, Limits}
+use Rattle.mx_questions.specs.declared.question.Question.TheVariants.{Life, Due, Forecast, Limits}
 use Rattle.mx_answers.specs.declared.question.Report.TheVariants as report
 use Rattle.mx_request.specs.declared.input.InputFault.TheVariants as input
 use Rattle.mx_request.specs.declared.rejection.Rejection.TheVariants.{BadRequest, NotFound, WrongMethod, BodyTooLarge}

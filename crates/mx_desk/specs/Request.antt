@@ -8,8 +8,8 @@ use Rattle.mx_intake.specs.Number.{number_of_digits}
 use Rattle.mx_intake.specs.Sectors.{sector_rows}
 use Rattle.mx_intake.specs.declared.fault.IntakeFault.{IntakeFault}
 use Rattle.mx_import.specs.Rows.{good_rows}
-use Rattle.mx_answers.specs.Asking.{doc_of, due_question, forecast_question, life_question, limits_question}
-use Rattle.mx_answers.specs.declared.question.Question.{Question}
+use Rattle.mx_questions.specs.Asking.{doc_of, due_question, forecast_question, life_question, limits_question}
+use Rattle.mx_questions.specs.declared.question.Question.{Question}
 use Rattle.mx_request.specs.Routes.{Asked}
 use Rattle.mx_request.specs.declared.rejection.Rejection.{Rejection}
 use Rattle.mx_request.specs.declared.rejection.Rejection.TheVariants.{BadRequest}

@@ -12,7 +12,7 @@ use Rattle.mx_answers.specs.Question.{IsOfKind, report_lines, report_of}
 use Rattle.mx_jobs.specs.declared.fault.Ending.{Ending}
 use Rattle.mx_jobs.specs.declared.fault.Ending.TheVariants as ending
 use Rattle.mx_jobs.specs.declared.fault.Stop.{Stop}
-use Rattle.mx_answers.specs.declared.question.Question.{Question}
+use Rattle.mx_questions.specs.declared.question.Question.{Question}
 use Rattle.mx_answers.specs.declared.question.Report.{Report}
 
 -- a list of the kind that was asked for was appended

@@ -12,7 +12,7 @@ use Rattle.mx_jobs.specs.declared.fault.Ending.{Ending}
 use Rattle.mx_jobs.specs.declared.fault.Ending.TheVariants.{Done, Refused}
 use Rattle.mx_jobs.specs.declared.fault.Stop.{Stop}
 use Rattle.mx_jobs.specs.declared.fault.Stop.TheVariants.{Office, Print}
-use Rattle.mx_answers.specs.declared.question.Question.{Question}
+use Rattle.mx_questions.specs.declared.question.Question.{Question}
 use Rattle.mx_answers.specs.declared.question.Report.{Report}
 
 -- the text of a list, or of the refusal where the registration is unknown

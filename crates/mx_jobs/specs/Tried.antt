@@ -3,7 +3,7 @@ use Rattle.std.specs.Prelude.{◌≡◌, ℕ, List, ◌++◌}
 use Rattle.mx_command.specs.Act.{Entry}
 use Rattle.mx_book.specs.Run.{book_run, replies}
 use Rattle.mx_answers.specs.Question.{report_of}
-use Rattle.mx_answers.specs.declared.question.Question.TheVariants.{Life}
+use Rattle.mx_questions.specs.declared.question.Question.TheVariants.{Life}
 use Rattle.mx_jobs.specs.Entered.{reply_lines}
 use Rattle.mx_jobs.specs.Printed.{list_answer, list_ending}
 use Rattle.mx_jobs.specs.Status.{graver, run_ending}

@@ -9,9 +9,10 @@ ghost use Rattle.mx_jobs.specs.Printed.{IsListAnswer, PrintsAnswer, Tells};
 ghost use Rattle.mx_jobs.specs.Status.{Shows, stop_status};
 
 use crate::fault::{Ending, Stop};
-use mx_answers::{Question, Report, ask, list_text};
+use mx_answers::{Report, ask, list_text};
 use mx_book::{Refusal, Reply};
 use mx_office::{Ask, Office};
+use mx_questions::Question;
 use mx_reports::reply_text;
 use sqlite::Alter;
 use std::alloc::Global;

@@ -9,11 +9,11 @@ use crate::entering::enter_all;
 use crate::fault::{Ending, Stop};
 use crate::listing::print_list;
 use crate::opening::open;
-use mx_answers::Question;
 use mx_base::Tail;
 use mx_command::Command;
 use mx_layout::{Layout, create};
 use mx_office::{NEWEST_LAYOUT, Office, OpenFault};
+use mx_questions::Question;
 use sqlite::{Alter, Connection, MemStore};
 use std::alloc::Global;
 

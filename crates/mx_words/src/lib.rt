@@ -1,9 +1,9 @@
-//! The words of the program `office`, over files: each opens a file, hands it to what the word does over an open database or
-//! office, and closes it; what that prints goes to the two streams, and its ending gives the status.
+//! The words of the program `office`: each does what it asks for over a file, at a port or in memory; what that prints goes to
+//! the two streams, and its ending gives the status.
 #![tactic(auto)]
 
-mod files;
 pub mod run;
+mod serving;
 mod trial;
 mod usage;
 

@@ -5,12 +5,13 @@ ghost use Rattle.mx_words.specs.Done.{IsAnswered, IsDone, IsEnded, IsEndedForSom
 ghost use Rattle.mx_command_line.specs.Job.{job_of, said};
 ghost use Rattle.mx_jobs.specs.Status.{LeavesUnread, Shows, stop_status};
 
-use crate::files::{enter_file, import_file, init_file, list_file, programme_file, serve_file};
+use crate::serving::serve_file;
 use crate::trial::try_out;
 use crate::usage::print_usage;
 use clap::ArgMatches;
 use clap::error::ErrorKind;
 use mx_command_line::{Words, command, words_of};
+use mx_files::{enter_file, import_file, init_file, list_file, programme_file};
 use mx_jobs::{Ending, Stop, print_done};
 use std::io::Write;
 

@@ -5,7 +5,7 @@ use Rattle.mx_office.specs.Calls.{IsRun}
 use Rattle.mx_office.specs.Office.{office_state}
 use Rattle.mx_office.specs.declared.fault.Fault.{Fault}
 use Rattle.mx_answers.specs.Question.{report_of}
-use Rattle.mx_answers.specs.declared.question.Question.TheVariants.{Life}
+use Rattle.mx_questions.specs.declared.question.Question.TheVariants.{Life}
 use Rattle.mx_jobs.specs.Entered.{reply_lines}
 use Rattle.mx_jobs.specs.Printed.{list_answer}
 use Rattle.mx_jobs.proofs.EnteredLemmas.{stands_behind}

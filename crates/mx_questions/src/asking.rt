@@ -1,6 +1,6 @@
 //! The question that texts ask for a list of an aircraft, as the parts of a path and the words of a command line do.
 ghost use Rattle.std.specs.Prelude.{◌≡◌};
-ghost use Rattle.mx_answers.specs.Asking.{due_question, forecast_question, is_in_reach, life_question, limits_question};
+ghost use Rattle.mx_questions.specs.Asking.{due_question, forecast_question, is_in_reach, life_question, limits_question};
 
 use crate::question::Question;
 use mx_intake::{read_day, read_identifier};

@@ -1,0 +1,13 @@
+//! A word over the database file: it is opened, what the word does over an open database or office is asked of it, and it is
+//! closed. What a file holds no contract can say; `transcripts/` shows it.
+#![tactic(auto)]
+
+mod asking;
+mod inputs;
+mod making;
+mod opening;
+mod words;
+
+pub use asking::{Asked, answer_file};
+pub use making::init_file;
+pub use words::{enter_file, import_file, list_file, programme_file};

@@ -1,0 +1,148 @@
+//! The words that ask the office in a file.
+ghost use Rattle.std.specs.Prelude.{◌≤◌, length, IfOk, IfErr};
+ghost use Rattle.mx_jobs.specs.Entered.{AreReplyLines, AreSomeReplyLines};
+ghost use Rattle.mx_jobs.specs.Imported.{AreRowLines};
+ghost use Rattle.mx_jobs.specs.Printed.{IsListAnswer};
+ghost use Rattle.mx_jobs.specs.Status.{LeavesUnread, Shows, stop_status};
+
+use crate::asking::{Asked, answer_file};
+use crate::inputs::{UNOPENED, commands_in, programme_in};
+use mx_base::Doc;
+use mx_command::Command;
+use mx_jobs::{Ending, Stop, enter_all, import_all, print_list};
+use mx_office::Office;
+use mx_questions::Question;
+use sqlite::Alter;
+use std::{fs, slice};
+
+// A list of an aircraft is asked for.
+impl Asked for Question {
+    ghost is_answer = { IsListAnswer };
+
+    fn answer<S: Alter>(
+        &self,
+        rt: &HostRuntime,
+        office: &mut Office<S>,
+        out: &mut Vec<u8>,
+    ) -> Result<Ending, Stop> {
+        print_list(rt.alloc(), office, self, out)
+    }
+}
+
+// Commands that are entered: a reply to each is asked for.
+#[derive(Clone, Copy)]
+struct Entered<'a> {
+    commands: &'a [Command],
+}
+
+impl<'a> Asked for Entered<'a> {
+    ghost is_answer = { λ entered. AreReplyLines (length entered.commands.now) };
+
+    fn answer<S: Alter>(
+        &self,
+        rt: &HostRuntime,
+        office: &mut Office<S>,
+        out: &mut Vec<u8>,
+    ) -> Result<Ending, Stop> {
+        enter_all(rt.alloc(), office, self.commands, out)
+    }
+}
+
+// A sector log that is imported: what its rows are told is asked for.
+impl Asked for fs::File {
+    ghost is_answer = { λ log. AreRowLines };
+
+    fn answer<S: Alter>(
+        &self,
+        rt: &HostRuntime,
+        office: &mut Office<S>,
+        out: &mut Vec<u8>,
+    ) -> Result<Ending, Stop> {
+        let mut reader = self;
+        import_all(rt.alloc(), office, &mut reader, out)
+    }
+}
+
+/// Appends the list of an aircraft that a question asks for.
+pub fn list_file(
+    rt: &HostRuntime,
+    file: &str,
+    question: &Question,
+    out: &mut Vec<u8>,
+) -> Result<Ending, Stop>
+    ensures shown { IfOk result (Shows (IsListAnswer question.now) out.old.items out.new.items) }
+    ensures unread { IfErr result (LeavesUnread out.old.items out.new.items) }
+    ensures status { IfErr result (λ stop. 3 ≤ stop_status stop) }
+{
+    answer_file(rt, file, question, out)
+}
+
+// Enters commands into the book in a file, and appends a line for each reply.
+fn enter_all_in(
+    rt: &HostRuntime,
+    file: &str,
+    commands: &[Command],
+    out: &mut Vec<u8>,
+) -> Result<Ending, Stop>
+    ensures shown { IfOk result (Shows (AreReplyLines (length commands.now)) out.old.items
+        out.new.items) }
+    ensures status { IfErr result (λ stop. 3 ≤ stop_status stop) }
+    ensures unread { IfErr result (LeavesUnread out.old.items out.new.items) }
+{
+    answer_file(rt, file, &Entered { commands }, out)
+}
+
+/// Enters the commands of a file, and appends a line for each reply. Nothing is opened where the file
+/// gives no commands.
+pub fn enter_file(
+    rt: &HostRuntime,
+    file: &str,
+    entries: &str,
+    out: &mut Vec<u8>,
+) -> Result<Ending, Stop>
+    ensures shown { IfOk result (Shows AreSomeReplyLines out.old.items out.new.items) }
+    ensures status { IfErr result (λ stop. 3 ≤ stop_status stop) }
+    ensures unread { IfErr result (LeavesUnread out.old.items out.new.items) }
+{
+    match commands_in(rt, entries) {
+        Ok(commands) => enter_all_in(rt, file, &commands, out),
+        Err(fault) => Err(Stop::Intake(fault)),
+    }
+}
+
+/// Enters the maintenance programme of a file by a document, and appends the line of the reply. Nothing is opened where
+/// the file states none.
+pub fn programme_file(
+    rt: &HostRuntime,
+    file: &str,
+    doc: Doc,
+    toml: &str,
+    out: &mut Vec<u8>,
+) -> Result<Ending, Stop>
+    ensures shown { IfOk result (Shows (AreReplyLines 1) out.old.items out.new.items) }
+    ensures status { IfErr result (λ stop. 3 ≤ stop_status stop) }
+    ensures unread { IfErr result (LeavesUnread out.old.items out.new.items) }
+{
+    match programme_in(rt, doc, toml) {
+        Ok(command) => enter_all_in(rt, file, slice::from_ref(&command), out),
+        Err(fault) => Err(Stop::Intake(fault)),
+    }
+}
+
+/// Imports the sector log of a file, and appends a line for each row. The log is opened first, then the database, and
+/// then the log is read.
+pub fn import_file(
+    rt: &HostRuntime,
+    file: &str,
+    csv: &str,
+    out: &mut Vec<u8>,
+) -> Result<Ending, Stop>
+    ensures shown { IfOk result (Shows AreRowLines out.old.items out.new.items) }
+    ensures status { IfErr result (λ stop. 3 ≤ stop_status stop) }
+    ensures unread { IfErr result (LeavesUnread out.old.items out.new.items) }
+{
+    match fs::open(rt, csv) {
+        Ok(log) => answer_file(rt, file, &log, out),
+        Err(_) => Err(Stop::Intake(UNOPENED)),
+    }
+}
