@@ -17,4 +17,5 @@ pub mod OpenDefectLemmas
 pub mod EqualLemmas
 pub mod LastLemmas
 pub mod ProgrammeLemmas
+pub mod StatedLemmas
 pub mod WorkedFound

@@ -5,3 +5,4 @@ pub mod Lives
 pub mod Defects
 pub mod Programmes
 pub mod Given
+pub mod Stated

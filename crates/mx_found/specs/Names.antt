@@ -48,6 +48,10 @@ is_deferral _ = false
 abbrev pub deferral_number : List EntryRow → Option ℕ
 deferral_number rows = option_map (λ row. row.seq) (find (λ row. is_deferral row.kind) rows)
 
+-- the document of the first of these entries that defers a defect
+abbrev pub deferred_doc : List EntryRow → Option (List ℕ)
+deferred_doc rows = option_map (λ row. row.doc) (find (λ row. is_deferral row.kind) rows)
+
 -- the registration of the first of these aircraft
 abbrev pub tail_in : List AircraftRow → Option (List ℕ)
 tail_in rows = option_map (λ row. row.tail) (slice_get rows 0)

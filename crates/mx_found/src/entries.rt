@@ -7,7 +7,7 @@ ghost use Rattle.mx_book.specs.Judge.{known_from};
 ghost use Rattle.mx_register.specs.Names.{seq_of_defect};
 ghost use Rattle.mx_register.specs.Registers.{entry_rows};
 ghost use Rattle.mx_typed_rows.specs.declared.rows.EntryRow.{EntryRow};
-ghost use Rattle.mx_found.specs.Names.{deferral_number, doc_at, doc_in, entries_with, entry_number, is_deferral, last_number};
+ghost use Rattle.mx_found.specs.Names.{deferral_number, deferred_doc, doc_at, doc_in, entries_with, entry_number, is_deferral, last_number};
 
 use mx_base::Doc;
 use mx_typed_rows::{EntryKind, EntryRow};
@@ -55,6 +55,16 @@ pub fn deferral_number(rows: &[EntryRow]) -> Option<u32>
 {
     match rows.iter().find(|row| is_deferral(row.kind)) {
         Some(row) => Some(row.seq),
+        None => None,
+    }
+}
+
+/// The document of the first of these entries that defers a defect.
+pub fn deferred_doc(rows: &[EntryRow]) -> Option<Doc>
+    ensures { result ≡ deferred_doc rows.now }
+{
+    match rows.iter().find(|row| is_deferral(row.kind)) {
+        Some(row) => Some(row.doc),
         None => None,
     }
 }

@@ -39,3 +39,4 @@ pub mod lives;
 pub mod programmes;
 pub mod same;
 pub mod spans;
+pub mod stated;

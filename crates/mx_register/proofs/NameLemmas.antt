@@ -223,7 +223,8 @@ airframe_of : (doc : List ℕ) (act : Act) (tail : List ℕ) → tail_added (rec
 airframe_of doc (Added a positions) tail h = ap (option_map (λ (t : List ℕ). items.Airframe t)) h
 airframe_of doc _ tail h = (cc)
 
-airframe_at : (o : Option Entry) (tail : List ℕ) → option_and_then tail_added o ≡ Some tail → option_and_then (λ (e : Entry). item_added e.act) o ≡ Some (items.Airframe tail)
+-- an entry that adds an aircraft adds its airframe
+pub airframe_at : (o : Option Entry) (tail : List ℕ) → option_and_then tail_added o ≡ Some tail → option_and_then (λ (e : Entry). item_added e.act) o ≡ Some (items.Airframe tail)
 airframe_at None tail h = (cc)
 airframe_at (Some e) tail h = airframe_of e.doc e.act tail h
 
@@ -231,7 +232,8 @@ component_of_serial : (doc : List ℕ) (act : Act) (serial : List ℕ) → seria
 component_of_serial doc (Listed c) serial h = ap (option_map (λ (s : List ℕ). items.Component s)) h
 component_of_serial doc _ serial h = (cc)
 
-component_at : (o : Option Entry) (serial : List ℕ) → option_and_then serial_added o ≡ Some serial → option_and_then (λ (e : Entry). item_added e.act) o ≡ Some (items.Component serial)
+-- one that adds a component adds the item
+pub component_at : (o : Option Entry) (serial : List ℕ) → option_and_then serial_added o ≡ Some serial → option_and_then (λ (e : Entry). item_added e.act) o ≡ Some (items.Component serial)
 component_at None serial h = (cc)
 component_at (Some e) serial h = component_of_serial e.doc e.act serial h
 

@@ -25,7 +25,8 @@ use Rattle.mx_register.proofs.TakeLemmas.{AreOnLines, AreOfLines, IsSaid, same_s
 
 -- ── places ──
 
-place_again : (place : Place) → place_of (kind_in_shop place) (item_of_place place) ≡ Some place
+-- the place that a release's kind and item say is its own
+pub place_again : (place : Place) → place_of (kind_in_shop place) (item_of_place place) ≡ Some place
 place_again (Aircraft tail) = refl
 place_again (Shop serial kind) = refl
 

@@ -6,7 +6,7 @@ pub mod laws;
 pub mod merge;
 pub mod names;
 pub mod registers;
-mod said;
+pub mod said;
 mod taking;
 
 pub use added::added_rows;

@@ -13,7 +13,7 @@ use mx_typed_rows::{
 };
 
 /// What the row of an aircraft says, with these positions.
-pub(crate) fn body_of_aircraft(row: &AircraftRow, positions: Vec<(Position, Part)>) -> Body
+pub fn body_of_aircraft(row: &AircraftRow, positions: Vec<(Position, Part)>) -> Body
     ensures { act_of result ≡ aircraft_said row.now positions.items }
 {
     Body::AddAircraft {
@@ -30,7 +30,7 @@ pub(crate) fn body_of_aircraft(row: &AircraftRow, positions: Vec<(Position, Part
 }
 
 /// What the row of a component says.
-pub(crate) fn body_of_component(row: &ComponentRow) -> Body
+pub fn body_of_component(row: &ComponentRow) -> Body
     ensures { act_of result ≡ component_said row.now }
 {
     Body::AddComponent {
@@ -46,7 +46,7 @@ pub(crate) fn body_of_component(row: &ComponentRow) -> Body
 }
 
 /// What the row of a programme says, with these tasks.
-pub(crate) fn body_of_programme(row: &ProgrammeRow, tasks: Vec<Task>) -> Body
+pub fn body_of_programme(row: &ProgrammeRow, tasks: Vec<Task>) -> Body
     ensures { act_of result ≡ programme_said row.now tasks.items }
 {
     Body::LoadProgramme {
@@ -78,7 +78,7 @@ pub(crate) fn limit_if_any(limit: Limit) -> Option<Limit>
 }
 
 /// What the row of an opening says, of this item.
-pub(crate) fn body_of_opening(row: &OpeningRow, item: Item) -> Body
+pub fn body_of_opening(row: &OpeningRow, item: Item) -> Body
     ensures { act_of result ≡ opening_said row.now item }
 {
     Body::Opening {
@@ -94,7 +94,7 @@ pub(crate) fn body_of_opening(row: &OpeningRow, item: Item) -> Body
 }
 
 /// What the row of a sector says, where the aircraft has this registration.
-pub(crate) fn body_of_sector(row: &SectorRow, tail: Tail) -> Body
+pub fn body_of_sector(row: &SectorRow, tail: Tail) -> Body
     ensures { act_of result ≡ sector_said row.now tail }
 {
     Body::Sector {
@@ -109,7 +109,7 @@ pub(crate) fn body_of_sector(row: &SectorRow, tail: Tail) -> Body
 
 /// What the row of a fitting says, where the component has this serial number and the aircraft this
 /// registration.
-pub(crate) fn body_of_fitting(row: &FittingRow, serial: Serial, tail: Tail) -> Body
+pub fn body_of_fitting(row: &FittingRow, serial: Serial, tail: Tail) -> Body
     ensures { act_of result ≡ fitting_said row.now serial tail }
 {
     Body::Fit {
@@ -121,7 +121,7 @@ pub(crate) fn body_of_fitting(row: &FittingRow, serial: Serial, tail: Tail) -> B
 }
 
 /// What the row of a removal says, where the component has this serial number.
-pub(crate) fn body_of_removal(row: &RemovalRow, serial: Serial) -> Body
+pub fn body_of_removal(row: &RemovalRow, serial: Serial) -> Body
     ensures { act_of result ≡ removal_said row.now serial }
 {
     Body::Remove {
@@ -131,7 +131,7 @@ pub(crate) fn body_of_removal(row: &RemovalRow, serial: Serial) -> Body
 }
 
 /// The place of a release: an aircraft without a kind, or a component in a shop with one.
-pub(crate) fn place_of(kind: Option<Kind>, item: Item) -> Option<Place>
+pub fn place_of(kind: Option<Kind>, item: Item) -> Option<Place>
     ensures { result ≡ place_of kind item }
 {
     match (kind, item) {
@@ -150,7 +150,7 @@ pub(crate) fn place_said(book: &Book, row: &ReleaseRow) -> Option<Place>
 }
 
 /// What the row of a release says, at this place with these lines.
-pub(crate) fn body_of_release(row: &ReleaseRow, place: Place, lines: Vec<Line>) -> Body
+pub fn body_of_release(row: &ReleaseRow, place: Place, lines: Vec<Line>) -> Body
     ensures { act_of result ≡ release_said row.now place lines.items }
 {
     Body::Release {
@@ -172,7 +172,7 @@ pub(crate) fn line_said(book: &Book, row: &ReleaseLineRow) -> Option<Line>
 }
 
 /// What the row of a deferral says, where the aircraft has this registration.
-pub(crate) fn body_of_deferral(row: &DeferralRow, tail: Tail) -> Body
+pub fn body_of_deferral(row: &DeferralRow, tail: Tail) -> Body
     ensures { act_of result ≡ deferral_said row.now tail }
 {
     Body::Defer {
@@ -184,7 +184,7 @@ pub(crate) fn body_of_deferral(row: &DeferralRow, tail: Tail) -> Body
 }
 
 /// What the row of an extension says, where the defect was deferred by this document.
-pub(crate) fn body_of_extension(row: &ExtensionRow, defect: Doc) -> Body
+pub fn body_of_extension(row: &ExtensionRow, defect: Doc) -> Body
     ensures { act_of result ≡ extension_said row.now defect }
 {
     Body::Extend {
