@@ -2,6 +2,7 @@
 ghost use Rattle.std.specs.Prelude.{◌≡◌, ◌≤◌, ◌++◌, IfOk, IfErr};
 ghost use Rattle.mx_desk.specs.Serving.{served_line};
 ghost use Rattle.mx_jobs.specs.Status.{LeavesUnread, stop_status};
+ghost use Rattle.mx_jobs.specs.declared.fault.Ending.TheVariants.{Done};
 
 use mx_desk::serve_on;
 use mx_files::{Asked, answer_file};
@@ -56,7 +57,7 @@ struct Served {
 }
 
 impl Asked for Served {
-    ghost is_answer = { λ served text ending. (text ≡ served_line served.count) × (ending ≡ Ending.Done) };
+    ghost is_answer = { λ served text ending. (text ≡ served_line served.count) × (ending ≡ Done) };
 
     fn answer<S: Alter>(
         &self,
