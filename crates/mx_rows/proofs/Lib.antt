@@ -12,3 +12,6 @@ pub mod RoomLookups
 pub mod InForceLemmas
 pub mod DefectLemmas
 pub mod WalkLemmas
+pub mod EntryRows
+pub mod TellLemmas
+pub mod ViewLemmas

@@ -6,3 +6,4 @@ pub mod Given
 pub mod Fitted
 pub mod Known
 pub mod InForce
+pub mod View

@@ -1,0 +1,7 @@
+use Rattle.std.proofs.Common.{refl}
+use Rattle.mx_book.specs.Life.{clock}
+use Rattle.mx_rows.proofs.ViewLemmas.{answers_by}
+use Rattle.mx_rows.proofs.view.RowsRecords.clock.Goals as goal
+
+pub returns : goal.returns
+returns g c = answers_by g.S.Store (λ book. clock book c.args.item.now) _ _ _ (record { tx = refl; conn = c.clock.ensures.same_reference }) c.clock.ensures.reads

@@ -1,0 +1,7 @@
+use Rattle.std.proofs.Common.{refl}
+use Rattle.mx_book.specs.Register.{component}
+use Rattle.mx_rows.proofs.ViewLemmas.{answers_by}
+use Rattle.mx_rows.proofs.view.RowsRecords.component.Goals as goal
+
+pub returns : goal.returns
+returns g c = answers_by g.S.Store (λ book. component book c.args.serial.now) _ _ _ (record { tx = refl; conn = c.component.ensures.same_reference }) c.component.ensures.reads

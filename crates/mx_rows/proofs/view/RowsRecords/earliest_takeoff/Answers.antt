@@ -1,0 +1,7 @@
+use Rattle.std.proofs.Common.{refl}
+use Rattle.mx_book.specs.Judge.{earliest_takeoff}
+use Rattle.mx_rows.proofs.ViewLemmas.{answers_by}
+use Rattle.mx_rows.proofs.view.RowsRecords.earliest_takeoff.Goals as goal
+
+pub returns : goal.returns
+returns g c = answers_by g.S.Store (λ book. earliest_takeoff book c.args.tail.now) _ _ _ (record { tx = refl; conn = c.earliest_takeoff.ensures.same_reference }) c.earliest_takeoff.ensures.reads

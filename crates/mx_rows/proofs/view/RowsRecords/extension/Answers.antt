@@ -1,0 +1,7 @@
+use Rattle.std.proofs.Common.{refl}
+use Rattle.mx_book.specs.Defect.{extension}
+use Rattle.mx_rows.proofs.ViewLemmas.{answers_by}
+use Rattle.mx_rows.proofs.view.RowsRecords.extension.Goals as goal
+
+pub returns : goal.returns
+returns g c = answers_by g.S.Store (λ book. extension book c.args.doc.now) _ _ _ (record { tx = refl; conn = c.extension.ensures.same_reference }) c.extension.ensures.reads

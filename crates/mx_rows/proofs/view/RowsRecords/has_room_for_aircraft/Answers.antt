@@ -1,0 +1,7 @@
+use Rattle.std.proofs.Common.{refl}
+use Rattle.mx_book.specs.Register.{has_room_for_aircraft}
+use Rattle.mx_rows.proofs.ViewLemmas.{answers_by}
+use Rattle.mx_rows.proofs.view.RowsRecords.has_room_for_aircraft.Goals as goal
+
+pub returns : goal.returns
+returns g c = answers_by g.S.Store (λ book. has_room_for_aircraft book) _ _ _ (record { tx = refl; conn = c.has_room_for_aircraft.ensures.same_reference }) c.has_room_for_aircraft.ensures.reads

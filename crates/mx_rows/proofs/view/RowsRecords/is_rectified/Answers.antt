@@ -1,0 +1,7 @@
+use Rattle.std.proofs.Common.{refl}
+use Rattle.mx_book.specs.Defect.{is_rectified}
+use Rattle.mx_rows.proofs.ViewLemmas.{answers_by}
+use Rattle.mx_rows.proofs.view.RowsRecords.is_rectified.Goals as goal
+
+pub returns : goal.returns
+returns g c = answers_by g.S.Store (λ book. is_rectified book c.args.doc.now) _ _ _ (record { tx = refl; conn = c.is_rectified.ensures.same_reference }) c.is_rectified.ensures.reads

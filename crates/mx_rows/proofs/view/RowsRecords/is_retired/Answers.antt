@@ -1,0 +1,7 @@
+use Rattle.std.proofs.Common.{refl}
+use Rattle.mx_book.specs.Programme.{life_ended}
+use Rattle.mx_rows.proofs.ViewLemmas.{answers_by}
+use Rattle.mx_rows.proofs.view.RowsRecords.is_retired.Goals as goal
+
+pub returns : goal.returns
+returns g c = answers_by g.S.Store (λ book. life_ended book c.args.kind.now c.args.item.now c.args.day) _ _ _ (record { tx = refl; conn = c.is_retired.ensures.same_reference }) c.is_retired.ensures.reads

@@ -1,0 +1,7 @@
+use Rattle.std.proofs.Common.{refl}
+use Rattle.mx_book.specs.Span.{is_taken}
+use Rattle.mx_rows.proofs.ViewLemmas.{answers_by}
+use Rattle.mx_rows.proofs.view.RowsRecords.is_taken.Goals as goal
+
+pub returns : goal.returns
+returns g c = answers_by g.S.Store (λ book. is_taken book c.args.tail.now c.args.position.now) _ _ _ (record { tx = refl; conn = c.is_taken.ensures.same_reference }) c.is_taken.ensures.reads

@@ -1,0 +1,9 @@
+use Rattle.std.proofs.Common.{refl}
+use Rattle.std.specs.Option.{option_map}
+use Rattle.mx_book.specs.Asking.{known_same}
+use Rattle.mx_book.specs.Judge.{known_from}
+use Rattle.mx_rows.proofs.ViewLemmas.{answers_by}
+use Rattle.mx_rows.proofs.view.RowsRecords.known.Goals as goal
+
+pub returns : goal.returns
+returns g c = answers_by g.S.Store (λ book. option_map (known_same c.args.command.now) (known_from c.args.command.now.doc 1 book)) _ _ _ (record { tx = refl; conn = c.known.ensures.same_reference }) c.known.ensures.reads

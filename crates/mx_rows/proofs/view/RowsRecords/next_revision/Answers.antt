@@ -1,0 +1,7 @@
+use Rattle.std.proofs.Common.{refl}
+use Rattle.mx_book.specs.Programme.{next_revision}
+use Rattle.mx_rows.proofs.ViewLemmas.{answers_by}
+use Rattle.mx_rows.proofs.view.RowsRecords.next_revision.Goals as goal
+
+pub returns : goal.returns
+returns g c = answers_by g.S.Store (λ book. next_revision book c.args.kind.now) _ _ _ (record { tx = refl; conn = c.next_revision.ensures.same_reference }) c.next_revision.ensures.reads

@@ -1,0 +1,7 @@
+use Rattle.std.proofs.Common.{refl}
+use Rattle.mx_book.specs.Register.{part_at}
+use Rattle.mx_rows.proofs.ViewLemmas.{answers_by}
+use Rattle.mx_rows.proofs.view.RowsRecords.part_at.Goals as goal
+
+pub returns : goal.returns
+returns g c = answers_by g.S.Store (λ book. part_at book c.args.tail.now c.args.position.now) _ _ _ (record { tx = refl; conn = c.part_at.ensures.same_reference }) c.part_at.ensures.reads
