@@ -6,7 +6,8 @@
 //! - `ask QUERY`, `sql STATEMENT`: the rows of a query; a statement that changes the files;
 //! - `open`: opens the office.
 //!
-//! Lines over kept rows, of a database of layout 2: `kept` before a line of `mx_kept_lines`, whose head lists them.
+//! Lines over a database of layout 2: `kept` before a line of `mx_kept_lines`, whose head lists them, over kept rows; `judge COMMAND`,
+//! the verdict on a command by the rows of the tables.
 //!
 //! Lines in the open office:
 //! - a command, in the words that `mx_cases` reads: hands it in; `run` the commands of a list, and `first` the first;

@@ -1,0 +1,32 @@
+//! Commands that are judged by the rows of a database.
+ghost use Rattle.std.specs.Prelude.{◌≡◌, false};
+
+use mx_cases::{Unmade, command_of, verdict_text};
+use mx_kept_lines::{append_table_fault, room};
+use mx_layout::TableFault;
+use mx_rows::judging::judge_by_rows;
+use sqlite::{Alter, Connection};
+use std::alloc::Global;
+
+// Why there is no verdict.
+fn unjudged(alloc: Global, fault: TableFault) -> Result<String, Unmade> {
+    let mut text = room(alloc)?;
+    append_table_fault(&mut text, fault)?;
+    Ok(text)
+}
+
+/// The verdict on the command that the words name, by the rows of a database: as text, or the fault that stopped the judge.
+pub fn verdict_by_rows<S: Alter>(
+    alloc: Global,
+    conn: &mut Connection<S>,
+    words: &[&str],
+) -> Result<String, Unmade>
+    requires { conn.old.in_transaction ≡ false }
+{
+    let command = command_of(alloc, words)?;
+    let mut tx = conn.transaction();
+    match judge_by_rows(alloc, &mut tx, &command) {
+        Ok(verdict) => Ok(verdict_text(alloc, &verdict)?),
+        Err(fault) => unjudged(alloc, fault),
+    }
+}
