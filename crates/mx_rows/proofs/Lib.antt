@@ -12,6 +12,4 @@ pub mod RoomLookups
 pub mod InForceLemmas
 pub mod DefectLemmas
 pub mod WalkLemmas
-pub mod EntryRows
-pub mod TellLemmas
 pub mod ViewLemmas

@@ -3,10 +3,8 @@
 //! `Memory` is want of memory, `Store` an error of the store, and `Damaged` names a table that no book gives: a row that was
 //! chosen from it can't be read, being none of its type, or names a row that another table lacks, or it lacks one that another's
 //! row needs; or what its rows say is past what the office needs.
-//! The look-ups of the judge by rows, and judging by them. Each is made inside a `Transaction` over tables that stand for a book,
-//! and answers what the definition says of that book; none changes a row. `Memory` is want of memory, `Store` an error of the
-//! store, and `Damaged` says which table has a row that no book gives it. `Rows` is the transaction as records of which any
-//! question of the judge is asked, and `judge_by_rows` the verdict on a command by them.
+//! `Rows` is the transaction as records of which any question of the judge is asked, and `judge_by_rows` the verdict on a command
+//! by them.
 #![tactic(auto)]
 
 pub mod defects;
