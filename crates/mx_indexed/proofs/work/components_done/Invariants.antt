@@ -1,0 +1,11 @@
+use Rattle.std.proofs.Common.{◌≡◌, ◌++◌, length}
+use Rattle.std.specs.List.{filter_map}
+use Rattle.mx_indexed.specs.Work.{component_task, line_task, tasks_done}
+use Rattle.mx_indexed.proofs.work.components_done.Given as goal
+
+-- so far, and what is left, give the whole
+abbrev pub invariant-loop-line : goal.invariant-loop-line
+invariant-loop-line l = l.done.items ++ filter_map (line_task component_task) l.rest ≡ tasks_done component_task l.entry.act
+
+abbrev pub decreases-loop-line : goal.decreases-loop-line
+decreases-loop-line l = length l.rest

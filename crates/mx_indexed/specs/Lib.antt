@@ -1,0 +1,9 @@
+pub mod Clocks
+pub mod Indexed
+pub mod Maps
+pub mod Places
+pub mod Positions
+pub mod Programmes
+pub mod Reading
+pub mod Registers
+pub mod Work

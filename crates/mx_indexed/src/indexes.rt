@@ -1,0 +1,110 @@
+//! All maps of a book, and what one entry changes of them.
+ghost use Rattle.std.specs.Prelude.{◌≡◌, ◌+◌, [], ◌∷◌, ◌++◌, List, length, true, IfOk};
+ghost use Rattle.std.specs.Bool.{OnTrue};
+ghost use Rattle.mx_command.specs.Act.{Entry};
+ghost use Rattle.mx_command.specs.Shape.{has_shape};
+ghost use Rattle.mx_book.specs.Book.{IsBook};
+ghost use Rattle.mx_book.specs.Judge.{judge};
+ghost use Rattle.mx_indexed.specs.Indexed.{AreChanges, AreIndexes, HaveRoom};
+
+use crate::clocks::{ClockChanges, Clocks};
+use crate::maps::{make_room, make_room_for_all, put, put_all};
+use crate::places::{PlaceChanges, Places};
+use crate::positions::parts_given;
+use crate::programmes::programme_changed;
+use crate::registers::{RegisterChanges, Registers, registers_changed};
+use crate::work::{Work, WorkChanges, work_changed};
+use mx_base::{Kind, Part, Position, Tail};
+use mx_book::Verdict;
+use mx_command::Command;
+use std::alloc::{AllocError, Global};
+use std::collections::BTreeMap;
+
+/// The maps of a book, by subject.
+#[derive(Drop)]
+pub(crate) struct Indexes {
+    pub(crate) registers: Registers,
+    pub(crate) places: Places,
+    pub(crate) clocks: Clocks,
+    pub(crate) parts: BTreeMap<(Tail, Position), Option<Part>>,
+    pub(crate) programmes: BTreeMap<Kind, Option<u32>>,
+    pub(crate) work: Work,
+}
+
+/// What one entry changes of them.
+#[derive(Drop)]
+pub(crate) struct Changes {
+    pub(crate) registers: RegisterChanges,
+    pub(crate) places: PlaceChanges,
+    pub(crate) clocks: ClockChanges,
+    pub(crate) parts: Vec<((Tail, Position), Option<Part>)>,
+    pub(crate) programme: Option<(Kind, Option<u32>)>,
+    pub(crate) work: WorkChanges,
+}
+
+impl Indexes {
+    /// Those of the empty book, which take no memory.
+    pub(crate) fn new(alloc: Global) -> Indexes
+        ensures { AreIndexes [] result }
+    {
+        Indexes {
+            registers: Registers::new(alloc),
+            places: Places::new(alloc),
+            clocks: Clocks::new(alloc),
+            parts: BTreeMap::new(alloc),
+            programmes: BTreeMap::new(alloc),
+            work: Work::new(alloc),
+        }
+    }
+
+    /// What an entry changes that has this number. An error where memory runs out.
+    pub(crate) fn changes(
+        &self,
+        alloc: Global,
+        entry: &Command,
+        seq: u32,
+    ) -> Result<Changes, AllocError>
+        ensures { (book : List Entry) → AreIndexes book self.now → seq ≡ length book + 1
+            → IfOk result (λ changes. AreChanges book entry.now changes) }
+    {
+        let parts = parts_given(alloc, entry)?;
+        let work = work_changed(alloc, entry)?;
+        Ok(Changes {
+            registers: registers_changed(entry, seq),
+            places: self.places.changes(entry),
+            clocks: self.clocks.changes(&self.places, entry),
+            parts,
+            programme: programme_changed(entry, seq),
+            work,
+        })
+    }
+
+    /// Makes room for what an entry changes. Whether there was memory for it; in either case the maps say what they said.
+    pub(crate) fn make_room(&mut self, changes: &Changes) -> bool
+        ensures same { (book : List Entry) → AreIndexes book self.old → AreIndexes book self.new }
+        ensures room { OnTrue result (HaveRoom changes.now self.new) }
+    {
+        let registers = self.registers.make_room(&changes.registers);
+        let places = self.places.make_room(&changes.places);
+        let clocks = self.clocks.make_room(&changes.clocks);
+        let parts = make_room_for_all(&mut self.parts, &changes.parts, None);
+        let programmes = make_room(&mut self.programmes, &changes.programme, None);
+        let work = self.work.make_room(&changes.work);
+        registers & places & clocks & parts & programmes & work
+    }
+
+    /// Enters what an entry changes, for which there is room.
+    pub(crate) fn put(&mut self, changes: &Changes)
+        requires { HaveRoom changes.now self.old }
+        ensures { (book : List Entry) (entry : Entry) → IsBook book → has_shape entry ≡ true
+            → judge book entry ≡ Verdict.New → AreChanges book entry changes.now
+            → AreIndexes book self.old → AreIndexes (book ++ entry ∷ []) self.new }
+    {
+        self.registers.put(&changes.registers);
+        self.places.put(&changes.places);
+        self.clocks.put(&changes.clocks);
+        put_all(&mut self.parts, &changes.parts);
+        put(&mut self.programmes, &changes.programme);
+        self.work.put(&changes.work);
+    }
+}
