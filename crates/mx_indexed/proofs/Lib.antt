@@ -1,4 +1,5 @@
 pub mod ClockLemmas
+pub mod LifeLemmas
 pub mod MapLemmas
 pub mod PlaceLemmas
 pub mod PlainLemmas

@@ -35,7 +35,7 @@ unended : (act : Act) → ((s : Span) → ended_by act s ≡ s) → (p : Span �
 unended act h p [] = refl
 unended act h p (x ∷ xs) = ap (λ (s : Span). cond (p s) (Some s) (find p (map (ended_by act) xs))) (h x) ∙ ap (λ o. cond (p x) (Some x) o) (unended act h p xs)
 
-just_fitted : (book : List Entry) (doc : List ℕ) (f : Fitting) → judge book (record { doc = doc; act = Fitted f }) ≡ New → place_of (book ++ record { doc = doc; act = Fitted f } ∷ []) f.serial ≡ Some (f.tail, f.position)
+pub just_fitted : (book : List Entry) (doc : List ℕ) (f : Fitting) → judge book (record { doc = doc; act = Fitted f }) ≡ New → place_of (book ++ record { doc = doc; act = Fitted f } ∷ []) f.serial ≡ Some (f.tail, f.position)
 just_fitted book doc f new =
     let open_of : Span → Bool = λ s. same_text s.serial f.serial && is_none s.to in
     let none : fitted book f.serial ≡ None = none_of (fitted book f.serial) (new-fitting book (record { doc = doc; act = Fitted f }) f new refl).1 in
@@ -149,7 +149,7 @@ module _ (tail position : List ℕ) where
       at true false true e f g = let both = h.0 g in absurd (cc)
       at false b true e f g = let both = h.0 g in let shut : same_text x.serial r.serial && is_none x.to ≡ false = ap (λ c. same_text x.serial r.serial && c) e ∙ and_false (same_text x.serial r.serial) in absurd (cc)
 
-found_passes : {X : Type 0} (p : X → Bool) (xs : List X) (x : X) → find p xs ≡ Some x → p x ≡ true
+pub found_passes : {X : Type 0} (p : X → Bool) (xs : List X) (x : X) → find p xs ≡ Some x → p x ≡ true
 found_passes p [] x h = absurd (cc)
 found_passes p (y ∷ xs) x h = at (p y) refl (found_passes p xs x) h
   where
@@ -157,7 +157,7 @@ found_passes p (y ∷ xs) x h = at (p y) refl (found_passes p xs x) h
     at true e rest g = let same : y ≡ x = cc in ap p (sym same) ∙ e
     at false e rest g = rest g
 
-all_found : {X : Type 0} (P : X → Type 0) (p : X → Bool) (xs : List X) (x : X) → AllByRecursion P xs → find p xs ≡ Some x → P x
+pub all_found : {X : Type 0} (P : X → Type 0) (p : X → Bool) (xs : List X) (x : X) → AllByRecursion P xs → find p xs ≡ Some x → P x
 all_found P p [] x all h = absurd (cc)
 all_found P p (y ∷ xs) x all h = at (p y) (all_found P p xs x all.1) h
   where

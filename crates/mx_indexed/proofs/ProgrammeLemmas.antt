@@ -1,5 +1,5 @@
 -- Which entry loaded the programme in force.
-use Rattle.std.proofs.Common.{arith, refl, sym, ap, ◌∙◌, ◌≡◌, ℕ, ◌+◌, length, suc, List, [], ◌∷◌, ◌++◌, append_assoc, Bool, true, false, cond, ◌&&◌, ◌||◌, Option, Some, None, slice_get}
+use Rattle.std.proofs.Common.{arith, refl, sym, ap, ◌∙◌, ◌≡◌, ℕ, ◌+◌, length, suc, List, [], ◌∷◌, ◌++◌, append_assoc, Bool, true, false, cond, Option, Some, None, slice_get}
 use Rattle.std.specs.Prelude.{fold}
 use Rattle.std.specs.List.{cons_option, filter_map, list_any}
 use Rattle.std.specs.Option.{option_and_then, option_map, option_map_or}
@@ -13,12 +13,11 @@ use Rattle.mx_command.specs.declared.item.Item.{Item}
 use Rattle.mx_command.specs.declared.programme.Task.{Task}
 use Rattle.mx_book.specs.Book.{entry_at}
 use Rattle.mx_book.specs.Life.{life_now}
-use Rattle.mx_book.specs.Programme.{applies_to, is_at_end, is_ended_by, last_of, life_ended, next_revision, revision_in_force, revision_loaded, tasks_in_force, tasks_loaded}
+use Rattle.mx_book.specs.Programme.{is_at_end, is_ended_by, last_of, life_ended, next_revision, revision_in_force, revision_loaded, tasks_in_force, tasks_loaded}
 use Rattle.mx_book.specs.Register.{register}
 use Rattle.mx_register.specs.Names.{adds_named}
 use Rattle.mx_indexed.specs.Maps.{changed}
-use Rattle.mx_indexed.specs.Programmes.{kind_loaded, last_loaded, last_loaded_from, may_retire, programme_changed, programme_entry}
-use Rattle.mx_kept_rows.proofs.DoneLemmas.{neither}
+use Rattle.mx_indexed.specs.Programmes.{kind_loaded, last_loaded, last_loaded_from, programme_changed, programme_entry}
 use Rattle.mx_indexed.proofs.MapLemmas.{tie}
 
 -- ── one more entry ──
@@ -123,24 +122,6 @@ next_by book kind found h =
     ap (λ (o : Option ℕ). option_map_or (λ n. n + 1) o 1) (ap (option_and_then (λ (e : Entry). revision_loaded kind e.act)) h ∙ sym (revision_there book kind))
 
 -- ── what retires an item ──
-
-never_both : (a b c : Bool) → a && b ≡ false → a && (b && c) ≡ false
-never_both true true c h = absurd (cc)
-never_both true false c h = refl
-never_both false b c h = refl
-
-none_ends : (book : List Entry) (item : Item) (life : Use) (day : ℕ) (tasks : List Task) → list_any (may_retire book item) tasks ≡ false → list_any (is_at_end book item life day) tasks ≡ false
-none_ends book item life day [] h = refl
-none_ends book item life day (t ∷ tasks) h =
-    let both = neither (may_retire book item t) (list_any (may_retire book item) tasks) h in
-    ap (λ b. b || list_any (is_at_end book item life day) tasks) (never_both t.retire (applies_to book item t) _ both.0)
-    ∙ none_ends book item life day tasks both.1
-
--- where no task retires the item at all, none does with its life
-pub not_retired : (book : List Entry) (item : Item) (day : ℕ) (tasks : List Task) (life : Option Use) → list_any (may_retire book item) tasks ≡ false
-    → false ≡ option_map_or (λ life. list_any (is_at_end book item life day) tasks) life false
-not_retired book item day tasks None h = refl
-not_retired book item day tasks (Some life) h = sym (none_ends book item life day tasks h)
 
 without_tasks : (book : List Entry) (kind : List ℕ) (item : Item) (day : ℕ) (life : Option Use) → tasks_in_force book kind ≡ None → option_map_or (is_ended_by book kind item day) life false ≡ false
 without_tasks book kind item day None h = refl

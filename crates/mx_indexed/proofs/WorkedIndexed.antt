@@ -9,11 +9,12 @@ use Rattle.mx_command.specs.declared.item.Item.TheVariants.{Airframe, Component}
 use Rattle.mx_command.specs.declared.release.Line.{Line}
 use Rattle.mx_command.specs.declared.release.Line.TheVariants.{Done, Rectified}
 use Rattle.mx_command.specs.declared.release.Place.TheVariants as places
-use Rattle.mx_book.proofs.Worked.{abcd, at, logged}
+use Rattle.mx_book.proofs.Worked.{abcd, at, logged, used}
 use Rattle.mx_book.proofs.WorkedDefects.{x1}
 use Rattle.mx_book.proofs.WorkedFittings.{e1, e2, engine, first_aircraft, propeller, remove, replaced}
 use Rattle.mx_book.proofs.WorkedProgrammes.{annual, c172, first_four, load, second_revision}
 use Rattle.mx_indexed.specs.Clocks.{airframe_clock, clocks_changed, raised}
+use Rattle.mx_indexed.specs.Lives.{lead, lead_over}
 use Rattle.mx_indexed.specs.Maps.{changed, changed_all}
 use Rattle.mx_indexed.specs.Places.{has_component, place_of, places_changed}
 use Rattle.mx_indexed.specs.Positions.{part_of, parts_given}
@@ -61,6 +62,10 @@ clocks_then = refl
 -- no moment before a clock sets it back
 not_set_back : map (λ minutes. raised (airframe_clock replaced) (Some (abcd, at 19783 9 minutes))) (29 ∷ 30 ∷ 31 ∷ []) ≡ Some (abcd, at 19783 9 30) ∷ Some (abcd, at 19783 9 30) ∷ Some (abcd, at 19783 9 31) ∷ []
 not_set_back = refl
+
+-- E1 is fitted nowhere and has flown its 90 minutes; E2 has its 1,000 minutes, and flies with an airframe of 60,090
+leads : map (lead replaced) (e1 ∷ e2 ∷ []) ≡ Some (lead_over (used 0 0) (used 1090 101)) ∷ Some (lead_over (used 60090 801) (used 1000 100)) ∷ []
+leads = refl
 
 -- ── a programme that is revised: the second entry has the first, the fifth the second ──
 

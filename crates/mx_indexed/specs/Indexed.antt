@@ -4,6 +4,7 @@ use Rattle.std.specs.Ordering.{nat_cmp}
 use Rattle.std.specs.Cmp.Lexicographic.{slice_cmp}
 use Rattle.mx_command.specs.Act.{Entry}
 use Rattle.mx_indexed.specs.Clocks.{AreClocks, ClocksHaveRoom, clocks_changed}
+use Rattle.mx_indexed.specs.Lives.{AreLives, LivesHaveRoom, lives_changed}
 use Rattle.mx_indexed.specs.Maps.{HasRoom, HasRoomForAll}
 use Rattle.mx_indexed.specs.Places.{ArePlaces, PlacesHaveRoom, names_cmp, places_changed}
 use Rattle.mx_indexed.specs.Positions.{ArePositions, parts_given}
@@ -21,6 +22,7 @@ pub record AreChanges (book : List Entry) (entry : Entry) (changes : Changes) : 
   pub parts_are : changes.parts.items ≡ parts_given entry.act
   pub programme_is : changes.programme ≡ programme_changed book entry
   pub work_is : IsWorkChanged entry changes.work
+  pub lives_are : changes.lives ≡ lives_changed book entry
 
 -- the maps have what the book answers
 pub record AreIndexes (book : List Entry) (indexes : Indexes) : Type 0 where
@@ -30,6 +32,7 @@ pub record AreIndexes (book : List Entry) (indexes : Indexes) : Type 0 where
   pub parts_are : ArePositions book indexes.parts
   pub programmes_are : AreProgrammes book indexes.programmes
   pub work_is : IsWork book indexes.work
+  pub lives_are : AreLives book indexes.lives
 
 -- the maps have room for what an entry changes
 pub record HaveRoom (changes : Changes) (indexes : Indexes) : Type 0 where
@@ -39,3 +42,4 @@ pub record HaveRoom (changes : Changes) (indexes : Indexes) : Type 0 where
   pub for_parts : HasRoomForAll names_cmp changes.parts.items indexes.parts
   pub for_programme : HasRoom (slice_cmp nat_cmp) changes.programme indexes.programmes
   pub for_work : WorkHasRoom changes.work indexes.work
+  pub for_lives : LivesHaveRoom changes.lives indexes.lives

@@ -1,5 +1,6 @@
 pub mod Clocks
 pub mod Indexed
+pub mod Lives
 pub mod Maps
 pub mod Places
 pub mod Positions

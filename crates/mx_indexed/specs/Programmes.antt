@@ -1,14 +1,11 @@
 -- Which entry loaded the programme in force of each kind, in a map.
-use Rattle.std.specs.Prelude.{ℕ, ◌+◌, ◌&&◌, Bool, length, List, [], ◌∷◌, Option, Some, None, if◌then◌else◌}
+use Rattle.std.specs.Prelude.{ℕ, ◌+◌, length, List, [], ◌∷◌, Option, Some, None, if◌then◌else◌}
 use Rattle.std.specs.Option.{option_and_then, option_map}
 use Rattle.std.specs.BTreeMap.{BTreeMap}
 use Rattle.std.specs.Ordering.{nat_cmp}
 use Rattle.std.specs.Cmp.Lexicographic.{slice_cmp}
 use Rattle.mx_command.specs.Act.{Entry, programme_of}
-use Rattle.mx_command.specs.declared.item.Item.{Item}
-use Rattle.mx_command.specs.declared.programme.Task.{Task}
 use Rattle.mx_book.specs.Book.{entry_at}
-use Rattle.mx_book.specs.Programme.{applies_to}
 use Rattle.mx_register.specs.Names.{adds_named}
 use Rattle.mx_indexed.specs.Maps.{IsIndex}
 
@@ -36,7 +33,3 @@ programme_changed book entry = option_map (λ kind. (kind, Some (length book + 1
 -- the map has the number of the entry that loaded the programme in force of each kind
 abbrev pub AreProgrammes : List Entry → BTreeMap (List ℕ) (Option ℕ) → Type 0
 AreProgrammes book programmes = IsIndex (slice_cmp nat_cmp) None (last_loaded book) programmes
-
--- the task retires the item at the end of its life
-abbrev pub may_retire : List Entry → Item → Task → Bool
-may_retire book item t = t.retire && applies_to book item t

@@ -14,8 +14,8 @@ ghost use Rattle.mx_indexed.specs.Programmes.{programme_entry};
 
 use crate::indexes::Indexes;
 use crate::maps::held;
-use crate::programmes::{one_may_retire, one_retires, revision_after, task_named, tasks_loaded};
-use mx_base::{Day, Doc, Kind, Moment, Part, Position, Serial, Tail, TaskId};
+use crate::programmes::{one_retires, revision_after, task_named, tasks_loaded};
+use mx_base::{Day, Doc, Kind, Moment, Part, Position, Serial, Tail, TaskId, Use};
 use mx_book::found::Found;
 use mx_book::{Book, Defect, NoMemory, Verdict};
 use mx_command::{Aircraft, Command, Component, Extension, Item, Task};
@@ -207,8 +207,15 @@ impl IndexedBook {
         }
     }
 
-    // Whether one of these tasks, each of its shape, retires an item by a day: the entries are read for its life where one
-    // of them retires it at all.
+    /// The life of an item with all of its sectors, or `None` where the item is unknown.
+    pub fn life_now(&self, item: &Item) -> Option<Use>
+        ensures { result ≡ life_now self.now item.now }
+    {
+        let _ = self.book.len();
+        self.indexes.lives.of_item(&self.indexes.places, item)
+    }
+
+    // Whether one of these tasks, each of its shape, retires an item by a day.
     fn is_retired_by(&self, tasks: &[Task], item: &Item, day: Day) -> bool
         requires { list_all task_shape tasks.now ≡ true }
         ensures { result ≡ option_map_or
@@ -216,17 +223,13 @@ impl IndexedBook {
             (life_now self.now item.now) false }
     {
         let found = self.found_of(item);
-        if !one_may_retire(&found, tasks) {
-            return false;
-        }
-        match self.book.life_now(item) {
+        match self.life_now(item) {
             Some(life) => one_retires(&found, &life, day, tasks),
             None => false,
         }
     }
 
-    /// Whether a task in force of a kind retires an item by a day, with the life that it has now: the entries are read for
-    /// that, where a task in force retires the item at all.
+    /// Whether a task in force of a kind retires an item by a day, with the life that it has now.
     pub fn is_retired(&self, kind: &Kind, item: &Item, day: Day) -> bool
         ensures { result ≡ life_ended self.now kind.now item.now day }
     {

@@ -8,6 +8,7 @@ ghost use Rattle.mx_book.specs.Judge.{judge};
 ghost use Rattle.mx_indexed.specs.Indexed.{AreChanges, AreIndexes, HaveRoom};
 
 use crate::clocks::{ClockChanges, Clocks};
+use crate::lives::{LifeChanges, Lives};
 use crate::maps::{make_room, make_room_for_all, put, put_all};
 use crate::places::{PlaceChanges, Places};
 use crate::positions::parts_given;
@@ -29,6 +30,7 @@ pub(crate) struct Indexes {
     pub(crate) parts: BTreeMap<(Tail, Position), Option<Part>>,
     pub(crate) programmes: BTreeMap<Kind, Option<u32>>,
     pub(crate) work: Work,
+    pub(crate) lives: Lives,
 }
 
 /// What one entry changes of them.
@@ -40,6 +42,7 @@ pub(crate) struct Changes {
     pub(crate) parts: Vec<((Tail, Position), Option<Part>)>,
     pub(crate) programme: Option<(Kind, Option<u32>)>,
     pub(crate) work: WorkChanges,
+    pub(crate) lives: LifeChanges,
 }
 
 impl Indexes {
@@ -54,6 +57,7 @@ impl Indexes {
             parts: BTreeMap::new(alloc),
             programmes: BTreeMap::new(alloc),
             work: Work::new(alloc),
+            lives: Lives::new(alloc),
         }
     }
 
@@ -64,7 +68,8 @@ impl Indexes {
         entry: &Command,
         seq: u32,
     ) -> Result<Changes, AllocError>
-        ensures { (book : List Entry) → AreIndexes book self.now → seq ≡ length book + 1
+        ensures { (book : List Entry) → IsBook book → AreIndexes book self.now
+            → seq ≡ length book + 1
             → IfOk result (λ changes. AreChanges book entry.now changes) }
     {
         let parts = parts_given(alloc, entry)?;
@@ -76,6 +81,7 @@ impl Indexes {
             parts,
             programme: programme_changed(entry, seq),
             work,
+            lives: self.lives.changes(&self.places, entry),
         })
     }
 
@@ -90,7 +96,8 @@ impl Indexes {
         let parts = make_room_for_all(&mut self.parts, &changes.parts, None);
         let programmes = make_room(&mut self.programmes, &changes.programme, None);
         let work = self.work.make_room(&changes.work);
-        registers & places & clocks & parts & programmes & work
+        let lives = self.lives.make_room(&changes.lives);
+        registers & places & clocks & parts & programmes & work & lives
     }
 
     /// Enters what an entry changes, for which there is room.
@@ -106,5 +113,6 @@ impl Indexes {
         put_all(&mut self.parts, &changes.parts);
         put(&mut self.programmes, &changes.programme);
         self.work.put(&changes.work);
+        self.lives.put(&changes.lives);
     }
 }

@@ -8,17 +8,18 @@
 //! | `is_taken`, `tail_fitted` | whether each position is taken, and where each component is fitted |
 //! | `clock`, `earliest_takeoff` | the clock of each airframe, and of each component |
 //! | `next_revision`, `task` | the number of the entry that loaded the programme in force of each kind |
+//! | `is_retired` | that number, the life of each airframe, and how far that of each component is ahead of it |
 //! | `is_accomplished` | the tasks that were done on each airframe, and on each component |
 //! | `is_rectified` | the defects that were |
 //!
-//! Two questions read the entries still: whether there is room for one more aircraft or component, which is asked where one
-//! is added; and for the life of a component that is to be fitted, where a task in force retires it. No other command does.
+//! Whether there is room for one more aircraft or component reads the entries still, where one is added; nothing else does.
 #![tactic(auto)]
 
 mod clocks;
 pub mod indexed;
 pub mod indexed_book;
 mod indexes;
+mod lives;
 mod maps;
 mod places;
 mod positions;

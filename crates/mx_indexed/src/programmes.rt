@@ -8,7 +8,7 @@ ghost use Rattle.mx_command.specs.Same.{same_text};
 ghost use Rattle.mx_command.specs.declared.item.Item.{Item};
 ghost use Rattle.mx_book.specs.Programme.{is_at_end, revision_loaded, tasks_loaded};
 ghost use Rattle.mx_book.specs.Register.{found_of};
-ghost use Rattle.mx_indexed.specs.Programmes.{may_retire, programme_changed};
+ghost use Rattle.mx_indexed.specs.Programmes.{programme_changed};
 
 use mx_base::{Day, Kind, TaskId, Use};
 use mx_book::found::{Found, birth_of, is_task_of};
@@ -89,29 +89,6 @@ pub(crate) fn one_retires(found: &Found, life: &Use, day: Day, tasks: &[Task]) -
     let mut rest = tasks;
     while let Some((task, later)) = rest.split_first() {
         if retires(found, life, day, task) {
-            return true;
-        }
-        rest = later;
-    }
-    false
-}
-
-// Whether a task retires the item at all, by what the registers have of it.
-fn may_retire(found: &Found, task: &Task) -> bool
-    ensures { (book : List Entry) (item : Item) → found.now ≡ found_of book item
-        → result ≡ may_retire book item task.now }
-{
-    task.retire && is_task_of(found, task)
-}
-
-/// Whether one of these tasks retires the item at all, by what the registers have of it.
-pub(crate) fn one_may_retire(found: &Found, tasks: &[Task]) -> bool
-    ensures { (book : List Entry) (item : Item) → found.now ≡ found_of book item
-        → result ≡ list_any (may_retire book item) tasks.now }
-{
-    let mut rest = tasks;
-    while let Some((task, later)) = rest.split_first() {
-        if may_retire(found, task) {
             return true;
         }
         rest = later;

@@ -84,7 +84,8 @@ impl Registers {
 
     /// Makes room for what an entry changes. Whether there was memory for it; in either case the maps say what they said.
     pub(crate) fn make_room(&mut self, changes: &RegisterChanges) -> bool
-        ensures same { (book : List Entry) → AreRegisters book self.old → AreRegisters book self.new }
+        ensures same { (book : List Entry) → AreRegisters book self.old
+            → AreRegisters book self.new }
         ensures room { OnTrue result (RegistersHaveRoom changes.now self.new) }
     {
         let documents = make_room(&mut self.documents, &changes.document, None);
@@ -99,8 +100,8 @@ impl Registers {
     pub(crate) fn put(&mut self, changes: &RegisterChanges)
         requires { RegistersHaveRoom changes.now self.old }
         ensures { (book : List Entry) (entry : Entry) → IsBook book → has_shape entry ≡ true
-            → judge book entry ≡ Verdict.New → changes.now ≡ registers_changed book entry → AreRegisters book self.old
-            → AreRegisters (book ++ entry ∷ []) self.new }
+            → judge book entry ≡ Verdict.New → changes.now ≡ registers_changed book entry
+            → AreRegisters book self.old → AreRegisters (book ++ entry ∷ []) self.new }
     {
         put(&mut self.documents, &changes.document);
         put(&mut self.aircraft, &changes.aircraft);

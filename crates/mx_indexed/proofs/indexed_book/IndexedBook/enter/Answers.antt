@@ -11,7 +11,7 @@ pub invariant_of-self-in-Ok-enter : goal.invariant_of-self-in-Ok-enter
 invariant_of-self-in-Ok-enter c =
     let book = c.self.inside.book in
     let command = c.args.command in
-    let changed = c.in-Ok.ensures book c.self.invariant (ap (λ n. n + 1) c.len.ensures.len) in
+    let changed = c.in-Ok.ensures book c.len.ensures.book c.self.invariant (ap (λ n. n + 1) c.len.ensures.len) in
     let is_new = ap (λ b. judge b command) c.self.view_is ∙ c.requires in
     subst (λ (b : List Entry). AreIndexes b c.put.new.self) (sym c.in-Ok-enter.ensures.entered)
     (c.put.ensures book command c.len.ensures.book c.doc.ensures.shape is_new changed (c.make_room.ensures.same book c.self.invariant))
