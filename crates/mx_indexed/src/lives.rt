@@ -158,7 +158,8 @@ impl Lives {
     fn flown(&self, sector: &Sector) -> Option<Use>
         requires { sector_shape sector.now ≡ true }
         ensures { (book : List Entry) → IsBook book → AreLives book self.now
-            → result ≡ option_map (use_after (sector.now ∷ [])) (airframe_life book sector.now.tail) }
+            → result
+            ≡ option_map (use_after (sector.now ∷ [])) (airframe_life book sector.now.tail) }
     {
         match self.of_airframe(&sector.tail) {
             Some(life) => Some(with_sector(&life, sector)),
