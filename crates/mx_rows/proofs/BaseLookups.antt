@@ -33,6 +33,7 @@ use Rattle.mx_stands.specs.Stands.{HasRowsAt}
 use Rattle.mx_stands.proofs.FamilyLemmas.{facts}
 use Rattle.mx_stands.proofs.RowLemmas.{rows_once}
 use Rattle.mx_rows.specs.AnyRows.{Gives, ReadsAny}
+use Rattle.mx_rows.specs.Given.{is_of}
 use Rattle.mx_rows.specs.Reads.{Reads, rows_point}
 use Rattle.mx_rows.proofs.AnyLemmas.{empty_is, given_in}
 use Rattle.mx_rows.proofs.ChosenLemmas.{no_other}
@@ -83,9 +84,6 @@ bases_given : (trees : Trees) (book : List Entry) → HasRowsAt rows_point trees
 bases_given trees book has = subst (λ xs. IsPermutation (map kept_base2.as_cells xs) (rows_in (table_named kept_base2.name) trees)) (bases_whole book) (has.tables table.Base2 refl)
 
 -- ── the look-up ──
-
-abbrev pub is_of : ℕ → List ℕ → Row → Bool
-is_of n id cells = has_value 0 (Int (pos n)) cells && has_value 1 (Text id) cells
 
 of_is : (n : ℕ) (id : List ℕ) (row : BaseRow) → is_of n id (kept_base2.as_cells row) ≡ is_keyed n id row
 of_is n id row = ap₂ ◌&&◌ (number_is row.item n) (text_is row.task id)

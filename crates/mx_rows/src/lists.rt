@@ -14,7 +14,7 @@ ghost use Rattle.mx_found.specs.Defects.{is_rectified_at, open_said};
 ghost use Rattle.mx_found.specs.Names.{doc_at};
 ghost use Rattle.mx_found.specs.Spans.{is_open_at, place_said};
 ghost use Rattle.mx_rows.specs.AnyRows.{ReadsAny};
-ghost use Rattle.mx_rows.specs.Given.{DocIfOpen, DocOfNumber, SerialOfNumber};
+ghost use Rattle.mx_rows.specs.Given.{DocIfOpen, DocOfNumber, SerialOfNumber, TasksInForce};
 ghost use Rattle.mx_rows.specs.Reads.{Reads};
 
 use crate::items::aircraft_number;
@@ -44,6 +44,8 @@ pub fn tasks<S: Alter>(
 ) -> Result<Vec<Task>, TableFault>
     ensures same_reference { tx.new.conn.ghost_name ≡ tx.old.conn.ghost_name }
     ensures reads { Reads (λ book tasks. tasks.items ≡ tasks_or_none book kind.now)
+        (state S.Store tx.old.conn.now) (state S.Store tx.new.conn.now) result }
+    ensures any_rows { ReadsAny (λ trees tasks. TasksInForce kind.now trees tasks.items)
         (state S.Store tx.old.conn.now) (state S.Store tx.new.conn.now) result }
     ensures shape { IfOk result (λ tasks. list_all task_shape tasks.items ≡ true) }
 {

@@ -10,6 +10,8 @@ ghost use Rattle.mx_book.specs.Register.{found_of};
 ghost use Rattle.mx_register.specs.Merge.{task_said};
 ghost use Rattle.mx_typed_rows.specs.declared.rows.TaskRow.{TaskRow};
 ghost use Rattle.mx_rows.specs.InForce.{born_as, rows_in_force};
+ghost use Rattle.mx_rows.specs.AnyRows.{ReadsAny};
+ghost use Rattle.mx_rows.specs.Given.{NextRevision, RowsInForce, TaskOf};
 ghost use Rattle.mx_rows.specs.Reads.{Reads};
 
 use crate::items::{aircraft, component};
@@ -35,6 +37,8 @@ pub fn next_revision<S: Alter>(
     ensures same_reference { tx.new.conn.ghost_name ≡ tx.old.conn.ghost_name }
     ensures reads { Reads (λ book revision. revision ≡ next_revision book kind.now)
         (state S.Store tx.old.conn.now) (state S.Store tx.new.conn.now) result }
+    ensures any_rows { ReadsAny (NextRevision kind.now)
+        (state S.Store tx.old.conn.now) (state S.Store tx.new.conn.now) result }
 {
     let rows = programme_by_kind(alloc, tx, kind)?;
     match revision_after(&rows) {
@@ -53,6 +57,9 @@ pub(crate) fn rows_in_force<S: Alter>(
     ensures same_reference { tx.new.conn.ghost_name ≡ tx.old.conn.ghost_name }
     ensures reads { Reads (λ book found. option_map (λ rows. rows.items) found
         ≡ rows_in_force kind.now book)
+        (state S.Store tx.old.conn.now) (state S.Store tx.new.conn.now) result }
+    ensures any_rows { ReadsAny (λ trees found.
+        RowsInForce kind.now trees (option_map (λ rows. rows.items) found))
         (state S.Store tx.old.conn.now) (state S.Store tx.new.conn.now) result }
     ensures shape { IfOk result (λ found. IfSome found (λ rows.
         list_all (λ (row : TaskRow). task_shape (task_said row)) rows.items ≡ true)) }
@@ -81,6 +88,8 @@ pub fn task<S: Alter>(
 ) -> Result<Option<Option<Task>>, TableFault>
     ensures same_reference { tx.new.conn.ghost_name ≡ tx.old.conn.ghost_name }
     ensures reads { Reads (λ book found. found ≡ task_of book kind.now id.now)
+        (state S.Store tx.old.conn.now) (state S.Store tx.new.conn.now) result }
+    ensures any_rows { ReadsAny (TaskOf kind.now id.now)
         (state S.Store tx.old.conn.now) (state S.Store tx.new.conn.now) result }
     ensures shape { IfOk result
         (λ found. IfSome found (λ task. IfSome task (λ t. task_shape t ≡ true))) }

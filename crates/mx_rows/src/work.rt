@@ -4,6 +4,8 @@ ghost use Rattle.sqlite.specs.Held.{state};
 ghost use Rattle.mx_due.specs.Due.{IsBase};
 ghost use Rattle.mx_book.specs.Base.{base};
 ghost use Rattle.mx_book.specs.Programme.{is_accomplished};
+ghost use Rattle.mx_rows.specs.AnyRows.{ReadsAny};
+ghost use Rattle.mx_rows.specs.Given.{IsAccomplished, BaseOf};
 ghost use Rattle.mx_rows.specs.Reads.{Reads};
 
 use crate::items::item_number;
@@ -24,6 +26,8 @@ pub fn is_accomplished<S: Alter>(
 ) -> Result<bool, TableFault>
     ensures same_reference { tx.new.conn.ghost_name ≡ tx.old.conn.ghost_name }
     ensures reads { Reads (λ book done. done ≡ is_accomplished book item.now id.now)
+        (state S.Store tx.old.conn.now) (state S.Store tx.new.conn.now) result }
+    ensures any_rows { ReadsAny (IsAccomplished item.now id.now)
         (state S.Store tx.old.conn.now) (state S.Store tx.new.conn.now) result }
 {
     let found = item_number(alloc, tx, item)?;
@@ -46,6 +50,8 @@ pub fn base<S: Alter>(
 ) -> Result<Option<Base>, TableFault>
     ensures same_reference { tx.new.conn.ghost_name ≡ tx.old.conn.ghost_name }
     ensures reads { Reads (λ book found. found ≡ base book item.now id.now)
+        (state S.Store tx.old.conn.now) (state S.Store tx.new.conn.now) result }
+    ensures any_rows { ReadsAny (BaseOf item.now id.now)
         (state S.Store tx.old.conn.now) (state S.Store tx.new.conn.now) result }
     ensures bounded { IfOk result (λ base. IfSome base IsBase) }
 {

@@ -1,11 +1,12 @@
-use Rattle.std.proofs.Common.{◌∙◌, ap, ap₂, refl, sym}
-use Rattle.std.specs.Prelude.{is_some}
+use Rattle.std.proofs.Common.{◌≡◌, ℕ, Option, Some, ◌∙◌, ap, ap₂, arith, refl, subst, sym}
+use Rattle.std.specs.Prelude.{IsSomeAnd, is_some}
 use Rattle.mx_layout.specs.declared.fault.Table.TheVariants as table
+use Rattle.mx_kept.specs.Cells.{kept_defect}
 use Rattle.mx_found.specs.Defects.{deferral_aircraft, defect_in}
 use Rattle.mx_found.proofs.DeferralLemmas.{defect_there, no_defect}
 use Rattle.mx_found.specs.Names.{tail_in}
 use Rattle.mx_rows.specs.Given.{DefectNumber}
-use Rattle.mx_rows.proofs.AnyLemmas.{any_later, found_some, gives}
+use Rattle.mx_rows.proofs.AnyLemmas.{any_later, by_none, by_number, found_some, gives}
 use Rattle.mx_rows.proofs.DamageLemmas.{aircraft_unmet, deferral_unmet}
 use Rattle.mx_rows.proofs.TableLemmas.{aircraft as aircraft_table, deferrals}
 use Rattle.mx_rows.proofs.DefectLemmas.{deferral_there, defect_said}
@@ -71,3 +72,22 @@ returns-in-Some-clause-reads g c =
 
 pub returns-clause-reads : goal.returns-clause-reads
 returns-clause-reads g c = told _ _ _ _ _ _ (λ book b found. sym (no_defect book c.args.doc.now (sym found ∙ c.in-None.is))) c.in_ok-found.ensures.reads
+
+-- what is so of the number that there is
+by_one : (P : ℕ → Type 0) (o : Option ℕ) (n : ℕ) → o ≡ Some n → P n → IsSomeAnd o P
+by_one P o n is p = subst (λ x. IsSomeAnd x P) (sym is) p
+
+pub returns-in-Some-defect_in-clause-any_rows : goal.returns-in-Some-defect_in-clause-any_rows
+returns-in-Some-defect_in-clause-any_rows g c =
+    let doc = c.args.doc.now in
+    let rows = c.in_ok-rows-in-Some.rows.items in
+    let raw = c.in_ok-rows-in-Some.ensures.reads in
+    let named = c.in_ok-named-in-Some-deferral_aircraft.ensures.reads in
+    let aircraft = sym (c.deferral_aircraft.ensures ∙ ap deferral_aircraft c.deref.ensures.value) ∙ c.in-Some-deferral_aircraft.is in
+    let made = c.defect_in.ensures ∙ ap₂ (defect_in doc) c.deref-in-Some-deferral_aircraft.ensures.value c.deref-in-Some-deferral_aircraft-2.ensures.value in
+    let said = any_later _ _ _ _ _ _ _ (deferrals_of_number c.in-Some.number raw) named.within (gives aircraft_table (defect_in doc rows) (sym c.in-Some-defect_in.is ∙ made) named) in
+    by_number _ _ _ _ _ _ _ _ _ _ c.in-Some.is c.in_ok-found.ensures.reads c.in_ok-found.ensures.any_rows (reads_then _ _ _ _ _ _ _ (deferrals_of_number c.in-Some.number raw) (aircraft_of_number _ named)).within
+    (record { found = λ clean has. (rows, record { are = raw.rows (omega (arith, clean, named.within.survives.clean)) (subst kept_defect.IsIn (sym has) deferrals.is_in); fit = raw.fits }, by_one _ _ _ aircraft (said.found clean has), refl) })
+
+pub returns-clause-any_rows : goal.returns-clause-any_rows
+returns-clause-any_rows g c = by_none _ _ _ _ _ _ c.in-None.is c.in_ok-found.ensures.any_rows

@@ -1,7 +1,7 @@
-use Rattle.std.proofs.Common.{◌≡◌, ◌∙◌, ap, map, subst, sym, None, Vec, true}
+use Rattle.std.proofs.Common.{[], ◌≡◌, ◌∙◌, ap, map, subst, sym, None, Vec, true}
 use Rattle.std.specs.Prelude.{IfSome}
 use Rattle.std.specs.List.{list_all}
-use Rattle.std.specs.Option.{option_map}
+use Rattle.std.specs.Option.{option_map, option_map_or}
 use Rattle.std.specs.declared.alloc.Global.{Global}
 use Rattle.mx_command.specs.Programme.{task_shape}
 use Rattle.mx_register.specs.Merge.{task_said}
@@ -29,3 +29,13 @@ returns-in-None-clause-reads g c =
     told _ _ _ _ _ _
     (λ book b found. c.new.ensures.items ∙ tasks_found book c.args.kind.now None b (sym (ap (option_map (λ (rows : Vec TaskRow Global). rows.items)) c.in-None.is) ∙ found))
     c.in_ok-found.ensures.reads
+
+pub returns-in_ok-tasks_said-in-Some-clause-any_rows : goal.returns-in_ok-tasks_said-in-Some-clause-any_rows
+returns-in_ok-tasks_said-in-Some-clause-any_rows g c =
+    let those = ap (option_map (λ (rows : Vec TaskRow Global). rows.items)) c.in-Some.is in
+    record { found = λ clean has. (_, c.in_ok-found.ensures.any_rows.found clean has, c.in_ok-tasks_said-in-Some.ensures ∙ ap (map task_said) c.deref.ensures.value ∙ sym (ap (λ o. option_map_or (map task_said) o []) those)) }
+
+pub returns-in-None-clause-any_rows : goal.returns-in-None-clause-any_rows
+returns-in-None-clause-any_rows g c =
+    let those = ap (option_map (λ (rows : Vec TaskRow Global). rows.items)) c.in-None.is in
+    record { found = λ clean has. (_, c.in_ok-found.ensures.any_rows.found clean has, c.new.ensures.items ∙ sym (ap (λ o. option_map_or (map task_said) o []) those)) }

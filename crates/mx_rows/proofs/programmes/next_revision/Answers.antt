@@ -25,3 +25,6 @@ returns-clause-reads g c =
     c.in-None.ensures (subst (λ n. n < 2 ^ 32) (sym next) (revision_low kind book b)))
     (λ clean has. revision_past _ _ (subst (λ rows. ¬ (revision_after rows < 2 ^ 32)) c.deref.ensures.value c.in-None.ensures) ((gives programmes (λ rows. rows) refl c.in_ok-rows.ensures.reads).found clean has))
     (programmes_of_kind _ c.in_ok-rows.ensures.reads)
+
+pub returns-in-Some-clause-any_rows : goal.returns-in-Some-clause-any_rows
+returns-in-Some-clause-any_rows g c = gives programmes revision_after (c.in-Some.ensures.1 ∙ ap revision_after c.deref.ensures.value) c.in_ok-rows.ensures.reads

@@ -1,4 +1,4 @@
-use Rattle.std.proofs.Common.{◌≡◌, ◌∙◌, ap, refl, sym, Some, None}
+use Rattle.std.proofs.Common.{◌≡◌, ◌∙◌, arith, ap, refl, sym, Some, None}
 use Rattle.std.specs.List.{list_all}
 use Rattle.std.specs.Option.{option_map}
 use Rattle.mx_command.specs.Programme.{task_shape}
@@ -9,7 +9,7 @@ use Rattle.mx_found.specs.Programmes.{programme_number, programmes_of, tasks_wit
 use Rattle.mx_found.proofs.ProgrammeLemmas.{tasks_shaped}
 use Rattle.mx_rows.proofs.AnyLemmas.{any_later, gives}
 use Rattle.mx_rows.proofs.DamageLemmas.{task_past}
-use Rattle.mx_rows.proofs.TableLemmas.{tasks}
+use Rattle.mx_rows.proofs.TableLemmas.{programmes, tasks}
 use Rattle.mx_rows.proofs.ReadLemmas.{reads_then, refused, stopped, told}
 use Rattle.mx_rows.proofs.BookRows.{programmes_of_kind, tasks_of}
 use Rattle.mx_rows.proofs.programmes.rows_in_force.Goals as goal
@@ -48,3 +48,16 @@ returns-clause-reads g c =
     let none : programme_number (programmes_of c.args.kind.now book) ≡ None = sym (c.programme_number.ensures ∙ ap programme_number (c.deref.ensures.value ∙ found)) ∙ c.in-None.is in
     sym (ap (option_map (λ n. tasks_with n book)) none))
     (programmes_of_kind _ c.in_ok-programmes.ensures.reads)
+
+pub returns-then-have_task_shapes-clause-any_rows : goal.returns-then-have_task_shapes-clause-any_rows
+returns-then-have_task_shapes-clause-any_rows g c =
+    let one = programmes_of_kind _ c.in_ok-programmes.ensures.reads in
+    let within = c.in_ok-rows-in-Some.ensures.reads.within in
+    let first = gives programmes programme_number (sym c.in-Some.is ∙ c.programme_number.ensures ∙ ap programme_number c.deref.ensures.value) c.in_ok-programmes.ensures.reads in
+    let those = any_later _ _ _ _ _ _ _ one within (gives tasks Some refl c.in_ok-rows-in-Some.ensures.reads) in
+    record { found = λ clean has. record { number = Some c.in-Some.number; first = first.found (omega (arith, clean, within.survives.clean)) has; then = those.found clean has } }
+
+pub returns-clause-any_rows : goal.returns-clause-any_rows
+returns-clause-any_rows g c =
+    let first = gives programmes programme_number (sym c.in-None.is ∙ c.programme_number.ensures ∙ ap programme_number c.deref.ensures.value) c.in_ok-programmes.ensures.reads in
+    record { found = λ clean has. record { number = None; first = first.found clean has; then = refl } }

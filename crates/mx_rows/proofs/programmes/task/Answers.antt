@@ -32,3 +32,15 @@ returns-in-None-clause-reads g c =
     told _ _ _ _ _ _
     (λ book b found. task_found book c.args.kind.now c.args.id.now None b (sym (ap (option_map (λ (rows : Vec TaskRow Global). rows.items)) c.in-None.is) ∙ found))
     c.in_ok-found.ensures.reads
+
+pub returns-in-Some-clause-any_rows : goal.returns-in-Some-clause-any_rows
+returns-in-Some-clause-any_rows g c =
+    let id = c.args.id.now in
+    let those = ap (option_map (λ (rows : Vec TaskRow Global). rows.items)) c.in-Some.is in
+    record { found = λ clean has. (_, c.in_ok-found.ensures.any_rows.found clean has, ap Some (c.task_in.ensures ∙ ap (λ rows. task_in rows id) c.deref.ensures.value) ∙ sym (ap (option_map (λ rows. task_in rows id)) those)) }
+
+pub returns-in-None-clause-any_rows : goal.returns-in-None-clause-any_rows
+returns-in-None-clause-any_rows g c =
+    let id = c.args.id.now in
+    let those = ap (option_map (λ (rows : Vec TaskRow Global). rows.items)) c.in-None.is in
+    record { found = λ clean has. (_, c.in_ok-found.ensures.any_rows.found clean has, sym (ap (option_map (λ rows. task_in rows id)) those)) }

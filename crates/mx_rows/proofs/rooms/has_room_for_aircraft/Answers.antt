@@ -1,7 +1,9 @@
-use Rattle.std.proofs.Common.{◌∙◌, ap}
+use Rattle.std.proofs.Common.{◌∙◌, ap, subst, sym}
 use Rattle.std.specs.Prelude.{nat_lt}
 use Rattle.mx_book.specs.declared.judging.TheConstants.{MOST_AIRCRAFT}
 use Rattle.mx_found.proofs.PlaceLemmas.{room_for_aircraft}
+use Rattle.mx_kept.specs.Cells.{kept_aircraft}
+use Rattle.mx_rows.proofs.TableLemmas.{aircraft}
 use Rattle.mx_rows.proofs.ReadLemmas.{stopped, told}
 use Rattle.mx_rows.proofs.RoomLookups.{aircraft_counted}
 use Rattle.mx_rows.proofs.rooms.has_room_for_aircraft.Goals as goal
@@ -11,3 +13,6 @@ returns-in_err-count-clause-reads g c = stopped _ _ _ _ _ _ c.from_residual.ensu
 
 pub returns-clause-reads : goal.returns-clause-reads
 returns-clause-reads g c = told _ _ _ _ _ _ (λ book b count. ap (λ n. nat_lt n MOST_AIRCRAFT) count ∙ room_for_aircraft book) (aircraft_counted _ _ _ c.in_ok-count.ensures.counts)
+
+pub returns-clause-any_rows : goal.returns-clause-any_rows
+returns-clause-any_rows g c = record { found = λ clean has. ap (λ n. nat_lt n MOST_AIRCRAFT) (c.in_ok-count.ensures.counts.rows clean (subst kept_aircraft.IsIn (sym has) aircraft.is_in)) }

@@ -5,7 +5,7 @@ use Rattle.mx_layout.specs.declared.fault.Table.TheVariants as table
 use Rattle.mx_found.specs.Lives.{base_found, life_in_base}
 use Rattle.mx_found.proofs.BoundLemmas.{base_low}
 use Rattle.mx_found.proofs.LifeLemmas.{base_is, no_base}
-use Rattle.mx_rows.proofs.AnyLemmas.{any_later}
+use Rattle.mx_rows.proofs.AnyLemmas.{any_later, by_number, by_none}
 use Rattle.mx_rows.proofs.BaseLookups.{base_by_key, bases_give}
 use Rattle.mx_rows.proofs.DamageLemmas.{base_past}
 use Rattle.mx_rows.proofs.ReadLemmas.{reads_then, refused, stopped, told}
@@ -47,3 +47,16 @@ returns-in-Some-clause-reads g c =
 
 pub returns-clause-reads : goal.returns-clause-reads
 returns-clause-reads g c = told _ _ _ _ _ _ (λ book b found. sym (no_base book c.args.item.now c.args.id.now b (sym found ∙ c.in-None.is))) c.in_ok-found.ensures.reads
+
+pub returns-then-is_of_life-clause-any_rows : goal.returns-then-is_of_life-clause-any_rows
+returns-then-is_of_life-clause-any_rows g c =
+    by_number _ _ _ _ _ _ _ _ _ _ c.in-Some.is c.in_ok-found.ensures.reads c.in_ok-found.ensures.any_rows c.in_ok-rows-in-Some.ensures.reads.within
+    (bases_give base_found (sym c.in-Some-base_found.is ∙ c.base_found.ensures.found ∙ ap base_found c.deref.ensures.value) c.in_ok-rows-in-Some.ensures.reads)
+
+pub returns-in-Some-clause-any_rows : goal.returns-in-Some-clause-any_rows
+returns-in-Some-clause-any_rows g c =
+    by_number _ _ _ _ _ _ _ _ _ _ c.in-Some.is c.in_ok-found.ensures.reads c.in_ok-found.ensures.any_rows c.in_ok-rows-in-Some.ensures.reads.within
+    (bases_give base_found (sym c.in-None-base_found.is ∙ c.base_found.ensures.found ∙ ap base_found c.deref.ensures.value) c.in_ok-rows-in-Some.ensures.reads)
+
+pub returns-clause-any_rows : goal.returns-clause-any_rows
+returns-clause-any_rows g c = by_none _ _ _ _ _ _ c.in-None.is c.in_ok-found.ensures.any_rows

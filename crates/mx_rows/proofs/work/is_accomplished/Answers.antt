@@ -3,7 +3,8 @@ use Rattle.std.specs.Prelude.{is_some}
 use Rattle.mx_book.proofs.BaseLemmas.{accomplished-base}
 use Rattle.mx_found.specs.Lives.{base_found}
 use Rattle.mx_found.proofs.LifeLemmas.{base_is, no_base}
-use Rattle.mx_rows.proofs.BaseLookups.{base_by_key}
+use Rattle.mx_rows.proofs.BaseLookups.{base_by_key, bases_give}
+use Rattle.mx_rows.proofs.AnyLemmas.{by_number, by_none}
 use Rattle.mx_rows.proofs.ReadLemmas.{reads_then, stopped, told}
 use Rattle.mx_rows.proofs.work.is_accomplished.Goals as goal
 
@@ -26,3 +27,11 @@ returns-in-None-clause-reads g c =
     told _ _ _ _ _ _
     (λ book b found. sym (ap is_some (no_base book c.args.item.now c.args.id.now b (sym found ∙ c.in-None.is))) ∙ accomplished-base book c.args.item.now c.args.id.now)
     c.in_ok-found.ensures.reads
+
+pub returns-in_ok-rows-in-Some-clause-any_rows : goal.returns-in_ok-rows-in-Some-clause-any_rows
+returns-in_ok-rows-in-Some-clause-any_rows g c =
+    by_number _ _ _ _ _ _ _ _ _ _ c.in-Some.is c.in_ok-found.ensures.reads c.in_ok-found.ensures.any_rows c.in_ok-rows-in-Some.ensures.reads.within
+    (bases_give (λ rows. is_some (base_found rows)) (c.is_some.ensures ∙ ap is_some (c.base_found.ensures.found ∙ ap base_found c.deref.ensures.value)) c.in_ok-rows-in-Some.ensures.reads)
+
+pub returns-in-None-clause-any_rows : goal.returns-in-None-clause-any_rows
+returns-in-None-clause-any_rows g c = by_none _ _ _ _ _ _ c.in-None.is c.in_ok-found.ensures.any_rows
