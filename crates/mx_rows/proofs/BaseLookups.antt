@@ -1,5 +1,5 @@
 -- The row of the last base of a task of an item, where the tables stand for a book. The rows of a book are not listed in the order of the key, but there is at most one of each.
-use Rattle.std.proofs.Common.{◌≡◌, ◌∙◌, inl, inr, ◌⊎◌, ℕ, pos, Bool, true, false, ◌&&◌, ◌||◌, cond, List, [], ◌∷◌, map, filter, length, None, Ok, Vec, Result, refl, sym, ap, ap₂, subst}
+use Rattle.std.proofs.Common.{◌≡◌, ◌∙◌, inl, inr, ◌⊎◌, ℕ, Bool, true, false, ◌&&◌, ◌||◌, cond, List, [], ◌∷◌, map, filter, length, None, Ok, Vec, Result, refl, sym, ap, ap₂, subst}
 use Rattle.std.specs.Prelude.{All, IsPermutation, nat_eq}
 use Rattle.std.specs.List.{list_any}
 use Rattle.std.specs.declared.alloc.Global.{Global}
@@ -9,7 +9,6 @@ use Rattle.std.proofs.lemmas.List.Sorted.{length_permutation, IsPermutation-tran
 use Rattle.sqlite.specs.Order.{Row}
 use Rattle.sqlite.specs.State.{State}
 use Rattle.sqlite.specs.Tree.{Trees}
-use Rattle.sqlite.specs.declared.types.Value.TheVariants.{Int, Text}
 use Rattle.sqlite.proofs.Callers.{one_permutation}
 use Rattle.sqlite_keyed.proofs.ListLemmas.{filter-map, filter_same, IsPermutation-filter}
 use Rattle.mx_command.specs.Act.{Entry}
@@ -27,7 +26,7 @@ use Rattle.mx_layout.specs.declared.fault.TableFault.{TableFault}
 use Rattle.mx_kept.specs.Cells.{kept_base2}
 use Rattle.mx_kept.proofs.MovedLawful.{base2_lawful}
 use Rattle.mx_chosen.specs.Calls.{ReadsFirst}
-use Rattle.mx_chosen.specs.Choices.{AreFirst, has_value}
+use Rattle.mx_chosen.specs.Choices.{AreFirst}
 use Rattle.mx_stands.specs.Schemas.{schema_at}
 use Rattle.mx_stands.specs.Stands.{HasRowsAt}
 use Rattle.mx_stands.proofs.FamilyLemmas.{facts}
