@@ -1,0 +1,4 @@
+pub mod AddedLemmas
+pub mod PutLemmas
+pub mod TouchLemmas
+pub mod CertifiedLemmas

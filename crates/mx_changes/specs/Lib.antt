@@ -1,0 +1,4 @@
+pub mod Puts
+pub mod Kept
+pub mod Rows
+pub mod Certified

@@ -1,0 +1,117 @@
+//! The rows of a fitting and of a removal.
+ghost use Rattle.std.specs.Prelude.{◌≡◌, ℕ, List, [], ◌∷◌, IfOk};
+ghost use Rattle.mx_command.specs.Act.{Entry, Fitted, Removed};
+ghost use Rattle.mx_typed_rows.specs.Rows.{FitsEntry, FitsSpan};
+ghost use Rattle.mx_kept_rows.specs.Changes.{entry_of};
+ghost use Rattle.mx_kept_rows.specs.Items.{number_of_serial, number_of_tail};
+ghost use Rattle.mx_changes.specs.Kept.{span_fitted, span_removed};
+ghost use Rattle.mx_changes.specs.Rows.{AreCommandRows, IsEntryOf, spans_open_of, totals_before};
+
+use crate::plain::{none_added, none_changed};
+use crate::rows::CommandRows;
+use crate::totals::clocked_totals;
+use mx_base::Moment;
+use mx_command::{Fitting, Removal};
+use mx_typed_rows::{EntryRow, SpanRow, TotalRow};
+use std::alloc::{AllocError, Global};
+
+// The span that a fitting begins, by the numbers of its entry, its component and its aircraft.
+fn span_begun(seq: u32, component: u32, aircraft: u32, fitting: &Fitting) -> SpanRow
+    ensures row { result ≡ span_fitted seq component aircraft fitting.now }
+    ensures fits { FitsSpan result }
+{
+    // The text of an identifier, and the number of a moment, fit their columns.
+    let _ = fitting.position.as_str();
+    let _ = fitting.moment.number();
+    SpanRow {
+        fit_seq: seq,
+        component,
+        aircraft,
+        position: fitting.position,
+        from: fitting.moment,
+        remove_seq: None,
+        to: None,
+    }
+}
+
+// The span, ended by the entry with a number at a moment.
+fn span_ended(span: SpanRow, seq: u32, to: Moment) -> SpanRow
+    ensures row { result ≡ span_removed seq to span }
+    ensures fits { FitsSpan result }
+{
+    // The text of an identifier, and the numbers of moments, fit their columns.
+    let _ = span.position.as_str();
+    let _ = span.from.number();
+    let _ = to.number();
+    SpanRow {
+        fit_seq: span.fit_seq,
+        component: span.component,
+        aircraft: span.aircraft,
+        position: span.position,
+        from: span.from,
+        remove_seq: Some(seq),
+        to: Some(to),
+    }
+}
+
+/// The rows of a fitting, by the numbers of its component and its aircraft, and by the totals of both, as they are.
+pub fn fitting_rows(
+    alloc: Global,
+    entry: EntryRow,
+    fitting: Fitting,
+    component: u32,
+    aircraft: u32,
+    totals: &[TotalRow],
+) -> Result<CommandRows, AllocError>
+    requires fits { FitsEntry entry }
+    ensures { IfOk result (λ rows. (book : List Entry) (doc : List ℕ)
+        → IsEntryOf book (entry_of doc (Fitted fitting)) entry
+        → component ≡ number_of_serial book fitting.serial
+        → aircraft ≡ number_of_tail book fitting.tail
+        → totals.now ≡ totals_before book (Fitted fitting)
+        → AreCommandRows book (entry_of doc (Fitted fitting)) rows) }
+{
+    // The checker proves this function only where the type of each field of a row is named in it.
+    let _: Option<Moment> = None;
+    let span = span_begun(entry.seq, component, aircraft, &fitting);
+    let behind = clocked_totals(alloc, totals, fitting.moment)?;
+    let mut added = none_added(alloc);
+    let mut changed = none_changed(alloc);
+    changed.totals = behind;
+    added.spans.push(span)?;
+    Ok(CommandRows {
+        entry,
+        changed,
+        added,
+    })
+}
+
+/// The rows of a removal, by the open span of its component, and by the totals of the component and of the aircraft that
+/// it is fitted to, as they are.
+pub fn removal_rows(
+    alloc: Global,
+    entry: EntryRow,
+    removal: Removal,
+    span: SpanRow,
+    totals: &[TotalRow],
+) -> Result<CommandRows, AllocError>
+    requires fits { FitsEntry entry }
+    ensures { IfOk result (λ rows. (book : List Entry) (doc : List ℕ)
+        → IsEntryOf book (entry_of doc (Removed removal)) entry
+        → span ∷ [] ≡ spans_open_of book (Removed removal)
+        → totals.now ≡ totals_before book (Removed removal)
+        → AreCommandRows book (entry_of doc (Removed removal)) rows) }
+{
+    // The checker proves this function only where the type of each field of a row is named in it.
+    let _: Option<Moment> = None;
+    let ended = span_ended(span, entry.seq, removal.moment);
+    let behind = clocked_totals(alloc, totals, removal.moment)?;
+    let mut changed = none_changed(alloc);
+    changed.totals = behind;
+    changed.spans.push(ended)?;
+    Ok(CommandRows {
+        entry,
+        changed,
+        added: none_added(alloc),
+    })
+}

@@ -1,0 +1,49 @@
+//! The rows of a sector.
+ghost use Rattle.std.specs.Prelude.{◌≡◌, ℕ, List, All, IfOk, true};
+ghost use Rattle.mx_command.specs.Act.{Entry, Flown};
+ghost use Rattle.mx_command.specs.Shape.{sector_shape};
+ghost use Rattle.mx_typed_rows.specs.Rows.{FitsEntry};
+ghost use Rattle.mx_kept_rows.specs.Changes.{entry_of};
+ghost use Rattle.mx_kept_rows.specs.Items.{number_of_tail};
+ghost use Rattle.mx_changes.specs.Rows.{AreCommandRows, IsEntryOf, totals_before};
+ghost use Rattle.mx_changes.specs.Kept.{HasLife};
+
+use crate::plain::{none_added, none_changed};
+use crate::rows::CommandRows;
+use crate::totals::flown_totals;
+use mx_command::Sector;
+use mx_register::sector_row;
+use mx_typed_rows::{EntryRow, Sector2Row, TotalRow};
+use std::alloc::{AllocError, Global};
+
+/// The rows of a sector, by the number of its aircraft, and by the totals of the aircraft and of the components that were
+/// fitted to it throughout, as they are.
+pub fn sector_rows(
+    alloc: Global,
+    entry: EntryRow,
+    sector: Sector,
+    aircraft: u32,
+    totals: &[TotalRow],
+) -> Result<CommandRows, AllocError>
+    requires fits { FitsEntry entry }
+    requires shaped { sector_shape sector ≡ true }
+    requires lives { All HasLife totals.now }
+    ensures { IfOk result (λ rows. (book : List Entry) (doc : List ℕ)
+        → IsEntryOf book (entry_of doc (Flown sector)) entry
+        → aircraft ≡ number_of_tail book sector.tail
+        → totals.now ≡ totals_before book (Flown sector)
+        → AreCommandRows book (entry_of doc (Flown sector)) rows) }
+{
+    let behind = flown_totals(alloc, totals, aircraft, &sector)?;
+    let mut added = none_added(alloc);
+    let mut changed = none_changed(alloc);
+    changed.totals = behind;
+    added.sectors.push(Sector2Row {
+        sector: sector_row(entry.seq, aircraft, sector),
+    })?;
+    Ok(CommandRows {
+        entry,
+        changed,
+        added,
+    })
+}
