@@ -1,0 +1,6 @@
+pub mod RowLemmas
+pub mod CellLemmas
+pub mod EnterLemmas
+pub mod StandLemmas
+pub mod ThereLemmas
+pub mod CommitLemmas

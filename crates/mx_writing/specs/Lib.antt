@@ -1,0 +1,4 @@
+pub mod Changes
+pub mod Pairs
+pub mod Written
+pub mod Commits
