@@ -8,10 +8,10 @@ use Rattle.sqlite.specs.Held.{Held, state}
 use Rattle.mx_command.specs.Act.{Entry}
 use Rattle.mx_book.specs.Reading.{Answers}
 use Rattle.mx_layout.specs.declared.fault.TableFault.{TableFault}
-use Rattle.mx_rows.specs.Reads.{Reads}
+use Rattle.mx_lookups.specs.Reads.{Reads}
 use Rattle.mx_rows.specs.View.{Asks, AskedOn, IsAny, SharesWith, held, rows_reading}
 use Rattle.mx_rows.specs.declared.view.Rows.{Rows}
-use Rattle.mx_rows.proofs.ReadLemmas.{follows, reads_then, stops, told}
+use Rattle.mx_lookups.proofs.ReadLemmas.{follows, reads_then, stops, told}
 
 module _ {S V : Type 0} (g : Ghosts S) (Is : List Entry → V → Type 0) (start old new : Held S) where
   -- a look-up behind questions, if any
@@ -44,7 +44,7 @@ module _ {S A : Type 0} (g : Ghosts S) (what : List Entry → A) (old new : Rows
       ok (Err e) p = tt
 
 -- rows that were not asked yet
-unasked : {S : Type 0} (g : Ghosts S) (rows : Rows S) → (rows_reading g).Asked rows rows
+pub unasked : {S : Type 0} (g : Ghosts S) (rows : Rows S) → (rows_reading g).Asked rows rows
 unasked g rows = (record { tx = refl; conn = refl }, inl refl)
 
 module _ {S A : Type 0} (g : Ghosts S) (what : List Entry → A) (old new : Rows S) where

@@ -1,9 +1,1 @@
-pub mod Keeping
-pub mod Damage
-pub mod Reads
-pub mod AnyRows
-pub mod Given
-pub mod Fitted
-pub mod Known
-pub mod InForce
 pub mod View

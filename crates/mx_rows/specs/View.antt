@@ -6,7 +6,7 @@ use Rattle.sqlite.specs.Held.{Held, state}
 use Rattle.mx_command.specs.Act.{Entry}
 use Rattle.mx_book.specs.Reading.{Reading}
 use Rattle.mx_layout.specs.declared.fault.TableFault.{TableFault}
-use Rattle.mx_rows.specs.Reads.{Reads, StandsFor}
+use Rattle.mx_lookups.specs.Reads.{Reads, StandsFor}
 use Rattle.mx_rows.specs.declared.view.Rows.{Rows}
 
 -- anything was answered

@@ -2,14 +2,14 @@
 ghost use Rattle.std.specs.Prelude.{◌≡◌};
 ghost use Rattle.sqlite.specs.Held.{state};
 ghost use Rattle.mx_book.specs.Judge.{judge};
-ghost use Rattle.mx_rows.specs.Reads.{Reads};
+ghost use Rattle.mx_lookups.specs.Reads.{Reads};
 ghost use Rattle.mx_rows.specs.View.{Asks};
 
-use crate::entries::entry_count;
 use crate::view::Rows;
 use mx_book::{Verdict, verdict_on};
 use mx_command::Command;
 use mx_layout::TableFault;
+use mx_lookups::entries::entry_count;
 use sqlite::{Alter, Transaction};
 use std::alloc::Global;
 

@@ -1,26 +1,6 @@
-//! The look-ups of the judge and of the lists by rows. Each is made inside a `Transaction` over tables that stand for a book,
-//! and answers what the definition says of that book; over any rows, what the rows that were chosen give. None changes a row.
-//! `Memory` is want of memory, `Store` an error of the store, and `Damaged` names a table that no book gives: a row that was
-//! chosen from it can't be read, being none of its type, or names a row that another table lacks, or it lacks one that another's
-//! row needs; or what its rows say is past what the office needs.
-//! `Rows` is the transaction as records of which any question of the judge is asked, and `judge_by_rows` the verdict on a command
-//! by them.
+//! The judge by rows. `Rows` is a transaction as records of which any question of the judge is asked, each by one look-up, and
+//! `judge_by_rows` the verdict on a command by them.
 #![tactic(auto)]
 
-pub mod defects;
-pub mod entries;
-pub mod items;
 pub mod judging;
-pub mod known;
-mod known_items;
-mod known_lines;
-mod known_moves;
-mod known_releases;
-mod known_works;
-pub mod lists;
-pub mod lives;
-pub mod programmes;
-pub mod rooms;
-pub mod spans;
 pub mod view;
-pub mod work;

@@ -1,22 +1,22 @@
 //! The rows that a transaction shows, as records that the judge asks.
-use crate::defects::{defect, extension, is_rectified};
-use crate::entries::entry_count;
-use crate::items::{aircraft, component, part_at};
-use crate::known::known;
-use crate::lives::{clock, earliest_takeoff};
-use crate::programmes::{is_retired, next_revision, task};
-use crate::rooms::{has_room_for_aircraft, has_room_for_component};
-use crate::spans::{is_taken, tail_fitted};
-use crate::work::is_accomplished;
 use mx_base::{Day, Doc, Kind, Moment, Part, Position, Serial, Tail, TaskId};
 use mx_book::{Defect, Records};
 use mx_command::{Aircraft, Command, Component, Extension, Item, Task};
 use mx_layout::TableFault;
+use mx_lookups::defects::{defect, extension, is_rectified};
+use mx_lookups::entries::entry_count;
+use mx_lookups::items::{aircraft, component, part_at};
+use mx_lookups::known::known;
+use mx_lookups::lives::{clock, earliest_takeoff};
+use mx_lookups::programmes::{is_retired, next_revision, task};
+use mx_lookups::rooms::{has_room_for_aircraft, has_room_for_component};
+use mx_lookups::spans::{is_taken, tail_fitted};
+use mx_lookups::work::is_accomplished;
 use sqlite::{Alter, Transaction};
 use std::alloc::Global;
 
-/// The rows that a transaction shows, which stand for a book where its tables do: each question is a look-up of this crate, no
-/// question changes a row, and the fault that stops one is that of the look-up.
+/// The rows that a transaction shows, which stand for a book where its tables do: each question is one look-up, no question
+/// changes a row, and the fault that stops one is that of the look-up.
 #[derive(Drop)]
 pub struct Rows<'t, 'c, S: Alter> {
     /// Where the rows that are found lie while they are looked at.

@@ -1,6 +1,6 @@
 use Rattle.std.proofs.Common.{◌≡◌, refl}
 use Rattle.std.specs.Prelude.{length}
-use Rattle.mx_rows.proofs.ReadLemmas.{stopped}
+use Rattle.mx_lookups.proofs.ReadLemmas.{stopped}
 use Rattle.mx_rows.proofs.ViewLemmas.{answers_by}
 use Rattle.mx_rows.proofs.view.RowsRecords.entry_count.Goals as goal
 

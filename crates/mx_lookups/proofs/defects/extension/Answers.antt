@@ -1,0 +1,31 @@
+use Rattle.std.proofs.Common.{◌∙◌, ap, sym}
+use Rattle.mx_found.specs.Defects.{extension_in}
+use Rattle.mx_found.proofs.DeferralLemmas.{extension_is, no_extension}
+use Rattle.mx_lookups.proofs.AnyLemmas.{by_number, by_none, gives}
+use Rattle.mx_lookups.proofs.TableLemmas.{extensions}
+use Rattle.mx_lookups.proofs.ReadLemmas.{reads_then, stopped, told}
+use Rattle.mx_lookups.proofs.BookRows.{extensions_of_defect}
+use Rattle.mx_lookups.proofs.defects.extension.Goals as goal
+
+pub returns-in_err-rows-in-Some-clause-reads : goal.returns-in_err-rows-in-Some-clause-reads
+returns-in_err-rows-in-Some-clause-reads g c =
+    stopped _ _ _ _ _ _ c.from_residual-in_err-rows-in-Some.ensures.1 (reads_then _ _ _ _ _ _ _ c.in_ok-found.ensures.reads (extensions_of_defect _ c.in_err-rows-in-Some.ensures.reads))
+
+pub returns-in_ok-rows-in-Some-clause-reads : goal.returns-in_ok-rows-in-Some-clause-reads
+returns-in_ok-rows-in-Some-clause-reads g c =
+    told _ _ _ _ _ _
+    (λ book b both.
+    let doc = c.args.doc.now in
+    c.extension_in.ensures ∙ ap (extension_in doc) (c.deref.ensures.value ∙ both.1) ∙ extension_is book b doc c.in-Some.number (sym both.0 ∙ c.in-Some.is))
+    (reads_then _ _ _ _ _ _ _ c.in_ok-found.ensures.reads (extensions_of_defect _ c.in_ok-rows-in-Some.ensures.reads))
+
+pub returns-in-None-clause-reads : goal.returns-in-None-clause-reads
+returns-in-None-clause-reads g c = told _ _ _ _ _ _ (λ book b found. sym (no_extension book b c.args.doc.now (sym found ∙ c.in-None.is))) c.in_ok-found.ensures.reads
+
+pub returns-in_ok-rows-in-Some-clause-any_rows : goal.returns-in_ok-rows-in-Some-clause-any_rows
+returns-in_ok-rows-in-Some-clause-any_rows g c =
+    by_number _ _ _ _ _ _ _ _ _ _ c.in-Some.is c.in_ok-found.ensures.reads c.in_ok-found.ensures.any_rows c.in_ok-rows-in-Some.ensures.reads.within
+    (gives extensions (extension_in c.args.doc.now) (c.extension_in.ensures ∙ ap (extension_in c.args.doc.now) c.deref.ensures.value) c.in_ok-rows-in-Some.ensures.reads)
+
+pub returns-in-None-clause-any_rows : goal.returns-in-None-clause-any_rows
+returns-in-None-clause-any_rows g c = by_none _ _ _ _ _ _ c.in-None.is c.in_ok-found.ensures.any_rows

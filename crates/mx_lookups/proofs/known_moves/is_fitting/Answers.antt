@@ -1,0 +1,26 @@
+use Rattle.std.proofs.Common.{Some, sym, ap, ap₂, ◌∙◌}
+use Rattle.std.specs.List.{list_any}
+use Rattle.mx_register.specs.Names.{or_zero}
+use Rattle.mx_found.specs.Spans.{begins_with}
+use Rattle.mx_found.proofs.AnswerLemmas.{fitting_by_spans}
+use Rattle.mx_found.proofs.FoundLemmas.{entry_is}
+use Rattle.mx_lookups.proofs.BookRows.{spans_of_fitting}
+use Rattle.mx_lookups.proofs.ReadLemmas.{reads_then, stopped, told}
+use Rattle.mx_lookups.proofs.known_moves.is_fitting.Goals as goal
+
+pub returns-in_err-rows-clause-reads : goal.returns-in_err-rows-clause-reads
+returns-in_err-rows-clause-reads g c =
+    stopped _ _ _ _ _ _ c.from_residual-in_err-rows.ensures.1
+    (reads_then _ _ _ _ _ _ _ c.in_ok-component.ensures.reads (reads_then _ _ _ _ _ _ _ c.in_ok-aircraft.ensures.reads (spans_of_fitting c.args.seq c.in_err-rows.ensures.reads)))
+
+pub returns-clause-reads : goal.returns-clause-reads
+returns-clause-reads g c =
+    let n = c.args.seq in
+    let f = c.args.fitting in
+    told _ _ _ _ _ _
+    (λ book b all doc shape number.
+    fitting_by_spans book doc f n b shape (entry_is book doc ∙ number)
+    ∙ ap (λ same. Some (n, same)) (sym (c.begins_in.ensures
+    ∙ ap₂ (λ component aircraft. list_any (begins_with n component aircraft f) c.deref.result.now) (c.or_zero.ensures ∙ ap or_zero all.0) (c.or_zero-2.ensures ∙ ap or_zero all.1.0)
+    ∙ ap (list_any (begins_with n _ _ f)) (c.deref.ensures.value ∙ all.1.1))))
+    (reads_then _ _ _ _ _ _ _ c.in_ok-component.ensures.reads (reads_then _ _ _ _ _ _ _ c.in_ok-aircraft.ensures.reads (spans_of_fitting n c.in_ok-rows.ensures.reads)))

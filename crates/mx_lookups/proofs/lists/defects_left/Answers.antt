@@ -1,0 +1,78 @@
+use Rattle.std.proofs.Common.{◌≡◌, ◌∙◌, ℕ, Bool, false, true, cond, List, Option, None, Some, ap, filter, nat_eq, subst, sym}
+use Rattle.std.specs.Prelude.{is_some}
+use Rattle.std.specs.Option.{option_map}
+use Rattle.mx_command.specs.Act.{Entry}
+use Rattle.mx_register.specs.Registers.{deferral_rows}
+use Rattle.mx_typed_rows.specs.declared.rows.DeferralRow.{DeferralRow}
+use Rattle.mx_found.specs.Defects.{defect_said, is_rectified_at, open_said}
+use Rattle.mx_found.specs.Names.{doc_at}
+use Rattle.mx_found.proofs.OpenDefectLemmas.{entries_there}
+use Rattle.mx_layout.specs.declared.fault.Table.TheVariants as table
+use Rattle.mx_kept.specs.Cells.{kept_defect}
+use Rattle.mx_lookups.specs.Given.{DocIfOpen}
+use Rattle.mx_lookups.proofs.BookRows.{deferrals_of_aircraft}
+use Rattle.mx_lookups.proofs.DamageLemmas.{entry_unmet}
+use Rattle.mx_lookups.proofs.TableLemmas.{deferrals}
+use Rattle.mx_lookups.proofs.WalkLemmas.{missing, said_more, walk_begun, walk_ended, walk_starved, walk_stopped}
+use Rattle.mx_lookups.proofs.ReadLemmas.{stopped}
+use Rattle.mx_lookups.proofs.lists.defects_left.Goals as goal
+
+abbrev rows_at : ℕ → List Entry → List DeferralRow
+rows_at n book = filter (λ (row : DeferralRow). nat_eq row.aircraft n) (deferral_rows book)
+
+abbrev HasEntry : List Entry → DeferralRow → Type 0
+HasEntry book row = is_some (doc_at book row.seq) ≡ true
+
+pub returns-in_err-rows-clause-reads : goal.returns-in_err-rows-clause-reads
+returns-in_err-rows-clause-reads g c = stopped _ _ _ _ _ _ c.from_residual.ensures.1 (deferrals_of_aircraft c.args.aircraft c.in_err-rows.ensures.reads)
+
+pub loop-row-init : goal.loop-row-init
+loop-row-init g c = record {
+  same_reference = c.in_ok-rows.ensures.same_reference;
+  walks = walk_begun kept_defect (rows_at c.args.aircraft) (λ book row. open_said book c.args.tail.now row) HasEntry _ _ _ _ _ _ c.new-open.ensures.items c.as_slice-rest.ensures.value (λ book b. entries_there book c.args.aircraft) deferrals c.in_ok-rows.ensures.reads
+      (deferrals_of_aircraft c.args.aircraft c.in_ok-rows.ensures.reads);
+}
+
+-- where the document of a defect was found, it was not rectified
+left_open : {X : Type 0} (said : List ℕ → X) (rectified : Bool) (doc : Option (List ℕ)) (name : List ℕ) → ◌≡◌ {A = Option (Option (List ℕ))} (Some (Some name)) (cond rectified None (Some doc)) → cond rectified None (option_map said doc) ≡ Some (said name)
+left_open said true doc name h = absurd cc
+left_open said false doc name h = let same : doc ≡ Some name = cc in ap (option_map said) same
+
+pub loop-row-preserved-in_ok-push-in-Some-known : goal.loop-row-preserved-in_ok-push-in-Some-known
+loop-row-preserved-in_ok-push-in-Some-known g c =
+    let row = c.in-Some.row.now in
+    let tail = c.args.tail.now in
+    let name = c.in-Some-known.doc in
+    let known : ◌≡◌ {A = Option (Option (List ℕ))} c.in_ok-found.found (Some (Some name)) = c.in-Some-found.is ∙ ap Some c.in-Some-known.is in
+    record {
+      same_reference = c.in_ok-found.ensures.same_reference ∙ c.loop-row.invariant.same_reference;
+      walks = said_more kept_defect (rows_at c.args.aircraft) (λ book r. open_said book tail r) HasEntry _ _ _ _ _ c.in-Some.later.now row c.loop-row.invariant.walks c.in-Some.ensures.cases.0 _ c.in_ok-found.found c.defect_said.result _
+          c.in_ok-push-in-Some-known.ensures.items
+          (λ book found. left_open (λ doc. defect_said doc tail row) (is_rectified_at book row.seq) (doc_at book row.seq) name (sym known ∙ found) ∙ ap Some (sym c.defect_said.ensures)) c.in_ok-found.ensures.reads;
+    }
+
+pub returns-in_err-found-clause-reads : goal.returns-in_err-found-clause-reads
+returns-in_err-found-clause-reads g c =
+    walk_stopped kept_defect (rows_at c.args.aircraft) (λ book r. open_said book c.args.tail.now r) HasEntry _ _ _ _ _ c.loop-row.invariant.walks _ _ _ _ c.from_residual-in_err-found.ensures.1 c.in_err-found.ensures.reads
+
+-- the entry of a defect that was not rectified is there
+no_entry : {X : Type 0} (rectified : Bool) (doc : Option X) → is_some doc ≡ true → ◌≡◌ {A = Option (Option X)} (Some None) (cond rectified None (Some doc)) → ⊥
+no_entry true doc there h = absurd cc
+no_entry false doc there h = (let e : doc ≡ None = cc in let f = ap is_some (sym e) ∙ there in absurd cc)
+
+pub returns-in-None-known-clause-reads : goal.returns-in-None-known-clause-reads
+returns-in-None-known-clause-reads g c =
+    let row = c.in-Some.row.now in
+    let found = c.in_ok-found.ensures in
+    let none : ◌≡◌ {A = Option (Option (List ℕ))} c.in_ok-found.found (Some None) = c.in-Some-found.is ∙ ap Some c.in-None-known.is in
+    missing kept_defect (rows_at c.args.aircraft) (λ book r. open_said book c.args.tail.now r) HasEntry _ _ _ _ _ c.in-Some.later.now row c.loop-row.invariant.walks c.in-Some.ensures.cases.0 _ _ (DocIfOpen row.seq) c.in_ok-found.found table.Defect
+    (λ book there said. no_entry (is_rectified_at book row.seq) (doc_at book row.seq) there (sym none ∙ said))
+    (λ trees kept any. entry_unmet trees row kept (subst (DocIfOpen row.seq trees) none any).1) found.reads found.any_rows
+
+pub returns-clause-reads : goal.returns-clause-reads
+returns-clause-reads g c =
+    walk_ended kept_defect (rows_at c.args.aircraft) (λ book r. open_said book c.args.tail.now r) HasEntry (λ v. v.items) _ _ _ _ c.in_default.ensures.cases c.loop-row.invariant.walks
+
+pub returns-in_err-push-in-Some-known-clause-reads : goal.returns-in_err-push-in-Some-known-clause-reads
+returns-in_err-push-in-Some-known-clause-reads g c =
+    walk_starved kept_defect (rows_at c.args.aircraft) (λ book r. open_said book c.args.tail.now r) HasEntry _ _ _ _ _ c.in-Some.later.now c.in-Some.row.now c.loop-row.invariant.walks c.in-Some.ensures.cases.0 _ _ c.in_ok-found.found _ c.from_residual-in_err-push-in-Some-known.ensures.1 c.in_ok-found.ensures.reads

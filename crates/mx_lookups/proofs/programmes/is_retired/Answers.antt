@@ -1,0 +1,25 @@
+use Rattle.std.proofs.Common.{◌∙◌, ap, sym, None, Vec}
+use Rattle.std.specs.Option.{option_map}
+use Rattle.std.specs.declared.alloc.Global.{Global}
+use Rattle.mx_typed_rows.specs.declared.rows.TaskRow.{TaskRow}
+use Rattle.mx_found.specs.Programmes.{is_retired_in}
+use Rattle.mx_lookups.proofs.InForceLemmas.{retired_is}
+use Rattle.mx_lookups.proofs.ReadLemmas.{reads_then, told}
+use Rattle.mx_lookups.proofs.programmes.is_retired.Goals as goal
+
+pub returns-in-Some-found-clause-reads : goal.returns-in-Some-found-clause-reads
+returns-in-Some-found-clause-reads g c =
+    told _ _ _ _ _ _
+    (λ book b all.
+    let those = sym (ap (option_map (λ (rows : Vec TaskRow Global). rows.items)) c.in-Some-found.is) ∙ all.1.1 in
+    c.is_retired_in.ensures ∙ ap (λ rows. is_retired_in c.in-Some.part c.in-Some.birth c.in-Some-alive.life c.args.day rows) c.deref.ensures.value
+    ∙ retired_is book b c.args.kind.now c.args.day c.in-Some-alive.life c.args.item.now c.in-Some.part c.in-Some.birth _ (sym all.0 ∙ c.in-Some.is) (sym all.1.0 ∙ c.in-Some-alive.is) those)
+    (reads_then _ _ _ _ _ _ _ c.in_ok-known.ensures.reads (reads_then _ _ _ _ _ _ _ c.in_ok-alive-in-Some.ensures.reads c.in_ok-found-in-Some-alive.ensures.reads))
+
+pub returns-in-None-found-clause-reads : goal.returns-in-None-found-clause-reads
+returns-in-None-found-clause-reads g c =
+    told _ _ _ _ _ _
+    (λ book b all.
+    let none = sym (ap (option_map (λ (rows : Vec TaskRow Global). rows.items)) c.in-None-found.is) ∙ all.1.1 in
+    retired_is book b c.args.kind.now c.args.day c.in-Some-alive.life c.args.item.now c.in-Some.part c.in-Some.birth None (sym all.0 ∙ c.in-Some.is) (sym all.1.0 ∙ c.in-Some-alive.is) none)
+    (reads_then _ _ _ _ _ _ _ c.in_ok-known.ensures.reads (reads_then _ _ _ _ _ _ _ c.in_ok-alive-in-Some.ensures.reads c.in_ok-found-in-Some-alive.ensures.reads))

@@ -1,0 +1,18 @@
+use Rattle.std.proofs.Common.{◌∙◌, ap, subst, sym}
+use Rattle.std.specs.Prelude.{nat_lt}
+use Rattle.mx_book.specs.declared.judging.TheConstants.{MOST_AIRCRAFT}
+use Rattle.mx_found.proofs.PlaceLemmas.{room_for_aircraft}
+use Rattle.mx_kept.specs.Cells.{kept_aircraft}
+use Rattle.mx_lookups.proofs.TableLemmas.{aircraft}
+use Rattle.mx_lookups.proofs.ReadLemmas.{stopped, told}
+use Rattle.mx_lookups.proofs.RoomLookups.{aircraft_counted}
+use Rattle.mx_lookups.proofs.rooms.has_room_for_aircraft.Goals as goal
+
+pub returns-in_err-count-clause-reads : goal.returns-in_err-count-clause-reads
+returns-in_err-count-clause-reads g c = stopped _ _ _ _ _ _ c.from_residual.ensures.1 (aircraft_counted _ _ _ c.in_err-count.ensures.counts)
+
+pub returns-clause-reads : goal.returns-clause-reads
+returns-clause-reads g c = told _ _ _ _ _ _ (λ book b count. ap (λ n. nat_lt n MOST_AIRCRAFT) count ∙ room_for_aircraft book) (aircraft_counted _ _ _ c.in_ok-count.ensures.counts)
+
+pub returns-clause-any_rows : goal.returns-clause-any_rows
+returns-clause-any_rows g c = record { found = λ clean has. ap (λ n. nat_lt n MOST_AIRCRAFT) (c.in_ok-count.ensures.counts.rows clean (subst kept_aircraft.IsIn (sym has) aircraft.is_in)) }

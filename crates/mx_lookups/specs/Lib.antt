@@ -1,0 +1,8 @@
+pub mod Keeping
+pub mod Damage
+pub mod Reads
+pub mod AnyRows
+pub mod Given
+pub mod Fitted
+pub mod Known
+pub mod InForce

@@ -1,0 +1,95 @@
+//! Defects by the documents that deferred them, their extensions, and whether they were rectified.
+ghost use Rattle.std.specs.Prelude.{◌≡◌};
+ghost use Rattle.sqlite.specs.Held.{state};
+ghost use Rattle.mx_book.specs.Defect.{defect, extension, is_rectified};
+ghost use Rattle.mx_lookups.specs.AnyRows.{ReadsAny};
+ghost use Rattle.mx_lookups.specs.Given.{DefectOf, IsRectified, ExtensionOf};
+ghost use Rattle.mx_lookups.specs.Reads.{Reads};
+
+use crate::entries::defect_number;
+use mx_base::Doc;
+use mx_book::Defect;
+use mx_chosen::defects::{defect_by_seq, extension_by_defect};
+use mx_chosen::items::aircraft_by_seq;
+use mx_chosen::works::crs_line_by_defect;
+use mx_command::Extension;
+use mx_found::defects::{defect_in, deferral_aircraft, extension_in, is_rectified_in};
+use mx_layout::{Table, TableFault};
+use sqlite::{Alter, Transaction};
+use std::alloc::Global;
+
+/// The defect that was deferred by a document. `Damaged` with `defect` where the entry of the document defers one that is
+/// not there, or its aircraft is not.
+pub fn defect<S: Alter>(
+    alloc: Global,
+    tx: &mut Transaction<'_, S>,
+    doc: &Doc,
+) -> Result<Option<Defect>, TableFault>
+    ensures same_reference { tx.new.conn.ghost_name ≡ tx.old.conn.ghost_name }
+    ensures reads { Reads (λ book found. found ≡ defect book doc.now)
+        (state S.Store tx.old.conn.now) (state S.Store tx.new.conn.now) result }
+    ensures any_rows { ReadsAny (DefectOf doc.now)
+        (state S.Store tx.old.conn.now) (state S.Store tx.new.conn.now) result }
+{
+    let found = defect_number(alloc, tx, doc)?;
+    match found {
+        Some(number) => {
+            let rows = defect_by_seq(alloc, tx, number)?;
+            match deferral_aircraft(&rows) {
+                Some(aircraft) => {
+                    let named = aircraft_by_seq(alloc, tx, aircraft)?;
+                    match defect_in(doc, &rows, &named) {
+                        Some(defect) => Ok(Some(defect)),
+                        None => Err(TableFault::Damaged(Table::Defect)),
+                    }
+                }
+                None => Err(TableFault::Damaged(Table::Defect)),
+            }
+        }
+        None => Ok(None),
+    }
+}
+
+/// Whether a defect was rectified.
+pub fn is_rectified<S: Alter>(
+    alloc: Global,
+    tx: &mut Transaction<'_, S>,
+    doc: &Doc,
+) -> Result<bool, TableFault>
+    ensures same_reference { tx.new.conn.ghost_name ≡ tx.old.conn.ghost_name }
+    ensures reads { Reads (λ book rectified. rectified ≡ is_rectified book doc.now)
+        (state S.Store tx.old.conn.now) (state S.Store tx.new.conn.now) result }
+    ensures any_rows { ReadsAny (IsRectified doc.now)
+        (state S.Store tx.old.conn.now) (state S.Store tx.new.conn.now) result }
+{
+    let found = defect_number(alloc, tx, doc)?;
+    match found {
+        Some(number) => {
+            let rows = crs_line_by_defect(alloc, tx, number)?;
+            Ok(is_rectified_in(&rows))
+        }
+        None => Ok(false),
+    }
+}
+
+/// The extension of a defect's interval.
+pub fn extension<S: Alter>(
+    alloc: Global,
+    tx: &mut Transaction<'_, S>,
+    doc: &Doc,
+) -> Result<Option<Extension>, TableFault>
+    ensures same_reference { tx.new.conn.ghost_name ≡ tx.old.conn.ghost_name }
+    ensures reads { Reads (λ book found. found ≡ extension book doc.now)
+        (state S.Store tx.old.conn.now) (state S.Store tx.new.conn.now) result }
+    ensures any_rows { ReadsAny (ExtensionOf doc.now)
+        (state S.Store tx.old.conn.now) (state S.Store tx.new.conn.now) result }
+{
+    let found = defect_number(alloc, tx, doc)?;
+    match found {
+        Some(number) => {
+            let rows = extension_by_defect(alloc, tx, number)?;
+            Ok(extension_in(doc, &rows))
+        }
+        None => Ok(None),
+    }
+}

@@ -1,0 +1,205 @@
+//! The look-ups of lists: the tasks in force, what is fitted to an aircraft, and its open defects.
+ghost use Rattle.std.specs.Prelude.{◌≡◌, if◌then◌else◌, filter, map, nat_eq, true, None, Some, IfOk};
+ghost use Rattle.std.specs.List.{filter_map, list_all};
+ghost use Rattle.sqlite.specs.Held.{state};
+ghost use Rattle.mx_command.specs.Programme.{task_shape};
+ghost use Rattle.mx_book.specs.Defect.{open_defects};
+ghost use Rattle.mx_book.specs.Programme.{tasks_or_none};
+ghost use Rattle.mx_book.specs.Span.{is_open_on, spans};
+ghost use Rattle.mx_kept_rows.specs.Spans.{span_rows};
+ghost use Rattle.mx_register.specs.Names.{serial_at};
+ghost use Rattle.mx_register.specs.Registers.{deferral_rows};
+ghost use Rattle.mx_typed_rows.specs.declared.rows.DeferralRow.{DeferralRow};
+ghost use Rattle.mx_found.specs.Defects.{is_rectified_at, open_said};
+ghost use Rattle.mx_found.specs.Names.{doc_at};
+ghost use Rattle.mx_found.specs.Spans.{is_open_at, place_said};
+ghost use Rattle.mx_lookups.specs.AnyRows.{ReadsAny};
+ghost use Rattle.mx_lookups.specs.Given.{DocIfOpen, DocOfNumber, SerialOfNumber, TasksInForce};
+ghost use Rattle.mx_lookups.specs.Reads.{Reads};
+
+use crate::items::aircraft_number;
+use crate::programmes::rows_in_force;
+use mx_base::{Doc, Kind, Position, Serial, Tail};
+use mx_book::Defect;
+use mx_chosen::defects::defect_by_aircraft;
+use mx_chosen::entries::entry_by_seq;
+use mx_chosen::items::component_by_seq;
+use mx_chosen::kept::open_spans_by_aircraft;
+use mx_chosen::works::crs_line_by_defect;
+use mx_command::{Category, Task};
+use mx_found::components::serial_in;
+use mx_found::defects::{defect_said, is_rectified_in};
+use mx_found::entries::doc_in;
+use mx_found::programmes::tasks_said;
+use mx_layout::{Table, TableFault};
+use sqlite::{Alter, Transaction};
+use std::alloc::Global;
+
+/// The tasks of the programme in force of a kind, each of its shape; none where it has no programme. `Damaged` with `task`
+/// where one lacks its shape.
+pub fn tasks<S: Alter>(
+    alloc: Global,
+    tx: &mut Transaction<'_, S>,
+    kind: &Kind,
+) -> Result<Vec<Task>, TableFault>
+    ensures same_reference { tx.new.conn.ghost_name ≡ tx.old.conn.ghost_name }
+    ensures reads { Reads (λ book tasks. tasks.items ≡ tasks_or_none book kind.now)
+        (state S.Store tx.old.conn.now) (state S.Store tx.new.conn.now) result }
+    ensures any_rows { ReadsAny (λ trees tasks. TasksInForce kind.now trees tasks.items)
+        (state S.Store tx.old.conn.now) (state S.Store tx.new.conn.now) result }
+    ensures shape { IfOk result (λ tasks. list_all task_shape tasks.items ≡ true) }
+{
+    let found = rows_in_force(alloc, tx, kind)?;
+    match found {
+        Some(rows) => Ok(tasks_said(alloc, &rows)?),
+        None => Ok(Vec::new(alloc)),
+    }
+}
+
+// The serial number of the component that the entry with this number added.
+fn serial_of_number<S: Alter>(
+    alloc: Global,
+    tx: &mut Transaction<'_, S>,
+    number: u32,
+) -> Result<Option<Serial>, TableFault>
+    ensures same_reference { tx.new.conn.ghost_name ≡ tx.old.conn.ghost_name }
+    ensures reads { Reads (λ book serial. serial ≡ serial_at book number)
+        (state S.Store tx.old.conn.now) (state S.Store tx.new.conn.now) result }
+    ensures any_rows { ReadsAny (SerialOfNumber number)
+        (state S.Store tx.old.conn.now) (state S.Store tx.new.conn.now) result }
+{
+    let rows = component_by_seq(alloc, tx, number)?;
+    Ok(serial_in(&rows))
+}
+
+// What is fitted to the aircraft with this number, by its open spans. `Damaged` with `span2` where the component of one is
+// not there.
+fn places_fitted<S: Alter>(
+    alloc: Global,
+    tx: &mut Transaction<'_, S>,
+    aircraft: u32,
+) -> Result<Vec<(Position, Serial)>, TableFault>
+    ensures same_reference { tx.new.conn.ghost_name ≡ tx.old.conn.ghost_name }
+    ensures reads { Reads (λ book places. places.items
+        ≡ filter_map (place_said book) (filter (is_open_at aircraft) (span_rows book)))
+        (state S.Store tx.old.conn.now) (state S.Store tx.new.conn.now) result }
+{
+    let rows = open_spans_by_aircraft(alloc, tx, aircraft)?;
+    let mut places = Vec::new(alloc);
+    let mut rest = rows.as_slice();
+    while let Some((row, later)) = rest.split_first() {
+        let found = serial_of_number(alloc, tx, row.component)?;
+        match found {
+            Some(serial) => places.push((row.position, serial))?,
+            None => return Err(TableFault::Damaged(Table::Span2)),
+        }
+        rest = later;
+    }
+    Ok(places)
+}
+
+/// The components that are fitted to an aircraft, each behind its position, in the order of their fittings. `Damaged` with
+/// `span2` where an open span names a component that is not there.
+pub fn fitted<S: Alter>(
+    alloc: Global,
+    tx: &mut Transaction<'_, S>,
+    tail: &Tail,
+) -> Result<Vec<(Position, Serial)>, TableFault>
+    ensures same_reference { tx.new.conn.ghost_name ≡ tx.old.conn.ghost_name }
+    ensures reads { Reads (λ book places. places.items
+        ≡ map (λ s. (s.position, s.serial)) (filter (is_open_on tail.now) (spans book)))
+        (state S.Store tx.old.conn.now) (state S.Store tx.new.conn.now) result }
+{
+    let found = aircraft_number(alloc, tx, tail)?;
+    match found {
+        Some(number) => places_fitted(alloc, tx, number),
+        None => Ok(Vec::new(alloc)),
+    }
+}
+
+// The document of the entry with this number.
+fn doc_of_number<S: Alter>(
+    alloc: Global,
+    tx: &mut Transaction<'_, S>,
+    number: u32,
+) -> Result<Option<Doc>, TableFault>
+    ensures same_reference { tx.new.conn.ghost_name ≡ tx.old.conn.ghost_name }
+    ensures reads { Reads (λ book doc. doc ≡ doc_at book number)
+        (state S.Store tx.old.conn.now) (state S.Store tx.new.conn.now) result }
+    ensures any_rows { ReadsAny (DocOfNumber number)
+        (state S.Store tx.old.conn.now) (state S.Store tx.new.conn.now) result }
+{
+    let rows = entry_by_seq(alloc, tx, number)?;
+    Ok(doc_in(&rows))
+}
+
+// The document of the defect with this number, unless it was rectified: `Some(None)` where its entry is not there.
+fn doc_if_open<S: Alter>(
+    alloc: Global,
+    tx: &mut Transaction<'_, S>,
+    defect: u32,
+) -> Result<Option<Option<Doc>>, TableFault>
+    ensures same_reference { tx.new.conn.ghost_name ≡ tx.old.conn.ghost_name }
+    ensures reads { Reads (λ book found. found
+        ≡ (if is_rectified_at book defect then None else Some (doc_at book defect)))
+        (state S.Store tx.old.conn.now) (state S.Store tx.new.conn.now) result }
+    ensures any_rows { ReadsAny (DocIfOpen defect)
+        (state S.Store tx.old.conn.now) (state S.Store tx.new.conn.now) result }
+{
+    let lines = crs_line_by_defect(alloc, tx, defect)?;
+    if is_rectified_in(&lines) {
+        return Ok(None);
+    }
+    let doc = doc_of_number(alloc, tx, defect)?;
+    Ok(Some(doc))
+}
+
+// The open defects of the aircraft with this number, and with this registration. `Damaged` with `defect` where the entry of
+// one is not there.
+fn defects_left<S: Alter>(
+    alloc: Global,
+    tx: &mut Transaction<'_, S>,
+    tail: &Tail,
+    aircraft: u32,
+) -> Result<Vec<Defect>, TableFault>
+    ensures same_reference { tx.new.conn.ghost_name ≡ tx.old.conn.ghost_name }
+    ensures reads { Reads (λ book defects. defects.items ≡ filter_map (open_said book tail.now)
+        (filter (λ (row : DeferralRow). nat_eq row.aircraft aircraft) (deferral_rows book)))
+        (state S.Store tx.old.conn.now) (state S.Store tx.new.conn.now) result }
+{
+    // The checker proves this loop only where the type of each field of a deferral is named in the function.
+    let _: Option<Category> = None;
+    let rows = defect_by_aircraft(alloc, tx, aircraft)?;
+    let mut open = Vec::new(alloc);
+    let mut rest = rows.as_slice();
+    while let Some((row, later)) = rest.split_first() {
+        let found = doc_if_open(alloc, tx, row.seq)?;
+        match found {
+            Some(known) => match known {
+                Some(doc) => open.push(defect_said(&doc, tail, row))?,
+                None => return Err(TableFault::Damaged(Table::Defect)),
+            },
+            None => {}
+        }
+        rest = later;
+    }
+    Ok(open)
+}
+
+/// The open defects of an aircraft, in the order of their entries. `Damaged` with `defect` where the entry of one is not
+/// there.
+pub fn open_defects<S: Alter>(
+    alloc: Global,
+    tx: &mut Transaction<'_, S>,
+    tail: &Tail,
+) -> Result<Vec<Defect>, TableFault>
+    ensures same_reference { tx.new.conn.ghost_name ≡ tx.old.conn.ghost_name }
+    ensures reads { Reads (λ book defects. defects.items ≡ open_defects book tail.now)
+        (state S.Store tx.old.conn.now) (state S.Store tx.new.conn.now) result }
+{
+    let found = aircraft_number(alloc, tx, tail)?;
+    match found {
+        Some(number) => defects_left(alloc, tx, tail, number),
+        None => Ok(Vec::new(alloc)),
+    }
+}
