@@ -1,1 +1,2 @@
 pub mod ViewLemmas
+pub mod ListLemmas

@@ -1,6 +1,9 @@
-//! The judge by rows. `Rows` is a transaction as records of which any question of the judge is asked, each by one look-up, and
-//! `judge_by_rows` the verdict on a command by them.
+//! The judge and the lists by rows. `Rows` is a transaction as records of which any question of the judge and of a list is
+//! asked, each by one look-up; `judge_by_rows` is the verdict on a command by them, and `listing` has the lists, and the life
+//! of an item.
 #![tactic(auto)]
 
 pub mod judging;
+pub mod listing;
+pub mod lists;
 pub mod view;

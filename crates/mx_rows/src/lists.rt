@@ -1,0 +1,51 @@
+//! The rows that a transaction shows, as records of which lists are made.
+use crate::view::Rows;
+use mx_base::{Base, Kind, Position, Serial, Tail, TaskId, Use};
+use mx_book::Defect;
+use mx_command::{Item, Task};
+use mx_layout::TableFault;
+use mx_lists::{Lists, Stop};
+use mx_lookups::lists::{fitted, open_defects, tasks};
+use mx_lookups::lives::life;
+use mx_lookups::work::base;
+use sqlite::Alter;
+use std::alloc::Global;
+
+impl<S: Alter> Lists for Rows<'_, '_, S> {
+    fn life(&mut self, item: &Item) -> Result<Option<Use>, TableFault> {
+        life(self.alloc, self.tx, item)
+    }
+
+    fn base(&mut self, item: &Item, task: &TaskId) -> Result<Option<Base>, TableFault> {
+        base(self.alloc, self.tx, item, task)
+    }
+
+    fn tasks(&mut self, alloc: Global, kind: &Kind) -> Result<Vec<Task>, Stop<TableFault>> {
+        match tasks(alloc, self.tx, kind) {
+            Ok(tasks) => Ok(tasks),
+            Err(fault) => Err(Stop::Fault(fault)),
+        }
+    }
+
+    fn fitted(
+        &mut self,
+        alloc: Global,
+        tail: &Tail,
+    ) -> Result<Vec<(Position, Serial)>, Stop<TableFault>> {
+        match fitted(alloc, self.tx, tail) {
+            Ok(places) => Ok(places),
+            Err(fault) => Err(Stop::Fault(fault)),
+        }
+    }
+
+    fn open_defects(
+        &mut self,
+        alloc: Global,
+        tail: &Tail,
+    ) -> Result<Vec<Defect>, Stop<TableFault>> {
+        match open_defects(alloc, self.tx, tail) {
+            Ok(defects) => Ok(defects),
+            Err(fault) => Err(Stop::Fault(fault)),
+        }
+    }
+}
