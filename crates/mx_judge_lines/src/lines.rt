@@ -8,8 +8,8 @@ use mx_rows::judging::judge_by_rows;
 use sqlite::{Alter, Connection};
 use std::alloc::Global;
 
-// Why there is no verdict.
-fn unjudged(alloc: Global, fault: TableFault) -> Result<String, Unmade> {
+/// Why a question was not answered.
+pub(crate) fn fault_text(alloc: Global, fault: TableFault) -> Result<String, Unmade> {
     let mut text = room(alloc)?;
     append_table_fault(&mut text, fault)?;
     Ok(text)
@@ -27,6 +27,6 @@ pub fn verdict_by_rows<S: Alter>(
     let mut tx = conn.transaction();
     match judge_by_rows(alloc, &mut tx, &command) {
         Ok(verdict) => Ok(verdict_text(alloc, &verdict)?),
-        Err(fault) => unjudged(alloc, fault),
+        Err(fault) => fault_text(alloc, fault),
     }
 }
