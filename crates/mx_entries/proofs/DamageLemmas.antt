@@ -1,5 +1,5 @@
 -- Look-ups after which a table may be told damaged for a reason of its own.
-use Rattle.std.proofs.Common.{◌≡◌, ◌⊎◌, inl, inr, List, Ok, Err, Result, refl, sym, ap, subst, ◌∙◌, arith}
+use Rattle.std.proofs.Common.{◌≡◌, inl, inr, List, Ok, Err, Result, ap, subst, ◌∙◌, arith}
 use Rattle.std.specs.Prelude.{⊤, IsErrAnd}
 use Rattle.sqlite.specs.Effect.{Database}
 use Rattle.sqlite.specs.State.{State, HasCleanDisk}
@@ -12,7 +12,7 @@ use Rattle.mx_layout.specs.declared.fault.TableFault.TheVariants.{Damaged}
 use Rattle.mx_stands.specs.Schemas.{schema_at}
 use Rattle.mx_lookups.specs.Reads.{Reads, rows_point}
 use Rattle.mx_lookups.proofs.ReadLemmas.{reads_then, stopped, told}
-use Rattle.mx_entries.specs.Damage.{ReadsOr, Refuses}
+use Rattle.mx_entries.specs.Damage.{ReadsOr}
 
 -- what was looked up is so of no book, and this is the reason
 pub refuses : {V W : Type 0} (Why : TableName → Trees → Type 0) (P : List Entry → V → Type 0) (Q : List Entry → W → Type 0) (old new : State) (v : V) (name : TableName) (result : Result W TableFault) → result ≡ Err (Damaged name) → ((book : List Entry) → IsBook book → P book v → ⊥)

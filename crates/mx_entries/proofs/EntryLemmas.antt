@@ -16,7 +16,6 @@ use Rattle.mx_register.specs.Registers.{entry_rows, kind_of}
 use Rattle.mx_kept_rows.specs.Changes.{entry_of}
 use Rattle.mx_typed_rows.specs.declared.rows.EntryKind.{EntryKind}
 use Rattle.mx_typed_rows.specs.declared.rows.EntryRow.{EntryRow}
-use Rattle.mx_layout.specs.TableName.{TableName}
 use Rattle.mx_layout.specs.declared.fault.Table.TheVariants as table
 use Rattle.mx_layout.specs.declared.fault.TableFault.{TableFault}
 use Rattle.mx_layout.specs.declared.fault.TableFault.TheVariants as fault
@@ -31,7 +30,7 @@ use Rattle.mx_lookups.proofs.AnyLemmas.{any_later, gives}
 use Rattle.mx_lookups.proofs.BookRows.{entries_of_number}
 use Rattle.mx_lookups.proofs.ReadLemmas.{no_memory, reads_then, stopped, told}
 use Rattle.mx_lookups.proofs.TableLemmas.{entries}
-use Rattle.mx_entries.specs.Damage.{IsGap, IsSkipped, IsUnstated, ReadsOr}
+use Rattle.mx_entries.specs.Damage.{IsSkipped, IsUnstated, ReadsOr}
 use Rattle.mx_entries.specs.Entries.{AreEntries, InTurn, IsEntry, IsLast, KindStated, command_said, table_of}
 use Rattle.mx_entries.specs.Stated.{FirstOf}
 use Rattle.mx_entries.proofs.DamageLemmas.{answered, handed_on, refuses}

@@ -10,7 +10,7 @@ use Rattle.sqlite_rules.proofs.ListLemmas.{has_contained}
 use Rattle.sqlite_keyed.proofs.ListLemmas.{filter-map, IsPermutation-filter}
 use Rattle.mx_command.specs.Act.{Entry, removal_of}
 use Rattle.mx_book.specs.Book.{IsBook}
-use Rattle.mx_register.specs.Registers.{fitting_rows, if_any, next, removal_rows}
+use Rattle.mx_register.specs.Registers.{if_any, next, removal_rows}
 use Rattle.mx_typed_rows.specs.declared.rows.FittingRow.{FittingRow}
 use Rattle.mx_typed_rows.specs.declared.rows.RemovalRow.{RemovalRow}
 use Rattle.mx_typed_rows.specs.declared.rows.SpanRow.{SpanRow}

@@ -1,14 +1,12 @@
 -- The commands of entries, over any rows.
-use Rattle.std.specs.Prelude.{◌≡◌, ◌+◌, ◌-◌, ℕ, pos, List, [], ◌∷◌, length, min, ⊤, Option, Some, None, if◌then◌else◌}
+use Rattle.std.specs.Prelude.{◌≡◌, ◌+◌, ◌-◌, ℕ, List, [], ◌∷◌, length, min, ⊤, Option, Some, None, if◌then◌else◌}
 use Rattle.std.specs.Option.{option_and_then}
-use Rattle.sqlite.specs.declared.types.Value.TheVariants.{Int}
 use Rattle.sqlite.specs.Tree.{Trees}
 use Rattle.mx_command.specs.Act.{Act, Entry}
 use Rattle.mx_command.specs.Shape.{has_shape}
 use Rattle.mx_kept_rows.specs.Changes.{entry_of}
 use Rattle.mx_typed_rows.specs.declared.rows.EntryKind.{EntryKind}
 use Rattle.mx_typed_rows.specs.declared.rows.EntryKind.TheVariants.{AddAircraft, AddComponent, LoadProgramme, Opening, Sector, Fit, Remove, Release, Defer, Extend}
-use Rattle.mx_typed_rows.specs.declared.rows.EntryRow.{EntryRow}
 use Rattle.mx_layout.specs.TableName.{TableName}
 use Rattle.mx_layout.specs.declared.fault.Table.TheVariants as table
 use Rattle.mx_kept.specs.Cells.{kept_entry}

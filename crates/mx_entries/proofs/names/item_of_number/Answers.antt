@@ -1,4 +1,4 @@
-use Rattle.std.proofs.Common.{None, Some, ap, subst, sym, arith, ◌∙◌}
+use Rattle.std.proofs.Common.{subst, sym, ◌∙◌}
 use Rattle.mx_found.proofs.StatedLemmas.{airframe_numbered, component_numbered, no_item_numbered}
 use Rattle.mx_lookups.specs.Given.{SerialOfNumber, TailOfNumber}
 use Rattle.mx_lookups.proofs.ReadLemmas.{reads_then, stopped, told}

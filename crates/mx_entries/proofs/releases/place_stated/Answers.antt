@@ -1,4 +1,4 @@
-use Rattle.std.proofs.Common.{None, ap, sym, ◌∙◌}
+use Rattle.std.proofs.Common.{ap, sym, ◌∙◌}
 use Rattle.std.specs.Option.{option_and_then}
 use Rattle.mx_register.specs.Merge.{place_of}
 use Rattle.mx_lookups.proofs.ReadLemmas.{told}
