@@ -15,6 +15,7 @@ mod row_texts;
 mod rows;
 mod shown;
 mod tasks;
+mod verified;
 
 use mx_cases::run;
 use player::BookPlayer;

@@ -1,6 +1,6 @@
 //! The player: a book that commands are handed in to, and that is asked.
 
-use crate::{books, calendar, commands, defects, dues, identifiers, registers};
+use crate::{books, calendar, commands, defects, dues, identifiers, registers, verified};
 use mx_book::{Book, Reply, Verdict};
 use mx_cases::{Plays, Unmade, answer_of, command_of, reply_in, room_for_reply, verdict_text};
 use mx_command::Command;
@@ -59,6 +59,9 @@ impl BookPlayer {
             return Ok(Some(answer));
         }
         if let Some(answer) = defects::answer(self.alloc, &self.book, words)? {
+            return Ok(Some(answer));
+        }
+        if let Some(answer) = verified::answer(self.alloc, &self.book, words)? {
             return Ok(Some(answer));
         }
         registers::answer(self.alloc, &self.book, words)

@@ -44,7 +44,7 @@ fn registers(alloc: Global, book: &Book) -> Result<String, Unmade> {
 }
 
 // Leaves only so many rows of a table, the first.
-fn keep_first(kept: &mut Registers, table: &str, count: usize) -> Result<(), Unmade> {
+pub(crate) fn keep_first(kept: &mut Registers, table: &str, count: usize) -> Result<(), Unmade> {
     match table {
         "entries" => kept.entries.truncate(count),
         "aircraft" => kept.rows.aircraft.truncate(count),

@@ -11,7 +11,7 @@ use mx_typed_rows::{
 use std::alloc::{AllocError, Global};
 
 // The word of a kind of entry, as a command is written.
-fn kind_word(kind: EntryKind) -> &'static str {
+pub(crate) fn kind_word(kind: EntryKind) -> &'static str {
     match kind {
         EntryKind::AddAircraft => "aircraft",
         EntryKind::AddComponent => "component",
