@@ -161,17 +161,16 @@ none_at number id (x ∷ rows) h =
 
 at_most_one : (rows : List BaseRow) → AreKeyedOnce rows → (number : ℕ) (id : List ℕ) → sum_by (at_key number id) rows ≤ 1
 at_most_one [] once number id = let e : sum_by (at_key number id) [] ≡ 0 = refl in omega arith
-at_most_one (x ∷ rows) once number id = at (is_keyed number id x) refl
+at_most_one (x ∷ rows) once number id = at (is_keyed number id x) refl (at_most_one rows once.1 number id)
   where
-    at : (b : Bool) → is_keyed number id x ≡ b → sum_by (at_key number id) (x ∷ rows) ≤ 1
-    at true e =
+    at : (b : Bool) → is_keyed number id x ≡ b → sum_by (at_key number id) rows ≤ 1 → sum_by (at_key number id) (x ∷ rows) ≤ 1
+    at true e rest =
         let parts = both (nat_eq x.item number) (same_text x.task id) e in
         let alone : has_key number id rows ≡ false = ap (λ n. has_key n id rows) (sym ((Decides-eqb x.item number).0 parts.0)) ∙ ap (λ (t : List ℕ). has_key x.item t rows) (sym ((text_same x.task id).0 parts.1)) ∙ once.0 in
         let none = none_at number id rows alone in
         let one : at_key number id x ≡ 1 = ap (λ b. cond b 1 0) e in
         let sum = sum_by-cons (at_key number id) x rows in omega arith
-    at false e =
-        let rest = at_most_one rows once.1 number id in
+    at false e rest =
         let one : at_key number id x ≡ 0 = ap (λ b. cond b 1 0) e in
         let sum = sum_by-cons (at_key number id) x rows in omega arith
 
@@ -180,11 +179,11 @@ own_key x = ap (λ b. b && same_text x.task x.task) ((Decides-eqb x.item x.item)
 
 some_at : (number : ℕ) (id : List ℕ) (rows : List BaseRow) → sum_by (at_key number id) rows ≡ 0 → has_key number id rows ≡ false
 some_at number id [] h = refl
-some_at number id (x ∷ rows) h = at (is_keyed number id x) refl
+some_at number id (x ∷ rows) h = at (is_keyed number id x) refl (some_at number id rows)
   where
-    at : (b : Bool) → is_keyed number id x ≡ b → b || has_key number id rows ≡ false
-    at true e = let one : at_key number id x ≡ 1 = ap (λ b. cond b 1 0) e in let sum = sum_by-cons (at_key number id) x rows in absurd (omega arith)
-    at false e = some_at number id rows (let sum = sum_by-cons (at_key number id) x rows in omega arith)
+    at : (b : Bool) → is_keyed number id x ≡ b → (sum_by (at_key number id) rows ≡ 0 → has_key number id rows ≡ false) → b || has_key number id rows ≡ false
+    at true e rest = let one : at_key number id x ≡ 1 = ap (λ b. cond b 1 0) e in let sum = sum_by-cons (at_key number id) x rows in absurd (omega arith)
+    at false e rest = rest (let sum = sum_by-cons (at_key number id) x rows in omega arith)
 
 once_from : (rows : List BaseRow) → ((number : ℕ) (id : List ℕ) → sum_by (at_key number id) rows ≤ 1) → AreKeyedOnce rows
 once_from [] h = tt
@@ -227,8 +226,8 @@ is_there number id (x ∷ rows) = at (is_keyed number id x) (is_there number id 
     at false rest = rest
 
 apart : (c : Bool) → c ≡ true → c ≡ false → ⊥
-apart true yes no = (cc)
-apart false yes no = (cc)
+apart true p q = (cc)
+apart false p q = (cc)
 
 no_base : (o : Option Base) → is_some o ≡ false → o ≡ None
 no_base None h = refl
