@@ -1,0 +1,17 @@
+use Rattle.std.proofs.Common.{◌∙◌, ap}
+use Rattle.mx_found.specs.Names.{deferred_doc}
+use Rattle.mx_found.proofs.StatedLemmas.{deferral_numbered}
+use Rattle.mx_rows.proofs.AnyLemmas.{gives}
+use Rattle.mx_rows.proofs.BookRows.{entries_of_number}
+use Rattle.mx_rows.proofs.ReadLemmas.{stopped, told}
+use Rattle.mx_rows.proofs.TableLemmas.{entries}
+use Rattle.mx_entries.proofs.names.doc_of_defect.Goals as goal
+
+pub returns-in_err-rows-clause-reads : goal.returns-in_err-rows-clause-reads
+returns-in_err-rows-clause-reads g c = stopped _ _ _ _ _ _ c.from_residual.ensures.1 (entries_of_number c.args.number c.in_err-rows.ensures.reads)
+
+pub returns-clause-reads : goal.returns-clause-reads
+returns-clause-reads g c = told _ _ _ _ _ _ (λ book b read. c.deferred_doc.ensures ∙ ap deferred_doc (c.deref.ensures.value ∙ read) ∙ deferral_numbered book c.args.number) (entries_of_number c.args.number c.in_ok-rows.ensures.reads)
+
+pub returns-clause-any_rows : goal.returns-clause-any_rows
+returns-clause-any_rows g c = gives entries deferred_doc (c.deferred_doc.ensures ∙ ap deferred_doc c.deref.ensures.value) c.in_ok-rows.ensures.reads
