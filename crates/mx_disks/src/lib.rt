@@ -7,7 +7,7 @@
 //! - `open`: opens the office.
 //!
 //! Lines over a database of layout 2: `kept` before a line of `mx_kept_lines`, whose head lists them, over kept rows; `judge COMMAND`,
-//! the verdict on a command by the rows of the tables.
+//! the verdict on a command by the rows of the tables; `entries FROM AT_MOST` and `entry NUMBER COMMAND`, as in an office, by the rows.
 //!
 //! Lines in the open office:
 //! - a command, in the words that `mx_cases` reads: hands it in; `run` the commands of a list, and `first` the first;
