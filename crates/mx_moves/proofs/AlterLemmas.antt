@@ -1,0 +1,230 @@
+-- What statements that make a table or an index, or drop a table, leave of every table, whatever rows there are.
+use Rattle.std.proofs.Common.{◌≡◌, ◌⊎◌, inl, inr, ℕ, Bool, true, false, cond, List, [], ◌∷◌, ◌++◌, map, None, Ok, Result, OnOk, IsTrue, ◌==◌, refl, sym, ap, subst, subst₂, not, ◌&&◌, is_some, filter, ◌∙◌}
+use Rattle.std.specs.Prelude.{Contains}
+use Rattle.std.specs.List.{AllByRecursion, list_any}
+use Rattle.std.specs.Bool.{MatchBool}
+use Rattle.std.specs.List.Sorted.{IsPermutation}
+use Rattle.std.proofs.lemmas.Bool.{eqb-true}
+use Rattle.std.proofs.lemmas.List.Elements.{All-contains, All-from_recursion, Contains-append_cases}
+use Rattle.std.proofs.lemmas.List.Sorted.{IsPermutation-refl}
+use Rattle.sqlite_rules.proofs.ListLemmas.{has_contained, has_filtered, contains_had}
+use Rattle.sqlite.specs.Order.{Row}
+use Rattle.sqlite.specs.Table.{Table}
+use Rattle.sqlite.specs.Schema.{Schema}
+use Rattle.sqlite.specs.Tree.{Trees, IsTable, rowid}
+use Rattle.sqlite.specs.View.{is_int}
+use Rattle.sqlite.specs.Command.TheVariants.{CreateTable, CreateIndex, DropTable}
+use Rattle.sqlite.specs.Change.{created, next_tree, without_table, with_index, indexed, KeepsRows}
+use Rattle.sqlite.specs.Does.{Tally, Does, AtPlace, Defines as MakesAt, MakesIndex, Drops, Empties, UncountsIn, Uncounts, lacks_sequence}
+use Rattle.sqlite.specs.Effect.{Database, IsDatabase}
+use Rattle.sqlite.specs.Edit.{edit_of}
+use Rattle.sqlite.specs.Rowids.TheVariants.{Given}
+use Rattle.sqlite.specs.Rows.{Task, Edited, Gives, sequence}
+use Rattle.sqlite.specs.declared.run.Mode.{Mode}
+use Rattle.sqlite_schema.specs.declared.schema.Keys.{Keys}
+use Rattle.sqlite_schema.specs.Names.{same_name}
+use Rattle.sqlite_rules.specs.Action.{deed_for}
+use Rattle.sqlite_rules.specs.Calls.{ids_of}
+use Rattle.sqlite.specs.Listing.{understood}
+use Rattle.sqlite.specs.State.{State, HasCleanDisk, mode_of, Executes, ExecutesInside, Writes}
+use Rattle.sqlite.proofs.Callers.{statement_of, runs_as}
+use Rattle.sqlite_schema.specs.declared.schema.Index.{Index}
+use Rattle.sqlite_schema.specs.declared.schema.Keys.TheVariants.{Enforced}
+use Rattle.mx_layout.specs.TableName.{TableName}
+use Rattle.mx_layout.specs.declared.fault.TableFault.{TableFault}
+use Rattle.mx_layout.specs.Contents.{cells, rows_in, HasNoReferences, Rises}
+use Rattle.mx_layout.specs.Crash.{StaysInside, IsWithin}
+use Rattle.mx_layout.specs.Names.{table_named}
+use Rattle.mx_layout.proofs.CreateLemmas.{Defines, lacks_none}
+use Rattle.mx_layout.proofs.DropLemmas.{MeansRemoved}
+use Rattle.mx_layout.proofs.IndexLemmas.{MeansIndexed}
+use Rattle.mx_layout.proofs.TreeLemmas.{same_tree}
+use Rattle.mx_layout.proofs.WriteLemmas.{went, same_value}
+use Rattle.mx_tables.proofs.SetLemmas.{on_weaker}
+use Rattle.mx_moves.specs.Changes.{emptied, unchanged, AllRise, Reaches, Alters}
+use Rattle.mx_moves.proofs.RowLemmas.{Turns, Forgets, emptied_keeps, not_same, rises_kept}
+
+-- ── tables that stay ──
+
+kept_in : (tables : List Table) (old new : Trees) (t : Table) → KeepsRows tables old new → Contains tables t → new t.tree ≡ old t.tree
+kept_in tables old new t kept there = let P = λ (x : Table). new x.tree ≡ old x.tree in All-contains P tables t (All-from_recursion P tables kept) there
+
+rows_kept : (t : Table) (old new : Trees) → new t.tree ≡ old t.tree → IsPermutation (rows_in t old) (rows_in t new)
+rows_kept t old new same = subst (λ stored. IsPermutation (rows_in t old) (map (cells t) stored)) (sym same) (IsPermutation-refl (rows_in t old))
+
+-- each table of the new schema was there, and is as it was
+pub all_stay : (from to : Schema) (old new : Database) → old.schema ≡ from → new.schema ≡ to → IsDatabase new → ((t : Table) → Contains to.tables t → Contains from.tables t) → KeepsRows to.tables old.trees new.trees → Reaches to unchanged old new
+all_stay from to old new has is sound were kept =
+    let same = λ (name : TableName) (at : Contains to.tables (table_named name)). kept_in to.tables old.trees new.trees (table_named name) kept at in
+    record {
+      schema = is;
+      sound = λ _. sound;
+      tables = λ name at. rows_kept (table_named name) old.trees new.trees (same name at);
+      rises = λ up name at. rises_kept (table_named name) old.trees new.trees (same name at) (up name (subst (λ (s : Schema). Contains s.tables (table_named name)) (sym has) (were (table_named name) at)));
+    }
+
+-- ── a table that is made ──
+
+-- a schema that is another one with the table at its end
+pub record HasNew (from to : Schema) (new : TableName) : Type 0 where
+  pub is : created from (table_named new) ≡ to
+  pub ends : to.tables ≡ from.tables ++ table_named new ∷ []
+  pub tree : next_tree from ≡ (table_named new).tree
+  pub uncounted : AllByRecursion (λ t. t.is_counted ≡ false) to.tables
+
+empty_rises : (t : Table) (trees : Trees) → trees t.tree ≡ [] → Rises t trees
+empty_rises t trees none = record { up = subst IsTable (sym none) tt; numbers = subst (AllByRecursion (λ r. IsTrue (is_int (rowid r)))) (sym none) tt }
+
+-- a table of such a schema was there, or is the new one
+old_or_new : (from to : Schema) (new : TableName) → HasNew from to new → (name : TableName) → Contains to.tables (table_named name) → Contains from.tables (table_named name) ⊎ (new ≡ name)
+old_or_new from to new room name there =
+    elim (Contains-append_cases from.tables (table_named new ∷ []) (table_named name) (subst (λ ts. Contains ts (table_named name)) room.ends there)) [
+      | inl had ↦ inl had
+      | inr here ↦ elim (has_contained (table_named new ∷ []) (table_named name) here) [
+        | inl is ↦ inr (sym (same_tree name new (ap (λ (t : Table). t.tree) is)))
+        | inr none ↦ absurd none
+      ]
+    ]
+
+pub turns_new : (from to : Schema) (new : TableName) → HasNew from to new → Turns from to (emptied new)
+turns_new from to new room name there = elim (old_or_new from to new room name there) [
+  | inl had ↦ inl (had, emptied_keeps new name)
+  | inr same ↦ inr (subst (Forgets (emptied new)) same (forgets ((table_named new).tree == (table_named new).tree) refl))
+]
+  where
+    forgets : (b : Bool) → ((table_named new).tree == (table_named new).tree) ≡ b → Forgets (emptied new) new
+    forgets true e xs ys = subst (λ b. IsPermutation (cond b [] xs) (cond b [] ys)) (sym e) (IsPermutation-refl [])
+    forgets false e xs ys = absurd (not_same (table_named new).tree (table_named new).tree e refl)
+
+-- what a table that is made leaves of the others
+record IsMade (from to : Schema) (t : Table) (s s' : State) : Type 0 where
+  pub schema : s'.now.schema ≡ to
+  pub kept : KeepsRows from.tables s.now.trees s'.now.trees
+  pub empty : s'.now.trees t.tree ≡ []
+
+module _ (from to : Schema) (text : List ℕ) (new : TableName) (defines : Defines from text (table_named new)) (room : HasNew from to new) (s s' : State) (has : s.now.schema ≡ from) where
+  abbrev t : Table
+  t = table_named new
+
+  made : (count : ℕ) → Writes s s' None CreateTable text [] count → IsMade from to t s s'
+  made count w =
+      let all = went w.changed in
+      let first = went all.1 in
+      let it = first.1 in
+      let same : it.table ≡ record t { tree = 0 } = same_value (sym it.defined ∙ defines.defined) in
+      let listed : first.0.schema ≡ to = it.is ∙ ap (λ x. created x it.table) has ∙ ap (created from) same ∙ room.is in
+      let none : lacks_sequence first.0.schema ≡ false = ap lacks_sequence listed ∙ lacks_none to room.uncounted in
+      let now : s'.now ≡ first.0 = ap (λ (p : Tally × Database). p.1) (same_value all.2) ∙ same_value (rw none at first.2) in
+      record {
+        schema = ap (λ (d : Database). d.schema) now ∙ listed;
+        kept = subst (λ (d : Database). KeepsRows from.tables s.now.trees d.trees) (sym now) (subst (λ (x : Schema). KeepsRows x.tables s.now.trees first.0.trees) has it.others);
+        empty = ap (λ (d : Database). d.trees t.tree) now ∙ subst (λ n. first.0.trees n ≡ []) (ap next_tree has ∙ room.tree) it.empty;
+      }
+
+  one_table : IsMade from to t s s' → (name : TableName) → Contains to.tables (table_named name) → (b : Bool) → (t.tree == (table_named name).tree) ≡ b
+      → IsPermutation (cond b [] (rows_in (table_named name) s.now.trees)) (rows_in (table_named name) s'.now.trees)
+  one_table is name there true e =
+      let here = same_tree new name (eqb-true t.tree (table_named name).tree e) in
+      subst (λ n. IsPermutation [] (rows_in (table_named n) s'.now.trees)) here (subst (λ stored. IsPermutation [] (map (cells t) stored)) (sym is.empty) (IsPermutation-refl []))
+  one_table is name there false e = elim (old_or_new from to new room name there) [
+    | inl had ↦ rows_kept (table_named name) s.now.trees s'.now.trees (kept_in from.tables s.now.trees s'.now.trees (table_named name) is.kept had)
+    | inr same ↦ absurd (not_same t.tree (table_named name).tree e (ap (λ n. (table_named n).tree) (sym same)))
+  ]
+
+  rises_now : IsMade from to t s s' → AllRise s.now.schema s.now.trees → AllRise to s'.now.trees
+  rises_now is up name there = elim (old_or_new from to new room name there) [
+    | inl had ↦ rises_kept (table_named name) s.now.trees s'.now.trees (kept_in from.tables s.now.trees s'.now.trees (table_named name) is.kept had) (up name (subst (λ (x : Schema). Contains x.tables (table_named name)) (sym has) had))
+    | inr same ↦ subst (λ n. Rises (table_named n) s'.now.trees) same (empty_rises t s'.now.trees is.empty)
+  ]
+
+  pub table_made : (count : ℕ) → Executes text [] s s' (Ok count) → Reaches to (emptied new) s.now s'.now
+  table_made count h =
+      let w = subst (λ x. Writes s s' None CreateTable x [] count) defines.whole (runs_as text [] s s' from has CreateTable defines.command defines.plain count h) in
+      let is = made count w in
+      record {
+        schema = is.schema;
+        sound = λ _. w.sound;
+        tables = λ name at. one_table is name at (t.tree == (table_named name).tree) refl;
+        rises = rises_now is;
+      }
+
+-- ── an index that is made ──
+
+module _ (from : Schema) (text : List ℕ) (table : Table) (index : Index) (m : MeansIndexed from text table index) (old new : State) (has : old.now.schema ≡ from) where
+  pub index_made : (count : ℕ) → Executes text [] old new (Ok count) → Reaches (with_index from index) unchanged old.now new.now
+  index_made count h =
+      let w = runs_as text [] old new from has (CreateIndex m.at) m.is m.plain count h in
+      let db : Database = record old.now { schema = from } in
+      let does = subst (λ s. Does old.step_limit (mode_of old) [] (record old.now { schema = s }) (statement_of text (understood from text)) None (CreateIndex m.at) (Ok (w.tally, new.now))) has w.changed in
+      let there = subst (λ o. AtPlace (λ (t : Table). MakesAt (mode_of old) (MakesIndex (statement_of text (understood from text)) db t)) o (Ok (w.tally, new.now))) m.there does in
+      let all = went (subst (λ t. MakesAt (mode_of old) (MakesIndex t db table) (Ok (w.tally, new.now))) m.whole there) in
+      let made = all.1 in
+      let now : new.now ≡ all.0 = ap (λ (p : Tally × Database). p.1) (same_value all.2) in
+      let same : made.index ≡ record index { tree = 0 } = same_value (sym made.defined ∙ m.defined) in
+      let schema_is : new.now.schema ≡ with_index from index = ap (λ (d : Database). d.schema) now ∙ made.is ∙ ap (indexed from table) same ∙ m.tree in
+      let kept : KeepsRows from.tables old.now.trees new.now.trees = subst (λ (d : Database). KeepsRows from.tables old.now.trees d.trees) (sym now) made.rows in
+      all_stay from (with_index from index) old.now new.now has schema_is w.sound (λ t at. at) kept
+
+-- ── a table that is dropped ──
+
+no_child : (keys : Keys) (table : Table) (tables : List Table) → AllByRecursion (λ t. t.references ≡ []) tables
+    → list_any (λ t. list_any (λ ref. same_name table.name ref.parent && is_some (deed_for keys true ref)) t.references) tables ≡ false
+no_child keys table [] h = refl
+no_child keys table (t ∷ tables) h = rw h.0 (no_child keys table tables h.1)
+
+emptied_same : (task : Task) → HasNoReferences task.schema → (db next : Trees) → Empties task db (Ok next) → next ≡ db
+emptied_same task free db next h =
+    let none = subst (λ b. MatchBool b (Edited task.schema task.keys db (edit_of db task.table (ids_of (db task.table.tree)) Given 0 []) (Ok next)) (Gives db (Ok next))) (no_child task.keys task.table task.schema.tables free) h in
+    same_value none
+
+uncounted_same : (task : Task) → task.table.is_counted ≡ false → (db next : Trees) → Uncounts task db (Ok next) → next ≡ db
+uncounted_same task plain db next h =
+    let none = subst (λ b. UncountsIn task db (cond b (sequence task.schema) None) (Ok next)) plain h in
+    same_value none
+
+-- what a drop leaves
+record Left (schema : Schema) (tree : ℕ) (old : Trees) (new : Database) : Type 0 where
+  pub schema_is : new.schema ≡ without_table schema tree
+  pub others : KeepsRows (without_table schema tree).tables old new.trees
+
+on_drop : (task : Task) → HasNoReferences task.schema → task.table.is_counted ≡ false → (mode : Mode) (db : Trees) (tally : Tally) (after : Database) → Drops task mode db (Ok (tally, after))
+    → Left task.schema task.table.tree db after
+on_drop task free plain mode db tally after h =
+    let emptied = went h in
+    let counted = went emptied.2 in
+    let tested = went counted.2 in
+    let left = went tested.2 in
+    let now : after ≡ left.0 = ap (λ (p : Tally × Database). p.1) (same_value left.2) in
+    let same : counted.0 ≡ db = uncounted_same task plain emptied.0 counted.0 counted.1 ∙ emptied_same task free db emptied.0 emptied.1 in
+    record {
+      schema_is = ap (λ (d : Database). d.schema) now ∙ left.1.0;
+      others = subst₂ (λ (was : Trees) (d : Database). KeepsRows (without_table task.schema task.table.tree).tables was d.trees) same (sym now) left.1.1;
+    }
+
+was_among : (p : Table → Bool) (tables : List Table) (t : Table) → Contains (filter p tables) t → Contains tables t
+was_among p tables t there = contains_had tables t (has_filtered p tables t (has_contained (filter p tables) t there)).0
+
+module _ (from : Schema) (text : List ℕ) (table : Table) (m : MeansRemoved from text table) (free : HasNoReferences from) (old new : State) (has : old.now.schema ≡ from) where
+  pub table_gone : (count : ℕ) → Executes text [] old new (Ok count) → Reaches (without_table from table.tree) unchanged old.now new.now
+  table_gone count h =
+      let to = without_table from table.tree in
+      let w = runs_as text [] old new from has (DropTable m.at) m.is m.plain count h in
+      let does = subst (λ s. Does old.step_limit (mode_of old) [] (record old.now { schema = s }) (statement_of text (understood from text)) None (DropTable m.at) (Ok (w.tally, new.now))) has w.changed in
+      let task = λ (t : Table). (let it : Task = record { limit = old.step_limit; keys = Enforced; schema = from; table = t; params = [] } in it) in
+      let done = subst (λ o. AtPlace (λ t. Drops (task t) (mode_of old) old.now.trees) o (Ok (w.tally, new.now))) m.there does in
+      let left = on_drop (task table) free m.uncounted (mode_of old) old.now.trees w.tally new.now done in
+      all_stay from to old.now new.now has left.schema_is w.sound (was_among (λ t. not (t.tree == table.tree)) from.tables) left.others
+
+-- ── calls ──
+
+-- the one statement of a call
+pub alters_by : {V : Type 0} (from to : Schema) (onto : TableName → List Row → List Row) (text : List ℕ) (old new : State) (r : Result V TableFault)
+    → ((count : ℕ) → old.now.schema ≡ from → Executes text [] old new (Ok count) → Reaches to onto old.now new.now)
+    → (HasCleanDisk new → IsTrue old.in_transaction → OnOk r ((count : ℕ) × ExecutesInside 0 text [] old new (Ok count)))
+    → (HasCleanDisk new → IsTrue old.in_transaction → OnOk r (StaysInside old new)) → IsWithin old new → Alters from to onto old new r
+alters_by from to onto text old new r does runs inside within = record {
+  reaches = λ clean entered has rises. on_weaker r (λ ran. does ran.0 has ran.1.0) (runs clean entered.0);
+  mode = λ clean begun. on_weaker r (λ stays. stays.mode) (inside clean begun);
+  inside = λ clean entered. inside clean entered.0;
+  within = within;
+}

@@ -1,0 +1,78 @@
+-- The texts of the statements that make and drop tables, each over the schema that it finds: what it is understood as, computed.
+use Rattle.std.proofs.Common.{◌≡◌, refl}
+use Rattle.sqlite.specs.Listing.{understood}
+use Rattle.sqlite.specs.Change.{without_table, with_index}
+use Rattle.sqlite_tied.specs.Compute.{everything}
+use Rattle.mx_layout.specs.Contents.{HasNoReferences}
+use Rattle.mx_layout.specs.CreateTexts.{sector2_text, sector1_dropped, span2_text, span2_by_component_text, span2_by_aircraft_text, span2_by_remove_seq_text}
+use Rattle.mx_layout.specs.Steps.{schema_after}
+use Rattle.mx_layout.specs.Tables.{sector1, sector2, span2, span2_by_component, span2_by_aircraft, span2_by_remove_seq}
+use Rattle.mx_layout.specs.declared.fault.Table.TheVariants as table
+use Rattle.mx_layout.proofs.CreateLemmas.{Defines}
+use Rattle.mx_layout.proofs.DropLemmas.{MeansRemoved, none_refer}
+use Rattle.mx_layout.proofs.IndexLemmas.{MeansIndexed}
+use Rattle.mx_moves.proofs.AlterLemmas.{HasNew}
+use Rattle.mx_moves.specs.Changes.{unchanged}
+use Rattle.mx_moves.proofs.RowLemmas.{Turns, turns_same}
+
+pub sector2_defined : Defines (schema_after 15) sector2_text sector2
+unfolding understood everything
+sector2_defined = record { command = refl; whole = refl; plain = (refl, refl); defined = refl; uncounted = refl }
+
+pub sector2_new : HasNew (schema_after 15) (schema_after 16) table.Sector2
+unfolding everything
+sector2_new = record { is = refl; ends = refl; tree = refl; uncounted = (refl, (refl, (refl, (refl, (refl, (refl, (refl, (refl, (refl, (refl, (refl, (refl, (refl, (refl, (refl, (refl, tt)))))))))))))))) }
+
+pub sector1_removed : MeansRemoved (schema_after 16) sector1_dropped sector1
+unfolding understood everything
+sector1_removed = record { at = 12; there = refl; is = refl; plain = (refl, refl); uncounted = refl }
+
+pub sector1_free : HasNoReferences (schema_after 16)
+unfolding everything
+sector1_free = none_refer (schema_after 16).tables refl
+
+pub sector1_left : without_table (schema_after 16) sector1.tree ≡ schema_after 17
+unfolding everything
+sector1_left = refl
+
+pub span2_defined : Defines (schema_after 17) span2_text span2
+unfolding understood everything
+span2_defined = record { command = refl; whole = refl; plain = (refl, refl); defined = refl; uncounted = refl }
+
+pub span2_new : HasNew (schema_after 17) (schema_after 18) table.Span2
+unfolding everything
+span2_new = record { is = refl; ends = refl; tree = refl; uncounted = (refl, (refl, (refl, (refl, (refl, (refl, (refl, (refl, (refl, (refl, (refl, (refl, (refl, (refl, (refl, (refl, tt)))))))))))))))) }
+
+pub by_component_indexed : MeansIndexed (schema_after 18) span2_by_component_text span2 span2_by_component
+unfolding understood everything
+by_component_indexed = record { at = 15; there = refl; is = refl; whole = refl; plain = (refl, refl); defined = refl; tree = refl }
+
+pub by_aircraft_indexed : MeansIndexed (schema_after 19) span2_by_aircraft_text span2 span2_by_aircraft
+unfolding understood everything
+by_aircraft_indexed = record { at = 15; there = refl; is = refl; whole = refl; plain = (refl, refl); defined = refl; tree = refl }
+
+pub by_remove_seq_indexed : MeansIndexed (schema_after 20) span2_by_remove_seq_text span2 span2_by_remove_seq
+unfolding understood everything
+by_remove_seq_indexed = record { at = 15; there = refl; is = refl; whole = refl; plain = (refl, refl); defined = refl; tree = refl }
+
+pub by_component_next : with_index (schema_after 18) span2_by_component ≡ schema_after 19
+by_component_next = refl
+
+pub by_aircraft_next : with_index (schema_after 19) span2_by_aircraft ≡ schema_after 20
+by_aircraft_next = refl
+
+pub by_remove_seq_next : with_index (schema_after 20) span2_by_remove_seq ≡ schema_after 21
+by_remove_seq_next = refl
+
+-- indexes leave the tables as they are
+pub by_aircraft_turns : Turns (schema_after 19) (schema_after 20) unchanged
+by_aircraft_turns = turns_same (schema_after 19) (schema_after 20) unchanged refl (λ name xs ys same. same)
+
+pub index_turns : Turns (schema_after 19) (schema_after 21) unchanged
+index_turns = turns_same (schema_after 19) (schema_after 21) unchanged refl (λ name xs ys same. same)
+
+pub by_remove_seq_turns : Turns (schema_after 20) (schema_after 21) unchanged
+by_remove_seq_turns = turns_same (schema_after 20) (schema_after 21) unchanged refl (λ name xs ys same. same)
+
+pub indexes_turn : Turns (schema_after 18) (schema_after 21) unchanged
+indexes_turn = turns_same (schema_after 18) (schema_after 21) unchanged refl (λ name xs ys same. same)

@@ -1,0 +1,4 @@
+pub mod Changes
+pub mod Schemas
+pub mod Keeping
+pub mod Texts
