@@ -1,0 +1,7 @@
+pub mod StandsLemmas
+pub mod PageLemmas
+pub mod SectorLemmas
+pub mod MadeLemmas
+pub mod TurnLemmas
+pub mod PairLemmas
+pub mod ComponentLemmas

@@ -1,0 +1,5 @@
+pub mod Rows
+pub mod Sectors
+pub mod Tables
+pub mod Pairing
+pub mod Components
