@@ -1,0 +1,3 @@
+pub mod CommitLemmas
+pub mod RunLemmas
+pub mod WriteLemmas
