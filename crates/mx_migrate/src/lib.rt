@@ -7,8 +7,10 @@
 
 pub mod creating;
 pub mod fault;
+pub mod spans;
 pub mod step;
 
 pub use creating::CreateSectors;
 pub use fault::MoveFault;
+pub use spans::ChangeToSpans;
 pub use step::{Migrate, commit_step};
