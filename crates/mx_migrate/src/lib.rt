@@ -7,10 +7,12 @@
 
 pub mod creating;
 pub mod fault;
+pub mod sectors;
 pub mod spans;
 pub mod step;
 
 pub use creating::CreateSectors;
 pub use fault::MoveFault;
+pub use sectors::MoveSectors;
 pub use spans::ChangeToSpans;
 pub use step::{Migrate, commit_step};

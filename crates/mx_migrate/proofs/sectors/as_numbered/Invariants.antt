@@ -1,0 +1,7 @@
+use Rattle.std.proofs.Common.{◌≡◌, map, take}
+use Rattle.mx_typed_rows.specs.declared.rows.Sector2Row.{Sector2Row}
+use Rattle.mx_migrate.proofs.sectors.as_numbered.Given as goal
+
+-- the rows so far are there
+abbrev pub invariant-rows : goal.invariant-rows
+invariant-rows l = map (λ (row : Sector2Row). row.sector) l.numbered.items ≡ take l.row-index l.rows
