@@ -1,5 +1,5 @@
 -- The registers as one family: the number in a row, and the rows that a command would have with a number, of names that are looked up in a book.
-use Rattle.std.specs.Prelude.{◌≡◌, ℕ, List, [], Option, filter, nat_eq}
+use Rattle.std.specs.Prelude.{◌≡◌, ℕ, List, [], Option, None, Some, filter, nat_eq}
 use Rattle.mx_command.specs.Act.{Act, Entry, Added, Listed, Loaded, Opened, Flown, Fitted, Removed, Released, Deferred, Extended, aircraft_of, positions_of, component_of, programme_of, tasks_of, opening_of, sector_of, fitting_of, removal_of, release_of, lines_of, deferral_of, extension_of}
 use Rattle.mx_command.specs.declared.release.Line.{Line}
 use Rattle.mx_command.specs.declared.release.Line.TheVariants.{Done, Rectified}
@@ -107,3 +107,8 @@ AreSame book n (Extended x) = Same extensions book n (Extended x)
 abbrev pub seq_of_line : List Entry → Line → Option ℕ
 seq_of_line book (Done item task) = seq_of_item book item
 seq_of_line book (Rectified doc) = seq_of_defect book doc
+
+-- the row of a line, on this line of the release that the entry with this number says, where what it is of has that number
+abbrev pub line_row : ℕ → ℕ → ℕ → Line → ReleaseLineRow
+line_row n line number (Done item task) = record { seq = n; line = line; item = Some number; task = Some task; defect = None }
+line_row n line number (Rectified doc) = record { seq = n; line = line; item = None; task = None; defect = Some number }

@@ -15,7 +15,7 @@ ghost use Rattle.mx_kept_rows.specs.Spans.{span_rows};
 ghost use Rattle.mx_register.specs.Names.{or_zero};
 ghost use Rattle.mx_register.specs.Registers.{release_line_row};
 ghost use Rattle.mx_typed_rows.specs.declared.rows.SpanRow.{SpanRow};
-ghost use Rattle.mx_found.specs.Given.{AreSame, seq_of_line};
+ghost use Rattle.mx_found.specs.Given.{AreSame, line_row, seq_of_line};
 ghost use Rattle.mx_found.specs.Names.{entries_with, entry_number};
 ghost use Rattle.mx_found.specs.Spans.{begins_with, ends_with, is_removed_by};
 
@@ -25,7 +25,8 @@ use mx_typed_rows::{ReleaseLineRow, SpanRow};
 /// The row that a line of a release would have with a number on a line, where this is the number of what it is of: of the item
 /// that a task was done on, or of the defect that was rectified, or 0 where the book has none.
 pub fn release_line_row(seq: u32, line: u32, number: u32, certified: &Line) -> ReleaseLineRow
-    ensures { (book : List Entry) → number ≡ or_zero (seq_of_line book certified.now)
+    ensures row { result ≡ line_row seq line number certified.now }
+    ensures of_book { (book : List Entry) → number ≡ or_zero (seq_of_line book certified.now)
         → result ≡ release_line_row book seq line certified.now }
 {
     match certified {
