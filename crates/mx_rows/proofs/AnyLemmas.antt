@@ -1,7 +1,7 @@
 -- What look-ups find, one after another, and what is damaged where the second finds nothing.
-use Rattle.std.proofs.Common.{◌≡◌, ℕ, pos, true, ◌∙◌, List, [], ◌∷◌, Bool, map, filter, length, Option, None, Some, Ok, inl, refl, sym, ap, subst, arith}
+use Rattle.std.proofs.Common.{◌≡◌, ℕ, pos, true, ◌∙◌, List, [], ◌∷◌, Bool, map, filter, length, Option, None, Some, Result, Ok, Err, inl, refl, sym, ap, subst, arith}
 use Rattle.std.specs.List.Sorted.{IsPermutation}
-use Rattle.std.specs.Prelude.{Contains, slice_get}
+use Rattle.std.specs.Prelude.{Contains, IsErrAnd, slice_get}
 use Rattle.std.specs.Option.{option_map}
 use Rattle.std.proofs.lemmas.List.Sorted.{IsPermutation-sym, Contains-permutation, length_permutation}
 use Rattle.std.proofs.lemmas.List.Elements.{All-contains}
@@ -16,6 +16,7 @@ use Rattle.sqlite.specs.State.{State, HasCleanDisk}
 use Rattle.sqlite.specs.Tree.{Trees}
 use Rattle.mx_command.specs.Act.{Entry}
 use Rattle.mx_layout.specs.TableName.{TableName}
+use Rattle.mx_layout.specs.declared.fault.TableFault.{TableFault}
 use Rattle.mx_layout.specs.Contents.{rows_in}
 use Rattle.mx_layout.specs.Crash.{IsWithin}
 use Rattle.mx_layout.specs.Names.{table_named}
@@ -40,6 +41,11 @@ pub gives : {X V W : Type 0} {k : Kept X} {book_rows : List Entry → List X} (i
     → w ≡ of (items rows) → ReadsFirst k most order chosen items old new (Ok rows) → ReadsAny (GivesFirst k most order chosen of) old new (Ok w)
 gives it = given_in it.is_in
 
+-- where nothing is answered, nothing is said of the rows
+pub silent : {V : Type 0} (Is : Trees → V → Type 0) (old new : State) (e : TableFault) (result : Result V TableFault) → IsErrAnd result (λ f. f ≡ e) → ReadsAny Is old new result
+silent Is old new e (Ok v) is = absurd is
+silent Is old new e (Err f) is = record { found = λ clean has. tt }
+
 -- what follows from what is answered
 pub any_so : {V W : Type 0} (P : Trees → V → Type 0) (Q : Trees → W → Type 0) (old new : State) (v : V) (w : W) → ((trees : Trees) → P trees v → Q trees w) → ReadsAny P old new (Ok v) → ReadsAny Q old new (Ok w)
 any_so P Q old new v w so r = record { found = λ clean has. so old.now.trees (r.found clean has) }
@@ -53,24 +59,43 @@ any_later P Q a b c v w one within two = record {
       subst (λ (d : Database). Q d.trees w) same (two.found clean (ap (λ (d : Database). d.schema) same ∙ has));
 }
 
--- the number that was found, before what was looked up by it
-pub found_some : (First : Trees → Option ℕ → Type 0) {a b c : State} {found : Option ℕ} {n : ℕ} → found ≡ Some n → ReadsAny First a b (Ok found) → IsWithin b c → HasCleanDisk c → a.now.schema ≡ schema_at rows_point → First a.now.trees (Some n)
+-- what was found, before what was looked up by it
+pub found_some : {A : Type 0} (First : Trees → Option A → Type 0) {a b c : State} {found : Option A} {n : A} → found ≡ Some n → ReadsAny First a b (Ok found) → IsWithin b c → HasCleanDisk c → a.now.schema ≡ schema_at rows_point → First a.now.trees (Some n)
 found_some First {a} is first within clean has = subst (First a.now.trees) is (first.found (omega (arith, within.survives.clean)) has)
 
--- what is looked up by a number that was found
-pub by_number : {V : Type 0} (P : List Entry → Option ℕ → Type 0) (First : Trees → Option ℕ → Type 0) (none : V) (Then : ℕ → Trees → V → Type 0) (a b c : State) (found : Option ℕ) (n : ℕ) (w : V) → found ≡ Some n
+-- what is looked up by what was found
+pub by_number : {A V : Type 0} (P : List Entry → Option A → Type 0) (First : Trees → Option A → Type 0) (none : V) (Then : A → Trees → V → Type 0) (a b c : State) (found : Option A) (n : A) (w : V) → found ≡ Some n
     → Reads P a b (Ok found) → ReadsAny First a b (Ok found) → IsWithin b c → ReadsAny (Then n) b c (Ok w) → ReadsAny (GivesBy First none Then) a c (Ok w)
 by_number P First none Then a b c found n w is one first within later = record {
   found = λ clean has. record {
-    number = Some n;
+    found = Some n;
     first = found_some First is first within clean has;
     then = (any_later P (Then n) a b c found w one within later).found clean has;
   };
 }
 
--- no number was found
-pub by_none : {V : Type 0} (First : Trees → Option ℕ → Type 0) (none : V) (Then : ℕ → Trees → V → Type 0) (a b : State) (found : Option ℕ) → found ≡ None → ReadsAny First a b (Ok found) → ReadsAny (GivesBy First none Then) a b (Ok none)
-by_none First none Then a b found is first = record { found = λ clean has. record { number = None; first = subst (First a.now.trees) is (first.found clean has); then = refl } }
+-- nothing was found
+pub by_none : {A V : Type 0} (First : Trees → Option A → Type 0) (none : V) (Then : A → Trees → V → Type 0) (a b : State) (found : Option A) → found ≡ None → ReadsAny First a b (Ok found) → ReadsAny (GivesBy First none Then) a b (Ok none)
+by_none First none Then a b found is first = record { found = λ clean has. record { found = None; first = subst (First a.now.trees) is (first.found clean has); then = refl } }
+
+-- nothing was found, and the answer holds none
+pub by_nothing : {A V W : Type 0} (First : Trees → Option A → Type 0) (none : V) (Then : A → Trees → V → Type 0) (of : W → V) (a b : State) (found : Option A) (w : W) → found ≡ None → of w ≡ none → ReadsAny First a b (Ok found) → ReadsAny (λ trees it. GivesBy First none Then trees (of it)) a b (Ok w)
+by_nothing First none Then of a b found w is made first = record { found = λ clean has. record { found = None; first = subst (First a.now.trees) is (first.found clean has); then = made } }
+
+-- what is looked up by what was found, where that is handed on, or is not answered
+pub by_result : {A V W : Type 0} (P : List Entry → Option A → Type 0) (First : Trees → Option A → Type 0) (none : V) (Then : A → Trees → V → Type 0) (of : W → V) (a b c : State) (found : Option A) (n : A) (result : Result W TableFault) → found ≡ Some n
+    → Reads P a b (Ok found) → ReadsAny First a b (Ok found) → IsWithin b c → ReadsAny (λ trees w. Then n trees (of w)) b c result → ReadsAny (λ trees w. GivesBy First none Then trees (of w)) a c result
+by_result P First none Then of a b c found n (Ok w) is one first within later = record { found = (by_number P First none Then a b c found n (of w) is one first within (record { found = later.found })).found }
+by_result P First none Then of a b c found n (Err e) is one first within later = record { found = λ clean has. tt }
+
+-- nothing is in what was found
+pub by_missing : {A U V : Type 0} (First : Trees → Option A → Type 0) (none : V) (Then : A → Trees → V → Type 0) (of : U → Option A) (a b : State) (u : U) → of u ≡ None → ReadsAny (λ trees o. First trees (of o)) a b (Ok u) → ReadsAny (GivesBy First none Then) a b (Ok none)
+by_missing First none Then of a b u is first = record { found = λ clean has. record { found = None; first = subst (First a.now.trees) is (first.found clean has); then = refl } }
+
+-- what was found gives the answer by itself
+pub by_itself : {A U V : Type 0} (First : Trees → Option A → Type 0) (none : V) (gives : A → V) (of : U → Option A) (a b : State) (u : U) (found : A) (w : V) → of u ≡ Some found → w ≡ gives found → ReadsAny (λ trees o. First trees (of o)) a b (Ok u)
+    → ReadsAny (GivesBy First none (λ it trees answer. answer ≡ gives it)) a b (Ok w)
+by_itself First none gives of a b u found w is made first = record { found = λ clean has. record { found = Some found; first = subst (First a.now.trees) is (first.found clean has); then = made } }
 
 -- ── what is damaged ──
 

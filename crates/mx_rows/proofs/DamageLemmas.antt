@@ -49,7 +49,7 @@ span_of trees n (Some m) is = (m, is)
 pub fitted_unmet : (trees : Trees) (serial : List ℕ) (n : ℕ) → NumberFitted serial trees (Some n) → TailOfNumber n trees None → IsDamaged table.Span2 trees
 unfolding IsDamaged
 fitted_unmet trees serial n one none =
-    let span = span_of trees n one.number one.then in
+    let span = span_of trees n one.found one.then in
     inr (inl (_, (1, omega arith, refl), refl, unmet kept_span2 kept_aircraft 2 (λ row. row.aircraft) (λ row. refl) table.Span2 (λ row. row.tail) span.1 none))
 
 -- an item has no total

@@ -1,5 +1,5 @@
 -- Rows of a table that are gone through one by one, with a look-up for each.
-use Rattle.std.proofs.Common.{◌≡◌, ℕ, List, [], ◌∷◌, ◌++◌, Bool, length, Option, Result, None, Some, Ok, Err, sym, ap, subst, arith, ◌∙◌, append_assoc, append-nil}
+use Rattle.std.proofs.Common.{◌≡◌, ℕ, List, [], ◌∷◌, ◌++◌, Bool, length, Option, Result, None, Some, Ok, Err, refl, sym, ap, ap₂, subst, arith, ◌∙◌, append_assoc, append-nil}
 use Rattle.std.specs.Prelude.{IsErrAnd}
 use Rattle.std.specs.List.{AllByRecursion, filter_map, cons_option}
 use Rattle.sqlite.specs.Order.{Row}
@@ -14,24 +14,27 @@ use Rattle.mx_layout.specs.declared.fault.TableFault.{TableFault}
 use Rattle.mx_layout.specs.declared.fault.TableFault.TheVariants as fault
 use Rattle.mx_kept.specs.Kept.{Kept}
 use Rattle.mx_chosen.specs.Calls.{ReadsFirst}
-use Rattle.mx_rows.specs.AnyRows.{ReadsAny}
+use Rattle.mx_rows.specs.AnyRows.{AreChosen, AreSaid, GivesEach, ReadsAny}
 use Rattle.mx_rows.specs.Damage.{IsDamaged, IsKept}
 use Rattle.mx_rows.specs.Reads.{Reads}
 use Rattle.mx_rows.proofs.AnyLemmas.{any_later, empty_is, chosen_kept, gives}
 use Rattle.mx_rows.proofs.ReadLemmas.{no_memory, reads_then, refused, stopped, told}
 use Rattle.mx_rows.proofs.TableLemmas.{IsTable}
 
--- what each row of a book says, where it says anything, and what is there for each
-module _ {R X : Type 0} (k : Kept R) (rows : List Entry → List R) (said : List Entry → R → Option X) (There : List Entry → R → Type 0) where
+-- what each row of a book says, where it says anything, and what is there for each; the rows that are gone through, and what each says over any rows
+module _ {R X : Type 0} (k : Kept R) (rows : List Entry → List R) (said : List Entry → R → Option X) (There : List Entry → R → Type 0) (chosen : Row → Bool) (Says : Trees → R → Option X → Type 0) where
   -- the rows that are left have what is to be there for each, and what was said so far and what they say is what all rows say
   abbrev IsLeft : List X → List R → List Entry → Type 0
   IsLeft done left book = AllByRecursion (There book) left × (filter_map (said book) (rows book) ≡ done ++ filter_map (said book) left)
 
-  -- and over any rows those that are left are kept in the table
-  abbrev pub Walks : State → State → List X → List R → Type 0
-  Walks old new done left = Reads {V = ℕ} (λ book n. IsLeft done left book) old new (Ok 0) × ReadsAny {V = ℕ} (λ trees n. AllByRecursion (IsKept k trees) left) old new (Ok 0)
+  -- over any rows those that are left are kept in the table, and what they say comes behind what was said so far in what the chosen rows say
+  abbrev IsBehind : List X → List R → Trees → Type 0
+  IsBehind done left trees = (all : List R) × AreChosen k None k.order chosen trees all × AllByRecursion (IsKept k trees) left × ((later : List X) → AreSaid (Says trees) left later → AreSaid (Says trees) all (done ++ later))
 
-  pub walk_begun : {V : Type 0} (items : V → List R) (old new : State) (v : V) (done : List X) (left : List R) {chosen : Row → Bool} {book_rows : List Entry → List R} → done ≡ [] → left ≡ items v → ((book : List Entry) → IsBook book → AllByRecursion (There book) (rows book))
+  abbrev pub Walks : State → State → List X → List R → Type 0
+  Walks old new done left = Reads {V = ℕ} (λ book n. IsLeft done left book) old new (Ok 0) × ReadsAny {V = ℕ} (λ trees n. IsBehind done left trees) old new (Ok 0)
+
+  pub walk_begun : {V : Type 0} (items : V → List R) (old new : State) (v : V) (done : List X) (left : List R) {book_rows : List Entry → List R} → done ≡ [] → left ≡ items v → ((book : List Entry) → IsBook book → AllByRecursion (There book) (rows book))
       → IsTable k book_rows → ReadsFirst k None k.order chosen items old new (Ok v) → Reads (λ book w. items w ≡ rows book) old new (Ok v) → Walks old new done left
   walk_begun items old new v done left none all law it raw =
       λ r. (
@@ -41,8 +44,12 @@ module _ {R X : Type 0} (k : Kept R) (rows : List Entry → List R) (said : List
         )) r,
         record {
           found = λ clean has.
-              let gave = (gives it {items = items} (λ found. found) all raw).found clean has in
-              all_from (IsKept k old.now.trees) left (λ x here. chosen_kept k x gave.0 (subst (λ l. Has l x) gave.2 here) gave.1);
+              let gave = (gives it {items = items} (λ found. found) all raw).found clean has in (
+                gave.0,
+                gave.1,
+                all_from (IsKept k old.now.trees) left (λ x here. chosen_kept k x gave.0 (subst (λ l. Has l x) gave.2 here) gave.1),
+                λ later said. subst (λ l. AreSaid (Says old.now.trees) l (done ++ later)) gave.2 (subst (λ before. AreSaid (Says old.now.trees) left (before ++ later)) (sym none) said),
+              );
         },
       )
 
@@ -53,31 +60,44 @@ module _ {R X : Type 0} (k : Kept R) (rows : List Entry → List R) (said : List
     both : {V : Type 0} (P : List Entry → V → Type 0) (v : V) → Reads P b c (Ok v) → Reads {V = V} (λ book w. IsLeft done (row ∷ later) book × P book w) a c (Ok v)
     both P v r = reads_then _ P a b c 0 (Ok v) here.0 r
 
-    -- those that are left behind it are kept
-    kept : {V : Type 0} (P : List Entry → V → Type 0) (v : V) → Reads P b c (Ok v) → ReadsAny {V = ℕ} (λ trees n. AllByRecursion (IsKept k trees) later) a c (Ok 0)
-    kept P v r = record { found = λ clean has. (here.1.found (omega (arith, r.within.survives.clean)) has).1 }
+    -- over any rows it says this, before what those behind it say
+    behind : {V : Type 0} (P : List Entry → V → Type 0) (Any : Trees → V → Type 0) (v : V) (one : Option X) (longer : List X) → ((rest : List X) → longer ++ rest ≡ done ++ cons_option one rest) → ((trees : Trees) → Any trees v → Says trees row one)
+        → Reads P b c (Ok v) → ReadsAny Any b c (Ok v) → ReadsAny {V = ℕ} (λ trees n. IsBehind longer later trees) a c (Ok 0)
+    behind P Any v one longer more so r any = record {
+      found = λ clean has.
+          let was = here.1.found (omega (arith, clean, r.within.survives.clean)) has in (
+            was.0,
+            was.1,
+            was.2.1,
+            λ rest said. subst (AreSaid (Says a.now.trees) was.0) (sym (more rest)) (was.3 (cons_option one rest) (one, rest, so a.now.trees ((any_later _ Any a b c 0 v here.0 r.within any).found clean has), said, refl)),
+          );
+    }
 
     -- the row says one thing more
-    pub said_more : {V : Type 0} (P : List Entry → V → Type 0) (v : V) (x : X) (longer : List X) → longer ≡ done ++ x ∷ [] → ((book : List Entry) → P book v → said book row ≡ Some x) → Reads P b c (Ok v) → Walks a c longer later
-    said_more P v x longer more so r = (
+    pub said_more : {V : Type 0} (P : List Entry → V → Type 0) (Any : Trees → V → Type 0) (v : V) (x : X) (longer : List X) → longer ≡ done ++ x ∷ [] → ((book : List Entry) → P book v → said book row ≡ Some x) → ((trees : Trees) → Any trees v → Says trees row (Some x))
+        → Reads P b c (Ok v) → ReadsAny Any b c (Ok v) → Walks a c longer later
+    said_more P Any v x longer more so says r any = (
       told _ _ a c v 0 (λ book is_book h. (
         h.0.0.1,
         h.0.1 ∙ ap (λ o. done ++ cons_option o (filter_map (said book) later)) (so book h.1)
             ∙ sym (append_assoc done (x ∷ []) (filter_map (said book) later)) ∙ ap (λ l. l ++ filter_map (said book) later) (sym more),
       )) (both P v r),
-      kept P v r,
+      behind P Any v (Some x) longer (λ rest. ap (λ l. l ++ rest) more ∙ append_assoc done (x ∷ []) rest) says r any,
     )
 
     -- the row says nothing
-    pub passed_by : {V : Type 0} (P : List Entry → V → Type 0) (v : V) → ((book : List Entry) → P book v → said book row ≡ None) → Reads P b c (Ok v) → Walks a c done later
-    passed_by P v so r = (told _ _ a c v 0 (λ book is_book h. (h.0.0.1, h.0.1 ∙ ap (λ o. done ++ cons_option o (filter_map (said book) later)) (so book h.1))) (both P v r), kept P v r)
+    pub passed_by : {V : Type 0} (P : List Entry → V → Type 0) (Any : Trees → V → Type 0) (v : V) → ((book : List Entry) → P book v → said book row ≡ None) → ((trees : Trees) → Any trees v → Says trees row None) → Reads P b c (Ok v) → ReadsAny Any b c (Ok v) → Walks a c done later
+    passed_by P Any v so says r any = (
+      told _ _ a c v 0 (λ book is_book h. (h.0.0.1, h.0.1 ∙ ap (λ o. done ++ cons_option o (filter_map (said book) later)) (so book h.1))) (both P v r),
+      behind P Any v None done (λ rest. refl) says r any,
+    )
 
     -- what is to be there for the row is not
     pub missing : {V W : Type 0} (P : List Entry → V → Type 0) (Q : List Entry → W → Type 0) (Any : Trees → V → Type 0) (v : V) (name : TableName) → ((book : List Entry) → There book row → P book v → ⊥) → ((trees : Trees) → IsKept k trees row → Any trees v → IsDamaged name trees)
         → Reads P b c (Ok v) → ReadsAny Any b c (Ok v) → Reads Q a c (Err (fault.Damaged name))
     missing P Q Any v name never reason r any =
         refused _ Q a c v name (λ book is_book h. never book h.0.0.0 h.1)
-        (λ clean has. reason a.now.trees (here.1.found (omega (arith, clean, r.within.survives.clean)) has).0 ((any_later _ Any a b c 0 v here.0 r.within any).found clean has)) (both P v r)
+        (λ clean has. reason a.now.trees (here.1.found (omega (arith, clean, r.within.survives.clean)) has).2.0 ((any_later _ Any a b c 0 v here.0 r.within any).found clean has)) (both P v r)
 
     pub walk_starved : {V W : Type 0} (P : List Entry → V → Type 0) (Q : List Entry → W → Type 0) (v : V) (result : Result W TableFault) → IsErrAnd result (λ e. e ≡ fault.Memory) → Reads P b c (Ok v) → Reads Q a c result
     walk_starved P Q v result is r = stopped Q Q a c fault.Memory result is (no_memory _ Q a c v (both P v r))
@@ -90,3 +110,14 @@ module _ {R X : Type 0} (k : Kept R) (rows : List Entry → List R) (said : List
   pub walk_ended : {V : Type 0} (items : V → List X) (a b : State) (v : V) (rest : List R) → length rest ≡ 0 → Walks a b (items v) rest → Reads (λ book w. items w ≡ filter_map (said book) (rows book)) a b (Ok v)
   walk_ended items a b v rest none walks =
       told _ _ a b 0 v (λ book is_book h. sym (h.1 ∙ ap (λ l. items v ++ filter_map (said book) l) (empty_is rest none) ∙ append-nil (items v))) walks.0
+
+  -- and the chosen rows, whatever they are, said what there is
+  pub walk_said : {V : Type 0} (items : V → List X) (a b : State) (v : V) (rest : List R) → length rest ≡ 0 → Walks a b (items v) rest → ReadsAny (λ trees w. GivesEach k chosen Says trees (items w)) a b (Ok v)
+  walk_said items a b v rest none walks = record {
+    found = λ clean has.
+        let was = walks.1.found clean has in (
+          was.0,
+          was.1,
+          subst (AreSaid (Says a.now.trees) was.0) (append-nil (items v)) (was.3 [] (subst (λ l. AreSaid (Says a.now.trees) l []) (sym (empty_is rest none)) refl)),
+        );
+  }

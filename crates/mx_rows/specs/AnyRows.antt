@@ -1,5 +1,6 @@
 -- What look-ups inside a transaction answer over any rows: what the rows that are chosen give.
-use Rattle.std.specs.Prelude.{◌≡◌, ℕ, Bool, List, map, All, Option, None, Result, IfOk, MatchOption}
+use Rattle.std.specs.Prelude.{◌≡◌, ℕ, Bool, List, [], ◌∷◌, map, All, Option, None, Result, IfOk, MatchOption}
+use Rattle.std.specs.List.{cons_option}
 use Rattle.std.specs.declared.cmp.Ordering.{Ordering}
 use Rattle.sqlite.specs.Order.{Row}
 use Rattle.sqlite.specs.State.{State, HasCleanDisk}
@@ -28,8 +29,17 @@ GivesFirst {X} k most order chosen gives trees answer = (rows : List X) × AreCh
 abbrev pub Gives : {X V : Type 0} → Kept X → (Row → Bool) → (List X → V) → Trees → V → Type 0
 Gives k = GivesFirst k None k.order
 
--- a number is looked up first: the answer is what is looked up by it, or this one where there is no number
-pub record GivesBy {V : Type 0} (First : Trees → Option ℕ → Type 0) (none : V) (Then : ℕ → Trees → V → Type 0) (trees : Trees) (answer : V) : Type 0 where
-  pub number : Option ℕ
-  pub first : First trees number
-  pub then : MatchOption number (answer ≡ none) (λ n. Then n trees answer)
+-- something is looked up first: the answer is what is looked up by it, or this one where it is not there
+pub record GivesBy {A V : Type 0} (First : Trees → Option A → Type 0) (none : V) (Then : A → Trees → V → Type 0) (trees : Trees) (answer : V) : Type 0 where
+  pub found : Option A
+  pub first : First trees found
+  pub then : MatchOption found (answer ≡ none) (λ a. Then a trees answer)
+
+-- these are what the rows say, in their order, each of which says one thing or nothing
+abbrev pub AreSaid : {X V : Type 0} → (X → Option V → Type 0) → List X → List V → Type 0
+AreSaid Says [] answer = answer ≡ []
+AreSaid {V = V} Says (row ∷ rows) answer = (said : Option V) × (later : List V) × Says row said × AreSaid Says rows later × (answer ≡ cons_option said later)
+
+-- the answer is what all rows say, each with what is looked up for it, that are chosen from one table, in its order
+abbrev pub GivesEach : {X V : Type 0} → Kept X → (Row → Bool) → (Trees → X → Option V → Type 0) → Trees → List V → Type 0
+GivesEach {X} k chosen Says trees answer = (rows : List X) × AreChosen k None k.order chosen trees rows × AreSaid (Says trees) rows answer

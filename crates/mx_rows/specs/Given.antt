@@ -11,7 +11,9 @@ use Rattle.mx_command.specs.declared.item.Item.{Item}
 use Rattle.mx_command.specs.declared.item.Item.TheVariants.{Airframe, Component}
 use Rattle.mx_command.specs.declared.programme.Task.{Task}
 use Rattle.mx_book.specs.declared.defects.Defect.{Defect}
+use Rattle.mx_book.specs.declared.found.Found.TheVariants as founds
 use Rattle.mx_typed_rows.specs.declared.rows.DeferralRow.{DeferralRow}
+use Rattle.mx_typed_rows.specs.declared.rows.SpanRow.{SpanRow}
 use Rattle.mx_typed_rows.specs.declared.rows.TaskRow.{TaskRow}
 use Rattle.mx_register.specs.Merge.{task_said}
 use Rattle.mx_layout.specs.TableName.{TableName}
@@ -19,13 +21,14 @@ use Rattle.mx_layout.specs.Contents.{rows_in}
 use Rattle.mx_layout.specs.Names.{table_named}
 use Rattle.mx_kept.specs.Cells.{kept_aircraft, kept_base2, kept_component, kept_crs_line, kept_defect, kept_entry, kept_extension, kept_place, kept_programme, kept_span2, kept_task, kept_total2}
 use Rattle.mx_chosen.specs.Choices.{has_value, is_open}
-use Rattle.mx_found.specs.Defects.{deferral_aircraft, defect_in, extension_in, is_rectified_in}
+use Rattle.mx_found.specs.Defects.{deferral_aircraft, defect_in, defect_said, extension_in, is_rectified_in}
 use Rattle.mx_found.specs.Lives.{base_found, clock_in, life_in}
 use Rattle.mx_found.specs.Names.{aircraft_number, component_number, deferral_number, doc_in, serial_in, tail_in}
-use Rattle.mx_found.specs.Programmes.{programme_number, revision_after, task_in}
-use Rattle.mx_found.specs.Said.{part_in}
+use Rattle.mx_found.specs.Programmes.{is_retired_in, programme_number, revision_after, task_in}
+use Rattle.mx_found.specs.Said.{aircraft_in, component_in, part_in}
 use Rattle.mx_found.specs.Spans.{is_taken_in, span_aircraft}
-use Rattle.mx_rows.specs.AnyRows.{AreChosen, Gives, GivesBy}
+use Rattle.mx_rows.specs.AnyRows.{AreChosen, Gives, GivesBy, GivesEach}
+use Rattle.mx_rows.specs.InForce.{born_as}
 
 -- the number of the aircraft with this registration
 abbrev pub AircraftNumber : List ℕ → Trees → Option ℕ → Type 0
@@ -109,6 +112,27 @@ TasksInForce kind trees tasks = (rows : Option (List TaskRow)) × RowsInForce ki
 abbrev pub TaskOf : List ℕ → List ℕ → Trees → Option (Option Task) → Type 0
 TaskOf kind id trees found = (rows : Option (List TaskRow)) × RowsInForce kind trees rows × (found ≡ option_map (λ rows. task_in rows id) rows)
 
+-- the part that the row of the item says, none of an airframe, and the day on which it was built
+abbrev pub BornOf : Item → Trees → Option (Option (List ℕ) × ℕ) → Type 0
+BornOf (Airframe tail) = Gives kept_aircraft (has_value 1 (Text tail)) (λ rows. born_as (founds.Airframe (aircraft_in rows)))
+BornOf (Component serial) = Gives kept_component (has_value 1 (Text serial)) (λ rows. born_as (founds.Component (component_in rows)))
+
+-- whether one of the tasks in force retires what was built so, with the life that it has: none does where the item, or a programme, is not there
+abbrev pub IsRetired : List ℕ → Item → ℕ → Trees → Bool → Type 0
+IsRetired kind item day = GivesBy (BornOf item) false (λ born. GivesBy (LifeOf item) false (λ life. GivesBy (RowsInForce kind) false (λ rows trees ended. ended ≡ is_retired_in born.0 born.1 life day rows)))
+
+-- the position of a span, and the serial number of the component with the number that it names, which is there
+abbrev pub PlaceSaid : Trees → SpanRow → Option (List ℕ × List ℕ) → Type 0
+PlaceSaid trees row said = (serial : List ℕ) × SerialOfNumber row.component trees (Some serial) × (said ≡ Some (row.position, serial))
+
+-- what is fitted to the aircraft with this number: what each open span with that number says
+abbrev pub PlacesAt : ℕ → Trees → List (List ℕ × List ℕ) → Type 0
+PlacesAt n = GivesEach kept_span2 (is_open 2 (Int (pos n))) PlaceSaid
+
+-- what is fitted to the aircraft with this registration, nothing where it is not there
+abbrev pub FittedTo : List ℕ → Trees → List (List ℕ × List ℕ) → Type 0
+FittedTo tail = GivesBy (AircraftNumber tail) [] PlacesAt
+
 -- the defect that the deferral with its number and the aircraft with the number that this names say, which are there
 abbrev pub DefectOf : List ℕ → Trees → Option Defect → Type 0
 DefectOf doc = GivesBy (DefectNumber doc) None (λ n trees found. (rows : List DeferralRow) × AreChosen kept_defect None kept_defect.order (has_value 0 (Int (pos n))) trees rows
@@ -121,6 +145,18 @@ IsRectified doc = GivesBy (DefectNumber doc) false IsRectifiedAt
 -- the extension with its number
 abbrev pub ExtensionOf : List ℕ → Trees → Option Extension → Type 0
 ExtensionOf doc = GivesBy (DefectNumber doc) None (λ n. Gives kept_extension (has_value 1 (Int (pos n))) (extension_in doc))
+
+-- the defect that a deferral says of the aircraft with this registration, with the document of its entry, which is there; nothing where a line has its number
+abbrev pub OpenSaid : List ℕ → Trees → DeferralRow → Option Defect → Type 0
+OpenSaid tail trees row said = (doc : Option (List ℕ)) × DocIfOpen row.seq trees (option_map Some doc) × (said ≡ option_map (λ d. defect_said d tail row) doc)
+
+-- the open defects of the aircraft with this number: what each deferral with that number says
+abbrev pub DefectsAt : List ℕ → ℕ → Trees → List Defect → Type 0
+DefectsAt tail n = GivesEach kept_defect (has_value 1 (Int (pos n))) (OpenSaid tail)
+
+-- the open defects of the aircraft with this registration, none where it is not there
+abbrev pub OpenDefects : List ℕ → Trees → List Defect → Type 0
+OpenDefects tail = GivesBy (AircraftNumber tail) [] (DefectsAt tail)
 
 -- the row has this number and this name of a task
 abbrev pub is_of : ℕ → List ℕ → Row → Bool

@@ -14,7 +14,7 @@ ghost use Rattle.mx_found.specs.Defects.{is_rectified_at, open_said};
 ghost use Rattle.mx_found.specs.Names.{doc_at};
 ghost use Rattle.mx_found.specs.Spans.{is_open_at, place_said};
 ghost use Rattle.mx_rows.specs.AnyRows.{ReadsAny};
-ghost use Rattle.mx_rows.specs.Given.{DocIfOpen, DocOfNumber, SerialOfNumber, TasksInForce};
+ghost use Rattle.mx_rows.specs.Given.{DefectsAt, DocIfOpen, DocOfNumber, FittedTo, OpenDefects, PlacesAt, SerialOfNumber, TasksInForce};
 ghost use Rattle.mx_rows.specs.Reads.{Reads};
 
 use crate::items::aircraft_number;
@@ -83,6 +83,8 @@ fn places_fitted<S: Alter>(
     ensures reads { Reads (λ book places. places.items
         ≡ filter_map (place_said book) (filter (is_open_at aircraft) (span_rows book)))
         (state S.Store tx.old.conn.now) (state S.Store tx.new.conn.now) result }
+    ensures any_rows { ReadsAny (λ trees places. PlacesAt aircraft trees places.items)
+        (state S.Store tx.old.conn.now) (state S.Store tx.new.conn.now) result }
 {
     let rows = open_spans_by_aircraft(alloc, tx, aircraft)?;
     let mut places = Vec::new(alloc);
@@ -108,6 +110,8 @@ pub fn fitted<S: Alter>(
     ensures same_reference { tx.new.conn.ghost_name ≡ tx.old.conn.ghost_name }
     ensures reads { Reads (λ book places. places.items
         ≡ map (λ s. (s.position, s.serial)) (filter (is_open_on tail.now) (spans book)))
+        (state S.Store tx.old.conn.now) (state S.Store tx.new.conn.now) result }
+    ensures any_rows { ReadsAny (λ trees places. FittedTo tail.now trees places.items)
         (state S.Store tx.old.conn.now) (state S.Store tx.new.conn.now) result }
 {
     let found = aircraft_number(alloc, tx, tail)?;
@@ -166,6 +170,8 @@ fn defects_left<S: Alter>(
     ensures reads { Reads (λ book defects. defects.items ≡ filter_map (open_said book tail.now)
         (filter (λ (row : DeferralRow). nat_eq row.aircraft aircraft) (deferral_rows book)))
         (state S.Store tx.old.conn.now) (state S.Store tx.new.conn.now) result }
+    ensures any_rows { ReadsAny (λ trees defects. DefectsAt tail.now aircraft trees defects.items)
+        (state S.Store tx.old.conn.now) (state S.Store tx.new.conn.now) result }
 {
     // The checker proves this loop only where the type of each field of a deferral is named in the function.
     let _: Option<Category> = None;
@@ -195,6 +201,8 @@ pub fn open_defects<S: Alter>(
 ) -> Result<Vec<Defect>, TableFault>
     ensures same_reference { tx.new.conn.ghost_name ≡ tx.old.conn.ghost_name }
     ensures reads { Reads (λ book defects. defects.items ≡ open_defects book tail.now)
+        (state S.Store tx.old.conn.now) (state S.Store tx.new.conn.now) result }
+    ensures any_rows { ReadsAny (λ trees defects. OpenDefects tail.now trees defects.items)
         (state S.Store tx.old.conn.now) (state S.Store tx.new.conn.now) result }
 {
     let found = aircraft_number(alloc, tx, tail)?;

@@ -11,7 +11,7 @@ ghost use Rattle.mx_register.specs.Merge.{task_said};
 ghost use Rattle.mx_typed_rows.specs.declared.rows.TaskRow.{TaskRow};
 ghost use Rattle.mx_rows.specs.InForce.{born_as, rows_in_force};
 ghost use Rattle.mx_rows.specs.AnyRows.{ReadsAny};
-ghost use Rattle.mx_rows.specs.Given.{NextRevision, RowsInForce, TaskOf};
+ghost use Rattle.mx_rows.specs.Given.{BornOf, IsRetired, NextRevision, RowsInForce, TaskOf};
 ghost use Rattle.mx_rows.specs.Reads.{Reads};
 
 use crate::items::{aircraft, component};
@@ -110,6 +110,8 @@ fn born<S: Alter>(
     ensures same_reference { tx.new.conn.ghost_name ≡ tx.old.conn.ghost_name }
     ensures reads { Reads (λ book born. born ≡ born_as (found_of book item.now))
         (state S.Store tx.old.conn.now) (state S.Store tx.new.conn.now) result }
+    ensures any_rows { ReadsAny (BornOf item.now)
+        (state S.Store tx.old.conn.now) (state S.Store tx.new.conn.now) result }
 {
     match item {
         Item::Airframe(tail) => match aircraft(alloc, tx, tail)? {
@@ -134,6 +136,8 @@ pub fn is_retired<S: Alter>(
 ) -> Result<bool, TableFault>
     ensures same_reference { tx.new.conn.ghost_name ≡ tx.old.conn.ghost_name }
     ensures reads { Reads (λ book ended. ended ≡ life_ended book kind.now item.now day)
+        (state S.Store tx.old.conn.now) (state S.Store tx.new.conn.now) result }
+    ensures any_rows { ReadsAny (IsRetired kind.now item.now day)
         (state S.Store tx.old.conn.now) (state S.Store tx.new.conn.now) result }
 {
     let known = born(alloc, tx, item)?;

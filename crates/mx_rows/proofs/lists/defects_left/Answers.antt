@@ -1,6 +1,7 @@
-use Rattle.std.proofs.Common.{◌≡◌, ◌∙◌, ℕ, Bool, false, true, cond, List, Option, None, Some, ap, filter, nat_eq, subst, sym}
+use Rattle.std.proofs.Common.{◌≡◌, ◌∙◌, ℕ, pos, Bool, false, true, cond, List, Option, None, Some, ap, filter, nat_eq, refl, subst, sym}
 use Rattle.std.specs.Prelude.{is_some}
 use Rattle.std.specs.Option.{option_map}
+use Rattle.sqlite.specs.declared.types.Value.TheVariants.{Int}
 use Rattle.mx_command.specs.Act.{Entry}
 use Rattle.mx_register.specs.Registers.{deferral_rows}
 use Rattle.mx_typed_rows.specs.declared.rows.DeferralRow.{DeferralRow}
@@ -9,11 +10,12 @@ use Rattle.mx_found.specs.Names.{doc_at}
 use Rattle.mx_found.proofs.OpenDefectLemmas.{entries_there}
 use Rattle.mx_layout.specs.declared.fault.Table.TheVariants as table
 use Rattle.mx_kept.specs.Cells.{kept_defect}
-use Rattle.mx_rows.specs.Given.{DocIfOpen}
+use Rattle.mx_chosen.specs.Choices.{has_value}
+use Rattle.mx_rows.specs.Given.{DocIfOpen, OpenSaid}
 use Rattle.mx_rows.proofs.BookRows.{deferrals_of_aircraft}
 use Rattle.mx_rows.proofs.DamageLemmas.{entry_unmet}
 use Rattle.mx_rows.proofs.TableLemmas.{deferrals}
-use Rattle.mx_rows.proofs.WalkLemmas.{missing, said_more, walk_begun, walk_ended, walk_starved, walk_stopped}
+use Rattle.mx_rows.proofs.WalkLemmas.{missing, said_more, walk_begun, walk_ended, walk_said, walk_starved, walk_stopped}
 use Rattle.mx_rows.proofs.ReadLemmas.{stopped}
 use Rattle.mx_rows.proofs.lists.defects_left.Goals as goal
 
@@ -29,7 +31,7 @@ returns-in_err-rows-clause-reads g c = stopped _ _ _ _ _ _ c.from_residual.ensur
 pub loop-row-init : goal.loop-row-init
 loop-row-init g c = record {
   same_reference = c.in_ok-rows.ensures.same_reference;
-  walks = walk_begun kept_defect (rows_at c.args.aircraft) (λ book row. open_said book c.args.tail.now row) HasEntry _ _ _ _ _ _ c.new-open.ensures.items c.as_slice-rest.ensures.value (λ book b. entries_there book c.args.aircraft) deferrals c.in_ok-rows.ensures.reads
+  walks = walk_begun kept_defect (rows_at c.args.aircraft) (λ book row. open_said book c.args.tail.now row) HasEntry (has_value 1 (Int (pos c.args.aircraft))) (OpenSaid c.args.tail.now) _ _ _ _ _ _ c.new-open.ensures.items c.as_slice-rest.ensures.value (λ book b. entries_there book c.args.aircraft) deferrals c.in_ok-rows.ensures.reads
       (deferrals_of_aircraft c.args.aircraft c.in_ok-rows.ensures.reads);
 }
 
@@ -46,14 +48,15 @@ loop-row-preserved-in_ok-push-in-Some-known g c =
     let known : ◌≡◌ {A = Option (Option (List ℕ))} c.in_ok-found.found (Some (Some name)) = c.in-Some-found.is ∙ ap Some c.in-Some-known.is in
     record {
       same_reference = c.in_ok-found.ensures.same_reference ∙ c.loop-row.invariant.same_reference;
-      walks = said_more kept_defect (rows_at c.args.aircraft) (λ book r. open_said book tail r) HasEntry _ _ _ _ _ c.in-Some.later.now row c.loop-row.invariant.walks c.in-Some.ensures.cases.0 _ c.in_ok-found.found c.defect_said.result _
+      walks = said_more kept_defect (rows_at c.args.aircraft) (λ book r. open_said book tail r) HasEntry (has_value 1 (Int (pos c.args.aircraft))) (OpenSaid c.args.tail.now) _ _ _ _ _ c.in-Some.later.now row c.loop-row.invariant.walks c.in-Some.ensures.cases.0 _ (DocIfOpen row.seq) c.in_ok-found.found c.defect_said.result _
           c.in_ok-push-in-Some-known.ensures.items
-          (λ book found. left_open (λ doc. defect_said doc tail row) (is_rectified_at book row.seq) (doc_at book row.seq) name (sym known ∙ found) ∙ ap Some (sym c.defect_said.ensures)) c.in_ok-found.ensures.reads;
+          (λ book found. left_open (λ doc. defect_said doc tail row) (is_rectified_at book row.seq) (doc_at book row.seq) name (sym known ∙ found) ∙ ap Some (sym c.defect_said.ensures))
+          (λ trees any. (Some name, subst (DocIfOpen row.seq trees) known any, ap Some c.defect_said.ensures)) c.in_ok-found.ensures.reads c.in_ok-found.ensures.any_rows;
     }
 
 pub returns-in_err-found-clause-reads : goal.returns-in_err-found-clause-reads
 returns-in_err-found-clause-reads g c =
-    walk_stopped kept_defect (rows_at c.args.aircraft) (λ book r. open_said book c.args.tail.now r) HasEntry _ _ _ _ _ c.loop-row.invariant.walks _ _ _ _ c.from_residual-in_err-found.ensures.1 c.in_err-found.ensures.reads
+    walk_stopped kept_defect (rows_at c.args.aircraft) (λ book r. open_said book c.args.tail.now r) HasEntry (has_value 1 (Int (pos c.args.aircraft))) (OpenSaid c.args.tail.now) _ _ _ _ _ c.loop-row.invariant.walks _ _ _ _ c.from_residual-in_err-found.ensures.1 c.in_err-found.ensures.reads
 
 -- the entry of a defect that was not rectified is there
 no_entry : {X : Type 0} (rectified : Bool) (doc : Option X) → is_some doc ≡ true → ◌≡◌ {A = Option (Option X)} (Some None) (cond rectified None (Some doc)) → ⊥
@@ -65,14 +68,18 @@ returns-in-None-known-clause-reads g c =
     let row = c.in-Some.row.now in
     let found = c.in_ok-found.ensures in
     let none : ◌≡◌ {A = Option (Option (List ℕ))} c.in_ok-found.found (Some None) = c.in-Some-found.is ∙ ap Some c.in-None-known.is in
-    missing kept_defect (rows_at c.args.aircraft) (λ book r. open_said book c.args.tail.now r) HasEntry _ _ _ _ _ c.in-Some.later.now row c.loop-row.invariant.walks c.in-Some.ensures.cases.0 _ _ (DocIfOpen row.seq) c.in_ok-found.found table.Defect
+    missing kept_defect (rows_at c.args.aircraft) (λ book r. open_said book c.args.tail.now r) HasEntry (has_value 1 (Int (pos c.args.aircraft))) (OpenSaid c.args.tail.now) _ _ _ _ _ c.in-Some.later.now row c.loop-row.invariant.walks c.in-Some.ensures.cases.0 _ _ (DocIfOpen row.seq) c.in_ok-found.found table.Defect
     (λ book there said. no_entry (is_rectified_at book row.seq) (doc_at book row.seq) there (sym none ∙ said))
     (λ trees kept any. entry_unmet trees row kept (subst (DocIfOpen row.seq trees) none any).1) found.reads found.any_rows
 
 pub returns-clause-reads : goal.returns-clause-reads
 returns-clause-reads g c =
-    walk_ended kept_defect (rows_at c.args.aircraft) (λ book r. open_said book c.args.tail.now r) HasEntry (λ v. v.items) _ _ _ _ c.in_default.ensures.cases c.loop-row.invariant.walks
+    walk_ended kept_defect (rows_at c.args.aircraft) (λ book r. open_said book c.args.tail.now r) HasEntry (has_value 1 (Int (pos c.args.aircraft))) (OpenSaid c.args.tail.now) (λ v. v.items) _ _ _ _ c.in_default.ensures.cases c.loop-row.invariant.walks
 
 pub returns-in_err-push-in-Some-known-clause-reads : goal.returns-in_err-push-in-Some-known-clause-reads
 returns-in_err-push-in-Some-known-clause-reads g c =
-    walk_starved kept_defect (rows_at c.args.aircraft) (λ book r. open_said book c.args.tail.now r) HasEntry _ _ _ _ _ c.in-Some.later.now c.in-Some.row.now c.loop-row.invariant.walks c.in-Some.ensures.cases.0 _ _ c.in_ok-found.found _ c.from_residual-in_err-push-in-Some-known.ensures.1 c.in_ok-found.ensures.reads
+    walk_starved kept_defect (rows_at c.args.aircraft) (λ book r. open_said book c.args.tail.now r) HasEntry (has_value 1 (Int (pos c.args.aircraft))) (OpenSaid c.args.tail.now) _ _ _ _ _ c.in-Some.later.now c.in-Some.row.now c.loop-row.invariant.walks c.in-Some.ensures.cases.0 _ _ c.in_ok-found.found _ c.from_residual-in_err-push-in-Some-known.ensures.1 c.in_ok-found.ensures.reads
+
+pub returns-clause-any_rows : goal.returns-clause-any_rows
+returns-clause-any_rows g c =
+    walk_said kept_defect (rows_at c.args.aircraft) (λ book r. open_said book c.args.tail.now r) HasEntry (has_value 1 (Int (pos c.args.aircraft))) (OpenSaid c.args.tail.now) (λ v. v.items) _ _ _ _ c.in_default.ensures.cases c.loop-row.invariant.walks

@@ -1,11 +1,14 @@
-use Rattle.std.proofs.Common.{◌≡◌, true, filter, nat_eq, length}
+use Rattle.std.proofs.Common.{◌≡◌, pos, true, filter, nat_eq, length}
 use Rattle.std.specs.Prelude.{is_some}
+use Rattle.sqlite.specs.declared.types.Value.TheVariants.{Int}
 use Rattle.sqlite.specs.Held.{state}
 use Rattle.mx_register.specs.Registers.{deferral_rows}
 use Rattle.mx_typed_rows.specs.declared.rows.DeferralRow.{DeferralRow}
 use Rattle.mx_kept.specs.Cells.{kept_defect}
+use Rattle.mx_chosen.specs.Choices.{has_value}
 use Rattle.mx_found.specs.Defects.{open_said}
 use Rattle.mx_found.specs.Names.{doc_at}
+use Rattle.mx_rows.specs.Given.{OpenSaid}
 use Rattle.mx_rows.proofs.WalkLemmas.{Walks}
 use Rattle.mx_rows.proofs.lists.defects_left.Given as goal
 
@@ -13,7 +16,7 @@ use Rattle.mx_rows.proofs.lists.defects_left.Given as goal
 abbrev pub invariant-loop-row : goal.invariant-loop-row
 invariant-loop-row g l = record {
   same_reference : l.tx.conn.ghost_name ≡ l.fn.tx.conn.ghost_name;
-  walks : Walks kept_defect (λ book. filter (λ (row : DeferralRow). nat_eq row.aircraft l.aircraft) (deferral_rows book)) (λ book row. open_said book l.tail row) (λ book row. is_some (doc_at book row.seq) ≡ true) (state g.S.Store l.fn.tx.conn.now) (state g.S.Store l.tx.conn.now) l.open.items l.rest;
+  walks : Walks kept_defect (λ book. filter (λ (row : DeferralRow). nat_eq row.aircraft l.aircraft) (deferral_rows book)) (λ book row. open_said book l.tail row) (λ book row. is_some (doc_at book row.seq) ≡ true) (has_value 1 (Int (pos l.aircraft))) (OpenSaid l.tail) (state g.S.Store l.fn.tx.conn.now) (state g.S.Store l.tx.conn.now) l.open.items l.rest;
 }
 
 abbrev pub decreases-loop-row : goal.decreases-loop-row

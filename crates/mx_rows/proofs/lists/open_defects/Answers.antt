@@ -1,5 +1,6 @@
 use Rattle.std.proofs.Common.{◌∙◌, sym}
 use Rattle.mx_found.proofs.OpenDefectLemmas.{none_open, open_found}
+use Rattle.mx_rows.proofs.AnyLemmas.{by_nothing, by_result}
 use Rattle.mx_rows.proofs.ReadLemmas.{follows, reads_then, told}
 use Rattle.mx_rows.proofs.lists.open_defects.Goals as goal
 
@@ -10,3 +11,9 @@ returns-in-Some-clause-reads g c =
 
 pub returns-in-None-clause-reads : goal.returns-in-None-clause-reads
 returns-in-None-clause-reads g c = told _ _ _ _ _ _ (λ book b found. c.new.ensures.items ∙ sym (none_open book c.args.tail.now b (sym found ∙ c.in-None.is))) c.in_ok-found.ensures.reads
+
+pub returns-in-Some-clause-any_rows : goal.returns-in-Some-clause-any_rows
+returns-in-Some-clause-any_rows g c = by_result _ _ _ _ (λ defects. defects.items) _ _ _ _ _ c.defects_left.result c.in-Some.is c.in_ok-found.ensures.reads c.in_ok-found.ensures.any_rows c.defects_left.ensures.reads.within c.defects_left.ensures.any_rows
+
+pub returns-in-None-clause-any_rows : goal.returns-in-None-clause-any_rows
+returns-in-None-clause-any_rows g c = by_nothing _ _ _ (λ defects. defects.items) _ _ _ _ c.in-None.is c.new.ensures.items c.in_ok-found.ensures.any_rows

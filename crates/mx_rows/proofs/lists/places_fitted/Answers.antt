@@ -1,6 +1,7 @@
-use Rattle.std.proofs.Common.{◌≡◌, ◌∙◌, ℕ, List, ap, filter, subst, sym, true}
+use Rattle.std.proofs.Common.{◌≡◌, ◌∙◌, ℕ, pos, List, ap, filter, refl, subst, sym, true}
 use Rattle.std.specs.Prelude.{is_some}
 use Rattle.std.specs.Option.{option_map}
+use Rattle.sqlite.specs.declared.types.Value.TheVariants.{Int}
 use Rattle.mx_command.specs.Act.{Entry}
 use Rattle.mx_typed_rows.specs.declared.rows.SpanRow.{SpanRow}
 use Rattle.mx_kept_rows.specs.Spans.{span_rows}
@@ -8,11 +9,12 @@ use Rattle.mx_found.specs.Spans.{is_open_at, place_said}
 use Rattle.mx_found.proofs.FittedLemmas.{components_there}
 use Rattle.mx_layout.specs.declared.fault.Table.TheVariants as table
 use Rattle.mx_kept.specs.Cells.{kept_span2}
-use Rattle.mx_rows.specs.Given.{SerialOfNumber}
+use Rattle.mx_chosen.specs.Choices.{is_open}
+use Rattle.mx_rows.specs.Given.{PlaceSaid, SerialOfNumber}
 use Rattle.mx_rows.proofs.BookRows.{open_spans_at}
 use Rattle.mx_rows.proofs.DamageLemmas.{component_unmet}
 use Rattle.mx_rows.proofs.TableLemmas.{spans}
-use Rattle.mx_rows.proofs.WalkLemmas.{missing, said_more, walk_begun, walk_ended, walk_starved, walk_stopped}
+use Rattle.mx_rows.proofs.WalkLemmas.{missing, said_more, walk_begun, walk_ended, walk_said, walk_starved, walk_stopped}
 use Rattle.mx_rows.proofs.ReadLemmas.{stopped}
 use Rattle.mx_rows.proofs.lists.places_fitted.Goals as goal
 
@@ -28,7 +30,7 @@ returns-in_err-rows-clause-reads g c = stopped _ _ _ _ _ _ c.from_residual.ensur
 pub loop-row-init : goal.loop-row-init
 loop-row-init g c = record {
   same_reference = c.in_ok-rows.ensures.same_reference;
-  walks = walk_begun kept_span2 (open_rows c.args.aircraft) place_said HasPlace _ _ _ _ _ _ c.new-places.ensures.items c.as_slice-rest.ensures.value (λ book b. components_there book c.args.aircraft b) spans c.in_ok-rows.ensures.reads
+  walks = walk_begun kept_span2 (open_rows c.args.aircraft) place_said HasPlace (is_open 2 (Int (pos c.args.aircraft))) PlaceSaid _ _ _ _ _ _ c.new-places.ensures.items c.as_slice-rest.ensures.value (λ book b. components_there book c.args.aircraft b) spans c.in_ok-rows.ensures.reads
       (open_spans_at c.args.aircraft c.in_ok-rows.ensures.reads);
 }
 
@@ -37,26 +39,30 @@ loop-row-preserved g c =
     let row = c.in-Some.row.now in
     record {
       same_reference = c.in_ok-found.ensures.same_reference ∙ c.loop-row.invariant.same_reference;
-      walks = said_more kept_span2 (open_rows c.args.aircraft) place_said HasPlace _ _ _ _ _ c.in-Some.later.now row c.loop-row.invariant.walks c.in-Some.ensures.cases.0 _ c.in_ok-found.found (row.position, c.in-Some-found.serial) _
-          c.in_ok-push-in-Some-found.ensures.items (λ book found. ap (option_map {U = List ℕ × List ℕ} (λ serial. (row.position, serial))) (sym found ∙ c.in-Some-found.is)) c.in_ok-found.ensures.reads;
+      walks = said_more kept_span2 (open_rows c.args.aircraft) place_said HasPlace (is_open 2 (Int (pos c.args.aircraft))) PlaceSaid _ _ _ _ _ c.in-Some.later.now row c.loop-row.invariant.walks c.in-Some.ensures.cases.0 _ (SerialOfNumber row.component) c.in_ok-found.found
+          (row.position, c.in-Some-found.serial) _ c.in_ok-push-in-Some-found.ensures.items (λ book found. ap (option_map {U = List ℕ × List ℕ} (λ serial. (row.position, serial))) (sym found ∙ c.in-Some-found.is))
+          (λ trees any. (c.in-Some-found.serial, subst (SerialOfNumber row.component trees) c.in-Some-found.is any, refl)) c.in_ok-found.ensures.reads c.in_ok-found.ensures.any_rows;
     }
 
 pub returns-in-None-clause-reads : goal.returns-in-None-clause-reads
 returns-in-None-clause-reads g c =
     let row = c.in-Some.row.now in
     let found = c.in_ok-found.ensures in
-    missing kept_span2 (open_rows c.args.aircraft) place_said HasPlace _ _ _ _ _ c.in-Some.later.now row c.loop-row.invariant.walks c.in-Some.ensures.cases.0 _ _ (SerialOfNumber row.component) c.in_ok-found.found table.Span2
+    missing kept_span2 (open_rows c.args.aircraft) place_said HasPlace (is_open 2 (Int (pos c.args.aircraft))) PlaceSaid _ _ _ _ _ c.in-Some.later.now row c.loop-row.invariant.walks c.in-Some.ensures.cases.0 _ _ (SerialOfNumber row.component) c.in_ok-found.found table.Span2
     (λ book there said. (let e = sym there ∙ ap is_some (ap (option_map {U = List ℕ × List ℕ} (λ serial. (row.position, serial))) (sym said ∙ c.in-None.is)) in absurd cc))
     (λ trees kept any. component_unmet trees row kept (subst (SerialOfNumber row.component trees) c.in-None.is any)) found.reads found.any_rows
 
 pub returns-in_err-found-clause-reads : goal.returns-in_err-found-clause-reads
 returns-in_err-found-clause-reads g c =
-    walk_stopped kept_span2 (open_rows c.args.aircraft) place_said HasPlace _ _ _ _ _ c.loop-row.invariant.walks _ _ _ _ c.from_residual-in_err-found.ensures.1 c.in_err-found.ensures.reads
+    walk_stopped kept_span2 (open_rows c.args.aircraft) place_said HasPlace (is_open 2 (Int (pos c.args.aircraft))) PlaceSaid _ _ _ _ _ c.loop-row.invariant.walks _ _ _ _ c.from_residual-in_err-found.ensures.1 c.in_err-found.ensures.reads
 
 pub returns-clause-reads : goal.returns-clause-reads
 returns-clause-reads g c =
-    walk_ended kept_span2 (open_rows c.args.aircraft) place_said HasPlace (λ v. v.items) _ _ _ _ c.in_default.ensures.cases c.loop-row.invariant.walks
+    walk_ended kept_span2 (open_rows c.args.aircraft) place_said HasPlace (is_open 2 (Int (pos c.args.aircraft))) PlaceSaid (λ v. v.items) _ _ _ _ c.in_default.ensures.cases c.loop-row.invariant.walks
 
 pub returns-in_err-push-in-Some-found-clause-reads : goal.returns-in_err-push-in-Some-found-clause-reads
 returns-in_err-push-in-Some-found-clause-reads g c =
-    walk_starved kept_span2 (open_rows c.args.aircraft) place_said HasPlace _ _ _ _ _ c.in-Some.later.now c.in-Some.row.now c.loop-row.invariant.walks c.in-Some.ensures.cases.0 _ _ c.in_ok-found.found _ c.from_residual-in_err-push-in-Some-found.ensures.1 c.in_ok-found.ensures.reads
+    walk_starved kept_span2 (open_rows c.args.aircraft) place_said HasPlace (is_open 2 (Int (pos c.args.aircraft))) PlaceSaid _ _ _ _ _ c.in-Some.later.now c.in-Some.row.now c.loop-row.invariant.walks c.in-Some.ensures.cases.0 _ _ c.in_ok-found.found _ c.from_residual-in_err-push-in-Some-found.ensures.1 c.in_ok-found.ensures.reads
+
+pub returns-clause-any_rows : goal.returns-clause-any_rows
+returns-clause-any_rows g c = walk_said kept_span2 (open_rows c.args.aircraft) place_said HasPlace (is_open 2 (Int (pos c.args.aircraft))) PlaceSaid (λ v. v.items) _ _ _ _ c.in_default.ensures.cases c.loop-row.invariant.walks

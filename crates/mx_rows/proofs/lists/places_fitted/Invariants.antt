@@ -1,9 +1,12 @@
-use Rattle.std.proofs.Common.{◌≡◌, true, filter, length}
+use Rattle.std.proofs.Common.{◌≡◌, pos, true, filter, length}
 use Rattle.std.specs.Prelude.{is_some}
+use Rattle.sqlite.specs.declared.types.Value.TheVariants.{Int}
 use Rattle.sqlite.specs.Held.{state}
 use Rattle.mx_kept_rows.specs.Spans.{span_rows}
 use Rattle.mx_kept.specs.Cells.{kept_span2}
+use Rattle.mx_chosen.specs.Choices.{is_open}
 use Rattle.mx_found.specs.Spans.{is_open_at, place_said}
+use Rattle.mx_rows.specs.Given.{PlaceSaid}
 use Rattle.mx_rows.proofs.WalkLemmas.{Walks}
 use Rattle.mx_rows.proofs.lists.places_fitted.Given as goal
 
@@ -11,7 +14,7 @@ use Rattle.mx_rows.proofs.lists.places_fitted.Given as goal
 abbrev pub invariant-loop-row : goal.invariant-loop-row
 invariant-loop-row g l = record {
   same_reference : l.tx.conn.ghost_name ≡ l.fn.tx.conn.ghost_name;
-  walks : Walks kept_span2 (λ book. filter (is_open_at l.aircraft) (span_rows book)) place_said (λ book row. is_some (place_said book row) ≡ true) (state g.S.Store l.fn.tx.conn.now) (state g.S.Store l.tx.conn.now) l.places.items l.rest;
+  walks : Walks kept_span2 (λ book. filter (is_open_at l.aircraft) (span_rows book)) place_said (λ book row. is_some (place_said book row) ≡ true) (is_open 2 (Int (pos l.aircraft))) PlaceSaid (state g.S.Store l.fn.tx.conn.now) (state g.S.Store l.tx.conn.now) l.places.items l.rest;
 }
 
 abbrev pub decreases-loop-row : goal.decreases-loop-row

@@ -3,6 +3,7 @@ use Rattle.std.specs.Option.{option_map}
 use Rattle.std.specs.declared.alloc.Global.{Global}
 use Rattle.mx_typed_rows.specs.declared.rows.TaskRow.{TaskRow}
 use Rattle.mx_found.specs.Programmes.{is_retired_in}
+use Rattle.mx_rows.proofs.AnyLemmas.{by_itself, by_missing, by_number}
 use Rattle.mx_rows.proofs.InForceLemmas.{retired_is}
 use Rattle.mx_rows.proofs.ReadLemmas.{reads_then, told}
 use Rattle.mx_rows.proofs.programmes.is_retired.Goals as goal
@@ -23,3 +24,22 @@ returns-in-None-found-clause-reads g c =
     let none = sym (ap (option_map (λ (rows : Vec TaskRow Global). rows.items)) c.in-None-found.is) ∙ all.1.1 in
     retired_is book b c.args.kind.now c.args.day c.in-Some-alive.life c.args.item.now c.in-Some.part c.in-Some.birth None (sym all.0 ∙ c.in-Some.is) (sym all.1.0 ∙ c.in-Some-alive.is) none)
     (reads_then _ _ _ _ _ _ _ c.in_ok-known.ensures.reads (reads_then _ _ _ _ _ _ _ c.in_ok-alive-in-Some.ensures.reads c.in_ok-found-in-Some-alive.ensures.reads))
+
+pub returns-in-Some-found-clause-any_rows : goal.returns-in-Some-found-clause-any_rows
+returns-in-Some-found-clause-any_rows g c =
+    let known = c.in_ok-known.ensures in
+    let alive = c.in_ok-alive-in-Some.ensures in
+    let tasks = c.in_ok-found-in-Some-alive.ensures in
+    by_number _ _ _ _ _ _ _ _ (c.in-Some.part, c.in-Some.birth) _ c.in-Some.is known.reads known.any_rows (reads_then _ _ _ _ _ _ _ alive.reads tasks.reads).within
+    (by_number _ _ _ _ _ _ _ _ c.in-Some-alive.life _ c.in-Some-alive.is alive.reads alive.any_rows tasks.reads.within
+    (by_itself _ _ (λ rows. is_retired_in c.in-Some.part c.in-Some.birth c.in-Some-alive.life c.args.day rows) (option_map (λ (rows : Vec TaskRow Global). rows.items)) _ _ _ _ _ (ap (option_map (λ (rows : Vec TaskRow Global). rows.items)) c.in-Some-found.is)
+    (c.is_retired_in.ensures ∙ ap (λ rows. is_retired_in c.in-Some.part c.in-Some.birth c.in-Some-alive.life c.args.day rows) c.deref.ensures.value) tasks.any_rows))
+
+pub returns-in-None-found-clause-any_rows : goal.returns-in-None-found-clause-any_rows
+returns-in-None-found-clause-any_rows g c =
+    let known = c.in_ok-known.ensures in
+    let alive = c.in_ok-alive-in-Some.ensures in
+    let tasks = c.in_ok-found-in-Some-alive.ensures in
+    by_number _ _ _ _ _ _ _ _ (c.in-Some.part, c.in-Some.birth) _ c.in-Some.is known.reads known.any_rows (reads_then _ _ _ _ _ _ _ alive.reads tasks.reads).within
+    (by_number _ _ _ _ _ _ _ _ c.in-Some-alive.life _ c.in-Some-alive.is alive.reads alive.any_rows tasks.reads.within
+    (by_missing _ _ _ (option_map (λ (rows : Vec TaskRow Global). rows.items)) _ _ _ (ap (option_map (λ (rows : Vec TaskRow Global). rows.items)) c.in-None-found.is) tasks.any_rows))

@@ -55,9 +55,9 @@ returns-then-have_task_shapes-clause-any_rows g c =
     let within = c.in_ok-rows-in-Some.ensures.reads.within in
     let first = gives programmes programme_number (sym c.in-Some.is ∙ c.programme_number.ensures ∙ ap programme_number c.deref.ensures.value) c.in_ok-programmes.ensures.reads in
     let those = any_later _ _ _ _ _ _ _ one within (gives tasks Some refl c.in_ok-rows-in-Some.ensures.reads) in
-    record { found = λ clean has. record { number = Some c.in-Some.number; first = first.found (omega (arith, clean, within.survives.clean)) has; then = those.found clean has } }
+    record { found = λ clean has. record { found = Some c.in-Some.number; first = first.found (omega (arith, clean, within.survives.clean)) has; then = those.found clean has } }
 
 pub returns-clause-any_rows : goal.returns-clause-any_rows
 returns-clause-any_rows g c =
     let first = gives programmes programme_number (sym c.in-None.is ∙ c.programme_number.ensures ∙ ap programme_number c.deref.ensures.value) c.in_ok-programmes.ensures.reads in
-    record { found = λ clean has. record { number = None; first = first.found clean has; then = refl } }
+    record { found = λ clean has. record { found = None; first = first.found clean has; then = refl } }
