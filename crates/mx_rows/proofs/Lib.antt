@@ -7,6 +7,7 @@ pub mod AnyLemmas
 pub mod DamageLemmas
 pub mod SectorRows
 pub mod TellLemmas
+pub mod KnownLemmas
 pub mod BaseLookups
 pub mod RoomLookups
 pub mod InForceLemmas

@@ -35,7 +35,11 @@ held_read k inner outer back most order chosen items old new result r = record {
   within = r.within;
 }
 
+-- the rows of sectors behind what holds them
+pub sectors_held : (n : ℕ) (old new : State) (result : Result (Vec Sector2Row Global) TableFault) → ReadsBy kept_sector2_rows 0 (Int (pos n)) old new result → ReadsFirst kept_sector2 None kept_sector2.order (has_value 0 (Int (pos n))) (λ rows. map (λ (row : Sector2Row). row.sector) rows.items) old new result
+sectors_held n = held_read kept_sector2 (λ (row : Sector2Row). row.sector) (λ row. record { sector = row }) (λ _. refl) None kept_sector2.order (has_value 0 (Int (pos n))) (λ rows. rows.items)
+
 pub sectors_read : (n : ℕ) (old new : State) (result : Result (Vec Sector2Row Global) TableFault) → ReadsBy kept_sector2_rows 0 (Int (pos n)) old new result → Reads (λ book rows. map (λ (row : Sector2Row). row.sector) rows.items ≡ found given.sectors book n) old new result
 sectors_read n old new result r =
     rows_read kept_sector2 (rows_of given.sectors) sectors (has_value 0 (Int (pos n))) (λ row. nat_eq row.seq n) (λ row. number_is row.seq n) _ old new result
-    (held_read kept_sector2 (λ (row : Sector2Row). row.sector) (λ row. record { sector = row }) (λ _. refl) None kept_sector2.order (has_value 0 (Int (pos n))) (λ rows. rows.items) old new result r)
+    (sectors_held n old new result r)

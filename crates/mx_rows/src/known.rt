@@ -4,7 +4,8 @@ ghost use Rattle.std.specs.Option.{option_map};
 ghost use Rattle.sqlite.specs.Held.{state};
 ghost use Rattle.mx_book.specs.Asking.{known_same};
 ghost use Rattle.mx_book.specs.Judge.{known_from};
-ghost use Rattle.mx_rows.specs.Known.{Tells};
+ghost use Rattle.mx_rows.specs.AnyRows.{ReadsAny};
+ghost use Rattle.mx_rows.specs.Known.{KnownAs, Says, Tells};
 ghost use Rattle.mx_rows.specs.Reads.{Reads};
 
 use crate::entries::entry_of_doc;
@@ -26,6 +27,8 @@ fn is_same<S: Alter>(
 ) -> Result<bool, TableFault>
     ensures same_reference { tx.new.conn.ghost_name ≡ tx.old.conn.ghost_name }
     ensures reads { Reads (Tells seq command.now.act)
+        (state S.Store tx.old.conn.now) (state S.Store tx.new.conn.now) result }
+    ensures any_rows { ReadsAny (Says seq command.now.act)
         (state S.Store tx.old.conn.now) (state S.Store tx.new.conn.now) result }
 {
     // A command of its shape has few positions, tasks and lines.
@@ -54,6 +57,8 @@ pub fn known<S: Alter>(
     ensures same_reference { tx.new.conn.ghost_name ≡ tx.old.conn.ghost_name }
     ensures reads { Reads (λ book found. found
         ≡ option_map (known_same command.now) (known_from command.now.doc 1 book))
+        (state S.Store tx.old.conn.now) (state S.Store tx.new.conn.now) result }
+    ensures any_rows { ReadsAny (KnownAs command.now)
         (state S.Store tx.old.conn.now) (state S.Store tx.new.conn.now) result }
 {
     let doc = command.doc();

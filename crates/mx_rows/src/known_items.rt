@@ -5,8 +5,10 @@ ghost use Rattle.mx_command.specs.Act.{Added, Listed};
 ghost use Rattle.mx_command.specs.declared.shape.TheConstants.{MOST_POSITIONS};
 ghost use Rattle.mx_register.specs.Lines.{lines_from};
 ghost use Rattle.mx_register.specs.Registers.{aircraft_row, place_row};
+ghost use Rattle.mx_kept.specs.Cells.{kept_aircraft, kept_place};
 ghost use Rattle.mx_found.specs.Given as registers;
-ghost use Rattle.mx_rows.specs.Known.{Tells, TellsRows};
+ghost use Rattle.mx_rows.specs.AnyRows.{ReadsAny};
+ghost use Rattle.mx_rows.specs.Known.{AreRows, Says, Tells, TellsRows};
 ghost use Rattle.mx_rows.specs.Reads.{Reads};
 
 use crate::known_lines::place_rows;
@@ -30,6 +32,8 @@ fn is_aircraft_row<S: Alter>(
     ensures same_reference { tx.new.conn.ghost_name ≡ tx.old.conn.ghost_name }
     ensures reads { Reads (TellsRows registers.aircraft seq (λ book. aircraft_row seq aircraft ∷ []))
         (state S.Store tx.old.conn.now) (state S.Store tx.new.conn.now) result }
+    ensures any_rows { ReadsAny (AreRows kept_aircraft seq (aircraft_row seq aircraft ∷ []))
+        (state S.Store tx.old.conn.now) (state S.Store tx.new.conn.now) result }
 {
     let rows = aircraft_by_seq(alloc, tx, seq)?;
     let row = aircraft_row(seq, aircraft);
@@ -46,6 +50,8 @@ fn are_positions<S: Alter>(
     requires { length positions.now ≤ MOST_POSITIONS }
     ensures same_reference { tx.new.conn.ghost_name ≡ tx.old.conn.ghost_name }
     ensures reads { Reads (TellsRows registers.places seq (λ book. lines_from place_row seq 1 positions.now))
+        (state S.Store tx.old.conn.now) (state S.Store tx.new.conn.now) result }
+    ensures any_rows { ReadsAny (AreRows kept_place seq (lines_from place_row seq 1 positions.now))
         (state S.Store tx.old.conn.now) (state S.Store tx.new.conn.now) result }
 {
     let rows = place_by_seq(alloc, tx, seq)?;
@@ -65,6 +71,8 @@ pub(crate) fn is_aircraft<S: Alter>(
     ensures same_reference { tx.new.conn.ghost_name ≡ tx.old.conn.ghost_name }
     ensures reads { Reads (Tells seq (Added aircraft positions.now))
         (state S.Store tx.old.conn.now) (state S.Store tx.new.conn.now) result }
+    ensures any_rows { ReadsAny (Says seq (Added aircraft positions.now))
+        (state S.Store tx.old.conn.now) (state S.Store tx.new.conn.now) result }
 {
     let same = is_aircraft_row(alloc, tx, seq, aircraft)?;
     let on_lines = are_positions(alloc, tx, seq, positions)?;
@@ -80,6 +88,8 @@ pub(crate) fn is_component<S: Alter>(
 ) -> Result<bool, TableFault>
     ensures same_reference { tx.new.conn.ghost_name ≡ tx.old.conn.ghost_name }
     ensures reads { Reads (Tells seq (Listed component))
+        (state S.Store tx.old.conn.now) (state S.Store tx.new.conn.now) result }
+    ensures any_rows { ReadsAny (Says seq (Listed component))
         (state S.Store tx.old.conn.now) (state S.Store tx.new.conn.now) result }
 {
     let rows = component_by_seq(alloc, tx, seq)?;

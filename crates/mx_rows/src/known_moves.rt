@@ -3,7 +3,8 @@ ghost use Rattle.sqlite.specs.Held.{state};
 ghost use Rattle.mx_command.specs.Act.{Fitted, Flown, Removed};
 ghost use Rattle.std.specs.Prelude.{◌≡◌, ◌↔◌, ◌∷◌, [], IsTrue, map};
 ghost use Rattle.mx_typed_rows.specs.declared.rows.Sector2Row.{Sector2Row};
-ghost use Rattle.mx_rows.specs.Known.{Tells};
+ghost use Rattle.mx_rows.specs.AnyRows.{ReadsAny};
+ghost use Rattle.mx_rows.specs.Known.{Says, Tells};
 ghost use Rattle.mx_rows.specs.Reads.{Reads};
 
 use crate::items::{aircraft_number, component_number};
@@ -38,6 +39,8 @@ pub(crate) fn is_sector<S: Alter>(
     ensures same_reference { tx.new.conn.ghost_name ≡ tx.old.conn.ghost_name }
     ensures reads { Reads (Tells seq (Flown sector))
         (state S.Store tx.old.conn.now) (state S.Store tx.new.conn.now) result }
+    ensures any_rows { ReadsAny (Says seq (Flown sector))
+        (state S.Store tx.old.conn.now) (state S.Store tx.new.conn.now) result }
 {
     let aircraft = aircraft_number(alloc, tx, &sector.tail)?;
     let rows = sector2_by_seq(alloc, tx, seq)?;
@@ -55,6 +58,8 @@ pub(crate) fn is_fitting<S: Alter>(
     ensures same_reference { tx.new.conn.ghost_name ≡ tx.old.conn.ghost_name }
     ensures reads { Reads (Tells seq (Fitted fitting))
         (state S.Store tx.old.conn.now) (state S.Store tx.new.conn.now) result }
+    ensures any_rows { ReadsAny (Says seq (Fitted fitting))
+        (state S.Store tx.old.conn.now) (state S.Store tx.new.conn.now) result }
 {
     let component = component_number(alloc, tx, &fitting.serial)?;
     let aircraft = aircraft_number(alloc, tx, &fitting.tail)?;
@@ -71,6 +76,8 @@ pub(crate) fn is_removal<S: Alter>(
 ) -> Result<bool, TableFault>
     ensures same_reference { tx.new.conn.ghost_name ≡ tx.old.conn.ghost_name }
     ensures reads { Reads (Tells seq (Removed removal))
+        (state S.Store tx.old.conn.now) (state S.Store tx.new.conn.now) result }
+    ensures any_rows { ReadsAny (Says seq (Removed removal))
         (state S.Store tx.old.conn.now) (state S.Store tx.new.conn.now) result }
 {
     let component = component_number(alloc, tx, &removal.serial)?;

@@ -7,9 +7,12 @@ ghost use Rattle.mx_book.specs.Judge.{item_at};
 ghost use Rattle.mx_register.specs.Lines.{lines_from};
 ghost use Rattle.mx_register.specs.Names.{or_zero, seq_of_item};
 ghost use Rattle.mx_register.specs.Registers.{release_line_row, release_row};
+ghost use Rattle.mx_kept.specs.Cells.{kept_crs};
 ghost use Rattle.mx_found.specs.Given as registers;
 ghost use Rattle.mx_found.specs.Given.{seq_of_line};
-ghost use Rattle.mx_rows.specs.Known.{Tells, TellsRows};
+ghost use Rattle.mx_rows.specs.AnyRows.{ReadsAny};
+ghost use Rattle.mx_rows.specs.Given.{ItemNumber};
+ghost use Rattle.mx_rows.specs.Known.{AreLines, AreRows, ByNumber, LineNumber, LineRow, Says, Tells, TellsRows};
 ghost use Rattle.mx_rows.specs.Reads.{Reads};
 
 use crate::entries::defect_number;
@@ -33,6 +36,8 @@ fn place_number<S: Alter>(
     ensures same_reference { tx.new.conn.ghost_name ≡ tx.old.conn.ghost_name }
     ensures reads { Reads (λ book number. number ≡ seq_of_item book (item_at place.now))
         (state S.Store tx.old.conn.now) (state S.Store tx.new.conn.now) result }
+    ensures any_rows { ReadsAny (ItemNumber (item_at place.now))
+        (state S.Store tx.old.conn.now) (state S.Store tx.new.conn.now) result }
 {
     match place {
         Place::Aircraft(tail) => aircraft_number(alloc, tx, tail),
@@ -48,6 +53,8 @@ fn line_number<S: Alter>(
 ) -> Result<Option<u32>, TableFault>
     ensures same_reference { tx.new.conn.ghost_name ≡ tx.old.conn.ghost_name }
     ensures reads { Reads (λ book number. number ≡ seq_of_line book certified.now)
+        (state S.Store tx.old.conn.now) (state S.Store tx.new.conn.now) result }
+    ensures any_rows { ReadsAny (LineNumber certified.now)
         (state S.Store tx.old.conn.now) (state S.Store tx.new.conn.now) result }
 {
     match certified {
@@ -67,6 +74,8 @@ fn line_row<S: Alter>(
     ensures same_reference { tx.new.conn.ghost_name ≡ tx.old.conn.ghost_name }
     ensures reads { Reads (λ book row. row ≡ release_line_row book seq line certified.now)
         (state S.Store tx.old.conn.now) (state S.Store tx.new.conn.now) result }
+    ensures any_rows { ReadsAny (LineRow seq line certified.now)
+        (state S.Store tx.old.conn.now) (state S.Store tx.new.conn.now) result }
 {
     let number = line_number(alloc, tx, certified)?;
     Ok(release_line_row(seq, line, or_zero(number), certified))
@@ -82,6 +91,9 @@ fn is_release_row<S: Alter>(
     ensures same_reference { tx.new.conn.ghost_name ≡ tx.old.conn.ghost_name }
     ensures reads { Reads (TellsRows registers.releases seq (λ book.
         release_row seq (or_zero (seq_of_item book (item_at release.place))) release ∷ []))
+        (state S.Store tx.old.conn.now) (state S.Store tx.new.conn.now) result }
+    ensures any_rows { ReadsAny (ByNumber (ItemNumber (item_at release.place)) (λ item.
+        AreRows kept_crs seq (release_row seq item release ∷ [])))
         (state S.Store tx.old.conn.now) (state S.Store tx.new.conn.now) result }
 {
     let found = place_number(alloc, tx, &release.place)?;
@@ -100,6 +112,8 @@ fn are_lines<S: Alter>(
     requires { length lines.now ≤ MOST_LINES }
     ensures same_reference { tx.new.conn.ghost_name ≡ tx.old.conn.ghost_name }
     ensures reads { Reads (TellsRows registers.release_lines seq (λ book. lines_from (release_line_row book) seq 1 lines.now))
+        (state S.Store tx.old.conn.now) (state S.Store tx.new.conn.now) result }
+    ensures any_rows { ReadsAny (AreLines seq lines.now)
         (state S.Store tx.old.conn.now) (state S.Store tx.new.conn.now) result }
 {
     let rows = crs_line_by_seq(alloc, tx, seq)?;
@@ -126,6 +140,8 @@ pub(crate) fn is_release<S: Alter>(
     requires { length lines.now ≤ MOST_LINES }
     ensures same_reference { tx.new.conn.ghost_name ≡ tx.old.conn.ghost_name }
     ensures reads { Reads (Tells seq (Released release lines.now))
+        (state S.Store tx.old.conn.now) (state S.Store tx.new.conn.now) result }
+    ensures any_rows { ReadsAny (Says seq (Released release lines.now))
         (state S.Store tx.old.conn.now) (state S.Store tx.new.conn.now) result }
 {
     let same = is_release_row(alloc, tx, seq, release)?;

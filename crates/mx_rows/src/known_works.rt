@@ -5,8 +5,10 @@ ghost use Rattle.mx_command.specs.Act.{Deferred, Extended, Loaded, Opened};
 ghost use Rattle.mx_command.specs.declared.programme_shape.TheConstants.{MOST_TASKS};
 ghost use Rattle.mx_register.specs.Lines.{lines_from};
 ghost use Rattle.mx_register.specs.Registers.{programme_row, task_row};
+ghost use Rattle.mx_kept.specs.Cells.{kept_programme, kept_task};
 ghost use Rattle.mx_found.specs.Given as registers;
-ghost use Rattle.mx_rows.specs.Known.{Tells, TellsRows};
+ghost use Rattle.mx_rows.specs.AnyRows.{ReadsAny};
+ghost use Rattle.mx_rows.specs.Known.{AreRows, Says, Tells, TellsRows};
 ghost use Rattle.mx_rows.specs.Reads.{Reads};
 
 use crate::entries::defect_number;
@@ -35,6 +37,8 @@ fn is_programme_row<S: Alter>(
     ensures same_reference { tx.new.conn.ghost_name ≡ tx.old.conn.ghost_name }
     ensures reads { Reads (TellsRows registers.programmes seq (λ book. programme_row seq programme ∷ []))
         (state S.Store tx.old.conn.now) (state S.Store tx.new.conn.now) result }
+    ensures any_rows { ReadsAny (AreRows kept_programme seq (programme_row seq programme ∷ []))
+        (state S.Store tx.old.conn.now) (state S.Store tx.new.conn.now) result }
 {
     let rows = programme_by_seq(alloc, tx, seq)?;
     let row = programme_row(seq, programme);
@@ -51,6 +55,8 @@ fn are_tasks<S: Alter>(
     requires { length tasks.now ≤ MOST_TASKS }
     ensures same_reference { tx.new.conn.ghost_name ≡ tx.old.conn.ghost_name }
     ensures reads { Reads (TellsRows registers.tasks seq (λ book. lines_from task_row seq 1 tasks.now))
+        (state S.Store tx.old.conn.now) (state S.Store tx.new.conn.now) result }
+    ensures any_rows { ReadsAny (AreRows kept_task seq (lines_from task_row seq 1 tasks.now))
         (state S.Store tx.old.conn.now) (state S.Store tx.new.conn.now) result }
 {
     let rows = task_by_seq(alloc, tx, seq)?;
@@ -70,6 +76,8 @@ pub(crate) fn is_programme<S: Alter>(
     ensures same_reference { tx.new.conn.ghost_name ≡ tx.old.conn.ghost_name }
     ensures reads { Reads (Tells seq (Loaded programme tasks.now))
         (state S.Store tx.old.conn.now) (state S.Store tx.new.conn.now) result }
+    ensures any_rows { ReadsAny (Says seq (Loaded programme tasks.now))
+        (state S.Store tx.old.conn.now) (state S.Store tx.new.conn.now) result }
 {
     let same = is_programme_row(alloc, tx, seq, programme)?;
     let on_lines = are_tasks(alloc, tx, seq, tasks)?;
@@ -85,6 +93,8 @@ pub(crate) fn is_opening<S: Alter>(
 ) -> Result<bool, TableFault>
     ensures same_reference { tx.new.conn.ghost_name ≡ tx.old.conn.ghost_name }
     ensures reads { Reads (Tells seq (Opened opening))
+        (state S.Store tx.old.conn.now) (state S.Store tx.new.conn.now) result }
+    ensures any_rows { ReadsAny (Says seq (Opened opening))
         (state S.Store tx.old.conn.now) (state S.Store tx.new.conn.now) result }
 {
     let found = item_number(alloc, tx, &opening.item)?;
@@ -103,6 +113,8 @@ pub(crate) fn is_deferral<S: Alter>(
     ensures same_reference { tx.new.conn.ghost_name ≡ tx.old.conn.ghost_name }
     ensures reads { Reads (Tells seq (Deferred deferral))
         (state S.Store tx.old.conn.now) (state S.Store tx.new.conn.now) result }
+    ensures any_rows { ReadsAny (Says seq (Deferred deferral))
+        (state S.Store tx.old.conn.now) (state S.Store tx.new.conn.now) result }
 {
     let found = aircraft_number(alloc, tx, &deferral.tail)?;
     let rows = defect_by_seq(alloc, tx, seq)?;
@@ -119,6 +131,8 @@ pub(crate) fn is_extension<S: Alter>(
 ) -> Result<bool, TableFault>
     ensures same_reference { tx.new.conn.ghost_name ≡ tx.old.conn.ghost_name }
     ensures reads { Reads (Tells seq (Extended extension))
+        (state S.Store tx.old.conn.now) (state S.Store tx.new.conn.now) result }
+    ensures any_rows { ReadsAny (Says seq (Extended extension))
         (state S.Store tx.old.conn.now) (state S.Store tx.new.conn.now) result }
 {
     let found = defect_number(alloc, tx, &extension.defect)?;

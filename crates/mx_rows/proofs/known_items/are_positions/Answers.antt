@@ -5,6 +5,8 @@ use Rattle.mx_found.specs.Given as registers
 use Rattle.mx_rows.proofs.BookRows.{places_of}
 use Rattle.mx_rows.proofs.ReadLemmas.{stopped, told}
 use Rattle.mx_rows.proofs.TellLemmas.{compared}
+use Rattle.mx_rows.proofs.KnownLemmas.{rows_same}
+use Rattle.mx_rows.proofs.TableLemmas.{places}
 use Rattle.mx_rows.proofs.known_items.are_positions.Goals as goal
 
 pub returns-in_err-rows-clause-reads : goal.returns-in_err-rows-clause-reads
@@ -16,3 +18,6 @@ returns-clause-reads g c =
     told _ _ _ _ _ _
     (λ book b read. compared registers.places n (λ _. lines_from place_row n 1 c.args.positions.now) book _ _ _ c.are_same_places.ensures (c.deref.ensures.value ∙ read) (c.deref-2.ensures.value ∙ c.in_ok-given.ensures.rows))
     (places_of n c.in_ok-rows.ensures.reads)
+
+pub returns-clause-any_rows : goal.returns-clause-any_rows
+returns-clause-any_rows g c = rows_same places c.args.seq _ _ _ _ c.are_same_places.ensures c.deref.ensures.value (c.deref-2.ensures.value ∙ c.in_ok-given.ensures.rows) c.in_ok-rows.ensures.reads

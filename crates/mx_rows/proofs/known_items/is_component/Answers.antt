@@ -5,6 +5,8 @@ use Rattle.mx_found.specs.Given.{components}
 use Rattle.mx_rows.proofs.BookRows.{components_of_number}
 use Rattle.mx_rows.proofs.ReadLemmas.{stopped, told}
 use Rattle.mx_rows.proofs.TellLemmas.{compared, tells}
+use Rattle.mx_rows.proofs.KnownLemmas.{rows_same}
+use Rattle.mx_rows.proofs.TableLemmas.{components as components_table}
 use Rattle.mx_rows.proofs.known_items.is_component.Goals as goal
 
 pub returns-in_err-rows-clause-reads : goal.returns-in_err-rows-clause-reads
@@ -18,3 +20,7 @@ returns-clause-reads g c =
     (λ book b read. tells n (Listed x) book _ b
     (compared components n (λ _. component_row n x ∷ []) book _ _ _ c.are_same_components.ensures (c.deref.ensures.value ∙ read) (c.from_ref.ensures.value ∙ ap (λ row. row ∷ []) c.component_row-row.ensures.row)))
     (components_of_number n c.in_ok-rows.ensures.reads)
+
+pub returns-clause-any_rows : goal.returns-clause-any_rows
+returns-clause-any_rows g c =
+    rows_same components_table c.args.seq _ _ _ _ c.are_same_components.ensures c.deref.ensures.value (c.from_ref.ensures.value ∙ ap (λ row. row ∷ []) c.component_row-row.ensures.row) c.in_ok-rows.ensures.reads

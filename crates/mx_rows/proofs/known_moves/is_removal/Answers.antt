@@ -6,6 +6,10 @@ use Rattle.mx_found.proofs.AnswerLemmas.{removal_by_spans}
 use Rattle.mx_found.proofs.FoundLemmas.{entry_is}
 use Rattle.mx_rows.proofs.BookRows.{spans_of_removal}
 use Rattle.mx_rows.proofs.ReadLemmas.{reads_then, stopped, told}
+use Rattle.mx_rows.specs.Known.{Ended}
+use Rattle.mx_rows.proofs.AnyLemmas.{gives}
+use Rattle.mx_rows.proofs.KnownLemmas.{numbered}
+use Rattle.mx_rows.proofs.TableLemmas.{spans}
 use Rattle.mx_rows.proofs.known_moves.is_removal.Goals as goal
 
 pub returns-in_err-rows-clause-reads : goal.returns-in_err-rows-clause-reads
@@ -20,3 +24,9 @@ returns-clause-reads g c =
     removal_by_spans book doc r n b shape (entry_is book doc ∙ number)
     ∙ ap (λ same. Some (n, same)) (sym (c.ends_in.ensures ∙ ap (λ component. list_any (ends_with n component r) c.deref.result.now) (c.or_zero.ensures ∙ ap or_zero both.0) ∙ ap (list_any (ends_with n _ r)) (c.deref.ensures.value ∙ both.1))))
     (reads_then _ _ _ _ _ _ _ c.in_ok-component.ensures.reads (spans_of_removal n c.in_ok-rows.ensures.reads))
+
+pub returns-clause-any_rows : goal.returns-clause-any_rows
+returns-clause-any_rows g c =
+    let r = c.args.removal in
+    numbered _ _ (Ended c.args.seq r) _ _ _ _ _ _ c.or_zero.ensures c.in_ok-component.ensures.reads c.in_ok-component.ensures.any_rows c.in_ok-rows.ensures.reads.within
+    (gives spans (list_any (ends_with c.args.seq c.or_zero.result r)) (c.ends_in.ensures ∙ ap (list_any (ends_with c.args.seq c.or_zero.result r)) c.deref.ensures.value) c.in_ok-rows.ensures.reads)

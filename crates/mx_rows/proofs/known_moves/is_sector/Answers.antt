@@ -4,9 +4,12 @@ use Rattle.mx_typed_rows.specs.declared.rows.Sector2Row.{Sector2Row}
 use Rattle.mx_register.specs.Names.{or_zero, seq_of_tail}
 use Rattle.mx_register.specs.Registers.{sector_row}
 use Rattle.mx_found.specs.Given as registers
-use Rattle.mx_rows.proofs.SectorRows.{sectors_read}
+use Rattle.mx_rows.proofs.SectorRows.{sectors_held, sectors_read}
 use Rattle.mx_rows.proofs.ReadLemmas.{reads_then, stopped, told}
 use Rattle.mx_rows.proofs.TellLemmas.{compared, tells}
+use Rattle.mx_rows.specs.Known.{IsSector}
+use Rattle.mx_rows.proofs.KnownLemmas.{numbered, rows_same}
+use Rattle.mx_rows.proofs.TableLemmas.{sectors}
 use Rattle.mx_rows.proofs.known_moves.is_sector.Goals as goal
 
 pub returns-in_err-rows-clause-reads : goal.returns-in_err-rows-clause-reads
@@ -21,3 +24,8 @@ returns-clause-reads g c =
     (compared registers.sectors n (λ around. sector_row n (or_zero (seq_of_tail around x.tail)) x ∷ []) book _ _ _ c.is_sector_row.ensures (ap (map (λ (row : Sector2Row). row.sector)) c.deref.ensures.value ∙ both.1)
     (ap (λ row. row ∷ []) (c.sector_row-row.ensures.row ∙ ap (λ i. sector_row n i x) (c.or_zero.ensures ∙ ap or_zero both.0)))))
     (reads_then _ _ _ _ _ _ _ c.in_ok-aircraft.ensures.reads (sectors_read n _ _ _ c.in_ok-rows.ensures.reads))
+
+pub returns-clause-any_rows : goal.returns-clause-any_rows
+returns-clause-any_rows g c =
+    numbered _ _ (IsSector c.args.seq c.args.sector) _ _ _ _ _ _ c.or_zero.ensures c.in_ok-aircraft.ensures.reads c.in_ok-aircraft.ensures.any_rows c.in_ok-rows.ensures.reads.within
+    (rows_same sectors c.args.seq _ _ _ _ c.is_sector_row.ensures (ap (map (λ (row : Sector2Row). row.sector)) c.deref.ensures.value) (ap (λ row. row ∷ []) c.sector_row-row.ensures.row) (sectors_held c.args.seq _ _ _ c.in_ok-rows.ensures.reads))

@@ -4,6 +4,8 @@ use Rattle.mx_found.specs.Given as registers
 use Rattle.mx_rows.proofs.BookRows.{programmes_of_number}
 use Rattle.mx_rows.proofs.ReadLemmas.{stopped, told}
 use Rattle.mx_rows.proofs.TellLemmas.{compared}
+use Rattle.mx_rows.proofs.KnownLemmas.{rows_same}
+use Rattle.mx_rows.proofs.TableLemmas.{programmes}
 use Rattle.mx_rows.proofs.known_works.is_programme_row.Goals as goal
 
 pub returns-in_err-rows-clause-reads : goal.returns-in_err-rows-clause-reads
@@ -16,3 +18,7 @@ returns-clause-reads g c =
     told _ _ _ _ _ _
     (λ book b read. compared registers.programmes n (λ _. programme_row n x ∷ []) book _ _ _ c.are_same_programmes.ensures (c.deref.ensures.value ∙ read) (c.from_ref.ensures.value ∙ ap (λ row. row ∷ []) c.programme_row-row.ensures.row))
     (programmes_of_number n c.in_ok-rows.ensures.reads)
+
+pub returns-clause-any_rows : goal.returns-clause-any_rows
+returns-clause-any_rows g c =
+    rows_same programmes c.args.seq _ _ _ _ c.are_same_programmes.ensures c.deref.ensures.value (c.from_ref.ensures.value ∙ ap (λ row. row ∷ []) c.programme_row-row.ensures.row) c.in_ok-rows.ensures.reads
