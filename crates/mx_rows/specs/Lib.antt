@@ -6,4 +6,5 @@ pub mod Given
 pub mod Fitted
 pub mod Known
 pub mod InForce
+pub mod Answering
 pub mod View

@@ -2,6 +2,8 @@
 ghost use Rattle.std.specs.Prelude.{◌≡◌};
 ghost use Rattle.sqlite.specs.Held.{state};
 ghost use Rattle.mx_book.specs.Judge.{judge};
+ghost use Rattle.mx_rows.specs.AnyRows.{ReadsAny};
+ghost use Rattle.mx_rows.specs.Answering.{VerdictOf};
 ghost use Rattle.mx_rows.specs.Reads.{Reads};
 ghost use Rattle.mx_rows.specs.View.{Asks};
 
@@ -49,6 +51,8 @@ pub fn judge_by_rows<S: Alter>(
 ) -> Result<Verdict, TableFault>
     ensures same_reference { tx.new.conn.ghost_name ≡ tx.old.conn.ghost_name }
     ensures reads { Reads (λ book verdict. verdict ≡ judge book command.now)
+        (state S.Store tx.old.conn.now) (state S.Store tx.new.conn.now) result }
+    ensures any_rows { ReadsAny (VerdictOf command.now)
         (state S.Store tx.old.conn.now) (state S.Store tx.new.conn.now) result }
 {
     entry_count(alloc, tx)?;

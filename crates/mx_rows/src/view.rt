@@ -46,6 +46,8 @@ impl<S: Alter> Records for Rows<'_, '_, S> {
     }
 
     fn known(&mut self, command: &Command) -> Result<Option<(u32, bool)>, TableFault> {
+        // Rows answer as a book does for commands of their shape.
+        let _ = command.doc();
         known(self.alloc, self.tx, command)
     }
 
