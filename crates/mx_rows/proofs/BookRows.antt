@@ -39,7 +39,7 @@ module _ {X A : Type 0} (k : Kept X) (rows : List Entry → List X) (it : IsTabl
 -- ── each raw look-up ──
 
 -- a number that may be missing
-some_number : (o : Option ℕ) (n : ℕ) → equal Binary (number_or_null o) (Int (pos n)) ≡ option_eq nat_eq o (Some n)
+pub some_number : (o : Option ℕ) (n : ℕ) → equal Binary (number_or_null o) (Int (pos n)) ≡ option_eq nat_eq o (Some n)
 unfolding binary
 some_number None n = refl
 some_number (Some m) n = number_is m n

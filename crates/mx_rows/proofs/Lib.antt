@@ -13,4 +13,5 @@ pub mod RoomLookups
 pub mod InForceLemmas
 pub mod DefectLemmas
 pub mod WalkLemmas
+pub mod StandingLemmas
 pub mod ViewLemmas

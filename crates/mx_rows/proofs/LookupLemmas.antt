@@ -129,7 +129,7 @@ taken_had (suc n) (y ∷ ys) x (inl here) = inl here
 taken_had (suc n) (y ∷ ys) x (inr there) = inr (taken_had n ys x there)
 
 -- the first number in one is that in the other
-last_is : (found : List EntryRow) → last_number found ≡ counted found
+pub last_is : (found : List EntryRow) → last_number found ≡ counted found
 last_is [] = refl
 last_is (row ∷ rows) = refl
 
