@@ -2,9 +2,9 @@ pub mod ClockLemmas
 pub mod LifeLemmas
 pub mod MapLemmas
 pub mod PlaceLemmas
-pub mod PlainLemmas
 pub mod PositionLemmas
 pub mod ProgrammeLemmas
 pub mod RegisterLemmas
 pub mod WorkLemmas
 pub mod WorkedIndexed
+pub mod CountLemmas

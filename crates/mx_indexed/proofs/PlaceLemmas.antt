@@ -70,7 +70,7 @@ component_moves book entry new = component_by book entry.doc entry.act new
 
 -- ── whether a position is taken ──
 
-then_eq : (a b : Ordering) → is_eq (ordering_then a b) ≡ is_eq a && is_eq b
+pub then_eq : (a b : Ordering) → is_eq (ordering_then a b) ≡ is_eq a && is_eq b
 then_eq Less b = refl
 then_eq Equal b = refl
 then_eq Greater b = refl

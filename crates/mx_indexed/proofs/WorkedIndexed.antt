@@ -4,6 +4,7 @@ use Rattle.std.specs.Prelude.{codes}
 use Rattle.std.specs.List.{filter_map}
 use Rattle.std.specs.Ordering.{nat_cmp}
 use Rattle.std.specs.Cmp.Lexicographic.{slice_cmp}
+use Rattle.mx_base.specs.declared.amounts.Base.{Base}
 use Rattle.mx_command.specs.Act.{Act, Entry, Released}
 use Rattle.mx_command.specs.declared.item.Item.TheVariants.{Airframe, Component}
 use Rattle.mx_command.specs.declared.release.Line.{Line}
@@ -20,7 +21,7 @@ use Rattle.mx_indexed.specs.Places.{has_component, place_of, places_changed}
 use Rattle.mx_indexed.specs.Positions.{part_of, parts_given}
 use Rattle.mx_indexed.specs.Programmes.{last_loaded, programme_changed}
 use Rattle.mx_indexed.specs.Registers.{number_of}
-use Rattle.mx_indexed.specs.Work.{airframe_task, component_task, line_defect, tasks_done}
+use Rattle.mx_indexed.specs.Work.{airframe_task, bases_set, component_task, keyed, line_defect}
 
 -- ── changes ──
 
@@ -86,10 +87,20 @@ lines = Done (Airframe abcd) (codes "100H") ∷ Rectified x1 ∷ Done (Component
 abbrev released : Act
 released = Released (record { place = places.Aircraft abcd; moment = at 19784 0 0 }) lines
 
-airframe_work : tasks_done airframe_task released ≡ ((abcd, codes "100H"), true) ∷ []
+-- the release leaves what each item has reached, where no programme says when its task was due
+abbrev airframe_reached : Base
+airframe_reached = record { minutes = 60090; cycles = 801; day = 19784 }
+
+abbrev component_reached : Base
+component_reached = record { minutes = 1090; cycles = 101; day = 19784 }
+
+bases : bases_set replaced released ≡ (Airframe abcd, codes "100H", airframe_reached) ∷ (Component e1, codes "OVH", component_reached) ∷ []
+bases = refl
+
+airframe_work : filter_map (keyed airframe_task) (bases_set replaced released) ≡ ((abcd, codes "100H"), Some airframe_reached) ∷ []
 airframe_work = refl
 
-component_work : tasks_done component_task released ≡ ((e1, codes "OVH"), true) ∷ []
+component_work : filter_map (keyed component_task) (bases_set replaced released) ≡ ((e1, codes "OVH"), Some component_reached) ∷ []
 component_work = refl
 
 rectified : filter_map line_defect lines ≡ (x1, true) ∷ []

@@ -1,9 +1,10 @@
 -- A book beside its maps.
-use Rattle.std.specs.Prelude.{◌≡◌, List}
+use Rattle.std.specs.Prelude.{◌≡◌, List, [], ◌∷◌, ◌++◌}
 use Rattle.std.specs.Ordering.{nat_cmp}
 use Rattle.std.specs.Cmp.Lexicographic.{slice_cmp}
 use Rattle.mx_command.specs.Act.{Entry}
 use Rattle.mx_indexed.specs.Clocks.{AreClocks, ClocksHaveRoom, clocks_changed}
+use Rattle.mx_indexed.specs.Counts.{counts_of}
 use Rattle.mx_indexed.specs.Lives.{AreLives, LivesHaveRoom, lives_changed}
 use Rattle.mx_indexed.specs.Maps.{HasRoom, HasRoomForAll}
 use Rattle.mx_indexed.specs.Places.{ArePlaces, PlacesHaveRoom, names_cmp, places_changed}
@@ -21,8 +22,9 @@ pub record AreChanges (book : List Entry) (entry : Entry) (changes : Changes) : 
   pub clocks_are : changes.clocks ≡ clocks_changed book entry
   pub parts_are : changes.parts.items ≡ parts_given entry.act
   pub programme_is : changes.programme ≡ programme_changed book entry
-  pub work_is : IsWorkChanged entry changes.work
+  pub work_is : IsWorkChanged book entry changes.work
   pub lives_are : changes.lives ≡ lives_changed book entry
+  pub counts_are : changes.counts ≡ counts_of (book ++ entry ∷ [])
 
 -- the maps have what the book answers
 pub record AreIndexes (book : List Entry) (indexes : Indexes) : Type 0 where
@@ -33,6 +35,7 @@ pub record AreIndexes (book : List Entry) (indexes : Indexes) : Type 0 where
   pub programmes_are : AreProgrammes book indexes.programmes
   pub work_is : IsWork book indexes.work
   pub lives_are : AreLives book indexes.lives
+  pub counts_are : indexes.counts ≡ counts_of book
 
 -- the maps have room for what an entry changes
 pub record HaveRoom (changes : Changes) (indexes : Indexes) : Type 0 where

@@ -1,4 +1,5 @@
 pub mod Clocks
+pub mod Counts
 pub mod Indexed
 pub mod Lives
 pub mod Maps

@@ -1,16 +1,20 @@
--- What was accomplished and rectified, in maps, and what an entry adds to that.
-use Rattle.std.specs.Prelude.{◌≡◌, ℕ, List, [], Bool, true, false, Option, Some, None}
-use Rattle.std.specs.List.{cons_option, filter_map}
+-- The last bases and what was rectified, in maps, and what an entry changes of that.
+use Rattle.std.specs.Prelude.{◌≡◌, ℕ, List, [], ◌∷◌, Bool, true, false, Option, Some, None, IfSome}
+use Rattle.std.specs.List.{AllByRecursion, filter_map}
 use Rattle.std.specs.Option.{option_map}
 use Rattle.std.specs.Ordering.{nat_cmp}
 use Rattle.std.specs.Cmp.Lexicographic.{slice_cmp}
-use Rattle.mx_command.specs.Act.{Act, Entry, Opened, lines_of}
+use Rattle.mx_base.specs.declared.amounts.Base.{Base}
+use Rattle.mx_command.specs.Act.{Act, Entry, Opened, Released, lines_of}
 use Rattle.mx_command.specs.declared.item.Item.{Item}
 use Rattle.mx_command.specs.declared.item.Item.TheVariants.{Airframe, Component}
 use Rattle.mx_command.specs.declared.release.Line.{Line}
 use Rattle.mx_command.specs.declared.release.Line.TheVariants.{Done, Rectified}
+use Rattle.mx_command.specs.declared.release.Release.{Release}
+use Rattle.mx_due.specs.Due.{IsBase}
+use Rattle.mx_book.specs.Base.{base}
 use Rattle.mx_book.specs.Defect.{is_rectified}
-use Rattle.mx_book.specs.Programme.{is_accomplished}
+use Rattle.mx_kept_rows.specs.Bases.{base_reached, stated_base}
 use Rattle.mx_indexed.specs.Maps.{HasRoomForAll, IsIndex}
 use Rattle.mx_indexed.specs.Places.{names_cmp}
 use Rattle.mx_indexed.specs.declared.work.Work.{Work}
@@ -26,42 +30,45 @@ abbrev pub component_task : Item → List ℕ → Option (List ℕ × List ℕ)
 component_task (Airframe tail) id = None
 component_task (Component serial) id = Some (serial, id)
 
--- it is so from now on, of what a line certifies or an opening states
-abbrev pub so : {Key : Type 0} → Option Key → Option (Key × Bool)
-so key = option_map (λ k. (k, true)) key
+-- the base that a line of a release sets: of the task and the item that it certifies
+abbrev pub line_base : List Entry → Release → Line → Option (Item × List ℕ × Base)
+line_base book r (Done item id) = Some (item, id, base_reached book r item id)
+line_base book r (Rectified doc) = None
 
--- the task that a line certifies, of an airframe or of a component
-abbrev pub line_task : (Item → List ℕ → Option (List ℕ × List ℕ)) → Line → Option ((List ℕ × List ℕ) × Bool)
-line_task task (Done item id) = so (task item id)
-line_task task (Rectified doc) = None
+-- the bases that an entry sets, each of a task of an item, in the order of its lines
+abbrev pub bases_set : List Entry → Act → List (Item × List ℕ × Base)
+bases_set book (Opened o) = (o.item, o.task, stated_base o) ∷ []
+bases_set book (Released r lines) = filter_map (line_base book r) lines
+bases_set book _ = []
+
+-- a base that is set at its key, if it has one
+abbrev pub keyed : (Item → List ℕ → Option (List ℕ × List ℕ)) → Item × List ℕ × Base → Option ((List ℕ × List ℕ) × Option Base)
+keyed task b = option_map (λ key. (key, Some b.2)) (task b.0 b.1)
 
 -- the defect that a line certifies to be rectified
 abbrev pub line_defect : Line → Option (List ℕ × Bool)
 line_defect (Done item id) = None
-line_defect (Rectified doc) = so (Some doc)
+line_defect (Rectified doc) = Some (doc, true)
 
--- the tasks that an entry accomplishes, of airframes or of components
-abbrev pub tasks_done : (Item → List ℕ → Option (List ℕ × List ℕ)) → Act → List ((List ℕ × List ℕ) × Bool)
-tasks_done task (Opened o) = cons_option (so (task o.item o.task)) []
-tasks_done task act = filter_map (line_task task) (lines_of act)
-
--- what an entry adds: the tasks that it accomplishes, and the defects that it certifies to be rectified
-pub record IsWorkChanged (entry : Entry) (changes : WorkChanges) : Type 0 where
-  pub airframes_are : changes.airframes.items ≡ tasks_done airframe_task entry.act
-  pub components_are : changes.components.items ≡ tasks_done component_task entry.act
+-- what an entry changes: the bases that it sets, each of which an item may have, and the defects that it certifies to be rectified
+pub record IsWorkChanged (book : List Entry) (entry : Entry) (changes : WorkChanges) : Type 0 where
+  pub airframes_are : changes.airframes.items ≡ filter_map (keyed airframe_task) (bases_set book entry.act)
+  pub components_are : changes.components.items ≡ filter_map (keyed component_task) (bases_set book entry.act)
+  pub bounded : AllByRecursion (λ b. IsBase b.2) (bases_set book entry.act)
   pub rectified_are : changes.rectified.items ≡ filter_map line_defect (lines_of entry.act)
 
--- a task of an airframe, or of a component, was accomplished
-abbrev pub done_on_airframe : List Entry → List ℕ × List ℕ → Bool
-done_on_airframe book named = is_accomplished book (Airframe named.0) named.1
+-- the last base of a task of an airframe, or of a component
+abbrev pub airframe_base : List Entry → List ℕ × List ℕ → Option Base
+airframe_base book named = base book (Airframe named.0) named.1
 
-abbrev pub done_on_component : List Entry → List ℕ × List ℕ → Bool
-done_on_component book named = is_accomplished book (Component named.0) named.1
+abbrev pub component_base : List Entry → List ℕ × List ℕ → Option Base
+component_base book named = base book (Component named.0) named.1
 
--- the maps have what was accomplished and rectified
+-- the maps have the last base of each task, which the item may have, and what was rectified
 pub record IsWork (book : List Entry) (maps : Work) : Type 0 where
-  pub airframes_are : IsIndex names_cmp false (done_on_airframe book) maps.airframes
-  pub components_are : IsIndex names_cmp false (done_on_component book) maps.components
+  pub airframes_are : IsIndex names_cmp None (airframe_base book) maps.airframes
+  pub components_are : IsIndex names_cmp None (component_base book) maps.components
+  pub bounded : (item : Item) (id : List ℕ) → IfSome (base book item id) IsBase
   pub rectified_are : IsIndex (slice_cmp nat_cmp) false (is_rectified book) maps.rectified
 
 -- each map has room for its changes

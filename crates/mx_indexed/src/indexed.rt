@@ -5,7 +5,7 @@ ghost use Rattle.mx_indexed.specs.Reading.{indexed_reading};
 
 use crate::indexed_book::IndexedBook;
 use mx_base::{Day, Doc, Kind, Moment, Part, Position, Serial, Tail, TaskId};
-use mx_book::{Defect, Plain, Records, Verdict, verdict_on};
+use mx_book::{Defect, Records, Verdict, verdict_on};
 use mx_command::{Aircraft, Command, Component, Extension, Item, Task};
 use std::convert::Infallible;
 
@@ -14,16 +14,6 @@ use std::convert::Infallible;
 pub struct Indexed<'a> {
     /// The book.
     pub book: &'a IndexedBook,
-}
-
-impl<'a> Indexed<'a> {
-    fn plain(&self) -> Plain<'a>
-        ensures { result.book.now ≡ self.now.book.now }
-    {
-        Plain {
-            book: self.book.plain(),
-        }
-    }
 }
 
 impl<'a> Records for Indexed<'a> {
@@ -36,11 +26,11 @@ impl<'a> Records for Indexed<'a> {
     }
 
     fn has_room_for_aircraft(&mut self) -> Result<bool, Infallible> {
-        self.plain().has_room_for_aircraft()
+        Ok(self.book.has_room_for_aircraft())
     }
 
     fn has_room_for_component(&mut self) -> Result<bool, Infallible> {
-        self.plain().has_room_for_component()
+        Ok(self.book.has_room_for_component())
     }
 
     fn known(&mut self, command: &Command) -> Result<Option<(u32, bool)>, Infallible> {

@@ -4,19 +4,23 @@ ghost use Rattle.std.specs.List.{list_all, list_any};
 ghost use Rattle.std.specs.Option.{option_copied, option_map, option_map_or};
 ghost use Rattle.mx_command.specs.Programme.{task_shape};
 ghost use Rattle.mx_book.specs.Asking.{known_same, task_of};
+ghost use Rattle.mx_due.specs.Due.{IsBase};
+ghost use Rattle.mx_book.specs.Base.{base};
 ghost use Rattle.mx_book.specs.Defect.{defect, extension, is_rectified};
 ghost use Rattle.mx_book.specs.Judge.{earliest_takeoff, judge, known_from};
 ghost use Rattle.mx_book.specs.Life.{clock, life_now};
 ghost use Rattle.mx_book.specs.Programme.{is_accomplished, is_at_end, life_ended, next_revision, tasks_in_force};
-ghost use Rattle.mx_book.specs.Register.{aircraft, component, found_of, part_at};
+ghost use Rattle.mx_book.specs.Register.{aircraft, component, found_of, has_room_for_aircraft, has_room_for_component, part_at};
 ghost use Rattle.mx_book.specs.Span.{is_taken, tail_fitted};
 ghost use Rattle.mx_indexed.specs.Programmes.{programme_entry};
 
+use crate::bases::bases_set;
 use crate::indexes::Indexes;
 use crate::maps::held;
 use crate::programmes::{one_retires, revision_after, task_named, tasks_loaded};
-use mx_base::{Day, Doc, Kind, Moment, Part, Position, Serial, Tail, TaskId, Use};
+use mx_base::{Base, Day, Doc, Kind, Moment, Part, Position, Serial, Tail, TaskId, Use};
 use mx_book::found::Found;
+use mx_book::judging::{MOST_AIRCRAFT, MOST_COMPONENTS};
 use mx_book::{Book, Defect, NoMemory, Verdict};
 use mx_command::{Aircraft, Command, Component, Extension, Item, Task};
 use std::alloc::Global;
@@ -60,6 +64,20 @@ impl IndexedBook {
         ensures { result.now ≡ self.now }
     {
         &self.book
+    }
+
+    /// Whether there is room for one more aircraft.
+    pub fn has_room_for_aircraft(&self) -> bool
+        ensures { result ≡ has_room_for_aircraft self.now }
+    {
+        (self.indexes.counts.aircraft as usize) < MOST_AIRCRAFT
+    }
+
+    /// Whether there is room for one more component.
+    pub fn has_room_for_component(&self) -> bool
+        ensures { result ≡ has_room_for_component self.now }
+    {
+        (self.indexes.counts.components as usize) < MOST_COMPONENTS
     }
 
     /// The number of the entry with the document of a command, and whether it is the same command.
@@ -139,11 +157,20 @@ impl IndexedBook {
         self.indexes.clocks.of_airframe(tail)
     }
 
+    /// The last base of a task of an item, or `None` where it was never accomplished.
+    pub fn base(&self, item: &Item, id: &TaskId) -> Option<Base>
+        ensures base { result ≡ base self.now item.now id.now }
+        ensures bounded { IfSome result IsBase }
+    {
+        self.indexes.work.base(item, id)
+    }
+
     /// Whether the task of an item was accomplished.
+    #[tactic(auto, using(crate::proofs::WorkLemmas::accomplished))]
     pub fn is_accomplished(&self, item: &Item, id: &TaskId) -> bool
         ensures { result ≡ is_accomplished self.now item.now id.now }
     {
-        self.indexes.work.is_accomplished(item, id)
+        self.base(item, id).is_some()
     }
 
     /// Whether a defect was rectified.
@@ -197,8 +224,8 @@ impl IndexedBook {
         }
     }
 
-    // What the registers have of an item.
-    fn found_of(&self, item: &Item) -> Found
+    /// What the registers have of an item.
+    pub(crate) fn found_of(&self, item: &Item) -> Found
         ensures { result ≡ found_of self.now item.now }
     {
         match item {
@@ -249,9 +276,12 @@ impl IndexedBook {
         ensures unchanged { OnErr result (self.new ≡ self.old) }
     {
         let _ = command.doc();
+        let Ok(set) = bases_set(self.alloc, self, &command) else {
+            return Err((command, NoMemory));
+        };
         let Ok(changes) = self
             .indexes
-            .changes(self.alloc, &command, self.book.len() + 1)
+            .changes(self.alloc, &command, self.book.len() + 1, set.as_slice())
         else {
             return Err((command, NoMemory));
         };

@@ -1,13 +1,17 @@
 //! All maps of a book, and what one entry changes of them.
 ghost use Rattle.std.specs.Prelude.{◌≡◌, ◌+◌, [], ◌∷◌, ◌++◌, List, length, true, IfOk};
 ghost use Rattle.std.specs.Bool.{OnTrue};
+ghost use Rattle.std.specs.List.{AllByRecursion};
 ghost use Rattle.mx_command.specs.Act.{Entry};
 ghost use Rattle.mx_command.specs.Shape.{has_shape};
+ghost use Rattle.mx_due.specs.Due.{IsBase};
 ghost use Rattle.mx_book.specs.Book.{IsBook};
 ghost use Rattle.mx_book.specs.Judge.{judge};
 ghost use Rattle.mx_indexed.specs.Indexed.{AreChanges, AreIndexes, HaveRoom};
+ghost use Rattle.mx_indexed.specs.Work.{bases_set};
 
 use crate::clocks::{ClockChanges, Clocks};
+use crate::counts::Counts;
 use crate::lives::{LifeChanges, Lives};
 use crate::maps::{make_room, make_room_for_all, put, put_all};
 use crate::places::{PlaceChanges, Places};
@@ -15,9 +19,9 @@ use crate::positions::parts_given;
 use crate::programmes::programme_changed;
 use crate::registers::{RegisterChanges, Registers, registers_changed};
 use crate::work::{Work, WorkChanges, work_changed};
-use mx_base::{Kind, Part, Position, Tail};
+use mx_base::{Base, Kind, Part, Position, Tail, TaskId};
 use mx_book::Verdict;
-use mx_command::Command;
+use mx_command::{Command, Item};
 use std::alloc::{AllocError, Global};
 use std::collections::BTreeMap;
 
@@ -31,6 +35,7 @@ pub(crate) struct Indexes {
     pub(crate) programmes: BTreeMap<Kind, Option<u32>>,
     pub(crate) work: Work,
     pub(crate) lives: Lives,
+    pub(crate) counts: Counts,
 }
 
 /// What one entry changes of them.
@@ -43,6 +48,7 @@ pub(crate) struct Changes {
     pub(crate) programme: Option<(Kind, Option<u32>)>,
     pub(crate) work: WorkChanges,
     pub(crate) lives: LifeChanges,
+    pub(crate) counts: Counts,
 }
 
 impl Indexes {
@@ -58,22 +64,25 @@ impl Indexes {
             programmes: BTreeMap::new(alloc),
             work: Work::new(alloc),
             lives: Lives::new(alloc),
+            counts: Counts::new(),
         }
     }
 
-    /// What an entry changes that has this number. An error where memory runs out.
+    /// What an entry changes that has this number and sets these bases. An error where memory runs out.
     pub(crate) fn changes(
         &self,
         alloc: Global,
         entry: &Command,
         seq: u32,
+        set: &[(Item, TaskId, Base)],
     ) -> Result<Changes, AllocError>
         ensures { (book : List Entry) → IsBook book → AreIndexes book self.now
-            → seq ≡ length book + 1
+            → seq ≡ length book + 1 → set.now ≡ bases_set book entry.now.act
+            → AllByRecursion (λ b. IsBase b.2) set.now
             → IfOk result (λ changes. AreChanges book entry.now changes) }
     {
         let parts = parts_given(alloc, entry)?;
-        let work = work_changed(alloc, entry)?;
+        let work = work_changed(alloc, entry, set)?;
         Ok(Changes {
             registers: registers_changed(entry, seq),
             places: self.places.changes(entry),
@@ -82,6 +91,7 @@ impl Indexes {
             programme: programme_changed(entry, seq),
             work,
             lives: self.lives.changes(&self.places, entry),
+            counts: self.counts.counted(entry),
         })
     }
 
@@ -114,5 +124,6 @@ impl Indexes {
         put(&mut self.programmes, &changes.programme);
         self.work.put(&changes.work);
         self.lives.put(&changes.lives);
+        self.counts = changes.counts;
     }
 }

@@ -9,18 +9,20 @@
 //! | `clock`, `earliest_takeoff` | the clock of each airframe, and of each component |
 //! | `next_revision`, `task` | the number of the entry that loaded the programme in force of each kind |
 //! | `is_retired` | that number, the life of each airframe, and how far that of each component is ahead of it |
-//! | `is_accomplished` | the tasks that were done on each airframe, and on each component |
+//! | `is_accomplished` | the last base of each task of each airframe, and of each component |
 //! | `is_rectified` | the defects that were |
 //!
-//! Whether there is room for one more aircraft or component reads the entries still, where one is added; nothing else does.
+//! Whether there is room for one more aircraft or component is told by two counts. So nothing reads all entries.
 #![tactic(auto)]
 
+pub mod bases;
 mod clocks;
+mod counts;
 pub mod indexed;
 pub mod indexed_book;
 mod indexes;
 mod lives;
-mod maps;
+pub mod maps;
 mod places;
 mod positions;
 mod programmes;

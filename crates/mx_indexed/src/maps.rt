@@ -7,7 +7,7 @@ ghost use Rattle.mx_indexed.specs.Maps.{HasRoom, HasRoomForAll, KeepsRows, chang
 use std::collections::BTreeMap;
 
 /// What a map has at a key, or `none` where it has no row.
-pub(crate) fn held<K: Ord, V: Copy>(map: &BTreeMap<K, V>, key: &K, none: V) -> V
+pub fn held<K: Ord, V: Copy>(map: &BTreeMap<K, V>, key: &K, none: V) -> V
     ensures { result ≡ held K.cmp none map.now key.now }
 {
     match map.get(key) {
@@ -18,7 +18,7 @@ pub(crate) fn held<K: Ord, V: Copy>(map: &BTreeMap<K, V>, key: &K, none: V) -> V
 
 /// Makes room for the key of a change, where there is one: a row that says `none`. Whether there was memory for it; in
 /// either case the map has what it had.
-pub(crate) fn make_room<K: Ord + Copy, V: Copy>(
+pub fn make_room<K: Ord + Copy, V: Copy>(
     map: &mut BTreeMap<K, V>,
     change: &Option<(K, V)>,
     none: V,
@@ -43,7 +43,7 @@ pub(crate) fn make_room<K: Ord + Copy, V: Copy>(
 }
 
 /// Changes what stands at one key, where there is a change, for which the map has room.
-pub(crate) fn put<K: Ord + Copy, V: Copy>(map: &mut BTreeMap<K, V>, change: &Option<(K, V)>)
+pub fn put<K: Ord + Copy, V: Copy>(map: &mut BTreeMap<K, V>, change: &Option<(K, V)>)
     requires { HasRoom K.cmp change.now map.old }
     ensures changed { (none : V) (key : K) → held K.cmp none map.new key
         ≡ changed K.cmp change.now key (held K.cmp none map.old key) }
@@ -59,7 +59,7 @@ pub(crate) fn put<K: Ord + Copy, V: Copy>(map: &mut BTreeMap<K, V>, change: &Opt
 }
 
 /// Makes room for the key of each change. Whether there was memory for it; in either case the map has what it had.
-pub(crate) fn make_room_for_all<K: Ord + Copy, V: Copy>(
+pub fn make_room_for_all<K: Ord + Copy, V: Copy>(
     map: &mut BTreeMap<K, V>,
     changes: &Vec<(K, V)>,
     none: V,
@@ -79,7 +79,7 @@ pub(crate) fn make_room_for_all<K: Ord + Copy, V: Copy>(
 }
 
 /// Makes the changes, one after the other, for which the map has room.
-pub(crate) fn put_all<K: Ord + Copy, V: Copy>(map: &mut BTreeMap<K, V>, changes: &Vec<(K, V)>)
+pub fn put_all<K: Ord + Copy, V: Copy>(map: &mut BTreeMap<K, V>, changes: &Vec<(K, V)>)
     requires { HasRoomForAll K.cmp changes.now.items map.old }
     ensures { (none : V) (key : K) → held K.cmp none map.new key
         ≡ changed_all K.cmp changes.now.items key (held K.cmp none map.old key) }

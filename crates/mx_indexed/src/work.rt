@@ -1,76 +1,95 @@
-//! What was accomplished and rectified, in maps.
+//! The last bases and what was rectified, in maps.
 ghost use Rattle.std.specs.Prelude.{◌≡◌, [], ◌∷◌, ◌++◌, IfOk, List, true};
 ghost use Rattle.std.specs.Bool.{OnTrue};
-ghost use Rattle.std.specs.List.{filter_map};
+ghost use Rattle.std.specs.List.{AllByRecursion, filter_map};
 ghost use Rattle.mx_command.specs.Act.{Entry, lines_of};
 ghost use Rattle.mx_command.specs.Shape.{has_shape};
+ghost use Rattle.mx_due.specs.Due.{IsBase};
+ghost use Rattle.mx_book.specs.Base.{base};
 ghost use Rattle.mx_book.specs.Book.{IsBook};
 ghost use Rattle.mx_book.specs.Defect.{is_rectified};
 ghost use Rattle.mx_book.specs.Judge.{judge};
-ghost use Rattle.mx_book.specs.Programme.{is_accomplished};
-ghost use Rattle.mx_indexed.specs.Work.{IsWork, IsWorkChanged, WorkHasRoom, airframe_task, component_task, line_defect, line_task, so, tasks_done};
+ghost use Rattle.mx_indexed.specs.Work.{IsWork, IsWorkChanged, WorkHasRoom, airframe_task, bases_set, component_task, keyed, line_defect};
 
 use crate::maps::{held, make_room_for_all, put_all};
-use mx_base::{Doc, Serial, Tail, TaskId};
+use mx_base::{Base, Doc, Serial, Tail, TaskId};
 use mx_book::Verdict;
 use mx_command::{Command, Item, Line};
 use std::alloc::{AllocError, Global};
 use std::collections::BTreeMap;
 
-/// The tasks that were accomplished on each airframe and on each component, and the defects that were rectified.
+/// The last base of each task of each airframe and of each component, and the defects that were rectified.
 #[derive(Drop)]
 pub(crate) struct Work {
-    pub(crate) airframes: BTreeMap<(Tail, TaskId), bool>,
-    pub(crate) components: BTreeMap<(Serial, TaskId), bool>,
+    pub(crate) airframes: BTreeMap<(Tail, TaskId), Option<Base>>,
+    pub(crate) components: BTreeMap<(Serial, TaskId), Option<Base>>,
     pub(crate) rectified: BTreeMap<Doc, bool>,
 }
 
-/// What one entry adds to them.
+/// What one entry changes of them.
 #[derive(Drop)]
 pub(crate) struct WorkChanges {
-    pub(crate) airframes: Vec<((Tail, TaskId), bool)>,
-    pub(crate) components: Vec<((Serial, TaskId), bool)>,
+    pub(crate) airframes: Vec<((Tail, TaskId), Option<Base>)>,
+    pub(crate) components: Vec<((Serial, TaskId), Option<Base>)>,
     pub(crate) rectified: Vec<(Doc, bool)>,
 }
 
-// The task of an airframe that is accomplished.
-fn airframe_done(item: &Item, id: &TaskId) -> Option<((Tail, TaskId), bool)>
-    ensures { result ≡ so (airframe_task item.now id.now) }
+// A base that is set, of an airframe.
+fn of_airframe(set: &(Item, TaskId, Base)) -> Option<((Tail, TaskId), Option<Base>)>
+    ensures { result ≡ keyed airframe_task set.now }
 {
+    let (item, id, base) = set;
     match item {
-        Item::Airframe(tail) => Some(((*tail, *id), true)),
+        Item::Airframe(tail) => Some(((*tail, *id), Some(*base))),
         Item::Component(_) => None,
     }
 }
 
-// The task of a component that is accomplished.
-fn component_done(item: &Item, id: &TaskId) -> Option<((Serial, TaskId), bool)>
-    ensures { result ≡ so (component_task item.now id.now) }
+// A base that is set, of a component.
+fn of_component(set: &(Item, TaskId, Base)) -> Option<((Serial, TaskId), Option<Base>)>
+    ensures { result ≡ keyed component_task set.now }
 {
+    let (item, id, base) = set;
     match item {
         Item::Airframe(_) => None,
-        Item::Component(serial) => Some(((*serial, *id), true)),
+        Item::Component(serial) => Some(((*serial, *id), Some(*base))),
     }
 }
 
-// The task of an airframe that a line certifies.
-fn airframe_certified(line: &Line) -> Option<((Tail, TaskId), bool)>
-    ensures { result ≡ line_task airframe_task line.now }
+// Of bases that are set those of airframes.
+fn of_airframes(
+    alloc: Global,
+    set: &[(Item, TaskId, Base)],
+) -> Result<Vec<((Tail, TaskId), Option<Base>)>, AllocError>
+    ensures { IfOk result (λ bases. bases.items ≡ filter_map (keyed airframe_task) set.now) }
 {
-    match line {
-        Line::Done(item, id) => airframe_done(item, id),
-        Line::Rectified(_) => None,
+    let mut bases = Vec::new(alloc);
+    let mut rest = set;
+    while let Some((one, later)) = rest.split_first() {
+        if let Some(base) = of_airframe(one) {
+            bases.push(base)?;
+        }
+        rest = later;
     }
+    Ok(bases)
 }
 
-// The task of a component that a line certifies.
-fn component_certified(line: &Line) -> Option<((Serial, TaskId), bool)>
-    ensures { result ≡ line_task component_task line.now }
+// Of bases that are set those of components.
+fn of_components(
+    alloc: Global,
+    set: &[(Item, TaskId, Base)],
+) -> Result<Vec<((Serial, TaskId), Option<Base>)>, AllocError>
+    ensures { IfOk result (λ bases. bases.items ≡ filter_map (keyed component_task) set.now) }
 {
-    match line {
-        Line::Done(item, id) => component_done(item, id),
-        Line::Rectified(_) => None,
+    let mut bases = Vec::new(alloc);
+    let mut rest = set;
+    while let Some((one, later)) = rest.split_first() {
+        if let Some(base) = of_component(one) {
+            bases.push(base)?;
+        }
+        rest = later;
     }
+    Ok(bases)
 }
 
 // The defect that a line certifies to be rectified.
@@ -81,51 +100,6 @@ fn defect_certified(line: &Line) -> Option<(Doc, bool)>
         Line::Done(_, _) => None,
         Line::Rectified(doc) => Some((*doc, true)),
     }
-}
-
-// The tasks of airframes that an entry accomplishes.
-fn airframes_done(alloc: Global, entry: &Command) -> Result<Vec<((Tail, TaskId), bool)>, AllocError>
-    ensures { IfOk result (λ done. done.items ≡ tasks_done airframe_task entry.now.act) }
-{
-    let mut done = Vec::new(alloc);
-    if let Some(opening) = entry.stated_opening() {
-        if let Some(one) = airframe_done(&opening.item, &opening.task) {
-            done.push(one)?;
-        }
-        return Ok(done);
-    }
-    let mut rest = entry.lines();
-    while let Some((line, later)) = rest.split_first() {
-        if let Some(one) = airframe_certified(line) {
-            done.push(one)?;
-        }
-        rest = later;
-    }
-    Ok(done)
-}
-
-// The tasks of components that an entry accomplishes.
-fn components_done(
-    alloc: Global,
-    entry: &Command,
-) -> Result<Vec<((Serial, TaskId), bool)>, AllocError>
-    ensures { IfOk result (λ done. done.items ≡ tasks_done component_task entry.now.act) }
-{
-    let mut done = Vec::new(alloc);
-    if let Some(opening) = entry.stated_opening() {
-        if let Some(one) = component_done(&opening.item, &opening.task) {
-            done.push(one)?;
-        }
-        return Ok(done);
-    }
-    let mut rest = entry.lines();
-    while let Some((line, later)) = rest.split_first() {
-        if let Some(one) = component_certified(line) {
-            done.push(one)?;
-        }
-        rest = later;
-    }
-    Ok(done)
 }
 
 // The defects that an entry certifies to be rectified.
@@ -144,12 +118,18 @@ fn defects_rectified(alloc: Global, entry: &Command) -> Result<Vec<(Doc, bool)>,
     Ok(done)
 }
 
-/// What an entry adds. An error where memory runs out.
-pub(crate) fn work_changed(alloc: Global, entry: &Command) -> Result<WorkChanges, AllocError>
-    ensures { IfOk result (λ changes. IsWorkChanged entry.now changes) }
+/// What an entry changes that sets these bases. An error where memory runs out.
+pub(crate) fn work_changed(
+    alloc: Global,
+    entry: &Command,
+    set: &[(Item, TaskId, Base)],
+) -> Result<WorkChanges, AllocError>
+    ensures { (book : List Entry) → set.now ≡ bases_set book entry.now.act
+        → AllByRecursion (λ b. IsBase b.2) set.now
+        → IfOk result (λ changes. IsWorkChanged book entry.now changes) }
 {
-    let airframes = airframes_done(alloc, entry)?;
-    let components = components_done(alloc, entry)?;
+    let airframes = of_airframes(alloc, set)?;
+    let components = of_components(alloc, set)?;
     let rectified = defects_rectified(alloc, entry)?;
     Ok(WorkChanges {
         airframes,
@@ -170,14 +150,14 @@ impl Work {
         }
     }
 
-    /// Whether a task of an item was accomplished.
-    pub(crate) fn is_accomplished(&self, item: &Item, id: &TaskId) -> bool
+    /// The last base of a task of an item, where it was accomplished.
+    pub(crate) fn base(&self, item: &Item, id: &TaskId) -> Option<Base>
         ensures { (book : List Entry) → IsWork book self.now
-            → result ≡ is_accomplished book item.now id.now }
+            → result ≡ base book item.now id.now }
     {
         match item {
-            Item::Airframe(tail) => held(&self.airframes, &(*tail, *id), false),
-            Item::Component(serial) => held(&self.components, &(*serial, *id), false),
+            Item::Airframe(tail) => held(&self.airframes, &(*tail, *id), None),
+            Item::Component(serial) => held(&self.components, &(*serial, *id), None),
         }
     }
 
@@ -188,22 +168,22 @@ impl Work {
         held(&self.rectified, doc, false)
     }
 
-    /// Makes room for what an entry adds. Whether there was memory for it; in either case the maps say what they said.
+    /// Makes room for what an entry changes. Whether there was memory for it; in either case the maps say what they said.
     pub(crate) fn make_room(&mut self, changes: &WorkChanges) -> bool
         ensures same { (book : List Entry) → IsWork book self.old → IsWork book self.new }
         ensures room { OnTrue result (WorkHasRoom changes.now self.new) }
     {
-        let airframes = make_room_for_all(&mut self.airframes, &changes.airframes, false);
-        let components = make_room_for_all(&mut self.components, &changes.components, false);
+        let airframes = make_room_for_all(&mut self.airframes, &changes.airframes, None);
+        let components = make_room_for_all(&mut self.components, &changes.components, None);
         let rectified = make_room_for_all(&mut self.rectified, &changes.rectified, false);
         airframes & components & rectified
     }
 
-    /// Enters what an entry adds, for which there is room.
+    /// Enters what an entry changes, for which there is room.
     pub(crate) fn put(&mut self, changes: &WorkChanges)
         requires { WorkHasRoom changes.now self.old }
         ensures { (book : List Entry) (entry : Entry) → IsBook book → has_shape entry ≡ true
-            → judge book entry ≡ Verdict.New → IsWorkChanged entry changes.now
+            → judge book entry ≡ Verdict.New → IsWorkChanged book entry changes.now
             → IsWork book self.old → IsWork (book ++ entry ∷ []) self.new }
     {
         put_all(&mut self.airframes, &changes.airframes);

@@ -299,7 +299,7 @@ empty_book : IsBook []
 empty_book = record { few = omega arith; shaped = refl; judged = refl }
 
 -- the rows from which the merge gives a book are its registers
-merged_sound : (registers : Registers) (book : List Entry) → merged [] registers.entries.items (all_rows registers) ≡ Some book → AreRegistersOf registers book
+pub merged_sound : (registers : Registers) (book : List Entry) → merged [] registers.entries.items (all_rows registers) ≡ Some book → AreRegistersOf registers book
 merged_sound registers book h =
     let goes = merged_goes_on [] registers.entries.items (all_rows registers) book empty_book h in
     let same = sym goes.whole in

@@ -7,7 +7,7 @@ pub mod merge;
 pub mod names;
 pub mod registers;
 pub mod said;
-mod taking;
+pub mod taking;
 
 pub use added::added_rows;
 pub use mx_typed_rows::{
@@ -16,7 +16,7 @@ pub use mx_typed_rows::{
     SectorRow, SpanRow, TaskRow, TotalRow,
 };
 pub use names::{
-    document_of_defect, item_of_entry, or_zero, seq_of_defect, seq_of_item, seq_of_place,
+    added_item, document_of_defect, item_of_entry, or_zero, seq_of_defect, seq_of_item, seq_of_place,
     seq_of_serial, seq_of_tail, serial_of_component, tail_of_aircraft,
 };
 pub use registers::{

@@ -21,8 +21,8 @@ pub struct Registers {
     pub rows: RegisterRows,
 }
 
-// All rows but those of the entries.
-fn rows_of(registers: &Registers) -> Left<'_>
+/// All rows but those of the entries.
+pub fn rows_of(registers: &Registers) -> Left<'_>
     ensures { rest_of result ≡ all_rows registers.now }
 {
     Left {
@@ -77,8 +77,8 @@ fn are_defects_taken(rows: Left<'_>) -> bool
     rows.deferrals.is_empty() && rows.extensions.is_empty()
 }
 
-// Whether every row is taken.
-fn are_all_taken(rows: Left<'_>) -> bool
+/// Whether every row is taken.
+pub fn are_all_taken(rows: Left<'_>) -> bool
     ensures { result ≡ are_taken (rest_of rows.entry) }
 {
     are_items_taken(rows)
@@ -100,9 +100,9 @@ fn command_with(alloc: Global, doc: Doc, body: Body) -> Result<Option<Command>, 
     }
 }
 
-// The command that an entry and the first rows of its kind say, and the rows behind them. Memory is asked for only where
-// they say something.
-fn next_command<'a>(
+/// The command that an entry and the first rows of its kind say, and the rows behind them. Memory is asked for only where
+/// they say something.
+pub fn next_command<'a>(
     alloc: Global,
     book: &Book,
     entry: &EntryRow,

@@ -147,8 +147,8 @@ pub fn document_of_defect(book: &Book, seq: u32) -> Option<Doc>
     Some(entry.doc())
 }
 
-// The item that an entry adds: the airframe of an aircraft, or a component.
-fn added_item(body: &Body) -> Option<Item>
+/// The item that an entry adds: the airframe of an aircraft, or a component.
+pub fn added_item(body: &Body) -> Option<Item>
     ensures { result ≡ item_added (act_of body.now) }
 {
     match body {

@@ -21,20 +21,20 @@ use std::alloc::{AllocError, Global};
 
 /// The rows that no entry has taken.
 #[derive(Clone, Copy)]
-pub(crate) struct Left<'a> {
-    pub(crate) aircraft: &'a [AircraftRow],
-    pub(crate) places: &'a [PlaceRow],
-    pub(crate) components: &'a [ComponentRow],
-    pub(crate) programmes: &'a [ProgrammeRow],
-    pub(crate) tasks: &'a [TaskRow],
-    pub(crate) openings: &'a [OpeningRow],
-    pub(crate) releases: &'a [ReleaseRow],
-    pub(crate) release_lines: &'a [ReleaseLineRow],
-    pub(crate) deferrals: &'a [DeferralRow],
-    pub(crate) extensions: &'a [ExtensionRow],
-    pub(crate) sectors: &'a [SectorRow],
-    pub(crate) fittings: &'a [FittingRow],
-    pub(crate) removals: &'a [RemovalRow],
+pub struct Left<'a> {
+    pub aircraft: &'a [AircraftRow],
+    pub places: &'a [PlaceRow],
+    pub components: &'a [ComponentRow],
+    pub programmes: &'a [ProgrammeRow],
+    pub tasks: &'a [TaskRow],
+    pub openings: &'a [OpeningRow],
+    pub releases: &'a [ReleaseRow],
+    pub release_lines: &'a [ReleaseLineRow],
+    pub deferrals: &'a [DeferralRow],
+    pub extensions: &'a [ExtensionRow],
+    pub sectors: &'a [SectorRow],
+    pub fittings: &'a [FittingRow],
+    pub removals: &'a [RemovalRow],
 }
 
 // The positions of the entry with this number, and the rows behind them.

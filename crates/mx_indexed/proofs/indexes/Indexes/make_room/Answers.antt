@@ -20,4 +20,5 @@ returns-clause-same c book are =
       programmes_are = stays (slice_cmp nat_cmp) None (last_loaded book) self.programmes c.make_room-programmes.new.map (c.make_room-programmes.ensures.same exact_bytes) are.programmes_are;
       work_is = c.make_room-work.ensures.same book are.work_is;
       lives_are = c.make_room-lives.ensures.same book are.lives_are;
+      counts_are = are.counts_are;
     }

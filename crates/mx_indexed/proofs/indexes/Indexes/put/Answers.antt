@@ -23,4 +23,5 @@ returns c book entry is_book shape new is are =
       programmes_are = moves (slice_cmp nat_cmp) None (last_loaded book) (last_loaded more) self.programmes c.put-4.new.map changes.programme (programme_changed book entry) (c.put-4.ensures.changed None) is.programme_is (programme_moves book entry) are.programmes_are;
       work_is = c.put-5.ensures book entry is_book shape new is.work_is are.work_is;
       lives_are = c.put-6.ensures book entry is_book shape new is.lives_are are.lives_are;
+      counts_are = is.counts_are;
     }
