@@ -5,9 +5,6 @@ pub mod LookupLemmas
 pub mod BookRows
 pub mod AnyLemmas
 pub mod DamageLemmas
-pub mod SectorRows
-pub mod TellLemmas
-pub mod KnownLemmas
 pub mod BaseLookups
 pub mod RoomLookups
 pub mod InForceLemmas

@@ -4,5 +4,4 @@ pub mod Reads
 pub mod AnyRows
 pub mod Given
 pub mod Fitted
-pub mod Known
 pub mod InForce

@@ -9,12 +9,6 @@
 pub mod defects;
 pub mod entries;
 pub mod items;
-pub mod known;
-mod known_items;
-mod known_lines;
-mod known_moves;
-mod known_releases;
-mod known_works;
 pub mod lists;
 pub mod lives;
 pub mod programmes;

@@ -2,11 +2,11 @@
 use mx_base::{Day, Doc, Kind, Moment, Part, Position, Serial, Tail, TaskId};
 use mx_book::{Defect, Records};
 use mx_command::{Aircraft, Command, Component, Extension, Item, Task};
+use mx_known::known::known;
 use mx_layout::TableFault;
 use mx_lookups::defects::{defect, extension, is_rectified};
 use mx_lookups::entries::entry_count;
 use mx_lookups::items::{aircraft, component, part_at};
-use mx_lookups::known::known;
 use mx_lookups::lives::{clock, earliest_takeoff};
 use mx_lookups::programmes::{is_retired, next_revision, task};
 use mx_lookups::rooms::{has_room_for_aircraft, has_room_for_component};

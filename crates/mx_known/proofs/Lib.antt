@@ -1,0 +1,3 @@
+pub mod SectorRows
+pub mod TellLemmas
+pub mod KnownLemmas

@@ -1,0 +1,23 @@
+use Rattle.std.proofs.Common.{◌∙◌}
+use Rattle.mx_register.specs.Lines.{lines_from}
+use Rattle.mx_register.specs.Registers.{place_row}
+use Rattle.mx_found.specs.Given as registers
+use Rattle.mx_lookups.proofs.BookRows.{places_of}
+use Rattle.mx_lookups.proofs.ReadLemmas.{stopped, told}
+use Rattle.mx_known.proofs.TellLemmas.{compared}
+use Rattle.mx_known.proofs.KnownLemmas.{rows_same}
+use Rattle.mx_lookups.proofs.TableLemmas.{places}
+use Rattle.mx_known.proofs.items.are_positions.Goals as goal
+
+pub returns-in_err-rows-clause-reads : goal.returns-in_err-rows-clause-reads
+returns-in_err-rows-clause-reads g c = stopped _ _ _ _ _ _ c.from_residual.ensures.1 (places_of c.args.seq c.in_err-rows.ensures.reads)
+
+pub returns-clause-reads : goal.returns-clause-reads
+returns-clause-reads g c =
+    let n = c.args.seq in
+    told _ _ _ _ _ _
+    (λ book b read. compared registers.places n (λ _. lines_from place_row n 1 c.args.positions.now) book _ _ _ c.are_same_places.ensures (c.deref.ensures.value ∙ read) (c.deref-2.ensures.value ∙ c.in_ok-given.ensures.rows))
+    (places_of n c.in_ok-rows.ensures.reads)
+
+pub returns-clause-any_rows : goal.returns-clause-any_rows
+returns-clause-any_rows g c = rows_same places c.args.seq _ _ _ _ c.are_same_places.ensures c.deref.ensures.value (c.deref-2.ensures.value ∙ c.in_ok-given.ensures.rows) c.in_ok-rows.ensures.reads

@@ -1,0 +1,20 @@
+use Rattle.std.proofs.Common.{refl, subst}
+use Rattle.sqlite.specs.declared.types.Value.TheVariants.{Text}
+use Rattle.mx_kept.specs.Cells.{kept_entry}
+use Rattle.mx_chosen.specs.Choices.{has_value}
+use Rattle.mx_found.specs.Names.{entry_number}
+use Rattle.mx_lookups.specs.AnyRows.{Gives}
+use Rattle.mx_lookups.proofs.AnyLemmas.{any_so, by_none, by_number}
+use Rattle.mx_known.proofs.known.known.Goals as goal
+
+pub returns-in_ok-same-in-Some-clause-any_rows : goal.returns-in_ok-same-in-Some-clause-any_rows
+returns-in_ok-same-in-Some-clause-any_rows g c =
+    let same = c.in_ok-same-in-Some.same in
+    by_number _ _ _ _ _ _ _ _ _ _ c.in-Some.is c.in_ok-found.ensures.reads
+    (any_so _ (Gives kept_entry (has_value 1 (Text c.args.command.now.doc)) entry_number) _ _ _ _ (λ trees gave. subst (λ d. Gives kept_entry (has_value 1 (Text d)) entry_number trees c.in_ok-found.found) c.doc-doc.ensures.doc gave) c.in_ok-found.ensures.any_rows)
+    c.in_ok-same-in-Some.ensures.reads.within (any_so _ _ _ _ same _ (λ trees says. (same, says, refl)) c.in_ok-same-in-Some.ensures.any_rows)
+
+pub returns-in-None-clause-any_rows : goal.returns-in-None-clause-any_rows
+returns-in-None-clause-any_rows g c =
+    by_none _ _ _ _ _ _ c.in-None.is
+    (any_so _ (Gives kept_entry (has_value 1 (Text c.args.command.now.doc)) entry_number) _ _ _ _ (λ trees gave. subst (λ d. Gives kept_entry (has_value 1 (Text d)) entry_number trees c.in_ok-found.found) c.doc-doc.ensures.doc gave) c.in_ok-found.ensures.any_rows)

@@ -1,0 +1,39 @@
+use Rattle.std.proofs.Common.{rules, ◌≡◌, ◌++◌, ◌∷◌, refl, sym, ap}
+use Rattle.mx_register.specs.Lines.{lines_from}
+use Rattle.mx_register.specs.Registers.{release_line_row}
+use Rattle.mx_lookups.proofs.AnyLemmas.{empty_is}
+use Rattle.mx_lookups.proofs.BookRows.{lines_of}
+use Rattle.mx_lookups.proofs.ReadLemmas.{reads_then, stopped, told}
+use Rattle.mx_known.proofs.TellLemmas.{one_more}
+use Rattle.mx_known.proofs.KnownLemmas.{lined_begun, lined_ended, lined_more}
+use Rattle.mx_known.proofs.releases.are_lines.Goals as goal
+
+pub returns-in_err-rows-clause-reads : goal.returns-in_err-rows-clause-reads
+returns-in_err-rows-clause-reads g c = stopped _ _ _ _ _ _ c.from_residual.ensures.1 (lines_of c.args.seq c.in_err-rows.ensures.reads)
+
+pub loop-certified-init : goal.loop-certified-init
+loop-certified-init g c = record {
+  count = refl;
+  same_reference = search rules;
+  reads = told _ _ _ _ _ _ (λ book b read. (read, ap (λ rows. rows ++ lines_from (release_line_row book) c.args.seq 1 c.args.lines.now) (sym c.new-given.ensures.items)))
+      (lines_of c.args.seq c.in_ok-rows.ensures.reads);
+  any_rows = lined_begun c.args.seq c.args.lines.now _ c.new-given.ensures.items c.in_ok-rows.ensures.reads;
+}
+
+pub loop-certified-preserved : goal.loop-certified-preserved
+loop-certified-preserved g c =
+    let rest_is : c.loop-certified.rest.now ≡ c.in-Some.certified.now ∷ c.in-Some.later.now = search rules in
+    record {
+      count = search rules;
+      same_reference = search rules;
+      reads = told _ _ _ _ _ _ (λ book b both. (both.0.0, one_more (release_line_row book) c.args.seq c.loop-certified.line _ _ _ _ _ _ _ both.0.1 rest_is both.1 c.in_ok-push.ensures.items))
+          (reads_then _ _ _ _ _ _ _ c.loop-certified.invariant.reads c.in_ok-row.ensures.reads);
+      any_rows = lined_more _ _ _ _ c.args.seq c.args.lines.now c.loop-certified.line _ _ _ _ _ _ _ _ rest_is c.in_ok-push.ensures.items refl c.loop-certified.invariant.reads c.loop-certified.invariant.any_rows c.in_ok-row.ensures.reads.within c.in_ok-row.ensures.any_rows;
+    }
+
+pub returns-clause-any_rows : goal.returns-clause-any_rows
+returns-clause-any_rows g c =
+    lined_ended _ _ c.args.seq c.args.lines.now c.loop-certified.line _ _ _ _ _ _ (empty_is _ c.in_default.ensures.cases) c.are_same_release_lines.ensures c.deref.ensures.value c.deref-2.ensures.value c.loop-certified.invariant.any_rows
+
+pub returns-in_err-row-clause-reads : goal.returns-in_err-row-clause-reads
+returns-in_err-row-clause-reads g c = stopped _ _ _ _ _ _ c.from_residual-in_err-row.ensures.1 (reads_then _ _ _ _ _ _ _ c.loop-certified.invariant.reads c.in_err-row.ensures.reads)

@@ -1,0 +1,23 @@
+use Rattle.std.proofs.Common.{◌∙◌}
+use Rattle.mx_register.specs.Lines.{lines_from}
+use Rattle.mx_register.specs.Registers.{task_row}
+use Rattle.mx_found.specs.Given as registers
+use Rattle.mx_lookups.proofs.BookRows.{tasks_of}
+use Rattle.mx_lookups.proofs.ReadLemmas.{stopped, told}
+use Rattle.mx_known.proofs.TellLemmas.{compared}
+use Rattle.mx_known.proofs.KnownLemmas.{rows_same}
+use Rattle.mx_lookups.proofs.TableLemmas.{tasks}
+use Rattle.mx_known.proofs.works.are_tasks.Goals as goal
+
+pub returns-in_err-rows-clause-reads : goal.returns-in_err-rows-clause-reads
+returns-in_err-rows-clause-reads g c = stopped _ _ _ _ _ _ c.from_residual.ensures.1 (tasks_of c.args.seq c.in_err-rows.ensures.reads)
+
+pub returns-clause-reads : goal.returns-clause-reads
+returns-clause-reads g c =
+    let n = c.args.seq in
+    told _ _ _ _ _ _
+    (λ book b read. compared registers.tasks n (λ _. lines_from task_row n 1 c.args.tasks.now) book _ _ _ c.are_same_tasks.ensures (c.deref.ensures.value ∙ read) (c.deref-2.ensures.value ∙ c.in_ok-given.ensures.rows))
+    (tasks_of n c.in_ok-rows.ensures.reads)
+
+pub returns-clause-any_rows : goal.returns-clause-any_rows
+returns-clause-any_rows g c = rows_same tasks c.args.seq _ _ _ _ c.are_same_tasks.ensures c.deref.ensures.value (c.deref-2.ensures.value ∙ c.in_ok-given.ensures.rows) c.in_ok-rows.ensures.reads
