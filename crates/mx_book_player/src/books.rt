@@ -7,22 +7,8 @@ use mx_cases::{
 };
 use mx_command::{Command, Item};
 use mx_lists::life_list_of;
+use mx_register_lines::are_same;
 use std::alloc::Global;
-
-/// The first command that isn't the one in its place among others.
-pub fn first_other<'a>(found: &'a [Command], wanted: &[Command]) -> Option<&'a Command> {
-    for (one, other) in found.iter().zip(wanted.iter()) {
-        if !one.is_same(other) {
-            return Some(one);
-        }
-    }
-    None
-}
-
-/// Whether these are the same commands, in the same order.
-pub fn are_same(found: &[Command], wanted: &[Command]) -> bool {
-    found.len() == wanted.len() && first_other(found, wanted).is_none()
-}
 
 // judge COMMAND: the verdict on it, where nothing is entered.
 fn judge(alloc: Global, book: &Book, words: &[&str]) -> Result<String, Unmade> {

@@ -1,17 +1,9 @@
 //! Questions on days, moments and hours. A text that is read is also printed again, and its number gives it back.
 
-use mx_base::{
-    Day, Moment, day_of, plus_days, print_day, print_day_number, print_hours, print_moment,
-};
+use mx_base::{Day, Moment, day_of, plus_days, print_day_number, print_hours, print_moment};
 use mx_cases::{Unmade, append_number, append_word, begin_print, number_text, printed, text_of};
+use mx_register_lines::day_text;
 use std::alloc::{AllocError, Global};
-
-/// The text of a day, as it is printed.
-pub fn day_text(alloc: Global, day: Day) -> Result<String, AllocError> {
-    let mut out = begin_print(alloc)?;
-    let done = print_day(&mut out, day);
-    printed(alloc, &out, done)
-}
 
 // The text of the day with a number, as it is printed.
 fn text_of_number(alloc: Global, number: u32) -> Result<String, AllocError> {

@@ -10,11 +10,6 @@ mod defects;
 mod dues;
 mod identifiers;
 mod player;
-mod registers;
-mod row_texts;
-mod rows;
-mod shown;
-mod tasks;
 
 use mx_cases::run;
 use player::BookPlayer;

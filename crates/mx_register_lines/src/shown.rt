@@ -1,14 +1,20 @@
 //! Commands as text: what their accessors show.
 
-use crate::calendar::day_text;
 use crate::tasks::append_task;
-use mx_base::{Day, Moment, Part, Position, Use};
-use mx_cases::{append_number, append_word};
+use mx_base::{Day, Moment, Part, Position, Use, print_day};
+use mx_cases::{append_number, append_word, begin_print, printed};
 use mx_command::{
     Aircraft, Category, Command, Component, Deferral, Extension, Fitting, Item, Line, Opening,
     Place, Programme, Release, Removal, Sector,
 };
 use std::alloc::{AllocError, Global};
+
+/// The text of a day, as it is printed.
+pub fn day_text(alloc: Global, day: Day) -> Result<String, AllocError> {
+    let mut out = begin_print(alloc)?;
+    let done = print_day(&mut out, day);
+    printed(alloc, &out, done)
+}
 
 /// Appends a moment as a word.
 pub fn append_moment(text: &mut String, moment: Moment) -> Result<(), AllocError> {

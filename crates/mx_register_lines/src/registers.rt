@@ -1,12 +1,12 @@
 //! Questions on the registers of the book: their rows, and the book that rows give again.
 
-use crate::books::{are_same, first_other};
 use crate::row_texts::{
     aircraft_text, components_text, deferrals_text, entries_text, extensions_text, fittings_text,
     openings_text, places_text, programmes_text, release_lines_text, releases_text, removals_text,
     sectors_text, tasks_text,
 };
 use crate::rows::rows_of;
+use crate::same::{are_same, first_other};
 use crate::shown::command_text;
 use mx_base::{Doc, Moment, Part, Position, Serial, Tail};
 use mx_book::Book;
