@@ -1,0 +1,126 @@
+-- What becomes of a command inside a transaction.
+use Rattle.std.proofs.Common.{◌≡◌, ◌⊎◌, inl, inr, true, ℕ, List, ◌+◌, length, Ok, Err, Result, IsTrue, refl, sym, ap, subst, ◌∙◌, arith}
+use Rattle.std.specs.Prelude.{Contains}
+use Rattle.sqlite.specs.Schema.{Schema}
+use Rattle.sqlite.specs.Effect.{Database}
+use Rattle.sqlite.specs.State.{State, HasCleanDisk}
+use Rattle.mx_command.specs.Act.{Entry}
+use Rattle.mx_command.specs.Shape.{has_shape}
+use Rattle.mx_book.specs.Judge.{judge}
+use Rattle.mx_book.specs.Run.{reply, reply_to}
+use Rattle.mx_book.specs.declared.verdict.Reply.{Reply}
+use Rattle.mx_book.specs.declared.verdict.Reply.TheVariants as answers
+use Rattle.mx_typed_rows.specs.declared.rows.EntryRow.{EntryRow}
+use Rattle.mx_changes.specs.declared.rows.CommandRows.{CommandRows}
+use Rattle.mx_layout.specs.TableName.{TableName}
+use Rattle.mx_layout.specs.declared.fault.TableFault.{TableFault}
+use Rattle.mx_layout.specs.declared.fault.TableFault.TheVariants as fault
+use Rattle.mx_layout.specs.Crash.{StaysInside}
+use Rattle.mx_layout.specs.Names.{table_named}
+use Rattle.mx_layout.proofs.CrashLemmas.{stays_then, within_then}
+use Rattle.mx_stands.specs.Schemas.{schema_at}
+use Rattle.mx_stands.specs.Stands.{StandsAt}
+use Rattle.mx_stands.proofs.SchemaLemmas.{has_tables}
+use Rattle.mx_tables.specs.Calls.{OnRead}
+use Rattle.mx_tables.specs.Sets.{GainsRows, IsInside}
+use Rattle.mx_lookups.specs.Reads.{IsStop, Reads, StandsFor}
+use Rattle.mx_writing.specs.Changes.{AllRise, WritesRows}
+use Rattle.mx_writing.specs.Written.{IsSettled, with_rows, written_point}
+use Rattle.mx_writing.proofs.StandLemmas.{stand}
+use Rattle.mx_apply.specs.Applies.{IsNoDamage, Runs, Wrote, behind}
+use Rattle.mx_apply.specs.Judged.{IsJudged}
+use Rattle.mx_apply.specs.declared.judged.Judged.{Judged}
+use Rattle.mx_apply.specs.declared.judged.Judged.TheVariants.{New, Already, Refused}
+
+-- the rowids of tables that stand for a book rise
+all_rise : (db : Database) (book : List Entry) → db.schema ≡ schema_at written_point → StandsAt written_point db.trees book → AllRise db
+all_rise db book has stands = λ name at. stands.lies.rises name ((has_tables written_point name).1 (subst (λ (s : Schema). Contains s.tables (table_named name)) has at))
+
+-- a stop that tells no damage
+sure : (e : TableFault) → IsStop e → ((name : TableName) → e ≡ fault.Damaged name → ⊥) → IsNoDamage e
+sure e (inl memory) never = inl memory
+sure e (inr (inl store)) never = inr store
+sure e (inr (inr damaged)) never = absurd (never damaged.0 damaged.1)
+
+-- the tables stand for the book, of which the rows are known
+abbrev stands_for : (s : State) (book : List Entry) → s.now.schema ≡ schema_at written_point → StandsAt written_point s.now.trees book → StandsFor s book
+stands_for s book has stands = record { schema = has; rows = stands.rows }
+
+module _ (command : Entry) (old mid : State) where
+  -- the call did not answer
+  pub unread : (e : TableFault) → Reads {V = Judged} (IsJudged command) old mid (Err e) → Runs command old mid (Err e)
+  unread e r = record {
+    ran = λ clean begun book has stands. sure e r.cause (λ name is. r.no_book clean name (ap Err is) book (stands_for old book has stands));
+    wrote = λ _ _. tt;
+    cause = r.cause;
+    inside = r.inside;
+    within = r.within;
+  }
+
+  -- the command is not new
+  module _ (j : Judged) (r : Reads (IsJudged command) old mid (Ok j)) where
+    told : (a : Reply) → ((book : List Entry) → IsJudged command book j → a ≡ reply book command) → ((book : List Entry) → behind book command a ≡ book) → Wrote a old mid → Runs command old mid (Ok a)
+    told a says same_book wrote = record {
+      ran = λ clean begun book has stands.
+          let same = r.unchanged clean has in (
+            says book (r.read clean book (stands_for old book has stands)),
+            ap (λ (d : Database). d.schema) same ∙ has,
+            subst (λ b. StandsAt written_point mid.now.trees b) (sym (same_book book)) (subst (λ (d : Database). StandsAt written_point d.trees book) (sym same) stands),
+          );
+      wrote = λ _ _. wrote;
+      cause = tt;
+      inside = r.inside;
+      within = r.within;
+    }
+
+  pub already : (seq : ℕ) → Reads (IsJudged command) old mid (Ok (Already seq)) → Runs command old mid (Ok (answers.Already seq))
+  already seq r = told (Already seq) r (answers.Already seq) (λ book is. sym (ap (reply_to (length book + 1)) is)) (λ _. refl) tt
+
+  pub refused : (refusal : _) → Reads (IsJudged command) old mid (Ok (Refused refusal)) → Runs command old mid (Ok (answers.Refused refusal))
+  refused refusal r = told (Refused refusal) r (answers.Refused refusal) (λ book is. sym (ap (reply_to (length book + 1)) is)) (λ _. refl) tt
+
+  -- it is new
+  module _ (x : CommandRows) (r : Reads (IsJudged command) old mid (Ok (New x))) (new : State) where
+    begun_too : HasCleanDisk mid → IsTrue old.in_transaction → IsTrue mid.in_transaction
+    begun_too clean begun = (r.inside clean begun).mode
+
+    -- its rows were not written
+    pub unwritten : {U : Type 0} (e : TableFault) → e ≡ fault.Store → WritesRows {V = U} IsSettled (with_rows x) mid new (Err e) → Runs command old new (Err e)
+    unwritten e store w = record {
+      ran = λ _ _ _ _ _. inr store;
+      wrote = λ _ _. tt;
+      cause = inr (inl store);
+      inside = λ _ _. subst (λ f. OnRead {T = Reply} (Err f) (StaysInside old new)) (sym store) tt;
+      within = within_then old mid new r.within begun_too w.within;
+    }
+
+    -- they were
+    module _ {U : Type 0} (u : U) (shape : has_shape command ≡ true) (w : WritesRows {V = U} IsSettled (with_rows x) mid new (Ok u)) (opens : HasCleanDisk new → IsTrue mid.in_transaction → IsTrue mid.is_open) where
+      early : HasCleanDisk new → HasCleanDisk mid
+      early clean = omega (arith, w.within.survives.clean)
+
+      inside_mid : HasCleanDisk new → IsTrue old.in_transaction → IsInside mid
+      inside_mid clean begun = (let within = begun_too (early clean) begun in (within, opens clean within))
+
+      gains : HasCleanDisk new → IsTrue old.in_transaction → IsSettled old.now.schema → AllRise old.now → GainsRows (with_rows x) old.now new.now
+      gains clean begun has rise =
+          let same = r.unchanged (early clean) has in
+          subst (λ (d : Database). GainsRows (with_rows x) d new.now) same
+          (w.gains clean (inside_mid clean begun) (subst (λ (d : Database). IsSettled d.schema) (sym same) has) (subst AllRise (sym same) rise))
+
+      pub written : Runs command old new (Ok (answers.Accepted x.entry.seq))
+      written = record {
+        ran = λ clean begun book has stands.
+            let said = r.read (early clean) book (stands_for old book has stands) in
+            let number : x.entry.seq ≡ length book + 1 = ap (λ (row : EntryRow). row.seq) said.1.entry in
+            let made = stand book command x said.1 stands.rows.is_book said.0 shape old.now new.now has stands (gains clean begun has (all_rise old.now book has stands)) in
+            (ap answers.Accepted number ∙ sym (ap (reply_to (length book + 1)) said.0), made.0, made.1);
+        wrote = λ clean begun. (x, refl, gains clean begun);
+        cause = tt;
+        inside = λ clean begun. stays_then old mid new (r.inside (early clean) begun) (w.inside clean (inside_mid clean begun));
+        within = within_then old mid new r.within begun_too w.within;
+      }
+
+-- a fault that is handed on
+pub handed_on : {V : Type 0} (P : Result V TableFault → Type 0) (e : TableFault) (r : Result V TableFault) → r ≡ Err e → P (Err e) → P r
+handed_on P e r is p = subst P (sym is) p

@@ -1,0 +1,172 @@
+-- From what becomes of a command inside a transaction to its commit.
+use Rattle.std.proofs.Common.{◌≡◌, ◌≢◌, ◌⊎◌, inl, inr, true, false, ℕ, List, [], ◌∷◌, ◌++◌, Ok, Err, Result, IsTrue, refl, sym, ap, subst, ◌∙◌, arith}
+use Rattle.std.specs.Prelude.{Contains, IfErr, IfOk, MatchResult}
+use Rattle.sqlite.specs.Store.{Ghosts}
+use Rattle.sqlite.specs.Schema.{Schema}
+use Rattle.sqlite.specs.Effect.{Database}
+use Rattle.sqlite.specs.State.{State, HasCleanDisk, Shows, Survives, IsRolledBack}
+use Rattle.sqlite.specs.Held.{Held, state}
+use Rattle.sqlite.proofs.Callers.{survives_begin}
+use Rattle.sqlite.proofs.StateLemmas.{survives_then}
+use Rattle.mx_command.specs.Act.{Entry}
+use Rattle.mx_book.specs.Run.{reply}
+use Rattle.mx_book.specs.declared.verdict.Reply.{Reply}
+use Rattle.mx_book.specs.declared.verdict.Reply.TheVariants as answers
+use Rattle.mx_changes.specs.declared.rows.CommandRows.{CommandRows}
+use Rattle.mx_layout.specs.TableName.{TableName}
+use Rattle.mx_layout.specs.declared.fault.TableFault.{TableFault}
+use Rattle.mx_layout.specs.declared.fault.TableFault.TheVariants as fault
+use Rattle.mx_layout.specs.Crash.{ChangesNothing, Leaves, StaysInside}
+use Rattle.mx_layout.specs.Names.{table_named}
+use Rattle.mx_layout.proofs.CrashLemmas.{IsSettled as StoreSettles, commits_either, commits_ok, dropped}
+use Rattle.mx_stands.specs.Family.{is_at}
+use Rattle.mx_stands.specs.Schemas.{schema_at}
+use Rattle.mx_stands.specs.Stands.{IsEither, RestsAt, StandsAt}
+use Rattle.mx_stands.proofs.SchemaLemmas.{has_tables}
+use Rattle.mx_tables.specs.Calls.{OnDamaged}
+use Rattle.mx_writing.specs.Commits.{MayWrite}
+use Rattle.mx_writing.specs.Written.{IsSettled, written_point}
+use Rattle.mx_apply.specs.Applies.{Applies, IsNoDamage, Runs, behind}
+
+-- the tables of a file that is settled are in its schema
+in_settled : (s : Schema) → IsSettled s → (name : TableName) → is_at written_point name ≡ true → Contains s.tables (table_named name)
+in_settled s is name there = subst (λ (s : Schema). Contains s.tables (table_named name)) (sym is) ((has_tables written_point name).0 there)
+
+-- a reply that is no acceptance leaves the book
+left : (book : List Entry) (command : Entry) (a : Reply) → ((seq : ℕ) → a ≢ answers.Accepted seq) → behind book command a ≡ book
+left book command (answers.Accepted seq) never = absurd (never seq refl)
+left book command (answers.Already seq) never = refl
+left book command (answers.Refused refusal) never = refl
+
+module _ {S : Type 0} (g : Ghosts S) (old last : Held S) (command : Entry) where
+  abbrev begun : Held S
+  begun = record old { in_transaction = true }
+
+  abbrev stands : List Entry → _
+  stands book = λ trees. StandsAt written_point trees book
+
+  module _ (end : Held S) where
+    -- ── the transaction was dropped ──
+
+    module _ (drop : Survives (state g last) (state g end) (λ _. ⊥)) (back : HasCleanDisk (state g end) → IsRolledBack (state g last) (state g end)) where
+      mid : HasCleanDisk (state g end) → HasCleanDisk (state g last)
+      mid clean = omega (arith, drop.clean)
+
+      module _ (result : Result Reply TableFault) (runs : Runs command (state g begun) (state g last) result) where
+        early : HasCleanDisk (state g end) → HasCleanDisk (state g old)
+        early clean = omega (arith, drop.clean, runs.within.survives.clean)
+
+        nothing : ChangesNothing (state g old) (state g end)
+        nothing = record {
+          survives = survives_begin g old (state g end) (λ _. ⊥) (survives_then (state g begun) (state g last) (state g end) (λ _. ⊥) (λ _. ⊥) (λ _. ⊥) (λ _ _ none. none) (λ _ _ none. none) runs.within.survives drop);
+          was_open = λ clean is_open. (runs.within.kept (mid clean) refl).was_open ((back clean).was_open is_open);
+          now_is = λ clean is_open. ((back clean).undone is_open).0 ∙ (runs.within.kept (mid clean) refl).committed ((back clean).was_open is_open);
+          committed_is = λ clean is_open. ((back clean).undone is_open).1 ∙ (runs.within.kept (mid clean) refl).committed ((back clean).was_open is_open);
+        }
+
+        rest : (book : List Entry) → RestsAt written_point (state g old) book → RestsAt written_point (state g end) book
+        rest book rests = dropped g (schema_at written_point) (schema_at written_point) (stands book) (stands book) old begun last refl rests runs.within end drop back
+
+        survive : Survives (state g old) (state g end) (λ trees. (x : CommandRows) × MayWrite x (state g old) trees)
+        survive = survives_begin g old (state g end) _ (survives_then (state g begun) (state g last) (state g end) _ _ _ (λ _ trees none. absurd none) (λ _ trees none. absurd none) runs.within.survives drop)
+
+        -- what was said inside the transaction, where it found the connection open
+        ran : (book : List Entry) → RestsAt written_point (state g old) book → HasCleanDisk (state g end) → IsTrue (state g begun).is_open
+            → MatchResult result (λ a. (a ≡ reply book command) × ((state g last).now.schema ≡ schema_at written_point) × StandsAt written_point (state g last).now.trees (behind book command a)) IsNoDamage
+        ran book rests clean opened = runs.ran (mid clean) refl book (rests.schema (early clean) opened) (rests.tables (early clean) opened)
+
+        drops : ((seq : ℕ) → result ≢ Ok (answers.Accepted seq)) → ((book : List Entry) → RestsAt written_point (state g old) book → HasCleanDisk (state g end) → MatchResult result (λ a. a ≡ reply book command) IsNoDamage)
+            → ((book : List Entry) → RestsAt written_point (state g old) book → IfOk result (λ a. RestsAt written_point (state g end) (behind book command a))) → ((book : List Entry) → RestsAt written_point (state g old) book → IfErr result (λ e. e ≢ fault.Store → RestsAt written_point (state g end) book))
+            → Applies command (state g old) (state g end) result
+        drops never said kept same = record {
+          clean = omega (arith, drop.clean, runs.within.survives.clean);
+          cause = runs.cause;
+          untouched = λ _. nothing;
+          written = λ _ seq is. absurd (never seq is);
+          survives = survive;
+          said = said;
+          kept = kept;
+          same = same;
+          crash = λ book rests clean db may. inl ((rest book rests).crash clean db may);
+        }
+
+      -- a reply that is no acceptance
+      pub tells : (a : Reply) → ((seq : ℕ) → a ≢ answers.Accepted seq) → Runs command (state g begun) (state g last) (Ok a) → Applies command (state g old) (state g end) (Ok a)
+      tells a never runs =
+          drops (Ok a) runs (λ seq is. never seq (let same : a ≡ answers.Accepted seq = cc in same)) (λ book rests clean. (ran (Ok a) runs book rests clean (runs.inside (mid clean) refl).was_open).0)
+          (λ book rests. subst (λ b. RestsAt written_point (state g end) b) (sym (left book command a never)) (rest (Ok a) runs book rests)) (λ _ _. tt)
+
+      -- a fault
+      pub stops : (e : TableFault) → Runs command (state g begun) (state g last) (Err e) → Applies command (state g old) (state g end) (Err e)
+      stops e runs =
+          drops (Err e) runs (λ seq is. absurd cc) (λ book rests clean. elim runs.cause [
+            | inl memory ↦ inl memory
+            | inr other ↦ elim other [
+              | inl store ↦ inr store
+              | inr damaged ↦ ran (Err e) runs book rests clean (subst (λ f. OnDamaged f (StaysInside (state g begun) (state g last))) damaged.1 (runs.inside (mid clean) refl)).was_open
+            ]
+          ]) (λ _ _. tt) (λ book rests _. rest (Err e) runs book rests)
+
+    -- ── the commit was asked for ──
+
+    module _ (seq : ℕ) (runs : Runs command (state g begun) (state g last) (Ok (answers.Accepted seq))) (commit : Survives (state g last) (state g end) (λ db. db ≡ (state g last).now.trees)) where
+      late : HasCleanDisk (state g end) → HasCleanDisk (state g last)
+      late clean = omega (arith, commit.clean)
+
+      first : HasCleanDisk (state g end) → HasCleanDisk (state g old)
+      first clean = omega (arith, commit.clean, runs.within.survives.clean)
+
+      opened : HasCleanDisk (state g last) → IsTrue (state g old).is_open
+      opened clean = (runs.inside clean refl).was_open
+
+      made : (book : List Entry) → HasCleanDisk (state g last) → IsTrue (state g begun).in_transaction → (state g begun).now.schema ≡ schema_at written_point → StandsAt written_point (state g begun).now.trees book
+          → ((state g last).now.schema ≡ schema_at written_point) × StandsAt written_point (state g last).now.trees (book ++ command ∷ [])
+      made book clean within has stood = (let it = runs.ran clean within book has stood in (it.1, it.2))
+
+      either : (book : List Entry) → RestsAt written_point (state g old) book → Leaves (state g end) (IsEither written_point book (book ++ command ∷ []))
+      either book rests = commits_either g (schema_at written_point) (schema_at written_point) (stands book) (stands (book ++ command ∷ [])) old begun last refl rests runs.within runs.inside (made book) end commit
+
+      -- what a crash may leave of it
+      may : HasCleanDisk (state g last) → (x : CommandRows) × MayWrite x (state g old) (state g last).now.trees
+      may clean = (let it = runs.wrote clean refl in (it.0, record { was_open = opened clean; tables = λ is rise name there. (it.2 is rise).tables name (in_settled (state g old).now.schema is name there) }))
+
+      survives_it : Survives (state g old) (state g end) (λ trees. (x : CommandRows) × MayWrite x (state g old) trees)
+      survives_it = survives_begin g old (state g end) _ (survives_then (state g begun) (state g last) (state g end) _ _ _ (λ _ trees none. absurd none)
+          (λ sure trees is. (let clean : HasCleanDisk (state g last) = omega (arith, commit.clean) in subst (λ trees. (x : CommandRows) × MayWrite x (state g old) trees) (sym is) (may clean))) runs.within.survives commit)
+
+      -- whether it was kept is not known
+      pub in_doubt : Applies command (state g old) (state g end) (Err fault.Store)
+      in_doubt = record {
+        clean = omega (arith, commit.clean, runs.within.survives.clean);
+        cause = inr (inl refl);
+        untouched = λ idle. absurd (idle.store refl);
+        written = λ _ _ is. absurd cc;
+        survives = survives_it;
+        said = λ _ _ _. inr refl;
+        kept = λ _ _. tt;
+        same = λ _ _ other. absurd (other refl);
+        crash = either;
+      }
+
+      pub commits : StoreSettles g → (HasCleanDisk (state g end) → Shows (state g last) (state g end) (state g last).now (state g last).now false) → Applies command (state g old) (state g end) (Ok (answers.Accepted seq))
+      commits settled shown = record {
+        clean = omega (arith, commit.clean, runs.within.survives.clean);
+        cause = tt;
+        untouched = λ idle. absurd (idle.accepted seq refl);
+        written = λ clean n is.
+            let it = runs.wrote (late clean) refl in
+            let same : seq ≡ n = cc in (
+              it.0,
+              it.1 ∙ same,
+              record {
+                was_open = opened (late clean);
+                settled = (shown clean).now_is ∙ sym (shown clean).committed_is;
+                gains = λ has rise. subst (λ (d : Database). _) (sym (shown clean).now_is) (it.2 has rise);
+              },
+            );
+        survives = survives_it;
+        said = λ book rests clean. (runs.ran (late clean) refl book (rests.schema (first clean) (opened (late clean))) (rests.tables (first clean) (opened (late clean)))).0;
+        kept = λ book rests. commits_ok g (schema_at written_point) (schema_at written_point) (stands book) (stands (book ++ command ∷ [])) old begun last refl rests runs.within runs.inside (made book) end commit settled shown;
+        same = λ _ _. tt;
+        crash = either;
+      }

@@ -1,0 +1,2 @@
+pub mod ApplyLemmas
+pub mod CommitLemmas

@@ -1,0 +1,1 @@
+use Rattle.mx_apply.proofs.applying.apply.Goals as goal

@@ -1,0 +1,1 @@
+use Rattle.mx_apply.proofs.applying.run_command.Goals as goal

@@ -1,0 +1,62 @@
+-- What a command that is handed in does to a file, over any rows and over the tables of a book.
+use Rattle.std.specs.Prelude.{⊤, ◌≡◌, ◌≢◌, ◌⊎◌, ◌≤◌, ℕ, List, [], ◌∷◌, ◌++◌, Result, Ok, Err, IsTrue, IfOk, IfErr, MatchResult}
+use Rattle.sqlite.specs.State.{State, HasCleanDisk, Survives}
+use Rattle.sqlite_trees.specs.View.{doubt}
+use Rattle.mx_command.specs.Act.{Entry}
+use Rattle.mx_book.specs.Run.{reply}
+use Rattle.mx_book.specs.declared.verdict.Reply.{Reply}
+use Rattle.mx_book.specs.declared.verdict.Reply.TheVariants.{Accepted}
+use Rattle.mx_changes.specs.declared.rows.CommandRows.{CommandRows}
+use Rattle.mx_layout.specs.declared.fault.TableFault.{TableFault}
+use Rattle.mx_layout.specs.declared.fault.TableFault.TheVariants.{Memory, Store}
+use Rattle.mx_layout.specs.Crash.{ChangesNothing, IsWithin, Leaves, StaysInside}
+use Rattle.mx_stands.specs.Schemas.{schema_at}
+use Rattle.mx_stands.specs.Stands.{IsEither, RestsAt, StandsAt}
+use Rattle.mx_tables.specs.Calls.{OnRead}
+use Rattle.mx_tables.specs.Sets.{GainsRows}
+use Rattle.mx_lookups.specs.Reads.{IsStop}
+use Rattle.mx_writing.specs.Changes.{AllRise}
+use Rattle.mx_writing.specs.Commits.{IsWritten, MayWrite}
+use Rattle.mx_writing.specs.Written.{IsSettled, with_rows, written_point}
+
+-- the book behind the reply to a command: with it where it was accepted
+abbrev pub behind : List Entry → Entry → Reply → List Entry
+behind book command (Accepted seq) = book ++ command ∷ []
+behind book command _ = book
+
+-- want of memory or the store: no table is damaged
+abbrev pub IsNoDamage : TableFault → Type 0
+IsNoDamage e = (e ≡ Memory) ⊎ (e ≡ Store)
+
+-- the reply is not that the command was accepted, nor did the store stop it
+pub record IsIdle (result : Result Reply TableFault) : Type 0 where
+  pub accepted : (seq : ℕ) → result ≢ Ok (Accepted seq)
+  pub store : result ≢ Err Store
+
+-- rows of a command were written where it was accepted, whose entry has the number that is replied: each table has its rows from before with those
+abbrev pub Wrote : Reply → State → State → Type 0
+Wrote (Accepted seq) old new = (x : CommandRows) × (x.entry.seq ≡ seq) × (IsSettled old.now.schema → AllRise old.now → GainsRows (with_rows x) old.now new.now)
+Wrote _ old new = ⊤
+
+-- A command was judged inside a transaction, and its rows written where it is new.
+pub record Runs (command : Entry) (old new : State) (result : Result Reply TableFault) : Type 0 where
+  pub ran : HasCleanDisk new → IsTrue old.in_transaction → (book : List Entry) → old.now.schema ≡ schema_at written_point → StandsAt written_point old.now.trees book
+      → MatchResult result (λ r. (r ≡ reply book command) × (new.now.schema ≡ schema_at written_point) × StandsAt written_point new.now.trees (behind book command r)) IsNoDamage
+  pub wrote : HasCleanDisk new → IsTrue old.in_transaction → IfOk result (λ r. Wrote r old new)
+  pub cause : IfErr result IsStop
+  pub inside : HasCleanDisk new → IsTrue old.in_transaction → OnRead result (StaysInside old new)
+  pub within : IsWithin old new
+
+-- A command was handed in.
+pub record Applies (command : Entry) (old new : State) (result : Result Reply TableFault) : Type 0 where
+  pub clean : doubt old.is_clean ≤ doubt new.is_clean
+  pub cause : IfErr result IsStop
+  -- over any rows: only a command that was accepted, or stopped by the store, changes anything; where it was accepted, rows of a command whose entry has the number that is replied were written and committed; and a crash leaves the tables from before or those with this one commit
+  pub untouched : IsIdle result → ChangesNothing old new
+  pub written : HasCleanDisk new → (seq : ℕ) → result ≡ Ok (Accepted seq) → (x : CommandRows) × (x.entry.seq ≡ seq) × IsWritten x old new
+  pub survives : Survives old new (λ trees. (x : CommandRows) × MayWrite x old trees)
+  -- over the tables of a book: the reply is that of the book, and no table is told damaged; they stand for the book with the command where it was accepted, and else for the book; and whatever is answered, a crash leaves the one or the other
+  pub said : (book : List Entry) → RestsAt written_point old book → HasCleanDisk new → MatchResult result (λ r. r ≡ reply book command) IsNoDamage
+  pub kept : (book : List Entry) → RestsAt written_point old book → IfOk result (λ r. RestsAt written_point new (behind book command r))
+  pub same : (book : List Entry) → RestsAt written_point old book → IfErr result (λ e. e ≢ Store → RestsAt written_point new book)
+  pub crash : (book : List Entry) → RestsAt written_point old book → Leaves new (IsEither written_point book (book ++ command ∷ []))

@@ -1,0 +1,49 @@
+//! What the rows that a transaction shows say of a command.
+ghost use Rattle.std.specs.Prelude.{◌≡◌};
+ghost use Rattle.sqlite.specs.Held.{state};
+ghost use Rattle.mx_lookups.specs.Reads.{Reads};
+ghost use Rattle.mx_apply.specs.Judged.{IsJudged};
+
+use mx_book::{Refusal, Verdict};
+use mx_changes::CommandRows;
+use mx_command::Command;
+use mx_layout::TableFault;
+use mx_made::rows_of_command;
+use mx_rows::judging::judge_by_rows;
+use sqlite::{Alter, Transaction};
+use std::alloc::Global;
+
+/// What the rows say of a command that is handed in.
+#[derive(Drop)]
+pub enum Judged {
+    /// It is new: these are its rows.
+    New(CommandRows),
+    /// The entry with this number has its document and equal contents.
+    Already(u32),
+    /// It may not be entered.
+    Refused(Refusal),
+}
+
+/// The verdict on a command, and its rows where it is new. Nothing is written, and all room that the writing takes is made.
+///
+/// # Errors
+/// `Memory` for want of memory, `Store` for an error of the store, and `Damaged` with a table as the look-ups tell it.
+pub fn judged<S: Alter>(
+    alloc: Global,
+    tx: &mut Transaction<'_, S>,
+    command: &Command,
+) -> Result<Judged, TableFault>
+    ensures same_reference { tx.new.conn.ghost_name ≡ tx.old.conn.ghost_name }
+    ensures reads { Reads (IsJudged command.now)
+        (state S.Store tx.old.conn.now) (state S.Store tx.new.conn.now) result }
+{
+    let verdict = judge_by_rows(alloc, tx, command)?;
+    match verdict {
+        Verdict::New => {
+            let rows = rows_of_command(alloc, tx, command)?;
+            Ok(Judged::New(rows))
+        }
+        Verdict::Already(seq) => Ok(Judged::Already(seq)),
+        Verdict::Refused(refusal) => Ok(Judged::Refused(refusal)),
+    }
+}

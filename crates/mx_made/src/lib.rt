@@ -1,0 +1,4 @@
+//! A stub.
+#![tactic(auto)]
+pub mod made;
+pub use made::rows_of_command;
