@@ -7,8 +7,8 @@
 //! - `open`: opens the office.
 //!
 //! Lines over a database of layout 2: `kept` before a line of `mx_kept_lines`, whose head lists them, over kept rows; `judge COMMAND`,
-//! the verdict on a command by the rows of the tables; `rows` before one of the lines below for a list or for the life of an item,
-//! which is answered by these rows.
+//! the verdict on a command by the rows of the tables; `entries FROM AT_MOST` and `entry NUMBER COMMAND`, as in an office, by these
+//! rows; `rows` before one of the lines below for a list or for the life of an item, which is answered by them too.
 //!
 //! Lines in the open office:
 //! - a command, in the words that `mx_cases` reads: hands it in; `run` the commands of a list, and `first` the first;
