@@ -2,7 +2,7 @@
 //! at then, or what stopped the step.
 //! - `sectors-table`: makes the new table of sectors;
 //! - `sectors MARK`: moves the next sectors behind the mark;
-//! - `spans-table`: drops the old table of sectors, and makes that of spans.
+//! - `spans-table MARK`: drops the old table of sectors, which have moved up to the mark, and makes that of spans.
 #![tactic(auto)]
 
 pub mod lines;

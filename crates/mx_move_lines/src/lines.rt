@@ -33,6 +33,19 @@ fn step_text(alloc: Global, made: Result<Point, MoveFault>) -> Result<String, Al
     Ok(text)
 }
 
+// Drops the old table of sectors, all of which have moved up to a mark, and makes that of spans.
+fn change_to_spans<S: Alter>(
+    alloc: Global,
+    conn: &mut Connection<S>,
+    mark: &str,
+) -> Result<String, Unmade>
+    requires { conn.old.in_transaction ≡ false }
+{
+    let mark = mark.parse::<u32>()?;
+    let made = commit_step(alloc, conn, &ChangeToSpans { mark });
+    Ok(step_text(alloc, made)?)
+}
+
 // Moves the next sectors behind a mark.
 fn move_sectors<S: Alter>(
     alloc: Global,
@@ -46,7 +59,7 @@ fn move_sectors<S: Alter>(
     Ok(step_text(alloc, made)?)
 }
 
-/// What a step answers: `sectors-table`, `sectors MARK` or `spans-table`.
+/// What a step answers: `sectors-table`, `sectors MARK` or `spans-table MARK`.
 pub fn answer_of_step<S: Alter>(
     alloc: Global,
     conn: &mut Connection<S>,
@@ -60,10 +73,7 @@ pub fn answer_of_step<S: Alter>(
             Ok(step_text(alloc, made)?)
         }
         ["sectors", mark] => move_sectors(alloc, conn, mark),
-        ["spans-table"] => {
-            let made = commit_step(alloc, conn, &ChangeToSpans);
-            Ok(step_text(alloc, made)?)
-        }
+        ["spans-table", mark] => change_to_spans(alloc, conn, mark),
         _ => Err(Unmade::NoSuchLine),
     }
 }
