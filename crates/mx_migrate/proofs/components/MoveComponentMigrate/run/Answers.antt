@@ -1,4 +1,4 @@
-use Rattle.std.proofs.Common.{◌≡◌, ◌⊎◌, List, Vec, Ok, refl, subst₂}
+use Rattle.std.proofs.Common.{◌≡◌, ◌⊎◌, List, Vec, Ok, Err, refl, subst₂}
 use Rattle.std.specs.declared.alloc.Global.{Global}
 use Rattle.sqlite.specs.Held.{state}
 use Rattle.mx_typed_rows.specs.declared.rows.FittingRow.{FittingRow}
