@@ -2,7 +2,8 @@
 //! at then, or what stopped the step.
 //! - `sectors-table`: makes the new table of sectors;
 //! - `sectors MARK`: moves the next sectors behind the mark;
-//! - `spans-table MARK`: drops the old table of sectors, which have moved up to the mark, and makes that of spans.
+//! - `spans-table MARK`: drops the old table of sectors, which have moved up to the mark, and makes that of spans;
+//! - `component MARK COMPONENT`: moves the fittings and removals of a component, the next behind the mark.
 #![tactic(auto)]
 
 pub mod lines;

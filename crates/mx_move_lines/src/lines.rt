@@ -3,7 +3,9 @@ ghost use Rattle.std.specs.Prelude.{◌≡◌, false};
 
 use mx_cases::Unmade;
 use mx_kept_lines::{append_damaged, room};
-use mx_migrate::{ChangeToSpans, CreateSectors, MoveFault, MoveSectors, commit_step};
+use mx_migrate::{
+    ChangeToSpans, CreateSectors, MoveComponent, MoveFault, MoveSectors, commit_step,
+};
 use mx_point::Point;
 use sqlite::{Alter, Connection};
 use std::alloc::{AllocError, Global};
@@ -46,6 +48,21 @@ fn change_to_spans<S: Alter>(
     Ok(step_text(alloc, made)?)
 }
 
+// Moves the fittings and removals of a component, the next behind a mark.
+fn move_component<S: Alter>(
+    alloc: Global,
+    conn: &mut Connection<S>,
+    mark: &str,
+    component: &str,
+) -> Result<String, Unmade>
+    requires { conn.old.in_transaction ≡ false }
+{
+    let mark = mark.parse::<u32>()?;
+    let component = component.parse::<u32>()?;
+    let made = commit_step(alloc, conn, &MoveComponent { mark, component });
+    Ok(step_text(alloc, made)?)
+}
+
 // Moves the next sectors behind a mark.
 fn move_sectors<S: Alter>(
     alloc: Global,
@@ -59,7 +76,7 @@ fn move_sectors<S: Alter>(
     Ok(step_text(alloc, made)?)
 }
 
-/// What a step answers: `sectors-table`, `sectors MARK` or `spans-table MARK`.
+/// What a step answers: `sectors-table`, `sectors MARK`, `spans-table MARK` or `component MARK COMPONENT`.
 pub fn answer_of_step<S: Alter>(
     alloc: Global,
     conn: &mut Connection<S>,
@@ -74,6 +91,7 @@ pub fn answer_of_step<S: Alter>(
         }
         ["sectors", mark] => move_sectors(alloc, conn, mark),
         ["spans-table", mark] => change_to_spans(alloc, conn, mark),
+        ["component", mark, component] => move_component(alloc, conn, mark, component),
         _ => Err(Unmade::NoSuchLine),
     }
 }
