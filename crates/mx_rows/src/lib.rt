@@ -6,4 +6,5 @@
 pub mod judging;
 pub mod listing;
 pub mod lists;
+pub mod questions;
 pub mod view;
