@@ -50,7 +50,7 @@ use Rattle.mx_found.proofs.ThereLemmas.{serial_there, tail_there}
 use Rattle.mx_rows.specs.Answering.{AnswerAs, Only, AnswerListsAs}
 use Rattle.mx_lookups.specs.AnyRows.{Gives, GivesFirst, AreSaid}
 use Rattle.mx_lookups.specs.Fitted.{IsNumberFitted}
-use Rattle.mx_lookups.specs.Given.{BornOf, ClockOf, DefectOf, ExtensionOf, HasRoom, IsAccomplished, IsRectified, IsRetired, IsTaken, LifeOf, NumberFitted, PartAt, RowsInForce, TailFitted, TailOfNumber, is_of, BaseOf, DocIfOpen, FittedTo, IsRectifiedAt, OpenDefects, OpenSaid, PlaceSaid, TasksInForce}
+use Rattle.mx_lookups.specs.Given.{BornOf, ClockOf, DefectOf, ExtensionOf, HasRoom, IsAccomplished, IsRectified, IsRetired, IsTaken, LifeOf, NumberFitted, PartAt, RowsInForce, TailFitted, TailOfNumber, is_of, BaseOf, DocIfOpen, DocOfNumber, FittedTo, IsRectifiedAt, OpenDefects, OpenSaid, PlaceSaid, TasksInForce}
 use Rattle.mx_lookups.specs.InForce.{born_as, rows_in_force}
 use Rattle.mx_lookups.specs.Reads.{rows_point}
 use Rattle.mx_rows.proofs.BaseLemmas.{keyed_is}
@@ -193,10 +193,13 @@ module _ (trees : Trees) (book : List Entry) (has : HasRowsAt rows_point trees b
       at n is v rows are (Some m) some gave =
           by_number trees book has kept_aircraft aircraft_rows aircraft_table 0 (λ row. row.seq) (λ row. refl) m (defect_in doc rows) v gave ∙ defect_said book b doc n is rows are m _ some refl
 
+  rectified_there : (n : ℕ) (v : Bool) → IsRectifiedAt n trees v → v ≡ is_rectified_at book n
+  rectified_there n v had = given trees book has kept_crs_line release_line_rows release_lines (has_value 4 (Int (pos n))) (rectifies n) (λ row. some_number row.defect n) is_rectified_in v had
+
   rectified : (doc : List ℕ) → Only (IsRectified doc) trees (is_rectified book doc)
   rectified doc =
       looked (λ v. v ≡ is_rectified book doc) (seq_of_defect book doc) (defect_number trees book has doc) (λ none. sym (not_rectified book b doc none))
-      (λ n is v gave. given trees book has kept_crs_line release_line_rows release_lines (has_value 4 (Int (pos n))) (rectifies n) (λ row. some_number row.defect n) is_rectified_in v gave ∙ rectified_is book b doc n is)
+      (λ n is v gave. rectified_there n v gave ∙ rectified_is book b doc n is)
 
   extended : (doc : List ℕ) → Only (ExtensionOf doc) trees (extension book doc)
   extended doc =
@@ -224,27 +227,20 @@ module _ (trees : Trees) (book : List Entry) (has : HasRowsAt rows_point trees b
       let rows : gave.0 ≡ filter (is_open_at n) (span_rows book) = given trees book has kept_span2 span_rows spans (is_open 2 (Int (pos n))) (is_open_at n) (is_open_at-cells n) (λ rows. rows) gave.0 (gave.0, gave.1, refl) in
       said_is (PlaceSaid trees) (place_said book) placed gave.0 v gave.2 ∙ ap (filter_map (place_said book)) rows ∙ places_found book tail n b is)
 
-  left_open : (tail : List ℕ) (row : DeferralRow) (o : Option Defect) → OpenSaid tail trees row o → o ≡ open_said book tail row
-  left_open tail row o gave = gave.2 ∙ at gave.0 gave.1
-    where
-      said = λ (doc : List ℕ). deferral_said doc tail row
-      found = option_map said (doc_at book row.seq)
+  doc_there : (n : ℕ) (o : Option (List ℕ)) → DocOfNumber n trees o → o ≡ doc_at book n
+  doc_there n o had = by_number trees book has kept_entry entry_rows entries 0 (λ row. row.seq) (λ row. refl) n doc_in o had ∙ doc_found book n
 
-      is_rectified_there : (v : Bool) → IsRectifiedAt row.seq trees v → v ≡ is_rectified_at book row.seq
-      is_rectified_there v had = given trees book has kept_crs_line release_line_rows release_lines (has_value 4 (Int (pos row.seq))) (rectifies row.seq) (λ line. some_number line.defect row.seq) is_rectified_in v had
-
-      at : (doc : Option (List ℕ)) → DocIfOpen row.seq trees (option_map Some doc) → option_map said doc ≡ open_said book tail row
-      at None had = ap (λ r. cond r None found) (is_rectified_there true had)
-      at (Some doc) had =
-          let there = by_number trees book has kept_entry entry_rows entries 0 (λ e. e.seq) (λ e. refl) row.seq doc_in (Some doc) had.1 ∙ doc_found book row.seq in
-          ap (option_map said) there ∙ ap (λ r. cond r None found) (is_rectified_there false had.0)
+  left_open : (tail : List ℕ) (row : DeferralRow) (doc : Option (List ℕ)) → DocIfOpen row.seq trees (option_map Some doc) → option_map (λ d. deferral_said d tail row) doc ≡ open_said book tail row
+  left_open tail row None had = ap (λ r. cond r None (option_map (λ d. deferral_said d tail row) (doc_at book row.seq))) (rectified_there row.seq true had)
+  left_open tail row (Some doc) had =
+      ap (option_map (λ d. deferral_said d tail row)) (doc_there row.seq (Some doc) had.1) ∙ ap (λ r. cond r None (option_map (λ d. deferral_said d tail row) (doc_at book row.seq))) (rectified_there row.seq false had.0)
 
   all_open : (tail : List ℕ) → Only (OpenDefects tail) trees (open_defects book tail)
   all_open tail =
       looked (λ v. v ≡ open_defects book tail) (seq_of_tail book tail) (tail_number trees book has tail) (λ none. sym (none_open book tail b none))
       (λ n is v gave.
       let rows : gave.0 ≡ filter (λ (row : DeferralRow). nat_eq row.aircraft n) (deferral_rows book) = by_number trees book has kept_defect deferral_rows deferrals 1 (λ row. row.aircraft) (λ row. refl) n (λ rows. rows) gave.0 (gave.0, gave.1, refl) in
-      said_is (OpenSaid tail trees) (open_said book tail) (left_open tail) gave.0 v gave.2 ∙ ap (filter_map (open_said book tail)) rows ∙ open_found book tail n b is)
+      said_is (OpenSaid tail trees) (open_said book tail) (λ row o said. said.2 ∙ left_open tail row said.0 said.1) gave.0 v gave.2 ∙ ap (filter_map (open_said book tail)) rows ∙ open_found book tail n b is)
 
   -- they answer as the book
   pub answer_as : AnswerAs trees book
