@@ -11,10 +11,9 @@ use Rattle.mx_command.specs.Act.{Entry}
 use Rattle.mx_book.specs.Reading.{Answers}
 use Rattle.mx_layout.specs.Crash.{IsWithin}
 use Rattle.mx_layout.specs.declared.fault.TableFault.{TableFault}
-use Rattle.mx_stands.specs.Schemas.{schema_at}
 use Rattle.mx_stands.specs.Stands.{HasRowsAt}
 use Rattle.mx_lookups.specs.AnyRows.{ReadsAny}
-use Rattle.mx_lookups.specs.Reads.{Reads, StandsFor, rows_point}
+use Rattle.mx_lookups.specs.Reads.{Reads, rows_point}
 use Rattle.mx_rows.specs.Answering.{Only, SpeaksFor}
 use Rattle.mx_rows.specs.View.{Asks, AskedOn, IsAny, SharesWith, StoppedOn, held, rows_reading}
 use Rattle.mx_rows.specs.declared.view.Rows.{Rows}
@@ -50,10 +49,9 @@ module _ {S Q A : Type 0} (g : Ghosts S) (AnswersAs : Trees → List Entry → T
   }
     where
       so : (start : Rows S Q) (book : List Entry) → (rows_reading g AnswersAs).Asked start old → HasCleanDisk (state g (held new)) → SpeaksFor AnswersAs (state g (held start)) book → IfOk result (λ a. a ≡ what book)
-      so start book before clean (inl stands) = (behind g (λ around a. a ≡ what around) (held start) (held old) (held new) result before.1 r).read clean book stands
-      so start book before clean (inr answers) =
+      so start book before clean speaks =
           let trees = (state g (held start)).now.trees in
-          map_ok (Is trees) (λ a. a ≡ what book) result (only trees book answers.1) ((behind_any g Is (held start) (held old) (held new) result before.1 r.within any_rows).found clean answers.0)
+          map_ok (Is trees) (λ a. a ≡ what book) result (only trees book speaks.answers) ((behind_any g Is (held start) (held old) (held new) result before.1 r.within any_rows).found clean speaks.schema)
 
       goes : (start : Rows S Q) → (rows_reading g AnswersAs).Asked start old → (it : Result A TableFault) → Reads (λ book a. a ≡ what book) (state g (held start)) (state g (held new)) it
           → MatchResult it (λ a. (rows_reading g AnswersAs).Asked start new) ((rows_reading g AnswersAs).Stopped start new)
@@ -88,28 +86,30 @@ module _ {S V W : Type 0} (g : Ghosts S) (AnswersAs : Trees → List Entry → T
   clean_before (Ok v) (inr more) clean = omega (arith, clean, more.within.survives.clean)
   clean_before (Err e) stop clean = omega (arith, clean, stop.within.survives.clean)
 
-  -- the look-up changed nothing
-  same_now : (result : Result V TableFault) → Asks g AnswersAs Is old new result → HasCleanDisk (state g new) → (state g start).now.schema ≡ schema_at rows_point → (state g old).now ≡ (state g start).now
-  same_now result asks clean has = one.unchanged (clean_before result asks.asked clean) has
-
-  stands_there : (result : Result V TableFault) → Asks g AnswersAs Is old new result → HasCleanDisk (state g new) → (book : List Entry) → StandsFor (state g start) book → StandsFor (state g old) book
-  stands_there result asks clean book stands =
-      let same = same_now result asks clean stands.schema in
-      record { schema = ap (λ (d : Database). d.schema) same ∙ stands.schema; rows = subst (λ (d : Database). HasRowsAt rows_point d.trees book) (sym same) stands.rows }
+  -- the look-up changed nothing, so the rows answer as they did
+  speaks_there : (result : Result V TableFault) → Asks g AnswersAs Is old new result → HasCleanDisk (state g new) → (book : List Entry) → SpeaksFor AnswersAs (state g start) book → SpeaksFor AnswersAs (state g old) book
+  speaks_there result asks clean book speaks =
+      let same = one.unchanged (clean_before result asks.asked clean) speaks.schema in
+      record { schema = ap (λ (d : Database). d.schema) same ∙ speaks.schema; answers = subst (λ (d : Database). AnswersAs d.trees book) (sym same) speaks.answers }
 
   -- what they leave
   frame : AskedOn g old new → Reads IsAny (state g start) (state g new) (Ok tt)
   frame (inl same) = subst (λ h. Reads IsAny (state g start) (state g h) (Ok tt)) (sym same) (any P (state g start) (state g old) w one)
   frame (inr more) = any (λ book u. P book w × IsAny book u) (state g start) (state g new) tt (reads_then P IsAny (state g start) (state g old) (state g new) w (Ok tt) one more)
 
-  -- what comes of them is so of the book
-  pub asked_then : (result : Result V TableFault) → Asks g AnswersAs Is old new result → Reads Is (state g start) (state g new) result
-  asked_then (Err e) asks = stops IsAny Is _ _ e (follows (λ book u. P book w × IsAny book u) IsAny _ _ (Err e) (λ book v is so. tt) (reads_then P IsAny (state g start) (state g old) (state g new) w (Err e) one asks.asked))
-  asked_then (Ok v) asks = answered v (frame asks.asked) (λ clean book stands. asks.exact clean book (inl (stands_there (Ok v) asks clean book stands)))
+  -- what comes of them is so of each book as which the rows answer
+  pub asked_any : (result : Result V TableFault) → Asks g AnswersAs Is old new result → ReadsAny (λ trees v. (book : List Entry) → AnswersAs trees book → Is book v) (state g start) (state g new) result
+  asked_any (Err e) asks = record { found = λ clean has. tt }
+  asked_any (Ok v) asks = record { found = λ clean has book answers. asks.exact clean book (speaks_there (Ok v) asks clean book (record { schema = has; answers = answers })) }
+
+  -- and so of the one that the tables stand for, where rows of such tables answer as it does
+  pub asked_then : ((trees : Trees) (book : List Entry) → HasRowsAt rows_point trees book → AnswersAs trees book) → (result : Result V TableFault) → Asks g AnswersAs Is old new result → Reads Is (state g start) (state g new) result
+  asked_then standing (Err e) asks = stops IsAny Is _ _ e (follows (λ book u. P book w × IsAny book u) IsAny _ _ (Err e) (λ book v is so. tt) (reads_then P IsAny (state g start) (state g old) (state g new) w (Err e) one asks.asked))
+  asked_then standing (Ok v) asks = answered (frame asks.asked)
     where
-      answered : (v : V) → Reads IsAny (state g start) (state g new) (Ok tt) → (HasCleanDisk (state g new) → (book : List Entry) → StandsFor (state g start) book → Is book v) → Reads Is (state g start) (state g new) (Ok v)
-      answered v r so = record {
-        read = so;
+      answered : Reads IsAny (state g start) (state g new) (Ok tt) → Reads Is (state g start) (state g new) (Ok v)
+      answered r = record {
+        read = λ clean book stands. (asked_any (Ok v) asks).found clean stands.schema book (standing (state g start).now.trees book stands.rows);
         cause = tt;
         no_book = λ clean name is. absurd cc;
         damaged = λ clean has name is. absurd cc;
@@ -117,12 +117,3 @@ module _ {S V W : Type 0} (g : Ghosts S) (AnswersAs : Trees → List Entry → T
         inside = r.inside;
         within = r.within;
       }
-
-  -- and over any rows of each book as which they answer
-  pub asked_any : (result : Result V TableFault) → Asks g AnswersAs Is old new result → ReadsAny (λ trees v. (book : List Entry) → AnswersAs trees book → Is book v) (state g start) (state g new) result
-  asked_any (Err e) asks = record { found = λ clean has. tt }
-  asked_any (Ok v) asks = record {
-    found = λ clean has book answers.
-        let same = same_now (Ok v) asks clean has in
-        asks.exact clean book (inr (ap (λ (d : Database). d.schema) same ∙ has, subst (λ (d : Database). AnswersAs d.trees book) (sym same) answers));
-  }

@@ -1,5 +1,5 @@
--- When rows, whatever they are, answer as a book does.
-use Rattle.std.specs.Prelude.{◌≡◌, ◌⊎◌, ℕ, List, Option, Result, Some, length, ok_or, true}
+-- When rows, whatever they are, answer as a book does, which is any list of entries here.
+use Rattle.std.specs.Prelude.{◌≡◌, ℕ, List, Option, Result, Some, length, ok_or, true}
 use Rattle.std.specs.Option.{option_map}
 use Rattle.sqlite.specs.declared.types.Value.TheVariants.{Text}
 use Rattle.sqlite.specs.State.{State}
@@ -29,7 +29,7 @@ use Rattle.mx_found.specs.Names.{last_number}
 use Rattle.mx_found.specs.Said.{aircraft_in, component_in}
 use Rattle.mx_lookups.specs.AnyRows.{Gives, GivesFirst}
 use Rattle.mx_lookups.specs.Given.{BaseOf, ClockOf, DefectOf, ExtensionOf, FittedTo, HasRoom, IsAccomplished, IsRectified, IsRetired, IsTaken, LifeOf, NextRevision, OpenDefects, PartAt, TailFitted, TaskOf, TasksInForce}
-use Rattle.mx_lookups.specs.Reads.{StandsFor, rows_point}
+use Rattle.mx_lookups.specs.Reads.{rows_point}
 use Rattle.mx_known.specs.Known.{KnownAs}
 
 -- whatever the rows answer to a question, it is this: they may answer nothing
@@ -74,9 +74,10 @@ pub record AnswerListsAs (trees : Trees) (book : List Entry) : Type 0 where
   pub fitted : (tail : List ℕ) → Only (FittedTo tail) trees (fitted_on tail book)
   pub open_defects : (tail : List ℕ) → Only (OpenDefects tail) trees (open_defects book tail)
 
--- a transaction is at the point at which rows are looked up, and its tables stand for the book, or its rows answer as the book does
-abbrev pub SpeaksFor : (Trees → List Entry → Type 0) → State → List Entry → Type 0
-SpeaksFor AnswersAs s book = StandsFor s book ⊎ ((s.now.schema ≡ schema_at rows_point) × AnswersAs s.now.trees book)
+-- a transaction is at the point at which rows are looked up, and they answer as the book does
+pub record SpeaksFor (AnswersAs : Trees → List Entry → Type 0) (s : State) (book : List Entry) : Type 0 where
+  pub schema : s.now.schema ≡ schema_at rows_point
+  pub answers : AnswersAs s.now.trees book
 
 -- the verdict on a command is the one on each book as which the rows answer
 abbrev pub VerdictOf : Entry → Trees → Verdict → Type 0

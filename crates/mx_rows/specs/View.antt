@@ -23,7 +23,7 @@ AskedOn g old new = (new ≡ old) ⊎ Reads IsAny (state g old) (state g new) (O
 abbrev pub StoppedOn : {S : Type 0} → Ghosts S → Held S → Held S → TableFault → Type 0
 StoppedOn g old new fault = Reads IsAny (state g old) (state g new) (Err fault)
 
--- Questions, if any, were asked of a connection, and what came of them is so of the book that its tables stand for, and of each as which its rows answer.
+-- Questions, if any, were asked of a connection, and what came of them is so of each book as which its rows answer.
 pub record Asks {S V : Type 0} (g : Ghosts S) (AnswersAs : Trees → List Entry → Type 0) (Is : List Entry → V → Type 0) (old new : Held S) (result : Result V TableFault) : Type 0 where
   pub asked : MatchResult result (λ v. AskedOn g old new) (StoppedOn g old new)
   pub exact : HasCleanDisk (state g new) → (book : List Entry) → SpeaksFor AnswersAs (state g old) book → IfOk result (Is book)
@@ -37,7 +37,7 @@ pub record SharesWith {S Q : Type 0} (old new : Rows S Q) : Type 0 where
   pub tx : new.tx.ghost_name ≡ old.tx.ghost_name
   pub conn : new.tx.now.conn.ghost_name ≡ old.tx.now.conn.ghost_name
 
--- rows stand for the book that the tables stand for, and for each as which they answer, questions leave the transaction and its connection, and each stops by a fault of a look-up
+-- rows stand for each book as which they answer, questions leave the transaction and its connection, and each stops by a fault of a look-up
 abbrev pub rows_reading : {S Q : Type 0} → Ghosts S → (Trees → List Entry → Type 0) → Reading (Rows S Q) TableFault
 rows_reading g AnswersAs = record {
   Clean = λ rows. HasCleanDisk (state g (held rows));

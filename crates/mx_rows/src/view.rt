@@ -16,8 +16,9 @@ use mx_lookups::work::is_accomplished;
 use sqlite::{Alter, Transaction};
 use std::alloc::Global;
 
-/// The rows that a transaction shows, which stand for a book where its tables do, and for each as which they answer what they
-/// are asked: each question is one look-up, no question changes a row, and the fault that stops one is that of the look-up.
+/// The rows that a transaction shows, which stand for each book as which they answer what they are asked, as for the one that
+/// their tables stand for: each question is one look-up, no question changes a row, and the fault that stops one is that of the
+/// look-up.
 #[derive(Drop)]
 pub struct Rows<'t, 'c, S: Alter, Q> {
     /// Where the rows that are found lie while they are looked at.
