@@ -256,7 +256,6 @@ module _ (trees : Trees) (book : List Entry) (has : HasRowsAt rows_point trees b
     tail_fitted = aircraft_of;
     is_retired = retired;
     clock = clocked;
-    earliest_takeoff = λ tail. clocked (Airframe tail);
     next_revision = λ kind v gave. by_text trees book has kept_programme programme_rows programmes 1 (λ row. row.kind) (λ row. refl) kind revision_after v gave ∙ revision_is kind book;
     task = λ kind id v gave. gave.2 ∙ task_found book kind id gave.0 b (in_force kind gave.0 gave.1);
     is_accomplished = accomplished;

@@ -7,11 +7,10 @@ use Rattle.sqlite.specs.Tree.{Trees}
 use Rattle.mx_command.specs.Act.{Entry}
 use Rattle.mx_command.specs.Shape.{has_shape}
 use Rattle.mx_command.specs.declared.item.Item.{Item}
-use Rattle.mx_command.specs.declared.item.Item.TheVariants.{Airframe}
 use Rattle.mx_book.specs.Asking.{known_same, task_of}
 use Rattle.mx_book.specs.Base.{base}
 use Rattle.mx_book.specs.Defect.{defect, extension, is_rectified, open_defects}
-use Rattle.mx_book.specs.Judge.{earliest_takeoff, judge, known_from}
+use Rattle.mx_book.specs.Judge.{judge, known_from}
 use Rattle.mx_book.specs.Life.{clock, life_now}
 use Rattle.mx_book.specs.Programme.{is_accomplished, life_ended, next_revision, tasks_or_none}
 use Rattle.mx_book.specs.Register.{aircraft, component, has_room_for_aircraft, has_room_for_component, part_at}
@@ -42,7 +41,7 @@ pub record AnswerAs (trees : Trees) (book : List Entry) : Type 0 where
   pub entry_count : Only (GivesFirst kept_entry (Some 1) (backward kept_entry.order) is_any last_number) trees (length book)
   pub room_for_aircraft : Only (HasRoom table.Aircraft MOST_AIRCRAFT) trees (has_room_for_aircraft book)
   pub room_for_component : Only (HasRoom table.Component MOST_COMPONENTS) trees (has_room_for_component book)
-  -- the entry with the document of a command, and whether it is the same command
+  -- of a command of its shape, the number of the entry with its document, and whether that is the same command
   pub known : (command : Entry) → has_shape command ≡ true → Only (KnownAs command) trees (option_map (known_same command) (known_from command.doc 1 book))
   pub aircraft : (tail : List ℕ) → Only (Gives kept_aircraft (has_value 1 (Text tail)) aircraft_in) trees (aircraft book tail)
   pub component : (serial : List ℕ) → Only (Gives kept_component (has_value 1 (Text serial)) component_in) trees (component book serial)
@@ -53,8 +52,8 @@ pub record AnswerAs (trees : Trees) (book : List Entry) : Type 0 where
   pub tail_fitted : (serial : List ℕ) → Only (TailFitted serial) trees (tail_fitted book serial)
   -- whether a task retires an item by a day
   pub is_retired : (kind : List ℕ) (item : Item) (day : ℕ) → Only (IsRetired kind item day) trees (life_ended book kind item day)
+  -- of an airframe, it is the earliest take-off of its aircraft
   pub clock : (item : Item) → Only (ClockOf item) trees (clock book item)
-  pub earliest_takeoff : (tail : List ℕ) → Only (ClockOf (Airframe tail)) trees (earliest_takeoff book tail)
   pub next_revision : (kind : List ℕ) → Only (NextRevision kind) trees (next_revision book kind)
   -- a task of the programme in force
   pub task : (kind id : List ℕ) → Only (TaskOf kind id) trees (task_of book kind id)
