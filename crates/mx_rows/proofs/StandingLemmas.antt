@@ -1,5 +1,5 @@
 -- Tables that stand for a book answer each question of the judge and of lists as the book does.
-use Rattle.std.proofs.Common.{◌≡◌, ℕ, pos, Bool, false, List, filter, length, Option, None, Some, refl, sym, ap, ◌∙◌, cond}
+use Rattle.std.proofs.Common.{◌≡◌, ℕ, pos, Bool, false, List, filter, length, Option, None, Some, refl, sym, ap, ◌∙◌, cond, true, [], ◌∷◌, map, ap₂}
 use Rattle.std.specs.Prelude.{MatchOption, IsSome, IsSomeAnd, is_some, nat_eq, nat_lt}
 use Rattle.std.specs.List.{range_with_len, cons_option, filter_map}
 use Rattle.std.specs.Option.{option_and_then, option_map, option_map_or}
@@ -66,6 +66,7 @@ use Rattle.mx_found.proofs.FittedLemmas.{none_fitted, place_of, places_found}
 use Rattle.mx_found.proofs.OpenDefectLemmas.{doc_found, none_open, open_found}
 use Rattle.mx_typed_rows.specs.declared.rows.SpanRow.{SpanRow}
 use Rattle.mx_book.specs.declared.found.Found.TheVariants as founds
+use Rattle.mx_typed_rows.specs.declared.rows.EntryRow.{EntryRow}
 
 -- the last number is the same by either definition
 last_is : (found : List EntryRow) → last_number found ≡ last_chosen found

@@ -6,5 +6,5 @@ use Rattle.mx_rows.proofs.view.RowsRecords.earliest_takeoff.Goals as goal
 
 pub returns : goal.returns
 returns g c =
-    answers_by g.S.Store g.Q.answers_as (λ book. earliest_takeoff book c.args.tail.now) _ _ _ _ (λ trees book answers. (g.Q.judged_as trees book answers).clock (Airframe c.args.tail.now))
+    answers_by g.S.Store g.Q.Questions.answers_as (λ book. earliest_takeoff book c.args.tail.now) _ _ _ _ (λ trees book answers. (g.Q.Questions.judged_as trees book answers).clock (Airframe c.args.tail.now))
     (record { tx = refl; conn = c.earliest_takeoff.ensures.same_reference }) c.earliest_takeoff.ensures.reads c.earliest_takeoff.ensures.any_rows

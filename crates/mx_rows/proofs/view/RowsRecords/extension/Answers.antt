@@ -5,5 +5,5 @@ use Rattle.mx_rows.proofs.view.RowsRecords.extension.Goals as goal
 
 pub returns : goal.returns
 returns g c =
-    answers_by g.S.Store g.Q.answers_as (λ book. extension book c.args.doc.now) _ _ _ _ (λ trees book answers. (g.Q.judged_as trees book answers).extension c.args.doc.now)
+    answers_by g.S.Store g.Q.Questions.answers_as (λ book. extension book c.args.doc.now) _ _ _ _ (λ trees book answers. (g.Q.Questions.judged_as trees book answers).extension c.args.doc.now)
     (record { tx = refl; conn = c.extension.ensures.same_reference }) c.extension.ensures.reads c.extension.ensures.any_rows

@@ -5,5 +5,5 @@ use Rattle.mx_rows.proofs.view.RowsRecords.is_taken.Goals as goal
 
 pub returns : goal.returns
 returns g c =
-    answers_by g.S.Store g.Q.answers_as (λ book. is_taken book c.args.tail.now c.args.position.now) _ _ _ _ (λ trees book answers. (g.Q.judged_as trees book answers).is_taken c.args.tail.now c.args.position.now)
+    answers_by g.S.Store g.Q.Questions.answers_as (λ book. is_taken book c.args.tail.now c.args.position.now) _ _ _ _ (λ trees book answers. (g.Q.Questions.judged_as trees book answers).is_taken c.args.tail.now c.args.position.now)
     (record { tx = refl; conn = c.is_taken.ensures.same_reference }) c.is_taken.ensures.reads c.is_taken.ensures.any_rows

@@ -5,5 +5,5 @@ use Rattle.mx_rows.proofs.view.RowsRecords.part_at.Goals as goal
 
 pub returns : goal.returns
 returns g c =
-    answers_by g.S.Store g.Q.answers_as (λ book. part_at book c.args.tail.now c.args.position.now) _ _ _ _ (λ trees book answers. (g.Q.judged_as trees book answers).part_at c.args.tail.now c.args.position.now)
+    answers_by g.S.Store g.Q.Questions.answers_as (λ book. part_at book c.args.tail.now c.args.position.now) _ _ _ _ (λ trees book answers. (g.Q.Questions.judged_as trees book answers).part_at c.args.tail.now c.args.position.now)
     (record { tx = refl; conn = c.part_at.ensures.same_reference }) c.part_at.ensures.reads c.part_at.ensures.any_rows

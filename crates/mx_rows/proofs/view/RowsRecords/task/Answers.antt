@@ -5,5 +5,5 @@ use Rattle.mx_rows.proofs.view.RowsRecords.task.Goals as goal
 
 pub returns-clause-answers : goal.returns-clause-answers
 returns-clause-answers g c =
-    answers_by g.S.Store g.Q.answers_as (λ book. task_of book c.args.kind.now c.args.id.now) _ _ _ _ (λ trees book answers. (g.Q.judged_as trees book answers).task c.args.kind.now c.args.id.now)
+    answers_by g.S.Store g.Q.Questions.answers_as (λ book. task_of book c.args.kind.now c.args.id.now) _ _ _ _ (λ trees book answers. (g.Q.Questions.judged_as trees book answers).task c.args.kind.now c.args.id.now)
     (record { tx = refl; conn = c.task.ensures.same_reference }) c.task.ensures.reads c.task.ensures.any_rows
