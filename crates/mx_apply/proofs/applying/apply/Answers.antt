@@ -1,1 +1,0 @@
-use Rattle.mx_apply.proofs.applying.apply.Goals as goal

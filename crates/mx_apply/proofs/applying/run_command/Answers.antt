@@ -1,1 +1,0 @@
-use Rattle.mx_apply.proofs.applying.run_command.Goals as goal
