@@ -3,7 +3,7 @@ ghost use Rattle.std.specs.Prelude.{◌≡◌, false};
 ghost use Rattle.sqlite.specs.Held.{state};
 ghost use Rattle.mx_apply.specs.Applies.{Applies, Runs};
 
-use crate::judged::{Judged, judged};
+use crate::judged::{Judged, verdict_and_rows};
 use mx_book::Reply;
 use mx_command::Command;
 use mx_layout::TableFault;
@@ -23,7 +23,7 @@ fn run_command<S: Alter>(
 {
     // A command has its shape.
     let _ = command.doc();
-    match judged(alloc, tx, command)? {
+    match verdict_and_rows(alloc, tx, command)? {
         Judged::New(rows) => {
             let seq = rows.entry.seq;
             write_rows(tx, rows)?;

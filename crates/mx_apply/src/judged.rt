@@ -28,7 +28,7 @@ pub enum Judged {
 ///
 /// # Errors
 /// `Memory` for want of memory, `Store` for an error of the store, and `Damaged` with a table as the look-ups tell it.
-pub fn judged<S: Alter>(
+pub fn verdict_and_rows<S: Alter>(
     alloc: Global,
     tx: &mut Transaction<'_, S>,
     command: &Command,
