@@ -1,0 +1,3 @@
+pub mod Items
+pub mod Made
+pub mod Releases
