@@ -1,9 +1,11 @@
 -- What is known of the lines of a release, and when a task is due, by what was looked up.
-use Rattle.std.proofs.Common.{◌≡◌, ◌∙◌, ℕ, List, [], ◌∷◌, ◌++◌, Option, Result, None, Some, Ok, Err, refl, sym, ap, ap₂, subst, append_assoc, append-nil}
-use Rattle.std.specs.Prelude.{IsErrAnd, find}
+use Rattle.std.proofs.Common.{◌≡◌, ◌∙◌, inl, inr, ℕ, pos, List, [], ◌∷◌, ◌++◌, Option, Result, None, Some, Ok, Err, refl, sym, ap, ap₂, subst, append_assoc, append-nil}
+use Rattle.std.specs.Prelude.{IsErrAnd, IsSome, MatchOption, find}
 use Rattle.std.specs.Option.{option_and_then, option_map}
 use Rattle.sqlite.specs.State.{State}
-use Rattle.mx_base.specs.declared.amounts.Base.{Base}
+use Rattle.sqlite.specs.Tree.{Trees}
+use Rattle.sqlite.specs.declared.types.Value.TheVariants.{Int}
+use Rattle.mx_base.specs.declared.amounts.Use.{Use}
 use Rattle.mx_command.specs.Act.{Entry}
 use Rattle.mx_command.specs.Same.{same_text}
 use Rattle.mx_command.specs.declared.item.Item.{Item}
@@ -20,9 +22,18 @@ use Rattle.mx_book.specs.Register.{birth}
 use Rattle.mx_kept_rows.specs.Items.{number_of_place}
 use Rattle.mx_changes.specs.Certified.{AreKnownOf, IsKnownOf}
 use Rattle.mx_changes.specs.declared.releases.Certified.{Certified}
+use Rattle.mx_typed_rows.specs.declared.rows.TotalRow.{TotalRow}
+use Rattle.mx_layout.specs.declared.fault.Table.TheVariants as table
 use Rattle.mx_layout.specs.declared.fault.TableFault.{TableFault}
 use Rattle.mx_layout.specs.declared.fault.TableFault.TheVariants.{Memory}
+use Rattle.mx_kept.specs.Cells.{kept_total2}
+use Rattle.mx_chosen.specs.Choices.{has_value}
+use Rattle.mx_found.specs.Lives.{life_in}
+use Rattle.mx_lookups.specs.AnyRows.{Gives}
+use Rattle.mx_lookups.specs.Damage.{HasRow, IsDamaged}
+use Rattle.mx_lookups.specs.Given.{LifeOf}
 use Rattle.mx_lookups.specs.Reads.{Reads}
+use Rattle.mx_lookups.proofs.AnyLemmas.{first_kept}
 use Rattle.mx_lookups.proofs.ReadLemmas.{reads_then, stopped, told}
 use Rattle.mx_made.specs.Releases.{due_by_kind, task_by_kind}
 use Rattle.mx_made.proofs.MadeLemmas.{starved}
@@ -39,6 +50,20 @@ pub due_known : (book : List Entry) (kind : Option (List ℕ)) (k : List ℕ) (i
 due_known book kind k item id known some is =
     ap (λ o. due_by_kind book o item id) some
     ∙ ap (option_and_then (due_after (base book item id) (birth book item))) (joined (find (λ (t : Task). same_text t.id id)) (tasks_in_force book k) ∙ ap (option_and_then (λ task. task)) (sym is))
+
+-- ── a life that is past ──
+
+life_there : (trees : Trees) (u : Use) (number : Option ℕ) → MatchOption number (Some u ≡ None) (λ n. IsSome (Some u) × Gives kept_total2 (has_value 0 (Int (pos n))) life_in trees (Some u)) → HasRow kept_total2 (λ row. u ≡ row.life) trees
+life_there trees u None gave = absurd cc
+life_there trees u (Some n) gave = first_kept kept_total2 (λ (row : TotalRow). row.life) u gave.1
+
+-- the total of the item has a life that none may have
+pub life_past : (trees : Trees) (item : Item) (found : Option Use) (u : Use) → found ≡ Some u → ¬ IsLife u → LifeOf item trees found → IsDamaged table.Total2 trees
+unfolding IsDamaged
+life_past trees item found u is past gave =
+    let some = subst (LifeOf item trees) is gave in
+    let row = life_there trees u some.found some.then in
+    inr (inr (row.0, row.1, λ low. past (subst IsLife (sym row.2) low)))
 
 -- ── lines, one after another ──
 

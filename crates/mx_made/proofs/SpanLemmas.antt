@@ -1,5 +1,5 @@
 -- The spans that a command touches, and those that were there throughout a flight, by the rows that were chosen.
-use Rattle.std.proofs.Common.{◌≡◌, ◌∙◌, ℕ, pos, Bool, true, false, cond, ◌&&◌, List, Vec, [], ◌∷◌, ◌++◌, filter, map, nat_eq, Option, Result, None, Some, refl, sym, ap}
+use Rattle.std.proofs.Common.{◌≡◌, ◌∙◌, ℕ, pos, Bool, true, false, cond, ◌&&◌, List, Vec, [], ◌∷◌, ◌++◌, filter, map, nat_eq, Option, Result, None, Some, refl, sym, ap, ap₂}
 use Rattle.std.specs.Prelude.{is_none}
 use Rattle.std.specs.List.{AllByRecursion}
 use Rattle.sqlite.specs.declared.types.Value.TheVariants.{Int}
@@ -7,6 +7,7 @@ use Rattle.sqlite.specs.State.{State}
 use Rattle.mx_command.specs.Act.{Act, Entry, Fitted}
 use Rattle.mx_book.specs.Span.{span_begun}
 use Rattle.mx_typed_rows.specs.declared.rows.SpanRow.{SpanRow}
+use Rattle.mx_kept_rows.specs.Items.{number_of_serial}
 use Rattle.mx_kept_rows.specs.Spans.{is_open_of, span_row, span_rows, span_rows_from}
 use Rattle.mx_kept_rows.specs.Totals.{has_between, numbers_during}
 use Rattle.mx_kept_rows.proofs.CreditLemmas.{filter_on}
@@ -40,6 +41,14 @@ open_alike n (row ∷ rows) h = (ap (λ b. nat_eq row.component n && b) h.0 ∙ 
 -- the open spans of a component are those that nothing removed
 pub open_spans_are : (book : List Entry) (n : ℕ) → filter (is_left_of n) (span_rows book) ≡ filter (is_open_of n) (span_rows book)
 open_spans_are book n = filter_on (is_left_of n) (is_open_of n) (span_rows book) (open_alike n (span_rows book) (rows_ended [] book))
+
+-- those of the component with a serial number, and its number with those of their aircraft
+pub spans_removed_are : (book : List Entry) (n : ℕ) (serial : List ℕ) (rows : List SpanRow) → n ≡ number_of_serial book serial → rows ≡ filter (is_left_of n) (span_rows book)
+    → (rows ≡ filter (is_open_of (number_of_serial book serial)) (span_rows book))
+    × (n ∷ map (λ (row : SpanRow). row.aircraft) rows ≡ number_of_serial book serial ∷ map (λ (row : SpanRow). row.aircraft) (filter (is_open_of (number_of_serial book serial)) (span_rows book)))
+spans_removed_are book n serial rows number is =
+    let open = is ∙ open_spans_are book n ∙ ap (λ m. filter (is_open_of m) (span_rows book)) number in
+    (open, ap₂ (λ m l. m ∷ map (λ (row : SpanRow). row.aircraft) l) number open)
 
 -- ── the spans of an aircraft ──
 

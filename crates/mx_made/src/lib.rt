@@ -16,4 +16,3 @@ pub mod sectors;
 pub mod totals;
 
 pub use commands::rows_of_command;
-

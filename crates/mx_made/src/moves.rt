@@ -33,17 +33,11 @@ pub fn rows_of_fitting<S: Alter>(
     let component = number_of_component(alloc, tx, &fitting.serial)?;
     let aircraft = number_of_aircraft(alloc, tx, &fitting.tail)?;
     let totals = totals_of(alloc, tx, &[aircraft, component])?;
-    Ok(fitting_rows(
-        alloc, entry, fitting, component, aircraft, &totals,
-    )?)
+    Ok(fitting_rows(alloc, entry, fitting, component, aircraft, &totals)?)
 }
 
 // The numbers of a component and of the aircraft of its spans.
-fn numbers_removed(
-    alloc: Global,
-    component: u32,
-    spans: &[SpanRow],
-) -> Result<Vec<u32>, AllocError>
+fn numbers_removed(alloc: Global, component: u32, spans: &[SpanRow]) -> Result<Vec<u32>, AllocError>
     ensures { IfOk result (λ numbers. numbers.items
         ≡ component ∷ map (λ (row : SpanRow). row.aircraft) spans.now) }
 {
