@@ -47,8 +47,8 @@ pub spans_removed_are : (book : List Entry) (n : ℕ) (serial : List ℕ) (rows 
     → (rows ≡ filter (is_open_of (number_of_serial book serial)) (span_rows book))
     × (n ∷ map (λ (row : SpanRow). row.aircraft) rows ≡ number_of_serial book serial ∷ map (λ (row : SpanRow). row.aircraft) (filter (is_open_of (number_of_serial book serial)) (span_rows book)))
 spans_removed_are book n serial rows number is =
-    let open = is ∙ open_spans_are book n ∙ ap (λ m. filter (is_open_of m) (span_rows book)) number in
-    (open, ap₂ (λ m l. m ∷ map (λ (row : SpanRow). row.aircraft) l) number open)
+    let ended = is ∙ open_spans_are book n ∙ ap (λ m. filter (is_open_of m) (span_rows book)) number in
+    (ended, ap₂ (λ m l. m ∷ map (λ (row : SpanRow). row.aircraft) l) number ended)
 
 -- ── the spans of an aircraft ──
 

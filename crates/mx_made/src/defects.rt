@@ -15,8 +15,7 @@ use mx_typed_rows::EntryRow;
 use sqlite::{Alter, Transaction};
 use std::alloc::Global;
 
-/// The rows of a deferral of a defect of an aircraft. `Damaged` with `total2` where the aircraft has no total, or one that is
-/// past a life.
+/// The rows of a deferral of a defect of an aircraft. `Damaged` as for its total.
 pub fn rows_of_deferral<S: Alter>(
     alloc: Global,
     tx: &mut Transaction<'_, S>,

@@ -17,8 +17,7 @@ use mx_typed_rows::{EntryRow, SpanRow};
 use sqlite::{Alter, Transaction};
 use std::alloc::{AllocError, Global};
 
-/// The rows of a fitting of a component to an aircraft. `Damaged` with `total2` where one of them has no total, or one that is
-/// past a life.
+/// The rows of a fitting of a component to an aircraft. `Damaged` as for the totals of both.
 pub fn rows_of_fitting<S: Alter>(
     alloc: Global,
     tx: &mut Transaction<'_, S>,
@@ -49,8 +48,8 @@ fn numbers_removed(alloc: Global, component: u32, spans: &[SpanRow]) -> Result<V
     Ok(numbers)
 }
 
-/// The rows of a removal of a component. `Damaged` with `span2` where an open span of the component can't be read, and with
-/// `total2` where the component, or the aircraft of the span, has no total, or one that is past a life.
+/// The rows of a removal of a component. `Damaged` where an open span of the component can't be read, and as for the totals of
+/// the component and of the aircraft of the span.
 pub fn rows_of_removal<S: Alter>(
     alloc: Global,
     tx: &mut Transaction<'_, S>,

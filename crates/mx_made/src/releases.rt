@@ -70,7 +70,7 @@ fn place_found<S: Alter>(
     Ok((number, kind_of_place(place, &found)))
 }
 
-// The life that an item has now, none where it is not there. `Damaged` with `total2` where that is past a life.
+// The life that an item has now, none where it is not there. `Damaged` where its total is past a life.
 fn life_reached<S: Alter>(
     alloc: Global,
     tx: &mut Transaction<'_, S>,
@@ -181,9 +181,8 @@ fn release_known<S: Alter>(
     Ok((number, known))
 }
 
-/// The rows of a release with its lines. `Damaged` with `total2` where the item of its place, or of a line, has no total, or one
-/// that is past a life; with `base2` where a last base of a line is past one, and with `task` where a task in force lacks its
-/// shape.
+/// The rows of a release with its lines. `Damaged` as for the totals of the items of its place and of its lines, and for the last
+/// bases and the tasks in force of its lines.
 pub fn rows_of_release<S: Alter>(
     alloc: Global,
     tx: &mut Transaction<'_, S>,

@@ -51,8 +51,8 @@ fn numbers_flown(
     Ok(numbers)
 }
 
-/// The rows of a sector of an aircraft. `Damaged` with `span2` where a span of the aircraft can't be read, and with `total2`
-/// where the aircraft, or a component that was fitted to it throughout the flight, has no total, or one that is past a life.
+/// The rows of a sector of an aircraft. `Damaged` where a span of the aircraft can't be read, and as for the totals of the
+/// aircraft and of the components that were fitted to it throughout the flight.
 pub fn rows_of_sector<S: Alter>(
     alloc: Global,
     tx: &mut Transaction<'_, S>,
