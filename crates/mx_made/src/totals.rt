@@ -109,10 +109,9 @@ fn push_total<S: Alter>(
 {
     let found = total_of(alloc, tx, number)?;
     match found {
-        Some(row) => totals.push(row)?,
-        None => {}
+        Some(row) => Ok(totals.push(row)?),
+        None => Ok(()),
     }
-    Ok(())
 }
 
 // The totals of the items with these numbers, of which there are some, in order. A number that is there twice is asked once.
@@ -155,6 +154,6 @@ pub fn totals_of<S: Alter>(
     ensures lives { IfOk result (λ totals. All HasLife totals.items) }
 {
     let mut sorted = Vec::from_slice(alloc, numbers)?;
-    sorted.sort()?;
+    sorted.sort_unstable();
     totals_in_order(alloc, tx, &sorted)
 }
