@@ -1,6 +1,6 @@
 -- What is made of what was looked up.
-use Rattle.std.proofs.Common.{◌≡◌, ◌∙◌, ◌+◌, ◌-◌, ◌^◌, ◌≤◌, ◌&&◌, arith, inl, min, nat_le, true, ℕ, List, length, Result, Ok, ap, refl, sym, subst}
-use Rattle.std.specs.Prelude.{IsErrAnd}
+use Rattle.std.proofs.Common.{◌≡◌, ◌∙◌, ◌+◌, ◌-◌, ◌^◌, ◌≤◌, ◌&&◌, arith, inl, min, true, ℕ, List, length, Result, Ok, ap, refl, sym, subst}
+use Rattle.std.specs.Prelude.{IsErrAnd, nat_le}
 use Rattle.std.specs.List.{list_all}
 use Rattle.std.proofs.lemmas.Bool.Decides.{nat_tests}
 use Rattle.sqlite.specs.State.{State}

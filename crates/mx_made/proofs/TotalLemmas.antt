@@ -1,11 +1,18 @@
 -- Items by their numbers, and their totals: over a book, and what is damaged over any rows.
-use Rattle.std.proofs.Common.{◌≡◌, ◌↔◌, ◌∙◌, arith, inl, inr, ℕ, pos, Bool, true, false, cond, List, [], ◌∷◌, filter, map, nat_eq, Option, None, Some, refl, sym, ap, subst}
-use Rattle.std.specs.Prelude.{IsTrue, is_some, slice_get}
+use Rattle.std.proofs.Common.{◌≡◌, ◌↔◌, ◌∙◌, arith, inl, inr, ℕ, pos, Bool, true, false, cond, List, [], ◌∷◌, filter, map, nat_eq, Option, None, Some, Ok, length, refl, sym, ap, subst}
+use Rattle.std.specs.Prelude.{Contains, IsTrue, is_some, slice_get}
 use Rattle.std.specs.List.{AllByRecursion}
+use Rattle.std.specs.List.Sorted.{IsPermutation}
 use Rattle.std.specs.Option.{option_map}
 use Rattle.std.proofs.lemmas.Bool.Decides.{Decides-eqb}
+use Rattle.std.proofs.lemmas.List.Sorted.{Contains-permutation, IsPermutation-sym, length_permutation}
+use Rattle.sqlite_rules.specs.Lists.{Has}
+use Rattle.sqlite_rules.proofs.ListLemmas.{contains_had, has_contained, has_filtered, has_kept}
+use Rattle.sqlite_schema.specs.Rules.{equal}
+use Rattle.sqlite.specs.Collation.TheVariants.{Binary}
 use Rattle.sqlite.specs.declared.types.Value.TheVariants.{Int}
-use Rattle.sqlite.specs.Order.{Row}
+use Rattle.sqlite.specs.Order.{Row, column}
+use Rattle.sqlite.specs.State.{State, HasCleanDisk}
 use Rattle.sqlite.specs.Tree.{Trees}
 use Rattle.mx_command.specs.Act.{Entry}
 use Rattle.mx_command.specs.declared.item.Item.{Item}
@@ -21,16 +28,23 @@ use Rattle.mx_kept_rows.specs.Totals.{total_in, total_row, total_rows}
 use Rattle.mx_kept_rows.proofs.OneTotal.{total_found}
 use Rattle.mx_changes.specs.Kept.{HasLife}
 use Rattle.mx_layout.specs.declared.fault.Table.TheVariants as table
+use Rattle.mx_layout.specs.Contents.{rows_in}
+use Rattle.mx_layout.specs.Crash.{IsWithin}
+use Rattle.mx_layout.specs.Names.{table_named}
 use Rattle.mx_kept.specs.Cells.{kept_aircraft, kept_component, kept_total2}
+use Rattle.mx_kept.specs.Kept.{Kept}
 use Rattle.mx_chosen.specs.Choices.{has_value, is_any}
+use Rattle.mx_stands.specs.Schemas.{schema_at}
 use Rattle.mx_found.specs.Names.{aircraft_number, component_number}
 use Rattle.mx_found.proofs.FoundLemmas.{serial_numbered, tail_numbered}
 use Rattle.mx_found.proofs.ListLemmas.{all_left, first_left}
 use Rattle.mx_found.proofs.StatedLemmas.{airframe_numbered, component_numbered, no_item_numbered}
-use Rattle.mx_lookups.specs.AnyRows.{Gives}
-use Rattle.mx_lookups.specs.Damage.{IsDamaged}
-use Rattle.mx_lookups.proofs.AnyLemmas.{first_kept, kept_unmet}
-use Rattle.mx_made.specs.Items.{HasItem}
+use Rattle.mx_lookups.specs.AnyRows.{AreChosen, Gives, ReadsAny}
+use Rattle.mx_lookups.specs.Damage.{HasRow, IsDamaged}
+use Rattle.mx_lookups.specs.Reads.{Reads, rows_point}
+use Rattle.mx_lookups.proofs.AnyLemmas.{any_later, empty_is, first_kept, kept_unmet}
+use Rattle.mx_lookups.proofs.LookupLemmas.{number_is}
+use Rattle.mx_made.specs.Totals.{HasItem, TotalOf}
 
 -- ── rows with a number ──
 
@@ -116,15 +130,93 @@ total_there book b n there none = at (item_at book n) refl there
     at None is h = absurd cc
     at (Some item) is h = let found = none ∙ total_found book n item b is in absurd cc
 
+-- ── numbers, over any rows ──
+
+module _ {X : Type 0} (k : Kept X) (seq : X → ℕ) (cells : (x : X) → column (k.as_cells x) 0 ≡ Int (pos (seq x))) (n : ℕ) {trees : Trees} where
+  abbrev chosen : Row → Bool
+  chosen = has_value 0 (Int (pos n))
+
+  abbrev all : List Row
+  all = rows_in (table_named k.name) trees
+
+  -- the rows that the table has and that are chosen
+  shown : (xs : List X) → AreChosen k None k.order chosen trees xs → IsPermutation (filter chosen all) (map k.as_cells xs)
+  shown xs chose = subst (IsPermutation (filter chosen all)) (sym chose.are.first) chose.are.are.all
+
+  passes : (x : X) → chosen (k.as_cells x) ≡ nat_eq (seq x) n
+  passes x = ap (λ cell. equal Binary cell (Int (pos n))) (cells x) ∙ number_is (seq x) n
+
+  -- one that is chosen has the number
+  chosen_has : (x : X) (xs : List X) → AreChosen k None k.order chosen trees (x ∷ xs) → seq x ≡ n
+  chosen_has x xs chose =
+      let rows = map k.as_cells (x ∷ xs) in
+      let one : Contains (filter chosen all) (k.as_cells x) = Contains-permutation rows (filter chosen all) (k.as_cells x) (IsPermutation-sym _ _ (shown (x ∷ xs) chose)) (contains_had rows (k.as_cells x) (inl refl)) in
+      (Decides-eqb (seq x) n).0 (sym (passes x) ∙ (has_filtered chosen all (k.as_cells x) (has_contained (filter chosen all) (k.as_cells x) one)).1)
+
+  -- where none is chosen, the table has none with the number
+  none_has : AreChosen k None k.order chosen trees [] → HasRow k (λ x. n ≡ seq x) trees → ⊥
+  none_has chose row =
+      let none : filter chosen all ≡ [] = empty_is (filter chosen all) (sym (length_permutation [] (filter chosen all) (IsPermutation-sym _ _ (shown [] chose)))) in
+      let test : chosen (k.as_cells row.0) ≡ true = passes row.0 ∙ (Decides-eqb (seq row.0) n).1 (sym row.2) in
+      let there = has_kept chosen all (k.as_cells row.0) (has_contained all (k.as_cells row.0) row.1.there) test in
+      subst (λ l. Has l (k.as_cells row.0)) none there
+
+  -- the first that is chosen has the number, where the table has a row with it
+  pub number_there : (found : Option ℕ) → Gives k chosen (λ rows. option_map seq (slice_get rows 0)) trees found → HasRow k (λ x. n ≡ seq x) trees → found ≡ Some n
+  number_there found gave row = at gave.0 gave.1 gave.2
+    where
+      at : (xs : List X) → AreChosen k None k.order chosen trees xs → found ≡ option_map seq (slice_get xs 0) → found ≡ Some n
+      at [] chose is = absurd (none_has chose row)
+      at (x ∷ xs) chose is = is ∙ ap (λ m. Some m) (chosen_has x xs chose)
+
+-- an item has the number where the second of two look-ups found it, and the first did not
+pub item_or_none : {V : Type 0} (n : ℕ) (P : List Entry → V → Type 0) (a b c : State) (v : V) (first second : Option ℕ) (there : Bool) → (first ≡ Some n → ⊥) → (IsTrue there ↔ (second ≡ Some n)) → Reads P a b (Ok v) → IsWithin b c
+    → ReadsAny (Gives kept_aircraft (has_value 0 (Int (pos n))) aircraft_number) a b (Ok first) → ReadsAny (Gives kept_component (has_value 0 (Int (pos n))) component_number) b c (Ok second)
+    → ReadsAny (λ trees it. IsTrue it ↔ HasItem n trees) a c (Ok there)
+item_or_none n P a b c v first second there none test one within found later = record {
+  found = λ clean has.
+      let aircraft = found.found (omega (arith, within.survives.clean)) has in
+      let components = (any_later P _ a b c v second one within later).found clean has in (
+        λ yes. inr (first_kept kept_component (λ (row : ComponentRow). row.seq) n (subst (Gives kept_component (has_value 0 (Int (pos n))) component_number a.now.trees) (test.0 yes) components)),
+        λ it. either it aircraft components,
+      );
+}
+  where
+    either : HasItem n a.now.trees → Gives kept_aircraft (has_value 0 (Int (pos n))) aircraft_number a.now.trees first → Gives kept_component (has_value 0 (Int (pos n))) component_number a.now.trees second → IsTrue there
+    either (inl row) aircraft components = absurd (none (number_there kept_aircraft (λ (x : AircraftRow). x.seq) (λ x. refl) n first aircraft row))
+    either (inr row) aircraft components = test.1 (number_there kept_component (λ (x : ComponentRow). x.seq) (λ x. refl) n second components row)
+
 -- ── what is damaged ──
 
+as_it_is : {X : Type 0} (o : Option X) → o ≡ option_map (λ x. x) o
+as_it_is None = refl
+as_it_is (Some x) = refl
+
+by_itself : {chosen : Row → Bool} {trees : Trees} (found : Option TotalRow) → Gives kept_total2 chosen (λ rows. slice_get rows 0) trees found → Gives kept_total2 chosen (λ rows. option_map (λ (x : TotalRow). x) (slice_get rows 0)) trees found
+by_itself found gave = (gave.0, gave.1, gave.2 ∙ as_it_is (slice_get gave.0 0))
+
 -- a total is past a life
-pub total_past : {chosen : Row → Bool} (trees : Trees) (row : TotalRow) → ¬ HasLife row → Gives kept_total2 chosen (λ rows. option_map (λ (x : TotalRow). x) (slice_get rows 0)) trees (Some row) → IsDamaged table.Total2 trees
+pub total_past : {chosen : Row → Bool} (trees : Trees) (row : TotalRow) → ¬ HasLife row → Gives kept_total2 chosen (λ rows. slice_get rows 0) trees (Some row) → IsDamaged table.Total2 trees
 unfolding IsDamaged
-total_past trees row past gave = let one = first_kept kept_total2 (λ (x : TotalRow). x) row gave in inr (inr (one.0, one.1, λ low. past (subst HasLife (sym one.2) low)))
+total_past trees row past gave = let one = first_kept kept_total2 (λ (x : TotalRow). x) row (by_itself _ gave) in inr (inr (one.0, one.1, λ low. past (subst HasLife (sym one.2) low)))
 
 -- an item has no total
-pub item_unmet : (trees : Trees) (n : ℕ) → HasItem n trees → Gives kept_total2 (has_value 0 (Int (pos n))) (λ rows. option_map (λ (x : TotalRow). x) (slice_get rows 0)) trees None → IsDamaged table.Total2 trees
+pub item_unmet : (trees : Trees) (n : ℕ) → HasItem n trees → Gives kept_total2 (has_value 0 (Int (pos n))) (λ rows. slice_get rows 0) trees None → IsDamaged table.Total2 trees
 unfolding IsDamaged
-item_unmet trees n (inl it) none = inr (inl (_, (2, omega arith, refl), refl, kept_unmet kept_aircraft kept_total2 0 (λ r. r.seq) (λ r. refl) is_any table.Total2 (λ (x : TotalRow). x) it.0 it.1 refl it.2 none))
-item_unmet trees n (inr it) none = inr (inl (_, (3, omega arith, refl), refl, kept_unmet kept_component kept_total2 0 (λ r. r.seq) (λ r. refl) is_any table.Total2 (λ (x : TotalRow). x) it.0 it.1 refl it.2 none))
+item_unmet trees n (inl it) none = inr (inl (_, (2, omega arith, refl), refl, kept_unmet kept_aircraft kept_total2 0 (λ r. r.seq) (λ r. refl) is_any table.Total2 (λ (x : TotalRow). x) it.0 it.1 refl it.2 (by_itself None none)))
+item_unmet trees n (inr it) none = inr (inl (_, (3, omega arith, refl), refl, kept_unmet kept_component kept_total2 0 (λ r. r.seq) (λ r. refl) is_any table.Total2 (λ (x : TotalRow). x) it.0 it.1 refl it.2 (by_itself None none)))
+
+-- an item was found behind no total
+module _ {V : Type 0} (n : ℕ) (P : List Entry → V → Type 0) (a b c : State) (v : V) (there : Bool) (one : Reads P a b (Ok v)) (within : IsWithin b c) (total : ReadsAny (Gives kept_total2 (has_value 0 (Int (pos n))) (λ rows. slice_get rows 0)) a b (Ok None))
+    (item : ReadsAny (λ trees it. IsTrue it ↔ HasItem n trees) b c (Ok there)) where
+  pub missing_total : there ≡ true → HasCleanDisk c → a.now.schema ≡ schema_at rows_point → IsDamaged table.Total2 a.now.trees
+  missing_total yes clean has = item_unmet a.now.trees n (((any_later P _ a b c v there one within item).found clean has).0 yes) (total.found (omega (arith, clean, within.survives.clean)) has)
+
+  -- or none was
+  pub no_total : there ≡ false → ReadsAny (TotalOf n) a c (Ok None)
+  no_total no = record {
+    found = λ clean has. (
+      total.found (omega (arith, clean, within.survives.clean)) has,
+      λ it. (let yes = sym no ∙ ((any_later P _ a b c v there one within item).found clean has).1 it in absurd cc),
+    );
+  }

@@ -1,3 +1,3 @@
-pub mod Items
+pub mod Totals
 pub mod Made
 pub mod Releases

@@ -1,5 +1,5 @@
 //! The totals of the items with some numbers, as they are.
-ghost use Rattle.std.specs.Prelude.{◌≡◌, ◌+◌, ◌≤◌, ◌<◌, ◌↔◌, ◌++◌, [], ℕ, All, Some, IfOk, IfSome, IsTrue, OnOk, filter, get_or, is_some, length, true};
+ghost use Rattle.std.specs.Prelude.{◌≡◌, ◌+◌, ◌≤◌, ◌<◌, ◌↔◌, ◌++◌, [], ℕ, All, Some, IfOk, IfSome, IsTrue, OnOk, filter, get_or, is_some, length};
 ghost use Rattle.std.specs.List.{cons_option};
 ghost use Rattle.sqlite.specs.Held.{state};
 ghost use Rattle.mx_due.specs.Due.{IsLife};
@@ -8,7 +8,7 @@ ghost use Rattle.mx_kept_rows.specs.Totals.{is_among, total_in, total_rows};
 ghost use Rattle.mx_changes.specs.Kept.{HasLife};
 ghost use Rattle.mx_lookups.specs.AnyRows.{ReadsAny};
 ghost use Rattle.mx_lookups.specs.Reads.{Reads};
-ghost use Rattle.mx_made.specs.Items.{HasItem};
+ghost use Rattle.mx_made.specs.Totals.{HasItem, TotalOf};
 
 use mx_base::{Base, Use};
 use mx_chosen::items::{aircraft_by_seq, component_by_seq};
@@ -40,7 +40,7 @@ fn is_item<S: Alter>(
     ensures same_reference { tx.new.conn.ghost_name ≡ tx.old.conn.ghost_name }
     ensures reads { Reads (λ book there. there ≡ is_some (item_at book number))
         (state S.Store tx.old.conn.now) (state S.Store tx.new.conn.now) result }
-    ensures any_rows { ReadsAny (λ trees there. there ≡ true → HasItem number trees)
+    ensures any_rows { ReadsAny (λ trees there. IsTrue there ↔ HasItem number trees)
         (state S.Store tx.old.conn.now) (state S.Store tx.new.conn.now) result }
 {
     let aircraft = aircraft_by_seq(alloc, tx, number)?;
@@ -71,6 +71,8 @@ pub fn total_of<S: Alter>(
 ) -> Result<Option<TotalRow>, TableFault>
     ensures same_reference { tx.new.conn.ghost_name ≡ tx.old.conn.ghost_name }
     ensures reads { Reads (λ book found. found ≡ total_in (total_rows book) number)
+        (state S.Store tx.old.conn.now) (state S.Store tx.new.conn.now) result }
+    ensures any_rows { ReadsAny (TotalOf number)
         (state S.Store tx.old.conn.now) (state S.Store tx.new.conn.now) result }
     ensures life { IfOk result (λ found. IfSome found HasLife) }
 {
