@@ -149,16 +149,16 @@ there_already ns d (suc j) some low same =
 
 -- ── of a book ──
 
-abbrev among : List ℕ → List Entry → List TotalRow
+abbrev pub among : List ℕ → List Entry → List TotalRow
 among ns book = filter (is_among ns) (total_rows book)
 
 totals_more : (book : List Entry) (ns : List ℕ) (n : ℕ) → All (λ k. k < n) ns → among (ns ++ n ∷ []) book ≡ among ns book ++ one_in (total_rows book) n
 totals_more book ns n below = one_more ns n 1 _ (total_rows book) below (total_rows-rising book)
 
 -- the first number
-pub first_read : (ns : List ℕ) (n : ℕ) (now : List TotalRow) (old new : State) {U : Type 0} (u : U) → n ∷ [] ≡ ns → Reads {V = U} (λ book done. now ≡ [] ++ one_in (total_rows book) n) old new (Ok u) → Reads {V = ℕ} (λ book done. now ≡ among ns book) old new (Ok 0)
-first_read ns n now old new u is one =
-    told _ _ old new u 0 (λ book b this. this ∙ sym (totals_more book [] n (All-nil (λ k. k < n)) ∙ ap (λ l. l ++ one_in (total_rows book) n) (none_among (total_rows book))) ∙ ap (λ xs. among xs book) is) one
+pub first_read : (ns : List ℕ) (n : ℕ) (was now : List TotalRow) (old new : State) {U : Type 0} (u : U) → was ≡ [] → n ∷ [] ≡ ns → Reads {V = U} (λ book done. now ≡ was ++ one_in (total_rows book) n) old new (Ok u) → Reads {V = ℕ} (λ book done. now ≡ among ns book) old new (Ok 0)
+first_read ns n was now old new u none is one =
+    told _ _ old new u 0 (λ book b this. this ∙ ap (λ l. l ++ one_in (total_rows book) n) none ∙ sym (totals_more book [] n (All-nil (λ k. k < n)) ∙ ap (λ l. l ++ one_in (total_rows book) n) (none_among (total_rows book))) ∙ ap (λ xs. among xs book) is) one
   where
     none_among : (xs : List TotalRow) → filter (is_among []) xs ≡ []
     none_among [] = refl

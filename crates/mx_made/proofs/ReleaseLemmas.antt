@@ -1,7 +1,8 @@
 -- What is known of the lines of a release, and when a task is due, by what was looked up.
-use Rattle.std.proofs.Common.{◌≡◌, ◌∙◌, inl, inr, ℕ, pos, List, [], ◌∷◌, ◌++◌, Option, Result, None, Some, Ok, Err, refl, sym, ap, ap₂, subst, append_assoc, append-nil}
+use Rattle.std.proofs.Common.{◌≡◌, ◌∙◌, inl, inr, ℕ, pos, List, [], ◌∷◌, ◌++◌, Option, Result, Vec, None, Some, Ok, Err, refl, sym, ap, ap₂, subst, append_assoc, append-nil}
 use Rattle.std.specs.Prelude.{IsErrAnd, IsSome, MatchOption, find}
 use Rattle.std.specs.Option.{option_and_then, option_map}
+use Rattle.std.specs.declared.alloc.Global.{Global}
 use Rattle.sqlite.specs.State.{State}
 use Rattle.sqlite.specs.Tree.{Trees}
 use Rattle.sqlite.specs.declared.types.Value.TheVariants.{Int}
@@ -92,6 +93,6 @@ module _ (r : Release) (lines : List Line) (number : ℕ) (kind : Option (List �
   pub lines_starved : {V W : Type 0} (a b c : State) (done : List Certified) (left : List Line) → LinesWalk a b done left → (P : List Entry → V → Type 0) (Q : List Entry → W → Type 0) (v : V) (result : Result W TableFault) → IsErrAnd result (λ e. e ≡ Memory) → Reads P b c (Ok v) → Reads Q a c result
   lines_starved a b c done left walk P Q v result is one = starved _ Q a c v result is (reads_then _ P a b c 0 (Ok v) walk one)
 
-  pub lines_ended : {V : Type 0} (a b : State) (v : V) (known : List Certified) (left : List Line) → left ≡ [] → LinesWalk a b known left → Reads {V = V} (λ book v. (number ≡ number_of_place book r.place) × AreKnownOf book r lines known) a b (Ok v)
-  lines_ended a b v known left none =
-      told _ _ a b 0 v (λ book is_book was. (was.0.0, subst (AreKnownOf book r lines) (append-nil known) (was.1 [] (subst (λ l. AreKnownOf book r l []) (sym none) tt))))
+  pub lines_ended : (a b : State) (known : Vec Certified Global) (left : List Line) → left ≡ [] → LinesWalk a b known.items left → Reads {V = ℕ × Vec Certified Global} (λ book v. (v.0 ≡ number_of_place book r.place) × AreKnownOf book r lines v.1.items) a b (Ok (number, known))
+  lines_ended a b known left none =
+      told _ _ a b 0 (number, known) (λ book is_book was. (was.0.0, subst (AreKnownOf book r lines) (append-nil known.items) (was.1 [] (subst (λ l. AreKnownOf book r l []) (sym none) tt))))

@@ -132,7 +132,7 @@ total_there book b n there none = at (item_at book n) refl there
 
 -- ── numbers, over any rows ──
 
-module _ {X : Type 0} (k : Kept X) (seq : X → ℕ) (cells : (x : X) → column (k.as_cells x) 0 ≡ Int (pos (seq x))) (n : ℕ) {trees : Trees} where
+module _ {X : Type 0} (k : Kept X) (seq : X → ℕ) (cells : (x : X) → column (k.as_cells x) 0 ≡ Int (pos (seq x))) (n : ℕ) (trees : Trees) where
   abbrev chosen : Row → Bool
   chosen = has_value 0 (Int (pos n))
 
@@ -156,7 +156,7 @@ module _ {X : Type 0} (k : Kept X) (seq : X → ℕ) (cells : (x : X) → column
   -- where none is chosen, the table has none with the number
   none_has : AreChosen k None k.order chosen trees [] → HasRow k (λ x. n ≡ seq x) trees → ⊥
   none_has chose row =
-      let none : filter chosen all ≡ [] = empty_is (filter chosen all) (sym (length_permutation [] (filter chosen all) (IsPermutation-sym _ _ (shown [] chose)))) in
+      let none : filter chosen all ≡ [] = empty_is (filter chosen all) (sym (length_permutation (filter chosen all) [] (shown [] chose))) in
       let test : chosen (k.as_cells row.0) ≡ true = passes row.0 ∙ (Decides-eqb (seq row.0) n).1 (sym row.2) in
       let there = has_kept chosen all (k.as_cells row.0) (has_contained all (k.as_cells row.0) row.1.there) test in
       subst (λ l. Has l (k.as_cells row.0)) none there
@@ -183,8 +183,8 @@ item_or_none n P a b c v first second there none test one within found later = r
 }
   where
     either : HasItem n a.now.trees → Gives kept_aircraft (has_value 0 (Int (pos n))) aircraft_number a.now.trees first → Gives kept_component (has_value 0 (Int (pos n))) component_number a.now.trees second → IsTrue there
-    either (inl row) aircraft components = absurd (none (number_there kept_aircraft (λ (x : AircraftRow). x.seq) (λ x. refl) n first aircraft row))
-    either (inr row) aircraft components = test.1 (number_there kept_component (λ (x : ComponentRow). x.seq) (λ x. refl) n second components row)
+    either (inl row) aircraft components = absurd (none (number_there kept_aircraft (λ (x : AircraftRow). x.seq) (λ x. refl) n a.now.trees first aircraft row))
+    either (inr row) aircraft components = test.1 (number_there kept_component (λ (x : ComponentRow). x.seq) (λ x. refl) n a.now.trees second components row)
 
 -- ── what is damaged ──
 
@@ -210,13 +210,13 @@ item_unmet trees n (inr it) none = inr (inl (_, (3, omega arith, refl), refl, ke
 module _ {V : Type 0} (n : ℕ) (P : List Entry → V → Type 0) (a b c : State) (v : V) (there : Bool) (one : Reads P a b (Ok v)) (within : IsWithin b c) (total : ReadsAny (Gives kept_total2 (has_value 0 (Int (pos n))) (λ rows. slice_get rows 0)) a b (Ok None))
     (item : ReadsAny (λ trees it. IsTrue it ↔ HasItem n trees) b c (Ok there)) where
   pub missing_total : there ≡ true → HasCleanDisk c → a.now.schema ≡ schema_at rows_point → IsDamaged table.Total2 a.now.trees
-  missing_total yes clean has = item_unmet a.now.trees n (((any_later P _ a b c v there one within item).found clean has).0 yes) (total.found (omega (arith, clean, within.survives.clean)) has)
+  missing_total found clean has = item_unmet a.now.trees n (((any_later P _ a b c v there one within item).found clean has).0 found) (total.found (omega (arith, clean, within.survives.clean)) has)
 
   -- or none was
   pub no_total : there ≡ false → ReadsAny (TotalOf n) a c (Ok None)
-  no_total no = record {
+  no_total none = record {
     found = λ clean has. (
       total.found (omega (arith, clean, within.survives.clean)) has,
-      λ it. (let yes = sym no ∙ ((any_later P _ a b c v there one within item).found clean has).1 it in absurd cc),
+      λ it. (let yes = sym none ∙ ((any_later P _ a b c v there one within item).found clean has).1 it in absurd cc),
     );
   }

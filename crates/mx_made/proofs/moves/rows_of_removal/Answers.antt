@@ -29,7 +29,8 @@ pub returns-clause-reads : goal.returns-clause-reads
 returns-clause-reads g c =
     told _ _ _ _ _ _
     (λ book b all doc own.
-    let ended = spans_removed_are book c.in_ok-component.component _ _ all.0 all.1.0 in
-    c.in_ok-removal_rows.ensures book doc own (c.deref-2.ensures.value ∙ ended.0)
-    (c.deref-3.ensures.value ∙ all.1.1 ∙ ap (λ ns. among ns book) (c.deref-1.ensures.value ∙ c.in_ok-numbers.ensures ∙ ap (λ l. _ ∷ map (λ (row : SpanRow). row.aircraft) l) c.deref.ensures.value ∙ ended.1)))
+    let ended = spans_removed_are book c.in_ok-component.component c.args.removal.serial c.in_ok-spans.spans.items all.0 all.1.0 in
+    c.in_ok-removal_rows.ensures book doc own (c.deref-3.ensures.value ∙ ended.0)
+    (c.deref-4.ensures.value ∙ all.1.1
+    ∙ ap (λ ns. among ns book) (c.deref-2.ensures.value ∙ c.in_ok-numbers.ensures ∙ ap (λ l. c.in_ok-component.component ∷ map (λ (row : SpanRow). row.aircraft) l) c.deref.ensures.value ∙ ended.1)))
     (reads_then _ _ _ _ _ _ _ c.in_ok-component.ensures.reads (reads_then _ _ _ _ _ _ _ (open_spans_of c.in_ok-component.component c.in_ok-spans.ensures.reads) c.in_ok-totals.ensures.reads))

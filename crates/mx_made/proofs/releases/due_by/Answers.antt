@@ -16,7 +16,7 @@ returns-in-Some-named-clause-reads g c =
     told _ _ _ _ _ _
     (λ book b all.
     c.due_after.ensures ∙ ap₂ (λ last born. due_after last born task) all.1.0 (c.birth_of.ensures ∙ ap birth_in all.0)
-    ∙ sym (due_known book c.args.kind.now c.in-Some.kind.now item id _ c.in-Some.is all.1.1
+    ∙ sym (due_known book c.args.kind.now c.in-Some.kind item id _ c.in-Some.is all.1.1
     ∙ ap (λ o. option_and_then (due_after (base book item id) (birth book item)) (option_and_then (λ t. t) o)) (c.in-Some-known.is ∙ ap Some c.in-Some-named.is)))
     (reads_then _ _ _ _ _ _ _ c.in_ok-found.ensures.reads (reads_then _ _ _ _ _ _ _ c.in_ok-last.ensures.reads c.in_ok-known-in-Some.ensures.reads))
 
@@ -26,7 +26,7 @@ returns-in-None-named-clause-reads g c =
     let id = c.args.id.now in
     told _ _ _ _ _ _
     (λ book b all.
-    sym (due_known book c.args.kind.now c.in-Some.kind.now item id _ c.in-Some.is all.1.1
+    sym (due_known book c.args.kind.now c.in-Some.kind item id _ c.in-Some.is all.1.1
     ∙ ap (λ o. option_and_then (due_after (base book item id) (birth book item)) (option_and_then (λ t. t) o)) (c.in-Some-known.is ∙ ap Some c.in-None-named.is)))
     (reads_then _ _ _ _ _ _ _ c.in_ok-found.ensures.reads (reads_then _ _ _ _ _ _ _ c.in_ok-last.ensures.reads c.in_ok-known-in-Some.ensures.reads))
 
@@ -36,11 +36,11 @@ returns-in-None-known-clause-reads g c =
     let id = c.args.id.now in
     told _ _ _ _ _ _
     (λ book b all.
-    sym (due_known book c.args.kind.now c.in-Some.kind.now item id _ c.in-Some.is all.1.1
+    sym (due_known book c.args.kind.now c.in-Some.kind item id _ c.in-Some.is all.1.1
     ∙ ap (λ o. option_and_then (due_after (base book item id) (birth book item)) (option_and_then (λ t. t) o)) c.in-None-known.is))
     (reads_then _ _ _ _ _ _ _ c.in_ok-found.ensures.reads (reads_then _ _ _ _ _ _ _ c.in_ok-last.ensures.reads c.in_ok-known-in-Some.ensures.reads))
 
-pub returns-clause-reads : goal.returns-clause-reads
-returns-clause-reads g c =
+pub returns-in-None-clause-reads : goal.returns-in-None-clause-reads
+returns-in-None-clause-reads g c =
     told _ _ _ _ _ _ (λ book b all. sym (ap (λ o. due_by_kind book o c.args.item.now c.args.id.now) c.in-None.is))
     (reads_then _ _ _ _ _ _ _ c.in_ok-found.ensures.reads c.in_ok-last.ensures.reads)

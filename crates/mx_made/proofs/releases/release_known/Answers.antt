@@ -1,4 +1,4 @@
-use Rattle.std.proofs.Common.{◌∙◌, ◌≡◌, ◌+◌, ◌++◌, [], ◌∷◌, All, ap, arith, length, length-append, subst, sym}
+use Rattle.std.proofs.Common.{◌∙◌, ◌≡◌, ◌+◌, ◌++◌, [], ◌∷◌, All, ap, arith, length, length-append, refl, subst, sym}
 use Rattle.std.proofs.lemmas.List.Elements.{All-append, All-cons, All-nil}
 use Rattle.mx_changes.specs.Certified.{HasLifeReached}
 use Rattle.mx_lookups.proofs.AnyLemmas.{empty_is}
@@ -9,7 +9,7 @@ pub loop-line-init : goal.loop-line-init
 loop-line-init g c = record {
   same_reference = c.in_ok-number.ensures.same_reference;
   walk = lines_begun c.args.release.now c.args.lines.now _ _ _ _ _ _ _ c.new-known.ensures.items refl c.in_ok-number.ensures.reads;
-  each = ap (λ l. length l + length c.args.lines.now) c.new-known.ensures.items;
+  each = let none = ap length c.new-known.ensures.items in omega (arith, none);
   lives = subst (All HasLifeReached) (sym c.new-known.ensures.items) (All-nil HasLifeReached);
 }
 
@@ -34,4 +34,4 @@ pub returns-in_err-push-clause-reads : goal.returns-in_err-push-clause-reads
 returns-in_err-push-clause-reads g c = lines_starved c.args.release.now c.args.lines.now _ _ _ _ _ _ _ c.loop-line.invariant.walk _ _ c.in_ok-one.one _ c.from_residual-in_err-push.ensures.1 c.in_ok-one.ensures.reads
 
 pub returns-clause-reads : goal.returns-clause-reads
-returns-clause-reads g c = lines_ended c.args.release.now c.args.lines.now _ _ _ _ _ _ _ (empty_is _ c.in_default.ensures.cases) c.loop-line.invariant.walk
+returns-clause-reads g c = lines_ended c.args.release.now c.args.lines.now _ _ _ _ _ _ (empty_is _ c.in_default.ensures.cases) c.loop-line.invariant.walk

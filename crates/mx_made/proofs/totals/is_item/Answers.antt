@@ -37,6 +37,6 @@ returns-clause-reads g c =
 
 pub returns-clause-any_rows : goal.returns-clause-any_rows
 returns-clause-any_rows g c =
-    item_or_none c.args.number _ _ _ _ _ _ _ (λ h. (let e = sym c.if-is_number.false ∙ c.is_number.ensures.1 h in absurd cc)) c.is_number-2.ensures (aircraft_of_number c.args.number c.in_ok-aircraft.ensures.reads) c.in_ok-components.ensures.reads.within
+    item_or_none c.args.number _ _ _ _ _ _ _ _ (λ h. (let e = sym c.if-is_number.false ∙ c.is_number.ensures.1 h in absurd cc)) c.is_number-2.ensures (aircraft_of_number c.args.number c.in_ok-aircraft.ensures.reads) c.in_ok-components.ensures.reads.within
     (gives aircraft aircraft_number (c.aircraft_number.ensures ∙ ap aircraft_number c.deref.ensures.value) c.in_ok-aircraft.ensures.reads)
     (gives components component_number (c.component_number.ensures ∙ ap component_number c.deref-2.ensures.value) c.in_ok-components.ensures.reads)

@@ -16,6 +16,6 @@ returns-in_ok-push-in-Some-clause-lives g c =
     subst (All HasLife) (sym c.in_ok-push-in-Some.ensures.items)
     (All-append HasLife c.args.totals.now.items (c.in-Some.row ∷ []) had (All-cons HasLife c.in-Some.row [] (subst (λ o. IfSome o HasLife) c.in-Some.is c.in_ok-found.ensures.life) (All-nil HasLife)))
 
-pub returns-clause-reads : goal.returns-clause-reads
-returns-clause-reads g c =
+pub returns-in-None-clause-reads : goal.returns-in-None-clause-reads
+returns-in-None-clause-reads g c =
     told _ _ _ _ _ _ (λ book b is. sym (append-nil c.args.totals.now.items) ∙ ap (λ o. c.args.totals.now.items ++ cons_option o []) (sym c.in-None.is ∙ is)) c.in_ok-found.ensures.reads

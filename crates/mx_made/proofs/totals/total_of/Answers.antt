@@ -1,6 +1,7 @@
 use Rattle.std.proofs.Common.{◌∙◌, None, Option, List, refl, sym, ap}
 use Rattle.std.specs.Prelude.{slice_get}
 use Rattle.mx_typed_rows.specs.declared.rows.TotalRow.{TotalRow}
+use Rattle.mx_changes.specs.Kept.{HasLife}
 use Rattle.mx_layout.specs.declared.fault.Table.TheVariants as table
 use Rattle.mx_lookups.proofs.AnyLemmas.{any_so, gives}
 use Rattle.mx_lookups.proofs.BookRows.{totals_of}
@@ -25,19 +26,19 @@ returns-then-is_life-clause-any_rows g c =
 
 pub returns-in-Some-clause-reads : goal.returns-in-Some-clause-reads
 returns-in-Some-clause-reads g c =
-    let past = λ low. (let e = sym c.if-is_life.false ∙ c.is_life.ensures.1 low in absurd cc) in
+    let past : HasLife c.in-Some.row.now → ⊥ = λ low. (let e = sym c.if-is_life.false ∙ c.is_life.ensures.1 low in absurd cc) in
     refused _ _ _ _ _ table.Total2
     (λ book b is. past (total_lives book b c.args.number _ c.in-Some.row.now (c.deref.ensures.value ∙ is) c.in-Some.ensures.value))
     (λ clean has. total_past _ c.in-Some.row.now past ((gives totals first (c.in-Some.ensures.value ∙ ap first c.deref.ensures.value) c.in_ok-rows.ensures.reads).found clean has))
     (totals_of c.args.number c.in_ok-rows.ensures.reads)
 
-pub returns-then-there-in-None-clause-reads : goal.returns-then-there-in-None-clause-reads
-returns-then-there-in-None-clause-reads g c =
+pub returns-then-there-clause-reads : goal.returns-then-there-clause-reads
+returns-then-there-clause-reads g c =
     let one = totals_of c.args.number c.in_ok-rows.ensures.reads in
     let two = c.in_ok-there-in-None.ensures in
     refused _ _ _ _ _ table.Total2
     (λ book b both. total_there book b c.args.number (sym c.if-there.true ∙ both.1) (total_first book c.args.number _ None (c.deref.ensures.value ∙ both.0) c.in-None.ensures.value))
-    (missing_total c.args.number _ _ _ _ _ one two.reads.within (gives totals first (c.in-None.ensures.value ∙ ap first c.deref.ensures.value) c.in_ok-rows.ensures.reads) two.any_rows c.if-there.true)
+    (missing_total c.args.number _ _ _ _ _ _ one two.reads.within (gives totals first (c.in-None.ensures.value ∙ ap first c.deref.ensures.value) c.in_ok-rows.ensures.reads) two.any_rows c.if-there.true)
     (reads_then _ _ _ _ _ _ _ one two.reads)
 
 pub returns-clause-reads : goal.returns-clause-reads
@@ -48,7 +49,7 @@ returns-clause-reads g c =
 pub returns-clause-any_rows : goal.returns-clause-any_rows
 returns-clause-any_rows g c =
     let two = c.in_ok-there-in-None.ensures in
-    no_total c.args.number _ _ _ _ _ (totals_of c.args.number c.in_ok-rows.ensures.reads) two.reads.within (gives totals first (c.in-None.ensures.value ∙ ap first c.deref.ensures.value) c.in_ok-rows.ensures.reads) two.any_rows c.if-there.false
+    no_total c.args.number _ _ _ _ _ _ (totals_of c.args.number c.in_ok-rows.ensures.reads) two.reads.within (gives totals first (c.in-None.ensures.value ∙ ap first c.deref.ensures.value) c.in_ok-rows.ensures.reads) two.any_rows c.if-there.false
 
 pub returns-in_err-there-in-None-clause-reads : goal.returns-in_err-there-in-None-clause-reads
 returns-in_err-there-in-None-clause-reads g c =

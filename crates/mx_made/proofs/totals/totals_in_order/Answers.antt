@@ -1,5 +1,6 @@
 use Rattle.std.proofs.Common.{◌≡◌, ◌+◌, ◌∙◌, ◌++◌, ◌∷◌, [], ℕ, All, Ok, Vec, filter, get_or, take, sym, subst, ap, arith}
 use Rattle.std.proofs.lemmas.List.{take_more}
+use Rattle.std.proofs.lemmas.List.Elements.{All-nil}
 use Rattle.std.specs.declared.alloc.Global.{Global}
 use Rattle.sqlite.specs.Held.{state}
 use Rattle.sqlite.specs.declared.transaction.Transaction.{Transaction}
@@ -8,7 +9,7 @@ use Rattle.mx_kept_rows.specs.Totals.{is_among, total_rows}
 use Rattle.mx_changes.specs.Kept.{HasLife}
 use Rattle.mx_lookups.specs.Reads.{Reads}
 use Rattle.mx_lookups.proofs.ReadLemmas.{reads_then, stopped}
-use Rattle.mx_made.proofs.AmongLemmas.{below_next, none_read, one_read, there_already}
+use Rattle.mx_made.proofs.AmongLemmas.{below_next, first_read, none_read, one_read, there_already}
 use Rattle.mx_made.proofs.totals.totals_in_order.Goals.{then-numbers-i+in_ok-push_total-2, else-numbers-i}
 use Rattle.mx_made.proofs.totals.totals_in_order.Goals as goal
 
@@ -18,6 +19,17 @@ returns-in_err-push_total-2-clause-reads g c =
     let mid = state g.S.Store c.numbers.tx.conn.now in
     let new = state g.S.Store c.push_total-then-numbers-i.new.tx.conn.now in
     stopped _ _ first new c.in_err-push_total-2.field-0.0 c.from_residual-in_err-push_total-2.result c.from_residual-in_err-push_total-2.ensures.1 (reads_then _ _ first mid new 0 _ c.numbers.invariant.reads c.in_err-push_total-2.ensures.reads)
+
+pub numbers-init : goal.numbers-init
+numbers-init g c =
+    let ns = c.args.numbers.now in
+    let is : take 0 ns ++ get_or ns 0 0 ∷ [] ≡ take (0 + 1) ns = sym (take_more ns 0 0 c.requires.some) in
+    record {
+      same_reference = c.in_ok-push_total.ensures.same_reference;
+      some = omega arith;
+      reads = first_read (take 1 ns) (get_or ns 0 0) c.new-totals.result.items c.push_total.new.totals.items _ _ c.in_ok-push_total.field-0 c.new-totals.ensures.items is c.in_ok-push_total.ensures.reads;
+      lives = c.in_ok-push_total.ensures.lives (subst (All HasLife) (sym c.new-totals.ensures.items) (All-nil HasLife));
+    }
 
 pub numbers-preserved : goal.numbers-preserved
 numbers-preserved g c =

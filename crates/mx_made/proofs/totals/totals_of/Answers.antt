@@ -11,4 +11,4 @@ returns-in_err-sorted-clause-reads g c = unasked _ _ _ c.from_residual.ensures.1
 pub returns-clause-reads : goal.returns-clause-reads
 returns-clause-reads g c =
     follows _ _ _ _ c.totals_in_order.result
-    (λ book v b is. is ∙ ap (λ ns. among ns book) c.deref.ensures.value ∙ in_another_order book c.args.numbers.now _ (subst (λ ns. IsPermutation ns _) c.in_ok-sorted.ensures.items c.sort_unstable.ensures.permutation)) c.totals_in_order.ensures.reads
+    (λ book v b is. is ∙ ap (λ ns. among ns book) c.deref.ensures.value ∙ in_another_order book c.args.numbers.now c.sort_unstable.new.self.items (subst (λ ns. IsPermutation ns c.sort_unstable.new.self.items) c.in_ok-sorted.ensures.items c.sort_unstable.ensures.permutation)) c.totals_in_order.ensures.reads
