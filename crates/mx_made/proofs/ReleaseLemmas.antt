@@ -76,8 +76,8 @@ module _ (r : Release) (lines : List Line) (number : ℕ) (kind : Option (List �
   abbrev pub LinesWalk : State → State → List Certified → List Line → Type 0
   LinesWalk old new done left = Reads {V = ℕ} (λ book v. IsWalked done left book) old new (Ok 0)
 
-  pub lines_begun : {V : Type 0} (old new : State) (v : V) (done : List Certified) (left : List Line) → done ≡ [] → left ≡ lines → Reads (λ book v. (number ≡ number_of_place book r.place) × (kind ≡ kind_at book r.place)) old new (Ok v) → LinesWalk old new done left
-  lines_begun old new v done left none all = told _ _ old new v 0 (λ book b is. (is, λ more h. subst (λ d. AreKnownOf book r lines (d ++ more)) (sym none) (subst (λ l. AreKnownOf book r l more) all h)))
+  pub lines_begun : (old new : State) (done : List Certified) (left : List Line) → done ≡ [] → left ≡ lines → Reads {V = ℕ × Option (List ℕ)} (λ book v. (v.0 ≡ number_of_place book r.place) × (v.1 ≡ kind_at book r.place)) old new (Ok (number, kind)) → LinesWalk old new done left
+  lines_begun old new done left none all = told _ _ old new (number, kind) 0 (λ book b is. (is, λ more h. subst (λ d. AreKnownOf book r lines (d ++ more)) (sym none) (subst (λ l. AreKnownOf book r l more) all h)))
 
   module _ (a b c : State) (done : List Certified) (left later : List Line) (line : Line) (walk : LinesWalk a b done left) (is : left ≡ line ∷ later) where
     one_more : (book : List Entry) (known : Certified) (longer : List Certified) → longer ≡ done ++ known ∷ [] → IsWalked done left book → IsKnownOf book r line known → IsWalked longer later book

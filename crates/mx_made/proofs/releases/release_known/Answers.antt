@@ -8,7 +8,7 @@ use Rattle.mx_made.proofs.releases.release_known.Goals as goal
 pub loop-line-init : goal.loop-line-init
 loop-line-init g c = record {
   same_reference = c.in_ok-number.ensures.same_reference;
-  walk = lines_begun c.args.release.now c.args.lines.now _ _ _ _ _ _ _ c.new-known.ensures.items refl c.in_ok-number.ensures.reads;
+  walk = lines_begun c.args.release.now c.args.lines.now _ _ _ _ _ _ c.new-known.ensures.items refl c.in_ok-number.ensures.reads;
   each = let none = ap length c.new-known.ensures.items in omega (arith, none);
   lives = subst (All HasLifeReached) (sym c.new-known.ensures.items) (All-nil HasLifeReached);
 }
