@@ -1,22 +1,9 @@
 -- What is made of what was looked up.
-use Rattle.std.proofs.Common.{◌≡◌, ◌∙◌, ◌+◌, ◌-◌, ◌^◌, ◌≤◌, ◌&&◌, arith, inl, min, true, ℕ, List, length, Result, Ok, ap, refl, sym, subst}
-use Rattle.std.specs.Prelude.{IsErrAnd, nat_le}
-use Rattle.std.specs.List.{list_all}
-use Rattle.std.proofs.lemmas.Bool.Decides.{nat_tests}
+use Rattle.std.proofs.Common.{◌≡◌, ◌∙◌, ◌+◌, ◌-◌, ◌^◌, ◌≤◌, arith, inl, min, ℕ, List, length, Result, Ok, refl, sym, subst}
+use Rattle.std.specs.Prelude.{IsErrAnd}
 use Rattle.sqlite.specs.State.{State}
-use Rattle.mx_command.specs.Act.{Act, Entry, Added, Flown, Loaded, Released}
-use Rattle.mx_command.specs.Bounds.{are_distinct, within}
-use Rattle.mx_command.specs.Programme.{same_name_of_task, task_shape}
-use Rattle.mx_command.specs.Shape.{act_shape, doc_shape, has_shape, opening_shape, positions_shape, same_name, sector_shape}
-use Rattle.mx_command.specs.declared.aircraft.Aircraft.{Aircraft}
-use Rattle.mx_command.specs.declared.programme.Programme.{Programme}
-use Rattle.mx_command.specs.declared.programme.Task.{Task}
-use Rattle.mx_command.specs.declared.programme_shape.TheConstants.{LAST_REVISION}
-use Rattle.mx_command.specs.declared.release.Line.{Line}
-use Rattle.mx_command.specs.declared.release.Release.{Release}
-use Rattle.mx_command.specs.declared.sector.Sector.{Sector}
+use Rattle.mx_command.specs.Act.{Act, Entry}
 use Rattle.mx_book.specs.Book.{IsBook}
-use Rattle.mx_book.proofs.JudgeLemmas.{both_true}
 use Rattle.mx_register.specs.Registers.{next}
 use Rattle.mx_typed_rows.specs.declared.rows.EntryRow.{EntryRow}
 use Rattle.mx_kept_rows.specs.Changes.{entry_of}
@@ -53,31 +40,6 @@ pub command_made_alone : (command : Entry) (act : Act) (a b : State) (entry : En
     → Reads (λ book rows. AreCommandRows book command rows) a b (Ok rows)
 command_made_alone command act a b entry rows is made one =
     told _ _ a b entry rows (λ book is_book this. subst (λ x. AreCommandRows book (entry_of command.doc x) rows) is (made book command.doc (subst (λ x. IsEntryOf book (entry_of command.doc x) entry) (sym is) this))) one
-
--- ── what the shape of a command bounds ──
-
-of_act : (e : Entry) (act : Act) → has_shape e ≡ true → act ≡ e.act → act_shape act ≡ true
-of_act e act shaped is = ap act_shape is ∙ (both_true (act_shape e.act) (doc_shape e.doc e.act) shaped).0
-
-at_most : (n m : ℕ) → nat_le n m ≡ true → n ≤ m
-at_most n m h = grind (arith, nat_tests)
-
-pub few_positions : (e : Entry) (a : Aircraft) (positions : List (List ℕ × List ℕ)) → has_shape e ≡ true → Added a positions ≡ e.act → length positions ≤ 40
-few_positions e a positions shaped is =
-    let both = both_true (opening_shape a.birth a.opening a.as_of) (positions_shape positions) (of_act e (Added a positions) shaped is) in
-    at_most (length positions) 40 (both_true (nat_le (length positions) 40) (are_distinct same_name positions) both.1).0
-
-pub few_tasks : (e : Entry) (p : Programme) (tasks : List Task) → has_shape e ≡ true → Loaded p tasks ≡ e.act → length tasks ≤ 500
-few_tasks e p tasks shaped is =
-    let both = both_true (within 1 LAST_REVISION p.revision) (within 1 500 (length tasks) && (list_all task_shape tasks && are_distinct same_name_of_task tasks)) (of_act e (Loaded p tasks) shaped is) in
-    let count = both_true (within 1 500 (length tasks)) (list_all task_shape tasks && are_distinct same_name_of_task tasks) both.1 in
-    at_most (length tasks) 500 (both_true (nat_le 1 (length tasks)) (nat_le (length tasks) 500) count.0).1
-
-pub few_lines : (e : Entry) (r : Release) (lines : List Line) → has_shape e ≡ true → Released r lines ≡ e.act → length lines ≤ 20
-few_lines e r lines shaped is = at_most (length lines) 20 (both_true (nat_le 1 (length lines)) (nat_le (length lines) 20) (of_act e (Released r lines) shaped is)).1
-
-pub sector_shaped : (e : Entry) (s : Sector) → has_shape e ≡ true → Flown s ≡ e.act → sector_shape s ≡ true
-sector_shaped e s shaped is = of_act e (Flown s) shaped is
 
 -- want of memory before anything was asked
 pub unasked : {V : Type 0} (Q : List Entry → V → Type 0) (s : State) (result : Result V TableFault) → IsErrAnd result (λ e. e ≡ Memory) → Reads Q s s result

@@ -1,5 +1,5 @@
 -- What is known of the lines of a release, and when a task is due, by what was looked up.
-use Rattle.std.proofs.Common.{◌≡◌, ◌∙◌, inl, inr, ℕ, pos, List, [], ◌∷◌, ◌++◌, Option, Result, Vec, None, Some, Ok, Err, refl, sym, ap, ap₂, subst, append_assoc, append-nil}
+use Rattle.std.proofs.Common.{◌≡◌, ◌∙◌, inr, ℕ, pos, List, [], ◌∷◌, ◌++◌, Option, Result, Vec, None, Some, Ok, Err, refl, sym, ap, subst, append_assoc, append-nil}
 use Rattle.std.specs.Prelude.{IsErrAnd, IsSome, MatchOption, find}
 use Rattle.std.specs.Option.{option_and_then, option_map}
 use Rattle.std.specs.declared.alloc.Global.{Global}
@@ -16,8 +16,6 @@ use Rattle.mx_command.specs.declared.release.Release.{Release}
 use Rattle.mx_due.specs.Due.{IsLife, due_after}
 use Rattle.mx_book.specs.Asking.{task_of}
 use Rattle.mx_book.specs.Base.{base}
-use Rattle.mx_book.specs.Book.{IsBook}
-use Rattle.mx_book.specs.Life.{life_now, use_or_none}
 use Rattle.mx_book.specs.Programme.{kind_at, tasks_in_force}
 use Rattle.mx_book.specs.Register.{birth}
 use Rattle.mx_kept_rows.specs.Items.{number_of_place}
@@ -36,7 +34,7 @@ use Rattle.mx_lookups.specs.Given.{LifeOf}
 use Rattle.mx_lookups.specs.Reads.{Reads}
 use Rattle.mx_lookups.proofs.AnyLemmas.{first_kept}
 use Rattle.mx_lookups.proofs.ReadLemmas.{reads_then, stopped, told}
-use Rattle.mx_made.specs.Releases.{due_by_kind, task_by_kind}
+use Rattle.mx_made.specs.Releases.{due_by_kind}
 use Rattle.mx_made.proofs.MadeLemmas.{starved}
 
 -- ── when a task is due ──

@@ -1,5 +1,5 @@
 -- The spans that a command touches, and those that were there throughout a flight, by the rows that were chosen.
-use Rattle.std.proofs.Common.{◌≡◌, ◌∙◌, ℕ, pos, Bool, true, false, cond, ◌&&◌, List, Vec, [], ◌∷◌, ◌++◌, filter, map, nat_eq, Option, Result, None, Some, refl, sym, ap, ap₂}
+use Rattle.std.proofs.Common.{◌≡◌, ◌∙◌, ℕ, pos, Bool, true, false, cond, ◌&&◌, List, Vec, [], ◌∷◌, ◌++◌, filter, map, nat_eq, Result, refl, ap, ap₂}
 use Rattle.std.specs.Prelude.{is_none}
 use Rattle.std.specs.List.{AllByRecursion}
 use Rattle.sqlite.specs.declared.types.Value.TheVariants.{Int}

@@ -1,5 +1,5 @@
 -- Items by their numbers, and their totals: over a book, and what is damaged over any rows.
-use Rattle.std.proofs.Common.{◌≡◌, ◌↔◌, ◌∙◌, arith, inl, inr, ℕ, pos, Bool, true, false, cond, List, [], ◌∷◌, filter, map, nat_eq, Option, None, Some, Ok, length, refl, sym, ap, subst}
+use Rattle.std.proofs.Common.{◌≡◌, ◌↔◌, ◌∙◌, arith, inl, inr, ℕ, pos, Bool, true, false, cond, List, [], ◌∷◌, filter, map, nat_eq, Option, None, Some, Ok, refl, sym, ap, subst}
 use Rattle.std.specs.Prelude.{Contains, IsTrue, is_some, slice_get}
 use Rattle.std.specs.List.{AllByRecursion}
 use Rattle.std.specs.List.Sorted.{IsPermutation}

@@ -37,9 +37,9 @@ fn numbers_flown(
     sector: &Sector,
     spans: &[SpanRow],
 ) -> Result<Vec<u32>, AllocError>
-    ensures { IfOk result (λ numbers. numbers.items ≡ aircraft ∷ map (λ (row : SpanRow). row.component)
-        (filter (λ (row : SpanRow).
-        has_between sector.now.off sector.now.on row.from row.to) spans.now)) }
+    ensures { IfOk result (λ numbers. numbers.items
+        ≡ aircraft ∷ map (λ (row : SpanRow). row.component) (filter
+        (λ (row : SpanRow). has_between sector.now.off sector.now.on row.from row.to) spans.now)) }
 {
     let mut numbers = Vec::new(alloc);
     numbers.push(aircraft)?;

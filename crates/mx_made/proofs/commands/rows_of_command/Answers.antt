@@ -1,7 +1,7 @@
 use Rattle.std.proofs.Common.{◌∙◌, ap, sym}
 use Rattle.mx_command.specs.Act.{Added, Deferred, Extended, Fitted, Flown, Listed, Loaded, Opened, Released, Removed}
 use Rattle.mx_command.specs.Said.{act_said}
-use Rattle.mx_made.proofs.MadeLemmas.{command_made, command_made_alone, few_lines, few_positions, few_tasks, sector_shaped}
+use Rattle.mx_made.proofs.MadeLemmas.{command_made, command_made_alone}
 use Rattle.mx_made.proofs.commands.rows_of_command.Goals as goal
 
 pub returns-in_ok-aircraft_rows-in-Aircraft-clause-reads : goal.returns-in_ok-aircraft_rows-in-Aircraft-clause-reads

@@ -1,4 +1,4 @@
-use Rattle.std.proofs.Common.{◌∙◌, [], ◌∷◌, ap, ap₂}
+use Rattle.std.proofs.Common.{◌∙◌, [], ◌∷◌, ap₂}
 use Rattle.mx_lookups.proofs.ReadLemmas.{reads_then, told}
 use Rattle.mx_made.proofs.AmongLemmas.{among}
 use Rattle.mx_made.proofs.moves.rows_of_fitting.Goals as goal

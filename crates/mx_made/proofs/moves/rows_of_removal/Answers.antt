@@ -1,4 +1,4 @@
-use Rattle.std.proofs.Common.{◌≡◌, ◌∙◌, [], ◌∷◌, filter, map, ap, sym}
+use Rattle.std.proofs.Common.{◌∙◌, ◌∷◌, map, ap}
 use Rattle.mx_typed_rows.specs.declared.rows.SpanRow.{SpanRow}
 use Rattle.mx_lookups.proofs.BookRows.{open_spans_of}
 use Rattle.mx_lookups.proofs.ReadLemmas.{reads_then, stopped, told}

@@ -1,4 +1,4 @@
-use Rattle.std.proofs.Common.{◌∙◌, ◌≡◌, ◌+◌, ◌++◌, [], ◌∷◌, All, ap, arith, length, length-append, refl, subst, sym}
+use Rattle.std.proofs.Common.{◌∙◌, [], ◌∷◌, All, ap, arith, length, length-append, refl, subst, sym}
 use Rattle.std.proofs.lemmas.List.Elements.{All-append, All-cons, All-nil}
 use Rattle.mx_changes.specs.Certified.{HasLifeReached}
 use Rattle.mx_lookups.proofs.AnyLemmas.{empty_is}

@@ -1,6 +1,5 @@
-use Rattle.std.proofs.Common.{◌≡◌, ◌∙◌, [], ◌∷◌, filter, map, ap, sym}
-use Rattle.mx_typed_rows.specs.declared.rows.SpanRow.{SpanRow}
-use Rattle.mx_kept_rows.specs.Totals.{has_between, numbers_during}
+use Rattle.std.proofs.Common.{◌∙◌, ap}
+use Rattle.mx_kept_rows.specs.Totals.{numbers_during}
 use Rattle.mx_kept_rows.specs.Spans.{span_rows}
 use Rattle.mx_lookups.proofs.ReadLemmas.{reads_then, stopped, told}
 use Rattle.mx_made.proofs.AmongLemmas.{among}

@@ -1,4 +1,4 @@
-use Rattle.std.proofs.Common.{◌∙◌, ap, subst, sym}
+use Rattle.std.proofs.Common.{◌∙◌, ap, subst}
 use Rattle.std.specs.List.Sorted.{IsPermutation}
 use Rattle.mx_lookups.proofs.ReadLemmas.{follows}
 use Rattle.mx_made.proofs.AmongLemmas.{among, in_another_order}
