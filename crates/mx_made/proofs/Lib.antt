@@ -1,0 +1,5 @@
+pub mod AmongLemmas
+pub mod TotalLemmas
+pub mod MadeLemmas
+pub mod SpanLemmas
+pub mod ReleaseLemmas

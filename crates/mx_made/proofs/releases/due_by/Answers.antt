@@ -1,0 +1,46 @@
+use Rattle.std.proofs.Common.{◌∙◌, Some, ap, ap₂, sym}
+use Rattle.std.specs.Option.{option_and_then}
+use Rattle.mx_due.specs.Due.{due_after}
+use Rattle.mx_book.specs.Base.{base}
+use Rattle.mx_book.specs.Register.{birth, birth_in}
+use Rattle.mx_lookups.proofs.ReadLemmas.{reads_then, told}
+use Rattle.mx_made.specs.Releases.{due_by_kind}
+use Rattle.mx_made.proofs.ReleaseLemmas.{due_known}
+use Rattle.mx_made.proofs.releases.due_by.Goals as goal
+
+pub returns-in-Some-named-clause-reads : goal.returns-in-Some-named-clause-reads
+returns-in-Some-named-clause-reads g c =
+    let item = c.args.item.now in
+    let id = c.args.id.now in
+    let task = c.in-Some-named.task in
+    told _ _ _ _ _ _
+    (λ book b all.
+    c.due_after.ensures ∙ ap₂ (λ last born. due_after last born task) all.1.0 (c.birth_of.ensures ∙ ap birth_in all.0)
+    ∙ sym (due_known book c.args.kind.now c.in-Some.kind item id _ c.in-Some.is all.1.1
+    ∙ ap (λ o. option_and_then (due_after (base book item id) (birth book item)) (option_and_then (λ t. t) o)) (c.in-Some-known.is ∙ ap Some c.in-Some-named.is)))
+    (reads_then _ _ _ _ _ _ _ c.in_ok-found.ensures.reads (reads_then _ _ _ _ _ _ _ c.in_ok-last.ensures.reads c.in_ok-known-in-Some.ensures.reads))
+
+pub returns-in-None-named-clause-reads : goal.returns-in-None-named-clause-reads
+returns-in-None-named-clause-reads g c =
+    let item = c.args.item.now in
+    let id = c.args.id.now in
+    told _ _ _ _ _ _
+    (λ book b all.
+    sym (due_known book c.args.kind.now c.in-Some.kind item id _ c.in-Some.is all.1.1
+    ∙ ap (λ o. option_and_then (due_after (base book item id) (birth book item)) (option_and_then (λ t. t) o)) (c.in-Some-known.is ∙ ap Some c.in-None-named.is)))
+    (reads_then _ _ _ _ _ _ _ c.in_ok-found.ensures.reads (reads_then _ _ _ _ _ _ _ c.in_ok-last.ensures.reads c.in_ok-known-in-Some.ensures.reads))
+
+pub returns-in-None-known-clause-reads : goal.returns-in-None-known-clause-reads
+returns-in-None-known-clause-reads g c =
+    let item = c.args.item.now in
+    let id = c.args.id.now in
+    told _ _ _ _ _ _
+    (λ book b all.
+    sym (due_known book c.args.kind.now c.in-Some.kind item id _ c.in-Some.is all.1.1
+    ∙ ap (λ o. option_and_then (due_after (base book item id) (birth book item)) (option_and_then (λ t. t) o)) c.in-None-known.is))
+    (reads_then _ _ _ _ _ _ _ c.in_ok-found.ensures.reads (reads_then _ _ _ _ _ _ _ c.in_ok-last.ensures.reads c.in_ok-known-in-Some.ensures.reads))
+
+pub returns-in-None-clause-reads : goal.returns-in-None-clause-reads
+returns-in-None-clause-reads g c =
+    told _ _ _ _ _ _ (λ book b all. sym (ap (λ o. due_by_kind book o c.args.item.now c.args.id.now) c.in-None.is))
+    (reads_then _ _ _ _ _ _ _ c.in_ok-found.ensures.reads c.in_ok-last.ensures.reads)

@@ -1,0 +1,37 @@
+use Rattle.std.proofs.Common.{◌∙◌, ap}
+use Rattle.mx_kept_rows.specs.Totals.{numbers_during}
+use Rattle.mx_kept_rows.specs.Spans.{span_rows}
+use Rattle.mx_lookups.proofs.ReadLemmas.{reads_then, stopped, told}
+use Rattle.mx_made.proofs.AmongLemmas.{among}
+use Rattle.mx_made.proofs.MadeLemmas.{starved}
+use Rattle.mx_made.proofs.SpanLemmas.{numbers_flown_are, spans_of_aircraft}
+use Rattle.mx_made.proofs.sectors.rows_of_sector.Goals as goal
+
+pub returns-in_err-spans-clause-reads : goal.returns-in_err-spans-clause-reads
+returns-in_err-spans-clause-reads g c =
+    stopped _ _ _ _ _ _ c.from_residual-in_err-spans.ensures.1 (reads_then _ _ _ _ _ _ _ c.in_ok-aircraft.ensures.reads (spans_of_aircraft c.in_ok-aircraft.aircraft c.in_err-spans.ensures.reads))
+
+pub returns-in_err-numbers-clause-reads : goal.returns-in_err-numbers-clause-reads
+returns-in_err-numbers-clause-reads g c =
+    starved _ _ _ _ _ _ c.from_residual-in_err-numbers.ensures.1 (reads_then _ _ _ _ _ _ _ c.in_ok-aircraft.ensures.reads (spans_of_aircraft c.in_ok-aircraft.aircraft c.in_ok-spans.ensures.reads))
+
+pub returns-in_err-totals-clause-reads : goal.returns-in_err-totals-clause-reads
+returns-in_err-totals-clause-reads g c =
+    stopped _ _ _ _ _ _ c.from_residual-in_err-totals.ensures.1
+    (reads_then _ _ _ _ _ _ _ c.in_ok-aircraft.ensures.reads (reads_then _ _ _ _ _ _ _ (spans_of_aircraft c.in_ok-aircraft.aircraft c.in_ok-spans.ensures.reads) c.in_err-totals.ensures.reads))
+
+pub returns-in_err-sector_rows-clause-reads : goal.returns-in_err-sector_rows-clause-reads
+returns-in_err-sector_rows-clause-reads g c =
+    starved _ _ _ _ _ _ c.from_residual-in_err-sector_rows.ensures.1
+    (reads_then _ _ _ _ _ _ _ c.in_ok-aircraft.ensures.reads (reads_then _ _ _ _ _ _ _ (spans_of_aircraft c.in_ok-aircraft.aircraft c.in_ok-spans.ensures.reads) c.in_ok-totals.ensures.reads))
+
+pub returns-clause-reads : goal.returns-clause-reads
+returns-clause-reads g c =
+    let n = c.in_ok-aircraft.aircraft in
+    let s = c.args.sector in
+    told _ _ _ _ _ _
+    (λ book b all doc own.
+    c.in_ok-sector_rows.ensures book doc own all.0
+    (c.deref-3.ensures.value ∙ all.1.1
+    ∙ ap (λ ns. among ns book) (c.deref-2.ensures.value ∙ c.in_ok-numbers.ensures ∙ numbers_flown_are book n s.off s.on _ (c.deref.ensures.value ∙ all.1.0) ∙ ap (λ m. numbers_during m s.off s.on (span_rows book)) all.0)))
+    (reads_then _ _ _ _ _ _ _ c.in_ok-aircraft.ensures.reads (reads_then _ _ _ _ _ _ _ (spans_of_aircraft n c.in_ok-spans.ensures.reads) c.in_ok-totals.ensures.reads))

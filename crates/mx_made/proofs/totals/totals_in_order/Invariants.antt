@@ -1,0 +1,15 @@
+use Rattle.std.proofs.Common.{◌≡◌, ◌≤◌, ℕ, All, Ok, filter, take}
+use Rattle.sqlite.specs.Held.{state}
+use Rattle.mx_kept_rows.specs.Totals.{is_among, total_rows}
+use Rattle.mx_changes.specs.Kept.{HasLife}
+use Rattle.mx_lookups.specs.Reads.{Reads}
+use Rattle.mx_made.proofs.totals.totals_in_order.Given as goal
+
+-- the totals so far are those of the first of the numbers
+abbrev pub invariant-numbers : goal.invariant-numbers
+invariant-numbers g l = record {
+  same_reference : l.tx.conn.ghost_name ≡ l.fn.tx.conn.ghost_name;
+  some : 1 ≤ l.i;
+  reads : Reads {V = ℕ} (λ book done. l.totals.items ≡ filter (is_among (take l.i l.numbers)) (total_rows book)) (state g.S.Store l.fn.tx.conn.now) (state g.S.Store l.tx.conn.now) (Ok 0);
+  lives : All HasLife l.totals.items;
+}

@@ -1,0 +1,14 @@
+use Rattle.std.proofs.Common.{◌∙◌, ap, subst}
+use Rattle.std.specs.List.Sorted.{IsPermutation}
+use Rattle.mx_lookups.proofs.ReadLemmas.{follows}
+use Rattle.mx_made.proofs.AmongLemmas.{among, in_another_order}
+use Rattle.mx_made.proofs.MadeLemmas.{unasked}
+use Rattle.mx_made.proofs.totals.totals_of.Goals as goal
+
+pub returns-in_err-sorted-clause-reads : goal.returns-in_err-sorted-clause-reads
+returns-in_err-sorted-clause-reads g c = unasked _ _ _ c.from_residual.ensures.1
+
+pub returns-clause-reads : goal.returns-clause-reads
+returns-clause-reads g c =
+    follows _ _ _ _ c.totals_in_order.result
+    (λ book v b is. is ∙ ap (λ ns. among ns book) c.deref.ensures.value ∙ in_another_order book c.args.numbers.now c.sort_unstable.new.self.items (subst (λ ns. IsPermutation ns c.sort_unstable.new.self.items) c.in_ok-sorted.ensures.items c.sort_unstable.ensures.permutation)) c.totals_in_order.ensures.reads

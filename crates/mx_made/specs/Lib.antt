@@ -1,0 +1,3 @@
+pub mod Totals
+pub mod Made
+pub mod Releases

@@ -1,0 +1,11 @@
+-- Which rows are made of what a command says.
+use Rattle.std.specs.Prelude.{ℕ, List}
+use Rattle.mx_command.specs.Act.{Act, Entry}
+use Rattle.mx_typed_rows.specs.declared.rows.EntryRow.{EntryRow}
+use Rattle.mx_kept_rows.specs.Changes.{entry_of}
+use Rattle.mx_changes.specs.declared.rows.CommandRows.{CommandRows}
+use Rattle.mx_changes.specs.Rows.{AreCommandRows, IsEntryOf}
+
+-- the rows are those of a command that says this behind the entries of a book, whatever its document is, where the row is that of its entry
+abbrev pub AreRowsOf : Act → EntryRow → List Entry → CommandRows → Type 0
+AreRowsOf act entry book rows = (doc : List ℕ) → IsEntryOf book (entry_of doc act) entry → AreCommandRows book (entry_of doc act) rows

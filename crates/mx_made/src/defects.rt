@@ -1,0 +1,49 @@
+//! The rows of a deferral and of an extension.
+ghost use Rattle.std.specs.Prelude.{◌≡◌};
+ghost use Rattle.sqlite.specs.Held.{state};
+ghost use Rattle.mx_command.specs.Act.{Deferred, Extended};
+ghost use Rattle.mx_typed_rows.specs.Rows.{FitsEntry};
+ghost use Rattle.mx_lookups.specs.Reads.{Reads};
+ghost use Rattle.mx_made.specs.Made.{AreRowsOf};
+
+use crate::numbers::{number_of_aircraft, number_of_defect};
+use crate::totals::totals_of;
+use mx_changes::{CommandRows, deferral_rows, extension_rows};
+use mx_command::{Deferral, Extension};
+use mx_layout::TableFault;
+use mx_typed_rows::EntryRow;
+use sqlite::{Alter, Transaction};
+use std::alloc::Global;
+
+/// The rows of a deferral of a defect of an aircraft. `Damaged` as for its total.
+pub fn rows_of_deferral<S: Alter>(
+    alloc: Global,
+    tx: &mut Transaction<'_, S>,
+    entry: EntryRow,
+    deferral: Deferral,
+) -> Result<CommandRows, TableFault>
+    requires fits { FitsEntry entry }
+    ensures same_reference { tx.new.conn.ghost_name ≡ tx.old.conn.ghost_name }
+    ensures reads { Reads (AreRowsOf (Deferred deferral) entry)
+        (state S.Store tx.old.conn.now) (state S.Store tx.new.conn.now) result }
+{
+    let aircraft = number_of_aircraft(alloc, tx, &deferral.tail)?;
+    let totals = totals_of(alloc, tx, &[aircraft])?;
+    Ok(deferral_rows(alloc, entry, deferral, aircraft, &totals)?)
+}
+
+/// The rows of an extension of the interval of a defect.
+pub fn rows_of_extension<S: Alter>(
+    alloc: Global,
+    tx: &mut Transaction<'_, S>,
+    entry: EntryRow,
+    extension: Extension,
+) -> Result<CommandRows, TableFault>
+    requires fits { FitsEntry entry }
+    ensures same_reference { tx.new.conn.ghost_name ≡ tx.old.conn.ghost_name }
+    ensures reads { Reads (AreRowsOf (Extended extension) entry)
+        (state S.Store tx.old.conn.now) (state S.Store tx.new.conn.now) result }
+{
+    let defect = number_of_defect(alloc, tx, &extension.defect)?;
+    Ok(extension_rows(alloc, entry, extension, defect)?)
+}

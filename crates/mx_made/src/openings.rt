@@ -1,0 +1,31 @@
+//! The rows of an opening.
+ghost use Rattle.std.specs.Prelude.{◌≡◌};
+ghost use Rattle.sqlite.specs.Held.{state};
+ghost use Rattle.mx_command.specs.Act.{Opened};
+ghost use Rattle.mx_typed_rows.specs.Rows.{FitsEntry};
+ghost use Rattle.mx_lookups.specs.Reads.{Reads};
+ghost use Rattle.mx_made.specs.Made.{AreRowsOf};
+
+use crate::numbers::number_of_item;
+use mx_changes::{CommandRows, opening_rows};
+use mx_command::Opening;
+use mx_layout::TableFault;
+use mx_typed_rows::EntryRow;
+use sqlite::{Alter, Transaction};
+use std::alloc::Global;
+
+/// The rows of an opening of a task of an item.
+pub fn rows_of_opening<S: Alter>(
+    alloc: Global,
+    tx: &mut Transaction<'_, S>,
+    entry: EntryRow,
+    opening: Opening,
+) -> Result<CommandRows, TableFault>
+    requires fits { FitsEntry entry }
+    ensures same_reference { tx.new.conn.ghost_name ≡ tx.old.conn.ghost_name }
+    ensures reads { Reads (AreRowsOf (Opened opening) entry)
+        (state S.Store tx.old.conn.now) (state S.Store tx.new.conn.now) result }
+{
+    let item = number_of_item(alloc, tx, &opening.item)?;
+    Ok(opening_rows(alloc, entry, opening, item)?)
+}
