@@ -3,6 +3,7 @@ use Rattle.std.proofs.Common.{◌≡◌, ◌≢◌, ◌⊎◌, inl, inr, true, f
 use Rattle.std.specs.Prelude.{Contains, IfErr, IfOk, MatchResult}
 use Rattle.sqlite.specs.Store.{Ghosts}
 use Rattle.sqlite.specs.Schema.{Schema}
+use Rattle.sqlite.specs.Tree.{Trees}
 use Rattle.sqlite.specs.Effect.{Database}
 use Rattle.sqlite.specs.State.{State, HasCleanDisk, Shows, Survives, IsRolledBack}
 use Rattle.sqlite.specs.Held.{Held, state}
@@ -42,7 +43,7 @@ module _ {S : Type 0} (g : Ghosts S) (old last : Held S) (command : Entry) where
   abbrev begun : Held S
   begun = record old { in_transaction = true }
 
-  abbrev stands : List Entry → _
+  abbrev stands : List Entry → Trees → Type 0
   stands book = λ trees. StandsAt written_point trees book
 
   module _ (end : Held S) where

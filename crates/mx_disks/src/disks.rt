@@ -19,12 +19,13 @@ pub struct MemoryDisks {
     office: Option<Office<Fused>>,
 }
 
-// Whether files that answered so are taken: where a book was made or an office was opened, or could not be, and where a
-// statement or a line of kept rows changed them.
+// Whether files that answered so are taken: where a book was made or an office was opened, or could not be, where a statement
+// or a line of kept rows changed them, and where a step of a move was made.
 fn is_taken(words: &[&str], answer: &Result<String, Unmade>) -> bool {
     match (words, answer) {
         (["make"] | ["make-next"] | ["open"], Ok(_)) => true,
         (["sql", ..] | ["kept", ..], Ok(text)) => text.as_str() == "ok",
+        (["step", ..], Ok(text)) => !text.starts_with("fault "),
         _ => false,
     }
 }
