@@ -1,6 +1,6 @@
 -- What becomes of a command inside a transaction.
 use Rattle.std.proofs.Common.{◌≡◌, ◌⊎◌, inl, inr, true, ℕ, List, ◌+◌, length, Ok, Err, Result, IsTrue, refl, sym, ap, subst, ◌∙◌, arith}
-use Rattle.std.specs.Prelude.{Contains}
+use Rattle.std.specs.Prelude.{Contains, IsErrAnd}
 use Rattle.sqlite.specs.Schema.{Schema}
 use Rattle.sqlite.specs.Effect.{Database}
 use Rattle.sqlite.specs.State.{State, HasCleanDisk}
@@ -122,5 +122,6 @@ module _ (command : Entry) (old mid : State) where
       }
 
 -- a fault that is handed on
-pub handed_on : {V : Type 0} (P : Result V TableFault → Type 0) (e : TableFault) (r : Result V TableFault) → r ≡ Err e → P (Err e) → P r
-handed_on P e r is p = subst P (sym is) p
+pub handed_on : {V : Type 0} (P : Result V TableFault → Type 0) (e : TableFault) (r : Result V TableFault) → IsErrAnd r (λ f. f ≡ e) → P (Err e) → P r
+handed_on P e (Ok v) is p = absurd is
+handed_on P e (Err f) is p = subst (λ fault. P (Err fault)) (sym is) p

@@ -25,8 +25,9 @@ use Rattle.mx_stands.specs.Schemas.{schema_at}
 use Rattle.mx_stands.specs.Stands.{IsEither, RestsAt, StandsAt}
 use Rattle.mx_stands.proofs.SchemaLemmas.{has_tables}
 use Rattle.mx_tables.specs.Calls.{OnDamaged}
+use Rattle.mx_tables.specs.Sets.{GainsRows}
 use Rattle.mx_writing.specs.Commits.{MayWrite}
-use Rattle.mx_writing.specs.Written.{IsSettled, written_point}
+use Rattle.mx_writing.specs.Written.{IsSettled, with_rows, written_point}
 use Rattle.mx_apply.specs.Applies.{Applies, IsNoDamage, Runs, behind}
 
 -- the tables of a file that is settled are in its schema
@@ -162,7 +163,7 @@ module _ {S : Type 0} (g : Ghosts S) (old last : Held S) (command : Entry) where
               record {
                 was_open = opened (late clean);
                 settled = (shown clean).now_is ∙ sym (shown clean).committed_is;
-                gains = λ has rise. subst (λ (d : Database). _) (sym (shown clean).now_is) (it.2 has rise);
+                gains = λ has rise. subst (λ (d : Database). GainsRows (with_rows it.0) (state g old).now d) (sym (shown clean).now_is) (it.2 has rise);
               },
             );
         survives = survives_it;

@@ -1,10 +1,46 @@
+use Rattle.std.proofs.Common.{rules, ◌≡◌, Err, Ok, subst}
+use Rattle.sqlite.specs.Held.{state}
+use Rattle.mx_layout.specs.declared.fault.TableFault.TheVariants.{Store}
+use Rattle.mx_book.specs.declared.verdict.Reply.TheVariants.{Accepted}
+use Rattle.mx_apply.specs.Applies.{Applies, Runs}
+use Rattle.mx_apply.proofs.ApplyLemmas.{handed_on}
+use Rattle.mx_apply.proofs.CommitLemmas.{commits, in_doubt, stops}
 use Rattle.mx_apply.proofs.applying.apply.Goals as goal
 
 pub returns-in_err-seq-clause-applies : goal.returns-in_err-seq-clause-applies
-returns-in_err-seq-clause-applies g c = ?
+returns-in_err-seq-clause-applies g c =
+    let command = c.args.command.now in
+    let old = c.args.conn.now in
+    let last = c.run_command.new.tx.conn.now in
+    let end = c.drop-tx.new.self.0 in
+    let same : end ≡ c.conn-1.given.0 = search rules in
+    let e = c.in_err-seq.field-0.0 in
+    let runs = subst (λ h. Runs command (state g.S.Store h) (state g.S.Store last) (Err e)) c.transaction-tx.ensures.begun c.in_err-seq.ensures.runs in
+    handed_on (λ r. Applies command (state g.S.Store old) (state g.S.Store c.conn-1.given.0) r) e c.from_residual.result c.from_residual.ensures.1
+    (subst (λ h. Applies command (state g.S.Store old) (state g.S.Store h) (Err e)) same (stops g.S.Store old last command end c.drop-tx.ensures.survives c.drop-tx.ensures.undone e runs))
 
 pub returns-in-Ok-clause-applies : goal.returns-in-Ok-clause-applies
-returns-in-Ok-clause-applies g c = ?
+returns-in-Ok-clause-applies g c =
+    let command = c.args.command.now in
+    let old = c.args.conn.now in
+    let last = c.run_command.new.tx.conn.now in
+    let end = c.commit.new.self.0 in
+    let same : end ≡ c.conn-in-Accepted-1.given.0 = search rules in
+    let seq = c.in-Accepted.seq in
+    let said = subst (λ a. Runs command (state g.S.Store c.transaction-tx.result.conn.now) (state g.S.Store last) (Ok a)) c.in-Accepted.is c.in_ok-seq.ensures.runs in
+    let runs = subst (λ h. Runs command (state g.S.Store h) (state g.S.Store last) (Ok (Accepted seq))) c.transaction-tx.ensures.begun said in
+    subst (λ h. Applies command (state g.S.Store old) (state g.S.Store h) (Ok (Accepted seq))) same
+    (commits g.S.Store old last command end seq runs c.commit.ensures.survives g.met.S.Store.settled (λ clean. (c.in-Ok.ensures.ok clean).1))
 
 pub returns-in-Err-clause-applies : goal.returns-in-Err-clause-applies
-returns-in-Err-clause-applies g c = ?
+returns-in-Err-clause-applies g c =
+    let command = c.args.command.now in
+    let old = c.args.conn.now in
+    let last = c.run_command.new.tx.conn.now in
+    let end = c.commit.new.self.0 in
+    let same : end ≡ c.conn-in-Accepted-1.given.0 = search rules in
+    let seq = c.in-Accepted.seq in
+    let said = subst (λ a. Runs command (state g.S.Store c.transaction-tx.result.conn.now) (state g.S.Store last) (Ok a)) c.in-Accepted.is c.in_ok-seq.ensures.runs in
+    let runs = subst (λ h. Runs command (state g.S.Store h) (state g.S.Store last) (Ok (Accepted seq))) c.transaction-tx.ensures.begun said in
+    subst (λ h. Applies command (state g.S.Store old) (state g.S.Store h) (Err Store)) same
+    (in_doubt g.S.Store old last command end seq runs c.commit.ensures.survives)
