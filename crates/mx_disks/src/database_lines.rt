@@ -8,6 +8,7 @@ use mx_entry_lines::{entries_by_rows, is_entry_by_rows};
 use mx_judge_lines::{answer_by_rows, verdict_by_rows};
 use mx_kept_lines::{answer_of_kept_rows, append_table_fault, room};
 use mx_layout::{TableFault, point};
+use mx_move_lines::answer_of_step;
 use sqlite::types::ValueRef;
 use sqlite::{Alter, Connection, Row};
 use std::alloc::{AllocError, Global};
@@ -118,7 +119,7 @@ fn statement_of(alloc: Global, words: &[&str]) -> Result<String, AllocError> {
     Ok(sql)
 }
 
-/// What a database answers to a line: `make`, `make-next`, `point`, `ask QUERY`, `sql STATEMENT`, `judge COMMAND`,
+/// What a database answers to a line: `make`, `make-next`, `point`, `ask QUERY`, `sql STATEMENT`, `step STEP`, `judge COMMAND`,
 /// `entries FROM AT_MOST`, `entry NUMBER COMMAND`, one of kept rows, or one for a list.
 pub(crate) fn answer_of_database<S: Alter>(
     alloc: Global,
@@ -139,6 +140,7 @@ pub(crate) fn answer_of_database<S: Alter>(
             let sql = statement_of(alloc, statement)?;
             Ok(changed(alloc, conn, sql.as_str())?)
         }
+        ["step", step @ ..] => answer_of_step(alloc, conn, step),
         ["kept", line @ ..] => answer_of_kept_rows(alloc, conn, line),
         ["judge", command @ ..] => verdict_by_rows(alloc, conn, command),
         ["rows", question @ ..] => answer_by_rows(alloc, conn, question),

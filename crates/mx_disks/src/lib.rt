@@ -4,6 +4,7 @@
 //! - `make`, `make-next`: makes an empty book of layout 1, of layout 2;
 //! - `point`: the layout, step and mark that it is at;
 //! - `ask QUERY`, `sql STATEMENT`: the rows of a query; a statement that changes the files;
+//! - `step` before a line of `mx_move_lines`, whose head lists them: a step of the move to layout 2;
 //! - `open`: opens the office.
 //!
 //! Lines over a database of layout 2: `kept` before a line of `mx_kept_lines`, whose head lists them, over kept rows; `judge COMMAND`,
