@@ -1,0 +1,4 @@
+pub mod Bases
+pub mod Merging
+pub mod Spans
+pub mod Verified

@@ -1,0 +1,13 @@
+//! Whether rows are those of a book: the book that the registers give, beside maps, and the kept rows that it gives.
+#![tactic(auto)]
+
+pub mod bases;
+pub mod laws;
+pub mod merged;
+pub mod same;
+pub mod spans;
+pub mod totals;
+pub mod verified;
+
+pub use merged::{NoBook, merge_beside_maps};
+pub use verified::{FileRows, Unverified, verify_rows};
