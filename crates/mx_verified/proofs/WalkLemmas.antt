@@ -1,7 +1,8 @@
 -- A walk through fittings from the last, which takes the removals behind each into a map.
-use Rattle.std.proofs.Common.{◌≡◌, ◌⊎◌, inl, inr, ℕ, ◌+◌, ◌≤◌, ◌<◌, Bool, true, false, cond, ◌&&◌, List, [], ◌∷◌, ◌++◌, map, reverse, Option, Some, None, refl, sym, ap, subst, ◌∙◌, arith, append_assoc, append-nil, nat_eq}
+use Rattle.std.proofs.Common.{◌≡◌, ◌⊎◌, inl, inr, ℕ, ◌+◌, ◌≤◌, ◌<◌, Bool, true, false, cond, ◌&&◌, List, [], ◌∷◌, ◌++◌, length, map, reverse, Option, Some, None, refl, sym, ap, subst, ◌∙◌, arith, append_assoc, append-nil, nat_eq}
 use Rattle.std.specs.Prelude.{find, nat_lt}
-use Rattle.std.specs.BTreeMap.{BTreeMap, get}
+use Rattle.std.specs.BTreeMap.{BTreeMap, get, is_at, IsEmpty}
+use Rattle.std.specs.Map.{lookup}
 use Rattle.std.specs.List.{AllByRecursion}
 use Rattle.std.specs.Option.{option_or}
 use Rattle.std.specs.Ordering.{nat_cmp}
@@ -52,7 +53,7 @@ weaker : (low high : ℕ) (rows : List RemovalRow) → low ≤ high → AllByRec
 weaker low high [] h all = tt
 weaker low high (row ∷ rows) h all = (omega (arith, h, all.0), weaker low high rows h all.1)
 
-pub starts : (fittings : List FittingRow) (removals : List RemovalRow) (ends : BTreeMap ℕ RemovalRow) (made : List SpanRow) (high : ℕ) → made ≡ [] → ((component : ℕ) → get nat_cmp ends component ≡ None)
+pub starts : (fittings : List FittingRow) (removals : List RemovalRow) (ends : BTreeMap ℕ RemovalRow) (made : List SpanRow) (high : ℕ) → made ≡ [] → IsEmpty ends
     → IsRising (λ (row : FittingRow). row.seq) 0 fittings high → IsRising (λ (row : RemovalRow). row.seq) 0 removals high → Walks fittings removals fittings removals ends made
 starts fittings removals ends made high none empty up late = record {
   later = [];
@@ -62,7 +63,7 @@ starts fittings removals ends made high none empty up late = record {
   fittings_are = sym (append-nil fittings);
   removals_are = sym (append-nil removals);
   made_are = ap reverse none;
-  ends_are = empty;
+  ends_are = λ component. ap (lookup (is_at (nat_cmp component))) empty;
   rest_rises = up;
   left_rises = late;
   behind = tt;
@@ -145,6 +146,10 @@ makes fittings removals rest earlier fitting left ends made made' rest_is before
       behind = weaker fitting.seq w.high w.taken (omega arith) w.behind;
     }
 
+no_rows : (rows : List FittingRow) → length rows ≡ 0 → rows ≡ []
+no_rows [] h = refl
+no_rows (row ∷ rows) h = absurd (omega arith)
+
 -- behind the first fitting all spans are made
-pub walked : (fittings : List FittingRow) (removals : List RemovalRow) (rest : List FittingRow) (left : List RemovalRow) (ends : BTreeMap ℕ RemovalRow) (made : List SpanRow) → rest ≡ [] → Walks fittings removals rest left ends made → reverse made ≡ spans_made fittings removals
-walked fittings removals rest left ends made none w = w.made_are ∙ ap (map (span_made removals)) (sym (w.fittings_are ∙ ap (λ rows. rows ++ w.later) none))
+pub walked : (fittings : List FittingRow) (removals : List RemovalRow) (rest : List FittingRow) (left : List RemovalRow) (ends : BTreeMap ℕ RemovalRow) (made : List SpanRow) → length rest ≡ 0 → Walks fittings removals rest left ends made → reverse made ≡ spans_made fittings removals
+walked fittings removals rest left ends made none w = w.made_are ∙ ap (map (span_made removals)) (sym (w.fittings_are ∙ ap (λ rows. rows ++ w.later) (no_rows rest none)))
