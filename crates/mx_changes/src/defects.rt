@@ -1,5 +1,5 @@
 //! The rows of a deferral and of an extension.
-ghost use Rattle.std.specs.Prelude.{◌≡◌, ℕ, List, [], ◌∷◌, IfOk};
+ghost use Rattle.std.specs.Prelude.{◌≡◌, ℕ, List, IfOk};
 ghost use Rattle.mx_command.specs.Act.{Deferred, Entry, Extended};
 ghost use Rattle.mx_typed_rows.specs.Rows.{FitsEntry};
 ghost use Rattle.mx_register.specs.Names.{or_zero, seq_of_defect};
@@ -9,35 +9,35 @@ ghost use Rattle.mx_changes.specs.Rows.{AreCommandRows, IsEntryOf, totals_before
 
 use crate::plain::{none_added, none_changed};
 use crate::rows::CommandRows;
-use crate::totals::clocked;
+use crate::totals::clocked_totals;
 use mx_command::{Category, Deferral, Extension};
 use mx_register::{deferral_row, extension_row};
 use mx_typed_rows::{EntryRow, TotalRow};
 use std::alloc::{AllocError, Global};
 
-/// The rows of a deferral, by the number of its aircraft, and by the total of that, as it is.
+/// The rows of a deferral, by the number of its aircraft, and by the totals that it touches, as they are: that of its aircraft.
 pub fn deferral_rows(
     alloc: Global,
     entry: EntryRow,
     deferral: Deferral,
     aircraft: u32,
-    total: TotalRow,
+    totals: &[TotalRow],
 ) -> Result<CommandRows, AllocError>
     requires fits { FitsEntry entry }
     ensures { IfOk result (λ rows. (book : List Entry) (doc : List ℕ)
         → IsEntryOf book (entry_of doc (Deferred deferral)) entry
         → aircraft ≡ number_of_tail book deferral.tail
-        → total ∷ [] ≡ totals_before book (Deferred deferral)
+        → totals.now ≡ totals_before book (Deferred deferral)
         → AreCommandRows book (entry_of doc (Deferred deferral)) rows) }
 {
     // The checker proves this function only where the type of each field of a row is named in it.
     let _: Option<Category> = None;
-    let behind = clocked(total, deferral.moment);
+    let behind = clocked_totals(alloc, totals, deferral.moment)?;
     let row = deferral_row(entry.seq, aircraft, deferral);
     let mut added = none_added(alloc);
     let mut changed = none_changed(alloc);
+    changed.totals = behind;
     added.deferrals.push(row)?;
-    changed.totals.push(behind)?;
     Ok(CommandRows {
         entry,
         changed,

@@ -1,5 +1,5 @@
 //! The rows of a fitting and of a removal.
-ghost use Rattle.std.specs.Prelude.{◌≡◌, ℕ, List, [], ◌∷◌, IfOk};
+ghost use Rattle.std.specs.Prelude.{◌≡◌, ℕ, List, map, All, IfOk};
 ghost use Rattle.mx_command.specs.Act.{Entry, Fitted, Removed};
 ghost use Rattle.mx_typed_rows.specs.Rows.{FitsEntry, FitsSpan};
 ghost use Rattle.mx_kept_rows.specs.Changes.{entry_of};
@@ -86,29 +86,46 @@ pub fn fitting_rows(
     })
 }
 
-/// The rows of a removal, by the open span of its component, and by the totals of the component and of the aircraft that
-/// it is fitted to, as they are.
+// Spans, ended by the entry with a number at a moment.
+fn spans_ended(
+    alloc: Global,
+    spans: &[SpanRow],
+    seq: u32,
+    to: Moment,
+) -> Result<Vec<SpanRow>, AllocError>
+    ensures rows { IfOk result (λ rows. rows.items ≡ map (span_removed seq to) spans.now) }
+    ensures fits { IfOk result (λ rows. All FitsSpan rows.items) }
+{
+    let mut rows = Vec::new(alloc);
+    'spans: for span in spans {
+        rows.push(span_ended(*span, seq, to))?;
+    }
+    Ok(rows)
+}
+
+/// The rows of a removal, by the open spans of its component, of which there is one, and by the totals of the component and of
+/// the aircraft that it is fitted to, as they are.
 pub fn removal_rows(
     alloc: Global,
     entry: EntryRow,
     removal: Removal,
-    span: SpanRow,
+    spans: &[SpanRow],
     totals: &[TotalRow],
 ) -> Result<CommandRows, AllocError>
     requires fits { FitsEntry entry }
     ensures { IfOk result (λ rows. (book : List Entry) (doc : List ℕ)
         → IsEntryOf book (entry_of doc (Removed removal)) entry
-        → span ∷ [] ≡ spans_open_of book (Removed removal)
+        → spans.now ≡ spans_open_of book (Removed removal)
         → totals.now ≡ totals_before book (Removed removal)
         → AreCommandRows book (entry_of doc (Removed removal)) rows) }
 {
     // The checker proves this function only where the type of each field of a row is named in it.
     let _: Option<Moment> = None;
-    let ended = span_ended(span, entry.seq, removal.moment);
+    let ended = spans_ended(alloc, spans, entry.seq, removal.moment)?;
     let behind = clocked_totals(alloc, totals, removal.moment)?;
     let mut changed = none_changed(alloc);
     changed.totals = behind;
-    changed.spans.push(ended)?;
+    changed.spans = ended;
     Ok(CommandRows {
         entry,
         changed,

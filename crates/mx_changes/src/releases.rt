@@ -1,5 +1,5 @@
 //! The rows of a release.
-ghost use Rattle.std.specs.Prelude.{◌≡◌, ◌≤◌, ℕ, List, [], ◌∷◌, length, All, IfOk};
+ghost use Rattle.std.specs.Prelude.{◌≡◌, ◌≤◌, ℕ, List, length, All, IfOk};
 ghost use Rattle.std.specs.List.{filter_map};
 ghost use Rattle.mx_command.specs.Act.{Entry, Released};
 ghost use Rattle.mx_command.specs.declared.release.Line.{Line};
@@ -14,7 +14,7 @@ ghost use Rattle.mx_changes.specs.Rows.{AreCommandRows, IsEntryOf, totals_before
 
 use crate::plain::{none_added, none_changed};
 use crate::rows::CommandRows;
-use crate::totals::clocked;
+use crate::totals::clocked_totals;
 use mx_base::{Day, Limit, TaskId, Use, day_of};
 use mx_command::Release;
 use mx_due::base_done;
@@ -121,15 +121,15 @@ fn base_rows(alloc: Global, day: Day, lines: &[Certified]) -> Result<Vec<BaseRow
     Ok(rows)
 }
 
-/// The rows of a release, by the number of its place, by what is known of its lines, and by the total of its place, as it
-/// is.
+/// The rows of a release, by the number of its place, by what is known of its lines, and by the totals that it touches, as they
+/// are: that of its place.
 pub fn release_rows(
     alloc: Global,
     entry: EntryRow,
     release: Release,
     item: u32,
     lines: &[Certified],
-    total: TotalRow,
+    totals: &[TotalRow],
 ) -> Result<CommandRows, AllocError>
     requires fits { FitsEntry entry }
     requires few { length lines.now ≤ MOST_LINES }
@@ -138,10 +138,10 @@ pub fn release_rows(
         → IsEntryOf book (entry_of doc (Released release certified)) entry
         → item ≡ number_of_place book release.place
         → AreKnownOf book release certified lines.now
-        → total ∷ [] ≡ totals_before book (Released release certified)
+        → totals.now ≡ totals_before book (Released release certified)
         → AreCommandRows book (entry_of doc (Released release certified)) rows) }
 {
-    let behind = clocked(total, release.moment);
+    let behind = clocked_totals(alloc, totals, release.moment)?;
     let line_rows = line_rows(alloc, entry.seq, lines)?;
     let bases = base_rows(alloc, day_of(release.moment), lines)?;
     let row = release_row(entry.seq, item, release);
@@ -149,8 +149,8 @@ pub fn release_rows(
     let mut changed = none_changed(alloc);
     added.release_lines = line_rows;
     changed.bases = bases;
+    changed.totals = behind;
     added.releases.push(row)?;
-    changed.totals.push(behind)?;
     Ok(CommandRows {
         entry,
         changed,

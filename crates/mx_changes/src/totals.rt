@@ -21,7 +21,7 @@ fn later(one: Moment, other: Moment) -> Moment
 }
 
 // The total of an item to which a moment is given.
-pub(crate) fn clocked(row: TotalRow, moment: Moment) -> TotalRow
+fn clocked(row: TotalRow, moment: Moment) -> TotalRow
     ensures row { result ≡ total_clocked moment row }
     ensures fits { FitsTotal result }
 {

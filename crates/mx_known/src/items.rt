@@ -30,7 +30,8 @@ fn is_aircraft_row<S: Alter>(
     aircraft: Aircraft,
 ) -> Result<bool, TableFault>
     ensures same_reference { tx.new.conn.ghost_name ≡ tx.old.conn.ghost_name }
-    ensures reads { Reads (TellsRows registers.aircraft seq (λ book. aircraft_row seq aircraft ∷ []))
+    ensures reads { Reads
+        (TellsRows registers.aircraft seq (λ book. aircraft_row seq aircraft ∷ []))
         (state S.Store tx.old.conn.now) (state S.Store tx.new.conn.now) result }
     ensures any_rows { ReadsAny (AreRows kept_aircraft seq (aircraft_row seq aircraft ∷ []))
         (state S.Store tx.old.conn.now) (state S.Store tx.new.conn.now) result }
@@ -49,7 +50,8 @@ fn are_positions<S: Alter>(
 ) -> Result<bool, TableFault>
     requires { length positions.now ≤ MOST_POSITIONS }
     ensures same_reference { tx.new.conn.ghost_name ≡ tx.old.conn.ghost_name }
-    ensures reads { Reads (TellsRows registers.places seq (λ book. lines_from place_row seq 1 positions.now))
+    ensures reads { Reads
+        (TellsRows registers.places seq (λ book. lines_from place_row seq 1 positions.now))
         (state S.Store tx.old.conn.now) (state S.Store tx.new.conn.now) result }
     ensures any_rows { ReadsAny (AreRows kept_place seq (lines_from place_row seq 1 positions.now))
         (state S.Store tx.old.conn.now) (state S.Store tx.new.conn.now) result }

@@ -111,7 +111,8 @@ fn are_lines<S: Alter>(
 ) -> Result<bool, TableFault>
     requires { length lines.now ≤ MOST_LINES }
     ensures same_reference { tx.new.conn.ghost_name ≡ tx.old.conn.ghost_name }
-    ensures reads { Reads (TellsRows registers.release_lines seq (λ book. lines_from (release_line_row book) seq 1 lines.now))
+    ensures reads { Reads (TellsRows registers.release_lines seq
+        (λ book. lines_from (release_line_row book) seq 1 lines.now))
         (state S.Store tx.old.conn.now) (state S.Store tx.new.conn.now) result }
     ensures any_rows { ReadsAny (AreLines seq lines.now)
         (state S.Store tx.old.conn.now) (state S.Store tx.new.conn.now) result }

@@ -35,7 +35,8 @@ fn is_programme_row<S: Alter>(
     programme: Programme,
 ) -> Result<bool, TableFault>
     ensures same_reference { tx.new.conn.ghost_name ≡ tx.old.conn.ghost_name }
-    ensures reads { Reads (TellsRows registers.programmes seq (λ book. programme_row seq programme ∷ []))
+    ensures reads { Reads
+        (TellsRows registers.programmes seq (λ book. programme_row seq programme ∷ []))
         (state S.Store tx.old.conn.now) (state S.Store tx.new.conn.now) result }
     ensures any_rows { ReadsAny (AreRows kept_programme seq (programme_row seq programme ∷ []))
         (state S.Store tx.old.conn.now) (state S.Store tx.new.conn.now) result }
@@ -54,7 +55,8 @@ fn are_tasks<S: Alter>(
 ) -> Result<bool, TableFault>
     requires { length tasks.now ≤ MOST_TASKS }
     ensures same_reference { tx.new.conn.ghost_name ≡ tx.old.conn.ghost_name }
-    ensures reads { Reads (TellsRows registers.tasks seq (λ book. lines_from task_row seq 1 tasks.now))
+    ensures reads { Reads
+        (TellsRows registers.tasks seq (λ book. lines_from task_row seq 1 tasks.now))
         (state S.Store tx.old.conn.now) (state S.Store tx.new.conn.now) result }
     ensures any_rows { ReadsAny (AreRows kept_task seq (lines_from task_row seq 1 tasks.now))
         (state S.Store tx.old.conn.now) (state S.Store tx.new.conn.now) result }

@@ -13,7 +13,7 @@ use Rattle.mx_layout.specs.declared.fault.Table.TheVariants as table
 use Rattle.mx_layout.specs.Contents.{rows_in}
 use Rattle.mx_layout.specs.Names.{table_named}
 use Rattle.mx_layout.specs.Reading.{HasOther}
-use Rattle.mx_kept.specs.Cells.{kept_base2, kept_programme, kept_task}
+use Rattle.mx_kept.specs.Cells.{kept_base2, kept_programme, kept_task, kept_total2}
 use Rattle.mx_kept.specs.Family.{IsReadable}
 use Rattle.mx_kept.specs.Kept.{Kept}
 use Rattle.mx_chosen.specs.Choices.{has_value, is_any}
@@ -65,10 +65,11 @@ HasRow {X} k Is trees = (x : X) × IsKept k trees x × Is x
 abbrev pub IsUncounted : TableName → Trees → Type 0
 IsUncounted name trees = 2 ^ 32 ≤ length (rows_in (table_named name) trees)
 
--- a programme has the last revision of 32 bits, a task lacks its shape, a last base is past a life, or there are more aircraft or components than 32 bits count
+-- a programme has the last revision of 32 bits, a task lacks its shape, a total or a last base is past a life, or there are more aircraft or components than 32 bits count
 abbrev pub IsPast : TableName → Trees → Type 0
 IsPast table.Programme = HasRow kept_programme (λ row. 2 ^ 32 ≤ row.revision + 1)
 IsPast table.Task = HasRow kept_task (λ row. task_shape (task_said row) ≡ false)
+IsPast table.Total2 = HasRow kept_total2 (λ row. ¬ IsLife row.life)
 IsPast table.Base2 = HasRow kept_base2 (λ row. ¬ IsLife row.life)
 IsPast table.Aircraft = IsUncounted table.Aircraft
 IsPast table.Component = IsUncounted table.Component

@@ -16,8 +16,8 @@ pub use mx_typed_rows::{
     SectorRow, SpanRow, TaskRow, TotalRow,
 };
 pub use names::{
-    added_item, document_of_defect, item_of_entry, or_zero, seq_of_defect, seq_of_item, seq_of_place,
-    seq_of_serial, seq_of_tail, serial_of_component, tail_of_aircraft,
+    added_item, document_of_defect, item_of_entry, or_zero, seq_of_defect, seq_of_item,
+    seq_of_place, seq_of_serial, seq_of_tail, serial_of_component, tail_of_aircraft,
 };
 pub use registers::{
     aircraft_row, component_row, deferral_row, entry_row, extension_row, fitting_row, opening_row,

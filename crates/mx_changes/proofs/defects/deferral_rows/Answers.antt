@@ -9,7 +9,7 @@ use Rattle.mx_changes.specs.Kept.{total_clocked}
 use Rattle.mx_kept_rows.specs.Spans.{span_ended, span_rows, spans_opened}
 use Rattle.mx_kept_rows.specs.Totals.{totals_opened}
 use Rattle.mx_changes.specs.Rows.{FitsHeld, sectors_held_by, spans_touched, totals_touched}
-use Rattle.mx_changes.proofs.AddedLemmas.{nothing, one}
+use Rattle.mx_changes.proofs.AddedLemmas.{nothing, one, these}
 use Rattle.mx_changes.proofs.TouchLemmas.{clocked_are, none_pass}
 use Rattle.mx_changes.proofs.defects.deferral_rows.Goals as goal
 
@@ -40,7 +40,7 @@ returns c book doc own aircraft touched =
       };
       changed = record {
         spans = nothing FitsSpan spans_touched book e same.spans (ap (map (span_ended book act)) (none_pass (span_rows book)));
-        totals = one FitsTotal totals_touched book e c.in_ok-push-2.ensures.items same.totals (ap (λ row. row ∷ []) c.clocked-behind.ensures.row ∙ ap (map (total_clocked c.args.deferral.moment)) touched ∙ clocked_are book act c.args.deferral.moment (λ row. refl)) c.clocked-behind.ensures.fits;
+        totals = these FitsTotal totals_touched book e (c.in_ok-behind.ensures.rows ∙ ap (map (total_clocked c.args.deferral.moment)) touched ∙ clocked_are book act c.args.deferral.moment (λ row. refl)) c.in_ok-behind.ensures.fits;
         bases = nothing FitsBase bases_by book e same.bases refl;
       };
     }

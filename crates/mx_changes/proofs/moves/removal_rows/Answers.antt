@@ -8,7 +8,7 @@ use Rattle.mx_kept_rows.specs.Changes.{entry_of}
 use Rattle.mx_kept_rows.specs.Spans.{spans_opened}
 use Rattle.mx_kept_rows.specs.Totals.{totals_opened}
 use Rattle.mx_changes.specs.Rows.{FitsHeld, sectors_held_by, spans_touched, totals_touched}
-use Rattle.mx_changes.proofs.AddedLemmas.{nothing, one, these}
+use Rattle.mx_changes.proofs.AddedLemmas.{nothing, these}
 use Rattle.mx_changes.proofs.TouchLemmas.{clocked_are, ended_are}
 use Rattle.mx_changes.specs.Kept.{span_removed, total_clocked}
 use Rattle.mx_changes.proofs.moves.removal_rows.Goals as goal
@@ -39,7 +39,7 @@ returns c book doc own opened touched =
         totals = nothing FitsTotal totals_opened book e no.totals refl;
       };
       changed = record {
-        spans = one FitsSpan spans_touched book e c.in_ok-push.ensures.items same.spans (ap (λ row. row ∷ []) (c.span_ended-ended.ensures.row ∙ ap (λ (n : ℕ). span_removed n c.args.removal.moment c.args.span) seq) ∙ ap (map (span_removed (next book) c.args.removal.moment)) opened ∙ ended_are book c.args.removal) c.span_ended-ended.ensures.fits;
+        spans = these FitsSpan spans_touched book e (c.in_ok-ended.ensures.rows ∙ ap (λ (n : ℕ). map (span_removed n c.args.removal.moment) c.args.spans.now) seq ∙ ap (map (span_removed (next book) c.args.removal.moment)) opened ∙ ended_are book c.args.removal) c.in_ok-ended.ensures.fits;
         totals = these FitsTotal totals_touched book e (c.in_ok-behind.ensures.rows ∙ ap (map (total_clocked c.args.removal.moment)) touched ∙ clocked_are book act c.args.removal.moment (λ row. refl)) c.in_ok-behind.ensures.fits;
         bases = nothing FitsBase bases_by book e same.bases refl;
       };

@@ -44,7 +44,7 @@ returns c book doc certified own item known touched =
       };
       changed = record {
         spans = nothing FitsSpan spans_touched book e same.spans (ap (map (span_ended book act)) (none_pass (span_rows book)));
-        totals = one FitsTotal totals_touched book e c.in_ok-push-2.ensures.items same.totals (ap (λ row. row ∷ []) c.clocked-behind.ensures.row ∙ ap (map (total_clocked c.args.release.moment)) touched ∙ clocked_are book act c.args.release.moment (λ row. refl)) c.clocked-behind.ensures.fits;
+        totals = these FitsTotal totals_touched book e (c.in_ok-behind.ensures.rows ∙ ap (map (total_clocked c.args.release.moment)) touched ∙ clocked_are book act c.args.release.moment (λ row. refl)) c.in_ok-behind.ensures.fits;
         bases = these FitsBase bases_by book e (c.in_ok-bases.ensures.rows ∙ ap (λ (day : ℕ). filter_map (base_made day) c.args.lines.now) c.day_of.ensures ∙ bases_same book c.args.release certified c.args.lines.now known) c.in_ok-bases.ensures.fits;
       };
     }

@@ -1,0 +1,11 @@
+use Rattle.std.proofs.Common.{◌≡◌, take, map, All}
+use Rattle.mx_typed_rows.specs.Rows.{FitsSpan}
+use Rattle.mx_changes.specs.Kept.{span_removed}
+use Rattle.mx_changes.proofs.moves.spans_ended.Given as goal
+
+-- the spans so far are those of the first of these
+abbrev pub invariant-spans : goal.invariant-spans
+invariant-spans l = record {
+  rows : l.rows.items ≡ map (span_removed l.seq l.to) (take l.span-index l.spans);
+  fits : All FitsSpan l.rows.items;
+}
