@@ -5,3 +5,4 @@ pub mod TotalLemmas
 pub mod BaseLemmas
 pub mod KeyLemmas
 pub mod SortLemmas
+pub mod TableLemmas

@@ -134,3 +134,18 @@ made_more book e b shape new made =
 -- the spans of a book are those that its fittings and removals make
 pub span_rows_made : (book : List Entry) → IsBook book → span_rows book ≡ spans_made (fitting_rows book) (removal_rows book)
 span_rows_made book b = of_each_book Made made_more refl book b
+
+from_zero : {Row : Type 0} (key : Row → ℕ) (high : ℕ) (rows : List Row) → IsRising key 1 rows high → IsRising key 0 rows high
+from_zero key high [] up = omega arith
+from_zero key high (row ∷ rows) up = (omega arith, up.1)
+
+-- what was made of fittings and removals that are those of a book are its spans
+pub made_right : (book : List Entry) (fittings : List FittingRow) (removals : List RemovalRow) (made : List SpanRow) → IsBook book → fittings ≡ fitting_rows book → removals ≡ removal_rows book
+    → ((high : ℕ) → IsRising (λ (row : FittingRow). row.seq) 0 fittings high → IsRising (λ (row : RemovalRow). row.seq) 0 removals high → made ≡ spans_made fittings removals) → made ≡ span_rows book
+made_right book fittings removals made is f r given =
+    given (next book)
+    (subst (λ (rows : List FittingRow). IsRising (λ (row : FittingRow). row.seq) 0 rows (next book)) (sym f) (from_zero (λ (row : FittingRow). row.seq) (next book) (fitting_rows book) (fitting_rows-rising book is.shaped)))
+    (subst (λ (rows : List RemovalRow). IsRising (λ (row : RemovalRow). row.seq) 0 rows (next book)) (sym r) (from_zero (λ (row : RemovalRow). row.seq) (next book) (removal_rows book) (removal_rows-rising book is.shaped)))
+    ∙ ap (λ rows. spans_made rows removals) f
+    ∙ ap (spans_made (fitting_rows book)) r
+    ∙ sym (span_rows_made book is)

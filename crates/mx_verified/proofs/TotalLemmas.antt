@@ -1,5 +1,5 @@
 -- The items of a book, entry after entry.
-use Rattle.std.proofs.Common.{◌≡◌, ℕ, ◌+◌, List, [], ◌∷◌, ◌++◌, length, map, Option, Some, None, refl, sym, ap, ◌∙◌, arith, length-append}
+use Rattle.std.proofs.Common.{◌≡◌, ℕ, ◌+◌, List, [], ◌∷◌, ◌++◌, length, map, Option, Some, None, refl, sym, ap, ◌∙◌, arith, append-nil, length-append}
 use Rattle.std.specs.List.{cons_option}
 use Rattle.std.specs.Option.{option_map}
 use Rattle.mx_command.specs.Act.{Act, Entry}
@@ -31,3 +31,8 @@ from_each book before (entry ∷ later) =
 -- those of all entries are the totals of the book
 pub all_totals : (book : List Entry) → totals_from book 1 book ≡ total_rows book
 all_totals book = from_each book [] book
+
+-- behind the last entry those so far are all
+pub ends : (book rest : List Entry) (seq : ℕ) (rows : List TotalRow) → length rest ≡ 0 → rows ++ totals_from book seq rest ≡ totals_from book 1 book → rows ≡ total_rows book
+ends book [] seq rows none h = sym (append-nil rows) ∙ h ∙ all_totals book
+ends book (entry ∷ rest) seq rows none h = absurd (omega arith)

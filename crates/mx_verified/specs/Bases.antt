@@ -59,3 +59,11 @@ key_cmp a b = ordering_then (nat_cmp a.0 b.0) (slice_cmp nat_cmp a.1 b.1)
 -- the map has of which tasks of which items there are rows
 abbrev pub AreKeys : List BaseRow → BTreeMap (ℕ × List ℕ) Bool → Type 0
 AreKeys rows keys = (number : ℕ) (id : List ℕ) → held key_cmp false keys (number, id) ≡ has_key number id rows
+
+-- the map has the task that an opening states
+abbrev pub has_stated : BTreeMap (ℕ × List ℕ) Bool → OpeningRow → Bool
+has_stated keys row = held key_cmp false keys (row.item, row.task)
+
+-- the map has the task that a line certifies, if it certifies one
+abbrev pub has_certified : BTreeMap (ℕ × List ℕ) Bool → ReleaseLineRow → Bool
+has_certified keys row = option_map_or (λ item. option_map_or (λ task. held key_cmp false keys (item, task)) row.task true) row.item true

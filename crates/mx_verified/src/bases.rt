@@ -1,13 +1,11 @@
 //! Rows of last bases, and whether they are those that a book beside its maps gives.
-ghost use Rattle.std.specs.Prelude.{◌≡◌, ◌&&◌, true, IfOk, MatchOption, IsPermutation};
+ghost use Rattle.std.specs.Prelude.{◌≡◌, IfOk, MatchOption, IsPermutation};
 ghost use Rattle.std.specs.Bool.{Decides};
 ghost use Rattle.std.specs.List.{list_all};
-ghost use Rattle.mx_book.specs.Book.{IsBook};
 ghost use Rattle.mx_typed_rows.specs.Rows.{base_in_row};
 ghost use Rattle.mx_register.specs.Registers.{opening_rows, release_line_rows};
 ghost use Rattle.mx_kept_rows.specs.Bases.{AreKeyedOnce, base_rows};
-ghost use Rattle.mx_indexed.specs.Maps.{held};
-ghost use Rattle.mx_verified.specs.Bases.{AreKeys, has_key, is_certified_in, is_last_base, is_stated_in, key_cmp, same_base};
+ghost use Rattle.mx_verified.specs.Bases.{AreKeys, has_certified, has_stated, is_last_base, same_base};
 
 use mx_base::{Base, TaskId};
 use mx_book::NoMemory;
@@ -79,16 +77,16 @@ fn keys_of(
     Ok(Some(keys))
 }
 
-// Whether the task that an opening states has a row.
+// Whether a map has the task that an opening states.
 fn is_stated(keys: &BTreeMap<(u32, TaskId), bool>, row: &OpeningRow) -> bool
-    ensures { (rows : _) → AreKeys rows keys.now → result ≡ is_stated_in rows row.now }
+    ensures { result ≡ has_stated keys.now row.now }
 {
     held(keys, &(row.item, row.task), false)
 }
 
-// Whether the task that a line certifies, if it certifies one, has a row.
+// Whether a map has the task that a line certifies, if it certifies one.
 fn is_certified(keys: &BTreeMap<(u32, TaskId), bool>, row: &ReleaseLineRow) -> bool
-    ensures { (rows : _) → AreKeys rows keys.now → result ≡ is_certified_in rows row.now }
+    ensures { result ≡ has_certified keys.now row.now }
 {
     match row.item {
         None => true,
@@ -99,18 +97,18 @@ fn is_certified(keys: &BTreeMap<(u32, TaskId), bool>, row: &ReleaseLineRow) -> b
     }
 }
 
-// Whether all tasks that openings state and lines certify have a row.
-fn are_there(
-    keys: &BTreeMap<(u32, TaskId), bool>,
-    openings: &[OpeningRow],
-    lines: &[ReleaseLineRow],
-) -> bool
-    ensures { (rows : _) → AreKeys rows keys.now
-        → result ≡ list_all (is_stated_in rows) openings.now
-        && list_all (is_certified_in rows) lines.now }
+// Whether a map has all tasks that openings state.
+fn are_stated(keys: &BTreeMap<(u32, TaskId), bool>, openings: &[OpeningRow]) -> bool
+    ensures { result ≡ list_all (has_stated keys.now) openings.now }
 {
     openings.iter().all(|row| is_stated(keys, row))
-        && lines.iter().all(|row| is_certified(keys, row))
+}
+
+// Whether a map has all tasks that lines certify.
+fn are_certified(keys: &BTreeMap<(u32, TaskId), bool>, lines: &[ReleaseLineRow]) -> bool
+    ensures { result ≡ list_all (has_certified keys.now) lines.now }
+{
+    lines.iter().all(|row| is_certified(keys, row))
 }
 
 /// Whether rows are, in any order, the last bases of a book whose openings and lines of releases these are. `NoMemory`
@@ -129,5 +127,8 @@ pub fn are_bases(
     let Some(keys) = keys_of(alloc, rows)? else {
         return Ok(false);
     };
-    Ok(are_last_bases(book, rows) && are_there(&keys, openings, lines))
+    let right = are_last_bases(book, rows);
+    let stated = are_stated(&keys, openings);
+    let certified = are_certified(&keys, lines);
+    Ok(right && stated && certified)
 }

@@ -5,9 +5,12 @@ pub mod bases;
 pub mod laws;
 pub mod merged;
 pub mod same;
+pub mod sorted;
 pub mod spans;
+pub mod tables;
 pub mod totals;
 pub mod verified;
 
 pub use merged::{NoBook, merge_beside_maps};
+pub use tables::verify_tables;
 pub use verified::{FileRows, Unverified, verify_rows};

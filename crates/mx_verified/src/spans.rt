@@ -1,11 +1,13 @@
 //! Spans, and the fittings and removals that they stand for.
-ghost use Rattle.std.specs.Prelude.{◌≡◌, ℕ, IfOk, OnOk, IsPermutation, map};
+ghost use Rattle.std.specs.Prelude.{◌≡◌, ℕ, IfOk, OnOk, map};
 ghost use Rattle.std.specs.List.{filter_map};
 ghost use Rattle.std.specs.Option.{option_copied, option_map};
-ghost use Rattle.mx_typed_rows.specs.Rising.{IsFrom, IsRising};
+ghost use Rattle.mx_typed_rows.specs.Rising.{IsRising};
 ghost use Rattle.mx_kept_rows.specs.Spans.{fitting_in, removal_in};
+ghost use Rattle.mx_verified.specs.Sorted.{ArePut};
 ghost use Rattle.mx_verified.specs.Spans.{HasPut, IsLastBehind, span_by, spans_made};
 
+use crate::sorted::sort_rows;
 use mx_book::NoMemory;
 use mx_typed_rows::{FittingRow, RemovalRow, SpanRow};
 use std::alloc::Global;
@@ -77,15 +79,12 @@ fn removals_of(alloc: Global, spans: &[SpanRow]) -> Result<Vec<RemovalRow>, NoMe
 
 /// The removals that end spans, in the order of their numbers.
 pub fn removals_in(alloc: Global, spans: &[SpanRow]) -> Result<Vec<RemovalRow>, NoMemory>
-    ensures same { IfOk result (λ removals.
-        IsPermutation (filter_map removal_in spans.now) removals.items) }
-    ensures order { IfOk result (λ removals. IsFrom (λ row. row.seq) 0 removals.items) }
+    ensures { IfOk result (λ removals.
+        ArePut (λ row. row.seq) (filter_map removal_in spans.now) removals.items) }
 {
     let mut removals = removals_of(alloc, spans)?;
-    match removals.sort_by_key(|removal| removal.seq) {
-        Ok(()) => Ok(removals),
-        Err(_) => Err(NoMemory),
-    }
+    sort_rows(&mut removals)?;
+    Ok(removals)
 }
 
 // The span that a fitting begins, and that a removal ends, where there is one.
