@@ -8,6 +8,7 @@ use Rattle.mx_book.specs.Book.{IsBook}
 use Rattle.mx_typed_rows.specs.Rising.{IsRising}
 use Rattle.mx_typed_rows.specs.Rows.{place_key, release_line_key, task_key}
 use Rattle.mx_typed_rows.specs.declared.rows.AircraftRow.{AircraftRow}
+use Rattle.mx_typed_rows.specs.declared.rows.BaseRow.{BaseRow}
 use Rattle.mx_typed_rows.specs.declared.rows.ComponentRow.{ComponentRow}
 use Rattle.mx_typed_rows.specs.declared.rows.DeferralRow.{DeferralRow}
 use Rattle.mx_typed_rows.specs.declared.rows.EntryRow.{EntryRow}
@@ -26,6 +27,7 @@ use Rattle.mx_typed_rows.specs.declared.rows.TotalRow.{TotalRow}
 use Rattle.mx_typed_rows.proofs.SortedLemmas.{sorted_once}
 use Rattle.mx_register.specs.Registers.{AreRegistersOf, aircraft_rows, component_rows, deferral_rows, entry_rows, extension_rows, fitting_rows, opening_rows, place_rows, programme_rows, release_line_rows, release_rows, removal_rows, sector_rows, task_rows}
 use Rattle.mx_register.proofs.RegisterLemmas.{aircraft_rows-rising, component_rows-rising, deferral_rows-rising, entry_rows-rising, extension_rows-rising, fitting_rows-rising, opening_rows-rising, place_rows-rising, programme_rows-rising, release_line_rows-rising, release_rows-rising, removal_rows-rising, sector_rows-rising, task_rows-rising}
+use Rattle.mx_kept_rows.specs.Bases.{base_rows}
 use Rattle.mx_kept_rows.specs.Spans.{fitting_in, removal_in, span_rows}
 use Rattle.mx_kept_rows.specs.Totals.{total_rows}
 use Rattle.mx_kept_rows.proofs.ItemOrder.{total_rows-rising}
@@ -97,7 +99,7 @@ tables_put rows put book is p t = record {
   kept = record {
     spans = spans_put rows put book is p t;
     totals = put_is (λ (row : TotalRow). row.item) 1 (1 + length book) (total_rows book) rows.totals.items put.totals.items (total_rows-rising book) p.totals t.totals;
-    bases = subst (λ (l : List _). IsPermutation l _) (sym p.bases) t.bases;
+    bases = subst (λ (rows : List BaseRow). IsPermutation rows (base_rows book)) (sym p.bases) t.bases;
   };
 }
 
@@ -118,5 +120,5 @@ tables_back rows put book p r = record {
   sectors = put_of (λ (row : SectorRow). row.seq) (sector_rows book) rows.registers.rows.sectors.items put.registers.rows.sectors.items p.registers.sectors r.registers.sectors;
   spans = put_of (λ (row : SpanRow). row.fit_seq) (span_rows book) rows.spans.items put.spans.items p.spans r.kept.spans;
   totals = put_of (λ (row : TotalRow). row.item) (total_rows book) rows.totals.items put.totals.items p.totals r.kept.totals;
-  bases = subst (λ (l : List _). IsPermutation l _) p.bases r.kept.bases;
+  bases = subst (λ (rows : List BaseRow). IsPermutation rows (base_rows book)) p.bases r.kept.bases;
 }

@@ -1,5 +1,5 @@
 //! Rows of last bases, and whether they are those that a book beside its maps gives.
-ghost use Rattle.std.specs.Prelude.{◌≡◌, IfOk, MatchOption, IsPermutation};
+ghost use Rattle.std.specs.Prelude.{◌≡◌, ◌&&◌, IfOk, MatchOption, IsPermutation};
 ghost use Rattle.std.specs.Bool.{Decides};
 ghost use Rattle.std.specs.List.{list_all};
 ghost use Rattle.mx_typed_rows.specs.Rows.{base_in_row};
@@ -111,6 +111,21 @@ fn are_certified(keys: &BTreeMap<(u32, TaskId), bool>, lines: &[ReleaseLineRow])
     lines.iter().all(|row| is_certified(keys, row))
 }
 
+// Whether each row has the last base of its task, and a map has each task that openings state and lines certify.
+fn are_right(
+    book: &IndexedBook,
+    keys: &BTreeMap<(u32, TaskId), bool>,
+    openings: &[OpeningRow],
+    lines: &[ReleaseLineRow],
+    rows: &[BaseRow],
+) -> bool
+    ensures { result ≡ ((list_all (is_last_base book.now) rows.now
+        && list_all (has_stated keys.now) openings.now)
+        && list_all (has_certified keys.now) lines.now) }
+{
+    are_last_bases(book, rows) && are_stated(keys, openings) && are_certified(keys, lines)
+}
+
 /// Whether rows are, in any order, the last bases of a book whose openings and lines of releases these are. `NoMemory`
 /// where memory runs out.
 pub fn are_bases(
@@ -127,8 +142,5 @@ pub fn are_bases(
     let Some(keys) = keys_of(alloc, rows)? else {
         return Ok(false);
     };
-    let right = are_last_bases(book, rows);
-    let stated = are_stated(&keys, openings);
-    let certified = are_certified(&keys, lines);
-    Ok(right && stated && certified)
+    Ok(are_right(book, &keys, openings, lines, rows))
 }
