@@ -1,5 +1,5 @@
 //! Whether the rows of the tables of a file, each table's in any order, are those of a book.
-ghost use Rattle.std.specs.Prelude.{◌≡◌, List, [], true, Err, MatchResult, Ok, OnOk};
+ghost use Rattle.std.specs.Prelude.{◌≡◌, ◌≢◌, List, [], true, Err, IfOk, MatchResult, Ok, OnOk};
 ghost use Rattle.mx_command.specs.Act.{Entry};
 ghost use Rattle.mx_book.specs.Book.{IsBook};
 ghost use Rattle.mx_register.specs.Left.{all_rows};
@@ -58,6 +58,10 @@ pub fn verify_tables(alloc: Global, rows: FileRows) -> Result<bool, Unverified>
         → (put : FileRows) × AreFilePut rows put
         × (merging [] put.registers.entries.items (all_rows put.registers)
         ≡ Err (NoBook.Damaged kind)) }
+    ensures undamaged { IfOk result (λ same. (put : FileRows) × AreFilePut rows put
+        × ((kind : EntryKind)
+        → merging [] put.registers.entries.items (all_rows put.registers)
+        ≢ Err (NoBook.Damaged kind))) }
 {
     let mut put = rows;
     match put_in_order(alloc, &mut put) {

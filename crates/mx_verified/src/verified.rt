@@ -1,5 +1,5 @@
 //! Whether the rows of a file are those of a book.
-ghost use Rattle.std.specs.Prelude.{◌≡◌, List, [], true, Err, IfOk, IsPermutation, MatchResult, Ok};
+ghost use Rattle.std.specs.Prelude.{◌≡◌, ◌≢◌, List, [], true, Err, IfOk, IsPermutation, MatchResult, Ok};
 ghost use Rattle.std.specs.Bool.{Decides};
 ghost use Rattle.mx_command.specs.Act.{Entry};
 ghost use Rattle.mx_book.specs.Book.{IsBook};
@@ -22,8 +22,7 @@ use mx_register::merge::Registers;
 use mx_typed_rows::{BaseRow, EntryKind, SpanRow, TotalRow};
 use std::alloc::Global;
 
-/// The rows of a file, each table's in the order of its key, but the last bases in any order: the registers, with the
-/// fittings and removals that the spans stand for, and the kept rows.
+/// The rows of the tables of a file: the registers, and the kept rows.
 #[derive(Drop)]
 pub struct FileRows {
     pub registers: Registers,
@@ -90,8 +89,10 @@ fn are_kept_rows(alloc: Global, book: &IndexedBook, rows: &FileRows) -> Result<b
     Ok(spans && totals && bases)
 }
 
-/// Whether the rows are those of a book. `Damaged` where the row of an entry can't stand behind the entries before it;
-/// where rows are missing, too many, or kept rows say anything else than the book gives, the answer is `false`.
+/// Whether rows are those of a book, where those of each table are in the order of their keys, but the last bases in any
+/// order, and the fittings and removals are those that the spans stand for. `Damaged` where the row of an entry can't stand
+/// behind the entries before it; where rows are missing, too many, or kept rows say anything else than the book gives, the
+/// answer is `false`.
 pub fn verify_rows(alloc: Global, rows: &FileRows) -> Result<bool, Unverified>
     ensures exact { (book : List Entry) → IsBook book → AreRowsOf rows.now book
         → MatchResult result (λ same. same ≡ true) (λ why. why ≡ Unverified.Memory) }
@@ -99,6 +100,9 @@ pub fn verify_rows(alloc: Global, rows: &FileRows) -> Result<bool, Unverified>
     ensures damaged { (kind : EntryKind) → result ≡ Err (Unverified.Damaged kind)
         → merging [] rows.now.registers.entries.items (all_rows rows.now.registers)
         ≡ Err (NoBook.Damaged kind) }
+    ensures undamaged { IfOk result (λ same. (kind : EntryKind)
+        → merging [] rows.now.registers.entries.items (all_rows rows.now.registers)
+        ≢ Err (NoBook.Damaged kind)) }
 {
     let merged = match merge_beside_maps(alloc, &rows.registers) {
         Ok(merged) => merged,
