@@ -1,6 +1,6 @@
 -- Rows in the order of their keys are those of a book exactly where the rows are as sets.
 use Rattle.std.proofs.Common.{◌≡◌, ℕ, ◌+◌, ◌*◌, ◌^◌, Bool, true, List, [], ◌∷◌, length, map, refl, sym, ap, subst, ◌∙◌}
-use Rattle.std.specs.Prelude.{filter, IsPermutation}
+use Rattle.std.specs.Prelude.{◌≢◌, Result, Ok, Err, IfOk, filter, IsPermutation}
 use Rattle.std.specs.List.{filter_map}
 use Rattle.std.proofs.lemmas.List.Sorted.{IsPermutation-sym, IsPermutation-trans}
 use Rattle.mx_command.specs.Act.{Entry}
@@ -12,6 +12,7 @@ use Rattle.mx_typed_rows.specs.declared.rows.BaseRow.{BaseRow}
 use Rattle.mx_typed_rows.specs.declared.rows.ComponentRow.{ComponentRow}
 use Rattle.mx_typed_rows.specs.declared.rows.DeferralRow.{DeferralRow}
 use Rattle.mx_typed_rows.specs.declared.rows.EntryRow.{EntryRow}
+use Rattle.mx_typed_rows.specs.declared.rows.EntryKind.{EntryKind}
 use Rattle.mx_typed_rows.specs.declared.rows.ExtensionRow.{ExtensionRow}
 use Rattle.mx_typed_rows.specs.declared.rows.FittingRow.{FittingRow}
 use Rattle.mx_typed_rows.specs.declared.rows.OpeningRow.{OpeningRow}
@@ -32,10 +33,14 @@ use Rattle.mx_kept_rows.specs.Spans.{fitting_in, removal_in, span_rows}
 use Rattle.mx_kept_rows.specs.Totals.{total_rows}
 use Rattle.mx_kept_rows.proofs.ItemOrder.{total_rows-rising}
 use Rattle.mx_kept_rows.proofs.SpanRegisters.{fittings_in_spans, removals_in_spans}
+use Rattle.mx_register.specs.Left.{all_rows}
+use Rattle.mx_verified.specs.Merging.{merging}
 use Rattle.mx_verified.specs.Sorted.{ArePut}
 use Rattle.mx_verified.specs.Tables.{AreFilePut, AreTablesOf}
 use Rattle.mx_verified.specs.Verified.{AreRowsOf, HasKeptRows}
+use Rattle.mx_verified.specs.declared.merged.NoBook.TheVariants.{Damaged}
 use Rattle.mx_verified.specs.declared.verified.FileRows.{FileRows}
+use Rattle.mx_verified.specs.declared.verified.Unverified.{Unverified}
 
 -- rows that are put in order are a rising list where they are its rows
 put_is : {Row : Type 0} (key : Row → ℕ) (low high : ℕ) (rising rows put : List Row) → IsRising key low rising high → ArePut key rows put → IsPermutation rows rising → put ≡ rising
@@ -122,3 +127,9 @@ tables_back rows put book p r = record {
   totals = put_of (λ (row : TotalRow). row.item) (total_rows book) rows.totals.items put.totals.items p.totals r.kept.totals;
   bases = subst (λ (rows : List BaseRow). IsPermutation rows (base_rows book)) p.bases r.kept.bases;
 }
+
+-- where the rows that are put in order have no damaged row, there are rows of which this holds
+pub none_damaged : (rows put : FileRows) (result : Result Bool Unverified) → AreFilePut rows put → IfOk result (λ same. (kind : EntryKind) → merging [] put.registers.entries.items (all_rows put.registers) ≢ Err (Damaged kind))
+    → IfOk result (λ same. (found : FileRows) × AreFilePut rows found × ((kind : EntryKind) → merging [] found.registers.entries.items (all_rows found.registers) ≢ Err (Damaged kind)))
+none_damaged rows put (Ok same) p h = (put, p, h)
+none_damaged rows put (Err why) p h = tt
