@@ -1,17 +1,17 @@
 -- Rows that are the last bases of a book, in any order.
-use Rattle.std.proofs.Common.{refl, sym, ap, subst, ◌∙◌, ◌≡◌, ℕ, ◌+◌, ◌≤◌, List, [], ◌∷◌, ◌++◌, Bool, true, false, cond, not, ◌&&◌, ◌||◌, Option, Some, None, nat_eq, arith, append-nil}
-use Rattle.std.specs.Prelude.{IsPermutation, All, filter, find, is_some, Result, Ok, Err, IfOk, MatchOption}
+use Rattle.std.proofs.Common.{refl, sym, ap, ◌∙◌, ◌≡◌, ℕ, ◌+◌, ◌≤◌, List, [], ◌∷◌, ◌++◌, Bool, true, false, cond, not, ◌&&◌, ◌||◌, Option, Some, None, nat_eq, arith}
+use Rattle.std.specs.Prelude.{IsPermutation, filter, find, is_some}
 use Rattle.std.specs.Bool.{Decides}
 use Rattle.std.specs.List.{AllByRecursion, cons_option, filter_map, flat_map, list_all, list_any, sum_by}
-use Rattle.std.specs.Option.{option_and_then, option_map, option_map_or}
-use Rattle.std.proofs.lemmas.Bool.Decides.{Decides-eqb, same_from_decides}
+use Rattle.std.specs.Option.{option_map, option_map_or}
+use Rattle.std.proofs.lemmas.Bool.Decides.{Decides-eqb}
 use Rattle.std.proofs.lemmas.List.Elements.{All-from_recursion, recursion_from_All}
 use Rattle.std.proofs.lemmas.List.Folds.{list_any-append}
 use Rattle.std.proofs.lemmas.List.Sorted.{All-permutation, IsPermutation-middle, IsPermutation-sym, IsPermutation-to_front, list_any-IsPermutation, sum_by-IsPermutation}
 use Rattle.std.proofs.lemmas.List.Sums.{sum_by-cons}
 use Rattle.mx_base.specs.declared.amounts.Base.{Base}
-use Rattle.mx_command.specs.Act.{Act, Entry, Added, Listed, Loaded, Opened, Flown, Fitted, Removed, Released, Deferred, Extended, lines_of}
-use Rattle.mx_command.specs.Same.{same_item, same_text}
+use Rattle.mx_command.specs.Act.{Act, Entry, Added, Listed, Loaded, Opened, Flown, Fitted, Removed, Released, Deferred, Extended}
+use Rattle.mx_command.specs.Same.{same_text}
 use Rattle.mx_command.specs.Shape.{has_shape}
 use Rattle.mx_command.specs.declared.item.Item.{Item}
 use Rattle.mx_command.specs.declared.release.Line.{Line}
@@ -38,7 +38,6 @@ use Rattle.mx_kept_rows.proofs.Induction.{of_each_book}
 use Rattle.mx_kept_rows.proofs.ItemNumbers.{items_numbered}
 use Rattle.mx_kept_rows.proofs.KeyedLemmas.{base_rows_once, bases_decided}
 use Rattle.mx_kept_rows.proofs.KnownLemmas.{all_append}
-use Rattle.mx_kept_rows.proofs.NumberLemmas.{no_rows}
 use Rattle.mx_kept_rows.proofs.PutBases.{command_bases}
 use Rattle.mx_verified.specs.Bases.{certifies, has_key, is_certified_in, is_last_base, is_stated_in, same_base, states}
 

@@ -1,6 +1,6 @@
 -- Registers give a book exactly where the merge does.
-use Rattle.std.proofs.Common.{◌≡◌, ℕ, ◌+◌, Bool, true, false, cond, ◌&&◌, List, [], ◌∷◌, ◌++◌, length, Option, Some, None, refl, sym, ap, ◌∙◌, nat_eq}
-use Rattle.std.specs.Prelude.{Result, Ok, Err, IfOk, IfSome}
+use Rattle.std.proofs.Common.{◌≡◌, ◌+◌, Bool, true, false, cond, ◌&&◌, List, [], ◌∷◌, ◌++◌, length, Option, Some, None, refl, sym, ap, ◌∙◌, nat_eq}
+use Rattle.std.specs.Prelude.{Result, Ok, Err, IfOk}
 use Rattle.std.specs.Option.{option_and_then, option_map_or}
 use Rattle.mx_command.specs.Act.{Entry}
 use Rattle.mx_book.specs.Book.{is_new, IsBook}
@@ -8,7 +8,7 @@ use Rattle.mx_book.specs.Judge.{judge}
 use Rattle.mx_typed_rows.specs.declared.rows.EntryRow.{EntryRow}
 use Rattle.mx_register.specs.declared.merge.Registers.{Registers}
 use Rattle.mx_register.specs.Registers.{AreRegistersOf}
-use Rattle.mx_register.specs.Merge.{Rest, are_taken, is_next, merged, take_command}
+use Rattle.mx_register.specs.Merge.{Rest, are_taken, merged, take_command}
 use Rattle.mx_register.specs.Left.{all_rows}
 use Rattle.mx_register.proofs.MergeLemmas.{merged_from}
 use Rattle.mx_register.proofs.SoundLemmas.{merged_sound}

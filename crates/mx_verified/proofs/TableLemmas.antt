@@ -16,17 +16,14 @@ use Rattle.mx_typed_rows.specs.declared.rows.EntryKind.{EntryKind}
 use Rattle.mx_typed_rows.specs.declared.rows.ExtensionRow.{ExtensionRow}
 use Rattle.mx_typed_rows.specs.declared.rows.FittingRow.{FittingRow}
 use Rattle.mx_typed_rows.specs.declared.rows.OpeningRow.{OpeningRow}
-use Rattle.mx_typed_rows.specs.declared.rows.PlaceRow.{PlaceRow}
 use Rattle.mx_typed_rows.specs.declared.rows.ProgrammeRow.{ProgrammeRow}
-use Rattle.mx_typed_rows.specs.declared.rows.ReleaseLineRow.{ReleaseLineRow}
 use Rattle.mx_typed_rows.specs.declared.rows.ReleaseRow.{ReleaseRow}
 use Rattle.mx_typed_rows.specs.declared.rows.RemovalRow.{RemovalRow}
 use Rattle.mx_typed_rows.specs.declared.rows.SectorRow.{SectorRow}
 use Rattle.mx_typed_rows.specs.declared.rows.SpanRow.{SpanRow}
-use Rattle.mx_typed_rows.specs.declared.rows.TaskRow.{TaskRow}
 use Rattle.mx_typed_rows.specs.declared.rows.TotalRow.{TotalRow}
 use Rattle.mx_typed_rows.proofs.SortedLemmas.{sorted_once}
-use Rattle.mx_register.specs.Registers.{AreRegistersOf, aircraft_rows, component_rows, deferral_rows, entry_rows, extension_rows, fitting_rows, opening_rows, place_rows, programme_rows, release_line_rows, release_rows, removal_rows, sector_rows, task_rows}
+use Rattle.mx_register.specs.Registers.{AreRegistersOf, aircraft_rows, component_rows, deferral_rows, entry_rows, extension_rows, opening_rows, place_rows, programme_rows, release_line_rows, release_rows, removal_rows, sector_rows, task_rows}
 use Rattle.mx_register.proofs.RegisterLemmas.{aircraft_rows-rising, component_rows-rising, deferral_rows-rising, entry_rows-rising, extension_rows-rising, fitting_rows-rising, opening_rows-rising, place_rows-rising, programme_rows-rising, release_line_rows-rising, release_rows-rising, removal_rows-rising, sector_rows-rising, task_rows-rising}
 use Rattle.mx_kept_rows.specs.Bases.{base_rows}
 use Rattle.mx_kept_rows.specs.Spans.{fitting_in, removal_in, span_rows}
@@ -37,7 +34,7 @@ use Rattle.mx_register.specs.Left.{all_rows}
 use Rattle.mx_verified.specs.Merging.{merging}
 use Rattle.mx_verified.specs.Sorted.{ArePut}
 use Rattle.mx_verified.specs.Tables.{AreFilePut, AreTablesOf}
-use Rattle.mx_verified.specs.Verified.{AreRowsOf, HasKeptRows}
+use Rattle.mx_verified.specs.Verified.{AreRowsOf}
 use Rattle.mx_verified.specs.declared.merged.NoBook.TheVariants.{Damaged}
 use Rattle.mx_verified.specs.declared.verified.FileRows.{FileRows}
 use Rattle.mx_verified.specs.declared.verified.Unverified.{Unverified}

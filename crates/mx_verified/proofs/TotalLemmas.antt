@@ -2,12 +2,12 @@
 use Rattle.std.proofs.Common.{◌≡◌, ℕ, ◌+◌, List, [], ◌∷◌, ◌++◌, length, map, Option, Some, None, refl, sym, ap, ◌∙◌, arith, append-nil, length-append}
 use Rattle.std.specs.List.{cons_option}
 use Rattle.std.specs.Option.{option_map}
-use Rattle.mx_command.specs.Act.{Act, Entry}
+use Rattle.mx_command.specs.Act.{Entry}
 use Rattle.mx_command.specs.declared.item.Item.{Item}
 use Rattle.mx_register.specs.Names.{item_added}
 use Rattle.mx_register.specs.Registers.{gives_by}
 use Rattle.mx_typed_rows.specs.declared.rows.TotalRow.{TotalRow}
-use Rattle.mx_kept_rows.specs.Items.{items, items_by}
+use Rattle.mx_kept_rows.specs.Items.{items_by}
 use Rattle.mx_kept_rows.specs.Totals.{total_row, total_rows}
 
 -- the totals of the items that entries add, where the entries are numbered from seq

@@ -1,5 +1,4 @@
 use Rattle.std.proofs.Common.{◌≡◌, ◌+◌, ◌++◌, length}
-use Rattle.mx_kept_rows.specs.Totals.{total_rows}
 use Rattle.mx_verified.proofs.TotalLemmas.{totals_from}
 use Rattle.mx_verified.proofs.totals.total_rows.Given as goal
 
