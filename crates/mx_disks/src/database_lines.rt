@@ -4,9 +4,11 @@ ghost use Rattle.std.specs.Prelude.{◌≡◌, false};
 use crate::calls::{created, created_next};
 use crate::texts::{append_error, error_text};
 use mx_cases::{Unmade, append_joined, append_word, or_none};
+use mx_entry_lines::{entries_by_rows, is_entry_by_rows};
 use mx_judge_lines::{answer_by_rows, verdict_by_rows};
 use mx_kept_lines::{answer_of_kept_rows, append_table_fault, room};
 use mx_layout::{TableFault, point};
+use mx_move_lines::answer_of_step;
 use sqlite::types::ValueRef;
 use sqlite::{Alter, Connection, Row};
 use std::alloc::{AllocError, Global};
@@ -117,8 +119,8 @@ fn statement_of(alloc: Global, words: &[&str]) -> Result<String, AllocError> {
     Ok(sql)
 }
 
-/// What a database answers to a line: `make`, `make-next`, `point`, `ask QUERY`, `sql STATEMENT`, `judge COMMAND`, one of kept rows,
-/// or one for a list.
+/// What a database answers to a line: `make`, `make-next`, `point`, `ask QUERY`, `sql STATEMENT`, `step STEP`, `judge COMMAND`,
+/// `entries FROM AT_MOST`, `entry NUMBER COMMAND`, one of kept rows, or one for a list.
 pub(crate) fn answer_of_database<S: Alter>(
     alloc: Global,
     conn: &mut Connection<S>,
@@ -138,9 +140,12 @@ pub(crate) fn answer_of_database<S: Alter>(
             let sql = statement_of(alloc, statement)?;
             Ok(changed(alloc, conn, sql.as_str())?)
         }
+        ["step", step @ ..] => answer_of_step(alloc, conn, step),
         ["kept", line @ ..] => answer_of_kept_rows(alloc, conn, line),
         ["judge", command @ ..] => verdict_by_rows(alloc, conn, command),
         ["rows", question @ ..] => answer_by_rows(alloc, conn, question),
+        ["entries", from, at_most] => entries_by_rows(alloc, conn, from, at_most),
+        ["entry", seq, command @ ..] => is_entry_by_rows(alloc, conn, seq, command),
         _ => Err(Unmade::NoSuchLine),
     }
 }

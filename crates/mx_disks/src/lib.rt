@@ -4,11 +4,12 @@
 //! - `make`, `make-next`: makes an empty book of layout 1, of layout 2;
 //! - `point`: the layout, step and mark that it is at;
 //! - `ask QUERY`, `sql STATEMENT`: the rows of a query; a statement that changes the files;
+//! - `step` before a line of `mx_move_lines`, whose head lists them: a step of the move to layout 2;
 //! - `open`: opens the office.
 //!
 //! Lines over a database of layout 2: `kept` before a line of `mx_kept_lines`, whose head lists them, over kept rows; `judge COMMAND`,
-//! the verdict on a command by the rows of the tables; `rows` before one of the lines below for a list or for the life of an item,
-//! which is answered by these rows.
+//! the verdict on a command by the rows of the tables; `entries FROM AT_MOST` and `entry NUMBER COMMAND`, as in an office, by these
+//! rows; `rows` before one of the lines below for a list or for the life of an item, which is answered by them too.
 //!
 //! Lines in the open office:
 //! - a command, in the words that `mx_cases` reads: hands it in; `run` the commands of a list, and `first` the first;

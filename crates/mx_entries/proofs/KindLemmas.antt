@@ -25,7 +25,7 @@ use Rattle.mx_found.specs.Stated.{lines_stated}
 use Rattle.mx_lookups.specs.Given.{SerialOfNumber, TailOfNumber}
 use Rattle.mx_lookups.proofs.BookRows.{deferrals_of_number, extensions_of_number, openings_of_number, releases_of_number, spans_of_fitting, spans_of_removal}
 use Rattle.mx_lookups.proofs.ReadLemmas.{follows}
-use Rattle.mx_lookups.proofs.SectorRows.{sectors_read}
+use Rattle.mx_known.proofs.SectorRows.{sectors_read}
 use Rattle.mx_lookups.proofs.TableLemmas.{deferrals, extensions, openings, releases, sectors, spans}
 use Rattle.mx_entries.specs.Names.{DocOfDefect, ItemOfNumber, WithName}
 use Rattle.mx_entries.specs.Releases.{LinesStated, PlaceStated}

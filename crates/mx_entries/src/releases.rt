@@ -61,7 +61,8 @@ fn lines_stated<S: Alter>(
     ensures reads { Reads (λ book lines. option_map (λ v. v.items) lines
         ≡ lines_stated book (found release_lines book seq))
         (state S.Store tx.old.conn.now) (state S.Store tx.new.conn.now) result }
-    ensures any_rows { ReadsAny (λ trees lines. LinesStated seq trees (option_map (λ v. v.items) lines))
+    ensures any_rows { ReadsAny (λ trees lines. LinesStated seq trees
+        (option_map (λ v. v.items) lines))
         (state S.Store tx.old.conn.now) (state S.Store tx.new.conn.now) result }
 {
     let rows = crs_line_by_seq(alloc, tx, seq)?;

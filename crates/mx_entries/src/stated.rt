@@ -71,7 +71,8 @@ pub(crate) fn command_said(
 ) -> Result<Command, TableFault>
     ensures { MatchResult result
         (λ command. Some command ≡ command_said row.now.doc (option_map act_of said))
-        (λ fault. (fault ≡ TableFault.Memory) ⊎ ((fault ≡ TableFault.Damaged (table_of row.now.kind))
+        (λ fault. (fault ≡ TableFault.Memory)
+        ⊎ ((fault ≡ TableFault.Damaged (table_of row.now.kind))
         × (command_said row.now.doc (option_map act_of said) ≡ None))) }
 {
     let Some(body) = said else {

@@ -3,10 +3,12 @@ use Rattle.std.specs.Prelude.{◌≡◌, ◌⊎◌, ⊤, List, Result, Ok, Err, 
 use Rattle.sqlite.specs.Store.{Ghosts}
 use Rattle.sqlite.specs.State.{HasCleanDisk}
 use Rattle.sqlite.specs.Held.{Held, state}
+use Rattle.sqlite.specs.Tree.{Trees}
 use Rattle.mx_command.specs.Act.{Entry}
 use Rattle.mx_book.specs.Reading.{Reading}
 use Rattle.mx_layout.specs.declared.fault.TableFault.{TableFault}
-use Rattle.mx_lookups.specs.Reads.{Reads, StandsFor}
+use Rattle.mx_lookups.specs.Reads.{Reads}
+use Rattle.mx_rows.specs.Answering.{SpeaksFor}
 use Rattle.mx_rows.specs.declared.view.Rows.{Rows}
 
 -- anything was answered
@@ -21,25 +23,25 @@ AskedOn g old new = (new ≡ old) ⊎ Reads IsAny (state g old) (state g new) (O
 abbrev pub StoppedOn : {S : Type 0} → Ghosts S → Held S → Held S → TableFault → Type 0
 StoppedOn g old new fault = Reads IsAny (state g old) (state g new) (Err fault)
 
--- Questions, if any, were asked of a connection, and what came of them is so of the book that its tables stand for.
-pub record Asks {S V : Type 0} (g : Ghosts S) (Is : List Entry → V → Type 0) (old new : Held S) (result : Result V TableFault) : Type 0 where
+-- Questions, if any, were asked of a connection, and what came of them is so of each book as which its rows answer.
+pub record Asks {S V : Type 0} (g : Ghosts S) (AnswersAs : Trees → List Entry → Type 0) (Is : List Entry → V → Type 0) (old new : Held S) (result : Result V TableFault) : Type 0 where
   pub asked : MatchResult result (λ v. AskedOn g old new) (StoppedOn g old new)
-  pub exact : HasCleanDisk (state g new) → (book : List Entry) → StandsFor (state g old) book → IfOk result (Is book)
+  pub exact : HasCleanDisk (state g new) → (book : List Entry) → SpeaksFor AnswersAs (state g old) book → IfOk result (Is book)
 
 -- the connection behind the rows
-abbrev pub held : {S : Type 0} → Rows S → Held S
+abbrev pub held : {S Q : Type 0} → Rows S Q → Held S
 held rows = rows.tx.now.conn.now
 
 -- the same transaction, over the same connection
-pub record SharesWith {S : Type 0} (old new : Rows S) : Type 0 where
+pub record SharesWith {S Q : Type 0} (old new : Rows S Q) : Type 0 where
   pub tx : new.tx.ghost_name ≡ old.tx.ghost_name
   pub conn : new.tx.now.conn.ghost_name ≡ old.tx.now.conn.ghost_name
 
--- rows stand for the book that the tables stand for, questions leave the transaction and its connection, and each stops by a fault of a look-up
-abbrev pub rows_reading : {S : Type 0} → Ghosts S → Reading (Rows S) TableFault
-rows_reading g = record {
+-- rows stand for each book as which they answer, questions leave the transaction and its connection, and each stops by a fault of a look-up
+abbrev pub rows_reading : {S Q : Type 0} → Ghosts S → (Trees → List Entry → Type 0) → Reading (Rows S Q) TableFault
+rows_reading g AnswersAs = record {
   Clean = λ rows. HasCleanDisk (state g (held rows));
-  StandsFor = λ rows book. StandsFor (state g (held rows)) book;
+  StandsFor = λ rows book. SpeaksFor AnswersAs (state g (held rows)) book;
   Asked = λ start rows. SharesWith start rows × AskedOn g (held start) (held rows);
   Stopped = λ start rows fault. SharesWith start rows × StoppedOn g (held start) (held rows) fault;
 }

@@ -2,9 +2,12 @@
 ghost use Rattle.std.specs.Prelude.{◌≡◌};
 ghost use Rattle.sqlite.specs.Held.{state};
 ghost use Rattle.mx_book.specs.Judge.{judge};
+ghost use Rattle.mx_lookups.specs.AnyRows.{ReadsAny};
 ghost use Rattle.mx_lookups.specs.Reads.{Reads};
+ghost use Rattle.mx_rows.specs.Answering.{AnswerAs, VerdictOf};
 ghost use Rattle.mx_rows.specs.View.{Asks};
 
+use crate::questions::JudgeQuestions;
 use crate::view::Rows;
 use mx_book::{Verdict, verdict_on};
 use mx_command::Command;
@@ -15,12 +18,12 @@ use std::alloc::Global;
 
 // The one judge, asked of rows.
 fn verdict_of_rows<S: Alter>(
-    rows: &mut Rows<'_, '_, S>,
+    rows: &mut Rows<'_, '_, S, JudgeQuestions>,
     command: &Command,
 ) -> Result<Verdict, TableFault>
     ensures same_tx { rows.new.tx.ghost_name ≡ rows.old.tx.ghost_name }
     ensures same_conn { rows.new.tx.now.conn.ghost_name ≡ rows.old.tx.now.conn.ghost_name }
-    ensures asks { Asks S.Store (λ book verdict. verdict ≡ judge book command.now)
+    ensures asks { Asks S.Store AnswerAs (λ book verdict. verdict ≡ judge book command.now)
         rows.old.tx.now.conn.now rows.new.tx.now.conn.now result }
 {
     verdict_on(rows, command)
@@ -33,10 +36,14 @@ fn verdict_inside<S: Alter>(
     command: &Command,
 ) -> Result<Verdict, TableFault>
     ensures same_reference { tx.new.conn.ghost_name ≡ tx.old.conn.ghost_name }
-    ensures asks { Asks S.Store (λ book verdict. verdict ≡ judge book command.now)
+    ensures asks { Asks S.Store AnswerAs (λ book verdict. verdict ≡ judge book command.now)
         tx.old.conn.now tx.new.conn.now result }
 {
-    let mut rows = Rows { alloc, tx };
+    let mut rows = Rows {
+        alloc,
+        tx,
+        questions: JudgeQuestions,
+    };
     verdict_of_rows(&mut rows, command)
 }
 
@@ -49,6 +56,8 @@ pub fn judge_by_rows<S: Alter>(
 ) -> Result<Verdict, TableFault>
     ensures same_reference { tx.new.conn.ghost_name ≡ tx.old.conn.ghost_name }
     ensures reads { Reads (λ book verdict. verdict ≡ judge book command.now)
+        (state S.Store tx.old.conn.now) (state S.Store tx.new.conn.now) result }
+    ensures any_rows { ReadsAny (VerdictOf command.now)
         (state S.Store tx.old.conn.now) (state S.Store tx.new.conn.now) result }
 {
     entry_count(alloc, tx)?;

@@ -4,6 +4,8 @@
 #![tactic(auto)]
 
 pub mod judging;
+pub mod laws;
 pub mod listing;
 pub mod lists;
+pub mod questions;
 pub mod view;

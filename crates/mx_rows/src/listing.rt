@@ -9,9 +9,11 @@ ghost use Rattle.mx_lists.specs.LimitList.{limits};
 ghost use Rattle.mx_lists.specs.Lists.{life_list};
 ghost use Rattle.mx_lookups.specs.AnyRows.{ReadsAny};
 ghost use Rattle.mx_lookups.specs.Reads.{Reads};
+ghost use Rattle.mx_rows.specs.Answering.{AnswerListsAs, ListOf};
 ghost use Rattle.mx_rows.specs.Listing.{answered, unknown, LifeAnswered};
 ghost use Rattle.mx_rows.specs.View.{Asks};
 
+use crate::questions::ListQuestions;
 use crate::view::Rows;
 use mx_base::{Day, Tail, Use};
 use mx_book::Refusal;
@@ -41,13 +43,13 @@ fn answered<T>(list: Result<Option<T>, Stop<TableFault>>) -> Result<Result<T, Re
 
 // The due list, asked of rows.
 fn dues_of_rows<S: Alter>(
-    rows: &mut Rows<'_, '_, S>,
+    rows: &mut Rows<'_, '_, S, ListQuestions>,
     tail: &Tail,
     day: Day,
 ) -> Result<Result<DueList, Refusal>, TableFault>
     ensures same_tx { rows.new.tx.ghost_name ≡ rows.old.tx.ghost_name }
     ensures same_conn { rows.new.tx.now.conn.ghost_name ≡ rows.old.tx.now.conn.ghost_name }
-    ensures asks { Asks S.Store (λ book answer. answer
+    ensures asks { Asks S.Store AnswerListsAs (λ book answer. answer
         ≡ ok_or (due_list book tail.now day) UnknownAircraft)
         rows.old.tx.now.conn.now rows.new.tx.now.conn.now result }
 {
@@ -63,11 +65,15 @@ fn dues_inside<S: Alter>(
     day: Day,
 ) -> Result<Result<DueList, Refusal>, TableFault>
     ensures same_reference { tx.new.conn.ghost_name ≡ tx.old.conn.ghost_name }
-    ensures asks { Asks S.Store (λ book answer. answer
+    ensures asks { Asks S.Store AnswerListsAs (λ book answer. answer
         ≡ ok_or (due_list book tail.now day) UnknownAircraft)
         tx.old.conn.now tx.new.conn.now result }
 {
-    let mut rows = Rows { alloc, tx };
+    let mut rows = Rows {
+        alloc,
+        tx,
+        questions: ListQuestions,
+    };
     dues_of_rows(&mut rows, tail, day)
 }
 
@@ -84,6 +90,8 @@ pub fn due_rows<S: Alter>(
     ensures reads { Reads (λ book answer. answer
         ≡ ok_or (due_list book tail.now day) UnknownAircraft)
         (state S.Store tx.old.conn.now) (state S.Store tx.new.conn.now) result }
+    ensures any_rows { ReadsAny (ListOf (λ book. due_list book tail.now day))
+        (state S.Store tx.old.conn.now) (state S.Store tx.new.conn.now) result }
 {
     aircraft_number(alloc, tx, tail)?;
     dues_inside(alloc, tx, tail, day)
@@ -91,7 +99,7 @@ pub fn due_rows<S: Alter>(
 
 // The forecast, asked of rows.
 fn forecast_of_rows<S: Alter>(
-    rows: &mut Rows<'_, '_, S>,
+    rows: &mut Rows<'_, '_, S, ListQuestions>,
     tail: &Tail,
     day: Day,
     days: u32,
@@ -100,7 +108,7 @@ fn forecast_of_rows<S: Alter>(
 ) -> Result<Result<ForecastList, Refusal>, TableFault>
     ensures same_tx { rows.new.tx.ghost_name ≡ rows.old.tx.ghost_name }
     ensures same_conn { rows.new.tx.now.conn.ghost_name ≡ rows.old.tx.now.conn.ghost_name }
-    ensures asks { Asks S.Store (λ book answer. answer
+    ensures asks { Asks S.Store AnswerListsAs (λ book answer. answer
         ≡ ok_or (forecast book tail.now day days minutes cycles) UnknownAircraft)
         rows.old.tx.now.conn.now rows.new.tx.now.conn.now result }
 {
@@ -119,11 +127,15 @@ fn forecast_inside<S: Alter>(
     cycles: u32,
 ) -> Result<Result<ForecastList, Refusal>, TableFault>
     ensures same_reference { tx.new.conn.ghost_name ≡ tx.old.conn.ghost_name }
-    ensures asks { Asks S.Store (λ book answer. answer
+    ensures asks { Asks S.Store AnswerListsAs (λ book answer. answer
         ≡ ok_or (forecast book tail.now day days minutes cycles) UnknownAircraft)
         tx.old.conn.now tx.new.conn.now result }
 {
-    let mut rows = Rows { alloc, tx };
+    let mut rows = Rows {
+        alloc,
+        tx,
+        questions: ListQuestions,
+    };
     forecast_of_rows(&mut rows, tail, day, days, minutes, cycles)
 }
 
@@ -142,6 +154,8 @@ pub fn forecast_rows<S: Alter>(
     ensures reads { Reads (λ book answer. answer
         ≡ ok_or (forecast book tail.now day days minutes cycles) UnknownAircraft)
         (state S.Store tx.old.conn.now) (state S.Store tx.new.conn.now) result }
+    ensures any_rows { ReadsAny (ListOf (λ book. forecast book tail.now day days minutes cycles))
+        (state S.Store tx.old.conn.now) (state S.Store tx.new.conn.now) result }
 {
     aircraft_number(alloc, tx, tail)?;
     forecast_inside(alloc, tx, tail, day, days, minutes, cycles)
@@ -149,13 +163,13 @@ pub fn forecast_rows<S: Alter>(
 
 // The limits, asked of rows.
 fn limits_of_rows<S: Alter>(
-    rows: &mut Rows<'_, '_, S>,
+    rows: &mut Rows<'_, '_, S, ListQuestions>,
     tail: &Tail,
     day: Day,
 ) -> Result<Result<LimitList, Refusal>, TableFault>
     ensures same_tx { rows.new.tx.ghost_name ≡ rows.old.tx.ghost_name }
     ensures same_conn { rows.new.tx.now.conn.ghost_name ≡ rows.old.tx.now.conn.ghost_name }
-    ensures asks { Asks S.Store (λ book answer. answer
+    ensures asks { Asks S.Store AnswerListsAs (λ book answer. answer
         ≡ ok_or (limits book tail.now day) UnknownAircraft)
         rows.old.tx.now.conn.now rows.new.tx.now.conn.now result }
 {
@@ -171,11 +185,15 @@ fn limits_inside<S: Alter>(
     day: Day,
 ) -> Result<Result<LimitList, Refusal>, TableFault>
     ensures same_reference { tx.new.conn.ghost_name ≡ tx.old.conn.ghost_name }
-    ensures asks { Asks S.Store (λ book answer. answer
+    ensures asks { Asks S.Store AnswerListsAs (λ book answer. answer
         ≡ ok_or (limits book tail.now day) UnknownAircraft)
         tx.old.conn.now tx.new.conn.now result }
 {
-    let mut rows = Rows { alloc, tx };
+    let mut rows = Rows {
+        alloc,
+        tx,
+        questions: ListQuestions,
+    };
     limits_of_rows(&mut rows, tail, day)
 }
 
@@ -190,6 +208,8 @@ pub fn limits_rows<S: Alter>(
     ensures reads { Reads (λ book answer. answer
         ≡ ok_or (limits book tail.now day) UnknownAircraft)
         (state S.Store tx.old.conn.now) (state S.Store tx.new.conn.now) result }
+    ensures any_rows { ReadsAny (ListOf (λ book. limits book tail.now day))
+        (state S.Store tx.old.conn.now) (state S.Store tx.new.conn.now) result }
 {
     aircraft_number(alloc, tx, tail)?;
     limits_inside(alloc, tx, tail, day)
@@ -197,12 +217,12 @@ pub fn limits_rows<S: Alter>(
 
 // The life list, asked of rows.
 fn lives_of_rows<S: Alter>(
-    rows: &mut Rows<'_, '_, S>,
+    rows: &mut Rows<'_, '_, S, ListQuestions>,
     tail: &Tail,
 ) -> Result<Result<LifeList, Refusal>, TableFault>
     ensures same_tx { rows.new.tx.ghost_name ≡ rows.old.tx.ghost_name }
     ensures same_conn { rows.new.tx.now.conn.ghost_name ≡ rows.old.tx.now.conn.ghost_name }
-    ensures asks { Asks S.Store (λ book answer. answer
+    ensures asks { Asks S.Store AnswerListsAs (λ book answer. answer
         ≡ ok_or (life_list book tail.now) UnknownAircraft)
         rows.old.tx.now.conn.now rows.new.tx.now.conn.now result }
 {
@@ -217,11 +237,15 @@ fn lives_inside<S: Alter>(
     tail: &Tail,
 ) -> Result<Result<LifeList, Refusal>, TableFault>
     ensures same_reference { tx.new.conn.ghost_name ≡ tx.old.conn.ghost_name }
-    ensures asks { Asks S.Store (λ book answer. answer
+    ensures asks { Asks S.Store AnswerListsAs (λ book answer. answer
         ≡ ok_or (life_list book tail.now) UnknownAircraft)
         tx.old.conn.now tx.new.conn.now result }
 {
-    let mut rows = Rows { alloc, tx };
+    let mut rows = Rows {
+        alloc,
+        tx,
+        questions: ListQuestions,
+    };
     lives_of_rows(&mut rows, tail)
 }
 
@@ -234,6 +258,8 @@ pub fn life_rows<S: Alter>(
     ensures same_reference { tx.new.conn.ghost_name ≡ tx.old.conn.ghost_name }
     ensures reads { Reads (λ book answer. answer
         ≡ ok_or (life_list book tail.now) UnknownAircraft)
+        (state S.Store tx.old.conn.now) (state S.Store tx.new.conn.now) result }
+    ensures any_rows { ReadsAny (ListOf (λ book. life_list book tail.now))
         (state S.Store tx.old.conn.now) (state S.Store tx.new.conn.now) result }
 {
     aircraft_number(alloc, tx, tail)?;

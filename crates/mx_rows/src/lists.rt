@@ -1,4 +1,5 @@
 //! The rows that a transaction shows, as records of which lists are made.
+use crate::questions::ListQuestions;
 use crate::view::Rows;
 use mx_base::{Base, Kind, Position, Serial, Tail, TaskId, Use};
 use mx_book::Defect;
@@ -11,7 +12,7 @@ use mx_lookups::work::base;
 use sqlite::Alter;
 use std::alloc::Global;
 
-impl<S: Alter> Lists for Rows<'_, '_, S> {
+impl<S: Alter> Lists for Rows<'_, '_, S, ListQuestions> {
     fn life(&mut self, item: &Item) -> Result<Option<Use>, TableFault> {
         life(self.alloc, self.tx, item)
     }

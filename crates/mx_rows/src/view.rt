@@ -1,4 +1,5 @@
 //! The rows that a transaction shows, as records that the judge asks.
+use crate::questions::Questions;
 use mx_base::{Day, Doc, Kind, Moment, Part, Position, Serial, Tail, TaskId};
 use mx_book::{Defect, Records};
 use mx_command::{Aircraft, Command, Component, Extension, Item, Task};
@@ -15,22 +16,25 @@ use mx_lookups::work::is_accomplished;
 use sqlite::{Alter, Transaction};
 use std::alloc::Global;
 
-/// The rows that a transaction shows, which stand for a book where its tables do: each question is one look-up, no question
-/// changes a row, and the fault that stops one is that of the look-up.
+/// The rows that a transaction shows, which stand for each book as which they answer what they are asked, as for the one that
+/// their tables stand for: each question is one look-up, no question changes a row, and the fault that stops one is that of the
+/// look-up.
 #[derive(Drop)]
-pub struct Rows<'t, 'c, S: Alter> {
+pub struct Rows<'t, 'c, S: Alter, Q> {
     /// Where the rows that are found lie while they are looked at.
     pub alloc: Global,
     /// The transaction.
     pub tx: &'t mut Transaction<'c, S>,
+    /// What they are asked.
+    pub questions: Q,
 }
 
-impl<S: Alter> Records for Rows<'_, '_, S> {
+impl<S: Alter, Q: Questions> Records for Rows<'_, '_, S, Q> {
     ghost use Rattle.mx_rows.specs.View.{rows_reading};
 
     type Fault = TableFault;
 
-    ghost reading = { rows_reading S.Store };
+    ghost reading = { rows_reading S.Store Q.answers_as };
 
     fn entry_count(&mut self) -> Result<usize, TableFault> {
         let count = entry_count(self.alloc, self.tx)?;
@@ -46,6 +50,8 @@ impl<S: Alter> Records for Rows<'_, '_, S> {
     }
 
     fn known(&mut self, command: &Command) -> Result<Option<(u32, bool)>, TableFault> {
+        // Rows answer as a book does for commands of their shape.
+        let _ = command.doc();
         known(self.alloc, self.tx, command)
     }
 

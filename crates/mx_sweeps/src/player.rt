@@ -134,14 +134,7 @@ impl<D: Disks> Player<D> {
             ["power"] => self.stop(End::Power),
             ["make", limits @ ..] => self.ask(setting_of(limits)?, &["make"]),
             ["open", limits @ ..] => self.ask(setting_of(limits)?, &["open"]),
-            ["make-next"]
-            | ["point"]
-            | ["ask", ..]
-            | ["sql", ..]
-            | ["kept", ..]
-            | ["judge", ..]
-            | ["rows", ..] => self.ask(Setting::WHOLE, words),
-            _ => Err(Unmade::NoSuchLine),
+            _ => self.ask(Setting::WHOLE, words),
         }
     }
 

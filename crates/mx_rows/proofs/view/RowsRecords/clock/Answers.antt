@@ -4,4 +4,6 @@ use Rattle.mx_rows.proofs.ViewLemmas.{answers_by}
 use Rattle.mx_rows.proofs.view.RowsRecords.clock.Goals as goal
 
 pub returns : goal.returns
-returns g c = answers_by g.S.Store (λ book. clock book c.args.item.now) _ _ _ (record { tx = refl; conn = c.clock.ensures.same_reference }) c.clock.ensures.reads
+returns g c =
+    answers_by g.S.Store g.Q.Questions.answers_as (λ book. clock book c.args.item.now) _ _ _ _ (λ trees book answers. (g.Q.Questions.judged_as trees book answers).clock c.args.item.now)
+    (record { tx = refl; conn = c.clock.ensures.same_reference }) c.clock.ensures.reads c.clock.ensures.any_rows

@@ -1,13 +1,21 @@
 use Rattle.std.proofs.Common.{◌≡◌, refl}
-use Rattle.std.specs.Prelude.{length}
+use Rattle.std.specs.Prelude.{Some, length}
+use Rattle.mx_kept.specs.Cells.{kept_entry}
+use Rattle.mx_chosen.specs.Choices.{backward, is_any}
+use Rattle.mx_found.specs.Names.{last_number}
+use Rattle.mx_lookups.specs.AnyRows.{GivesFirst}
+use Rattle.mx_lookups.proofs.AnyLemmas.{silent}
 use Rattle.mx_lookups.proofs.ReadLemmas.{stopped}
 use Rattle.mx_rows.proofs.ViewLemmas.{answers_by}
 use Rattle.mx_rows.proofs.view.RowsRecords.entry_count.Goals as goal
 
 pub returns-in_err-count : goal.returns-in_err-count
 returns-in_err-count g c =
-    answers_by g.S.Store (λ book. length book) _ _ c.from_residual.result (record { tx = refl; conn = c.in_err-count.ensures.same_reference })
+    answers_by g.S.Store g.Q.Questions.answers_as (λ book. length book) _ _ c.from_residual.result _ (λ trees book answers. (g.Q.Questions.judged_as trees book answers).entry_count) (record { tx = refl; conn = c.in_err-count.ensures.same_reference })
     (stopped (λ book n. n ≡ length book) (λ book n. n ≡ length book) _ _ c.in_err-count.field-0.0 c.from_residual.result c.from_residual.ensures.1 c.in_err-count.ensures.reads)
+    (silent (GivesFirst kept_entry (Some 1) (backward kept_entry.order) is_any last_number) _ _ _ _ c.from_residual.ensures.1)
 
 pub returns : goal.returns
-returns g c = answers_by g.S.Store (λ book. length book) _ _ _ (record { tx = refl; conn = c.in_ok-count.ensures.same_reference }) c.in_ok-count.ensures.reads
+returns g c =
+    answers_by g.S.Store g.Q.Questions.answers_as (λ book. length book) _ _ _ _ (λ trees book answers. (g.Q.Questions.judged_as trees book answers).entry_count) (record { tx = refl; conn = c.in_ok-count.ensures.same_reference })
+    c.in_ok-count.ensures.reads c.in_ok-count.ensures.any_rows

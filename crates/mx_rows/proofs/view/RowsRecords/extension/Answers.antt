@@ -4,4 +4,6 @@ use Rattle.mx_rows.proofs.ViewLemmas.{answers_by}
 use Rattle.mx_rows.proofs.view.RowsRecords.extension.Goals as goal
 
 pub returns : goal.returns
-returns g c = answers_by g.S.Store (λ book. extension book c.args.doc.now) _ _ _ (record { tx = refl; conn = c.extension.ensures.same_reference }) c.extension.ensures.reads
+returns g c =
+    answers_by g.S.Store g.Q.Questions.answers_as (λ book. extension book c.args.doc.now) _ _ _ _ (λ trees book answers. (g.Q.Questions.judged_as trees book answers).extension c.args.doc.now)
+    (record { tx = refl; conn = c.extension.ensures.same_reference }) c.extension.ensures.reads c.extension.ensures.any_rows

@@ -4,4 +4,6 @@ use Rattle.mx_rows.proofs.ViewLemmas.{answers_by}
 use Rattle.mx_rows.proofs.view.RowsRecords.has_room_for_component.Goals as goal
 
 pub returns : goal.returns
-returns g c = answers_by g.S.Store (λ book. has_room_for_component book) _ _ _ (record { tx = refl; conn = c.has_room_for_component.ensures.same_reference }) c.has_room_for_component.ensures.reads
+returns g c =
+    answers_by g.S.Store g.Q.Questions.answers_as (λ book. has_room_for_component book) _ _ _ _ (λ trees book answers. (g.Q.Questions.judged_as trees book answers).room_for_component)
+    (record { tx = refl; conn = c.has_room_for_component.ensures.same_reference }) c.has_room_for_component.ensures.reads c.has_room_for_component.ensures.any_rows

@@ -4,4 +4,6 @@ use Rattle.mx_rows.proofs.ViewLemmas.{answers_by}
 use Rattle.mx_rows.proofs.view.RowsRecords.is_accomplished.Goals as goal
 
 pub returns : goal.returns
-returns g c = answers_by g.S.Store (λ book. is_accomplished book c.args.item.now c.args.id.now) _ _ _ (record { tx = refl; conn = c.is_accomplished.ensures.same_reference }) c.is_accomplished.ensures.reads
+returns g c =
+    answers_by g.S.Store g.Q.Questions.answers_as (λ book. is_accomplished book c.args.item.now c.args.id.now) _ _ _ _ (λ trees book answers. (g.Q.Questions.judged_as trees book answers).is_accomplished c.args.item.now c.args.id.now)
+    (record { tx = refl; conn = c.is_accomplished.ensures.same_reference }) c.is_accomplished.ensures.reads c.is_accomplished.ensures.any_rows

@@ -4,4 +4,6 @@ use Rattle.mx_rows.proofs.ViewLemmas.{answers_by}
 use Rattle.mx_rows.proofs.view.RowsRecords.is_rectified.Goals as goal
 
 pub returns : goal.returns
-returns g c = answers_by g.S.Store (λ book. is_rectified book c.args.doc.now) _ _ _ (record { tx = refl; conn = c.is_rectified.ensures.same_reference }) c.is_rectified.ensures.reads
+returns g c =
+    answers_by g.S.Store g.Q.Questions.answers_as (λ book. is_rectified book c.args.doc.now) _ _ _ _ (λ trees book answers. (g.Q.Questions.judged_as trees book answers).is_rectified c.args.doc.now)
+    (record { tx = refl; conn = c.is_rectified.ensures.same_reference }) c.is_rectified.ensures.reads c.is_rectified.ensures.any_rows

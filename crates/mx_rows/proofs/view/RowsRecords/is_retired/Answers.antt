@@ -4,4 +4,6 @@ use Rattle.mx_rows.proofs.ViewLemmas.{answers_by}
 use Rattle.mx_rows.proofs.view.RowsRecords.is_retired.Goals as goal
 
 pub returns : goal.returns
-returns g c = answers_by g.S.Store (λ book. life_ended book c.args.kind.now c.args.item.now c.args.day) _ _ _ (record { tx = refl; conn = c.is_retired.ensures.same_reference }) c.is_retired.ensures.reads
+returns g c =
+    answers_by g.S.Store g.Q.Questions.answers_as (λ book. life_ended book c.args.kind.now c.args.item.now c.args.day) _ _ _ _ (λ trees book answers. (g.Q.Questions.judged_as trees book answers).is_retired c.args.kind.now c.args.item.now c.args.day)
+    (record { tx = refl; conn = c.is_retired.ensures.same_reference }) c.is_retired.ensures.reads c.is_retired.ensures.any_rows

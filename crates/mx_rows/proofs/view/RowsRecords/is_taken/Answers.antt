@@ -4,4 +4,6 @@ use Rattle.mx_rows.proofs.ViewLemmas.{answers_by}
 use Rattle.mx_rows.proofs.view.RowsRecords.is_taken.Goals as goal
 
 pub returns : goal.returns
-returns g c = answers_by g.S.Store (λ book. is_taken book c.args.tail.now c.args.position.now) _ _ _ (record { tx = refl; conn = c.is_taken.ensures.same_reference }) c.is_taken.ensures.reads
+returns g c =
+    answers_by g.S.Store g.Q.Questions.answers_as (λ book. is_taken book c.args.tail.now c.args.position.now) _ _ _ _ (λ trees book answers. (g.Q.Questions.judged_as trees book answers).is_taken c.args.tail.now c.args.position.now)
+    (record { tx = refl; conn = c.is_taken.ensures.same_reference }) c.is_taken.ensures.reads c.is_taken.ensures.any_rows

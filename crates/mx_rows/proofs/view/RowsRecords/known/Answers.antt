@@ -6,4 +6,6 @@ use Rattle.mx_rows.proofs.ViewLemmas.{answers_by}
 use Rattle.mx_rows.proofs.view.RowsRecords.known.Goals as goal
 
 pub returns : goal.returns
-returns g c = answers_by g.S.Store (λ book. option_map (known_same c.args.command.now) (known_from c.args.command.now.doc 1 book)) _ _ _ (record { tx = refl; conn = c.known.ensures.same_reference }) c.known.ensures.reads
+returns g c =
+    answers_by g.S.Store g.Q.Questions.answers_as (λ book. option_map (known_same c.args.command.now) (known_from c.args.command.now.doc 1 book)) _ _ _ _ (λ trees book answers. (g.Q.Questions.judged_as trees book answers).known c.args.command.now c.doc.ensures.shape)
+    (record { tx = refl; conn = c.known.ensures.same_reference }) c.known.ensures.reads c.known.ensures.any_rows

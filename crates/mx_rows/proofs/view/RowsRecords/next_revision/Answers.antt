@@ -4,4 +4,6 @@ use Rattle.mx_rows.proofs.ViewLemmas.{answers_by}
 use Rattle.mx_rows.proofs.view.RowsRecords.next_revision.Goals as goal
 
 pub returns : goal.returns
-returns g c = answers_by g.S.Store (λ book. next_revision book c.args.kind.now) _ _ _ (record { tx = refl; conn = c.next_revision.ensures.same_reference }) c.next_revision.ensures.reads
+returns g c =
+    answers_by g.S.Store g.Q.Questions.answers_as (λ book. next_revision book c.args.kind.now) _ _ _ _ (λ trees book answers. (g.Q.Questions.judged_as trees book answers).next_revision c.args.kind.now)
+    (record { tx = refl; conn = c.next_revision.ensures.same_reference }) c.next_revision.ensures.reads c.next_revision.ensures.any_rows

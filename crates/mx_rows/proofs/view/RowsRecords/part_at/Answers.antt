@@ -4,4 +4,6 @@ use Rattle.mx_rows.proofs.ViewLemmas.{answers_by}
 use Rattle.mx_rows.proofs.view.RowsRecords.part_at.Goals as goal
 
 pub returns : goal.returns
-returns g c = answers_by g.S.Store (λ book. part_at book c.args.tail.now c.args.position.now) _ _ _ (record { tx = refl; conn = c.part_at.ensures.same_reference }) c.part_at.ensures.reads
+returns g c =
+    answers_by g.S.Store g.Q.Questions.answers_as (λ book. part_at book c.args.tail.now c.args.position.now) _ _ _ _ (λ trees book answers. (g.Q.Questions.judged_as trees book answers).part_at c.args.tail.now c.args.position.now)
+    (record { tx = refl; conn = c.part_at.ensures.same_reference }) c.part_at.ensures.reads c.part_at.ensures.any_rows

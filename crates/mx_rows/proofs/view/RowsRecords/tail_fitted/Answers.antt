@@ -4,4 +4,6 @@ use Rattle.mx_rows.proofs.ViewLemmas.{answers_by}
 use Rattle.mx_rows.proofs.view.RowsRecords.tail_fitted.Goals as goal
 
 pub returns : goal.returns
-returns g c = answers_by g.S.Store (λ book. tail_fitted book c.args.serial.now) _ _ _ (record { tx = refl; conn = c.tail_fitted.ensures.same_reference }) c.tail_fitted.ensures.reads
+returns g c =
+    answers_by g.S.Store g.Q.Questions.answers_as (λ book. tail_fitted book c.args.serial.now) _ _ _ _ (λ trees book answers. (g.Q.Questions.judged_as trees book answers).tail_fitted c.args.serial.now)
+    (record { tx = refl; conn = c.tail_fitted.ensures.same_reference }) c.tail_fitted.ensures.reads c.tail_fitted.ensures.any_rows

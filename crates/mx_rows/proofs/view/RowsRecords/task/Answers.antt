@@ -4,4 +4,6 @@ use Rattle.mx_rows.proofs.ViewLemmas.{answers_by}
 use Rattle.mx_rows.proofs.view.RowsRecords.task.Goals as goal
 
 pub returns-clause-answers : goal.returns-clause-answers
-returns-clause-answers g c = answers_by g.S.Store (λ book. task_of book c.args.kind.now c.args.id.now) _ _ _ (record { tx = refl; conn = c.task.ensures.same_reference }) c.task.ensures.reads
+returns-clause-answers g c =
+    answers_by g.S.Store g.Q.Questions.answers_as (λ book. task_of book c.args.kind.now c.args.id.now) _ _ _ _ (λ trees book answers. (g.Q.Questions.judged_as trees book answers).task c.args.kind.now c.args.id.now)
+    (record { tx = refl; conn = c.task.ensures.same_reference }) c.task.ensures.reads c.task.ensures.any_rows

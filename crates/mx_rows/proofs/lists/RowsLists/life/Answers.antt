@@ -1,7 +1,0 @@
-use Rattle.std.proofs.Common.{refl}
-use Rattle.mx_book.specs.Life.{life_now}
-use Rattle.mx_rows.proofs.ViewLemmas.{answers_by}
-use Rattle.mx_rows.proofs.lists.RowsLists.life.Goals as goal
-
-pub returns : goal.returns
-returns g c = answers_by g.S.Store (λ book. life_now book c.args.item.now) _ _ _ (record { tx = refl; conn = c.life.ensures.same_reference }) c.life.ensures.reads

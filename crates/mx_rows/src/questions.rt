@@ -1,0 +1,39 @@
+//! Which questions rows are asked.
+
+/// The questions that rows are asked: those of the judge at least. Where rows answer each of them as a book does, they speak
+/// for that book, whether or not their tables stand for it.
+pub trait Questions {
+    ghost use Rattle.std.specs.Prelude.{List};
+    ghost use Rattle.sqlite.specs.Tree.{Trees};
+    ghost use Rattle.mx_command.specs.Act.{Entry};
+    ghost use Rattle.mx_rows.specs.Answering.{AnswerAs};
+
+    ghost answers_as: { Trees → List Entry → Type 0 };
+
+    ghost judged_as: { (trees : Trees) (book : List Entry)
+        → answers_as trees book → AnswerAs trees book };
+}
+
+/// Those of the judge.
+#[derive(Clone, Copy, Drop)]
+pub struct JudgeQuestions;
+
+impl Questions for JudgeQuestions {
+    ghost use Rattle.mx_rows.specs.Answering.{AnswerAs};
+
+    ghost answers_as = { AnswerAs };
+
+    ghost judged_as = { λ trees book answers. answers };
+}
+
+/// Those of the lists, which ask what the judge asks and more.
+#[derive(Clone, Copy, Drop)]
+pub struct ListQuestions;
+
+impl Questions for ListQuestions {
+    ghost use Rattle.mx_rows.specs.Answering.{AnswerListsAs};
+
+    ghost answers_as = { AnswerListsAs };
+
+    ghost judged_as = { λ trees book answers. answers.judge };
+}
