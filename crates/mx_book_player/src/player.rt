@@ -5,6 +5,7 @@ use mx_book::{Book, Reply, Verdict};
 use mx_cases::{Plays, Unmade, answer_of, command_of, reply_in, room_for_reply, verdict_text};
 use mx_command::Command;
 use mx_register_lines::registers;
+use mx_verified_lines::verified;
 use std::alloc::{AllocError, Global};
 
 /// A book in memory.
@@ -60,6 +61,9 @@ impl BookPlayer {
             return Ok(Some(answer));
         }
         if let Some(answer) = defects::answer(self.alloc, &self.book, words)? {
+            return Ok(Some(answer));
+        }
+        if let Some(answer) = verified::answer(self.alloc, &self.book, words)? {
             return Ok(Some(answer));
         }
         registers::answer(self.alloc, &self.book, words)

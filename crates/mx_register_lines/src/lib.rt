@@ -9,6 +9,8 @@ mod same;
 mod shown;
 mod tasks;
 
+pub use row_texts::kind_word;
+pub use rows::rows_of;
 pub use same::are_same;
 pub use shown::{command_text, day_text};
 pub use tasks::append_limit;

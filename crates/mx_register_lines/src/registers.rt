@@ -43,8 +43,8 @@ fn registers(alloc: Global, book: &Book) -> Result<String, Unmade> {
     book_of(alloc, book, &kept)
 }
 
-// Leaves only so many rows of a table, the first.
-fn keep_first(kept: &mut Registers, table: &str, count: usize) -> Result<(), Unmade> {
+/// Leaves only so many rows of a table, the first.
+pub fn keep_first(kept: &mut Registers, table: &str, count: usize) -> Result<(), Unmade> {
     match table {
         "entries" => kept.entries.truncate(count),
         "aircraft" => kept.rows.aircraft.truncate(count),

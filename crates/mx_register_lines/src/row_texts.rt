@@ -10,8 +10,8 @@ use mx_typed_rows::{
 };
 use std::alloc::{AllocError, Global};
 
-// The word of a kind of entry, as a command is written.
-fn kind_word(kind: EntryKind) -> &'static str {
+/// The word of a kind of entry, as a command is written.
+pub fn kind_word(kind: EntryKind) -> &'static str {
     match kind {
         EntryKind::AddAircraft => "aircraft",
         EntryKind::AddComponent => "component",

@@ -1,0 +1,6 @@
+pub mod Bases
+pub mod Merging
+pub mod Sorted
+pub mod Spans
+pub mod Tables
+pub mod Verified
