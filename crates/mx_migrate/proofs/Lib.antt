@@ -1,3 +1,4 @@
 pub mod CommitLemmas
 pub mod RunLemmas
 pub mod WriteLemmas
+pub mod ShiftLemmas

@@ -1,5 +1,5 @@
 -- What the statements of a step do, from what each call does.
-use Rattle.std.proofs.Common.{◌≡◌, ◌⊎◌, inl, inr, ℕ, Bool, true, false, ◌&&◌, List, [], ◌∷◌, map, Some, Ok, Err, Result, IsTrue, refl, sym, ap, subst, ◌∙◌, ◌<◌, take, arith}
+use Rattle.std.proofs.Common.{◌≡◌, ◌⊎◌, inl, inr, ℕ, Bool, true, false, ◌&&◌, List, [], ◌∷◌, map, filter, pos, Some, Ok, Err, Result, IsTrue, refl, sym, ap, subst, ◌∙◌, ◌<◌, take, arith}
 use Rattle.std.specs.Prelude.{Contains, IsErrAnd}
 use Rattle.std.specs.List.{list_all}
 use Rattle.std.proofs.lemmas.List.{length-map}
@@ -7,6 +7,7 @@ use lib.ListN.{get_or-map}
 use Rattle.std.proofs.lemmas.List.Elements.{Contains-append_right}
 use Rattle.std.proofs.lemmas.List.Sorted.{IsPermutation-sym}
 use Rattle.std.specs.List.Sorted.{IsPermutation}
+use Rattle.sqlite.specs.declared.types.Value.TheVariants.{Int}
 use Rattle.sqlite.specs.Order.{Row}
 use Rattle.sqlite.specs.Tree.{Trees}
 use Rattle.sqlite.specs.Effect.{Database}
@@ -29,7 +30,7 @@ use Rattle.mx_kept.specs.Cells.{kept_sector1}
 use Rattle.mx_kept.specs.Family.{IsReadableAs}
 use Rattle.mx_kept.specs.Schemas.{HasOwn1}
 use Rattle.mx_chosen.specs.Calls.{ReadsFirst}
-use Rattle.mx_chosen.specs.Choices.{is_any}
+use Rattle.mx_chosen.specs.Choices.{is_any, is_up_to}
 use Rattle.mx_stands.specs.Schemas.{schema_at}
 use Rattle.mx_stands.specs.Stands.{LiesAt}
 use Rattle.mx_moves.specs.Changes.{Alters, AllRise, Reaches}
@@ -37,7 +38,9 @@ use Rattle.mx_steps.specs.Sectors.{is_next_from, sectors_moved, MovesSectors, Is
 use Rattle.mx_migrate.specs.Steps.{Runs}
 use Rattle.mx_steps.specs.Tables.{table_made, MakesSectors, ChangesToSpans, IsLeftOver}
 use Rattle.mx_migrate.specs.Seeing.{SeesNone}
+use Rattle.mx_steps.proofs.FrontLemmas.{front_is}
 use Rattle.mx_steps.proofs.PageLemmas.{among, page_damaged, permutation_none}
+use Rattle.mx_steps.proofs.SectorLemmas.{seq_of}
 use Rattle.mx_steps.proofs.StandsLemmas.{all_rise, reaches_rows}
 
 module _ (IsAt : Point → Type 0) (Makes : Point → Point → Trees → Trees → Type 0) (IsOff : Point → TableName → Trees → Type 0) (old new : State) (within : IsWithin old new) where
@@ -152,7 +155,9 @@ module _ {V : Type 0} (mark : ℕ) (items : V → List SectorRow) (old mid : Sta
               let reached = w.reaches clean (stays.mode, stays.is_open) (ap (λ (d : Database). d.schema) same ∙ has_now) rise in
               let from_old : Reaches (schema_at to) (sectors_moved (items v) to) old.now new.now = subst (λ q. Reaches (schema_at q) (sectors_moved (items v) to) old.now new.now) (sym is) (subst (λ d. Reaches (schema_at (moving 1 0)) (sectors_moved (items v) to) d new.now) same reached) in
               let it = reaches_rows (moving 1 mark) to (sectors_moved (items v) to) old.now new.now has_now lies_now from_old in
-              (it.0, record { rows = items v; first = r.rows (early clean) own; fit = r.fits; next = next; point = is; made = it.1 });
+              let first = r.rows (early clean) own in
+              let gone = ap (λ (q : Point). filter (is_up_to 0 (Int (pos q.mark))) (rows_in sector1 old.now.trees)) is ∙ front_is seq_of kept_sector1.as_cells (λ _. refl) sector1 (λ _. refl) 63 mark old.now.trees (items v) (lies_now.rises table.Sector1 refl) first in
+              (it.0, record { rows = items v; first = first; fit = r.fits; next = next; point = is; gone = gone; made = it.1 });
           cause = tt;
           damaged = λ _ _ _ _ name never. absurd cc;
           inside = λ clean begun. (let stays = r.inside (early clean) begun in stays_then old mid new stays (w.inside clean (stays.mode, stays.is_open)));

@@ -5,12 +5,14 @@
 //! next point, and `commit_step` makes one and commits it, whatever the type is.
 #![tactic(auto)]
 
+pub mod components;
 pub mod creating;
 pub mod fault;
 pub mod sectors;
 pub mod spans;
 pub mod step;
 
+pub use components::MoveComponent;
 pub use creating::CreateSectors;
 pub use fault::MoveFault;
 pub use sectors::MoveSectors;

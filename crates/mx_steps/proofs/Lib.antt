@@ -1,5 +1,6 @@
 pub mod StandsLemmas
 pub mod PageLemmas
+pub mod FrontLemmas
 pub mod SectorLemmas
 pub mod MadeLemmas
 pub mod TurnLemmas

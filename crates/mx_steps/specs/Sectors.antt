@@ -1,5 +1,5 @@
 -- The step that moves sectors, at most 64 a commit.
-use Rattle.std.specs.Prelude.{◌≡◌, ◌⊎◌, ◌&&◌, ℕ, pos, nat_lt, nat_le, Bool, true, false, List, Some, map, All, Contains}
+use Rattle.std.specs.Prelude.{◌≡◌, ◌⊎◌, ◌&&◌, ℕ, pos, nat_lt, nat_le, Bool, true, false, List, Some, map, filter, All, Contains}
 use Rattle.std.specs.List.{list_all}
 use Rattle.sqlite.specs.declared.types.Value.TheVariants.{Int}
 use Rattle.sqlite.specs.Order.{Row}
@@ -30,13 +30,14 @@ is_next_from mark row = nat_lt mark row.seq && nat_le row.seq MOST_ENTRIES
 abbrev pub sectors_moved : List SectorRow → Point → TableName → List Row → List Row
 sectors_moved rows to name old = point_set to name (less kept_sector1 (is_up_to 0 (Int (pos to.mark))) name (on_top kept_sector2 rows name old))
 
--- the first 64 sectors of the old table, each of which has still to move, moved, and the point is that of the last of them
+-- the first 64 sectors of the old table, each of which has still to move, moved, and the point is that of the last of them, up to which the old table has just these
 pub record MovesSectors (mark : ℕ) (to : Point) (old new : Trees) : Type 0 where
   pub rows : List SectorRow
   pub first : AreFirst (Some 64) kept_sector1.order sector1 is_any old (map kept_sector1.as_cells rows)
   pub fit : All FitsSector rows
   pub next : list_all (is_next_from mark) rows ≡ true
   pub point : to ≡ moving 1 (last_moved (λ row. row.seq) mark rows)
+  pub gone : filter (is_up_to 0 (Int (pos to.mark))) (rows_in sector1 old) ≡ map kept_sector1.as_cells rows
   pub made : MakesRows (sectors_moved rows to) to old new
 
 -- a row of the old table is no sector, or one that should have moved before, or one whose number no entry can have
