@@ -8,6 +8,7 @@
 pub mod components;
 pub mod creating;
 pub mod fault;
+pub mod install;
 pub mod sectors;
 pub mod spans;
 pub mod step;
