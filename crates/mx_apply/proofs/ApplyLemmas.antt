@@ -1,12 +1,12 @@
 -- What becomes of a command inside a transaction.
-use Rattle.std.proofs.Common.{◌≡◌, ◌⊎◌, inl, inr, true, ℕ, List, ◌+◌, length, Ok, Err, Result, IsTrue, refl, sym, ap, subst, ◌∙◌, arith}
+use Rattle.std.proofs.Common.{◌≡◌, inl, inr, true, ℕ, List, ◌+◌, length, Ok, Err, Result, IsTrue, refl, sym, ap, subst, ◌∙◌, arith}
 use Rattle.std.specs.Prelude.{Contains, IsErrAnd}
 use Rattle.sqlite.specs.Schema.{Schema}
 use Rattle.sqlite.specs.Effect.{Database}
 use Rattle.sqlite.specs.State.{State, HasCleanDisk}
+use Rattle.sqlite.specs.Tree.{Trees}
 use Rattle.mx_command.specs.Act.{Entry}
 use Rattle.mx_command.specs.Shape.{has_shape}
-use Rattle.mx_book.specs.Judge.{judge}
 use Rattle.mx_book.specs.Run.{reply, reply_to}
 use Rattle.mx_book.specs.declared.verdict.Reply.{Reply}
 use Rattle.mx_book.specs.declared.verdict.Reply.TheVariants as answers
@@ -23,12 +23,13 @@ use Rattle.mx_stands.specs.Stands.{StandsAt}
 use Rattle.mx_stands.proofs.SchemaLemmas.{has_tables}
 use Rattle.mx_tables.specs.Calls.{OnRead}
 use Rattle.mx_tables.specs.Sets.{GainsRows, IsInside}
+use Rattle.mx_lookups.specs.AnyRows.{ReadsAny}
 use Rattle.mx_lookups.specs.Reads.{IsStop, Reads, StandsFor}
 use Rattle.mx_writing.specs.Changes.{AllRise, WritesRows}
 use Rattle.mx_writing.specs.Written.{IsSettled, with_rows, written_point}
 use Rattle.mx_writing.proofs.StandLemmas.{stand}
-use Rattle.mx_apply.specs.Applies.{IsNoDamage, Runs, Wrote, behind}
-use Rattle.mx_apply.specs.Judged.{IsJudged}
+use Rattle.mx_apply.specs.Applies.{IsNoDamage, ReplyOf, Runs, Wrote, behind}
+use Rattle.mx_apply.specs.Judged.{IsJudged, JudgedOf}
 use Rattle.mx_apply.specs.declared.judged.Judged.{Judged}
 use Rattle.mx_apply.specs.declared.judged.Judged.TheVariants.{New, Already, Refused}
 
@@ -50,6 +51,7 @@ module _ (command : Entry) (old mid : State) where
   -- the call did not answer
   pub unread : (e : TableFault) → Reads {V = Judged} (IsJudged command) old mid (Err e) → Runs command old mid (Err e)
   unread e r = record {
+    judged = λ _ _. tt;
     ran = λ clean begun book has stands. sure e r.cause (λ name is. r.no_book clean name (ap Err is) book (stands_for old book has stands));
     wrote = λ _ _. tt;
     cause = r.cause;
@@ -58,9 +60,10 @@ module _ (command : Entry) (old mid : State) where
   }
 
   -- the command is not new
-  module _ (j : Judged) (r : Reads (IsJudged command) old mid (Ok j)) where
-    told : (a : Reply) → ((book : List Entry) → IsJudged command book j → a ≡ reply book command) → ((book : List Entry) → behind book command a ≡ book) → Wrote a old mid → Runs command old mid (Ok a)
-    told a says same_book wrote = record {
+  module _ (j : Judged) (r : Reads (IsJudged command) old mid (Ok j)) (any : ReadsAny (JudgedOf command) old mid (Ok j)) where
+    told : (a : Reply) → ((trees : Trees) → JudgedOf command trees j → ReplyOf command trees a) → ((book : List Entry) → IsJudged command book j → a ≡ reply book command) → ((book : List Entry) → behind book command a ≡ book) → Wrote a old mid → Runs command old mid (Ok a)
+    told a by says same_book wrote = record {
+      judged = λ clean has. by old.now.trees (any.found clean has);
       ran = λ clean begun book has stands.
           let same = r.unchanged clean has in (
             says book (r.read clean book (stands_for old book has stands)),
@@ -73,20 +76,21 @@ module _ (command : Entry) (old mid : State) where
       within = r.within;
     }
 
-  pub already : (seq : ℕ) → Reads (IsJudged command) old mid (Ok (Already seq)) → Runs command old mid (Ok (answers.Already seq))
-  already seq r = told (Already seq) r (answers.Already seq) (λ book is. sym (ap (reply_to (length book + 1)) is)) (λ _. refl) tt
+  pub already : (seq : ℕ) → Reads (IsJudged command) old mid (Ok (Already seq)) → ReadsAny (JudgedOf command) old mid (Ok (Already seq)) → Runs command old mid (Ok (answers.Already seq))
+  already seq r any = told (Already seq) r any (answers.Already seq) (λ trees it. it) (λ book is. sym (ap (reply_to (length book + 1)) is)) (λ _. refl) tt
 
-  pub refused : (refusal : _) → Reads (IsJudged command) old mid (Ok (Refused refusal)) → Runs command old mid (Ok (answers.Refused refusal))
-  refused refusal r = told (Refused refusal) r (answers.Refused refusal) (λ book is. sym (ap (reply_to (length book + 1)) is)) (λ _. refl) tt
+  pub refused : (refusal : _) → Reads (IsJudged command) old mid (Ok (Refused refusal)) → ReadsAny (JudgedOf command) old mid (Ok (Refused refusal)) → Runs command old mid (Ok (answers.Refused refusal))
+  refused refusal r any = told (Refused refusal) r any (answers.Refused refusal) (λ trees it. it) (λ book is. sym (ap (reply_to (length book + 1)) is)) (λ _. refl) tt
 
   -- it is new
-  module _ (x : CommandRows) (r : Reads (IsJudged command) old mid (Ok (New x))) (new : State) where
+  module _ (x : CommandRows) (r : Reads (IsJudged command) old mid (Ok (New x))) (any : ReadsAny (JudgedOf command) old mid (Ok (New x))) (new : State) where
     begun_too : HasCleanDisk mid → IsTrue old.in_transaction → IsTrue mid.in_transaction
     begun_too clean begun = (r.inside clean begun).mode
 
     -- its rows were not written
     pub unwritten : {U : Type 0} (e : TableFault) → e ≡ fault.Store → WritesRows {V = U} IsSettled (with_rows x) mid new (Err e) → Runs command old new (Err e)
     unwritten e store w = record {
+      judged = λ _ _. tt;
       ran = λ _ _ _ _ _. inr store;
       wrote = λ _ _. tt;
       cause = inr (inl store);
@@ -110,6 +114,7 @@ module _ (command : Entry) (old mid : State) where
 
       pub written : Runs command old new (Ok (answers.Accepted x.entry.seq))
       written = record {
+        judged = λ clean has. any.found (early clean) has;
         ran = λ clean begun book has stands.
             let said = r.read (early clean) book (stands_for old book has stands) in
             let number : x.entry.seq ≡ length book + 1 = ap (λ (row : EntryRow). row.seq) said.1.entry in

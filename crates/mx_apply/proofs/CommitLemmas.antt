@@ -1,11 +1,11 @@
 -- From what becomes of a command inside a transaction to its commit.
-use Rattle.std.proofs.Common.{◌≡◌, ◌≢◌, ◌⊎◌, inl, inr, true, false, ℕ, List, [], ◌∷◌, ◌++◌, Ok, Err, Result, IsTrue, refl, sym, ap, subst, ◌∙◌, arith}
+use Rattle.std.proofs.Common.{◌≡◌, ◌≢◌, inl, inr, true, false, ℕ, List, [], ◌∷◌, ◌++◌, Ok, Err, Result, IsTrue, refl, sym, subst, ◌∙◌, arith}
 use Rattle.std.specs.Prelude.{Contains, IfErr, IfOk, MatchResult}
 use Rattle.sqlite.specs.Store.{Ghosts}
 use Rattle.sqlite.specs.Schema.{Schema}
 use Rattle.sqlite.specs.Tree.{Trees}
 use Rattle.sqlite.specs.Effect.{Database}
-use Rattle.sqlite.specs.State.{State, HasCleanDisk, Shows, Survives, IsRolledBack}
+use Rattle.sqlite.specs.State.{HasCleanDisk, Shows, Survives, IsRolledBack}
 use Rattle.sqlite.specs.Held.{Held, state}
 use Rattle.sqlite.proofs.Callers.{survives_begin}
 use Rattle.sqlite.proofs.StateLemmas.{survives_then}
@@ -83,6 +83,7 @@ module _ {S : Type 0} (g : Ghosts S) (old last : Held S) (command : Entry) where
         drops never said kept same = record {
           clean = omega (arith, drop.clean, runs.within.survives.clean);
           cause = runs.cause;
+          judged = λ clean has. runs.judged (mid clean) has;
           untouched = λ _. nothing;
           written = λ _ seq is. absurd (never seq is);
           survives = survive;
@@ -141,6 +142,7 @@ module _ {S : Type 0} (g : Ghosts S) (old last : Held S) (command : Entry) where
       in_doubt = record {
         clean = omega (arith, commit.clean, runs.within.survives.clean);
         cause = inr (inl refl);
+        judged = λ _ _. tt;
         untouched = λ idle. absurd (idle.store refl);
         written = λ _ _ is. absurd cc;
         survives = survives_it;
@@ -154,6 +156,7 @@ module _ {S : Type 0} (g : Ghosts S) (old last : Held S) (command : Entry) where
       commits settled shown = record {
         clean = omega (arith, commit.clean, runs.within.survives.clean);
         cause = tt;
+        judged = λ clean has. runs.judged (late clean) has;
         untouched = λ idle. absurd (idle.accepted seq refl);
         written = λ clean n is.
             let it = runs.wrote (late clean) refl in

@@ -1,11 +1,15 @@
 -- What a command that is handed in does to a file, over any rows and over the tables of a book.
 use Rattle.std.specs.Prelude.{⊤, ◌≡◌, ◌≢◌, ◌⊎◌, ◌≤◌, ℕ, List, [], ◌∷◌, ◌++◌, Result, Ok, Err, IsTrue, IfOk, IfErr, MatchResult}
 use Rattle.sqlite.specs.State.{State, HasCleanDisk, Survives}
+use Rattle.sqlite.specs.Tree.{Trees}
 use Rattle.sqlite_trees.specs.View.{doubt}
 use Rattle.mx_command.specs.Act.{Entry}
+use Rattle.mx_book.specs.Judge.{judge}
 use Rattle.mx_book.specs.Run.{reply}
 use Rattle.mx_book.specs.declared.verdict.Reply.{Reply}
-use Rattle.mx_book.specs.declared.verdict.Reply.TheVariants.{Accepted}
+use Rattle.mx_book.specs.declared.verdict.Reply.TheVariants.{Accepted, Already, Refused}
+use Rattle.mx_book.specs.declared.verdict.Verdict.{Verdict}
+use Rattle.mx_book.specs.declared.verdict.Verdict.TheVariants as verdicts
 use Rattle.mx_changes.specs.declared.rows.CommandRows.{CommandRows}
 use Rattle.mx_layout.specs.declared.fault.TableFault.{TableFault}
 use Rattle.mx_layout.specs.declared.fault.TableFault.TheVariants.{Memory, Store}
@@ -15,6 +19,7 @@ use Rattle.mx_stands.specs.Stands.{IsEither, RestsAt, StandsAt}
 use Rattle.mx_tables.specs.Calls.{OnRead}
 use Rattle.mx_tables.specs.Sets.{GainsRows}
 use Rattle.mx_lookups.specs.Reads.{IsStop}
+use Rattle.mx_rows.specs.Answering.{AnswerAs}
 use Rattle.mx_writing.specs.Changes.{AllRise}
 use Rattle.mx_writing.specs.Commits.{IsWritten, MayWrite}
 use Rattle.mx_writing.specs.Written.{IsSettled, with_rows, written_point}
@@ -23,6 +28,16 @@ use Rattle.mx_writing.specs.Written.{IsSettled, with_rows, written_point}
 abbrev pub behind : List Entry → Entry → Reply → List Entry
 behind book command (Accepted seq) = book ++ command ∷ []
 behind book command _ = book
+
+-- the reply is by this verdict
+abbrev pub RepliesBy : Verdict → Reply → Type 0
+RepliesBy verdict (Accepted seq) = verdict ≡ verdicts.New
+RepliesBy verdict (Already seq) = verdict ≡ verdicts.Already seq
+RepliesBy verdict (Refused refusal) = verdict ≡ verdicts.Refused refusal
+
+-- the reply is by the verdict of each book as which the rows answer
+abbrev pub ReplyOf : Entry → Trees → Reply → Type 0
+ReplyOf command trees reply = (book : List Entry) → AnswerAs trees book → RepliesBy (judge book command) reply
 
 -- want of memory or the store: no table is damaged
 abbrev pub IsNoDamage : TableFault → Type 0
@@ -43,6 +58,7 @@ pub record Runs (command : Entry) (old new : State) (result : Result Reply Table
   pub ran : HasCleanDisk new → IsTrue old.in_transaction → (book : List Entry) → old.now.schema ≡ schema_at written_point → StandsAt written_point old.now.trees book
       → MatchResult result (λ r. (r ≡ reply book command) × (new.now.schema ≡ schema_at written_point) × StandsAt written_point new.now.trees (behind book command r)) IsNoDamage
   pub wrote : HasCleanDisk new → IsTrue old.in_transaction → IfOk result (λ r. Wrote r old new)
+  pub judged : HasCleanDisk new → old.now.schema ≡ schema_at written_point → IfOk result (ReplyOf command old.now.trees)
   pub cause : IfErr result IsStop
   pub inside : HasCleanDisk new → IsTrue old.in_transaction → OnRead result (StaysInside old new)
   pub within : IsWithin old new
@@ -51,7 +67,8 @@ pub record Runs (command : Entry) (old new : State) (result : Result Reply Table
 pub record Applies (command : Entry) (old new : State) (result : Result Reply TableFault) : Type 0 where
   pub clean : doubt old.is_clean ≤ doubt new.is_clean
   pub cause : IfErr result IsStop
-  -- over any rows: only a command that was accepted, or stopped by the store, changes anything; where it was accepted, rows of a command whose entry has the number that is replied were written and committed; and a crash leaves the tables from before or those with this one commit
+  -- over any rows: the reply is by the verdict of each book as which the rows answer; only a command that was accepted, or stopped by the store, changes anything; where it was accepted, rows of a command whose entry has the number that is replied were written and committed; and a crash leaves the tables from before or those with this one commit
+  pub judged : HasCleanDisk new → old.now.schema ≡ schema_at written_point → IfOk result (ReplyOf command old.now.trees)
   pub untouched : IsIdle result → ChangesNothing old new
   pub written : HasCleanDisk new → (seq : ℕ) → result ≡ Ok (Accepted seq) → (x : CommandRows) × (x.entry.seq ≡ seq) × IsWritten x old new
   pub survives : Survives old new (λ trees. (x : CommandRows) × MayWrite x old trees)

@@ -1,8 +1,9 @@
 //! What the rows that a transaction shows say of a command.
 ghost use Rattle.std.specs.Prelude.{◌≡◌};
 ghost use Rattle.sqlite.specs.Held.{state};
+ghost use Rattle.mx_lookups.specs.AnyRows.{ReadsAny};
 ghost use Rattle.mx_lookups.specs.Reads.{Reads};
-ghost use Rattle.mx_apply.specs.Judged.{IsJudged};
+ghost use Rattle.mx_apply.specs.Judged.{IsJudged, JudgedOf};
 
 use mx_book::{Refusal, Verdict};
 use mx_changes::CommandRows;
@@ -35,6 +36,8 @@ pub fn verdict_and_rows<S: Alter>(
 ) -> Result<Judged, TableFault>
     ensures same_reference { tx.new.conn.ghost_name ≡ tx.old.conn.ghost_name }
     ensures reads { Reads (IsJudged command.now)
+        (state S.Store tx.old.conn.now) (state S.Store tx.new.conn.now) result }
+    ensures any_rows { ReadsAny (JudgedOf command.now)
         (state S.Store tx.old.conn.now) (state S.Store tx.new.conn.now) result }
 {
     let verdict = judge_by_rows(alloc, tx, command)?;

@@ -1,10 +1,10 @@
 use Rattle.std.proofs.Common.{rules, ◌≡◌, Err, Ok, subst}
 use Rattle.sqlite.specs.Held.{state}
 use Rattle.mx_layout.specs.declared.fault.TableFault.TheVariants.{Store}
-use Rattle.mx_book.specs.declared.verdict.Reply.TheVariants.{Accepted}
+use Rattle.mx_book.specs.declared.verdict.Reply.TheVariants.{Accepted, Already, Refused}
 use Rattle.mx_apply.specs.Applies.{Applies, Runs}
 use Rattle.mx_apply.proofs.ApplyLemmas.{handed_on}
-use Rattle.mx_apply.proofs.CommitLemmas.{commits, in_doubt, stops}
+use Rattle.mx_apply.proofs.CommitLemmas.{commits, in_doubt, stops, tells}
 use Rattle.mx_apply.proofs.applying.apply.Goals as goal
 
 pub returns-in_err-seq-clause-applies : goal.returns-in_err-seq-clause-applies
@@ -44,3 +44,29 @@ returns-in-Err-clause-applies g c =
     let runs = subst (λ h. Runs command (state g.S.Store h) (state g.S.Store last) (Ok (Accepted seq))) c.transaction-tx.ensures.begun said in
     subst (λ h. Applies command (state g.S.Store old) (state g.S.Store h) (Err Store)) same
     (in_doubt g.S.Store old last command end seq runs c.commit.ensures.survives)
+
+pub returns-in-Already-clause-applies : goal.returns-in-Already-clause-applies
+returns-in-Already-clause-applies g c =
+    let command = c.args.command.now in
+    let old = c.args.conn.now in
+    let last = c.run_command.new.tx.conn.now in
+    let end = c.drop-tx-in-Already-1.new.self.0 in
+    let same : end ≡ c.conn-in-Already-1.given.0 = search rules in
+    let a = Already c.in-Already.seq in
+    let said = subst (λ a. Runs command (state g.S.Store c.transaction-tx.result.conn.now) (state g.S.Store last) (Ok a)) c.in-Already.is c.in_ok-seq.ensures.runs in
+    let runs = subst (λ h. Runs command (state g.S.Store h) (state g.S.Store last) (Ok a)) c.transaction-tx.ensures.begun said in
+    subst (λ h. Applies command (state g.S.Store old) (state g.S.Store h) (Ok a)) same
+    (tells g.S.Store old last command end c.drop-tx-in-Already-1.ensures.survives c.drop-tx-in-Already-1.ensures.undone a (λ seq is. absurd cc) runs)
+
+pub returns-in-Refused-clause-applies : goal.returns-in-Refused-clause-applies
+returns-in-Refused-clause-applies g c =
+    let command = c.args.command.now in
+    let old = c.args.conn.now in
+    let last = c.run_command.new.tx.conn.now in
+    let end = c.drop-tx-in-Refused-1.new.self.0 in
+    let same : end ≡ c.conn-in-Refused-1.given.0 = search rules in
+    let a = Refused c.in-Refused.refusal in
+    let said = subst (λ a. Runs command (state g.S.Store c.transaction-tx.result.conn.now) (state g.S.Store last) (Ok a)) c.in-Refused.is c.in_ok-seq.ensures.runs in
+    let runs = subst (λ h. Runs command (state g.S.Store h) (state g.S.Store last) (Ok a)) c.transaction-tx.ensures.begun said in
+    subst (λ h. Applies command (state g.S.Store old) (state g.S.Store h) (Ok a)) same
+    (tells g.S.Store old last command end c.drop-tx-in-Refused-1.ensures.survives c.drop-tx-in-Refused-1.ensures.undone a (λ seq is. absurd cc) runs)
