@@ -4,7 +4,7 @@
 
 pub mod fault;
 pub mod layout;
-mod listed;
+pub mod listed;
 pub mod making;
 pub mod power;
 pub mod reading;

@@ -26,7 +26,7 @@ fn is_empty<S: Alter>(conn: &Connection<S>) -> bool
 }
 
 /// Why no table is made in the database, if it is not empty.
-pub(crate) fn refusal_of<S: Alter>(conn: &Connection<S>) -> Option<TableFault>
+pub fn refusal_of<S: Alter>(conn: &Connection<S>) -> Option<TableFault>
     ensures { MatchOption result ((state S.Store conn.now).now.schema ≡ no_schema)
         (IsRefusal (state S.Store conn.now).now.schema) }
 {

@@ -163,7 +163,7 @@ fn ask<S: Alter>(tx: &mut Transaction<'_, S>) -> Result<(), TableFault>
 }
 
 /// Makes the tables of the layout and the row of its point, unless there is a reason to make none.
-fn fill_new<S: Alter>(
+pub fn fill_new<S: Alter>(
     tx: &mut Transaction<'_, S>,
     layout: Layout,
     refusal: Option<TableFault>,
