@@ -61,7 +61,7 @@ module _ (command : Entry) (old mid : State) where
 
   -- the command is not new
   module _ (j : Judged) (r : Reads (IsJudged command) old mid (Ok j)) (any : ReadsAny (JudgedOf command) old mid (Ok j)) where
-    told : (a : Reply) → ((trees : Trees) → JudgedOf command trees j → ReplyOf command trees a) → ((book : List Entry) → IsJudged command book j → a ≡ reply book command) → ((book : List Entry) → behind book command a ≡ book) → Wrote a old mid → Runs command old mid (Ok a)
+    told : (a : Reply) → ((trees : Trees) → JudgedOf command trees j → ReplyOf command trees a) → ((book : List Entry) → IsJudged command book j → a ≡ reply book command) → ((book : List Entry) → behind book command a ≡ book) → Wrote command a old mid → Runs command old mid (Ok a)
     told a by says same_book wrote = record {
       judged = λ clean has. by old.now.trees (any.found clean has);
       ran = λ clean begun book has stands.
@@ -77,10 +77,10 @@ module _ (command : Entry) (old mid : State) where
     }
 
   pub already : (seq : ℕ) → Reads (IsJudged command) old mid (Ok (Already seq)) → ReadsAny (JudgedOf command) old mid (Ok (Already seq)) → Runs command old mid (Ok (answers.Already seq))
-  already seq r any = told (Already seq) r any (answers.Already seq) (λ trees it. it) (λ book is. sym (ap (reply_to (length book + 1)) is)) (λ _. refl) tt
+  already seq r any = told (Already seq) r any (answers.Already seq) (λ trees it. it.by) (λ book is. sym (ap (reply_to (length book + 1)) is)) (λ _. refl) tt
 
   pub refused : (refusal : _) → Reads (IsJudged command) old mid (Ok (Refused refusal)) → ReadsAny (JudgedOf command) old mid (Ok (Refused refusal)) → Runs command old mid (Ok (answers.Refused refusal))
-  refused refusal r any = told (Refused refusal) r any (answers.Refused refusal) (λ trees it. it) (λ book is. sym (ap (reply_to (length book + 1)) is)) (λ _. refl) tt
+  refused refusal r any = told (Refused refusal) r any (answers.Refused refusal) (λ trees it. it.by) (λ book is. sym (ap (reply_to (length book + 1)) is)) (λ _. refl) tt
 
   -- it is new
   module _ (x : CommandRows) (r : Reads (IsJudged command) old mid (Ok (New x))) (any : ReadsAny (JudgedOf command) old mid (Ok (New x))) (new : State) where
@@ -114,13 +114,13 @@ module _ (command : Entry) (old mid : State) where
 
       pub written : Runs command old new (Ok (answers.Accepted x.entry.seq))
       written = record {
-        judged = λ clean has. any.found (early clean) has;
+        judged = λ clean has. (any.found (early clean) has).by;
         ran = λ clean begun book has stands.
             let said = r.read (early clean) book (stands_for old book has stands) in
             let number : x.entry.seq ≡ length book + 1 = ap (λ (row : EntryRow). row.seq) said.1.entry in
             let made = stand book command x said.1 stands.rows.is_book said.0 shape old.now new.now has stands (gains clean begun has (all_rise old.now book has stands)) in
             (ap answers.Accepted number ∙ sym (ap (reply_to (length book + 1)) said.0), made.0, made.1);
-        wrote = λ clean begun. (x, refl, gains clean begun);
+        wrote = λ clean begun. (x, λ has. (any.found (early clean) has).rows, refl, gains clean begun);
         cause = tt;
         inside = λ clean begun. stays_then old mid new (r.inside (early clean) begun) (w.inside clean (inside_mid clean begun));
         within = within_then old mid new r.within begun_too w.within;

@@ -28,7 +28,7 @@ use Rattle.mx_tables.specs.Calls.{OnDamaged}
 use Rattle.mx_tables.specs.Sets.{GainsRows}
 use Rattle.mx_writing.specs.Commits.{MayWrite}
 use Rattle.mx_writing.specs.Written.{IsSettled, with_rows, written_point}
-use Rattle.mx_apply.specs.Applies.{Applies, IsNoDamage, Runs, behind}
+use Rattle.mx_apply.specs.Applies.{Applies, AreItsRows, IsNoDamage, Runs, behind}
 
 -- the tables of a file that is settled are in its schema
 in_settled : (s : Schema) → IsSettled s → (name : TableName) → is_at written_point name ≡ true → Contains s.tables (table_named name)
@@ -43,6 +43,10 @@ left book command (answers.Refused refusal) never = refl
 module _ {S : Type 0} (g : Ghosts S) (old last : Held S) (command : Entry) where
   abbrev begun : Held S
   begun = record old { in_transaction = true }
+
+  -- the rows of the command, which a crash may leave
+  abbrev Leftover : Trees → Type 0
+  Leftover trees = (rows : CommandRows) × AreItsRows command (state g old) rows × MayWrite rows (state g old) trees
 
   abbrev stands : List Entry → Trees → Type 0
   stands book = λ trees. StandsAt written_point trees book
@@ -69,7 +73,7 @@ module _ {S : Type 0} (g : Ghosts S) (old last : Held S) (command : Entry) where
         rest : (book : List Entry) → RestsAt written_point (state g old) book → RestsAt written_point (state g end) book
         rest book rests = dropped g (schema_at written_point) (schema_at written_point) (stands book) (stands book) old begun last refl rests runs.within end drop back
 
-        survive : Survives (state g old) (state g end) (λ trees. (x : CommandRows) × MayWrite x (state g old) trees)
+        survive : Survives (state g old) (state g end) Leftover
         survive = survives_begin g old (state g end) _ (survives_then (state g begun) (state g last) (state g end) _ _ _ (λ _ trees none. absurd none) (λ _ trees none. absurd none) runs.within.survives drop)
 
         -- what was said inside the transaction, where it found the connection open
@@ -130,12 +134,12 @@ module _ {S : Type 0} (g : Ghosts S) (old last : Held S) (command : Entry) where
       either book rests = commits_either g (schema_at written_point) (schema_at written_point) (stands book) (stands (book ++ command ∷ [])) old begun last refl rests runs.within runs.inside (made book) end commit
 
       -- what a crash may leave of it
-      may : HasCleanDisk (state g last) → (x : CommandRows) × MayWrite x (state g old) (state g last).now.trees
-      may clean = (let it = runs.wrote clean refl in (it.0, record { was_open = opened clean; tables = λ is rise name there. (it.2 is rise).tables name (in_settled (state g old).now.schema is name there) }))
+      may : HasCleanDisk (state g last) → Leftover (state g last).now.trees
+      may clean = (let it = runs.wrote clean refl in (it.0, it.1, record { was_open = opened clean; tables = λ is rise name there. (it.3 is rise).tables name (in_settled (state g old).now.schema is name there) }))
 
-      survives_it : Survives (state g old) (state g end) (λ trees. (x : CommandRows) × MayWrite x (state g old) trees)
+      survives_it : Survives (state g old) (state g end) Leftover
       survives_it = survives_begin g old (state g end) _ (survives_then (state g begun) (state g last) (state g end) _ _ _ (λ _ trees none. absurd none)
-          (λ sure trees is. (let clean : HasCleanDisk (state g last) = omega (arith, commit.clean) in subst (λ trees. (x : CommandRows) × MayWrite x (state g old) trees) (sym is) (may clean))) runs.within.survives commit)
+          (λ sure trees is. (let clean : HasCleanDisk (state g last) = omega (arith, commit.clean) in subst Leftover (sym is) (may clean))) runs.within.survives commit)
 
       -- whether it was kept is not known
       pub in_doubt : Applies command (state g old) (state g end) (Err fault.Store)
@@ -162,11 +166,12 @@ module _ {S : Type 0} (g : Ghosts S) (old last : Held S) (command : Entry) where
             let it = runs.wrote (late clean) refl in
             let same : seq ≡ n = cc in (
               it.0,
-              it.1 ∙ same,
+              it.1,
+              it.2 ∙ same,
               record {
                 was_open = opened (late clean);
                 settled = (shown clean).now_is ∙ sym (shown clean).committed_is;
-                gains = λ has rise. subst (λ (d : Database). GainsRows (with_rows it.0) (state g old).now d) (sym (shown clean).now_is) (it.2 has rise);
+                gains = λ has rise. subst (λ (d : Database). GainsRows (with_rows it.0) (state g old).now d) (sym (shown clean).now_is) (it.3 has rise);
               },
             );
         survives = survives_it;

@@ -1,2 +1,3 @@
 pub mod ApplyLemmas
 pub mod CommitLemmas
+pub mod LeftLemmas

@@ -19,6 +19,7 @@ use Rattle.mx_stands.specs.Stands.{IsEither, RestsAt, StandsAt}
 use Rattle.mx_tables.specs.Calls.{OnRead}
 use Rattle.mx_tables.specs.Sets.{GainsRows}
 use Rattle.mx_lookups.specs.Reads.{IsStop}
+use Rattle.mx_made.specs.Found.{AreRowsFor}
 use Rattle.mx_rows.specs.Answering.{AnswerAs}
 use Rattle.mx_writing.specs.Changes.{AllRise}
 use Rattle.mx_writing.specs.Commits.{IsWritten, MayWrite}
@@ -48,16 +49,20 @@ pub record IsIdle (result : Result Reply TableFault) : Type 0 where
   pub accepted : (seq : ℕ) → result ≢ Ok (Accepted seq)
   pub store : result ≢ Err Store
 
--- rows of a command were written where it was accepted, whose entry has the number that is replied: each table has its rows from before with those
-abbrev pub Wrote : Reply → State → State → Type 0
-Wrote (Accepted seq) old new = (x : CommandRows) × (x.entry.seq ≡ seq) × (IsSettled old.now.schema → AllRise old.now → GainsRows (with_rows x) old.now new.now)
-Wrote _ old new = ⊤
+-- the rows are this command's, by what its tables had at layout 2
+abbrev pub AreItsRows : Entry → State → CommandRows → Type 0
+AreItsRows command old rows = IsSettled old.now.schema → AreRowsFor command old.now.trees rows
+
+-- the rows of this command were written where it was accepted, with the number that is replied: each table has its rows from before with those
+abbrev pub Wrote : Entry → Reply → State → State → Type 0
+Wrote command (Accepted seq) old new = (rows : CommandRows) × AreItsRows command old rows × (rows.entry.seq ≡ seq) × (IsSettled old.now.schema → AllRise old.now → GainsRows (with_rows rows) old.now new.now)
+Wrote command _ old new = ⊤
 
 -- A command was judged inside a transaction, and its rows written where it is new.
 pub record Runs (command : Entry) (old new : State) (result : Result Reply TableFault) : Type 0 where
   pub ran : HasCleanDisk new → IsTrue old.in_transaction → (book : List Entry) → old.now.schema ≡ schema_at written_point → StandsAt written_point old.now.trees book
       → MatchResult result (λ r. (r ≡ reply book command) × (new.now.schema ≡ schema_at written_point) × StandsAt written_point new.now.trees (behind book command r)) IsNoDamage
-  pub wrote : HasCleanDisk new → IsTrue old.in_transaction → IfOk result (λ r. Wrote r old new)
+  pub wrote : HasCleanDisk new → IsTrue old.in_transaction → IfOk result (λ r. Wrote command r old new)
   pub judged : HasCleanDisk new → old.now.schema ≡ schema_at written_point → IfOk result (ReplyOf command old.now.trees)
   pub cause : IfErr result IsStop
   pub inside : HasCleanDisk new → IsTrue old.in_transaction → OnRead result (StaysInside old new)
@@ -67,11 +72,11 @@ pub record Runs (command : Entry) (old new : State) (result : Result Reply Table
 pub record Applies (command : Entry) (old new : State) (result : Result Reply TableFault) : Type 0 where
   pub clean : doubt old.is_clean ≤ doubt new.is_clean
   pub cause : IfErr result IsStop
-  -- over any rows: the reply is by the verdict of each book as which the rows answer; only a command that was accepted, or stopped by the store, changes anything; where it was accepted, rows of a command whose entry has the number that is replied were written and committed; and a crash leaves the tables from before or those with this one commit
+  -- over any rows: the reply is by the verdict of each book as which the rows answer; only a command that was accepted, or stopped by the store, changes anything; where it was accepted, the rows of this command were written and committed, with the number that is replied; and a crash leaves the tables from before or those with the one commit of this command's rows
   pub judged : HasCleanDisk new → old.now.schema ≡ schema_at written_point → IfOk result (ReplyOf command old.now.trees)
   pub untouched : IsIdle result → ChangesNothing old new
-  pub written : HasCleanDisk new → (seq : ℕ) → result ≡ Ok (Accepted seq) → (x : CommandRows) × (x.entry.seq ≡ seq) × IsWritten x old new
-  pub survives : Survives old new (λ trees. (x : CommandRows) × MayWrite x old trees)
+  pub written : HasCleanDisk new → (seq : ℕ) → result ≡ Ok (Accepted seq) → (rows : CommandRows) × AreItsRows command old rows × (rows.entry.seq ≡ seq) × IsWritten rows old new
+  pub survives : Survives old new (λ trees. (rows : CommandRows) × AreItsRows command old rows × MayWrite rows old trees)
   -- over the tables of a book: the reply is that of the book, and no table is told damaged; they stand for the book with the command where it was accepted, and else for the book; and whatever is answered, a crash leaves the one or the other
   pub said : (book : List Entry) → RestsAt written_point old book → HasCleanDisk new → MatchResult result (λ r. r ≡ reply book command) IsNoDamage
   pub kept : (book : List Entry) → RestsAt written_point old book → IfOk result (λ r. RestsAt written_point new (behind book command r))

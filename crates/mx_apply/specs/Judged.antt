@@ -1,11 +1,12 @@
 -- What was asked of a command.
-use Rattle.std.specs.Prelude.{◌≡◌, List}
+use Rattle.std.specs.Prelude.{⊤, ◌≡◌, List}
 use Rattle.sqlite.specs.Tree.{Trees}
 use Rattle.mx_command.specs.Act.{Entry}
 use Rattle.mx_book.specs.Judge.{judge}
 use Rattle.mx_book.specs.declared.verdict.Verdict.TheVariants as verdicts
 use Rattle.mx_changes.specs.Rows.{AreCommandRows}
 use Rattle.mx_book.specs.declared.verdict.Verdict.{Verdict}
+use Rattle.mx_made.specs.Found.{AreRowsFor}
 use Rattle.mx_rows.specs.Answering.{AnswerAs}
 use Rattle.mx_apply.specs.declared.judged.Judged.{Judged}
 use Rattle.mx_apply.specs.declared.judged.Judged.TheVariants.{New, Already, Refused}
@@ -22,6 +23,12 @@ IsBy verdict (New rows) = verdict ≡ verdicts.New
 IsBy verdict (Already seq) = verdict ≡ verdicts.Already seq
 IsBy verdict (Refused refusal) = verdict ≡ verdicts.Refused refusal
 
--- what was found is by the verdict of each book as which the rows answer
-abbrev pub JudgedOf : Entry → Trees → Judged → Type 0
-JudgedOf command trees found = (book : List Entry) → AnswerAs trees book → IsBy (judge book command) found
+-- the rows of a new command are its own: its entry behind the last, and what is made of what it says and of what was looked up for it
+abbrev pub HasItsRows : Entry → Trees → Judged → Type 0
+HasItsRows command trees (New rows) = AreRowsFor command trees rows
+HasItsRows command trees _ = ⊤
+
+-- what was found is by the verdict of each book as which the rows answer, and its rows are those of the command
+pub record JudgedOf (command : Entry) (trees : Trees) (found : Judged) : Type 0 where
+  pub by : (book : List Entry) → AnswerAs trees book → IsBy (judge book command) found
+  pub rows : HasItsRows command trees found

@@ -5,11 +5,13 @@
 //!
 //! Over any rows: the reply is by the verdict on each book as which the rows answer; whatever is answered, but that the command
 //! was accepted or that the store stopped it, no table changed; where it was accepted each table has its rows from before with
-//! those of one command; and a crash leaves the tables from before or those with this one commit. Over the tables of a book: the reply is that of the book, no table is told damaged, the tables
+//! those of this command, made of what it says and of what was looked up for it; and a crash leaves the tables from before or
+//! those with this one commit. Over the tables of a book: the reply is that of the book, no table is told damaged, the tables
 //! stand for the book, with the command exactly where it was accepted, and a crash leaves the one book or the other.
 #![tactic(auto)]
 
 pub mod applying;
 pub mod judged;
+pub mod laws;
 
 pub use applying::apply;

@@ -31,7 +31,7 @@ use Rattle.mx_changes.proofs.PutLemmas.{put_is, same_rows}
 
 -- ── a total, by its number ──
 
-raised_item : (number moment : ℕ) (row : TotalRow) → (raised_row number moment row).item ≡ row.item
+pub raised_item : (number moment : ℕ) (row : TotalRow) → (raised_row number moment row).item ≡ row.item
 raised_item number moment row = at (nat_eq row.item number)
   where
     at : (b : Bool) → (cond b (record row { clock = max row.clock moment }) row).item ≡ row.item

@@ -2,3 +2,4 @@ pub mod Puts
 pub mod Kept
 pub mod Rows
 pub mod Certified
+pub mod Made

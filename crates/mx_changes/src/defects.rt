@@ -5,6 +5,7 @@ ghost use Rattle.mx_typed_rows.specs.Rows.{FitsEntry};
 ghost use Rattle.mx_register.specs.Names.{or_zero, seq_of_defect};
 ghost use Rattle.mx_kept_rows.specs.Changes.{entry_of};
 ghost use Rattle.mx_kept_rows.specs.Items.{number_of_tail};
+ghost use Rattle.mx_changes.specs.Made.{AreMadeOf, nothing_found};
 ghost use Rattle.mx_changes.specs.Rows.{AreCommandRows, IsEntryOf, totals_before};
 
 use crate::plain::{none_added, none_changed};
@@ -24,11 +25,13 @@ pub fn deferral_rows(
     totals: &[TotalRow],
 ) -> Result<CommandRows, AllocError>
     requires fits { FitsEntry entry }
-    ensures { IfOk result (λ rows. (book : List Entry) (doc : List ℕ)
+    ensures of_book { IfOk result (λ rows. (book : List Entry) (doc : List ℕ)
         → IsEntryOf book (entry_of doc (Deferred deferral)) entry
         → aircraft ≡ number_of_tail book deferral.tail
         → totals.now ≡ totals_before book (Deferred deferral)
         → AreCommandRows book (entry_of doc (Deferred deferral)) rows) }
+    ensures made { IfOk result (λ rows. AreMadeOf (Deferred deferral) entry
+        (record nothing_found { number = aircraft; totals = totals.now }) rows) }
 {
     // The checker proves this function only where the type of each field of a row is named in it.
     let _: Option<Category> = None;
@@ -53,10 +56,12 @@ pub fn extension_rows(
     defect: u32,
 ) -> Result<CommandRows, AllocError>
     requires fits { FitsEntry entry }
-    ensures { IfOk result (λ rows. (book : List Entry) (doc : List ℕ)
+    ensures of_book { IfOk result (λ rows. (book : List Entry) (doc : List ℕ)
         → IsEntryOf book (entry_of doc (Extended extension)) entry
         → defect ≡ or_zero (seq_of_defect book extension.defect)
         → AreCommandRows book (entry_of doc (Extended extension)) rows) }
+    ensures made { IfOk result (λ rows. AreMadeOf (Extended extension) entry
+        (record nothing_found { number = defect }) rows) }
 {
     let row = extension_row(entry.seq, defect, extension);
     let mut added = none_added(alloc);

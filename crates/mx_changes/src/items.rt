@@ -7,6 +7,7 @@ ghost use Rattle.mx_register.specs.Lines.{lines_from};
 ghost use Rattle.mx_register.specs.Registers.{place_row};
 ghost use Rattle.mx_kept_rows.specs.Changes.{entry_of};
 ghost use Rattle.mx_changes.specs.Kept.{total_begun};
+ghost use Rattle.mx_changes.specs.Made.{AreMadeOf, nothing_found};
 ghost use Rattle.mx_changes.specs.Rows.{AreCommandRows, IsEntryOf};
 
 use crate::plain::{none_added, none_changed};
@@ -64,9 +65,10 @@ pub fn aircraft_rows(
 ) -> Result<CommandRows, AllocError>
     requires fits { FitsEntry entry }
     requires few { length positions.now ≤ MOST_POSITIONS }
-    ensures { IfOk result (λ rows. (book : List Entry) (doc : List ℕ)
+    ensures of_book { IfOk result (λ rows. (book : List Entry) (doc : List ℕ)
         → IsEntryOf book (entry_of doc (Added aircraft positions.now)) entry
         → AreCommandRows book (entry_of doc (Added aircraft positions.now)) rows) }
+    ensures made { IfOk result (AreMadeOf (Added aircraft positions.now) entry nothing_found) }
 {
     let total = first_total(entry.seq, aircraft.opening, aircraft.as_of);
     let row = aircraft_row(entry.seq, aircraft);
@@ -89,9 +91,10 @@ pub fn component_rows(
     component: Component,
 ) -> Result<CommandRows, AllocError>
     requires fits { FitsEntry entry }
-    ensures { IfOk result (λ rows. (book : List Entry) (doc : List ℕ)
+    ensures of_book { IfOk result (λ rows. (book : List Entry) (doc : List ℕ)
         → IsEntryOf book (entry_of doc (Listed component)) entry
         → AreCommandRows book (entry_of doc (Listed component)) rows) }
+    ensures made { IfOk result (AreMadeOf (Listed component) entry nothing_found) }
 {
     let total = first_total(entry.seq, component.opening, component.as_of);
     let row = component_row(entry.seq, component);

@@ -5,6 +5,7 @@ ghost use Rattle.mx_typed_rows.specs.Rows.{FitsEntry, FitsSpan};
 ghost use Rattle.mx_kept_rows.specs.Changes.{entry_of};
 ghost use Rattle.mx_kept_rows.specs.Items.{number_of_serial, number_of_tail};
 ghost use Rattle.mx_changes.specs.Kept.{span_fitted, span_removed};
+ghost use Rattle.mx_changes.specs.Made.{AreMadeOf, nothing_found};
 ghost use Rattle.mx_changes.specs.Rows.{AreCommandRows, IsEntryOf, spans_open_of, totals_before};
 
 use crate::plain::{none_added, none_changed};
@@ -64,12 +65,15 @@ pub fn fitting_rows(
     totals: &[TotalRow],
 ) -> Result<CommandRows, AllocError>
     requires fits { FitsEntry entry }
-    ensures { IfOk result (λ rows. (book : List Entry) (doc : List ℕ)
+    ensures of_book { IfOk result (λ rows. (book : List Entry) (doc : List ℕ)
         → IsEntryOf book (entry_of doc (Fitted fitting)) entry
         → component ≡ number_of_serial book fitting.serial
         → aircraft ≡ number_of_tail book fitting.tail
         → totals.now ≡ totals_before book (Fitted fitting)
         → AreCommandRows book (entry_of doc (Fitted fitting)) rows) }
+    ensures made { IfOk result (λ rows. AreMadeOf (Fitted fitting) entry
+        (record nothing_found { number = aircraft; component = component; totals = totals.now })
+        rows) }
 {
     // The checker proves this function only where the type of each field of a row is named in it.
     let _: Option<Moment> = None;
@@ -113,11 +117,14 @@ pub fn removal_rows(
     totals: &[TotalRow],
 ) -> Result<CommandRows, AllocError>
     requires fits { FitsEntry entry }
-    ensures { IfOk result (λ rows. (book : List Entry) (doc : List ℕ)
+    ensures of_book { IfOk result (λ rows. (book : List Entry) (doc : List ℕ)
         → IsEntryOf book (entry_of doc (Removed removal)) entry
         → spans.now ≡ spans_open_of book (Removed removal)
         → totals.now ≡ totals_before book (Removed removal)
         → AreCommandRows book (entry_of doc (Removed removal)) rows) }
+    ensures made { (component : ℕ) → IfOk result (λ rows. AreMadeOf (Removed removal) entry
+        (record nothing_found { component = component; spans = spans.now; totals = totals.now })
+        rows) }
 {
     // The checker proves this function only where the type of each field of a row is named in it.
     let _: Option<Moment> = None;

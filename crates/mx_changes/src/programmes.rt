@@ -8,6 +8,7 @@ ghost use Rattle.mx_register.specs.Lines.{lines_from};
 ghost use Rattle.mx_register.specs.Registers.{task_row};
 ghost use Rattle.mx_kept_rows.specs.Changes.{entry_of};
 ghost use Rattle.mx_kept_rows.specs.Items.{number_of_item};
+ghost use Rattle.mx_changes.specs.Made.{AreMadeOf, nothing_found};
 ghost use Rattle.mx_changes.specs.Rows.{AreCommandRows, IsEntryOf};
 
 use crate::plain::{none_added, none_changed};
@@ -63,9 +64,10 @@ pub fn programme_rows(
 ) -> Result<CommandRows, AllocError>
     requires fits { FitsEntry entry }
     requires few { length tasks.now ≤ MOST_TASKS }
-    ensures { IfOk result (λ rows. (book : List Entry) (doc : List ℕ)
+    ensures of_book { IfOk result (λ rows. (book : List Entry) (doc : List ℕ)
         → IsEntryOf book (entry_of doc (Loaded programme tasks.now)) entry
         → AreCommandRows book (entry_of doc (Loaded programme tasks.now)) rows) }
+    ensures made { IfOk result (AreMadeOf (Loaded programme tasks.now) entry nothing_found) }
 {
     let row = programme_row(entry.seq, programme);
     let lines = task_rows(alloc, entry.seq, tasks)?;
@@ -87,10 +89,12 @@ pub fn opening_rows(
     item: u32,
 ) -> Result<CommandRows, AllocError>
     requires fits { FitsEntry entry }
-    ensures { IfOk result (λ rows. (book : List Entry) (doc : List ℕ)
+    ensures of_book { IfOk result (λ rows. (book : List Entry) (doc : List ℕ)
         → IsEntryOf book (entry_of doc (Opened opening)) entry
         → item ≡ number_of_item book opening.item
         → AreCommandRows book (entry_of doc (Opened opening)) rows) }
+    ensures made { IfOk result (λ rows. AreMadeOf (Opened opening) entry
+        (record nothing_found { number = item }) rows) }
 {
     let base = stated_row(item, &opening.task, opening.use_then, opening.day);
     let row = opening_row(entry.seq, item, opening);

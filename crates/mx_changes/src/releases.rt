@@ -10,6 +10,7 @@ ghost use Rattle.mx_register.specs.Lines.{lines_from};
 ghost use Rattle.mx_kept_rows.specs.Changes.{entry_of};
 ghost use Rattle.mx_kept_rows.specs.Items.{number_of_place};
 ghost use Rattle.mx_changes.specs.Certified.{AreKnownOf, HasLifeReached, base_made, line_made};
+ghost use Rattle.mx_changes.specs.Made.{AreMadeOf, nothing_found};
 ghost use Rattle.mx_changes.specs.Rows.{AreCommandRows, IsEntryOf, totals_before};
 
 use crate::plain::{none_added, none_changed};
@@ -134,12 +135,16 @@ pub fn release_rows(
     requires fits { FitsEntry entry }
     requires few { length lines.now ≤ MOST_LINES }
     requires lives { All HasLifeReached lines.now }
-    ensures { IfOk result (λ rows. (book : List Entry) (doc : List ℕ) (certified : List Line)
+    ensures of_book { IfOk result (λ rows. (book : List Entry) (doc : List ℕ)
+        (certified : List Line)
         → IsEntryOf book (entry_of doc (Released release certified)) entry
         → item ≡ number_of_place book release.place
         → AreKnownOf book release certified lines.now
         → totals.now ≡ totals_before book (Released release certified)
         → AreCommandRows book (entry_of doc (Released release certified)) rows) }
+    ensures made { (certified : List Line) → IfOk result (λ rows.
+        AreMadeOf (Released release certified) entry
+        (record nothing_found { number = item; totals = totals.now; lines = lines.now }) rows) }
 {
     let behind = clocked_totals(alloc, totals, release.moment)?;
     let line_rows = line_rows(alloc, entry.seq, lines)?;

@@ -3,8 +3,10 @@ ghost use Rattle.std.specs.Prelude.{◌≡◌, ℕ, List, All, IfOk, true};
 ghost use Rattle.mx_command.specs.Act.{Entry, Flown};
 ghost use Rattle.mx_command.specs.Shape.{sector_shape};
 ghost use Rattle.mx_typed_rows.specs.Rows.{FitsEntry};
+ghost use Rattle.mx_typed_rows.specs.declared.rows.SpanRow.{SpanRow};
 ghost use Rattle.mx_kept_rows.specs.Changes.{entry_of};
 ghost use Rattle.mx_kept_rows.specs.Items.{number_of_tail};
+ghost use Rattle.mx_changes.specs.Made.{AreMadeOf, nothing_found};
 ghost use Rattle.mx_changes.specs.Rows.{AreCommandRows, IsEntryOf, totals_before};
 ghost use Rattle.mx_changes.specs.Kept.{HasLife};
 
@@ -28,11 +30,13 @@ pub fn sector_rows(
     requires fits { FitsEntry entry }
     requires shaped { sector_shape sector ≡ true }
     requires lives { All HasLife totals.now }
-    ensures { IfOk result (λ rows. (book : List Entry) (doc : List ℕ)
+    ensures of_book { IfOk result (λ rows. (book : List Entry) (doc : List ℕ)
         → IsEntryOf book (entry_of doc (Flown sector)) entry
         → aircraft ≡ number_of_tail book sector.tail
         → totals.now ≡ totals_before book (Flown sector)
         → AreCommandRows book (entry_of doc (Flown sector)) rows) }
+    ensures made { (spans : List SpanRow) → IfOk result (λ rows. AreMadeOf (Flown sector) entry
+        (record nothing_found { number = aircraft; spans = spans; totals = totals.now }) rows) }
 {
     let behind = flown_totals(alloc, totals, aircraft, &sector)?;
     let mut added = none_added(alloc);

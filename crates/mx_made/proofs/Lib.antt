@@ -3,3 +3,5 @@ pub mod TotalLemmas
 pub mod MadeLemmas
 pub mod SpanLemmas
 pub mod ReleaseLemmas
+pub mod AnyTotalLemmas
+pub mod AnyMadeLemmas

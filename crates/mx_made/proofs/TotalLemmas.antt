@@ -147,7 +147,7 @@ module _ {X : Type 0} (k : Kept X) (seq : X → ℕ) (cells : (x : X) → column
   passes x = ap (λ cell. equal Binary cell (Int (pos n))) (cells x) ∙ number_is (seq x) n
 
   -- one that is chosen has the number
-  chosen_has : (x : X) (xs : List X) → AreChosen k None k.order chosen trees (x ∷ xs) → seq x ≡ n
+  pub chosen_has : (x : X) (xs : List X) → AreChosen k None k.order chosen trees (x ∷ xs) → seq x ≡ n
   chosen_has x xs chose =
       let rows = map k.as_cells (x ∷ xs) in
       let one : Contains (filter chosen all) (k.as_cells x) = Contains-permutation rows (filter chosen all) (k.as_cells x) (IsPermutation-sym _ _ (shown (x ∷ xs) chose)) (contains_had rows (k.as_cells x) (inl refl)) in

@@ -1,3 +1,4 @@
 pub mod Totals
 pub mod Made
 pub mod Releases
+pub mod Found

@@ -2,7 +2,9 @@
 ghost use Rattle.std.specs.Prelude.{◌≡◌};
 ghost use Rattle.sqlite.specs.Held.{state};
 ghost use Rattle.mx_changes.specs.Rows.{AreCommandRows};
+ghost use Rattle.mx_lookups.specs.AnyRows.{ReadsAny};
 ghost use Rattle.mx_lookups.specs.Reads.{Reads};
+ghost use Rattle.mx_made.specs.Found.{AreRowsFor};
 
 use crate::defects::{rows_of_deferral, rows_of_extension};
 use crate::moves::{rows_of_fitting, rows_of_removal};
@@ -25,6 +27,8 @@ pub fn rows_of_command<S: Alter>(
 ) -> Result<CommandRows, TableFault>
     ensures same_reference { tx.new.conn.ghost_name ≡ tx.old.conn.ghost_name }
     ensures reads { Reads (λ book rows. AreCommandRows book command.now rows)
+        (state S.Store tx.old.conn.now) (state S.Store tx.new.conn.now) result }
+    ensures any_rows { ReadsAny (AreRowsFor command.now)
         (state S.Store tx.old.conn.now) (state S.Store tx.new.conn.now) result }
 {
     let entry = entry_of_command(alloc, tx, command)?;

@@ -3,7 +3,9 @@ ghost use Rattle.std.specs.Prelude.{◌≡◌};
 ghost use Rattle.sqlite.specs.Held.{state};
 ghost use Rattle.mx_command.specs.Act.{Deferred, Extended};
 ghost use Rattle.mx_typed_rows.specs.Rows.{FitsEntry};
+ghost use Rattle.mx_lookups.specs.AnyRows.{ReadsAny};
 ghost use Rattle.mx_lookups.specs.Reads.{Reads};
+ghost use Rattle.mx_made.specs.Found.{AreRowsBy};
 ghost use Rattle.mx_made.specs.Made.{AreRowsOf};
 
 use crate::numbers::{number_of_aircraft, number_of_defect};
@@ -26,6 +28,8 @@ pub fn rows_of_deferral<S: Alter>(
     ensures same_reference { tx.new.conn.ghost_name ≡ tx.old.conn.ghost_name }
     ensures reads { Reads (AreRowsOf (Deferred deferral) entry)
         (state S.Store tx.old.conn.now) (state S.Store tx.new.conn.now) result }
+    ensures any_rows { ReadsAny (AreRowsBy (Deferred deferral) entry)
+        (state S.Store tx.old.conn.now) (state S.Store tx.new.conn.now) result }
 {
     let aircraft = number_of_aircraft(alloc, tx, &deferral.tail)?;
     let totals = totals_of(alloc, tx, &[aircraft])?;
@@ -42,6 +46,8 @@ pub fn rows_of_extension<S: Alter>(
     requires fits { FitsEntry entry }
     ensures same_reference { tx.new.conn.ghost_name ≡ tx.old.conn.ghost_name }
     ensures reads { Reads (AreRowsOf (Extended extension) entry)
+        (state S.Store tx.old.conn.now) (state S.Store tx.new.conn.now) result }
+    ensures any_rows { ReadsAny (AreRowsBy (Extended extension) entry)
         (state S.Store tx.old.conn.now) (state S.Store tx.new.conn.now) result }
 {
     let defect = number_of_defect(alloc, tx, &extension.defect)?;

@@ -1,10 +1,11 @@
 //! The rows of a fitting and of a removal.
-ghost use Rattle.std.specs.Prelude.{◌≡◌, ◌∷◌, IfOk, map};
+ghost use Rattle.std.specs.Prelude.{◌≡◌, IfOk};
 ghost use Rattle.sqlite.specs.Held.{state};
 ghost use Rattle.mx_command.specs.Act.{Fitted, Removed};
 ghost use Rattle.mx_typed_rows.specs.Rows.{FitsEntry};
-ghost use Rattle.mx_typed_rows.specs.declared.rows.SpanRow.{SpanRow};
+ghost use Rattle.mx_lookups.specs.AnyRows.{ReadsAny};
 ghost use Rattle.mx_lookups.specs.Reads.{Reads};
+ghost use Rattle.mx_made.specs.Found.{AreRowsBy, numbers_removed};
 ghost use Rattle.mx_made.specs.Made.{AreRowsOf};
 
 use crate::numbers::{number_of_aircraft, number_of_component};
@@ -28,6 +29,8 @@ pub fn rows_of_fitting<S: Alter>(
     ensures same_reference { tx.new.conn.ghost_name ≡ tx.old.conn.ghost_name }
     ensures reads { Reads (AreRowsOf (Fitted fitting) entry)
         (state S.Store tx.old.conn.now) (state S.Store tx.new.conn.now) result }
+    ensures any_rows { ReadsAny (AreRowsBy (Fitted fitting) entry)
+        (state S.Store tx.old.conn.now) (state S.Store tx.new.conn.now) result }
 {
     let component = number_of_component(alloc, tx, &fitting.serial)?;
     let aircraft = number_of_aircraft(alloc, tx, &fitting.tail)?;
@@ -38,7 +41,7 @@ pub fn rows_of_fitting<S: Alter>(
 // The numbers of a component and of the aircraft of its spans.
 fn numbers_removed(alloc: Global, component: u32, spans: &[SpanRow]) -> Result<Vec<u32>, AllocError>
     ensures { IfOk result (λ numbers. numbers.items
-        ≡ component ∷ map (λ (row : SpanRow). row.aircraft) spans.now) }
+        ≡ numbers_removed component spans.now) }
 {
     let mut numbers = Vec::new(alloc);
     numbers.push(component)?;
@@ -59,6 +62,8 @@ pub fn rows_of_removal<S: Alter>(
     requires fits { FitsEntry entry }
     ensures same_reference { tx.new.conn.ghost_name ≡ tx.old.conn.ghost_name }
     ensures reads { Reads (AreRowsOf (Removed removal) entry)
+        (state S.Store tx.old.conn.now) (state S.Store tx.new.conn.now) result }
+    ensures any_rows { ReadsAny (AreRowsBy (Removed removal) entry)
         (state S.Store tx.old.conn.now) (state S.Store tx.new.conn.now) result }
 {
     let component = number_of_component(alloc, tx, &removal.serial)?;

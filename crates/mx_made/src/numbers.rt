@@ -6,7 +6,10 @@ ghost use Rattle.mx_typed_rows.specs.Rows.{FitsEntry};
 ghost use Rattle.mx_register.specs.Names.{or_zero, seq_of_defect};
 ghost use Rattle.mx_kept_rows.specs.Items.{number_of_item, number_of_serial, number_of_tail};
 ghost use Rattle.mx_changes.specs.Rows.{IsEntryOf};
+ghost use Rattle.mx_lookups.specs.AnyRows.{ReadsAny};
+ghost use Rattle.mx_lookups.specs.Given.{AircraftNumber, ComponentNumber, DefectNumber, ItemNumber};
 ghost use Rattle.mx_lookups.specs.Reads.{Reads};
+ghost use Rattle.mx_made.specs.Found.{IsEntryBehind, NumberBy};
 
 use mx_base::{Doc, Serial, Tail};
 use mx_command::{Command, Item};
@@ -27,6 +30,8 @@ pub fn entry_of_command<S: Alter>(
     ensures same_reference { tx.new.conn.ghost_name ≡ tx.old.conn.ghost_name }
     ensures reads { Reads (λ book row. IsEntryOf book command.now row)
         (state S.Store tx.old.conn.now) (state S.Store tx.new.conn.now) result }
+    ensures any_rows { ReadsAny (IsEntryBehind command.now)
+        (state S.Store tx.old.conn.now) (state S.Store tx.new.conn.now) result }
     ensures fits { IfOk result FitsEntry }
     ensures shaped { IfOk result (λ row. has_shape command.now ≡ true) }
 {
@@ -43,6 +48,8 @@ pub fn number_of_aircraft<S: Alter>(
     ensures same_reference { tx.new.conn.ghost_name ≡ tx.old.conn.ghost_name }
     ensures reads { Reads (λ book number. number ≡ number_of_tail book tail.now)
         (state S.Store tx.old.conn.now) (state S.Store tx.new.conn.now) result }
+    ensures any_rows { ReadsAny (NumberBy (AircraftNumber tail.now))
+        (state S.Store tx.old.conn.now) (state S.Store tx.new.conn.now) result }
 {
     let found = aircraft_number(alloc, tx, tail)?;
     Ok(or_zero(found))
@@ -56,6 +63,8 @@ pub fn number_of_component<S: Alter>(
 ) -> Result<u32, TableFault>
     ensures same_reference { tx.new.conn.ghost_name ≡ tx.old.conn.ghost_name }
     ensures reads { Reads (λ book number. number ≡ number_of_serial book serial.now)
+        (state S.Store tx.old.conn.now) (state S.Store tx.new.conn.now) result }
+    ensures any_rows { ReadsAny (NumberBy (ComponentNumber serial.now))
         (state S.Store tx.old.conn.now) (state S.Store tx.new.conn.now) result }
 {
     let found = component_number(alloc, tx, serial)?;
@@ -71,6 +80,8 @@ pub fn number_of_item<S: Alter>(
     ensures same_reference { tx.new.conn.ghost_name ≡ tx.old.conn.ghost_name }
     ensures reads { Reads (λ book number. number ≡ number_of_item book item.now)
         (state S.Store tx.old.conn.now) (state S.Store tx.new.conn.now) result }
+    ensures any_rows { ReadsAny (NumberBy (ItemNumber item.now))
+        (state S.Store tx.old.conn.now) (state S.Store tx.new.conn.now) result }
 {
     let found = item_number(alloc, tx, item)?;
     Ok(or_zero(found))
@@ -84,6 +95,8 @@ pub fn number_of_defect<S: Alter>(
 ) -> Result<u32, TableFault>
     ensures same_reference { tx.new.conn.ghost_name ≡ tx.old.conn.ghost_name }
     ensures reads { Reads (λ book number. number ≡ or_zero (seq_of_defect book doc.now))
+        (state S.Store tx.old.conn.now) (state S.Store tx.new.conn.now) result }
+    ensures any_rows { ReadsAny (NumberBy (DefectNumber doc.now))
         (state S.Store tx.old.conn.now) (state S.Store tx.new.conn.now) result }
 {
     let found = defect_number(alloc, tx, doc)?;

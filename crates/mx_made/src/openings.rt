@@ -3,7 +3,9 @@ ghost use Rattle.std.specs.Prelude.{◌≡◌};
 ghost use Rattle.sqlite.specs.Held.{state};
 ghost use Rattle.mx_command.specs.Act.{Opened};
 ghost use Rattle.mx_typed_rows.specs.Rows.{FitsEntry};
+ghost use Rattle.mx_lookups.specs.AnyRows.{ReadsAny};
 ghost use Rattle.mx_lookups.specs.Reads.{Reads};
+ghost use Rattle.mx_made.specs.Found.{AreRowsBy};
 ghost use Rattle.mx_made.specs.Made.{AreRowsOf};
 
 use crate::numbers::number_of_item;
@@ -24,6 +26,8 @@ pub fn rows_of_opening<S: Alter>(
     requires fits { FitsEntry entry }
     ensures same_reference { tx.new.conn.ghost_name ≡ tx.old.conn.ghost_name }
     ensures reads { Reads (AreRowsOf (Opened opening) entry)
+        (state S.Store tx.old.conn.now) (state S.Store tx.new.conn.now) result }
+    ensures any_rows { ReadsAny (AreRowsBy (Opened opening) entry)
         (state S.Store tx.old.conn.now) (state S.Store tx.new.conn.now) result }
 {
     let item = number_of_item(alloc, tx, &opening.item)?;

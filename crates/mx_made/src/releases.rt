@@ -5,13 +5,17 @@ ghost use Rattle.mx_command.specs.Act.{Released};
 ghost use Rattle.mx_command.specs.Programme.{task_shape};
 ghost use Rattle.mx_command.specs.declared.shape.TheConstants.{MOST_LINES};
 ghost use Rattle.mx_due.specs.Due.{IsLife};
+ghost use Rattle.mx_book.specs.Judge.{item_at};
 ghost use Rattle.mx_book.specs.Life.{life_now, use_or_none};
 ghost use Rattle.mx_book.specs.Programme.{kind_at};
 ghost use Rattle.mx_book.specs.Register.{found_of};
 ghost use Rattle.mx_kept_rows.specs.Items.{number_of_place};
 ghost use Rattle.mx_typed_rows.specs.Rows.{FitsEntry};
 ghost use Rattle.mx_changes.specs.Certified.{AreKnownOf, HasLifeReached, IsKnownOf};
+ghost use Rattle.mx_lookups.specs.AnyRows.{ReadsAny};
+ghost use Rattle.mx_lookups.specs.Given.{ItemNumber};
 ghost use Rattle.mx_lookups.specs.Reads.{Reads};
+ghost use Rattle.mx_made.specs.Found.{AreLinesAt, AreRowsBy, DueBy, IsLineFound, ItemFound, KindAt, LifeBy, NumberBy};
 ghost use Rattle.mx_made.specs.Made.{AreRowsOf};
 ghost use Rattle.mx_made.specs.Releases.{due_by_kind};
 
@@ -40,6 +44,8 @@ fn found_of_item<S: Alter>(
     ensures same_reference { tx.new.conn.ghost_name ≡ tx.old.conn.ghost_name }
     ensures reads { Reads (λ book found. found ≡ found_of book item.now)
         (state S.Store tx.old.conn.now) (state S.Store tx.new.conn.now) result }
+    ensures any_rows { ReadsAny (ItemFound item.now)
+        (state S.Store tx.old.conn.now) (state S.Store tx.new.conn.now) result }
 {
     match item {
         Item::Airframe(tail) => {
@@ -63,6 +69,9 @@ fn place_found<S: Alter>(
     ensures reads { Reads (λ book found.
         (found.0 ≡ number_of_place book place.now) × (found.1 ≡ kind_at book place.now))
         (state S.Store tx.old.conn.now) (state S.Store tx.new.conn.now) result }
+    ensures any_rows { ReadsAny (λ trees found.
+        NumberBy (ItemNumber (item_at place.now)) trees found.0 × KindAt place.now trees found.1)
+        (state S.Store tx.old.conn.now) (state S.Store tx.new.conn.now) result }
 {
     let item = item_of_place(place);
     let number = number_of_item(alloc, tx, &item)?;
@@ -78,6 +87,8 @@ fn life_reached<S: Alter>(
 ) -> Result<Use, TableFault>
     ensures same_reference { tx.new.conn.ghost_name ≡ tx.old.conn.ghost_name }
     ensures reads { Reads (λ book reached. reached ≡ use_or_none (life_now book item.now))
+        (state S.Store tx.old.conn.now) (state S.Store tx.new.conn.now) result }
+    ensures any_rows { ReadsAny (LifeBy item.now)
         (state S.Store tx.old.conn.now) (state S.Store tx.new.conn.now) result }
     ensures life { IfOk result IsLife }
 {
@@ -107,6 +118,8 @@ fn due_by<S: Alter>(
 ) -> Result<Option<Limit>, TableFault>
     ensures same_reference { tx.new.conn.ghost_name ≡ tx.old.conn.ghost_name }
     ensures reads { Reads (λ book due. due ≡ due_by_kind book kind.now item.now id.now)
+        (state S.Store tx.old.conn.now) (state S.Store tx.new.conn.now) result }
+    ensures any_rows { ReadsAny (DueBy kind.now item.now id.now)
         (state S.Store tx.old.conn.now) (state S.Store tx.new.conn.now) result }
 {
     let found = found_of_item(alloc, tx, item)?;
@@ -138,6 +151,8 @@ fn line_known<S: Alter>(
     ensures reads { Reads (λ book known. kind.now ≡ kind_at book release.now.place
         → IsKnownOf book release.now line.now known)
         (state S.Store tx.old.conn.now) (state S.Store tx.new.conn.now) result }
+    ensures any_rows { ReadsAny (λ trees known. IsLineFound kind.now trees line.now known)
+        (state S.Store tx.old.conn.now) (state S.Store tx.new.conn.now) result }
     ensures life { IfOk result HasLifeReached }
 {
     match line {
@@ -164,6 +179,10 @@ fn release_known<S: Alter>(
     ensures same_reference { tx.new.conn.ghost_name ≡ tx.old.conn.ghost_name }
     ensures reads { Reads (λ book known. (known.0 ≡ number_of_place book release.now.place)
         × AreKnownOf book release.now lines.now known.1.items)
+        (state S.Store tx.old.conn.now) (state S.Store tx.new.conn.now) result }
+    ensures any_rows { ReadsAny (λ trees known.
+        NumberBy (ItemNumber (item_at release.now.place)) trees known.0
+        × AreLinesAt release.now.place lines.now trees known.1.items)
         (state S.Store tx.old.conn.now) (state S.Store tx.new.conn.now) result }
     ensures each { IfOk result (λ known. length known.1.items ≡ length lines.now) }
     ensures lives { IfOk result (λ known. All HasLifeReached known.1.items) }
@@ -194,6 +213,8 @@ pub fn rows_of_release<S: Alter>(
     requires few { length lines.now ≤ MOST_LINES }
     ensures same_reference { tx.new.conn.ghost_name ≡ tx.old.conn.ghost_name }
     ensures reads { Reads (AreRowsOf (Released release lines.now) entry)
+        (state S.Store tx.old.conn.now) (state S.Store tx.new.conn.now) result }
+    ensures any_rows { ReadsAny (AreRowsBy (Released release lines.now) entry)
         (state S.Store tx.old.conn.now) (state S.Store tx.new.conn.now) result }
 {
     let (item, known) = release_known(alloc, tx, &release, lines)?;

@@ -1,12 +1,13 @@
 //! The rows of a sector.
-ghost use Rattle.std.specs.Prelude.{◌≡◌, ◌∷◌, IfOk, filter, map, true};
+ghost use Rattle.std.specs.Prelude.{◌≡◌, IfOk, true};
 ghost use Rattle.sqlite.specs.Held.{state};
 ghost use Rattle.mx_command.specs.Act.{Flown};
 ghost use Rattle.mx_command.specs.Shape.{sector_shape};
 ghost use Rattle.mx_kept_rows.specs.Totals.{has_between};
 ghost use Rattle.mx_typed_rows.specs.Rows.{FitsEntry};
-ghost use Rattle.mx_typed_rows.specs.declared.rows.SpanRow.{SpanRow};
+ghost use Rattle.mx_lookups.specs.AnyRows.{ReadsAny};
 ghost use Rattle.mx_lookups.specs.Reads.{Reads};
+ghost use Rattle.mx_made.specs.Found.{AreRowsBy, numbers_flown};
 ghost use Rattle.mx_made.specs.Made.{AreRowsOf};
 
 use crate::numbers::number_of_aircraft;
@@ -38,8 +39,7 @@ fn numbers_flown(
     spans: &[SpanRow],
 ) -> Result<Vec<u32>, AllocError>
     ensures { IfOk result (λ numbers. numbers.items
-        ≡ aircraft ∷ map (λ (row : SpanRow). row.component) (filter
-        (λ (row : SpanRow). has_between sector.now.off sector.now.on row.from row.to) spans.now)) }
+        ≡ numbers_flown aircraft sector.now spans.now) }
 {
     let mut numbers = Vec::new(alloc);
     numbers.push(aircraft)?;
@@ -63,6 +63,8 @@ pub fn rows_of_sector<S: Alter>(
     requires shaped { sector_shape sector ≡ true }
     ensures same_reference { tx.new.conn.ghost_name ≡ tx.old.conn.ghost_name }
     ensures reads { Reads (AreRowsOf (Flown sector) entry)
+        (state S.Store tx.old.conn.now) (state S.Store tx.new.conn.now) result }
+    ensures any_rows { ReadsAny (AreRowsBy (Flown sector) entry)
         (state S.Store tx.old.conn.now) (state S.Store tx.new.conn.now) result }
 {
     let aircraft = number_of_aircraft(alloc, tx, &sector.tail)?;

@@ -8,6 +8,7 @@ ghost use Rattle.mx_kept_rows.specs.Totals.{is_among, total_in, total_rows};
 ghost use Rattle.mx_changes.specs.Kept.{HasLife};
 ghost use Rattle.mx_lookups.specs.AnyRows.{ReadsAny};
 ghost use Rattle.mx_lookups.specs.Reads.{Reads};
+ghost use Rattle.mx_made.specs.Found.{AppendsTotal, AreTotalsOf};
 ghost use Rattle.mx_made.specs.Totals.{HasItem, TotalOf};
 
 use mx_base::{Base, Use};
@@ -107,6 +108,9 @@ fn push_total<S: Alter>(
     ensures reads { Reads (λ book done. totals.new.items
         ≡ totals.old.items ++ cons_option (total_in (total_rows book) number) [])
         (state S.Store tx.old.conn.now) (state S.Store tx.new.conn.now) result }
+    ensures any_rows { ReadsAny (λ trees done.
+        AppendsTotal number totals.old.items totals.new.items trees)
+        (state S.Store tx.old.conn.now) (state S.Store tx.new.conn.now) result }
     ensures lives { OnOk result (All HasLife totals.old.items → All HasLife totals.new.items) }
 {
     let found = total_of(alloc, tx, number)?;
@@ -128,6 +132,8 @@ fn totals_in_order<S: Alter>(
     ensures same_reference { tx.new.conn.ghost_name ≡ tx.old.conn.ghost_name }
     ensures reads { Reads (λ book totals.
         totals.items ≡ filter (is_among numbers.now) (total_rows book))
+        (state S.Store tx.old.conn.now) (state S.Store tx.new.conn.now) result }
+    ensures any_rows { ReadsAny (λ trees totals. AreTotalsOf numbers.now trees totals.items)
         (state S.Store tx.old.conn.now) (state S.Store tx.new.conn.now) result }
     ensures lives { IfOk result (λ totals. All HasLife totals.items) }
 {
@@ -152,6 +158,8 @@ pub fn totals_of<S: Alter>(
     ensures same_reference { tx.new.conn.ghost_name ≡ tx.old.conn.ghost_name }
     ensures reads { Reads (λ book totals.
         totals.items ≡ filter (is_among numbers.now) (total_rows book))
+        (state S.Store tx.old.conn.now) (state S.Store tx.new.conn.now) result }
+    ensures any_rows { ReadsAny (λ trees totals. AreTotalsOf numbers.now trees totals.items)
         (state S.Store tx.old.conn.now) (state S.Store tx.new.conn.now) result }
     ensures lives { IfOk result (λ totals. All HasLife totals.items) }
 {

@@ -13,8 +13,8 @@ use Rattle.mx_changes.proofs.AddedLemmas.{nothing, one, these}
 use Rattle.mx_changes.proofs.TouchLemmas.{clocked_are, none_pass}
 use Rattle.mx_changes.proofs.defects.deferral_rows.Goals as goal
 
-pub returns : goal.returns
-returns c book doc own aircraft touched =
+pub returns-clause-of_book : goal.returns-clause-of_book
+returns-clause-of_book c book doc own aircraft touched =
     let act = Deferred c.args.deferral in
     let e = entry_of doc act in
     let seq : c.args.entry.seq ≡ next book = ap (λ (row : EntryRow). row.seq) own in

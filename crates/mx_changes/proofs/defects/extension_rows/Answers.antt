@@ -12,8 +12,8 @@ use Rattle.mx_changes.proofs.AddedLemmas.{nothing, one}
 use Rattle.mx_changes.proofs.TouchLemmas.{none_pass}
 use Rattle.mx_changes.proofs.defects.extension_rows.Goals as goal
 
-pub returns : goal.returns
-returns c book doc own defect =
+pub returns-clause-of_book : goal.returns-clause-of_book
+returns-clause-of_book c book doc own defect =
     let act = Extended c.args.extension in
     let e = entry_of doc act in
     let seq : c.args.entry.seq ≡ next book = ap (λ (row : EntryRow). row.seq) own in

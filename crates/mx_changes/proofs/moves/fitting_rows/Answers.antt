@@ -14,8 +14,8 @@ use Rattle.mx_changes.proofs.TouchLemmas.{clocked_are, none_pass}
 use Rattle.mx_changes.specs.Kept.{span_fitted, total_clocked}
 use Rattle.mx_changes.proofs.moves.fitting_rows.Goals as goal
 
-pub returns : goal.returns
-returns c book doc own component aircraft touched =
+pub returns-clause-of_book : goal.returns-clause-of_book
+returns-clause-of_book c book doc own component aircraft touched =
     let act = Fitted c.args.fitting in
     let e = entry_of doc act in
     let seq : c.args.entry.seq ≡ next book = ap (λ (row : EntryRow). row.seq) own in

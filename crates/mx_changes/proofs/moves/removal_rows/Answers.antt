@@ -1,4 +1,4 @@
-use Rattle.std.proofs.Common.{◌≡◌, ℕ, refl, ap, [], ◌∷◌, ◌∙◌, map}
+use Rattle.std.proofs.Common.{◌≡◌, ℕ, refl, ap, ◌∙◌, map}
 use Rattle.mx_command.specs.Act.{Removed}
 use Rattle.mx_typed_rows.specs.Rows.{FitsAircraft, FitsPlace, FitsComponent, FitsProgramme, FitsTask, FitsOpening, FitsRelease, FitsReleaseLine, FitsDeferral, FitsExtension, FitsSpan, FitsTotal, FitsBase}
 use Rattle.mx_typed_rows.specs.declared.rows.EntryRow.{EntryRow}
@@ -13,8 +13,8 @@ use Rattle.mx_changes.proofs.TouchLemmas.{clocked_are, ended_are}
 use Rattle.mx_changes.specs.Kept.{span_removed, total_clocked}
 use Rattle.mx_changes.proofs.moves.removal_rows.Goals as goal
 
-pub returns : goal.returns
-returns c book doc own opened touched =
+pub returns-clause-of_book : goal.returns-clause-of_book
+returns-clause-of_book c book doc own opened touched =
     let act = Removed c.args.removal in
     let e = entry_of doc act in
     let seq : c.args.entry.seq ≡ next book = ap (λ (row : EntryRow). row.seq) own in

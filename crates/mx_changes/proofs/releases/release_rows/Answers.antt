@@ -17,8 +17,8 @@ use Rattle.std.specs.List.{filter_map}
 use Rattle.mx_changes.specs.Certified.{base_made, line_made}
 use Rattle.mx_changes.proofs.releases.release_rows.Goals as goal
 
-pub returns : goal.returns
-returns c book doc certified own item known touched =
+pub returns-clause-of_book : goal.returns-clause-of_book
+returns-clause-of_book c book doc certified own item known touched =
     let act = Released c.args.release certified in
     let e = entry_of doc act in
     let seq : c.args.entry.seq ≡ next book = ap (λ (row : EntryRow). row.seq) own in

@@ -15,8 +15,8 @@ use Rattle.mx_changes.proofs.TouchLemmas.{flown_are, none_pass}
 use Rattle.mx_typed_rows.specs.declared.rows.SectorRow.{SectorRow}
 use Rattle.mx_changes.proofs.sectors.sector_rows.Goals as goal
 
-pub returns : goal.returns
-returns c book doc own aircraft touched =
+pub returns-clause-of_book : goal.returns-clause-of_book
+returns-clause-of_book c book doc own aircraft touched =
     let act = Flown c.args.sector in
     let e = entry_of doc act in
     let seq : c.args.entry.seq ≡ next book = ap (λ (row : EntryRow). row.seq) own in

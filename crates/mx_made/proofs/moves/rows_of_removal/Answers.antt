@@ -1,10 +1,19 @@
-use Rattle.std.proofs.Common.{◌∙◌, ◌∷◌, map, ap}
+use Rattle.std.proofs.Common.{◌∙◌, ◌∷◌, map, ap, subst, sym, pos, None}
 use Rattle.mx_typed_rows.specs.declared.rows.SpanRow.{SpanRow}
 use Rattle.mx_lookups.proofs.BookRows.{open_spans_of}
 use Rattle.mx_lookups.proofs.ReadLemmas.{reads_then, stopped, told}
 use Rattle.mx_made.proofs.AmongLemmas.{among}
 use Rattle.mx_made.proofs.MadeLemmas.{starved}
 use Rattle.mx_made.proofs.SpanLemmas.{spans_removed_are}
+use Rattle.mx_lookups.proofs.AnyLemmas.{any_so}
+use Rattle.mx_changes.specs.Made.{nothing_found}
+use Rattle.mx_made.specs.Found.{AreTotalsOf, numbers_removed}
+use Rattle.mx_made.proofs.AnyMadeLemmas.{any_then, chosen_read}
+use Rattle.sqlite.specs.declared.types.Value.TheVariants.{Int}
+use Rattle.mx_kept.specs.Cells.{kept_span2}
+use Rattle.mx_chosen.specs.Choices.{is_open}
+use Rattle.mx_lookups.specs.AnyRows.{AreChosen}
+use Rattle.mx_lookups.proofs.TableLemmas.{spans}
 use Rattle.mx_made.proofs.moves.rows_of_removal.Goals as goal
 
 pub returns-in_err-spans-clause-reads : goal.returns-in_err-spans-clause-reads
@@ -30,7 +39,27 @@ returns-clause-reads g c =
     told _ _ _ _ _ _
     (λ book b all doc own.
     let ended = spans_removed_are book c.in_ok-component.component c.args.removal.serial c.in_ok-spans.spans.items all.0 all.1.0 in
-    c.in_ok-removal_rows.ensures book doc own (c.deref-3.ensures.value ∙ ended.0)
+    c.in_ok-removal_rows.ensures.of_book book doc own (c.deref-3.ensures.value ∙ ended.0)
     (c.deref-4.ensures.value ∙ all.1.1
     ∙ ap (λ ns. among ns book) (c.deref-2.ensures.value ∙ c.in_ok-numbers.ensures ∙ ap (λ l. c.in_ok-component.component ∷ map (λ (row : SpanRow). row.aircraft) l) c.deref.ensures.value ∙ ended.1)))
     (reads_then _ _ _ _ _ _ _ c.in_ok-component.ensures.reads (reads_then _ _ _ _ _ _ _ (open_spans_of c.in_ok-component.component c.in_ok-spans.ensures.reads) c.in_ok-totals.ensures.reads))
+
+pub returns-clause-any_rows : goal.returns-clause-any_rows
+returns-clause-any_rows g c =
+    let m = c.in_ok-component.component in
+    let opened = open_spans_of m c.in_ok-spans.ensures.reads in
+    let later = reads_then _ _ _ _ _ _ _ opened c.in_ok-totals.ensures.reads in
+    let numbers = c.deref-2.ensures.value ∙ c.in_ok-numbers.ensures ∙ ap (numbers_removed m) (c.deref.ensures.value ∙ sym c.deref-3.ensures.value) in
+    any_so _ _ _ _ _ _
+    (λ trees all. record {
+      found = record nothing_found { component = m; spans = c.deref-3.result.now; totals = c.deref-4.result.now };
+      looked_up = record {
+        numbers = all.0;
+        spans = subst (AreChosen kept_span2 None kept_span2.order (is_open 1 (Int (pos m))) trees) (sym c.deref-3.ensures.value) all.1.0;
+        totals = subst (λ ns. AreTotalsOf ns trees c.deref-4.result.now) numbers (subst (AreTotalsOf c.deref-2.result.now trees) (sym c.deref-4.ensures.value) all.1.1);
+        lines = tt;
+      };
+      made = c.in_ok-removal_rows.ensures.made m;
+    })
+    (any_then _ _ _ _ _ _ _ _ c.in_ok-component.ensures.reads c.in_ok-component.ensures.any_rows later.within
+    (any_then _ _ _ _ _ _ _ _ opened (chosen_read spans c.in_ok-spans.ensures.reads) c.in_ok-totals.ensures.reads.within c.in_ok-totals.ensures.any_rows))

@@ -6,6 +6,7 @@ use Rattle.mx_book.proofs.LifeLemmas.{life_in_bounds}
 use Rattle.mx_layout.specs.declared.fault.Table.TheVariants as table
 use Rattle.mx_lookups.proofs.ReadLemmas.{refused, told}
 use Rattle.mx_made.proofs.ReleaseLemmas.{life_past}
+use Rattle.mx_lookups.proofs.AnyLemmas.{any_so}
 use Rattle.mx_made.proofs.releases.life_reached.Goals as goal
 
 pub returns-then-is_life-clause-reads : goal.returns-then-is_life-clause-reads
@@ -22,3 +23,9 @@ returns-else-is_life-clause-reads g c =
 
 pub returns-in-None-clause-reads : goal.returns-in-None-clause-reads
 returns-in-None-clause-reads g c = told _ _ _ _ _ _ (λ book b found. ap use_or_none (sym c.in-None.is ∙ found)) c.in_ok-found.ensures.reads
+
+pub returns-then-is_life-clause-any_rows : goal.returns-then-is_life-clause-any_rows
+returns-then-is_life-clause-any_rows g c = any_so _ _ _ _ _ _ (λ trees of. (c.in_ok-found.found, of, sym (ap use_or_none c.in-Some.is))) c.in_ok-found.ensures.any_rows
+
+pub returns-in-None-clause-any_rows : goal.returns-in-None-clause-any_rows
+returns-in-None-clause-any_rows g c = any_so _ _ _ _ _ _ (λ trees of. (c.in_ok-found.found, of, sym (ap use_or_none c.in-None.is))) c.in_ok-found.ensures.any_rows

@@ -2,6 +2,7 @@ use Rattle.std.proofs.Common.{◌∙◌, [], ◌∷◌, All, ap, arith, length, 
 use Rattle.std.proofs.lemmas.List.Elements.{All-append, All-cons, All-nil}
 use Rattle.mx_changes.specs.Certified.{HasLifeReached}
 use Rattle.mx_lookups.proofs.AnyLemmas.{empty_is}
+use Rattle.mx_made.proofs.AnyMadeLemmas.{any_begun, any_ended, any_more}
 use Rattle.mx_made.proofs.ReleaseLemmas.{lines_begun, lines_ended, lines_more, lines_starved, lines_stopped}
 use Rattle.mx_made.proofs.releases.release_known.Goals as goal
 
@@ -9,6 +10,7 @@ pub loop-line-init : goal.loop-line-init
 loop-line-init g c = record {
   same_reference = c.in_ok-number.ensures.same_reference;
   walk = lines_begun c.args.release.now c.args.lines.now _ _ _ _ _ _ c.new-known.ensures.items refl c.in_ok-number.ensures.reads;
+  any_rows = any_begun c.args.release.now.place c.args.lines.now _ _ _ _ _ _ c.new-known.ensures.items refl c.in_ok-number.ensures.any_rows;
   each = let none = ap length c.new-known.ensures.items in omega (arith, none);
   lives = subst (All HasLifeReached) (sym c.new-known.ensures.items) (All-nil HasLifeReached);
 }
@@ -19,6 +21,7 @@ loop-line-preserved g c =
     record {
       same_reference = c.in_ok-one.ensures.same_reference ∙ c.loop-line.invariant.same_reference;
       walk = lines_more c.args.release.now c.args.lines.now _ _ _ _ _ _ _ c.in-Some.later.now c.in-Some.line.now c.loop-line.invariant.walk c.in-Some.ensures.cases.0 known _ c.in_ok-push.ensures.items c.in_ok-one.ensures.reads;
+      any_rows = any_more c.args.release.now.place c.args.lines.now _ _ _ _ _ _ _ c.in-Some.later.now c.in-Some.line.now c.in-Some.ensures.cases.0 _ known _ c.in_ok-push.ensures.items c.loop-line.invariant.walk c.loop-line.invariant.any_rows c.in_ok-one.ensures.reads.within c.in_ok-one.ensures.any_rows;
       each =
           let longer = ap length c.in_ok-push.ensures.items ∙ length-append c.loop-line.known.items (known ∷ []) in
           let left = ap length c.in-Some.ensures.cases.0 in
@@ -35,3 +38,6 @@ returns-in_err-push-clause-reads g c = lines_starved c.args.release.now c.args.l
 
 pub returns-clause-reads : goal.returns-clause-reads
 returns-clause-reads g c = lines_ended c.args.release.now c.args.lines.now _ _ _ _ _ _ (empty_is _ c.in_default.ensures.cases) c.loop-line.invariant.walk
+
+pub returns-clause-any_rows : goal.returns-clause-any_rows
+returns-clause-any_rows g c = any_ended c.args.release.now.place c.args.lines.now _ _ _ _ _ _ (empty_is _ c.in_default.ensures.cases) c.loop-line.invariant.any_rows

@@ -1,10 +1,15 @@
-use Rattle.std.proofs.Common.{◌∙◌, ap}
+use Rattle.std.proofs.Common.{◌∙◌, ap, subst, sym}
 use Rattle.mx_kept_rows.specs.Totals.{numbers_during}
 use Rattle.mx_kept_rows.specs.Spans.{span_rows}
 use Rattle.mx_lookups.proofs.ReadLemmas.{reads_then, stopped, told}
 use Rattle.mx_made.proofs.AmongLemmas.{among}
 use Rattle.mx_made.proofs.MadeLemmas.{starved}
 use Rattle.mx_made.proofs.SpanLemmas.{numbers_flown_are, spans_of_aircraft}
+use Rattle.mx_lookups.proofs.AnyLemmas.{any_so}
+use Rattle.mx_changes.specs.Made.{nothing_found}
+use Rattle.mx_made.specs.Found.{AreTotalsOf, numbers_flown}
+use Rattle.mx_made.proofs.AnyMadeLemmas.{any_then, chosen_read}
+use Rattle.mx_lookups.proofs.TableLemmas.{spans}
 use Rattle.mx_made.proofs.sectors.rows_of_sector.Goals as goal
 
 pub returns-in_err-spans-clause-reads : goal.returns-in_err-spans-clause-reads
@@ -31,7 +36,28 @@ returns-clause-reads g c =
     let s = c.args.sector in
     told _ _ _ _ _ _
     (λ book b all doc own.
-    c.in_ok-sector_rows.ensures book doc own all.0
+    c.in_ok-sector_rows.ensures.of_book book doc own all.0
     (c.deref-3.ensures.value ∙ all.1.1
     ∙ ap (λ ns. among ns book) (c.deref-2.ensures.value ∙ c.in_ok-numbers.ensures ∙ numbers_flown_are book n s.off s.on _ (c.deref.ensures.value ∙ all.1.0) ∙ ap (λ m. numbers_during m s.off s.on (span_rows book)) all.0)))
     (reads_then _ _ _ _ _ _ _ c.in_ok-aircraft.ensures.reads (reads_then _ _ _ _ _ _ _ (spans_of_aircraft n c.in_ok-spans.ensures.reads) c.in_ok-totals.ensures.reads))
+
+pub returns-clause-any_rows : goal.returns-clause-any_rows
+returns-clause-any_rows g c =
+    let n = c.in_ok-aircraft.aircraft in
+    let s = c.args.sector in
+    let flown = spans_of_aircraft n c.in_ok-spans.ensures.reads in
+    let later = reads_then _ _ _ _ _ _ _ flown c.in_ok-totals.ensures.reads in
+    let numbers = c.deref-2.ensures.value ∙ c.in_ok-numbers.ensures ∙ ap (numbers_flown n s) c.deref.ensures.value in
+    any_so _ _ _ _ _ _
+    (λ trees all. record {
+      found = record nothing_found { number = n; spans = c.in_ok-spans.spans.items; totals = c.deref-3.result.now };
+      looked_up = record {
+        numbers = all.0;
+        spans = all.1.0;
+        totals = subst (λ ns. AreTotalsOf ns trees c.deref-3.result.now) numbers (subst (AreTotalsOf c.deref-2.result.now trees) (sym c.deref-3.ensures.value) all.1.1);
+        lines = tt;
+      };
+      made = c.in_ok-sector_rows.ensures.made c.in_ok-spans.spans.items;
+    })
+    (any_then _ _ _ _ _ _ _ _ c.in_ok-aircraft.ensures.reads c.in_ok-aircraft.ensures.any_rows later.within
+    (any_then _ _ _ _ _ _ _ _ flown (chosen_read spans c.in_ok-spans.ensures.reads) c.in_ok-totals.ensures.reads.within c.in_ok-totals.ensures.any_rows))

@@ -4,6 +4,7 @@ use Rattle.std.specs.Prelude.{IfSome}
 use Rattle.std.proofs.lemmas.List.Elements.{All-append, All-cons, All-nil}
 use Rattle.mx_changes.specs.Kept.{HasLife}
 use Rattle.mx_lookups.proofs.ReadLemmas.{told}
+use Rattle.mx_lookups.proofs.AnyLemmas.{any_so}
 use Rattle.mx_made.proofs.totals.push_total.Goals as goal
 
 pub returns-in_ok-push-in-Some-clause-reads : goal.returns-in_ok-push-in-Some-clause-reads
@@ -19,3 +20,11 @@ returns-in_ok-push-in-Some-clause-lives g c =
 pub returns-in-None-clause-reads : goal.returns-in-None-clause-reads
 returns-in-None-clause-reads g c =
     told _ _ _ _ _ _ (λ book b is. sym (append-nil c.args.totals.now.items) ∙ ap (λ o. c.args.totals.now.items ++ cons_option o []) (sym c.in-None.is ∙ is)) c.in_ok-found.ensures.reads
+
+pub returns-in_ok-push-in-Some-clause-any_rows : goal.returns-in_ok-push-in-Some-clause-any_rows
+returns-in_ok-push-in-Some-clause-any_rows g c =
+    any_so _ _ _ _ _ _ (λ trees of. (c.in_ok-found.found, of, c.in_ok-push-in-Some.ensures.items ∙ ap (λ o. c.args.totals.now.items ++ cons_option o []) (sym c.in-Some.is))) c.in_ok-found.ensures.any_rows
+
+pub returns-in-None-clause-any_rows : goal.returns-in-None-clause-any_rows
+returns-in-None-clause-any_rows g c =
+    any_so _ _ _ _ _ _ (λ trees of. (c.in_ok-found.found, of, sym (append-nil c.args.totals.now.items) ∙ ap (λ o. c.args.totals.now.items ++ cons_option o []) (sym c.in-None.is))) c.in_ok-found.ensures.any_rows

@@ -2,7 +2,9 @@ use Rattle.std.proofs.Common.{◌≡◌, ◌≤◌, ℕ, All, Ok, filter, take}
 use Rattle.sqlite.specs.Held.{state}
 use Rattle.mx_kept_rows.specs.Totals.{is_among, total_rows}
 use Rattle.mx_changes.specs.Kept.{HasLife}
+use Rattle.mx_lookups.specs.AnyRows.{ReadsAny}
 use Rattle.mx_lookups.specs.Reads.{Reads}
+use Rattle.mx_made.specs.Found.{AreTotalsOf}
 use Rattle.mx_made.proofs.totals.totals_in_order.Given as goal
 
 -- the totals so far are those of the first of the numbers
@@ -11,5 +13,6 @@ invariant-numbers g l = record {
   same_reference : l.tx.conn.ghost_name ≡ l.fn.tx.conn.ghost_name;
   some : 1 ≤ l.i;
   reads : Reads {V = ℕ} (λ book done. l.totals.items ≡ filter (is_among (take l.i l.numbers)) (total_rows book)) (state g.S.Store l.fn.tx.conn.now) (state g.S.Store l.tx.conn.now) (Ok 0);
+  any_rows : ReadsAny {V = ℕ} (λ trees done. AreTotalsOf (take l.i l.numbers) trees l.totals.items) (state g.S.Store l.fn.tx.conn.now) (state g.S.Store l.tx.conn.now) (Ok 0);
   lives : All HasLife l.totals.items;
 }
