@@ -1,5 +1,5 @@
--- What the rows of an entry say of a command.
-use Rattle.std.specs.Prelude.{◌≡◌, ◌↔◌, ◌+◌, ◌&&◌, ℕ, pos, Bool, IsTrue, List, [], ◌∷◌, Option, true, None, Some}
+-- What the rows of an entry say of a command, and for which of them which table is told damaged.
+use Rattle.std.specs.Prelude.{◌≡◌, ◌↔◌, ◌+◌, ◌&&◌, ℕ, pos, Bool, IsTrue, List, [], ◌∷◌, Option, true, None, Some, Contains}
 use Rattle.std.specs.List.{list_any}
 use Rattle.std.specs.Option.{option_map}
 use Rattle.sqlite.specs.declared.types.Value.TheVariants.{Int, Text}
@@ -26,6 +26,7 @@ use Rattle.mx_found.specs.Names.{entry_number}
 use Rattle.mx_found.specs.Spans.{begins_with, ends_with}
 use Rattle.mx_lookups.specs.AnyRows.{AreChosen, Gives, GivesBy}
 use Rattle.mx_lookups.specs.Given.{AircraftNumber, ComponentNumber, DefectNumber, ItemNumber}
+use Rattle.mx_lookups.specs.Told.{AircraftDamage, ComponentDamage, Damage, DamageBy, Either, EntryDamage, ItemDamage, Unread}
 
 -- ── of a book ──
 
@@ -97,3 +98,35 @@ Says n (Extended extension) = ByNumber (DefectNumber extension.defect) (λ defec
 -- the number of the entry with the document of a command, and whether its rows say the same; none where no row has the document
 abbrev pub KnownAs : Entry → Trees → Option (ℕ × Bool) → Type 0
 KnownAs command = GivesBy (Gives kept_entry (has_value 1 (Text command.doc)) entry_number) None (λ n trees known. (same : Bool) × Says n command.act trees same × (known ≡ Some (n, same)))
+
+-- ── what is damaged ──
+
+-- of the rows of the table with this number
+abbrev pub RowsDamage : {X : Type 0} → Kept X → ℕ → Damage
+RowsDamage k n = Unread k (has_value 0 (Int (pos n)))
+
+-- of what a line is of
+abbrev pub LineDamage : Line → Damage
+LineDamage (Done item id) = ItemDamage item
+LineDamage (Rectified doc) = EntryDamage doc
+
+-- of what one of these lines is of
+abbrev pub LinesDamage : List Line → Damage
+LinesDamage lines name trees = (line : Line) × Contains lines line × LineDamage line name trees
+
+-- of what is named, and of the rows with this number in each table of what is said
+abbrev pub SaysDamage : ℕ → Act → Damage
+SaysDamage n (Added aircraft positions) = Either (RowsDamage kept_aircraft n) (RowsDamage kept_place n)
+SaysDamage n (Listed component) = RowsDamage kept_component n
+SaysDamage n (Loaded programme tasks) = Either (RowsDamage kept_programme n) (RowsDamage kept_task n)
+SaysDamage n (Opened opening) = Either (ItemDamage opening.item) (RowsDamage kept_opening n)
+SaysDamage n (Flown sector) = Either (AircraftDamage sector.tail) (RowsDamage kept_sector2 n)
+SaysDamage n (Fitted fitting) = Either (ComponentDamage fitting.serial) (Either (AircraftDamage fitting.tail) (RowsDamage kept_span2 n))
+SaysDamage n (Removed removal) = Either (ComponentDamage removal.serial) (Unread kept_span2 (has_value 5 (Int (pos n))))
+SaysDamage n (Released release lines) = Either (Either (ItemDamage (item_at release.place)) (RowsDamage kept_crs n)) (Either (RowsDamage kept_crs_line n) (LinesDamage lines))
+SaysDamage n (Deferred deferral) = Either (AircraftDamage deferral.tail) (RowsDamage kept_defect n)
+SaysDamage n (Extended extension) = Either (EntryDamage extension.defect) (RowsDamage kept_extension n)
+
+-- of the entry with the document of a command, and of its rows
+abbrev pub KnownDamage : Entry → Damage
+KnownDamage command = DamageBy (EntryDamage command.doc) (Gives kept_entry (has_value 1 (Text command.doc)) entry_number) (λ n. SaysDamage n command.act)

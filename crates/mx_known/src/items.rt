@@ -8,8 +8,9 @@ ghost use Rattle.mx_register.specs.Registers.{aircraft_row, place_row};
 ghost use Rattle.mx_kept.specs.Cells.{kept_aircraft, kept_place};
 ghost use Rattle.mx_found.specs.Given as registers;
 ghost use Rattle.mx_lookups.specs.AnyRows.{ReadsAny};
-ghost use Rattle.mx_known.specs.Known.{AreRows, Says, Tells, TellsRows};
+ghost use Rattle.mx_known.specs.Known.{AreRows, RowsDamage, Says, SaysDamage, Tells, TellsRows};
 ghost use Rattle.mx_lookups.specs.Reads.{Reads};
+ghost use Rattle.mx_lookups.specs.Told.{TellsDamage};
 
 use crate::lines::place_rows;
 use mx_base::{Part, Position};
@@ -35,6 +36,8 @@ fn is_aircraft_row<S: Alter>(
         (state S.Store tx.old.conn.now) (state S.Store tx.new.conn.now) result }
     ensures any_rows { ReadsAny (AreRows kept_aircraft seq (aircraft_row seq aircraft ∷ []))
         (state S.Store tx.old.conn.now) (state S.Store tx.new.conn.now) result }
+    ensures damage { TellsDamage (RowsDamage kept_aircraft seq)
+        (state S.Store tx.old.conn.now) (state S.Store tx.new.conn.now) result }
 {
     let rows = aircraft_by_seq(alloc, tx, seq)?;
     let row = aircraft_row(seq, aircraft);
@@ -54,6 +57,8 @@ fn are_positions<S: Alter>(
         (TellsRows registers.places seq (λ book. lines_from place_row seq 1 positions.now))
         (state S.Store tx.old.conn.now) (state S.Store tx.new.conn.now) result }
     ensures any_rows { ReadsAny (AreRows kept_place seq (lines_from place_row seq 1 positions.now))
+        (state S.Store tx.old.conn.now) (state S.Store tx.new.conn.now) result }
+    ensures damage { TellsDamage (RowsDamage kept_place seq)
         (state S.Store tx.old.conn.now) (state S.Store tx.new.conn.now) result }
 {
     let rows = place_by_seq(alloc, tx, seq)?;
@@ -75,6 +80,8 @@ pub(crate) fn is_aircraft<S: Alter>(
         (state S.Store tx.old.conn.now) (state S.Store tx.new.conn.now) result }
     ensures any_rows { ReadsAny (Says seq (Added aircraft positions.now))
         (state S.Store tx.old.conn.now) (state S.Store tx.new.conn.now) result }
+    ensures damage { TellsDamage (SaysDamage seq (Added aircraft positions.now))
+        (state S.Store tx.old.conn.now) (state S.Store tx.new.conn.now) result }
 {
     let same = is_aircraft_row(alloc, tx, seq, aircraft)?;
     let on_lines = are_positions(alloc, tx, seq, positions)?;
@@ -92,6 +99,8 @@ pub(crate) fn is_component<S: Alter>(
     ensures reads { Reads (Tells seq (Listed component))
         (state S.Store tx.old.conn.now) (state S.Store tx.new.conn.now) result }
     ensures any_rows { ReadsAny (Says seq (Listed component))
+        (state S.Store tx.old.conn.now) (state S.Store tx.new.conn.now) result }
+    ensures damage { TellsDamage (SaysDamage seq (Listed component))
         (state S.Store tx.old.conn.now) (state S.Store tx.new.conn.now) result }
 {
     let rows = component_by_seq(alloc, tx, seq)?;

@@ -5,8 +5,9 @@ ghost use Rattle.sqlite.specs.Held.{state};
 ghost use Rattle.mx_book.specs.Asking.{known_same};
 ghost use Rattle.mx_book.specs.Judge.{known_from};
 ghost use Rattle.mx_lookups.specs.AnyRows.{ReadsAny};
-ghost use Rattle.mx_known.specs.Known.{KnownAs, Says, Tells};
+ghost use Rattle.mx_known.specs.Known.{KnownAs, KnownDamage, Says, SaysDamage, Tells};
 ghost use Rattle.mx_lookups.specs.Reads.{Reads};
+ghost use Rattle.mx_lookups.specs.Told.{TellsDamage};
 
 use crate::items::{is_aircraft, is_component};
 use crate::moves::{is_fitting, is_removal, is_sector};
@@ -29,6 +30,8 @@ fn is_same<S: Alter>(
     ensures reads { Reads (Tells seq command.now.act)
         (state S.Store tx.old.conn.now) (state S.Store tx.new.conn.now) result }
     ensures any_rows { ReadsAny (Says seq command.now.act)
+        (state S.Store tx.old.conn.now) (state S.Store tx.new.conn.now) result }
+    ensures damage { TellsDamage (SaysDamage seq command.now.act)
         (state S.Store tx.old.conn.now) (state S.Store tx.new.conn.now) result }
 {
     // A command of its shape has few positions, tasks and lines.
@@ -59,6 +62,8 @@ pub fn known<S: Alter>(
         ≡ option_map (known_same command.now) (known_from command.now.doc 1 book))
         (state S.Store tx.old.conn.now) (state S.Store tx.new.conn.now) result }
     ensures any_rows { ReadsAny (KnownAs command.now)
+        (state S.Store tx.old.conn.now) (state S.Store tx.new.conn.now) result }
+    ensures damage { TellsDamage (KnownDamage command.now)
         (state S.Store tx.old.conn.now) (state S.Store tx.new.conn.now) result }
 {
     let doc = command.doc();

@@ -4,8 +4,9 @@ ghost use Rattle.mx_command.specs.Act.{Fitted, Flown, Removed};
 ghost use Rattle.std.specs.Prelude.{◌≡◌, ◌↔◌, ◌∷◌, [], IsTrue, map};
 ghost use Rattle.mx_typed_rows.specs.declared.rows.Sector2Row.{Sector2Row};
 ghost use Rattle.mx_lookups.specs.AnyRows.{ReadsAny};
-ghost use Rattle.mx_known.specs.Known.{Says, Tells};
+ghost use Rattle.mx_known.specs.Known.{Says, SaysDamage, Tells};
 ghost use Rattle.mx_lookups.specs.Reads.{Reads};
+ghost use Rattle.mx_lookups.specs.Told.{TellsDamage};
 
 use mx_chosen::kept::{span2_by_fit_seq, span2_by_remove_seq};
 use mx_chosen::sectors::sector2_by_seq;
@@ -41,6 +42,8 @@ pub(crate) fn is_sector<S: Alter>(
         (state S.Store tx.old.conn.now) (state S.Store tx.new.conn.now) result }
     ensures any_rows { ReadsAny (Says seq (Flown sector))
         (state S.Store tx.old.conn.now) (state S.Store tx.new.conn.now) result }
+    ensures damage { TellsDamage (SaysDamage seq (Flown sector))
+        (state S.Store tx.old.conn.now) (state S.Store tx.new.conn.now) result }
 {
     let aircraft = aircraft_number(alloc, tx, &sector.tail)?;
     let rows = sector2_by_seq(alloc, tx, seq)?;
@@ -60,6 +63,8 @@ pub(crate) fn is_fitting<S: Alter>(
         (state S.Store tx.old.conn.now) (state S.Store tx.new.conn.now) result }
     ensures any_rows { ReadsAny (Says seq (Fitted fitting))
         (state S.Store tx.old.conn.now) (state S.Store tx.new.conn.now) result }
+    ensures damage { TellsDamage (SaysDamage seq (Fitted fitting))
+        (state S.Store tx.old.conn.now) (state S.Store tx.new.conn.now) result }
 {
     let component = component_number(alloc, tx, &fitting.serial)?;
     let aircraft = aircraft_number(alloc, tx, &fitting.tail)?;
@@ -78,6 +83,8 @@ pub(crate) fn is_removal<S: Alter>(
     ensures reads { Reads (Tells seq (Removed removal))
         (state S.Store tx.old.conn.now) (state S.Store tx.new.conn.now) result }
     ensures any_rows { ReadsAny (Says seq (Removed removal))
+        (state S.Store tx.old.conn.now) (state S.Store tx.new.conn.now) result }
+    ensures damage { TellsDamage (SaysDamage seq (Removed removal))
         (state S.Store tx.old.conn.now) (state S.Store tx.new.conn.now) result }
 {
     let component = component_number(alloc, tx, &removal.serial)?;

@@ -7,13 +7,14 @@ ghost use Rattle.mx_book.specs.Judge.{item_at};
 ghost use Rattle.mx_register.specs.Lines.{lines_from};
 ghost use Rattle.mx_register.specs.Names.{or_zero, seq_of_item};
 ghost use Rattle.mx_register.specs.Registers.{release_line_row, release_row};
-ghost use Rattle.mx_kept.specs.Cells.{kept_crs};
+ghost use Rattle.mx_kept.specs.Cells.{kept_crs, kept_crs_line};
 ghost use Rattle.mx_found.specs.Given as registers;
 ghost use Rattle.mx_found.specs.Given.{seq_of_line};
 ghost use Rattle.mx_lookups.specs.AnyRows.{ReadsAny};
 ghost use Rattle.mx_lookups.specs.Given.{ItemNumber};
-ghost use Rattle.mx_known.specs.Known.{AreLines, AreRows, ByNumber, LineNumber, LineRow, Says, Tells, TellsRows};
+ghost use Rattle.mx_known.specs.Known.{AreLines, AreRows, ByNumber, LineDamage, LineNumber, LineRow, LinesDamage, RowsDamage, Says, SaysDamage, Tells, TellsRows};
 ghost use Rattle.mx_lookups.specs.Reads.{Reads};
+ghost use Rattle.mx_lookups.specs.Told.{Either, ItemDamage, TellsDamage};
 
 use mx_chosen::works::{crs_by_seq, crs_line_by_seq};
 use mx_command::{Line, Place, Release};
@@ -38,6 +39,8 @@ fn place_number<S: Alter>(
         (state S.Store tx.old.conn.now) (state S.Store tx.new.conn.now) result }
     ensures any_rows { ReadsAny (ItemNumber (item_at place.now))
         (state S.Store tx.old.conn.now) (state S.Store tx.new.conn.now) result }
+    ensures damage { TellsDamage (ItemDamage (item_at place.now))
+        (state S.Store tx.old.conn.now) (state S.Store tx.new.conn.now) result }
 {
     match place {
         Place::Aircraft(tail) => aircraft_number(alloc, tx, tail),
@@ -55,6 +58,8 @@ fn line_number<S: Alter>(
     ensures reads { Reads (λ book number. number ≡ seq_of_line book certified.now)
         (state S.Store tx.old.conn.now) (state S.Store tx.new.conn.now) result }
     ensures any_rows { ReadsAny (LineNumber certified.now)
+        (state S.Store tx.old.conn.now) (state S.Store tx.new.conn.now) result }
+    ensures damage { TellsDamage (LineDamage certified.now)
         (state S.Store tx.old.conn.now) (state S.Store tx.new.conn.now) result }
 {
     match certified {
@@ -76,6 +81,8 @@ fn line_row<S: Alter>(
         (state S.Store tx.old.conn.now) (state S.Store tx.new.conn.now) result }
     ensures any_rows { ReadsAny (LineRow seq line certified.now)
         (state S.Store tx.old.conn.now) (state S.Store tx.new.conn.now) result }
+    ensures damage { TellsDamage (LineDamage certified.now)
+        (state S.Store tx.old.conn.now) (state S.Store tx.new.conn.now) result }
 {
     let number = line_number(alloc, tx, certified)?;
     Ok(release_line_row(seq, line, or_zero(number), certified))
@@ -94,6 +101,9 @@ fn is_release_row<S: Alter>(
         (state S.Store tx.old.conn.now) (state S.Store tx.new.conn.now) result }
     ensures any_rows { ReadsAny (ByNumber (ItemNumber (item_at release.place)) (λ item.
         AreRows kept_crs seq (release_row seq item release ∷ [])))
+        (state S.Store tx.old.conn.now) (state S.Store tx.new.conn.now) result }
+    ensures damage { TellsDamage
+        (Either (ItemDamage (item_at release.place)) (RowsDamage kept_crs seq))
         (state S.Store tx.old.conn.now) (state S.Store tx.new.conn.now) result }
 {
     let found = place_number(alloc, tx, &release.place)?;
@@ -115,6 +125,8 @@ fn are_lines<S: Alter>(
         (λ book. lines_from (release_line_row book) seq 1 lines.now))
         (state S.Store tx.old.conn.now) (state S.Store tx.new.conn.now) result }
     ensures any_rows { ReadsAny (AreLines seq lines.now)
+        (state S.Store tx.old.conn.now) (state S.Store tx.new.conn.now) result }
+    ensures damage { TellsDamage (Either (RowsDamage kept_crs_line seq) (LinesDamage lines.now))
         (state S.Store tx.old.conn.now) (state S.Store tx.new.conn.now) result }
 {
     let rows = crs_line_by_seq(alloc, tx, seq)?;
@@ -143,6 +155,8 @@ pub(crate) fn is_release<S: Alter>(
     ensures reads { Reads (Tells seq (Released release lines.now))
         (state S.Store tx.old.conn.now) (state S.Store tx.new.conn.now) result }
     ensures any_rows { ReadsAny (Says seq (Released release lines.now))
+        (state S.Store tx.old.conn.now) (state S.Store tx.new.conn.now) result }
+    ensures damage { TellsDamage (SaysDamage seq (Released release lines.now))
         (state S.Store tx.old.conn.now) (state S.Store tx.new.conn.now) result }
 {
     let same = is_release_row(alloc, tx, seq, release)?;

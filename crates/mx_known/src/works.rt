@@ -8,8 +8,9 @@ ghost use Rattle.mx_register.specs.Registers.{programme_row, task_row};
 ghost use Rattle.mx_kept.specs.Cells.{kept_programme, kept_task};
 ghost use Rattle.mx_found.specs.Given as registers;
 ghost use Rattle.mx_lookups.specs.AnyRows.{ReadsAny};
-ghost use Rattle.mx_known.specs.Known.{AreRows, Says, Tells, TellsRows};
+ghost use Rattle.mx_known.specs.Known.{AreRows, RowsDamage, Says, SaysDamage, Tells, TellsRows};
 ghost use Rattle.mx_lookups.specs.Reads.{Reads};
+ghost use Rattle.mx_lookups.specs.Told.{TellsDamage};
 
 use crate::lines::task_rows;
 use mx_chosen::defects::{defect_by_seq, extension_by_seq};
@@ -40,6 +41,8 @@ fn is_programme_row<S: Alter>(
         (state S.Store tx.old.conn.now) (state S.Store tx.new.conn.now) result }
     ensures any_rows { ReadsAny (AreRows kept_programme seq (programme_row seq programme ∷ []))
         (state S.Store tx.old.conn.now) (state S.Store tx.new.conn.now) result }
+    ensures damage { TellsDamage (RowsDamage kept_programme seq)
+        (state S.Store tx.old.conn.now) (state S.Store tx.new.conn.now) result }
 {
     let rows = programme_by_seq(alloc, tx, seq)?;
     let row = programme_row(seq, programme);
@@ -59,6 +62,8 @@ fn are_tasks<S: Alter>(
         (TellsRows registers.tasks seq (λ book. lines_from task_row seq 1 tasks.now))
         (state S.Store tx.old.conn.now) (state S.Store tx.new.conn.now) result }
     ensures any_rows { ReadsAny (AreRows kept_task seq (lines_from task_row seq 1 tasks.now))
+        (state S.Store tx.old.conn.now) (state S.Store tx.new.conn.now) result }
+    ensures damage { TellsDamage (RowsDamage kept_task seq)
         (state S.Store tx.old.conn.now) (state S.Store tx.new.conn.now) result }
 {
     let rows = task_by_seq(alloc, tx, seq)?;
@@ -80,6 +85,8 @@ pub(crate) fn is_programme<S: Alter>(
         (state S.Store tx.old.conn.now) (state S.Store tx.new.conn.now) result }
     ensures any_rows { ReadsAny (Says seq (Loaded programme tasks.now))
         (state S.Store tx.old.conn.now) (state S.Store tx.new.conn.now) result }
+    ensures damage { TellsDamage (SaysDamage seq (Loaded programme tasks.now))
+        (state S.Store tx.old.conn.now) (state S.Store tx.new.conn.now) result }
 {
     let same = is_programme_row(alloc, tx, seq, programme)?;
     let on_lines = are_tasks(alloc, tx, seq, tasks)?;
@@ -97,6 +104,8 @@ pub(crate) fn is_opening<S: Alter>(
     ensures reads { Reads (Tells seq (Opened opening))
         (state S.Store tx.old.conn.now) (state S.Store tx.new.conn.now) result }
     ensures any_rows { ReadsAny (Says seq (Opened opening))
+        (state S.Store tx.old.conn.now) (state S.Store tx.new.conn.now) result }
+    ensures damage { TellsDamage (SaysDamage seq (Opened opening))
         (state S.Store tx.old.conn.now) (state S.Store tx.new.conn.now) result }
 {
     let found = item_number(alloc, tx, &opening.item)?;
@@ -117,6 +126,8 @@ pub(crate) fn is_deferral<S: Alter>(
         (state S.Store tx.old.conn.now) (state S.Store tx.new.conn.now) result }
     ensures any_rows { ReadsAny (Says seq (Deferred deferral))
         (state S.Store tx.old.conn.now) (state S.Store tx.new.conn.now) result }
+    ensures damage { TellsDamage (SaysDamage seq (Deferred deferral))
+        (state S.Store tx.old.conn.now) (state S.Store tx.new.conn.now) result }
 {
     let found = aircraft_number(alloc, tx, &deferral.tail)?;
     let rows = defect_by_seq(alloc, tx, seq)?;
@@ -135,6 +146,8 @@ pub(crate) fn is_extension<S: Alter>(
     ensures reads { Reads (Tells seq (Extended extension))
         (state S.Store tx.old.conn.now) (state S.Store tx.new.conn.now) result }
     ensures any_rows { ReadsAny (Says seq (Extended extension))
+        (state S.Store tx.old.conn.now) (state S.Store tx.new.conn.now) result }
+    ensures damage { TellsDamage (SaysDamage seq (Extended extension))
         (state S.Store tx.old.conn.now) (state S.Store tx.new.conn.now) result }
 {
     let found = defect_number(alloc, tx, &extension.defect)?;

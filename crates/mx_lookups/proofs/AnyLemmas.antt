@@ -121,7 +121,7 @@ module _ {X : Type 0} (k : Kept X) {chosen : Row → Bool} {trees : Trees} where
       }
 
   -- where none is chosen, the table has none to choose
-  none_chosen : AreChosen k None k.order chosen trees [] → filter chosen (rows_in (table_named k.name) trees) ≡ []
+  pub none_chosen : AreChosen k None k.order chosen trees [] → filter chosen (rows_in (table_named k.name) trees) ≡ []
   none_chosen chose = let there = filter chosen (rows_in (table_named k.name) trees) in empty_is there (sym (length_permutation there [] (shown [] chose)))
 
 -- the first of some rows, where it says this

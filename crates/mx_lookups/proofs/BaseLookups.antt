@@ -73,7 +73,7 @@ same_order xs ys (inr one) h = one_permutation one.0 ys (subst (λ l. IsPermutat
 bases_whole : (book : List Entry) → rows_at bases_2 rows_point book ≡ base_rows book
 bases_whole book = (facts table.Base2).whole 2 (inr refl) refl book
 
-bases_in : kept_base2.IsIn (schema_at rows_point)
+pub bases_in : kept_base2.IsIn (schema_at rows_point)
 bases_in = (facts table.Base2).is_in rows_point (inr refl) refl (schema_at rows_point) (record { rest = _; more = _; is = refl })
 
 bases_fit : (trees : Trees) (book : List Entry) → HasRowsAt rows_point trees book → All kept_base2.Fits (base_rows book)

@@ -100,7 +100,7 @@ deferral_unmet trees doc n of one none =
     ))
 
 -- the row of a deferral says a defect where that of its aircraft does
-no_tail : (doc : List ℕ) (rows : List DeferralRow) (named : List AircraftRow) (m : ℕ) → Some m ≡ deferral_aircraft rows → None ≡ defect_in doc rows named → None ≡ tail_in named
+pub no_tail : (doc : List ℕ) (rows : List DeferralRow) (named : List AircraftRow) (m : ℕ) → Some m ≡ deferral_aircraft rows → None ≡ defect_in doc rows named → None ≡ tail_in named
 no_tail doc [] named m is none = absurd cc
 no_tail doc (row ∷ rows) [] m is none = refl
 no_tail doc (row ∷ rows) (one ∷ named) m is none = absurd cc

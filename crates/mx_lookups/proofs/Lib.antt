@@ -10,3 +10,4 @@ pub mod RoomLookups
 pub mod InForceLemmas
 pub mod DefectLemmas
 pub mod WalkLemmas
+pub mod ToldLemmas

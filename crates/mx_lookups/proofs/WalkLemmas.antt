@@ -1,15 +1,16 @@
 -- Rows of a table that are gone through one by one, with a look-up for each.
-use Rattle.std.proofs.Common.{◌≡◌, ℕ, List, [], ◌∷◌, ◌++◌, Bool, length, Option, Result, None, Some, Ok, Err, refl, sym, ap, ap₂, subst, arith, ◌∙◌, append_assoc, append-nil}
+use Rattle.std.proofs.Common.{◌≡◌, inr, ℕ, List, [], ◌∷◌, ◌++◌, Bool, length, Option, Result, None, Some, Ok, Err, refl, sym, ap, ap₂, subst, arith, ◌∙◌, append_assoc, append-nil}
 use Rattle.std.specs.Prelude.{IsErrAnd}
 use Rattle.std.specs.List.{AllByRecursion, filter_map, cons_option}
 use Rattle.sqlite.specs.Order.{Row}
 use Rattle.sqlite.specs.State.{State}
 use Rattle.sqlite.specs.Tree.{Trees}
 use Rattle.sqlite_rules.specs.Lists.{Has}
-use Rattle.sqlite_rules.proofs.ListLemmas.{all_from}
+use Rattle.sqlite_rules.proofs.ListLemmas.{all_from, contains_had, has_contained}
 use Rattle.mx_command.specs.Act.{Entry}
 use Rattle.mx_book.specs.Book.{IsBook}
 use Rattle.mx_layout.specs.TableName.{TableName}
+use Rattle.mx_layout.specs.Crash.{IsWithin}
 use Rattle.mx_layout.specs.declared.fault.TableFault.{TableFault}
 use Rattle.mx_layout.specs.declared.fault.TableFault.TheVariants as fault
 use Rattle.mx_kept.specs.Kept.{Kept}
@@ -17,9 +18,11 @@ use Rattle.mx_chosen.specs.Calls.{ReadsFirst}
 use Rattle.mx_lookups.specs.AnyRows.{AreChosen, AreSaid, GivesEach, ReadsAny}
 use Rattle.mx_lookups.specs.Damage.{IsDamaged, IsKept}
 use Rattle.mx_lookups.specs.Reads.{Reads}
+use Rattle.mx_lookups.specs.Told.{Damage, DamageEach, IsChosen, TellsDamage}
 use Rattle.mx_lookups.proofs.AnyLemmas.{any_later, empty_is, chosen_kept, gives}
 use Rattle.mx_lookups.proofs.ReadLemmas.{no_memory, reads_then, refused, stopped, told}
 use Rattle.mx_lookups.proofs.TableLemmas.{IsTable}
+use Rattle.mx_lookups.proofs.ToldLemmas.{told_later}
 
 -- what each row of a book says, where it says anything, and what is there for each; the rows that are gone through, and what each says over any rows
 module _ {R X : Type 0} (k : Kept R) (rows : List Entry → List R) (said : List Entry → R → Option X) (There : List Entry → R → Type 0) (chosen : Row → Bool) (Says : Trees → R → Option X → Type 0) where
@@ -27,9 +30,9 @@ module _ {R X : Type 0} (k : Kept R) (rows : List Entry → List R) (said : List
   abbrev IsLeft : List X → List R → List Entry → Type 0
   IsLeft done left book = AllByRecursion (There book) left × (filter_map (said book) (rows book) ≡ done ++ filter_map (said book) left)
 
-  -- over any rows those that are left are kept in the table, and what they say comes behind what was said so far in what the chosen rows say
+  -- over any rows those that are left are of the chosen rows, and what they say comes behind what was said so far in what the chosen rows say
   abbrev IsBehind : List X → List R → Trees → Type 0
-  IsBehind done left trees = (all : List R) × AreChosen k None k.order chosen trees all × AllByRecursion (IsKept k trees) left × ((later : List X) → AreSaid (Says trees) left later → AreSaid (Says trees) all (done ++ later))
+  IsBehind done left trees = (all : List R) × AreChosen k None k.order chosen trees all × AllByRecursion (IsChosen k chosen trees) left × ((later : List X) → AreSaid (Says trees) left later → AreSaid (Says trees) all (done ++ later))
 
   abbrev pub Walks : State → State → List X → List R → Type 0
   Walks old new done left = Reads {V = ℕ} (λ book n. IsLeft done left book) old new (Ok 0) × ReadsAny {V = ℕ} (λ trees n. IsBehind done left trees) old new (Ok 0)
@@ -47,7 +50,7 @@ module _ {R X : Type 0} (k : Kept R) (rows : List Entry → List R) (said : List
               let gave = (gives it {items = items} (λ found. found) all raw).found clean has in (
                 gave.0,
                 gave.1,
-                all_from (IsKept k old.now.trees) left (λ x here. chosen_kept k x gave.0 (subst (λ l. Has l x) gave.2 here) gave.1),
+                all_from (IsChosen k chosen old.now.trees) left (λ x here. (gave.0, gave.1, contains_had gave.0 x (subst (λ l. Has l x) gave.2 here))),
                 λ later said. subst (λ l. AreSaid (Says old.now.trees) l (done ++ later)) gave.2 (subst (λ before. AreSaid (Says old.now.trees) left (before ++ later)) (sym none) said),
               );
         },
@@ -92,12 +95,22 @@ module _ {R X : Type 0} (k : Kept R) (rows : List Entry → List R) (said : List
       behind P Any v None done (λ rest. refl) says r any,
     )
 
+    -- it is kept in the table
+    kept_of : (trees : Trees) → IsChosen k chosen trees row → IsKept k trees row
+    kept_of trees one = chosen_kept k row one.0 (has_contained one.0 row one.2) one.1
+
+    -- what is looked up for the row is damaged
+    pub told_each : {W : Type 0} (Then : R → Damage) (result : Result W TableFault) → IsWithin b c → TellsDamage (Then row) b c result → TellsDamage (DamageEach k chosen Then) a c result
+    told_each Then result within more = record {
+      told = λ clean has name is. inr (row, (here.1.found (omega (arith, clean, within.survives.clean)) has).2.0, (told_later {Of = Then row} here.0 within more).told clean has name is);
+    }
+
     -- what is to be there for the row is not
     pub missing : {V W : Type 0} (P : List Entry → V → Type 0) (Q : List Entry → W → Type 0) (Any : Trees → V → Type 0) (v : V) (name : TableName) → ((book : List Entry) → There book row → P book v → ⊥) → ((trees : Trees) → IsKept k trees row → Any trees v → IsDamaged name trees)
         → Reads P b c (Ok v) → ReadsAny Any b c (Ok v) → Reads Q a c (Err (fault.Damaged name))
     missing P Q Any v name never reason r any =
         refused _ Q a c v name (λ book is_book h. never book h.0.0.0 h.1)
-        (λ clean has. reason a.now.trees (here.1.found (omega (arith, clean, r.within.survives.clean)) has).2.0 ((any_later _ Any a b c 0 v here.0 r.within any).found clean has)) (both P v r)
+        (λ clean has. reason a.now.trees (kept_of a.now.trees (here.1.found (omega (arith, clean, r.within.survives.clean)) has).2.0) ((any_later _ Any a b c 0 v here.0 r.within any).found clean has)) (both P v r)
 
     pub walk_starved : {V W : Type 0} (P : List Entry → V → Type 0) (Q : List Entry → W → Type 0) (v : V) (result : Result W TableFault) → IsErrAnd result (λ e. e ≡ fault.Memory) → Reads P b c (Ok v) → Reads Q a c result
     walk_starved P Q v result is r = stopped Q Q a c fault.Memory result is (no_memory _ Q a c v (both P v r))

@@ -3,5 +3,6 @@ pub mod Damage
 pub mod Reads
 pub mod AnyRows
 pub mod Given
+pub mod Told
 pub mod Fitted
 pub mod InForce

@@ -5,6 +5,7 @@ ghost use Rattle.mx_book.specs.Defect.{defect, extension, is_rectified};
 ghost use Rattle.mx_lookups.specs.AnyRows.{ReadsAny};
 ghost use Rattle.mx_lookups.specs.Given.{DefectOf, IsRectified, ExtensionOf};
 ghost use Rattle.mx_lookups.specs.Reads.{Reads};
+ghost use Rattle.mx_lookups.specs.Told.{DefectDamage, ExtensionDamage, RectifiedDamage, TellsDamage};
 
 use crate::entries::defect_number;
 use mx_base::Doc;
@@ -29,6 +30,8 @@ pub fn defect<S: Alter>(
     ensures reads { Reads (λ book found. found ≡ defect book doc.now)
         (state S.Store tx.old.conn.now) (state S.Store tx.new.conn.now) result }
     ensures any_rows { ReadsAny (DefectOf doc.now)
+        (state S.Store tx.old.conn.now) (state S.Store tx.new.conn.now) result }
+    ensures damage { TellsDamage (DefectDamage doc.now)
         (state S.Store tx.old.conn.now) (state S.Store tx.new.conn.now) result }
 {
     let found = defect_number(alloc, tx, doc)?;
@@ -61,6 +64,8 @@ pub fn is_rectified<S: Alter>(
         (state S.Store tx.old.conn.now) (state S.Store tx.new.conn.now) result }
     ensures any_rows { ReadsAny (IsRectified doc.now)
         (state S.Store tx.old.conn.now) (state S.Store tx.new.conn.now) result }
+    ensures damage { TellsDamage (RectifiedDamage doc.now)
+        (state S.Store tx.old.conn.now) (state S.Store tx.new.conn.now) result }
 {
     let found = defect_number(alloc, tx, doc)?;
     match found {
@@ -82,6 +87,8 @@ pub fn extension<S: Alter>(
     ensures reads { Reads (λ book found. found ≡ extension book doc.now)
         (state S.Store tx.old.conn.now) (state S.Store tx.new.conn.now) result }
     ensures any_rows { ReadsAny (ExtensionOf doc.now)
+        (state S.Store tx.old.conn.now) (state S.Store tx.new.conn.now) result }
+    ensures damage { TellsDamage (ExtensionDamage doc.now)
         (state S.Store tx.old.conn.now) (state S.Store tx.new.conn.now) result }
 {
     let found = defect_number(alloc, tx, doc)?;

@@ -12,6 +12,7 @@ ghost use Rattle.mx_found.specs.Names.{entry_number, last_number};
 ghost use Rattle.mx_lookups.specs.AnyRows.{Gives, GivesFirst, ReadsAny};
 ghost use Rattle.mx_lookups.specs.Given.{DefectNumber};
 ghost use Rattle.mx_lookups.specs.Reads.{Reads};
+ghost use Rattle.mx_lookups.specs.Told.{EntryDamage, LastDamage, TellsDamage};
 
 use mx_base::Doc;
 use mx_chosen::entries::entry_by_doc;
@@ -28,6 +29,8 @@ pub fn entry_count<S: Alter>(alloc: Global, tx: &mut Transaction<'_, S>) -> Resu
         (state S.Store tx.old.conn.now) (state S.Store tx.new.conn.now) result }
     ensures any_rows { ReadsAny (GivesFirst kept_entry (Some 1) (backward kept_entry.order) is_any
         last_number) (state S.Store tx.old.conn.now) (state S.Store tx.new.conn.now) result }
+    ensures damage { TellsDamage LastDamage
+        (state S.Store tx.old.conn.now) (state S.Store tx.new.conn.now) result }
 {
     let rows = last_entry(alloc, tx)?;
     Ok(last_number(&rows))
@@ -45,6 +48,8 @@ pub fn entry_of_doc<S: Alter>(
         (state S.Store tx.old.conn.now) (state S.Store tx.new.conn.now) result }
     ensures any_rows { ReadsAny (Gives kept_entry (has_value 1 (Text doc.now)) entry_number)
         (state S.Store tx.old.conn.now) (state S.Store tx.new.conn.now) result }
+    ensures damage { TellsDamage (EntryDamage doc.now)
+        (state S.Store tx.old.conn.now) (state S.Store tx.new.conn.now) result }
 {
     let rows = entry_by_doc(alloc, tx, doc)?;
     Ok(entry_number(&rows))
@@ -61,6 +66,8 @@ pub fn defect_number<S: Alter>(
     ensures reads { Reads (λ book number. number ≡ seq_of_defect book doc.now)
         (state S.Store tx.old.conn.now) (state S.Store tx.new.conn.now) result }
     ensures any_rows { ReadsAny (DefectNumber doc.now)
+        (state S.Store tx.old.conn.now) (state S.Store tx.new.conn.now) result }
+    ensures damage { TellsDamage (EntryDamage doc.now)
         (state S.Store tx.old.conn.now) (state S.Store tx.new.conn.now) result }
 {
     let rows = entry_by_doc(alloc, tx, doc)?;

@@ -10,6 +10,7 @@ ghost use Rattle.mx_found.specs.Said.{aircraft_in, component_in};
 ghost use Rattle.mx_lookups.specs.AnyRows.{Gives, ReadsAny};
 ghost use Rattle.mx_lookups.specs.Given.{AircraftNumber, ComponentNumber, ItemNumber, PartAt, TailOfNumber};
 ghost use Rattle.mx_lookups.specs.Reads.{Reads};
+ghost use Rattle.mx_lookups.specs.Told.{AircraftDamage, ComponentDamage, ItemDamage, PartDamage, TailDamage, TellsDamage};
 
 use mx_base::{Part, Position, Serial, Tail};
 use mx_chosen::items::{aircraft_by_seq, aircraft_by_tail, component_by_serial, place_by_seq};
@@ -31,6 +32,8 @@ pub fn aircraft<S: Alter>(
         (state S.Store tx.old.conn.now) (state S.Store tx.new.conn.now) result }
     ensures any_rows { ReadsAny (Gives kept_aircraft (has_value 1 (Text tail.now)) aircraft_in)
         (state S.Store tx.old.conn.now) (state S.Store tx.new.conn.now) result }
+    ensures damage { TellsDamage (AircraftDamage tail.now)
+        (state S.Store tx.old.conn.now) (state S.Store tx.new.conn.now) result }
 {
     let rows = aircraft_by_tail(alloc, tx, tail)?;
     Ok(aircraft_in(&rows))
@@ -46,6 +49,8 @@ pub fn component<S: Alter>(
     ensures reads { Reads (λ book found. found ≡ component book serial.now)
         (state S.Store tx.old.conn.now) (state S.Store tx.new.conn.now) result }
     ensures any_rows { ReadsAny (Gives kept_component (has_value 1 (Text serial.now)) component_in)
+        (state S.Store tx.old.conn.now) (state S.Store tx.new.conn.now) result }
+    ensures damage { TellsDamage (ComponentDamage serial.now)
         (state S.Store tx.old.conn.now) (state S.Store tx.new.conn.now) result }
 {
     let rows = component_by_serial(alloc, tx, serial)?;
@@ -64,6 +69,8 @@ pub fn aircraft_number<S: Alter>(
         (state S.Store tx.old.conn.now) (state S.Store tx.new.conn.now) result }
     ensures any_rows { ReadsAny (AircraftNumber tail.now)
         (state S.Store tx.old.conn.now) (state S.Store tx.new.conn.now) result }
+    ensures damage { TellsDamage (AircraftDamage tail.now)
+        (state S.Store tx.old.conn.now) (state S.Store tx.new.conn.now) result }
 {
     let rows = aircraft_by_tail(alloc, tx, tail)?;
     Ok(number_of_aircraft(&rows))
@@ -81,6 +88,8 @@ pub fn component_number<S: Alter>(
         (state S.Store tx.old.conn.now) (state S.Store tx.new.conn.now) result }
     ensures any_rows { ReadsAny (ComponentNumber serial.now)
         (state S.Store tx.old.conn.now) (state S.Store tx.new.conn.now) result }
+    ensures damage { TellsDamage (ComponentDamage serial.now)
+        (state S.Store tx.old.conn.now) (state S.Store tx.new.conn.now) result }
 {
     let rows = component_by_serial(alloc, tx, serial)?;
     Ok(number_of_component(&rows))
@@ -97,6 +106,8 @@ pub fn item_number<S: Alter>(
     ensures reads { Reads (λ book number. number ≡ seq_of_item book item.now)
         (state S.Store tx.old.conn.now) (state S.Store tx.new.conn.now) result }
     ensures any_rows { ReadsAny (ItemNumber item.now)
+        (state S.Store tx.old.conn.now) (state S.Store tx.new.conn.now) result }
+    ensures damage { TellsDamage (ItemDamage item.now)
         (state S.Store tx.old.conn.now) (state S.Store tx.new.conn.now) result }
 {
     match item {
@@ -117,6 +128,8 @@ pub fn tail_of_number<S: Alter>(
         (state S.Store tx.old.conn.now) (state S.Store tx.new.conn.now) result }
     ensures any_rows { ReadsAny (TailOfNumber number)
         (state S.Store tx.old.conn.now) (state S.Store tx.new.conn.now) result }
+    ensures damage { TellsDamage (TailDamage number)
+        (state S.Store tx.old.conn.now) (state S.Store tx.new.conn.now) result }
 {
     let rows = aircraft_by_seq(alloc, tx, number)?;
     Ok(tail_in(&rows))
@@ -134,6 +147,8 @@ pub fn part_at<S: Alter>(
     ensures reads { Reads (λ book found. found ≡ part_at book tail.now position.now)
         (state S.Store tx.old.conn.now) (state S.Store tx.new.conn.now) result }
     ensures any_rows { ReadsAny (PartAt tail.now position.now)
+        (state S.Store tx.old.conn.now) (state S.Store tx.new.conn.now) result }
+    ensures damage { TellsDamage (PartDamage tail.now)
         (state S.Store tx.old.conn.now) (state S.Store tx.new.conn.now) result }
 {
     let found = aircraft_number(alloc, tx, tail)?;

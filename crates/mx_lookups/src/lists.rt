@@ -16,6 +16,7 @@ ghost use Rattle.mx_found.specs.Spans.{is_open_at, place_said};
 ghost use Rattle.mx_lookups.specs.AnyRows.{ReadsAny};
 ghost use Rattle.mx_lookups.specs.Given.{DefectsAt, DocIfOpen, DocOfNumber, FittedTo, OpenDefects, PlacesAt, SerialOfNumber, TasksInForce};
 ghost use Rattle.mx_lookups.specs.Reads.{Reads};
+ghost use Rattle.mx_lookups.specs.Told.{DefectsDamage, DocDamage, DocIfOpenDamage, FittedDamage, InForceDamage, OpenDamage, PlacesDamage, SerialDamage, TellsDamage};
 
 use crate::items::aircraft_number;
 use crate::programmes::rows_in_force;
@@ -47,6 +48,8 @@ pub fn tasks<S: Alter>(
         (state S.Store tx.old.conn.now) (state S.Store tx.new.conn.now) result }
     ensures any_rows { ReadsAny (λ trees tasks. TasksInForce kind.now trees tasks.items)
         (state S.Store tx.old.conn.now) (state S.Store tx.new.conn.now) result }
+    ensures damage { TellsDamage (InForceDamage kind.now)
+        (state S.Store tx.old.conn.now) (state S.Store tx.new.conn.now) result }
     ensures shape { IfOk result (λ tasks. list_all task_shape tasks.items ≡ true) }
 {
     let found = rows_in_force(alloc, tx, kind)?;
@@ -67,6 +70,8 @@ fn serial_of_number<S: Alter>(
         (state S.Store tx.old.conn.now) (state S.Store tx.new.conn.now) result }
     ensures any_rows { ReadsAny (SerialOfNumber number)
         (state S.Store tx.old.conn.now) (state S.Store tx.new.conn.now) result }
+    ensures damage { TellsDamage (SerialDamage number)
+        (state S.Store tx.old.conn.now) (state S.Store tx.new.conn.now) result }
 {
     let rows = component_by_seq(alloc, tx, number)?;
     Ok(serial_in(&rows))
@@ -84,6 +89,8 @@ fn places_fitted<S: Alter>(
         ≡ filter_map (place_said book) (filter (is_open_at aircraft) (span_rows book)))
         (state S.Store tx.old.conn.now) (state S.Store tx.new.conn.now) result }
     ensures any_rows { ReadsAny (λ trees places. PlacesAt aircraft trees places.items)
+        (state S.Store tx.old.conn.now) (state S.Store tx.new.conn.now) result }
+    ensures damage { TellsDamage (PlacesDamage aircraft)
         (state S.Store tx.old.conn.now) (state S.Store tx.new.conn.now) result }
 {
     let rows = open_spans_by_aircraft(alloc, tx, aircraft)?;
@@ -113,6 +120,8 @@ pub fn fitted<S: Alter>(
         (state S.Store tx.old.conn.now) (state S.Store tx.new.conn.now) result }
     ensures any_rows { ReadsAny (λ trees places. FittedTo tail.now trees places.items)
         (state S.Store tx.old.conn.now) (state S.Store tx.new.conn.now) result }
+    ensures damage { TellsDamage (FittedDamage tail.now)
+        (state S.Store tx.old.conn.now) (state S.Store tx.new.conn.now) result }
 {
     let found = aircraft_number(alloc, tx, tail)?;
     match found {
@@ -132,6 +141,8 @@ fn doc_of_number<S: Alter>(
         (state S.Store tx.old.conn.now) (state S.Store tx.new.conn.now) result }
     ensures any_rows { ReadsAny (DocOfNumber number)
         (state S.Store tx.old.conn.now) (state S.Store tx.new.conn.now) result }
+    ensures damage { TellsDamage (DocDamage number)
+        (state S.Store tx.old.conn.now) (state S.Store tx.new.conn.now) result }
 {
     let rows = entry_by_seq(alloc, tx, number)?;
     Ok(doc_in(&rows))
@@ -148,6 +159,8 @@ fn doc_if_open<S: Alter>(
         ≡ (if is_rectified_at book defect then None else Some (doc_at book defect)))
         (state S.Store tx.old.conn.now) (state S.Store tx.new.conn.now) result }
     ensures any_rows { ReadsAny (DocIfOpen defect)
+        (state S.Store tx.old.conn.now) (state S.Store tx.new.conn.now) result }
+    ensures damage { TellsDamage (DocIfOpenDamage defect)
         (state S.Store tx.old.conn.now) (state S.Store tx.new.conn.now) result }
 {
     let lines = crs_line_by_defect(alloc, tx, defect)?;
@@ -171,6 +184,8 @@ fn defects_left<S: Alter>(
         (filter (λ (row : DeferralRow). nat_eq row.aircraft aircraft) (deferral_rows book)))
         (state S.Store tx.old.conn.now) (state S.Store tx.new.conn.now) result }
     ensures any_rows { ReadsAny (λ trees defects. DefectsAt tail.now aircraft trees defects.items)
+        (state S.Store tx.old.conn.now) (state S.Store tx.new.conn.now) result }
+    ensures damage { TellsDamage (DefectsDamage aircraft)
         (state S.Store tx.old.conn.now) (state S.Store tx.new.conn.now) result }
 {
     // The checker proves this loop only where the type of each field of a deferral is named in the function.
@@ -203,6 +218,8 @@ pub fn open_defects<S: Alter>(
     ensures reads { Reads (λ book defects. defects.items ≡ open_defects book tail.now)
         (state S.Store tx.old.conn.now) (state S.Store tx.new.conn.now) result }
     ensures any_rows { ReadsAny (λ trees defects. OpenDefects tail.now trees defects.items)
+        (state S.Store tx.old.conn.now) (state S.Store tx.new.conn.now) result }
+    ensures damage { TellsDamage (OpenDamage tail.now)
         (state S.Store tx.old.conn.now) (state S.Store tx.new.conn.now) result }
 {
     let found = aircraft_number(alloc, tx, tail)?;

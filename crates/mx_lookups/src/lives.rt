@@ -7,6 +7,7 @@ ghost use Rattle.mx_book.specs.Life.{clock, life_now};
 ghost use Rattle.mx_lookups.specs.AnyRows.{ReadsAny};
 ghost use Rattle.mx_lookups.specs.Given.{ClockOf, LifeOf};
 ghost use Rattle.mx_lookups.specs.Reads.{Reads};
+ghost use Rattle.mx_lookups.specs.Told.{TotalDamage, TellsDamage};
 
 use crate::items::item_number;
 use mx_base::{Moment, Tail, Use};
@@ -28,6 +29,8 @@ pub fn clock<S: Alter>(
     ensures reads { Reads (λ book moment. moment ≡ clock book item.now)
         (state S.Store tx.old.conn.now) (state S.Store tx.new.conn.now) result }
     ensures any_rows { ReadsAny (ClockOf item.now)
+        (state S.Store tx.old.conn.now) (state S.Store tx.new.conn.now) result }
+    ensures damage { TellsDamage (TotalDamage item.now)
         (state S.Store tx.old.conn.now) (state S.Store tx.new.conn.now) result }
 {
     let found = item_number(alloc, tx, item)?;
@@ -55,6 +58,8 @@ pub fn life<S: Alter>(
         (state S.Store tx.old.conn.now) (state S.Store tx.new.conn.now) result }
     ensures any_rows { ReadsAny (LifeOf item.now)
         (state S.Store tx.old.conn.now) (state S.Store tx.new.conn.now) result }
+    ensures damage { TellsDamage (TotalDamage item.now)
+        (state S.Store tx.old.conn.now) (state S.Store tx.new.conn.now) result }
 {
     let found = item_number(alloc, tx, item)?;
     match found {
@@ -79,6 +84,8 @@ pub fn earliest_takeoff<S: Alter>(
     ensures reads { Reads (λ book moment. moment ≡ earliest_takeoff book tail.now)
         (state S.Store tx.old.conn.now) (state S.Store tx.new.conn.now) result }
     ensures any_rows { ReadsAny (ClockOf (Airframe tail.now))
+        (state S.Store tx.old.conn.now) (state S.Store tx.new.conn.now) result }
+    ensures damage { TellsDamage (TotalDamage (Airframe tail.now))
         (state S.Store tx.old.conn.now) (state S.Store tx.new.conn.now) result }
 {
     clock(alloc, tx, &Item::Airframe(*tail))

@@ -13,6 +13,7 @@ ghost use Rattle.mx_lookups.specs.InForce.{born_as, rows_in_force};
 ghost use Rattle.mx_lookups.specs.AnyRows.{ReadsAny};
 ghost use Rattle.mx_lookups.specs.Given.{BornOf, IsRetired, NextRevision, RowsInForce, TaskOf};
 ghost use Rattle.mx_lookups.specs.Reads.{Reads};
+ghost use Rattle.mx_lookups.specs.Told.{InForceDamage, ItemDamage, RetiredDamage, RevisionDamage, TellsDamage};
 
 use crate::items::{aircraft, component};
 use crate::lives::life;
@@ -39,6 +40,8 @@ pub fn next_revision<S: Alter>(
         (state S.Store tx.old.conn.now) (state S.Store tx.new.conn.now) result }
     ensures any_rows { ReadsAny (NextRevision kind.now)
         (state S.Store tx.old.conn.now) (state S.Store tx.new.conn.now) result }
+    ensures damage { TellsDamage (RevisionDamage kind.now)
+        (state S.Store tx.old.conn.now) (state S.Store tx.new.conn.now) result }
 {
     let rows = programme_by_kind(alloc, tx, kind)?;
     match revision_after(&rows) {
@@ -60,6 +63,8 @@ pub(crate) fn rows_in_force<S: Alter>(
         (state S.Store tx.old.conn.now) (state S.Store tx.new.conn.now) result }
     ensures any_rows { ReadsAny (λ trees found.
         RowsInForce kind.now trees (option_map (λ rows. rows.items) found))
+        (state S.Store tx.old.conn.now) (state S.Store tx.new.conn.now) result }
+    ensures damage { TellsDamage (InForceDamage kind.now)
         (state S.Store tx.old.conn.now) (state S.Store tx.new.conn.now) result }
     ensures shape { IfOk result (λ found. IfSome found (λ rows.
         list_all (λ (row : TaskRow). task_shape (task_said row)) rows.items ≡ true)) }
@@ -91,6 +96,8 @@ pub fn task<S: Alter>(
         (state S.Store tx.old.conn.now) (state S.Store tx.new.conn.now) result }
     ensures any_rows { ReadsAny (TaskOf kind.now id.now)
         (state S.Store tx.old.conn.now) (state S.Store tx.new.conn.now) result }
+    ensures damage { TellsDamage (InForceDamage kind.now)
+        (state S.Store tx.old.conn.now) (state S.Store tx.new.conn.now) result }
     ensures shape { IfOk result
         (λ found. IfSome found (λ task. IfSome task (λ t. task_shape t ≡ true))) }
 {
@@ -111,6 +118,8 @@ fn born<S: Alter>(
     ensures reads { Reads (λ book born. born ≡ born_as (found_of book item.now))
         (state S.Store tx.old.conn.now) (state S.Store tx.new.conn.now) result }
     ensures any_rows { ReadsAny (BornOf item.now)
+        (state S.Store tx.old.conn.now) (state S.Store tx.new.conn.now) result }
+    ensures damage { TellsDamage (ItemDamage item.now)
         (state S.Store tx.old.conn.now) (state S.Store tx.new.conn.now) result }
 {
     match item {
@@ -138,6 +147,8 @@ pub fn is_retired<S: Alter>(
     ensures reads { Reads (λ book ended. ended ≡ life_ended book kind.now item.now day)
         (state S.Store tx.old.conn.now) (state S.Store tx.new.conn.now) result }
     ensures any_rows { ReadsAny (IsRetired kind.now item.now day)
+        (state S.Store tx.old.conn.now) (state S.Store tx.new.conn.now) result }
+    ensures damage { TellsDamage (RetiredDamage kind.now item.now)
         (state S.Store tx.old.conn.now) (state S.Store tx.new.conn.now) result }
 {
     let known = born(alloc, tx, item)?;

@@ -8,6 +8,7 @@ ghost use Rattle.mx_layout.specs.declared.fault.Table.TheVariants as table;
 ghost use Rattle.mx_lookups.specs.AnyRows.{ReadsAny};
 ghost use Rattle.mx_lookups.specs.Given.{HasRoom};
 ghost use Rattle.mx_lookups.specs.Reads.{Reads};
+ghost use Rattle.mx_lookups.specs.Told.{CountDamage, TellsDamage};
 
 use mx_book::judging::{MOST_AIRCRAFT, MOST_COMPONENTS};
 use mx_chosen::counts::{count_aircraft, count_component};
@@ -21,6 +22,8 @@ pub fn has_room_for_aircraft<S: Alter>(tx: &mut Transaction<'_, S>) -> Result<bo
         (state S.Store tx.old.conn.now) (state S.Store tx.new.conn.now) result }
     ensures any_rows { ReadsAny (HasRoom table.Aircraft MOST_AIRCRAFT)
         (state S.Store tx.old.conn.now) (state S.Store tx.new.conn.now) result }
+    ensures damage { TellsDamage (CountDamage table.Aircraft)
+        (state S.Store tx.old.conn.now) (state S.Store tx.new.conn.now) result }
 {
     let count = count_aircraft(tx)?;
     Ok((count as usize) < MOST_AIRCRAFT)
@@ -32,6 +35,8 @@ pub fn has_room_for_component<S: Alter>(tx: &mut Transaction<'_, S>) -> Result<b
     ensures reads { Reads (λ book room. room ≡ has_room_for_component book)
         (state S.Store tx.old.conn.now) (state S.Store tx.new.conn.now) result }
     ensures any_rows { ReadsAny (HasRoom table.Component MOST_COMPONENTS)
+        (state S.Store tx.old.conn.now) (state S.Store tx.new.conn.now) result }
+    ensures damage { TellsDamage (CountDamage table.Component)
         (state S.Store tx.old.conn.now) (state S.Store tx.new.conn.now) result }
 {
     let count = count_component(tx)?;

@@ -6,6 +6,7 @@ ghost use Rattle.mx_lookups.specs.Fitted.{IsNumberFitted};
 ghost use Rattle.mx_lookups.specs.AnyRows.{ReadsAny};
 ghost use Rattle.mx_lookups.specs.Given.{IsTaken, NumberFitted, TailFitted};
 ghost use Rattle.mx_lookups.specs.Reads.{Reads};
+ghost use Rattle.mx_lookups.specs.Told.{NumberFittedDamage, TailFittedDamage, TakenDamage, TellsDamage};
 
 use crate::items::{aircraft_number, component_number, tail_of_number};
 use mx_base::{Position, Serial, Tail};
@@ -28,6 +29,8 @@ pub fn is_taken<S: Alter>(
         (state S.Store tx.old.conn.now) (state S.Store tx.new.conn.now) result }
     ensures any_rows { ReadsAny (IsTaken tail.now position.now)
         (state S.Store tx.old.conn.now) (state S.Store tx.new.conn.now) result }
+    ensures damage { TellsDamage (TakenDamage tail.now)
+        (state S.Store tx.old.conn.now) (state S.Store tx.new.conn.now) result }
 {
     let found = aircraft_number(alloc, tx, tail)?;
     match found {
@@ -49,6 +52,8 @@ fn number_fitted<S: Alter>(
     ensures reads { Reads (IsNumberFitted serial.now)
         (state S.Store tx.old.conn.now) (state S.Store tx.new.conn.now) result }
     ensures any_rows { ReadsAny (NumberFitted serial.now)
+        (state S.Store tx.old.conn.now) (state S.Store tx.new.conn.now) result }
+    ensures damage { TellsDamage (NumberFittedDamage serial.now)
         (state S.Store tx.old.conn.now) (state S.Store tx.new.conn.now) result }
 {
     let found = component_number(alloc, tx, serial)?;
@@ -73,6 +78,8 @@ pub fn tail_fitted<S: Alter>(
     ensures reads { Reads (λ book tail. tail ≡ tail_fitted book serial.now)
         (state S.Store tx.old.conn.now) (state S.Store tx.new.conn.now) result }
     ensures any_rows { ReadsAny (TailFitted serial.now)
+        (state S.Store tx.old.conn.now) (state S.Store tx.new.conn.now) result }
+    ensures damage { TellsDamage (TailFittedDamage serial.now)
         (state S.Store tx.old.conn.now) (state S.Store tx.new.conn.now) result }
 {
     let found = number_fitted(alloc, tx, serial)?;

@@ -7,6 +7,7 @@ ghost use Rattle.mx_book.specs.Programme.{is_accomplished};
 ghost use Rattle.mx_lookups.specs.AnyRows.{ReadsAny};
 ghost use Rattle.mx_lookups.specs.Given.{IsAccomplished, BaseOf};
 ghost use Rattle.mx_lookups.specs.Reads.{Reads};
+ghost use Rattle.mx_lookups.specs.Told.{BaseDamage, DoneDamage, TellsDamage};
 
 use crate::items::item_number;
 use mx_base::{Base, TaskId};
@@ -28,6 +29,8 @@ pub fn is_accomplished<S: Alter>(
     ensures reads { Reads (λ book done. done ≡ is_accomplished book item.now id.now)
         (state S.Store tx.old.conn.now) (state S.Store tx.new.conn.now) result }
     ensures any_rows { ReadsAny (IsAccomplished item.now id.now)
+        (state S.Store tx.old.conn.now) (state S.Store tx.new.conn.now) result }
+    ensures damage { TellsDamage (DoneDamage item.now id.now)
         (state S.Store tx.old.conn.now) (state S.Store tx.new.conn.now) result }
 {
     let found = item_number(alloc, tx, item)?;
@@ -52,6 +55,8 @@ pub fn base<S: Alter>(
     ensures reads { Reads (λ book found. found ≡ base book item.now id.now)
         (state S.Store tx.old.conn.now) (state S.Store tx.new.conn.now) result }
     ensures any_rows { ReadsAny (BaseOf item.now id.now)
+        (state S.Store tx.old.conn.now) (state S.Store tx.new.conn.now) result }
+    ensures damage { TellsDamage (BaseDamage item.now id.now)
         (state S.Store tx.old.conn.now) (state S.Store tx.new.conn.now) result }
     ensures bounded { IfOk result (λ base. IfSome base IsBase) }
 {

@@ -1,3 +1,4 @@
 pub mod Answering
+pub mod Damage
 pub mod View
 pub mod Listing

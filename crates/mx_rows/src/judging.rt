@@ -4,7 +4,9 @@ ghost use Rattle.sqlite.specs.Held.{state};
 ghost use Rattle.mx_book.specs.Judge.{judge};
 ghost use Rattle.mx_lookups.specs.AnyRows.{ReadsAny};
 ghost use Rattle.mx_lookups.specs.Reads.{Reads};
+ghost use Rattle.mx_lookups.specs.Told.{TellsDamage};
 ghost use Rattle.mx_rows.specs.Answering.{AnswerAs, VerdictOf};
+ghost use Rattle.mx_rows.specs.Damage.{JudgeDamage};
 ghost use Rattle.mx_rows.specs.View.{Asks};
 
 use crate::questions::JudgeQuestions;
@@ -23,7 +25,8 @@ fn verdict_of_rows<S: Alter>(
 ) -> Result<Verdict, TableFault>
     ensures same_tx { rows.new.tx.ghost_name ≡ rows.old.tx.ghost_name }
     ensures same_conn { rows.new.tx.now.conn.ghost_name ≡ rows.old.tx.now.conn.ghost_name }
-    ensures asks { Asks S.Store AnswerAs (λ book verdict. verdict ≡ judge book command.now)
+    ensures asks { Asks S.Store AnswerAs JudgeDamage
+        (λ book verdict. verdict ≡ judge book command.now)
         rows.old.tx.now.conn.now rows.new.tx.now.conn.now result }
 {
     verdict_on(rows, command)
@@ -36,7 +39,8 @@ fn verdict_inside<S: Alter>(
     command: &Command,
 ) -> Result<Verdict, TableFault>
     ensures same_reference { tx.new.conn.ghost_name ≡ tx.old.conn.ghost_name }
-    ensures asks { Asks S.Store AnswerAs (λ book verdict. verdict ≡ judge book command.now)
+    ensures asks { Asks S.Store AnswerAs JudgeDamage
+        (λ book verdict. verdict ≡ judge book command.now)
         tx.old.conn.now tx.new.conn.now result }
 {
     let mut rows = Rows {
@@ -58,6 +62,8 @@ pub fn judge_by_rows<S: Alter>(
     ensures reads { Reads (λ book verdict. verdict ≡ judge book command.now)
         (state S.Store tx.old.conn.now) (state S.Store tx.new.conn.now) result }
     ensures any_rows { ReadsAny (VerdictOf command.now)
+        (state S.Store tx.old.conn.now) (state S.Store tx.new.conn.now) result }
+    ensures damage { TellsDamage JudgeDamage
         (state S.Store tx.old.conn.now) (state S.Store tx.new.conn.now) result }
 {
     entry_count(alloc, tx)?;

@@ -9,8 +9,10 @@ ghost use Rattle.mx_lists.specs.LimitList.{limits};
 ghost use Rattle.mx_lists.specs.Lists.{life_list};
 ghost use Rattle.mx_lookups.specs.AnyRows.{ReadsAny};
 ghost use Rattle.mx_lookups.specs.Reads.{Reads};
+ghost use Rattle.mx_lookups.specs.Told.{TellsDamage, TotalDamage};
 ghost use Rattle.mx_rows.specs.Answering.{AnswerListsAs, ListOf};
 ghost use Rattle.mx_rows.specs.Listing.{answered, unknown, LifeAnswered};
+ghost use Rattle.mx_rows.specs.Damage.{ListDamage};
 ghost use Rattle.mx_rows.specs.View.{Asks};
 
 use crate::questions::ListQuestions;
@@ -49,7 +51,7 @@ fn dues_of_rows<S: Alter>(
 ) -> Result<Result<DueList, Refusal>, TableFault>
     ensures same_tx { rows.new.tx.ghost_name ≡ rows.old.tx.ghost_name }
     ensures same_conn { rows.new.tx.now.conn.ghost_name ≡ rows.old.tx.now.conn.ghost_name }
-    ensures asks { Asks S.Store AnswerListsAs (λ book answer. answer
+    ensures asks { Asks S.Store AnswerListsAs ListDamage (λ book answer. answer
         ≡ ok_or (due_list book tail.now day) UnknownAircraft)
         rows.old.tx.now.conn.now rows.new.tx.now.conn.now result }
 {
@@ -65,7 +67,7 @@ fn dues_inside<S: Alter>(
     day: Day,
 ) -> Result<Result<DueList, Refusal>, TableFault>
     ensures same_reference { tx.new.conn.ghost_name ≡ tx.old.conn.ghost_name }
-    ensures asks { Asks S.Store AnswerListsAs (λ book answer. answer
+    ensures asks { Asks S.Store AnswerListsAs ListDamage (λ book answer. answer
         ≡ ok_or (due_list book tail.now day) UnknownAircraft)
         tx.old.conn.now tx.new.conn.now result }
 {
@@ -92,6 +94,8 @@ pub fn due_rows<S: Alter>(
         (state S.Store tx.old.conn.now) (state S.Store tx.new.conn.now) result }
     ensures any_rows { ReadsAny (ListOf (λ book. due_list book tail.now day))
         (state S.Store tx.old.conn.now) (state S.Store tx.new.conn.now) result }
+    ensures damage { TellsDamage ListDamage
+        (state S.Store tx.old.conn.now) (state S.Store tx.new.conn.now) result }
 {
     aircraft_number(alloc, tx, tail)?;
     dues_inside(alloc, tx, tail, day)
@@ -108,7 +112,7 @@ fn forecast_of_rows<S: Alter>(
 ) -> Result<Result<ForecastList, Refusal>, TableFault>
     ensures same_tx { rows.new.tx.ghost_name ≡ rows.old.tx.ghost_name }
     ensures same_conn { rows.new.tx.now.conn.ghost_name ≡ rows.old.tx.now.conn.ghost_name }
-    ensures asks { Asks S.Store AnswerListsAs (λ book answer. answer
+    ensures asks { Asks S.Store AnswerListsAs ListDamage (λ book answer. answer
         ≡ ok_or (forecast book tail.now day days minutes cycles) UnknownAircraft)
         rows.old.tx.now.conn.now rows.new.tx.now.conn.now result }
 {
@@ -127,7 +131,7 @@ fn forecast_inside<S: Alter>(
     cycles: u32,
 ) -> Result<Result<ForecastList, Refusal>, TableFault>
     ensures same_reference { tx.new.conn.ghost_name ≡ tx.old.conn.ghost_name }
-    ensures asks { Asks S.Store AnswerListsAs (λ book answer. answer
+    ensures asks { Asks S.Store AnswerListsAs ListDamage (λ book answer. answer
         ≡ ok_or (forecast book tail.now day days minutes cycles) UnknownAircraft)
         tx.old.conn.now tx.new.conn.now result }
 {
@@ -156,6 +160,8 @@ pub fn forecast_rows<S: Alter>(
         (state S.Store tx.old.conn.now) (state S.Store tx.new.conn.now) result }
     ensures any_rows { ReadsAny (ListOf (λ book. forecast book tail.now day days minutes cycles))
         (state S.Store tx.old.conn.now) (state S.Store tx.new.conn.now) result }
+    ensures damage { TellsDamage ListDamage
+        (state S.Store tx.old.conn.now) (state S.Store tx.new.conn.now) result }
 {
     aircraft_number(alloc, tx, tail)?;
     forecast_inside(alloc, tx, tail, day, days, minutes, cycles)
@@ -169,7 +175,7 @@ fn limits_of_rows<S: Alter>(
 ) -> Result<Result<LimitList, Refusal>, TableFault>
     ensures same_tx { rows.new.tx.ghost_name ≡ rows.old.tx.ghost_name }
     ensures same_conn { rows.new.tx.now.conn.ghost_name ≡ rows.old.tx.now.conn.ghost_name }
-    ensures asks { Asks S.Store AnswerListsAs (λ book answer. answer
+    ensures asks { Asks S.Store AnswerListsAs ListDamage (λ book answer. answer
         ≡ ok_or (limits book tail.now day) UnknownAircraft)
         rows.old.tx.now.conn.now rows.new.tx.now.conn.now result }
 {
@@ -185,7 +191,7 @@ fn limits_inside<S: Alter>(
     day: Day,
 ) -> Result<Result<LimitList, Refusal>, TableFault>
     ensures same_reference { tx.new.conn.ghost_name ≡ tx.old.conn.ghost_name }
-    ensures asks { Asks S.Store AnswerListsAs (λ book answer. answer
+    ensures asks { Asks S.Store AnswerListsAs ListDamage (λ book answer. answer
         ≡ ok_or (limits book tail.now day) UnknownAircraft)
         tx.old.conn.now tx.new.conn.now result }
 {
@@ -210,6 +216,8 @@ pub fn limits_rows<S: Alter>(
         (state S.Store tx.old.conn.now) (state S.Store tx.new.conn.now) result }
     ensures any_rows { ReadsAny (ListOf (λ book. limits book tail.now day))
         (state S.Store tx.old.conn.now) (state S.Store tx.new.conn.now) result }
+    ensures damage { TellsDamage ListDamage
+        (state S.Store tx.old.conn.now) (state S.Store tx.new.conn.now) result }
 {
     aircraft_number(alloc, tx, tail)?;
     limits_inside(alloc, tx, tail, day)
@@ -222,7 +230,7 @@ fn lives_of_rows<S: Alter>(
 ) -> Result<Result<LifeList, Refusal>, TableFault>
     ensures same_tx { rows.new.tx.ghost_name ≡ rows.old.tx.ghost_name }
     ensures same_conn { rows.new.tx.now.conn.ghost_name ≡ rows.old.tx.now.conn.ghost_name }
-    ensures asks { Asks S.Store AnswerListsAs (λ book answer. answer
+    ensures asks { Asks S.Store AnswerListsAs ListDamage (λ book answer. answer
         ≡ ok_or (life_list book tail.now) UnknownAircraft)
         rows.old.tx.now.conn.now rows.new.tx.now.conn.now result }
 {
@@ -237,7 +245,7 @@ fn lives_inside<S: Alter>(
     tail: &Tail,
 ) -> Result<Result<LifeList, Refusal>, TableFault>
     ensures same_reference { tx.new.conn.ghost_name ≡ tx.old.conn.ghost_name }
-    ensures asks { Asks S.Store AnswerListsAs (λ book answer. answer
+    ensures asks { Asks S.Store AnswerListsAs ListDamage (λ book answer. answer
         ≡ ok_or (life_list book tail.now) UnknownAircraft)
         tx.old.conn.now tx.new.conn.now result }
 {
@@ -260,6 +268,8 @@ pub fn life_rows<S: Alter>(
         ≡ ok_or (life_list book tail.now) UnknownAircraft)
         (state S.Store tx.old.conn.now) (state S.Store tx.new.conn.now) result }
     ensures any_rows { ReadsAny (ListOf (λ book. life_list book tail.now))
+        (state S.Store tx.old.conn.now) (state S.Store tx.new.conn.now) result }
+    ensures damage { TellsDamage ListDamage
         (state S.Store tx.old.conn.now) (state S.Store tx.new.conn.now) result }
 {
     aircraft_number(alloc, tx, tail)?;
@@ -287,6 +297,8 @@ pub fn life<S: Alter>(
         ≡ ok_or (life_now book item.now) (unknown item.now))
         (state S.Store tx.old.conn.now) (state S.Store tx.new.conn.now) result }
     ensures any_rows { ReadsAny (LifeAnswered item.now)
+        (state S.Store tx.old.conn.now) (state S.Store tx.new.conn.now) result }
+    ensures damage { TellsDamage (TotalDamage item.now)
         (state S.Store tx.old.conn.now) (state S.Store tx.new.conn.now) result }
 {
     let life = lives::life(alloc, tx, item)?;

@@ -34,7 +34,7 @@ impl<S: Alter, Q: Questions> Records for Rows<'_, '_, S, Q> {
 
     type Fault = TableFault;
 
-    ghost reading = { rows_reading S.Store Q.answers_as };
+    ghost reading = { rows_reading S.Store Q.answers_as Q.damage };
 
     fn entry_count(&mut self) -> Result<usize, TableFault> {
         let count = entry_count(self.alloc, self.tx)?;

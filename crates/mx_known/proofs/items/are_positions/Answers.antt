@@ -7,6 +7,7 @@ use Rattle.mx_lookups.proofs.ReadLemmas.{stopped, told}
 use Rattle.mx_known.proofs.TellLemmas.{compared}
 use Rattle.mx_known.proofs.KnownLemmas.{rows_same}
 use Rattle.mx_lookups.proofs.TableLemmas.{places}
+use Rattle.mx_lookups.proofs.ToldLemmas.{unread}
 use Rattle.mx_known.proofs.items.are_positions.Goals as goal
 
 pub returns-in_err-rows-clause-reads : goal.returns-in_err-rows-clause-reads
@@ -21,3 +22,6 @@ returns-clause-reads g c =
 
 pub returns-clause-any_rows : goal.returns-clause-any_rows
 returns-clause-any_rows g c = rows_same places c.args.seq _ _ _ _ c.are_same_places.ensures c.deref.ensures.value (c.deref-2.ensures.value ∙ c.in_ok-given.ensures.rows) c.in_ok-rows.ensures.reads
+
+pub returns-in_err-rows-clause-damage : goal.returns-in_err-rows-clause-damage
+returns-in_err-rows-clause-damage g c = unread places c.from_residual.ensures.1 c.in_err-rows.ensures.reads

@@ -6,6 +6,7 @@ use Rattle.mx_lookups.proofs.ReadLemmas.{stopped, told}
 use Rattle.mx_known.proofs.TellLemmas.{compared}
 use Rattle.mx_known.proofs.KnownLemmas.{rows_same}
 use Rattle.mx_lookups.proofs.TableLemmas.{aircraft}
+use Rattle.mx_lookups.proofs.ToldLemmas.{unread}
 use Rattle.mx_known.proofs.items.is_aircraft_row.Goals as goal
 
 pub returns-in_err-rows-clause-reads : goal.returns-in_err-rows-clause-reads
@@ -22,3 +23,6 @@ returns-clause-reads g c =
 pub returns-clause-any_rows : goal.returns-clause-any_rows
 returns-clause-any_rows g c =
     rows_same aircraft c.args.seq _ _ _ _ c.are_same_aircraft.ensures c.deref.ensures.value (c.from_ref.ensures.value ∙ ap (λ row. row ∷ []) c.aircraft_row-row.ensures.row) c.in_ok-rows.ensures.reads
+
+pub returns-in_err-rows-clause-damage : goal.returns-in_err-rows-clause-damage
+returns-in_err-rows-clause-damage g c = unread aircraft c.from_residual.ensures.1 c.in_err-rows.ensures.reads

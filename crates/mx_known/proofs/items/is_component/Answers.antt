@@ -7,6 +7,7 @@ use Rattle.mx_lookups.proofs.ReadLemmas.{stopped, told}
 use Rattle.mx_known.proofs.TellLemmas.{compared, tells}
 use Rattle.mx_known.proofs.KnownLemmas.{rows_same}
 use Rattle.mx_lookups.proofs.TableLemmas.{components as components_table}
+use Rattle.mx_lookups.proofs.ToldLemmas.{unread}
 use Rattle.mx_known.proofs.items.is_component.Goals as goal
 
 pub returns-in_err-rows-clause-reads : goal.returns-in_err-rows-clause-reads
@@ -24,3 +25,6 @@ returns-clause-reads g c =
 pub returns-clause-any_rows : goal.returns-clause-any_rows
 returns-clause-any_rows g c =
     rows_same components_table c.args.seq _ _ _ _ c.are_same_components.ensures c.deref.ensures.value (c.from_ref.ensures.value ∙ ap (λ row. row ∷ []) c.component_row-row.ensures.row) c.in_ok-rows.ensures.reads
+
+pub returns-in_err-rows-clause-damage : goal.returns-in_err-rows-clause-damage
+returns-in_err-rows-clause-damage g c = unread components_table c.from_residual.ensures.1 c.in_err-rows.ensures.reads

@@ -1,4 +1,4 @@
-use Rattle.std.proofs.Common.{Some, sym, ap, ap₂, ◌∙◌}
+use Rattle.std.proofs.Common.{Some, sym, ap, ap₂, ◌∙◌, inl, inr}
 use Rattle.std.specs.List.{list_any}
 use Rattle.mx_register.specs.Names.{or_zero}
 use Rattle.mx_found.specs.Spans.{begins_with}
@@ -11,6 +11,7 @@ use Rattle.mx_known.specs.Known.{Began, ByNumber}
 use Rattle.mx_lookups.proofs.AnyLemmas.{gives}
 use Rattle.mx_known.proofs.KnownLemmas.{numbered}
 use Rattle.mx_lookups.proofs.TableLemmas.{spans}
+use Rattle.mx_lookups.proofs.ToldLemmas.{handed, told_as, told_later, unread}
 use Rattle.mx_known.proofs.moves.is_fitting.Goals as goal
 
 pub returns-in_err-rows-clause-reads : goal.returns-in_err-rows-clause-reads
@@ -37,3 +38,10 @@ returns-clause-any_rows g c =
     (reads_then _ _ _ _ _ _ _ c.in_ok-aircraft.ensures.reads (spans_of_fitting c.args.seq c.in_ok-rows.ensures.reads)).within
     (numbered _ _ (Began c.args.seq f c.or_zero.result) _ _ _ _ _ _ c.or_zero-2.ensures c.in_ok-aircraft.ensures.reads c.in_ok-aircraft.ensures.any_rows c.in_ok-rows.ensures.reads.within
     (gives spans (list_any (begins_with c.args.seq c.or_zero.result c.or_zero-2.result f)) (c.begins_in.ensures ∙ ap (list_any (begins_with c.args.seq c.or_zero.result c.or_zero-2.result f)) c.deref.ensures.value) c.in_ok-rows.ensures.reads))
+
+pub returns-in_err-aircraft-clause-damage : goal.returns-in_err-aircraft-clause-damage
+returns-in_err-aircraft-clause-damage g c = told_later c.in_ok-component.ensures.reads c.in_err-aircraft.ensures.reads.within (handed (λ _ _ it. inr (inl it)) c.from_residual-in_err-aircraft.ensures.1 c.in_err-aircraft.ensures.damage)
+
+pub returns-in_err-rows-clause-damage : goal.returns-in_err-rows-clause-damage
+returns-in_err-rows-clause-damage g c =
+    told_later (reads_then _ _ _ _ _ _ _ c.in_ok-component.ensures.reads c.in_ok-aircraft.ensures.reads) c.in_err-rows.ensures.reads.within (told_as (λ _ _ it. inr (inr it)) (unread spans c.from_residual-in_err-rows.ensures.1 c.in_err-rows.ensures.reads))

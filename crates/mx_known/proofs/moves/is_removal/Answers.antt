@@ -1,4 +1,4 @@
-use Rattle.std.proofs.Common.{Some, sym, ap, ◌∙◌}
+use Rattle.std.proofs.Common.{Some, sym, ap, ◌∙◌, inr}
 use Rattle.std.specs.List.{list_any}
 use Rattle.mx_register.specs.Names.{or_zero}
 use Rattle.mx_found.specs.Spans.{ends_with}
@@ -10,6 +10,7 @@ use Rattle.mx_known.specs.Known.{Ended}
 use Rattle.mx_lookups.proofs.AnyLemmas.{gives}
 use Rattle.mx_known.proofs.KnownLemmas.{numbered}
 use Rattle.mx_lookups.proofs.TableLemmas.{spans}
+use Rattle.mx_lookups.proofs.ToldLemmas.{told_as, told_later, unread}
 use Rattle.mx_known.proofs.moves.is_removal.Goals as goal
 
 pub returns-in_err-rows-clause-reads : goal.returns-in_err-rows-clause-reads
@@ -30,3 +31,6 @@ returns-clause-any_rows g c =
     let r = c.args.removal in
     numbered _ _ (Ended c.args.seq r) _ _ _ _ _ _ c.or_zero.ensures c.in_ok-component.ensures.reads c.in_ok-component.ensures.any_rows c.in_ok-rows.ensures.reads.within
     (gives spans (list_any (ends_with c.args.seq c.or_zero.result r)) (c.ends_in.ensures ∙ ap (list_any (ends_with c.args.seq c.or_zero.result r)) c.deref.ensures.value) c.in_ok-rows.ensures.reads)
+
+pub returns-in_err-rows-clause-damage : goal.returns-in_err-rows-clause-damage
+returns-in_err-rows-clause-damage g c = told_later c.in_ok-component.ensures.reads c.in_err-rows.ensures.reads.within (told_as (λ _ _. inr) (unread spans c.from_residual-in_err-rows.ensures.1 c.in_err-rows.ensures.reads))

@@ -1,4 +1,4 @@
-use Rattle.std.proofs.Common.{[], ◌∷◌, map, ap, ◌∙◌}
+use Rattle.std.proofs.Common.{[], ◌∷◌, map, ap, ◌∙◌, inr}
 use Rattle.mx_command.specs.Act.{Flown}
 use Rattle.mx_typed_rows.specs.declared.rows.Sector2Row.{Sector2Row}
 use Rattle.mx_register.specs.Names.{or_zero, seq_of_tail}
@@ -10,6 +10,7 @@ use Rattle.mx_known.proofs.TellLemmas.{compared, tells}
 use Rattle.mx_known.specs.Known.{IsSector}
 use Rattle.mx_known.proofs.KnownLemmas.{numbered, rows_same}
 use Rattle.mx_lookups.proofs.TableLemmas.{sectors}
+use Rattle.mx_lookups.proofs.ToldLemmas.{told_as, told_later, unread}
 use Rattle.mx_known.proofs.moves.is_sector.Goals as goal
 
 pub returns-in_err-rows-clause-reads : goal.returns-in_err-rows-clause-reads
@@ -29,3 +30,6 @@ pub returns-clause-any_rows : goal.returns-clause-any_rows
 returns-clause-any_rows g c =
     numbered _ _ (IsSector c.args.seq c.args.sector) _ _ _ _ _ _ c.or_zero.ensures c.in_ok-aircraft.ensures.reads c.in_ok-aircraft.ensures.any_rows c.in_ok-rows.ensures.reads.within
     (rows_same sectors c.args.seq _ _ _ _ c.is_sector_row.ensures (ap (map (λ (row : Sector2Row). row.sector)) c.deref.ensures.value) (ap (λ row. row ∷ []) c.sector_row-row.ensures.row) (sectors_held c.args.seq _ _ _ c.in_ok-rows.ensures.reads))
+
+pub returns-in_err-rows-clause-damage : goal.returns-in_err-rows-clause-damage
+returns-in_err-rows-clause-damage g c = told_later c.in_ok-aircraft.ensures.reads c.in_err-rows.ensures.reads.within (told_as (λ _ _. inr) (unread sectors c.from_residual-in_err-rows.ensures.1 (sectors_held c.args.seq _ _ _ c.in_err-rows.ensures.reads)))

@@ -1,8 +1,9 @@
-use Rattle.std.proofs.Common.{◌∙◌, ◌&&◌, ap, sym}
+use Rattle.std.proofs.Common.{◌∙◌, ◌&&◌, ap, sym, inr}
 use Rattle.mx_command.specs.Act.{Released}
 use Rattle.mx_lookups.proofs.ReadLemmas.{reads_then, told}
 use Rattle.mx_known.proofs.TellLemmas.{first_fails, second_tells, tells}
 use Rattle.mx_known.proofs.KnownLemmas.{both_same}
+use Rattle.mx_lookups.proofs.ToldLemmas.{handed, told_later}
 use Rattle.mx_known.proofs.releases.is_release.Goals as goal
 
 pub returns-then-same-clause-reads : goal.returns-then-same-clause-reads
@@ -22,3 +23,6 @@ returns-then-same-clause-any_rows g c =
 pub returns-else-same-clause-any_rows : goal.returns-else-same-clause-any_rows
 returns-else-same-clause-any_rows g c =
     both_same _ _ _ _ _ _ _ c.in_ok-on_lines.on_lines _ (c.if-same.false ∙ ap (λ one. one && c.in_ok-on_lines.on_lines) (sym c.if-same.false)) c.in_ok-same.ensures.reads c.in_ok-same.ensures.any_rows c.in_ok-on_lines.ensures.reads.within c.in_ok-on_lines.ensures.any_rows
+
+pub returns-in_err-on_lines-clause-damage : goal.returns-in_err-on_lines-clause-damage
+returns-in_err-on_lines-clause-damage g c = told_later c.in_ok-same.ensures.reads c.in_err-on_lines.ensures.reads.within (handed (λ _ _. inr) c.from_residual-in_err-on_lines.ensures.1 c.in_err-on_lines.ensures.damage)

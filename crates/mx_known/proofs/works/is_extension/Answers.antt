@@ -1,4 +1,4 @@
-use Rattle.std.proofs.Common.{[], ◌∷◌, ap, ◌∙◌}
+use Rattle.std.proofs.Common.{[], ◌∷◌, ap, ◌∙◌, inr}
 use Rattle.mx_command.specs.Act.{Extended}
 use Rattle.mx_register.specs.Names.{or_zero, seq_of_defect}
 use Rattle.mx_register.specs.Registers.{extension_row}
@@ -10,6 +10,7 @@ use Rattle.mx_kept.specs.Cells.{kept_extension}
 use Rattle.mx_known.specs.Known.{AreRows}
 use Rattle.mx_known.proofs.KnownLemmas.{numbered, rows_same}
 use Rattle.mx_lookups.proofs.TableLemmas.{extensions}
+use Rattle.mx_lookups.proofs.ToldLemmas.{told_as, told_later, unread}
 use Rattle.mx_known.proofs.works.is_extension.Goals as goal
 
 pub returns-in_err-rows-clause-reads : goal.returns-in_err-rows-clause-reads
@@ -29,3 +30,6 @@ pub returns-clause-any_rows : goal.returns-clause-any_rows
 returns-clause-any_rows g c =
     numbered _ _ (λ i. AreRows kept_extension c.args.seq (extension_row c.args.seq i c.args.extension ∷ [])) _ _ _ _ _ _ c.or_zero.ensures c.in_ok-found.ensures.reads c.in_ok-found.ensures.any_rows c.in_ok-rows.ensures.reads.within
     (rows_same extensions c.args.seq _ _ _ _ c.are_same_extensions.ensures c.deref.ensures.value (c.from_ref.ensures.value ∙ ap (λ row. row ∷ []) c.extension_row-row.ensures.row) c.in_ok-rows.ensures.reads)
+
+pub returns-in_err-rows-clause-damage : goal.returns-in_err-rows-clause-damage
+returns-in_err-rows-clause-damage g c = told_later c.in_ok-found.ensures.reads c.in_err-rows.ensures.reads.within (told_as (λ _ _. inr) (unread extensions c.from_residual-in_err-rows.ensures.1 c.in_err-rows.ensures.reads))

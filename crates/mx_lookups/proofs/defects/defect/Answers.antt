@@ -1,4 +1,4 @@
-use Rattle.std.proofs.Common.{◌≡◌, ℕ, Option, Some, ◌∙◌, ap, ap₂, arith, refl, subst, sym}
+use Rattle.std.proofs.Common.{◌≡◌, ℕ, Option, Some, ◌∙◌, ap, ap₂, arith, refl, subst, sym, inl, inr}
 use Rattle.std.specs.Prelude.{IsSomeAnd, is_some}
 use Rattle.mx_layout.specs.declared.fault.Table.TheVariants as table
 use Rattle.mx_kept.specs.Cells.{kept_defect}
@@ -7,11 +7,12 @@ use Rattle.mx_found.proofs.DeferralLemmas.{defect_there, no_defect}
 use Rattle.mx_found.specs.Names.{tail_in}
 use Rattle.mx_lookups.specs.Given.{DefectNumber}
 use Rattle.mx_lookups.proofs.AnyLemmas.{any_later, by_none, by_number, found_some, gives}
-use Rattle.mx_lookups.proofs.DamageLemmas.{aircraft_unmet, deferral_unmet}
+use Rattle.mx_lookups.proofs.DamageLemmas.{aircraft_unmet, deferral_unmet, no_tail}
 use Rattle.mx_lookups.proofs.TableLemmas.{aircraft as aircraft_table, deferrals}
 use Rattle.mx_lookups.proofs.DefectLemmas.{deferral_there, defect_said}
 use Rattle.mx_lookups.proofs.ReadLemmas.{reads_then, refused, stopped, told}
 use Rattle.mx_lookups.proofs.BookRows.{aircraft_of_number, deferrals_of_number}
+use Rattle.mx_lookups.proofs.ToldLemmas.{has_none, told_as, told_by, told_here, unread}
 use Rattle.mx_lookups.proofs.defects.defect.Goals as goal
 
 pub returns-in_err-rows-in-Some-clause-reads : goal.returns-in_err-rows-in-Some-clause-reads
@@ -91,3 +92,33 @@ returns-in-Some-defect_in-clause-any_rows g c =
 
 pub returns-clause-any_rows : goal.returns-clause-any_rows
 returns-clause-any_rows g c = by_none _ _ _ _ _ _ c.in-None.is c.in_ok-found.ensures.any_rows
+
+pub returns-in_err-rows-in-Some-clause-damage : goal.returns-in_err-rows-in-Some-clause-damage
+returns-in_err-rows-in-Some-clause-damage g c =
+    told_by c.in-Some.is c.in_ok-found.ensures.reads c.in_ok-found.ensures.any_rows c.in_err-rows-in-Some.ensures.reads.within
+    (told_as (λ _ _ it. inl (inl it)) (unread deferrals c.from_residual-in_err-rows-in-Some.ensures.1 c.in_err-rows-in-Some.ensures.reads))
+
+pub returns-in_err-named-in-Some-deferral_aircraft-clause-damage : goal.returns-in_err-named-in-Some-deferral_aircraft-clause-damage
+returns-in_err-named-in-Some-deferral_aircraft-clause-damage g c =
+    let rows = deferrals_of_number _ c.in_ok-rows-in-Some.ensures.reads in
+    let named = c.in_err-named-in-Some-deferral_aircraft.ensures.reads in
+    let aircraft = gives deferrals deferral_aircraft (c.deferral_aircraft.ensures ∙ ap deferral_aircraft c.deref.ensures.value) c.in_ok-rows-in-Some.ensures.reads in
+    told_by c.in-Some.is c.in_ok-found.ensures.reads c.in_ok-found.ensures.any_rows (reads_then _ _ _ _ _ _ _ rows (aircraft_of_number _ named)).within
+    (told_as (λ _ _. inl) (told_by c.in-Some-deferral_aircraft.is rows aircraft named.within (told_as (λ _ _. inl) (unread aircraft_table c.from_residual-in_err-named-in-Some-deferral_aircraft.ensures.1 named))))
+
+pub returns-in-Some-deferral_aircraft-clause-damage : goal.returns-in-Some-deferral_aircraft-clause-damage
+returns-in-Some-deferral_aircraft-clause-damage g c =
+    let rows = deferrals_of_number _ c.in_ok-rows-in-Some.ensures.reads in
+    let named = c.in_ok-named-in-Some-deferral_aircraft.ensures.reads in
+    let aircraft = gives deferrals deferral_aircraft (c.deferral_aircraft.ensures ∙ ap deferral_aircraft c.deref.ensures.value) c.in_ok-rows-in-Some.ensures.reads in
+    let some = sym c.in-Some-deferral_aircraft.is ∙ c.deferral_aircraft.ensures ∙ ap deferral_aircraft c.deref.ensures.value in
+    let made = c.defect_in.ensures ∙ ap₂ (defect_in c.args.doc.now) c.deref-in-Some-deferral_aircraft.ensures.value c.deref-in-Some-deferral_aircraft-2.ensures.value in
+    let none = no_tail c.args.doc.now _ _ _ some (sym c.in-None-defect_in.is ∙ made) in
+    told_by c.in-Some.is c.in_ok-found.ensures.reads c.in_ok-found.ensures.any_rows (reads_then _ _ _ _ _ _ _ rows (aircraft_of_number _ named)).within
+    (told_as (λ _ _. inl) (told_by c.in-Some-deferral_aircraft.is rows aircraft named.within (told_here table.Defect (λ clean has. inr (refl, has_none (λ row. row.tail) ((gives aircraft_table tail_in none named).found clean has))))))
+
+pub returns-in-Some-clause-damage : goal.returns-in-Some-clause-damage
+returns-in-Some-clause-damage g c =
+    let none = sym (sym (c.deferral_aircraft.ensures ∙ ap deferral_aircraft c.deref.ensures.value) ∙ c.in-None-deferral_aircraft.is) in
+    told_by c.in-Some.is c.in_ok-found.ensures.reads c.in_ok-found.ensures.any_rows c.in_ok-rows-in-Some.ensures.reads.within
+    (told_here table.Defect (λ clean has. inr (refl, has_none (λ row. row.aircraft) ((gives deferrals deferral_aircraft none c.in_ok-rows-in-Some.ensures.reads).found clean has))))

@@ -5,6 +5,7 @@ use Rattle.mx_lookups.proofs.BookRows.{entries_of_doc}
 use Rattle.mx_lookups.proofs.ReadLemmas.{stopped, told}
 use Rattle.mx_lookups.proofs.AnyLemmas.{gives}
 use Rattle.mx_lookups.proofs.TableLemmas.{entries}
+use Rattle.mx_lookups.proofs.ToldLemmas.{unread}
 use Rattle.mx_lookups.proofs.entries.defect_number.Goals as goal
 
 pub returns-clause-reads : goal.returns-clause-reads
@@ -15,3 +16,6 @@ returns-in_err-rows-clause-reads g c = stopped _ _ _ _ c.in_err-rows.field-0.0 c
 
 pub returns-clause-any_rows : goal.returns-clause-any_rows
 returns-clause-any_rows g c = gives entries deferral_number (c.deferral_number.ensures ∙ ap deferral_number c.deref.ensures.value) c.in_ok-rows.ensures.reads
+
+pub returns-in_err-rows-clause-damage : goal.returns-in_err-rows-clause-damage
+returns-in_err-rows-clause-damage g c = unread entries c.from_residual.ensures.1 c.in_err-rows.ensures.reads

@@ -1,4 +1,4 @@
-use Rattle.std.proofs.Common.{◌≡◌, ◌∙◌, ℕ, pos, Bool, false, true, cond, List, Option, None, Some, ap, filter, nat_eq, refl, subst, sym}
+use Rattle.std.proofs.Common.{◌≡◌, ◌∙◌, ℕ, pos, Bool, false, true, cond, List, Option, None, Some, ap, filter, nat_eq, refl, subst, sym, inl, inr}
 use Rattle.std.specs.Prelude.{is_some}
 use Rattle.std.specs.Option.{option_map}
 use Rattle.sqlite.specs.declared.types.Value.TheVariants.{Int}
@@ -15,8 +15,10 @@ use Rattle.mx_lookups.specs.Given.{DocIfOpen, OpenSaid}
 use Rattle.mx_lookups.proofs.BookRows.{deferrals_of_aircraft}
 use Rattle.mx_lookups.proofs.DamageLemmas.{entry_unmet}
 use Rattle.mx_lookups.proofs.TableLemmas.{deferrals}
-use Rattle.mx_lookups.proofs.WalkLemmas.{missing, said_more, walk_begun, walk_ended, walk_said, walk_starved, walk_stopped}
+use Rattle.mx_lookups.proofs.WalkLemmas.{missing, said_more, walk_begun, walk_ended, walk_said, walk_starved, walk_stopped, told_each}
 use Rattle.mx_lookups.proofs.ReadLemmas.{stopped}
+use Rattle.mx_lookups.proofs.ToldLemmas.{handed, has_none, told_as, told_here, unread}
+use Rattle.mx_lookups.specs.Told.{DocIfOpenDamage, Either, HasNoEntry, Of}
 use Rattle.mx_lookups.proofs.lists.defects_left.Goals as goal
 
 abbrev rows_at : ℕ → List Entry → List DeferralRow
@@ -83,3 +85,19 @@ returns-in_err-push-in-Some-known-clause-reads g c =
 pub returns-clause-any_rows : goal.returns-clause-any_rows
 returns-clause-any_rows g c =
     walk_said kept_defect (rows_at c.args.aircraft) (λ book r. open_said book c.args.tail.now r) HasEntry (has_value 1 (Int (pos c.args.aircraft))) (OpenSaid c.args.tail.now) (λ v. v.items) _ _ _ _ c.in_default.ensures.cases c.loop-row.invariant.walks
+
+pub returns-in_err-rows-clause-damage : goal.returns-in_err-rows-clause-damage
+returns-in_err-rows-clause-damage g c = told_as (λ _ _. inl) (unread deferrals c.from_residual.ensures.1 c.in_err-rows.ensures.reads)
+
+pub returns-in_err-found-clause-damage : goal.returns-in_err-found-clause-damage
+returns-in_err-found-clause-damage g c =
+    let found = c.in_err-found.ensures in
+    told_each kept_defect (rows_at c.args.aircraft) (λ book r. open_said book c.args.tail.now r) HasEntry (has_value 1 (Int (pos c.args.aircraft))) (OpenSaid c.args.tail.now) _ _ _ _ _ c.in-Some.later.now c.in-Some.row.now c.loop-row.invariant.walks c.in-Some.ensures.cases.0 (λ row. Either (DocIfOpenDamage row.seq) (Of table.Defect (HasNoEntry row.seq))) _ found.reads.within (handed (λ _ _. inl) c.from_residual-in_err-found.ensures.1 found.damage)
+
+pub returns-in-None-known-clause-damage : goal.returns-in-None-known-clause-damage
+returns-in-None-known-clause-damage g c =
+    let row = c.in-Some.row.now in
+    let found = c.in_ok-found.ensures in
+    let none : ◌≡◌ {A = Option (Option (List ℕ))} c.in_ok-found.found (Some None) = c.in-Some-found.is ∙ ap Some c.in-None-known.is in
+    told_each kept_defect (rows_at c.args.aircraft) (λ book r. open_said book c.args.tail.now r) HasEntry (has_value 1 (Int (pos c.args.aircraft))) (OpenSaid c.args.tail.now) _ _ _ _ _ c.in-Some.later.now row c.loop-row.invariant.walks c.in-Some.ensures.cases.0 (λ row. Either (DocIfOpenDamage row.seq) (Of table.Defect (HasNoEntry row.seq))) _ found.reads.within
+    (told_here table.Defect (λ clean has. (let gone = subst (DocIfOpen row.seq _) none (found.any_rows.found clean has) in inr (refl, (gone.0, has_none (λ r. r.doc) gone.1)))))

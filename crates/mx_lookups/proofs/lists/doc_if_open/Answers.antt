@@ -1,10 +1,11 @@
-use Rattle.std.proofs.Common.{◌≡◌, ◌∙◌, ap, arith, cond, false, None, Some, sym, true}
+use Rattle.std.proofs.Common.{◌≡◌, ◌∙◌, ap, arith, cond, false, None, Some, sym, true, inl, inr}
 use Rattle.mx_found.specs.Defects.{is_rectified_at, is_rectified_in}
 use Rattle.mx_found.specs.Names.{doc_at}
 use Rattle.mx_lookups.proofs.BookRows.{lines_of_defect}
 use Rattle.mx_lookups.proofs.AnyLemmas.{any_later, gives}
 use Rattle.mx_lookups.proofs.TableLemmas.{release_lines}
 use Rattle.mx_lookups.proofs.ReadLemmas.{reads_then, stopped, told}
+use Rattle.mx_lookups.proofs.ToldLemmas.{handed, told_as, told_later, unread}
 use Rattle.mx_lookups.proofs.lists.doc_if_open.Goals as goal
 
 pub returns-in_err-lines-clause-reads : goal.returns-in_err-lines-clause-reads
@@ -40,3 +41,14 @@ returns-clause-any_rows g c =
     let doc = c.in_ok-doc.ensures in
     let rectified = gives release_lines is_rectified_in (sym c.if-is_rectified_in.false ∙ c.is_rectified_in.ensures ∙ ap is_rectified_in c.deref.ensures.value) lines in
     record { found = λ clean has. (rectified.found (omega (arith, doc.reads.within.survives.clean)) has, (any_later _ _ _ _ _ _ _ (lines_of_defect c.args.defect lines) doc.reads.within doc.any_rows).found clean has) }
+
+pub returns-in_err-lines-clause-damage : goal.returns-in_err-lines-clause-damage
+returns-in_err-lines-clause-damage g c = told_as (λ _ _. inl) (unread release_lines c.from_residual.ensures.1 c.in_err-lines.ensures.reads)
+
+pub returns-in_err-doc-clause-damage : goal.returns-in_err-doc-clause-damage
+returns-in_err-doc-clause-damage g c =
+    let lines = c.in_ok-lines.ensures.reads in
+    let doc = c.in_err-doc.ensures in
+    let rectified = gives release_lines is_rectified_in (sym c.if-is_rectified_in.false ∙ c.is_rectified_in.ensures ∙ ap is_rectified_in c.deref.ensures.value) lines in
+    let later = told_later (lines_of_defect c.args.defect lines) doc.reads.within (handed (λ _ _ it. it) c.from_residual-in_err-doc.ensures.1 doc.damage) in
+    record { told = λ clean has name is. inr (rectified.found (omega (arith, doc.reads.within.survives.clean)) has, later.told clean has name is) }

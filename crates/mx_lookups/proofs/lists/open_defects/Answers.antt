@@ -2,6 +2,7 @@ use Rattle.std.proofs.Common.{◌∙◌, sym}
 use Rattle.mx_found.proofs.OpenDefectLemmas.{none_open, open_found}
 use Rattle.mx_lookups.proofs.AnyLemmas.{by_nothing, by_result}
 use Rattle.mx_lookups.proofs.ReadLemmas.{follows, reads_then, told}
+use Rattle.mx_lookups.proofs.ToldLemmas.{told_by}
 use Rattle.mx_lookups.proofs.lists.open_defects.Goals as goal
 
 pub returns-in-Some-clause-reads : goal.returns-in-Some-clause-reads
@@ -17,3 +18,6 @@ returns-in-Some-clause-any_rows g c = by_result _ _ _ _ (λ defects. defects.ite
 
 pub returns-in-None-clause-any_rows : goal.returns-in-None-clause-any_rows
 returns-in-None-clause-any_rows g c = by_nothing _ _ _ (λ defects. defects.items) _ _ _ _ c.in-None.is c.new.ensures.items c.in_ok-found.ensures.any_rows
+
+pub returns-in-Some-clause-damage : goal.returns-in-Some-clause-damage
+returns-in-Some-clause-damage g c = told_by c.in-Some.is c.in_ok-found.ensures.reads c.in_ok-found.ensures.any_rows c.defects_left.ensures.reads.within c.defects_left.ensures.damage

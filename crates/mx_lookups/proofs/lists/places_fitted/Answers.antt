@@ -1,4 +1,4 @@
-use Rattle.std.proofs.Common.{◌≡◌, ◌∙◌, ℕ, pos, List, ap, filter, refl, subst, sym, true}
+use Rattle.std.proofs.Common.{◌≡◌, ◌∙◌, ℕ, pos, List, ap, filter, refl, subst, sym, true, inl, inr}
 use Rattle.std.specs.Prelude.{is_some}
 use Rattle.std.specs.Option.{option_map}
 use Rattle.sqlite.specs.declared.types.Value.TheVariants.{Int}
@@ -14,8 +14,10 @@ use Rattle.mx_lookups.specs.Given.{PlaceSaid, SerialOfNumber}
 use Rattle.mx_lookups.proofs.BookRows.{open_spans_at}
 use Rattle.mx_lookups.proofs.DamageLemmas.{component_unmet}
 use Rattle.mx_lookups.proofs.TableLemmas.{spans}
-use Rattle.mx_lookups.proofs.WalkLemmas.{missing, said_more, walk_begun, walk_ended, walk_said, walk_starved, walk_stopped}
+use Rattle.mx_lookups.proofs.WalkLemmas.{missing, said_more, walk_begun, walk_ended, walk_said, walk_starved, walk_stopped, told_each}
 use Rattle.mx_lookups.proofs.ReadLemmas.{stopped}
+use Rattle.mx_lookups.proofs.ToldLemmas.{handed, has_none, told_as, told_here, unread}
+use Rattle.mx_lookups.specs.Told.{PlaceDamage}
 use Rattle.mx_lookups.proofs.lists.places_fitted.Goals as goal
 
 abbrev open_rows : ℕ → List Entry → List SpanRow
@@ -66,3 +68,18 @@ returns-in_err-push-in-Some-found-clause-reads g c =
 
 pub returns-clause-any_rows : goal.returns-clause-any_rows
 returns-clause-any_rows g c = walk_said kept_span2 (open_rows c.args.aircraft) place_said HasPlace (is_open 2 (Int (pos c.args.aircraft))) PlaceSaid (λ v. v.items) _ _ _ _ c.in_default.ensures.cases c.loop-row.invariant.walks
+
+pub returns-in_err-rows-clause-damage : goal.returns-in_err-rows-clause-damage
+returns-in_err-rows-clause-damage g c = told_as (λ _ _. inl) (unread spans c.from_residual.ensures.1 c.in_err-rows.ensures.reads)
+
+pub returns-in-None-clause-damage : goal.returns-in-None-clause-damage
+returns-in-None-clause-damage g c =
+    let row = c.in-Some.row.now in
+    let found = c.in_ok-found.ensures in
+    told_each kept_span2 (open_rows c.args.aircraft) place_said HasPlace (is_open 2 (Int (pos c.args.aircraft))) PlaceSaid _ _ _ _ _ c.in-Some.later.now row c.loop-row.invariant.walks c.in-Some.ensures.cases.0 (λ row. PlaceDamage row.component) _ found.reads.within
+    (told_here table.Span2 (λ clean has. inr (refl, has_none (λ r. r.serial) (subst (SerialOfNumber row.component _) c.in-None.is (found.any_rows.found clean has)))))
+
+pub returns-in_err-found-clause-damage : goal.returns-in_err-found-clause-damage
+returns-in_err-found-clause-damage g c =
+    let found = c.in_err-found.ensures in
+    told_each kept_span2 (open_rows c.args.aircraft) place_said HasPlace (is_open 2 (Int (pos c.args.aircraft))) PlaceSaid _ _ _ _ _ c.in-Some.later.now c.in-Some.row.now c.loop-row.invariant.walks c.in-Some.ensures.cases.0 (λ row. PlaceDamage row.component) _ found.reads.within (handed (λ _ _. inl) c.from_residual-in_err-found.ensures.1 found.damage)

@@ -5,6 +5,7 @@ use Rattle.mx_lookups.proofs.BookRows.{components_of_number}
 use Rattle.mx_lookups.proofs.AnyLemmas.{gives}
 use Rattle.mx_lookups.proofs.TableLemmas.{components}
 use Rattle.mx_lookups.proofs.ReadLemmas.{stopped, told}
+use Rattle.mx_lookups.proofs.ToldLemmas.{unread}
 use Rattle.mx_lookups.proofs.lists.serial_of_number.Goals as goal
 
 pub returns-in_err-rows-clause-reads : goal.returns-in_err-rows-clause-reads
@@ -15,3 +16,6 @@ returns-clause-reads g c = told _ _ _ _ _ _ (λ book b found. c.serial_in.ensure
 
 pub returns-clause-any_rows : goal.returns-clause-any_rows
 returns-clause-any_rows g c = gives components serial_in (c.serial_in.ensures ∙ ap serial_in c.deref.ensures.value) c.in_ok-rows.ensures.reads
+
+pub returns-in_err-rows-clause-damage : goal.returns-in_err-rows-clause-damage
+returns-in_err-rows-clause-damage g c = unread components c.from_residual.ensures.1 c.in_err-rows.ensures.reads

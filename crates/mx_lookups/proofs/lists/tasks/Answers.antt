@@ -8,7 +8,7 @@ use Rattle.mx_register.specs.Merge.{task_said}
 use Rattle.mx_typed_rows.specs.declared.rows.TaskRow.{TaskRow}
 use Rattle.mx_found.proofs.ProgrammeLemmas.{all_said}
 use Rattle.mx_lookups.proofs.InForceLemmas.{tasks_found}
-use Rattle.mx_lookups.proofs.ReadLemmas.{told}
+use Rattle.mx_lookups.proofs.ReadLemmas.{told, stopped}
 use Rattle.mx_lookups.proofs.lists.tasks.Goals as goal
 
 pub returns-in_ok-tasks_said-in-Some-clause-reads : goal.returns-in_ok-tasks_said-in-Some-clause-reads
@@ -39,3 +39,6 @@ pub returns-in-None-clause-any_rows : goal.returns-in-None-clause-any_rows
 returns-in-None-clause-any_rows g c =
     let those = ap (option_map (λ (rows : Vec TaskRow Global). rows.items)) c.in-None.is in
     record { found = λ clean has. (_, c.in_ok-found.ensures.any_rows.found clean has, c.new.ensures.items ∙ sym (ap (λ o. option_map_or (map task_said) o []) those)) }
+
+pub returns-in_err-found-clause-reads : goal.returns-in_err-found-clause-reads
+returns-in_err-found-clause-reads g c = stopped _ _ _ _ _ _ c.from_residual.ensures.1 c.in_err-found.ensures.reads

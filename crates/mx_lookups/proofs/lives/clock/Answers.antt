@@ -1,4 +1,4 @@
-use Rattle.std.proofs.Common.{◌≡◌, ◌∙◌, ap, sym, Some}
+use Rattle.std.proofs.Common.{◌≡◌, ◌∙◌, ap, sym, Some, inl, inr, refl}
 use Rattle.mx_book.specs.Life.{clock}
 use Rattle.mx_layout.specs.declared.fault.Table.TheVariants as table
 use Rattle.mx_found.specs.Lives.{clock_in}
@@ -9,6 +9,7 @@ use Rattle.mx_lookups.specs.Given.{ItemNumber}
 use Rattle.mx_lookups.proofs.AnyLemmas.{any_later, any_so, by_number, by_none, found_some, gives}
 use Rattle.mx_lookups.proofs.DamageLemmas.{total_unmet}
 use Rattle.mx_lookups.proofs.TableLemmas.{totals}
+use Rattle.mx_lookups.proofs.ToldLemmas.{told_by, unread, told_as, has_none, told_here}
 use Rattle.mx_lookups.proofs.lives.clock.Goals as goal
 
 pub returns-in-Some-clock_in-clause-reads : goal.returns-in-Some-clock_in-clause-reads
@@ -47,3 +48,12 @@ returns-in-Some-clock_in-clause-any_rows g c =
 
 pub returns-clause-any_rows : goal.returns-clause-any_rows
 returns-clause-any_rows g c = by_none _ _ _ _ _ _ c.in-None.is c.in_ok-found.ensures.any_rows
+
+pub returns-in_err-rows-in-Some-clause-damage : goal.returns-in_err-rows-in-Some-clause-damage
+returns-in_err-rows-in-Some-clause-damage g c =
+    told_by c.in-Some.is c.in_ok-found.ensures.reads c.in_ok-found.ensures.any_rows c.in_err-rows-in-Some.ensures.reads.within (told_as (λ _ _. inl) (unread totals c.from_residual-in_err-rows-in-Some.ensures.1 c.in_err-rows-in-Some.ensures.reads))
+
+pub returns-in-Some-clause-damage : goal.returns-in-Some-clause-damage
+returns-in-Some-clause-damage g c =
+    told_by c.in-Some.is c.in_ok-found.ensures.reads c.in_ok-found.ensures.any_rows c.in_ok-rows-in-Some.ensures.reads.within
+    (told_here table.Total2 (λ clean has. inr (refl, has_none (λ row. row.clock) ((gives totals clock_in (sym c.in-None-clock_in.is ∙ c.clock_in.ensures ∙ ap clock_in c.deref.ensures.value) c.in_ok-rows-in-Some.ensures.reads).found clean has))))

@@ -1,4 +1,4 @@
-use Rattle.std.proofs.Common.{◌≡◌, ◌∙◌, ap, sym, refl}
+use Rattle.std.proofs.Common.{◌≡◌, ◌∙◌, ap, sym, refl, inl, inr}
 use Rattle.std.specs.Prelude.{is_some}
 use Rattle.mx_book.specs.Life.{life_now}
 use Rattle.mx_layout.specs.declared.fault.Table.TheVariants as table
@@ -10,6 +10,7 @@ use Rattle.mx_lookups.specs.Given.{ItemNumber}
 use Rattle.mx_lookups.proofs.AnyLemmas.{any_later, any_so, by_number, by_none, found_some, gives}
 use Rattle.mx_lookups.proofs.DamageLemmas.{total_unmet}
 use Rattle.mx_lookups.proofs.TableLemmas.{totals}
+use Rattle.mx_lookups.proofs.ToldLemmas.{told_by, unread, told_as, has_none, told_here}
 use Rattle.mx_lookups.proofs.lives.life.Goals as goal
 
 pub returns-in-Some-life_in-clause-reads : goal.returns-in-Some-life_in-clause-reads
@@ -46,3 +47,12 @@ returns-in-Some-life_in-clause-any_rows g c =
 
 pub returns-clause-any_rows : goal.returns-clause-any_rows
 returns-clause-any_rows g c = by_none _ _ _ _ _ _ c.in-None.is c.in_ok-found.ensures.any_rows
+
+pub returns-in_err-rows-in-Some-clause-damage : goal.returns-in_err-rows-in-Some-clause-damage
+returns-in_err-rows-in-Some-clause-damage g c =
+    told_by c.in-Some.is c.in_ok-found.ensures.reads c.in_ok-found.ensures.any_rows c.in_err-rows-in-Some.ensures.reads.within (told_as (λ _ _. inl) (unread totals c.from_residual-in_err-rows-in-Some.ensures.1 c.in_err-rows-in-Some.ensures.reads))
+
+pub returns-in-Some-clause-damage : goal.returns-in-Some-clause-damage
+returns-in-Some-clause-damage g c =
+    told_by c.in-Some.is c.in_ok-found.ensures.reads c.in_ok-found.ensures.any_rows c.in_ok-rows-in-Some.ensures.reads.within
+    (told_here table.Total2 (λ clean has. inr (refl, has_none _ ((gives totals life_in (sym c.in-None-life_in.is ∙ c.life_in.ensures ∙ ap life_in c.deref.ensures.value) c.in_ok-rows-in-Some.ensures.reads).found clean has))))

@@ -1,4 +1,4 @@
-use Rattle.std.proofs.Common.{◌<◌, ◌^◌, ◌∙◌, ap, refl, sym, subst}
+use Rattle.std.proofs.Common.{◌<◌, ◌^◌, ◌∙◌, ap, refl, sym, subst, arith, inl, inr}
 use Rattle.mx_layout.specs.declared.fault.Table.TheVariants as table
 use Rattle.mx_found.specs.Programmes.{revision_after}
 use Rattle.mx_found.proofs.ProgrammeLemmas.{revision_is, revision_low}
@@ -7,6 +7,7 @@ use Rattle.mx_lookups.proofs.DamageLemmas.{revision_past}
 use Rattle.mx_lookups.proofs.TableLemmas.{programmes}
 use Rattle.mx_lookups.proofs.ReadLemmas.{refused, stopped, told}
 use Rattle.mx_lookups.proofs.BookRows.{programmes_of_kind}
+use Rattle.mx_lookups.proofs.ToldLemmas.{told_as, told_here, unread}
 use Rattle.mx_lookups.proofs.programmes.next_revision.Goals as goal
 
 pub returns-in_err-rows-clause-reads : goal.returns-in_err-rows-clause-reads
@@ -28,3 +29,11 @@ returns-clause-reads g c =
 
 pub returns-in-Some-clause-any_rows : goal.returns-in-Some-clause-any_rows
 returns-in-Some-clause-any_rows g c = gives programmes revision_after (c.in-Some.ensures.1 ∙ ap revision_after c.deref.ensures.value) c.in_ok-rows.ensures.reads
+
+pub returns-in_err-rows-clause-damage : goal.returns-in_err-rows-clause-damage
+returns-in_err-rows-clause-damage g c = told_as (λ _ _. inl) (unread programmes c.from_residual.ensures.1 c.in_err-rows.ensures.reads)
+
+pub returns-clause-damage : goal.returns-clause-damage
+returns-clause-damage g c =
+    let past = subst (λ rows. ¬ (revision_after rows < 2 ^ 32)) c.deref.ensures.value c.in-None.ensures in
+    told_here table.Programme (λ clean has. inr (refl, (_, (gives programmes revision_after refl c.in_ok-rows.ensures.reads).found clean has, omega (arith, past))))

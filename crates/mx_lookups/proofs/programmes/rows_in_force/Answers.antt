@@ -1,4 +1,4 @@
-use Rattle.std.proofs.Common.{◌≡◌, ◌∙◌, arith, ap, refl, sym, Some, None}
+use Rattle.std.proofs.Common.{◌≡◌, ◌∙◌, arith, ap, refl, sym, Some, None, inl, inr}
 use Rattle.std.specs.List.{list_all}
 use Rattle.std.specs.Option.{option_map}
 use Rattle.mx_command.specs.Programme.{task_shape}
@@ -12,6 +12,7 @@ use Rattle.mx_lookups.proofs.DamageLemmas.{task_past}
 use Rattle.mx_lookups.proofs.TableLemmas.{programmes, tasks}
 use Rattle.mx_lookups.proofs.ReadLemmas.{reads_then, refused, stopped, told}
 use Rattle.mx_lookups.proofs.BookRows.{programmes_of_kind, tasks_of}
+use Rattle.mx_lookups.proofs.ToldLemmas.{told_as, told_by, told_here, unread, unshaped}
 use Rattle.mx_lookups.proofs.programmes.rows_in_force.Goals as goal
 
 pub returns-in_err-programmes-clause-reads : goal.returns-in_err-programmes-clause-reads
@@ -61,3 +62,17 @@ pub returns-clause-any_rows : goal.returns-clause-any_rows
 returns-clause-any_rows g c =
     let first = gives programmes programme_number (sym c.in-None.is ∙ c.programme_number.ensures ∙ ap programme_number c.deref.ensures.value) c.in_ok-programmes.ensures.reads in
     record { found = λ clean has. record { found = None; first = first.found clean has; then = refl } }
+
+pub returns-in_err-programmes-clause-damage : goal.returns-in_err-programmes-clause-damage
+returns-in_err-programmes-clause-damage g c = told_as (λ _ _. inl) (unread programmes c.from_residual.ensures.1 c.in_err-programmes.ensures.reads)
+
+pub returns-in_err-rows-in-Some-clause-damage : goal.returns-in_err-rows-in-Some-clause-damage
+returns-in_err-rows-in-Some-clause-damage g c =
+    told_by c.in-Some.is (programmes_of_kind _ c.in_ok-programmes.ensures.reads) (gives programmes programme_number (c.programme_number.ensures ∙ ap programme_number c.deref.ensures.value) c.in_ok-programmes.ensures.reads) c.in_err-rows-in-Some.ensures.reads.within
+    (told_as (λ _ _. inl) (unread tasks c.from_residual-in_err-rows-in-Some.ensures.1 c.in_err-rows-in-Some.ensures.reads))
+
+pub returns-in-Some-clause-damage : goal.returns-in-Some-clause-damage
+returns-in-Some-clause-damage g c =
+    let lacks = sym (c.have_task_shapes.ensures ∙ ap (list_all (λ (row : TaskRow). task_shape (task_said row))) c.deref-in-Some.ensures.value) ∙ c.if-have_task_shapes.false in
+    told_by c.in-Some.is (programmes_of_kind _ c.in_ok-programmes.ensures.reads) (gives programmes programme_number (c.programme_number.ensures ∙ ap programme_number c.deref.ensures.value) c.in_ok-programmes.ensures.reads) c.in_ok-rows-in-Some.ensures.reads.within
+    (told_here table.Task (λ clean has. inr (refl, unshaped lacks ((gives tasks (λ rows. rows) refl c.in_ok-rows-in-Some.ensures.reads).found clean has))))

@@ -8,7 +8,7 @@ use Rattle.mx_register.specs.Merge.{task_said}
 use Rattle.mx_typed_rows.specs.declared.rows.TaskRow.{TaskRow}
 use Rattle.mx_found.specs.Programmes.{task_in}
 use Rattle.mx_lookups.proofs.InForceLemmas.{task_found, task_shaped}
-use Rattle.mx_lookups.proofs.ReadLemmas.{told}
+use Rattle.mx_lookups.proofs.ReadLemmas.{told, stopped}
 use Rattle.mx_lookups.proofs.programmes.task.Goals as goal
 
 pub returns-in-Some-clause-reads : goal.returns-in-Some-clause-reads
@@ -44,3 +44,6 @@ returns-in-None-clause-any_rows g c =
     let id = c.args.id.now in
     let those = ap (option_map (λ (rows : Vec TaskRow Global). rows.items)) c.in-None.is in
     record { found = λ clean has. (_, c.in_ok-found.ensures.any_rows.found clean has, sym (ap (option_map (λ rows. task_in rows id)) those)) }
+
+pub returns-in_err-found-clause-reads : goal.returns-in_err-found-clause-reads
+returns-in_err-found-clause-reads g c = stopped _ _ _ _ _ _ c.from_residual.ensures.1 c.in_err-found.ensures.reads

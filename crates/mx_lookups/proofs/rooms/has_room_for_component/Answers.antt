@@ -6,6 +6,7 @@ use Rattle.mx_kept.specs.Cells.{kept_component}
 use Rattle.mx_lookups.proofs.TableLemmas.{components}
 use Rattle.mx_lookups.proofs.ReadLemmas.{stopped, told}
 use Rattle.mx_lookups.proofs.RoomLookups.{components_counted}
+use Rattle.mx_lookups.proofs.ToldLemmas.{uncounted}
 use Rattle.mx_lookups.proofs.rooms.has_room_for_component.Goals as goal
 
 pub returns-in_err-count-clause-reads : goal.returns-in_err-count-clause-reads
@@ -16,3 +17,6 @@ returns-clause-reads g c = told _ _ _ _ _ _ (λ book b count. ap (λ n. nat_lt n
 
 pub returns-clause-any_rows : goal.returns-clause-any_rows
 returns-clause-any_rows g c = record { found = λ clean has. ap (λ n. nat_lt n MOST_COMPONENTS) (c.in_ok-count.ensures.counts.rows clean (subst kept_component.IsIn (sym has) components.is_in)) }
+
+pub returns-in_err-count-clause-damage : goal.returns-in_err-count-clause-damage
+returns-in_err-count-clause-damage g c = uncounted components c.from_residual.ensures.1 c.in_err-count.ensures.counts

@@ -8,6 +8,7 @@ use Rattle.mx_lookups.proofs.BookRows.{open_spans_of}
 use Rattle.mx_lookups.proofs.ReadLemmas.{reads_then, stopped, told}
 use Rattle.mx_lookups.proofs.AnyLemmas.{by_number, by_none, gives}
 use Rattle.mx_lookups.proofs.TableLemmas.{spans}
+use Rattle.mx_lookups.proofs.ToldLemmas.{told_by, unread}
 use Rattle.mx_lookups.proofs.spans.number_fitted.Goals as goal
 
 pub returns-in_ok-rows-in-Some-clause-reads : goal.returns-in_ok-rows-in-Some-clause-reads
@@ -39,3 +40,7 @@ returns-in_ok-rows-in-Some-clause-any_rows g c =
 
 pub returns-in-None-clause-any_rows : goal.returns-in-None-clause-any_rows
 returns-in-None-clause-any_rows g c = by_none _ _ _ _ _ _ c.in-None.is c.in_ok-found.ensures.any_rows
+
+pub returns-in_err-rows-in-Some-clause-damage : goal.returns-in_err-rows-in-Some-clause-damage
+returns-in_err-rows-in-Some-clause-damage g c =
+    told_by c.in-Some.is c.in_ok-found.ensures.reads c.in_ok-found.ensures.any_rows c.in_err-rows-in-Some.ensures.reads.within (unread spans c.from_residual-in_err-rows-in-Some.ensures.1 c.in_err-rows-in-Some.ensures.reads)

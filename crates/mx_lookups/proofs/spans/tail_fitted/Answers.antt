@@ -1,4 +1,4 @@
-use Rattle.std.proofs.Common.{◌≡◌, ◌∙◌, ap, sym, subst}
+use Rattle.std.proofs.Common.{◌≡◌, ◌∙◌, ap, sym, subst, inl, inr, refl}
 use Rattle.std.specs.Prelude.{is_some}
 use Rattle.std.specs.Option.{option_and_then}
 use Rattle.mx_book.specs.Span.{tail_fitted}
@@ -8,6 +8,7 @@ use Rattle.mx_lookups.specs.Given.{NumberFitted, TailOfNumber}
 use Rattle.mx_lookups.proofs.AnyLemmas.{any_later, found_some}
 use Rattle.mx_lookups.proofs.DamageLemmas.{fitted_unmet}
 use Rattle.mx_lookups.proofs.ReadLemmas.{reads_then, refused}
+use Rattle.mx_lookups.proofs.ToldLemmas.{handed, has_none, told_as, told_by, told_here}
 use Rattle.mx_lookups.proofs.spans.tail_fitted.Goals as goal
 
 pub returns-in-None-2-clause-reads : goal.returns-in-None-2-clause-reads
@@ -23,3 +24,13 @@ returns-in-None-2-clause-reads g c =
     (λ clean has. fitted_unmet _ c.args.serial.now number (found_some (NumberFitted c.args.serial.now) c.in-Some.is one.any_rows two.reads.within clean has)
     (subst (TailOfNumber number _) c.in-None-2.is ((any_later _ _ _ _ _ _ _ one.reads two.reads.within two.any_rows).found clean has)))
     (reads_then _ _ _ _ _ _ _ one.reads two.reads)
+
+pub returns-in_err-tail-in-Some-clause-damage : goal.returns-in_err-tail-in-Some-clause-damage
+returns-in_err-tail-in-Some-clause-damage g c =
+    told_by c.in-Some.is c.in_ok-found.ensures.reads c.in_ok-found.ensures.any_rows c.in_err-tail-in-Some.ensures.reads.within (handed (λ _ _. inl) c.from_residual-in_err-tail-in-Some.ensures.1 c.in_err-tail-in-Some.ensures.damage)
+
+pub returns-in-None-2-clause-damage : goal.returns-in-None-2-clause-damage
+returns-in-None-2-clause-damage g c =
+    let two = c.in_ok-tail-in-Some.ensures in
+    told_by c.in-Some.is c.in_ok-found.ensures.reads c.in_ok-found.ensures.any_rows two.reads.within
+    (told_here table.Span2 (λ clean has. inr (refl, has_none (λ row. row.tail) (subst (TailOfNumber c.in-Some.number _) c.in-None-2.is (two.any_rows.found clean has)))))

@@ -1,4 +1,4 @@
-use Rattle.std.proofs.Common.{◌∙◌, ap, subst, sym}
+use Rattle.std.proofs.Common.{◌∙◌, ap, subst, sym, inl, inr, refl}
 use Rattle.std.specs.Prelude.{IfSome}
 use Rattle.mx_due.specs.Due.{IsLife}
 use Rattle.mx_layout.specs.declared.fault.Table.TheVariants as table
@@ -6,9 +6,10 @@ use Rattle.mx_found.specs.Lives.{base_found, life_in_base}
 use Rattle.mx_found.proofs.BoundLemmas.{base_low}
 use Rattle.mx_found.proofs.LifeLemmas.{base_is, no_base}
 use Rattle.mx_lookups.proofs.AnyLemmas.{any_later, by_number, by_none}
-use Rattle.mx_lookups.proofs.BaseLookups.{base_by_key, bases_give}
+use Rattle.mx_lookups.proofs.BaseLookups.{base_by_key, bases_give, bases_in}
 use Rattle.mx_lookups.proofs.DamageLemmas.{base_past}
 use Rattle.mx_lookups.proofs.ReadLemmas.{reads_then, refused, stopped, told}
+use Rattle.mx_lookups.proofs.ToldLemmas.{told_by, unread_in, told_as, told_here}
 use Rattle.mx_lookups.proofs.work.base.Goals as goal
 
 pub returns-in_err-rows-in-Some-clause-reads : goal.returns-in_err-rows-in-Some-clause-reads
@@ -60,3 +61,19 @@ returns-in-Some-clause-any_rows g c =
 
 pub returns-clause-any_rows : goal.returns-clause-any_rows
 returns-clause-any_rows g c = by_none _ _ _ _ _ _ c.in-None.is c.in_ok-found.ensures.any_rows
+
+pub returns-in_err-rows-in-Some-clause-damage : goal.returns-in_err-rows-in-Some-clause-damage
+returns-in_err-rows-in-Some-clause-damage g c =
+    told_by c.in-Some.is c.in_ok-found.ensures.reads c.in_ok-found.ensures.any_rows c.in_err-rows-in-Some.ensures.reads.within (told_as (λ _ _. inl) (unread_in bases_in c.from_residual-in_err-rows-in-Some.ensures.1 c.in_err-rows-in-Some.ensures.reads))
+
+pub returns-in-Some-base_found-clause-damage : goal.returns-in-Some-base_found-clause-damage
+returns-in-Some-base_found-clause-damage g c =
+    told_by c.in-Some.is c.in_ok-found.ensures.reads c.in_ok-found.ensures.any_rows c.in_ok-rows-in-Some.ensures.reads.within
+    (told_here table.Base2 (λ clean has. inr (
+      refl,
+      (
+        c.in-Some-base_found.base,
+        (bases_give base_found (sym c.in-Some-base_found.is ∙ c.base_found.ensures.found ∙ ap base_found c.deref.ensures.value) c.in_ok-rows-in-Some.ensures.reads).found clean has,
+        λ low. (let e = sym c.if-is_of_life.false ∙ c.is_of_life.ensures.1 low in absurd cc),
+      ),
+    )))

@@ -3,9 +3,10 @@ use Rattle.std.specs.Prelude.{is_some}
 use Rattle.mx_book.proofs.BaseLemmas.{accomplished-base}
 use Rattle.mx_found.specs.Lives.{base_found}
 use Rattle.mx_found.proofs.LifeLemmas.{base_is, no_base}
-use Rattle.mx_lookups.proofs.BaseLookups.{base_by_key, bases_give}
+use Rattle.mx_lookups.proofs.BaseLookups.{base_by_key, bases_give, bases_in}
 use Rattle.mx_lookups.proofs.AnyLemmas.{by_number, by_none}
 use Rattle.mx_lookups.proofs.ReadLemmas.{reads_then, stopped, told}
+use Rattle.mx_lookups.proofs.ToldLemmas.{told_by, unread_in}
 use Rattle.mx_lookups.proofs.work.is_accomplished.Goals as goal
 
 pub returns-in_err-rows-in-Some-clause-reads : goal.returns-in_err-rows-in-Some-clause-reads
@@ -35,3 +36,7 @@ returns-in_ok-rows-in-Some-clause-any_rows g c =
 
 pub returns-in-None-clause-any_rows : goal.returns-in-None-clause-any_rows
 returns-in-None-clause-any_rows g c = by_none _ _ _ _ _ _ c.in-None.is c.in_ok-found.ensures.any_rows
+
+pub returns-in_err-rows-in-Some-clause-damage : goal.returns-in_err-rows-in-Some-clause-damage
+returns-in_err-rows-in-Some-clause-damage g c =
+    told_by c.in-Some.is c.in_ok-found.ensures.reads c.in_ok-found.ensures.any_rows c.in_err-rows-in-Some.ensures.reads.within (unread_in bases_in c.from_residual-in_err-rows-in-Some.ensures.1 c.in_err-rows-in-Some.ensures.reads)
