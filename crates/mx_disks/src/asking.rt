@@ -6,6 +6,7 @@ use crate::office_lines::answer_of_office;
 use crate::texts::append_open_fault;
 use mx_cases::{Asked, Unmade};
 use mx_kept_lines::room;
+use mx_move_lines::answer_of_install;
 use mx_office::{Office, OpenFault, open_office};
 use sqlite::{Alter, Connection};
 use std::alloc::Global;
@@ -38,15 +39,19 @@ fn open<S: Alter>(
 
 // Asks a database a line: the answer, and the office that the line opened, or else the database.
 fn ask_database<S: Alter>(
-    alloc: Global,
     mut conn: Connection<S>,
-    words: &[&str],
+    asked: Asked<'_>,
 ) -> (Result<String, Unmade>, Result<Office<S>, Connection<S>>)
     requires { conn.in_transaction ≡ false }
 {
-    match words {
+    let alloc = asked.alloc;
+    match asked.words {
         ["open"] => open(alloc, conn),
-        _ => {
+        ["install"] => {
+            let answer = answer_of_install(alloc, &mut conn, asked.list);
+            (answer, Err(conn))
+        }
+        words => {
             let answer = answer_of_database(alloc, &mut conn, words);
             (answer, Err(conn))
         }
@@ -65,6 +70,6 @@ pub(crate) fn ask<S: Alter>(
             let answer = answer_of_office(&mut office, asked);
             (answer, Ok(office))
         }
-        Err(conn) => ask_database(asked.alloc, conn, asked.words),
+        Err(conn) => ask_database(conn, asked),
     }
 }

@@ -23,7 +23,7 @@ pub struct MemoryDisks {
 // or a line of kept rows changed them, and where a step of a move was made.
 fn is_taken(words: &[&str], answer: &Result<String, Unmade>) -> bool {
     match (words, answer) {
-        (["make"] | ["make-next"] | ["open"], Ok(_)) => true,
+        (["make"] | ["make-next"] | ["install"] | ["open"], Ok(_)) => true,
         (["sql", ..] | ["kept", ..], Ok(text)) => text.as_str() == "ok",
         (["step", ..], Ok(text)) => !text.starts_with("fault "),
         _ => false,

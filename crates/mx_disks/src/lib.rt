@@ -2,6 +2,7 @@
 //!
 //! Lines over the files, each over a database that is opened anew:
 //! - `make`, `make-next`: makes an empty book of layout 1, of layout 2;
+//! - `install`: makes a file of layout 1 with the book of those commands of the list that are new;
 //! - `point`: the layout, step and mark that it is at;
 //! - `ask QUERY`, `sql STATEMENT`: the rows of a query; a statement that changes the files;
 //! - `step` before a line of `mx_move_lines`, whose head lists them: a step of the move to layout 2;

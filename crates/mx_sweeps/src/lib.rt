@@ -4,6 +4,7 @@
 //! Lines over the files:
 //! - `disk`: begins with files that hold nothing;
 //! - `make [log CALLS] [db CALLS]`: makes an empty book; a file fails after so many calls;
+//! - `install [log CALLS] [db CALLS]`: makes the book of the list in one commit;
 //! - `point`, `ask QUERY`, `sql STATEMENT`: the point, the rows of a query, and a statement that changes the files;
 //! - `power`: what was not synced is lost;
 //! - `keep`, `restore`: keeps a copy of the files, and takes it back;

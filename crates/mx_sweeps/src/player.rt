@@ -133,6 +133,7 @@ impl<D: Disks> Player<D> {
             ["restore"] => self.restore(),
             ["power"] => self.stop(End::Power),
             ["make", limits @ ..] => self.ask(setting_of(limits)?, &["make"]),
+            ["install", limits @ ..] => self.ask(setting_of(limits)?, &["install"]),
             ["open", limits @ ..] => self.ask(setting_of(limits)?, &["open"]),
             _ => self.ask(Setting::WHOLE, words),
         }

@@ -1,0 +1,2 @@
+pub mod GainLemmas
+pub mod EntryLemmas
