@@ -88,12 +88,13 @@ module _ {S : Type 0} (g : Ghosts S) (old last : Held S) where
         clean = omega (arith, drop.clean, runs.within.survives.clean);
         cause = why;
         untouched = λ _. drops_nothing runs.within end drop back;
+        opened = λ _. tt;
         made = λ _ _ _. tt;
         left = λ at rests here clean db may. elim (drop.crash clean db may) [
           | inl before ↦ elim (runs.within.survives.crash (mid clean) db before) [ inl first ↦ inl first | inr none ↦ absurd none ]
           | inr none ↦ absurd none
         ];
-        damaged = λ at rests here clean name is. off at rests here clean name (damage_from e name is);
+        damaged = λ at rests here clean name is. (was_open name (damage_from e name is) clean, off at rests here clean name (damage_from e name is));
         moved = λ _ _ _ _ _. tt;
         kept = λ _ _ _ _. tt;
         same = λ at book rests _. rest at book rests;
@@ -130,10 +131,10 @@ module _ {S : Type 0} (g : Ghosts S) (old last : Held S) where
             commits_either g (schema_at at) (schema_at (next_point at book)) (λ trees. StandsAt at trees book) (λ trees. StandsAt (next_point at book) trees book) old begun last refl rests runs.within runs.inside
             (λ clean within has stands. (let it = stood clean at book due has stands in (it.1, it.2))) end commit
 
-        left : (at : Point) → RestsAs (state g old) (schema_at at) (LiesAt at) → (HasCleanDisk (state g old) → IsAt at) → Leaves (state g end) (λ db. (state g old).may_leave db ⊎ ((to : Point) × Makes at to (state g old).now.trees db))
+        left : (at : Point) → RestsAs (state g old) (schema_at at) (LiesAt at) → (HasCleanDisk (state g old) → IsAt at) → Leaves (state g end) (λ db. (state g old).may_leave db ⊎ (IsTrue (state g old).is_open × ((to : Point) × Makes at to (state g old).now.trees db)))
         left at rests here clean db may = elim (commit.crash clean db may) [
           | inl before ↦ elim (runs.within.survives.crash (late clean) db before) [ inl one ↦ inl one | inr none ↦ absurd none ]
-          | inr new ↦ inr (p, subst (Makes at p (state g old).now.trees) (sym new) (ran (late clean) at (here (first clean)) (rests.schema (first clean) (opened clean)) (rests.tables (first clean) (opened clean))).1)
+          | inr new ↦ inr (opened clean, (p, subst (Makes at p (state g old).now.trees) (sym new) (ran (late clean) at (here (first clean)) (rests.schema (first clean) (opened clean)) (rests.tables (first clean) (opened clean))).1))
         ]
 
         -- whether it was kept is not known
@@ -142,6 +143,7 @@ module _ {S : Type 0} (g : Ghosts S) (old last : Held S) where
           clean = omega (arith, commit.clean, runs.within.survives.clean);
           cause = inr (inl refl);
           untouched = λ other. absurd (other refl);
+          opened = λ _. tt;
           made = λ _ _ _. tt;
           left = left;
           damaged = λ _ _ _ _ name is. absurd cc;
@@ -157,6 +159,7 @@ module _ {S : Type 0} (g : Ghosts S) (old last : Held S) where
           clean = omega (arith, commit.clean, runs.within.survives.clean);
           cause = tt;
           untouched = tt;
+          opened = λ clean. (opened clean, (shown clean).is_open);
           made = λ at rests here.
               commits_ok g (schema_at at) (schema_at p) (LiesAt at) (Makes at p (state g old).now.trees) old begun last refl rests runs.within runs.inside
               (λ clean within has lies. ran clean at (here (omega (arith, runs.within.survives.clean))) has lies) end commit settled shown;

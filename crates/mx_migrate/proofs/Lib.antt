@@ -1,4 +1,7 @@
 pub mod CommitLemmas
 pub mod RunLemmas
+pub mod LengthLemmas
+pub mod LookLemmas
 pub mod WriteLemmas
+pub mod KeepLemmas
 pub mod ShiftLemmas

@@ -48,10 +48,11 @@ damaged_weaker NotOurs f h = tt
 damaged_weaker Exists f h = tt
 damaged_weaker (Damaged name) f h = f h
 
+pub has_fittings : (mark : ℕ) → HasFittings (schema_at (moving 2 mark))
+has_fittings mark = inr (record { rest = _; more = _; is = refl })
+
 has_both : (mark : ℕ) (at : Point) (old : State) → at ≡ moving 2 mark → old.now.schema ≡ schema_at at → HasFittings old.now.schema
-has_both mark at old here has =
-    let both : HasFittings (schema_at (moving 2 mark)) = inr (record { rest = _; more = _; is = refl }) in
-    subst HasFittings (sym (has ∙ ap schema_at here)) both
+has_both mark at old here has = subst HasFittings (sym (has ∙ ap schema_at here)) (has_fittings mark)
 
 -- ── the fittings were not read ──
 

@@ -40,7 +40,7 @@ first_is = file_schema (settled 1) (inl refl)
 moving_is : schema_at (moving 1 0) ≡ schema_after 16
 moving_is = file_schema (moving 1 0) (inl refl)
 
-spans_is : schema_at (moving 2 0) ≡ schema_after 21
+pub spans_is : schema_at (moving 2 0) ≡ schema_after 21
 spans_is = file_schema (moving 2 0) (inl refl)
 
 moving_point : IsFree kept_point (schema_at (moving 1 0))

@@ -31,10 +31,12 @@ pub record CommitsStep (IsAt : Point → Type 0) (IsDue : Point → List Entry �
   pub clean : doubt old.is_clean ≤ doubt new.is_clean
   pub cause : IfErr result (λ e. (e ≡ stop.Memory) ⊎ ((e ≡ stop.Store) ⊎ ((name : TableName) × (e ≡ stop.Damaged name))))
   pub untouched : IfErr result (λ e. e ≢ stop.Store → ChangesNothing old new)
+  -- it was answered by a connection that was open, and is
+  pub opened : HasCleanDisk new → OnOk result (IsTrue old.is_open × IsTrue new.is_open)
   -- over any rows: the file is at the point that is answered, with what the step makes of its tables; each state that a crash may leave is one from before, or has that; and damage is as the step names it
   pub made : (at : Point) → RestsAs old (schema_at at) (LiesAt at) → (HasCleanDisk old → IsAt at) → IfOk result (λ to. RestsAs new (schema_at to) (Makes at to old.now.trees))
-  pub left : (at : Point) → RestsAs old (schema_at at) (LiesAt at) → (HasCleanDisk old → IsAt at) → Leaves new (λ db. old.may_leave db ⊎ ((to : Point) × Makes at to old.now.trees db))
-  pub damaged : (at : Point) → RestsAs old (schema_at at) (LiesAt at) → (HasCleanDisk old → IsAt at) → HasCleanDisk new → IfErr result (λ e. (name : TableName) → e ≡ stop.Damaged name → IsOff at name old.now.trees)
+  pub left : (at : Point) → RestsAs old (schema_at at) (LiesAt at) → (HasCleanDisk old → IsAt at) → Leaves new (λ db. old.may_leave db ⊎ (IsTrue old.is_open × ((to : Point) × Makes at to old.now.trees db)))
+  pub damaged : (at : Point) → RestsAs old (schema_at at) (LiesAt at) → (HasCleanDisk old → IsAt at) → HasCleanDisk new → IfErr result (λ e. (name : TableName) → e ≡ stop.Damaged name → IsTrue old.is_open × IsOff at name old.now.trees)
   -- where the tables stood for a book at a point at which the step is due: they stand for it at the next point, which is answered; no table is damaged; and whatever is answered, a crash leaves them to stand for it at the one point or at the other
   pub moved : (at : Point) (book : List Entry) → RestsAt at old book → (HasCleanDisk old → IsAt at × IsDue at book) → HasCleanDisk new → IfOk result (λ to. to ≡ next_point at book)
   pub kept : (at : Point) (book : List Entry) → RestsAt at old book → (HasCleanDisk old → IsAt at × IsDue at book) → OnOk result (RestsAt (next_point at book) new book)

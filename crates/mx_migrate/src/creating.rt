@@ -1,11 +1,10 @@
 //! The step that makes the table of layout 2 that the sectors move to.
-ghost use Rattle.std.specs.Prelude.{◌≡◌, OnOk, IsTrue};
+ghost use Rattle.std.specs.Prelude.{◌≡◌};
 ghost use Rattle.sqlite.specs.Held.{state};
-ghost use Rattle.sqlite.specs.State.{HasCleanDisk};
 ghost use Rattle.mx_point.specs.Settled.{settled};
 ghost use Rattle.mx_points.specs.Points.{moving};
 ghost use Rattle.mx_stands.specs.Schemas.{schema_at};
-ghost use Rattle.mx_moves.specs.Changes.{Alters};
+ghost use Rattle.mx_moves.specs.Changes.{Alters, WasOpen};
 ghost use Rattle.mx_steps.specs.Tables.{table_made};
 
 use crate::step::Migrate;
@@ -23,9 +22,7 @@ pub struct CreateSectors;
 // Makes the table, and writes the point.
 fn write_made<S: Alter>(tx: &mut Transaction<'_, S>, to: &Point) -> Result<(), TableFault>
     ensures same_reference { tx.new.conn.ghost_name ≡ tx.old.conn.ghost_name }
-    ensures open { HasCleanDisk (state S.Store tx.new.conn.now)
-        → IsTrue (state S.Store tx.old.conn.now).in_transaction
-        → OnOk result (IsTrue (state S.Store tx.old.conn.now).is_open) }
+    ensures open { WasOpen (state S.Store tx.old.conn.now) (state S.Store tx.new.conn.now) result }
     ensures alters { Alters (schema_at (settled 1)) (schema_at (moving 1 0))
         (table_made Table.Sector2 to.now)
         (state S.Store tx.old.conn.now) (state S.Store tx.new.conn.now) result }

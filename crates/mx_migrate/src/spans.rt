@@ -2,6 +2,7 @@
 ghost use Rattle.std.specs.Prelude.{◌≡◌};
 ghost use Rattle.sqlite.specs.Held.{state};
 ghost use Rattle.mx_points.specs.Points.{moving};
+ghost use Rattle.mx_kept.specs.Cells.{kept_sector1};
 ghost use Rattle.mx_stands.specs.Schemas.{schema_at};
 ghost use Rattle.mx_moves.specs.Changes.{Alters};
 ghost use Rattle.mx_steps.specs.Tables.{table_made};
@@ -27,7 +28,8 @@ pub struct ChangeToSpans {
 // Sees that no sector is left in the old table.
 fn none_left<S: Alter>(alloc: Global, tx: &mut Transaction<'_, S>) -> Result<(), TableFault>
     ensures same_reference { tx.new.conn.ghost_name ≡ tx.old.conn.ghost_name }
-    ensures sees { SeesNone (state S.Store tx.old.conn.now) (state S.Store tx.new.conn.now) result }
+    ensures sees { SeesNone kept_sector1
+        (state S.Store tx.old.conn.now) (state S.Store tx.new.conn.now) result }
 {
     let rows = first_sectors(alloc, tx)?;
     if rows.is_empty() {

@@ -3,11 +3,19 @@
 //! - `sectors-table`: makes the new table of sectors;
 //! - `sectors MARK`: moves the next sectors behind the mark;
 //! - `spans-table MARK`: drops the old table of sectors, which have moved up to the mark, and makes that of spans;
-//! - `component MARK COMPONENT`: moves the fittings and removals of a component, the next behind the mark.
+//! - `component MARK COMPONENT`: moves the fittings and removals of a component, the next behind the mark;
+//! - `totals-table MARK`: drops the old tables of fittings and removals, which have moved up to the mark, and makes that of totals;
+//! - `total MARK ITEM MINUTES CYCLES MOMENT`: writes the total of an item, the next behind the mark;
+//! - `bases-table MARK`: makes the table of last bases, where totals were written up to the mark;
+//! - `bases MARK ITEM`, and behind it `TASK MINUTES CYCLES DAY` for each base: writes the last bases of an item, the next behind the
+//!   mark;
+//! - `finish MARK`: makes the last indexes, where last bases were written up to the mark.
 #![tactic(auto)]
 
 pub mod installing;
+mod kept;
 pub mod lines;
+mod texts;
 
 pub use installing::answer_of_install;
 pub use lines::answer_of_step;

@@ -1,52 +1,12 @@
 //! Steps of a move, by their words.
 ghost use Rattle.std.specs.Prelude.{◌≡◌, false};
 
+use crate::kept::answer_of_kept;
+use crate::texts::made;
 use mx_cases::Unmade;
-use mx_kept_lines::{append_damaged, room};
-use mx_migrate::{
-    ChangeToSpans, CreateSectors, MoveComponent, MoveFault, MoveSectors, commit_step,
-};
-use mx_point::Point;
+use mx_migrate::{ChangeToSpans, CreateSectors, MoveComponent, MoveSectors};
 use sqlite::{Alter, Connection};
-use std::alloc::{AllocError, Global};
-
-fn append_fault(out: &mut String, fault: MoveFault) -> Result<(), AllocError> {
-    match fault {
-        MoveFault::Memory => out.push_str("fault memory"),
-        MoveFault::Store => out.push_str("fault store"),
-        MoveFault::NotOurs => out.push_str("fault not-ours"),
-        MoveFault::NewerLayout(layout) => write!(out, "fault newer {layout}"),
-        MoveFault::Damaged(table) => append_damaged(out, table),
-    }
-}
-
-// The point that a step leads to, or why it was not made.
-fn step_text(alloc: Global, made: Result<Point, MoveFault>) -> Result<String, AllocError> {
-    let mut text = room(alloc)?;
-    match made {
-        Ok(at) => {
-            let layout = at.layout;
-            let step = at.step;
-            let mark = at.mark;
-            write!(text, "{layout} {step} {mark}")?;
-        }
-        Err(fault) => append_fault(&mut text, fault)?,
-    }
-    Ok(text)
-}
-
-// Drops the old table of sectors, all of which have moved up to a mark, and makes that of spans.
-fn change_to_spans<S: Alter>(
-    alloc: Global,
-    conn: &mut Connection<S>,
-    mark: &str,
-) -> Result<String, Unmade>
-    requires { conn.old.in_transaction ≡ false }
-{
-    let mark = mark.parse::<u32>()?;
-    let made = commit_step(alloc, conn, &ChangeToSpans { mark });
-    Ok(step_text(alloc, made)?)
-}
+use std::alloc::Global;
 
 // Moves the fittings and removals of a component, the next behind a mark.
 fn move_component<S: Alter>(
@@ -59,24 +19,11 @@ fn move_component<S: Alter>(
 {
     let mark = mark.parse::<u32>()?;
     let component = component.parse::<u32>()?;
-    let made = commit_step(alloc, conn, &MoveComponent { mark, component });
-    Ok(step_text(alloc, made)?)
+    Ok(made(alloc, conn, &MoveComponent { mark, component })?)
 }
 
-// Moves the next sectors behind a mark.
-fn move_sectors<S: Alter>(
-    alloc: Global,
-    conn: &mut Connection<S>,
-    mark: &str,
-) -> Result<String, Unmade>
-    requires { conn.old.in_transaction ≡ false }
-{
-    let mark = mark.parse::<u32>()?;
-    let made = commit_step(alloc, conn, &MoveSectors { mark });
-    Ok(step_text(alloc, made)?)
-}
-
-/// What a step answers: `sectors-table`, `sectors MARK`, `spans-table MARK` or `component MARK COMPONENT`.
+/// What a step answers: `sectors-table`, `sectors MARK`, `spans-table MARK`, `component MARK COMPONENT`, or one of totals, last
+/// bases or the end.
 pub fn answer_of_step<S: Alter>(
     alloc: Global,
     conn: &mut Connection<S>,
@@ -85,13 +32,16 @@ pub fn answer_of_step<S: Alter>(
     requires { conn.old.in_transaction ≡ false }
 {
     match words {
-        ["sectors-table"] => {
-            let made = commit_step(alloc, conn, &CreateSectors);
-            Ok(step_text(alloc, made)?)
+        ["sectors-table"] => Ok(made(alloc, conn, &CreateSectors)?),
+        ["sectors", mark] => {
+            let mark = mark.parse::<u32>()?;
+            Ok(made(alloc, conn, &MoveSectors { mark })?)
         }
-        ["sectors", mark] => move_sectors(alloc, conn, mark),
-        ["spans-table", mark] => change_to_spans(alloc, conn, mark),
+        ["spans-table", mark] => {
+            let mark = mark.parse::<u32>()?;
+            Ok(made(alloc, conn, &ChangeToSpans { mark })?)
+        }
         ["component", mark, component] => move_component(alloc, conn, mark, component),
-        _ => Err(Unmade::NoSuchLine),
+        _ => answer_of_kept(alloc, conn, words),
     }
 }

@@ -204,6 +204,13 @@ on_drop task free plain mode db tally after h =
 was_among : (p : Table → Bool) (tables : List Table) (t : Table) → Contains (filter p tables) t → Contains tables t
 was_among p tables t there = contains_had tables t (has_filtered p tables t (has_contained (filter p tables) t there)).0
 
+-- each table that is left was there, and has the same rows
+pub turns_gone : (from to : Schema) (tree : ℕ) → without_table from tree ≡ to → Turns from to unchanged
+turns_gone from to tree left name there = inl (
+  was_among (λ t. not (t.tree == tree)) from.tables (table_named name) (subst (λ (s : Schema). Contains s.tables (table_named name)) (sym left) there),
+  λ xs ys same. same,
+)
+
 module _ (from : Schema) (text : List ℕ) (table : Table) (m : MeansRemoved from text table) (free : HasNoReferences from) (old new : State) (has : old.now.schema ≡ from) where
   pub table_gone : (count : ℕ) → Executes text [] old new (Ok count) → Reaches (without_table from table.tree) unchanged old.now new.now
   table_gone count h =

@@ -4,3 +4,4 @@ pub mod TableTexts
 pub mod PointTexts
 pub mod SectorTexts
 pub mod ComponentTexts
+pub mod ItemTexts

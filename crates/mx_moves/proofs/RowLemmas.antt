@@ -23,9 +23,11 @@ use Rattle.mx_layout.specs.Names.{table_named}
 use Rattle.mx_layout.proofs.CrashLemmas.{stays_then, within_then}
 use Rattle.mx_layout.proofs.TreeLemmas.{same_tree}
 use Rattle.mx_kept.specs.Kept.{Kept}
+use Rattle.mx_kept.specs.Family.{on_top}
 use Rattle.mx_kept.proofs.OntoLemmas.{on_top_keeps}
+use Rattle.mx_tables.specs.Calls.{InsertsRow}
 use Rattle.mx_tables.specs.Sets.{GainsRows, WritesTables}
-use Rattle.mx_tables.proofs.SetLemmas.{gains_then, on_weaker}
+use Rattle.mx_tables.proofs.SetLemmas.{gains_none, gains_one, gains_then, on_weaker}
 use Rattle.mx_chosen.specs.Calls.{DeletesRows}
 use Rattle.mx_chosen.specs.Choices.{Loses}
 use Rattle.mx_moves.specs.Changes.{less, in_place, emptied, AllRise, Reaches, WritesRows, Alters}
@@ -104,6 +106,15 @@ rows_over One Two onto old new result f w = record { gains = λ clean inside has
 
 pub tables_write : {V : Type 0} (IsIn : Schema → Type 0) (onto : TableName → List Row → List Row) (old new : State) (result : Result V TableFault) → WritesTables IsIn onto old new result → WritesRows IsIn onto old new result
 tables_write IsIn onto old new result w = record { gains = λ clean inside has rises. w.gains clean inside has; mode = w.mode; inside = w.inside; within = w.within }
+
+-- one row that is added
+pub inserts_write : {X V : Type 0} (k : Kept X) (x : X) (old new : State) (result : Result V TableFault) → InsertsRow k x old new result → WritesRows k.IsIn (on_top k (x ∷ [])) old new result
+inserts_write k x old new result h = record {
+  gains = λ clean inside has rises. on_weaker result (λ one. gains_one k [] x old.now old.now new.now (gains_none k old.now) one) (h.gains clean inside.0 has);
+  mode = λ clean begun. on_weaker result (λ stays. stays.mode) (h.inside clean begun);
+  inside = λ clean inside. h.inside clean inside.0;
+  within = h.within;
+}
 
 pub deletes_write : {X V : Type 0} (k : Kept X) (chosen : Row → Bool) (old new : State) (result : Result V TableFault) → (k.IsIn old.now.schema → Contains old.now.schema.tables (table_named k.name)) → DeletesRows k chosen old new result
     → WritesRows (IsFree k) (less k chosen) old new result

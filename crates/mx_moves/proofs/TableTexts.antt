@@ -4,9 +4,9 @@ use Rattle.sqlite.specs.Listing.{understood}
 use Rattle.sqlite.specs.Change.{without_table, with_index}
 use Rattle.sqlite_tied.specs.Compute.{everything}
 use Rattle.mx_layout.specs.Contents.{HasNoReferences}
-use Rattle.mx_layout.specs.CreateTexts.{sector2_text, sector1_dropped, span2_text, span2_by_component_text, span2_by_aircraft_text, span2_by_remove_seq_text}
+use Rattle.mx_layout.specs.CreateTexts.{base2_text, crs_line_by_defect_text, defect_by_aircraft_text, extension_by_defect_text, fit1_dropped, removal1_dropped, sector1_dropped, sector2_text, span2_by_aircraft_text, span2_by_component_text, span2_by_remove_seq_text, span2_text, total2_text}
 use Rattle.mx_layout.specs.Steps.{schema_after}
-use Rattle.mx_layout.specs.Tables.{sector1, sector2, span2, span2_by_component, span2_by_aircraft, span2_by_remove_seq}
+use Rattle.mx_layout.specs.Tables.{base2, crs_line, crs_line_by_defect, defect, defect_by_aircraft, extension, extension_by_defect, fit1, removal1, sector1, sector2, span2, span2_by_aircraft, span2_by_component, span2_by_remove_seq, total2}
 use Rattle.mx_layout.specs.declared.fault.Table.TheVariants as table
 use Rattle.mx_layout.proofs.CreateLemmas.{Defines}
 use Rattle.mx_layout.proofs.DropLemmas.{MeansRemoved, none_refer}
@@ -76,3 +76,76 @@ by_remove_seq_turns = turns_same (schema_after 20) (schema_after 21) unchanged r
 
 pub indexes_turn : Turns (schema_after 18) (schema_after 21) unchanged
 indexes_turn = turns_same (schema_after 18) (schema_after 21) unchanged refl (λ name xs ys same. same)
+
+-- ── the tables of fittings and removals, and that of totals in their place ──
+
+pub fit1_removed : MeansRemoved (schema_after 21) fit1_dropped fit1
+unfolding understood everything
+fit1_removed = record { at = 12; there = refl; is = refl; plain = (refl, refl); uncounted = refl }
+
+pub fit1_free : HasNoReferences (schema_after 21)
+unfolding everything
+fit1_free = none_refer (schema_after 21).tables refl
+
+pub fit1_left : without_table (schema_after 21) fit1.tree ≡ schema_after 22
+unfolding everything
+fit1_left = refl
+
+pub removal1_removed : MeansRemoved (schema_after 22) removal1_dropped removal1
+unfolding understood everything
+removal1_removed = record { at = 12; there = refl; is = refl; plain = (refl, refl); uncounted = refl }
+
+pub removal1_free : HasNoReferences (schema_after 22)
+unfolding everything
+removal1_free = none_refer (schema_after 22).tables refl
+
+pub removal1_left : without_table (schema_after 22) removal1.tree ≡ schema_after 23
+unfolding everything
+removal1_left = refl
+
+pub total2_defined : Defines (schema_after 23) total2_text total2
+unfolding understood everything
+total2_defined = record { command = refl; whole = refl; plain = (refl, refl); defined = refl; uncounted = refl }
+
+pub total2_new : HasNew (schema_after 23) (schema_after 24) table.Total2
+unfolding everything
+total2_new = record { is = refl; ends = refl; tree = refl; uncounted = (refl, (refl, (refl, (refl, (refl, (refl, (refl, (refl, (refl, (refl, (refl, (refl, (refl, (refl, (refl, tt))))))))))))))) }
+
+-- ── the table of last bases ──
+
+pub base2_defined : Defines (schema_after 24) base2_text base2
+unfolding understood everything
+base2_defined = record { command = refl; whole = refl; plain = (refl, refl); defined = refl; uncounted = refl }
+
+pub base2_new : HasNew (schema_after 24) (schema_after 25) table.Base2
+unfolding everything
+base2_new = record { is = refl; ends = refl; tree = refl; uncounted = (refl, (refl, (refl, (refl, (refl, (refl, (refl, (refl, (refl, (refl, (refl, (refl, (refl, (refl, (refl, (refl, tt)))))))))))))))) }
+
+-- ── indexes of tables that layout 1 has too ──
+
+pub lines_indexed : MeansIndexed (schema_after 25) crs_line_by_defect_text crs_line crs_line_by_defect
+unfolding understood everything
+lines_indexed = record { at = 9; there = refl; is = refl; whole = refl; plain = (refl, refl); defined = refl; tree = refl }
+
+pub extensions_indexed : MeansIndexed (schema_after 26) extension_by_defect_text extension extension_by_defect
+unfolding understood everything
+extensions_indexed = record { at = 10; there = refl; is = refl; whole = refl; plain = (refl, refl); defined = refl; tree = refl }
+
+pub defects_indexed : MeansIndexed (schema_after 27) defect_by_aircraft_text defect defect_by_aircraft
+unfolding understood everything
+defects_indexed = record { at = 11; there = refl; is = refl; whole = refl; plain = (refl, refl); defined = refl; tree = refl }
+
+pub lines_next : with_index (schema_after 25) crs_line_by_defect ≡ schema_after 26
+lines_next = refl
+
+pub extensions_next : with_index (schema_after 26) extension_by_defect ≡ schema_after 27
+extensions_next = refl
+
+pub defects_next : with_index (schema_after 27) defect_by_aircraft ≡ schema_after 28
+defects_next = refl
+
+pub lines_turn : Turns (schema_after 26) (schema_after 28) unchanged
+lines_turn = turns_same (schema_after 26) (schema_after 28) unchanged refl (λ name xs ys same. same)
+
+pub extensions_turn : Turns (schema_after 27) (schema_after 28) unchanged
+extensions_turn = turns_same (schema_after 27) (schema_after 28) unchanged refl (λ name xs ys same. same)

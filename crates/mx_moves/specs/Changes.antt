@@ -47,6 +47,10 @@ pub record Reaches (to : Schema) (onto : TableName → List Row → List Row) (o
 
 -- ── calls ──
 
+-- a call inside a transaction that answers found the connection open
+abbrev pub WasOpen : {V : Type 0} → State → State → Result V TableFault → Type 0
+WasOpen old new result = HasCleanDisk new → IsTrue old.in_transaction → OnOk result (IsTrue old.is_open)
+
 -- rows were written, in a schema that has their tables, and each table has what is made of the rows that it had; or the call stopped
 pub record WritesRows {V : Type 0} (IsIn : Schema → Type 0) (onto : TableName → List Row → List Row) (old new : State) (result : Result V TableFault) : Type 0 where
   pub gains : HasCleanDisk new → IsInside old → IsIn old.now.schema → AllRise old.now.schema old.now.trees → OnOk result (GainsRows onto old.now new.now)

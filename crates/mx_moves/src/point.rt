@@ -2,7 +2,7 @@
 ghost use Rattle.std.specs.Prelude.{◌≡◌, [], ◌∷◌};
 ghost use Rattle.sqlite.specs.Held.{state};
 ghost use Rattle.mx_kept.specs.Family.{on_top};
-ghost use Rattle.mx_moves.specs.Changes.{WritesRows, less};
+ghost use Rattle.mx_moves.specs.Changes.{WasOpen, WritesRows, less};
 ghost use Rattle.mx_moves.specs.Keeping.{kept_point, is_point_row, point_set};
 ghost use Rattle.mx_moves.specs.Schemas.{IsFree};
 
@@ -14,6 +14,7 @@ use sqlite::params;
 // Deletes the row of the point.
 fn delete_point<S: Alter>(tx: &mut Transaction<'_, S>) -> Result<(), TableFault>
     ensures same_reference { tx.new.conn.ghost_name ≡ tx.old.conn.ghost_name }
+    ensures open { WasOpen (state S.Store tx.old.conn.now) (state S.Store tx.new.conn.now) result }
     ensures writes { WritesRows (IsFree kept_point) (less kept_point is_point_row)
         (state S.Store tx.old.conn.now) (state S.Store tx.new.conn.now) result }
 {
@@ -39,6 +40,7 @@ fn insert_point<S: Alter>(tx: &mut Transaction<'_, S>, at: &Point) -> Result<(),
 /// `Memory` for want of memory, and `Store` for an error of the store.
 pub fn set_point<S: Alter>(tx: &mut Transaction<'_, S>, at: &Point) -> Result<(), TableFault>
     ensures same_reference { tx.new.conn.ghost_name ≡ tx.old.conn.ghost_name }
+    ensures open { WasOpen (state S.Store tx.old.conn.now) (state S.Store tx.new.conn.now) result }
     ensures writes { WritesRows (IsFree kept_point) (point_set at.now)
         (state S.Store tx.old.conn.now) (state S.Store tx.new.conn.now) result }
 {

@@ -1,9 +1,8 @@
 //! Tables and indexes that the moves make, and tables that they drop.
-ghost use Rattle.std.specs.Prelude.{◌≡◌, OnOk, IsTrue};
+ghost use Rattle.std.specs.Prelude.{◌≡◌};
 ghost use Rattle.sqlite.specs.Held.{state};
-ghost use Rattle.sqlite.specs.State.{HasCleanDisk};
 ghost use Rattle.mx_layout.specs.Steps.{schema_after};
-ghost use Rattle.mx_moves.specs.Changes.{Alters, emptied, unchanged};
+ghost use Rattle.mx_moves.specs.Changes.{Alters, WasOpen, emptied, unchanged};
 
 use crate::prelude::*;
 use crate::statement::execute;
@@ -15,9 +14,7 @@ use mx_layout::Table;
 /// `Memory` for want of memory, and `Store` for an error of the store.
 pub fn create_sector2<S: Alter>(tx: &mut Transaction<'_, S>) -> Result<(), TableFault>
     ensures same_reference { tx.new.conn.ghost_name ≡ tx.old.conn.ghost_name }
-    ensures open { HasCleanDisk (state S.Store tx.new.conn.now)
-        → IsTrue (state S.Store tx.old.conn.now).in_transaction
-        → OnOk result (IsTrue (state S.Store tx.old.conn.now).is_open) }
+    ensures open { WasOpen (state S.Store tx.old.conn.now) (state S.Store tx.new.conn.now) result }
     ensures alters { Alters (schema_after 15) (schema_after 16) (emptied Table.Sector2)
         (state S.Store tx.old.conn.now) (state S.Store tx.new.conn.now) result }
 {
@@ -107,4 +104,124 @@ pub fn index_span2<S: Alter>(tx: &mut Transaction<'_, S>) -> Result<(), TableFau
     index_by_component(tx)?;
     index_by_aircraft(tx)?;
     index_by_remove_seq(tx)
+}
+
+// Drops the table `fit1`.
+fn drop_fit1<S: Alter>(tx: &mut Transaction<'_, S>) -> Result<(), TableFault>
+    ensures same_reference { tx.new.conn.ghost_name ≡ tx.old.conn.ghost_name }
+    ensures alters { Alters (schema_after 21) (schema_after 22) unchanged
+        (state S.Store tx.old.conn.now) (state S.Store tx.new.conn.now) result }
+{
+    execute(tx, "DROP TABLE fit1", &[])
+}
+
+// Drops the table `removal1`.
+fn drop_removal1<S: Alter>(tx: &mut Transaction<'_, S>) -> Result<(), TableFault>
+    ensures same_reference { tx.new.conn.ghost_name ≡ tx.old.conn.ghost_name }
+    ensures alters { Alters (schema_after 22) (schema_after 23) unchanged
+        (state S.Store tx.old.conn.now) (state S.Store tx.new.conn.now) result }
+{
+    execute(tx, "DROP TABLE removal1", &[])
+}
+
+/// Drops the tables `fit1` and `removal1`, where components have moved. A caller that can't lose a row looks first whether
+/// they have none.
+///
+/// # Errors
+/// `Memory` for want of memory, and `Store` for an error of the store.
+pub fn drop_fittings<S: Alter>(tx: &mut Transaction<'_, S>) -> Result<(), TableFault>
+    ensures same_reference { tx.new.conn.ghost_name ≡ tx.old.conn.ghost_name }
+    ensures alters { Alters (schema_after 21) (schema_after 23) unchanged
+        (state S.Store tx.old.conn.now) (state S.Store tx.new.conn.now) result }
+{
+    drop_fit1(tx)?;
+    drop_removal1(tx)
+}
+
+/// Makes the table `total2`, in a file whose components have moved.
+///
+/// # Errors
+/// `Memory` for want of memory, and `Store` for an error of the store.
+pub fn create_total2<S: Alter>(tx: &mut Transaction<'_, S>) -> Result<(), TableFault>
+    ensures same_reference { tx.new.conn.ghost_name ≡ tx.old.conn.ghost_name }
+    ensures alters { Alters (schema_after 23) (schema_after 24) (emptied Table.Total2)
+        (state S.Store tx.old.conn.now) (state S.Store tx.new.conn.now) result }
+{
+    execute(
+        tx,
+        "CREATE TABLE total2 (item INTEGER PRIMARY KEY, minutes INTEGER NOT NULL, cycles INTEGER NOT NULL, clock INTEGER NOT NULL) STRICT",
+        &[],
+    )
+}
+
+/// Makes the table `base2`, in a file that has the total of each item.
+///
+/// # Errors
+/// `Memory` for want of memory, and `Store` for an error of the store.
+pub fn create_base2<S: Alter>(tx: &mut Transaction<'_, S>) -> Result<(), TableFault>
+    ensures same_reference { tx.new.conn.ghost_name ≡ tx.old.conn.ghost_name }
+    ensures open { WasOpen (state S.Store tx.old.conn.now) (state S.Store tx.new.conn.now) result }
+    ensures alters { Alters (schema_after 24) (schema_after 25) (emptied Table.Base2)
+        (state S.Store tx.old.conn.now) (state S.Store tx.new.conn.now) result }
+{
+    execute(
+        tx,
+        "CREATE TABLE base2 (item INTEGER NOT NULL, task TEXT NOT NULL, minutes INTEGER NOT NULL, cycles INTEGER NOT NULL, day INTEGER NOT NULL, PRIMARY KEY (item, task)) STRICT",
+        &[],
+    )
+}
+
+// Makes the index of `crs_line` by defects.
+fn index_lines<S: Alter>(tx: &mut Transaction<'_, S>) -> Result<(), TableFault>
+    ensures same_reference { tx.new.conn.ghost_name ≡ tx.old.conn.ghost_name }
+    ensures open { WasOpen (state S.Store tx.old.conn.now) (state S.Store tx.new.conn.now) result }
+    ensures alters { Alters (schema_after 25) (schema_after 26) unchanged
+        (state S.Store tx.old.conn.now) (state S.Store tx.new.conn.now) result }
+{
+    execute(
+        tx,
+        "CREATE INDEX crs_line_by_defect ON crs_line (defect)",
+        &[],
+    )
+}
+
+// Makes the index of `extension` by defects.
+fn index_extensions<S: Alter>(tx: &mut Transaction<'_, S>) -> Result<(), TableFault>
+    ensures same_reference { tx.new.conn.ghost_name ≡ tx.old.conn.ghost_name }
+    ensures alters { Alters (schema_after 26) (schema_after 27) unchanged
+        (state S.Store tx.old.conn.now) (state S.Store tx.new.conn.now) result }
+{
+    execute(
+        tx,
+        "CREATE INDEX extension_by_defect ON extension (defect)",
+        &[],
+    )
+}
+
+// Makes the index of `defect` by aircraft.
+fn index_defects<S: Alter>(tx: &mut Transaction<'_, S>) -> Result<(), TableFault>
+    ensures same_reference { tx.new.conn.ghost_name ≡ tx.old.conn.ghost_name }
+    ensures alters { Alters (schema_after 27) (schema_after 28) unchanged
+        (state S.Store tx.old.conn.now) (state S.Store tx.new.conn.now) result }
+{
+    execute(
+        tx,
+        "CREATE INDEX defect_by_aircraft ON defect (aircraft)",
+        &[],
+    )
+}
+
+/// Makes the indexes of tables that layout 1 has too, in a file that has the last bases of each item.
+///
+/// # Errors
+/// `Memory` for want of memory, and `Store` for an error of the store.
+pub fn index_registers<S: Alter>(tx: &mut Transaction<'_, S>) -> Result<(), TableFault>
+    ensures same_reference { tx.new.conn.ghost_name ≡ tx.old.conn.ghost_name }
+    ensures open { WasOpen (state S.Store tx.old.conn.now) (state S.Store tx.new.conn.now) result }
+    ensures alters { Alters (schema_after 25) (schema_after 28) unchanged
+        (state S.Store tx.old.conn.now) (state S.Store tx.new.conn.now) result }
+{
+    index_lines(tx)?;
+    index_extensions(tx)?;
+    index_defects(tx)
 }

@@ -1,35 +1,29 @@
 -- The step that moves a component: what the tables stand for behind it, and why tables that stand for a book are whole.
-use Rattle.std.proofs.Common.{◌≡◌, ◌⊎◌, inl, inr, ℕ, ◌+◌, ◌<◌, true, not, length, List, [], ◌∷◌, ◌++◌, map, filter, take, All, nat_eq, nat_le, Some, Ok, Result, refl, sym, ap, ap₂, subst, ◌∙◌, arith}
-use Rattle.std.specs.List.{AllByRecursion}
+use Rattle.std.proofs.Common.{◌≡◌, ◌⊎◌, inl, inr, ℕ, ◌+◌, ◌<◌, true, not, length, List, ◌++◌, map, filter, All, nat_eq, nat_le, Some, Ok, Result, refl, sym, ap, ap₂, subst, ◌∙◌, arith}
 use Rattle.std.specs.List.Sorted.{IsPermutation}
 use Rattle.std.proofs.lemmas.Bool.Decides.{nat_tests}
 use Rattle.std.proofs.lemmas.List.{map-append}
-use Rattle.std.proofs.lemmas.List.Elements.{All-append, All-contains, All-filter, recursion_from_All}
+use Rattle.std.proofs.lemmas.List.Elements.{All-append, All-contains, All-filter}
 use Rattle.std.proofs.lemmas.List.Sorted.{All-permutation, IsPermutation-append_comm, IsPermutation-map, IsPermutation-refl, IsPermutation-sym, IsPermutation-trans}
 use Rattle.sqlite_keyed.proofs.ListLemmas.{filter-filter, filter-map, filter_same, IsPermutation-same}
 use Rattle.sqlite.specs.Tree.{Trees}
 use Rattle.mx_command.specs.Act.{Entry}
 use Rattle.mx_book.specs.Book.{IsBook}
-use Rattle.mx_book.specs.Programme.{last_of}
 use Rattle.mx_typed_rows.specs.declared.rows.FittingRow.{FittingRow}
 use Rattle.mx_typed_rows.specs.declared.rows.RemovalRow.{RemovalRow}
 use Rattle.mx_typed_rows.specs.declared.rows.SpanRow.{SpanRow}
 use Rattle.mx_typed_rows.specs.Rows.{FitsFitting, FitsRemoval, FitsSpan}
-use Rattle.mx_typed_rows.proofs.SortedLemmas.{keys_below}
 use Rattle.mx_register.specs.Registers.{fitting_rows, removal_rows}
 use Rattle.mx_register.proofs.RegisterLemmas.{fitting_rows-rising, removal_rows-rising}
 use Rattle.mx_point.specs.declared.point.Point.{Point}
-use Rattle.mx_points.specs.Points.{moving, next_mark, next_point, numbers_of, on_to}
+use Rattle.mx_points.specs.Points.{moving, next_mark, next_point}
 use Rattle.mx_points.specs.Tables.{rows_at, fittings_1, removals_1, spans_2}
-use Rattle.mx_points.proofs.CommitLemmas.{numbers_rising}
 use Rattle.mx_points.proofs.MoveLemmas.{spans_moved, fittings_left, removals_left}
 use Rattle.mx_points.proofs.NextComponents.{spans_next, fittings_next, removals_next}
-use Rattle.mx_points.proofs.StepLemmas.{step_after}
 use Rattle.mx_layout.specs.TableName.{TableName}
 use Rattle.mx_layout.specs.declared.fault.Table.TheVariants as table
 use Rattle.mx_layout.specs.Contents.{rows_in}
 use Rattle.mx_layout.specs.Names.{table_named}
-use Rattle.mx_layout.specs.Point.{FitsPoint}
 use Rattle.mx_kept.specs.Cells.{kept_fit1, kept_removal1, kept_span2}
 use Rattle.mx_kept.specs.Family.{IsReadable}
 use Rattle.mx_kept.proofs.Lawful.{fit1_lawful, removal1_lawful}
@@ -46,26 +40,14 @@ use Rattle.mx_steps.proofs.PageLemmas.{chosen_are, rises_left}
 use Rattle.mx_steps.proofs.PairLemmas.{made_of_book, paired_fit}
 use Rattle.mx_steps.proofs.SectorLemmas.{one_point, point_keeps}
 use Rattle.mx_steps.proofs.StandsLemmas.{stands_next}
+use Rattle.mx_steps.proofs.ThingLemmas.{next_is, point_fits}
 
 above_too : (mark component n : ℕ) → mark < component → nat_eq n component ≡ true → not (nat_le n mark) ≡ true
 above_too mark component n h e = grind (arith, nat_tests)
 
-of_last : (P : ℕ → Type 0) (n : ℕ) (xs : List ℕ) → AllByRecursion P xs → last_of (take 1 xs) ≡ Some n → P n
-of_last P n [] all h = absurd cc
-of_last P n (x ∷ xs) all h = let same : x ≡ n = cc in subst P same all.0
-
 module _ (mark component : ℕ) (book : List Entry) (b : IsBook book) (due : next_mark (moving 2 mark) book ≡ Some component) where
-  -- the component is one of the book
   above_mark : mark < component
   above_mark = (fittings_next book mark component b due).0
-
-  in_book : component < length book + 1
-  in_book =
-      let all = keys_below (λ (n : ℕ). n) 1 (length book + 1) (numbers_of 2 book) (numbers_rising book b 2) in
-      of_last (λ n. n < length book + 1) component _ (recursion_from_All (λ n. n < length book + 1) _ (All-filter (λ n. not (nat_le n mark)) (λ n. n < length book + 1) (numbers_of 2 book) all)) due
-
-  next_is : next_point (moving 2 mark) book ≡ moving 2 component
-  next_is = let few = b.few in step_after 2 mark (next_mark (moving 2 mark) book) (omega arith) (omega arith) (omega (arith, above_mark, in_book)) ∙ ap (on_to (moving 2 mark)) due
 
   -- ── what the rows become ──
 
@@ -156,12 +138,9 @@ component_stands mark component at to book old new here due_at stood it =
     let spans : it.spans ≡ spans_by book component = (let both : ◌≡◌ {A = Result (List SpanRow) TableName} (Ok it.spans) (Ok (spans_by book component)) = sym it.made_of ∙ made_of in cc) in
     let fits = subst (All FitsSpan) spans (paired_fit it.fittings it.removals it.spans it.fitted.fit it.removed.fit it.made_of) in
     let made = subst (λ q. MakesRows (component_moved (spans_by book component) q) q old new) it.point (subst (λ xs. MakesRows (component_moved xs to) to old new) spans it.made) in
-    let few = b.few in
-    let bound = in_book mark component book b due in
-    let fit_point : FitsPoint (moving 2 component) = (omega arith, omega arith, omega arith) in
-    let done = stands_next (moving 2 mark) (moving 2 component) book (component_moved (spans_by book component) (moving 2 component)) old new fit_point (rows_fit mark component book b due old stands fits)
+    let done = stands_next (moving 2 mark) (moving 2 component) book (component_moved (spans_by book component) (moving 2 component)) old new (point_fits 2 mark component (omega arith) (omega arith) refl book b due) (rows_fit mark component book b due old stands fits)
     (λ name there. inl (same_tables mark component name there, moved_keeps (spans_by book component) (moving 2 component) name)) (rows_become mark component book b due) stands made in
-    (it.point ∙ sym (next_is mark component book b due) ∙ ap (λ q. next_point q book) (sym here), subst (λ q. StandsAt q new book) (sym it.point) done)
+    (it.point ∙ sym (next_is 2 mark component (omega arith) (omega arith) refl book b due) ∙ ap (λ q. next_point q book) (sym here), subst (λ q. StandsAt q new book) (sym it.point) done)
 
 pub component_whole : (mark component : ℕ) (at : Point) (book : List Entry) (name : TableName) (trees : Trees) → at ≡ moving 2 mark → next_mark at book ≡ Some component → StandsAt at trees book → IsComponentOff component name trees → ⊥
 component_whole mark component at book name trees here due_at stood off =

@@ -2,7 +2,10 @@ pub mod StandsLemmas
 pub mod PageLemmas
 pub mod FrontLemmas
 pub mod SectorLemmas
+pub mod ThingLemmas
 pub mod MadeLemmas
 pub mod TurnLemmas
 pub mod PairLemmas
 pub mod ComponentLemmas
+pub mod EndedLemmas
+pub mod WrittenLemmas

@@ -1,5 +1,5 @@
 -- The steps that make a table and move no row: what the tables stand for behind them.
-use Rattle.std.proofs.Common.{◌≡◌, ◌⊎◌, inl, inr, ℕ, true, List, [], map, All, None, refl, sym, ap, subst, ◌∙◌, cond, arith}
+use Rattle.std.proofs.Common.{◌≡◌, ◌⊎◌, ◌<◌, ◌≤◌, inl, inr, ℕ, true, List, [], map, All, None, refl, sym, ap, subst, ◌∙◌, arith}
 use Rattle.std.specs.Prelude.{⊤}
 use Rattle.std.specs.List.Sorted.{IsPermutation}
 use Rattle.std.proofs.lemmas.List.Elements.{All-nil}
@@ -7,14 +7,17 @@ use Rattle.std.proofs.lemmas.List.Sorted.{IsPermutation-refl}
 use Rattle.sqlite_keyed.proofs.ListLemmas.{IsPermutation-same}
 use Rattle.sqlite.specs.Tree.{Trees}
 use Rattle.mx_command.specs.Act.{Entry}
+use Rattle.mx_book.specs.Book.{IsBook}
 use Rattle.mx_typed_rows.specs.Rows.{FitsSector, FitsSpan, FitsFitting, FitsRemoval}
 use Rattle.mx_point.specs.Settled.{settled}
 use Rattle.mx_point.specs.declared.point.Point.{Point}
 use Rattle.mx_points.specs.Moves.{AllStay}
 use Rattle.mx_points.specs.Points.{is_on_way, moving, next_mark, next_point, on_to}
 use Rattle.mx_points.specs.Tables.{rows_at, sectors_1, sectors_2, spans_2}
+use Rattle.mx_points.proofs.CommitLemmas.{way_parts}
 use Rattle.mx_points.proofs.EndLemmas.{tables_stay}
 use Rattle.mx_points.proofs.StandingLemmas.{empty_where_absent}
+use Rattle.mx_points.proofs.StepLemmas.{step_after}
 use Rattle.mx_layout.specs.TableName.{TableName}
 use Rattle.mx_layout.specs.declared.fault.Table.TheVariants as table
 use Rattle.mx_layout.specs.Contents.{rows_in}
@@ -61,11 +64,18 @@ made_stands at to book old new here due stood it =
     let done = stands_next (settled 1) (moving 1 0) book (table_made table.Sector2 (moving 1 0)) old new (omega arith, omega arith, omega arith) (sectors_fit book stay old stands) sectors_turn (sectors_become book stay) stands made in
     (it.point ∙ ap (λ q. next_point q book) (sym here), subst (λ q. StandsAt q new book) (sym it.point) done)
 
--- ── the table of spans in place of the old one of sectors ──
+-- ── where a step has nothing left ──
 
--- the point behind that of a file whose sectors have all moved
-next_of_none : (mark : ℕ) (book : List Entry) → is_on_way (moving 1 mark) ≡ true → next_mark (moving 1 mark) book ≡ None → next_point (moving 1 mark) book ≡ moving 2 0
-next_of_none mark book way none = ap (λ c. cond c (on_to (moving 1 mark) (next_mark (moving 1 mark) book)) (moving 1 mark)) way ∙ ap (on_to (moving 1 mark)) none
+module _ (step mark : ℕ) (some : 0 < step) (last : step ≤ 4) (book : List Entry) (b : IsBook book) (way : is_on_way (moving step mark) ≡ true) (none : next_mark (moving step mark) book ≡ None) where
+  -- the next point is that of the next step, or of the next layout
+  pub next_of_none : next_point (moving step mark) book ≡ on_to (moving step mark) None
+  next_of_none = step_after step mark (next_mark (moving step mark) book) some last (way_parts book b (moving step mark) way).2 ∙ ap (on_to (moving step mark)) none
+
+  -- all tables stay
+  pub stay_where_none : AllStay (moving step mark) (on_to (moving step mark) None) book
+  stay_where_none = subst (λ q. AllStay (moving step mark) q book) next_of_none (tables_stay book b (moving step mark) (λ _. none))
+
+-- ── the table of spans in place of the old one of sectors ──
 
 module _ (mark : ℕ) (book : List Entry) (stay : AllStay (moving 1 mark) (moving 2 0) book) where
   no_span : rows_at spans_2 (moving 2 0) book ≡ []
@@ -96,19 +106,15 @@ spans_turn mark table.Sector1 there = absurd cc
 spans_turn mark table.Span2 there = inr (λ xs ys. IsPermutation-refl [])
 spans_turn mark name there = inl (there, table_keeps table.Span2 (moving 2 0) name)
 
--- where no sector is left, all tables stay on the way to spans
-stay_to_spans : (mark : ℕ) (book : List Entry) (trees : Trees) → StandsAt (moving 1 mark) trees book → is_on_way (moving 1 mark) ≡ true → next_mark (moving 1 mark) book ≡ None → AllStay (moving 1 mark) (moving 2 0) book
-stay_to_spans mark book trees stands way none = subst (λ q. AllStay (moving 1 mark) q book) (next_of_none mark book way none) (tables_stay book stands.rows.is_book (moving 1 mark) (λ some. none))
-
 pub changed_stands : (mark : ℕ) (at to : Point) (book : List Entry) (old new : Trees) → (at ≡ moving 1 mark) × (is_on_way at ≡ true) → next_mark at book ≡ None → StandsAt at old book → ChangesToSpans to old new → (to ≡ next_point at book) × StandsAt to new book
 changed_stands mark at to book old new here due stood it =
     let stands = subst (λ q. StandsAt q old book) here.0 stood in
     let way : is_on_way (moving 1 mark) ≡ true = subst (λ q. is_on_way q ≡ true) here.0 here.1 in
     let none : next_mark (moving 1 mark) book ≡ None = subst (λ q. next_mark q book ≡ None) here.0 due in
-    let stay = stay_to_spans mark book old stands way none in
+    let stay = stay_where_none 1 mark (omega arith) (omega arith) book stands.rows.is_book way none in
     let made = subst (λ q. MakesRows (table_made table.Span2 q) q old new) it.point it.made in
     let done = stands_next (moving 1 mark) (moving 2 0) book (table_made table.Span2 (moving 2 0)) old new (omega arith, omega arith, omega arith) (spans_fit mark book stay old stands) (spans_turn mark) (spans_become mark book stay) stands made in
-    (it.point ∙ sym (next_of_none mark book way none) ∙ ap (λ q. next_point q book) (sym here.0), subst (λ q. StandsAt q new book) (sym it.point) done)
+    (it.point ∙ sym (next_of_none 1 mark (omega arith) (omega arith) book stands.rows.is_book way none) ∙ ap (λ q. next_point q book) (sym here.0), subst (λ q. StandsAt q new book) (sym it.point) done)
 
 -- of tables that stand for a book whose sectors have all moved, none is left over
 pub changed_whole : (mark : ℕ) (at : Point) (book : List Entry) (name : TableName) (trees : Trees) → (at ≡ moving 1 mark) × (is_on_way at ≡ true) → next_mark at book ≡ None → StandsAt at trees book → IsLeftOver name trees → ⊥
@@ -116,5 +122,5 @@ changed_whole mark at book name trees here due stood off =
     let stands = subst (λ q. StandsAt q trees book) here.0 stood in
     let way : is_on_way (moving 1 mark) ≡ true = subst (λ q. is_on_way q ≡ true) here.0 here.1 in
     let none : next_mark (moving 1 mark) book ≡ None = subst (λ q. next_mark q book ≡ None) here.0 due in
-    let stay = stay_to_spans mark book trees stands way none in
+    let stay = stay_where_none 1 mark (omega arith) (omega arith) book stands.rows.is_book way none in
     off.1 (permutation_none (rows_in sector1 trees) (subst (λ rows. IsPermutation (map kept_sector1.as_cells rows) (rows_in sector1 trees)) (no_old mark book stay) (stands.rows.tables table.Sector1 refl)))

@@ -3,3 +3,4 @@ pub mod Sectors
 pub mod Tables
 pub mod Pairing
 pub mod Components
+pub mod Written

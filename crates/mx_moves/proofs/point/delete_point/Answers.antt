@@ -27,3 +27,6 @@ returns-clause-writes g c =
       inside = r.stays.inside;
       within = r.stays.within;
     })
+
+pub returns-clause-open : goal.returns-clause-open
+returns-clause-open g c clean begun = on_weaker c.execute.result (λ stays. stays.was_open) (c.execute.ensures.stays.inside clean begun)

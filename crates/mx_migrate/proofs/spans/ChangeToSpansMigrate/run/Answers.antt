@@ -1,14 +1,23 @@
 use Rattle.std.proofs.Common.{refl}
 use Rattle.sqlite.specs.Held.{state}
+use Rattle.mx_kept.specs.Cells.{kept_sector1}
+use Rattle.mx_layout.specs.declared.fault.Table.TheVariants as table
 use Rattle.mx_points.specs.Points.{moving}
-use Rattle.mx_migrate.proofs.RunLemmas.{changes, left_stops, stopped_by}
+use Rattle.mx_steps.specs.Tables.{table_made}
+use Rattle.mx_migrate.proofs.LookLemmas.{look_stops, looked_writes}
+use Rattle.mx_migrate.proofs.RunLemmas.{has_sectors, stopped_by}
 use Rattle.mx_migrate.proofs.spans.ChangeToSpansMigrate.run.Goals as goal
 
 pub returns-in_err-none_left-clause-runs : goal.returns-in_err-none_left-clause-runs
 returns-in_err-none_left-clause-runs g c =
-    stopped_by _ _ _ (state g.S.Store c.args.tx.now.conn.now) (state g.S.Store c.none_left.new.tx.conn.now) c.in_err-none_left.field-0.0 c.from_residual.result c.from_residual.ensures.1
-    (left_stops c.args.self.now.mark _ _ c.in_err-none_left.field-0.0 c.in_err-none_left.ensures.sees)
+    let mark = c.args.self.now.mark in
+    let old = state g.S.Store c.args.tx.now.conn.now in
+    stopped_by _ _ _ old (state g.S.Store c.none_left.new.tx.conn.now) c.in_err-none_left.field-0.0 c.from_residual.result c.from_residual.ensures.1
+    (look_stops kept_sector1 _ _ _ (moving 1 mark) (λ at here. here.0) (has_sectors mark) old _ c.in_err-none_left.field-0.0 (λ at left. (refl, left)) c.in_err-none_left.ensures.sees)
 
 pub returns-in-Ok-clause-runs : goal.returns-in-Ok-clause-runs
 returns-in-Ok-clause-runs g c =
-    changes c.args.self.now.mark (state g.S.Store c.args.tx.now.conn.now) (state g.S.Store c.none_left.new.tx.conn.now) c.in_ok-none_left.field-0 c.in_ok-none_left.ensures.sees (state g.S.Store c.write_changed.new.tx.conn.now) (moving 2 0) c.in-Ok.field-0 refl c.in-Ok.ensures.alters
+    let mark = c.args.self.now.mark in
+    let old = state g.S.Store c.args.tx.now.conn.now in
+    looked_writes kept_sector1 _ _ _ (moving 1 mark) (λ at here. here.0) (has_sectors mark) old (state g.S.Store c.none_left.new.tx.conn.now) (state g.S.Store c.write_changed.new.tx.conn.now) c.in_ok-none_left.field-0 c.in_ok-none_left.ensures.sees (moving 2 0) (table_made table.Span2 (moving 2 0)) c.in-Ok.field-0
+    (λ clean there at none made. record { empty = none; point = refl; made = made }) c.in-Ok.ensures.alters

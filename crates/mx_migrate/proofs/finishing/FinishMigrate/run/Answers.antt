@@ -1,0 +1,15 @@
+use Rattle.std.proofs.Common.{refl}
+use Rattle.sqlite.specs.Held.{state}
+use Rattle.mx_point.specs.Settled.{settled}
+use Rattle.mx_points.specs.Points.{moving}
+use Rattle.mx_moves.specs.Keeping.{point_set}
+use Rattle.mx_migrate.proofs.RunLemmas.{store_stops, writes_alone}
+use Rattle.mx_migrate.proofs.finishing.FinishMigrate.run.Goals as goal
+
+pub returns-in-Ok-clause-runs : goal.returns-in-Ok-clause-runs
+returns-in-Ok-clause-runs g c =
+    writes_alone _ _ _ (moving 4 c.args.self.now.mark) (settled 2) (point_set (settled 2)) (λ at here. here.0) (λ at before after made. record { point = refl; made = made })
+    (state g.S.Store c.args.tx.now.conn.now) (state g.S.Store c.write_finished.new.tx.conn.now) c.in-Ok.field-0 c.in-Ok.ensures.open c.in-Ok.ensures.alters
+
+pub returns-in-Err-clause-runs : goal.returns-in-Err-clause-runs
+returns-in-Err-clause-runs g c = store_stops _ _ _ _ _ c.write_finished.ensures.alters.within
