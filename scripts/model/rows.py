@@ -12,6 +12,13 @@ Cell = typing.Union[int, str, None]
 Row = typing.Tuple[Cell, ...]
 Tables = typing.Dict[str, typing.List[Row]]
 
+# The tables of a file of layout 2 by their names, and the row of the one that no entry has rows in.
+TABLES = [
+    "aircraft", "base2", "component", "crs", "crs_line", "defect", "entry", "extension", "office", "opening", "place",
+    "programme", "sector2", "span2", "task", "total2",
+]
+OWN_ROW: Row = (1, 2, 0, 0)
+
 KINDS = [AddAircraft, AddComponent, Load, Opening, Sector, Fit, Remove, Release, Defer, Extend]
 CATEGORIES = ["A", "B", "C", "D"]
 
@@ -140,6 +147,17 @@ def rows_of(book: Book) -> Tables:
     tables["base2"] = [(number, task, *(records.base_of(book, item, task) or ()))
                        for number, item in items for task in tasks_done(book, item)]
     return tables
+
+
+def shown_row(row: Row) -> str:
+    return " ".join("null" if cell is None else str(cell) for cell in row)
+
+
+def shown(book: Book) -> str:
+    """All rows of all tables, each table's in the order of its first two columns, as the player of an office shows them."""
+    tables = {**rows_of(book), "office": [OWN_ROW]}
+    texts = {name: " / ".join(map(shown_row, sorted(tables.get(name, []), key=lambda row: row[:2]))) for name in TABLES}
+    return " // ".join(f"{name}: {text or 'none'}" for name, text in texts.items())
 
 
 # ── the words of a case ──

@@ -19,15 +19,14 @@ pub struct MemoryDisks {
     office: Option<Office<Fused>>,
 }
 
-// Whether files that answered so are taken: where a book was made or an office was opened, or could not be, where a statement
-// or a line of kept rows changed them, and where a step of a move was made.
+// Whether files that answered so are taken: where they were answered a line that may change them. One that a fault stopped
+// leaves them as the fault did.
 fn is_taken(words: &[&str], answer: &Result<String, Unmade>) -> bool {
-    match (words, answer) {
-        (["make"] | ["make-next"] | ["install"] | ["open"], Ok(_)) => true,
-        (["sql", ..] | ["kept", ..], Ok(text)) => text.as_str() == "ok",
-        (["step", ..], Ok(text)) => !text.starts_with("fault "),
-        _ => false,
-    }
+    answer.is_ok()
+        && matches!(
+            words,
+            ["make" | "make-next" | "install" | "open"] | ["sql" | "kept" | "step" | "enter", ..]
+        )
 }
 
 impl MemoryDisks {

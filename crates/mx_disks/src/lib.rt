@@ -4,13 +4,14 @@
 //! - `make`, `make-next`: makes an empty book of layout 1, of layout 2;
 //! - `install`: makes a file of layout 1 with the book of those commands of the list that are new;
 //! - `point`: the layout, step and mark that it is at;
-//! - `ask QUERY`, `sql STATEMENT`: the rows of a query; a statement that changes the files;
+//! - `ask QUERY`, `tables`, `sql STATEMENT`: the rows of a query; all rows of all tables; a statement that changes the files;
 //! - `step` before a line of `mx_move_lines`, whose head lists them: a step of the move to layout 2;
 //! - `open`: opens the office.
 //!
-//! Lines over a database of layout 2: `kept` before a line of `mx_kept_lines`, whose head lists them, over kept rows; `judge COMMAND`,
-//! the verdict on a command by the rows of the tables; `entries FROM AT_MOST` and `entry NUMBER COMMAND`, as in an office, by these
-//! rows; `rows` before one of the lines below for a list or for the life of an item, which is answered by them too.
+//! Lines over a database of layout 2: `enter COMMAND` hands a command in, which is judged by the rows of the tables and whose rows are
+//! written in one commit; `judge COMMAND`, the verdict on a command by these rows; `entries FROM AT_MOST` and `entry NUMBER COMMAND`,
+//! as in an office, by them; `rows` before one of the lines below for a list or for the life of an item, which is answered by them too;
+//! `kept` before a line of `mx_kept_lines`, whose head lists them, over kept rows.
 //!
 //! Lines in the open office:
 //! - a command, in the words that `mx_cases` reads: hands it in; `run` the commands of a list, and `first` the first;
@@ -28,6 +29,7 @@ mod database_lines;
 pub mod disks;
 mod files;
 mod office_lines;
+mod queries;
 mod texts;
 
 pub use disks::MemoryDisks;

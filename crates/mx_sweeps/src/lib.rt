@@ -5,12 +5,13 @@
 //! - `disk`: begins with files that hold nothing;
 //! - `make [log CALLS] [db CALLS]`: makes an empty book; a file fails after so many calls;
 //! - `install [log CALLS] [db CALLS]`: makes the book of the list in one commit;
-//! - `point`, `ask QUERY`, `sql STATEMENT`: the point, the rows of a query, and a statement that changes the files;
+//! - lines of the disks, as `point`, `tables`, `ask QUERY`, `enter COMMAND`: what the database in the files answers;
+//! - `pages PAGES LINE`: a line over the database in the files, whose log holds so many pages before it is copied;
 //! - `power`: what was not synced is lost;
 //! - `keep`, `restore`: keeps a copy of the files, and takes it back;
 //! - `open [log CALLS] [db CALLS] [pages PAGES]`: opens the office; the log holds so many pages before it is copied;
 //! - `list COMMAND`, `list`: puts a command behind those of the list, or empties it;
-//! - `stops-of-making`, `stops-of-commands`, `doubts`: sweeps, which play such lines over copies (`sweep_lines`);
+//! - `stops-of-making`, `stops-of-commands`, `stops-of-line`, `doubts`: sweeps, which play such lines over copies (`sweep_lines`);
 //! - `questions`: a sweep over the questions of the book of that list.
 //!
 //! Lines in the open office: commands, and the questions that the disks answer; `close`, `end` and `power` leave it.
@@ -30,6 +31,7 @@ pub mod program;
 mod running_out;
 mod settings;
 mod stops_of_commands;
+mod stops_of_line;
 mod stops_of_making;
 mod sweep;
 mod sweep_lines;

@@ -1,6 +1,6 @@
 //! The player: disks, on which an office may be open, and a list of commands.
 
-use crate::settings::setting_of;
+use crate::settings::{holding, setting_of};
 use crate::sweep::End;
 use mx_cases::{Asked, Disks, Setting, Unmade, command_of};
 use mx_command::Command;
@@ -106,8 +106,8 @@ impl<D: Disks> Player<D> {
         Ok(text)
     }
 
-    // Asks the open office, or the database in the files.
-    fn ask(&mut self, setting: Setting, words: &[&str]) -> Result<String, Unmade> {
+    /// Asks the open office, or the database in the files, which are opened with this setting.
+    pub(crate) fn ask(&mut self, setting: Setting, words: &[&str]) -> Result<String, Unmade> {
         let asked = Asked {
             alloc: self.alloc,
             words,
@@ -135,6 +135,7 @@ impl<D: Disks> Player<D> {
             ["make", limits @ ..] => self.ask(setting_of(limits)?, &["make"]),
             ["install", limits @ ..] => self.ask(setting_of(limits)?, &["install"]),
             ["open", limits @ ..] => self.ask(setting_of(limits)?, &["open"]),
+            ["pages", pages, line @ ..] => self.ask(holding(pages)?, line),
             _ => self.ask(Setting::WHOLE, words),
         }
     }

@@ -31,6 +31,30 @@ pub(crate) fn setting_of(words: &[&str]) -> Result<Setting, Unmade> {
     Ok(setting)
 }
 
+/// The setting in which the log holds so many pages, and no file fails.
+pub(crate) fn holding(pages: &str) -> Result<Setting, Unmade> {
+    Ok(Setting {
+        pages: pages.parse::<usize>()?,
+        ..Setting::WHOLE
+    })
+}
+
+/// The setting in which the log holds so many pages, and a file fails after so many calls.
+pub(crate) fn stopping(file: &str, calls: u64, pages: &str) -> Result<Setting, Unmade> {
+    let setting = holding(pages)?;
+    match file {
+        "log" => Ok(Setting {
+            log: calls,
+            ..setting
+        }),
+        "db" => Ok(Setting {
+            db: calls,
+            ..setting
+        }),
+        _ => Err(Unmade::NoSuchLine),
+    }
+}
+
 /// The end of a program: `process` or `power`.
 pub(crate) fn end_of(word: &str) -> Result<End, Unmade> {
     match word {

@@ -5,6 +5,7 @@ use crate::player::Player;
 use crate::running_out::stops_of_questions;
 use crate::settings::end_of;
 use crate::stops_of_commands::{CommandStops, plain_of};
+use crate::stops_of_line::{LineStops, calls_of_opening, seen_around};
 use crate::stops_of_making::MakingStops;
 use crate::sweep::{End, Wrong, swept};
 use mx_cases::{Disks, Unmade};
@@ -51,6 +52,27 @@ fn stops_of_commands<D: Disks>(
     }
 }
 
+fn stops_of_line<D: Disks>(
+    alloc: Global,
+    player: &mut Player<D>,
+    (file, pages, at_least): (&str, &str, &str),
+    words: &[&str],
+) -> Result<String, Unmade> {
+    let at_least = at_least.parse::<u64>()?;
+    let opening = calls_of_opening(player, file, pages)?;
+    let whole = seen_around(player, words)?;
+    let mut stops = LineStops {
+        words,
+        file,
+        pages,
+        opening,
+        whole,
+        undone: 0,
+        done: 0,
+    };
+    swept(alloc, player, &mut stops, &BOTH_ENDS, at_least)
+}
+
 fn doubts<D: Disks>(
     alloc: Global,
     player: &mut Player<D>,
@@ -87,6 +109,12 @@ fn played<D: Disks>(
             player,
             (*file, *pages, *at_least),
         ),
+        ["stops-of-line", file, "pages", pages, at_least, line @ ..] => stops_of_line(
+            alloc,
+            player,
+            (*file, *pages, *at_least),
+            line,
+        ),
         ["doubts", end, at_least] => doubts(alloc, player, end, at_least),
         ["questions", tail, day, at_least] => {
             stops_of_questions(alloc, player.list(), (*tail, *day, *at_least))
@@ -100,16 +128,17 @@ pub(crate) fn is_sweep(words: &[&str]) -> bool {
     matches!(
         words,
         [
-            "stops-of-making" | "stops-of-commands" | "doubts" | "questions",
+            "stops-of-making" | "stops-of-commands" | "stops-of-line" | "doubts" | "questions",
             ..
         ]
     )
 }
 
 /// What a sweep is answered: `stops-of-making FILE AT_LEAST`, `stops-of-commands FILE pages PAGES AT_LEAST`,
-/// `doubts END AT_LEAST` or `questions TAIL DAY AT_LEAST`. The second and the third hand the list of commands in to the
-/// office that the files hold; the last asks the book of the list, and no file. It plays its lines over copies, so that the
-/// player stays as it is.
+/// `stops-of-line FILE pages PAGES AT_LEAST LINE`, `doubts END AT_LEAST` or `questions TAIL DAY AT_LEAST`. The second and the
+/// fourth hand the list of commands in to the office that the files hold; the third plays a line that changes the tables of the
+/// files, in one commit; the last asks the book of the list, and no file. It plays its lines over copies, so that the player
+/// stays as it is.
 pub(crate) fn answer_of_sweep<D: Disks>(
     alloc: Global,
     player: &Player<D>,
