@@ -11,6 +11,7 @@ use mx_judge_lines::{answer_by_rows, verdict_by_rows};
 use mx_kept_lines::{answer_of_kept_rows, append_table_fault, room};
 use mx_layout::{TableFault, point};
 use mx_move_lines::answer_of_step;
+use mx_verify_lines::verified;
 use sqlite::{Alter, Connection};
 use std::alloc::{AllocError, Global};
 
@@ -81,7 +82,8 @@ fn statement_of(alloc: Global, words: &[&str]) -> Result<String, AllocError> {
 }
 
 /// What a database answers to a line: `make`, `make-next`, `point`, `tables`, `ask QUERY`, `sql STATEMENT`, `step STEP`,
-/// `enter COMMAND`, `judge COMMAND`, `entries FROM AT_MOST`, `entry NUMBER COMMAND`, one of kept rows, or one for a list.
+/// `enter COMMAND`, `judge COMMAND`, `entries FROM AT_MOST`, `entry NUMBER COMMAND`, `verify`, one of kept rows, or one for a
+/// list.
 pub(crate) fn answer_of_database<S: Alter>(
     alloc: Global,
     conn: &mut Connection<S>,
@@ -109,6 +111,7 @@ pub(crate) fn answer_of_database<S: Alter>(
         ["rows", question @ ..] => answer_by_rows(alloc, conn, question),
         ["entries", from, at_most] => entries_by_rows(alloc, conn, from, at_most),
         ["entry", seq, command @ ..] => is_entry_by_rows(alloc, conn, seq, command),
+        ["verify"] => Ok(verified(alloc, conn)?),
         _ => Err(Unmade::NoSuchLine),
     }
 }
