@@ -1,7 +1,12 @@
 use Rattle.std.proofs.Common.{◌∙◌, sym}
 use Rattle.mx_lookups.proofs.AnyLemmas.{any_so}
+use Rattle.mx_lookups.proofs.ReadLemmas.{reads_then, told}
 use Rattle.mx_made.proofs.AnyMadeLemmas.{any_then}
 use Rattle.mx_apply.proofs.judged.verdict_and_rows.Goals as goal
+
+pub returns-in_ok-rows-in-New-clause-reads : goal.returns-in_ok-rows-in-New-clause-reads
+returns-in_ok-rows-in-New-clause-reads g c =
+    told _ _ _ _ _ _ (λ book b both. (sym both.0 ∙ c.in-New.is, both.1)) (reads_then _ _ _ _ _ _ _ c.in_ok-verdict.ensures.reads c.in_ok-rows-in-New.ensures.reads)
 
 pub returns-in_ok-rows-in-New-clause-any_rows : goal.returns-in_ok-rows-in-New-clause-any_rows
 returns-in_ok-rows-in-New-clause-any_rows g c =
