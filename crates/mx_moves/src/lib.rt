@@ -7,6 +7,7 @@
 #![tactic(auto)]
 
 pub mod components;
+pub mod items;
 pub mod kept;
 pub mod point;
 mod prelude;

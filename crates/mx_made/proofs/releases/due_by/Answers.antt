@@ -3,7 +3,7 @@ use Rattle.std.specs.Option.{option_and_then}
 use Rattle.mx_due.specs.Due.{due_after}
 use Rattle.mx_book.specs.Base.{base}
 use Rattle.mx_book.specs.Register.{birth, birth_in}
-use Rattle.mx_lookups.proofs.ReadLemmas.{reads_then, told}
+use Rattle.mx_lookups.proofs.ReadLemmas.{reads_then, stopped, told}
 use Rattle.mx_made.specs.Releases.{due_by_kind}
 use Rattle.mx_made.proofs.ReleaseLemmas.{due_known}
 use Rattle.mx_lookups.proofs.AnyLemmas.{any_so}
@@ -46,6 +46,11 @@ pub returns-in-None-clause-reads : goal.returns-in-None-clause-reads
 returns-in-None-clause-reads g c =
     told _ _ _ _ _ _ (λ book b all. sym (ap (λ o. due_by_kind book o c.args.item.now c.args.id.now) c.in-None.is))
     (reads_then _ _ _ _ _ _ _ c.in_ok-found.ensures.reads c.in_ok-last.ensures.reads)
+
+pub returns-in_err-known-in-Some-clause-reads : goal.returns-in_err-known-in-Some-clause-reads
+returns-in_err-known-in-Some-clause-reads g c =
+    stopped _ _ _ _ _ _ c.from_residual-in_err-known-in-Some.ensures.1
+    (reads_then _ _ _ _ _ _ _ c.in_ok-found.ensures.reads (reads_then _ _ _ _ _ _ _ c.in_ok-last.ensures.reads c.in_err-known-in-Some.ensures.reads))
 
 pub returns-in-Some-named-clause-any_rows : goal.returns-in-Some-named-clause-any_rows
 returns-in-Some-named-clause-any_rows g c =
