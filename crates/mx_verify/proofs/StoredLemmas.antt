@@ -60,10 +60,11 @@ module _ {X : Type 0} (name : TableName) (k : Kept X) (line : Line X) (facts : A
   pub given_as : (xs : List X) → AreRowsOf k trees xs → IsPermutation xs (line.rows book) → All k.Fits at_point × IsPermutation (first_rows verified_point name ++ map k.as_cells at_point) (rows_in (table_named name) trees)
   given_as xs stored same =
       let is = subst (IsPermutation xs) (sym all_there) same in
-      let cells = IsPermutation-sym _ _ (IsPermutation-trans _ _ _ stored.0.all (IsPermutation-map k.as_cells xs at_point is)) in
-      (All-permutation k.Fits xs at_point is stored.1,
-      subst (λ first. IsPermutation (first ++ map k.as_cells at_point) (rows_in (table_named name) trees)) (sym (facts.no_first verified_point))
-      (subst (λ n. IsPermutation (map k.as_cells at_point) (rows_in (table_named n) trees)) facts.is_named cells))
+      let cells = IsPermutation-sym _ _ (IsPermutation-trans _ _ _ stored.0.all (IsPermutation-map k.as_cells xs at_point is)) in (
+        All-permutation k.Fits xs at_point is stored.1,
+        subst (λ first. IsPermutation (first ++ map k.as_cells at_point) (rows_in (table_named name) trees)) (sym (facts.no_first verified_point))
+            (subst (λ n. IsPermutation (map k.as_cells at_point) (rows_in (table_named n) trees)) facts.is_named cells),
+      )
 
 -- ── all tables ──
 
@@ -169,21 +170,13 @@ AreIn schema = kept_entry.IsIn schema × (kept_aircraft.IsIn schema × (kept_pla
 
 -- a schema with the tables of the layout has them
 pub all_in : (schema : Schema) → HasTables schema → AreIn schema
-all_in schema has = ((facts table.Entry).is_in verified_point (inr refl) refl schema has,
-    ((facts table.Aircraft).is_in verified_point (inr refl) refl schema has,
-    ((facts table.Place).is_in verified_point (inr refl) refl schema has,
-    ((facts table.Component).is_in verified_point (inr refl) refl schema has,
-    ((facts table.Programme).is_in verified_point (inr refl) refl schema has,
-    ((facts table.Task).is_in verified_point (inr refl) refl schema has,
-    ((facts table.Opening).is_in verified_point (inr refl) refl schema has,
-    ((facts table.Crs).is_in verified_point (inr refl) refl schema has,
-    ((facts table.CrsLine).is_in verified_point (inr refl) refl schema has,
-    ((facts table.Defect).is_in verified_point (inr refl) refl schema has,
-    ((facts table.Extension).is_in verified_point (inr refl) refl schema has,
-    ((facts table.Sector2).is_in verified_point (inr refl) refl schema has,
-    ((facts table.Span2).is_in verified_point (inr refl) refl schema has,
-    ((facts table.Total2).is_in verified_point (inr refl) refl schema has,
-    (facts table.Base2).is_in verified_point (inr refl) refl schema has))))))))))))))
+all_in schema has =
+    let each = (facts table.Entry).is_in verified_point (inr refl) refl schema has in
+    let sectors = (facts table.Sector2).is_in verified_point (inr refl) refl schema has in
+    let spans = (facts table.Span2).is_in verified_point (inr refl) refl schema has in
+    let totals = (facts table.Total2).is_in verified_point (inr refl) refl schema has in
+    let bases = (facts table.Base2).is_in verified_point (inr refl) refl schema has in
+    (each, (each, (each, (each, (each, (each, (each, (each, (each, (each, (each, (sectors, (spans, (totals, bases))))))))))))))
 
 stored_by : {X : Type 0} (k : Kept X) (trees : Trees) (xs ys : List X) → ys ≡ xs → AreRowsOf k trees xs → AreRowsOf k trees ys
 stored_by k trees xs ys is = subst (AreRowsOf k trees) (sym is)

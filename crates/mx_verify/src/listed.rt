@@ -33,9 +33,7 @@ const TABLES: [Table; 16] = [
 fn lacks<S: Alter>(conn: &Connection<S>, table: Table) -> bool
     ensures { result ≡ lacks (state S.Store conn.now).now.schema table }
 {
-    conn.schema()
-        .table_named(table.name().as_bytes())
-        .is_none()
+    conn.schema().table_named(table.name().as_bytes()).is_none()
 }
 
 // Whether one of these tables is missing.

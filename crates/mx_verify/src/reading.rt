@@ -17,7 +17,10 @@ use sqlite::{Alter, Transaction};
 use std::alloc::{AllocError, Global};
 
 /// The last of the pairs: what was flown, where components are fitted, and what is kept of lives.
-type FlownPairs = (Vec<Sector2Row>, (Vec<SpanRow>, (Vec<TotalRow>, Vec<BaseRow>)));
+type FlownPairs = (
+    Vec<Sector2Row>,
+    (Vec<SpanRow>, (Vec<TotalRow>, Vec<BaseRow>)),
+);
 
 /// Those from the deferrals on.
 type DeferredPairs = (Vec<DeferralRow>, (Vec<ExtensionRow>, FlownPairs));

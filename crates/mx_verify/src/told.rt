@@ -35,10 +35,7 @@ fn fault_by(why: Unverified) -> TableFault
 }
 
 /// Whether the row of `office` is that of the point, and the rows of the other tables are those of a book.
-pub(crate) fn told_rows(
-    at_point: bool,
-    found: Result<bool, Unverified>,
-) -> Result<bool, TableFault>
+pub(crate) fn told_rows(at_point: bool, found: Result<bool, Unverified>) -> Result<bool, TableFault>
     ensures { result ≡ told_rows at_point found }
 {
     match found {
@@ -48,10 +45,7 @@ pub(crate) fn told_rows(
 }
 
 /// Whether the tables are those of the layout alone, and have the rows of a book.
-pub(crate) fn told_file(
-    alone: bool,
-    found: Result<bool, TableFault>,
-) -> Result<bool, TableFault>
+pub(crate) fn told_file(alone: bool, found: Result<bool, TableFault>) -> Result<bool, TableFault>
     ensures { result ≡ told_file alone found }
 {
     match found {

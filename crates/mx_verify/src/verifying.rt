@@ -26,10 +26,7 @@ use std::alloc::Global;
 /// # Errors
 /// `Damaged` with its table where a row can't be read as its type, names an entry that is not there, or holds an entry that
 /// those before it refuse; else `Memory` or `Store`. A row that can be read and is not the book's is no error, but `false`.
-pub fn verify_in<S: Alter>(
-    alloc: Global,
-    tx: &mut Transaction<'_, S>,
-) -> Result<bool, TableFault>
+pub fn verify_in<S: Alter>(alloc: Global, tx: &mut Transaction<'_, S>) -> Result<bool, TableFault>
     ensures same_reference { tx.new.conn.ghost_name ≡ tx.old.conn.ghost_name }
     ensures verifies { Verifies
         (state S.Store tx.old.conn.now) (state S.Store tx.new.conn.now) result }

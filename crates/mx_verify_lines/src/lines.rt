@@ -7,10 +7,7 @@ use sqlite::{Alter, Connection};
 use std::alloc::{AllocError, Global};
 
 /// Whether the tables of a database stand for a book, as text, or the fault that was met.
-pub fn verified<S: Alter>(
-    alloc: Global,
-    conn: &mut Connection<S>,
-) -> Result<String, AllocError>
+pub fn verified<S: Alter>(alloc: Global, conn: &mut Connection<S>) -> Result<String, AllocError>
     requires { conn.old.in_transaction ≡ false }
 {
     let mut text = room(alloc)?;

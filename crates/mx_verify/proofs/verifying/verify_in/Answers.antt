@@ -1,3 +1,4 @@
+use Rattle.std.proofs.Common.{Err, Ok}
 use Rattle.sqlite.specs.Held.{state}
 use Rattle.mx_verify.specs.Stored.{AreStored}
 use Rattle.mx_verify.specs.Verifies.{TellsPoint}
@@ -16,8 +17,8 @@ returns-in_err-rows-clause-verifies g c =
     let old = state g.S.Store c.args.tx.now.conn.now in
     let mid = state g.S.Store c.is_at_point.new.tx.conn.now in
     let new = state g.S.Store c.read_rows.new.tx.conn.now in
-    verify_stops _ old new c.in_err-rows.field-0.0 c.from_residual-in_err-rows.result c.from_residual-in_err-rows.ensures.1
-    (looks_then TellsPoint AreStored old mid new c.in_ok-at_point.at_point _ c.in_ok-at_point.ensures.looks c.in_err-rows.ensures.looks)
+    verify_stops (λ trees rows. TellsPoint trees c.in_ok-at_point.at_point × AreStored trees rows) old new c.in_err-rows.field-0.0 c.from_residual-in_err-rows.result c.from_residual-in_err-rows.ensures.1
+    (looks_then TellsPoint AreStored old mid new c.in_ok-at_point.at_point (Err c.in_err-rows.field-0.0) c.in_ok-at_point.ensures.looks c.in_err-rows.ensures.looks)
 
 pub returns-clause-verifies : goal.returns-clause-verifies
 returns-clause-verifies g c =
@@ -29,4 +30,4 @@ returns-clause-verifies g c =
     let found = c.verify_tables-found.ensures in
     let finds : Finds rows c.verify_tables-found.result = record { exact = found.exact; sound = found.sound; damaged = found.damaged; undamaged = found.undamaged } in
     verify_told old new at_point rows c.verify_tables-found.result c.told_rows.result c.told_rows.ensures finds
-    (looks_then TellsPoint AreStored old mid new at_point _ c.in_ok-at_point.ensures.looks c.in_ok-rows.ensures.looks)
+    (looks_then TellsPoint AreStored old mid new at_point (Ok rows) c.in_ok-at_point.ensures.looks c.in_ok-rows.ensures.looks)
