@@ -101,6 +101,7 @@ stops_first old new e tells =
       crash = λ at book rests clean db may. inl ((still at book old new nothing rests).crash clean db may);
       placed = λ _ _. tt;
       later = λ _ _ _. tt;
+      made = λ _ _ _ _. tt;
       ended = λ _ _. tt;
       left = λ at placed clean db may. elim (nothing.survives.crash clean db may) [ inl before ↦ inl before | inr none ↦ absurd none ];
       damaged = λ at file placed clean name is. absurd (no_damage e name (place_stops old new at placed early file e tells clean) is);
@@ -171,6 +172,7 @@ module _ (old mid ready : State) (from : Point) (tells : TellsPlace old mid (Ok 
     crash = λ at book rests clean db may. inl ((still at book old ready both rests).crash clean db may);
     placed = λ _ _. tt;
     later = λ _ _ _. tt;
+    made = λ _ _ _ _. tt;
     ended = λ _ _. tt;
     left = λ at placed clean db may. inl (left_before clean db may);
     damaged = λ at file placed clean name is.
@@ -197,6 +199,7 @@ module _ (old mid ready : State) (from : Point) (tells : TellsPlace old mid (Ok 
         crash = λ at book rests clean db may. inl ((still at book old ready both rests).crash clean db may);
         placed = λ at placed. placed_point ready at from (λ clean. sym (placed_from at placed (ready_mid clean))) (placed_still at old ready both placed);
         later = λ at placed clean. (from_file, inl (sym (placed_from at placed (ready_mid clean)) ∙ newest, placed_from at placed (ready_mid clean)));
+        made = λ at placed other clean. absurd (other (sym (placed_from at placed (ready_mid clean)) ∙ newest));
         ended = λ _ _. both;
         left = λ at placed clean db may. inl (left_before clean db may);
         damaged = λ _ _ _ _. tt;
@@ -256,6 +259,10 @@ module _ (old mid ready : State) (from : Point) (tells : TellsPlace old mid (Ok 
               rests_same new (schema_at to) (MakesBy step at to ready.now.trees) (SaysAt to)
               (λ clean db makes. due_says step at to ready.now.trees db (file_fits to (later at placed clean).0) ((placed_still at old ready both placed).tables (late clean) (r.opened clean).0) makes) (made at placed);
           later = λ at placed clean. (let far = later at placed clean in (far.0, inr far.1));
+          made = λ at placed _ clean.
+              let opened = r.opened clean in
+              let makes = (made at placed).tables clean opened.1 in
+              (step, for_here at placed (late clean), subst (λ (d : Database). MakesBy step at to d.trees new.now.trees) (now_old at placed (late clean) opened.0) makes);
           ended = λ placed clean. (let far = later (settled 2) placed clean in absurd (none_behind to far.0 far.1));
           left = λ at placed. left_then at placed (Ok to) r;
           damaged = λ _ _ _ _. tt;
@@ -282,6 +289,7 @@ module _ (old mid ready : State) (from : Point) (tells : TellsPlace old mid (Ok 
           crash = λ at book rests. r.crash at book (still at book old ready both rests) (due_here at book rests);
           placed = λ _ _. tt;
           later = λ _ _ _. tt;
+          made = λ _ _ _ _. tt;
           ended = λ _ _. tt;
           left = λ at placed. left_then at placed (Err e) r;
           damaged = λ at file placed clean name is.

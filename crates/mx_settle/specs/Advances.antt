@@ -21,7 +21,7 @@ use Rattle.mx_settle.specs.Place.{AnswersAs, IsBehind, IsMoveStop, IsPlacedAt, c
 use Rattle.mx_settle.specs.declared.due.Due.{Due}
 use Rattle.mx_settle.specs.declared.place.TheConstants.{NEWEST_LAYOUT}
 
--- these trees are what some step of the move makes of those, at a later point
+-- these trees are what some step of the move makes of those, at some point
 abbrev pub IsStepOf : Point → Trees → Trees → Type 0
 IsStepOf at old new = (step : Due) × (to : Point) × IsFor step at × MakesBy step at to old new
 
@@ -35,9 +35,10 @@ pub record Advances (old new : State) (result : Result Point MoveFault) : Type 0
   pub same : (at : Point) (book : List Entry) → RestsAt at old book → IfErr result (λ e. e ≢ Store → RestsAt at new book)
   pub whole : (at : Point) (book : List Entry) → IsOfFile at → RestsAt at old book → HasCleanDisk new → IfErr result IsMoveStop
   pub crash : (at : Point) (book : List Entry) → RestsAt at old book → Leaves new (λ trees. StandsAt at trees book ⊎ StandsAt (next_point at book) trees book)
-  -- over any rows: the file is at the point that is answered, which is a later one below the newest layout; there nothing changed; each state that a crash may leave is one from before, or what a step of the move makes of the tables; and damage is a row that can't be read, or as that step names it
+  -- over any rows: the file is at the point that is answered; below the newest layout that is a later one, and the tables are what a step of the move makes of those from before, and there nothing changed; each state that a crash may leave is one from before, or what a step of the move makes of the tables; and damage is a row that can't be read, or as that step names it
   pub placed : (at : Point) → IsPlacedAt at old → IfOk result (λ to. IsPlacedAt to new)
   pub later : (at : Point) → IsPlacedAt at old → HasCleanDisk new → IfOk result (λ to. IsOfFile to × (((at ≡ settled NEWEST_LAYOUT) × (to ≡ at)) ⊎ IsBehind at to))
+  pub made : (at : Point) → IsPlacedAt at old → at ≢ settled NEWEST_LAYOUT → HasCleanDisk new → IfOk result (λ to. (step : Due) × IsFor step at × MakesBy step at to old.now.trees new.now.trees)
   pub ended : IsPlacedAt (settled NEWEST_LAYOUT) old → HasCleanDisk new → OnOk result (ChangesNothing old new)
   pub left : (at : Point) → IsPlacedAt at old → Leaves new (λ trees. old.may_leave trees ⊎ IsStepOf at old.now.trees trees)
   pub damaged : (at : Point) → IsOfFile at → IsPlacedAt at old → HasCleanDisk new → IfErr result (λ e. (name : TableName) → e ≡ Damaged name → IsUnfit name old.now.trees ⊎ ((step : Due) × IsFor step at × IsOffFor step at name old.now.trees))
