@@ -18,7 +18,10 @@ fn append_fault(out: &mut String, fault: MoveFault) -> Result<(), AllocError> {
 }
 
 /// The point that a file is at, or why it did not get there.
-pub(crate) fn step_text(alloc: Global, made: Result<Point, MoveFault>) -> Result<String, AllocError> {
+pub(crate) fn step_text(
+    alloc: Global,
+    made: Result<Point, MoveFault>,
+) -> Result<String, AllocError> {
     let mut text = room(alloc)?;
     match made {
         Ok(at) => {
