@@ -1,16 +1,17 @@
 -- The rows that are read of a file are those of its tables, and say whether these have the rows of a book.
-use Rattle.std.proofs.Common.{◌≡◌, ◌⊎◌, inl, inr, true, List, [], ◌∷◌, ◌++◌, map, All, Ok, Err, Result, refl, sym, ap, subst, arith}
-use Rattle.std.specs.Prelude.{IsPermutation, IfErr, Contains}
+use Rattle.std.proofs.Common.{◌≡◌, ◌⊎◌, ◌∙◌, inl, inr, ℕ, ◌^◌, true, false, List, [], ◌∷◌, ◌++◌, map, All, Ok, Err, Result, refl, sym, ap, subst, arith}
+use Rattle.std.specs.Prelude.{IsErrAnd, IsPermutation, IfErr, Contains}
 use Rattle.std.proofs.lemmas.List.Sorted.{All-permutation, IsPermutation-map, IsPermutation-refl, IsPermutation-sym, IsPermutation-trans, length_permutation}
 use Rattle.std.proofs.lemmas.List.Elements.{All-map, All-head, All-from_recursion, All-contains}
 use Rattle.std.proofs.lemmas.Simd.{map-map}
 use Rattle.sqlite.specs.Order.{Row}
 use Rattle.sqlite.specs.Schema.{Schema}
-use Rattle.sqlite.specs.State.{State}
+use Rattle.sqlite.specs.State.{State, HasCleanDisk}
 use Rattle.sqlite.specs.Tree.{Trees}
 use Rattle.mx_command.specs.Act.{Entry}
 use Rattle.mx_book.specs.Book.{IsBook}
 use Rattle.mx_typed_rows.specs.declared.rows.Sector2Row.{Sector2Row}
+use Rattle.mx_typed_rows.specs.declared.rows.SectorRow.{SectorRow}
 use Rattle.mx_points.specs.Tables.{Line, rows_at, is_table_at, entries_all, aircraft_all, places_all, components_all, programmes_all, tasks_all, openings_all, releases_all, release_lines_all, deferrals_all, extensions_all, sectors_2, spans_2, totals_2, bases_2}
 use Rattle.mx_layout.specs.TableName.{TableName}
 use Rattle.mx_layout.specs.declared.fault.TableFault.{TableFault}
@@ -18,7 +19,7 @@ use Rattle.mx_layout.specs.declared.fault.TableFault.TheVariants as fault
 use Rattle.mx_layout.specs.declared.fault.Table.TheVariants as table
 use Rattle.mx_layout.specs.Contents.{rows_in}
 use Rattle.mx_layout.specs.Names.{table_named}
-use Rattle.mx_layout.specs.Point.{IsPoint, point_cells}
+use Rattle.mx_layout.specs.Point.{FitsPoint, IsPoint, IsStop, point_cells}
 use Rattle.mx_layout.specs.Reading.{AreAllBy}
 use Rattle.mx_layout.specs.Tables.{office}
 use Rattle.mx_kept.specs.Kept.{Kept}
