@@ -5,7 +5,7 @@ use Rattle.sqlite.specs.Store.{Ghosts}
 use Rattle.sqlite.specs.Schema.{Schema}
 use Rattle.sqlite.specs.Tree.{Trees}
 use Rattle.sqlite.specs.Effect.{Database}
-use Rattle.sqlite.specs.State.{HasCleanDisk, Shows, Survives, IsRolledBack}
+use Rattle.sqlite.specs.State.{State, HasCleanDisk, Shows, Survives, IsRolledBack}
 use Rattle.sqlite.specs.Held.{Held, state}
 use Rattle.sqlite.proofs.Callers.{survives_begin}
 use Rattle.sqlite.proofs.StateLemmas.{survives_then}
@@ -24,7 +24,7 @@ use Rattle.mx_stands.specs.Family.{is_at}
 use Rattle.mx_stands.specs.Schemas.{schema_at}
 use Rattle.mx_stands.specs.Stands.{IsEither, RestsAt, StandsAt}
 use Rattle.mx_stands.proofs.SchemaLemmas.{has_tables}
-use Rattle.mx_tables.specs.Calls.{OnDamaged}
+use Rattle.mx_tables.specs.Calls.{OnDamaged, OnRead}
 use Rattle.mx_tables.specs.Sets.{GainsRows}
 use Rattle.mx_writing.specs.Commits.{MayWrite}
 use Rattle.mx_writing.specs.Written.{IsSettled, with_rows, written_point}
@@ -39,6 +39,15 @@ left : (book : List Entry) (command : Entry) (a : Reply) → ((seq : ℕ) → a 
 left book command (answers.Accepted seq) never = absurd (never seq refl)
 left book command (answers.Already seq) never = refl
 left book command (answers.Refused refusal) never = refl
+
+-- a call that answered inside a transaction found the connection open
+open_of : {V : Type 0} (old new : State) (result : Result V TableFault) → OnRead result (StaysInside old new) → OnRead result (IsTrue old.is_open)
+open_of old new (Ok v) stays = stays.was_open
+open_of old new (Err fault.Memory) stays = tt
+open_of old new (Err fault.Store) stays = tt
+open_of old new (Err fault.NotOurs) stays = tt
+open_of old new (Err fault.Exists) stays = tt
+open_of old new (Err (fault.Damaged name)) stays = stays.was_open
 
 module _ {S : Type 0} (g : Ghosts S) (old last : Held S) (command : Entry) where
   abbrev begun : Held S
@@ -89,6 +98,8 @@ module _ {S : Type 0} (g : Ghosts S) (old last : Held S) (command : Entry) where
           cause = runs.cause;
           judged = λ clean has. runs.judged (mid clean) has;
           untouched = λ _. nothing;
+          was_open = λ clean. open_of (state g begun) (state g last) result (runs.inside (mid clean) refl);
+          damaged = λ clean has. runs.damaged (mid clean) has;
           written = λ _ seq is. absurd (never seq is);
           survives = survive;
           said = said;
@@ -148,6 +159,8 @@ module _ {S : Type 0} (g : Ghosts S) (old last : Held S) (command : Entry) where
         cause = inr (inl refl);
         judged = λ _ _. tt;
         untouched = λ idle. absurd (idle.store refl);
+        was_open = λ _. tt;
+        damaged = λ _ _ name is. cc;
         written = λ _ _ is. absurd cc;
         survives = survives_it;
         said = λ _ _ _. inr refl;
@@ -162,6 +175,8 @@ module _ {S : Type 0} (g : Ghosts S) (old last : Held S) (command : Entry) where
         cause = tt;
         judged = λ clean has. runs.judged (late clean) has;
         untouched = λ idle. absurd (idle.accepted seq refl);
+        was_open = λ clean. opened (late clean);
+        damaged = λ _ _ name is. cc;
         written = λ clean n is.
             let it = runs.wrote (late clean) refl in
             let same : seq ≡ n = cc in (

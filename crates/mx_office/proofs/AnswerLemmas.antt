@@ -1,50 +1,29 @@
--- The exits of a question.
-use Rattle.std.proofs.Common.{◌≡◌, ◌≢◌, ◌⊎◌, inl, inr, List, Option, Some, None, Result, Ok, Err, sym, ap, ◌∙◌}
-use Rattle.std.specs.Result.{IsErr, IsErrAnd, MatchResult}
-use Rattle.mx_book.specs.declared.verdict.Refusal.{Refusal}
-use Rattle.mx_office.specs.declared.fault.Fault.{Fault}
-use Rattle.mx_layout.specs.declared.fault.Table.{Table}
-use Rattle.mx_office.specs.declared.fault.Fault.TheVariants.{Memory, Store, Damaged}
-use Rattle.mx_office.specs.declared.fault.Ask.{Ask}
-use Rattle.mx_office.specs.declared.fault.Ask.TheVariants.{Failed}
-use Rattle.mx_office.specs.declared.fault.OpenFault.{OpenFault}
-use Rattle.mx_office.specs.declared.fault.OpenFault.TheVariants as unopened
+-- Why no office is opened.
+use Rattle.std.proofs.Common.{◌≡◌, ◌≢◌, ◌⊎◌, inl, inr, ℕ, Bool, true, false, cond, IsTrue, ◌&&◌, List, [], ◌∷◌, Some, None, refl, sym, ap, ◌∙◌, arith}
+use Rattle.std.specs.Prelude.{nat_eq}
+use Rattle.std.proofs.lemmas.Bool.{eqb-true}
+use Rattle.sqlite.specs.State.{State, HasCleanDisk}
+use Rattle.mx_book.proofs.JudgeLemmas.{both_true}
+use Rattle.mx_layout.specs.Contents.{rows_in}
+use Rattle.mx_layout.specs.Listed.{LacksOffice}
+use Rattle.mx_layout.specs.Tables.{office, HasOffice}
+use Rattle.mx_point.specs.declared.point.Point.{Point}
+use Rattle.mx_points.specs.Points.{is_on_way}
+use Rattle.sqlite.specs.Order.{Row}
+use Rattle.mx_layout.specs.Point.{point_cells, FitsPoint, HoldsPoint, IsStop, IsNoPoint}
 use Rattle.mx_layout.specs.declared.fault.TableFault.{TableFault}
 use Rattle.mx_layout.specs.declared.fault.TableFault.TheVariants.{NotOurs}
-use Rattle.mx_layout.specs.Point.{IsStop, IsNoPoint}
-use Rattle.sqlite.specs.Order.{Row}
-use Rattle.sqlite.specs.State.{HasCleanDisk}
-use Rattle.sqlite.specs.Store.{Ghosts}
-use Rattle.mx_command.specs.Act.{Entry}
-use Rattle.mx_office.specs.Layout.{HasTables}
-use Rattle.mx_office.specs.declared.office.Office.{Office}
-use Rattle.mx_office.specs.Faults.{open_fault_from, found_or, IsAnswer, IsReason, IsUnopened}
-use Rattle.mx_office.specs.Office.{office_state, IsReady, StandsFor}
-use Rattle.mx_office.specs.Questions.{IsAnsweredBy}
-use Rattle.mx_office.specs.Stands.{HoldsBook, IsReasonFor}
-
--- want of memory or the store stopped reading the book
-pub stopped : {V : Type 0} (P : V → Type 0) (result : Result V Fault) (f : Fault) → IsErr result × IsErrAnd result (λ it. it ≡ f) → (f ≡ Memory) ⊎ (f ≡ Store) → MatchResult result P (λ it. (it ≡ Memory) ⊎ (it ≡ Store))
-stopped P (Ok v) f is why = (cc)
-stopped P (Err it) f is why = elim why [ inl memory ↦ inl (is.1 ∙ memory) | inr store ↦ inr (is.1 ∙ store) ]
-
-pub stopped_answer : {X : Type 0} (said result : Result X Ask) (f : Fault) → IsErr result × IsErrAnd result (λ it. it ≡ Failed f) → (f ≡ Memory) ⊎ (f ≡ Store) → IsAnswer said result
-stopped_answer said (Ok x) f is why = (cc)
-stopped_answer said (Err it) f is why = elim why [ inl memory ↦ inr (inl (ap Err (is.1 ∙ ap Failed memory))) | inr store ↦ inr (inr (ap Err (is.1 ∙ ap Failed store))) ]
+use Rattle.mx_layout.specs.declared.fault.Table.TheVariants.{Office}
+use Rattle.mx_office.specs.Faults.{is_office_point, open_answer, open_fault_from, IsReason, IsUnopened}
+use Rattle.mx_office.specs.Layout.{office_point}
+use Rattle.mx_office.specs.Opening.{HasReason, WasOurs}
+use Rattle.mx_office.specs.declared.fault.OpenFault.{OpenFault}
+use Rattle.mx_office.specs.declared.fault.OpenFault.TheVariants as unopened
+use Rattle.mx_office.proofs.StandsLemmas.{rests_point}
 
 -- want of memory or the store stopped the opening
 pub open_stops : (f : TableFault) (answered : OpenFault) → answered ≡ open_fault_from f → IsStop f → (answered ≡ unopened.Memory) ⊎ (answered ≡ unopened.Store)
 open_stops f answered is why = elim why [ inl memory ↦ inl (is ∙ ap open_fault_from memory) | inr store ↦ inr (is ∙ ap open_fault_from store) ]
-
--- what stopped reading the book is no damage
-pub no_damage : {V : Type 0} (result : Result V Fault) (f : Fault) (table : Table) → IsErr result × IsErrAnd result (λ it. it ≡ f) → (f ≡ Memory) ⊎ (f ≡ Store) → result ≡ Err (Damaged table) → ⊥
-no_damage (Ok v) f table is why same = cc
-no_damage (Err it) f table is why same = let said : it ≡ f = is.1 in elim why [ inl memory ↦ cc | inr store ↦ cc ]
-
--- a question that is stopped is not answered
-pub not_stopped : {X : Type 0} {P : Type 0} (result : Result X Ask) (f : Fault) → IsErr result × IsErrAnd result (λ it. it ≡ Failed f) → ((fault : Fault) → result ≢ Err (Failed fault)) → P
-not_stopped (Ok x) f is goes = cc
-not_stopped (Err it) f is goes = absurd (goes f (ap Err is.1))
 
 -- why the point could not be read is why no office was opened
 pub open_reason : (rows : List Row) (f : TableFault) (answered : OpenFault) → answered ≡ open_fault_from f → IsStop f ⊎ IsNoPoint rows f → IsReason rows answered
@@ -57,41 +36,52 @@ pub open_absent : (f : TableFault) (answered : OpenFault) → answered ≡ open_
 open_absent f answered is (inl stop) = inr (open_stops f answered is stop)
 open_absent f answered is (inr none) = inl (ap Some (sym (is ∙ ap open_fault_from none)))
 
--- the fault that is answered is the one that stopped the call
-pub same_fault : {V : Type 0} (result : Result V Fault) (f said : Fault) → IsErr result × IsErrAnd result (λ it. it ≡ f) → result ≡ Err said → f ≡ said
-same_fault (Ok v) f said is same = cc
-same_fault (Err it) f said is same = let one : it ≡ f = is.1 in cc
+-- ── the point was read ──
 
-pub same_asked : {X : Type 0} (result : Result X Ask) (f said : Fault) → IsErr result × IsErrAnd result (λ it. it ≡ Failed f) → result ≡ Err (Failed said) → f ≡ said
-same_asked (Ok x) f said is same = cc
-same_asked (Err it) f said is same = let one : it ≡ Failed f = is.1 in cc
+decides : (newer own older : Bool) (one two three : OpenFault) → cond newer (Some one) (cond own None (cond older (Some two) (Some three))) ≡ None → own ≡ true
+decides true own older one two three is = cc
+decides false true older one two three is = refl
+decides false false true one two three is = cc
+decides false false false one two three is = cc
 
--- ── a question, over what reading the book answered ──
+is_point : (p : Point) → is_office_point p ≡ true → p ≡ office_point
+is_point p is =
+    let first = both_true (nat_eq p.layout office_point.layout && nat_eq p.step office_point.step) (nat_eq p.mark office_point.mark) is in
+    let rest = both_true (nat_eq p.layout office_point.layout) (nat_eq p.step office_point.step) first.0 in
+    let layout = eqb-true p.layout office_point.layout rest.0 in
+    let step = eqb-true p.step office_point.step rest.1 in
+    let mark = eqb-true p.mark office_point.mark first.1 in
+    λ i. record { layout = layout i; step = step i; mark = mark i }
 
--- what is found is no fault
-never_failed : {X : Type 0} (refusal : Refusal) (said : Option X) (fault : Fault) → found_or refusal said ≡ Err (Failed fault) → ⊥
-never_failed refusal (Some x) fault is = cc
-never_failed refusal None fault is = cc
+-- an office is opened at its point alone
+pub opens_at : (p : Point) → open_answer p ≡ None → p ≡ office_point
+opens_at p is = is_point p (decides _ (is_office_point p) (is_on_way p) _ _ _ is)
 
-module _ {S : Type 0} {g : Ghosts S} {X : Type 0} (old new : Office S g) (result : Result X Ask) where
-  -- reading the book stopped
-  pub stopped_question : {V : Type 0} (said : List Entry → Result X Ask) (f : Fault) → IsErr result × IsErrAnd result (λ it. it ≡ Failed f)
-      → ((book : List Entry) → IsReady old → StandsFor old book → HasCleanDisk (office_state new) → (f ≡ Memory) ⊎ (f ≡ Store))
-      → (HasCleanDisk (office_state new) → HasTables (office_state old).now.schema → (table : Table) → ◌≡◌ {A = Result V Fault} (Err f) (Err (Damaged table)) → IsReasonFor (office_state old).now.trees table)
-      → IsAnsweredBy said old new result
-  stopped_question said f is exact damaged = record {
-    exact = λ book works rests clean. stopped_answer (said book) result f is (exact book works rests clean);
-    sound = λ clean has goes. not_stopped result f is goes;
-    damaged = λ clean has table same. damaged clean has table (ap Err (same_asked result f (Damaged table) is same));
-  }
+never_not_ours : (newer own older : Bool) (layout : ℕ) (why : OpenFault) → cond newer (Some (unopened.NewerLayout layout)) (cond own None (cond older (Some (unopened.OlderLayout layout)) (Some (unopened.Damaged Office)))) ≡ Some why → why ≢ unopened.NotOurs
+never_not_ours true own older layout why is same = cc
+never_not_ours false true older layout why is same = cc
+never_not_ours false false true layout why is same = cc
+never_not_ours false false false layout why is same = cc
 
-  -- the book was read, and this is the answer of that book
-  pub found_question : (refusal : Refusal) (found : List Entry → Option X) (held : List Entry) → result ≡ found_or refusal (found held)
-      → ((book : List Entry) → IsReady old → StandsFor old book → HasCleanDisk (office_state new) → held ≡ book)
-      → (HasCleanDisk (office_state new) → HasTables (office_state old).now.schema → HoldsBook (office_state old).now.trees held)
-      → IsAnsweredBy (λ book. found_or refusal (found book)) old new result
-  found_question refusal found held is exact sound = record {
-    exact = λ book works rests clean. inl (is ∙ ap (λ b. found_or refusal (found b)) (exact book works rests clean));
-    sound = λ clean has goes. (held, sound clean has, is);
-    damaged = λ clean has table same. absurd (never_failed refusal (found held) (Damaged table) (sym is ∙ same));
-  }
+-- the point says why none is opened
+pub point_reason : (was : State) (p : Point) (why : OpenFault) → open_answer p ≡ Some why → ((IsTrue was.is_open → HasOffice was.now.schema) → rows_in office was.now.trees ≡ point_cells p ∷ [])
+    → ((q : Point) → (IsTrue was.is_open → HoldsPoint q was.now) → FitsPoint q → p ≡ q) → ((IsTrue was.is_open → LacksOffice was.now.schema) → ⊥) → HasCleanDisk was → HasReason was why
+point_reason was p why is reads exact absent clean = record {
+  exact = λ q holds fits. inl (ap open_answer (sym (exact q holds fits)) ∙ is);
+  reason = λ has. inr (inr (inr (p, reads has, is)));
+  not_ours = λ has same. absurd (never_not_ours _ (is_office_point p) (is_on_way p) p.layout why is same);
+  absent = λ none. absurd (absent none);
+  whole = λ book rests.
+      let same : p ≡ office_point = exact office_point (rests_point was book rests clean) (omega arith, omega arith, omega arith) in
+      let none : None ≡ Some why = ap open_answer (sym same) ∙ is in absurd (cc);
+}
+
+pub point_ours : (was : State) (p : Point) → open_answer p ≡ None → ((IsTrue was.is_open → HasOffice was.now.schema) → rows_in office was.now.trees ≡ point_cells p ∷ [])
+    → ((q : Point) → (IsTrue was.is_open → HoldsPoint q was.now) → FitsPoint q → p ≡ q) → ((IsTrue was.is_open → LacksOffice was.now.schema) → ⊥) → WasOurs was
+point_ours was p is reads exact absent =
+    let same = opens_at p is in
+    record {
+      settled = λ has. reads has ∙ ap (λ q. point_cells q ∷ []) same;
+      exact = λ q holds fits. ap open_answer (sym (exact q holds fits)) ∙ is;
+      found = absent;
+    }

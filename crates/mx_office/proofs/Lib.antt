@@ -1,9 +1,8 @@
-pub mod FamilyLemmas
-pub mod LoadLemmas
 pub mod StandsLemmas
 pub mod OfficeLemmas
-pub mod OnTopLemmas
-pub mod RunLemmas
+pub mod AppliedLemmas
+pub mod HandLemmas
+pub mod LookLemmas
 pub mod AnswerLemmas
 pub mod CallLemmas
 pub mod Worked

@@ -1,13 +1,11 @@
 -- The faults of the office that faults of the tables are, and the answers to a question.
 use Rattle.std.specs.Prelude.{◌≡◌, ◌≢◌, ◌⊎◌, List, [], ◌∷◌, length, nat_lt, nat_eq, ◌&&◌, if◌then◌else◌, Bool, Option, Some, None, Result, Ok, Err}
-use Rattle.mx_command.specs.declared.item.Item.{Item}
-use Rattle.mx_command.specs.declared.item.Item.TheVariants.{Airframe, Component}
 use Rattle.mx_book.specs.declared.verdict.Refusal.{Refusal}
-use Rattle.mx_book.specs.declared.verdict.Refusal.TheVariants.{UnknownAircraft, UnknownComponent}
 use Rattle.mx_layout.specs.declared.fault.Table.TheVariants.{Office}
 use Rattle.mx_layout.specs.declared.fault.TableFault.{TableFault}
 use Rattle.mx_layout.specs.declared.fault.TableFault.TheVariants as table
 use Rattle.mx_point.specs.declared.point.Point.{Point}
+use Rattle.mx_points.specs.Points.{is_on_way}
 use Rattle.mx_layout.specs.Point.{point_cells, IsPoint}
 use Rattle.mx_layout.specs.Reading.{HasOther}
 use Rattle.sqlite.specs.Order.{Row}
@@ -39,14 +37,20 @@ open_fault_from table.Exists = unopened.Store
 abbrev pub is_office_point : Point → Bool
 is_office_point p = nat_eq p.layout office_point.layout && nat_eq p.step office_point.step && nat_eq p.mark office_point.mark
 
--- why no office was opened, where the file is at this point: its layout is newer than that of the office, or no file can be at the point
+-- why no office was opened, where the file is at this point: its layout is newer than that of the office, it is on the way from an older one, or no file can be at the point
 abbrev pub open_answer : Point → Option OpenFault
-open_answer p = if nat_lt office_point.layout p.layout then Some (unopened.NewerLayout p.layout) else if is_office_point p then None else Some (unopened.Damaged Office)
+open_answer p = if nat_lt office_point.layout p.layout then Some (unopened.NewerLayout p.layout) else if is_office_point p then None else if is_on_way p then Some (unopened.OlderLayout p.layout) else Some (unopened.Damaged Office)
 
--- why an item is unknown
-abbrev pub unknown : Item → Refusal
-unknown (Airframe tail) = UnknownAircraft
-unknown (Component serial) = UnknownComponent
+-- what a call answers, of what was looked up: a fault of the tables is one of the office
+abbrev pub call_answer : {X : Type 0} → Result X TableFault → Result X Fault
+call_answer (Ok x) = Ok x
+call_answer (Err fault) = Err (fault_from fault)
+
+-- what a question is answered, of what was looked up
+abbrev pub question_answer : {X : Type 0} → Result (Result X Refusal) TableFault → Result X Ask
+question_answer (Ok (Ok x)) = Ok x
+question_answer (Ok (Err refusal)) = Err (Refused refusal)
+question_answer (Err fault) = Err (Failed (fault_from fault))
 
 -- what was asked for, or the refusal where there is none
 abbrev pub found_or : {X : Type 0} → Refusal → Option X → Result X Ask

@@ -1,8 +1,9 @@
 //! What stops a call of the office, and what a run answers.
-ghost use Rattle.std.specs.Prelude.{◌≡◌};
-ghost use Rattle.mx_office.specs.Faults.{fault_from, open_fault_from};
+ghost use Rattle.std.specs.Prelude.{◌≡◌, ◌↔◌, IsTrue, Some};
+ghost use Rattle.mx_office.specs.Calls.{stop_asking, stop_in};
+ghost use Rattle.mx_office.specs.Faults.{call_answer, fault_from, open_fault_from, question_answer};
 
-use mx_book::{NoMemory, Refusal, Reply};
+use mx_book::{Refusal, Reply};
 use mx_layout::{Table, TableFault};
 
 /// What stopped a call.
@@ -46,40 +47,6 @@ pub enum Ask {
     Failed(Fault),
 }
 
-impl From<Fault> for Ask {
-    ghost use Rattle.std.specs.Prelude.{◌≡◌};
-    ghost use Rattle.mx_office.specs.declared.fault.Ask.TheVariants.{Failed};
-
-    ghost from_gives = { λ fault ask. ask ≡ Failed fault };
-
-    fn from(fault: Fault) -> Ask {
-        Ask::Failed(fault)
-    }
-}
-
-impl From<NoMemory> for Fault {
-    ghost use Rattle.std.specs.Prelude.{◌≡◌};
-    ghost use Rattle.mx_office.specs.declared.fault.Fault.TheVariants.{Memory};
-
-    ghost from_gives = { λ _ fault. fault ≡ Memory };
-
-    fn from(_none: NoMemory) -> Fault {
-        Fault::Memory
-    }
-}
-
-impl From<NoMemory> for Ask {
-    ghost use Rattle.std.specs.Prelude.{◌≡◌};
-    ghost use Rattle.mx_office.specs.declared.fault.Ask.TheVariants.{Failed};
-    ghost use Rattle.mx_office.specs.declared.fault.Fault.TheVariants.{Memory};
-
-    ghost from_gives = { λ _ ask. ask ≡ Failed Memory };
-
-    fn from(_none: NoMemory) -> Ask {
-        Ask::Failed(Fault::Memory)
-    }
-}
-
 /// What a run answered, and what stopped it.
 #[derive(Drop)]
 pub struct Outcomes {
@@ -110,4 +77,39 @@ pub(crate) fn open_fault_of(fault: TableFault) -> OpenFault
         TableFault::Damaged(table) => OpenFault::Damaged(table),
         TableFault::Store | TableFault::Exists => OpenFault::Store,
     }
+}
+
+/// What a call answers, of what was looked up or applied.
+pub(crate) fn call_answer<T>(found: Result<T, TableFault>) -> Result<T, Fault>
+    ensures { result ≡ call_answer found }
+{
+    match found {
+        Ok(value) => Ok(value),
+        Err(fault) => Err(fault_of(fault)),
+    }
+}
+
+/// What a question is answered, of what was looked up.
+pub(crate) fn question_answer<T>(found: Result<Result<T, Refusal>, TableFault>) -> Result<T, Ask>
+    ensures { result ≡ question_answer found }
+{
+    match found {
+        Ok(Ok(value)) => Ok(value),
+        Ok(Err(refusal)) => Err(Ask::Refused(refusal)),
+        Err(fault) => Err(Ask::Failed(fault_of(fault))),
+    }
+}
+
+/// Whether the store stopped a call.
+pub(crate) fn call_failed<T>(answer: &Result<T, Fault>) -> bool
+    ensures { IsTrue result ↔ (stop_in answer.now ≡ Some Fault.Store) }
+{
+    matches!(answer, Err(Fault::Store))
+}
+
+/// Whether the store stopped a question.
+pub(crate) fn question_failed<T>(answer: &Result<T, Ask>) -> bool
+    ensures { IsTrue result ↔ (stop_asking answer.now ≡ Some Fault.Store) }
+{
+    matches!(answer, Err(Ask::Failed(Fault::Store)))
 }

@@ -1,13 +1,11 @@
-//! The office: the tables of one book in a database file. A command is applied in one commit, and a question is
-//! answered from the tables; whatever stops a call, the file is that of one book.
+//! The office: the tables of one book in a database file. A command is judged by rows and applied in one commit, and a
+//! question is answered from the rows that it needs; whatever stops a call, the file is that of one book.
 #![tactic(auto)]
 
-mod adding;
-mod answering;
+mod asking;
 mod calls;
 pub mod fault;
 pub mod laws;
-mod loading;
 pub mod office;
 mod opening;
 mod questions;

@@ -2,20 +2,49 @@
 ghost use Rattle.std.specs.Prelude.{◌≡◌, None, Some, false, IfOk, IfErr, MatchResult};
 ghost use Rattle.sqlite.specs.Held.{state};
 ghost use Rattle.sqlite.specs.State.{HasCleanDisk};
+ghost use Rattle.mx_points.specs.Points.{is_on_way};
+ghost use Rattle.mx_office.specs.Faults.{open_answer};
 ghost use Rattle.mx_office.specs.Office.{office_state, IsReady};
 ghost use Rattle.mx_office.specs.Opening.{HasReason, LeavesAll, SaysPoint, WasOurs};
 
 use crate::fault::{OpenFault, open_fault_of};
 use crate::office::Office;
+use mx_book::judging::MOST_ENTRIES;
 use mx_layout::{Table, point};
+use mx_point::Point;
 use sqlite::{Alter, Connection};
 
 /// The newest layout of the tables.
-pub const NEWEST_LAYOUT: u8 = 1;
+pub const NEWEST_LAYOUT: u8 = 2;
+
+// Whether a file can be at a point on the way to the newest layout.
+fn is_on_way(at: Point) -> bool
+    ensures { result ≡ is_on_way at }
+{
+    at.layout == 1
+        && at.step <= 4
+        && at.mark as usize <= MOST_ENTRIES
+        && (at.step != 0 || at.mark == 0)
+}
+
+// Why no office is opened in a file at a point, unless that is the one of the office.
+fn open_answer(at: Point) -> Option<OpenFault>
+    ensures { result ≡ open_answer at }
+{
+    if at.layout > NEWEST_LAYOUT {
+        Some(OpenFault::NewerLayout(at.layout))
+    } else if at.layout == NEWEST_LAYOUT && at.step == 0 && at.mark == 0 {
+        None
+    } else if is_on_way(at) {
+        Some(OpenFault::OlderLayout(at.layout))
+    } else {
+        Some(OpenFault::Damaged(Table::Office))
+    }
+}
 
 /// Opens the office that a database holds. Nothing is changed; where it isn't opened the connection is handed
-/// back with the reason: `NotOurs`, `NewerLayout`, `Damaged` where the point can't be read or is none that a
-/// file can be at, `Memory` or `Store`.
+/// back with the reason: `NotOurs`, `NewerLayout`, `OlderLayout`, `Damaged` where the point can't be read or is
+/// none that a file can be at, `Memory` or `Store`.
 pub fn open_office<S: Alter>(
     mut conn: Connection<S>,
 ) -> Result<Office<S>, (Connection<S>, OpenFault)>
@@ -35,18 +64,13 @@ pub fn open_office<S: Alter>(
         → HasReason (state S.Store conn) e.1) }
 {
     match point(&mut conn) {
-        Ok(at) => {
-            if at.layout > NEWEST_LAYOUT {
-                return Err((conn, OpenFault::NewerLayout(at.layout)));
-            }
-            if at.layout != NEWEST_LAYOUT || at.step != 0 || at.mark != 0 {
-                return Err((conn, OpenFault::Damaged(Table::Office)));
-            }
-            Ok(Office {
+        Ok(at) => match open_answer(at) {
+            None => Ok(Office {
                 conn,
                 needs_reopen: false,
-            })
-        }
+            }),
+            Some(fault) => Err((conn, fault)),
+        },
         Err(fault) => Err((conn, open_fault_of(fault))),
     }
 }

@@ -1,0 +1,34 @@
+use Rattle.std.proofs.Common.{rules, None, Some, sym, subst, arith}
+use Rattle.sqlite.specs.Held.{state}
+use Rattle.mx_office.specs.Calls.{HandsIn}
+use Rattle.mx_office.proofs.HandLemmas.{handed_more, handed_none, handed_stop, next_taken}
+use Rattle.mx_office.proofs.running.run_by_rows.Goals as goal
+
+pub loop-command-init : goal.loop-command-init
+loop-command-init g c = record {
+  count = search rules;
+  room = search rules;
+  idle = search rules;
+  so_far = subst (λ said. HandsIn c.args.commands.now said None (state g.S.Store c.args.conn.now) (state g.S.Store c.args.conn.now)) (sym c.requires.begins) (handed_none c.args.commands.now (state g.S.Store c.args.conn.now));
+}
+
+pub loop-command-preserved : goal.loop-command-preserved
+loop-command-preserved g c =
+    let cs = c.args.commands.now in
+    let said = c.loop-command.said.items in
+    let next = next_taken cs said c.loop-command.command-index c.command-item.result c.loop-command.invariant.count (omega (arith, c.loop-command-test.true)) c.command-item.is in
+    record {
+      count = search rules;
+      room = search rules;
+      idle = c.apply.ensures.idle;
+      so_far = subst (λ rs. HandsIn cs rs None (state g.S.Store c.args.conn.now) (state g.S.Store c.apply.new.conn)) (sym c.push_reserved.ensures.items)
+          (handed_more cs said c.command-item.result (state g.S.Store c.args.conn.now) (state g.S.Store c.loop-command.conn) (state g.S.Store c.apply.new.conn) next c.loop-command.invariant.so_far c.in-Ok.reply c.in-Ok.ensures.applies);
+    }
+
+pub returns-in-Err-clause-hands_in : goal.returns-in-Err-clause-hands_in
+returns-in-Err-clause-hands_in g c =
+    let cs = c.args.commands.now in
+    let said = c.loop-command.said.items in
+    let next = next_taken cs said c.loop-command.command-index c.command-item.result c.loop-command.invariant.count (omega (arith, c.loop-command-test.true)) c.command-item.is in
+    subst (λ f. HandsIn cs said (Some f) (state g.S.Store c.args.conn.now) (state g.S.Store c.apply.new.conn)) (sym c.fault_of.ensures)
+    (handed_stop cs said c.command-item.result (state g.S.Store c.args.conn.now) (state g.S.Store c.loop-command.conn) (state g.S.Store c.apply.new.conn) next c.loop-command.invariant.so_far c.in-Err.fault c.in-Err.ensures.applies)
