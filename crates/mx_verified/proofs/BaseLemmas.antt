@@ -117,7 +117,7 @@ act_says book number id (Deferred d) = refl
 act_says book number id (Extended x) = refl
 
 -- some opening states, or some line certifies, the task of the item with the number
-abbrev rows_say : ℕ → List ℕ → List OpeningRow → List ReleaseLineRow → Bool
+abbrev pub rows_say : ℕ → List ℕ → List OpeningRow → List ReleaseLineRow → Bool
 rows_say number id openings lines = list_any (states number id) openings || list_any (certifies number id) lines
 
 abbrev Says : List Entry → Type 0
@@ -213,7 +213,7 @@ bases_same a b h =
     let two = both (nat_eq a.cycles b.cycles) (nat_eq a.day b.day) one.1 in
     ap (λ n. record a { minutes = n }) ((Decides-eqb a.minutes b.minutes).0 one.0) ∙ ap (λ n. record { minutes = b.minutes; cycles = n; day = a.day }) ((Decides-eqb a.cycles b.cycles).0 two.0) ∙ ap (λ n. record { minutes = b.minutes; cycles = b.cycles; day = n }) ((Decides-eqb a.day b.day).0 two.1)
 
-base_self : (a : Base) → same_base a a ≡ true
+pub base_self : (a : Base) → same_base a a ≡ true
 base_self a = ap (λ b. b && (nat_eq a.cycles a.cycles && nat_eq a.day a.day)) ((Decides-eqb a.minutes a.minutes).1 refl) ∙ ap (λ b. b && nat_eq a.day a.day) ((Decides-eqb a.cycles a.cycles).1 refl) ∙ (Decides-eqb a.day a.day).1 refl
 
 is_there : (number : ℕ) (id : List ℕ) (rows : List BaseRow) → is_some (base_in rows number id) ≡ has_key number id rows
@@ -232,7 +232,7 @@ no_base : (o : Option Base) → is_some o ≡ false → o ≡ None
 no_base None h = refl
 no_base (Some b) h = (cc)
 
-all_both : {X : Type 0} (p : X → Bool) (x : X) (xs : List X) → list_all p (x ∷ xs) ≡ true → (p x ≡ true) × (list_all p xs ≡ true)
+pub all_both : {X : Type 0} (p : X → Bool) (x : X) (xs : List X) → list_all p (x ∷ xs) ≡ true → (p x ≡ true) × (list_all p xs ≡ true)
 all_both p x xs h = both (p x) (list_all p xs) h
 
 module _ (book : List Entry) (b : IsBook book) where
@@ -295,7 +295,7 @@ module _ (book : List Entry) (b : IsBook book) where
   either_of false q P f g h = g h
 
   -- rows that are right, distinct and complete are the last bases
-  they_are : (rows : List BaseRow) → AreKeyedOnce rows → list_all (is_last_base book) rows ≡ true → list_all (is_stated_in rows) (opening_rows book) ≡ true → list_all (is_certified_in rows) (release_line_rows book) ≡ true → IsPermutation rows (base_rows book)
+  pub they_are : (rows : List BaseRow) → AreKeyedOnce rows → list_all (is_last_base book) rows ≡ true → list_all (is_stated_in rows) (opening_rows book) ≡ true → list_all (is_certified_in rows) (release_line_rows book) ≡ true → IsPermutation rows (base_rows book)
   they_are rows once right stated certified = bases_decided book rows once (λ number id. at number id (has_key number id rows) refl (has_key number id (base_rows book)) refl)
     where
       at : (number : ℕ) (id : List ℕ) (here : Bool) → has_key number id rows ≡ here → (there : Bool) → has_key number id (base_rows book) ≡ there → base_in rows number id ≡ base_in (base_rows book) number id
@@ -325,12 +325,12 @@ module _ (book : List Entry) (b : IsBook book) where
   all_true p [] h = refl
   all_true p (x ∷ xs) h = ap (λ c. c && list_all p xs) h.0 ∙ all_true p xs h.1
 
-  right_of : (rows : List BaseRow) → IsPermutation rows (base_rows book) → list_all (is_last_base book) rows ≡ true
+  pub right_of : (rows : List BaseRow) → IsPermutation rows (base_rows book) → list_all (is_last_base book) rows ≡ true
   right_of rows same =
       all_true (is_last_base book) rows (recursion_from_All (λ row. is_last_base book row ≡ true) rows
       (All-permutation (λ row. is_last_base book row ≡ true) (base_rows book) rows (IsPermutation-sym rows (base_rows book) same) (All-from_recursion (λ row. is_last_base book row ≡ true) (base_rows book) (last_all (items book) (items_numbered book b)))))
 
-  stated_all : (rows : List BaseRow) (openings : List OpeningRow) → ((number : ℕ) (id : List ℕ) → list_any (states number id) openings ≡ true → has_key number id rows ≡ true) → list_all (is_stated_in rows) openings ≡ true
+  pub stated_all : (rows : List BaseRow) (openings : List OpeningRow) → ((number : ℕ) (id : List ℕ) → list_any (states number id) openings ≡ true → has_key number id rows ≡ true) → list_all (is_stated_in rows) openings ≡ true
   stated_all rows [] h = refl
   stated_all rows (o ∷ openings) h =
       ap (λ c. c && list_all (is_stated_in rows) openings) (h o.item o.task (ap (λ c. c || list_any (states o.item o.task) openings) (own o)))
@@ -343,7 +343,7 @@ module _ (book : List Entry) (b : IsBook book) where
       later true q h = refl
       later false q h = h
 
-  certified_all : (rows : List BaseRow) (lines : List ReleaseLineRow) → ((number : ℕ) (id : List ℕ) → list_any (certifies number id) lines ≡ true → has_key number id rows ≡ true) → list_all (is_certified_in rows) lines ≡ true
+  pub certified_all : (rows : List BaseRow) (lines : List ReleaseLineRow) → ((number : ℕ) (id : List ℕ) → list_any (certifies number id) lines ≡ true → has_key number id rows ≡ true) → list_all (is_certified_in rows) lines ≡ true
   certified_all rows [] h = refl
   certified_all rows (l ∷ lines) h =
       ap (λ c. c && list_all (is_certified_in rows) lines) (here l.item l.task (λ number id is. h number id (first (certifies number id l) (list_any (certifies number id) lines) is)))

@@ -37,29 +37,14 @@ tie_number n m = at (nat_lt n m) (nat_eq n m) (λ h. grind (arith, nat_tests))
 tie_key : (n : ℕ) (task : List ℕ) (m : ℕ) (id : List ℕ) → is_eq (key_cmp (n, task) (m, id)) ≡ nat_eq n m && same_text task id
 tie_key n task m id = then_eq (nat_cmp n m) (slice_cmp nat_cmp task id) ∙ ap (λ c. c && is_eq (slice_cmp nat_cmp task id)) (tie_number n m) ∙ ap (λ c. nat_eq n m && c) (tie task id)
 
--- the rows so far have distinct keys, which the map has
-pub record Keeps (rows rest : List BaseRow) (keys : BTreeMap (ℕ × List ℕ) Bool) : Type 0 where
-  pub before : List BaseRow
-  pub rows_are : rows ≡ before ++ rest
-  pub once : AreKeyedOnce before
-  pub keys_are : AreKeys before keys
-
-pub starts : (rows : List BaseRow) (keys : BTreeMap (ℕ × List ℕ) Bool) → IsEmpty keys → Keeps rows rows keys
-starts rows keys empty = record { before = []; rows_are = refl; once = tt; keys_are = λ number id. ap (λ entries. unwrap_or (lookup (is_at (key_cmp (number, id))) entries) false) empty }
-
--- a row of another key
-pub goes_on : (rows rest later : List BaseRow) (row : BaseRow) (keys more : BTreeMap (ℕ × List ℕ) Bool) → rest ≡ row ∷ later → held key_cmp false keys (row.item, row.task) ≡ false → Updates key_cmp keys more (row.item, row.task) (Some true) → Keeps rows rest keys → Keeps rows later more
-goes_on rows rest later row keys more is apart updates k = record {
-  before = k.before ++ row ∷ [];
-  rows_are = k.rows_are ∙ ap (λ xs. k.before ++ xs) is ∙ sym (append_assoc k.before (row ∷ []) later);
-  once = once_more k.before row k.once (sym (k.keys_are row.item row.task) ∙ apart);
-  keys_are = λ number id.
-      ap (λ o. unwrap_or o false) (updates.0 (number, id))
-      ∙ put (is_eq (key_cmp (row.item, row.task) (number, id))) (get key_cmp keys (number, id))
-      ∙ ap (λ c. unwrap_or (get key_cmp keys (number, id)) false || c) (tie_key row.item row.task number id ∙ sym (or_false (is_keyed number id row)))
-      ∙ ap (λ c. c || (is_keyed number id row || false)) (k.keys_are number id)
-      ∙ sym (list_any-append (is_keyed number id) k.before (row ∷ []));
-}
+-- a map behind the key of one row more has the keys of the rows with it
+pub keys_more : (rows : List BaseRow) (row : BaseRow) (keys more : BTreeMap (ℕ × List ℕ) Bool) → Updates key_cmp keys more (row.item, row.task) (Some true) → AreKeys rows keys → AreKeys (rows ++ row ∷ []) more
+keys_more rows row keys more updates are = λ number id.
+    ap (λ o. unwrap_or o false) (updates.0 (number, id))
+    ∙ put (is_eq (key_cmp (row.item, row.task) (number, id))) (get key_cmp keys (number, id))
+    ∙ ap (λ c. unwrap_or (get key_cmp keys (number, id)) false || c) (tie_key row.item row.task number id ∙ sym (or_false (is_keyed number id row)))
+    ∙ ap (λ c. c || (is_keyed number id row || false)) (are number id)
+    ∙ sym (list_any-append (is_keyed number id) rows (row ∷ []))
   where
     put : (c : Bool) (o : Option Bool) → unwrap_or (cond c (Some true) o) false ≡ unwrap_or o false || c
     put true None = refl
@@ -72,6 +57,29 @@ goes_on rows rest later row keys more is apart updates k = record {
     or_false : (c : Bool) → c || false ≡ c
     or_false true = refl
     or_false false = refl
+
+-- an empty map has the keys of no rows
+pub keys_of_none : (keys : BTreeMap (ℕ × List ℕ) Bool) → IsEmpty keys → AreKeys [] keys
+keys_of_none keys empty = λ number id. ap (λ entries. unwrap_or (lookup (is_at (key_cmp (number, id))) entries) false) empty
+
+-- the rows so far have distinct keys, which the map has
+pub record Keeps (rows rest : List BaseRow) (keys : BTreeMap (ℕ × List ℕ) Bool) : Type 0 where
+  pub before : List BaseRow
+  pub rows_are : rows ≡ before ++ rest
+  pub once : AreKeyedOnce before
+  pub keys_are : AreKeys before keys
+
+pub starts : (rows : List BaseRow) (keys : BTreeMap (ℕ × List ℕ) Bool) → IsEmpty keys → Keeps rows rows keys
+starts rows keys empty = record { before = []; rows_are = refl; once = tt; keys_are = keys_of_none keys empty }
+
+-- a row of another key
+pub goes_on : (rows rest later : List BaseRow) (row : BaseRow) (keys more : BTreeMap (ℕ × List ℕ) Bool) → rest ≡ row ∷ later → held key_cmp false keys (row.item, row.task) ≡ false → Updates key_cmp keys more (row.item, row.task) (Some true) → Keeps rows rest keys → Keeps rows later more
+goes_on rows rest later row keys more is apart updates k = record {
+  before = k.before ++ row ∷ [];
+  rows_are = k.rows_are ∙ ap (λ xs. k.before ++ xs) is ∙ sym (append_assoc k.before (row ∷ []) later);
+  once = once_more k.before row k.once (sym (k.keys_are row.item row.task) ∙ apart);
+  keys_are = keys_more k.before row keys more updates k.keys_are;
+}
 
 -- a row of the key of one before it
 pub repeats : (rows rest later : List BaseRow) (row : BaseRow) (keys : BTreeMap (ℕ × List ℕ) Bool) → rest ≡ row ∷ later → held key_cmp false keys (row.item, row.task) ≡ true → Keeps rows rest keys → AreKeyedOnce rows → ⊥

@@ -6,3 +6,4 @@ pub mod BaseLemmas
 pub mod KeyLemmas
 pub mod SortLemmas
 pub mod TableLemmas
+pub mod KeptLemmas

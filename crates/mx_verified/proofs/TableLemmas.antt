@@ -31,6 +31,7 @@ use Rattle.mx_kept_rows.specs.Totals.{total_rows}
 use Rattle.mx_kept_rows.proofs.ItemOrder.{total_rows-rising}
 use Rattle.mx_kept_rows.proofs.SpanRegisters.{fittings_in_spans, removals_in_spans}
 use Rattle.mx_register.specs.Left.{all_rows}
+use Rattle.mx_verified.specs.Kept.{AreRegistersIn}
 use Rattle.mx_verified.specs.Merging.{merging}
 use Rattle.mx_verified.specs.Sorted.{ArePut}
 use Rattle.mx_verified.specs.Tables.{AreFilePut, AreTablesOf}
@@ -72,11 +73,11 @@ removals_of_spans book is =
 -- ── all tables ──
 
 -- the spans that are put in order are those of the book
-spans_put : (rows put : FileRows) (book : List Entry) → IsBook book → AreFilePut rows put → AreTablesOf rows book → put.spans.items ≡ span_rows book
+spans_put : (rows put : FileRows) (book : List Entry) → IsBook book → AreFilePut rows put → AreRegistersIn rows book → put.spans.items ≡ span_rows book
 spans_put rows put book is p t = put_is (λ (row : SpanRow). row.fit_seq) 1 (length book + 1) (span_rows book) rows.spans.items put.spans.items (span_rows-rising book is) p.spans t.spans
 
--- rows that are those of a book as sets are, in order, those of the book
-pub registers_put : (rows put : FileRows) (book : List Entry) → IsBook book → AreFilePut rows put → AreTablesOf rows book → AreRegistersOf put.registers book
+-- registers that are those of a book as sets are, in order, those of the book
+pub registers_put : (rows put : FileRows) (book : List Entry) → IsBook book → AreFilePut rows put → AreRegistersIn rows book → AreRegistersOf put.registers book
 registers_put rows put book is p t = record {
   entries = put_is (λ (row : EntryRow). row.seq) 1 (length book + 1) (entry_rows book) rows.registers.entries.items put.registers.entries.items (entry_rows-rising book is.shaped) p.entries t.entries;
   aircraft = put_is (λ (row : AircraftRow). row.seq) 1 (length book + 1) (aircraft_rows book) rows.registers.rows.aircraft.items put.registers.rows.aircraft.items (aircraft_rows-rising book is.shaped) p.registers.aircraft t.aircraft;
@@ -97,9 +98,9 @@ registers_put rows put book is p t = record {
 
 pub tables_put : (rows put : FileRows) (book : List Entry) → IsBook book → AreFilePut rows put → AreTablesOf rows book → AreRowsOf put book
 tables_put rows put book is p t = record {
-  registers = registers_put rows put book is p t;
+  registers = registers_put rows put book is p t.registers;
   kept = record {
-    spans = spans_put rows put book is p t;
+    spans = spans_put rows put book is p t.registers;
     totals = put_is (λ (row : TotalRow). row.item) 1 (1 + length book) (total_rows book) rows.totals.items put.totals.items (total_rows-rising book) p.totals t.totals;
     bases = subst (λ (rows : List BaseRow). IsPermutation rows (base_rows book)) (sym p.bases) t.bases;
   };
@@ -108,19 +109,21 @@ tables_put rows put book is p t = record {
 -- and the other way round
 pub tables_back : (rows put : FileRows) (book : List Entry) → AreFilePut rows put → AreRowsOf put book → AreTablesOf rows book
 tables_back rows put book p r = record {
-  entries = put_of (λ (row : EntryRow). row.seq) (entry_rows book) rows.registers.entries.items put.registers.entries.items p.entries r.registers.entries;
-  aircraft = put_of (λ (row : AircraftRow). row.seq) (aircraft_rows book) rows.registers.rows.aircraft.items put.registers.rows.aircraft.items p.registers.aircraft r.registers.aircraft;
-  places = put_of place_key (place_rows book) rows.registers.rows.places.items put.registers.rows.places.items p.registers.places r.registers.places;
-  components = put_of (λ (row : ComponentRow). row.seq) (component_rows book) rows.registers.rows.components.items put.registers.rows.components.items p.registers.components r.registers.components;
-  programmes = put_of (λ (row : ProgrammeRow). row.seq) (programme_rows book) rows.registers.rows.programmes.items put.registers.rows.programmes.items p.registers.programmes r.registers.programmes;
-  tasks = put_of task_key (task_rows book) rows.registers.rows.tasks.items put.registers.rows.tasks.items p.registers.tasks r.registers.tasks;
-  openings = put_of (λ (row : OpeningRow). row.seq) (opening_rows book) rows.registers.rows.openings.items put.registers.rows.openings.items p.registers.openings r.registers.openings;
-  releases = put_of (λ (row : ReleaseRow). row.seq) (release_rows book) rows.registers.rows.releases.items put.registers.rows.releases.items p.registers.releases r.registers.releases;
-  release_lines = put_of release_line_key (release_line_rows book) rows.registers.rows.release_lines.items put.registers.rows.release_lines.items p.registers.release_lines r.registers.release_lines;
-  deferrals = put_of (λ (row : DeferralRow). row.seq) (deferral_rows book) rows.registers.rows.deferrals.items put.registers.rows.deferrals.items p.registers.deferrals r.registers.deferrals;
-  extensions = put_of (λ (row : ExtensionRow). row.seq) (extension_rows book) rows.registers.rows.extensions.items put.registers.rows.extensions.items p.registers.extensions r.registers.extensions;
-  sectors = put_of (λ (row : SectorRow). row.seq) (sector_rows book) rows.registers.rows.sectors.items put.registers.rows.sectors.items p.registers.sectors r.registers.sectors;
-  spans = put_of (λ (row : SpanRow). row.fit_seq) (span_rows book) rows.spans.items put.spans.items p.spans r.kept.spans;
+  registers = record {
+    entries = put_of (λ (row : EntryRow). row.seq) (entry_rows book) rows.registers.entries.items put.registers.entries.items p.entries r.registers.entries;
+    aircraft = put_of (λ (row : AircraftRow). row.seq) (aircraft_rows book) rows.registers.rows.aircraft.items put.registers.rows.aircraft.items p.registers.aircraft r.registers.aircraft;
+    places = put_of place_key (place_rows book) rows.registers.rows.places.items put.registers.rows.places.items p.registers.places r.registers.places;
+    components = put_of (λ (row : ComponentRow). row.seq) (component_rows book) rows.registers.rows.components.items put.registers.rows.components.items p.registers.components r.registers.components;
+    programmes = put_of (λ (row : ProgrammeRow). row.seq) (programme_rows book) rows.registers.rows.programmes.items put.registers.rows.programmes.items p.registers.programmes r.registers.programmes;
+    tasks = put_of task_key (task_rows book) rows.registers.rows.tasks.items put.registers.rows.tasks.items p.registers.tasks r.registers.tasks;
+    openings = put_of (λ (row : OpeningRow). row.seq) (opening_rows book) rows.registers.rows.openings.items put.registers.rows.openings.items p.registers.openings r.registers.openings;
+    releases = put_of (λ (row : ReleaseRow). row.seq) (release_rows book) rows.registers.rows.releases.items put.registers.rows.releases.items p.registers.releases r.registers.releases;
+    release_lines = put_of release_line_key (release_line_rows book) rows.registers.rows.release_lines.items put.registers.rows.release_lines.items p.registers.release_lines r.registers.release_lines;
+    deferrals = put_of (λ (row : DeferralRow). row.seq) (deferral_rows book) rows.registers.rows.deferrals.items put.registers.rows.deferrals.items p.registers.deferrals r.registers.deferrals;
+    extensions = put_of (λ (row : ExtensionRow). row.seq) (extension_rows book) rows.registers.rows.extensions.items put.registers.rows.extensions.items p.registers.extensions r.registers.extensions;
+    sectors = put_of (λ (row : SectorRow). row.seq) (sector_rows book) rows.registers.rows.sectors.items put.registers.rows.sectors.items p.registers.sectors r.registers.sectors;
+    spans = put_of (λ (row : SpanRow). row.fit_seq) (span_rows book) rows.spans.items put.spans.items p.spans r.kept.spans;
+  };
   totals = put_of (λ (row : TotalRow). row.item) (total_rows book) rows.totals.items put.totals.items p.totals r.kept.totals;
   bases = subst (λ (rows : List BaseRow). IsPermutation rows (base_rows book)) p.bases r.kept.bases;
 }

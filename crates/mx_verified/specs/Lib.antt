@@ -1,4 +1,5 @@
 pub mod Bases
+pub mod Kept
 pub mod Merging
 pub mod Sorted
 pub mod Spans

@@ -4,10 +4,10 @@ use Rattle.std.specs.List.{filter_map}
 use Rattle.mx_command.specs.Act.{Entry}
 use Rattle.mx_typed_rows.specs.Rows.{place_key, release_line_key, task_key}
 use Rattle.mx_typed_rows.specs.declared.register_rows.RegisterRows.{RegisterRows}
-use Rattle.mx_register.specs.Registers.{aircraft_rows, component_rows, deferral_rows, entry_rows, extension_rows, opening_rows, place_rows, programme_rows, release_line_rows, release_rows, sector_rows, task_rows}
 use Rattle.mx_kept_rows.specs.Bases.{base_rows}
-use Rattle.mx_kept_rows.specs.Spans.{fitting_in, removal_in, span_rows}
+use Rattle.mx_kept_rows.specs.Spans.{fitting_in, removal_in}
 use Rattle.mx_kept_rows.specs.Totals.{total_rows}
+use Rattle.mx_verified.specs.Kept.{AreRegistersIn}
 use Rattle.mx_verified.specs.Sorted.{ArePut}
 use Rattle.mx_verified.specs.declared.verified.FileRows.{FileRows}
 
@@ -15,19 +15,7 @@ use Rattle.mx_verified.specs.declared.verified.FileRows.{FileRows}
 
 -- the rows of each table are, in any order, those of this book; the fittings and removals are in the spans
 pub record AreTablesOf (rows : FileRows) (book : List Entry) : Type 0 where
-  pub entries : IsPermutation rows.registers.entries.items (entry_rows book)
-  pub aircraft : IsPermutation rows.registers.rows.aircraft.items (aircraft_rows book)
-  pub places : IsPermutation rows.registers.rows.places.items (place_rows book)
-  pub components : IsPermutation rows.registers.rows.components.items (component_rows book)
-  pub programmes : IsPermutation rows.registers.rows.programmes.items (programme_rows book)
-  pub tasks : IsPermutation rows.registers.rows.tasks.items (task_rows book)
-  pub openings : IsPermutation rows.registers.rows.openings.items (opening_rows book)
-  pub releases : IsPermutation rows.registers.rows.releases.items (release_rows book)
-  pub release_lines : IsPermutation rows.registers.rows.release_lines.items (release_line_rows book)
-  pub deferrals : IsPermutation rows.registers.rows.deferrals.items (deferral_rows book)
-  pub extensions : IsPermutation rows.registers.rows.extensions.items (extension_rows book)
-  pub sectors : IsPermutation rows.registers.rows.sectors.items (sector_rows book)
-  pub spans : IsPermutation rows.spans.items (span_rows book)
+  pub registers : AreRegistersIn rows book
   pub totals : IsPermutation rows.totals.items (total_rows book)
   pub bases : IsPermutation rows.bases.items (base_rows book)
 

@@ -32,8 +32,8 @@ fn sort_registers(rows: &mut RegisterRows) -> Result<(), NoMemory>
     Ok(())
 }
 
-// Puts the rows of each table in order, and takes the fittings and removals out of the spans.
-fn put_in_order(alloc: Global, rows: &mut FileRows) -> Result<(), NoMemory>
+/// Puts the rows of each table in order, and takes the fittings and removals out of the spans.
+pub(crate) fn put_in_order(alloc: Global, rows: &mut FileRows) -> Result<(), NoMemory>
     ensures { OnOk result (AreFilePut rows.old rows.new) }
 {
     sort_rows(&mut rows.registers.entries)?;
