@@ -1,12 +1,10 @@
 -- What is looked at inside a transaction, one thing after another.
-use Rattle.std.proofs.Common.{◌≡◌, inl, inr, Ok, Err, Result, refl, sym, ap, subst, ◌∙◌, arith}
-use Rattle.std.specs.Prelude.{IsErrAnd, IfOk, IfErr}
+use Rattle.std.proofs.Common.{◌≡◌, inl, Ok, Err, Result, refl, sym, ap, subst, arith}
+use Rattle.std.specs.Prelude.{IsErrAnd, IfOk}
 use Rattle.sqlite.specs.Effect.{Database}
-use Rattle.sqlite.specs.Schema.{Schema}
 use Rattle.sqlite.specs.State.{State, HasCleanDisk, IsUnchanged}
 use Rattle.sqlite.specs.Tree.{Trees}
 use Rattle.sqlite.proofs.Callers.{unchanged_then}
-use Rattle.mx_layout.specs.TableName.{TableName}
 use Rattle.mx_layout.specs.declared.fault.TableFault.{TableFault}
 use Rattle.mx_layout.specs.declared.fault.TableFault.TheVariants as fault
 use Rattle.mx_layout.specs.Crash.{StaysInside}

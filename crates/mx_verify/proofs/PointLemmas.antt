@@ -1,7 +1,6 @@
 -- What the row of office is, by what was read of it.
-use Rattle.std.proofs.Common.{◌≡◌, ◌⊎◌, inl, inr, Bool, true, false, ◌&&◌, List, [], ◌∷◌, length, Ok, Err, Result, IfOk, IfErr, IsTrue, refl, sym, ap, subst, ◌∙◌, arith}
+use Rattle.std.proofs.Common.{◌≡◌, inl, inr, Bool, true, false, ◌&&◌, List, [], ◌∷◌, length, Ok, Err, Result, IfOk, IfErr, IsTrue, refl, sym, ap, subst, ◌∙◌, arith}
 use Rattle.std.specs.Prelude.{◌≢◌, MatchResult, nat_eq}
-use Rattle.std.specs.Bool.{Decides}
 use Rattle.std.proofs.lemmas.Bool.Decides.{nat_tests}
 use Rattle.sqlite.specs.Order.{Row}
 use Rattle.sqlite.specs.State.{State, HasCleanDisk, IsUnchanged}
@@ -21,7 +20,7 @@ use Rattle.mx_layout.proofs.QueryLemmas.{refused_unchanged}
 use Rattle.mx_tables.specs.Calls.{OnRead}
 use Rattle.mx_verify.specs.Layout.{HasTables, verified_point}
 use Rattle.mx_verify.specs.Damage.{HasBadRow, IsCause}
-use Rattle.mx_verify.specs.Verifies.{IsAtPoint, Looks, TellsPoint, is_verified_point, told_point}
+use Rattle.mx_verify.specs.Verifies.{Looks, TellsPoint, is_verified_point, told_point}
 use Rattle.mx_verify.proofs.LookLemmas.{on_read}
 
 -- ── the point ──

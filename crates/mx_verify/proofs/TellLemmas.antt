@@ -1,9 +1,8 @@
 -- What is answered of a file, by what was looked at and by whether its rows are those of a book.
-use Rattle.std.proofs.Common.{◌≡◌, ◌⊎◌, ◌∙◌, inl, inr, Bool, true, false, ◌&&◌, List, [], Ok, Err, Result, IfOk, IfErr, IsTrue, refl, sym, ap, subst}
+use Rattle.std.proofs.Common.{◌≡◌, inl, inr, Bool, true, false, ◌&&◌, List, [], Ok, Err, Result, IfOk, IfErr, refl, sym, ap, subst}
 use Rattle.std.specs.Prelude.{◌≢◌, IsErrAnd, MatchResult}
 use Rattle.std.specs.Bool.{Decides}
-use Rattle.sqlite.specs.Effect.{Database}
-use Rattle.sqlite.specs.State.{State, HasCleanDisk, IsUnchanged}
+use Rattle.sqlite.specs.State.{State}
 use Rattle.sqlite.specs.Tree.{Trees}
 use Rattle.mx_command.specs.Act.{Entry}
 use Rattle.mx_book.specs.Book.{IsBook}
@@ -13,21 +12,19 @@ use Rattle.mx_register.specs.Left.{all_rows}
 use Rattle.mx_layout.specs.TableName.{TableName}
 use Rattle.mx_layout.specs.declared.fault.TableFault.{TableFault}
 use Rattle.mx_layout.specs.declared.fault.TableFault.TheVariants as fault
-use Rattle.mx_layout.specs.Crash.{StaysInside}
 use Rattle.mx_layout.specs.Point.{IsStop}
 use Rattle.mx_stands.specs.Family.{is_at}
 use Rattle.mx_stands.specs.Stands.{HasRowsAt}
-use Rattle.mx_tables.specs.Calls.{OnRead}
 use Rattle.mx_verified.specs.Merging.{merging}
 use Rattle.mx_verified.specs.Tables.{AreFilePut, AreTablesOf}
 use Rattle.mx_verified.specs.declared.merged.NoBook.TheVariants as no_book
 use Rattle.mx_verified.specs.declared.verified.FileRows.{FileRows}
 use Rattle.mx_verified.specs.declared.verified.Unverified.{Unverified}
 use Rattle.mx_verified.specs.declared.verified.Unverified.TheVariants as why
-use Rattle.mx_verify.specs.Layout.{HasTables, verified_point}
+use Rattle.mx_verify.specs.Layout.{verified_point}
 use Rattle.mx_verify.specs.Damage.{HasBadRow, IsCause, IsDamaged, IsUndamaged, table_of}
 use Rattle.mx_verify.specs.Stored.{AreStored}
-use Rattle.mx_verify.specs.Verifies.{HasBook, Looks, Tells, TellsPoint, Verifies, fault_by, told_file, told_rows}
+use Rattle.mx_verify.specs.Verifies.{HasBook, Looks, Tells, TellsPoint, Verifies, told_file, told_rows}
 use Rattle.mx_verify.proofs.LookLemmas.{on_read}
 use Rattle.mx_verify.proofs.StoredLemmas.{none_bad, point_given, tables_given, tables_read}
 

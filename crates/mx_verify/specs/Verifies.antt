@@ -1,5 +1,5 @@
 -- What is answered of a file, whatever rows it has: whether its tables stand for a book, or why that was not found out.
-use Rattle.std.specs.Prelude.{◌≡◌, ℕ, Bool, true, false, nat_eq, ◌&&◌, List, [], ◌∷◌, Result, Ok, Err, IfOk, IfErr, IsTrue, MatchResult}
+use Rattle.std.specs.Prelude.{◌≡◌, Bool, true, false, nat_eq, ◌&&◌, List, [], ◌∷◌, Result, Ok, Err, IfOk, IfErr, IsTrue, MatchResult}
 use Rattle.std.specs.Bool.{Decides}
 use Rattle.sqlite.specs.Tree.{Trees}
 use Rattle.sqlite.specs.Effect.{Database}

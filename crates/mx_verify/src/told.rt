@@ -7,8 +7,8 @@ use mx_layout::{Table, TableFault};
 use mx_typed_rows::EntryKind;
 use mx_verified::Unverified;
 
-// The table of the rows that entries of a kind have.
-fn table_of(kind: EntryKind) -> Table
+/// The table of the rows that entries of a kind have.
+pub fn table_of(kind: EntryKind) -> Table
     ensures { result ≡ table_of kind }
 {
     match kind {

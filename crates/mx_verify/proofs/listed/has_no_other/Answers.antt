@@ -1,4 +1,4 @@
-use Rattle.std.proofs.Common.{length, sym, ap, ◌∙◌}
+use Rattle.std.proofs.Common.{length, ap, ◌∙◌}
 use Rattle.sqlite.specs.Schema.{Schema}
 use Rattle.mx_verify.proofs.ListedLemmas.{no_other}
 use Rattle.mx_verify.proofs.listed.has_no_other.Goals as goal
