@@ -19,7 +19,7 @@ use Rattle.mx_stands.specs.Stands.{LiesAt, StandsAt, RestsAt}
 use Rattle.mx_tables.specs.Calls.{OnDamaged}
 use Rattle.mx_migrate.specs.declared.fault.MoveFault.TheVariants as stop
 use Rattle.mx_migrate.specs.Faults.{fault_from}
-use Rattle.mx_migrate.specs.Steps.{Runs, CommitsStep}
+use Rattle.mx_migrate.specs.Steps.{Runs, CommitsStep, LeavesOneBook}
 
 -- a fault of a move that is damage is that of the tables
 damage_from : (e : TableFault) (name : TableName) → fault_from e ≡ stop.Damaged name → e ≡ fault.Damaged name
@@ -99,8 +99,10 @@ module _ {S : Type 0} (g : Ghosts S) (old last : Held S) where
         kept = λ _ _ _ _. tt;
         same = λ at book rests _. rest at book rests;
         whole = not_off;
-        crash = λ at book rests due clean db may. inl ((rest at book rests).crash clean db may);
       }
+
+      pub stops_whole : LeavesOneBook IsAt IsDue (state g old) (state g end)
+      stops_whole at book rests due clean db may = inl ((rest at book rests).crash clean db may)
 
     -- ── the step answered the point ──
 
@@ -126,8 +128,8 @@ module _ {S : Type 0} (g : Ghosts S) (old last : Held S) where
         opened : HasCleanDisk (state g end) → IsTrue (state g old).is_open
         opened clean = (runs.inside (late clean) refl).was_open
 
-        either : (at : Point) (book : List Entry) → RestsAt at (state g old) book → (HasCleanDisk (state g old) → IsAt at × IsDue at book) → Leaves (state g end) (λ db. StandsAt at db book ⊎ StandsAt (next_point at book) db book)
-        either at book rests due =
+        pub commits_whole : LeavesOneBook IsAt IsDue (state g old) (state g end)
+        commits_whole at book rests due =
             commits_either g (schema_at at) (schema_at (next_point at book)) (λ trees. StandsAt at trees book) (λ trees. StandsAt (next_point at book) trees book) old begun last refl rests runs.within runs.inside
             (λ clean within has stands. (let it = stood clean at book due has stands in (it.1, it.2))) end commit
 
@@ -151,7 +153,6 @@ module _ {S : Type 0} (g : Ghosts S) (old last : Held S) where
           kept = λ _ _ _ _. tt;
           same = λ _ _ _ other. absurd (other refl);
           whole = λ _ _ _ _ _. inr refl;
-          crash = either;
         }
 
         pub commits : IsSettled g → (HasCleanDisk (state g end) → Shows (state g last) (state g end) (state g last).now (state g last).now false) → CommitsStep IsAt IsDue Makes IsOff (state g old) (state g end) (Ok p)
@@ -171,5 +172,4 @@ module _ {S : Type 0} (g : Ghosts S) (old last : Held S) where
               (λ clean within has stands. (let it = stood clean at book due has stands in (it.1, it.2))) end commit settled shown;
           same = λ _ _ _. tt;
           whole = λ _ _ _ _ _. tt;
-          crash = either;
         }

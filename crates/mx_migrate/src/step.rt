@@ -7,7 +7,7 @@ ghost use Rattle.mx_point.specs.declared.point.Point.{Point};
 ghost use Rattle.mx_points.specs.Points.{next_point};
 ghost use Rattle.mx_layout.specs.TableName.{TableName};
 ghost use Rattle.mx_stands.specs.Stands.{StandsAt};
-ghost use Rattle.mx_migrate.specs.Steps.{Runs, CommitsStep};
+ghost use Rattle.mx_migrate.specs.Steps.{Runs, CommitsStep, LeavesOneBook};
 
 use crate::fault::{MoveFault, fault_of};
 use mx_layout::TableFault;
@@ -65,6 +65,8 @@ pub fn commit_step<S: Alter, M: Migrate>(
     ensures idle { conn.new.in_transaction ≡ false }
     ensures commits { CommitsStep (M.IsAt step.now) (M.IsDue step.now) (M.Makes step.now)
         (M.IsOff step.now) (state S.Store conn.old) (state S.Store conn.new) result }
+    ensures crash { LeavesOneBook (M.IsAt step.now) (M.IsDue step.now)
+        (state S.Store conn.old) (state S.Store conn.new) }
 {
     let mut tx = conn.transaction();
     let at = match step.run(alloc, &mut tx) {
