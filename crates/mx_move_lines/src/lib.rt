@@ -1,5 +1,7 @@
 //! What the steps of a move to layout 2 answer to a line over a database, each in a commit of its own: the point that the file is
 //! at then, or what stopped the step. And what making the file of layout 1 answers that a move begins with.
+//! - `advance`: the step that is due at the point of the file;
+//! - `settle AT_MOST`: so many steps that are due, one after the other;
 //! - `sectors-table`: makes the new table of sectors;
 //! - `sectors MARK`: moves the next sectors behind the mark;
 //! - `spans-table MARK`: drops the old table of sectors, which have moved up to the mark, and makes that of spans;

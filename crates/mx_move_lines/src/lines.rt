@@ -2,9 +2,10 @@
 ghost use Rattle.std.specs.Prelude.{◌≡◌, false};
 
 use crate::kept::answer_of_kept;
-use crate::texts::made;
+use crate::texts::{made, step_text};
 use mx_cases::Unmade;
 use mx_migrate::{ChangeToSpans, CreateSectors, MoveComponent, MoveSectors};
+use mx_settle::{advance, settle};
 use sqlite::{Alter, Connection};
 use std::alloc::Global;
 
@@ -22,8 +23,21 @@ fn move_component<S: Alter>(
     Ok(made(alloc, conn, &MoveComponent { mark, component })?)
 }
 
-/// What a step answers: `sectors-table`, `sectors MARK`, `spans-table MARK`, `component MARK COMPONENT`, or one of totals, last
-/// bases or the end.
+// Goes on by at most so many commits.
+fn settled<S: Alter>(
+    alloc: Global,
+    conn: &mut Connection<S>,
+    at_most: &str,
+) -> Result<String, Unmade>
+    requires { conn.old.in_transaction ≡ false }
+{
+    let at_most = at_most.parse::<u32>()?;
+    let reached = settle(alloc, conn, at_most);
+    Ok(step_text(alloc, reached)?)
+}
+
+/// What a step answers: `advance`, `settle AT_MOST`, `sectors-table`, `sectors MARK`, `spans-table MARK`,
+/// `component MARK COMPONENT`, or one of totals, last bases or the end.
 pub fn answer_of_step<S: Alter>(
     alloc: Global,
     conn: &mut Connection<S>,
@@ -32,6 +46,11 @@ pub fn answer_of_step<S: Alter>(
     requires { conn.old.in_transaction ≡ false }
 {
     match words {
+        ["advance"] => {
+            let reached = advance(alloc, conn);
+            Ok(step_text(alloc, reached)?)
+        }
+        ["settle", at_most] => settled(alloc, conn, at_most),
         ["sectors-table"] => Ok(made(alloc, conn, &CreateSectors)?),
         ["sectors", mark] => {
             let mark = mark.parse::<u32>()?;

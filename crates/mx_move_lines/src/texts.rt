@@ -17,8 +17,11 @@ fn append_fault(out: &mut String, fault: MoveFault) -> Result<(), AllocError> {
     }
 }
 
-// The point that a step leads to, or why it was not made.
-fn step_text(alloc: Global, made: Result<Point, MoveFault>) -> Result<String, AllocError> {
+/// The point that a file is at, or why it did not get there.
+pub(crate) fn step_text(
+    alloc: Global,
+    made: Result<Point, MoveFault>,
+) -> Result<String, AllocError> {
     let mut text = room(alloc)?;
     match made {
         Ok(at) => {

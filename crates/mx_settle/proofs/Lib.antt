@@ -1,0 +1,9 @@
+pub mod DueLemmas
+pub mod PlaceLemmas
+pub mod FrontLemmas
+pub mod ItemLemmas
+pub mod KnownLemmas
+pub mod KeptChoices
+pub mod ChoiceLemmas
+pub mod AdvanceLemmas
+pub mod SettleLemmas

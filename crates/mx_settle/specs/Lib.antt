@@ -1,0 +1,7 @@
+pub mod Due
+pub mod DueLaws
+pub mod Place
+pub mod Items
+pub mod Choices
+pub mod Advances
+pub mod Settles

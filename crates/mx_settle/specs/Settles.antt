@@ -1,0 +1,29 @@
+-- What some commits of a file do on its way to the newest layout, one after another.
+use Rattle.std.specs.Prelude.{◌≡◌, ◌≢◌, ◌≤◌, ℕ, List, Result, OnOk, IfOk, IfErr}
+use Rattle.sqlite.specs.State.{State, HasCleanDisk}
+use Rattle.sqlite_trees.specs.View.{doubt}
+use Rattle.mx_command.specs.Act.{Entry}
+use Rattle.mx_point.specs.declared.point.Point.{Point}
+use Rattle.mx_point.specs.Settled.{settled}
+use Rattle.mx_points.specs.Commits.{point_behind}
+use Rattle.mx_layout.specs.Crash.{Leaves}
+use Rattle.mx_stands.specs.Schemas.{IsOfFile}
+use Rattle.mx_stands.specs.Stands.{StandsAt, RestsAt}
+use Rattle.mx_migrate.specs.declared.fault.MoveFault.{MoveFault}
+use Rattle.mx_migrate.specs.declared.fault.MoveFault.TheVariants.{Store}
+use Rattle.mx_settle.specs.Place.{IsMoveStop, IsPlacedAt}
+use Rattle.mx_settle.specs.declared.place.TheConstants.{NEWEST_LAYOUT}
+use Rattle.mx_settle.specs.declared.settling.TheConstants.{ENOUGH_COMMITS}
+
+-- A file went on by so many commits, fewer only at the newest layout, and the point that it is at is answered; or a fault stopped it behind some of them.
+pub record Settles (at_most : ℕ) (old new : State) (result : Result Point MoveFault) : Type 0 where
+  pub clean : doubt old.is_clean ≤ doubt new.is_clean
+  -- where the tables stood for a book at a point: they stand for it at the point behind so many commits, or where another fault than that of the store stopped it behind fewer; where a file can be at the first point, no table is damaged; and whatever is answered, a crash leaves them to stand for it behind some of the commits
+  pub reached : (at : Point) (book : List Entry) → RestsAt at old book → HasCleanDisk new → IfOk result (λ to. to ≡ point_behind at_most at book)
+  pub kept : (at : Point) (book : List Entry) → RestsAt at old book → OnOk result (RestsAt (point_behind at_most at book) new book)
+  pub same : (at : Point) (book : List Entry) → RestsAt at old book → IfErr result (λ e. e ≢ Store → (commits : ℕ) × (commits ≤ at_most) × RestsAt (point_behind commits at book) new book)
+  pub whole : (at : Point) (book : List Entry) → IsOfFile at → RestsAt at old book → HasCleanDisk new → IfErr result IsMoveStop
+  pub crash : (at : Point) (book : List Entry) → RestsAt at old book → Leaves new (λ trees. (commits : ℕ) × (commits ≤ at_most) × StandsAt (point_behind commits at book) trees book)
+  -- over any rows: the file is at the point that is answered, and with enough commits that is the newest layout
+  pub placed : (at : Point) → IsPlacedAt at old → IfOk result (λ to. IsPlacedAt to new)
+  pub ends : (at : Point) → IsPlacedAt at old → HasCleanDisk new → ENOUGH_COMMITS ≤ at_most → IfOk result (λ to. to ≡ settled NEWEST_LAYOUT)
