@@ -52,6 +52,7 @@ module _ (command : Entry) (old mid : State) where
   pub unread : (e : TableFault) → Reads {V = Judged} (IsJudged command) old mid (Err e) → Runs command old mid (Err e)
   unread e r = record {
     judged = λ _ _. tt;
+    damaged = λ clean has name is. (let same : e ≡ fault.Damaged name = cc in r.damaged clean has name (ap Err same));
     ran = λ clean begun book has stands. sure e r.cause (λ name is. r.no_book clean name (ap Err is) book (stands_for old book has stands));
     wrote = λ _ _. tt;
     cause = r.cause;
@@ -64,6 +65,7 @@ module _ (command : Entry) (old mid : State) where
     told : (a : Reply) → ((trees : Trees) → JudgedOf command trees j → ReplyOf command trees a) → ((book : List Entry) → IsJudged command book j → a ≡ reply book command) → ((book : List Entry) → behind book command a ≡ book) → Wrote command a old mid → Runs command old mid (Ok a)
     told a by says same_book wrote = record {
       judged = λ clean has. by old.now.trees (any.found clean has);
+      damaged = λ _ _ name is. cc;
       ran = λ clean begun book has stands.
           let same = r.unchanged clean has in (
             says book (r.read clean book (stands_for old book has stands)),
@@ -91,6 +93,7 @@ module _ (command : Entry) (old mid : State) where
     pub unwritten : {U : Type 0} (e : TableFault) → e ≡ fault.Store → WritesRows {V = U} IsSettled (with_rows x) mid new (Err e) → Runs command old new (Err e)
     unwritten e store w = record {
       judged = λ _ _. tt;
+      damaged = λ _ _ name is. (let same : fault.Store ≡ fault.Damaged name = sym store ∙ (cc) in cc);
       ran = λ _ _ _ _ _. inr store;
       wrote = λ _ _. tt;
       cause = inr (inl store);
@@ -115,6 +118,7 @@ module _ (command : Entry) (old mid : State) where
       pub written : Runs command old new (Ok (answers.Accepted x.entry.seq))
       written = record {
         judged = λ clean has. (any.found (early clean) has).by;
+        damaged = λ _ _ name is. cc;
         ran = λ clean begun book has stands.
             let said = r.read (early clean) book (stands_for old book has stands) in
             let number : x.entry.seq ≡ length book + 1 = ap (λ (row : EntryRow). row.seq) said.1.entry in

@@ -5,7 +5,7 @@ use Rattle.sqlite.specs.Store.{Ghosts}
 use Rattle.sqlite.specs.Schema.{Schema}
 use Rattle.sqlite.specs.Tree.{Trees}
 use Rattle.sqlite.specs.Effect.{Database}
-use Rattle.sqlite.specs.State.{HasCleanDisk, Shows, Survives, IsRolledBack}
+use Rattle.sqlite.specs.State.{State, HasCleanDisk, Shows, Survives, IsRolledBack}
 use Rattle.sqlite.specs.Held.{Held, state}
 use Rattle.sqlite.proofs.Callers.{survives_begin}
 use Rattle.sqlite.proofs.StateLemmas.{survives_then}
@@ -13,7 +13,6 @@ use Rattle.mx_command.specs.Act.{Entry}
 use Rattle.mx_book.specs.Run.{reply}
 use Rattle.mx_book.specs.declared.verdict.Reply.{Reply}
 use Rattle.mx_book.specs.declared.verdict.Reply.TheVariants as answers
-use Rattle.mx_changes.specs.declared.rows.CommandRows.{CommandRows}
 use Rattle.mx_layout.specs.TableName.{TableName}
 use Rattle.mx_layout.specs.declared.fault.TableFault.{TableFault}
 use Rattle.mx_layout.specs.declared.fault.TableFault.TheVariants as fault
@@ -24,11 +23,10 @@ use Rattle.mx_stands.specs.Family.{is_at}
 use Rattle.mx_stands.specs.Schemas.{schema_at}
 use Rattle.mx_stands.specs.Stands.{IsEither, RestsAt, StandsAt}
 use Rattle.mx_stands.proofs.SchemaLemmas.{has_tables}
-use Rattle.mx_tables.specs.Calls.{OnDamaged}
+use Rattle.mx_tables.specs.Calls.{OnDamaged, OnRead}
 use Rattle.mx_tables.specs.Sets.{GainsRows}
-use Rattle.mx_writing.specs.Commits.{MayWrite}
 use Rattle.mx_writing.specs.Written.{IsSettled, with_rows, written_point}
-use Rattle.mx_apply.specs.Applies.{Applies, AreItsRows, IsNoDamage, Runs, behind}
+use Rattle.mx_apply.specs.Applies.{Applies, HasOneCommit, IsNoDamage, Runs, behind}
 
 -- the tables of a file that is settled are in its schema
 in_settled : (s : Schema) → IsSettled s → (name : TableName) → is_at written_point name ≡ true → Contains s.tables (table_named name)
@@ -40,13 +38,22 @@ left book command (answers.Accepted seq) never = absurd (never seq refl)
 left book command (answers.Already seq) never = refl
 left book command (answers.Refused refusal) never = refl
 
+-- a call that answered inside a transaction found the connection open
+open_of : {V : Type 0} (old new : State) (result : Result V TableFault) → OnRead result (StaysInside old new) → OnRead result (IsTrue old.is_open)
+open_of old new (Ok v) stays = stays.was_open
+open_of old new (Err fault.Memory) stays = tt
+open_of old new (Err fault.Store) stays = tt
+open_of old new (Err fault.NotOurs) stays = tt
+open_of old new (Err fault.Exists) stays = tt
+open_of old new (Err (fault.Damaged name)) stays = stays.was_open
+
 module _ {S : Type 0} (g : Ghosts S) (old last : Held S) (command : Entry) where
   abbrev begun : Held S
   begun = record old { in_transaction = true }
 
-  -- the rows of the command, which a crash may leave
+  -- the tables with the rows of the command, which a crash may leave
   abbrev Leftover : Trees → Type 0
-  Leftover trees = (rows : CommandRows) × AreItsRows command (state g old) rows × MayWrite rows (state g old) trees
+  Leftover = HasOneCommit command (state g old)
 
   abbrev stands : List Entry → Trees → Type 0
   stands book = λ trees. StandsAt written_point trees book
@@ -73,8 +80,8 @@ module _ {S : Type 0} (g : Ghosts S) (old last : Held S) (command : Entry) where
         rest : (book : List Entry) → RestsAt written_point (state g old) book → RestsAt written_point (state g end) book
         rest book rests = dropped g (schema_at written_point) (schema_at written_point) (stands book) (stands book) old begun last refl rests runs.within end drop back
 
-        survive : Survives (state g old) (state g end) Leftover
-        survive = survives_begin g old (state g end) _ (survives_then (state g begun) (state g last) (state g end) _ _ _ (λ _ trees none. absurd none) (λ _ trees none. absurd none) runs.within.survives drop)
+        pub dropped_survives : Survives (state g old) (state g end) Leftover
+        dropped_survives = survives_begin g old (state g end) _ (survives_then (state g begun) (state g last) (state g end) _ _ _ (λ _ trees none. absurd none) (λ _ trees none. absurd none) runs.within.survives drop)
 
         -- what was said inside the transaction, where it found the connection open
         ran : (book : List Entry) → RestsAt written_point (state g old) book → HasCleanDisk (state g end) → IsTrue (state g begun).is_open
@@ -89,8 +96,9 @@ module _ {S : Type 0} (g : Ghosts S) (old last : Held S) (command : Entry) where
           cause = runs.cause;
           judged = λ clean has. runs.judged (mid clean) has;
           untouched = λ _. nothing;
+          was_open = λ clean. open_of (state g begun) (state g last) result (runs.inside (mid clean) refl);
+          damaged = λ clean has. runs.damaged (mid clean) has;
           written = λ _ seq is. absurd (never seq is);
-          survives = survive;
           said = said;
           kept = kept;
           same = same;
@@ -137,8 +145,8 @@ module _ {S : Type 0} (g : Ghosts S) (old last : Held S) (command : Entry) where
       may : HasCleanDisk (state g last) → Leftover (state g last).now.trees
       may clean = (let it = runs.wrote clean refl in (it.0, it.1, record { was_open = opened clean; tables = λ is rise name there. (it.3 is rise).tables name (in_settled (state g old).now.schema is name there) }))
 
-      survives_it : Survives (state g old) (state g end) Leftover
-      survives_it = survives_begin g old (state g end) _ (survives_then (state g begun) (state g last) (state g end) _ _ _ (λ _ trees none. absurd none)
+      pub commit_survives : Survives (state g old) (state g end) Leftover
+      commit_survives = survives_begin g old (state g end) _ (survives_then (state g begun) (state g last) (state g end) _ _ _ (λ _ trees none. absurd none)
           (λ sure trees is. (let clean : HasCleanDisk (state g last) = omega (arith, commit.clean) in subst Leftover (sym is) (may clean))) runs.within.survives commit)
 
       -- whether it was kept is not known
@@ -148,8 +156,9 @@ module _ {S : Type 0} (g : Ghosts S) (old last : Held S) (command : Entry) where
         cause = inr (inl refl);
         judged = λ _ _. tt;
         untouched = λ idle. absurd (idle.store refl);
+        was_open = λ _. tt;
+        damaged = λ _ _ name is. cc;
         written = λ _ _ is. absurd cc;
-        survives = survives_it;
         said = λ _ _ _. inr refl;
         kept = λ _ _. tt;
         same = λ _ _ other. absurd (other refl);
@@ -162,6 +171,8 @@ module _ {S : Type 0} (g : Ghosts S) (old last : Held S) (command : Entry) where
         cause = tt;
         judged = λ clean has. runs.judged (late clean) has;
         untouched = λ idle. absurd (idle.accepted seq refl);
+        was_open = λ clean. opened (late clean);
+        damaged = λ _ _ name is. cc;
         written = λ clean n is.
             let it = runs.wrote (late clean) refl in
             let same : seq ≡ n = cc in (
@@ -174,7 +185,6 @@ module _ {S : Type 0} (g : Ghosts S) (old last : Held S) (command : Entry) where
                 gains = λ has rise. subst (λ (d : Database). GainsRows (with_rows it.0) (state g old).now d) (sym (shown clean).now_is) (it.3 has rise);
               },
             );
-        survives = survives_it;
         said = λ book rests clean. (runs.ran (late clean) refl book (rests.schema (first clean) (opened (late clean))) (rests.tables (first clean) (opened (late clean)))).0;
         kept = λ book rests. commits_ok g (schema_at written_point) (schema_at written_point) (stands book) (stands (book ++ command ∷ [])) old begun last refl rests runs.within runs.inside (made book) end commit settled shown;
         same = λ _ _. tt;

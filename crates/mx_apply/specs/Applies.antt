@@ -1,6 +1,6 @@
 -- What a command that is handed in does to a file, over any rows and over the tables of a book.
 use Rattle.std.specs.Prelude.{⊤, ◌≡◌, ◌≢◌, ◌⊎◌, ◌≤◌, ℕ, List, [], ◌∷◌, ◌++◌, Result, Ok, Err, IsTrue, IfOk, IfErr, MatchResult}
-use Rattle.sqlite.specs.State.{State, HasCleanDisk, Survives}
+use Rattle.sqlite.specs.State.{State, HasCleanDisk}
 use Rattle.sqlite.specs.Tree.{Trees}
 use Rattle.sqlite_trees.specs.View.{doubt}
 use Rattle.mx_command.specs.Act.{Entry}
@@ -12,12 +12,14 @@ use Rattle.mx_book.specs.declared.verdict.Verdict.{Verdict}
 use Rattle.mx_book.specs.declared.verdict.Verdict.TheVariants as verdicts
 use Rattle.mx_changes.specs.declared.rows.CommandRows.{CommandRows}
 use Rattle.mx_layout.specs.declared.fault.TableFault.{TableFault}
-use Rattle.mx_layout.specs.declared.fault.TableFault.TheVariants.{Memory, Store}
+use Rattle.mx_layout.specs.TableName.{TableName}
+use Rattle.mx_layout.specs.declared.fault.TableFault.TheVariants.{Memory, Store, Damaged}
 use Rattle.mx_layout.specs.Crash.{ChangesNothing, IsWithin, Leaves, StaysInside}
 use Rattle.mx_stands.specs.Schemas.{schema_at}
 use Rattle.mx_stands.specs.Stands.{IsEither, RestsAt, StandsAt}
 use Rattle.mx_tables.specs.Calls.{OnRead}
 use Rattle.mx_tables.specs.Sets.{GainsRows}
+use Rattle.mx_lookups.specs.Damage.{IsDamaged}
 use Rattle.mx_lookups.specs.Reads.{IsStop}
 use Rattle.mx_made.specs.Found.{AreRowsFor}
 use Rattle.mx_rows.specs.Answering.{AnswerAs}
@@ -58,12 +60,17 @@ abbrev pub Wrote : Entry → Reply → State → State → Type 0
 Wrote command (Accepted seq) old new = (rows : CommandRows) × AreItsRows command old rows × (rows.entry.seq ≡ seq) × (IsSettled old.now.schema → AllRise old.now → GainsRows (with_rows rows) old.now new.now)
 Wrote command _ old new = ⊤
 
+-- the tables with the one commit of this command's rows, which a crash may leave beside those from before
+abbrev pub HasOneCommit : Entry → State → Trees → Type 0
+HasOneCommit command old trees = (rows : CommandRows) × AreItsRows command old rows × MayWrite rows old trees
+
 -- A command was judged inside a transaction, and its rows written where it is new.
 pub record Runs (command : Entry) (old new : State) (result : Result Reply TableFault) : Type 0 where
   pub ran : HasCleanDisk new → IsTrue old.in_transaction → (book : List Entry) → old.now.schema ≡ schema_at written_point → StandsAt written_point old.now.trees book
       → MatchResult result (λ r. (r ≡ reply book command) × (new.now.schema ≡ schema_at written_point) × StandsAt written_point new.now.trees (behind book command r)) IsNoDamage
   pub wrote : HasCleanDisk new → IsTrue old.in_transaction → IfOk result (λ r. Wrote command r old new)
   pub judged : HasCleanDisk new → old.now.schema ≡ schema_at written_point → IfOk result (ReplyOf command old.now.trees)
+  pub damaged : HasCleanDisk new → old.now.schema ≡ schema_at written_point → (name : TableName) → result ≡ Err (Damaged name) → IsDamaged name old.now.trees
   pub cause : IfErr result IsStop
   pub inside : HasCleanDisk new → IsTrue old.in_transaction → OnRead result (StaysInside old new)
   pub within : IsWithin old new
@@ -72,11 +79,13 @@ pub record Runs (command : Entry) (old new : State) (result : Result Reply Table
 pub record Applies (command : Entry) (old new : State) (result : Result Reply TableFault) : Type 0 where
   pub clean : doubt old.is_clean ≤ doubt new.is_clean
   pub cause : IfErr result IsStop
-  -- over any rows: the reply is by the verdict of each book as which the rows answer; only a command that was accepted, or stopped by the store, changes anything; where it was accepted, the rows of this command were written and committed, with the number that is replied; and a crash leaves the tables from before or those with the one commit of this command's rows
+  -- over any rows: the reply is by the verdict of each book as which the rows answer; only a command that was accepted, or stopped by the store, changes anything; and where it was accepted, the rows of this command were written and committed, with the number that is replied
   pub judged : HasCleanDisk new → old.now.schema ≡ schema_at written_point → IfOk result (ReplyOf command old.now.trees)
   pub untouched : IsIdle result → ChangesNothing old new
+  -- what was answered was answered by a connection that is open, and a table is told damaged only where it is
+  pub was_open : HasCleanDisk new → OnRead result (IsTrue old.is_open)
+  pub damaged : HasCleanDisk new → old.now.schema ≡ schema_at written_point → (name : TableName) → result ≡ Err (Damaged name) → IsDamaged name old.now.trees
   pub written : HasCleanDisk new → (seq : ℕ) → result ≡ Ok (Accepted seq) → (rows : CommandRows) × AreItsRows command old rows × (rows.entry.seq ≡ seq) × IsWritten rows old new
-  pub survives : Survives old new (λ trees. (rows : CommandRows) × AreItsRows command old rows × MayWrite rows old trees)
   -- over the tables of a book: the reply is that of the book, and no table is told damaged; they stand for the book with the command where it was accepted, and else for the book; and whatever is answered, a crash leaves the one or the other
   pub said : (book : List Entry) → RestsAt written_point old book → HasCleanDisk new → MatchResult result (λ r. r ≡ reply book command) IsNoDamage
   pub kept : (book : List Entry) → RestsAt written_point old book → IfOk result (λ r. RestsAt written_point new (behind book command r))

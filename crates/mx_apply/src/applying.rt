@@ -1,7 +1,8 @@
 //! A command, judged, written and committed.
 ghost use Rattle.std.specs.Prelude.{◌≡◌, false};
 ghost use Rattle.sqlite.specs.Held.{state};
-ghost use Rattle.mx_apply.specs.Applies.{Applies, Runs};
+ghost use Rattle.sqlite.specs.State.{Survives};
+ghost use Rattle.mx_apply.specs.Applies.{Applies, HasOneCommit, Runs};
 
 use crate::judged::{Judged, verdict_and_rows};
 use mx_book::Reply;
@@ -47,6 +48,9 @@ pub fn apply<S: Alter>(
 ) -> Result<Reply, TableFault>
     requires { conn.old.in_transaction ≡ false }
     ensures idle { conn.new.in_transaction ≡ false }
+    // Over whatever rows, and whatever is answered: a crash leaves the tables from before, or those with this one commit.
+    ensures survives { Survives (state S.Store conn.old) (state S.Store conn.new)
+        (HasOneCommit command.now (state S.Store conn.old)) }
     ensures applies { Applies command.now (state S.Store conn.old) (state S.Store conn.new) result }
 {
     let mut tx = conn.transaction();
