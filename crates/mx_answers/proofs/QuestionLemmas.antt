@@ -34,8 +34,6 @@ module _ {X Y : Type 0} (f : X → Y) where
         → IsAnsweredBy (λ book. found_or refusal (option_map f (said book))) old new (as_answer result)
     answered_as refusal said h = record {
       exact = λ book ready stands clean. subst (λ (r : Result Y Ask). IsAnswer r (as_answer result)) (found_as refusal (said book)) (is_answer_as (found_or refusal (said book)) result (h.exact book ready stands clean));
-      sound = λ clean own goes.
-          let held = h.sound clean own (λ fault e. goes fault (ap as_answer e)) in
-          (held.0, held.1, ap as_answer held.2 ∙ found_as refusal (said held.0));
+      sound = λ clean own goes book speaks. ap as_answer (h.sound clean own (λ fault e. goes fault (ap as_answer e)) book speaks) ∙ found_as refusal (said book);
       damaged = λ clean own table e. h.damaged clean own table (failed_as result (Damaged table) e);
     }

@@ -1,10 +1,11 @@
-pub mod FamilyLemmas
-pub mod LoadLemmas
 pub mod StandsLemmas
 pub mod OfficeLemmas
-pub mod OnTopLemmas
-pub mod RunLemmas
+pub mod AppliedLemmas
+pub mod HandLemmas
+pub mod LookLemmas
 pub mod AnswerLemmas
+pub mod MoveLemmas
 pub mod CallLemmas
+pub mod VerifiedLemmas
 pub mod Worked
 pub mod WorkedDefects

@@ -1,64 +1,68 @@
--- The exits of a call of the office, over states.
-use Rattle.std.proofs.Common.{◌≡◌, ◌≢◌, inl, inr, ℕ, Result, Ok, Err, ◌≤◌, false, cond, List, [], ◌∷◌, ◌++◌, sym, ap, subst, ◌∙◌, arith}
-use Rattle.std.specs.Prelude.{IfErr, IfOk, OnOk}
-use Rattle.sqlite.specs.State.{State, HasCleanDisk}
-use Rattle.sqlite_trees.specs.View.{doubt}
+-- What becomes of the tables of a book with a command, and with calls that change nothing.
+use Rattle.std.proofs.Common.{◌≡◌, inl, true, cond, append_assoc, List, [], ◌∷◌, ◌++◌, refl, sym, ap, subst, ◌∙◌, arith}
+use Rattle.std.proofs.lemmas.List.{append-nil}
+use Rattle.sqlite.specs.State.{State, HasCleanDisk, Survives}
+use Rattle.sqlite.specs.Tree.{Trees}
+use Rattle.sqlite.proofs.StateLemmas.{survives_then}
 use Rattle.mx_command.specs.Act.{Entry}
-use Rattle.mx_book.specs.declared.verdict.Reply.{Reply}
-use Rattle.mx_book.specs.declared.verdict.Reply.TheVariants.{Accepted}
-use Rattle.mx_book.specs.declared.verdict.Verdict.{Verdict}
-use Rattle.mx_book.specs.declared.verdict.Verdict.TheVariants.{New}
+use Rattle.mx_book.specs.Book.{is_new, is_book_from, IsBook}
 use Rattle.mx_book.specs.Judge.{judge}
-use Rattle.mx_book.specs.Book.{is_new}
-use Rattle.mx_book.specs.Run.{book_after}
-use Rattle.mx_layout.specs.Crash.{Leaves, ChangesNothing}
-use Rattle.mx_layout.proofs.CrashLemmas.{rests_kept, rests_same, leaves_same}
-use Rattle.mx_office.specs.declared.fault.Fault.{Fault}
-use Rattle.mx_office.specs.declared.fault.Fault.TheVariants.{Store}
+use Rattle.mx_book.specs.Run.{book_after, reply, reply_to}
+use Rattle.mx_book.specs.declared.verdict.Reply.{Reply}
+use Rattle.mx_book.specs.declared.verdict.Reply.TheVariants.{Already, Refused}
+use Rattle.mx_book.specs.declared.verdict.Verdict.{Verdict}
+use Rattle.mx_book.specs.declared.verdict.Verdict.TheVariants as verdict
+use Rattle.mx_book.proofs.JudgeLemmas.{both_true, is_new-New}
+use Rattle.mx_layout.specs.Crash.{ChangesNothing}
+use Rattle.mx_layout.proofs.CrashLemmas.{rests_kept, rests_same}
+use Rattle.mx_apply.specs.Applies.{behind}
 use Rattle.mx_office.specs.Layout.{office_schema}
-use Rattle.mx_office.specs.Stands.{Stands, Rests, IsEither}
+use Rattle.mx_office.specs.Stands.{Stands, Rests}
+
+-- ── calls that change nothing ──
 
 -- a call that changed nothing left the tables those of the book
 pub rests_still : (old new : State) (book : List Entry) → ChangesNothing old new → Rests old book → Rests new book
 rests_still old new book = rests_kept office_schema (λ trees. Stands trees book) old new
 
+-- one after the other
+pub nothing_then : (old mid new : State) → ChangesNothing old mid → ChangesNothing mid new → ChangesNothing old new
+nothing_then old mid new one two =
+    let early : HasCleanDisk new → HasCleanDisk mid = λ clean. omega (arith, two.survives.clean) in
+    record {
+      survives = survives_then old mid new _ _ _ (λ _ trees none. none) (λ _ trees none. none) one.survives two.survives;
+      was_open = λ clean is_open. one.was_open (early clean) (two.was_open clean is_open);
+      now_is = λ clean is_open. two.now_is clean is_open ∙ one.committed_is (early clean) (two.was_open clean is_open);
+      committed_is = λ clean is_open. two.committed_is clean is_open ∙ one.committed_is (early clean) (two.was_open clean is_open);
+    }
+
+-- a connection that is as it was
+pub survives_itself : (s : State) (P : Trees → Type 0) → Survives s s P
+survives_itself s P = record { clean = omega arith; shield = λ h. h; counts = omega arith; limit = refl; closes = λ _ is_open. inl is_open; crash = λ _ trees may. inl may }
+
+-- ── the book behind a command ──
+
 pub rests_as : (s : State) (one other : List Entry) → (HasCleanDisk s → one ≡ other) → Rests s one → Rests s other
-rests_as s one other same r = rests_same s office_schema (λ db. Stands db one) (λ db. Stands db other) (λ clean db is. subst (Stands db) (same clean) is) r
+rests_as s one other same r = rests_same s office_schema (λ trees. Stands trees one) (λ trees. Stands trees other) (λ clean trees is. subst (Stands trees) (same clean) is) r
 
--- the book after a command that is new, and after any other
-pub after_new : (book : List Entry) (c : Entry) → judge book c ≡ New → book_after book c ≡ book ++ c ∷ []
-after_new book c h = ap (λ v. cond (is_new v) (book ++ c ∷ []) book) h
+after_new : (book : List Entry) (command : Entry) → judge book command ≡ verdict.New → book_after book command ≡ book ++ command ∷ []
+after_new book command is = ap (λ v. cond (is_new v) (book ++ command ∷ []) book) is
 
-pub after_old : (book : List Entry) (c : Entry) (v : Verdict) → judge book c ≡ v → is_new v ≡ false → book_after book c ≡ book
-after_old book c v h old = ap (λ w. cond (is_new w) (book ++ c ∷ []) book) h ∙ ap (λ b. cond b (book ++ c ∷ []) book) old
+after_verdict : (book : List Entry) (command : Entry) (v : Verdict) → judge book command ≡ v → (r : Reply) (next : _) → r ≡ reply_to next v → behind book command r ≡ book_after book command
+after_verdict book command verdict.New is r next said = ap (behind book command) said ∙ sym (after_new book command is)
+after_verdict book command (verdict.Already seq) is r next said = ap (behind book command) said ∙ sym (ap (λ v. cond (is_new v) (book ++ command ∷ []) book) is)
+after_verdict book command (verdict.Refused why) is r next said = ap (behind book command) said ∙ sym (ap (λ v. cond (is_new v) (book ++ command ∷ []) book) is)
 
--- `loaded` is what the code read, and it is the book where the disk is clean
-module _ (mid end : State) (book loaded : List Entry) (later : doubt mid.is_clean ≤ doubt end.is_clean) (exact : HasCleanDisk mid → loaded ≡ book) where
-  same_at : HasCleanDisk end → loaded ≡ book
-  same_at clean = let early : HasCleanDisk mid = omega arith in exact early
+-- the book behind the reply that it gives
+pub behind_is : (book : List Entry) (command : Entry) (r : Reply) → r ≡ reply book command → behind book command r ≡ book_after book command
+behind_is book command r said = after_verdict book command (judge book command) refl r _ said
 
-  pub loaded_rests : Rests mid book → Rests mid loaded
-  loaded_rests = rests_as mid book loaded (λ clean. sym (exact clean))
+last_new : (before book : List Entry) (command : Entry) → is_book_from before (book ++ command ∷ []) ≡ true → judge (before ++ book) command ≡ verdict.New
+last_new before [] command is = ap (λ b. judge b command) (append-nil before) ∙ is_new-New (judge before command) (both_true (is_new (judge before command)) true is).0
+last_new before (entry ∷ book) command is =
+    let later = (both_true (is_new (judge before entry)) (is_book_from (before ++ entry ∷ []) (book ++ command ∷ [])) is).1 in
+    ap (λ b. judge b command) (sym (append_assoc before (entry ∷ []) book)) ∙ last_new (before ++ entry ∷ []) book command later
 
-  -- what rests as a book made of what was read rests as the one made of the book
-  pub rests_made : (f : List Entry → List Entry) → Rests end (f loaded) → Rests end (f book)
-  rests_made f = rests_as end (f loaded) (f book) (λ clean. ap f (same_at clean))
-
-  pub either_made : (f g : List Entry → List Entry) → Leaves end (IsEither (f loaded) (g loaded)) → Leaves end (IsEither (f book) (g book))
-  either_made f g h = leaves_same end (IsEither (f loaded) (g loaded)) (IsEither (f book) (g book)) (λ clean db is.
-      elim is [ inl one ↦ inl (subst (λ b. Stands db (f b)) (same_at clean) one) | inr other ↦ inr (subst (λ b. Stands db (g b)) (same_at clean) other) ]) h
-
--- ── what an answer that was given has ──
-
-pub ok_then : {V E : Type 0} {P Q : Type 0} (result : Result V E) → OnOk result P → (P → Q) → OnOk result Q
-ok_then (Ok v) p f = f p
-ok_then (Err e) p f = tt
-
-pub if_ok_then : {V E : Type 0} {P Q : V → Type 0} (result : Result V E) → IfOk result P → ((v : V) → P v → Q v) → IfOk result Q
-if_ok_then (Ok v) p f = f v p
-if_ok_then (Err e) p f = tt
-
--- a call that stopped, but not for the store, left the book as it was
-pub same_stopped : (result : Result Reply Fault) (old new : State) (book : List Entry) → Rests old book → (((seq : ℕ) → result ≢ Ok (Accepted seq)) → result ≢ Err Store → ChangesNothing old new) → IfErr result (λ fault. fault ≢ Store → Rests new book)
-same_stopped (Ok r) old new book rests untouched = tt
-same_stopped (Err fault) old new book rests untouched = λ other. rests_still old new book (untouched (λ seq is. cc) (λ is. other (cc))) rests
+-- where a book has a command as its last entry, that was new
+pub after_is : (book : List Entry) (command : Entry) → IsBook (book ++ command ∷ []) → book_after book command ≡ book ++ command ∷ []
+after_is book command is = after_new book command (last_new [] book command is.judged)

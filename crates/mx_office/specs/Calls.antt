@@ -1,6 +1,7 @@
 -- What a call that hands commands to an office does to it, and what it promises, whichever call it is.
 use Rattle.std.specs.Prelude.{◌≡◌, ◌≢◌, ◌⊎◌, ◌≤◌, ◌<◌, ◌+◌, List, [], ◌∷◌, length, take, IsTrue, Option, Some, None, Result, Ok, Err}
 use Rattle.sqlite.specs.Store.{Ghosts}
+use Rattle.sqlite.specs.Effect.{Database}
 use Rattle.sqlite.specs.State.{State, HasCleanDisk, Survives}
 use Rattle.sqlite_trees.specs.View.{doubt}
 use Rattle.mx_command.specs.Act.{Entry}
@@ -13,9 +14,9 @@ use Rattle.mx_office.specs.declared.fault.Ask.TheVariants.{Refused, Failed}
 use Rattle.mx_office.specs.declared.fault.Fault.{Fault}
 use Rattle.mx_office.specs.declared.fault.Fault.TheVariants.{Memory, Store, NeedsReopen, Damaged}
 use Rattle.mx_office.specs.declared.office.Office.{Office}
-use Rattle.mx_office.specs.Layout.{HasTables}
 use Rattle.mx_office.specs.Office.{office_state, IsReady, IsInDoubt, StandsFor}
-use Rattle.mx_office.specs.Stands.{HoldsBook, IsEither, IsReasonFor, MayLeave, NoneAccepted, RanOver, Rests}
+use Rattle.mx_office.specs.OnTop.{AreAnswered, IsBehind, IsDamagedBehind, IsOfOffice, MayLeave}
+use Rattle.mx_office.specs.Stands.{IsEither, NoneAccepted, Rests}
 
 -- ── what stopped a call ──
 
@@ -75,23 +76,35 @@ pub record IsAsked {S : Type 0} {g : Ghosts S} (stop : Option Fault) (old new : 
 
 -- ── over whatever rows ──
 
--- commands were handed to an office, whatever rows its tables have: the first of them got these replies, and this stopped it before the next one, if anything did
-pub record RunsOverRows {S : Type 0} {g : Ghosts S} (commands : List Entry) (said : List Reply) (stop : Option Fault) (old new : Office S g) : Type 0 where
-  -- where no command was accepted no table changes
-  pub untouched : IsReady old → NoneAccepted said → stop ≢ Some Store → (new ≡ old) ⊎ ChangesNothing (office_state old) (office_state new)
+-- commands were handed in, whatever rows the tables have: the first of them got these replies, and this stopped it before the next one, if anything did
+pub record RunsOverRows (commands : List Entry) (said : List Reply) (stop : Option Fault) (old new : State) : Type 0 where
   -- whatever it answered, a crash leaves the tables from before, or those with the first of the commands on top: as many as have a reply at most, or one more where the store failed
-  pub crash : HasTables (office_state old).now.schema → (office_state old).now ≡ (office_state old).committed → Survives (office_state old) (office_state new) (λ trees. (book : List Entry) × MayLeave book commands said stop (office_state old) trees)
-  -- a call that memory and the store did not stop found the connection open
-  pub was_open : IsReady old → commands ≢ [] → HasCleanDisk (office_state new) → stop ≢ Some Memory → stop ≢ Some Store → IsTrue (office_state old).is_open
-  -- what was replied is what some book replies that the tables held
-  pub told : HasCleanDisk (office_state new) → HasTables (office_state old).now.schema → said ≢ [] → (book : List Entry) × HoldsBook (office_state old).now.trees book × (said ≡ replies book (take (length said) commands))
-  -- and they hold that book behind the commands that have a reply
-  pub sound : HasCleanDisk (office_state new) → HasTables (office_state old).now.schema → (office_state old).now ≡ (office_state old).committed → said ≢ [] → stop ≢ Some Store
-      → RanOver (take (length said) commands) said (office_state old) (office_state new)
-  -- a table is told to be damaged for a reason, before any reply
-  pub damaged : HasCleanDisk (office_state new) → HasTables (office_state old).now.schema → (table : TableName) → stop ≡ Some (Damaged table) → (said ≡ []) × IsReasonFor (office_state old).now.trees table
+  pub crash : IsOfOffice old → Survives old new (MayLeave commands said stop old)
+  -- what was replied, or told damaged, was so by a connection that is open
+  pub was_open : HasCleanDisk new → (said ≢ []) ⊎ ((table : TableName) × (stop ≡ Some (Damaged table))) → IsTrue old.is_open
+  -- each reply is by the verdict on each book as which the tables answer that its command found
+  pub told : HasCleanDisk new → IsOfOffice old → (after : Database) × AreAnswered (take (length said) commands) said old.now after
+  -- and the tables have the rows of the commands that were accepted on top
+  pub sound : HasCleanDisk new → IsOfOffice old → IsTrue new.is_open → stop ≢ Some Store → IsBehind commands said old new
+  -- a table is told to be damaged only where it is, in the tables that the command found
+  pub damaged : HasCleanDisk new → IsOfOffice old → (table : TableName) → stop ≡ Some (Damaged table) → IsDamagedBehind table commands said old
 
 -- ── a run ──
+
+-- commands were handed in, one after the other: what a run promises of the tables
+pub record HandsIn (commands : List Entry) (said : List Reply) (stop : Option Fault) (old new : State) : Type 0 where
+  -- no fault of the disk is forgotten
+  pub clean : doubt old.is_clean ≤ doubt new.is_clean
+  -- no call of a connection says that the office has to be opened again
+  pub usable : stop ≢ Some NeedsReopen
+  -- one that is open was open before, unless the store failed
+  pub opened : stop ≢ Some Store → HasCleanDisk new → IsTrue new.is_open → IsTrue old.is_open
+  -- where a command was looked for and none was accepted no table changes
+  pub untouched : NoneAccepted said → stop ≢ Some Store → (said ≢ []) ⊎ (stop ≢ None) → ChangesNothing old new
+  -- what becomes of a book
+  pub over_book : (book : List Entry) → Rests old book → RunsOver book commands said stop new
+  -- what becomes of any rows
+  pub over_rows : RunsOverRows commands said stop old new
 
 -- commands were handed to an office, one after the other, each in a commit of its own: the first of them got these replies, and this stopped it before the next one, if anything did
 pub record IsRun {S : Type 0} {g : Ghosts S} (commands : List Entry) (said : List Reply) (stop : Option Fault) (old new : Office S g) : Type 0 where
@@ -103,10 +116,12 @@ pub record IsRun {S : Type 0} {g : Ghosts S} (commands : List Entry) (said : Lis
   pub cut : IsReady old → stop ≢ None → (length said < length commands) ⊎ ((commands ≡ []) × (stop ≡ Some Memory) × (new ≡ old))
   -- whether the office goes on
   pub doubt : MarksDoubt stop old new
+  -- where no command was accepted no table changes
+  pub untouched : NoneAccepted said → stop ≢ Some Store → (new.conn ≡ old.conn) ⊎ ChangesNothing (office_state old) (office_state new)
   -- what becomes of a book
   pub over_book : (book : List Entry) → StandsFor old book → RunsOver book commands said stop (office_state new)
   -- what becomes of any rows
-  pub over_rows : RunsOverRows commands said stop old new
+  pub over_rows : RunsOverRows commands said stop (office_state old) (office_state new)
 
 -- commands were handed in, and P holds of the replies and of what stopped them, if anything did
 abbrev pub Runs : {S : Type 0} {g : Ghosts S} → List Entry → Office S g → Office S g → (List Reply → Option Fault → Type 0) → Type 0

@@ -1,7 +1,10 @@
 pub mod Calls
 pub mod Faults
 pub mod Layout
+pub mod Looks
 pub mod Office
+pub mod OnTop
 pub mod Opening
 pub mod Questions
 pub mod Stands
+pub mod Verified

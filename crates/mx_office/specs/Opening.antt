@@ -1,33 +1,63 @@
 -- What becomes of a database whose office is opened, and why none is.
-use Rattle.std.specs.Prelude.{◌≡◌, ◌≢◌, ◌⊎◌, List, [], ◌∷◌, length, Option, Some, None, Result, Ok, Err, IsTrue}
+use Rattle.std.specs.Prelude.{◌≡◌, ◌≢◌, ◌⊎◌, ◌≤◌, ℕ, true, List, [], ◌∷◌, length, Option, Some, None, Result, Ok, Err, IsTrue}
 use Rattle.sqlite.specs.Store.{Ghosts}
-use Rattle.sqlite.specs.Held.{Held}
-use Rattle.sqlite.specs.State.{State}
+use Rattle.sqlite.specs.Held.{Held, state}
+use Rattle.sqlite.specs.State.{State, HasCleanDisk}
+use Rattle.sqlite.specs.Tree.{Trees}
+use Rattle.sqlite_trees.specs.View.{doubt}
 use Rattle.mx_command.specs.Act.{Entry}
 use Rattle.mx_layout.specs.declared.fault.TableFault.{TableFault}
 use Rattle.mx_point.specs.declared.point.Point.{Point}
+use Rattle.mx_points.specs.Commits.{point_behind}
+use Rattle.mx_points.specs.Points.{is_on_way}
 use Rattle.mx_layout.specs.Contents.{rows_in}
-use Rattle.mx_layout.specs.Crash.{ChangesNothing}
+use Rattle.mx_layout.specs.Crash.{ChangesNothing, Leaves}
 use Rattle.mx_layout.specs.Listed.{LacksOffice}
 use Rattle.mx_layout.specs.Point.{point_cells, FitsPoint, HoldsPoint, TellsPoint}
 use Rattle.mx_layout.specs.Tables.{office, HasOffice}
+use Rattle.mx_stands.specs.Schemas.{IsOfFile}
+use Rattle.mx_stands.specs.Stands.{RestsAt, StandsAt}
+use Rattle.mx_settle.specs.Place.{IsPlacedAt}
 use Rattle.mx_office.specs.declared.fault.OpenFault.{OpenFault}
 use Rattle.mx_office.specs.declared.fault.OpenFault.TheVariants as unopened
-use Rattle.mx_office.specs.Faults.{open_answer, open_fault_from, IsReason, IsUnopened}
+use Rattle.mx_office.specs.Faults.{open_answer, open_fault_from, IsReason, IsStop, IsStopped, IsUnopened, SaysWhy}
 use Rattle.mx_office.specs.Layout.{office_point}
 use Rattle.mx_office.specs.Stands.{Rests}
 
--- a call left the database as it was
-pub record LeavesAll (old new : State) : Type 0 where
-  -- nothing changed
-  pub unchanged : ChangesNothing old new
-  -- and a book that the tables stood for is theirs still
-  pub kept : (book : List Entry) → Rests old book → Rests new book
+-- ── what becomes of a database ──
+
+-- the tables stand for the book at a point, or at one behind it on the way to the newest layout
+abbrev pub StandsBehind : Point → List Entry → Trees → Type 0
+StandsBehind at book trees = (commits : ℕ) × StandsAt (point_behind commits at book) trees book
+
+-- what becomes of a file whose office was opened, or was not for this reason
+pub record MovesOn (old new : State) (why : Option OpenFault) : Type 0 where
+  -- what the disk failed in is not forgotten
+  pub clean : doubt old.is_clean ≤ doubt new.is_clean
+  -- where the tables stood for a book at any point: they stand for it at the point of the office, or, unless the store failed, at that point or at one behind it; and whatever is answered, a crash leaves them to stand for it at such a point
+  pub kept : (at : Point) (book : List Entry) → RestsAt at old book → why ≡ None → Rests new book
+  pub same : (at : Point) (book : List Entry) → RestsAt at old book → (fault : OpenFault) → why ≡ Some fault → fault ≢ unopened.Store → (commits : ℕ) × RestsAt (point_behind commits at book) new book
+  pub crash : (at : Point) (book : List Entry) → RestsAt at old book → Leaves new (StandsBehind at book)
+  -- whatever rows a file at a point has: it is at the point of the office
+  pub placed : (at : Point) → IsPlacedAt at old → why ≡ None → IsPlacedAt office_point new
+
+-- the query of `office` told a point on the way to the newest layout, which is the one that its row says
+pub record IsOnWay {S : Type 0} (g : Ghosts S) (was : Held S) : Type 0 where
+  pub at : Point
+  pub way : is_on_way at ≡ true
+  pub told : TellsPoint g was (Ok at)
+  pub exact : (p : Point) → (IsTrue (state g was).is_open → HoldsPoint p (state g was).now) → FitsPoint p → at ≡ p
+
+-- nothing changed, but where the query of `office` told a point on the way
+abbrev pub ChangesOnWay : {S : Type 0} → Ghosts S → Held S → State → Type 0
+ChangesOnWay g was now = ChangesNothing (state g was) now ⊎ (HasCleanDisk now → IsOnWay g was)
+
+-- ── why ──
 
 -- what is known of a database in which an office was opened: nothing of its other tables, each of which is looked at by the calls that need it
 pub record WasOurs (was : State) : Type 0 where
-  -- its table `office` has one row, that of the point of the office
-  pub settled : (IsTrue was.is_open → HasOffice was.now.schema) → rows_in office was.now.trees ≡ point_cells office_point ∷ []
+  -- its table `office` has one row, that of a point that a file can be at
+  pub file : (IsTrue was.is_open → HasOffice was.now.schema) → (p : Point) × IsOfFile p × (rows_in office was.now.trees ≡ point_cells p ∷ [])
   -- at no other point is one opened
   pub exact : (p : Point) → (IsTrue was.is_open → HoldsPoint p was.now) → FitsPoint p → open_answer p ≡ None
   -- nor where no table is named `office`
@@ -35,23 +65,23 @@ pub record WasOurs (was : State) : Type 0 where
 
 -- why no office was opened, where the point was read so
 abbrev pub IsWhy : Result Point TableFault → OpenFault → Type 0
-IsWhy (Ok p) why = open_answer p ≡ Some why
+IsWhy (Ok p) why = (open_answer p ≡ Some why) ⊎ ((is_on_way p ≡ true) × IsStopped why)
 IsWhy (Err fault) why = why ≡ open_fault_from fault
 
--- the query of `office`, in whatever schema, says whether an office is opened: it showed the row of the point of the office and no other, or it says why none is
+-- the query of `office`, in whatever schema, says whether an office is opened: it showed the row of a point that a file can be at and no other, or it says why none is
 abbrev pub SaysPoint : {S : Type 0} → Ghosts S → Held S → Option OpenFault → Type 0
-SaysPoint g was None = TellsPoint g was (Ok office_point)
+SaysPoint g was None = (p : Point) × TellsPoint g was (Ok p) × IsOfFile p
 SaysPoint g was (Some why) = (answer : Result Point TableFault) × TellsPoint g was answer × IsWhy answer why
 
 -- why no office was opened in a database
 pub record HasReason (was : State) (why : OpenFault) : Type 0 where
-  -- it is at a point that says so
-  pub exact : (p : Point) → (IsTrue was.is_open → HoldsPoint p was.now) → FitsPoint p → IsUnopened (open_answer p) why
+  -- it is at a point that says so, or the move from there met a table that is damaged
+  pub exact : (p : Point) → (IsTrue was.is_open → HoldsPoint p was.now) → FitsPoint p → SaysWhy p why ⊎ IsStop why
   -- the rows of its table `office` say so
   pub reason : (IsTrue was.is_open → HasOffice was.now.schema) → IsReason (rows_in office was.now.trees) why
   -- it is told that the database is not ours only where that table has not one row
   pub not_ours : (IsTrue was.is_open → HasOffice was.now.schema) → why ≡ unopened.NotOurs → length (rows_in office was.now.trees) ≢ 1
   -- no table is named `office`
   pub absent : (IsTrue was.is_open → LacksOffice was.now.schema) → IsUnopened (Some unopened.NotOurs) why
-  -- of a book memory or the store alone
-  pub whole : (book : List Entry) → Rests was book → (why ≡ unopened.Memory) ⊎ (why ≡ unopened.Store)
+  -- of a book, where a file can be at the point at which the tables stood for it, memory or the store alone
+  pub whole : (at : Point) (book : List Entry) → IsOfFile at → RestsAt at was book → IsStop why

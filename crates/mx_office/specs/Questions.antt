@@ -4,21 +4,22 @@ use Rattle.sqlite.specs.Store.{Ghosts}
 use Rattle.sqlite.specs.State.{HasCleanDisk}
 use Rattle.mx_command.specs.Act.{Entry}
 use Rattle.mx_layout.specs.TableName.{TableName}
+use Rattle.mx_lookups.specs.Damage.{IsDamaged}
+use Rattle.mx_rows.specs.Answering.{AnswerListsAs}
 use Rattle.mx_office.specs.declared.fault.Ask.{Ask}
 use Rattle.mx_office.specs.declared.fault.Ask.TheVariants.{Failed}
 use Rattle.mx_office.specs.declared.fault.Fault.{Fault}
 use Rattle.mx_office.specs.declared.fault.Fault.TheVariants.{Damaged}
 use Rattle.mx_office.specs.declared.office.Office.{Office}
 use Rattle.mx_office.specs.Faults.{IsAnswer}
-use Rattle.mx_office.specs.Layout.{HasTables}
+use Rattle.mx_office.specs.Layout.{office_schema}
 use Rattle.mx_office.specs.Office.{office_state, IsReady, StandsFor}
-use Rattle.mx_office.specs.Stands.{HoldsBook, IsReasonFor}
 
 -- a question was answered, to which this is said of a book
 pub record IsAnsweredBy {S : Type 0} {g : Ghosts S} {X : Type 0} (said : List Entry → Result X Ask) (old new : Office S g) (result : Result X Ask) : Type 0 where
   -- of the book that the tables stand for, unless memory or the store failed
   pub exact : (book : List Entry) → IsReady old → StandsFor old book → HasCleanDisk (office_state new) → IsAnswer (said book) result
-  -- of whichever book the tables hold, if it was answered at all
-  pub sound : HasCleanDisk (office_state new) → HasTables (office_state old).now.schema → ((fault : Fault) → result ≢ Err (Failed fault)) → (book : List Entry) × HoldsBook (office_state old).now.trees book × (result ≡ said book)
-  -- a table is answered damaged for a reason
-  pub damaged : HasCleanDisk (office_state new) → HasTables (office_state old).now.schema → (table : TableName) → result ≡ Err (Failed (Damaged table)) → IsReasonFor (office_state old).now.trees table
+  -- of each book as which the rows answer that the tables have, if it was answered at all
+  pub sound : HasCleanDisk (office_state new) → (office_state old).now.schema ≡ office_schema → ((fault : Fault) → result ≢ Err (Failed fault)) → (book : List Entry) → AnswerListsAs (office_state old).now.trees book → result ≡ said book
+  -- a table is answered damaged only where it is
+  pub damaged : HasCleanDisk (office_state new) → (office_state old).now.schema ≡ office_schema → (table : TableName) → result ≡ Err (Failed (Damaged table)) → IsDamaged table (office_state old).now.trees

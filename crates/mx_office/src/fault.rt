@@ -1,9 +1,11 @@
 //! What stops a call of the office, and what a run answers.
-ghost use Rattle.std.specs.Prelude.{◌≡◌};
-ghost use Rattle.mx_office.specs.Faults.{fault_from, open_fault_from};
+ghost use Rattle.std.specs.Prelude.{◌≡◌, ◌↔◌, IsTrue, Some};
+ghost use Rattle.mx_office.specs.Calls.{stop_asking, stop_in};
+ghost use Rattle.mx_office.specs.Faults.{call_answer, fault_from, moved_fault_from, open_fault_from, question_answer};
 
-use mx_book::{NoMemory, Refusal, Reply};
+use mx_book::{Refusal, Reply};
 use mx_layout::{Table, TableFault};
+use mx_migrate::MoveFault;
 
 /// What stopped a call.
 #[derive(Clone, Copy, Debug, PartialEq, Eq)]
@@ -31,9 +33,9 @@ pub enum OpenFault {
     NotOurs,
     /// The file has a layout, this one, that is newer than the program.
     NewerLayout(u8),
-    /// A row of the table can't be read, or the point is none that a file can be at.
+    /// A row of the table can't be read, or can't be there where the file is moved; or the point is none that a file can be at.
     Damaged(Table),
-    /// The file has a layout, this one, from which the program has no way to the newest.
+    /// The file has a layout, this one, from which the program has no way to the newest. No layout is so now.
     OlderLayout(u8),
 }
 
@@ -44,40 +46,6 @@ pub enum Ask {
     Refused(Refusal),
     /// The call was stopped.
     Failed(Fault),
-}
-
-impl From<Fault> for Ask {
-    ghost use Rattle.std.specs.Prelude.{◌≡◌};
-    ghost use Rattle.mx_office.specs.declared.fault.Ask.TheVariants.{Failed};
-
-    ghost from_gives = { λ fault ask. ask ≡ Failed fault };
-
-    fn from(fault: Fault) -> Ask {
-        Ask::Failed(fault)
-    }
-}
-
-impl From<NoMemory> for Fault {
-    ghost use Rattle.std.specs.Prelude.{◌≡◌};
-    ghost use Rattle.mx_office.specs.declared.fault.Fault.TheVariants.{Memory};
-
-    ghost from_gives = { λ _ fault. fault ≡ Memory };
-
-    fn from(_none: NoMemory) -> Fault {
-        Fault::Memory
-    }
-}
-
-impl From<NoMemory> for Ask {
-    ghost use Rattle.std.specs.Prelude.{◌≡◌};
-    ghost use Rattle.mx_office.specs.declared.fault.Ask.TheVariants.{Failed};
-    ghost use Rattle.mx_office.specs.declared.fault.Fault.TheVariants.{Memory};
-
-    ghost from_gives = { λ _ ask. ask ≡ Failed Memory };
-
-    fn from(_none: NoMemory) -> Ask {
-        Ask::Failed(Fault::Memory)
-    }
 }
 
 /// What a run answered, and what stopped it.
@@ -110,4 +78,52 @@ pub(crate) fn open_fault_of(fault: TableFault) -> OpenFault
         TableFault::Damaged(table) => OpenFault::Damaged(table),
         TableFault::Store | TableFault::Exists => OpenFault::Store,
     }
+}
+
+/// Why no office was opened, where this stopped the move of its file. The point was read before, so `office` was there and its
+/// layout none that is newer: what finds it otherwise finds it damaged.
+pub(crate) fn moved_fault_of(fault: MoveFault) -> OpenFault
+    ensures { result ≡ moved_fault_from fault }
+{
+    match fault {
+        MoveFault::Memory => OpenFault::Memory,
+        MoveFault::Store => OpenFault::Store,
+        MoveFault::Damaged(table) => OpenFault::Damaged(table),
+        MoveFault::NotOurs | MoveFault::NewerLayout(_) => OpenFault::Damaged(Table::Office),
+    }
+}
+
+/// What a call answers, of what was looked up or applied.
+pub(crate) fn call_answer<T>(found: Result<T, TableFault>) -> Result<T, Fault>
+    ensures { result ≡ call_answer found }
+{
+    match found {
+        Ok(value) => Ok(value),
+        Err(fault) => Err(fault_of(fault)),
+    }
+}
+
+/// What a question is answered, of what was looked up.
+pub(crate) fn question_answer<T>(found: Result<Result<T, Refusal>, TableFault>) -> Result<T, Ask>
+    ensures { result ≡ question_answer found }
+{
+    match found {
+        Ok(Ok(value)) => Ok(value),
+        Ok(Err(refusal)) => Err(Ask::Refused(refusal)),
+        Err(fault) => Err(Ask::Failed(fault_of(fault))),
+    }
+}
+
+/// Whether the store stopped a call.
+pub(crate) fn call_failed<T>(answer: &Result<T, Fault>) -> bool
+    ensures { IsTrue result ↔ (stop_in answer.now ≡ Some Fault.Store) }
+{
+    matches!(answer, Err(Fault::Store))
+}
+
+/// Whether the store stopped a question.
+pub(crate) fn question_failed<T>(answer: &Result<T, Ask>) -> bool
+    ensures { IsTrue result ↔ (stop_asking answer.now ≡ Some Fault.Store) }
+{
+    matches!(answer, Err(Ask::Failed(Fault::Store)))
 }

@@ -4,7 +4,7 @@ ghost use Rattle.sqlite.specs.Tree.{Trees};
 ghost use Rattle.mx_command.specs.Act.{Entry};
 ghost use Rattle.mx_layout.specs.Making.{IsEmptyIn};
 ghost use Rattle.mx_office.specs.Layout.{office_point};
-ghost use Rattle.mx_office.specs.Stands.{HoldsBook, Stands};
+ghost use Rattle.mx_office.specs.Stands.{Stands};
 
 /// Tables stand for at most one book.
 pub fn tables_stand_for_one_book()
@@ -15,10 +15,4 @@ pub fn tables_stand_for_one_book()
 /// Tables that were just made stand for the book with no entry.
 pub fn new_tables_stand_for_the_empty_book()
     ensures { (trees : Trees) → IsEmptyIn office_point.layout trees → Stands trees [] }
-{}
-
-/// Tables hold at most one book, whatever the tables that no command writes have.
-pub fn tables_hold_one_book()
-    ensures { (trees : Trees) (one other : List Entry)
-        → HoldsBook trees one → HoldsBook trees other → one ≡ other }
 {}

@@ -1,19 +1,19 @@
-//! The office: the tables of one book in a database file. A command is applied in one commit, and a question is
-//! answered from the tables; whatever stops a call, the file is that of one book.
+//! The office: the tables of one book in a database file. A command is judged by rows and applied in one commit, and a
+//! question is answered from the rows that it needs; whatever stops a call, the file is that of one book.
 #![tactic(auto)]
 
-mod adding;
-mod answering;
+mod asking;
 mod calls;
 pub mod fault;
 pub mod laws;
-mod loading;
 pub mod office;
 mod opening;
 mod questions;
 mod running;
+mod verifying;
 
 pub use fault::{Ask, Fault, OpenFault, Outcomes};
 pub use mx_book::Reply;
+pub use mx_settle::NEWEST_LAYOUT;
 pub use office::Office;
-pub use opening::{NEWEST_LAYOUT, open_office};
+pub use opening::open_office;

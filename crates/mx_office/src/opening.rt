@@ -1,29 +1,116 @@
-//! The opening of the office that a database holds.
-ghost use Rattle.std.specs.Prelude.{◌≡◌, None, Some, false, IfOk, IfErr, MatchResult};
+//! The opening of the office that a database holds, and the move of an old one to the newest layout before.
+ghost use Rattle.std.specs.Prelude.{◌≡◌, ◌≢◌, ◌≤◌, List, None, Some, false, IfOk, IfErr, MatchResult};
 ghost use Rattle.sqlite.specs.Held.{state};
 ghost use Rattle.sqlite.specs.State.{HasCleanDisk};
+ghost use Rattle.mx_command.specs.Act.{Entry};
+ghost use Rattle.mx_point.specs.declared.point.Point.{Point};
+ghost use Rattle.mx_stands.specs.Schemas.{IsOfFile};
+ghost use Rattle.mx_stands.specs.Stands.{RestsAt};
+ghost use Rattle.mx_office.specs.Faults.{is_office_point, open_answer, IsStop, IsStopped};
 ghost use Rattle.mx_office.specs.Office.{office_state, IsReady};
-ghost use Rattle.mx_office.specs.Opening.{HasReason, LeavesAll, SaysPoint, WasOurs};
+ghost use Rattle.mx_office.specs.Opening.{ChangesOnWay, HasReason, MovesOn, SaysPoint, WasOurs};
 
-use crate::fault::{OpenFault, open_fault_of};
+use crate::fault::{OpenFault, moved_fault_of, open_fault_of};
 use crate::office::Office;
 use mx_layout::{Table, point};
+use mx_point::Point;
+use mx_points::is_on_way;
+use mx_settle::{ENOUGH_COMMITS, NEWEST_LAYOUT, settle};
 use sqlite::{Alter, Connection};
+use std::alloc::Global;
 
-/// The newest layout of the tables.
-pub const NEWEST_LAYOUT: u8 = 1;
+// Whether the point is that of the office.
+fn is_office_point(at: Point) -> bool
+    ensures { result ≡ is_office_point at }
+{
+    at.layout == NEWEST_LAYOUT && at.step == 0 && at.mark == 0
+}
 
-/// Opens the office that a database holds. Nothing is changed; where it isn't opened the connection is handed
-/// back with the reason: `NotOurs`, `NewerLayout`, `Damaged` where the point can't be read or is none that a
-/// file can be at, `Memory` or `Store`.
+// Why no office is opened in a file at a point, unless a file can be at it: at that of the office, or on the way there.
+fn open_answer(at: Point) -> Option<OpenFault>
+    ensures { result ≡ open_answer at }
+{
+    if at.layout > NEWEST_LAYOUT {
+        Some(OpenFault::NewerLayout(at.layout))
+    } else if is_office_point(at) || is_on_way(at) {
+        None
+    } else {
+        Some(OpenFault::Damaged(Table::Office))
+    }
+}
+
+// Moves a file to the point of the office, with as many commits as any takes, and answers why it is not there, if it isn't.
+fn move_on<S: Alter>(alloc: Global, conn: &mut Connection<S>, at_most: u32) -> Option<OpenFault>
+    requires idle { conn.old.in_transaction ≡ false }
+    requires enough { ENOUGH_COMMITS ≤ at_most }
+    ensures idle { conn.new.in_transaction ≡ false }
+    ensures moves { MovesOn (state S.Store conn.old) (state S.Store conn.new) result }
+    ensures stops { (why : _) → result ≡ Some why → IsStopped why }
+    ensures whole { (at : Point) (book : List Entry) → IsOfFile at
+        → RestsAt at (state S.Store conn.old) book → HasCleanDisk (state S.Store conn.new)
+        → (why : _) → result ≡ Some why → IsStop why }
+{
+    match settle(alloc, conn, at_most) {
+        Ok(at) => {
+            if is_office_point(at) {
+                None
+            } else {
+                Some(OpenFault::Damaged(Table::Office))
+            }
+        }
+        Err(fault) => Some(moved_fault_of(fault)),
+    }
+}
+
+// Reads the point of a database, moves a file that is on the way, and answers why no office is opened, if none is.
+fn unopened<S: Alter>(alloc: Global, conn: &mut Connection<S>) -> Option<OpenFault>
+    requires { conn.old.in_transaction ≡ false }
+    ensures idle { conn.new.in_transaction ≡ false }
+    ensures moves { MovesOn (state S.Store conn.old) (state S.Store conn.new) result }
+    ensures changes { ChangesOnWay S.Store conn.old (state S.Store conn.new) }
+    ensures told { HasCleanDisk (state S.Store conn.new) → SaysPoint S.Store conn.old result }
+    ensures ours { HasCleanDisk (state S.Store conn.new) → result ≡ None
+        → WasOurs (state S.Store conn.old) }
+    ensures reason { HasCleanDisk (state S.Store conn.new) → (why : _) → result ≡ Some why
+        → HasReason (state S.Store conn.old) why }
+    ensures older { (layout : _) → result ≢ Some (OpenFault.OlderLayout layout) }
+{
+    match point(conn) {
+        Ok(at) => {
+            if is_on_way(at) {
+                move_on(alloc, conn, ENOUGH_COMMITS)
+            } else {
+                open_answer(at)
+            }
+        }
+        Err(fault) => Some(open_fault_of(fault)),
+    }
+}
+
+/// Opens the office that a database holds. A file of an older layout, or one that was stopped on its way to the newest, is
+/// moved there first, commit after commit, and stands for the same book behind each; in any other nothing is changed, and
+/// of one at the newest layout `office` alone is read.
+///
+/// # Errors
+/// The connection is handed back with the reason: `NotOurs`, `NewerLayout`, `Damaged` where the point can't be read or is none
+/// that a file can be at, or where the move meets a row that can't be read or can't be there; `Memory` or `Store`. Commits that
+/// a move has made before are kept. `OlderLayout` never comes, since each older layout has a way to the newest.
 pub fn open_office<S: Alter>(
+    alloc: Global,
     mut conn: Connection<S>,
 ) -> Result<Office<S>, (Connection<S>, OpenFault)>
     requires { conn.in_transaction ≡ false }
     ensures ready { IfOk result IsReady }
-    ensures left { MatchResult result
-        (λ office. LeavesAll (state S.Store conn) (office_state office))
-        (λ e. LeavesAll (state S.Store conn) (state S.Store e.0)) }
+
+    // Of the book that the tables stood for, at whatever point; and of any rows at a point.
+    ensures moves { MatchResult result
+        (λ office. MovesOn (state S.Store conn) (office_state office) None)
+        (λ e. MovesOn (state S.Store conn) (state S.Store e.0) (Some e.1)) }
+
+    // Of whatever database, nothing changes but where the point that was read is on the way.
+    ensures changes { MatchResult result
+        (λ office. ChangesOnWay S.Store conn (office_state office))
+        (λ e. ChangesOnWay S.Store conn (state S.Store e.0)) }
 
     // Of a disk that returned what was written.
     ensures told { MatchResult result
@@ -33,20 +120,13 @@ pub fn open_office<S: Alter>(
         → WasOurs (state S.Store conn)) }
     ensures reason { IfErr result (λ e. HasCleanDisk (state S.Store e.0)
         → HasReason (state S.Store conn) e.1) }
+    ensures older { IfErr result (λ e. (layout : _) → e.1 ≢ OpenFault.OlderLayout layout) }
 {
-    match point(&mut conn) {
-        Ok(at) => {
-            if at.layout > NEWEST_LAYOUT {
-                return Err((conn, OpenFault::NewerLayout(at.layout)));
-            }
-            if at.layout != NEWEST_LAYOUT || at.step != 0 || at.mark != 0 {
-                return Err((conn, OpenFault::Damaged(Table::Office)));
-            }
-            Ok(Office {
-                conn,
-                needs_reopen: false,
-            })
-        }
-        Err(fault) => Err((conn, open_fault_of(fault))),
+    match unopened(alloc, &mut conn) {
+        None => Ok(Office {
+            conn,
+            needs_reopen: false,
+        }),
+        Some(fault) => Err((conn, fault)),
     }
 }

@@ -1,39 +1,34 @@
 //! The questions that an office is asked: lists, lives and entries. None of them changes a table.
-ghost use Rattle.std.specs.Prelude.{◌≡◌, ◌⊎◌, IfOk, MatchResult};
+ghost use Rattle.std.specs.Prelude.{◌≡◌, ◌⊎◌, IfOk, MatchResult, Some};
 ghost use Rattle.sqlite.specs.State.{HasCleanDisk};
 ghost use Rattle.mx_book.specs.Book.{entries_from};
+ghost use Rattle.mx_book.specs.Life.{life_now};
+ghost use Rattle.mx_entries.specs.Damage.{IsSkipped};
+ghost use Rattle.mx_entries.specs.Entries.{AreEntries};
 ghost use Rattle.mx_lists.specs.DueList.{due_list};
 ghost use Rattle.mx_lists.specs.Forecast.{forecast};
-ghost use Rattle.mx_book.specs.Life.{life_now};
 ghost use Rattle.mx_lists.specs.LimitList.{limits};
 ghost use Rattle.mx_lists.specs.Lists.{life_list};
-ghost use Rattle.mx_office.specs.Layout.{HasTables};
+ghost use Rattle.mx_lookups.specs.Damage.{IsDamaged};
+ghost use Rattle.mx_lookups.specs.Given.{LifeOf};
+ghost use Rattle.mx_rows.specs.Listing.{unknown};
 ghost use Rattle.mx_office.specs.Calls.{stop_asking, stop_in, IsAsked};
-ghost use Rattle.mx_office.specs.Faults.{found_or, unknown};
+ghost use Rattle.mx_office.specs.Faults.{found_or};
+ghost use Rattle.mx_office.specs.Layout.{office_schema};
 ghost use Rattle.mx_office.specs.Office.{office_state, IsReady, StandsFor};
 ghost use Rattle.mx_office.specs.Questions.{IsAnsweredBy};
-ghost use Rattle.mx_office.specs.Stands.{HoldsBook, IsReasonFor};
 
-use crate::fault::{Ask, Fault};
+use crate::asking::{
+    dues_found, entries_found, forecast_found, life_found, limits_found, lives_found,
+};
+use crate::fault::{Ask, Fault, call_answer, call_failed, question_answer, question_failed};
 use crate::office::Office;
 use mx_base::{Day, Tail, Use};
 use mx_book::Refusal;
 use mx_command::{Command, Item};
-use mx_lists::{
-    DueList, ForecastList, LifeList, LimitList, due_list_of, forecast_of, life_list_of, limits_of,
-};
+use mx_lists::{DueList, ForecastList, LifeList, LimitList};
 use sqlite::Alter;
 use std::alloc::Global;
-
-// Why an item is unknown.
-fn unknown_of(item: &Item) -> Refusal
-    ensures { result ≡ unknown item.now }
-{
-    match item {
-        Item::Airframe(_) => Refusal::UnknownAircraft,
-        Item::Component(_) => Refusal::UnknownComponent,
-    }
-}
 
 impl<S: Alter> Office<S> {
     /// The due list of an aircraft on a day. `Refused(UnknownAircraft)` where no aircraft has the registration. No table
@@ -44,11 +39,12 @@ impl<S: Alter> Office<S> {
             (λ book. found_or Refusal.UnknownAircraft (due_list book tail day))
             self.old self.new result }
     {
-        let book = self.book(alloc)?;
-        match due_list_of(&book, alloc, &tail, day)? {
-            Some(list) => Ok(list),
-            None => Err(Ask::Refused(Refusal::UnknownAircraft)),
+        if self.needs_reopen {
+            return Err(Ask::Failed(Fault::NeedsReopen));
         }
+        let answer = question_answer(dues_found(alloc, &mut self.conn, &tail, day));
+        self.needs_reopen = question_failed(&answer);
+        answer
     }
 
     /// The forecast of an aircraft: what is reached within so many days of a day, at these minutes and cycles a day.
@@ -67,11 +63,20 @@ impl<S: Alter> Office<S> {
             (λ book. found_or Refusal.UnknownAircraft (forecast book tail day days minutes cycles))
             self.old self.new result }
     {
-        let book = self.book(alloc)?;
-        match forecast_of(&book, alloc, &tail, day, days, minutes, cycles)? {
-            Some(list) => Ok(list),
-            None => Err(Ask::Refused(Refusal::UnknownAircraft)),
+        if self.needs_reopen {
+            return Err(Ask::Failed(Fault::NeedsReopen));
         }
+        let answer = question_answer(forecast_found(
+            alloc,
+            &mut self.conn,
+            &tail,
+            day,
+            days,
+            minutes,
+            cycles,
+        ));
+        self.needs_reopen = question_failed(&answer);
+        answer
     }
 
     /// The limits of an aircraft on a day, those of its open defects. `Refused(UnknownAircraft)` where no aircraft has
@@ -82,11 +87,12 @@ impl<S: Alter> Office<S> {
             (λ book. found_or Refusal.UnknownAircraft (limits book tail day))
             self.old self.new result }
     {
-        let book = self.book(alloc)?;
-        match limits_of(&book, alloc, &tail, day)? {
-            Some(list) => Ok(list),
-            None => Err(Ask::Refused(Refusal::UnknownAircraft)),
+        if self.needs_reopen {
+            return Err(Ask::Failed(Fault::NeedsReopen));
         }
+        let answer = question_answer(limits_found(alloc, &mut self.conn, &tail, day));
+        self.needs_reopen = question_failed(&answer);
+        answer
     }
 
     /// The life list of an aircraft. `Refused(UnknownAircraft)` where no aircraft has the registration.
@@ -97,11 +103,12 @@ impl<S: Alter> Office<S> {
             (λ book. found_or Refusal.UnknownAircraft (life_list book tail))
             self.old self.new result }
     {
-        let book = self.book(alloc)?;
-        match life_list_of(&book, alloc, &tail)? {
-            Some(list) => Ok(list),
-            None => Err(Ask::Refused(Refusal::UnknownAircraft)),
+        if self.needs_reopen {
+            return Err(Ask::Failed(Fault::NeedsReopen));
         }
+        let answer = question_answer(lives_found(alloc, &mut self.conn, &tail));
+        self.needs_reopen = question_failed(&answer);
+        answer
     }
 
     /// The life of an item with all of its sectors. `Refused(UnknownAircraft)` or `Refused(UnknownComponent)`
@@ -111,12 +118,18 @@ impl<S: Alter> Office<S> {
         ensures answered { IsAnsweredBy
             (λ book. found_or (unknown item.now) (life_now book item.now))
             self.old self.new result }
+
+        // Over whatever rows, it is the life that these give.
+        ensures found { HasCleanDisk (office_state self.new)
+            → (office_state self.old).now.schema ≡ office_schema → IfOk result
+            (λ life. LifeOf item.now (office_state self.old).now.trees (Some life)) }
     {
-        let book = self.book(alloc)?;
-        match book.life_now(item) {
-            Some(life) => Ok(life),
-            None => Err(Ask::Refused(unknown_of(item))),
+        if self.needs_reopen {
+            return Err(Ask::Failed(Fault::NeedsReopen));
         }
+        let answer = question_answer(life_found(alloc, &mut self.conn, item));
+        self.needs_reopen = question_failed(&answer);
+        answer
     }
 
     /// The first commands, at most `at_most`, of those whose number is at least `from`, in their order. No table
@@ -128,15 +141,19 @@ impl<S: Alter> Office<S> {
             → MatchResult result (λ v. v.items ≡ entries_from from at_most book)
             (λ fault. (fault ≡ Fault.Memory) ⊎ (fault ≡ Fault.Store)) }
         ensures sound { HasCleanDisk (office_state self.new)
-            → HasTables (office_state self.old).now.schema → IfOk result (λ v. (book : _)
-            × HoldsBook (office_state self.old).now.trees book
-            × (v.items ≡ entries_from from at_most book)) }
+            → (office_state self.old).now.schema ≡ office_schema → IfOk result
+            (λ v. AreEntries from at_most (office_state self.old).now.trees v.items) }
         ensures damaged { HasCleanDisk (office_state self.new)
-            → HasTables (office_state self.old).now.schema → (table : _)
+            → (office_state self.old).now.schema ≡ office_schema → (table : _)
             → result ≡ Err (Fault.Damaged table)
-            → IsReasonFor (office_state self.old).now.trees table }
+            → IsDamaged table (office_state self.old).now.trees
+            ⊎ IsSkipped table (office_state self.old).now.trees }
     {
-        let book = self.book(alloc)?;
-        Ok(book.entries(alloc, from, at_most)?)
+        if self.needs_reopen {
+            return Err(Fault::NeedsReopen);
+        }
+        let answer = call_answer(entries_found(alloc, &mut self.conn, from, at_most));
+        self.needs_reopen = call_failed(&answer);
+        answer
     }
 }

@@ -1,0 +1,140 @@
+-- What becomes of a file whose office is opened, by what was read of it and by the move.
+use Rattle.std.proofs.Common.{◌≡◌, ◌≢◌, inl, inr, Bool, true, false, ◌≤◌, ℕ, IsTrue, List, Option, Some, None, Ok, Err, Result, refl, sym, ap, subst, ◌∙◌, arith}
+use Rattle.sqlite.specs.Schema.{Schema}
+use Rattle.sqlite.specs.State.{State, HasCleanDisk}
+use Rattle.sqlite.specs.Store.{Ghosts}
+use Rattle.sqlite.specs.Held.{Held, state}
+use Rattle.mx_command.specs.Act.{Entry}
+use Rattle.mx_migrate.specs.declared.fault.MoveFault.{MoveFault}
+use Rattle.mx_migrate.specs.declared.fault.MoveFault.TheVariants as move
+use Rattle.mx_point.specs.declared.point.Point.{Point}
+use Rattle.mx_points.specs.Commits.{point_behind}
+use Rattle.mx_points.specs.Points.{is_on_way}
+use Rattle.mx_layout.specs.Crash.{ChangesNothing}
+use Rattle.mx_layout.specs.Point.{FitsPoint, HoldsPoint}
+use Rattle.mx_layout.specs.declared.fault.Table.TheVariants.{Office}
+use Rattle.mx_stands.specs.Schemas.{IsOfFile}
+use Rattle.mx_stands.specs.Stands.{RestsAt}
+use Rattle.mx_settle.specs.Place.{IsPlacedAt}
+use Rattle.mx_settle.specs.Settles.{Settles}
+use Rattle.mx_settle.specs.declared.settling.TheConstants.{ENOUGH_COMMITS}
+use Rattle.mx_settle.proofs.AdvanceLemmas.{placed_point, placed_still, rests_point, still}
+use Rattle.mx_settle.proofs.PlaceLemmas.{rests_placed}
+use Rattle.mx_office.specs.Faults.{is_office_point, moved_fault_from, open_answer, IsStop}
+use Rattle.mx_office.specs.Layout.{office_point}
+use Rattle.mx_office.specs.Opening.{ChangesOnWay, MovesOn}
+use Rattle.mx_office.specs.declared.fault.OpenFault.{OpenFault}
+use Rattle.mx_office.specs.declared.fault.OpenFault.TheVariants as unopened
+use Rattle.mx_office.proofs.AnswerLemmas.{answers_office, moved_stop, point_of_office}
+
+-- a file that is at a point has its row
+pub placed_holds : (s : State) (at : Point) → IsPlacedAt at s → HasCleanDisk s → IsTrue s.is_open → HoldsPoint at s.now
+placed_holds s at placed clean is_open = ((_, ap (λ (schema : Schema). schema.tables) (placed.schema clean is_open)), (placed.tables clean is_open).says)
+
+-- ── nothing changed ──
+
+module _ (old new : State) (nothing : ChangesNothing old new) where
+  early : HasCleanDisk new → HasCleanDisk old
+  early clean = omega (arith, nothing.survives.clean)
+
+  -- no office was opened
+  pub stays_shut : (why : OpenFault) → MovesOn old new (Some why)
+  stays_shut why = record {
+    clean = nothing.survives.clean;
+    kept = λ at book rests is. absurd cc;
+    same = λ at book rests fault is other. (0, still at book old new nothing rests);
+    crash = λ at book rests clean db may. (0, (still at book old new nothing rests).crash clean db may);
+    placed = λ at placed is. absurd cc;
+  }
+
+  -- then the file was moved, or the move was stopped
+  pub moves_then : (end : State) (why : Option OpenFault) → MovesOn new end why → MovesOn old end why
+  moves_then end why on = record {
+    clean = omega (arith, nothing.survives.clean, on.clean);
+    kept = λ at book rests. on.kept at book (still at book old new nothing rests);
+    same = λ at book rests. on.same at book (still at book old new nothing rests);
+    crash = λ at book rests. on.crash at book (still at book old new nothing rests);
+    placed = λ at placed. on.placed at (placed_still at old new nothing placed);
+  }
+
+  -- the point was read
+  module _ (p : Point) (is_open : HasCleanDisk new → IsTrue old.is_open) (exact : (q : Point) → HasCleanDisk new → (IsTrue old.is_open → HoldsPoint q old.now) → FitsPoint q → p ≡ q) where
+    -- it is the one that the file is at
+    is_at : (at : Point) → IsPlacedAt at old → HasCleanDisk new → p ≡ at
+    is_at at placed clean = exact at clean (λ there. placed_holds old at placed (early clean) there) (placed.tables (early clean) (is_open clean)).fits
+
+    pub is_at_book : HasCleanDisk new → (at : Point) (book : List Entry) → RestsAt at old book → p ≡ at
+    is_at_book clean at book rests = is_at at (rests_placed old at book rests) clean
+
+    opens_there : p ≡ office_point → MovesOn old new None
+    opens_there own = record {
+      clean = nothing.survives.clean;
+      kept = λ at book rests _. rests_point new at office_point book (λ clean. sym (is_at_book clean at book rests) ∙ own) (still at book old new nothing rests);
+      same = λ at book rests fault is. absurd cc;
+      crash = λ at book rests clean db may. (0, (still at book old new nothing rests).crash clean db may);
+      placed = λ at placed _. placed_point new at office_point (λ clean. sym (is_at at placed clean) ∙ own) (placed_still at old new nothing placed);
+    }
+
+    pub answers_there : is_on_way p ≡ false → (why : Option OpenFault) → open_answer p ≡ why → MovesOn old new why
+    answers_there off None is = opens_there (answers_office p is off)
+    answers_there off (Some why) is = stays_shut why
+
+-- ── it was moved ──
+
+not_store : (e : MoveFault) (fault : OpenFault) → Some (moved_fault_from e) ≡ Some fault → fault ≢ unopened.Store → e ≢ move.Store
+not_store e fault is other store = other (let same : moved_fault_from e ≡ fault = cc in sym same ∙ ap moved_fault_from store)
+
+module _ (at_most : ℕ) (old new : State) where
+  -- as far as the point of the office
+  pub settled_there : (to : Point) → Settles at_most old new (Ok to) → is_office_point to ≡ true → MovesOn old new None
+  settled_there to s own =
+      let there = point_of_office to own in
+      record {
+        clean = s.clean;
+        kept = λ at book rests _. rests_point new (point_behind at_most at book) office_point book (λ clean. sym (s.reached at book rests clean) ∙ there) (s.kept at book rests);
+        same = λ at book rests fault is. absurd cc;
+        crash = λ at book rests clean db may. (let it = s.crash at book rests clean db may in (it.0, it.2));
+        placed = λ at placed _. subst (λ q. IsPlacedAt q new) there (s.placed at placed);
+      }
+
+  pub settled_elsewhere : (to : Point) → Settles at_most old new (Ok to) → MovesOn old new (Some (unopened.Damaged Office))
+  settled_elsewhere to s = record {
+    clean = s.clean;
+    kept = λ at book rests is. absurd cc;
+    same = λ at book rests fault is other. (at_most, s.kept at book rests);
+    crash = λ at book rests clean db may. (let it = s.crash at book rests clean db may in (it.0, it.2));
+    placed = λ at placed is. absurd cc;
+  }
+
+  pub stopped_on_way : (e : MoveFault) (why : OpenFault) → why ≡ moved_fault_from e → Settles at_most old new (Err e) → MovesOn old new (Some why)
+  stopped_on_way e why is_why s = record {
+    clean = s.clean;
+    kept = λ at book rests is. absurd cc;
+    same = λ at book rests fault is other. (let it = s.same at book rests (not_store e fault (ap Some (sym is_why) ∙ is) other) in (it.0, it.2));
+    crash = λ at book rests clean db may. (let it = s.crash at book rests clean db may in (it.0, it.2));
+    placed = λ at placed is. absurd cc;
+  }
+
+  -- of a book, memory or the store alone stop it
+  pub whole_elsewhere : ENOUGH_COMMITS ≤ at_most → (to : Point) → Settles at_most old new (Ok to) → is_office_point to ≡ false → (at : Point) (book : List Entry) → RestsAt at old book → HasCleanDisk new → (why : OpenFault) → IsStop why
+  whole_elsewhere enough to s off at book rests clean why =
+      let there : to ≡ office_point = s.ends at (rests_placed old at book rests) clean enough in
+      let both : false ≡ true = sym off ∙ ap is_office_point there in
+      absurd cc
+
+  pub whole_on_way : (e : MoveFault) (why : OpenFault) → why ≡ moved_fault_from e → Settles at_most old new (Err e) → (at : Point) (book : List Entry) → IsOfFile at → RestsAt at old book → HasCleanDisk new → IsStop why
+  whole_on_way e why is_why s at book file rests clean = subst IsStop (sym is_why) (moved_stop e (s.whole at book file rests clean))
+
+-- ── a file that is no older one ──
+
+off_way : is_on_way office_point ≡ false
+off_way = refl
+
+-- where `office` has the row of its point nothing changed
+pub nothing_changes : {S : Type 0} (g : Ghosts S) (was : Held S) (now : State) → ChangesOnWay g was now → HasCleanDisk now → (IsTrue (state g was).is_open → HoldsPoint office_point (state g was).now) → ChangesNothing (state g was) now
+nothing_changes g was now (inl nothing) clean holds = nothing
+nothing_changes g was now (inr moved) clean holds =
+    let it = moved clean in
+    let there = it.exact office_point holds (omega arith, omega arith, omega arith) in
+    let both : true ≡ false = sym it.way ∙ ap is_on_way there ∙ off_way in
+    absurd cc

@@ -1,0 +1,8 @@
+use Rattle.std.proofs.Common.{rules}
+use Rattle.mx_office.proofs.LookLemmas.{looked_or}
+use Rattle.mx_office.proofs.asking.entries_found.Goals as goal
+
+pub returns-clause-looks : goal.returns-clause-looks
+returns-clause-looks g c =
+    looked_or g.S.Store c.args.conn.now c.transaction-tx.result.conn.now c.entries.new.tx.conn.now c.drop-tx.new.self.0 c.conn-1.given.0 c.transaction-tx.ensures.begun (search rules) c.drop-tx.ensures.survives c.drop-tx.ensures.undone c.entries.result
+    c.entries.ensures.any_rows c.entries.ensures.reads
