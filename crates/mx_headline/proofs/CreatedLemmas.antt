@@ -14,7 +14,7 @@ use Rattle.mx_layout.proofs.CrashLemmas.{rests_kept}
 use Rattle.mx_layout.proofs.FoundLemmas.{rests_found, found_before}
 use Rattle.mx_office.specs.Layout.{office_point}
 use Rattle.mx_office.specs.Stands.{Rests}
-use Rattle.mx_office.proofs.LoadLemmas.{empty_stands}
+use Rattle.mx_office.proofs.StandsLemmas.{empty_stands}
 use Rattle.mx_headline.specs.Created.{IsBare, IsMade}
 use Rattle.mx_headline.proofs.KeptLemmas.{rests_as}
 

@@ -3,6 +3,8 @@ use Rattle.std.proofs.Common.{arith, refl, sym, ap, subst, ◌∙◌, ◌≡◌,
 use Rattle.std.proofs.lemmas.List.{take-append-drop, take-take}
 use Rattle.std.proofs.lemmas.Option.{slice_get_within}
 use Rattle.sqlite.specs.Tree.{Trees}
+use Rattle.sqlite.specs.Store.{Ghosts}
+use Rattle.sqlite.specs.Held.{Held, state}
 use Rattle.sqlite.specs.State.{State, HasCleanDisk}
 use Rattle.sqlite.proofs.MarkLemmas.{slice_get-take}
 use Rattle.mx_command.specs.Act.{Entry}
@@ -11,20 +13,29 @@ use Rattle.mx_book.specs.Book.{entry_at}
 use Rattle.mx_book.specs.Run.{book_run, replies}
 use Rattle.mx_book.proofs.GrowthLemmas.{book_run-append}
 use Rattle.mx_book.proofs.AcceptedLemmas.{run_accepts, run_prefix, replies_count, one_more, run_has}
-use Rattle.mx_layout.specs.Crash.{Leaves}
+use Rattle.mx_layout.specs.Crash.{ChangesNothing, Leaves}
 use Rattle.mx_layout.specs.Found.{IsFound}
 use Rattle.mx_layout.proofs.FoundLemmas.{rests_found}
 use Rattle.mx_layout.specs.declared.fault.Table.{Table}
 use Rattle.mx_office.specs.declared.fault.Fault.{Fault}
 use Rattle.mx_office.specs.declared.fault.Fault.TheVariants.{Memory, Store, NeedsReopen, Damaged}
 use Rattle.mx_office.specs.declared.fault.Outcomes.{Outcomes}
-use Rattle.mx_office.specs.Layout.{office_schema}
+use Rattle.mx_office.specs.Layout.{office_point, office_schema}
+use Rattle.mx_office.specs.Opening.{ChangesOnWay}
+use Rattle.mx_office.proofs.MoveLemmas.{nothing_changes, placed_holds}
+use Rattle.mx_settle.specs.Place.{SaysAt}
 use Rattle.mx_office.specs.Stands.{Stands, Rests, IsEither}
 use Rattle.mx_headline.specs.Kept.{count_accepted, IsKept, IsBookKept}
 
 -- the tables that were found stand for the book, so they rest as it
 pub rests_as : (may_leave : Trees → Type 0) (again : State) (book : List Entry) (found : IsFound may_leave again) → Stands found.tables book → Rests again book
 rests_as may_leave again book found stands = rests_found may_leave again office_schema (λ trees. Stands trees book) found stands.lies.sound stands
+
+-- the tables that were found are at the point of the office, so an opening of it changed nothing
+pub nothing_found : (may_leave : Trees → Type 0) {S : Type 0} (g : Ghosts S) (mid : Held S) (now : State) → HasCleanDisk (state g mid) → HasCleanDisk now → (found : IsFound may_leave (state g mid)) → SaysAt office_point found.tables → ChangesOnWay g mid now → ChangesNothing (state g mid) now
+nothing_found may_leave g mid now early clean found says changes =
+    let placed = rests_found may_leave (state g mid) office_schema (SaysAt office_point) found says.lies.sound says in
+    nothing_changes g mid now changes clean (λ is_open. placed_holds (state g mid) office_point placed early is_open)
 
 is_store : (stopped : Option Fault) → (stopped ≡ Some Store) ⊎ (stopped ≢ Some Store)
 is_store None = inr (λ h. cc)

@@ -1,3 +1,5 @@
 pub mod KeptLemmas
 pub mod CreatedLemmas
 pub mod ReopenedLemmas
+pub mod MovedLemmas
+pub mod OpenedLemmas

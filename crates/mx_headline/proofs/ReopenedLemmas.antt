@@ -12,7 +12,11 @@ use Rattle.mx_command.specs.Act.{Entry}
 use Rattle.mx_book.specs.Accepted.{accepted, HasAcknowledged}
 use Rattle.mx_book.specs.Run.{book_run}
 use Rattle.mx_book.proofs.AcceptedLemmas.{acknowledged_stays}
+use Rattle.mx_layout.specs.Crash.{Leaves}
 use Rattle.mx_layout.specs.Found.{IsEndOf}
+use Rattle.mx_settle.specs.Place.{SaysAt}
+use Rattle.mx_settle.proofs.PlaceLemmas.{stands_says}
+use Rattle.mx_office.specs.Layout.{office_point}
 use Rattle.mx_office.specs.declared.fault.OpenFault.{OpenFault}
 use Rattle.mx_office.specs.declared.fault.Outcomes.{Outcomes}
 use Rattle.mx_office.specs.Calls.{RunsOver}
@@ -41,6 +45,10 @@ is_kept_in before commands outcomes end clean run db left =
     let one = book_left end before commands outcomes run.kept run.crash clean db left in
     record { book = book_run before (take one.0 commands); kept = is_book_kept before commands outcomes one.0 one.1 (run.answered clean) (run.whole clean); stands = one.2 }
 
+-- whatever a crash leaves of it is at the point of the office
+pub run_says : (before commands : List Entry) (outcomes : Outcomes) (end : State) → HasRun before commands outcomes end → Leaves end (SaysAt office_point)
+run_says before commands outcomes end run clean db may = let it = is_kept_in before commands outcomes end clean run db may in stands_says office_point db it.book it.stands
+
 is_kept_unopened : (before commands : List Entry) (outcomes : Outcomes) (end now : State) (fault : OpenFault) → HasRun before commands outcomes end → IsUnopened end fault now → IsKeptUnopened before commands outcomes fault now
 is_kept_unopened before commands outcomes end now fault run left =
     let it = is_kept_in before commands outcomes end left.clean run left.found.tables left.found.left in
@@ -52,7 +60,7 @@ keeps_unopened before commands outcomes end run (Database error) left = tt
 keeps_unopened before commands outcomes end run (Office conn fault) left = λ clean. ∥∥₁_map (left clean) (λ one. is_kept_unopened before commands outcomes end (file_state conn) fault run one)
 
 -- two runs, one after the other
-is_reopened_twice : {S : Type 0} {g : Ghosts S} (before commands more : List Entry) (tail : List ℕ) (day : ℕ) (first second : Outcomes) (again : Reopened S g) (between : List Entry)
+pub is_reopened_twice : {S : Type 0} {g : Ghosts S} (before commands more : List Entry) (tail : List ℕ) (day : ℕ) (first second : Outcomes) (again : Reopened S g) (between : List Entry)
     → IsBookKept before commands first between → IsReopened between more tail day second again → IsReopenedTwice before commands more tail day first second again
 is_reopened_twice before commands more tail day first second again between kept it =
     let added = take it.kept.kept (accepted between more) in

@@ -9,6 +9,7 @@ use Rattle.mx_layout.specs.Crash.{Leaves}
 use Rattle.mx_layout.specs.Found.{IsEndOf}
 use Rattle.mx_office.specs.Stands.{Stands}
 use Rattle.mx_headline.specs.Kept.{IsBookKept}
+use Rattle.mx_headline.specs.Opened.{StandsSomewhere}
 use Rattle.mx_headline.specs.declared.next_process.Ended.{Ended}
 
 -- The store is what the process left of a connection, and each state of the tables that a crash of it may leave stands for the book from before and the first of the commands accepted since, with every acknowledged command in it.
@@ -16,3 +17,9 @@ pub record IsEnded {D : Type 0} {g : Ghosts D} (before commands : List Entry) (e
   pub conn : Held (FileStore D g)
   pub left : IsEndOf conn ended.store
   pub books : Leaves (file_state conn) (λ db. (book : List Entry) × IsBookKept before commands ended.outcomes book × Stands db book)
+
+-- The same of a process in which the office was opened first, whose move may have been stopped: each state of the tables that a crash may leave stands for the book at some point that a file can be at.
+pub record IsEndedSomewhere {D : Type 0} {g : Ghosts D} (before commands : List Entry) (ended : Ended D g) : Type 0 where
+  pub conn : Held (FileStore D g)
+  pub left : IsEndOf conn ended.store
+  pub books : Leaves (file_state conn) (λ db. (book : List Entry) × IsBookKept before commands ended.outcomes book × StandsSomewhere book db)

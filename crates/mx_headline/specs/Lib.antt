@@ -2,3 +2,5 @@ pub mod Kept
 pub mod Reopened
 pub mod Created
 pub mod Ended
+pub mod Moved
+pub mod Opened

@@ -4,11 +4,15 @@
 #![tactic(auto)]
 
 pub mod creating;
+pub mod moving;
 pub mod next_process;
+pub mod opening;
 pub mod running;
 pub mod second_stop;
 
 pub use creating::{Made, create_and_reopen};
-pub use next_process::{Ended, reopen_after, run_and_end};
+pub use moving::open_and_reopen;
+pub use next_process::{Ended, OpenedAndEnded, open_run_and_end, reopen_after, run_and_end};
+pub use opening::{Opened, open_again, open_run_and_reopen};
 pub use running::{Reopened, Stopped, Unopened, reopen_office, run_and_reopen};
-pub use second_stop::{StoppedTwice, run_and_reopen_twice};
+pub use second_stop::{OpenedTwice, StoppedTwice, open_run_and_reopen_twice, run_and_reopen_twice};

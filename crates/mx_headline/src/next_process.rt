@@ -1,18 +1,24 @@
 //! A run that ends with its process, and the file opened again by the next one: the headline for a real file, whose bytes
 //! no clause speaks of.
-ghost use Rattle.std.specs.Prelude.{◌≡◌, ◌≢◌, ◌≤◌, None, Some, length, IfOk, IfErr};
+ghost use Rattle.std.specs.Prelude.{◌≡◌, ◌≢◌, ◌≤◌, [], None, Some, false, length, List, IfOk, IfErr};
+ghost use Rattle.sqlite.specs.Files.{file_state};
 ghost use Rattle.sqlite_wal.specs.Files.{image_at};
+ghost use Rattle.mx_command.specs.Act.{Entry};
+ghost use Rattle.mx_point.specs.declared.point.Point.{Point};
 ghost use Rattle.mx_layout.specs.Found.{WasLeft};
+ghost use Rattle.mx_stands.specs.Schemas.{IsOfFile};
+ghost use Rattle.mx_stands.specs.Stands.{RestsAt};
 ghost use Rattle.mx_office.specs.Office.{IsReady, StandsFor};
-ghost use Rattle.mx_headline.specs.Ended.{IsEnded};
+ghost use Rattle.mx_headline.specs.Ended.{IsEnded, IsEndedSomewhere};
+ghost use Rattle.mx_headline.specs.Opened.{KeepsSomewhere};
 ghost use Rattle.mx_headline.specs.Reopened.{GoesOn, KeepsUnopened, Reopens};
 
 use crate::running::{Reopened, Stopped, Unopened, print_due};
 use mx_base::{Day, Tail};
 use mx_command::Command;
 use mx_layout::{end_process, reopen_file};
-use mx_office::{Fault, Office, Outcomes, open_office};
-use sqlite::{FileFrom, FileStore};
+use mx_office::{Fault, Office, OpenFault, Outcomes, open_office};
+use sqlite::{Connection, FileFrom, FileStore};
 use sqlite_disk::{Disk, Start};
 use std::alloc::Global;
 
@@ -22,6 +28,14 @@ pub struct Ended<D: Disk> {
     pub outcomes: Outcomes,
     /// The store, for `reopen_after`.
     pub store: FileStore<D>,
+}
+
+/// What came of a database in a process that opened its office for commands, and ended.
+pub struct OpenedAndEnded<D: Disk> {
+    /// Why no office was opened for the commands, if none was: then none of them was run.
+    pub unopened: Option<OpenFault>,
+    /// What the commands were answered, and the store that the process left; no reply and no stop where none was run.
+    pub ended: Ended<D>,
 }
 
 /// Applies commands until they end or something stops them; then the process ends.
@@ -45,6 +59,46 @@ pub fn run_and_end<D: Disk + Drop>(
     }
 }
 
+/// Opens the office of a database, which is moved to the newest layout first where it is older, and applies commands
+/// until they end or something stops them, in the move or behind it; then the process ends.
+pub fn open_run_and_end<D: Disk + Drop>(
+    alloc: Global,
+    conn: Connection<FileStore<D>>,
+    commands: &[Command],
+) -> OpenedAndEnded<D>
+    requires { conn.in_transaction ≡ false }
+    ensures ended { (at : Point) (before : List Entry) → IsOfFile at
+        → RestsAt at (file_state conn) before
+        → IsEndedSomewhere before commands.now result.ended }
+    ensures unrun { result.unopened ≢ None → result.ended.outcomes.replies.items ≡ [] }
+    ensures counted { length result.ended.outcomes.replies.items ≤ length commands.now }
+    ensures done { result.unopened ≡ None → result.ended.outcomes.stopped ≡ None
+        → length result.ended.outcomes.replies.items ≡ length commands.now }
+{
+    match open_office(alloc, conn) {
+        Ok(office) => {
+            let ended = run_and_end(alloc, office, commands);
+            OpenedAndEnded {
+                unopened: None,
+                ended,
+            }
+        }
+        Err((left, fault)) => {
+            let store = end_process(left);
+            OpenedAndEnded {
+                unopened: Some(fault),
+                ended: Ended {
+                    outcomes: Outcomes {
+                        replies: Vec::new(alloc),
+                        stopped: None,
+                    },
+                    store,
+                },
+            }
+        }
+    }
+}
+
 /// The next process opens the file, and a due list is printed from it. `ended` is what the first process left; `start`
 /// says what the file and its log hold now, which is supposed to be what the first may have left of them.
 pub fn reopen_after<D: Disk + Drop, S: Start>(
@@ -63,10 +117,18 @@ pub fn reopen_after<D: Disk + Drop, S: Start>(
     ensures unopened { (before commands : _) → IsEnded before commands ended
         → WasLeft ended.store (image_at S.Start)
         → IfErr result.again (KeepsUnopened before commands result.outcomes) }
+
+    // Where the first process opened its office too, and may have ended in its move.
+    ensures moved { (before commands : _) → IsEndedSomewhere before commands ended
+        → WasLeft ended.store (image_at S.Start)
+        → IfOk result.again (Reopens before commands tail.now day result.outcomes) }
+    ensures unmoved { (before commands : _) → IsEndedSomewhere before commands ended
+        → WasLeft ended.store (image_at S.Start)
+        → IfErr result.again (KeepsSomewhere before commands result.outcomes) }
 {
     let Ended { outcomes, store } = ended;
     match reopen_file(rt, store, path, start) {
-        Ok(conn) => match open_office(conn) {
+        Ok(conn) => match open_office(rt.alloc(), conn) {
             Ok(mut office) => {
                 let printed = print_due(rt.alloc(), &mut office, tail, day);
                 Stopped {

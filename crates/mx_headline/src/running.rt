@@ -2,8 +2,10 @@
 //! `run_and_reopen`.
 ghost use Rattle.std.specs.Prelude.{◌≡◌, ◌≢◌, ◌≤◌, None, Some, length, IfOk, IfErr};
 ghost use Rattle.sqlite.specs.State.{HasCleanDisk};
-ghost use Rattle.mx_layout.specs.Crash.{ChangesNothing};
+ghost use Rattle.mx_layout.specs.Crash.{ChangesNothing, Leaves};
 ghost use Rattle.mx_layout.specs.Found.{Finds};
+ghost use Rattle.mx_settle.specs.Place.{SaysAt};
+ghost use Rattle.mx_office.specs.Layout.{office_point};
 ghost use Rattle.mx_office.specs.Office.{office_state, IsInDoubt, IsReady, StandsFor};
 ghost use Rattle.mx_headline.specs.Reopened.{FindsUnopened, GoesOn, IsPrintOf, KeepsUnopened, Reopens};
 
@@ -72,12 +74,15 @@ pub fn reopen_office<D: Crash + Drop>(
     ensures ready { IfOk result IsReady }
     ensures clean { IfOk result (λ again.
         HasCleanDisk (office_state again) → HasCleanDisk (office_state office)) }
-    ensures found { IfOk result (λ again.
-        Finds (office_state office).may_leave (office_state again)) }
-    ensures unopened { IfErr result (FindsUnopened (office_state office)) }
+
+    // Of a file at the point of the office, whatever rows it has.
+    ensures found { Leaves (office_state office) (SaysAt office_point)
+        → IfOk result (λ again. Finds (office_state office).may_leave (office_state again)) }
+    ensures unopened { Leaves (office_state office) (SaysAt office_point)
+        → IfErr result (FindsUnopened (office_state office)) }
 {
     match reopen(alloc, office.close(), options) {
-        Ok(conn) => match open_office(conn) {
+        Ok(conn) => match open_office(alloc, conn) {
             Ok(again) => Ok(again),
             Err((conn, fault)) => Err(Unopened::Office(conn, fault)),
         },

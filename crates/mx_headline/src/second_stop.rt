@@ -1,13 +1,22 @@
 //! A second stop, from the book that the first one left.
-ghost use Rattle.std.specs.Prelude.{IfOk};
+ghost use Rattle.std.specs.Prelude.{◌≡◌, false, List, IfOk};
+ghost use Rattle.sqlite.specs.State.{HasCleanDisk};
+ghost use Rattle.sqlite.specs.Files.{file_state};
+ghost use Rattle.mx_command.specs.Act.{Entry};
+ghost use Rattle.mx_point.specs.declared.point.Point.{Point};
+ghost use Rattle.mx_stands.specs.Schemas.{IsOfFile};
+ghost use Rattle.mx_stands.specs.Stands.{RestsAt};
 ghost use Rattle.mx_office.specs.Office.{StandsFor};
+ghost use Rattle.mx_headline.specs.Opened.{IsLeftStanding, IsThereClean, RestsSomewhere};
 ghost use Rattle.mx_headline.specs.Reopened.{ReopensTwice};
 
+use crate::opening::{Opened, open_run_and_reopen};
 use crate::running::{Reopened, Stopped, Unopened, run_and_reopen};
 use mx_base::{Day, Tail};
 use mx_command::Command;
+use mx_layout::reopen;
 use mx_office::{Office, Outcomes};
-use sqlite::{Alter, FileStore, Options};
+use sqlite::{Alter, Connection, Error, FileStore, Options};
 use sqlite_disk::Crash;
 use std::alloc::Global;
 
@@ -48,6 +57,71 @@ pub fn run_and_reopen_twice<D: Crash + Drop>(
         Err(why) => StoppedTwice {
             first,
             second: Err(why),
+        },
+    }
+}
+
+/// What came of a database that was opened, run and stopped, and then once more.
+pub struct OpenedTwice<S: Alter> {
+    /// What the first commands were answered.
+    pub first: Outcomes,
+    /// What came of it the second time; or why the database could not be opened for that, and then its files are used up.
+    pub second: Result<Opened<S>, Error>,
+}
+
+// The connection that a stop left, to be opened again: that of the office; or, where none was opened, the one that is
+// found behind a further loss of power.
+fn connection_behind<D: Crash + Drop>(
+    alloc: Global,
+    again: Result<Reopened<FileStore<D>>, Unopened<FileStore<D>>>,
+    options: Options,
+) -> Result<Connection<FileStore<D>>, Error>
+    ensures idle { IfOk result (λ conn. conn.in_transaction ≡ false) }
+    ensures clean { IfOk result (λ conn. HasCleanDisk (file_state conn) → IsThereClean again) }
+    ensures stands { (book : List Entry) → IsLeftStanding book again
+        → IfOk result (λ conn. HasCleanDisk (file_state conn)
+        → ∥ RestsSomewhere book (file_state conn) ∥₁) }
+{
+    match again {
+        Ok(Reopened { office, printed: _ }) => Ok(office.close()),
+        Err(Unopened::Office(conn, _)) => reopen(alloc, conn, options),
+        Err(Unopened::Database(error)) => Err(error),
+    }
+}
+
+/// Opens the office of a database and runs commands, up to a first loss of power, in the move or behind it; opens it again,
+/// which may be stopped by a loss of power too; and then does so with more commands, up to a last one.
+pub fn open_run_and_reopen_twice<D: Crash + Drop>(
+    alloc: Global,
+    conn: Connection<FileStore<D>>,
+    commands: &[Command],
+    more: &[Command],
+    tail: &Tail,
+    day: Day,
+    options: Options,
+) -> OpenedTwice<FileStore<D>>
+    requires { conn.in_transaction ≡ false }
+    ensures headline { (at : Point) (before : List Entry) → IsOfFile at
+        → RestsAt at (file_state conn) before → IfOk result.second (λ second.
+        IfOk second.again (ReopensTwice before commands.now more.now tail.now day result.first
+        second.outcomes)) }
+{
+    let Opened {
+        unopened: _,
+        outcomes: first,
+        again,
+    } = open_run_and_reopen(alloc, conn, commands, tail, day, options);
+    match connection_behind(alloc, again, options) {
+        Ok(found) => {
+            let second = open_run_and_reopen(alloc, found, more, tail, day, options);
+            OpenedTwice {
+                first,
+                second: Ok(second),
+            }
+        }
+        Err(error) => OpenedTwice {
+            first,
+            second: Err(error),
         },
     }
 }

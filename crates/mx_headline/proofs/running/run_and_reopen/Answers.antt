@@ -4,7 +4,7 @@ use Rattle.sqlite.specs.State.{HasCleanDisk}
 use Rattle.mx_office.specs.Office.{office_state}
 use Rattle.mx_office.proofs.OfficeLemmas.{rests_still}
 use Rattle.mx_headline.proofs.KeptLemmas.{rests_as}
-use Rattle.mx_headline.proofs.ReopenedLemmas.{is_kept_in, keeps_unopened}
+use Rattle.mx_headline.proofs.ReopenedLemmas.{is_kept_in, keeps_unopened, run_says}
 use Rattle.mx_headline.proofs.running.run_and_reopen.Goals as goal
 
 pub returns-in-Ok-clause-clean : goal.returns-in-Ok-clause-clean
@@ -29,7 +29,7 @@ returns-in-Ok-clause-headline g c before rests clean =
     let nothing = c.print_due-printed.ensures.untouched ready in
     let early : HasCleanDisk mid = omega (arith, nothing.survives.clean) in
     let sure : HasCleanDisk end = c.in-Ok.ensures.clean early in
-    ∥∥₁_map (c.in-Ok.ensures.found early) (λ found.
+    ∥∥₁_map (c.in-Ok.ensures.found (run_says before commands outcomes end (ran.over_book before rests)) early) (λ found.
     let it = is_kept_in before commands outcomes end sure (ran.over_book before rests) found.tables found.left in
     let rests' = rests_as end.may_leave mid it.book found it.stands in
     record {
@@ -43,4 +43,5 @@ pub returns-in-Err-clause-unopened : goal.returns-in-Err-clause-unopened
 returns-in-Err-clause-unopened g c before rests =
     let ran = c.run-outcomes.ensures in
     let end = office_state c.run-outcomes.new.self in
-    keeps_unopened before c.args.commands.now c.run-outcomes.result end (ran.over_book before rests) c.in-Err.why c.in-Err.ensures.unopened
+    let run = ran.over_book before rests in
+    keeps_unopened before c.args.commands.now c.run-outcomes.result end run c.in-Err.why (c.in-Err.ensures.unopened (run_says before c.args.commands.now c.run-outcomes.result end run))

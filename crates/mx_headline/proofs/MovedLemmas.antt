@@ -1,0 +1,40 @@
+-- A file whose office is opened, at whatever point it is: what a stop leaves, and what the next opening makes of it.
+use Rattle.std.proofs.Common.{◌≡◌, ℕ, zero, suc, List, Option, None, refl, subst}
+use Rattle.sqlite.specs.State.{State}
+use Rattle.sqlite.specs.Tree.{Trees}
+use Rattle.mx_command.specs.Act.{Entry}
+use Rattle.mx_layout.specs.Crash.{Leaves}
+use Rattle.mx_layout.specs.Found.{IsFound}
+use Rattle.mx_layout.proofs.FoundLemmas.{rests_found}
+use Rattle.mx_point.specs.declared.point.Point.{Point}
+use Rattle.mx_points.specs.Commits.{point_behind}
+use Rattle.mx_points.specs.Points.{next_point}
+use Rattle.mx_stands.specs.Schemas.{schema_at}
+use Rattle.mx_stands.specs.Stands.{RestsAt, StandsAt}
+use Rattle.mx_office.specs.Opening.{MovesOn, StandsBehind}
+use Rattle.mx_office.specs.Stands.{Rests}
+use Rattle.mx_office.specs.declared.fault.OpenFault.{OpenFault}
+
+-- a point behind one behind another is behind that
+behind_both : (n m : ℕ) (at : Point) (book : List Entry) → (k : ℕ) × (point_behind m (point_behind n at book) book ≡ point_behind k at book)
+behind_both zero m at book = (m, refl)
+behind_both (suc n) m at book = let it = behind_both n m (next_point at book) book in (suc it.0, it.1)
+
+module _ (may_leave : Trees → Type 0) (mid now : State) (at : Point) (book : List Entry) (left : (db : Trees) → may_leave db → StandsBehind at book db) (found : IsFound may_leave mid) where
+  abbrev commits : ℕ
+  commits = (left found.tables found.left).0
+
+  -- what was found rests as the book, at a point behind
+  rests_behind : RestsAt (point_behind commits at book) mid book
+  rests_behind =
+      let stands = (left found.tables found.left).1 in
+      rests_found may_leave mid (schema_at (point_behind commits at book)) (λ trees. StandsAt (point_behind commits at book) trees book) found stands.lies.sound stands
+
+  pub opened_behind : MovesOn mid now None → Rests now book
+  opened_behind on = on.kept (point_behind commits at book) book rests_behind refl
+
+  pub left_behind : (why : Option OpenFault) → MovesOn mid now why → Leaves now (StandsBehind at book)
+  left_behind why on clean db may =
+      let it = on.crash (point_behind commits at book) book rests_behind clean db may in
+      let both = behind_both commits it.0 at book in
+      (both.0, subst (λ p. StandsAt p db book) both.1 it.1)
