@@ -3,13 +3,13 @@ use Rattle.std.proofs.Common.{refl, ◌≡◌, [], ◌∷◌, true, map}
 use Rattle.std.specs.Prelude.{codes, drop, length, take}
 use Rattle.mx_command_line.specs.CommandLine.{office, office_with_words, word}
 
--- ten words
-ten_words : map (λ sub. sub.name) office_with_words.subs
-    ≡ codes "try" ∷ codes "init" ∷ codes "life" ∷ codes "due" ∷ codes "forecast" ∷ codes "limits" ∷ codes "enter" ∷ codes "import" ∷ codes "programme" ∷ codes "serve" ∷ []
-ten_words = refl
+-- thirteen words
+thirteen_words : map (λ sub. sub.name) office_with_words.subs
+    ≡ codes "try" ∷ codes "init" ∷ codes "life" ∷ codes "due" ∷ codes "forecast" ∷ codes "limits" ∷ codes "enter" ∷ codes "import" ∷ codes "programme" ∷ codes "serve" ∷ codes "verify" ∷ codes "migrate" ∷ codes "init-old" ∷ []
+thirteen_words = refl
 
 -- how many values each takes
-numbers_of_values : map (λ sub. length sub.rules) office_with_words.subs ≡ 6 ∷ 1 ∷ 2 ∷ 3 ∷ 6 ∷ 3 ∷ 2 ∷ 2 ∷ 3 ∷ 3 ∷ []
+numbers_of_values : map (λ sub. length sub.rules) office_with_words.subs ≡ 6 ∷ 1 ∷ 2 ∷ 3 ∷ 6 ∷ 3 ∷ 2 ∷ 2 ∷ 3 ∷ 3 ∷ 1 ∷ 2 ∷ 2 ∷ []
 numbers_of_values = refl
 
 -- the values of import and of programme, in their order

@@ -5,8 +5,8 @@ use Rattle.clap.specs.Words.{Row}
 use Rattle.clap.specs.declared.builder.value_parser.Reading.TheVariants.{AsWritten}
 use Rattle.mx_intake.proofs.Worked.{intake_on_literals}
 use Rattle.mx_questions.specs.declared.question.Question.TheVariants.{Life, Due, Forecast, Limits}
-use Rattle.mx_command_line.specs.Job.{Job, tries, makes, lists, enters, imports, loads, serves, job_said, number_within}
-use Rattle.mx_command_line.specs.declared.words.TheConstants.{MOST_PORT, MOST_CONNECTIONS}
+use Rattle.mx_command_line.specs.Job.{Job, tries, makes, lists, enters, imports, installs, loads, moves, serves, verifies, job_said, number_within}
+use Rattle.mx_command_line.specs.declared.words.TheConstants.{MOST_CONNECTIONS, MOST_PORT, MOST_STEPS}
 
 -- what is found for a name with one value
 abbrev row : List ℕ × List ℕ → Row
@@ -66,16 +66,32 @@ loaded_by_no_document = refl
 served : asked (codes "serve") ((codes "FILE", codes "records") ∷ (codes "PORT", codes "8080") ∷ (codes "COUNT", codes "3") ∷ []) ≡ Some (serves (codes "records") 8080 3)
 served = refl
 
--- the greatest port, and the most connections
-most_served : MOST_PORT ∷ MOST_CONNECTIONS ∷ [] ≡ 65535 ∷ 1000000 ∷ []
-most_served = refl
+-- the greatest port, the most connections, and the most commits of a move
+most : MOST_PORT ∷ MOST_CONNECTIONS ∷ MOST_STEPS ∷ [] ≡ 65535 ∷ 1000000 ∷ 2000000 ∷ []
+most = refl
 
 -- a port is from 1 to 65,535
-ports : map (λ port. number_within 65535 (codes "PORT") (row (codes "PORT", port) ∷ [])) (codes "0" ∷ codes "1" ∷ codes "65535" ∷ codes "65536" ∷ codes "x" ∷ []) ≡ None ∷ Some 1 ∷ Some 65535 ∷ None ∷ None ∷ []
+ports : map (λ port. number_within 1 65535 (codes "PORT") (row (codes "PORT", port) ∷ [])) (codes "0" ∷ codes "1" ∷ codes "65535" ∷ codes "65536" ∷ codes "x" ∷ []) ≡ None ∷ Some 1 ∷ Some 65535 ∷ None ∷ None ∷ []
 ports = refl
 
 served_past_the_ports : asked (codes "serve") ((codes "FILE", codes "records") ∷ (codes "PORT", codes "65536") ∷ (codes "COUNT", codes "3") ∷ []) ≡ None
 served_past_the_ports = refl
+
+verified : asked (codes "verify") ((codes "FILE", codes "records") ∷ []) ≡ Some (verifies (codes "records"))
+verified = refl
+
+-- a file is moved by up to 2,000,000 commits, and by none
+abbrev moved : List ℕ → Option Job
+moved steps = asked (codes "migrate") ((codes "FILE", codes "records") ∷ (codes "STEPS", steps) ∷ [])
+
+moved_by : map moved (codes "0" ∷ codes "2000" ∷ codes "2000000" ∷ []) ≡ Some (moves (codes "records") 0) ∷ Some (moves (codes "records") 2000) ∷ Some (moves (codes "records") 2000000) ∷ []
+moved_by = refl
+
+moved_by_no_number : map moved (codes "2000001" ∷ codes "-1" ∷ codes "all" ∷ []) ≡ None ∷ None ∷ None ∷ []
+moved_by_no_number = refl
+
+installed : asked (codes "init-old") ((codes "FILE", codes "records") ∷ (codes "ENTRIES", codes "day.json") ∷ []) ≡ Some (installs (codes "records") (codes "day.json"))
+installed = refl
 
 -- the moments of 2024-03-01, 08:00 and 09:30, are 28,488,000 and 28,488,090
 tried : asked (codes "try") ((codes "TAIL", codes "D-ABCD") ∷ (codes "MINUTES", codes "60000") ∷ (codes "CYCLES", codes "800") ∷ (codes "OFF", codes "2024-03-01T08:00") ∷ (codes "ON", codes "2024-03-01T09:30") ∷ (codes "SECTOR_CYCLES", codes "1") ∷ [])

@@ -28,6 +28,9 @@ words =
     ∷ (codes "import", codes "FILE" ∷ codes "CSV" ∷ [])
     ∷ (codes "programme", codes "FILE" ∷ codes "DOC" ∷ codes "TOML" ∷ [])
     ∷ (codes "serve", codes "FILE" ∷ codes "PORT" ∷ codes "COUNT" ∷ [])
+    ∷ (codes "verify", codes "FILE" ∷ [])
+    ∷ (codes "migrate", codes "FILE" ∷ codes "STEPS" ∷ [])
+    ∷ (codes "init-old", codes "FILE" ∷ codes "ENTRIES" ∷ [])
     ∷ []
 
 -- the program without its words

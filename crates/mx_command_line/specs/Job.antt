@@ -9,11 +9,11 @@ use Rattle.mx_questions.specs.Asking.{doc_of, due_question, forecast_question, l
 use Rattle.mx_questions.specs.declared.question.Question.{Question}
 use Rattle.mx_command_line.specs.Number.{number_in}
 use Rattle.mx_command_line.specs.declared.trial.Trial.{Trial}
-use Rattle.mx_command_line.specs.declared.words.TheConstants.{MOST_PORT, MOST_CONNECTIONS}
+use Rattle.mx_command_line.specs.declared.words.TheConstants.{MOST_CONNECTIONS, MOST_PORT, MOST_STEPS}
 use Rattle.mx_command_line.specs.declared.words.Words.{Words}
 use Rattle.mx_command_line.specs.declared.words.Words.TheVariants as words
 
--- an aircraft and a sector are tried; an empty book is made in a file; a list is asked of one; the commands of a file, the sectors of a log, or a programme by a document are entered into one; so many connections are served at a port with one
+-- an aircraft and a sector are tried; an empty book is made in a file; a list is asked of one; the commands of a file, the sectors of a log, or a programme by a document are entered into one; so many connections are served at a port with one; it is told whether the tables of one are those of a book; one is moved to the newest layout by at most so many commits; a book of the commands of a file is made in another, in the oldest layout
 pub data Job : Type 0 where
   tries : Trial → Job
   makes : List ℕ → Job
@@ -22,6 +22,9 @@ pub data Job : Type 0 where
   imports : List ℕ → List ℕ → Job
   loads : List ℕ → List ℕ → List ℕ → Job
   serves : List ℕ → ℕ → ℕ → Job
+  verifies : List ℕ → Job
+  moves : List ℕ → ℕ → Job
+  installs : List ℕ → List ℕ → Job
 
 -- the job of words that were read
 abbrev pub job_of : Words → Job
@@ -32,6 +35,9 @@ job_of (words.Enter file entries) = enters file.now entries.now
 job_of (words.Import file csv) = imports file.now csv.now
 job_of (words.Programme file doc toml) = loads file.now doc toml.now
 job_of (words.Serve file port count) = serves file.now port count
+job_of (words.Verify file) = verifies file.now
+job_of (words.Migrate file steps) = moves file.now steps
+job_of (words.InitOld file entries) = installs file.now entries.now
 
 -- ── the values of a word, by their names ──
 
@@ -43,10 +49,10 @@ values_of matches = rows_of (found_of matches)
 abbrev pub number_at : List ℕ → List Row → Option ℕ
 number_at name values = if_read (first_of name values) number_in
 
--- the number of a name, where it is from one to the greatest
-abbrev pub number_within : ℕ → List ℕ → List Row → Option ℕ
-number_within most name values =
-    if_read (number_at name values) (λ n. if nat_le 1 n && nat_le n most then Some n else None)
+-- the number of a name, where it is from the least to the greatest
+abbrev pub number_within : ℕ → ℕ → List ℕ → List Row → Option ℕ
+number_within least most name values =
+    if_read (number_at name values) (λ n. if nat_le least n && nat_le n most then Some n else None)
 
 -- the registration, the document, and the moment of a name
 abbrev pub tail_at : List Row → Option (List ℕ)
@@ -102,8 +108,20 @@ loading file values =
 -- connections are served with a file
 abbrev pub serving : List ℕ → List Row → Option Job
 serving file values =
-    if_read (number_within MOST_PORT (codes "PORT") values) (λ port.
-    if_read (number_within MOST_CONNECTIONS (codes "COUNT") values) (λ count. Some (serves file port count)))
+    if_read (number_within 1 MOST_PORT (codes "PORT") values) (λ port.
+    if_read (number_within 1 MOST_CONNECTIONS (codes "COUNT") values) (λ count. Some (serves file port count)))
+
+-- a file is moved to the newest layout
+abbrev pub moving : List ℕ → List Row → Option Job
+moving file values = if_read (number_within 0 MOST_STEPS (codes "STEPS") values) (λ steps. Some (moves file steps))
+
+-- what a word asks for that looks after a file itself, or for a list
+abbrev pub job_beside : List ℕ → List ℕ → List Row → Option Job
+job_beside word file values =
+    if bytes_eq word (codes "verify") then Some (verifies file)
+    else if bytes_eq word (codes "migrate") then moving file values
+    else if bytes_eq word (codes "init-old") then if_read (first_of (codes "ENTRIES") values) (λ entries. Some (installs file entries))
+    else if_read (asking word values) (λ question. Some (lists file question))
 
 -- what a word over a file asks for
 abbrev pub job_over : List ℕ → List ℕ → List Row → Option Job
@@ -113,7 +131,7 @@ job_over word file values =
     else if bytes_eq word (codes "import") then if_read (first_of (codes "CSV") values) (λ csv. Some (imports file csv))
     else if bytes_eq word (codes "programme") then loading file values
     else if bytes_eq word (codes "serve") then serving file values
-    else if_read (asking word values) (λ question. Some (lists file question))
+    else job_beside word file values
 
 -- what a word with its values asks for, if they can be read
 abbrev pub job_said : List ℕ × List Row → Option Job

@@ -200,6 +200,48 @@ fn serve_command<'a>(alloc: Global) -> Result<Command<'a>, AllocError>
     )
 }
 
+fn verify_command<'a>(alloc: Global) -> Result<Command<'a>, AllocError>
+    ensures { IfOk result (IsWord (codes "verify")) }
+{
+    new_word(
+        alloc,
+        "verify",
+        "Reads a file whole, and prints whether its tables are those of a book",
+        help::VERIFY,
+        &[("FILE", help::FILE)],
+    )
+}
+
+fn migrate_command<'a>(alloc: Global) -> Result<Command<'a>, AllocError>
+    ensures { IfOk result (IsWord (codes "migrate")) }
+{
+    new_word(
+        alloc,
+        "migrate",
+        "Moves a file of an older layout on to the newest, and prints the point that it is at",
+        help::MIGRATE,
+        &[
+            ("FILE", help::FILE),
+            ("STEPS", "The most commits that are made, 0 to 2000000"),
+        ],
+    )
+}
+
+fn init_old_command<'a>(alloc: Global) -> Result<Command<'a>, AllocError>
+    ensures { IfOk result (IsWord (codes "init-old")) }
+{
+    new_word(
+        alloc,
+        "init-old",
+        "Makes a file of the oldest layout with the commands of a file in it, and prints a reply for each",
+        help::INIT_OLD,
+        &[
+            ("FILE", help::FILE),
+            ("ENTRIES", "The file of commands, a list in JSON"),
+        ],
+    )
+}
+
 // The program without its words.
 fn office_command<'a>(alloc: Global) -> Result<Command<'a>, AllocError>
     ensures { IfOk result (IsApp office) }
@@ -228,5 +270,8 @@ pub fn command<'a>(alloc: Global) -> Result<Command<'a>, AllocError>
         .subcommand(enter_command(alloc)?)?
         .subcommand(import_command(alloc)?)?
         .subcommand(programme_command(alloc)?)?
-        .subcommand(serve_command(alloc)?)
+        .subcommand(serve_command(alloc)?)?
+        .subcommand(verify_command(alloc)?)?
+        .subcommand(migrate_command(alloc)?)?
+        .subcommand(init_old_command(alloc)?)
 }

@@ -82,3 +82,23 @@ Each connection asks once: POST /entries, /programmes/DOC or /sectors, or GET /a
 /due/DAY, /limits/DAY or /forecast/DAY/DAYS/MINUTES/CYCLES. It answers what the words print;\n\
 docs/DESK.md has the statuses. Behind the last connection it prints `served COUNT`.\n\n\
 Example:\n  office serve fleet.db 8043 1";
+
+/// `verify`.
+pub(crate) const VERIFY: &str = "\
+It prints `verified`, or `differs` with status 4 where a row can be read and is not what the commands\n\
+of the book give. A row that can't be read, or that no command gives, is a fault, with its table.\n\
+All is read, which takes memory and time as the book is long.\n\n\
+Example:\n  office verify fleet.db";
+
+/// `migrate`.
+pub(crate) const MIGRATE: &str = "\
+It prints `point LAYOUT STEP MARK`, where step and mark are 0 once the move is done. Each commit\n\
+leaves the same book, so a move may be stopped at any time and goes on with the next word; every\n\
+other word first moves a file to its end. With 0 for STEPS nothing is moved.\n\n\
+Example:\n  office migrate fleet.db 0";
+
+/// `init-old`.
+pub(crate) const INIT_OLD: &str = "\
+FILE is new or empty. It gets the commands that are accepted, in one commit, in layout 1, the first\n\
+that files had: to try a move on, or to hand records to an older program. ENTRIES is as for `enter`.\n\n\
+Example:\n  office init-old old.db examples/fleet.json";

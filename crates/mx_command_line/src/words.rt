@@ -6,9 +6,10 @@ ghost use Rattle.std.specs.List.{list_all};
 ghost use Rattle.std.specs.Option.{option_map};
 ghost use Rattle.clap.specs.Words.{first_of};
 ghost use Rattle.mx_command_line.specs.Number.{number_in};
-ghost use Rattle.mx_command_line.specs.Job.{asking, asking_forecast, asking_on_a_day, doc_at, job_of};
-ghost use Rattle.mx_command_line.specs.Job.{job_over, job_said, loading, moment_at, number_at};
-ghost use Rattle.mx_command_line.specs.Job.{number_within, said, serving, tail_at, trying, values_of};
+ghost use Rattle.mx_command_line.specs.Job.{asking, asking_forecast, asking_on_a_day, doc_at};
+ghost use Rattle.mx_command_line.specs.Job.{job_beside, job_of, job_over, job_said, loading};
+ghost use Rattle.mx_command_line.specs.Job.{moment_at, moving, number_at, number_within, said};
+ghost use Rattle.mx_command_line.specs.Job.{serving, tail_at, trying, values_of};
 
 use crate::trial::Trial;
 use clap::ArgMatches;
@@ -21,6 +22,9 @@ const MOST_PORT: u32 = 65_535;
 
 /// The most connections that are served.
 const MOST_CONNECTIONS: u32 = 1_000_000;
+
+/// The most commits of a move that are made.
+const MOST_STEPS: u32 = 2_000_000;
 
 /// What the program is asked to do.
 #[derive(Drop)]
@@ -58,6 +62,20 @@ pub enum Words<'a> {
         port: u16,
         count: u32,
     },
+    /// It is told whether the tables of a file are those of a book.
+    Verify {
+        file: &'a str,
+    },
+    /// A file is moved to the newest layout, by at most so many commits.
+    Migrate {
+        file: &'a str,
+        steps: u32,
+    },
+    /// A book of the commands of a file is made in another, in the oldest layout.
+    InitOld {
+        file: &'a str,
+        entries: &'a str,
+    },
 }
 
 // The first value of a name.
@@ -89,12 +107,12 @@ fn number_at(values: &ArgMatches<'_>, name: &str) -> Option<u32>
     number(value_of(values, name)?)
 }
 
-// The number of a name, where it is from one to the greatest.
-fn number_within(values: &ArgMatches<'_>, name: &str, most: u32) -> Option<u32>
-    ensures { result ≡ number_within most name.now (values_of values.now) }
+// The number of a name, where it is from the least to the greatest.
+fn number_within(values: &ArgMatches<'_>, name: &str, least: u32, most: u32) -> Option<u32>
+    ensures { result ≡ number_within least most name.now (values_of values.now) }
 {
     let number = number_at(values, name)?;
-    if 1 <= number && number <= most {
+    if least <= number && number <= most {
         Some(number)
     } else {
         None
@@ -183,13 +201,39 @@ fn programme_of<'a>(file: &'a str, values: &ArgMatches<'a>) -> Option<Words<'a>>
 fn serving_of<'a>(file: &'a str, values: &ArgMatches<'a>) -> Option<Words<'a>>
     ensures { option_map job_of result ≡ serving file.entry.now (values_of values.now) }
 {
-    let port = number_within(values, "PORT", MOST_PORT)?;
-    let count = number_within(values, "COUNT", MOST_CONNECTIONS)?;
+    let port = number_within(values, "PORT", 1, MOST_PORT)?;
+    let count = number_within(values, "COUNT", 1, MOST_CONNECTIONS)?;
     Some(Words::Serve {
         file,
         port: port as u16,
         count,
     })
+}
+
+// What is moved to the newest layout, and by at most how many commits.
+fn moving_of<'a>(file: &'a str, values: &ArgMatches<'a>) -> Option<Words<'a>>
+    ensures { option_map job_of result ≡ moving file.entry.now (values_of values.now) }
+{
+    let steps = number_within(values, "STEPS", 0, MOST_STEPS)?;
+    Some(Words::Migrate { file, steps })
+}
+
+// What a word asks for that looks after a file itself, or for a list.
+fn words_beside<'a>(word: &str, file: &'a str, values: &ArgMatches<'a>) -> Option<Words<'a>>
+    ensures { option_map job_of result ≡ job_beside word.now file.entry.now (values_of values.now) }
+{
+    match word {
+        "verify" => Some(Words::Verify { file }),
+        "migrate" => moving_of(file, values),
+        "init-old" => {
+            let entries = value_of(values, "ENTRIES")?;
+            Some(Words::InitOld { file, entries })
+        }
+        list => {
+            let question = question_of(list, values)?;
+            Some(Words::List { file, question })
+        }
+    }
 }
 
 // What a word over a file asks for.
@@ -208,10 +252,7 @@ fn words_over<'a>(word: &str, file: &'a str, values: &ArgMatches<'a>) -> Option<
         }
         "programme" => programme_of(file, values),
         "serve" => serving_of(file, values),
-        list => {
-            let question = question_of(list, values)?;
-            Some(Words::List { file, question })
-        }
+        other => words_beside(other, file, values),
     }
 }
 

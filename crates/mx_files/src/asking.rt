@@ -1,9 +1,9 @@
 //! The office in a file is asked.
-ghost use Rattle.std.specs.Prelude.{◌≡◌, ◌≤◌, ℕ, List, false, IfOk, IfErr};
+ghost use Rattle.std.specs.Prelude.{◌≡◌, ◌≤◌, ◌⊎◌, ℕ, List, Err, false, IfOk, IfErr};
 ghost use Rattle.mx_jobs.specs.Status.{LeavesUnread, Shows, stop_status};
 ghost use Rattle.mx_jobs.specs.declared.fault.Ending.{Ending};
 
-use crate::opening::open_book;
+use crate::opening::{File, open_book};
 use mx_jobs::{Ending, Stop, open};
 use mx_office::{Fault, Office};
 use sqlite::{Alter, Connection};
@@ -40,9 +40,22 @@ fn answer_in<S: Alter + Drop, A: Asked>(
     ensures status { IfOk result (λ found. IfErr found.1 (λ stop. 3 ≤ stop_status stop)) }
     ensures opening { IfErr result (λ stop. stop_status stop ≡ 5) }
 {
-    let mut office = open(conn)?;
+    let mut office = open(rt.alloc(), conn)?;
     let answered = asked.answer(rt, &mut office, out);
     Ok((office.close(), answered))
+}
+
+/// Closes the database in a file, and hands on how its word ended: the store failed where the closing did and nothing else.
+pub(crate) fn close_file(
+    conn: Connection<File>,
+    answered: Result<Ending, Stop>,
+) -> Result<Ending, Stop>
+    ensures { (result ≡ answered) ⊎ (result ≡ Err (Stop.Office Fault.Store)) }
+{
+    if conn.close().is_err() && answered.is_ok() {
+        return Err(Stop::Office(Fault::Store));
+    }
+    answered
 }
 
 /// Appends what the office in a file answers.
@@ -58,8 +71,5 @@ pub fn answer_file<A: Asked>(
 {
     let conn = open_book(rt, file)?;
     let (conn, answered) = answer_in(rt, conn, asked, out)?;
-    if conn.close().is_err() && answered.is_ok() {
-        return Err(Stop::Office(Fault::Store));
-    }
-    answered
+    close_file(conn, answered)
 }

@@ -4,10 +4,14 @@
 
 mod asking;
 mod inputs;
+mod installing;
 mod making;
+mod moving;
 mod opening;
 mod words;
 
 pub use asking::{Asked, answer_file};
+pub use installing::init_old_file;
 pub use making::init_file;
-pub use words::{enter_file, import_file, list_file, programme_file};
+pub use moving::migrate_file;
+pub use words::{enter_file, import_file, list_file, programme_file, verify_file};

@@ -4,12 +4,13 @@ ghost use Rattle.mx_jobs.specs.Entered.{AreReplyLines, AreSomeReplyLines};
 ghost use Rattle.mx_jobs.specs.Imported.{AreRowLines};
 ghost use Rattle.mx_jobs.specs.Printed.{IsListAnswer};
 ghost use Rattle.mx_jobs.specs.Status.{LeavesUnread, Shows, stop_status};
+ghost use Rattle.mx_jobs.specs.Verified.{IsVerifiedLine};
 
 use crate::asking::{Asked, answer_file};
 use crate::inputs::{UNOPENED, commands_in, programme_in};
 use mx_base::Doc;
 use mx_command::Command;
-use mx_jobs::{Ending, Stop, enter_all, import_all, print_list};
+use mx_jobs::{Ending, Stop, enter_all, import_all, print_list, print_verified};
 use mx_office::Office;
 use mx_questions::Question;
 use sqlite::Alter;
@@ -61,6 +62,33 @@ impl Asked for fs::File {
         let mut reader = self;
         import_all(rt.alloc(), office, &mut reader, out)
     }
+}
+
+// Whether the tables are those of a book is asked for.
+#[derive(Clone, Copy)]
+struct Verified;
+
+impl Asked for Verified {
+    ghost is_answer = { λ verified. IsVerifiedLine };
+
+    fn answer<S: Alter>(
+        &self,
+        rt: &HostRuntime,
+        office: &mut Office<S>,
+        out: &mut Vec<u8>,
+    ) -> Result<Ending, Stop> {
+        print_verified(rt.alloc(), office, out)
+    }
+}
+
+/// Appends whether the tables of a file are those of a book. A file of an older layout is moved to the newest first, as for
+/// each word that opens its office.
+pub fn verify_file(rt: &HostRuntime, file: &str, out: &mut Vec<u8>) -> Result<Ending, Stop>
+    ensures shown { IfOk result (Shows IsVerifiedLine out.old.items out.new.items) }
+    ensures unread { IfErr result (LeavesUnread out.old.items out.new.items) }
+    ensures status { IfErr result (λ stop. 3 ≤ stop_status stop) }
+{
+    answer_file(rt, file, &Verified, out)
 }
 
 /// Appends the list of an aircraft that a question asks for.

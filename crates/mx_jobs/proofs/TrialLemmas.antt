@@ -10,7 +10,7 @@ use Rattle.mx_layout.specs.Tables.{no_schema}
 use Rattle.mx_layout.proofs.CrashLemmas.{rests_same}
 use Rattle.mx_office.specs.Layout.{office_point, office_schema}
 use Rattle.mx_office.specs.Stands.{Rests, Stands}
-use Rattle.mx_office.proofs.LoadLemmas.{empty_stands}
+use Rattle.mx_office.proofs.StandsLemmas.{empty_stands}
 
 -- a database in memory that was just opened has no table
 pub memory_rests : (conn : Held _) → IsEmpty (state over_memory conn) → RestsAs (state over_memory conn) no_schema (IsSound no_schema)

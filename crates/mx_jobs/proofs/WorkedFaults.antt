@@ -5,9 +5,10 @@ use Rattle.std.specs.List.{flat_map}
 use Rattle.std.specs.Fmt.{digits}
 use Rattle.mx_layout.specs.declared.fault.Table.TheVariants as name
 use Rattle.mx_layout.specs.declared.fault.TableFault.TheVariants as table
+use Rattle.mx_migrate.specs.declared.fault.MoveFault.TheVariants as moving
 use Rattle.mx_office.specs.declared.fault.Fault.TheVariants as office
 use Rattle.mx_office.specs.declared.fault.OpenFault.TheVariants as opening
-use Rattle.mx_jobs.specs.declared.fault.Stop.TheVariants.{Words, Shape, Intake, MakeMemory, Create, Open, Office, Print}
+use Rattle.mx_jobs.specs.declared.fault.Stop.TheVariants.{Words, Shape, Intake, MakeMemory, Create, Move, Open, Office, Print}
 use Rattle.mx_jobs.specs.FaultLine.{fault_line}
 
 words_alone : flat_map fault_line (Words ∷ Shape ∷ MakeMemory ∷ Print ∷ []) ≡ codes "fault words\nfault shape\nfault memory\nfault memory\n"
@@ -25,6 +26,11 @@ opened : flat_map (λ fault. fault_line (Open fault)) (opening.Memory ∷ openin
     ≡ codes "fault memory\nfault store\nfault not-ours\nfault newer 9\nfault damaged sector1\nfault older 10\n"
 unfolding digits
 opened = refl
+
+moved : flat_map (λ fault. fault_line (Move fault)) (moving.Memory ∷ moving.Store ∷ moving.NotOurs ∷ moving.NewerLayout 9 ∷ moving.Damaged name.Crs ∷ [])
+    ≡ codes "fault memory\nfault store\nfault not-ours\nfault newer 9\nfault damaged crs\n"
+unfolding digits
+moved = refl
 
 stopped : flat_map (λ fault. fault_line (Office fault)) (office.Memory ∷ office.Store ∷ office.NeedsReopen ∷ office.Damaged name.Place ∷ [])
     ≡ codes "fault memory\nfault store\nfault reopen\nfault damaged place\n"

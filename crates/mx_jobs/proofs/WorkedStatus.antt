@@ -3,13 +3,15 @@ use Rattle.std.proofs.Common.{refl, ◌≡◌, [], ◌∷◌, Some, None, true, 
 use Rattle.std.specs.Prelude.{codes, map, Ok, Err}
 use Rattle.std.specs.Fmt.{digits}
 use Rattle.mx_layout.specs.declared.fault.TableFault.TheVariants as table
+use Rattle.mx_layout.specs.declared.fault.Table.TheVariants as name
+use Rattle.mx_migrate.specs.declared.fault.MoveFault.TheVariants as moving
 use Rattle.mx_office.specs.declared.fault.Fault.TheVariants as office
 use Rattle.mx_office.specs.declared.fault.OpenFault.TheVariants as opening
 use Rattle.mx_book.specs.declared.verdict.Refusal.TheVariants.{UnknownAircraft, Full}
 use Rattle.mx_book.specs.declared.verdict.Reply.TheVariants.{Accepted, Already}
 use Rattle.mx_book.specs.declared.verdict.Reply.TheVariants as reply
-use Rattle.mx_jobs.specs.declared.fault.Ending.TheVariants.{Done, Refused, Bad}
-use Rattle.mx_jobs.specs.declared.fault.Stop.TheVariants.{Words, Shape, Intake, MakeMemory, Create, Open, Office, Print}
+use Rattle.mx_jobs.specs.declared.fault.Ending.TheVariants.{Done, Refused, Bad, Differs}
+use Rattle.mx_jobs.specs.declared.fault.Stop.TheVariants.{Words, Shape, Intake, MakeMemory, Create, Move, Open, Office, Print}
 use Rattle.mx_jobs.specs.Printed.{list_answer, list_ending}
 use Rattle.mx_answers.specs.declared.question.Report.TheVariants as report
 use Rattle.mx_base.specs.Calendar.{date_of}
@@ -35,6 +37,10 @@ not_opened = refl
 -- a call was stopped
 stopped : map stop_status (Office office.Memory ∷ Office office.Store ∷ Office office.NeedsReopen ∷ Print ∷ []) ≡ 4 ∷ 4 ∷ 4 ∷ 4 ∷ []
 stopped = refl
+
+-- a move that was stopped: before the file was opened, and behind that
+not_moved : map (λ fault. stop_status (Move fault)) (moving.NotOurs ∷ moving.NewerLayout 9 ∷ moving.Memory ∷ moving.Store ∷ moving.Damaged name.Crs ∷ []) ≡ 5 ∷ 5 ∷ 4 ∷ 4 ∷ 4 ∷ []
+not_moved = refl
 
 -- a refusal alone is one
 refusals : map is_refusal (Accepted 1 ∷ Already 1 ∷ reply.Refused Full ∷ []) ≡ false ∷ false ∷ true ∷ []
@@ -87,7 +93,7 @@ unfolding digits day_text date_of
 limits = refl
 
 -- the statuses of endings, and the graver of two
-endings : map ending_status (Done ∷ Refused ∷ Bad ∷ []) ≡ 0 ∷ 1 ∷ 3 ∷ []
+endings : map ending_status (Done ∷ Refused ∷ Bad ∷ Differs ∷ []) ≡ 0 ∷ 1 ∷ 3 ∷ 4 ∷ []
 endings = refl
 
 refused_first : graver Refused Done ≡ Refused
@@ -101,6 +107,12 @@ bad_is_graver = refl
 
 bad_behind_a_refusal : graver Refused Bad ≡ Bad
 bad_behind_a_refusal = refl
+
+differing_is_gravest : map (λ other. graver other Differs) (Done ∷ Refused ∷ Bad ∷ Differs ∷ []) ≡ Differs ∷ Differs ∷ Differs ∷ Differs ∷ []
+differing_is_gravest = refl
+
+none_is_graver : map (graver Differs) (Done ∷ Refused ∷ Bad ∷ Differs ∷ []) ≡ Differs ∷ Differs ∷ Differs ∷ Differs ∷ []
+none_is_graver = refl
 
 none_is_refused : graver Done Done ≡ Done
 none_is_refused = refl

@@ -4,11 +4,13 @@ use Rattle.std.specs.Fmt.{decimal}
 use Rattle.mx_layout.specs.declared.fault.TableFault.{TableFault}
 use Rattle.mx_layout.specs.declared.fault.TableFault.TheVariants as table
 use Rattle.mx_layout.specs.Names.{table_name}
+use Rattle.mx_migrate.specs.declared.fault.MoveFault.{MoveFault}
+use Rattle.mx_migrate.specs.declared.fault.MoveFault.TheVariants as moving
 use Rattle.mx_office.specs.declared.fault.OpenFault.{OpenFault}
 use Rattle.mx_office.specs.declared.fault.OpenFault.TheVariants as opening
 use Rattle.mx_answers.specs.FaultLine.{intake_words, line_of, office_words}
 use Rattle.mx_jobs.specs.declared.fault.Stop.{Stop}
-use Rattle.mx_jobs.specs.declared.fault.Stop.TheVariants.{Words, Shape, Intake, MakeMemory, Create, Open, Net, Office, Print}
+use Rattle.mx_jobs.specs.declared.fault.Stop.TheVariants.{Words, Shape, Intake, MakeMemory, Create, Open, Move, Net, Office, Print}
 
 -- why no book was made, in a word or two
 abbrev pub create_words : TableFault → List ℕ
@@ -27,6 +29,14 @@ open_words (opening.NewerLayout layout) = codes "newer " ++ decimal layout
 open_words (opening.Damaged name) = codes "damaged " ++ table_name name
 open_words (opening.OlderLayout layout) = codes "older " ++ decimal layout
 
+-- why a move stopped
+abbrev pub move_words : MoveFault → List ℕ
+move_words moving.Memory = codes "memory"
+move_words moving.Store = codes "store"
+move_words moving.NotOurs = codes "not-ours"
+move_words (moving.NewerLayout layout) = codes "newer " ++ decimal layout
+move_words (moving.Damaged name) = codes "damaged " ++ table_name name
+
 -- why the program ends
 abbrev pub stop_words : Stop → List ℕ
 stop_words Words = codes "words"
@@ -36,6 +46,7 @@ stop_words MakeMemory = codes "memory"
 stop_words Print = codes "memory"
 stop_words (Create fault) = create_words fault
 stop_words (Open fault) = open_words fault
+stop_words (Move fault) = move_words fault
 stop_words Net = codes "net"
 stop_words (Office fault) = office_words fault
 

@@ -14,8 +14,8 @@ use mx_reports::{has_refusal, replies_text};
 use sqlite::Alter;
 use std::alloc::Global;
 
-// How a run with these replies ended.
-fn ending_of(replies: &[Reply]) -> Ending
+/// How a run with these replies ended.
+pub(crate) fn ending_of(replies: &[Reply]) -> Ending
     ensures { result ≡ run_ending replies.now }
 {
     if has_refusal(replies) {
@@ -25,8 +25,8 @@ fn ending_of(replies: &[Reply]) -> Ending
     }
 }
 
-// Appends a line for each reply.
-fn print_replies(out: &mut Vec<u8>, replies: &[Reply]) -> Result<(), Stop>
+/// Appends a line for each reply.
+pub(crate) fn print_replies(out: &mut Vec<u8>, replies: &[Reply]) -> Result<(), Stop>
     ensures printed { OnOk result (out.new.items ≡ out.old.items ++ lines_of replies.now) }
     ensures memory { IfErr result (λ stop. stop ≡ Stop.Print) }
     ensures unprinted { OnErr result (out.new.items ≡ out.old.items) }

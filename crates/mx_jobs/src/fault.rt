@@ -4,12 +4,13 @@
 ghost use Rattle.std.specs.Prelude.{◌≡◌, ◌≢◌, ◌≤◌, OnOk};
 ghost use Rattle.std.specs.Io.KnownBytes.{Appends};
 ghost use Rattle.mx_answers.specs.FaultLine.{line_of};
-ghost use Rattle.mx_jobs.specs.FaultLine.{fault_line, create_words, open_words};
-ghost use Rattle.mx_jobs.specs.Status.{done_status, ending_status, graver, stop_status};
+ghost use Rattle.mx_jobs.specs.FaultLine.{fault_line, create_words, move_words, open_words};
+ghost use Rattle.mx_jobs.specs.Status.{done_status, ending_status, graver, move_status, stop_status};
 
 use mx_answers::{write_damaged, write_fault, write_intake};
 use mx_intake::IntakeFault;
 use mx_layout::TableFault;
+use mx_migrate::MoveFault;
 use mx_office::{Fault, OpenFault};
 use std::io;
 use std::io::Write;
@@ -20,7 +21,7 @@ pub const BAD_WORDS: u8 = 2;
 /// The input file can't be opened, or gives no commands, or a row of it states no sector.
 const BAD_INPUT: u8 = 3;
 
-/// The office was opened, and something stopped the program then.
+/// The office was opened, and something stopped the program then, or its tables are those of no book.
 pub const STOPPED: u8 = 4;
 
 /// The database was not opened or made, or the port not bound.
@@ -35,18 +36,22 @@ pub enum Ending {
     Refused,
     /// A row of a sector log states no sector.
     Bad,
+    /// The tables of a file are those of no book.
+    Differs,
 }
 
 impl Ending {
-    /// The status: 0 where all was done, 1 where something was refused, 3 where a row was bad.
+    /// The status: 0 where all was done, 1 where something was refused, 3 where a row was bad, 4 where the tables are those
+    /// of no book.
     pub fn status(self) -> u8
         ensures named { result ≡ ending_status self }
-        ensures bound { result ≤ 3 }
+        ensures bound { result ≤ 4 }
     {
         match self {
             Ending::Done => 0,
             Ending::Refused => 1,
             Ending::Bad => BAD_INPUT,
+            Ending::Differs => STOPPED,
         }
     }
 
@@ -56,9 +61,11 @@ impl Ending {
     {
         match (self, other) {
             (Ending::Done, _) => other,
-            (Ending::Refused, Ending::Bad) => Ending::Bad,
-            (Ending::Refused, _) => Ending::Refused,
+            (Ending::Refused, Ending::Done) => Ending::Refused,
+            (Ending::Refused, _) => other,
+            (Ending::Bad, Ending::Differs) => Ending::Differs,
             (Ending::Bad, _) => Ending::Bad,
+            (Ending::Differs, _) => Ending::Differs,
         }
     }
 }
@@ -78,6 +85,8 @@ pub enum Stop {
     Create(TableFault),
     /// No office was opened.
     Open(OpenFault),
+    /// A move to the newest layout was stopped. The commits before that stand.
+    Move(MoveFault),
     /// The port can't be bound.
     Net,
     /// A call of the office was stopped.
@@ -96,6 +105,7 @@ impl Stop {
             Stop::Words | Stop::Shape => BAD_WORDS,
             Stop::Intake(_) => BAD_INPUT,
             Stop::MakeMemory | Stop::Create(_) | Stop::Open(_) | Stop::Net => NOT_OPENED,
+            Stop::Move(fault) => move_status(fault),
             Stop::Office(_) | Stop::Print => STOPPED,
         }
     }
@@ -112,9 +122,21 @@ impl Stop {
             Stop::MakeMemory | Stop::Print => err.write_all(b"fault memory\n"),
             Stop::Create(fault) => write_create(err, fault),
             Stop::Open(fault) => write_open(err, fault),
+            Stop::Move(fault) => write_move(err, fault),
             Stop::Net => err.write_all(b"fault net\n"),
             Stop::Office(fault) => write_fault(err, fault),
         }
+    }
+}
+
+// The status of a move that was stopped: a file that is not one of an office, or is of a newer layout, was not opened.
+fn move_status(fault: MoveFault) -> u8
+    ensures named { result ≡ move_status fault }
+    ensures bound { result ≤ 5 }
+{
+    match fault {
+        MoveFault::NotOurs | MoveFault::NewerLayout(_) => NOT_OPENED,
+        MoveFault::Memory | MoveFault::Store | MoveFault::Damaged(_) => STOPPED,
     }
 }
 
@@ -153,5 +175,18 @@ fn write_open<W: Write>(err: &mut W, fault: OpenFault) -> io::Result<()>
         OpenFault::NewerLayout(layout) => writeln!(err, "fault newer {layout}"),
         OpenFault::Damaged(table) => write_damaged(err, table),
         OpenFault::OlderLayout(layout) => writeln!(err, "fault older {layout}"),
+    }
+}
+
+fn write_move<W: Write>(err: &mut W, fault: MoveFault) -> io::Result<()>
+    ensures { OnOk result (Appends (W.contents err.old) (W.contents err.new) (line_of (move_words
+        fault))) }
+{
+    match fault {
+        MoveFault::Memory => err.write_all(b"fault memory\n"),
+        MoveFault::Store => err.write_all(b"fault store\n"),
+        MoveFault::NotOurs => err.write_all(b"fault not-ours\n"),
+        MoveFault::NewerLayout(layout) => writeln!(err, "fault newer {layout}"),
+        MoveFault::Damaged(table) => write_damaged(err, table),
     }
 }

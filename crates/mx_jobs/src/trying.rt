@@ -29,7 +29,7 @@ fn new_office(alloc: Global) -> Result<Office<MemStore>, Stop>
     if let Err(fault) = create(&mut conn, Layout(NEWEST_LAYOUT)) {
         return Err(Stop::Create(fault));
     }
-    open(conn)
+    open(alloc, conn)
 }
 
 // Applies the commands of a trial, and appends the replies and the life of its aircraft.

@@ -86,7 +86,7 @@ fn serve_over<S: Alter + Drop>(rt: &HostRuntime, mut conn: Connection<S>) -> Res
     requires { conn.in_transaction ≡ false }
 {
     create(&mut conn, Layout(NEWEST_LAYOUT))?;
-    match open_office(conn) {
+    match open_office(rt.alloc(), conn) {
         Ok(mut office) => {
             let served = serve_one_aircraft(rt, &mut office);
             drop(office.close());

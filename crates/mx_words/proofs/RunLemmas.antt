@@ -2,18 +2,28 @@
 use Rattle.std.proofs.Common.{rules, arith, ◌≡◌, ◌<◌, ◌≤◌, ◌⊎◌, inl, inr, refl, ◌∙◌, ap, subst, ℕ, Bool, true, false, List, [], ◌++◌, Option, Some, None, Result, Ok, Err, IfOk, IfErr}
 use Rattle.std.specs.Io.KnownBytes.{Appends, Keeps}
 use Rattle.std.specs.Prelude.{max}
+use Rattle.mx_migrate.specs.declared.fault.MoveFault.{MoveFault}
+use Rattle.mx_migrate.specs.declared.fault.MoveFault.TheVariants as moving
 use Rattle.mx_jobs.specs.declared.fault.Ending.{Ending}
-use Rattle.mx_jobs.specs.declared.fault.Ending.TheVariants.{Done, Refused, Bad}
+use Rattle.mx_jobs.specs.declared.fault.Ending.TheVariants.{Done, Refused, Bad, Differs}
 use Rattle.mx_jobs.specs.declared.fault.Stop.{Stop}
-use Rattle.mx_jobs.specs.declared.fault.Stop.TheVariants.{Words, Shape, Intake, MakeMemory, Create, Open, Office, Net, Print}
+use Rattle.mx_jobs.specs.declared.fault.Stop.TheVariants.{Words, Shape, Intake, MakeMemory, Create, Move, Open, Office, Net, Print}
 use Rattle.mx_words.specs.Done.{IsDone, IsEnded}
 use Rattle.mx_command_line.specs.Job.{Job}
-use Rattle.mx_jobs.specs.Status.{LeavesUnread, Shows, done_status, stop_status}
+use Rattle.mx_jobs.specs.Status.{LeavesUnread, Shows, done_status, move_status, stop_status}
 
 -- what was printed in part alone has a status of 4 or more
 pub whole_of : (whole : Bool) (status done : ℕ) → (whole ≡ false → status ≡ max done 4) → status < 4 → whole ≡ true
 whole_of true status done h e = refl
 whole_of false status done h e = let m = h refl in absurd (omega (arith, m, e))
+
+-- a move that was stopped has one of 2 or more, as each stop
+move_is_grave : (fault : MoveFault) → 2 ≤ move_status fault
+move_is_grave moving.Memory = omega (arith)
+move_is_grave moving.Store = omega (arith)
+move_is_grave moving.NotOurs = omega (arith)
+move_is_grave (moving.NewerLayout layout) = omega (arith)
+move_is_grave (moving.Damaged name) = omega (arith)
 
 -- a stop has a status of 2 or more
 stop_is_grave : (stop : Stop) → 2 ≤ stop_status stop
@@ -23,6 +33,7 @@ stop_is_grave (Intake fault) = omega (arith)
 stop_is_grave MakeMemory = omega (arith)
 stop_is_grave (Create fault) = omega (arith)
 stop_is_grave (Open fault) = omega (arith)
+stop_is_grave (Move fault) = move_is_grave fault
 stop_is_grave Net = omega (arith)
 stop_is_grave (Office fault) = omega (arith)
 stop_is_grave Print = omega (arith)
@@ -32,6 +43,7 @@ pub all_of : (done : Result Ending Stop) → done_status done ≡ 0 → done ≡
 all_of (Ok Done) h = refl
 all_of (Ok Refused) h = (cc)
 all_of (Ok Bad) h = (cc)
+all_of (Ok Differs) h = (cc)
 all_of (Err stop) h = let grave = stop_is_grave stop in absurd (omega (arith, grave, h))
 
 -- with status 1 something was refused
@@ -39,6 +51,7 @@ pub refusal_of : (done : Result Ending Stop) → done_status done ≡ 1 → done
 refusal_of (Ok Done) h = (cc)
 refusal_of (Ok Refused) h = refl
 refusal_of (Ok Bad) h = (cc)
+refusal_of (Ok Differs) h = (cc)
 refusal_of (Err stop) h = let grave = stop_is_grave stop in absurd (omega (arith, grave, h))
 
 -- what is said of whatever was done is said of an ending
@@ -69,6 +82,7 @@ pub unprinted_of : (old new : Option (List ℕ)) (done : Result Ending Stop) (be
 unprinted_of old new (Ok Done) before after shown b s a err two = absurd (cc)
 unprinted_of old new (Ok Refused) before after shown b s a err two = absurd (cc)
 unprinted_of old new (Ok Bad) before after shown b s a err two = absurd (cc)
+unprinted_of old new (Ok Differs) before after shown b s a err two = absurd (cc)
 unprinted_of old new (Err stop) before after shown b s a err two = kept old new (subst (λ (x : List ℕ). Appends old new x) (s ∙ err two ∙ b) a)
 
 -- with status 3 the input gave nothing and nothing was printed, or a row was bad and the lines of the rows were
@@ -79,5 +93,6 @@ pub bad_or_unread : (asked : Option Job) (old new : Option (List ℕ)) (done : R
     → done_status done ≡ 3 → Keeps old new ⊎ IsEnded asked Bad old new
 bad_or_unread asked old new (Ok Done) before after shown b s a ok err three = absurd (cc)
 bad_or_unread asked old new (Ok Refused) before after shown b s a ok err three = absurd (cc)
+bad_or_unread asked old new (Ok Differs) before after shown b s a ok err three = absurd (cc)
 bad_or_unread asked old new (Ok Bad) before after shown b s a ok err three = inr (ended_so asked Bad old new (Ok Bad) before after shown b s a ok refl)
 bad_or_unread asked old new (Err stop) before after shown b s a ok err three = inl (kept old new (subst (λ (x : List ℕ). Appends old new x) (s ∙ err three ∙ b) a))

@@ -7,11 +7,14 @@ use Rattle.clap.specs.declared.parser.matches.ArgMatches.{ArgMatches}
 use Rattle.clap.specs.declared.error.kind.ErrorKind.TheVariants.{DisplayHelp, DisplayVersion}
 use Rattle.mx_jobs.specs.Entered.{AreReplyLines, AreSomeReplyLines}
 use Rattle.mx_jobs.specs.Imported.{AreRowLines}
+use Rattle.mx_jobs.specs.Installed.{AreFirstReplies}
+use Rattle.mx_jobs.specs.Moved.{IsPointLine}
 use Rattle.mx_jobs.specs.Printed.{IsListAnswer}
 use Rattle.mx_desk.specs.Serving.{served_line}
 use Rattle.mx_command_line.specs.Trial.{is_trial_shaped, trial_commands}
 use Rattle.mx_jobs.specs.Tried.{TellsTrial}
-use Rattle.mx_command_line.specs.Job.{Job, said, tries, makes, lists, enters, imports, loads, serves}
+use Rattle.mx_jobs.specs.Verified.{IsVerifiedLine}
+use Rattle.mx_command_line.specs.Job.{Job, said, tries, makes, lists, enters, imports, installs, loads, moves, serves, verifies}
 use Rattle.mx_jobs.specs.declared.fault.Ending.{Ending}
 use Rattle.mx_jobs.specs.declared.fault.Ending.TheVariants.{Done}
 
@@ -24,6 +27,9 @@ IsDone (enters file entries) text ending = AreSomeReplyLines text ending
 IsDone (imports file csv) text ending = AreRowLines text ending
 IsDone (loads file doc toml) text ending = AreReplyLines 1 text ending
 IsDone (serves file port count) text ending = (text ≡ served_line count) × (ending ≡ Done)
+IsDone (verifies file) text ending = IsVerifiedLine text ending
+IsDone (moves file steps) text ending = IsPointLine text ending
+IsDone (installs file entries) text ending = AreFirstReplies text ending
 
 -- the job is a trial that lacks its shape
 abbrev pub LacksShape : Job → Type 0

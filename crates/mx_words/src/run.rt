@@ -11,7 +11,10 @@ use crate::usage::print_usage;
 use clap::ArgMatches;
 use clap::error::ErrorKind;
 use mx_command_line::{Words, command, words_of};
-use mx_files::{enter_file, import_file, init_file, list_file, programme_file};
+use mx_files::{
+    enter_file, import_file, init_file, init_old_file, list_file, migrate_file, programme_file,
+    verify_file,
+};
 use mx_jobs::{Ending, Stop, print_done};
 use std::io::Write;
 
@@ -31,6 +34,9 @@ fn perform(rt: &HostRuntime, words: &Words<'_>, out: &mut Vec<u8>) -> Result<End
         Words::Import { file, csv } => import_file(rt, file, csv, out),
         Words::Programme { file, doc, toml } => programme_file(rt, file, *doc, toml, out),
         Words::Serve { file, port, count } => serve_file(rt, file, *port, *count, out),
+        Words::Verify { file } => verify_file(rt, file, out),
+        Words::Migrate { file, steps } => migrate_file(rt, file, *steps, out),
+        Words::InitOld { file, entries } => init_old_file(rt, file, entries, out),
     }
 }
 
@@ -80,8 +86,8 @@ fn answer_words<O: Write, E: Write>(
 /// Runs the program on its words, the first of which is its name. Prints replies, reports and help
 /// to `out`, faults and usage to `err`, and answers the status: 0 where all was done; 1 where a
 /// reply or a question was refused; 2 for words that it does not take; 3 for an input file that gives
-/// no commands, or where a row of a sector log was bad; 4 for a fault after the database was opened; 5 where it could not be
-/// opened or made, or the port not bound.
+/// no commands, or where a row of a sector log was bad; 4 for a fault after the database was opened, and where its tables are
+/// those of no book; 5 where it could not be opened or made, or the port not bound.
 pub fn run_words<O: Write, E: Write>(
     rt: &HostRuntime,
     words: &[String],

@@ -13,4 +13,7 @@ returns c =
     let seven = one_word_more _ _ _ _ _ six c.in_ok-enter_command.ensures c.in_ok-subcommand-7.ensures in
     let eight = one_word_more _ _ _ _ _ seven c.in_ok-import_command.ensures c.in_ok-subcommand-8.ensures in
     let nine = one_word_more _ _ _ _ _ eight c.in_ok-programme_command.ensures c.in_ok-subcommand-9.ensures in
-    IfOk-weaker c.subcommand-10.result _ _ (λ whole added. one_word_more _ _ _ _ _ nine c.in_ok-serve_command.ensures added) c.subcommand-10.ensures
+    let ten = one_word_more _ _ _ _ _ nine c.in_ok-serve_command.ensures c.in_ok-subcommand-10.ensures in
+    let eleven = one_word_more _ _ _ _ _ ten c.in_ok-verify_command.ensures c.in_ok-subcommand-11.ensures in
+    let twelve = one_word_more _ _ _ _ _ eleven c.in_ok-migrate_command.ensures c.in_ok-subcommand-12.ensures in
+    IfOk-weaker c.subcommand-13.result _ _ (λ whole added. one_word_more _ _ _ _ _ twelve c.in_ok-init_old_command.ensures added) c.subcommand-13.ensures
