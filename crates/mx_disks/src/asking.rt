@@ -31,7 +31,7 @@ fn open<S: Alter>(
     let Ok(space) = room(alloc) else {
         return (Err(Unmade::Memory), Err(conn));
     };
-    match open_office(conn) {
+    match open_office(alloc, conn) {
         Ok(office) => (opening_text(space, None), Ok(office)),
         Err((conn, fault)) => (opening_text(space, Some(fault)), Err(conn)),
     }

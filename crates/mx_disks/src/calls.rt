@@ -11,18 +11,18 @@ use mx_office::{Ask, Fault, Office, Outcomes};
 use sqlite::{Alter, Connection};
 use std::alloc::Global;
 
-/// Makes an empty book of layout 1.
+/// Makes an empty book of layout 2, which is the newest.
 pub(crate) fn created<S: Alter>(conn: &mut Connection<S>) -> Result<(), TableFault>
     requires { conn.old.in_transaction ≡ false }
 {
-    create(conn, Layout(1))
+    create(conn, Layout(2))
 }
 
-/// Makes an empty book of layout 2.
-pub(crate) fn created_next<S: Alter>(conn: &mut Connection<S>) -> Result<(), TableFault>
+/// Makes an empty book of layout 1.
+pub(crate) fn created_old<S: Alter>(conn: &mut Connection<S>) -> Result<(), TableFault>
     requires { conn.old.in_transaction ≡ false }
 {
-    create(conn, Layout(2))
+    create(conn, Layout(1))
 }
 
 /// What the office answers to the command.
@@ -102,6 +102,11 @@ pub(crate) fn limits_of<S: Alter>(
     day: Day,
 ) -> Result<LimitList, Ask> {
     office.limits_rows(alloc, *tail, day)
+}
+
+/// Whether the tables of the office stand for a book.
+pub(crate) fn verified_in<S: Alter>(alloc: Global, office: &mut Office<S>) -> Result<bool, Fault> {
+    office.verify(alloc)
 }
 
 /// Whether the office has to be opened again.

@@ -1,7 +1,7 @@
 //! What is asked of the database that files hold, without an office.
 ghost use Rattle.std.specs.Prelude.{◌≡◌, false};
 
-use crate::calls::{created, created_next};
+use crate::calls::{created, created_old};
 use crate::queries::{asked, tables};
 use crate::texts::append_error;
 use mx_apply_lines::entered_by_rows;
@@ -54,7 +54,7 @@ fn made(out: &mut String, made: Result<(), TableFault>) -> Result<(), AllocError
     }
 }
 
-// Makes an empty book.
+// Makes an empty book of the newest layout.
 fn make<S: Alter>(alloc: Global, conn: &mut Connection<S>) -> Result<String, AllocError>
     requires { conn.old.in_transaction ≡ false }
 {
@@ -63,12 +63,12 @@ fn make<S: Alter>(alloc: Global, conn: &mut Connection<S>) -> Result<String, All
     Ok(text)
 }
 
-// Makes an empty book of layout 2.
-fn make_next<S: Alter>(alloc: Global, conn: &mut Connection<S>) -> Result<String, AllocError>
+// Makes an empty book of layout 1.
+fn make_old<S: Alter>(alloc: Global, conn: &mut Connection<S>) -> Result<String, AllocError>
     requires { conn.old.in_transaction ≡ false }
 {
     let mut text = room(alloc)?;
-    made(&mut text, created_next(conn))?;
+    made(&mut text, created_old(conn))?;
     Ok(text)
 }
 
@@ -81,7 +81,7 @@ fn statement_of(alloc: Global, words: &[&str]) -> Result<String, AllocError> {
     Ok(sql)
 }
 
-/// What a database answers to a line: `make`, `make-next`, `point`, `tables`, `ask QUERY`, `sql STATEMENT`, `step STEP`,
+/// What a database answers to a line: `make`, `make-old`, `point`, `tables`, `ask QUERY`, `sql STATEMENT`, `step STEP`,
 /// `enter COMMAND`, `judge COMMAND`, `entries FROM AT_MOST`, `entry NUMBER COMMAND`, `verify`, one of kept rows, or one for a
 /// list.
 pub(crate) fn answer_of_database<S: Alter>(
@@ -93,7 +93,7 @@ pub(crate) fn answer_of_database<S: Alter>(
 {
     match words {
         ["make"] => Ok(make(alloc, conn)?),
-        ["make-next"] => Ok(make_next(alloc, conn)?),
+        ["make-old"] => Ok(make_old(alloc, conn)?),
         ["point"] => Ok(point_text(alloc, conn)?),
         ["tables"] => tables(alloc, conn),
         ["ask", query @ ..] => {

@@ -25,7 +25,7 @@ fn is_taken(words: &[&str], answer: &Result<String, Unmade>) -> bool {
     answer.is_ok()
         && matches!(
             words,
-            ["make" | "make-next" | "install" | "open"] | ["sql" | "kept" | "step" | "enter", ..]
+            ["make" | "make-old" | "install" | "open"] | ["sql" | "kept" | "step" | "enter", ..]
         )
 }
 

@@ -1,12 +1,12 @@
 //! An office over files in memory that stop, lose power and are opened again, asked in lines.
 //!
 //! Lines over the files, each over a database that is opened anew:
-//! - `make`, `make-next`: makes an empty book of layout 1, of layout 2;
+//! - `make`, `make-old`: makes an empty book of the newest layout, of layout 1;
 //! - `install`: makes a file of layout 1 with the book of those commands of the list that are new;
 //! - `point`: the layout, step and mark that it is at;
 //! - `ask QUERY`, `tables`, `sql STATEMENT`: the rows of a query; all rows of all tables; a statement that changes the files;
 //! - `step` before a line of `mx_move_lines`, whose head lists them: a step of the move to layout 2;
-//! - `open`: opens the office.
+//! - `open`: opens the office, where a file of layout 1 is moved to the newest layout first.
 //!
 //! Lines over a database of layout 2: `enter COMMAND` hands a command in, which is judged by the rows of the tables and whose rows are
 //! written in one commit; `judge COMMAND`, the verdict on a command by these rows; `entries FROM AT_MOST` and `entry NUMBER COMMAND`,
@@ -18,6 +18,7 @@
 //! - `life TAIL`, `airframe TAIL`, `component SERIAL`: the life list; the life of one item, in minutes and cycles;
 //! - `due TAIL DAY`, `limits TAIL DAY`, `forecast TAIL DAY DAYS MINUTES CYCLES`: these lists;
 //! - `entries FROM AT_MOST`, `entry NUMBER COMMAND`: documents of entries; whether one is this command;
+//! - `verify`: whether the tables stand for a book;
 //! - `needs-reopen`: whether the files have to be opened again.
 //!
 //! A fault is answered by its name behind `fault`, and a row that a table refuses by the constraint behind `refused`.

@@ -2,6 +2,7 @@
 
 use crate::calls::{
     applied, dues_of, entries_of, forecast_of, is_in_doubt, life_of, limits_of, list_of, ran,
+    verified_in,
 };
 use crate::texts::{answers_in, append_fault, ask_text};
 use mx_base::{Day, Serial, Tail};
@@ -158,6 +159,15 @@ fn is_entry<S: Alter>(
     }
 }
 
+// Whether the tables stand for a book.
+fn verify<S: Alter>(alloc: Global, office: &mut Office<S>) -> Result<String, Unmade> {
+    match verified_in(alloc, office) {
+        Ok(true) => Ok(String::from_str(alloc, "verified")?),
+        Ok(false) => Ok(String::from_str(alloc, "differs")?),
+        Err(fault) => fault_text(alloc, fault),
+    }
+}
+
 // Hands in the first command of the list.
 fn apply_first<S: Alter>(
     alloc: Global,
@@ -189,6 +199,7 @@ pub(crate) fn answer_of_office<S: Alter>(
         ["component", serial] => life(alloc, office, &Item::Component(Serial::read(serial)?)),
         ["entries", from, at_most] => entries(office, asked, from, at_most),
         ["entry", seq, command @ ..] => is_entry(alloc, office, seq, command),
+        ["verify"] => verify(alloc, office),
         ["needs-reopen"] => Ok(yes_or_no(alloc, is_in_doubt(office))?),
         command => apply(alloc, office, &command_of(alloc, command)?),
     }

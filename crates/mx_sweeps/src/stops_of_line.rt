@@ -1,4 +1,5 @@
-//! A line over files, and what each stop of it leaves in their tables: the rows from before, or those behind the line.
+//! A line over files, and what each stop of it leaves in their tables: the rows from before, or those behind the line; of a line of
+//! several commits also rows between these, from which the line played again goes on.
 
 use crate::player::Player;
 use crate::settings::stopping;
@@ -78,8 +79,12 @@ pub(crate) struct LineStops<'a> {
     pub opening: u64,
     /// What is seen where no file stops.
     pub whole: Around,
+    /// Whether the line makes one commit at most.
+    pub is_one_commit: bool,
     /// How many stops left the rows from before.
     pub undone: u64,
+    /// How many stops left rows between these and those behind the line.
+    pub between: u64,
     /// How many stops left the rows behind the line.
     pub done: u64,
 }
@@ -91,15 +96,18 @@ impl<'a> LineStops<'a> {
             self.undone = self.undone.saturating_add(1);
             return Ok(());
         }
-        self.done = self.done.saturating_add(1);
+        if found == self.whole.after.as_str() {
+            self.done = self.done.saturating_add(1);
+            return Ok(());
+        }
+        self.between = self.between.saturating_add(1);
         must(
-            found == self.whole.after.as_str(),
+            !self.is_one_commit,
             "rows that are neither those from before nor those behind the line",
         )
     }
 
-    // The line that left the rows from before is played again, over files that don't stop: it is answered as where nothing
-    // stopped, and leaves the same.
+    // The line is played again, over files that don't stop: it is answered as where nothing stopped, and leaves the same.
     fn is_made_good<D: Disks>(&self, player: &mut Player<D>) -> Result<(), Wrong> {
         let answer = player.ask(Setting::WHOLE, self.words)?;
         must(
@@ -118,11 +126,11 @@ impl<'a> LineStops<'a> {
         must(player.says(ALL_ROWS, self.whole.after.as_str())?, otherwise)
     }
 
-    // What a stop left is looked at, and then the line is played again where it left the rows from before.
+    // What a stop left is looked at, and then the line is played again where that is not all that is behind the line.
     fn looks<D: Disks>(&mut self, player: &mut Player<D>) -> Result<(), Wrong> {
         let found = player.line(ALL_ROWS)?;
         self.count(found.as_str())?;
-        if found.as_str() == self.whole.before.as_str() {
+        if found.as_str() != self.whole.after.as_str() {
             self.is_made_good(player)?;
         }
         Ok(())
@@ -154,7 +162,9 @@ impl<'a> Stops for LineStops<'a> {
 
     fn verdict(&self) -> Result<&'static str, Wrong> {
         must(self.undone > 0, "no stop that left all as before")?;
-        if self.done > 0 {
+        if self.between > 0 {
+            Ok("some stops leave all as before, some a part, and each is gone on from")
+        } else if self.done > 0 {
             Ok("some stops leave all as before, the others all as behind")
         } else {
             Ok("every stop leaves all as before")

@@ -19,7 +19,7 @@ const LOOKS: [&str; 6] = [
 const NOTHING: &str = "fault not-ours / 0 / ok / opened / none / ok";
 
 // What files answer that hold the tables.
-const WHOLE_BOOK: &str = "1 0 0 / 15 / fault exists / opened / none / ok";
+const WHOLE_BOOK: &str = "2 0 0 / 16 / fault exists / opened / none / ok";
 
 /// The making of an empty book in new files, of which one stops.
 #[derive(Clone, Copy)]

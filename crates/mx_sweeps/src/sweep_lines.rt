@@ -56,6 +56,7 @@ fn stops_of_line<D: Disks>(
     alloc: Global,
     player: &mut Player<D>,
     (file, pages, at_least): (&str, &str, &str),
+    is_one_commit: bool,
     words: &[&str],
 ) -> Result<String, Unmade> {
     let at_least = at_least.parse::<u64>()?;
@@ -67,7 +68,9 @@ fn stops_of_line<D: Disks>(
         pages,
         opening,
         whole,
+        is_one_commit,
         undone: 0,
+        between: 0,
         done: 0,
     };
     swept(alloc, player, &mut stops, &BOTH_ENDS, at_least)
@@ -113,8 +116,17 @@ fn played<D: Disks>(
             alloc,
             player,
             (*file, *pages, *at_least),
+            true,
             line,
         ),
+        [
+            "stops-of-commits",
+            file,
+            "pages",
+            pages,
+            at_least,
+            line @ ..,
+        ] => stops_of_line(alloc, player, (*file, *pages, *at_least), false, line),
         ["doubts", end, at_least] => doubts(alloc, player, end, at_least),
         ["questions", tail, day, at_least] => {
             stops_of_questions(alloc, player.list(), (*tail, *day, *at_least))
@@ -128,17 +140,22 @@ pub(crate) fn is_sweep(words: &[&str]) -> bool {
     matches!(
         words,
         [
-            "stops-of-making" | "stops-of-commands" | "stops-of-line" | "doubts" | "questions",
+            "stops-of-making"
+                | "stops-of-commands"
+                | "stops-of-line"
+                | "stops-of-commits"
+                | "doubts"
+                | "questions",
             ..
         ]
     )
 }
 
 /// What a sweep is answered: `stops-of-making FILE AT_LEAST`, `stops-of-commands FILE pages PAGES AT_LEAST`,
-/// `stops-of-line FILE pages PAGES AT_LEAST LINE`, `doubts END AT_LEAST` or `questions TAIL DAY AT_LEAST`. The second and the
-/// fourth hand the list of commands in to the office that the files hold; the third plays a line that changes the tables of the
-/// files, in one commit; the last asks the book of the list, and no file. It plays its lines over copies, so that the player
-/// stays as it is.
+/// `stops-of-line FILE pages PAGES AT_LEAST LINE`, `stops-of-commits FILE pages PAGES AT_LEAST LINE`, `doubts END AT_LEAST` or
+/// `questions TAIL DAY AT_LEAST`. The second and `doubts` hand the list of commands in to the office that the files hold; the third
+/// plays a line that changes the tables of the files, in one commit, and the fourth one that makes several; the last asks the
+/// book of the list, and no file. It plays its lines over copies, so that the player stays as it is.
 pub(crate) fn answer_of_sweep<D: Disks>(
     alloc: Global,
     player: &Player<D>,
