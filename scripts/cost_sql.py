@@ -1,7 +1,7 @@
 """What SQLite does of the program's work, for scripts/measure-cost: its lists as statements, its rows as INSERTs.
 
-The statements read the tables that the program made, and answer line by line what it prints. They count a task from
-what was reached when it was last done, which is right where no task is done after it was due.
+The statements read the tables that the program made, those that it keeps beside its entries too, and answer line by line what it
+prints.
 """
 import contextlib
 import os
@@ -13,12 +13,8 @@ from datetime import date
 
 from office_facts import OWN_TABLE
 
-Rows = typing.Dict[str, typing.Set[typing.Tuple[object, ...]]]
-
-
-def minutes_of(text: str) -> str:
-    """The minutes of a moment that is kept as text."""
-    return f"CAST(strftime('%s', {text}) AS INTEGER) / 60"
+Rows = typing.Dict[str, typing.Set[typing.Tuple[typing.Any, ...]]]
+KEPT = {"total2", "base2"}  # the tables that are kept beside the entries
 
 
 def hours_of(minutes: str) -> str:
@@ -28,46 +24,23 @@ def hours_of(minutes: str) -> str:
 
 
 # The items of one aircraft, each with its life.
-LIVES = f"""
-flown AS MATERIALIZED (SELECT aircraft, {minutes_of('took_off')} AS off, {minutes_of('landed')} AS landed, cycles
-  FROM sector1),
-span AS MATERIALIZED (SELECT component, aircraft, position, {minutes_of('moment')} AS since,
-  (SELECT {minutes_of('r.moment')} FROM removal1 r WHERE r.component = f.component AND r.seq > f.seq LIMIT 1) AS until
-  FROM fit1 f),
-own AS (SELECT * FROM aircraft WHERE tail = '{{tail}}'),
+LIVES = """
+own AS (SELECT * FROM aircraft WHERE tail = '{tail}'),
 item AS MATERIALIZED (
-  SELECT seq AS item, NULL AS part, '' AS position, '' AS serial, birth, minutes, cycles FROM own
+  SELECT seq AS item, NULL AS part, '' AS position, '' AS serial, birth FROM own
   UNION ALL
-  SELECT c.seq, c.part, s.position, c.serial, c.birth, c.minutes, c.cycles
-  FROM own JOIN span s ON s.aircraft = own.seq AND s.until IS NULL JOIN component c ON c.seq = s.component),
-credited AS MATERIALIZED (
-  SELECT item, landed, landed - off AS minutes, f.cycles FROM item JOIN flown f ON f.aircraft = item
-  UNION ALL
-  SELECT item, landed, landed - off, f.cycles FROM item JOIN span s ON s.component = item
-    JOIN flown f ON f.aircraft = s.aircraft AND f.off >= s.since AND (s.until IS NULL OR f.landed <= s.until)),
-life AS MATERIALIZED (SELECT i.*, i.minutes + coalesce(sum(c.minutes), 0) AS m,
-  i.cycles + coalesce(sum(c.cycles), 0) AS c
-  FROM item i LEFT JOIN credited c ON c.item = i.item GROUP BY i.item)
+  SELECT c.seq, c.part, s.position, c.serial, c.birth
+  FROM own JOIN span2 s ON s.aircraft = own.seq AND s.remove_seq IS NULL JOIN component c ON c.seq = s.component),
+life AS MATERIALIZED (SELECT i.*, t.minutes AS m, t.cycles AS c FROM item i JOIN total2 t ON t.item = i.item)
 """
 
 # What is left of each task on a day, and until the last day of each open defect; of an airframe, a part, a defect.
 ROWS = """,
-done AS (SELECT item, task, max(seq) AS seq FROM (
-    SELECT seq, item, task FROM opening UNION ALL SELECT seq, item, task FROM crs_line WHERE task IS NOT NULL)
-  WHERE item IN (SELECT item FROM item) GROUP BY item, task),
-base AS MATERIALIZED (
-  SELECT d.item, d.task, o.minutes, o.cycles, o.day FROM done d JOIN opening o ON o.seq = d.seq
-  UNION ALL
-  SELECT d.item, d.task,
-    i.minutes + (SELECT coalesce(sum(c.minutes), 0) FROM credited c WHERE c.item = d.item AND c.landed <= r.moment),
-    i.cycles + (SELECT coalesce(sum(c.cycles), 0) FROM credited c WHERE c.item = d.item AND c.landed <= r.moment),
-    r.moment / 1440
-  FROM done d JOIN crs r ON r.seq = d.seq JOIN item i ON i.item = d.item),
 due AS (
   SELECT t.*, i.position, i.serial, iif(b.item IS NULL, t.first_m, b.minutes + t.rep_m) - i.m AS m,
     iif(b.item IS NULL, t.first_c, b.cycles + t.rep_c) - i.c AS c,
     iif(b.item IS NULL, i.birth + t.first_d, b.day + t.rep_d) - {day} AS d
-  FROM own JOIN life i JOIN task t ON t.part IS i.part LEFT JOIN base b ON b.item = i.item AND b.task = t.id
+  FROM own JOIN life i JOIN task t ON t.part IS i.part LEFT JOIN base2 b ON b.item = i.item AND b.task = t.id
   WHERE t.seq = (SELECT max(p.seq) FROM programme p WHERE p.kind = own.kind)),
 open AS (
   SELECT f.seq, e.doc, substr('ABCD', f.category, 1) AS letter, f.reference,
@@ -75,7 +48,7 @@ open AS (
       + coalesce(f.days, iif(f.category = 2, 3, iif(f.category = 3, 10, 120))) AS last
   FROM own JOIN defect f ON f.aircraft = own.seq JOIN entry e ON e.seq = f.seq
     LEFT JOIN extension x ON x.defect = f.seq
-  WHERE f.seq NOT IN (SELECT defect FROM crs_line WHERE defect IS NOT NULL)),
+  WHERE NOT EXISTS (SELECT 1 FROM crs_line l WHERE l.defect = f.seq)),
 lines AS (
   SELECT CASE WHEN m < -tol_m OR c < -tol_c OR d < -tol_d THEN 0 WHEN m <= 0 OR c <= 0 OR d <= 0 THEN 1 ELSE 2 END
       AS worst,
@@ -166,12 +139,43 @@ def literal(value: object) -> str:
     return str(value) if isinstance(value, int) else "'{}'".format(str(value).replace("'", "''"))
 
 
+def ending(row: typing.Tuple[object, ...]) -> str:
+    """The statement that ends a span."""
+    fitting, removal, moment = row[0], row[5], row[6]
+    return f"UPDATE span2 SET remove_seq = {removal}, to_min = {moment} WHERE fit_seq = {fitting};"
+
+
+def crediting(row: typing.Tuple[object, ...]) -> str:
+    """The statements that credit a sector to its aircraft and to what is fitted to it."""
+    aircraft, off, landed, cycles = row[1], row[4], row[5], row[6]
+    sums = f"minutes = minutes + {landed} - {off}, cycles = cycles + {cycles}"
+    fitted = f"SELECT component FROM span2 WHERE aircraft = {aircraft} AND remove_seq IS NULL"
+    return (f"UPDATE total2 SET {sums}, clock = {landed} WHERE item = {aircraft};"
+            f" UPDATE total2 SET {sums} WHERE item IN ({fitted});")
+
+
 def inserts(before: Rows, after: Rows) -> str:
-    """The transactions that make the rows of one file those of another: one for each entry, synced."""
+    """The transactions that make the rows of one file those of another: one for each entry, synced. What is kept beside the
+    entries is brought on by each sector, and is that of the other file behind the last entry."""
     by_entry: typing.Dict[object, typing.List[str]] = {}
+    last = max(row[0] for row in after["entry"])
+    known = {row[0] for row in before["entry"]}
+
+    def put(seq: object, text: str) -> None:
+        by_entry.setdefault(seq, []).append(text)
+
     for table in after:
         for row in sorted(after[table] - before[table], key=lambda row: (row[0], str(row[1]))):
-            values = ", ".join(map(literal, row))
-            by_entry.setdefault(row[0], []).append(f"INSERT INTO {table} VALUES ({values});")
-    texts = [f"BEGIN; {' '.join(by_entry[seq])} COMMIT;" for seq in sorted(by_entry, key=str)]
+            seq = row[0]
+            if table == "span2" and row[5] is not None:
+                if seq not in known:
+                    put(seq, f"INSERT INTO {table} VALUES ({', '.join(map(literal, (*row[:5], None, None)))});")
+                put(row[5], ending(row))
+                continue
+            is_kept = table in KEPT
+            verb = "INSERT OR REPLACE" if is_kept else "INSERT"
+            put(last if is_kept else seq, f"{verb} INTO {table} VALUES ({', '.join(map(literal, row))});")
+            if table == "sector2" and seq != last:
+                put(seq, crediting(row))
+    texts = [f"BEGIN; {' '.join(by_entry[seq])} COMMIT;" for seq in sorted(by_entry, key=int)]
     return "\n".join(["PRAGMA synchronous = FULL;", *texts])

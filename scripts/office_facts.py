@@ -9,7 +9,7 @@ Command = typing.Dict[str, typing.Any]
 
 # ── tables ──
 
-# The columns of each table of layout 1.
+# The columns of each table of a new file.
 COLUMNS = {
     "office": (
         "id INTEGER PRIMARY KEY CHECK (id = 1), layout INTEGER NOT NULL, step INTEGER NOT NULL, mark INTEGER NOT NULL"
@@ -47,19 +47,25 @@ COLUMNS = {
         "seq INTEGER PRIMARY KEY, aircraft INTEGER NOT NULL, moment INTEGER NOT NULL, reference TEXT NOT NULL, "
         "category INTEGER NOT NULL, days INTEGER"
     ),
-    "sector1": (
+    "sector2": (
         "seq INTEGER PRIMARY KEY, aircraft INTEGER NOT NULL, page INTEGER NOT NULL, line INTEGER NOT NULL, "
-        "took_off TEXT NOT NULL, landed TEXT NOT NULL, cycles INTEGER NOT NULL"
+        "took_off INTEGER NOT NULL, landed INTEGER NOT NULL, cycles INTEGER NOT NULL"
     ),
-    "fit1": (
-        "seq INTEGER PRIMARY KEY, component INTEGER NOT NULL, aircraft INTEGER NOT NULL, position TEXT NOT NULL, "
-        "moment TEXT NOT NULL"
+    "span2": (
+        "fit_seq INTEGER PRIMARY KEY, component INTEGER NOT NULL, aircraft INTEGER NOT NULL, position TEXT NOT NULL, "
+        "from_min INTEGER NOT NULL, remove_seq INTEGER, to_min INTEGER"
     ),
-    "removal1": "seq INTEGER PRIMARY KEY, component INTEGER NOT NULL, moment TEXT NOT NULL",
+    "total2": (
+        "item INTEGER PRIMARY KEY, minutes INTEGER NOT NULL, cycles INTEGER NOT NULL, clock INTEGER NOT NULL"
+    ),
+    "base2": (
+        "item INTEGER NOT NULL, task TEXT NOT NULL, minutes INTEGER NOT NULL, cycles INTEGER NOT NULL, "
+        "day INTEGER NOT NULL, PRIMARY KEY (item, task)"
+    ),
 }
 # Each table with its text, as SQLite keeps it.
 TABLES = {name: f"CREATE TABLE {name} ({columns}) STRICT" for name, columns in COLUMNS.items()}
-FIRST_POINT = (1, 1, 0, 0)  # the row of the table `office` in a new file
+FIRST_POINT = (1, 2, 0, 0)  # the row of the table `office` in a new file
 OWN_TABLE = "office"  # the one table that no entry has rows in
 
 # ── a book of one aircraft ──

@@ -261,5 +261,76 @@ class Import(Entering):
         for line in range(1, 21)))
 
 
+class Old(Word):
+    """A word over a file of layout 1, with a book that takes no programme."""
+
+    asked = Asked("enter", (), made(*(it for it in COMMANDS if it["do"] not in ("opening", "release"))))
+
+    def __init__(self, office_path: str) -> None:
+        super().__init__(office_path)
+        book: Book = []
+        self.replies = office.printed(book, self.asked)
+        self.lists = [office.printed(book, asked) for asked in LISTS]
+        self.again = office.printed(book, self.asked)
+
+    def read(self, file: pathlib.Path) -> pathlib.Path:
+        """The commands, beside the file."""
+        read = file.with_name("read")
+        read.write_bytes(self.asked.body)
+        return read
+
+    def look(self, file: pathlib.Path) -> None:
+        """Looks at the whole book, in a file that any of the lists moves to the newest layout."""
+        want("the lists", self.lists, [self.run(file, asked.word, *words_of(asked)) for asked in LISTS])
+        want("verify", (0, b"verified\n", b""), self.run(file, "verify"))
+        want("enter", self.again, self.run(file, "enter", self.read(file)))
+
+
+class InitOld(Old):
+    """`init-old FILE ENTRIES`: the file is without our tables, or has the whole book."""
+
+    name = "init-old"
+
+    def start(self, program: Program, file: pathlib.Path) -> typing.Union[Started, Posting]:
+        return Started(program, [self.name, file, self.read(file)])
+
+    def after(self, file: pathlib.Path, ended: Ended) -> str:
+        if not file.exists():
+            found = "no file"
+        elif is_half_made(file):
+            found = "a first page without its first letter"
+        else:
+            found = "the whole book" if tables_by_sqlite(file) else "a file without tables"
+        is_whole = found == "the whole book"
+        if ended.acknowledged and not is_whole:
+            raise Bad("an acknowledged book is lost")
+        again = (5, b"", b"fault exists\n") if is_whole else self.replies
+        want("init-old once more", again, self.run(file, "init-old", self.read(file)))
+        self.look(file)
+        return found
+
+
+class Migrate(Old):
+    """`migrate FILE STEPS`, to the end of the move: the file has the book, at some point of the move."""
+
+    name = "migrate"
+
+    def before(self, file: pathlib.Path) -> None:
+        want("init-old", self.replies, self.run(file, "init-old", self.read(file)))
+
+    def start(self, program: Program, file: pathlib.Path) -> typing.Union[Started, Posting]:
+        return Started(program, [self.name, file, 2_000_000])
+
+    def after(self, file: pathlib.Path, ended: Ended) -> str:
+        status, point, told = self.run(file, "migrate", 0)
+        want("the point", (0, b""), (status, told))
+        if ended.acknowledged and point.decode() != ended.acknowledged:
+            raise Bad(f"{ended.acknowledged!r} was acknowledged, and it is {point!r}")
+        self.look(file)
+        want("the point then", (0, b"point 2 0 0\n", b""), self.run(file, "migrate", 0))
+        _, layout, step, _ = point.decode().split()
+        return f"layout {layout}, step {step}"
+
+
 # A further word that writes has a class beside these.
-WORDS: typing.List[typing.Type[Word]] = [Init, Enter, Programme, Import, Serve]
+WORDS: typing.List[typing.Type[Word]] = [Init, Enter, Programme, Import, Serve, InitOld, Migrate]
