@@ -192,14 +192,16 @@ pub fn serve_one<S: Alter, R: Read, W: Write>(
 ) -> Result<(), DeskFault>
     // Whatever the tables hold: what the office was asked, and what was written of its answer.
     ensures answered { (input : _) → R.remaining reader.old ≡ Some input
-        → IsSilent input result office.old office.new (W.contents writer.old) (W.contents writer.new)
+        → IsSilent input result office.old office.new
+        (W.contents writer.old) (W.contents writer.new)
         ⊎ ((input ≢ []) × AnswersInput input office.old office.new
         (Writes result (W.contents writer.old) (W.contents writer.new))) }
 
     // The answer of a book, the book behind it, and what a crash leaves.
     ensures served { (book input : _) → StandsFor office.old book
         → HasCleanDisk (office_state office.new) → R.remaining reader.old ≡ Some input
-        → IsSilent input result office.old office.new (W.contents writer.old) (W.contents writer.new)
+        → IsSilent input result office.old office.new
+        (W.contents writer.old) (W.contents writer.new)
         ⊎ ((input ≢ []) × ServesInput book input (office_state office.new)
         (Writes result (W.contents writer.old) (W.contents writer.new))) }
     ensures crash { LeavesBook office.old office.new }

@@ -1,6 +1,6 @@
 -- Worked points: which tables and indexes a file has at each point on its way from layout 1 to layout 2, and what a command brings to each table there.
 use Rattle.std.proofs.Common.{refl, ◌≡◌, ℕ, List, [], ◌∷◌}
-use Rattle.std.specs.Prelude.{codes, filter, map, length, pos}
+use Rattle.std.specs.Prelude.{codes, filter, map, pos}
 use Rattle.mx_base.specs.Calendar.{date_of}
 use Rattle.mx_base.specs.Texts.{day_text, moment_text}
 use Rattle.sqlite.specs.Order.{Row}
@@ -14,7 +14,7 @@ use Rattle.mx_point.specs.Settled.{settled}
 use Rattle.mx_points.specs.Points.{moving}
 use Rattle.mx_layout.specs.TableName.{TableName}
 use Rattle.mx_layout.specs.declared.fault.Table.TheVariants as table
-use Rattle.mx_stands.specs.Family.{is_at, is_register, rows_of, own_names, permanent_names, first_rows, rows_given, added, registers_at}
+use Rattle.mx_stands.specs.Family.{is_at, is_register, rows_of, own_names, permanent_names, first_rows, rows_given, added}
 use Rattle.mx_stands.specs.Schemas.{indexes_at, schema_at, statements_at}
 
 -- ── tables ──
@@ -48,16 +48,9 @@ always_there p = refl
 
 -- ── registers ──
 
--- the entries are read first, and the removals last
-registers_at_layout_1 : registers_at (settled 1) ≡ table.Entry ∷ table.Aircraft ∷ table.Place ∷ table.Component ∷ table.Programme ∷ table.Task ∷ table.Opening ∷ table.Crs ∷ table.CrsLine ∷ table.Defect ∷ table.Extension ∷ table.Sector1 ∷ table.Fit1 ∷ table.Removal1 ∷ []
-registers_at_layout_1 = refl
-
 -- spans, totals and last bases are computed from the registers, and no commands are read from them
 own_registers_at_layout_2 : filter (λ name. is_register (rows_of name)) (own (settled 2)) ≡ table.Sector2 ∷ []
 own_registers_at_layout_2 = refl
-
-twelve_at_layout_2 : length (registers_at (settled 2)) ≡ 12
-twelve_at_layout_2 = refl
 
 -- ── indexes ──
 

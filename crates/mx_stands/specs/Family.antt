@@ -1,7 +1,6 @@
 -- The tables as one family, with a line for each: how its rows are kept, which of a book's rows stand in it at a point, what a command makes of them, and where they are among the registers.
-use Rattle.std.specs.Prelude.{⊤, ◌≡◌, ◌&&◌, Bool, true, false, List, [], ◌∷◌, ◌++◌, map, filter, All, IsPermutation, Option, Some, None, if◌then◌else◌}
+use Rattle.std.specs.Prelude.{⊤, ◌≡◌, Bool, true, false, List, [], ◌∷◌, ◌++◌, map, All, IsPermutation, Option, Some, None, if◌then◌else◌}
 use Rattle.sqlite.specs.Order.{Row}
-use Rattle.sqlite.specs.Tree.{Trees}
 use Rattle.mx_command.specs.Act.{Entry}
 use Rattle.mx_command.specs.Shape.{has_shape}
 use Rattle.mx_book.specs.Book.{IsBook}
@@ -14,8 +13,6 @@ use Rattle.mx_point.specs.declared.point.Point.{Point}
 use Rattle.mx_points.specs.Tables.{Line, rows_at, is_table_at, entries_all, aircraft_all, places_all, components_all, programmes_all, tasks_all, openings_all, releases_all, release_lines_all, deferrals_all, extensions_all, sectors_1, fittings_1, removals_1, sectors_2, spans_2, totals_2, bases_2}
 use Rattle.mx_layout.specs.TableName.{TableName}
 use Rattle.mx_layout.specs.declared.fault.Table.TheVariants as table
-use Rattle.mx_layout.specs.Contents.{rows_in}
-use Rattle.mx_layout.specs.Names.{table_named}
 use Rattle.mx_layout.specs.Point.{point_cells}
 use Rattle.mx_kept.specs.Kept.{Kept}
 use Rattle.mx_kept.specs.Cells.{kept_entry, kept_aircraft, kept_place, kept_component, kept_programme, kept_task, kept_opening, kept_crs, kept_crs_line, kept_defect, kept_extension, kept_sector1, kept_fit1, kept_removal1, kept_sector2, kept_span2, kept_total2, kept_base2}
@@ -77,11 +74,6 @@ abbrev pub Fit : Rows → Point → List Entry → Type 0
 Fit (of k line change read) at book = All k.Fits (rows_at line at book)
 Fit none at book = ⊤
 
--- it has exactly the rows that the book gives it at the point
-abbrev pub AreGiven : Rows → Point → Trees → List Entry → Type 0
-AreGiven (of k line change read) at trees book = IsPermutation (map k.as_cells (rows_at line at book)) (rows_in (table_named k.name) trees)
-AreGiven none at trees book = ⊤
-
 -- the rows that a command brings to it at the point, behind the entries before it: what it makes of none
 abbrev pub brought : Rows → Point → List Entry → Entry → List Row
 brought (of k line change read) at before command = if is_table_at line at then map k.as_cells (change before command []) else []
@@ -126,7 +118,3 @@ is_at at name = is_there (rows_of name) at
 -- the rows that a command adds to each table at this point, behind the entries before it
 abbrev pub added : Point → TableName → List Entry → Entry → List Row
 added at name = brought (rows_of name) at
-
--- the registers of a file at this point, in the order in which they are read
-abbrev pub registers_at : Point → List TableName
-registers_at at = filter (λ name. is_at at name && is_register (rows_of name)) (permanent_names ++ own_names)

@@ -1,6 +1,5 @@
 -- The tables that stand for a book at a point.
 use Rattle.std.specs.Prelude.{◌≡◌, ◌⊎◌, true, List, IsPermutation}
-use Rattle.std.specs.List.{AllByRecursion}
 use Rattle.sqlite.specs.Tree.{Trees}
 use Rattle.sqlite.specs.State.{State}
 use Rattle.sqlite_catalog.specs.Listing.{IsSound}
@@ -12,7 +11,7 @@ use Rattle.mx_layout.specs.Contents.{rows_in, Rises}
 use Rattle.mx_layout.specs.Crash.{RestsAs}
 use Rattle.mx_layout.specs.Names.{table_named}
 use Rattle.mx_layout.specs.Point.{FitsPoint}
-use Rattle.mx_stands.specs.Family.{rows_of, rows_given, registers_at, is_at, AreGiven, Fit}
+use Rattle.mx_stands.specs.Family.{rows_of, rows_given, is_at, Fit}
 use Rattle.mx_stands.specs.Schemas.{schema_at}
 
 -- ── rows, as sets ──
@@ -23,16 +22,6 @@ pub record HasRowsAt (at : Point) (trees : Trees) (book : List Entry) : Type 0 w
   pub point : FitsPoint at
   pub fit : (name : TableName) → is_at at name ≡ true → Fit (rows_of name) at book
   pub tables : (name : TableName) → is_at at name ≡ true → IsPermutation (rows_given at book name) (rows_in (table_named name) trees)
-
--- each of these tables has exactly the rows that this book gives it at the point, whatever the other tables have, and each row can be kept in its columns
-pub record HoldsIn (names : List TableName) (at : Point) (trees : Trees) (book : List Entry) : Type 0 where
-  pub is_book : IsBook book
-  pub fit : AllByRecursion (λ name. Fit (rows_of name) at book) names
-  pub tables : AllByRecursion (λ name. AreGiven (rows_of name) at trees book) names
-
--- the registers at the point hold the rows of this book, whatever the other tables have
-abbrev pub HoldsAt : Point → Trees → List Entry → Type 0
-HoldsAt at = HoldsIn (registers_at at) at
 
 -- ── what is not of rows ──
 

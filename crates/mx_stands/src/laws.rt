@@ -57,7 +57,8 @@ pub fn rows_are_readable()
 pub fn rows_become()
     ensures rows { (name : TableName) → BecomesBy (rows_of name) }
     ensures tables { (layout : ℕ) (name : TableName) → IsLayout layout
-        → is_there (rows_of name) (settled layout) ≡ true → BecomesAt (rows_of name) (settled layout) }
+        → is_there (rows_of name) (settled layout) ≡ true
+        → BecomesAt (rows_of name) (settled layout) }
     ensures registers { (layout : ℕ) (name : TableName) → IsLayout layout
         → is_register (rows_of name) ≡ true → is_there (rows_of name) (settled layout) ≡ true
         → Brings (rows_of name) (settled layout) }

@@ -98,7 +98,8 @@ fn add_base(
 ) -> Result<(), NoMemory>
     ensures { (keys : List (ℕ × List ℕ)) → AreBasesAt book.now keys rows.old.items
         → AreKeys rows.old.items met.old → OnOk result
-        (AreBasesAt book.now (keys ++ key.now ∷ []) rows.new.items × AreKeys rows.new.items met.new) }
+        (AreBasesAt book.now (keys ++ key.now ∷ []) rows.new.items
+        × AreKeys rows.new.items met.new) }
 {
     if held(met, key, false) {
         return Ok(());

@@ -104,7 +104,8 @@ fn span_by(fitting: &FittingRow, removal: Option<&RemovalRow>) -> SpanRow
 
 // The last of the removals and those before it, where it comes behind the entry with this number.
 fn last_behind(seq: u32, removals: &[RemovalRow]) -> Option<(&RemovalRow, &[RemovalRow])>
-    ensures { IsLastBehind seq removals.now (option_map (λ found. (found.0.now, found.1.now)) result) }
+    ensures { IsLastBehind seq removals.now
+        (option_map (λ found. (found.0.now, found.1.now)) result) }
 {
     match removals.split_last() {
         None => None,
