@@ -24,7 +24,7 @@ use Rattle.mx_stands.specs.Stands.{LiesAt}
 use Rattle.mx_tables.specs.Calls.{OnDamaged}
 use Rattle.mx_moves.specs.Changes.{Alters, AllRise, Reaches}
 use Rattle.mx_steps.specs.Components.{AreFittings, AreRemovals, IsComponentOff, MovesComponent, component_moved, is_of_component}
-use Rattle.mx_steps.specs.Pairing.{paired}
+use Rattle.mx_steps.specs.Pairing.{spans_made}
 use Rattle.mx_migrate.specs.Steps.{Runs}
 use Rattle.mx_steps.proofs.PageLemmas.{chosen_damaged}
 use Rattle.mx_migrate.proofs.RunLemmas.{memory_stops, store_stops}
@@ -126,7 +126,7 @@ module _ {V : Type 0} (mark component : ℕ) (fittings : V → List FittingRow) 
 
       -- ── both were read, and they make no spans ──
 
-      pairs_stop : (name : TableName) → paired (fittings v) (removals w) ≡ Err name → Shifts mark component old two (Err (Damaged name))
+      pairs_stop : (name : TableName) → spans_made (fittings v) (removals w) ≡ Err name → Shifts mark component old two (Err (Damaged name))
       pairs_stop name off = record {
         made = λ _ _ _ _ _ _. tt;
         cause = inr (inr (name, refl));
@@ -141,7 +141,7 @@ module _ {V : Type 0} (mark component : ℕ) (fittings : V → List FittingRow) 
       pairs_full : Shifts mark component old two (Err Memory)
       pairs_full = memory_stops _ _ _ old two within_two
 
-      pub pairs_fail : (e : TableFault) → (e ≡ Memory) ⊎ ((name : TableName) × (e ≡ Damaged name) × (paired (fittings v) (removals w) ≡ Err name)) → Shifts mark component old two (Err e)
+      pub pairs_fail : (e : TableFault) → (e ≡ Memory) ⊎ ((name : TableName) × (e ≡ Damaged name) × (spans_made (fittings v) (removals w) ≡ Err name)) → Shifts mark component old two (Err e)
       pairs_fail e (inl memory) = subst (λ f. Shifts mark component old two (Err f)) (sym memory) pairs_full
       pairs_fail e (inr damaged) = subst (λ f. Shifts mark component old two (Err f)) (sym damaged.1) (pairs_stop damaged.0 damaged.2)
 
@@ -151,7 +151,7 @@ module _ {V : Type 0} (mark component : ℕ) (fittings : V → List FittingRow) 
         begun_two : HasCleanDisk two → IsTrue old.in_transaction → IsTrue two.in_transaction
         begun_two clean begun = (inside_two clean begun).mode
 
-        pub component_moves : {U : Type 0} (u : U) → paired (fittings v) (removals w) ≡ Ok spans → to ≡ moving 2 component → Alters (schema_at (moving 2 0)) (schema_at (moving 2 0)) (component_moved spans to) two new (Ok u) → Shifts mark component old new (Ok to)
+        pub component_moves : {U : Type 0} (u : U) → spans_made (fittings v) (removals w) ≡ Ok spans → to ≡ moving 2 component → Alters (schema_at (moving 2 0)) (schema_at (moving 2 0)) (component_moved spans to) two new (Ok u) → Shifts mark component old new (Ok to)
         component_moves u pairs is a =
             let early : HasCleanDisk new → HasCleanDisk two = λ clean. omega (arith, a.within.survives.clean) in
             record {

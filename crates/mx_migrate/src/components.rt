@@ -6,7 +6,8 @@ ghost use Rattle.mx_points.specs.Points.{moving};
 ghost use Rattle.mx_stands.specs.Schemas.{schema_at};
 ghost use Rattle.mx_moves.specs.Changes.{Alters};
 ghost use Rattle.mx_steps.specs.Components.{component_moved};
-ghost use Rattle.mx_steps.specs.Pairing.{is_before, next_span, paired, span_closed, span_open};
+ghost use Rattle.mx_steps.specs.Pairing.{are_fittings_numbered, are_removals_numbered, is_before};
+ghost use Rattle.mx_steps.specs.Pairing.{next_span, paired, span_closed, span_open, spans_made};
 
 use crate::step::Migrate;
 use mx_layout::{Table, TableFault};
@@ -15,12 +16,13 @@ use mx_moves::components::{
 };
 use mx_moves::point::set_point;
 use mx_point::Point;
+use mx_points::LAST_MARK;
 use mx_typed_rows::{FittingRow, RemovalRow, SpanRow};
 use sqlite::{Alter, Transaction};
 use std::alloc::Global;
 
-/// Moves what the file has of the next component, where those up to the mark have moved. Its fittings and removals take
-/// turns; one that is out of turn makes its table damaged.
+/// Moves what the file has of the next component, where those up to the mark have moved. Its fittings and removals have
+/// numbers of entries and take turns; one that has no such number or is out of turn makes its table damaged.
 #[derive(Clone, Copy, Debug, PartialEq, Eq)]
 pub struct MoveComponent {
     /// The mark of the point that the file is at.
@@ -138,6 +140,40 @@ fn paired(
     }
 }
 
+// Whether the fittings have numbers that entries can have.
+fn are_fittings_numbered(fittings: &[FittingRow]) -> bool
+    ensures { result ≡ are_fittings_numbered fittings.now }
+{
+    fittings.iter().all(|fitting| fitting.seq <= LAST_MARK)
+}
+
+// Whether the removals have numbers that entries can have.
+fn are_removals_numbered(removals: &[RemovalRow]) -> bool
+    ensures { result ≡ are_removals_numbered removals.now }
+{
+    removals.iter().all(|removal| removal.seq <= LAST_MARK)
+}
+
+// The spans of fittings and removals that have numbers of entries and take turns. `Damaged` with the table that has a row
+// without such a number, else with the one that has the first row out of turn.
+fn spans_made(
+    alloc: Global,
+    fittings: &[FittingRow],
+    removals: &[RemovalRow],
+) -> Result<Vec<SpanRow>, TableFault>
+    ensures spans { IfOk result (λ spans. spans_made fittings.now removals.now ≡ Ok spans.items) }
+    ensures cause { IfErr result (λ e. (e ≡ TableFault.Memory) ⊎ ((name : TableName)
+        × (e ≡ TableFault.Damaged name) × (spans_made fittings.now removals.now ≡ Err name))) }
+{
+    if !are_fittings_numbered(fittings) {
+        return Err(TableFault::Damaged(Table::Fit1));
+    }
+    if !are_removals_numbered(removals) {
+        return Err(TableFault::Damaged(Table::Removal1));
+    }
+    paired(alloc, fittings, removals)
+}
+
 // Adds the spans, deletes the fittings and removals of the component, and writes the point.
 fn write_component<S: Alter>(
     tx: &mut Transaction<'_, S>,
@@ -180,7 +216,7 @@ impl Migrate for MoveComponent {
     ) -> Result<Point, TableFault> {
         let fittings = fittings_of(alloc, tx, self.component)?;
         let removals = removals_of(alloc, tx, self.component)?;
-        let spans = paired(alloc, &fittings, &removals)?;
+        let spans = spans_made(alloc, &fittings, &removals)?;
         let to = Point {
             layout: 1,
             step: 2,

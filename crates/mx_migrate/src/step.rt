@@ -47,7 +47,8 @@ pub trait Migrate {
 
     // Tables that stand for a book are none that are off.
     ghost whole: { (step : Self) (at : Point) (book : List Entry) (name : TableName) (trees : Trees)
-        → IsAt step at → IsDue step at book → StandsAt at trees book → IsOff step at name trees → ⊥ };
+        → IsAt step at → IsDue step at book → StandsAt at trees book
+        → IsOff step at name trees → ⊥ };
 }
 
 /// Makes a step, in a transaction of its own, and commits it. Whatever the answer is, a crash leaves the file at the

@@ -33,6 +33,8 @@ use Rattle.mx_verify.specs.Stored.{AreRegisters, HasRegisters}
 use Rattle.mx_verify.proofs.RegisterLemmas.{moved_at_bases, moved_at_totals, registers_of, schema_at_bases, schema_at_totals}
 use Rattle.mx_settle.specs.Choices.{FindsKept, IsKeeping, IsOfEntries, StandsIn, fault_by}
 use Rattle.mx_settle.specs.Items.{Knows}
+use Rattle.mx_settle.specs.Numbers.{late_table}
+use Rattle.mx_settle.proofs.NumberLemmas.{late_none}
 
 -- ── rows that are known ──
 
@@ -115,6 +117,22 @@ module _ (old new : State) (begun : IsTrue old.in_transaction) where
     abbrev Makes : Result KeptRows Unkept → Type 0
     Makes made = (book : List Entry) → IsBook book → AreRegistersIn rows book → MatchResult made (λ kept. AreKeptOf kept book) (λ w. w ≡ why.Memory)
 
+    -- a table has a row whose number no entry can have
+    pub late_stops : (name : TableName) → late_table rows ≡ Some name → FindsKept None old new (Err (Damaged name))
+    late_stops name late = record {
+      whole = λ at book keeping clean stands knows.
+          let here = stands (opened clean) in
+          let b = here.1.rows.is_book in
+          let none = late_none rows book b (keeping_are at old.now.trees rows book keeping here.1 (are_read at keeping clean here.0)) in
+          let two : Some name ≡ None = sym late ∙ none in
+          absurd cc;
+      cause = inr (inr (name, refl));
+      damaged = λ at keeping clean lies other is.
+          let same : name ≡ other = cc in
+          let here = lies (opened clean) in
+          (opened clean, inr (inr (inl (record { rows = rows; are = are_read at keeping clean here.0; late = late ∙ ap Some same }))));
+    }
+
     pub kept_made : (kept : KeptRows) → Makes (Ok kept) → FindsKept None old new (Ok kept)
     kept_made kept makes = record {
       whole = λ at book keeping clean stands knows.
@@ -125,8 +143,8 @@ module _ (old new : State) (begun : IsTrue old.in_transaction) where
       damaged = λ _ _ _ _. tt;
     }
 
-    pub kept_unmade : (w : Unkept) → Makes (Err w) → FindsKept None old new (Err (fault_by w))
-    kept_unmade w makes = record {
+    pub kept_unmade : (w : Unkept) → late_table rows ≡ None → Makes (Err w) → FindsKept None old new (Err (fault_by w))
+    kept_unmade w early makes = record {
       whole = λ at book keeping clean stands knows.
           let here = stands (opened clean) in
           inl (ap fault_by (makes book here.1.rows.is_book (keeping_are at old.now.trees rows book keeping here.1 (are_read at keeping clean here.0))));
@@ -134,5 +152,5 @@ module _ (old new : State) (begun : IsTrue old.in_transaction) where
       damaged = λ at keeping clean lies name is.
           let here = lies (opened clean) in
           let are = are_read at keeping clean here.0 in
-          (opened clean, inr (inr (of_entries w name is, record { rows = rows; are = are; none = λ book b in_rows. no_memory w name is (makes book b in_rows) })));
+          (opened clean, inr (inr (inr (of_entries w name is, record { rows = rows; are = are; early = early; none = λ book b in_rows. no_memory w name is (makes book b in_rows) }))));
     }

@@ -2,6 +2,7 @@ pub mod DueLemmas
 pub mod PlaceLemmas
 pub mod FrontLemmas
 pub mod ItemLemmas
+pub mod NumberLemmas
 pub mod KnownLemmas
 pub mod KeptChoices
 pub mod ChoiceLemmas

@@ -37,6 +37,7 @@ use Rattle.mx_verify.specs.Damage.{table_of}
 use Rattle.mx_verify.specs.Stored.{AreRegisters}
 use Rattle.mx_settle.specs.Due.{IsDueAt, IsFor, MakesBy}
 use Rattle.mx_settle.specs.Items.{AreItemsOf, Knows, is_next}
+use Rattle.mx_settle.specs.Numbers.{late_table}
 use Rattle.mx_settle.specs.Place.{IsBehind}
 use Rattle.mx_settle.specs.declared.due.Due.{Due}
 use Rattle.mx_settle.specs.declared.place.TheConstants.{NEWEST_LAYOUT}
@@ -86,19 +87,26 @@ StandsIn at book db = (db.schema ≡ schema_at at) × StandsAt at db.trees book
 abbrev pub GoesOn : Due → Point → Trees → Type 0
 GoesOn step at old = (to : Point) (new : Trees) → MakesBy step at to old new → IsOfFile to × IsBehind at to
 
--- the rows of the registers are those of no book
+-- the rows of the registers, each of which has a number that an entry can have, are those of no book
 pub record HasNoBook (trees : Trees) : Type 0 where
   pub rows : FileRows
   pub are : AreRegisters trees rows
+  pub early : late_table rows ≡ None
   pub none : (book : List Entry) → IsBook book → AreRegistersIn rows book → ⊥
+
+-- this is the first of the registers that has a row whose number no entry can have
+pub record IsFirstLate (name : TableName) (trees : Trees) : Type 0 where
+  pub rows : FileRows
+  pub are : AreRegisters trees rows
+  pub late : late_table rows ≡ Some name
 
 -- the table is that of the entries, or of the rows that those of some kind have
 abbrev pub IsOfEntries : TableName → Type 0
 IsOfEntries name = (name ≡ table.Entry) ⊎ ((kind : EntryKind) × (name ≡ table_of kind))
 
--- why a table is damaged that was looked at: a row is none of its type, a component has a number that no entry can have, or the registers are those of no book, for the rows of the table
+-- why a table is damaged that was looked at: a row is none of its type, or has a number that no entry can have, or the registers are those of no book, for the rows of the table
 abbrev pub IsUnfit : TableName → Trees → Type 0
-IsUnfit name trees = IsDamaged trees name ⊎ (((name ≡ table.Component) × HasLateNumber kept_component trees) ⊎ (IsOfEntries name × HasNoBook trees))
+IsUnfit name trees = IsDamaged trees name ⊎ (((name ≡ table.Component) × HasLateNumber kept_component trees) ⊎ (IsFirstLate name trees ⊎ (IsOfEntries name × HasNoBook trees)))
 
 -- ── the kept rows of all items ──
 

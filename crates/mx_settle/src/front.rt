@@ -22,7 +22,8 @@ pub(crate) fn is_sector_left<S: Alter>(
     tx: &mut Transaction<'_, S>,
 ) -> Result<bool, TableFault>
     ensures same_reference { tx.new.conn.ghost_name ≡ tx.old.conn.ghost_name }
-    ensures finds { FindsLeft (state S.Store tx.old.conn.now) (state S.Store tx.new.conn.now) result }
+    ensures finds { FindsLeft
+        (state S.Store tx.old.conn.now) (state S.Store tx.new.conn.now) result }
 {
     let rows = first_sectors(alloc, tx)?;
     Ok(!rows.is_empty())

@@ -4,6 +4,7 @@ ghost use Rattle.sqlite.specs.Held.{state};
 ghost use Rattle.mx_layout.specs.Crash.{IsWithin};
 ghost use Rattle.mx_settle.specs.Choices.{fault_by, FindsKept};
 
+use crate::numbers::late_table;
 use mx_layout::{Table, TableFault};
 use mx_verified::{KeptRows, Unkept, kept_rows};
 use mx_verify::{register_rows, table_of};
@@ -29,6 +30,9 @@ fn read_kept<S: Alter>(alloc: Global, tx: &mut Transaction<'_, S>) -> Result<Kep
     ensures within { IsWithin (state S.Store tx.old.conn.now) (state S.Store tx.new.conn.now) }
 {
     let rows = register_rows(alloc, tx)?;
+    if let Some(table) = late_table(&rows) {
+        return Err(TableFault::Damaged(table));
+    }
     match kept_rows(alloc, rows) {
         Ok(kept) => Ok(kept),
         Err(why) => Err(fault_by(why)),
@@ -38,8 +42,8 @@ fn read_kept<S: Alter>(alloc: Global, tx: &mut Transaction<'_, S>) -> Result<Kep
 /// What is kept of all items: what is known of it, which is taken, or else what the registers give.
 ///
 /// # Errors
-/// `Damaged` with a table of which a row is none of its type, or with the one to blame where the registers are those of no
-/// book; else `Memory` or `Store`.
+/// `Damaged` with a table of which a row is none of its type, or has a number that no entry can have, or with the one to blame
+/// where the registers are those of no book; else `Memory` or `Store`.
 pub(crate) fn kept_known<S: Alter>(
     alloc: Global,
     tx: &mut Transaction<'_, S>,

@@ -13,6 +13,7 @@ mod fault;
 mod front;
 mod items;
 mod known;
+mod numbers;
 pub mod place;
 pub mod settling;
 

@@ -34,10 +34,10 @@ use Rattle.mx_stands.specs.Stands.{StandsAt}
 use Rattle.mx_stands.proofs.RowLemmas.{readable_stored}
 use Rattle.mx_moves.proofs.RowLemmas.{Keeps, less_keeps}
 use Rattle.mx_steps.specs.Components.{AreFittings, AreRemovals, IsComponentOff, MovesComponent, component_moved, fittings_by, is_of_component, removals_by, spans_by}
-use Rattle.mx_steps.specs.Pairing.{paired}
+use Rattle.mx_steps.specs.Pairing.{spans_made}
 use Rattle.mx_steps.specs.Rows.{MakesRows}
 use Rattle.mx_steps.proofs.PageLemmas.{chosen_are, rises_left}
-use Rattle.mx_steps.proofs.PairLemmas.{made_of_book, paired_fit}
+use Rattle.mx_steps.proofs.PairLemmas.{made_of_book, spans_fit}
 use Rattle.mx_steps.proofs.SectorLemmas.{one_point, point_keeps}
 use Rattle.mx_steps.proofs.StandsLemmas.{stands_next}
 use Rattle.mx_steps.proofs.ThingLemmas.{next_is, point_fits}
@@ -109,8 +109,8 @@ module _ (mark component : ℕ) (book : List Entry) (b : IsBook book) (due : nex
         ∙ filter_same (λ (row : RemovalRow). is_of_component component (kept_removal1.as_cells row)) is (λ row. equal_numbers row.component component) all
         ∙ filter-filter is above (λ row e. above_too mark component row.component above_mark e) (removal_rows book)
 
-    pairs_are : (fittings : List FittingRow) (removals : List RemovalRow) → AreFittings component trees fittings → AreRemovals component trees removals → paired fittings removals ≡ Ok (spans_by book component)
-    pairs_are fittings removals fitted removed = ap₂ paired (fittings_are fittings fitted) (removals_are removals removed) ∙ made_of_book component book b
+    pairs_are : (fittings : List FittingRow) (removals : List RemovalRow) → AreFittings component trees fittings → AreRemovals component trees removals → spans_made fittings removals ≡ Ok (spans_by book component)
+    pairs_are fittings removals fitted removed = ap₂ spans_made (fittings_are fittings fitted) (removals_are removals removed) ∙ made_of_book component book b
 
     is_off : (name : TableName) → IsComponentOff component name trees → ⊥
     is_off name (inr other) = (let made = sym other.4 ∙ pairs_are other.0 other.1 other.2 other.3 in absurd cc)
@@ -136,7 +136,7 @@ component_stands mark component at to book old new here due_at stood it =
     let due : next_mark (moving 2 mark) book ≡ Some component = ap (λ q. next_mark q book) (sym here) ∙ due_at in
     let made_of = pairs_are mark component book b due old stands it.fittings it.removals it.fitted it.removed in
     let spans : it.spans ≡ spans_by book component = (let both : ◌≡◌ {A = Result (List SpanRow) TableName} (Ok it.spans) (Ok (spans_by book component)) = sym it.made_of ∙ made_of in cc) in
-    let fits = subst (All FitsSpan) spans (paired_fit it.fittings it.removals it.spans it.fitted.fit it.removed.fit it.made_of) in
+    let fits = subst (All FitsSpan) spans (spans_fit it.fittings it.removals it.spans it.fitted.fit it.removed.fit it.made_of) in
     let made = subst (λ q. MakesRows (component_moved (spans_by book component) q) q old new) it.point (subst (λ xs. MakesRows (component_moved xs to) to old new) spans it.made) in
     let done = stands_next (moving 2 mark) (moving 2 component) book (component_moved (spans_by book component) (moving 2 component)) old new (point_fits 2 mark component (omega arith) (omega arith) refl book b due) (rows_fit mark component book b due old stands fits)
     (λ name there. inl (same_tables mark component name there, moved_keeps (spans_by book component) (moving 2 component) name)) (rows_become mark component book b due) stands made in

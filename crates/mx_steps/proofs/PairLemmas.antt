@@ -1,28 +1,29 @@
 -- Spans that take turns are what their fittings and removals make; and so are those of a component of a book.
-use Rattle.std.proofs.Common.{◌≡◌, inl, inr, ◌<◌, ◌+◌, ℕ, nat_lt, nat_eq, Bool, true, false, cond, length, List, [], ◌∷◌, map, filter, All, Option, Some, None, Result, Ok, Err, refl, sym, ap, ap₂, subst, subst₂, ◌∙◌, arith}
+use Rattle.std.proofs.Common.{◌≡◌, inl, inr, ◌≤◌, ◌<◌, ◌+◌, ℕ, nat_lt, nat_eq, Bool, true, false, ◌&&◌, cond, length, List, [], ◌∷◌, map, filter, All, Option, Some, None, Result, Ok, Err, refl, sym, ap, ap₂, subst, subst₂, ◌∙◌, arith}
 use Rattle.std.specs.Prelude.{IfSome, slice_get, drop}
-use Rattle.std.specs.List.{cons_option, filter_map}
+use Rattle.std.specs.List.{cons_option, filter_map, list_all}
 use Rattle.std.specs.List.Sorted.{IsPermutation}
 use Rattle.std.proofs.lemmas.Bool.Decides.{nat_tests}
-use Rattle.std.proofs.lemmas.List.Elements.{All-nil, All-cons, All-head, All-tail, All-drop}
+use Rattle.std.proofs.lemmas.List.Elements.{All-nil, All-cons, All-filter, All-head, All-tail, All-drop}
 use Rattle.sqlite_keyed.proofs.ListLemmas.{filter-map}
 use Rattle.mx_command.specs.Act.{Entry}
 use Rattle.mx_book.specs.Book.{IsBook}
+use Rattle.mx_book.specs.declared.judging.TheConstants.{MOST_ENTRIES}
 use Rattle.mx_typed_rows.specs.declared.rows.FittingRow.{FittingRow}
 use Rattle.mx_typed_rows.specs.declared.rows.RemovalRow.{RemovalRow}
 use Rattle.mx_typed_rows.specs.declared.rows.SpanRow.{SpanRow}
 use Rattle.mx_typed_rows.specs.Rising.{IsRising}
 use Rattle.mx_typed_rows.specs.Rows.{FitsFitting, FitsRemoval, FitsSpan}
-use Rattle.mx_typed_rows.proofs.SortedLemmas.{IsFrom-rising, sorted_once}
-use Rattle.mx_register.specs.Registers.{next, removal_rows}
-use Rattle.mx_register.proofs.RegisterLemmas.{removal_rows-rising}
+use Rattle.mx_typed_rows.proofs.SortedLemmas.{IsFrom-rising, keys_below, sorted_once}
+use Rattle.mx_register.specs.Registers.{fitting_rows, next, removal_rows}
+use Rattle.mx_register.proofs.RegisterLemmas.{fitting_rows-rising, removal_rows-rising}
 use Rattle.mx_kept_rows.specs.Spans.{fitting_in, removal_by, removal_in, span_rows}
 use Rattle.mx_kept_rows.proofs.SpanRegisters.{fittings_in_spans, removals_in_spans}
 use Rattle.mx_kept_rows.proofs.SpanRows.{row_to}
 use Rattle.mx_layout.specs.TableName.{TableName}
 use Rattle.mx_layout.specs.declared.fault.Table.TheVariants as table
 use Rattle.mx_steps.specs.Components.{fittings_by, removals_by, spans_by}
-use Rattle.mx_steps.specs.Pairing.{AreTurns, is_before, last_span, next_span, none_over, paired, span_closed, span_open, with_front}
+use Rattle.mx_steps.specs.Pairing.{AreTurns, are_fittings_numbered, are_removals_numbered, is_before, is_number, last_span, next_span, none_over, paired, span_closed, span_open, spans_made, with_front}
 use Rattle.mx_steps.proofs.PageLemmas.{rises_left}
 use Rattle.mx_steps.proofs.TurnLemmas.{Ends, take_turns}
 
@@ -69,8 +70,8 @@ rises low high (s ∷ rest) h = by h.1 (λ n. rises (n + 1) high rest)
 one_list : {Row : Type 0} (key : Row → ℕ) (low high limit : ℕ) (xs ys : List Row) → IsRising key low xs high → IsRising key low ys limit → IsPermutation xs ys → xs ≡ ys
 one_list key low high limit xs ys up also same = sorted_once key low low high xs ys up (IsFrom-rising key low limit ys also) same
 
-pub made_of_book : (component : ℕ) (book : List Entry) → IsBook book → paired (fittings_by book component) (removals_by book component) ≡ Ok (spans_by book component)
-made_of_book component book b =
+paired_of_book : (component : ℕ) (book : List Entry) → IsBook book → paired (fittings_by book component) (removals_by book component) ≡ Ok (spans_by book component)
+paired_of_book component book b =
     let spans = spans_by book component in
     let turns = take_turns component book b in
     let fitted : fittings_by book component ≡ map fitting_in spans = ap (filter (λ (row : FittingRow). nat_eq row.component component)) (fittings_in_spans book) ∙ filter-map (λ (row : FittingRow). nat_eq row.component component) fitting_in (span_rows book) in
@@ -78,6 +79,34 @@ made_of_book component book b =
     one_list (λ (row : RemovalRow). row.seq) 1 (length book + 1) (next book) (removals_by book component) (filter_map removal_in spans)
     (rises_left (λ (row : RemovalRow). row.seq) (λ (row : RemovalRow). nat_eq row.component component) 1 (length book + 1) (removal_rows book) (removal_rows-rising book b.shaped)) (rises 1 (next book) spans turns) (removals_in_spans (λ n. nat_eq n component) book b) in
     ap₂ paired fitted gone ∙ pairs 1 (next book) spans turns
+
+-- ── they have numbers of entries ──
+
+is_one : (n : ℕ) → n ≤ MOST_ENTRIES → is_number n ≡ true
+is_one n h = grind (arith, nat_tests)
+
+numbered : {Row : Type 0} (key : Row → ℕ) (high : ℕ) (rows : List Row) → high ≤ MOST_ENTRIES + 1 → All (λ row. key row < high) rows → list_all (λ row. is_number (key row)) rows ≡ true
+numbered key high [] few below = refl
+numbered key high (row ∷ rows) few below =
+    let first = All-head (λ r. key r < high) row rows below in
+    ap₂ ◌&&◌ (is_one (key row) (omega arith)) (numbered key high rows few (All-tail (λ r. key r < high) row rows below))
+
+fittings_numbered : (component : ℕ) (book : List Entry) → IsBook book → are_fittings_numbered (fittings_by book component) ≡ true
+fittings_numbered component book b =
+    let few = b.few in
+    numbered (λ (row : FittingRow). row.seq) (length book + 1) (fittings_by book component) (omega arith)
+    (All-filter (λ (row : FittingRow). nat_eq row.component component) (λ (row : FittingRow). row.seq < length book + 1) (fitting_rows book) (keys_below (λ (row : FittingRow). row.seq) 1 (length book + 1) (fitting_rows book) (fitting_rows-rising book b.shaped)))
+
+removals_numbered : (component : ℕ) (book : List Entry) → IsBook book → are_removals_numbered (removals_by book component) ≡ true
+removals_numbered component book b =
+    let few = b.few in
+    numbered (λ (row : RemovalRow). row.seq) (length book + 1) (removals_by book component) (omega arith)
+    (All-filter (λ (row : RemovalRow). nat_eq row.component component) (λ (row : RemovalRow). row.seq < length book + 1) (removal_rows book) (keys_below (λ (row : RemovalRow). row.seq) 1 (length book + 1) (removal_rows book) (removal_rows-rising book b.shaped)))
+
+pub made_of_book : (component : ℕ) (book : List Entry) → IsBook book → spans_made (fittings_by book component) (removals_by book component) ≡ Ok (spans_by book component)
+made_of_book component book b =
+    ap₂ (λ f r. cond f (cond r (paired (fittings_by book component) (removals_by book component)) (Err table.Removal1)) (Err table.Fit1)) (fittings_numbered component book b) (removals_numbered component book b)
+    ∙ paired_of_book component book b
 
 -- ── spans that are made of rows that fit, fit ──
 
@@ -118,8 +147,16 @@ none_fit : (rs : List RemovalRow) (spans : List SpanRow) → none_over rs ≡ Ok
 none_fit [] spans e = let none : [] ≡ spans = cc in subst (All FitsSpan) none (All-nil FitsSpan)
 none_fit (r ∷ rs) spans e = absurd cc
 
-pub paired_fit : (fs : List FittingRow) (rs : List RemovalRow) (spans : List SpanRow) → All FitsFitting fs → All FitsRemoval rs → paired fs rs ≡ Ok spans → All FitsSpan spans
+paired_fit : (fs : List FittingRow) (rs : List RemovalRow) (spans : List SpanRow) → All FitsFitting fs → All FitsRemoval rs → paired fs rs ≡ Ok spans → All FitsSpan spans
 paired_fit [] rs spans fit_f fit_r e = none_fit rs spans e
 paired_fit (f ∷ later) rs spans fit_f fit_r e =
     front_fits (next_span f later (slice_get rs 0)) (paired later (drop 1 rs)) spans (next_fits f later (slice_get rs 0) (All-head FitsFitting f later fit_f) (first_fits rs fit_r))
     (λ more is. paired_fit later (drop 1 rs) more (All-tail FitsFitting f later fit_f) (All-drop FitsRemoval 1 rs fit_r) is) e
+
+pub spans_fit : (fs : List FittingRow) (rs : List RemovalRow) (spans : List SpanRow) → All FitsFitting fs → All FitsRemoval rs → spans_made fs rs ≡ Ok spans → All FitsSpan spans
+spans_fit fs rs spans fit_f fit_r = at (are_fittings_numbered fs) (are_removals_numbered rs)
+  where
+    at : (f r : Bool) → cond f (cond r (paired fs rs) (Err table.Removal1)) (Err table.Fit1) ≡ Ok spans → All FitsSpan spans
+    at true true e = paired_fit fs rs spans fit_f fit_r e
+    at true false e = absurd cc
+    at false r e = absurd cc

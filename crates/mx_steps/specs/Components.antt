@@ -21,7 +21,7 @@ use Rattle.mx_chosen.specs.Choices.{AreFirst, has_value}
 use Rattle.mx_tables.specs.Sets.{IsDamaged}
 use Rattle.mx_moves.specs.Changes.{less}
 use Rattle.mx_moves.specs.Keeping.{point_set}
-use Rattle.mx_steps.specs.Pairing.{paired}
+use Rattle.mx_steps.specs.Pairing.{spans_made}
 use Rattle.mx_steps.specs.Rows.{MakesRows}
 
 -- the rows of a component, by its number in the second column
@@ -50,15 +50,15 @@ pub record MovesComponent (component : ℕ) (to : Point) (old new : Trees) : Typ
   pub spans : List SpanRow
   pub fitted : AreFittings component old fittings
   pub removed : AreRemovals component old removals
-  pub made_of : paired fittings removals ≡ Ok spans
+  pub made_of : spans_made fittings removals ≡ Ok spans
   pub point : to ≡ moving 2 component
   pub made : MakesRows (component_moved spans to) to old new
 
--- a row of the old table is no fitting or no removal; or the fittings and removals of the component make no spans, the table with the first that is out of turn being this one
+-- a row of the old table is no fitting or no removal; or the fittings and removals of the component make no spans, and the table with one whose number no entry can have, else with the first that is out of turn, is this one
 abbrev pub IsComponentOff : ℕ → TableName → Trees → Type 0
 IsComponentOff component name trees =
     (((name ≡ table.Fit1) ⊎ (name ≡ table.Removal1)) × IsDamaged trees name)
-    ⊎ ((fittings : List FittingRow) × (removals : List RemovalRow) × AreFittings component trees fittings × AreRemovals component trees removals × (paired fittings removals ≡ Err name))
+    ⊎ ((fittings : List FittingRow) × (removals : List RemovalRow) × AreFittings component trees fittings × AreRemovals component trees removals × (spans_made fittings removals ≡ Err name))
 
 -- ── of a book ──
 

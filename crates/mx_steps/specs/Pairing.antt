@@ -1,5 +1,7 @@
 -- The spans that fittings and removals of one component make.
-use Rattle.std.specs.Prelude.{◌≡◌, ◌⊎◌, ◌≤◌, ◌<◌, ◌+◌, ℕ, nat_lt, Bool, true, List, [], ◌∷◌, drop, slice_get, Option, Some, None, Result, Ok, Err, if◌then◌else◌}
+use Rattle.std.specs.Prelude.{◌≡◌, ◌⊎◌, ◌≤◌, ◌<◌, ◌+◌, ℕ, nat_le, nat_lt, Bool, true, List, [], ◌∷◌, drop, slice_get, Option, Some, None, Result, Ok, Err, if◌then◌else◌}
+use Rattle.std.specs.List.{list_all}
+use Rattle.mx_book.specs.declared.judging.TheConstants.{MOST_ENTRIES}
 use Rattle.mx_typed_rows.specs.declared.rows.FittingRow.{FittingRow}
 use Rattle.mx_typed_rows.specs.declared.rows.RemovalRow.{RemovalRow}
 use Rattle.mx_typed_rows.specs.declared.rows.SpanRow.{SpanRow}
@@ -44,6 +46,23 @@ none_over (r ∷ rs) = Err table.Removal1
 abbrev pub paired : List FittingRow → List RemovalRow → Result (List SpanRow) TableName
 paired [] removals = none_over removals
 paired (f ∷ later) removals = with_front (next_span f later (slice_get removals 0)) (paired later (drop 1 removals))
+
+-- an entry can have this number
+abbrev pub is_number : ℕ → Bool
+is_number n = nat_le n MOST_ENTRIES
+
+-- the fittings have numbers that entries can have
+abbrev pub are_fittings_numbered : List FittingRow → Bool
+are_fittings_numbered fittings = list_all (λ (row : FittingRow). is_number row.seq) fittings
+
+-- the removals have numbers that entries can have
+abbrev pub are_removals_numbered : List RemovalRow → Bool
+are_removals_numbered removals = list_all (λ (row : RemovalRow). is_number row.seq) removals
+
+-- the spans of fittings and removals that have numbers of entries and take turns; or the table with a row that has no such number, else with the first that is out of turn
+abbrev pub spans_made : List FittingRow → List RemovalRow → Result (List SpanRow) TableName
+spans_made fittings removals =
+    if are_fittings_numbered fittings then (if are_removals_numbered removals then paired fittings removals else Err table.Removal1) else Err table.Fit1
 
 -- each span ends before the next begins, at most the last is open, and all numbers are from the one up to below the other
 abbrev pub AreTurns : ℕ → List SpanRow → ℕ → Type 0

@@ -6,7 +6,7 @@ use Rattle.mx_typed_rows.specs.declared.rows.RemovalRow.{RemovalRow}
 use Rattle.mx_points.specs.Points.{moving}
 use Rattle.mx_layout.specs.TableName.{TableName}
 use Rattle.mx_layout.specs.declared.fault.TableFault.TheVariants.{Memory, Damaged}
-use Rattle.mx_steps.specs.Pairing.{paired}
+use Rattle.mx_steps.specs.Pairing.{spans_made}
 use Rattle.mx_migrate.proofs.RunLemmas.{stopped_by}
 use Rattle.mx_migrate.proofs.ShiftLemmas.{component_moves, fittings_stop, pairs_fail, removals_stop}
 use Rattle.mx_migrate.proofs.components.MoveComponentMigrate.run.Goals as goal
@@ -32,12 +32,12 @@ returns-in_err-spans-clause-runs g c =
     let e = c.in_err-spans.field-0.0 in
     stopped_by _ _ _ (state g.S.Store c.args.tx.now.conn.now) (state g.S.Store c.removals_of.new.tx.conn.now) e c.from_residual-in_err-spans.result c.from_residual-in_err-spans.ensures.1
     (pairs_fail c.args.self.now.mark c.args.self.now.component fittings _ _ c.in_ok-fittings.fittings c.in_ok-fittings.ensures.reads removals _ c.in_ok-removals.removals c.in_ok-removals.ensures.reads e
-    (subst₂ (λ fs rs. (e ≡ Memory) ⊎ ((name : TableName) × (e ≡ Damaged name) × (paired fs rs ≡ Err name))) c.deref.ensures.value c.deref-2.ensures.value c.in_err-spans.ensures.cause))
+    (subst₂ (λ fs rs. (e ≡ Memory) ⊎ ((name : TableName) × (e ≡ Damaged name) × (spans_made fs rs ≡ Err name))) c.deref.ensures.value c.deref-2.ensures.value c.in_err-spans.ensures.cause))
 
 pub returns-in-Ok-clause-runs : goal.returns-in-Ok-clause-runs
 returns-in-Ok-clause-runs g c =
     let spans = c.in_ok-spans.spans.items in
-    let pairs = subst₂ (λ fs rs. paired fs rs ≡ Ok spans) c.deref.ensures.value c.deref-2.ensures.value c.in_ok-spans.ensures.spans in
+    let pairs = subst₂ (λ fs rs. spans_made fs rs ≡ Ok spans) c.deref.ensures.value c.deref-2.ensures.value c.in_ok-spans.ensures.spans in
     component_moves c.args.self.now.mark c.args.self.now.component fittings (state g.S.Store c.args.tx.now.conn.now) (state g.S.Store c.fittings_of.new.tx.conn.now) c.in_ok-fittings.fittings c.in_ok-fittings.ensures.reads
     removals (state g.S.Store c.removals_of.new.tx.conn.now) c.in_ok-removals.removals c.in_ok-removals.ensures.reads (state g.S.Store c.write_component.new.tx.conn.now) (moving 2 c.args.self.now.component) spans
     c.in-Ok.field-0 pairs refl c.in-Ok.ensures.alters
