@@ -1,6 +1,7 @@
 pub mod StandsLemmas
 pub mod OfficeLemmas
 pub mod AppliedLemmas
+pub mod ReplyLemmas
 pub mod HandLemmas
 pub mod LookLemmas
 pub mod AnswerLemmas

@@ -33,7 +33,7 @@ use Rattle.mx_office.specs.declared.fault.Ask.TheVariants.{Failed}
 use Rattle.mx_office.specs.declared.fault.Fault.{Fault}
 use Rattle.mx_office.specs.declared.fault.Fault.TheVariants.{Memory, Store, Damaged}
 use Rattle.mx_office.specs.declared.office.Office.{Office}
-use Rattle.mx_office.proofs.HandLemmas.{damage_from}
+use Rattle.mx_office.proofs.ReplyLemmas.{damage_from}
 use Rattle.mx_office.proofs.StandsLemmas.{rests_found}
 
 -- ── the transaction ──

@@ -20,7 +20,8 @@ impl<S: Alter> Office<S> {
     /// refused writes nothing. After `Store` the command may be kept or not, and each later call answers `NeedsReopen`.
     pub fn apply(&mut self, alloc: Global, command: &Command) -> Result<Reply, Fault>
         // It is a run of this one command.
-        ensures ran { IsRun (command.now ∷ []) (replies_in result) (stop_in result) self.old self.new }
+        ensures ran { IsRun (command.now ∷ []) (replies_in result) (stop_in result)
+            self.old self.new }
 
         // Over whatever rows: no table changes where it is not accepted, and where it is they gain its rows.
         ensures untouched { IsReady self.old → ((seq : _) → result ≢ Ok (Reply.Accepted seq))

@@ -2,7 +2,8 @@ use Rattle.std.proofs.Common.{rules, None, Some, refl, sym, subst, ◌∙◌, ar
 use Rattle.sqlite.specs.Held.{state}
 use Rattle.mx_layout.specs.Crash.{ChangesNothing}
 use Rattle.mx_office.specs.Calls.{HandsIn}
-use Rattle.mx_office.proofs.HandLemmas.{handed_more, handed_none, handed_stop, next_taken, some_said}
+use Rattle.mx_office.proofs.HandLemmas.{handed_more, handed_none, handed_stop, next_taken}
+use Rattle.mx_office.proofs.ReplyLemmas.{some_said}
 use Rattle.mx_office.proofs.running.run_by_rows.Goals as goal
 
 pub loop-command-init : goal.loop-command-init
