@@ -1,5 +1,5 @@
-//! A list of commands over files, and what each stop of it leaves: the book of the commands that were answered, or of
-//! one more.
+//! A list of commands over files, and what each stop of it leaves: the tables of the book of the commands that were answered, or of
+//! one more. Files of an older layout are moved as they are opened, and stopped in that too.
 
 use crate::plain::{Plain, is_start, plain_run};
 use crate::player::Player;
@@ -202,7 +202,7 @@ impl<'a> CommandStops<'a> {
         )
     }
 
-    // Opens what was left, hands the commands in again, and looks at the book before and after.
+    // Opens what was left, hands the commands in again, and looks at the book before and after, and at the tables before.
     fn leaves_a_prefix<D: Disks>(&self, player: &mut Player<D>, known: Known) -> Result<(), Wrong> {
         must(
             player.says("open", "opened")?,
@@ -210,6 +210,10 @@ impl<'a> CommandStops<'a> {
         )?;
         let found = all_entries(player)?;
         self.is_prefix(known, &found)?;
+        must(
+            player.says("verify", "verified")?,
+            "tables that are not those of a book",
+        )?;
         let again = player.line("run")?;
         self.is_answered_again(player, &found, again.as_str())?;
         let wanted = self.plain.book.as_slice();
