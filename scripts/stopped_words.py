@@ -19,6 +19,9 @@ ALL_TABLES = set(TABLES)
 # What is asked of the file that a stop leaves.
 LISTS = [asked_of(get(path)) for path in [*map(path_of, QUESTIONS), path_of("life", "D-EFGH")]]
 Program = typing.List[str]  # the program, behind what is to be loaded in front of it
+# How a call of the disk is stopped (stop_disk.c), and what a program that goes on behind it tells, with which status.
+HOW = ["before", "within", "fail", "once"]
+TOLD = [("", 0), ("fault store\n", 4), ("fault store\n", 5), ("fault not-ours\n", 5)]
 
 
 class Bad(Exception):
@@ -36,6 +39,14 @@ class Ended(typing.NamedTuple):
 def want(what: str, wanted: object, found: object) -> None:
     if wanted != found:
         raise Bad(f"{what}: wanted {wanted!r}, found {found!r}")
+
+
+def want_end(how: str, status: int, ended: Ended) -> None:
+    """The run ended as one that is stopped so has to, or as one that nothing stops, with this status."""
+    if how in ("before", "within"):
+        want("the status", (-9, ""), (ended.status, ended.told))
+    elif (ended.told, ended.status) not in [*TOLD, ("", status)]:
+        raise Bad(f"it told {ended.told!r} with status {ended.status}")
 
 
 def is_half_made(file: pathlib.Path) -> bool:
@@ -62,6 +73,15 @@ def tables_by_sqlite(file: pathlib.Path) -> typing.Set[str]:
         conn.close()
         for left in (copy, log_copy, pathlib.Path(f"{copy}-shm")):
             left.unlink(missing_ok=True)
+
+
+def commands_of(asked: Asked) -> typing.List[Entry]:
+    """The commands that a word states."""
+    if asked.word == "programme":
+        return [toml_text.entry_of(asked.body, asked.words[0])]
+    if asked.word == "import":
+        return [row for row in csv_text.rows_of(asked.body) if isinstance(row, Entry)]
+    return json_text.entries_of(asked.body)
 
 
 def acknowledged(text: str) -> int:
@@ -169,20 +189,12 @@ class Entering(Word):
         for step in self.earlier:
             office.printed(book, step)
         self.books = [book]
-        for entry in self.commands():
+        for entry in commands_of(self.asked):
             book = [*book]
             enter(book, entry)
             self.books.append(book)
         self.lists = [[office.printed(book, asked) for asked in LISTS] for book in self.books]
         self.again = [office.printed([*book], self.asked) for book in self.books]
-
-    def commands(self) -> typing.List[Entry]:
-        """The commands that the word states."""
-        if self.asked.word == "programme":
-            return [toml_text.entry_of(self.asked.body, self.asked.words[0])]
-        if self.asked.word == "import":
-            return [row for row in csv_text.rows_of(self.asked.body) if isinstance(row, Entry)]
-        return json_text.entries_of(self.asked.body)
 
     def before(self, file: pathlib.Path) -> None:
         want("init", (0, b"created\n", b""), self.run(file, "init"))
@@ -204,8 +216,8 @@ class Entering(Word):
     def lists_found(self, file: pathlib.Path) -> typing.List[office.Printed]:
         return [self.run(file, asked.word, *words_of(asked)) for asked in LISTS]
 
-    def after(self, file: pathlib.Path, ended: Ended) -> str:
-        want("the tables", ALL_TABLES, tables_by_sqlite(file))
+    def kept(self, file: pathlib.Path, ended: Ended) -> int:
+        """How many of the commands are kept, by the lists and by the replies where they are handed in again."""
         found = self.lists_found(file)
         again = self.run(file, *self.words(file, self.asked))
         kept = next((n for n in range(len(self.books)) if found == self.lists[n] and again == self.again[n]), None)
@@ -217,7 +229,11 @@ class Entering(Word):
         if ended.status >= 0 and kept > least + ("store" in ended.told):
             raise Bad(f"{kept} of the commands are kept, {least} were acknowledged, and it told {ended.told!r}")
         want("the lists then", self.lists[-1], self.lists_found(file))
-        return f"{kept} of {len(self.books) - 1}"
+        return kept
+
+    def after(self, file: pathlib.Path, ended: Ended) -> str:
+        want("the tables", ALL_TABLES, tables_by_sqlite(file))
+        return f"{self.kept(file, ended)} of {len(self.books) - 1}"
 
 
 def made(*commands: object) -> bytes:
@@ -261,10 +277,16 @@ class Import(Entering):
         for line in range(1, 21)))
 
 
+# Commands that a file of layout 1 takes, which has no programme, and how many of them it has where a word enters the
+# others.
+OLD = [it for it in COMMANDS if it["do"] not in ("opening", "release")]
+OLD_BEFORE = 1 + [it["do"] for it in OLD].index("fit")
+
+
 class Old(Word):
     """A word over a file of layout 1, with a book that takes no programme."""
 
-    asked = Asked("enter", (), made(*(it for it in COMMANDS if it["do"] not in ("opening", "release"))))
+    asked = Asked("enter", (), made(*OLD))
 
     def __init__(self, office_path: str) -> None:
         super().__init__(office_path)
@@ -282,8 +304,28 @@ class Old(Word):
     def look(self, file: pathlib.Path) -> None:
         """Looks at the whole book, in a file that any of the lists moves to the newest layout."""
         want("the lists", self.lists, [self.run(file, asked.word, *words_of(asked)) for asked in LISTS])
-        want("verify", (0, b"verified\n", b""), self.run(file, "verify"))
+        is_verified(self, file)
         want("enter", self.again, self.run(file, "enter", self.read(file)))
+
+
+def is_verified(word: Word, file: pathlib.Path) -> None:
+    want("verify", (0, b"verified\n", b""), word.run(file, "verify"))
+
+
+def point_of(word: Word, file: pathlib.Path) -> str:
+    """The point of a file, as the program tells it."""
+    status, point, told = word.run(file, "migrate", 0)
+    want("the point", (0, b""), (status, told))
+    return point.decode()
+
+
+def place_of(point: str) -> str:
+    _, layout, step, _ = point.split()
+    return f"layout {layout}, step {step}"
+
+
+def has_arrived(word: Word, file: pathlib.Path) -> None:
+    want("the point then", "point 2 0 0\n", point_of(word, file))
 
 
 class InitOld(Old):
@@ -310,27 +352,76 @@ class InitOld(Old):
         return found
 
 
-class Migrate(Old):
-    """`migrate FILE STEPS`, to the end of the move: the file has the book, at some point of the move."""
-
-    name = "migrate"
+class Moving(Old):
+    """A word over such a file that enters nothing: the file has the book, at some point of the move."""
 
     def before(self, file: pathlib.Path) -> None:
         want("init-old", self.replies, self.run(file, "init-old", self.read(file)))
 
+    def is_told(self, point: str, ended: Ended) -> None:
+        """Looks at what was printed, where the file is at this point behind it."""
+        raise NotImplementedError
+
+    def after(self, file: pathlib.Path, ended: Ended) -> str:
+        point = point_of(self, file)
+        self.is_told(point, ended)
+        self.look(file)
+        has_arrived(self, file)
+        return place_of(point)
+
+
+class Migrate(Moving):
+    """`migrate FILE STEPS`, to the end of the move."""
+
+    name = "migrate"
+
     def start(self, program: Program, file: pathlib.Path) -> typing.Union[Started, Posting]:
         return Started(program, [self.name, file, 2_000_000])
 
-    def after(self, file: pathlib.Path, ended: Ended) -> str:
-        status, point, told = self.run(file, "migrate", 0)
-        want("the point", (0, b""), (status, told))
-        if ended.acknowledged and point.decode() != ended.acknowledged:
+    def is_told(self, point: str, ended: Ended) -> None:
+        if ended.acknowledged not in ("", point):
             raise Bad(f"{ended.acknowledged!r} was acknowledged, and it is {point!r}")
-        self.look(file)
-        want("the point then", (0, b"point 2 0 0\n", b""), self.run(file, "migrate", 0))
-        _, layout, step, _ = point.decode().split()
-        return f"layout {layout}, step {step}"
+
+
+class OldDue(Moving):
+    """`due FILE TAIL DAY`, which moves the file and prints the list."""
+
+    name = "old-due"
+    question = asked_of(get(path_of("due")))
+
+    def start(self, program: Program, file: pathlib.Path) -> typing.Union[Started, Posting]:
+        return Started(program, [self.question.word, file, *words_of(self.question)])
+
+    def is_told(self, point: str, ended: Ended) -> None:
+        if ended.acknowledged:
+            want("the list", self.lists[LISTS.index(self.question)][1].decode(), ended.acknowledged)
+            want("the point of a file that was read", "point 2 0 0\n", point)
+
+
+class OldEnter(Entering):
+    """`enter FILE ENTRIES`, which moves the file: it is at some point of the move, and at the last where a command is
+    kept."""
+
+    name = "old-enter"
+    earlier = [Asked("enter", (), made(*OLD[:OLD_BEFORE]))]
+    asked = Asked("enter", (), made(*OLD[OLD_BEFORE:]))
+
+    def before(self, file: pathlib.Path) -> None:
+        [earlier] = self.earlier
+        _, *read = self.words(file, earlier)
+        want("init-old", office.printed([], earlier), self.run(file, "init-old", *read))
+
+    def after(self, file: pathlib.Path, ended: Ended) -> str:
+        point = point_of(self, file)
+        is_verified(self, file)
+        kept = self.kept(file, ended)
+        if kept and point != "point 2 0 0\n":
+            raise Bad(f"{kept} of the commands are kept at {point!r}")
+        has_arrived(self, file)
+        return f"{place_of(point)}, {kept} of {len(self.books) - 1}"
 
 
 # A further word that writes has a class beside these.
-WORDS: typing.List[typing.Type[Word]] = [Init, Enter, Programme, Import, Serve, InitOld, Migrate]
+WORDS: typing.List[typing.Type[Word]] = [
+    Init, Enter, Programme, Import, Serve, InitOld, Migrate, OldDue, OldEnter,
+]

@@ -8,7 +8,7 @@ from .asking import list_asked, random_request
 from .commands import Book
 from .edges import edge
 from .damage import damaged
-from .http_text import Asked
+from .http_text import OLD_FILE, Asked
 from .playing import Step, Steps, request_of, wanted_of
 from .toml_text import TOLD, Undecided
 from .world import TAILS, World, programme_text
@@ -64,21 +64,50 @@ class Case:
         for _ in range(self.chance.randint(1, 3)):
             self.asked(self.programme(), by_words)
 
+    def begun_as_old(self, by_words: bool) -> None:
+        """Commands in a file of layout 1, which the next word moves on, or the desk as it opens it."""
+        self.begun(True)
+        for _ in range(self.chance.randint(0, 24)):
+            self.asked(self.commands(2), True)
+        texts = [step.asked.body for step in self.steps if step.asked is not None and step.asked.word == "enter"]
+        commands = [command for text in texts for command in json.loads(text)]
+        self.steps, self.told = [], []
+        self.book.clear()
+        self.step(Step(Asked(OLD_FILE, (), json.dumps(commands).encode())))
+        for _ in range(self.chance.randint(0, 3)):
+            self.asked(self.programme(), by_words)
 
-def command_list(seed: int, number: int, by_words: bool) -> Case:
-    """A list of commands, and the lists of every aircraft on some days."""
-    case = Case(seed, f"list-{number}")
-    case.begun(by_words)
-    for _ in range(case.chance.randint(4, 16)):
-        case.asked(case.handed_in(2), by_words)
+
+def lists_asked(case: Case) -> typing.Iterator[Asked]:
+    """Questions for the lists of each aircraft on some days."""
     days = case.chance.sample([0, 1, 4, 12, 30, 200], 2)
     for tail in case.world.tails() + (["D-X"] if case.chance.random() < 0.1 else []):
-        case.asked(Asked("life", (tail,), b""), by_words)
+        yield Asked("life", (tail,), b"")
         for day in (min(84005, case.world.base + day) for day in days):
-            case.asked(Asked("due", (tail, day), b""), by_words)
-        case.asked(Asked("limits", (tail, day), b""), by_words)
+            yield Asked("due", (tail, day), b"")
+        yield Asked("limits", (tail, day), b"")
         rate = case.chance.choice([(60, 1), (0, 0), (1440, 50), (7, 0), (0, 2)])
-        case.asked(Asked("forecast", (tail, day, case.chance.choice([0, 10, 90, 3650]), *rate), b""), by_words)
+        yield Asked("forecast", (tail, day, case.chance.choice([0, 10, 90, 3650]), *rate), b"")
+
+
+def command_list(seed: int, number: int, by_words: bool, as_old: bool = False) -> Case:
+    """A list of commands, and the lists of every aircraft on some days."""
+    case = Case(seed, f"{'old' if as_old else 'list'}-{number}")
+    if as_old:
+        case.begun_as_old(by_words)
+    else:
+        case.begun(by_words)
+    for _ in range(case.chance.randint(4, 16)):
+        case.asked(case.handed_in(2), by_words)
+    for asked in lists_asked(case):
+        case.asked(asked, by_words)
+    return case
+
+
+def old_list(seed: int, number: int, by_words: bool) -> Case:
+    """As a list of commands, of which the first are in a file of layout 1."""
+    case = command_list(seed, number, by_words, as_old=True)
+    assert case.steps[0].asked is not None and case.steps[0].asked.word == OLD_FILE
     return case
 
 
@@ -108,5 +137,5 @@ def requests(seed: int, number: int, _: bool, count: int = GROUP) -> Case:
 
 KINDS: typing.Dict[str, typing.Callable[[int, int, bool], Case]] = {
     "edge": lambda _, number, by_words: edge(Case(0, f"edge-{number}"), number, by_words), "list": command_list,
-    "text": damaged_texts, "request": requests,
+    "old": old_list, "text": damaged_texts, "request": requests,
 }

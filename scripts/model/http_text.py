@@ -15,6 +15,7 @@ PHRASES = {
 }
 BODIES = {400: "bad request\n", 411: "length required\n", 413: "too large\n", 431: "too large\n"}
 LISTS = ("due", "limits", "forecast", "life")
+OLD_FILE = "init-old"  # the word that makes a file of layout 1
 
 
 class Rejected(Exception):

@@ -10,7 +10,7 @@ from desk_client import Desk, ended, get, post, run, whole
 
 from . import office
 from .commands import Book
-from .http_text import LISTS, Asked, is_whole
+from .http_text import LISTS, OLD_FILE, Asked, is_whole
 from .texts import day_text
 from .toml_text import Undecided
 
@@ -102,6 +102,8 @@ class Program:
         if step.asked.word not in LISTS:
             text.write_bytes(step.asked.body)
             words.append(str(text))
+        if step.asked.word == OLD_FILE:
+            (folder / "book.db").unlink()
         came = run(self.path, step.asked.word, folder / "book.db", *words)
         wanted = wanted_of(book, step)
         return None if came == wanted else Difference(place, wanted, came)

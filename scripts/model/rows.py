@@ -1,4 +1,4 @@
-"""The rows that layout 2 has of a list of entries, table by table, and a command in the words of a case."""
+"""The rows that a file has of a list of entries, table by table, and a command in the words of a case."""
 import typing
 
 from . import book as records
@@ -146,6 +146,24 @@ def rows_of(book: Book) -> Tables:
     tables["total2"] = [(number, *records.life(book, item), clock_of(book, item)) for number, item in items]
     tables["base2"] = [(number, task, *(records.base_of(book, item, task) or ()))
                        for number, item in items for task in tasks_done(book, item)]
+    return tables
+
+
+def old_rows_of(book: Book) -> Tables:
+    """All rows that layout 1 has but that of the table `office`: none are kept, and flights and fittings have texts for
+    moments."""
+    tables = {name: rows for name, rows in rows_of(book).items() if not name.endswith("2")}
+    for number, entry in enumerate(book, 1):
+        act = entry.act
+        if isinstance(act, Sector):
+            aircraft, moments = number_of(book, Item(tail=act.tail)), (moment_text(act.off), moment_text(act.on))
+            tables.setdefault("sector1", []).append((number, aircraft, act.page, act.line, *moments, act.cycles))
+        elif isinstance(act, Fit):
+            component, aircraft = number_of(book, Item(serial=act.serial)), number_of(book, Item(tail=act.tail))
+            tables.setdefault("fit1", []).append((number, component, aircraft, act.position, moment_text(act.moment)))
+        elif isinstance(act, Remove):
+            component = number_of(book, Item(serial=act.serial))
+            tables.setdefault("removal1", []).append((number, component, moment_text(act.moment)))
     return tables
 
 
