@@ -34,7 +34,7 @@ test:
 plants:
 	@scripts/try-plants
 
-# the trials that take long, side by side, in 45 minutes on four cores or in MINUTES; what each found goes to
+# the trials that take long, side by side, in 50 minutes on four cores or in MINUTES; what each found goes to
 # docs/MEASURED.md
 long: office
 	@scripts/long $(if $(MINUTES),--minutes $(MINUTES)) $(if $(SEED),--seed $(SEED))

@@ -92,12 +92,13 @@ def openings() -> typing.List[Command]:
     ]
 
 
-def turn(nth: int) -> typing.List[Command]:
-    """Two days of an aircraft."""
+def turn(nth: int, first: int = 0) -> typing.List[Command]:
+    """Two days of an aircraft; the defects of turns before the first are let alone."""
     one, tail = nth % len(TAILS), TAILS[nth % len(TAILS)]
     begun = FIRST + timedelta(days=2 * nth + 1)
     evening = begun + timedelta(hours=2 * SECTORS)
-    before = {"defect": f"X{nth - len(TAILS)}"} if nth >= len(TAILS) else {"tail": tail, "task": "ANNUAL"}
+    flights = {"tail": tail, "task": "100H" if first else "ANNUAL"}
+    before = {"defect": f"X{nth - len(TAILS)}"} if nth >= first + len(TAILS) else flights
     flown = [sector(tail, nth + 1, line + 1, begun + timedelta(hours=2 * line)) for line in range(SECTORS)]
     done = [
         deferral(f"X{nth}", tail, evening, "C"),
@@ -163,6 +164,16 @@ def further_sectors(entries: int, count: int) -> typing.List[Command]:
     """So many sectors behind a book of so many entries, one each two hours, twelve a page."""
     begun = day_after(entries)
     return [sector(TAIL, 900000 + nth // 12, 1 + nth % 12, begun + timedelta(hours=2 * nth)) for nth in range(count)]
+
+
+def further_turns(entries: int, count: int) -> typing.List[Command]:
+    """So many entries of all kinds that come each two days, behind a book of so many."""
+    found: typing.List[Command] = []
+    nth = first = entries // TURN + 2
+    while len(found) < count:
+        found += turn(nth, first)
+        nth += 1
+    return found[:count]
 
 
 def log_of(sectors: typing.List[Command]) -> str:

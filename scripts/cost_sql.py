@@ -1,4 +1,4 @@
-"""What SQLite does of the program's work, for scripts/measure-cost: its lists as statements, its rows as INSERTs.
+"""The lists of the program as statements of SQLite, and the copies and rows of files, for scripts/measure-cost.
 
 The statements read the tables that the program made, those that it keeps beside its entries too, and answer line by line what it
 prints.
@@ -14,7 +14,6 @@ from datetime import date
 from office_facts import OWN_TABLE
 
 Rows = typing.Dict[str, typing.Set[typing.Tuple[typing.Any, ...]]]
-KEPT = {"total2", "base2"}  # the tables that are kept beside the entries
 
 
 def hours_of(minutes: str) -> str:
@@ -131,51 +130,3 @@ def rows_of(file: pathlib.Path) -> Rows:
     with contextlib.closing(sqlite3.connect(copy)) as conn:
         names = [name for (name,) in conn.execute("SELECT name FROM sqlite_schema WHERE type = 'table'")]
         return {table: set(conn.execute(f"SELECT * FROM {table}")) for table in names if table != OWN_TABLE}
-
-
-def literal(value: object) -> str:
-    if value is None:
-        return "NULL"
-    return str(value) if isinstance(value, int) else "'{}'".format(str(value).replace("'", "''"))
-
-
-def ending(row: typing.Tuple[object, ...]) -> str:
-    """The statement that ends a span."""
-    fitting, removal, moment = row[0], row[5], row[6]
-    return f"UPDATE span2 SET remove_seq = {removal}, to_min = {moment} WHERE fit_seq = {fitting};"
-
-
-def crediting(row: typing.Tuple[object, ...]) -> str:
-    """The statements that credit a sector to its aircraft and to what is fitted to it."""
-    aircraft, off, landed, cycles = row[1], row[4], row[5], row[6]
-    sums = f"minutes = minutes + {landed} - {off}, cycles = cycles + {cycles}"
-    fitted = f"SELECT component FROM span2 WHERE aircraft = {aircraft} AND remove_seq IS NULL"
-    return (f"UPDATE total2 SET {sums}, clock = {landed} WHERE item = {aircraft};"
-            f" UPDATE total2 SET {sums} WHERE item IN ({fitted});")
-
-
-def inserts(before: Rows, after: Rows) -> str:
-    """The transactions that make the rows of one file those of another: one for each entry, synced. What is kept beside the
-    entries is brought on by each sector, and is that of the other file behind the last entry."""
-    by_entry: typing.Dict[object, typing.List[str]] = {}
-    last = max(row[0] for row in after["entry"])
-    known = {row[0] for row in before["entry"]}
-
-    def put(seq: object, text: str) -> None:
-        by_entry.setdefault(seq, []).append(text)
-
-    for table in after:
-        for row in sorted(after[table] - before[table], key=lambda row: (row[0], str(row[1]))):
-            seq = row[0]
-            if table == "span2" and row[5] is not None:
-                if seq not in known:
-                    put(seq, f"INSERT INTO {table} VALUES ({', '.join(map(literal, (*row[:5], None, None)))});")
-                put(row[5], ending(row))
-                continue
-            is_kept = table in KEPT
-            verb = "INSERT OR REPLACE" if is_kept else "INSERT"
-            put(last if is_kept else seq, f"{verb} INTO {table} VALUES ({', '.join(map(literal, row))});")
-            if table == "sector2" and seq != last:
-                put(seq, crediting(row))
-    texts = [f"BEGIN; {' '.join(by_entry[seq])} COMMIT;" for seq in sorted(by_entry, key=int)]
-    return "\n".join(["PRAGMA synchronous = FULL;", *texts])
