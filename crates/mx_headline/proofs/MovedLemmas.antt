@@ -1,9 +1,8 @@
 -- A file whose office is opened, at whatever point it is: what a stop leaves, and what the next opening makes of it.
-use Rattle.std.proofs.Common.{◌≡◌, ℕ, zero, suc, List, Option, None, refl, subst}
+use Rattle.std.proofs.Common.{◌≡◌, ℕ, zero, suc, List, None, Some, refl, subst}
 use Rattle.sqlite.specs.State.{State}
 use Rattle.sqlite.specs.Tree.{Trees}
 use Rattle.mx_command.specs.Act.{Entry}
-use Rattle.mx_layout.specs.Crash.{Leaves}
 use Rattle.mx_layout.specs.Found.{IsFound}
 use Rattle.mx_layout.proofs.FoundLemmas.{rests_found}
 use Rattle.mx_point.specs.declared.point.Point.{Point}
@@ -11,9 +10,11 @@ use Rattle.mx_points.specs.Commits.{point_behind}
 use Rattle.mx_points.specs.Points.{next_point}
 use Rattle.mx_stands.specs.Schemas.{schema_at}
 use Rattle.mx_stands.specs.Stands.{RestsAt, StandsAt}
-use Rattle.mx_office.specs.Opening.{MovesOn, StandsBehind}
+use Rattle.mx_office.specs.Opening.{HasReason, MovesOn, StandsBehind}
 use Rattle.mx_office.specs.Stands.{Rests}
 use Rattle.mx_office.specs.declared.fault.OpenFault.{OpenFault}
+use Rattle.mx_headline.specs.Moved.{IsKeptMoving}
+use Rattle.mx_headline.proofs.OpenedLemmas.{file_behind}
 
 -- a point behind one behind another is behind that
 behind_both : (n m : ℕ) (at : Point) (book : List Entry) → (k : ℕ) × (point_behind m (point_behind n at book) book ≡ point_behind k at book)
@@ -33,8 +34,15 @@ module _ (may_leave : Trees → Type 0) (mid now : State) (at : Point) (book : L
   pub opened_behind : MovesOn mid now None → Rests now book
   opened_behind on = on.kept (point_behind commits at book) book rests_behind refl
 
-  pub left_behind : (why : Option OpenFault) → MovesOn mid now why → Leaves now (StandsBehind at book)
-  left_behind why on clean db may =
-      let it = on.crash (point_behind commits at book) book rests_behind clean db may in
-      let both = behind_both commits it.0 at book in
-      (both.0, subst (λ p. StandsAt p db book) both.1 it.1)
+  pub left_behind : (fault : OpenFault) → MovesOn mid now (Some fault) → HasReason mid fault → IsKeptMoving at book fault now
+  left_behind fault on reason = record {
+    rests = λ other.
+        let it = on.same (point_behind commits at book) book rests_behind fault refl other in
+        let both = behind_both commits it.0 at book in
+        (both.0, subst (λ p. RestsAt p now book) both.1 it.1);
+    crash = λ clean db may.
+        let it = on.crash (point_behind commits at book) book rests_behind clean db may in
+        let both = behind_both commits it.0 at book in
+        (both.0, subst (λ p. StandsAt p db book) both.1 it.1);
+    reason = λ file. reason.whole (point_behind commits at book) book (file_behind book (left found.tables found.left).1.rows.is_book commits at file) rests_behind;
+  }

@@ -1,5 +1,5 @@
 -- The headline from the connection on, from what the openings, the run and the printing answer.
-use Rattle.std.proofs.Common.{refl, sym, ap, subst, ◌∙◌, ◌≡◌, inl, inr, ℕ, zero, suc, List, [], length, take, Some, None, Result, Ok, Err, IfOk, IfErr}
+use Rattle.std.proofs.Common.{refl, sym, ap, subst, ◌∙◌, ◌≡◌, ◌≢◌, ◌⊎◌, inl, inr, arith, ℕ, zero, suc, List, [], length, take, Option, Some, None, Result, Ok, Err, IsTrue, IfOk, IfErr}
 use Rattle.std.proofs.Math.Logic.{∥∥₁_elim, ∥∥₁_map, ∥∥₁_prop}
 use Rattle.sqlite_disk.specs.declared.Disk as disk
 use Rattle.sqlite_store.specs.declared.store.FileStore.{FileStore}
@@ -15,18 +15,19 @@ use Rattle.mx_point.specs.declared.point.Point.{Point}
 use Rattle.mx_points.specs.Commits.{point_behind}
 use Rattle.mx_points.specs.Points.{next_point}
 use Rattle.mx_points.proofs.CommitLemmas.{commit_counts}
-use Rattle.mx_layout.specs.Crash.{Leaves}
+use Rattle.mx_layout.specs.Crash.{Leaves, RestsAs}
 use Rattle.mx_layout.specs.Found.{IsEndOf, IsFound}
 use Rattle.mx_layout.proofs.CrashLemmas.{rests_kept}
 use Rattle.mx_layout.proofs.FoundLemmas.{rests_found}
-use Rattle.mx_settle.specs.Place.{SaysAt}
+use Rattle.mx_settle.specs.Place.{IsPlacedAt, SaysAt}
 use Rattle.mx_stands.specs.Schemas.{IsOfFile, schema_at}
 use Rattle.mx_stands.specs.Stands.{RestsAt, StandsAt}
 use Rattle.mx_office.specs.declared.fault.OpenFault.{OpenFault}
+use Rattle.mx_office.specs.declared.fault.OpenFault.TheVariants as opening
 use Rattle.mx_office.specs.declared.fault.Outcomes.{Outcomes}
 use Rattle.mx_office.specs.Layout.{office_point, office_schema}
 use Rattle.mx_office.specs.Office.{office_state}
-use Rattle.mx_office.specs.Opening.{ChangesOnWay, HasReason, MovesOn, StandsBehind}
+use Rattle.mx_office.specs.Opening.{AreMovedOn, ChangesOnWay, HasReason, MovesOn, StandsBehind}
 use Rattle.mx_office.specs.Stands.{Rests}
 use Rattle.mx_headline.specs.declared.running.Reopened.{Reopened}
 use Rattle.mx_headline.specs.declared.running.Unopened.{Unopened}
@@ -34,7 +35,7 @@ use Rattle.mx_headline.specs.declared.running.Unopened.TheVariants.{Database, Of
 use Rattle.mx_headline.specs.declared.next_process.Ended.{Ended}
 use Rattle.mx_headline.specs.Ended.{IsEnded, IsEndedSomewhere}
 use Rattle.mx_headline.specs.Kept.{IsBookKept}
-use Rattle.mx_headline.specs.Opened.{IsKeptSomewhere, IsLeftFor, IsLeftStanding, IsOpenedAgain, IsThereClean, IsUnopenedAgain, KeepsSomewhere, MissesAgain, PrintsAgain, RestsSomewhere, StandsSomewhere}
+use Rattle.mx_headline.specs.Opened.{IsKeptSomewhere, IsLeftClean, IsLeftFor, IsLeftStanding, IsOpenedAgain, IsThereClean, IsUnopenedAgain, KeepsSomewhere, MissesAgain, PrintsAgain, RestsSomewhere, StandsSomewhere}
 use Rattle.mx_headline.specs.Reopened.{KeepsUnopened, Reopens, ReopensTwice}
 use Rattle.mx_headline.proofs.KeptLemmas.{is_book_kept, nothing_found}
 use Rattle.mx_headline.proofs.ReopenedLemmas.{is_reopened_twice}
@@ -74,12 +75,38 @@ module _ (was : State) {S : Type 0} (g : Ghosts S) (mid : Held S) (now : State) 
   found_at : (at : Point) (book : List Entry) → StandsAt at found.tables book → RestsAt at (state g mid) book
   found_at at book stands = rests_found was.may_leave (state g mid) (schema_at at) (λ trees. StandsAt at trees book) found stands.lies.sound stands
 
+  placed_at : (at : Point) → SaysAt at found.tables → IsPlacedAt at (state g mid)
+  placed_at at says = rests_found was.may_leave (state g mid) (schema_at at) (SaysAt at) found says.lies.sound says
+
+  -- no table is another than was found
+  as_found : (at : Point) → SaysAt at found.tables → RestsAs (state g mid) (schema_at at) (λ db. db ≡ found.tables)
+  as_found at says = rests_found was.may_leave (state g mid) (schema_at at) (λ db. db ≡ found.tables) found says.lies.sound refl
+
+  module _ (at : Point) (says : SaysAt at found.tables) (why : Option OpenFault) (moves : MovesOn (state g mid) now why) where
+    early : HasCleanDisk (state g mid)
+    early = omega (arith, moves.clean, clean)
+
+    of_found : (trees : Trees) → IsTrue (state g mid).is_open × AreMovedOn at (state g mid).now.trees trees → AreMovedOn at found.tables trees
+    of_found trees (is_open, moved) = subst (λ old. AreMovedOn at old trees) ((as_found at says).tables early is_open) moved
+
+    -- what a crash may leave is what steps of the move make of what was found
+    pub moved_from : Leaves now (AreMovedOn at found.tables)
+    moved_from _ db may = by (moves.left at (placed_at at says) clean db may)
+      where
+        by : (state g mid).may_leave db ⊎ (IsTrue (state g mid).is_open × AreMovedOn at (state g mid).now.trees db) → AreMovedOn at found.tables db
+        by (inl before) = (0, at, (refl, (as_found at says).crash early db before))
+        by (inr moved) = of_found db moved
+
+    pub made_from : why ≢ Some opening.Store → IsTrue now.is_open → AreMovedOn at found.tables now.now.trees
+    made_from other is_open = of_found now.now.trees (moves.made at (placed_at at says) other clean is_open)
+
   pub opened_again : HasCleanDisk (state g mid) → MovesOn (state g mid) now None → ChangesOnWay g mid now → IsOpenedAgain was now
   opened_again early moves changes = record {
     tables = found.tables;
     left = found.left;
     books = λ at book stands. moves.kept at book (found_at at book stands) refl;
-    placed = λ at says. moves.placed at (rests_found was.may_leave (state g mid) (schema_at at) (SaysAt at) found says.lies.sound says) refl;
+    placed = λ at says. moves.placed at (placed_at at says) refl;
+    moved = λ at says. moved_from at says None moves;
     settled = λ says. rests_kept office_schema (λ db. db ≡ found.tables) (state g mid) now (nothing_found was.may_leave g mid now early clean found says changes)
         (rests_found was.may_leave (state g mid) office_schema (λ db. db ≡ found.tables) found says.lies.sound refl);
   }
@@ -91,13 +118,17 @@ module _ (was : State) {S : Type 0} (g : Ghosts S) (mid : Held S) (now : State) 
     left = found.left;
     books = λ at book file stands. left_for at book (state g mid) now fault file stands.rows.is_book (found_at at book stands) moves;
     reason = λ at book file stands. reason.whole at book file (found_at at book stands);
+    made = λ at says other is_open. made_from at says (Some fault) moves (λ is. other cc) is_open;
+    moved = λ at says. moved_from at says (Some fault) moves;
   }
 
 -- ── what was opened, where it was ──
 
-pub each_opened : {X E : Type 0} {P : X → Type 0} (again : Result X E) → ((x : X) → P x) → IfOk again P
-each_opened (Ok x) holds = holds x
-each_opened (Err error) holds = tt
+-- where the database is there behind an opening, the disk had returned what was written
+pub seen_clean : {D : Type 0} {g : disk.Ghosts D} (end : State) (again : Result (Reopened (FileStore D g) over_files) (Unopened (FileStore D g))) → IfOk again (λ it. HasCleanDisk (office_state it.office) → HasCleanDisk end)
+    → IfErr again (λ why. IsLeftClean why → HasCleanDisk end) → IsThereClean again → HasCleanDisk end
+seen_clean end (Ok it) opened left there = opened there
+seen_clean end (Err why) opened left there = left there
 
 pub if_opened_then : {X E : Type 0} {P Q : X → Type 0} (again : Result X E) → IfOk again P → ((x : X) → P x → Q x) → IfOk again Q
 if_opened_then (Ok x) has then = then x has

@@ -1,7 +1,10 @@
 //! An empty book that is made in an empty database, a loss of power at whatever exit, and the file opened again.
-ghost use Rattle.std.specs.Prelude.{◌≡◌, ◌≢◌, false, IsTrue, IfOk, IfErr};
+ghost use Rattle.std.specs.Prelude.{◌≡◌, ◌≢◌, ◌⊎◌, false, IsErr, IsTrue, IfOk, IfErr};
+ghost use Rattle.sqlite.specs.State.{HasCleanDisk};
 ghost use Rattle.sqlite.specs.Files.{file_state};
 ghost use Rattle.mx_layout.specs.Found.{Finds};
+ghost use Rattle.mx_layout.specs.Listed.{IsRefusal};
+ghost use Rattle.mx_layout.specs.Point.{IsStop};
 ghost use Rattle.mx_layout.specs.Tables.{no_schema};
 ghost use Rattle.mx_office.specs.Layout.{office_point};
 ghost use Rattle.mx_headline.specs.Created.{FindsMade, IsBare};
@@ -39,6 +42,10 @@ pub fn create_and_reopen<D: Crash + Drop>(
         → IfOk result.again (λ again. Finds (file_state conn).may_leave (file_state again)) }
     ensures unchanged { IfErr result.answer (λ fault. fault ≢ TableFault.Store
         → IfOk result.again (λ again. Finds (file_state conn).may_leave (file_state again))) }
+    ensures taken { (IsTrue (file_state conn).is_open → (file_state conn).now.schema ≢ no_schema)
+        → IfOk result.again (λ again. HasCleanDisk (file_state again) → IsErr result.answer) }
+    ensures faults { IfErr result.answer (λ fault. IsStop fault
+        ⊎ IsRefusal (file_state conn).now.schema fault) }
 {
     let answer = create(&mut conn, layout);
     let again = reopen(alloc, conn, options);

@@ -2,16 +2,19 @@
 //! no clause speaks of.
 ghost use Rattle.std.specs.Prelude.{◌≡◌, ◌≢◌, ◌≤◌, [], None, Some, false, length, List, IfOk, IfErr};
 ghost use Rattle.sqlite.specs.Files.{file_state};
+ghost use Rattle.sqlite_store.specs.FileStore as files;
+ghost use Rattle.sqlite_trees.specs.View.{IsClean};
 ghost use Rattle.sqlite_wal.specs.Files.{image_at};
 ghost use Rattle.mx_command.specs.Act.{Entry};
 ghost use Rattle.mx_point.specs.declared.point.Point.{Point};
 ghost use Rattle.mx_layout.specs.Found.{WasLeft};
 ghost use Rattle.mx_stands.specs.Schemas.{IsOfFile};
 ghost use Rattle.mx_stands.specs.Stands.{RestsAt};
-ghost use Rattle.mx_office.specs.Office.{IsReady, StandsFor};
+ghost use Rattle.mx_office.specs.Calls.{IsRun};
+ghost use Rattle.mx_office.specs.Office.{StandsFor};
 ghost use Rattle.mx_headline.specs.Ended.{IsEnded, IsEndedSomewhere};
-ghost use Rattle.mx_headline.specs.Opened.{KeepsSomewhere};
-ghost use Rattle.mx_headline.specs.Reopened.{GoesOn, KeepsUnopened, Reopens};
+ghost use Rattle.mx_headline.specs.Opened.{IsOpenedAndRun, KeepsSomewhere};
+ghost use Rattle.mx_headline.specs.Reopened.{GoesOn, IsStopOf, KeepsUnopened, Reopens};
 
 use crate::running::{Reopened, Stopped, Unopened, print_due};
 use mx_base::{Day, Tail};
@@ -46,11 +49,8 @@ pub fn run_and_end<D: Disk + Drop>(
 ) -> Ended<D>
     ensures ended { (before : _) → StandsFor office before
         → IsEnded before commands.now result }
-    ensures usable { IsReady office
-        → result.outcomes.stopped ≢ Some Fault.NeedsReopen }
-    ensures counted { length result.outcomes.replies.items ≤ length commands.now }
-    ensures done { result.outcomes.stopped ≡ None
-        → length result.outcomes.replies.items ≡ length commands.now }
+    ensures ran { (after : _) × IsRun commands.now result.outcomes.replies.items
+        result.outcomes.stopped office after }
 {
     let outcomes = office.run(alloc, commands);
     Ended {
@@ -70,7 +70,14 @@ pub fn open_run_and_end<D: Disk + Drop>(
     ensures ended { (at : Point) (before : List Entry) → IsOfFile at
         → RestsAt at (file_state conn) before
         → IsEndedSomewhere before commands.now result.ended }
+    ensures whole { (at : Point) (before : List Entry) → IsOfFile at
+        → RestsAt at (file_state conn) before → IsClean (files.view result.ended.store)
+        → (fault : OpenFault) → result.unopened ≡ Some fault → IsStopOf fault }
+    ensures ran { result.unopened ≡ None
+        → IsOpenedAndRun commands.now result.ended.outcomes conn }
     ensures unrun { result.unopened ≢ None → result.ended.outcomes.replies.items ≡ [] }
+    ensures unstopped { result.unopened ≢ None → result.ended.outcomes.stopped ≡ None }
+    ensures usable { result.ended.outcomes.stopped ≢ Some Fault.NeedsReopen }
     ensures counted { length result.ended.outcomes.replies.items ≤ length commands.now }
     ensures done { result.unopened ≡ None → result.ended.outcomes.stopped ≡ None
         → length result.ended.outcomes.replies.items ≡ length commands.now }

@@ -8,7 +8,8 @@ ghost use Rattle.mx_point.specs.declared.point.Point.{Point};
 ghost use Rattle.mx_stands.specs.Schemas.{IsOfFile};
 ghost use Rattle.mx_stands.specs.Stands.{RestsAt};
 ghost use Rattle.mx_office.specs.Office.{office_state, IsReady};
-ghost use Rattle.mx_headline.specs.Opened.{FindsAgain, KeepsSomewhere, MissesAgain, PrintsAgain};
+ghost use Rattle.mx_headline.specs.Opened.{FindsAgain, IsLeftClean, IsOpenedAndRun, IsThereClean};
+ghost use Rattle.mx_headline.specs.Opened.{KeepsSomewhere, MissesAgain, PrintsAgain};
 ghost use Rattle.mx_headline.specs.Reopened.{GoesOn, IsStopOf, Reopens};
 
 use crate::running::{Reopened, Stopped, Unopened, print_due, run_and_reopen};
@@ -40,6 +41,7 @@ pub fn open_again<D: Crash + Drop>(
     ensures ready { IfOk result IsReady }
     ensures clean { IfOk result (λ again.
         HasCleanDisk (office_state again) → HasCleanDisk (file_state conn)) }
+    ensures sure { IfErr result (λ why. IsLeftClean why → HasCleanDisk (file_state conn)) }
     ensures found { IfOk result (λ again. FindsAgain (file_state conn) (office_state again)) }
     ensures unopened { IfErr result (MissesAgain (file_state conn)) }
 {
@@ -63,6 +65,7 @@ fn reopen_and_print<D: Crash + Drop>(
     ensures goes_on { IfOk result GoesOn }
     ensures clean { IfOk result (λ it.
         HasCleanDisk (office_state it.office) → HasCleanDisk (file_state conn)) }
+    ensures sure { IfErr result (λ why. IsLeftClean why → HasCleanDisk (file_state conn)) }
     ensures printed { IfOk result (PrintsAgain (file_state conn) tail.now day) }
     ensures unopened { IfErr result (MissesAgain (file_state conn)) }
 {
@@ -98,11 +101,13 @@ pub fn open_run_and_reopen<D: Crash + Drop>(
         → IfErr result.again (KeepsSomewhere before commands.now result.outcomes) }
     ensures whole { (at : Point) (before : List Entry) → IsOfFile at
         → RestsAt at (file_state conn) before
-        → IfOk result.again (λ it. HasCleanDisk (office_state it.office)
-        → (fault : OpenFault) → result.unopened ≡ Some fault → IsStopOf fault) }
+        → IsThereClean result.again
+        → (fault : OpenFault) → result.unopened ≡ Some fault → IsStopOf fault }
 
-    // How far the run came, and with what the office is fed in again.
+    // What the commands were answered, whatever is found behind that, and with what the office is fed in again.
+    ensures ran { result.unopened ≡ None → IsOpenedAndRun commands.now result.outcomes conn }
     ensures unrun { result.unopened ≢ None → result.outcomes.replies.items ≡ [] }
+    ensures unstopped { result.unopened ≢ None → result.outcomes.stopped ≡ None }
     ensures usable { result.outcomes.stopped ≢ Some Fault.NeedsReopen }
     ensures counted { length result.outcomes.replies.items ≤ length commands.now }
     ensures done { result.unopened ≡ None → result.outcomes.stopped ≡ None

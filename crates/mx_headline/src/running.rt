@@ -1,10 +1,11 @@
 //! A run of commands, a loss of power at whatever exit, and the file opened again: the headline, as the contract of
 //! `run_and_reopen`.
-ghost use Rattle.std.specs.Prelude.{◌≡◌, ◌≢◌, ◌≤◌, None, Some, length, IfOk, IfErr};
+ghost use Rattle.std.specs.Prelude.{◌≡◌, ◌≢◌, IfOk, IfErr};
 ghost use Rattle.sqlite.specs.State.{HasCleanDisk};
 ghost use Rattle.mx_layout.specs.Crash.{ChangesNothing, Leaves};
 ghost use Rattle.mx_layout.specs.Found.{Finds};
 ghost use Rattle.mx_settle.specs.Place.{SaysAt};
+ghost use Rattle.mx_office.specs.Calls.{IsRun};
 ghost use Rattle.mx_office.specs.Layout.{office_point};
 ghost use Rattle.mx_office.specs.Office.{office_state, IsInDoubt, IsReady, StandsFor};
 ghost use Rattle.mx_headline.specs.Reopened.{FindsUnopened, GoesOn, IsPrintOf, KeepsUnopened, Reopens};
@@ -105,12 +106,9 @@ pub fn run_and_reopen<D: Crash + Drop>(
     ensures unopened { (before : _) → StandsFor office before
         → IfErr result.again (KeepsUnopened before commands.now result.outcomes) }
 
-    // How far the run came, and with what the office is fed in again.
-    ensures usable { IsReady office
-        → result.outcomes.stopped ≢ Some Fault.NeedsReopen }
-    ensures counted { length result.outcomes.replies.items ≤ length commands.now }
-    ensures done { result.outcomes.stopped ≡ None
-        → length result.outcomes.replies.items ≡ length commands.now }
+    // What the commands were answered, whatever is found behind that.
+    ensures ran { (after : _) × IsRun commands.now result.outcomes.replies.items
+        result.outcomes.stopped office after }
     ensures goes_on { IfOk result.again GoesOn }
     ensures clean { IfOk result.again (λ it.
         HasCleanDisk (office_state it.office) → HasCleanDisk (office_state office)) }

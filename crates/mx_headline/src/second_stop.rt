@@ -1,21 +1,22 @@
 //! A second stop, from the book that the first one left.
-ghost use Rattle.std.specs.Prelude.{◌≡◌, false, List, IfOk};
+ghost use Rattle.std.specs.Prelude.{◌≡◌, ◌≢◌, [], None, false, length, List, IfOk, IfErr};
 ghost use Rattle.sqlite.specs.State.{HasCleanDisk};
 ghost use Rattle.sqlite.specs.Files.{file_state};
 ghost use Rattle.mx_command.specs.Act.{Entry};
 ghost use Rattle.mx_point.specs.declared.point.Point.{Point};
 ghost use Rattle.mx_stands.specs.Schemas.{IsOfFile};
 ghost use Rattle.mx_stands.specs.Stands.{RestsAt};
+ghost use Rattle.mx_office.specs.Calls.{IsRun};
 ghost use Rattle.mx_office.specs.Office.{StandsFor};
-ghost use Rattle.mx_headline.specs.Opened.{IsLeftStanding, IsThereClean, RestsSomewhere};
-ghost use Rattle.mx_headline.specs.Reopened.{ReopensTwice};
+ghost use Rattle.mx_headline.specs.Opened.{IsLeftStanding, IsOpenedAndRun, IsThereClean, RestsSomewhere};
+ghost use Rattle.mx_headline.specs.Reopened.{KeepsUnopened, ReopensTwice};
 
 use crate::opening::{Opened, open_run_and_reopen};
 use crate::running::{Reopened, Stopped, Unopened, run_and_reopen};
 use mx_base::{Day, Tail};
 use mx_command::Command;
 use mx_layout::reopen;
-use mx_office::{Office, Outcomes};
+use mx_office::{Office, OpenFault, Outcomes};
 use sqlite::{Alter, Connection, Error, FileStore, Options};
 use sqlite_disk::Crash;
 use std::alloc::Global;
@@ -41,6 +42,12 @@ pub fn run_and_reopen_twice<D: Crash + Drop>(
     ensures headline { (before : _) → StandsFor office before → IfOk result.second (λ second.
         IfOk second.again (ReopensTwice before commands.now more.now tail.now day result.first
         second.outcomes)) }
+    ensures unopened { (before : _) → StandsFor office before
+        → IfErr result.second (KeepsUnopened before commands.now result.first) }
+    ensures ran { (after : _) × IsRun commands.now result.first.replies.items
+        result.first.stopped office after }
+    ensures done { IfOk result.second (λ second. second.outcomes.stopped ≡ None
+        → length second.outcomes.replies.items ≡ length more.now) }
 {
     let Stopped {
         outcomes: first,
@@ -63,6 +70,8 @@ pub fn run_and_reopen_twice<D: Crash + Drop>(
 
 /// What came of a database that was opened, run and stopped, and then once more.
 pub struct OpenedTwice<S: Alter> {
+    /// Why no office was opened for the first commands, if none was: then none of them was run.
+    pub unopened: Option<OpenFault>,
     /// What the first commands were answered.
     pub first: Outcomes,
     /// What came of it the second time; or why the database could not be opened for that, and then its files are used up.
@@ -105,9 +114,15 @@ pub fn open_run_and_reopen_twice<D: Crash + Drop>(
         → RestsAt at (file_state conn) before → IfOk result.second (λ second.
         IfOk second.again (ReopensTwice before commands.now more.now tail.now day result.first
         second.outcomes)) }
+    ensures ran { result.unopened ≡ None → IsOpenedAndRun commands.now result.first conn }
+    ensures unrun { result.unopened ≢ None → (result.first.replies.items ≡ [])
+        × (result.first.stopped ≡ None) }
+    ensures done { IfOk result.second (λ second. second.unopened ≡ None
+        → second.outcomes.stopped ≡ None
+        → length second.outcomes.replies.items ≡ length more.now) }
 {
     let Opened {
-        unopened: _,
+        unopened,
         outcomes: first,
         again,
     } = open_run_and_reopen(alloc, conn, commands, tail, day, options);
@@ -115,11 +130,13 @@ pub fn open_run_and_reopen_twice<D: Crash + Drop>(
         Ok(found) => {
             let second = open_run_and_reopen(alloc, found, more, tail, day, options);
             OpenedTwice {
+                unopened,
                 first,
                 second: Ok(second),
             }
         }
         Err(error) => OpenedTwice {
+            unopened,
             first,
             second: Err(error),
         },

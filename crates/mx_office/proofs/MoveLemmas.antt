@@ -1,8 +1,10 @@
 -- What becomes of a file whose office is opened, by what was read of it and by the move.
-use Rattle.std.proofs.Common.{◌≡◌, ◌≢◌, inl, inr, Bool, true, false, ◌≤◌, ℕ, IsTrue, List, Option, Some, None, Ok, Err, Result, refl, sym, ap, subst, ◌∙◌, arith}
+use Rattle.std.proofs.Common.{◌≡◌, ◌≢◌, ◌⊎◌, inl, inr, Bool, true, false, ◌≤◌, ℕ, IsTrue, List, Option, Some, None, Ok, Err, Result, refl, sym, ap, subst, ◌∙◌, arith}
+use Rattle.sqlite.specs.Effect.{Database}
 use Rattle.sqlite.specs.Schema.{Schema}
 use Rattle.sqlite.specs.State.{State, HasCleanDisk}
 use Rattle.sqlite.specs.Store.{Ghosts}
+use Rattle.sqlite.specs.Tree.{Trees}
 use Rattle.sqlite.specs.Held.{Held, state}
 use Rattle.mx_command.specs.Act.{Entry}
 use Rattle.mx_migrate.specs.declared.fault.MoveFault.{MoveFault}
@@ -10,19 +12,20 @@ use Rattle.mx_migrate.specs.declared.fault.MoveFault.TheVariants as move
 use Rattle.mx_point.specs.declared.point.Point.{Point}
 use Rattle.mx_points.specs.Commits.{point_behind}
 use Rattle.mx_points.specs.Points.{is_on_way}
-use Rattle.mx_layout.specs.Crash.{ChangesNothing}
+use Rattle.mx_layout.specs.Crash.{ChangesNothing, Leaves}
 use Rattle.mx_layout.specs.Point.{FitsPoint, HoldsPoint}
 use Rattle.mx_layout.specs.declared.fault.Table.TheVariants.{Office}
-use Rattle.mx_stands.specs.Schemas.{IsOfFile}
+use Rattle.mx_stands.specs.Schemas.{IsOfFile, schema_at}
 use Rattle.mx_stands.specs.Stands.{RestsAt}
-use Rattle.mx_settle.specs.Place.{IsPlacedAt}
+use Rattle.mx_settle.specs.Advances.{AreMoved}
+use Rattle.mx_settle.specs.Place.{IsPlacedAt, SaysAt}
 use Rattle.mx_settle.specs.Settles.{Settles}
 use Rattle.mx_settle.specs.declared.settling.TheConstants.{ENOUGH_COMMITS}
-use Rattle.mx_settle.proofs.AdvanceLemmas.{placed_point, placed_still, rests_point, still}
+use Rattle.mx_settle.proofs.AdvanceLemmas.{placed_point, placed_still, rests_point, same_now, still}
 use Rattle.mx_settle.proofs.PlaceLemmas.{rests_placed}
 use Rattle.mx_office.specs.Faults.{is_office_point, moved_fault_from, open_answer, IsStop}
 use Rattle.mx_office.specs.Layout.{office_point}
-use Rattle.mx_office.specs.Opening.{ChangesOnWay, MovesOn}
+use Rattle.mx_office.specs.Opening.{AreMovedOn, ChangesOnWay, MovesOn}
 use Rattle.mx_office.specs.declared.fault.OpenFault.{OpenFault}
 use Rattle.mx_office.specs.declared.fault.OpenFault.TheVariants as unopened
 use Rattle.mx_office.proofs.AnswerLemmas.{answers_office, moved_stop, point_of_office}
@@ -31,11 +34,36 @@ use Rattle.mx_office.proofs.AnswerLemmas.{answers_office, moved_stop, point_of_o
 pub placed_holds : (s : State) (at : Point) → IsPlacedAt at s → HasCleanDisk s → IsTrue s.is_open → HoldsPoint at s.now
 placed_holds s at placed clean is_open = ((_, ap (λ (schema : Schema). schema.tables) (placed.schema clean is_open)), (placed.tables clean is_open).says)
 
+-- ── what becomes of any rows ──
+
+as_moved_on : (at_most : ℕ) (at : Point) (old : State) (trees : Trees) → IsTrue old.is_open × AreMoved at_most at old.now.trees trees → IsTrue old.is_open × AreMovedOn at old.now.trees trees
+as_moved_on at_most at old trees (is_open, (commits, low, to, leads)) = (is_open, (commits, to, leads))
+
+as_left_on : (at_most : ℕ) (at : Point) (old : State) (trees : Trees) → old.may_leave trees ⊎ (IsTrue old.is_open × AreMoved at_most at old.now.trees trees) → old.may_leave trees ⊎ (IsTrue old.is_open × AreMovedOn at old.now.trees trees)
+as_left_on at_most at old trees (inl before) = inl before
+as_left_on at_most at old trees (inr moved) = inr (as_moved_on at_most at old trees moved)
+
 -- ── nothing changed ──
 
 module _ (old new : State) (nothing : ChangesNothing old new) where
   early : HasCleanDisk new → HasCleanDisk old
   early clean = omega (arith, nothing.survives.clean)
+
+  -- the tables are those from before
+  moved_none : (at : Point) → IsPlacedAt at old → HasCleanDisk new → IsTrue new.is_open → IsTrue old.is_open × AreMovedOn at old.now.trees new.now.trees
+  moved_none at placed clean is_open = (nothing.was_open clean is_open, (0, at, (refl, ap (λ (d : Database). d.trees) (same_now (schema_at at) (SaysAt at) old new nothing placed clean is_open))))
+
+  left_none : (at : Point) → Leaves new (λ trees. old.may_leave trees ⊎ (IsTrue old.is_open × AreMovedOn at old.now.trees trees))
+  left_none at clean db may = elim (nothing.survives.crash clean db may) [ inl before ↦ inl before | inr none ↦ absurd none ]
+
+  -- what is made of the tables is made of those from before
+  from_before : (at : Point) → IsPlacedAt at old → HasCleanDisk new → (trees : Trees) → IsTrue new.is_open × AreMovedOn at new.now.trees trees → IsTrue old.is_open × AreMovedOn at old.now.trees trees
+  from_before at placed clean trees (is_open, moved) =
+      (nothing.was_open clean is_open, subst (λ (d : Database). AreMovedOn at d.trees trees) (same_now (schema_at at) (SaysAt at) old new nothing placed clean is_open) moved)
+
+  left_before : (at : Point) → IsPlacedAt at old → HasCleanDisk new → (trees : Trees) → new.may_leave trees ⊎ (IsTrue new.is_open × AreMovedOn at new.now.trees trees) → old.may_leave trees ⊎ (IsTrue old.is_open × AreMovedOn at old.now.trees trees)
+  left_before at placed clean trees (inl before) = left_none at clean trees before
+  left_before at placed clean trees (inr moved) = inr (from_before at placed clean trees moved)
 
   -- no office was opened
   pub stays_shut : (why : OpenFault) → MovesOn old new (Some why)
@@ -45,6 +73,8 @@ module _ (old new : State) (nothing : ChangesNothing old new) where
     same = λ at book rests fault is other. (0, still at book old new nothing rests);
     crash = λ at book rests clean db may. (0, (still at book old new nothing rests).crash clean db may);
     placed = λ at placed is. absurd cc;
+    made = λ at placed _. moved_none at placed;
+    left = λ at _. left_none at;
   }
 
   -- then the file was moved, or the move was stopped
@@ -55,6 +85,8 @@ module _ (old new : State) (nothing : ChangesNothing old new) where
     same = λ at book rests. on.same at book (still at book old new nothing rests);
     crash = λ at book rests. on.crash at book (still at book old new nothing rests);
     placed = λ at placed. on.placed at (placed_still at old new nothing placed);
+    made = λ at placed other clean is_open. from_before at placed (omega (arith, on.clean)) end.now.trees (on.made at (placed_still at old new nothing placed) other clean is_open);
+    left = λ at placed clean db may. left_before at placed (omega (arith, on.clean)) db (on.left at (placed_still at old new nothing placed) clean db may);
   }
 
   -- the point was read
@@ -73,6 +105,8 @@ module _ (old new : State) (nothing : ChangesNothing old new) where
       same = λ at book rests fault is. absurd cc;
       crash = λ at book rests clean db may. (0, (still at book old new nothing rests).crash clean db may);
       placed = λ at placed _. placed_point new at office_point (λ clean. sym (is_at at placed clean) ∙ own) (placed_still at old new nothing placed);
+      made = λ at placed _. moved_none at placed;
+      left = λ at _. left_none at;
     }
 
     pub answers_there : is_on_way p ≡ false → (why : Option OpenFault) → open_answer p ≡ why → MovesOn old new why
@@ -83,6 +117,9 @@ module _ (old new : State) (nothing : ChangesNothing old new) where
 
 not_store : (e : MoveFault) (fault : OpenFault) → Some (moved_fault_from e) ≡ Some fault → fault ≢ unopened.Store → e ≢ move.Store
 not_store e fault is other store = other (let same : moved_fault_from e ≡ fault = cc in sym same ∙ ap moved_fault_from store)
+
+stopped_store : (e : MoveFault) (result : Result Point MoveFault) → result ≡ Err e → result ≡ Err move.Store → moved_fault_from e ≡ unopened.Store
+stopped_store e result stops is = let same : e ≡ move.Store = cc in ap moved_fault_from same
 
 module _ (at_most : ℕ) (old new : State) where
   -- as far as the point of the office
@@ -95,6 +132,8 @@ module _ (at_most : ℕ) (old new : State) where
         same = λ at book rests fault is. absurd cc;
         crash = λ at book rests clean db may. (let it = s.crash at book rests clean db may in (it.0, it.2));
         placed = λ at placed _. subst (λ q. IsPlacedAt q new) there (s.placed at placed);
+        made = λ at placed _ clean is_open. as_moved_on at_most at old new.now.trees (s.made at placed (λ is. absurd cc) clean is_open);
+        left = λ at placed clean db may. as_left_on at_most at old db (s.left at placed clean db may);
       }
 
   pub settled_elsewhere : (to : Point) → Settles at_most old new (Ok to) → MovesOn old new (Some (unopened.Damaged Office))
@@ -104,6 +143,8 @@ module _ (at_most : ℕ) (old new : State) where
     same = λ at book rests fault is other. (at_most, s.kept at book rests);
     crash = λ at book rests clean db may. (let it = s.crash at book rests clean db may in (it.0, it.2));
     placed = λ at placed is. absurd cc;
+    made = λ at placed _ clean is_open. as_moved_on at_most at old new.now.trees (s.made at placed (λ is. absurd cc) clean is_open);
+    left = λ at placed clean db may. as_left_on at_most at old db (s.left at placed clean db may);
   }
 
   pub stopped_on_way : (e : MoveFault) (why : OpenFault) → why ≡ moved_fault_from e → Settles at_most old new (Err e) → MovesOn old new (Some why)
@@ -113,6 +154,8 @@ module _ (at_most : ℕ) (old new : State) where
     same = λ at book rests fault is other. (let it = s.same at book rests (not_store e fault (ap Some (sym is_why) ∙ is) other) in (it.0, it.2));
     crash = λ at book rests clean db may. (let it = s.crash at book rests clean db may in (it.0, it.2));
     placed = λ at placed is. absurd cc;
+    made = λ at placed other clean is_open. as_moved_on at_most at old new.now.trees (s.made at placed (λ is. other (ap Some (is_why ∙ stopped_store e (Err e) refl is))) clean is_open);
+    left = λ at placed clean db may. as_left_on at_most at old db (s.left at placed clean db may);
   }
 
   -- of a book, memory or the store alone stop it

@@ -17,6 +17,7 @@ use Rattle.mx_layout.specs.Point.{point_cells, FitsPoint, HoldsPoint, TellsPoint
 use Rattle.mx_layout.specs.Tables.{office, HasOffice}
 use Rattle.mx_stands.specs.Schemas.{IsOfFile}
 use Rattle.mx_stands.specs.Stands.{RestsAt, StandsAt}
+use Rattle.mx_settle.specs.Advances.{LeadsTo}
 use Rattle.mx_settle.specs.Place.{IsPlacedAt}
 use Rattle.mx_office.specs.declared.fault.OpenFault.{OpenFault}
 use Rattle.mx_office.specs.declared.fault.OpenFault.TheVariants as unopened
@@ -30,6 +31,10 @@ use Rattle.mx_office.specs.Stands.{Rests}
 abbrev pub StandsBehind : Point → List Entry → Trees → Type 0
 StandsBehind at book trees = (commits : ℕ) × StandsAt (point_behind commits at book) trees book
 
+-- some steps of the move, one after another, make these trees of those of a file at this point
+abbrev pub AreMovedOn : Point → Trees → Trees → Type 0
+AreMovedOn at old new = (commits : ℕ) × (to : Point) × LeadsTo commits at old to new
+
 -- what becomes of a file whose office was opened, or was not for this reason
 pub record MovesOn (old new : State) (why : Option OpenFault) : Type 0 where
   -- what the disk failed in is not forgotten
@@ -40,6 +45,9 @@ pub record MovesOn (old new : State) (why : Option OpenFault) : Type 0 where
   pub crash : (at : Point) (book : List Entry) → RestsAt at old book → Leaves new (StandsBehind at book)
   -- whatever rows a file at a point has: it is at the point of the office
   pub placed : (at : Point) → IsPlacedAt at old → why ≡ None → IsPlacedAt office_point new
+  -- and unless the store failed its tables are what steps of the move make of those from before; each state that a crash may leave is one from before, or what they make
+  pub made : (at : Point) → IsPlacedAt at old → why ≢ Some unopened.Store → HasCleanDisk new → IsTrue new.is_open → IsTrue old.is_open × AreMovedOn at old.now.trees new.now.trees
+  pub left : (at : Point) → IsPlacedAt at old → Leaves new (λ trees. old.may_leave trees ⊎ (IsTrue old.is_open × AreMovedOn at old.now.trees trees))
 
 -- the query of `office` told a point on the way to the newest layout, which is the one that its row says
 pub record IsOnWay {S : Type 0} (g : Ghosts S) (was : Held S) : Type 0 where

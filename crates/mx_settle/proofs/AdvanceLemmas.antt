@@ -67,7 +67,7 @@ placed_point s p q same r = record {
 }
 
 -- the tables are those from before a call that changed nothing
-same_now : (of : Schema) (P : Trees → Type 0) (old new : State) → ChangesNothing old new → RestsAs old of P → HasCleanDisk new → IsTrue new.is_open → new.now ≡ old.now
+pub same_now : (of : Schema) (P : Trees → Type 0) (old new : State) → ChangesNothing old new → RestsAs old of P → HasCleanDisk new → IsTrue new.is_open → new.now ≡ old.now
 same_now of P old new nothing rests clean is_open =
     let early : HasCleanDisk old = omega (arith, nothing.survives.clean) in
     nothing.now_is clean is_open ∙ sym (rests.settled early (nothing.was_open clean is_open))
@@ -101,6 +101,7 @@ module _ (old new : State) (e : MoveFault) (tells : TellsPlace old new (Err e)) 
     placed = λ _ _. tt;
     later = λ _ _ _. tt;
     made = λ _ _ _ _. tt;
+    opened = λ _ _ _ _. tt;
     ended = λ _ _. tt;
     left = λ at placed clean db may. elim (nothing_told.survives.crash clean db may) [ inl before ↦ inl before | inr none ↦ absurd none ];
     damaged = λ at file placed clean name is. absurd (no_damage e name (place_stops old new at placed told_early file e tells clean) is);
@@ -181,6 +182,7 @@ module _ (old mid ready : State) (from : Point) (tells : TellsPlace old mid (Ok 
     placed = λ _ _. tt;
     later = λ _ _ _. tt;
     made = λ _ _ _ _. tt;
+    opened = λ _ _ _ _. tt;
     ended = λ _ _. tt;
     left = λ at placed clean db may. inl (left_before clean db may);
     damaged = λ at file placed clean name is.
@@ -201,6 +203,7 @@ module _ (old mid ready : State) (from : Point) (tells : TellsPlace old mid (Ok 
         placed = λ at placed. placed_point ready at from (λ clean. sym (placed_from at placed (ready_mid clean))) (placed_still at old ready both placed);
         later = λ at placed clean. (from_file, inl (sym (placed_from at placed (ready_mid clean)) ∙ newest, placed_from at placed (ready_mid clean)));
         made = λ at placed other clean. absurd (other (sym (placed_from at placed (ready_mid clean)) ∙ newest));
+        opened = λ at placed other clean. absurd (other (sym (placed_from at placed (ready_mid clean)) ∙ newest));
         ended = λ _ _. both;
         left = λ at placed clean db may. inl (left_before clean db may);
         damaged = λ _ _ _ _. tt;
@@ -251,13 +254,17 @@ module _ (old mid ready : State) (from : Point) (tells : TellsPlace old mid (Ok 
         let goes = c.goes from_file clean (λ mid_open. lies_in at placed (ready_mid clean) mid_open) in
         subst (λ (d : Database). GoesOn step at d.trees) (sym same) (subst (λ p. GoesOn step p mid.now.trees) (placed_from at placed (ready_mid clean)) goes)
 
+    -- a connection that is open was open before
+    open_old : HasCleanDisk ready → IsTrue ready.is_open → IsTrue old.is_open
+    open_old clean is_open = both.was_open clean is_open
+
     left_then : (at : Point) → IsPlacedAt at old → (result : Result Point MoveFault) → CommitsStep (IsFor step) (IsDueAt step) (MakesBy step) (IsOffFor step) ready new result
-        → HasCleanDisk new → (db : Trees) → new.may_leave db → old.may_leave db ⊎ IsStepOf at old.now.trees db
+        → HasCleanDisk new → (db : Trees) → new.may_leave db → old.may_leave db ⊎ (IsTrue old.is_open × IsStepOf at old.now.trees db)
     left_then at placed result r clean db may =
         let late : HasCleanDisk ready = omega (arith, r.clean) in
         elim (r.left at (lies_ready at placed) (for_here at placed) clean db may) [
           | inl before ↦ inl (left_before late db before)
-          | inr made ↦ inr (step, made.1.0, for_here at placed late, subst (λ (d : Database). MakesBy step at made.1.0 d.trees db) (now_old at placed late made.0) made.1.1)
+          | inr made ↦ inr (open_old late made.0, (step, made.1.0, for_here at placed late, subst (λ (d : Database). MakesBy step at made.1.0 d.trees db) (now_old at placed late made.0) made.1.1))
         ]
 
     goes_on : (to : Point) → CommitsStep (IsFor step) (IsDueAt step) (MakesBy step) (IsOffFor step) ready new (Ok to) → Advances old new (Ok to)
@@ -277,6 +284,7 @@ module _ (old mid ready : State) (from : Point) (tells : TellsPlace old mid (Ok 
               let opened = r.opened clean in
               let makes = (made at placed).tables clean opened.1 in
               (step, for_here at placed (late clean), subst (λ (d : Database). MakesBy step at to d.trees new.now.trees) (now_old at placed (late clean) opened.0) makes);
+          opened = λ at placed _ clean. (let opened = r.opened clean in (open_old (late clean) opened.0, opened.1));
           ended = λ placed clean. (let far = later (settled 2) placed clean in absurd (none_behind to far.0 far.1));
           left = λ at placed. left_then at placed (Ok to) r;
           damaged = λ _ _ _ _. tt;
@@ -299,6 +307,7 @@ module _ (old mid ready : State) (from : Point) (tells : TellsPlace old mid (Ok 
           placed = λ _ _. tt;
           later = λ _ _ _. tt;
           made = λ _ _ _ _. tt;
+          opened = λ _ _ _ _. tt;
           ended = λ _ _. tt;
           left = λ at placed. left_then at placed (Err e) r;
           damaged = λ at file placed clean name is.

@@ -1,8 +1,10 @@
 -- Commits of a file, one after another.
-use Rattle.std.proofs.Common.{◌≡◌, ◌⊎◌, inl, inr, ℕ, zero, suc, ◌+◌, ◌*◌, ◌<◌, ◌≤◌, Bool, true, false, nat_le, List, Option, None, Ok, Err, Result, refl, sym, ap, subst, ◌∙◌, arith}
+use Rattle.std.proofs.Common.{◌≡◌, ◌≢◌, ◌⊎◌, inl, inr, ℕ, zero, suc, ◌+◌, ◌*◌, ◌<◌, ◌≤◌, Bool, true, false, nat_le, List, Option, None, Ok, Err, Result, IsTrue, refl, sym, ap, subst, ◌∙◌, arith}
 use Rattle.std.specs.Prelude.{IfOk, IsErrAnd}
 use Rattle.std.proofs.lemmas.Bool.Decides.{nat_tests}
+use Rattle.sqlite.specs.Effect.{Database}
 use Rattle.sqlite.specs.State.{State, HasCleanDisk}
+use Rattle.sqlite.specs.Tree.{Trees}
 use Rattle.sqlite_trees.specs.View.{doubt}
 use Rattle.mx_command.specs.Act.{Entry}
 use Rattle.mx_point.specs.declared.point.Point.{Point}
@@ -11,15 +13,18 @@ use Rattle.mx_points.specs.Commits.{commits_of_move, point_behind}
 use Rattle.mx_points.specs.Points.{is_on_way, next_point}
 use Rattle.mx_points.proofs.ReachLemmas.{from_first, reach}
 use Rattle.mx_book.specs.Book.{IsBook}
-use Rattle.mx_stands.specs.Schemas.{IsOfFile}
+use Rattle.mx_layout.specs.Crash.{Leaves}
+use Rattle.mx_stands.specs.Schemas.{IsOfFile, schema_at}
 use Rattle.mx_stands.specs.Stands.{RestsAt, StandsAt}
 use Rattle.mx_migrate.specs.declared.fault.MoveFault.{MoveFault}
 use Rattle.mx_verified.specs.declared.kept.KeptRows.{KeptRows}
-use Rattle.mx_settle.specs.Advances.{Advances, AdvancesBook}
+use Rattle.mx_settle.specs.Advances.{Advances, AdvancesBook, AreMoved, IsStepOf, LeadsTo}
+use Rattle.mx_settle.specs.Due.{IsFor, MakesBy}
 use Rattle.mx_settle.specs.Items.{Knows}
-use Rattle.mx_settle.specs.Place.{IsBehind, IsPlacedAt, TellsPlace}
+use Rattle.mx_settle.specs.Place.{IsBehind, IsPlacedAt, SaysAt, TellsPlace}
 use Rattle.mx_settle.specs.Settles.{Settles}
-use Rattle.mx_settle.proofs.AdvanceLemmas.{newest_stays, placed_point, placed_still, rests_point, still}
+use Rattle.mx_settle.specs.declared.due.Due.{Due}
+use Rattle.mx_settle.proofs.AdvanceLemmas.{newest_stays, placed_point, placed_still, rests_point, same_now, still}
 use Rattle.mx_settle.proofs.ChoiceLemmas.{settled_at}
 use Rattle.mx_settle.proofs.PlaceLemmas.{Bounds, bounds, place_is, place_stops, rests_placed}
 
@@ -71,6 +76,33 @@ stays_behind (suc most) done at book low there = by (nat_le done most) refl (λ 
         let all : done ≡ suc most = grind (arith, nat_tests) in
         sym (ap (λ n. point_behind n at book) all) ∙ there
 
+-- ── what commits make of the tables ──
+
+-- one commit more
+leads_on : (done : ℕ) (at p q : Point) (first mid last : Trees) → LeadsTo done at first p mid → ((step : Due) × IsFor step p × MakesBy step p q mid last) → LeadsTo (done + 1) at first q last
+leads_on done at p q first mid last before step =
+    let one : suc done ≡ done + 1 = omega arith in
+    subst (λ n. LeadsTo n at first q last) one (p, mid, before, step)
+
+moved_on : (done : ℕ) (at p : Point) (first mid last : Trees) → LeadsTo done at first p mid → IsStepOf p mid last → AreMoved (done + 1) at first last
+moved_on done at p first mid last before (step, to, fits, makes) = (done + 1, omega arith, to, leads_on done at p to first mid last before (step, fits, makes))
+
+moved_within : (few most : ℕ) (at : Point) (first last : Trees) → few ≤ most → AreMoved few at first last → AreMoved most at first last
+moved_within few most at first last low (commits, under, to, leads) = (commits, omega (arith, low, under), to, leads)
+
+-- the trees are among those that a crash left before, or at most so many commits make them of those from before
+abbrev IsLeftBy : ℕ → Point → State → Trees → Type 0
+IsLeftBy most at old db = old.may_leave db ⊎ (IsTrue old.is_open × AreMoved most at old.now.trees db)
+
+left_within : (few most : ℕ) (at : Point) (old : State) (db : Trees) → few ≤ most → IsLeftBy few at old db → IsLeftBy most at old db
+left_within few most at old db low (inl before) = inl before
+left_within few most at old db low (inr (is_open, moved)) = inr (is_open, moved_within few most at old.now.trees db low moved)
+
+left_on : (done : ℕ) (at p : Point) (old now : State) (db : Trees) → (IsTrue now.is_open → IsTrue old.is_open × LeadsTo done at old.now.trees p now.now.trees) → (now.may_leave db → IsLeftBy done at old db)
+    → now.may_leave db ⊎ (IsTrue now.is_open × IsStepOf p now.now.trees db) → IsLeftBy (done + 1) at old db
+left_on done at p old now db made left (inl before) = left_within done (done + 1) at old db (omega arith) (left before)
+left_on done at p old now db made left (inr (is_open, step)) = let before = made is_open in inr (before.0, moved_on done at p old.now.trees now.now.trees db before.1 step)
+
 -- so many commits were made, the file is at this point, and what is known of its items is so of the book that the tables stood for
 pub record HasGone (done : ℕ) (end : Point) (known : Option KeptRows) (old now : State) : Type 0 where
   pub clean : doubt old.is_clean ≤ doubt now.is_clean
@@ -79,6 +111,8 @@ pub record HasGone (done : ℕ) (end : Point) (known : Option KeptRows) (old now
   pub knows : (at : Point) (book : List Entry) → RestsAt at old book → HasCleanDisk now → Knows known book
   pub placed : (at : Point) → IsPlacedAt at old → IsPlacedAt end now
   pub risen : (at : Point) → IsPlacedAt at old → HasCleanDisk now → IsOfFile end × (5000005 + done ≤ rank end)
+  pub made : (at : Point) → IsPlacedAt at old → HasCleanDisk now → IsTrue now.is_open → IsTrue old.is_open × LeadsTo done at old.now.trees end now.now.trees
+  pub left : (at : Point) → IsPlacedAt at old → Leaves now (IsLeftBy done at old)
 
 pub gone_none : (old now : State) (from : Point) → TellsPlace old now (Ok from) → HasGone 0 from None old now
 gone_none old now from tells =
@@ -92,6 +126,8 @@ gone_none old now from tells =
       knows = λ _ _ _ _. tt;
       placed = λ at placed. placed_point now at from (λ clean. sym (is at placed clean)) (placed_still at old now nothing placed);
       risen = λ at placed clean. (tells.of_file, low_rank from tells.of_file);
+      made = λ at placed clean is_open. (nothing.was_open clean is_open, (is at placed clean, ap (λ (d : Database). d.trees) (same_now (schema_at at) (SaysAt at) old now nothing placed clean is_open)));
+      left = λ at placed clean db may. elim (nothing.survives.crash clean db may) [ inl before ↦ inl before | inr none ↦ absurd none ];
     }
   where
     low_rank : (at : Point) → IsOfFile at → 5000005 + 0 ≤ rank at
@@ -116,8 +152,16 @@ module _ (old now : State) where
         knows = λ at book rests clean. still_knows (point_behind done at book) book (gone.kept at book rests) clean (gone.knows at book rests (early clean));
         placed = λ at placed. more.placed p (gone.placed at placed);
         risen = λ at placed clean. rises (gone.risen at placed (early clean)) (more.later p (gone.placed at placed) clean);
+        made = λ at placed clean is_open.
+            let opened = more.opened p (gone.placed at placed) not_newest clean in
+            let before = gone.made at placed (early clean) opened.0 in
+            (before.0, leads_on done at p q old.now.trees now.now.trees new.now.trees before.1 (more.made p (gone.placed at placed) not_newest clean));
+        left = λ at placed clean db may. left_on done at p old now db (gone.made at placed (early clean)) (gone.left at placed (early clean) db) (more.left p (gone.placed at placed) clean db may);
       }
     where
+      not_newest : p ≢ settled 2
+      not_newest same = let two : p.layout ≡ 2 = ap (λ (r : Point). r.layout) same in absurd (omega (arith, two, older))
+
       rises : IsOfFile p × (5000005 + done ≤ rank p) → IsOfFile q × (((p ≡ settled 2) × (q ≡ p)) ⊎ IsBehind p q) → IsOfFile q × (5000005 + (done + 1) ≤ rank q)
       rises before (far, inl same) = (let two : p.layout ≡ 2 = ap (λ (r : Point). r.layout) same.0 in absurd (omega arith))
       rises before (far, inr behind) = (far, omega (arith, before.1, rank_rises p q before.0 far behind))
@@ -140,6 +184,13 @@ module _ (old now : State) where
           | inr stands ↦ (suc done, omega (arith, low), subst (λ q. StandsAt q db book) (sym (behind_more done at book)) stands)
         ];
         placed = λ _ _. tt;
+        made = λ at placed other clean is_open.
+            let nothing = more.untouched (λ store. other (ap Err store)) in
+            let before = gone.made at placed (early clean) (nothing.was_open clean is_open) in
+            let same = same_now (schema_at p) (SaysAt p) now new nothing (gone.placed at placed) clean is_open in
+            (before.0, (done, omega (arith, low), p, subst (λ (d : Database). LeadsTo done at old.now.trees p d.trees) (sym same) before.1));
+        left = λ at placed clean db may.
+            left_within (done + 1) most at old db (omega (arith, low)) (left_on done at p old now db (gone.made at placed (early clean)) (gone.left at placed (early clean) db) (more.left p (gone.placed at placed) clean db may));
         ends = λ _ _ _ _. tt;
       }
 
@@ -152,6 +203,8 @@ module _ (old now : State) where
     whole = λ _ _ _ _ _. tt;
     crash = λ at book rests clean db may. (most, omega arith, (gone.kept at book rests).crash clean db may);
     placed = gone.placed;
+    made = λ at placed _ clean is_open. (let it = gone.made at placed clean is_open in (it.0, (most, omega arith, p, it.1)));
+    left = gone.left;
     ends = λ at placed clean enough. (let far = gone.risen at placed clean in absurd (omega (arith, far.1, rank_high p far.0, enough)));
   }
 
@@ -170,6 +223,8 @@ module _ (old now : State) where
         whole = λ _ _ _ _ _. tt;
         crash = λ at book rests clean db may. (done, low, (gone.kept at book rests).crash clean db may);
         placed = gone.placed;
+        made = λ at placed _ clean is_open. (let it = gone.made at placed clean is_open in (it.0, (done, low, p, it.1)));
+        left = λ at placed clean db may. left_within done most at old db low (gone.left at placed clean db may);
         ends = λ at placed clean _. there at placed clean;
       }
 
@@ -186,6 +241,8 @@ settles_none most old new e tells =
       whole = λ at book file rests clean. place_stops old new at (rests_placed old at book rests) early file e tells clean;
       crash = λ at book rests clean db may. (0, omega arith, (still at book old new nothing rests).crash clean db may);
       placed = λ _ _. tt;
+      made = λ at placed _ clean is_open. (nothing.was_open clean is_open, (0, omega arith, at, (refl, ap (λ (d : Database). d.trees) (same_now (schema_at at) (SaysAt at) old new nothing placed clean is_open))));
+      left = λ at placed clean db may. elim (nothing.survives.crash clean db may) [ inl before ↦ inl before | inr none ↦ absurd none ];
       ends = λ _ _ _ _. tt;
     }
 

@@ -1,5 +1,5 @@
 -- What some commits of a file do on its way to the newest layout, one after another.
-use Rattle.std.specs.Prelude.{◌≡◌, ◌≢◌, ◌≤◌, ℕ, List, Result, OnOk, IfOk, IfErr}
+use Rattle.std.specs.Prelude.{◌≡◌, ◌≢◌, ◌⊎◌, ◌≤◌, ℕ, List, Result, Err, IsTrue, OnOk, IfOk, IfErr}
 use Rattle.sqlite.specs.State.{State, HasCleanDisk}
 use Rattle.sqlite_trees.specs.View.{doubt}
 use Rattle.mx_command.specs.Act.{Entry}
@@ -11,6 +11,7 @@ use Rattle.mx_stands.specs.Schemas.{IsOfFile}
 use Rattle.mx_stands.specs.Stands.{StandsAt, RestsAt}
 use Rattle.mx_migrate.specs.declared.fault.MoveFault.{MoveFault}
 use Rattle.mx_migrate.specs.declared.fault.MoveFault.TheVariants.{Store}
+use Rattle.mx_settle.specs.Advances.{AreMoved}
 use Rattle.mx_settle.specs.Place.{IsMoveStop, IsPlacedAt}
 use Rattle.mx_settle.specs.declared.place.TheConstants.{NEWEST_LAYOUT}
 use Rattle.mx_settle.specs.declared.settling.TheConstants.{ENOUGH_COMMITS}
@@ -26,4 +27,7 @@ pub record Settles (at_most : ℕ) (old new : State) (result : Result Point Move
   pub crash : (at : Point) (book : List Entry) → RestsAt at old book → Leaves new (λ trees. (commits : ℕ) × (commits ≤ at_most) × StandsAt (point_behind commits at book) trees book)
   -- over any rows: the file is at the point that is answered, and with enough commits that is the newest layout
   pub placed : (at : Point) → IsPlacedAt at old → IfOk result (λ to. IsPlacedAt to new)
+  -- and unless the store failed its tables are what at most so many steps of the move, one after another, make of those from before; each state that a crash may leave is one from before, or what they make
+  pub made : (at : Point) → IsPlacedAt at old → result ≢ Err Store → HasCleanDisk new → IsTrue new.is_open → IsTrue old.is_open × AreMoved at_most at old.now.trees new.now.trees
+  pub left : (at : Point) → IsPlacedAt at old → Leaves new (λ trees. old.may_leave trees ⊎ (IsTrue old.is_open × AreMoved at_most at old.now.trees trees))
   pub ends : (at : Point) → IsPlacedAt at old → HasCleanDisk new → ENOUGH_COMMITS ≤ at_most → IfOk result (λ to. to ≡ settled NEWEST_LAYOUT)

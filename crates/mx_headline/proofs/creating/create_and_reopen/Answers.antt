@@ -7,6 +7,7 @@ use Rattle.mx_layout.specs.Making.{IsEmptyIn}
 use Rattle.mx_layout.specs.Steps.{schema_of}
 use Rattle.mx_layout.specs.Tables.{no_schema}
 use Rattle.mx_headline.proofs.CreatedLemmas.{is_made, if_opened, finds_before, unless_store}
+use Rattle.mx_headline.proofs.OpenedLemmas.{if_opened_then}
 use Rattle.mx_headline.proofs.creating.create_and_reopen.Goals as goal
 
 pub returns-clause-headline : goal.returns-clause-headline
@@ -27,3 +28,6 @@ returns-clause-kept g c taken =
 pub returns-clause-unchanged : goal.returns-clause-unchanged
 returns-clause-unchanged g c =
     unless_store file_state (file_state c.args.conn) (file_state c.create-answer.new.conn) c.create-answer.result c.reopen-again.result c.create-answer.ensures.unchanged c.reopen-again.ensures.clean c.reopen-again.ensures.found
+
+pub returns-clause-taken : goal.returns-clause-taken
+returns-clause-taken g c there = if_opened_then c.reopen-again.result c.reopen-again.ensures.clean (λ again sure clean. c.create-answer.ensures.taken (sure clean) there)

@@ -1,4 +1,4 @@
-use Rattle.std.proofs.Common.{Some, arith}
+use Rattle.std.proofs.Common.{arith}
 use Rattle.std.proofs.Math.Logic.{∥∥₁_map}
 use Rattle.sqlite.specs.State.{HasCleanDisk}
 use Rattle.sqlite.specs.Files.{file_state}
@@ -22,4 +22,4 @@ returns-in-Err-open_office-clause-unopened g c at book rests clean =
     let now = file_state c.in-Err-open_office.conn in
     let early : HasCleanDisk mid = omega (arith, c.in-Err-open_office.ensures.moves.clean) in
     let sure : HasCleanDisk end = c.in-Ok.ensures.clean early in
-    ∥∥₁_map (c.in-Ok.ensures.found early) (λ found. left_behind end.may_leave mid now at book (λ db may. c.behind_opening.ensures at book rests sure db may) found (Some c.in-Err-open_office.fault) c.in-Err-open_office.ensures.moves)
+    ∥∥₁_map (c.in-Ok.ensures.found early) (λ found. left_behind end.may_leave mid now at book (λ db may. c.behind_opening.ensures at book rests sure db may) found c.in-Err-open_office.fault c.in-Err-open_office.ensures.moves (c.in-Err-open_office.ensures.reason clean))

@@ -10,3 +10,6 @@ returns-clause-ended g c before rests =
     let commands = c.args.commands.now in
     is_ended before commands outcomes c.close.result c.end_process.result
     (subst (λ h. HasRun before commands outcomes (file_state h)) (sym c.close.ensures) (ran.over_book before rests)) c.end_process.ensures
+
+pub returns-clause-ran : goal.returns-clause-ran
+returns-clause-ran g c = (c.run-outcomes.new.self, c.run-outcomes.ensures)

@@ -45,3 +45,9 @@ returns-in-Err-clause-unopened g c before rests =
     let end = office_state c.run-outcomes.new.self in
     let run = ran.over_book before rests in
     keeps_unopened before c.args.commands.now c.run-outcomes.result end run c.in-Err.why (c.in-Err.ensures.unopened (run_says before c.args.commands.now c.run-outcomes.result end run))
+
+pub returns-in-Ok-clause-ran : goal.returns-in-Ok-clause-ran
+returns-in-Ok-clause-ran g c = (c.run-outcomes.new.self, c.run-outcomes.ensures)
+
+pub returns-in-Err-clause-ran : goal.returns-in-Err-clause-ran
+returns-in-Err-clause-ran g c = (c.run-outcomes.new.self, c.run-outcomes.ensures)

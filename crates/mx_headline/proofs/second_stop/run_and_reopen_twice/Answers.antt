@@ -1,6 +1,6 @@
-use Rattle.std.proofs.lemmas.Result.{IfOk-at_ok}
+use Rattle.std.proofs.lemmas.Result.{IfErr-at_err, IfOk-at_ok}
 use Rattle.mx_headline.proofs.ReopenedLemmas.{reopens_twice}
-use Rattle.mx_headline.specs.Reopened.{Reopens}
+use Rattle.mx_headline.specs.Reopened.{KeepsUnopened, Reopens}
 use Rattle.mx_headline.proofs.second_stop.run_and_reopen_twice.Goals as goal
 
 pub returns-in-Ok : goal.returns-in-Ok
@@ -13,4 +13,13 @@ returns-in-Ok g c = record {
       let second = c.run_and_reopen-second in
       reopens_twice before commands c.args.more.now tail day first second.result.outcomes _ second.result.again
       (IfOk-at_ok (Reopens before commands tail day first) c.in-Ok.is (c.run_and_reopen-first.ensures.headline before rests)) second.ensures.headline second.ensures.clean;
+  unopened = λ before rests. tt;
+  ran = c.run_and_reopen-first.ensures.ran;
+  done = c.run_and_reopen-second.ensures.ran.1.done;
 }
+
+pub returns-in-Err-clause-unopened : goal.returns-in-Err-clause-unopened
+returns-in-Err-clause-unopened g c before rests = IfErr-at_err (KeepsUnopened before c.args.commands.now c.run_and_reopen-first.result.outcomes) c.in-Err.is (c.run_and_reopen-first.ensures.unopened before rests)
+
+pub returns-in-Err-clause-ran : goal.returns-in-Err-clause-ran
+returns-in-Err-clause-ran g c = c.run_and_reopen-first.ensures.ran
