@@ -1,14 +1,14 @@
 //! `init-old` over a file.
 ghost use Rattle.std.specs.Prelude.{◌≡◌, ◌≤◌, ◌++◌, [], false, IfOk, IfErr, OnErr};
 ghost use Rattle.mx_jobs.specs.Entered.{TellsReplies};
-ghost use Rattle.mx_jobs.specs.Installed.{AreFirstReplies};
+ghost use Rattle.mx_jobs.specs.Installed.{AreFirstReplies, HasAppended};
 ghost use Rattle.mx_jobs.specs.Status.{LeavesUnread, Shows, stop_status};
 
 use crate::inputs::commands_in;
 use crate::opening::open_file;
 use mx_book::Book;
 use mx_command::Command;
-use mx_jobs::{Ending, Stop, accept_all, install_book, print_accepted};
+use mx_jobs::{Accepted, Ending, Stop, accept_all, install_book, print_accepted};
 use mx_layout::TableFault;
 use sqlite::{Alter, Connection};
 use std::alloc::Global;
@@ -27,11 +27,18 @@ fn installed_in<S: Alter + Drop>(
     Ok(conn)
 }
 
-// Makes a file with a book in it.
-fn install_file(rt: &HostRuntime, file: &str, book: &Book) -> Result<(), Stop>
+// Makes a file with the book of the commands that were accepted, whose replies the caller has appended: so memory can't run
+// out behind the commit.
+fn install_file(
+    rt: &HostRuntime,
+    file: &str,
+    accepted: &Accepted,
+    _appended: &Vec<u8>,
+) -> Result<(), Stop>
+    requires { HasAppended accepted.now _appended.now.items }
     ensures { IfErr result (λ stop. stop_status stop ≡ 5) }
 {
-    let conn = installed_in(rt.alloc(), open_file(rt, file)?, book)?;
+    let conn = installed_in(rt.alloc(), open_file(rt, file)?, &accepted.book)?;
     match conn.close() {
         Ok(()) => Ok(()),
         Err(_) => Err(Stop::Create(TableFault::Store)),
@@ -52,7 +59,7 @@ fn install_all_in(
     let accepted = accept_all(rt.alloc(), commands)?;
     let before = out.len();
     let ending = print_accepted(out, &accepted)?;
-    match install_file(rt, file, &accepted.book) {
+    match install_file(rt, file, &accepted, out) {
         Ok(()) => Ok(ending),
         Err(stop) => {
             out.truncate(before);

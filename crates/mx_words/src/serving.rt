@@ -1,5 +1,6 @@
 //! `serve`: connections at a port of the loopback, with the office in a file.
 ghost use Rattle.std.specs.Prelude.{◌≡◌, ◌≤◌, ◌++◌, IfOk, IfErr};
+ghost use Rattle.mx_office.specs.Office.{IsInDoubt, IsReady};
 ghost use Rattle.mx_desk.specs.Serving.{served_line};
 ghost use Rattle.mx_jobs.specs.Status.{LeavesUnread, stop_status};
 ghost use Rattle.mx_jobs.specs.declared.fault.Ending.TheVariants.{Done};
@@ -13,7 +14,9 @@ use std::net::{Ipv4Addr, SocketAddr, SocketAddrV4, TcpListener};
 
 // What stopped the serving: the store, once the office has to be opened again, else want of memory for what is printed.
 fn stop_of<S: Alter>(office: &Office<S>) -> Stop
-    ensures { stop_status result ≡ 4 }
+    ensures store { IsInDoubt office.now → result ≡ Stop.Office Fault.Store }
+    ensures memory { IsReady office.now → result ≡ Stop.Office Fault.Memory }
+    ensures status { stop_status result ≡ 4 }
 {
     if office.needs_reopen() {
         Stop::Office(Fault::Store)
