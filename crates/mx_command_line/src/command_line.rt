@@ -249,7 +249,7 @@ fn office_command<'a>(alloc: Global) -> Result<Command<'a>, AllocError>
     Ok(
         Command::new(alloc, "office")
             .bin_name("office")?
-            .version("0.1")
+            .version("0.2")
             .about("Keeps the continuing airworthiness records of a small operator")
             .after_help(help::OFFICE)
             .subcommand_required(true),
