@@ -4,14 +4,13 @@ ghost use Rattle.std.specs.Prelude.{◌≡◌, false};
 use crate::calls::{created, created_old};
 use crate::queries::{asked, tables};
 use crate::texts::append_error;
-use mx_apply_lines::entered_by_rows;
 use mx_cases::{Unmade, append_word};
-use mx_entry_lines::{entries_by_rows, is_entry_by_rows};
-use mx_judge_lines::{answer_by_rows, verdict_by_rows};
 use mx_kept_lines::{answer_of_kept_rows, append_table_fault, room};
 use mx_layout::{TableFault, point};
 use mx_move_lines::answer_of_step;
-use mx_verify_lines::verified;
+use mx_row_lines::{
+    answer_by_rows, entered_by_rows, entries_by_rows, is_entry_by_rows, verdict_by_rows, verified,
+};
 use sqlite::{Alter, Connection};
 use std::alloc::{AllocError, Global};
 

@@ -2,7 +2,7 @@
 ghost use Rattle.std.specs.Prelude.{◌≡◌, false};
 
 use crate::calls::{dues_of, forecast_of, life_of, limits_of, lives_of};
-use crate::lines::fault_text;
+use crate::fault::fault_text;
 use mx_base::{Day, Tail};
 use mx_book::{Refusal, Reply};
 use mx_cases::{Unmade, item_of, listed, reply_in, room_for_reply};

@@ -1,19 +1,11 @@
 //! Entries that are listed and compared by the rows of a database.
 ghost use Rattle.std.specs.Prelude.{◌≡◌, false};
 
+use crate::fault::fault_text;
 use mx_cases::{Unmade, command_of, documents, yes_or_no};
 use mx_entries::entries::{entries, entry};
-use mx_kept_lines::{append_table_fault, room};
-use mx_layout::TableFault;
 use sqlite::{Alter, Connection};
 use std::alloc::Global;
-
-// Why there is no answer.
-fn unanswered(alloc: Global, fault: TableFault) -> Result<String, Unmade> {
-    let mut text = room(alloc)?;
-    append_table_fault(&mut text, fault)?;
-    Ok(text)
-}
 
 /// The documents of at most so many entries, from a number on, by the rows of a database: as text, or the fault that stopped
 /// the look-ups.
@@ -30,7 +22,7 @@ pub fn entries_by_rows<S: Alter>(
     let mut tx = conn.transaction();
     match entries(alloc, &mut tx, from, at_most) {
         Ok(found) => Ok(documents(alloc, &found)?),
-        Err(fault) => unanswered(alloc, fault),
+        Err(fault) => fault_text(alloc, fault),
     }
 }
 
@@ -50,6 +42,6 @@ pub fn is_entry_by_rows<S: Alter>(
     match entry(alloc, &mut tx, seq) {
         Ok(Some(found)) => Ok(yes_or_no(alloc, found.is_same(&wanted))?),
         Ok(None) => Ok(yes_or_no(alloc, false)?),
-        Err(fault) => unanswered(alloc, fault),
+        Err(fault) => fault_text(alloc, fault),
     }
 }

@@ -1,19 +1,11 @@
 //! Commands that are judged by the rows of a database.
 ghost use Rattle.std.specs.Prelude.{◌≡◌, false};
 
+use crate::fault::fault_text;
 use mx_cases::{Unmade, command_of, verdict_text};
-use mx_kept_lines::{append_table_fault, room};
-use mx_layout::TableFault;
 use mx_rows::judging::judge_by_rows;
 use sqlite::{Alter, Connection};
 use std::alloc::Global;
-
-/// Why a question was not answered.
-pub(crate) fn fault_text(alloc: Global, fault: TableFault) -> Result<String, Unmade> {
-    let mut text = room(alloc)?;
-    append_table_fault(&mut text, fault)?;
-    Ok(text)
-}
 
 /// The verdict on the command that the words name, by the rows of a database: as text, or the fault that stopped the judge.
 pub fn verdict_by_rows<S: Alter>(

@@ -1,0 +1,12 @@
+//! What stopped a call, as the answer to a line.
+use mx_cases::Unmade;
+use mx_kept_lines::{append_table_fault, room};
+use mx_layout::TableFault;
+use std::alloc::Global;
+
+/// The words of a fault of the tables.
+pub(crate) fn fault_text(alloc: Global, fault: TableFault) -> Result<String, Unmade> {
+    let mut text = room(alloc)?;
+    append_table_fault(&mut text, fault)?;
+    Ok(text)
+}
