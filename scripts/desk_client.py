@@ -165,6 +165,16 @@ def behind_another(desk: Desk, request: bytes) -> bytes:
         return received(peer, b"(and a reset)")
 
 
+def two_at_once(desk: Desk, request: bytes) -> bytes:
+    """Two peers send the same before the first of them is served: what both are answered, or both answers where they differ.
+    It takes two connections."""
+    with desk.connect() as first, desk.connect() as second:
+        for peer in (first, second):
+            send(peer, request)
+        answers = [received(peer) for peer in (first, second)]
+    return answers[0] if answers[0] == answers[1] else b" but ".join(answers)
+
+
 def elsewhere(desk: Desk, address: bytes) -> bytes:
     """Whether a connection at another address of the machine is taken or refused. It takes none where it is refused."""
     try:
