@@ -1,5 +1,6 @@
 //! Questions on the book: verdicts, entries, lives and lists.
 
+use crate::same::are_same;
 use mx_base::{Moment, Serial, Tail, Use};
 use mx_book::Book;
 use mx_cases::{
@@ -7,7 +8,6 @@ use mx_cases::{
 };
 use mx_command::{Command, Item};
 use mx_lists::life_list_of;
-use mx_register_lines::are_same;
 use std::alloc::Global;
 
 // judge COMMAND: the verdict on it, where nothing is entered.

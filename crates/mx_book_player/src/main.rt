@@ -1,5 +1,5 @@
 //! Plays files of cases on a book in memory: commands that are handed in, and questions on commands, books,
-//! what is due, deferred defects, registers, days, moments and identifiers. The files say in their first lines what
+//! what is due, deferred defects, days, moments and identifiers. The files say in their first lines what
 //! each shows.
 #![tactic(auto)]
 
@@ -10,6 +10,9 @@ mod defects;
 mod dues;
 mod identifiers;
 mod player;
+mod same;
+mod shown;
+mod tasks;
 
 use mx_cases::run;
 use player::BookPlayer;

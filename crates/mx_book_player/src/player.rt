@@ -4,8 +4,6 @@ use crate::{books, calendar, commands, defects, dues, identifiers};
 use mx_book::{Book, Reply, Verdict};
 use mx_cases::{Plays, Unmade, answer_of, command_of, reply_in, room_for_reply, verdict_text};
 use mx_command::Command;
-use mx_register_lines::registers;
-use mx_verified_lines::verified;
 use std::alloc::{AllocError, Global};
 
 /// A book in memory.
@@ -60,13 +58,7 @@ impl BookPlayer {
         if let Some(answer) = dues::answer(self.alloc, &self.book, words)? {
             return Ok(Some(answer));
         }
-        if let Some(answer) = defects::answer(self.alloc, &self.book, words)? {
-            return Ok(Some(answer));
-        }
-        if let Some(answer) = verified::answer(self.alloc, &self.book, words)? {
-            return Ok(Some(answer));
-        }
-        registers::answer(self.alloc, &self.book, words)
+        defects::answer(self.alloc, &self.book, words)
     }
 
     // The answer to a question, or the reply to a command.

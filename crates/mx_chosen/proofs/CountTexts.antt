@@ -10,11 +10,11 @@ use Rattle.sqlite.proofs.Callers.{IsPlain, command_of}
 use Rattle.sqlite_schema.specs.declared.schema.Index.{Index}
 use Rattle.sqlite_tied.specs.Compute.{everything}
 use Rattle.mx_layout.specs.Names.{table_named}
-use Rattle.mx_layout.specs.Tables.{entry, aircraft, component}
+use Rattle.mx_layout.specs.Tables.{aircraft, component}
 use Rattle.mx_kept.specs.Kept.{Kept}
-use Rattle.mx_kept.specs.Cells.{kept_entry, kept_aircraft, kept_component}
+use Rattle.mx_kept.specs.Cells.{kept_aircraft, kept_component}
 use Rattle.mx_kept.specs.Schemas.{HasBehind, permanent}
-use Rattle.mx_chosen.specs.Counts.{tally, MeansCount, Counts, count_entry, count_aircraft, count_component}
+use Rattle.mx_chosen.specs.Counts.{tally, MeansCount, Counts, count_aircraft, count_component}
 
 -- the text tells how many rows the table has
 abbrev Tallies : Schema → List ℕ → Table → Type 0
@@ -28,13 +28,6 @@ counted_by k own behind text low texts schema h =
     let has = behind schema h in
     let is = texts has.rest has.more in
     subst (λ s. MeansCount s text (table_named k.name)) (sym has.is) (record { names = codes "count(*)" ∷ []; is = is.0; unlisted = is.1; plain = is.2; low = low })
-
-count_entry_texts : (rest : List Table) (more : List Index) → Tallies (permanent rest more) count_entry entry
-unfolding understood everything
-count_entry_texts rest more = (refl, refl, (refl, refl))
-
-pub count_entry_counts : Counts kept_entry count_entry
-count_entry_counts = counted_by kept_entry [] (λ _ has. has) count_entry (λ _. refl) count_entry_texts
 
 count_aircraft_texts : (rest : List Table) (more : List Index) → Tallies (permanent rest more) count_aircraft aircraft
 unfolding understood everything

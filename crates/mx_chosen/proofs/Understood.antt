@@ -11,7 +11,7 @@ use Rattle.sqlite.specs.Collation.TheVariants.{Binary}
 use Rattle.sqlite.specs.declared.types.Value.TheVariants.{Null}
 use Rattle.sqlite.specs.Listing.{understood}
 use Rattle.sqlite_schema.specs.declared.schema.Index.{Index}
-use Rattle.sqlite_sql.specs.declared.ops.CompareOp.TheVariants.{Eq, Gt, Le}
+use Rattle.sqlite_sql.specs.declared.ops.CompareOp.TheVariants.{Eq, Le}
 use Rattle.sqlite_tied.specs.Compute.{everything}
 use Rattle.mx_layout.specs.Contents.{cells}
 use Rattle.mx_layout.specs.Tables.{entry, aircraft, place, component, programme, task, opening, crs, crs_line, extension, defect, sector1, fit1, removal1, sector2, span2, total2, base2}
@@ -20,8 +20,8 @@ use Rattle.mx_kept.specs.Kept.{over}
 use Rattle.mx_kept.specs.Schemas.{permanent, own_1, own_2, own_moving, HasBehind, HasOwn1}
 use Rattle.mx_chosen.specs.Choices.{backward}
 use Rattle.mx_chosen.specs.Lookups.{FindsFirst, Finds, Deletes}
-use Rattle.mx_chosen.specs.Texts.{sector2_by_seq, by_value, by_values, open_by, open_spans_by_component, open_spans_by_aircraft, above, up_to, any_row, entry_by_seq, entry_by_doc, aircraft_by_seq, aircraft_by_tail, place_by_seq, component_by_seq, component_by_serial, programme_by_seq, programme_by_kind, task_by_seq, opening_by_seq, opening_by_item, crs_by_seq, crs_line_by_seq, crs_line_by_defect, defect_by_seq, defect_by_aircraft, extension_by_seq, extension_by_defect, span2_by_fit_seq, span2_by_component, span2_by_aircraft, span2_by_remove_seq, total2_by_item, base2_by_item, base2_by_item_and_task, sector1_page, extension_page, last_entry, sector1_gone, fit1_gone, span2_gone, total2_gone, base2_gone}
-use Rattle.mx_chosen.proofs.LookupLemmas.{Chooses, Drops, given_at, first_found, first_page, last_found, two_found, deleted, either_finds, either_deletes}
+use Rattle.mx_chosen.specs.Texts.{sector2_by_seq, by_value, by_values, open_by, open_spans_by_component, open_spans_by_aircraft, up_to, any_row, entry_by_seq, entry_by_doc, aircraft_by_seq, aircraft_by_tail, place_by_seq, component_by_seq, component_by_serial, programme_by_seq, programme_by_kind, task_by_seq, opening_by_seq, crs_by_seq, crs_line_by_seq, crs_line_by_defect, defect_by_seq, defect_by_aircraft, extension_by_seq, extension_by_defect, span2_by_fit_seq, span2_by_component, span2_by_aircraft, span2_by_remove_seq, total2_by_item, base2_by_item_and_task, last_entry, sector1_gone, fit1_gone, span2_gone, total2_gone, base2_gone}
+use Rattle.mx_chosen.proofs.LookupLemmas.{Chooses, Drops, given_at, first_found, last_found, two_found, deleted, either_finds, either_deletes}
 use Rattle.mx_chosen.proofs.EqualLemmas.{one_equal, two_equal, missing}
 
 -- spans stand at one place while components are moved, and at another from then on
@@ -93,10 +93,6 @@ pub opening_by_seq_finds : Finds kept_opening opening_by_seq (by_value 0)
 unfolding understood everything
 opening_by_seq_finds = first_found kept_opening [] (λ _ has. has) opening_by_seq (given_at Eq opening 0 0 ∷ []) (by_value 0) (λ _. refl) (λ _ _. one_equal _ _ refl) refl (λ _ _. (refl, refl, (refl, refl))) (λ _. refl) (λ _ _. refl)
 
-pub opening_by_item_finds : Finds kept_opening opening_by_item (by_value 1)
-unfolding understood everything
-opening_by_item_finds = first_found kept_opening [] (λ _ has. has) opening_by_item (given_at Eq opening 1 0 ∷ []) (by_value 1) (λ _. refl) (λ _ _. one_equal _ _ refl) refl (λ _ _. (refl, refl, (refl, refl))) (λ _. refl) (λ _ _. refl)
-
 pub crs_by_seq_finds : Finds kept_crs crs_by_seq (by_value 0)
 unfolding understood everything
 crs_by_seq_finds = first_found kept_crs [] (λ _ has. has) crs_by_seq (given_at Eq crs 0 0 ∷ []) (by_value 0) (λ _. refl) (λ _ _. one_equal _ _ refl) refl (λ _ _. (refl, refl, (refl, refl))) (λ _. refl) (λ _ _. refl)
@@ -145,10 +141,6 @@ pub total2_by_item_finds : Finds kept_total2 total2_by_item (by_value 0)
 unfolding understood everything
 total2_by_item_finds = first_found kept_total2 (sector2 ∷ span2 ∷ total2 ∷ []) (λ _ has. has) total2_by_item (given_at Eq total2 0 0 ∷ []) (by_value 0) (λ _. refl) (λ _ _. one_equal _ _ refl) refl (λ _ _. (refl, refl, (refl, refl))) (λ _. refl) (λ _ _. refl)
 
-pub base2_by_item_finds : Finds kept_base2 base2_by_item (by_value 0)
-unfolding understood everything
-base2_by_item_finds = two_found kept_base2 own_2 (λ _ has. has) base2_by_item (given_at Eq base2 0 0 ∷ []) (by_value 0) (λ _. refl) (λ _ _. one_equal _ _ refl) refl (λ _ _. (refl, refl, (refl, refl))) (λ _. refl) (λ _ _. refl) (λ _ _. refl)
-
 pub sector2_by_seq_finds : Finds kept_sector2_rows sector2_by_seq (by_value 0)
 unfolding understood everything
 sector2_by_seq_finds = sectors_found sector2_by_seq (given_at Eq sector2 0 0 ∷ []) (by_value 0) (λ _ _. one_equal _ _ refl) (λ _ _. (refl, refl, (refl, refl))) (λ _ _. (refl, refl, (refl, refl))) (λ _ _. (refl, refl, (refl, refl)))
@@ -171,15 +163,7 @@ pub open_spans_by_aircraft_finds : Finds kept_span2 open_spans_by_aircraft (open
 unfolding understood everything
 open_spans_by_aircraft_finds = spans_found open_spans_by_aircraft (open_tests 2) (open_by 2) (λ values r. two_equal _ _ _ (ap (λ b. by_value 2 values (cells span2 r) && b) (missing (column r (place_of span2 5))))) (λ _ _. (refl, refl, (refl, refl))) (λ _ _. (refl, refl, (refl, refl)))
 
--- ── pages, and the last row ──
-
-pub sector1_page_finds : FindsFirst kept_sector1 sector1_page (Some 64) kept_sector1.order (above 0)
-unfolding understood everything
-sector1_page_finds = first_page kept_sector1 own_1 (λ _ has. has) sector1_page (given_at Gt sector1 0 0 ∷ []) (above 0) (λ _. refl) (λ _ _. one_equal _ _ refl) 64 refl (λ _ _. (refl, refl, (refl, refl))) (λ _. refl) (λ _ _. refl)
-
-pub extension_page_finds : FindsFirst kept_extension extension_page (Some 64) kept_extension.order (above 0)
-unfolding understood everything
-extension_page_finds = first_page kept_extension [] (λ _ has. has) extension_page (given_at Gt extension 0 0 ∷ []) (above 0) (λ _. refl) (λ _ _. one_equal _ _ refl) 64 refl (λ _ _. (refl, refl, (refl, refl))) (λ _. refl) (λ _ _. refl)
+-- ── the last row ──
 
 pub last_entry_finds : FindsFirst kept_entry last_entry (Some 1) (backward kept_entry.order) any_row
 unfolding understood everything

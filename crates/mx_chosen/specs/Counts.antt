@@ -65,9 +65,6 @@ pub record CountsRows {X : Type 0} (k : Kept X) (old new : State) (result : Resu
 
 -- ── the texts ──
 
-abbrev pub count_entry : List ℕ
-count_entry = codes "SELECT count(*) FROM entry"
-
 abbrev pub count_aircraft : List ℕ
 count_aircraft = codes "SELECT count(*) FROM aircraft"
 

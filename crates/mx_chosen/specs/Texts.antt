@@ -62,9 +62,6 @@ task_by_seq = codes "SELECT seq, line, id, part, retire, first_m, first_c, first
 abbrev pub opening_by_seq : List ℕ
 opening_by_seq = codes "SELECT seq, item, kind, task, minutes, cycles, day FROM opening WHERE seq = ?1 ORDER BY seq"
 
-abbrev pub opening_by_item : List ℕ
-opening_by_item = codes "SELECT seq, item, kind, task, minutes, cycles, day FROM opening WHERE item = ?1 ORDER BY seq"
-
 abbrev pub crs_by_seq : List ℕ
 crs_by_seq = codes "SELECT seq, item, kind, moment FROM crs WHERE seq = ?1 ORDER BY seq"
 
@@ -104,9 +101,6 @@ sector2_by_seq = codes "SELECT seq, aircraft, page, line, took_off, landed, cycl
 abbrev pub total2_by_item : List ℕ
 total2_by_item = codes "SELECT item, minutes, cycles, clock FROM total2 WHERE item = ?1 ORDER BY item"
 
-abbrev pub base2_by_item : List ℕ
-base2_by_item = codes "SELECT item, task, minutes, cycles, day FROM base2 WHERE item = ?1 ORDER BY item, task"
-
 abbrev pub base2_by_item_and_task : List ℕ
 base2_by_item_and_task = codes "SELECT item, task, minutes, cycles, day FROM base2 WHERE item = ?1 AND task = ?2 ORDER BY item, task"
 
@@ -118,13 +112,7 @@ open_spans_by_component = codes "SELECT fit_seq, component, aircraft, position, 
 abbrev pub open_spans_by_aircraft : List ℕ
 open_spans_by_aircraft = codes "SELECT fit_seq, component, aircraft, position, from_min, remove_seq, to_min FROM span2 WHERE aircraft = ?1 AND remove_seq IS NULL ORDER BY fit_seq"
 
--- ── pages, and the last row ──
-
-abbrev pub sector1_page : List ℕ
-sector1_page = codes "SELECT seq, aircraft, page, line, took_off, landed, cycles FROM sector1 WHERE seq > ?1 ORDER BY seq LIMIT 64"
-
-abbrev pub extension_page : List ℕ
-extension_page = codes "SELECT seq, defect, day, days FROM extension WHERE seq > ?1 ORDER BY seq LIMIT 64"
+-- ── the last row ──
 
 abbrev pub last_entry : List ℕ
 last_entry = codes "SELECT seq, doc, kind FROM entry ORDER BY seq DESC LIMIT 1"

@@ -44,15 +44,6 @@ pub fn count_rows<S: Alter, R: Stored>(
     }
 }
 
-/// How many entries there are. Its errors are those of `count_rows`.
-pub fn count_entry<S: Alter>(tx: &mut Transaction<'_, S>) -> Result<u32, TableFault>
-    ensures same_reference { tx.new.conn.ghost_name ≡ tx.old.conn.ghost_name }
-    ensures counts { CountsRows kept_entry
-        (state S.Store tx.old.conn.now) (state S.Store tx.new.conn.now) result }
-{
-    count_rows::<S, EntryRow>(tx, "SELECT count(*) FROM entry")
-}
-
 /// How many aircraft there are. Its errors are those of `count_rows`.
 pub fn count_aircraft<S: Alter>(tx: &mut Transaction<'_, S>) -> Result<u32, TableFault>
     ensures same_reference { tx.new.conn.ghost_name ≡ tx.old.conn.ghost_name }

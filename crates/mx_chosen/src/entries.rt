@@ -1,9 +1,10 @@
 //! Entries that are chosen.
-ghost use Rattle.std.specs.Prelude.{◌≡◌, pos};
+ghost use Rattle.std.specs.Prelude.{◌≡◌, pos, Some};
 ghost use Rattle.sqlite.specs.declared.types.Value.TheVariants.{Int, Text};
 ghost use Rattle.sqlite.specs.Held.{state};
 ghost use Rattle.mx_kept.specs.Cells.{kept_entry};
-ghost use Rattle.mx_chosen.specs.Calls.{ReadsBy};
+ghost use Rattle.mx_chosen.specs.Choices.{backward, is_any};
+ghost use Rattle.mx_chosen.specs.Calls.{ReadsBy, ReadsFirst};
 
 use crate::prelude::*;
 use mx_base::Doc;
@@ -42,5 +43,23 @@ pub fn entry_by_doc<S: Alter>(
         tx,
         "SELECT seq, doc, kind FROM entry WHERE doc = ?1 ORDER BY seq",
         params![doc.as_str()],
+    )
+}
+
+/// The last entry, if there is one.
+pub fn last_entry<S: Alter>(
+    alloc: Global,
+    tx: &mut Transaction<'_, S>,
+) -> Result<Vec<EntryRow>, TableFault>
+    ensures same_reference { tx.new.conn.ghost_name ≡ tx.old.conn.ghost_name }
+    ensures reads { ReadsFirst kept_entry (Some 1) (backward kept_entry.order)
+        is_any (λ rows. rows.items)
+        (state S.Store tx.old.conn.now) (state S.Store tx.new.conn.now) result }
+{
+    rows_chosen(
+        alloc,
+        tx,
+        "SELECT seq, doc, kind FROM entry ORDER BY seq DESC LIMIT 1",
+        &[],
     )
 }

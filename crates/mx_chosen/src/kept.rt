@@ -138,24 +138,6 @@ pub fn total2_by_item<S: Alter>(
     )
 }
 
-/// The last bases of an item.
-pub fn base2_by_item<S: Alter>(
-    alloc: Global,
-    tx: &mut Transaction<'_, S>,
-    item: u32,
-) -> Result<Vec<BaseRow>, TableFault>
-    ensures same_reference { tx.new.conn.ghost_name ≡ tx.old.conn.ghost_name }
-    ensures reads { ReadsBy kept_base2 0 (Int (pos item))
-        (state S.Store tx.old.conn.now) (state S.Store tx.new.conn.now) result }
-{
-    rows_chosen(
-        alloc,
-        tx,
-        "SELECT item, task, minutes, cycles, day FROM base2 WHERE item = ?1 ORDER BY item, task",
-        params![item],
-    )
-}
-
 /// The last base of a task of an item: at most one.
 pub fn base2_by_item_and_task<S: Alter>(
     alloc: Global,

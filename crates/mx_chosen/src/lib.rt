@@ -1,4 +1,4 @@
-//! Rows of a table that are chosen by what stands in their columns: read in the order of the key or page by page, deleted,
+//! Rows of a table that are chosen by what stands in their columns: read in the order of the key, deleted,
 //! and replaced. Each call is made inside a `Transaction`, which the caller commits or drops.
 #![tactic(auto)]
 
@@ -9,7 +9,6 @@ pub mod defects;
 pub mod entries;
 pub mod items;
 pub mod kept;
-pub mod pages;
 mod prelude;
 pub mod programmes;
 pub mod sectors;

@@ -26,24 +26,6 @@ pub fn opening_by_seq<S: Alter>(
     )
 }
 
-/// The accomplishments before the records that were stated of an item.
-pub fn opening_by_item<S: Alter>(
-    alloc: Global,
-    tx: &mut Transaction<'_, S>,
-    item: u32,
-) -> Result<Vec<OpeningRow>, TableFault>
-    ensures same_reference { tx.new.conn.ghost_name ≡ tx.old.conn.ghost_name }
-    ensures reads { ReadsBy kept_opening 1 (Int (pos item))
-        (state S.Store tx.old.conn.now) (state S.Store tx.new.conn.now) result }
-{
-    rows_chosen(
-        alloc,
-        tx,
-        "SELECT seq, item, kind, task, minutes, cycles, day FROM opening WHERE item = ?1 ORDER BY seq",
-        params![item],
-    )
-}
-
 /// The release of an entry: at most one.
 pub fn crs_by_seq<S: Alter>(
     alloc: Global,

@@ -15,8 +15,7 @@ ghost use Rattle.mx_lookups.specs.Reads.{Reads};
 ghost use Rattle.mx_lookups.specs.Told.{EntryDamage, LastDamage, TellsDamage};
 
 use mx_base::Doc;
-use mx_chosen::entries::entry_by_doc;
-use mx_chosen::pages::last_entry;
+use mx_chosen::entries::{entry_by_doc, last_entry};
 use mx_found::entries::{deferral_number, entry_number, last_number};
 use mx_layout::TableFault;
 use sqlite::{Alter, Transaction};

@@ -1,6 +1,5 @@
 -- The merge gives a book exactly from its registers.
-use Rattle.std.proofs.Common.{◌≡◌, ℕ, ◌+◌, ◌≤◌, ◌==◌, cond, true, false, List, [], ◌∷◌, ◌++◌, length, Option, Some, None, sym, ap, ◌∙◌, arith, append_assoc, append-nil, length-append}
-use Rattle.std.specs.Prelude.{Result, Ok, Err, IfOk}
+use Rattle.std.proofs.Common.{◌≡◌, ℕ, ◌+◌, ◌≤◌, ◌==◌, cond, true, false, List, [], ◌∷◌, ◌++◌, length, Some, None, sym, ap, ◌∙◌, arith, append_assoc, append-nil, length-append}
 use Rattle.std.specs.List.{list_all}
 use Rattle.std.specs.Option.{option_and_then, option_map}
 use Rattle.std.proofs.lemmas.Bool.Decides.{nat_tests}
@@ -216,8 +215,3 @@ book_once one other same is was =
 -- registers are those of at most one book
 pub one_book : (registers : Registers) (one other : List Entry) → AreRegistersOf registers one → AreRegistersOf registers other → IsBook one → IsBook other → one ≡ other
 one_book registers one other are were is was = same_some (sym (merged_from registers one is are) ∙ merged_from registers other was were)
-
--- a result that is what the merge gives, where that is a book
-pub found_is : {Fault : Type 0} {given : Option (List Entry)} {book : List Entry} (result : Result (Option (List Entry)) Fault) → IfOk result (λ found. found ≡ given) → given ≡ Some book → IfOk result (λ found. found ≡ Some book)
-found_is (Ok found) h e = h ∙ e
-found_is (Err fault) h e = tt

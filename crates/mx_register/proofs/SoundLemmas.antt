@@ -1,6 +1,5 @@
 -- The rows from which a merge gives a book are the registers of that book.
 use Rattle.std.proofs.Common.{◌≡◌, ℕ, ◌+◌, ◌==◌, Bool, cond, ◌&&◌, true, false, List, [], ◌∷◌, ◌++◌, length, Option, Some, None, refl, sym, ap, subst, ◌∙◌, arith, append_assoc, append-nil}
-use Rattle.std.specs.Prelude.{Result, Ok, Err, IfOk, IfSome}
 use Rattle.std.specs.Option.{option_and_then, option_map}
 use Rattle.std.proofs.lemmas.Bool.{eqb-true}
 use Rattle.std.proofs.lemmas.Option.{option_and_then_some}
@@ -320,13 +319,3 @@ merged_sound registers book h =
       fittings = ap (λ (r : Rest). r.fittings) rows;
       removals = ap (λ (r : Rest). r.removals) rows;
     }
-
-sound_if : (registers : Registers) (found : Option (List Entry)) → found ≡ merged [] registers.entries.items (all_rows registers) → IfSome found (λ book. AreRegistersOf registers book)
-sound_if registers None h = tt
-sound_if registers (Some book) h = merged_sound registers book (sym h)
-
--- a book that is what the merge gives has these registers
-pub found_sound : {Fault : Type 0} (registers : Registers) (result : Result (Option (List Entry)) Fault) → IfOk result (λ found. found ≡ merged [] registers.entries.items (all_rows registers))
-    → IfOk result (λ found. IfSome found (λ book. AreRegistersOf registers book))
-found_sound registers (Ok found) h = sound_if registers found h
-found_sound registers (Err fault) h = tt

@@ -1,6 +1,6 @@
 -- Worked examples: the rows that the entries of a book give, and the book that rows give.
 use Rattle.std.proofs.Common.{refl, ◌≡◌, ℕ, List, [], ◌∷◌, Option, Some, None}
-use Rattle.std.specs.Prelude.{codes}
+use Rattle.std.specs.Prelude.{codes, map, option_map}
 use Rattle.std.specs.Fmt.{digits}
 use Rattle.mx_command.specs.Act.{Entry}
 use Rattle.mx_book.proofs.Worked.{at, abcd}
@@ -149,6 +149,43 @@ given_back = refl
 
 no_rows_no_entries : merged [] [] no_rows ≡ Some []
 no_rows_no_entries = refl
+
+-- an entry less, and a row less in any register, are of no book
+entry_less : merged [] first_entries rows ≡ None
+unfolding digits
+entry_less = refl
+
+rows_less : map (merged [] entries)
+    (record rows { aircraft = first_aircraft_row ∷ [] } ∷ record rows { places = place 1 1 engine (codes "IO360") ∷ place 1 2 propeller (codes "HC2") ∷ [] }
+    ∷ record rows { components = component_with 2 e1 ∷ [] } ∷ record rows { sectors = first_sector_row ∷ second_sector_row ∷ [] }
+    ∷ record rows { fittings = fitted_row 4 2 1 (at 19754 0 0) ∷ fitted_row 7 3 1 (at 19783 9 30) ∷ [] } ∷ record rows { removals = removed_row 6 2 ∷ [] } ∷ [])
+    ≡ None ∷ None ∷ None ∷ None ∷ None ∷ None ∷ []
+unfolding digits
+rows_less = refl
+
+-- a sector that names an entry which adds no aircraft, and a removal that no entry states
+other_aircraft : merged [] entries (record rows { sectors = record first_sector_row { aircraft = 2 } ∷ second_sector_row ∷ last_sector_row ∷ [] }) ≡ None
+unfolding digits
+other_aircraft = refl
+
+removal_more : merged [] entries (record rows { removals = removed_row 6 2 ∷ removed_row 8 3 ∷ removed_row 9 3 ∷ [] }) ≡ None
+unfolding digits
+removal_more = refl
+
+-- the rows with a position more
+abbrev with_place : PlaceRow → Rest
+with_place row = record rows { places = place 1 1 engine (codes "IO360") ∷ place 1 2 propeller (codes "HC2") ∷ place 10 1 engine (codes "IO360") ∷ row ∷ [] }
+
+-- on the next line of its aircraft it gives another book, in which the aircraft has that position
+place_more : option_map place_rows (merged [] entries (with_place (place 10 2 propeller (codes "HC2"))))
+    ≡ Some (place 1 1 engine (codes "IO360") ∷ place 1 2 propeller (codes "HC2") ∷ place 10 1 engine (codes "IO360") ∷ place 10 2 propeller (codes "HC2") ∷ [])
+unfolding digits
+place_more = refl
+
+-- on a line behind that, or of an entry which adds no aircraft, it is of no book
+other_place : map (λ row. merged [] entries (with_place row)) (place 10 3 propeller (codes "HC2") ∷ place 11 1 propeller (codes "HC2") ∷ []) ≡ None ∷ None ∷ []
+unfolding digits
+other_place = refl
 
 -- a row of any register that no entry takes is of no book
 aircraft_left : merged [] [] (record no_rows { aircraft = first_aircraft_row ∷ [] }) ≡ None

@@ -1,6 +1,6 @@
 -- Worked registers of deferred defects: their rows, and the book that rows give.
 use Rattle.std.proofs.Common.{refl, ◌≡◌, ℕ, List, [], ◌∷◌, true, Some, None}
-use Rattle.std.specs.Prelude.{codes, map}
+use Rattle.std.specs.Prelude.{codes, map, option_map}
 use Rattle.std.specs.List.{list_all}
 use Rattle.mx_command.specs.Act.{Act, Entry, Released, Deferred, Extended}
 use Rattle.mx_command.specs.Shape.{has_shape}
@@ -155,6 +155,14 @@ other_defect = refl
 -- a line that has a defect beside an item and a task, or names an entry which defers nothing
 other_line : map (λ line. merged [] entries (record rows { release_lines = done_row ∷ line ∷ [] })) (record (rectified_row 3) { item = Some 1; task = Some (codes "100H") } ∷ rectified_row 1 ∷ []) ≡ None ∷ None ∷ []
 other_line = refl
+
+-- a deferral, an extension or each line of the release less is of no book
+rows_less : map (merged [] entries) (record rows { deferrals = stated_row 1 ∷ [] } ∷ record rows { extensions = [] } ∷ record rows { release_lines = [] } ∷ []) ≡ None ∷ None ∷ None ∷ []
+rows_less = refl
+
+-- the last line of the release less gives another book, in which the defect is open
+line_less : option_map release_line_rows (merged [] entries (record rows { release_lines = done_row ∷ [] })) ≡ Some (done_row ∷ [])
+line_less = refl
 
 -- a row that no entry takes is of no book
 deferral_left : merged [] [] (record no_rows { deferrals = stated_row 1 ∷ [] }) ≡ None

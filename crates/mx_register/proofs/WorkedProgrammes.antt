@@ -1,6 +1,6 @@
 -- Worked registers of programmes and openings: their rows, and the book that rows give.
 use Rattle.std.proofs.Common.{refl, ◌≡◌, ℕ, List, [], ◌∷◌, true, false, Some, None}
-use Rattle.std.specs.Prelude.{codes, map}
+use Rattle.std.specs.Prelude.{codes, map, option_map}
 use Rattle.std.specs.List.{list_all}
 use Rattle.mx_base.specs.declared.amounts.Limit.{Limit}
 use Rattle.mx_base.specs.declared.amounts.Tolerance.{Tolerance}
@@ -154,6 +154,15 @@ task_on_third_line = refl
 
 programme_without_task : merged [] entries (record rows { tasks = hundred_hours_row ∷ once_row ∷ [] }) ≡ None
 programme_without_task = refl
+
+-- a programme or an opening less is of no book
+rows_less : map (merged [] entries) (record rows { programmes = programme 3 1 ∷ [] } ∷ record rows { openings = airframe_opening 1 ∷ [] } ∷ []) ≡ None ∷ None ∷ []
+rows_less = refl
+
+-- a task more gives another book, whose programme has it
+task_more : option_map task_rows (merged [] entries (record rows { tasks = hundred_hours_row ∷ once_row ∷ disc_row ∷ record once_row { seq = 6 } ∷ [] }))
+    ≡ Some (hundred_hours_row ∷ once_row ∷ disc_row ∷ record once_row { seq = 6 } ∷ [])
+task_more = refl
 
 -- a row that no entry takes is of no book
 programme_left : merged [] [] (record no_rows { programmes = programme 1 1 ∷ [] }) ≡ None

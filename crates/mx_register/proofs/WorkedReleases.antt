@@ -148,6 +148,10 @@ line_on_third = refl
 release_without_line : with_lines (inspection_row ∷ engine_row ∷ []) ≡ None
 release_without_line = refl
 
+-- a release less
+release_less : merged [] entries (record rows { releases = aircraft_release 1 None ∷ [] }) ≡ None
+release_less = refl
+
 -- a row that no entry takes is of no book
 release_left : merged [] [] (record no_rows { releases = shop_release 4 (Some c172) ∷ [] }) ≡ None
 release_left = refl

@@ -1,15 +1,14 @@
-//! The book that registers are those of.
-ghost use Rattle.std.specs.Prelude.{◌≡◌, ◌≢◌, List, [], IfOk, IfSome, IsSome, OnErr, Some};
+//! What the book that registers are those of is made with: the command that an entry and the first rows of its kind say, and
+//! whether rows are left over.
+ghost use Rattle.std.specs.Prelude.{◌≡◌, IfOk, IsSome, OnErr};
 ghost use Rattle.std.specs.Option.{option_map};
-ghost use Rattle.mx_command.specs.Act.{act_of, Entry, sector_of};
-ghost use Rattle.mx_book.specs.Book.{IsBook};
-ghost use Rattle.mx_register.specs.Registers.{AreRegistersOf};
-ghost use Rattle.mx_register.specs.Merge.{are_defects_taken, are_items_taken, are_moves_taken, are_programmes_taken, are_releases_taken, are_taken, command_of, is_next, merged, take_by, take_command};
+ghost use Rattle.mx_command.specs.Act.{act_of, sector_of};
+ghost use Rattle.mx_register.specs.Merge.{are_defects_taken, are_items_taken, are_moves_taken, are_programmes_taken, are_releases_taken, are_taken, command_of, take_by, take_command};
 ghost use Rattle.mx_register.specs.Left.{all_rows, rest_of, taken};
 
 use crate::taking::{Left, take_said};
 use mx_base::Doc;
-use mx_book::{Book, NoMemory, Verdict};
+use mx_book::{Book, NoMemory};
 use mx_command::{Body, Command, MakeFault};
 use mx_typed_rows::{EntryRow, RegisterRows};
 use std::alloc::Global;
@@ -121,52 +120,4 @@ pub fn next_command<'a>(
         return Ok(None);
     };
     Ok(Some((command, rest)))
-}
-
-// Whether an entry has the next number, and its command is new.
-fn is_next_of(book: &Book, entry: &EntryRow, command: &Command) -> bool
-    ensures { result ≡ is_next book.now entry.now command.now }
-{
-    entry.seq == book.len() + 1 && book.judge(command) == Verdict::New
-}
-
-// The book that the rows are those of, as it is computed. Memory is asked for only where there is an entry.
-fn merged_book(alloc: Global, entries: &[EntryRow], all: Left<'_>) -> Result<Option<Book>, NoMemory>
-    ensures found { IfOk result (λ found. found ≡ merged [] entries.now (rest_of all.entry)) }
-    ensures memory { OnErr result (entries.now ≢ []) }
-{
-    let mut book = Book::new(alloc);
-    let mut coming = entries;
-    let mut rows = all;
-    while let Some((entry, later)) = coming.split_first() {
-        let Some((command, rest)) = next_command(alloc, &book, entry, rows)? else {
-            return Ok(None);
-        };
-        if !is_next_of(&book, entry, &command) {
-            return Ok(None);
-        }
-        match book.enter(command) {
-            Ok(_) => {}
-            Err((_, no_memory)) => return Err(no_memory),
-        }
-        rows = rest;
-        coming = later;
-    }
-    if are_all_taken(rows) {
-        Ok(Some(book))
-    } else {
-        Ok(None)
-    }
-}
-
-/// The book that the registers are those of, or `None` where they are those of no book. `NoMemory` where
-/// memory runs out, which comes only where there is an entry.
-pub fn merge(alloc: Global, registers: &Registers) -> Result<Option<Book>, NoMemory>
-    ensures exact { (book : List Entry) → IsBook book → AreRegistersOf registers.now book
-        → IfOk result (λ found. found ≡ Some book) }
-    ensures sound { IfOk result (λ found. IfSome found
-        (λ book. AreRegistersOf registers.now book)) }
-    ensures memory { OnErr result (registers.now.entries.items ≢ []) }
-{
-    merged_book(alloc, registers.entries.as_slice(), rows_of(registers))
 }

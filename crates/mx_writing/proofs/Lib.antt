@@ -3,4 +3,3 @@ pub mod CellLemmas
 pub mod EnterLemmas
 pub mod StandLemmas
 pub mod ThereLemmas
-pub mod CommitLemmas

@@ -3,20 +3,17 @@
 //!
 //! # What is promised
 //!
-//! Over any rows (`Commits`): where a command was committed, each table has its rows from before with those of the command,
-//! added or in place of those with their keys, and every table for which it has none is as it was; whatever is answered, a
-//! crash leaves the tables from before or those with this one commit. Over the tables of a book (`CommitsCommand`): they
-//! stand for the book with the command, and a crash leaves the one book or the other.
+//! Over any rows (`with_rows`): each table has its rows from before with those of the command, added or in place of those with
+//! their keys, and every table for which it has none is as it was. The commit is its caller's (`mx_apply`), who says of it in the words of
+//! this crate (`IsWritten`, `MayWrite`) what it makes of the file.
 //!
 //! One law (`commands_enter`) says that the rows of a command make of what a book gives each table what the book with
 //! the command gives it: a line for each table, and one for all that only gain rows.
 #![tactic(auto)]
 
-pub mod committing;
 pub mod laws;
 mod pairs;
 mod replacing;
 pub mod writing;
 
-pub use committing::commit_rows;
 pub use writing::write_rows;
