@@ -3,7 +3,7 @@ ghost use Rattle.std.specs.Prelude.{◌≡◌, ◌↔◌, IsTrue};
 
 use mx_typed_rows::{
     AircraftRow, ComponentRow, DeferralRow, ExtensionRow, OpeningRow, PlaceRow, ProgrammeRow,
-    ReleaseLineRow, ReleaseRow, SectorRow, TaskRow,
+    ReleaseLineRow, ReleaseRow, TaskRow,
 };
 
 /// Whether these are the same rows of aircraft.
@@ -43,13 +43,6 @@ pub fn are_same_tasks(found: &[TaskRow], given: &[TaskRow]) -> bool
 
 /// Whether these are the same rows of openings.
 pub fn are_same_openings(found: &[OpeningRow], given: &[OpeningRow]) -> bool
-    ensures { IsTrue result ↔ (found.now ≡ given.now) }
-{
-    found == given
-}
-
-/// Whether these are the same rows of sectors.
-pub fn are_same_sectors(found: &[SectorRow], given: &[SectorRow]) -> bool
     ensures { IsTrue result ↔ (found.now ≡ given.now) }
 {
     found == given
