@@ -1,2 +1,1 @@
 pub mod QuestionLemmas
-pub mod Worked

@@ -4,10 +4,10 @@ use Rattle.std.specs.Option.{option_map}
 use Rattle.sqlite.specs.Store.{Ghosts}
 use Rattle.mx_command.specs.Act.{Entry}
 use Rattle.mx_book.specs.declared.verdict.Refusal.{Refusal}
-use Rattle.mx_office.specs.declared.fault.Ask.{Ask}
-use Rattle.mx_office.specs.declared.fault.Ask.TheVariants.{Failed}
-use Rattle.mx_office.specs.declared.fault.Fault.{Fault}
-use Rattle.mx_office.specs.declared.fault.Fault.TheVariants.{Damaged}
+use Rattle.mx_faults.specs.declared.fault.Ask.{Ask}
+use Rattle.mx_faults.specs.declared.fault.Ask.TheVariants.{Failed}
+use Rattle.mx_faults.specs.declared.fault.Fault.{Fault}
+use Rattle.mx_faults.specs.declared.fault.Fault.TheVariants.{Damaged}
 use Rattle.mx_office.specs.declared.office.Office.{Office}
 use Rattle.mx_office.specs.Faults.{found_or, IsAnswer}
 use Rattle.mx_office.specs.Questions.{IsAnsweredBy}

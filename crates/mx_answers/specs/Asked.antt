@@ -5,11 +5,11 @@ use Rattle.mx_book.specs.declared.verdict.Refusal.TheVariants.{UnknownAircraft}
 use Rattle.mx_office.specs.Calls.{stop_asking, IsAsked}
 use Rattle.mx_office.specs.Faults.{found_or}
 use Rattle.mx_office.specs.Questions.{IsAnsweredBy}
-use Rattle.mx_office.specs.declared.fault.Ask.{Ask}
+use Rattle.mx_faults.specs.declared.fault.Ask.{Ask}
 use Rattle.mx_office.specs.declared.office.Office.{Office}
-use Rattle.mx_answers.specs.Question.{IsOfKind, report_of}
+use Rattle.mx_questions.specs.Report.{IsOfKind, report_of}
 use Rattle.mx_questions.specs.declared.question.Question.{Question}
-use Rattle.mx_answers.specs.declared.question.Report.{Report}
+use Rattle.mx_questions.specs.declared.report.Report.{Report}
 
 -- a question was asked, no table changed, and P holds of the answer: of the book that the tables stand for, or of whichever book they hold
 abbrev pub Asks : {S : Type 0} {g : Ghosts S} → Question → Office S g → Office S g → (Result Report Ask → Type 0) → Type 0

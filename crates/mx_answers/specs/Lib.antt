@@ -1,3 +1,1 @@
 pub mod Asked
-pub mod FaultLine
-pub mod Question

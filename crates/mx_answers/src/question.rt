@@ -9,25 +9,15 @@ ghost use Rattle.mx_office.specs.Faults.{found_or};
 ghost use Rattle.mx_office.specs.Calls.{stop_asking, IsAsked};
 ghost use Rattle.mx_office.specs.Questions.{IsAnsweredBy};
 ghost use Rattle.mx_questions.specs.declared.question.Question.TheVariants as asked;
-ghost use Rattle.mx_answers.specs.Question.{IsOfKind, report_of};
-ghost use Rattle.mx_answers.specs.declared.question.Report.TheVariants as report;
+ghost use Rattle.mx_questions.specs.Report.{IsOfKind, report_of};
+ghost use Rattle.mx_questions.specs.declared.report.Report.TheVariants as report;
 
 use mx_base::{Day, Tail};
 use mx_book::Refusal;
-use mx_lists::{DueList, ForecastList, LifeList, LimitList};
 use mx_office::{Ask, Office};
-use mx_questions::Question;
+use mx_questions::{Question, Report};
 use sqlite::Alter;
 use std::alloc::Global;
-
-/// A list of an aircraft.
-#[derive(Drop)]
-pub enum Report {
-    Life(LifeList),
-    Due(DueList),
-    Forecast(ForecastList),
-    Limits(LimitList),
-}
 
 // Asks for the life of an aircraft.
 fn life_report<S: Alter>(alloc: Global, office: &mut Office<S>, tail: &Tail) -> Result<Report, Ask>

@@ -19,8 +19,8 @@ use Rattle.mx_stands.specs.Schemas.{schema_at}
 use Rattle.mx_stands.specs.Stands.{IsEither, RestsAt, StandsAt}
 use Rattle.mx_tables.specs.Calls.{OnRead}
 use Rattle.mx_tables.specs.Sets.{GainsRows}
-use Rattle.mx_lookups.specs.Damage.{IsDamaged}
-use Rattle.mx_lookups.specs.Reads.{IsStop}
+use Rattle.mx_numbers.specs.Damage.{IsDamaged}
+use Rattle.mx_numbers.specs.Reads.{IsStop}
 use Rattle.mx_made.specs.Found.{AreRowsFor}
 use Rattle.mx_rows.specs.Answering.{AnswerAs}
 use Rattle.mx_writing.specs.Changes.{AllRise}

@@ -1,10 +1,7 @@
 pub mod AcceptedLemmas
-pub mod AnswerLemmas
 pub mod BaseLemmas
 pub mod Chaining
 pub mod DefectLemmas
-pub mod FactsLemmas
-pub mod FindLemmas
 pub mod Gathering
 pub mod GrowthLemmas
 pub mod JudgeLemmas
@@ -13,7 +10,6 @@ pub mod LifeLemmas
 pub mod ListLemmas
 pub mod NamedLemmas
 pub mod PassLemmas
-pub mod ReleaseLemmas
 pub mod RevisionLemmas
 pub mod SpanLemmas
 pub mod Worked

@@ -15,7 +15,7 @@ use Rattle.mx_book.specs.Judge.{judge, is_full, refusal_number}
 use Rattle.mx_book.specs.Book.{entry_at, entries_from}
 use Rattle.mx_book.proofs.Worked.{at, used, abcd, a1, logged, first_sector, first_two}
 use Rattle.mx_book.proofs.WorkedFittings.{engine, propeller, e1, e2, engine_with, fit, remove, first_aircraft, replaced, without_engine, on_another, two_parts}
-use Rattle.mx_book.specs.declared.judging.TheConstants.{MOST_ENTRIES, MOST_AIRCRAFT, MOST_COMPONENTS}
+use Rattle.mx_book.specs.declared.limits.TheConstants.{MOST_ENTRIES, MOST_AIRCRAFT, MOST_COMPONENTS}
 
 -- ── the ends of a span ──
 

@@ -6,7 +6,6 @@ pub mod Programme
 pub mod Defect
 pub mod Judge
 pub mod Reading
-pub mod Plain
 pub mod Asking
 pub mod Facts
 pub mod Book

@@ -1,12 +1,10 @@
 //! What there is against a command, gathered by several questions before it is judged.
-ghost use Rattle.std.specs.Prelude.{◌≡◌, ◌||◌};
-ghost use Rattle.mx_book.specs.Facts.{no_facts, either as either_of};
 
 use mx_base::{Kind, Moment};
 
 /// What there is against one or more lines of a release.
 #[derive(Clone, Copy)]
-pub(crate) struct LineFacts {
+pub struct LineFacts {
     /// An airframe is named that is unknown.
     pub unknown_aircraft: bool,
     /// A component is named that is unknown.
@@ -31,7 +29,7 @@ pub(crate) struct LineFacts {
 
 /// What there is against the place of a release, and what its lines are judged by.
 #[derive(Clone, Copy)]
-pub(crate) struct PlaceFacts {
+pub struct PlaceFacts {
     /// The place is at an aircraft that is unknown.
     pub unknown_aircraft: bool,
     /// The place is a shop, and its component is unknown.
@@ -46,7 +44,7 @@ pub(crate) struct PlaceFacts {
 
 /// What there is against the fitting of a component to a position of an aircraft, both of which are known.
 #[derive(Clone, Copy)]
-pub(crate) struct FittingFacts {
+pub struct FittingFacts {
     /// A component is fitted to the position already.
     pub taken: bool,
     /// The component is fitted somewhere.
@@ -59,7 +57,7 @@ pub(crate) struct FittingFacts {
 
 /// What there is against the opening of a task, and whether the task applies to the item.
 #[derive(Clone, Copy)]
-pub(crate) struct OpeningFacts {
+pub struct OpeningFacts {
     /// The task applies to the item.
     pub applies: bool,
     /// The task of the item was accomplished.
@@ -70,47 +68,4 @@ pub(crate) struct OpeningFacts {
     pub too_late: bool,
     /// There is more use than the item brought with it.
     pub too_large: bool,
-}
-
-/// Nothing against a line.
-pub(crate) fn no_facts() -> LineFacts
-    ensures { result ≡ no_facts }
-{
-    LineFacts {
-        unknown_aircraft: false,
-        unknown_component: false,
-        without_programme: false,
-        unknown_task: false,
-        unknown_defect: false,
-        item_elsewhere: false,
-        closed_task: false,
-        retirement: false,
-        closed_defect: false,
-        other_aircraft: false,
-    }
-}
-
-// Whether one of two holds, both of which are known.
-fn one_of(a: bool, b: bool) -> bool
-    ensures { result ≡ a || b }
-{
-    a || b
-}
-
-/// What there is against one line or another.
-pub(crate) fn either(a: &LineFacts, b: &LineFacts) -> LineFacts
-    ensures { result ≡ either_of a.now b.now }
-{
-    LineFacts {
-        unknown_aircraft: one_of(a.unknown_aircraft, b.unknown_aircraft),
-        unknown_component: one_of(a.unknown_component, b.unknown_component),
-        without_programme: one_of(a.without_programme, b.without_programme),
-        unknown_task: one_of(a.unknown_task, b.unknown_task),
-        unknown_defect: one_of(a.unknown_defect, b.unknown_defect),
-        item_elsewhere: one_of(a.item_elsewhere, b.item_elsewhere),
-        closed_task: one_of(a.closed_task, b.closed_task),
-        retirement: one_of(a.retirement, b.retirement),
-        closed_defect: one_of(a.closed_defect, b.closed_defect),
-        other_aircraft: one_of(a.other_aircraft, b.other_aircraft),
-    }
 }

@@ -30,7 +30,7 @@ pub fn birth_of(found: &Found) -> Day
 }
 
 /// The moment up to which the opening of an item counts, or the first of all where the item is unknown.
-pub(crate) fn as_of(found: &Found) -> Moment
+pub fn as_of(found: &Found) -> Moment
     ensures { result ≡ as_of_in found.now }
 {
     match found {
@@ -41,7 +41,7 @@ pub(crate) fn as_of(found: &Found) -> Moment
 }
 
 /// The use that an item brought with it, or `None` where the item is unknown.
-pub(crate) fn opening_use(found: &Found) -> Option<Use>
+pub fn opening_use(found: &Found) -> Option<Use>
     ensures { result ≡ opening_in found.now }
 {
     match found {
@@ -65,7 +65,7 @@ pub fn is_task_of(found: &Found, task: &Task) -> bool
 }
 
 /// Whether an item is an airframe of another kind.
-pub(crate) fn is_other_aircraft(found: &Found, kind: &Kind) -> bool
+pub fn is_other_aircraft(found: &Found, kind: &Kind) -> bool
     ensures { result ≡ is_other_kind_in kind.now found.now }
 {
     match found {

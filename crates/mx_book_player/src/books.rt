@@ -2,12 +2,12 @@
 
 use crate::same::are_same;
 use mx_base::{Moment, Serial, Tail, Use};
-use mx_book::Book;
 use mx_cases::{
     Unmade, append_number, command_of, documents, listed, number_text, verdict_text, yes_or_no,
 };
 use mx_command::{Command, Item};
 use mx_lists::life_list_of;
+use mx_plain::Book;
 use std::alloc::Global;
 
 // judge COMMAND: the verdict on it, where nothing is entered.

@@ -1,9 +1,9 @@
 //! Questions on deferred defects: which are open, and the last day of each.
 
 use mx_base::{Day, Tail};
-use mx_book::Book;
 use mx_cases::{Unmade, append_joined, listed, or_none};
 use mx_lists::limits_of;
+use mx_plain::Book;
 use std::alloc::Global;
 
 // open-defects TAIL: the documents of the open defects, in the order of their entries.

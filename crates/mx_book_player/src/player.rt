@@ -1,9 +1,10 @@
 //! The player: a book that commands are handed in to, and that is asked.
 
 use crate::{books, calendar, commands, defects, dues, identifiers};
-use mx_book::{Book, Reply, Verdict};
+use mx_book::{Reply, Verdict};
 use mx_cases::{Plays, Unmade, answer_of, command_of, reply_in, room_for_reply, verdict_text};
 use mx_command::Command;
+use mx_plain::Book;
 use std::alloc::{AllocError, Global};
 
 /// A book in memory.

@@ -3,8 +3,8 @@
 use crate::programmes::programme_of;
 use crate::releases::release_of;
 use mx_base::{BadText, Day, Doc, Kind, MelRef, Moment, Part, Position, Serial, Tail, TaskId, Use};
-use mx_book::NoMemory;
 use mx_command::{Body, Category, Command, Item, MakeFault};
+use mx_plain::NoMemory;
 use std::alloc::{AllocError, AllocFailed, Global};
 use std::num::ParseIntError;
 

@@ -2,3 +2,4 @@ pub mod CommandLine
 pub mod Job
 pub mod Number
 pub mod Trial
+pub mod Usage

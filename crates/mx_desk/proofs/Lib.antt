@@ -3,4 +3,3 @@ pub mod ServeLemmas
 pub mod SilentLemmas
 pub mod TakenLemmas
 pub mod Worked
-mod WorkedServing

@@ -15,17 +15,18 @@ use Rattle.mx_office.specs.Office.{office_state, IsReady, StandsFor}
 use Rattle.mx_office.specs.Questions.{IsAnsweredBy}
 use Rattle.mx_office.proofs.OfficeLemmas.{rests_still}
 use Rattle.mx_office.specs.Stands.{IsEither, Rests}
-use Rattle.mx_office.specs.declared.fault.Ask.{Ask}
-use Rattle.mx_office.specs.declared.fault.Fault.{Fault}
-use Rattle.mx_office.specs.declared.fault.Fault.TheVariants.{Memory, Store, NeedsReopen, Damaged}
+use Rattle.mx_faults.specs.declared.fault.Ask.{Ask}
+use Rattle.mx_faults.specs.declared.fault.Fault.{Fault}
+use Rattle.mx_faults.specs.declared.fault.Fault.TheVariants.{Memory, Store, NeedsReopen, Damaged}
 use Rattle.mx_office.specs.declared.office.Office.{Office}
-use Rattle.mx_import.specs.Rows.{good_rows, told}
-use Rattle.mx_answers.specs.Question.{report_of}
+use Rattle.mx_sector_log.specs.Rows.{good_rows, told}
+use Rattle.mx_questions.specs.Report.{report_of}
 use Rattle.mx_questions.specs.declared.question.Question.{Question}
-use Rattle.mx_answers.specs.declared.question.Report.{Report}
-use Rattle.mx_desk.specs.Answer.{Answer, answer_of, list_answer, replies_answer, rows_answer}
+use Rattle.mx_questions.specs.declared.report.Report.{Report}
+use Rattle.mx_responses.specs.Answer.{Answer, list_answer, replies_answer, rows_answer}
 use Rattle.mx_desk.specs.Answered.{AnswersIfRoom}
-use Rattle.mx_desk.specs.Request.{Request, enters, imports, asks, unread, rejected, commands_of}
+use Rattle.mx_desk.specs.BookAnswer.{answer_of}
+use Rattle.mx_responses.specs.Request.{Request, enters, imports, asks, unread, rejected, commands_of}
 use Rattle.mx_desk.specs.Served.{IsServed, LeavesBehind, LeavesSome, Serves}
 
 not_both : (b : Bool) → b ≡ false → b ≡ true → ⊥

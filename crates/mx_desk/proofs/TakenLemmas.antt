@@ -5,8 +5,8 @@ use Rattle.mx_request.specs.Input.{TakesAtMost}
 use Rattle.mx_request.specs.declared.input.TheConstants.{CHUNK}
 use Rattle.mx_request.specs.declared.rejection.Rejection.{Rejection}
 use Rattle.mx_desk.specs.Taken.{TakesBehind, TakesBody, TakesRequest}
-use Rattle.mx_desk.specs.declared.fault.DeskFault.{DeskFault}
-use Rattle.mx_desk.specs.declared.fault.DeskFault.TheVariants as desk
+use Rattle.mx_responses.specs.declared.fault.DeskFault.{DeskFault}
+use Rattle.mx_responses.specs.declared.fault.DeskFault.TheVariants as desk
 
 -- nothing was taken
 pub takes_none : (o : Option (List ℕ)) → TakesAtMost o o 0

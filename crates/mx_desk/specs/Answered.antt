@@ -2,12 +2,12 @@
 use Rattle.std.specs.Prelude.{◌≡◌, ◌⊎◌}
 use Rattle.sqlite.specs.Store.{Ghosts}
 use Rattle.mx_office.specs.Calls.{Runs}
-use Rattle.mx_office.specs.declared.fault.Fault.TheVariants.{Memory}
+use Rattle.mx_faults.specs.declared.fault.Fault.TheVariants.{Memory}
 use Rattle.mx_office.specs.declared.office.Office.{Office}
-use Rattle.mx_import.specs.Rows.{good_rows, told}
+use Rattle.mx_sector_log.specs.Rows.{good_rows, told}
 use Rattle.mx_answers.specs.Asked.{Asks}
-use Rattle.mx_desk.specs.Answer.{Answer, fault_answer, list_answer, rejection_answer, replies_answer, rows_answer, stop_answer}
-use Rattle.mx_desk.specs.Request.{Request, enters, imports, asks, unread, rejected}
+use Rattle.mx_responses.specs.Answer.{Answer, fault_answer, list_answer, rejection_answer, replies_answer, rows_answer, stop_answer}
+use Rattle.mx_responses.specs.Request.{Request, enters, imports, asks, unread, rejected}
 
 module _ {S : Type 0} {g : Ghosts S} where
   -- an office was asked this, and what it answers has P: a line for each reply or each row, or a list

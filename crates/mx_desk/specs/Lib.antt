@@ -1,6 +1,4 @@
-pub mod Answer
 pub mod Answered
-pub mod Request
+pub mod BookAnswer
 pub mod Served
-pub mod Serving
 pub mod Taken

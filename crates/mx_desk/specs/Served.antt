@@ -9,8 +9,8 @@ use Rattle.mx_layout.specs.TableName.{TableName}
 use Rattle.mx_layout.specs.Crash.{Leaves}
 use Rattle.mx_office.specs.Office.{office_state, IsReady, StandsFor}
 use Rattle.mx_office.specs.Stands.{IsEither, Rests}
-use Rattle.mx_office.specs.declared.fault.Fault.{Fault}
-use Rattle.mx_office.specs.declared.fault.Fault.TheVariants.{Memory, Store, Damaged}
+use Rattle.mx_faults.specs.declared.fault.Fault.{Fault}
+use Rattle.mx_faults.specs.declared.fault.Fault.TheVariants.{Memory, Store, Damaged}
 use Rattle.mx_office.specs.declared.office.Office.{Office}
 use Rattle.mx_request.specs.Asked.{AsksFor}
 use Rattle.mx_request.specs.Body.{whole_body}
@@ -20,13 +20,13 @@ use Rattle.mx_request.specs.Response.{response_bytes}
 use Rattle.mx_request.specs.Routes.{Asked}
 use Rattle.mx_request.specs.declared.rejection.Rejection.{Rejection}
 use Rattle.mx_request.specs.declared.rejection.Rejection.TheVariants.{BadRequest}
-use Rattle.mx_request.specs.declared.input.InputFault.{InputFault}
-use Rattle.mx_request.specs.declared.input.InputFault.TheVariants as input
-use Rattle.mx_desk.specs.declared.fault.DeskFault.{DeskFault}
-use Rattle.mx_desk.specs.declared.fault.DeskFault.TheVariants as desk
-use Rattle.mx_desk.specs.Answer.{Answer, answer_of, stop_answer}
+use Rattle.mx_responses.specs.declared.fault.DeskFault.{DeskFault}
+use Rattle.mx_responses.specs.declared.fault.DeskFault.TheVariants as desk
+use Rattle.mx_responses.specs.Answer.{Answer, stop_answer}
+use Rattle.mx_responses.specs.Request.{Request, enters, imports, asks, unread, rejected, commands_of, request_of}
+use Rattle.mx_responses.specs.Stopped.{AppendsSome}
 use Rattle.mx_desk.specs.Answered.{AnswersIfRoom}
-use Rattle.mx_desk.specs.Request.{Request, enters, imports, asks, unread, rejected, commands_of, request_of}
+use Rattle.mx_desk.specs.BookAnswer.{answer_of}
 
 -- ── a book ──
 
@@ -85,10 +85,6 @@ allows (unread fault) = None
 abbrev pub bytes_of : Request → Answer → List ℕ
 bytes_of request answer = response_bytes answer.0 (allows request) answer.1
 
--- a beginning of a text was appended, and nothing behind it
-abbrev pub AppendsSome : Option (List ℕ) → Option (List ℕ) → List ℕ → Type 0
-AppendsSome old new text = (n : ℕ) × Appends old new (take n text)
-
 module _ {S : Type 0} {g : Ghosts S} where
   -- whatever book an office stood for, a crash leaves it behind some commands
   abbrev pub LeavesBook : Office S g → Office S g → Type 0
@@ -133,8 +129,3 @@ pub record IsSilent {X S : Type 0} {g : Ghosts S} (input : List ℕ) (result : R
   pub unasked : new ≡ old
   -- nothing was written
   pub unwritten : Keeps was is
-
--- why a request could not be read
-abbrev pub fault_of_input : InputFault → DeskFault
-fault_of_input input.Memory = desk.Memory
-fault_of_input input.Read = desk.Read

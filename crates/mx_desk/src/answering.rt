@@ -4,20 +4,18 @@ ghost use Rattle.http.specs.Response.{body_of, head_of};
 ghost use Rattle.sqlite.specs.State.{HasCleanDisk};
 ghost use Rattle.mx_office.specs.Office.{office_state, StandsFor};
 ghost use Rattle.mx_request.specs.Routes.{asked};
-ghost use Rattle.mx_desk.specs.Answer.{IsMade};
+ghost use Rattle.mx_responses.specs.Answer.{IsMade};
 ghost use Rattle.mx_desk.specs.Answered.{AnswersIfRoom};
-ghost use Rattle.mx_desk.specs.Request.{asking, request_of};
+ghost use Rattle.mx_responses.specs.Request.{asking, request_of};
 ghost use Rattle.mx_desk.specs.Served.{KeepsBook, LeavesBehind, Serves};
 
 use crate::entering::{enter_listed, import_log, load};
-use crate::fault::DeskFault;
 use crate::listing::ask_list;
-use crate::parts::forecast_in_digits;
-use crate::respond::rejection_response;
 use http::Response;
 use mx_office::Office;
 use mx_questions::{Question, due_question, life_question, limits_question};
 use mx_request::{Rejection, Route};
+use mx_responses::{DeskFault, forecast_in_digits, rejection_response};
 use sqlite::Alter;
 use std::alloc::Global;
 

@@ -4,52 +4,23 @@ ghost use Rattle.http.specs.Response.{body_of, head_of};
 ghost use Rattle.mx_intake.specs.Entries.{entries_of_text};
 ghost use Rattle.mx_intake.specs.Sectors.{sector_rows};
 ghost use Rattle.mx_questions.specs.Asking.{doc_of};
-ghost use Rattle.mx_desk.specs.Answer.{IsMade, replies_answer, rows_answer};
+ghost use Rattle.mx_responses.specs.Answer.{IsMade, replies_answer};
 ghost use Rattle.mx_office.specs.Calls.{Runs};
 ghost use Rattle.mx_desk.specs.Answered.{AnswersIfRoom};
-ghost use Rattle.mx_desk.specs.Request.{entering, importing, loading};
+ghost use Rattle.mx_responses.specs.Request.{entering, importing, loading};
 
-use crate::fault::DeskFault;
-use crate::parts::read_doc;
-use crate::respond::{fault_response, lines_response, rejection_response};
 use http::Response;
 use mx_command::Command;
-use mx_import::{ImportReport, has_bad, has_refused, import_text, report_text};
+use mx_import::import_text;
 use mx_intake::{commands_of_json, programme_of};
-use mx_office::{Office, Outcomes};
-use mx_reports::{has_refusal, replies_text};
+use mx_office::Office;
 use mx_request::Rejection;
+use mx_responses::{
+    DeskFault, fault_response, read_doc, rejection_response, replies_response, rows_response,
+};
 use sqlite::Alter;
 use std::alloc::Global;
 use std::slice;
-
-// The response with a line for each reply.
-fn replies_response(alloc: Global, outcomes: &Outcomes) -> Result<Response<Vec<u8>>, DeskFault>
-    ensures answer { IfOk result (λ r. ((head_of r).status, (body_of r).items)
-        ≡ replies_answer outcomes.now.replies.items outcomes.now.stopped) }
-    ensures made { IsMade result }
-{
-    let mut lines = Vec::new(alloc);
-    replies_text(&mut lines, &outcomes.replies)?;
-    lines_response(
-        alloc,
-        has_refusal(&outcomes.replies),
-        lines,
-        outcomes.stopped,
-    )
-}
-
-// The response with a line for each row.
-fn rows_response(alloc: Global, report: &ImportReport) -> Result<Response<Vec<u8>>, DeskFault>
-    ensures answer { IfOk result (λ r. ((head_of r).status, (body_of r).items)
-        ≡ rows_answer report.now.rows.items report.now.stopped) }
-    ensures made { IsMade result }
-{
-    let mut lines = Vec::new(alloc);
-    report_text(&mut lines, &report.rows)?;
-    let is_refused = has_bad(&report.rows) || has_refused(&report.rows);
-    lines_response(alloc, is_refused, lines, report.stopped)
-}
 
 // Hands in commands, one after the other, up to the first fault.
 fn enter_commands<S: Alter>(
@@ -62,7 +33,7 @@ fn enter_commands<S: Alter>(
     ensures made { IsMade result }
 {
     let outcomes = office.run(alloc, commands);
-    replies_response(alloc, &outcomes)
+    replies_response(alloc, &outcomes.replies, outcomes.stopped)
 }
 
 /// Enters the commands of a JSON text.
@@ -112,7 +83,7 @@ pub(crate) fn import_log<S: Alter>(
     ensures made { IsMade result }
 {
     match import_text(alloc, office, body) {
-        Ok(report) => rows_response(alloc, &report),
+        Ok(report) => rows_response(alloc, &report.rows, report.stopped),
         Err(fault) => fault_response(alloc, fault),
     }
 }

@@ -4,15 +4,12 @@
 
 mod answering;
 mod entering;
-mod fault;
 mod listing;
-mod parts;
-mod respond;
 mod serve;
 mod serving;
 
 pub use answering::route_response;
-pub use fault::DeskFault;
 pub use mx_request::{NoRoute, Route, route};
+pub use mx_responses::DeskFault;
 pub use serve::serve_one;
 pub use serving::serve_on;

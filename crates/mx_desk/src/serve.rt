@@ -1,51 +1,21 @@
 //! One connection: a request is read, an office answers it, and the answer is written.
-ghost use Rattle.std.specs.Prelude.{◌≡◌, ◌≢◌, ◌⊎◌, ◌++◌, ⊤, ◌↔◌, [], Some, None, Ok, Err, IfSome, OnOk, OnErr, IfOk, IfErr, IsOkAnd};
-ghost use Rattle.std.specs.Io.KnownBytes.{Appends};
-ghost use Rattle.http.specs.Response.{body_of, head_of as parts_of};
+ghost use Rattle.std.specs.Prelude.{◌≡◌, ◌≢◌, ◌⊎◌, ◌++◌, ⊤, ◌↔◌, [], Some, None, Ok, Err, IfSome, OnOk, OnErr, IfOk, IfErr};
 ghost use Rattle.sqlite.specs.State.{HasCleanDisk};
 ghost use Rattle.mx_office.specs.Office.{office_state, StandsFor};
 ghost use Rattle.mx_request.specs.Body.{whole_body};
 ghost use Rattle.mx_request.specs.Head.{head_of};
 ghost use Rattle.mx_request.specs.Input.{TakesAtMost};
-ghost use Rattle.mx_request.specs.Rejected.{rejection_allows, rejection_body, rejection_status};
-ghost use Rattle.mx_request.specs.Response.{response_bytes};
 ghost use Rattle.mx_request.specs.Routes.{asked};
-ghost use Rattle.mx_desk.specs.Answer.{IsMade};
 ghost use Rattle.mx_desk.specs.Taken.{TakesBehind, TakesBody, TakesRequest, missing_of};
-ghost use Rattle.mx_desk.specs.Served.{AnswersBytes, AnswersHead, AnswersInput, AppendsSome, IsSilent, KeepsBook, LeavesBook, ServesInput, Writes, by_body};
+ghost use Rattle.mx_desk.specs.Served.{AnswersBytes, AnswersHead, AnswersInput, IsSilent, KeepsBook, LeavesBook, ServesInput, Writes, by_body};
 
 use crate::answering::route_response;
-use crate::fault::{DeskFault, of_input};
-use http::Response;
 use mx_office::Office;
-use mx_request::{Rejection, Route, asked_of, head_of, read_body, read_head, response_bytes};
+use mx_request::{Rejection, Route, asked_of, head_of, read_body, read_head};
+use mx_responses::{DeskFault, bytes_of, of_input, reject, write_text};
 use sqlite::Alter;
 use std::alloc::Global;
 use std::io::{Read, Write};
-
-// The bytes of the answer to a request that is rejected.
-fn reject(alloc: Global, why: Rejection) -> Result<Vec<u8>, DeskFault>
-    ensures bytes { IfOk result (λ text. text.items
-        ≡ response_bytes (rejection_status why) (rejection_allows why) (rejection_body why)) }
-    ensures memory { IfErr result (λ fault. fault ≡ DeskFault.Memory) }
-{
-    Ok(why.response(alloc)?)
-}
-
-// The bytes of a response, if there is one.
-fn bytes_of(
-    alloc: Global,
-    answered: Result<Response<Vec<u8>>, DeskFault>,
-) -> Result<Vec<u8>, DeskFault>
-    ensures bytes { IfOk result (λ text. IsOkAnd answered (λ r. text.items
-        ≡ response_bytes (parts_of r).status None (body_of r).items)) }
-    ensures memory { IsMade answered → IfErr result (λ fault. fault ≡ DeskFault.Memory) }
-{
-    match answered {
-        Ok(response) => Ok(response_bytes(alloc, response.status(), None, response.body())?),
-        Err(fault) => Err(fault),
-    }
-}
 
 // The bytes of the answer to a route, whose body begins so.
 fn answer_route<S: Alter, R: Read>(
@@ -162,23 +132,6 @@ fn answer_input<S: Alter, R: Read>(
         Ok(text) => Ok(Some(text)),
         Err(fault) => Err(fault),
     }
-}
-
-// Writes a text. Where a write fails or takes nothing, a beginning of the text was written, and nothing behind it.
-fn write_text<W: Write>(writer: &mut W, text: &[u8]) -> Result<(), DeskFault>
-    ensures written { OnOk result
-        (Appends (W.contents writer.old) (W.contents writer.new) text.now) }
-    ensures cut { OnErr result
-        (AppendsSome (W.contents writer.old) (W.contents writer.new) text.now) }
-{
-    let mut rest = text;
-    while !rest.is_empty() {
-        match writer.write(rest) {
-            Ok(count) if count > 0 => rest = &rest[count..],
-            _ => return Err(DeskFault::Write),
-        }
-    }
-    Ok(())
 }
 
 /// Serves one connection: reads a request, has the office answer it, and writes the answer. Of a request no more is read than

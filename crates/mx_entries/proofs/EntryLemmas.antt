@@ -24,12 +24,12 @@ use Rattle.mx_chosen.specs.Calls.{ReadsBy}
 use Rattle.mx_found.specs.Stated.{stated}
 use Rattle.mx_found.proofs.EntryLemmas.{entry_is_at, shape_at}
 use Rattle.mx_found.proofs.StatedLemmas.{doc_numbered, entry_stated, kind_numbered}
-use Rattle.mx_lookups.specs.AnyRows.{ReadsAny}
-use Rattle.mx_lookups.specs.Reads.{Reads}
-use Rattle.mx_lookups.proofs.AnyLemmas.{any_later, gives}
-use Rattle.mx_lookups.proofs.BookRows.{entries_of_number}
-use Rattle.mx_lookups.proofs.ReadLemmas.{no_memory, reads_then, stopped, told}
-use Rattle.mx_lookups.proofs.TableLemmas.{entries}
+use Rattle.mx_numbers.specs.AnyRows.{ReadsAny}
+use Rattle.mx_numbers.specs.Reads.{Reads}
+use Rattle.mx_numbers.proofs.AnyLemmas.{any_later, gives}
+use Rattle.mx_numbers.proofs.BookRows.{entries_of_number}
+use Rattle.mx_numbers.proofs.ReadLemmas.{no_memory, reads_then, stopped, told}
+use Rattle.mx_numbers.proofs.TableLemmas.{entries}
 use Rattle.mx_entries.specs.Damage.{IsSkipped, IsUnstated, ReadsOr}
 use Rattle.mx_entries.specs.Entries.{AreEntries, InTurn, IsEntry, IsLast, KindStated, command_said, table_of}
 use Rattle.mx_entries.specs.Stated.{FirstOf}

@@ -15,10 +15,10 @@ use Rattle.mx_layout.specs.declared.fault.TableFault.TheVariants.{Memory}
 use Rattle.mx_kept.specs.Kept.{Kept}
 use Rattle.mx_chosen.specs.Calls.{ReadsFirst}
 use Rattle.mx_stands.specs.Schemas.{schema_at}
-use Rattle.mx_lookups.specs.AnyRows.{AreChosen, Gives, ReadsAny}
-use Rattle.mx_lookups.specs.Reads.{Reads, rows_point}
-use Rattle.mx_lookups.proofs.AnyLemmas.{any_later, given_in}
-use Rattle.mx_lookups.proofs.ReadLemmas.{no_memory, reads_then, stopped, told}
+use Rattle.mx_numbers.specs.AnyRows.{AreChosen, Gives, ReadsAny}
+use Rattle.mx_numbers.specs.Reads.{Reads, rows_point}
+use Rattle.mx_numbers.proofs.AnyLemmas.{any_later, given_in}
+use Rattle.mx_numbers.proofs.ReadLemmas.{no_memory, reads_then, stopped, told}
 use Rattle.mx_entries.specs.Names.{ByRow, WithName}
 
 -- memory ran out behind what was answered

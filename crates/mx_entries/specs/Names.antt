@@ -8,8 +8,8 @@ use Rattle.mx_command.specs.declared.item.Item.TheVariants.{Airframe, Component}
 use Rattle.mx_kept.specs.Cells.{kept_entry}
 use Rattle.mx_chosen.specs.Choices.{has_value}
 use Rattle.mx_found.specs.Names.{deferred_doc}
-use Rattle.mx_lookups.specs.AnyRows.{Gives}
-use Rattle.mx_lookups.specs.Given.{SerialOfNumber, TailOfNumber}
+use Rattle.mx_numbers.specs.AnyRows.{Gives}
+use Rattle.mx_numbers.specs.Given.{SerialOfNumber, TailOfNumber}
 
 -- the item with this number: the aircraft, or where there is none the component
 abbrev pub ItemOfNumber : ℕ → Trees → Option Item → Type 0

@@ -14,8 +14,8 @@ use Rattle.mx_kept.specs.Cells.{kept_aircraft, kept_component, kept_defect, kept
 use Rattle.mx_kept.specs.Kept.{Kept}
 use Rattle.mx_chosen.specs.Choices.{has_value}
 use Rattle.mx_found.specs.Stated.{aircraft_stated, component_stated, programme_stated}
-use Rattle.mx_lookups.specs.AnyRows.{AreChosen, Gives}
-use Rattle.mx_lookups.specs.Given.{SerialOfNumber, TailOfNumber}
+use Rattle.mx_numbers.specs.AnyRows.{AreChosen, Gives}
+use Rattle.mx_numbers.specs.Given.{SerialOfNumber, TailOfNumber}
 use Rattle.mx_entries.specs.Names.{ByRow, DocOfDefect, ItemOfNumber, WithName}
 
 -- the first of the rows with this number

@@ -5,16 +5,16 @@ ghost use Rattle.sqlite.specs.Held.{state};
 ghost use Rattle.mx_command.specs.Act.{act_of};
 ghost use Rattle.mx_found.specs.Given.{deferrals, extensions, found};
 ghost use Rattle.mx_found.specs.Stated.{deferral_stated, extension_stated};
-ghost use Rattle.mx_lookups.specs.AnyRows.{ReadsAny};
-ghost use Rattle.mx_lookups.specs.Reads.{Reads};
+ghost use Rattle.mx_numbers.specs.AnyRows.{ReadsAny};
+ghost use Rattle.mx_numbers.specs.Reads.{Reads};
 ghost use Rattle.mx_entries.specs.Stated.{DeferralStated, ExtensionStated};
 
 use crate::names::doc_of_defect;
 use mx_chosen::defects::{defect_by_seq, extension_by_seq};
 use mx_command::Body;
 use mx_layout::TableFault;
-use mx_lookups::items::tail_of_number;
-use mx_register::said::{body_of_deferral, body_of_extension};
+use mx_numbers::items::tail_of_number;
+use mx_plain_register::said::{body_of_deferral, body_of_extension};
 use sqlite::{Alter, Transaction};
 use std::alloc::Global;
 

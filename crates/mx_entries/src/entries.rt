@@ -2,7 +2,7 @@
 ghost use Rattle.std.specs.Prelude.{◌≡◌};
 ghost use Rattle.sqlite.specs.Held.{state};
 ghost use Rattle.mx_book.specs.Book.{entries_from, entry_at};
-ghost use Rattle.mx_lookups.specs.AnyRows.{ReadsAny};
+ghost use Rattle.mx_numbers.specs.AnyRows.{ReadsAny};
 ghost use Rattle.mx_entries.specs.Entries.{AreEntries, IsEntry};
 ghost use Rattle.mx_entries.specs.Damage.{IsSkipped, IsUnstated, ReadsOr};
 
@@ -10,7 +10,7 @@ use crate::stated::{body_stated, command_said};
 use mx_chosen::entries::entry_by_seq;
 use mx_command::Command;
 use mx_layout::{Table, TableFault};
-use mx_lookups::entries::entry_count;
+use mx_numbers::entries::entry_count;
 use sqlite::{Alter, Transaction};
 use std::alloc::Global;
 

@@ -2,9 +2,9 @@
 ghost use Rattle.std.specs.Prelude.{◌≡◌};
 ghost use Rattle.sqlite.specs.Held.{state};
 ghost use Rattle.mx_register.specs.Names.{defect_at, item_at, serial_at};
-ghost use Rattle.mx_lookups.specs.AnyRows.{ReadsAny};
-ghost use Rattle.mx_lookups.specs.Given.{SerialOfNumber};
-ghost use Rattle.mx_lookups.specs.Reads.{Reads};
+ghost use Rattle.mx_numbers.specs.AnyRows.{ReadsAny};
+ghost use Rattle.mx_numbers.specs.Given.{SerialOfNumber};
+ghost use Rattle.mx_numbers.specs.Reads.{Reads};
 ghost use Rattle.mx_entries.specs.Names.{DocOfDefect, ItemOfNumber};
 
 use mx_base::{Doc, Serial};
@@ -14,7 +14,7 @@ use mx_command::Item;
 use mx_found::components::serial_in;
 use mx_found::entries::deferred_doc;
 use mx_layout::TableFault;
-use mx_lookups::items::tail_of_number;
+use mx_numbers::items::tail_of_number;
 use sqlite::{Alter, Transaction};
 use std::alloc::Global;
 

@@ -4,8 +4,8 @@ ghost use Rattle.std.specs.Option.{option_map};
 ghost use Rattle.sqlite.specs.Held.{state};
 ghost use Rattle.mx_command.specs.Act.{act_of};
 ghost use Rattle.mx_found.specs.Stated.{stated};
-ghost use Rattle.mx_lookups.specs.AnyRows.{ReadsAny};
-ghost use Rattle.mx_lookups.specs.Reads.{Reads};
+ghost use Rattle.mx_numbers.specs.AnyRows.{ReadsAny};
+ghost use Rattle.mx_numbers.specs.Reads.{Reads};
 ghost use Rattle.mx_entries.specs.Entries.{KindStated, command_said, table_of};
 
 use crate::defects::{deferral_stated, extension_stated};

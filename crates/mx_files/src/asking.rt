@@ -1,11 +1,14 @@
 //! The office in a file is asked.
-ghost use Rattle.std.specs.Prelude.{◌≡◌, ◌≤◌, ◌⊎◌, ℕ, List, Err, false, IfOk, IfErr};
-ghost use Rattle.mx_jobs.specs.Status.{LeavesUnread, Shows, stop_status};
-ghost use Rattle.mx_jobs.specs.declared.fault.Ending.{Ending};
+ghost use Rattle.std.specs.Prelude.{◌≡◌, ◌≤◌, ℕ, List, Err, IfOk, IfErr};
+ghost use Rattle.mx_files.specs.Answered.{Answers};
+ghost use Rattle.mx_endings.specs.Status.{LeavesUnread, Shows, stop_status};
+ghost use Rattle.mx_endings.specs.declared.ending.Ending.{Ending};
 
-use crate::opening::{File, open_book};
-use mx_jobs::{Ending, Stop, open};
-use mx_office::{Fault, Office};
+use crate::opening::{ended, stop_of};
+use mx_database::{Work, work_in_file};
+use mx_endings::{Ending, Stop};
+use mx_jobs::open;
+use mx_office::Office;
 use sqlite::{Alter, Connection};
 
 /// What is asked of the office in a file, whatever its store.
@@ -25,37 +28,31 @@ pub trait Asked {
         ensures status { IfErr result (λ stop. 3 ≤ stop_status stop) };
 }
 
-// Appends what the office that a database holds answers, and hands the database back.
-fn answer_in<S: Alter + Drop, A: Asked>(
-    rt: &HostRuntime,
-    conn: Connection<S>,
-    asked: &A,
-    out: &mut Vec<u8>,
-) -> Result<(Connection<S>, Result<Ending, Stop>), Stop>
-    requires { conn.in_transaction ≡ false }
-    ensures shown { IfOk result (λ found. IfOk found.1
-        (Shows (A.is_answer asked.now) out.old.items out.new.items)) }
-    ensures unread { IfOk result (λ found. IfErr found.1
-        (LeavesUnread out.old.items out.new.items)) }
-    ensures status { IfOk result (λ found. IfErr found.1 (λ stop. 3 ≤ stop_status stop)) }
-    ensures opening { IfErr result (λ stop. stop_status stop ≡ 5) }
-{
-    let mut office = open(rt.alloc(), conn)?;
-    let answered = asked.answer(rt, &mut office, out);
-    Ok((office.close(), answered))
+// The office in a database is opened and asked, and the database is handed back; where none was opened it is let go as it is.
+#[derive(Clone, Copy)]
+struct Asking<'a, A> {
+    asked: &'a A,
 }
 
-/// Closes the database in a file, and hands on how its word ended: the store failed where the closing did and nothing else.
-pub(crate) fn close_file(
-    conn: Connection<File>,
-    answered: Result<Ending, Stop>,
-) -> Result<Ending, Stop>
-    ensures { (result ≡ answered) ⊎ (result ≡ Err (Stop.Office Fault.Store)) }
-{
-    if conn.close().is_err() && answered.is_ok() {
-        return Err(Stop::Office(Fault::Store));
+impl<'a, A: Asked> Work for Asking<'a, A> {
+    type Done = Result<Ending, Stop>;
+
+    ghost gives = { λ asking. Answers (A.is_answer asking.asked.now) 3 };
+
+    fn work<S: Alter + Drop>(
+        &self,
+        rt: &HostRuntime,
+        conn: Connection<S>,
+        out: &mut Vec<u8>,
+    ) -> (Option<Connection<S>>, Result<Ending, Stop>) {
+        match open(rt.alloc(), conn) {
+            Ok(mut office) => {
+                let answered = self.asked.answer(rt, &mut office, out);
+                (Some(office.close()), answered)
+            }
+            Err(stop) => (None, Err(stop)),
+        }
     }
-    answered
 }
 
 /// Appends what the office in a file answers.
@@ -69,7 +66,8 @@ pub fn answer_file<A: Asked>(
     ensures unread { IfErr result (LeavesUnread out.old.items out.new.items) }
     ensures status { IfErr result (λ stop. 3 ≤ stop_status stop) }
 {
-    let conn = open_book(rt, file)?;
-    let (conn, answered) = answer_in(rt, conn, asked, out)?;
-    close_file(conn, answered)
+    match work_in_file(rt, file, &Asking { asked }, out) {
+        Ok(worked) => ended(worked),
+        Err(why) => Err(stop_of(why)),
+    }
 }

@@ -1,47 +1,67 @@
 //! `init-old` over a file.
-ghost use Rattle.std.specs.Prelude.{◌≡◌, ◌≤◌, ◌++◌, [], false, IfOk, IfErr, OnErr};
-ghost use Rattle.mx_jobs.specs.Entered.{TellsReplies};
-ghost use Rattle.mx_jobs.specs.Installed.{AreFirstReplies, HasAppended};
-ghost use Rattle.mx_jobs.specs.Status.{LeavesUnread, Shows, stop_status};
+ghost use Rattle.std.specs.Prelude.{◌≡◌, ◌≤◌, ◌++◌, [], IfOk, IfErr, OnErr};
+ghost use Rattle.mx_files.specs.Answered.{TellsNothing};
+ghost use Rattle.mx_upkeep.specs.Entered.{TellsReplies};
+ghost use Rattle.mx_upkeep.specs.Installed.{AreFirstReplies, HasAppended};
+ghost use Rattle.mx_endings.specs.Status.{LeavesUnread, Shows, stop_status};
 
 use crate::inputs::commands_in;
-use crate::opening::open_file;
-use mx_book::Book;
+use crate::opening::stop_of;
 use mx_command::Command;
-use mx_jobs::{Accepted, Ending, Stop, accept_all, install_book, print_accepted};
+use mx_database::{Work, Worked, work_in_new_file};
+use mx_endings::{Ending, Stop};
 use mx_layout::TableFault;
+use mx_plain::Book;
+use mx_upkeep::{Accepted, accept_all, install_book, print_accepted};
 use sqlite::{Alter, Connection};
-use std::alloc::Global;
 
-// Makes the tables with the rows of a book, and hands the database back: where none are made it is let go as it is. It says
-// nothing of the tables.
-fn installed_in<S: Alter + Drop>(
-    alloc: Global,
-    mut conn: Connection<S>,
-    book: &Book,
-) -> Result<Connection<S>, Stop>
-    requires { conn.in_transaction ≡ false }
-    ensures { IfErr result (λ stop. stop_status stop ≡ 5) }
-{
-    install_book(alloc, &mut conn, book)?;
-    Ok(conn)
+// The tables are made with the rows of a book, and the database is handed back; where none are made it is let go as it is.
+#[derive(Clone, Copy)]
+struct Installing<'a> {
+    book: &'a Book,
 }
 
-// Makes a file with the book of the commands that were accepted, whose replies the caller has appended: so memory can't run
-// out behind the commit.
+impl<'a> Work for Installing<'a> {
+    type Done = Result<(), Stop>;
+
+    ghost gives = { λ installing. TellsNothing };
+
+    fn work<S: Alter + Drop>(
+        &self,
+        rt: &HostRuntime,
+        conn: Connection<S>,
+        _out: &mut Vec<u8>,
+    ) -> (Option<Connection<S>>, Result<(), Stop>) {
+        let mut conn = conn;
+        match install_book(rt.alloc(), &mut conn, self.book) {
+            Ok(()) => (Some(conn), Ok(())),
+            Err(stop) => (None, Err(stop)),
+        }
+    }
+}
+
+// Makes a file with the book of the commands that were accepted, whose replies are appended already: so memory can't run out
+// behind the commit.
 fn install_file(
     rt: &HostRuntime,
     file: &str,
     accepted: &Accepted,
-    _appended: &Vec<u8>,
+    appended: &mut Vec<u8>,
 ) -> Result<(), Stop>
-    requires { HasAppended accepted.now _appended.now.items }
-    ensures { IfErr result (λ stop. stop_status stop ≡ 5) }
+    requires { HasAppended accepted.now appended.old.items }
+    ensures unprinted { appended.new.items ≡ appended.old.items }
+    ensures status { IfErr result (λ stop. stop_status stop ≡ 5) }
 {
-    let conn = installed_in(rt.alloc(), open_file(rt, file)?, &accepted.book)?;
-    match conn.close() {
-        Ok(()) => Ok(()),
-        Err(_) => Err(Stop::Create(TableFault::Store)),
+    let book = &accepted.book;
+    match work_in_new_file(rt, file, &Installing { book }, appended) {
+        Ok(
+            Worked {
+                done: Ok(()),
+                is_closed: false,
+            },
+        ) => Err(Stop::Create(TableFault::Store)),
+        Ok(worked) => worked.done,
+        Err(why) => Err(stop_of(why)),
     }
 }
 

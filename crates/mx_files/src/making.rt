@@ -1,28 +1,39 @@
 //! `init` over a file.
-ghost use Rattle.std.specs.Prelude.{◌≡◌, ◌+◌, ◌≤◌, ◌++◌, false, codes, OnOk, OnErr, IfOk, IfErr, vec_len};
-ghost use Rattle.std.specs.Vec.{vec_capacity};
-ghost use Rattle.mx_jobs.specs.Status.{stop_status};
+ghost use Rattle.std.specs.Prelude.{◌≡◌, ◌++◌, codes, OnErr, IfOk, IfErr};
+ghost use Rattle.mx_files.specs.Answered.{TellsMade};
+ghost use Rattle.mx_endings.specs.Status.{stop_status};
 
-use crate::opening::open_file;
-use mx_jobs::{CREATED, Ending, Stop, make_book};
+use crate::opening::stop_of;
+use mx_database::{Work, Worked, work_in_new_file};
+use mx_endings::{Ending, Stop};
+use mx_jobs::{CREATED, make_book};
 use mx_layout::TableFault;
 use sqlite::{Alter, Connection};
 
-// Makes the tables of an empty book, and hands the database back: where none are made it is let go
-// as it is. It says what is printed alone, so that the proof of `init` carries nothing of the
-// tables.
-fn made_in<S: Alter + Drop>(
-    mut conn: Connection<S>,
-    out: &mut Vec<u8>,
-) -> Result<Connection<S>, Stop>
-    requires idle { conn.in_transaction ≡ false }
-    requires room { vec_len out.old + 8 ≤ vec_capacity out.old }
-    ensures printed { OnOk result (out.new.items ≡ out.old.items ++ codes "created\n") }
-    ensures unprinted { OnErr result (out.new.items ≡ out.old.items) }
-    ensures status { IfErr result (λ stop. stop_status stop ≡ 5) }
-{
-    make_book(&mut conn, out)?;
-    Ok(conn)
+// The tables of an empty book are made, and the database is handed back; where none are made it is let go as it is.
+#[derive(Clone, Copy)]
+struct Making;
+
+impl Work for Making {
+    type Done = Result<Ending, Stop>;
+
+    ghost gives = { λ making. TellsMade };
+
+    fn work<S: Alter + Drop>(
+        &self,
+        _rt: &HostRuntime,
+        conn: Connection<S>,
+        out: &mut Vec<u8>,
+    ) -> (Option<Connection<S>>, Result<Ending, Stop>) {
+        let mut conn = conn;
+        if out.reserve(CREATED.len()).is_err() {
+            return (None, Err(Stop::MakeMemory));
+        }
+        match make_book(&mut conn, out) {
+            Ok(()) => (Some(conn), Ok(Ending::Done)),
+            Err(stop) => (None, Err(stop)),
+        }
+    }
 }
 
 /// Makes an empty book in a file, and appends `created`.
@@ -33,13 +44,17 @@ pub fn init_file(rt: &HostRuntime, file: &str, out: &mut Vec<u8>) -> Result<Endi
     ensures status { IfErr result (λ stop. stop_status stop ≡ 5) }
 {
     let before = out.len();
-    if out.reserve(CREATED.len()).is_err() {
-        return Err(Stop::MakeMemory);
+    match work_in_new_file(rt, file, &Making, out) {
+        Ok(
+            Worked {
+                done: Ok(_),
+                is_closed: false,
+            },
+        ) => {
+            out.truncate(before);
+            Err(Stop::Create(TableFault::Store))
+        }
+        Ok(worked) => worked.done,
+        Err(why) => Err(stop_of(why)),
     }
-    let conn = made_in(open_file(rt, file)?, out)?;
-    if conn.close().is_err() {
-        out.truncate(before);
-        return Err(Stop::Create(TableFault::Store));
-    }
-    Ok(Ending::Done)
 }

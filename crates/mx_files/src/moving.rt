@@ -1,27 +1,36 @@
 //! `migrate` over a file.
-ghost use Rattle.std.specs.Prelude.{◌≡◌, ◌≤◌, false, IfOk, IfErr};
-ghost use Rattle.mx_jobs.specs.Moved.{IsPointLine};
-ghost use Rattle.mx_jobs.specs.Status.{LeavesUnread, Shows, stop_status};
+ghost use Rattle.std.specs.Prelude.{◌≡◌, ◌≤◌, IfOk, IfErr};
+ghost use Rattle.mx_files.specs.Answered.{Answers};
+ghost use Rattle.mx_upkeep.specs.Moved.{IsPointLine};
+ghost use Rattle.mx_endings.specs.Status.{LeavesUnread, Shows, stop_status};
 
-use crate::asking::close_file;
-use crate::opening::open_book;
-use mx_jobs::{Ending, Stop, move_on};
+use crate::opening::{ended, stop_of};
+use mx_database::{Work, work_in_file};
+use mx_endings::{Ending, Stop};
+use mx_upkeep::move_on;
 use sqlite::{Alter, Connection};
-use std::alloc::Global;
 
-// Moves the file of a database on, and hands the database back. It says what is printed alone.
-fn moved_in<S: Alter>(
-    alloc: Global,
-    mut conn: Connection<S>,
+// A file is moved on by at most so many commits.
+#[derive(Clone, Copy)]
+struct Moving {
     steps: u32,
-    out: &mut Vec<u8>,
-) -> (Connection<S>, Result<Ending, Stop>)
-    requires { conn.in_transaction ≡ false }
-    ensures shown { IfOk result.1 (Shows IsPointLine out.old.items out.new.items) }
-    ensures status { IfErr result.1 (λ stop. 4 ≤ stop_status stop) }
-{
-    let moved = move_on(alloc, &mut conn, steps, out);
-    (conn, moved)
+}
+
+impl Work for Moving {
+    type Done = Result<Ending, Stop>;
+
+    ghost gives = { λ moving. Answers IsPointLine 4 };
+
+    fn work<S: Alter + Drop>(
+        &self,
+        rt: &HostRuntime,
+        conn: Connection<S>,
+        out: &mut Vec<u8>,
+    ) -> (Option<Connection<S>>, Result<Ending, Stop>) {
+        let mut conn = conn;
+        let moved = move_on(rt.alloc(), &mut conn, self.steps, out);
+        (Some(conn), moved)
+    }
 }
 
 /// Moves a file on to the newest layout by at most so many commits, and appends the point that it is at then. No office is
@@ -36,7 +45,8 @@ pub fn migrate_file(
     ensures unread { IfErr result (LeavesUnread out.old.items out.new.items) }
     ensures status { IfErr result (λ stop. 4 ≤ stop_status stop) }
 {
-    let conn = open_book(rt, file)?;
-    let (conn, moved) = moved_in(rt.alloc(), conn, steps, out);
-    close_file(conn, moved)
+    match work_in_file(rt, file, &Moving { steps }, out) {
+        Ok(worked) => ended(worked),
+        Err(why) => Err(stop_of(why)),
+    }
 }

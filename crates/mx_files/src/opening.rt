@@ -1,56 +1,31 @@
-//! Opening the database in a file. Here alone the store of a file is named.
-ghost use Rattle.std.specs.Prelude.{◌≡◌, ◌↔◌, ◌⊎◌, false, IfOk, IfErr};
-ghost use Rattle.mx_jobs.specs.Status.{stop_status};
+//! What becomes of a word where its file was not opened, or not closed.
+ghost use Rattle.std.specs.Prelude.{◌≡◌, ◌≢◌, ◌⊎◌, Err};
+ghost use Rattle.mx_database.specs.declared.opening.Unopened.{Unopened};
+ghost use Rattle.mx_endings.specs.Status.{stop_status};
 
-use mx_jobs::Stop;
-use mx_office::OpenFault;
-use sqlite::{Connection, Error, ErrorCode, FileFrom, FileStore, Wary};
-use std::fs;
-use std::io::ErrorKind;
+use mx_database::{Unopened, Worked};
+use mx_endings::{Ending, Stop};
+use mx_office::{Fault, OpenFault};
 
-/// The store of a file.
-pub(crate) type File = FileStore<FileFrom<Wary>>;
-
-// Why no database was opened.
-fn open_fault_of(error: Error) -> OpenFault
-    ensures memory { (result ≡ OpenFault.Memory) ↔ (error ≡ Error.SqliteFailure
-        ErrorCode.OutOfMemory) }
-    ensures kind { (result ≡ OpenFault.Memory) ⊎ (result ≡ OpenFault.Store) }
+/// What stops a word whose file was not opened.
+pub(crate) fn stop_of(why: Unopened) -> Stop
+    ensures stops { why ≢ Unopened.Nothing
+        → (result ≡ Stop.Open OpenFault.Memory) ⊎ (result ≡ Stop.Open OpenFault.Store) }
+    ensures status { stop_status result ≡ 5 }
 {
-    match error {
-        Error::SqliteFailure(ErrorCode::OutOfMemory) => OpenFault::Memory,
-        _ => OpenFault::Store,
+    match why {
+        Unopened::Memory => Stop::Open(OpenFault::Memory),
+        Unopened::Store => Stop::Open(OpenFault::Store),
+        Unopened::Nothing => Stop::Open(OpenFault::NotOurs),
     }
 }
 
-/// Opens the database in a file, which is made where it isn't there.
-pub(crate) fn open_file(rt: &HostRuntime, file: &str) -> Result<Connection<File>, Stop>
-    ensures idle { IfOk result (λ conn. conn.in_transaction ≡ false) }
-    ensures stops { IfErr result (λ stop. (stop ≡ Stop.Open OpenFault.Memory)
-        ⊎ (stop ≡ Stop.Open OpenFault.Store)) }
+/// How a word over a file ended: the store failed where the closing did and nothing else.
+pub(crate) fn ended(worked: Worked<Result<Ending, Stop>>) -> Result<Ending, Stop>
+    ensures { (result ≡ worked.done) ⊎ (result ≡ Err (Stop.Office Fault.Store)) }
 {
-    match Connection::open_from(rt, file, false, Wary) {
-        Ok(conn) => Ok(conn),
-        Err((error, _)) => Err(Stop::Open(open_fault_of(error))),
+    if worked.done.is_ok() && !worked.is_closed {
+        return Err(Stop::Office(Fault::Store));
     }
-}
-
-// Whether there is nothing to be opened: no file of that name, or an empty one.
-fn is_nothing(rt: &HostRuntime, file: &str) -> bool {
-    match fs::metadata(rt, file) {
-        Ok(about) => about.is_file() && about.len() <= 1,
-        Err(error) => error.kind() == ErrorKind::NotFound,
-    }
-}
-
-/// Opens the database in a file for an office. A file that isn't there, is empty or has one byte is none, and is left as
-/// it is: opening it would make a database of it.
-pub(crate) fn open_book(rt: &HostRuntime, file: &str) -> Result<Connection<File>, Stop>
-    ensures idle { IfOk result (λ conn. conn.in_transaction ≡ false) }
-    ensures stops { IfErr result (λ stop. stop_status stop ≡ 5) }
-{
-    if is_nothing(rt, file) {
-        return Err(Stop::Open(OpenFault::NotOurs));
-    }
-    open_file(rt, file)
+    worked.done
 }

@@ -6,7 +6,7 @@ use Rattle.std.specs.Option.{option_and_then, option_map, option_map_or, option_
 use Rattle.mx_command.specs.Act.{Act, Entry, Added, aircraft_of, component_of, positions_of}
 use Rattle.mx_command.specs.Same.{same_text}
 use Rattle.mx_command.proofs.SameLemmas.{text_same}
-use Rattle.mx_book.specs.declared.judging.TheConstants.{MOST_AIRCRAFT, MOST_COMPONENTS}
+use Rattle.mx_book.specs.declared.limits.TheConstants.{MOST_AIRCRAFT, MOST_COMPONENTS}
 use Rattle.mx_book.specs.Book.{IsBook, is_book_from, is_new, entry_at}
 use Rattle.mx_book.specs.Judge.{judge}
 use Rattle.mx_book.specs.Register.{register, aircraft, has_room_for_aircraft, has_room_for_component, part_among, part_at, positions_added}

@@ -4,7 +4,7 @@ ghost use Rattle.mx_command.specs.Act.{Entry};
 ghost use Rattle.mx_command.specs.Same.{same_text};
 ghost use Rattle.mx_book.specs.Book.{IsBook};
 ghost use Rattle.mx_book.specs.Register.{aircraft, has_room_for_aircraft, part_at};
-ghost use Rattle.mx_book.specs.declared.judging.TheConstants.{MOST_AIRCRAFT};
+ghost use Rattle.mx_book.specs.declared.limits.TheConstants.{MOST_AIRCRAFT};
 ghost use Rattle.mx_register.specs.Names.{seq_of_tail, tail_at};
 ghost use Rattle.mx_register.specs.Registers.{aircraft_rows, place_rows};
 ghost use Rattle.mx_typed_rows.specs.declared.rows.AircraftRow.{AircraftRow};

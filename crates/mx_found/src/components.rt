@@ -3,7 +3,7 @@ ghost use Rattle.std.specs.Prelude.{◌≡◌, ℕ, List, filter, nat_eq, nat_lt
 ghost use Rattle.mx_command.specs.Act.{Entry};
 ghost use Rattle.mx_command.specs.Same.{same_text};
 ghost use Rattle.mx_book.specs.Register.{component, has_room_for_component};
-ghost use Rattle.mx_book.specs.declared.judging.TheConstants.{MOST_COMPONENTS};
+ghost use Rattle.mx_book.specs.declared.limits.TheConstants.{MOST_COMPONENTS};
 ghost use Rattle.mx_register.specs.Names.{seq_of_serial, serial_at};
 ghost use Rattle.mx_register.specs.Registers.{component_rows};
 ghost use Rattle.mx_typed_rows.specs.declared.rows.ComponentRow.{ComponentRow};

@@ -17,8 +17,8 @@ use Rattle.mx_layout.specs.Crash.{ChangesNothing, Leaves}
 use Rattle.mx_layout.specs.Found.{IsFound}
 use Rattle.mx_layout.proofs.FoundLemmas.{rests_found}
 use Rattle.mx_layout.specs.declared.fault.Table.{Table}
-use Rattle.mx_office.specs.declared.fault.Fault.{Fault}
-use Rattle.mx_office.specs.declared.fault.Fault.TheVariants.{Memory, Store, NeedsReopen, Damaged}
+use Rattle.mx_faults.specs.declared.fault.Fault.{Fault}
+use Rattle.mx_faults.specs.declared.fault.Fault.TheVariants.{Memory, Store, NeedsReopen, Damaged}
 use Rattle.mx_office.specs.declared.fault.Outcomes.{Outcomes}
 use Rattle.mx_office.specs.Layout.{office_point, office_schema}
 use Rattle.mx_office.specs.Opening.{ChangesOnWay}

@@ -12,7 +12,7 @@ use Rattle.mx_stands.specs.Schemas.{schema_at}
 use Rattle.mx_stands.specs.Stands.{RestsAt, StandsAt}
 use Rattle.mx_office.specs.Opening.{HasReason, MovesOn, StandsBehind}
 use Rattle.mx_office.specs.Stands.{Rests}
-use Rattle.mx_office.specs.declared.fault.OpenFault.{OpenFault}
+use Rattle.mx_faults.specs.declared.fault.OpenFault.{OpenFault}
 use Rattle.mx_headline.specs.Moved.{IsKeptMoving}
 use Rattle.mx_headline.proofs.OpenedLemmas.{file_behind}
 

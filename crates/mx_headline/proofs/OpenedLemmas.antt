@@ -22,8 +22,8 @@ use Rattle.mx_layout.proofs.FoundLemmas.{rests_found}
 use Rattle.mx_settle.specs.Place.{IsPlacedAt, SaysAt}
 use Rattle.mx_stands.specs.Schemas.{IsOfFile, schema_at}
 use Rattle.mx_stands.specs.Stands.{RestsAt, StandsAt}
-use Rattle.mx_office.specs.declared.fault.OpenFault.{OpenFault}
-use Rattle.mx_office.specs.declared.fault.OpenFault.TheVariants as opening
+use Rattle.mx_faults.specs.declared.fault.OpenFault.{OpenFault}
+use Rattle.mx_faults.specs.declared.fault.OpenFault.TheVariants as opening
 use Rattle.mx_office.specs.declared.fault.Outcomes.{Outcomes}
 use Rattle.mx_office.specs.Layout.{office_point, office_schema}
 use Rattle.mx_office.specs.Office.{office_state}

@@ -17,7 +17,7 @@ use Rattle.mx_layout.specs.Found.{IsEndOf}
 use Rattle.mx_settle.specs.Place.{SaysAt}
 use Rattle.mx_settle.proofs.PlaceLemmas.{stands_says}
 use Rattle.mx_office.specs.Layout.{office_point}
-use Rattle.mx_office.specs.declared.fault.OpenFault.{OpenFault}
+use Rattle.mx_faults.specs.declared.fault.OpenFault.{OpenFault}
 use Rattle.mx_office.specs.declared.fault.Outcomes.{Outcomes}
 use Rattle.mx_office.specs.Calls.{RunsOver}
 use Rattle.mx_office.specs.Office.{office_state, StandsFor}

@@ -4,7 +4,7 @@ use Rattle.mx_command.specs.Act.{Entry}
 use Rattle.mx_book.specs.Accepted.{accepted, is_accepted, HasAcknowledged}
 use Rattle.mx_book.specs.Run.{replies}
 use Rattle.mx_layout.specs.declared.fault.Table.{Table}
-use Rattle.mx_office.specs.declared.fault.Fault.TheVariants.{Store, Damaged}
+use Rattle.mx_faults.specs.declared.fault.Fault.TheVariants.{Store, Damaged}
 use Rattle.mx_office.specs.declared.fault.Outcomes.{Outcomes}
 
 -- how many of a run's replies say that a command was accepted

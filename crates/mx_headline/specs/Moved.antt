@@ -11,8 +11,8 @@ use Rattle.mx_point.specs.declared.point.Point.{Point}
 use Rattle.mx_points.specs.Commits.{point_behind}
 use Rattle.mx_stands.specs.Schemas.{IsOfFile}
 use Rattle.mx_stands.specs.Stands.{RestsAt}
-use Rattle.mx_office.specs.declared.fault.OpenFault.{OpenFault}
-use Rattle.mx_office.specs.declared.fault.OpenFault.TheVariants as opening
+use Rattle.mx_faults.specs.declared.fault.OpenFault.{OpenFault}
+use Rattle.mx_faults.specs.declared.fault.OpenFault.TheVariants as opening
 use Rattle.mx_office.specs.declared.office.Office.{Office as TheOffice}
 use Rattle.mx_office.specs.Office.{office_state, StandsFor}
 use Rattle.mx_office.specs.Opening.{StandsBehind}

@@ -16,8 +16,8 @@ use Rattle.mx_stands.specs.Stands.{RestsAt, StandsAt}
 use Rattle.mx_office.specs.Calls.{IsRun}
 use Rattle.mx_office.specs.Opening.{AreMovedOn, MovesOn}
 use Rattle.mx_office.specs.declared.office.Office.{Office as TheOffice}
-use Rattle.mx_office.specs.declared.fault.OpenFault.{OpenFault}
-use Rattle.mx_office.specs.declared.fault.OpenFault.TheVariants as opening
+use Rattle.mx_faults.specs.declared.fault.OpenFault.{OpenFault}
+use Rattle.mx_faults.specs.declared.fault.OpenFault.TheVariants as opening
 use Rattle.mx_office.specs.declared.fault.Outcomes.{Outcomes}
 use Rattle.mx_office.specs.Layout.{office_point, office_schema}
 use Rattle.mx_office.specs.Office.{office_state, IsReady, StandsFor}

@@ -10,11 +10,11 @@ use Rattle.mx_book.specs.declared.verdict.Refusal.TheVariants.{UnknownAircraft}
 use Rattle.mx_book.specs.Accepted.{HasAcknowledged}
 use Rattle.mx_lists.specs.DueList.{due_list}
 use Rattle.mx_layout.specs.Found.{IsFound}
-use Rattle.mx_office.specs.declared.fault.Ask.{Ask}
-use Rattle.mx_office.specs.declared.fault.Ask.TheVariants.{Refused, Failed}
-use Rattle.mx_office.specs.declared.fault.Fault.TheVariants.{Memory, Store}
-use Rattle.mx_office.specs.declared.fault.OpenFault.{OpenFault}
-use Rattle.mx_office.specs.declared.fault.OpenFault.TheVariants as opening
+use Rattle.mx_faults.specs.declared.fault.Ask.{Ask}
+use Rattle.mx_faults.specs.declared.fault.Ask.TheVariants.{Refused, Failed}
+use Rattle.mx_faults.specs.declared.fault.Fault.TheVariants.{Memory, Store}
+use Rattle.mx_faults.specs.declared.fault.OpenFault.{OpenFault}
+use Rattle.mx_faults.specs.declared.fault.OpenFault.TheVariants as opening
 use Rattle.mx_office.specs.declared.fault.Outcomes.{Outcomes}
 use Rattle.mx_office.specs.Office.{office_state, IsReady, IsInDoubt, StandsFor}
 use Rattle.mx_office.specs.Stands.{Stands, Rests}

@@ -1,4 +1,1 @@
 pub mod Import
-pub mod Rows
-pub mod Text
-pub mod Told

@@ -4,11 +4,6 @@
 
 pub mod importing;
 pub mod report;
-mod rows;
-pub mod text;
-pub mod told;
 
 pub use importing::{import, import_text};
-pub use report::{ImportReport, RowReply};
-pub use text::report_text;
-pub use told::{has_bad, has_refused};
+pub use report::ImportReport;

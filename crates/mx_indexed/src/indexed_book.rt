@@ -20,9 +20,10 @@ use crate::maps::held;
 use crate::programmes::{one_retires, revision_after, task_named, tasks_loaded};
 use mx_base::{Base, Day, Doc, Kind, Moment, Part, Position, Serial, Tail, TaskId, Use};
 use mx_book::found::Found;
-use mx_book::judging::{MOST_AIRCRAFT, MOST_COMPONENTS};
-use mx_book::{Book, Defect, NoMemory, Verdict};
+use mx_book::limits::{MOST_AIRCRAFT, MOST_COMPONENTS};
+use mx_book::{Defect, Verdict};
 use mx_command::{Aircraft, Command, Component, Extension, Item, Task};
+use mx_plain::{Book, NoMemory};
 use std::alloc::Global;
 use std::marker::Model;
 

@@ -11,10 +11,12 @@ ghost use Rattle.mx_stands.specs.Schemas.{schema_at};
 ghost use Rattle.mx_tables.specs.Sets.{GainsRows};
 ghost use Rattle.mx_install.specs.Entries.{AddsEntries, FitsNext, first_point, with_command};
 
-use mx_book::{Book, Verdict};
+use mx_book::Verdict;
 use mx_command::Command;
 use mx_layout::TableFault;
-use mx_register::{added_rows, entry_row};
+use mx_plain::Book;
+use mx_plain_register::added_rows;
+use mx_register::entry_row;
 use mx_tables::{Insert, Tables};
 use mx_typed_rows::RegisterRows;
 use sqlite::{Alter, Transaction};

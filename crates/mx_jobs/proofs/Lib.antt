@@ -1,8 +1,6 @@
 pub mod EnteredLemmas
-pub mod InstallLemmas
 pub mod QuestionLemmas
 pub mod TrialLemmas
-mod WorkedFaults
+mod WorkedEndings
 mod WorkedFile
-mod WorkedStatus
 mod WorkedTrial

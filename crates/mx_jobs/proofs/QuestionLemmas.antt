@@ -4,16 +4,16 @@ use Rattle.mx_command.specs.Act.{Entry}
 use Rattle.mx_book.specs.declared.verdict.Refusal.{Refusal}
 use Rattle.mx_book.specs.declared.verdict.Refusal.TheVariants.{UnknownAircraft}
 use Rattle.mx_book.specs.declared.verdict.Reply.TheVariants as reply
-use Rattle.mx_office.specs.declared.fault.Ask.TheVariants.{Refused}
+use Rattle.mx_faults.specs.declared.fault.Ask.TheVariants.{Refused}
 use Rattle.mx_office.specs.Faults.{found_or, IsAnswer}
 use Rattle.mx_reports.specs.ReplyText.{reply_line}
 use Rattle.mx_jobs.specs.Printed.{IsListAnswer, Tells, list_answer, list_ending}
-use Rattle.mx_answers.specs.Question.{IsOfKind, report_lines, report_of}
-use Rattle.mx_jobs.specs.declared.fault.Ending.{Ending}
-use Rattle.mx_jobs.specs.declared.fault.Ending.TheVariants as ending
-use Rattle.mx_jobs.specs.declared.fault.Stop.{Stop}
+use Rattle.mx_questions.specs.Report.{IsOfKind, report_lines, report_of}
+use Rattle.mx_endings.specs.declared.ending.Ending.{Ending}
+use Rattle.mx_endings.specs.declared.ending.Ending.TheVariants as ending
+use Rattle.mx_endings.specs.declared.ending.Stop.{Stop}
 use Rattle.mx_questions.specs.declared.question.Question.{Question}
-use Rattle.mx_answers.specs.declared.question.Report.{Report}
+use Rattle.mx_questions.specs.declared.report.Report.{Report}
 
 -- a list of the kind that was asked for was appended
 pub shown_report : (question : Question) (list : Report) (old new : List ℕ) (result : Result Ending Stop) → IsOfKind question list → OnOk result (new ≡ old ++ report_lines list)

@@ -1,6 +1,7 @@
 -- Lemmas on a trial over a store in memory.
-use Rattle.std.proofs.Common.{[], ◌∙◌, ap, sym, subst, Result, Ok, Err, IfOk}
+use Rattle.std.proofs.Common.{[], ◌∙◌, ap, sym, subst}
 use Rattle.sqlite.specs.Held.{Held, state}
+use Rattle.sqlite.specs.State.{State}
 use Rattle.sqlite.specs.Steps.{over_memory, IsEmpty}
 use Rattle.sqlite_catalog.specs.Listing.{IsSound}
 use Rattle.mx_layout.specs.Crash.{RestsAs}
@@ -25,10 +26,5 @@ memory_rests conn (opens, live, empty) =
     }
 
 -- tables that were just made rest as the book with no entry
-pub made_rests : (conn : Held _) → RestsAs (state over_memory conn) (schema_of office_point.layout) (IsEmptyIn office_point.layout) → Rests (state over_memory conn) []
-made_rests conn made = rests_same (state over_memory conn) office_schema (IsEmptyIn office_point.layout) (λ trees. Stands trees []) (λ clean trees empty. empty_stands trees empty) made
-
--- what follows from what a result has, where it has it
-pub if_ok_then : {X E : Type 0} → (result : Result X E) (P Q : X → Type 0) → ((x : X) → P x → Q x) → IfOk result P → IfOk result Q
-if_ok_then (Ok x) P Q then given = then x given
-if_ok_then (Err e) P Q then given = tt
+pub made_rests : (now : State) → RestsAs now (schema_of office_point.layout) (IsEmptyIn office_point.layout) → Rests now []
+made_rests now made = rests_same now office_schema (IsEmptyIn office_point.layout) (λ trees. Stands trees []) (λ clean trees empty. empty_stands trees empty) made

@@ -1,10 +1,8 @@
--- What is printed of a file that is verified or moved, computed from the definitions.
+-- What is printed of a file that is verified, computed from the definitions.
 use Rattle.std.proofs.Common.{refl, ◌≡◌, [], ◌∷◌, true, false, map}
 use Rattle.std.specs.Prelude.{codes}
-use Rattle.std.specs.Fmt.{digits}
 use Rattle.std.specs.List.{flat_map}
-use Rattle.mx_jobs.specs.Moved.{point_line}
-use Rattle.mx_jobs.specs.Status.{ending_status}
+use Rattle.mx_endings.specs.Status.{ending_status}
 use Rattle.mx_jobs.specs.Verified.{verified_ending, verified_line}
 
 verified : flat_map verified_line (true ∷ false ∷ []) ≡ codes "verified\ndiffers\n"
@@ -12,8 +10,3 @@ verified = refl
 
 statuses_of_verified : map (λ same. ending_status (verified_ending same)) (true ∷ false ∷ []) ≡ 0 ∷ 4 ∷ []
 statuses_of_verified = refl
-
--- a file where no move has begun, and one whose sectors are moved up to that of entry 67
-points : flat_map point_line (record { layout = 2; step = 0; mark = 0 } ∷ record { layout = 1; step = 1; mark = 67 } ∷ []) ≡ codes "point 2 0 0\npoint 1 1 67\n"
-unfolding digits
-points = refl

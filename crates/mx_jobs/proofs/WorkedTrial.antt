@@ -4,7 +4,7 @@ use Rattle.std.specs.Prelude.{codes}
 use Rattle.std.specs.Fmt.{digits}
 use Rattle.mx_command.specs.Act.{Entry, Added, Flown}
 use Rattle.mx_jobs.specs.Tried.{run_text, run_answer}
-use Rattle.mx_jobs.specs.declared.fault.Ending.TheVariants.{Done, Refused}
+use Rattle.mx_endings.specs.declared.ending.Ending.TheVariants.{Done, Refused}
 
 -- its aircraft, built and as of the first moment, and its sector, from 08:00 to 09:30 on 2024-03-01
 abbrev commands : List Entry

@@ -6,15 +6,15 @@ use Rattle.mx_command.specs.Act.{Entry}
 use Rattle.mx_book.specs.declared.verdict.Reply.{Reply}
 use Rattle.mx_intake.specs.declared.fault.IntakeFault.{IntakeFault}
 use Rattle.mx_office.specs.Calls.{IsRun}
-use Rattle.mx_office.specs.declared.fault.Fault.{Fault}
+use Rattle.mx_faults.specs.declared.fault.Fault.{Fault}
 use Rattle.mx_office.specs.declared.office.Office.{Office}
 use Rattle.mx_import.specs.Import.{AreRowsOf}
-use Rattle.mx_import.specs.Rows.{good_rows, told}
-use Rattle.mx_import.specs.Text.{row_lines}
-use Rattle.mx_import.specs.Told.{is_bad, is_refused_row}
-use Rattle.mx_import.specs.declared.report.RowReply.{RowReply}
-use Rattle.mx_jobs.specs.declared.fault.Ending.{Ending}
-use Rattle.mx_jobs.specs.declared.fault.Ending.TheVariants.{Done, Refused, Bad}
+use Rattle.mx_sector_log.specs.Rows.{good_rows, told}
+use Rattle.mx_sector_log.specs.Text.{row_lines}
+use Rattle.mx_sector_log.specs.Told.{is_bad, is_refused_row}
+use Rattle.mx_sector_log.specs.declared.report.RowReply.{RowReply}
+use Rattle.mx_endings.specs.declared.ending.Ending.{Ending}
+use Rattle.mx_endings.specs.declared.ending.Ending.TheVariants.{Done, Refused, Bad}
 
 -- how an import with these rows ended: the gravest counts
 abbrev pub import_ending : List RowReply → Ending

@@ -1,9 +1,4 @@
-pub mod Entered
-pub mod FaultLine
 pub mod Imported
-pub mod Installed
-pub mod Moved
 pub mod Printed
-pub mod Status
 pub mod Tried
 pub mod Verified

@@ -4,16 +4,16 @@ use Rattle.mx_command.specs.Act.{Entry}
 use Rattle.mx_book.specs.declared.verdict.Refusal.{Refusal}
 use Rattle.mx_book.specs.declared.verdict.Refusal.TheVariants.{UnknownAircraft}
 use Rattle.mx_book.specs.declared.verdict.Reply.TheVariants as reply
-use Rattle.mx_office.specs.declared.fault.Ask.{Ask}
-use Rattle.mx_office.specs.declared.fault.Ask.TheVariants as ask
+use Rattle.mx_faults.specs.declared.fault.Ask.{Ask}
+use Rattle.mx_faults.specs.declared.fault.Ask.TheVariants as ask
 use Rattle.mx_reports.specs.ReplyText.{reply_line}
-use Rattle.mx_answers.specs.Question.{IsOfKind, report_lines, report_of}
-use Rattle.mx_jobs.specs.declared.fault.Ending.{Ending}
-use Rattle.mx_jobs.specs.declared.fault.Ending.TheVariants.{Done, Refused}
-use Rattle.mx_jobs.specs.declared.fault.Stop.{Stop}
-use Rattle.mx_jobs.specs.declared.fault.Stop.TheVariants.{Office, Print}
+use Rattle.mx_questions.specs.Report.{IsOfKind, report_lines, report_of}
+use Rattle.mx_endings.specs.declared.ending.Ending.{Ending}
+use Rattle.mx_endings.specs.declared.ending.Ending.TheVariants.{Done, Refused}
+use Rattle.mx_endings.specs.declared.ending.Stop.{Stop}
+use Rattle.mx_endings.specs.declared.ending.Stop.TheVariants.{Office, Print}
 use Rattle.mx_questions.specs.declared.question.Question.{Question}
-use Rattle.mx_answers.specs.declared.question.Report.{Report}
+use Rattle.mx_questions.specs.declared.report.Report.{Report}
 
 -- the text of a list, or of the refusal where the registration is unknown
 abbrev pub list_answer : Option Report → List ℕ

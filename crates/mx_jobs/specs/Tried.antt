@@ -2,12 +2,12 @@
 use Rattle.std.specs.Prelude.{◌≡◌, ℕ, List, ◌++◌}
 use Rattle.mx_command.specs.Act.{Entry}
 use Rattle.mx_book.specs.Run.{book_run, replies}
-use Rattle.mx_answers.specs.Question.{report_of}
+use Rattle.mx_questions.specs.Report.{report_of}
 use Rattle.mx_questions.specs.declared.question.Question.TheVariants.{Life}
-use Rattle.mx_jobs.specs.Entered.{reply_lines}
+use Rattle.mx_upkeep.specs.Entered.{reply_lines}
 use Rattle.mx_jobs.specs.Printed.{list_answer, list_ending}
-use Rattle.mx_jobs.specs.Status.{graver, run_ending}
-use Rattle.mx_jobs.specs.declared.fault.Ending.{Ending}
+use Rattle.mx_endings.specs.Status.{graver, run_ending}
+use Rattle.mx_endings.specs.declared.ending.Ending.{Ending}
 
 -- the replies to the commands behind a book, and the life of the aircraft after them
 abbrev pub run_text : List Entry → List Entry → List ℕ → List ℕ

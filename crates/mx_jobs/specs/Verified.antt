@@ -4,12 +4,12 @@ use Rattle.sqlite.specs.Effect.{Database}
 use Rattle.sqlite.specs.Store.{Ghosts}
 use Rattle.mx_office.specs.Calls.{stop_in, IsAsked}
 use Rattle.mx_office.specs.Verified.{SaysVerified}
-use Rattle.mx_office.specs.declared.fault.Fault.{Fault}
+use Rattle.mx_faults.specs.declared.fault.Fault.{Fault}
 use Rattle.mx_office.specs.declared.office.Office.{Office}
-use Rattle.mx_jobs.specs.declared.fault.Ending.{Ending}
-use Rattle.mx_jobs.specs.declared.fault.Ending.TheVariants.{Done, Differs}
-use Rattle.mx_jobs.specs.declared.fault.Stop.{Stop}
-use Rattle.mx_jobs.specs.declared.fault.Stop.TheVariants as stop
+use Rattle.mx_endings.specs.declared.ending.Ending.{Ending}
+use Rattle.mx_endings.specs.declared.ending.Ending.TheVariants.{Done, Differs}
+use Rattle.mx_endings.specs.declared.ending.Stop.{Stop}
+use Rattle.mx_endings.specs.declared.ending.Stop.TheVariants as stop
 
 -- the line that says whether the tables of a file are those of a book
 abbrev pub verified_line : Bool → List ℕ

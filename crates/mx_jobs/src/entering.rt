@@ -1,41 +1,17 @@
 //! Entering commands into an open office: a line for each reply.
-ghost use Rattle.std.specs.Prelude.{◌≡◌, ◌++◌, length, OnOk, OnErr, IfOk, IfErr};
+ghost use Rattle.std.specs.Prelude.{◌≡◌, length, IfOk, IfErr};
 ghost use Rattle.sqlite.specs.State.{HasCleanDisk};
 ghost use Rattle.mx_office.specs.Calls.{Runs};
 ghost use Rattle.mx_office.specs.Office.{office_state, StandsFor};
-ghost use Rattle.mx_reports.specs.Replies.{lines_of};
-ghost use Rattle.mx_jobs.specs.Entered.{AreReplyLines, PrintsRun, TellsReplies};
-ghost use Rattle.mx_jobs.specs.Status.{Shows, stop_status, run_ending};
+ghost use Rattle.mx_upkeep.specs.Entered.{AreReplyLines, PrintsRun, TellsReplies};
+ghost use Rattle.mx_endings.specs.Status.{Shows, stop_status};
 
-use crate::fault::{Ending, Stop};
 use mx_command::Command;
-use mx_office::{Office, Reply};
-use mx_reports::{has_refusal, replies_text};
+use mx_endings::{Ending, Stop};
+use mx_office::Office;
+use mx_upkeep::{ending_of, print_replies};
 use sqlite::Alter;
 use std::alloc::Global;
-
-/// How a run with these replies ended.
-pub(crate) fn ending_of(replies: &[Reply]) -> Ending
-    ensures { result ≡ run_ending replies.now }
-{
-    if has_refusal(replies) {
-        Ending::Refused
-    } else {
-        Ending::Done
-    }
-}
-
-/// Appends a line for each reply.
-pub(crate) fn print_replies(out: &mut Vec<u8>, replies: &[Reply]) -> Result<(), Stop>
-    ensures printed { OnOk result (out.new.items ≡ out.old.items ++ lines_of replies.now) }
-    ensures memory { IfErr result (λ stop. stop ≡ Stop.Print) }
-    ensures unprinted { OnErr result (out.new.items ≡ out.old.items) }
-{
-    match replies_text(out, replies) {
-        Ok(()) => Ok(()),
-        Err(_) => Err(Stop::Print),
-    }
-}
 
 /// Applies commands in their order, each in a commit of its own, up to the first fault, and appends
 /// a line for each reply. Where memory runs out for the lines the answer is `Print`, whatever else

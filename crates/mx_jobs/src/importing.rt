@@ -1,13 +1,14 @@
 //! Importing a sector log into an open office: a line for each row.
 ghost use Rattle.std.specs.Prelude.{◌≡◌, ◌⊎◌, ◌++◌, Some, None, IfOk, IfErr};
 ghost use Rattle.mx_import.specs.Import.{AreRowsOf, IsFaultOf};
-ghost use Rattle.mx_import.specs.Text.{row_lines};
+ghost use Rattle.mx_sector_log.specs.Text.{row_lines};
 ghost use Rattle.mx_jobs.specs.Imported.{import_ending, AreTold};
-ghost use Rattle.mx_jobs.specs.Status.{stop_status};
+ghost use Rattle.mx_endings.specs.Status.{stop_status};
 
-use crate::fault::{Ending, Stop};
-use mx_import::{ImportReport, RowReply, has_bad, has_refused, import, report_text};
+use mx_endings::{Ending, Stop};
+use mx_import::{ImportReport, import};
 use mx_office::Office;
+use mx_sector_log::{RowReply, has_bad, has_refused, report_text};
 use sqlite::Alter;
 use std::alloc::Global;
 use std::io::Read;

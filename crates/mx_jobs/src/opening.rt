@@ -4,9 +4,9 @@ ghost use Rattle.sqlite.specs.Held.{state};
 ghost use Rattle.sqlite.specs.State.{HasCleanDisk};
 ghost use Rattle.mx_office.specs.Office.{office_state, IsReady};
 ghost use Rattle.mx_office.specs.Opening.{ChangesOnWay, HasReason, MovesOn};
-ghost use Rattle.mx_jobs.specs.Status.{stop_status};
+ghost use Rattle.mx_endings.specs.Status.{stop_status};
 
-use crate::fault::Stop;
+use mx_endings::Stop;
 use mx_office::{Office, open_office};
 use sqlite::{Alter, Connection};
 use std::alloc::Global;

@@ -1,36 +1,25 @@
 //! `try`: commands that are entered into a store in memory, and the life of an aircraft behind them.
-ghost use Rattle.std.specs.Prelude.{◌≡◌, ◌≤◌, [], IfOk, IfErr};
+ghost use Rattle.std.specs.Prelude.{◌≡◌, ◌≤◌, [], false, IfOk, IfErr};
+ghost use Rattle.sqlite.specs.Held.{state};
 ghost use Rattle.sqlite.specs.State.{HasCleanDisk};
+ghost use Rattle.sqlite_catalog.specs.Listing.{IsSound};
+ghost use Rattle.mx_layout.specs.Crash.{RestsAs};
+ghost use Rattle.mx_layout.specs.Tables.{no_schema};
 ghost use Rattle.mx_office.specs.Office.{office_state, IsReady, StandsFor};
-ghost use Rattle.mx_jobs.specs.Status.{stop_status};
+ghost use Rattle.mx_endings.specs.Status.{stop_status};
 ghost use Rattle.mx_jobs.specs.Tried.{TellsTrial};
 
 use crate::entering::enter_all;
-use crate::fault::{Ending, Stop};
 use crate::listing::print_list;
 use crate::opening::open;
 use mx_base::Tail;
 use mx_command::Command;
+use mx_endings::{Ending, Stop};
 use mx_layout::{Layout, create};
 use mx_office::{NEWEST_LAYOUT, Office, OpenFault};
 use mx_questions::Question;
-use sqlite::{Alter, Connection, MemStore};
+use sqlite::{Alter, Connection};
 use std::alloc::Global;
-
-// An office in memory, which rests as the book with no entry.
-fn new_office(alloc: Global) -> Result<Office<MemStore>, Stop>
-    ensures ready { IfOk result IsReady }
-    ensures empty { IfOk result (λ office. StandsFor office []) }
-    ensures status { IfErr result (λ stop. stop_status stop ≡ 5) }
-{
-    let Ok(mut conn) = Connection::open_in_memory(alloc) else {
-        return Err(Stop::Open(OpenFault::Memory));
-    };
-    if let Err(fault) = create(&mut conn, Layout(NEWEST_LAYOUT)) {
-        return Err(Stop::Create(fault));
-    }
-    open(alloc, conn)
-}
 
 // Applies the commands of a trial, and appends the replies and the life of its aircraft.
 fn try_commands<S: Alter>(
@@ -50,6 +39,31 @@ fn try_commands<S: Alter>(
     Ok(entered.or(asked))
 }
 
+// Makes the tables of an empty book in a database without tables, enters the commands of a trial into it, and appends the replies
+// and the life of its aircraft.
+fn try_in<S: Alter + Drop>(
+    alloc: Global,
+    conn: Connection<S>,
+    commands: &[Command],
+    tail: &Tail,
+    out: &mut Vec<u8>,
+) -> Result<Ending, Stop>
+    requires { conn.in_transaction ≡ false }
+    ensures exact { RestsAs (state S.Store conn) no_schema (IsSound no_schema)
+        → ((held : _) → HasCleanDisk (state S.Store held))
+        → IfOk result (TellsTrial [] commands.now tail.now out.old.items out.new.items) }
+    ensures status { IfErr result (λ stop. 4 ≤ stop_status stop) }
+{
+    let mut conn = conn;
+    if let Err(fault) = create(&mut conn, Layout(NEWEST_LAYOUT)) {
+        return Err(Stop::Create(fault));
+    }
+    let mut office = open(alloc, conn)?;
+    let tried = try_commands(alloc, &mut office, commands, tail, out);
+    drop(office.close());
+    tried
+}
+
 /// Enters commands into a store in memory, each in a commit of its own, and appends the replies and the life of an aircraft.
 pub fn try_in_memory(
     alloc: Global,
@@ -60,8 +74,8 @@ pub fn try_in_memory(
     ensures exact { IfOk result (TellsTrial [] commands.now tail.now out.old.items out.new.items) }
     ensures status { IfErr result (λ stop. 4 ≤ stop_status stop) }
 {
-    let mut office = new_office(alloc)?;
-    let tried = try_commands(alloc, &mut office, commands, tail, out);
-    drop(office.close());
-    tried
+    match Connection::open_in_memory(alloc) {
+        Ok(conn) => try_in(alloc, conn, commands, tail, out),
+        Err(_) => Err(Stop::Open(OpenFault::Memory)),
+    }
 }

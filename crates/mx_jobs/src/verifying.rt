@@ -4,11 +4,11 @@ ghost use Rattle.sqlite.specs.State.{HasCleanDisk};
 ghost use Rattle.mx_office.specs.Layout.{office_point};
 ghost use Rattle.mx_office.specs.Office.{office_state, IsReady};
 ghost use Rattle.mx_stands.specs.Schemas.{HasTablesAt};
-ghost use Rattle.mx_jobs.specs.Status.{Shows, stop_status};
+ghost use Rattle.mx_endings.specs.Status.{Shows, stop_status};
 ghost use Rattle.mx_jobs.specs.Verified.{AsksVerified, IsVerifiedLine, PrintsVerified};
 ghost use Rattle.mx_jobs.specs.Verified.{TellsVerified, verified_ending, verified_line};
 
-use crate::fault::{Ending, Stop};
+use mx_endings::{Ending, Stop};
 use mx_office::Office;
 use sqlite::Alter;
 use std::alloc::{AllocError, Global};

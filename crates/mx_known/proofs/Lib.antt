@@ -1,3 +1,2 @@
-pub mod SectorRows
 pub mod TellLemmas
 pub mod KnownLemmas

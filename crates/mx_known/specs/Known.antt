@@ -24,9 +24,9 @@ use Rattle.mx_chosen.specs.Choices.{has_value}
 use Rattle.mx_found.specs.Given.{Register, found, line_row}
 use Rattle.mx_found.specs.Names.{entry_number}
 use Rattle.mx_found.specs.Spans.{begins_with, ends_with}
-use Rattle.mx_lookups.specs.AnyRows.{AreChosen, Gives, GivesBy}
-use Rattle.mx_lookups.specs.Given.{AircraftNumber, ComponentNumber, DefectNumber, ItemNumber}
-use Rattle.mx_lookups.specs.Told.{AircraftDamage, ComponentDamage, Damage, DamageBy, Either, EntryDamage, ItemDamage, Unread}
+use Rattle.mx_numbers.specs.AnyRows.{AreChosen, Gives, GivesBy}
+use Rattle.mx_numbers.specs.Given.{AircraftNumber, ComponentNumber, DefectNumber, ItemNumber}
+use Rattle.mx_numbers.specs.Told.{AircraftDamage, ComponentDamage, Damage, DamageBy, Either, EntryDamage, ItemDamage, Unread}
 
 -- ── of a book ──
 

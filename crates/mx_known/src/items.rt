@@ -7,10 +7,10 @@ ghost use Rattle.mx_register.specs.Lines.{lines_from};
 ghost use Rattle.mx_register.specs.Registers.{aircraft_row, place_row};
 ghost use Rattle.mx_kept.specs.Cells.{kept_aircraft, kept_place};
 ghost use Rattle.mx_found.specs.Given as registers;
-ghost use Rattle.mx_lookups.specs.AnyRows.{ReadsAny};
+ghost use Rattle.mx_numbers.specs.AnyRows.{ReadsAny};
 ghost use Rattle.mx_known.specs.Known.{AreRows, RowsDamage, Says, SaysDamage, Tells, TellsRows};
-ghost use Rattle.mx_lookups.specs.Reads.{Reads};
-ghost use Rattle.mx_lookups.specs.Told.{TellsDamage};
+ghost use Rattle.mx_numbers.specs.Reads.{Reads};
+ghost use Rattle.mx_numbers.specs.Told.{TellsDamage};
 
 use crate::lines::place_rows;
 use mx_base::{Part, Position};

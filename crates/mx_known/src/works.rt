@@ -7,10 +7,10 @@ ghost use Rattle.mx_register.specs.Lines.{lines_from};
 ghost use Rattle.mx_register.specs.Registers.{programme_row, task_row};
 ghost use Rattle.mx_kept.specs.Cells.{kept_programme, kept_task};
 ghost use Rattle.mx_found.specs.Given as registers;
-ghost use Rattle.mx_lookups.specs.AnyRows.{ReadsAny};
+ghost use Rattle.mx_numbers.specs.AnyRows.{ReadsAny};
 ghost use Rattle.mx_known.specs.Known.{AreRows, RowsDamage, Says, SaysDamage, Tells, TellsRows};
-ghost use Rattle.mx_lookups.specs.Reads.{Reads};
-ghost use Rattle.mx_lookups.specs.Told.{TellsDamage};
+ghost use Rattle.mx_numbers.specs.Reads.{Reads};
+ghost use Rattle.mx_numbers.specs.Told.{TellsDamage};
 
 use crate::lines::task_rows;
 use mx_chosen::defects::{defect_by_seq, extension_by_seq};
@@ -21,8 +21,8 @@ use mx_found::same::{
     are_same_deferrals, are_same_extensions, are_same_openings, are_same_programmes, are_same_tasks,
 };
 use mx_layout::TableFault;
-use mx_lookups::entries::defect_number;
-use mx_lookups::items::{aircraft_number, item_number};
+use mx_numbers::entries::defect_number;
+use mx_numbers::items::{aircraft_number, item_number};
 use mx_register::{deferral_row, extension_row, opening_row, or_zero, programme_row};
 use sqlite::{Alter, Transaction};
 use std::alloc::Global;

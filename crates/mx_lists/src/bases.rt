@@ -9,16 +9,16 @@ ghost use Rattle.mx_due.specs.Due.{IsLife, IsBase, due_after};
 ghost use Rattle.mx_book.specs.Register.{birth};
 ghost use Rattle.mx_book.specs.Life.{life_at, use_or_none};
 ghost use Rattle.mx_book.specs.Base.{DoneIn, accomplished_by, task_then, base_of, base_from, base};
-ghost use Rattle.mx_book.specs.declared.judging.TheConstants.{MOST_ENTRIES};
+ghost use Rattle.mx_book.specs.declared.limits.TheConstants.{MOST_ENTRIES};
 
 use crate::life_list::life_or_none;
 use mx_base::{Base, Day, Limit, Moment, TaskId, Use, day_of};
 use mx_book::found::{birth_of, item_of_place, kind_of_place};
-use mx_book::lives::life;
-use mx_book::programmes::{is_done_by, task_of_kind};
-use mx_book::register::found_of;
 use mx_command::{Body, Command, Item, Line, Release, Task};
 use mx_due::{base_done, due_after};
+use mx_plain::lives::life;
+use mx_plain::programmes::{is_done_by, task_of_kind};
+use mx_plain::register::found_of;
 
 // The life of an item up to a moment, or none at all where the item is unknown.
 #[tactic(auto, using(mx_book::proofs::LifeLemmas::life_bounded))]

@@ -16,8 +16,8 @@ use crate::life_list::{LifeList, list_lives};
 use crate::limit_list::{LimitList, list_limits};
 use crate::plain_lists::unless_no_memory;
 use mx_base::{Base, Day, Kind, Limit, Tail, TaskId};
-use mx_book::{Book, NoMemory, Plain};
 use mx_command::Item;
+use mx_plain::{Book, NoMemory, Plain};
 use std::alloc::Global;
 
 /// The point that the next due of a task of an item is counted from: that of its last accomplishment, or `None` without

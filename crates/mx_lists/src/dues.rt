@@ -11,9 +11,9 @@ use crate::lists::Lists;
 use mx_base::{Kind, Limit, TaskId};
 use mx_book::Records;
 use mx_book::found::{Found, birth_of, is_task_of};
-use mx_book::judging_items::found_of;
 use mx_command::{Item, Task};
 use mx_due::due_after;
+use mx_judge::judging_items::found_of;
 
 // When a task that applies to an item, of which this was found, is due on it, or `None` where it is due no more.
 fn due_of_applied<R: Lists>(

@@ -6,11 +6,12 @@ use crate::fitted::places_fitted;
 use crate::lists::Lists;
 use crate::stop::Stop;
 use mx_base::{Base, Kind, Position, Serial, Tail, TaskId, Use};
-use mx_book::defects::list_open_defects;
-use mx_book::lives::life;
-use mx_book::programmes::tasks_of_kind;
-use mx_book::{Defect, NoMemory, Plain};
+use mx_book::Defect;
 use mx_command::{Item, Task};
+use mx_plain::defects::list_open_defects;
+use mx_plain::lives::life;
+use mx_plain::programmes::tasks_of_kind;
+use mx_plain::{NoMemory, Plain};
 use std::alloc::Global;
 use std::convert::Infallible;
 

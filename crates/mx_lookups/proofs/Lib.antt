@@ -1,13 +1,4 @@
-pub mod ReadLemmas
-pub mod ChosenLemmas
-pub mod TableLemmas
-pub mod LookupLemmas
-pub mod BookRows
-pub mod AnyLemmas
 pub mod DamageLemmas
-pub mod BaseLookups
 pub mod RoomLookups
-pub mod InForceLemmas
 pub mod DefectLemmas
 pub mod WalkLemmas
-pub mod ToldLemmas

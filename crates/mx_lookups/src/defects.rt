@@ -2,12 +2,11 @@
 ghost use Rattle.std.specs.Prelude.{◌≡◌};
 ghost use Rattle.sqlite.specs.Held.{state};
 ghost use Rattle.mx_book.specs.Defect.{defect, extension, is_rectified};
-ghost use Rattle.mx_lookups.specs.AnyRows.{ReadsAny};
-ghost use Rattle.mx_lookups.specs.Given.{DefectOf, IsRectified, ExtensionOf};
-ghost use Rattle.mx_lookups.specs.Reads.{Reads};
-ghost use Rattle.mx_lookups.specs.Told.{DefectDamage, ExtensionDamage, RectifiedDamage, TellsDamage};
+ghost use Rattle.mx_numbers.specs.AnyRows.{ReadsAny};
+ghost use Rattle.mx_numbers.specs.Given.{DefectOf, IsRectified, ExtensionOf};
+ghost use Rattle.mx_numbers.specs.Reads.{Reads};
+ghost use Rattle.mx_numbers.specs.Told.{DefectDamage, ExtensionDamage, RectifiedDamage, TellsDamage};
 
-use crate::entries::defect_number;
 use mx_base::Doc;
 use mx_book::Defect;
 use mx_chosen::defects::{defect_by_seq, extension_by_defect};
@@ -16,6 +15,7 @@ use mx_chosen::works::crs_line_by_defect;
 use mx_command::Extension;
 use mx_found::defects::{defect_in, deferral_aircraft, extension_in, is_rectified_in};
 use mx_layout::{Table, TableFault};
+use mx_numbers::entries::defect_number;
 use sqlite::{Alter, Transaction};
 use std::alloc::Global;
 

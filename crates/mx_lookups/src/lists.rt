@@ -1,10 +1,8 @@
-//! The look-ups of lists: the tasks in force, what is fitted to an aircraft, and its open defects.
-ghost use Rattle.std.specs.Prelude.{◌≡◌, if◌then◌else◌, filter, map, nat_eq, true, None, Some, IfOk};
-ghost use Rattle.std.specs.List.{filter_map, list_all};
+//! The look-ups of lists: what is fitted to an aircraft, and its open defects.
+ghost use Rattle.std.specs.Prelude.{◌≡◌, if◌then◌else◌, filter, map, nat_eq, None, Some};
+ghost use Rattle.std.specs.List.{filter_map};
 ghost use Rattle.sqlite.specs.Held.{state};
-ghost use Rattle.mx_command.specs.Programme.{task_shape};
 ghost use Rattle.mx_book.specs.Defect.{open_defects};
-ghost use Rattle.mx_book.specs.Programme.{tasks_or_none};
 ghost use Rattle.mx_book.specs.Span.{is_open_on, spans};
 ghost use Rattle.mx_kept_rows.specs.Spans.{span_rows};
 ghost use Rattle.mx_register.specs.Names.{serial_at};
@@ -13,51 +11,26 @@ ghost use Rattle.mx_typed_rows.specs.declared.rows.DeferralRow.{DeferralRow};
 ghost use Rattle.mx_found.specs.Defects.{is_rectified_at, open_said};
 ghost use Rattle.mx_found.specs.Names.{doc_at};
 ghost use Rattle.mx_found.specs.Spans.{is_open_at, place_said};
-ghost use Rattle.mx_lookups.specs.AnyRows.{ReadsAny};
-ghost use Rattle.mx_lookups.specs.Given.{DefectsAt, DocIfOpen, DocOfNumber, FittedTo, OpenDefects, PlacesAt, SerialOfNumber, TasksInForce};
-ghost use Rattle.mx_lookups.specs.Reads.{Reads};
-ghost use Rattle.mx_lookups.specs.Told.{DefectsDamage, DocDamage, DocIfOpenDamage, FittedDamage, InForceDamage, OpenDamage, PlacesDamage, SerialDamage, TellsDamage};
+ghost use Rattle.mx_numbers.specs.AnyRows.{ReadsAny};
+ghost use Rattle.mx_numbers.specs.Given.{DefectsAt, DocIfOpen, DocOfNumber, FittedTo, OpenDefects, PlacesAt, SerialOfNumber};
+ghost use Rattle.mx_numbers.specs.Reads.{Reads};
+ghost use Rattle.mx_numbers.specs.Told.{DefectsDamage, DocDamage, DocIfOpenDamage, FittedDamage, OpenDamage, PlacesDamage, SerialDamage, TellsDamage};
 
-use crate::items::aircraft_number;
-use crate::programmes::rows_in_force;
-use mx_base::{Doc, Kind, Position, Serial, Tail};
+use mx_base::{Doc, Position, Serial, Tail};
 use mx_book::Defect;
 use mx_chosen::defects::defect_by_aircraft;
 use mx_chosen::entries::entry_by_seq;
 use mx_chosen::items::component_by_seq;
 use mx_chosen::kept::open_spans_by_aircraft;
 use mx_chosen::works::crs_line_by_defect;
-use mx_command::{Category, Task};
+use mx_command::Category;
 use mx_found::components::serial_in;
 use mx_found::defects::{defect_said, is_rectified_in};
 use mx_found::entries::doc_in;
-use mx_found::programmes::tasks_said;
 use mx_layout::{Table, TableFault};
+use mx_numbers::items::aircraft_number;
 use sqlite::{Alter, Transaction};
 use std::alloc::Global;
-
-/// The tasks of the programme in force of a kind, each of its shape; none where it has no programme. `Damaged` with `task`
-/// where one lacks its shape.
-pub fn tasks<S: Alter>(
-    alloc: Global,
-    tx: &mut Transaction<'_, S>,
-    kind: &Kind,
-) -> Result<Vec<Task>, TableFault>
-    ensures same_reference { tx.new.conn.ghost_name ≡ tx.old.conn.ghost_name }
-    ensures reads { Reads (λ book tasks. tasks.items ≡ tasks_or_none book kind.now)
-        (state S.Store tx.old.conn.now) (state S.Store tx.new.conn.now) result }
-    ensures any_rows { ReadsAny (λ trees tasks. TasksInForce kind.now trees tasks.items)
-        (state S.Store tx.old.conn.now) (state S.Store tx.new.conn.now) result }
-    ensures damage { TellsDamage (InForceDamage kind.now)
-        (state S.Store tx.old.conn.now) (state S.Store tx.new.conn.now) result }
-    ensures shape { IfOk result (λ tasks. list_all task_shape tasks.items ≡ true) }
-{
-    let found = rows_in_force(alloc, tx, kind)?;
-    match found {
-        Some(rows) => Ok(tasks_said(alloc, &rows)?),
-        None => Ok(Vec::new(alloc)),
-    }
-}
 
 // The serial number of the component that the entry with this number added.
 fn serial_of_number<S: Alter>(

@@ -3,14 +3,14 @@
 ghost use Rattle.std.specs.Prelude.{◌≡◌};
 ghost use Rattle.sqlite.specs.Held.{state};
 ghost use Rattle.mx_book.specs.Register.{has_room_for_aircraft, has_room_for_component};
-ghost use Rattle.mx_book.specs.declared.judging.TheConstants.{MOST_AIRCRAFT, MOST_COMPONENTS};
+ghost use Rattle.mx_book.specs.declared.limits.TheConstants.{MOST_AIRCRAFT, MOST_COMPONENTS};
 ghost use Rattle.mx_layout.specs.declared.fault.Table.TheVariants as table;
-ghost use Rattle.mx_lookups.specs.AnyRows.{ReadsAny};
-ghost use Rattle.mx_lookups.specs.Given.{HasRoom};
-ghost use Rattle.mx_lookups.specs.Reads.{Reads};
-ghost use Rattle.mx_lookups.specs.Told.{CountDamage, TellsDamage};
+ghost use Rattle.mx_numbers.specs.AnyRows.{ReadsAny};
+ghost use Rattle.mx_numbers.specs.Given.{HasRoom};
+ghost use Rattle.mx_numbers.specs.Reads.{Reads};
+ghost use Rattle.mx_numbers.specs.Told.{CountDamage, TellsDamage};
 
-use mx_book::judging::{MOST_AIRCRAFT, MOST_COMPONENTS};
+use mx_book::limits::{MOST_AIRCRAFT, MOST_COMPONENTS};
 use mx_chosen::counts::{count_aircraft, count_component};
 use mx_layout::TableFault;
 use sqlite::{Alter, Transaction};

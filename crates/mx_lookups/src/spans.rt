@@ -3,16 +3,16 @@ ghost use Rattle.std.specs.Prelude.{◌≡◌};
 ghost use Rattle.sqlite.specs.Held.{state};
 ghost use Rattle.mx_book.specs.Span.{is_taken, tail_fitted};
 ghost use Rattle.mx_lookups.specs.Fitted.{IsNumberFitted};
-ghost use Rattle.mx_lookups.specs.AnyRows.{ReadsAny};
-ghost use Rattle.mx_lookups.specs.Given.{IsTaken, NumberFitted, TailFitted};
-ghost use Rattle.mx_lookups.specs.Reads.{Reads};
-ghost use Rattle.mx_lookups.specs.Told.{NumberFittedDamage, TailFittedDamage, TakenDamage, TellsDamage};
+ghost use Rattle.mx_numbers.specs.AnyRows.{ReadsAny};
+ghost use Rattle.mx_numbers.specs.Given.{IsTaken, NumberFitted, TailFitted};
+ghost use Rattle.mx_numbers.specs.Reads.{Reads};
+ghost use Rattle.mx_numbers.specs.Told.{NumberFittedDamage, TailFittedDamage, TakenDamage, TellsDamage};
 
-use crate::items::{aircraft_number, component_number, tail_of_number};
 use mx_base::{Position, Serial, Tail};
 use mx_chosen::kept::{open_spans_by_aircraft, open_spans_by_component};
 use mx_found::spans::{is_taken_in, span_aircraft};
 use mx_layout::{Table, TableFault};
+use mx_numbers::items::{aircraft_number, component_number, tail_of_number};
 use sqlite::{Alter, Transaction};
 use std::alloc::Global;
 

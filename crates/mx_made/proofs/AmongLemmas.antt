@@ -14,8 +14,8 @@ use Rattle.mx_typed_rows.specs.Rising.{IsRising}
 use Rattle.mx_typed_rows.specs.declared.rows.TotalRow.{TotalRow}
 use Rattle.mx_kept_rows.specs.Totals.{is_among, total_in, total_rows}
 use Rattle.mx_kept_rows.proofs.ItemOrder.{total_rows-rising}
-use Rattle.mx_lookups.specs.Reads.{Reads}
-use Rattle.mx_lookups.proofs.ReadLemmas.{reads_then, told}
+use Rattle.mx_numbers.specs.Reads.{Reads}
+use Rattle.mx_numbers.proofs.ReadLemmas.{reads_then, told}
 
 abbrev item : TotalRow → ℕ
 item row = row.item

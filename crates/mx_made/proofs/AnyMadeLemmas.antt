@@ -17,11 +17,11 @@ use Rattle.mx_typed_rows.specs.declared.rows.EntryRow.{EntryRow}
 use Rattle.mx_layout.specs.declared.fault.TableFault.{TableFault}
 use Rattle.mx_layout.specs.Crash.{IsWithin}
 use Rattle.mx_kept.specs.Kept.{Kept}
-use Rattle.mx_lookups.specs.AnyRows.{AreChosen, ReadsAny}
-use Rattle.mx_lookups.specs.Given.{ItemNumber, TaskOf}
-use Rattle.mx_lookups.specs.Reads.{Reads}
-use Rattle.mx_lookups.proofs.AnyLemmas.{any_later, any_so}
-use Rattle.mx_lookups.proofs.TableLemmas.{IsTable}
+use Rattle.mx_numbers.specs.AnyRows.{AreChosen, ReadsAny}
+use Rattle.mx_numbers.specs.Given.{ItemNumber, TaskOf}
+use Rattle.mx_numbers.specs.Reads.{Reads}
+use Rattle.mx_numbers.proofs.AnyLemmas.{any_later, any_so}
+use Rattle.mx_numbers.proofs.TableLemmas.{IsTable}
 use Rattle.mx_chosen.specs.Calls.{ReadsFirst}
 use Rattle.mx_due.specs.Due.{due_after}
 use Rattle.mx_book.specs.Judge.{item_at}

@@ -28,12 +28,12 @@ use Rattle.mx_layout.specs.declared.fault.TableFault.TheVariants.{Memory}
 use Rattle.mx_kept.specs.Cells.{kept_total2}
 use Rattle.mx_chosen.specs.Choices.{has_value}
 use Rattle.mx_found.specs.Lives.{life_in}
-use Rattle.mx_lookups.specs.AnyRows.{Gives}
-use Rattle.mx_lookups.specs.Damage.{HasRow, IsDamaged}
-use Rattle.mx_lookups.specs.Given.{LifeOf}
-use Rattle.mx_lookups.specs.Reads.{Reads}
-use Rattle.mx_lookups.proofs.AnyLemmas.{first_kept}
-use Rattle.mx_lookups.proofs.ReadLemmas.{reads_then, stopped, told}
+use Rattle.mx_numbers.specs.AnyRows.{Gives}
+use Rattle.mx_numbers.specs.Damage.{HasRow, IsDamaged}
+use Rattle.mx_numbers.specs.Given.{LifeOf}
+use Rattle.mx_numbers.specs.Reads.{Reads}
+use Rattle.mx_numbers.proofs.AnyLemmas.{first_kept}
+use Rattle.mx_numbers.proofs.ReadLemmas.{reads_then, stopped, told}
 use Rattle.mx_made.specs.Releases.{due_by_kind}
 use Rattle.mx_made.proofs.MadeLemmas.{starved}
 

@@ -18,9 +18,9 @@ use Rattle.mx_chosen.specs.Calls.{ReadsBy}
 use Rattle.mx_chosen.specs.Choices.{has_value}
 use Rattle.mx_found.specs.Spans.{is_open_of as is_left_of}
 use Rattle.mx_found.proofs.OpenLemmas.{ends_alike}
-use Rattle.mx_lookups.specs.Reads.{Reads}
-use Rattle.mx_lookups.proofs.LookupLemmas.{number_is, rows_read}
-use Rattle.mx_lookups.proofs.TableLemmas.{spans}
+use Rattle.mx_numbers.specs.Reads.{Reads}
+use Rattle.mx_numbers.proofs.LookupLemmas.{number_is, rows_read}
+use Rattle.mx_numbers.proofs.TableLemmas.{spans}
 
 -- ── open spans ──
 

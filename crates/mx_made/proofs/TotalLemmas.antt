@@ -39,11 +39,11 @@ use Rattle.mx_found.specs.Names.{aircraft_number, component_number}
 use Rattle.mx_found.proofs.FoundLemmas.{serial_numbered, tail_numbered}
 use Rattle.mx_found.proofs.ListLemmas.{all_left, first_left}
 use Rattle.mx_found.proofs.StatedLemmas.{airframe_numbered, component_numbered, no_item_numbered}
-use Rattle.mx_lookups.specs.AnyRows.{AreChosen, Gives, ReadsAny}
-use Rattle.mx_lookups.specs.Damage.{HasRow, IsDamaged}
-use Rattle.mx_lookups.specs.Reads.{Reads, rows_point}
-use Rattle.mx_lookups.proofs.AnyLemmas.{any_later, empty_is, first_kept, kept_unmet}
-use Rattle.mx_lookups.proofs.LookupLemmas.{number_is}
+use Rattle.mx_numbers.specs.AnyRows.{AreChosen, Gives, ReadsAny}
+use Rattle.mx_numbers.specs.Damage.{HasRow, IsDamaged}
+use Rattle.mx_numbers.specs.Reads.{Reads, rows_point}
+use Rattle.mx_numbers.proofs.AnyLemmas.{any_later, empty_is, first_kept, kept_unmet}
+use Rattle.mx_numbers.proofs.LookupLemmas.{number_is}
 use Rattle.mx_made.specs.Totals.{HasItem, TotalOf}
 
 -- ── rows with a number ──

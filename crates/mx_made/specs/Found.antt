@@ -32,8 +32,8 @@ use Rattle.mx_kept.specs.Cells.{kept_aircraft, kept_component, kept_entry, kept_
 use Rattle.mx_chosen.specs.Choices.{backward, has_value, is_any, is_open}
 use Rattle.mx_found.specs.Names.{last_number}
 use Rattle.mx_found.specs.Said.{aircraft_in, component_in}
-use Rattle.mx_lookups.specs.AnyRows.{AreChosen, Gives, GivesFirst}
-use Rattle.mx_lookups.specs.Given.{AircraftNumber, BaseOf, ComponentNumber, DefectNumber, ItemNumber, LifeOf, TaskOf}
+use Rattle.mx_numbers.specs.AnyRows.{AreChosen, Gives, GivesFirst}
+use Rattle.mx_numbers.specs.Given.{AircraftNumber, BaseOf, ComponentNumber, DefectNumber, ItemNumber, LifeOf, TaskOf}
 use Rattle.mx_changes.specs.Made.{AreMadeOf, Findings}
 use Rattle.mx_changes.specs.declared.releases.Certified.{Certified}
 use Rattle.mx_changes.specs.declared.releases.Certified.TheVariants.{Done, Rectified}

@@ -5,8 +5,8 @@ use Rattle.sqlite.specs.Tree.{Trees}
 use Rattle.mx_typed_rows.specs.declared.rows.TotalRow.{TotalRow}
 use Rattle.mx_kept.specs.Cells.{kept_aircraft, kept_component, kept_total2}
 use Rattle.mx_chosen.specs.Choices.{has_value}
-use Rattle.mx_lookups.specs.AnyRows.{Gives}
-use Rattle.mx_lookups.specs.Damage.{HasRow}
+use Rattle.mx_numbers.specs.AnyRows.{Gives}
+use Rattle.mx_numbers.specs.Damage.{HasRow}
 
 -- an aircraft or a component has the number
 abbrev pub HasItem : ℕ → Trees → Type 0

@@ -5,8 +5,8 @@ ghost use Rattle.mx_command.specs.Act.{Flown};
 ghost use Rattle.mx_command.specs.Shape.{sector_shape};
 ghost use Rattle.mx_kept_rows.specs.Totals.{has_between};
 ghost use Rattle.mx_typed_rows.specs.Rows.{FitsEntry};
-ghost use Rattle.mx_lookups.specs.AnyRows.{ReadsAny};
-ghost use Rattle.mx_lookups.specs.Reads.{Reads};
+ghost use Rattle.mx_numbers.specs.AnyRows.{ReadsAny};
+ghost use Rattle.mx_numbers.specs.Reads.{Reads};
 ghost use Rattle.mx_made.specs.Found.{AreRowsBy, numbers_flown};
 ghost use Rattle.mx_made.specs.Made.{AreRowsOf};
 

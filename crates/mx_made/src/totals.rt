@@ -6,8 +6,8 @@ ghost use Rattle.mx_due.specs.Due.{IsLife};
 ghost use Rattle.mx_register.specs.Names.{item_at};
 ghost use Rattle.mx_kept_rows.specs.Totals.{is_among, total_in, total_rows};
 ghost use Rattle.mx_changes.specs.Kept.{HasLife};
-ghost use Rattle.mx_lookups.specs.AnyRows.{ReadsAny};
-ghost use Rattle.mx_lookups.specs.Reads.{Reads};
+ghost use Rattle.mx_numbers.specs.AnyRows.{ReadsAny};
+ghost use Rattle.mx_numbers.specs.Reads.{Reads};
 ghost use Rattle.mx_made.specs.Found.{AppendsTotal, AreTotalsOf};
 ghost use Rattle.mx_made.specs.Totals.{HasItem, TotalOf};
 

@@ -1,12 +1,13 @@
 //! A file of layout 1 that has a whole book.
 ghost use Rattle.std.specs.Prelude.{◌≡◌, false};
 
-use mx_book::{Book, Verdict};
+use mx_book::Verdict;
 use mx_cases::Unmade;
 use mx_command::Command;
 use mx_install::install_v1;
 use mx_kept_lines::{append_table_fault, room};
 use mx_layout::TableFault;
+use mx_plain::Book;
 use sqlite::{Alter, Connection};
 use std::alloc::{AllocError, Global};
 

@@ -27,8 +27,8 @@ use Rattle.mx_settle.proofs.PlaceLemmas.{Bounds, bounds}
 use Rattle.mx_office.specs.Faults.{is_office_point, moved_fault_from, open_answer, open_fault_from, IsReason, IsStop, IsStopped, IsUnopened, SaysWhy}
 use Rattle.mx_office.specs.Layout.{office_point}
 use Rattle.mx_office.specs.Opening.{HasReason, SaysPoint, WasOurs}
-use Rattle.mx_office.specs.declared.fault.OpenFault.{OpenFault}
-use Rattle.mx_office.specs.declared.fault.OpenFault.TheVariants as unopened
+use Rattle.mx_faults.specs.declared.fault.OpenFault.{OpenFault}
+use Rattle.mx_faults.specs.declared.fault.OpenFault.TheVariants as unopened
 
 -- ── the point was not read ──
 

@@ -7,10 +7,10 @@ use Rattle.mx_layout.specs.Crash.{ChangesNothing}
 use Rattle.mx_office.specs.Calls.{stop_asking, HandsIn, IsRun, RunsOver, RunsOverRows, replies_in, stop_in}
 use Rattle.mx_office.specs.Office.{office_state, IsReady, IsInDoubt, StandsFor}
 use Rattle.mx_office.specs.Stands.{NoneAccepted}
-use Rattle.mx_office.specs.declared.fault.Ask.{Ask}
-use Rattle.mx_office.specs.declared.fault.Ask.TheVariants.{Refused, Failed}
-use Rattle.mx_office.specs.declared.fault.Fault.{Fault}
-use Rattle.mx_office.specs.declared.fault.Fault.TheVariants.{Memory, Store, NeedsReopen, Damaged}
+use Rattle.mx_faults.specs.declared.fault.Ask.{Ask}
+use Rattle.mx_faults.specs.declared.fault.Ask.TheVariants.{Refused, Failed}
+use Rattle.mx_faults.specs.declared.fault.Fault.{Fault}
+use Rattle.mx_faults.specs.declared.fault.Fault.TheVariants.{Memory, Store, NeedsReopen, Damaged}
 use Rattle.mx_office.specs.declared.office.Office.{Office}
 use Rattle.mx_office.proofs.OfficeLemmas.{survives_itself}
 

@@ -24,8 +24,8 @@ use Rattle.mx_office.specs.Faults.{call_answer, fault_from}
 use Rattle.mx_office.specs.Layout.{office_schema}
 use Rattle.mx_office.specs.OnTop.{AreAnswered, HasOnTop, IsBehind, IsDamagedBehind, IsOfOffice, LeadsTo, MayLeave, WasEntered}
 use Rattle.mx_office.specs.Stands.{IsEither, NoneAccepted, Rests, Stands}
-use Rattle.mx_office.specs.declared.fault.Fault.{Fault}
-use Rattle.mx_office.specs.declared.fault.Fault.TheVariants.{Store, Damaged}
+use Rattle.mx_faults.specs.declared.fault.Fault.{Fault}
+use Rattle.mx_faults.specs.declared.fault.Fault.TheVariants.{Store, Damaged}
 use Rattle.mx_office.proofs.AppliedLemmas.{Handed, is_damaged, was_entered, was_open}
 use Rattle.mx_office.proofs.OfficeLemmas.{after_is, behind_is, nothing_then, rests_as, survives_itself}
 use Rattle.mx_office.proofs.ReplyLemmas.{answered_more, answered_on, damage_from, idle_fault, idle_reply, no_damage_stop, no_reopening, none_before, none_last, store_stop}

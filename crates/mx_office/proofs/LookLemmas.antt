@@ -17,21 +17,21 @@ use Rattle.mx_layout.specs.Crash.{ChangesNothing, IsWithin, StaysInside}
 use Rattle.mx_layout.specs.declared.fault.TableFault.{TableFault}
 use Rattle.mx_layout.specs.declared.fault.TableFault.TheVariants as table
 use Rattle.mx_tables.specs.Calls.{OnDamaged, OnRead}
-use Rattle.mx_lookups.specs.AnyRows.{ReadsAny}
-use Rattle.mx_lookups.specs.Damage.{IsDamaged}
-use Rattle.mx_lookups.specs.Reads.{IsStop, Reads, StandsFor}
+use Rattle.mx_numbers.specs.AnyRows.{ReadsAny}
+use Rattle.mx_numbers.specs.Damage.{IsDamaged}
+use Rattle.mx_numbers.specs.Reads.{IsStop, Reads, StandsFor}
 use Rattle.mx_entries.specs.Damage.{ReadsOr, Refuses}
 use Rattle.mx_rows.specs.Answering.{AnswerListsAs}
-use Rattle.mx_rows.specs.Listing.{unknown, LifeAnswered}
+use Rattle.mx_row_lists.specs.Listing.{unknown, LifeAnswered}
 use Rattle.mx_apply.specs.Applies.{IsNoDamage}
 use Rattle.mx_office.specs.Faults.{call_answer, fault_from, found_or, question_answer, IsAnswer}
 use Rattle.mx_office.specs.Looks.{LooksUp, IsFound, IsFoundIn}
 use Rattle.mx_office.specs.Office.{office_state}
 use Rattle.mx_office.specs.Questions.{IsAnsweredBy}
 use Rattle.mx_office.specs.Stands.{Rests}
-use Rattle.mx_office.specs.declared.fault.Ask.TheVariants.{Failed}
-use Rattle.mx_office.specs.declared.fault.Fault.{Fault}
-use Rattle.mx_office.specs.declared.fault.Fault.TheVariants.{Memory, Store, Damaged}
+use Rattle.mx_faults.specs.declared.fault.Ask.TheVariants.{Failed}
+use Rattle.mx_faults.specs.declared.fault.Fault.{Fault}
+use Rattle.mx_faults.specs.declared.fault.Fault.TheVariants.{Memory, Store, Damaged}
 use Rattle.mx_office.specs.declared.office.Office.{Office}
 use Rattle.mx_office.proofs.ReplyLemmas.{damage_from}
 use Rattle.mx_office.proofs.StandsLemmas.{rests_found}

@@ -26,8 +26,8 @@ use Rattle.mx_settle.proofs.PlaceLemmas.{rests_placed}
 use Rattle.mx_office.specs.Faults.{is_office_point, moved_fault_from, open_answer, IsStop}
 use Rattle.mx_office.specs.Layout.{office_point}
 use Rattle.mx_office.specs.Opening.{AreMovedOn, ChangesOnWay, MovesOn}
-use Rattle.mx_office.specs.declared.fault.OpenFault.{OpenFault}
-use Rattle.mx_office.specs.declared.fault.OpenFault.TheVariants as unopened
+use Rattle.mx_faults.specs.declared.fault.OpenFault.{OpenFault}
+use Rattle.mx_faults.specs.declared.fault.OpenFault.TheVariants as unopened
 use Rattle.mx_office.proofs.AnswerLemmas.{answers_office, moved_stop, point_of_office}
 
 -- a file that is at a point has its row

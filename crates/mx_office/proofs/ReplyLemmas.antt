@@ -17,7 +17,7 @@ use Rattle.mx_office.specs.Faults.{fault_from}
 use Rattle.mx_office.specs.Layout.{office_schema}
 use Rattle.mx_office.specs.OnTop.{AreAnswered, LeadsTo}
 use Rattle.mx_office.specs.Stands.{NoneAccepted}
-use Rattle.mx_office.specs.declared.fault.Fault.TheVariants.{Store, NeedsReopen, Damaged}
+use Rattle.mx_faults.specs.declared.fault.Fault.TheVariants.{Store, NeedsReopen, Damaged}
 
 -- ── tables that replies lead to ──
 

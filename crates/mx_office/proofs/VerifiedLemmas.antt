@@ -10,8 +10,8 @@ use Rattle.mx_verify.specs.Verifies.{IsVerified, Tells}
 use Rattle.mx_office.specs.Faults.{call_answer, fault_from}
 use Rattle.mx_office.specs.Layout.{office_point, office_schema}
 use Rattle.mx_office.specs.Stands.{Rests}
-use Rattle.mx_office.specs.declared.fault.Fault.{Fault}
-use Rattle.mx_office.specs.declared.fault.Fault.TheVariants.{Memory, Store}
+use Rattle.mx_faults.specs.declared.fault.Fault.{Fault}
+use Rattle.mx_faults.specs.declared.fault.Fault.TheVariants.{Memory, Store}
 
 -- it is so, unless memory or the store failed
 found_of_book : (found : Result Bool TableFault) → MatchResult found (λ same. same ≡ true) IsStop → MatchResult (call_answer found) (λ same. same ≡ true) (λ fault. (fault ≡ Memory) ⊎ (fault ≡ Store))

@@ -8,10 +8,10 @@ use Rattle.mx_book.specs.declared.verdict.Refusal.TheVariants.{UnknownAircraft, 
 use Rattle.mx_book.proofs.WorkedFittings.{replaced}
 use Rattle.mx_layout.specs.declared.fault.Table.TheVariants.{Office, Entry, Aircraft, Place, Component, Programme, Sector2, Span2, Total2, Base2}
 use Rattle.mx_layout.specs.declared.fault.TableFault.TheVariants as table
-use Rattle.mx_office.specs.declared.fault.Ask.TheVariants.{Refused, Failed}
-use Rattle.mx_office.specs.declared.fault.Fault.TheVariants as fault
-use Rattle.mx_office.specs.declared.fault.OpenFault.TheVariants as unopened
-use Rattle.mx_rows.specs.Listing.{unknown}
+use Rattle.mx_faults.specs.declared.fault.Ask.TheVariants.{Refused, Failed}
+use Rattle.mx_faults.specs.declared.fault.Fault.TheVariants as fault
+use Rattle.mx_faults.specs.declared.fault.OpenFault.TheVariants as unopened
+use Rattle.mx_row_lists.specs.Listing.{unknown}
 use Rattle.mx_office.specs.Faults.{call_answer, fault_from, found_or, open_answer, open_fault_from, question_answer}
 use Rattle.mx_stands.specs.Family.{rows_given}
 use Rattle.mx_office.specs.Layout.{office_point}

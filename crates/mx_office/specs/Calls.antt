@@ -9,10 +9,10 @@ use Rattle.mx_book.specs.Run.{book_run, replies}
 use Rattle.mx_book.specs.declared.verdict.Reply.{Reply}
 use Rattle.mx_layout.specs.TableName.{TableName}
 use Rattle.mx_layout.specs.Crash.{Leaves, ChangesNothing}
-use Rattle.mx_office.specs.declared.fault.Ask.{Ask}
-use Rattle.mx_office.specs.declared.fault.Ask.TheVariants.{Refused, Failed}
-use Rattle.mx_office.specs.declared.fault.Fault.{Fault}
-use Rattle.mx_office.specs.declared.fault.Fault.TheVariants.{Memory, Store, NeedsReopen, Damaged}
+use Rattle.mx_faults.specs.declared.fault.Ask.{Ask}
+use Rattle.mx_faults.specs.declared.fault.Ask.TheVariants.{Refused, Failed}
+use Rattle.mx_faults.specs.declared.fault.Fault.{Fault}
+use Rattle.mx_faults.specs.declared.fault.Fault.TheVariants.{Memory, Store, NeedsReopen, Damaged}
 use Rattle.mx_office.specs.declared.office.Office.{Office}
 use Rattle.mx_office.specs.Office.{office_state, IsReady, IsInDoubt, StandsFor}
 use Rattle.mx_office.specs.OnTop.{AreAnswered, IsBehind, IsDamagedBehind, IsOfOffice, MayLeave}

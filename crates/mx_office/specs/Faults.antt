@@ -13,12 +13,12 @@ use Rattle.mx_migrate.specs.declared.fault.MoveFault.{MoveFault}
 use Rattle.mx_migrate.specs.declared.fault.MoveFault.TheVariants as move
 use Rattle.sqlite.specs.Order.{Row}
 use Rattle.mx_office.specs.Layout.{office_point}
-use Rattle.mx_office.specs.declared.fault.Fault.{Fault}
-use Rattle.mx_office.specs.declared.fault.Fault.TheVariants.{Memory, Store, Damaged}
-use Rattle.mx_office.specs.declared.fault.OpenFault.{OpenFault}
-use Rattle.mx_office.specs.declared.fault.OpenFault.TheVariants as unopened
-use Rattle.mx_office.specs.declared.fault.Ask.{Ask}
-use Rattle.mx_office.specs.declared.fault.Ask.TheVariants.{Refused, Failed}
+use Rattle.mx_faults.specs.declared.fault.Fault.{Fault}
+use Rattle.mx_faults.specs.declared.fault.Fault.TheVariants.{Memory, Store, Damaged}
+use Rattle.mx_faults.specs.declared.fault.OpenFault.{OpenFault}
+use Rattle.mx_faults.specs.declared.fault.OpenFault.TheVariants as unopened
+use Rattle.mx_faults.specs.declared.fault.Ask.{Ask}
+use Rattle.mx_faults.specs.declared.fault.Ask.TheVariants.{Refused, Failed}
 
 -- want of memory and damage stay what they are, and anything else is the store's
 abbrev pub fault_from : TableFault → Fault

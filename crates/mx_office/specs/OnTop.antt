@@ -12,15 +12,15 @@ use Rattle.mx_layout.specs.Contents.{rows_in}
 use Rattle.mx_layout.specs.Names.{table_named}
 use Rattle.mx_stands.specs.Family.{is_at}
 use Rattle.mx_tables.specs.Sets.{GainsRows}
-use Rattle.mx_lookups.specs.Damage.{IsDamaged}
+use Rattle.mx_numbers.specs.Damage.{IsDamaged}
 use Rattle.mx_writing.specs.Changes.{AllRise}
 use Rattle.mx_writing.specs.Commits.{IsWritten}
 use Rattle.mx_writing.specs.Written.{with_rows}
 use Rattle.mx_made.specs.Found.{AreRowsFor}
 use Rattle.mx_apply.specs.Applies.{AreItsRows, ReplyOf}
 use Rattle.mx_office.specs.Layout.{office_point, office_schema}
-use Rattle.mx_office.specs.declared.fault.Fault.{Fault}
-use Rattle.mx_office.specs.declared.fault.Fault.TheVariants.{Store}
+use Rattle.mx_faults.specs.declared.fault.Fault.{Fault}
+use Rattle.mx_faults.specs.declared.fault.Fault.TheVariants.{Store}
 
 -- the file is one of the office, whatever rows its tables have: these are those of its point, their rowids rise, and all of it is committed
 pub record IsOfOffice (s : State) : Type 0 where

@@ -19,8 +19,8 @@ use Rattle.mx_stands.specs.Schemas.{IsOfFile}
 use Rattle.mx_stands.specs.Stands.{RestsAt, StandsAt}
 use Rattle.mx_settle.specs.Advances.{LeadsTo}
 use Rattle.mx_settle.specs.Place.{IsPlacedAt}
-use Rattle.mx_office.specs.declared.fault.OpenFault.{OpenFault}
-use Rattle.mx_office.specs.declared.fault.OpenFault.TheVariants as unopened
+use Rattle.mx_faults.specs.declared.fault.OpenFault.{OpenFault}
+use Rattle.mx_faults.specs.declared.fault.OpenFault.TheVariants as unopened
 use Rattle.mx_office.specs.Faults.{open_answer, open_fault_from, IsReason, IsStop, IsStopped, IsUnopened, SaysWhy}
 use Rattle.mx_office.specs.Layout.{office_point}
 use Rattle.mx_office.specs.Stands.{Rests}

@@ -4,12 +4,12 @@ use Rattle.sqlite.specs.Store.{Ghosts}
 use Rattle.sqlite.specs.State.{HasCleanDisk}
 use Rattle.mx_command.specs.Act.{Entry}
 use Rattle.mx_layout.specs.TableName.{TableName}
-use Rattle.mx_lookups.specs.Damage.{IsDamaged}
+use Rattle.mx_numbers.specs.Damage.{IsDamaged}
 use Rattle.mx_rows.specs.Answering.{AnswerListsAs}
-use Rattle.mx_office.specs.declared.fault.Ask.{Ask}
-use Rattle.mx_office.specs.declared.fault.Ask.TheVariants.{Failed}
-use Rattle.mx_office.specs.declared.fault.Fault.{Fault}
-use Rattle.mx_office.specs.declared.fault.Fault.TheVariants.{Damaged}
+use Rattle.mx_faults.specs.declared.fault.Ask.{Ask}
+use Rattle.mx_faults.specs.declared.fault.Ask.TheVariants.{Failed}
+use Rattle.mx_faults.specs.declared.fault.Fault.{Fault}
+use Rattle.mx_faults.specs.declared.fault.Fault.TheVariants.{Damaged}
 use Rattle.mx_office.specs.declared.office.Office.{Office}
 use Rattle.mx_office.specs.Faults.{IsAnswer}
 use Rattle.mx_office.specs.Layout.{office_schema}

@@ -9,8 +9,8 @@ ghost use Rattle.mx_lists.specs.DueList.{due_list};
 ghost use Rattle.mx_lists.specs.Forecast.{forecast};
 ghost use Rattle.mx_lists.specs.LimitList.{limits};
 ghost use Rattle.mx_lists.specs.Lists.{life_list};
-ghost use Rattle.mx_lookups.specs.Damage.{IsDamaged};
-ghost use Rattle.mx_rows.specs.Listing.{unknown, LifeAnswered};
+ghost use Rattle.mx_numbers.specs.Damage.{IsDamaged};
+ghost use Rattle.mx_row_lists.specs.Listing.{unknown, LifeAnswered};
 ghost use Rattle.mx_office.specs.Looks.{Finds, IsFound, LooksUp};
 
 use mx_base::{Day, Tail, Use};
@@ -19,7 +19,7 @@ use mx_command::{Command, Item};
 use mx_entries::entries::entries;
 use mx_layout::TableFault;
 use mx_lists::{DueList, ForecastList, LifeList, LimitList};
-use mx_rows::listing::{due_rows, forecast_rows, life, life_rows, limits_rows};
+use mx_row_lists::listing::{due_rows, forecast_rows, life, life_rows, limits_rows};
 use sqlite::{Alter, Connection};
 use std::alloc::Global;
 

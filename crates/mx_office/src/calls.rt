@@ -6,12 +6,13 @@ ghost use Rattle.mx_office.specs.Calls.{replies_in, stop_in, IsRun};
 ghost use Rattle.mx_office.specs.Office.{office_state, IsReady};
 ghost use Rattle.mx_office.specs.OnTop.{WasEntered};
 
-use crate::fault::{Fault, Outcomes, call_answer};
+use crate::fault::{Outcomes, call_answer};
 use crate::office::Office;
 use crate::running::run_by_rows;
 use mx_apply::apply;
 use mx_book::Reply;
 use mx_command::Command;
+use mx_faults::Fault;
 use sqlite::Alter;
 use std::alloc::Global;
 

@@ -1,52 +1,12 @@
-//! What stops a call of the office, and what a run answers.
+//! What a run answers, and the faults of the office that those of the tables and of a move are.
 ghost use Rattle.std.specs.Prelude.{◌≡◌, ◌↔◌, IsTrue, Some};
 ghost use Rattle.mx_office.specs.Calls.{stop_asking, stop_in};
 ghost use Rattle.mx_office.specs.Faults.{call_answer, fault_from, moved_fault_from, open_fault_from, question_answer};
 
 use mx_book::{Refusal, Reply};
+use mx_faults::{Ask, Fault, OpenFault};
 use mx_layout::{Table, TableFault};
 use mx_migrate::MoveFault;
-
-/// What stopped a call.
-#[derive(Clone, Copy, Debug, PartialEq, Eq)]
-pub enum Fault {
-    /// Memory ran out. Nothing changed, and the office goes on.
-    Memory,
-    /// The database answered an error. The command may have been kept or not: until the file is opened again
-    /// every call answers `NeedsReopen`.
-    Store,
-    /// An earlier call answered `Store`. Nothing was done.
-    NeedsReopen,
-    /// A row of the table can't be read, or the rows are those of no book. Nothing changed, and the office
-    /// goes on.
-    Damaged(Table),
-}
-
-/// Why no office was opened.
-#[derive(Clone, Copy, Debug, PartialEq, Eq)]
-pub enum OpenFault {
-    /// Memory ran out.
-    Memory,
-    /// The database answered an error.
-    Store,
-    /// The database is not one of an office: its table `office` is missing or has not exactly one row.
-    NotOurs,
-    /// The file has a layout, this one, that is newer than the program.
-    NewerLayout(u8),
-    /// A row of the table can't be read, or can't be there where the file is moved; or the point is none that a file can be at.
-    Damaged(Table),
-    /// The file has a layout, this one, from which the program has no way to the newest. No layout is so now.
-    OlderLayout(u8),
-}
-
-/// Why a question was not answered.
-#[derive(Clone, Copy, Debug, PartialEq, Eq)]
-pub enum Ask {
-    /// The registration or the serial number is unknown.
-    Refused(Refusal),
-    /// The call was stopped.
-    Failed(Fault),
-}
 
 /// What a run answered, and what stopped it.
 #[derive(Drop)]

@@ -12,8 +12,9 @@ mod questions;
 mod running;
 mod verifying;
 
-pub use fault::{Ask, Fault, OpenFault, Outcomes};
+pub use fault::Outcomes;
 pub use mx_book::Reply;
+pub use mx_faults::{Ask, Fault, OpenFault};
 pub use mx_settle::NEWEST_LAYOUT;
 pub use office::Office;
 pub use opening::open_office;

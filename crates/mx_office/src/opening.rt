@@ -10,8 +10,9 @@ ghost use Rattle.mx_office.specs.Faults.{is_office_point, open_answer, IsStop, I
 ghost use Rattle.mx_office.specs.Office.{office_state, IsReady};
 ghost use Rattle.mx_office.specs.Opening.{ChangesOnWay, HasReason, MovesOn, SaysPoint, WasOurs};
 
-use crate::fault::{OpenFault, moved_fault_of, open_fault_of};
+use crate::fault::{moved_fault_of, open_fault_of};
 use crate::office::Office;
+use mx_faults::OpenFault;
 use mx_layout::{Table, point};
 use mx_point::Point;
 use mx_points::is_on_way;

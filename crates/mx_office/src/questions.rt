@@ -9,9 +9,9 @@ ghost use Rattle.mx_lists.specs.DueList.{due_list};
 ghost use Rattle.mx_lists.specs.Forecast.{forecast};
 ghost use Rattle.mx_lists.specs.LimitList.{limits};
 ghost use Rattle.mx_lists.specs.Lists.{life_list};
-ghost use Rattle.mx_lookups.specs.Damage.{IsDamaged};
-ghost use Rattle.mx_lookups.specs.Given.{LifeOf};
-ghost use Rattle.mx_rows.specs.Listing.{unknown};
+ghost use Rattle.mx_numbers.specs.Damage.{IsDamaged};
+ghost use Rattle.mx_numbers.specs.Given.{LifeOf};
+ghost use Rattle.mx_row_lists.specs.Listing.{unknown};
 ghost use Rattle.mx_office.specs.Calls.{stop_asking, stop_in, IsAsked};
 ghost use Rattle.mx_office.specs.Faults.{found_or};
 ghost use Rattle.mx_office.specs.Layout.{office_schema};
@@ -21,11 +21,12 @@ ghost use Rattle.mx_office.specs.Questions.{IsAnsweredBy};
 use crate::asking::{
     dues_found, entries_found, forecast_found, life_found, limits_found, lives_found,
 };
-use crate::fault::{Ask, Fault, call_answer, call_failed, question_answer, question_failed};
+use crate::fault::{call_answer, call_failed, question_answer, question_failed};
 use crate::office::Office;
 use mx_base::{Day, Tail, Use};
 use mx_book::Refusal;
 use mx_command::{Command, Item};
+use mx_faults::{Ask, Fault};
 use mx_lists::{DueList, ForecastList, LifeList, LimitList};
 use sqlite::Alter;
 use std::alloc::Global;

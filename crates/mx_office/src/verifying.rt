@@ -11,8 +11,9 @@ ghost use Rattle.mx_office.specs.Layout.{office_point};
 ghost use Rattle.mx_office.specs.Office.{office_state, IsReady, StandsFor};
 ghost use Rattle.mx_office.specs.Verified.{SaysVerified};
 
-use crate::fault::{Fault, call_answer, call_failed};
+use crate::fault::{call_answer, call_failed};
 use crate::office::Office;
+use mx_faults::Fault;
 use mx_verify::verify;
 use sqlite::Alter;
 use std::alloc::Global;

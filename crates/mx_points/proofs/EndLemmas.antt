@@ -4,7 +4,7 @@ use Rattle.std.specs.Prelude.{nat_le, nat_eq, not}
 use Rattle.std.specs.List.{AllByRecursion}
 use Rattle.mx_command.specs.Act.{Entry}
 use Rattle.mx_book.specs.Book.{IsBook}
-use Rattle.mx_book.specs.declared.judging.TheConstants.{MOST_ENTRIES}
+use Rattle.mx_book.specs.declared.limits.TheConstants.{MOST_ENTRIES}
 use Rattle.mx_kept_rows.proofs.CreditLemmas.{all_of, filter_on}
 use Rattle.mx_point.specs.declared.point.Point.{Point}
 use Rattle.mx_points.specs.Points.{is_on_way, moving, next_mark, next_point, on_to}

@@ -4,7 +4,7 @@ use Rattle.std.specs.Prelude.{nat_le, nat_eq, filter, not}
 use Rattle.std.proofs.lemmas.Bool.Decides.{nat_tests}
 use Rattle.mx_command.specs.Act.{Entry}
 use Rattle.mx_book.specs.Book.{IsBook}
-use Rattle.mx_book.specs.declared.judging.TheConstants.{MOST_ENTRIES}
+use Rattle.mx_book.specs.declared.limits.TheConstants.{MOST_ENTRIES}
 use Rattle.mx_typed_rows.specs.Rising.{IsRising}
 use Rattle.mx_typed_rows.specs.declared.rows.SectorRow.{SectorRow}
 use Rattle.mx_register.specs.Registers.{sector_rows}

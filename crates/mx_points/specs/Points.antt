@@ -3,7 +3,7 @@ use Rattle.std.specs.Prelude.{ℕ, ◌+◌, nat_lt, nat_le, nat_eq, List, map, f
 use Rattle.std.specs.Option.{option_map_or}
 use Rattle.mx_command.specs.Act.{Entry}
 use Rattle.mx_book.specs.Programme.{last_of}
-use Rattle.mx_book.specs.declared.judging.TheConstants.{MOST_ENTRIES}
+use Rattle.mx_book.specs.declared.limits.TheConstants.{MOST_ENTRIES}
 use Rattle.mx_register.specs.Registers.{sector_rows, component_rows}
 use Rattle.mx_kept_rows.specs.Items.{items}
 use Rattle.mx_point.specs.declared.point.Point.{Point}

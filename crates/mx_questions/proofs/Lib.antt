@@ -1,1 +1,2 @@
 mod Worked
+mod WorkedReports

@@ -1,11 +1,9 @@
 pub mod NewLemmas
 pub mod NameLemmas
-pub mod NumberLemmas
 pub mod TakeLemmas
 pub mod TaskLemmas
 pub mod ReleaseLemmas
 pub mod MergeLemmas
-pub mod SoundLemmas
 pub mod RegisterLemmas
 pub mod Worked
 pub mod WorkedProgrammes

@@ -1,7 +1,7 @@
 -- The rows that the code has left, as lists.
 use Rattle.mx_command.specs.Act.{Act, Entry, act_of}
 use Rattle.mx_command.specs.declared.body.Body.{Body}
-use Rattle.mx_register.specs.declared.taking.Left.{Left}
+use Rattle.mx_register.specs.declared.merge.Left.{Left}
 use Rattle.mx_register.specs.declared.merge.Registers.{Registers}
 use Rattle.mx_register.specs.Merge.{Rest}
 

@@ -1,21 +1,19 @@
 //! The rows that a command gives.
 ghost use Rattle.std.specs.Prelude.{◌≡◌, ◌<◌, ◌^◌, true, unwrap_or, IfSome};
 ghost use Rattle.mx_base.specs.Identifier.{IsIdentifier, is_graphic};
-ghost use Rattle.mx_typed_rows.specs.Rows.{FitsAircraft, FitsCategory, FitsComponent, FitsDeferral, FitsEntry, FitsExtension, FitsFitting, FitsLimit, FitsOpening, FitsPlace, FitsProgramme, FitsRelease, FitsReleaseLine, FitsRemoval, FitsSector, FitsTask, FitsTolerance};
-ghost use Rattle.mx_register.specs.Registers.{aircraft_row, component_row, deferral_row, entry_row, extension_row, fitting_row, kind_of, no_limit, opening_row, part_of, place_row, programme_row, kind_in_shop, release_line_row, release_row, removal_row, sector_row, task_row};
+ghost use Rattle.mx_typed_rows.specs.Rows.{FitsAircraft, FitsCategory, FitsComponent, FitsDeferral, FitsEntry, FitsExtension, FitsFitting, FitsLimit, FitsOpening, FitsPlace, FitsProgramme, FitsRelease, FitsRemoval, FitsSector, FitsTask, FitsTolerance};
+ghost use Rattle.mx_register.specs.Registers.{aircraft_row, component_row, deferral_row, entry_row, extension_row, fitting_row, kind_of, no_limit, opening_row, part_of, place_row, programme_row, kind_in_shop, release_row, removal_row, sector_row, task_row};
 ghost use Rattle.mx_command.specs.Act.{act_of};
 ghost use Rattle.mx_command.specs.Shape.{has_shape};
 
-use crate::names::{or_zero, seq_of_defect, seq_of_item};
 use mx_base::{Kind, Limit, Part, Position, Tolerance};
-use mx_book::Book;
 use mx_command::{
-    Aircraft, Applies, Body, Category, Command, Component, Deferral, Extension, Fitting, Line,
-    Opening, Place, Programme, Release, Removal, Sector, Task,
+    Aircraft, Applies, Body, Category, Command, Component, Deferral, Extension, Fitting, Opening,
+    Place, Programme, Release, Removal, Sector, Task,
 };
 use mx_typed_rows::{
     AircraftRow, ComponentRow, DeferralRow, EntryKind, EntryRow, ExtensionRow, FittingRow,
-    OpeningRow, PlaceRow, ProgrammeRow, ReleaseLineRow, ReleaseRow, RemovalRow, SectorRow, TaskRow,
+    OpeningRow, PlaceRow, ProgrammeRow, ReleaseRow, RemovalRow, SectorRow, TaskRow,
 };
 
 // The kind of entry that a body makes.
@@ -310,37 +308,6 @@ pub fn release_row(seq: u32, item: u32, release: Release) -> ReleaseRow
         item,
         kind: kind_in_shop(&release.place),
         moment: release.moment,
-    }
-}
-
-/// The row of a line, on this line of the release that is entered with a number, behind the entries of a book.
-pub fn release_line_row(book: &Book, seq: u32, line: u32, certified: &Line) -> ReleaseLineRow
-    ensures row { result ≡ release_line_row book.now seq line certified.now }
-    ensures fits { FitsReleaseLine result }
-{
-    match certified {
-        Line::Done(item, task) => {
-            // The text of an identifier fits its column.
-            let _ = task.as_str();
-            let number = or_zero(seq_of_item(book, item));
-            ReleaseLineRow {
-                seq,
-                line,
-                item: Some(number),
-                task: Some(*task),
-                defect: None,
-            }
-        }
-        Line::Rectified(doc) => {
-            let number = or_zero(seq_of_defect(book, doc));
-            ReleaseLineRow {
-                seq,
-                line,
-                item: None,
-                task: None,
-                defect: Some(number),
-            }
-        }
     }
 }
 

@@ -25,10 +25,10 @@ use Rattle.mx_chosen.specs.Choices.{AreFirst}
 use Rattle.mx_stands.specs.Stands.{HasRowsAt}
 use Rattle.mx_stands.proofs.FamilyLemmas.{facts}
 use Rattle.mx_stands.proofs.RowLemmas.{rows_once}
-use Rattle.mx_lookups.specs.Given.{is_of}
-use Rattle.mx_lookups.specs.Reads.{rows_point}
-use Rattle.mx_lookups.proofs.AnyLemmas.{empty_is}
-use Rattle.mx_lookups.proofs.LookupLemmas.{number_is, text_is}
+use Rattle.mx_numbers.specs.Given.{is_of}
+use Rattle.mx_numbers.specs.Reads.{rows_point}
+use Rattle.mx_numbers.proofs.AnyLemmas.{empty_is}
+use Rattle.mx_numbers.proofs.LookupLemmas.{number_is, text_is}
 
 -- ── at most one row ──
 

@@ -20,12 +20,12 @@ use Rattle.mx_chosen.specs.Choices.{has_value}
 use Rattle.mx_stands.specs.Stands.{HasRowsAt}
 use Rattle.mx_found.specs.Names.{aircraft_number, component_number, deferral_number}
 use Rattle.mx_found.proofs.FoundLemmas.{defect_is, serial_is, tail_is}
-use Rattle.mx_lookups.specs.AnyRows.{Gives, GivesBy}
-use Rattle.mx_lookups.specs.Given.{AircraftNumber, ComponentNumber, DefectNumber, ItemNumber}
-use Rattle.mx_lookups.specs.Reads.{rows_point}
-use Rattle.mx_lookups.proofs.ChosenLemmas.{chosen_is}
-use Rattle.mx_lookups.proofs.LookupLemmas.{number_is, text_is}
-use Rattle.mx_lookups.proofs.TableLemmas.{IsTable, aircraft as aircraft_table, components, entries}
+use Rattle.mx_numbers.specs.AnyRows.{Gives, GivesBy}
+use Rattle.mx_numbers.specs.Given.{AircraftNumber, ComponentNumber, DefectNumber, ItemNumber}
+use Rattle.mx_numbers.specs.Reads.{rows_point}
+use Rattle.mx_numbers.proofs.ChosenLemmas.{chosen_is}
+use Rattle.mx_numbers.proofs.LookupLemmas.{number_is, text_is}
+use Rattle.mx_numbers.proofs.TableLemmas.{IsTable, aircraft as aircraft_table, components, entries}
 use Rattle.std.specs.Option.{option_eq}
 use Rattle.sqlite_sql.specs.Ops.{binary}
 use Rattle.mx_kept.specs.Values.{number_or_null}

@@ -1,7 +1,7 @@
--- Tables that stand for a book answer each question of the judge and of lists as the book does.
-use Rattle.std.proofs.Common.{◌≡◌, ℕ, pos, Bool, false, List, filter, length, Option, None, Some, refl, sym, ap, ◌∙◌, cond, true, [], ◌∷◌, map, ap₂}
+-- Tables that stand for a book answer each question of the judge as the book does.
+use Rattle.std.proofs.Common.{◌≡◌, ℕ, pos, Bool, false, List, filter, length, Option, None, Some, refl, sym, ap, ◌∙◌, [], ◌∷◌}
 use Rattle.std.specs.Prelude.{MatchOption, IsSome, IsSomeAnd, is_some, nat_eq, nat_lt}
-use Rattle.std.specs.List.{range_with_len, cons_option, filter_map}
+use Rattle.std.specs.List.{range_with_len}
 use Rattle.std.specs.Option.{option_and_then, option_map, option_map_or}
 use Rattle.std.proofs.lemmas.List.{length-map}
 use Rattle.std.proofs.lemmas.List.Sorted.{length_permutation}
@@ -12,13 +12,13 @@ use Rattle.mx_command.specs.Act.{Entry}
 use Rattle.mx_command.specs.declared.item.Item.{Item}
 use Rattle.mx_command.specs.declared.item.Item.TheVariants.{Airframe, Component}
 use Rattle.mx_book.specs.Book.{IsBook}
-use Rattle.mx_book.specs.Defect.{defect, extension, is_rectified, open_defects}
+use Rattle.mx_book.specs.Defect.{defect, extension, is_rectified}
 use Rattle.mx_book.specs.Life.{clock, life_now}
-use Rattle.mx_book.specs.Programme.{is_accomplished, is_ended_by, life_ended, next_revision, tasks_or_none}
+use Rattle.mx_book.specs.Programme.{is_accomplished, is_ended_by, life_ended, next_revision}
 use Rattle.mx_book.specs.Register.{aircraft, component, found_of, has_room_for_aircraft, has_room_for_component, part_at}
 use Rattle.mx_book.specs.Span.{is_taken, tail_fitted}
 use Rattle.mx_book.specs.declared.defects.Defect.{Defect}
-use Rattle.mx_book.specs.declared.judging.TheConstants.{MOST_AIRCRAFT, MOST_COMPONENTS}
+use Rattle.mx_book.specs.declared.limits.TheConstants.{MOST_AIRCRAFT, MOST_COMPONENTS}
 use Rattle.mx_book.proofs.BaseLemmas.{accomplished-base}
 use Rattle.mx_typed_rows.specs.declared.rows.BaseRow.{BaseRow}
 use Rattle.mx_typed_rows.specs.declared.rows.DeferralRow.{DeferralRow}
@@ -34,37 +34,32 @@ use Rattle.mx_chosen.specs.Choices.{backward, has_value, is_any, is_open}
 use Rattle.mx_chosen.specs.Counts.{AreNumbered, last_number as last_chosen}
 use Rattle.mx_chosen.proofs.LastLemmas.{last_tells}
 use Rattle.mx_stands.specs.Stands.{HasRowsAt}
-use Rattle.mx_found.specs.Defects.{deferral_aircraft, defect_in, extension_in, is_rectified_in, rectifies, defect_said as deferral_said, is_rectified_at, open_said}
+use Rattle.mx_found.specs.Defects.{deferral_aircraft, defect_in, extension_in, is_rectified_in, rectifies, is_rectified_at}
 use Rattle.mx_found.specs.Lives.{base_found, clock_in, life_in}
-use Rattle.mx_found.specs.Names.{last_number, tail_in, serial_in, doc_in, doc_at}
+use Rattle.mx_found.specs.Names.{last_number, tail_in}
 use Rattle.mx_found.specs.Programmes.{programme_number, programmes_of, revision_after, tasks_with}
 use Rattle.mx_found.specs.Said.{aircraft_in, component_in, part_in}
-use Rattle.mx_found.specs.Spans.{is_open_at, is_open_of, is_taken_in, span_aircraft, place_said}
+use Rattle.mx_found.specs.Spans.{is_open_at, is_open_of, is_taken_in, span_aircraft}
 use Rattle.mx_found.proofs.DeferralLemmas.{extension_is, no_defect, no_extension, not_rectified, rectified_is}
-use Rattle.mx_found.proofs.FoundLemmas.{aircraft_is, component_is, entries_counted, entries_numbered, tail_numbered, serial_numbered}
+use Rattle.mx_found.proofs.FoundLemmas.{aircraft_is, component_is, entries_counted, entries_numbered, tail_numbered}
 use Rattle.mx_found.proofs.LifeLemmas.{base_is, clock_found, life_found, no_base, no_clock, no_life}
 use Rattle.mx_found.proofs.OpenLemmas.{fitted_nowhere, fitted_tail, fitted_there, taken_by_none, taken_is}
 use Rattle.mx_found.proofs.PlaceLemmas.{part_found, part_missed, room_for_aircraft, room_for_components}
 use Rattle.mx_found.proofs.ProgrammeLemmas.{revision_is}
 use Rattle.mx_found.proofs.ThereLemmas.{serial_there, tail_there}
-use Rattle.mx_rows.specs.Answering.{AnswerAs, Only, AnswerListsAs}
-use Rattle.mx_lookups.specs.AnyRows.{Gives, GivesFirst, AreSaid}
+use Rattle.mx_rows.specs.Answering.{AnswerAs, Only}
+use Rattle.mx_numbers.specs.AnyRows.{Gives, GivesFirst}
 use Rattle.mx_lookups.specs.Fitted.{IsNumberFitted}
-use Rattle.mx_lookups.specs.Given.{BornOf, ClockOf, DefectOf, ExtensionOf, HasRoom, IsAccomplished, IsRectified, IsRetired, IsTaken, LifeOf, NumberFitted, PartAt, RowsInForce, TailFitted, TailOfNumber, is_of, BaseOf, DocIfOpen, DocOfNumber, FittedTo, IsRectifiedAt, OpenDefects, OpenSaid, PlaceSaid, TasksInForce}
-use Rattle.mx_lookups.specs.InForce.{born_as, rows_in_force}
-use Rattle.mx_lookups.specs.Reads.{rows_point}
+use Rattle.mx_numbers.specs.Given.{BornOf, ClockOf, DefectOf, ExtensionOf, HasRoom, IsAccomplished, IsRectified, IsRetired, IsTaken, LifeOf, NumberFitted, PartAt, RowsInForce, TailFitted, TailOfNumber, is_of, IsRectifiedAt}
+use Rattle.mx_numbers.specs.InForce.{born_as, rows_in_force}
+use Rattle.mx_numbers.specs.Reads.{rows_point}
 use Rattle.mx_rows.proofs.BaseLemmas.{keyed_is}
 use Rattle.mx_lookups.proofs.DefectLemmas.{defect_said}
-use Rattle.mx_lookups.proofs.InForceLemmas.{retired_is, task_found, tasks_found}
-use Rattle.mx_lookups.proofs.LookupLemmas.{is_open_at-cells, is_open_of-cells}
-use Rattle.mx_lookups.proofs.TableLemmas.{IsTable, aircraft as aircraft_table, components, deferrals, entries, extensions, places, programmes, release_lines, spans, tasks, totals}
+use Rattle.mx_lives.proofs.InForceLemmas.{retired_is, task_found}
+use Rattle.mx_numbers.proofs.LookupLemmas.{is_open_at-cells, is_open_of-cells}
+use Rattle.mx_numbers.proofs.TableLemmas.{IsTable, aircraft as aircraft_table, components, deferrals, entries, extensions, places, programmes, release_lines, spans, tasks, totals}
 use Rattle.mx_rows.proofs.GivenLemmas.{by_number, by_text, defect_number, given, item_number, looked, serial_number, some_number, tail_number}
 use Rattle.mx_rows.proofs.KnownStanding.{known_as}
-use Rattle.mx_book.specs.Base.{base}
-use Rattle.mx_lists.specs.Fitted.{fitted_on}
-use Rattle.mx_found.proofs.FittedLemmas.{none_fitted, place_of, places_found}
-use Rattle.mx_found.proofs.OpenDefectLemmas.{doc_found, none_open, open_found}
-use Rattle.mx_typed_rows.specs.declared.rows.SpanRow.{SpanRow}
 use Rattle.mx_book.specs.declared.found.Found.TheVariants as founds
 use Rattle.mx_typed_rows.specs.declared.rows.EntryRow.{EntryRow}
 
@@ -72,11 +67,6 @@ use Rattle.mx_typed_rows.specs.declared.rows.EntryRow.{EntryRow}
 last_is : (found : List EntryRow) → last_number found ≡ last_chosen found
 last_is [] = refl
 last_is (row ∷ rows) = refl
-
--- what rows said, where each says what it says of the book
-said_is : {X V : Type 0} (Says : X → Option V → Type 0) (says : X → Option V) → ((x : X) (o : Option V) → Says x o → o ≡ says x) → (rows : List X) (answer : List V) → AreSaid Says rows answer → answer ≡ filter_map says rows
-said_is Says says so [] answer none = none
-said_is Says says so (row ∷ rows) answer gave = gave.4 ∙ ap₂ cons_option (so row gave.0 gave.2) (said_is Says says so rows gave.1 gave.3)
 
 -- without a name no item has a life
 no_aircraft : (book : List Entry) (tail : List ℕ) (o : Option ℕ) → seq_of_tail book tail ≡ o → aircraft book tail ≡ None → seq_of_tail book tail ≡ None
@@ -142,12 +132,12 @@ module _ (trees : Trees) (book : List Entry) (has : HasRowsAt rows_point trees b
       looked (λ v. v ≡ clock book item) (seq_of_item book item) (item_number trees book has item) (λ none. sym (no_clock book item b none))
       (λ n is v gave. some_is v (clock book item) (by_number trees book has kept_total2 total_rows totals 0 (λ row. row.item) (λ row. refl) n clock_in (Some v) gave ∙ clock_found book item n b is))
 
-  lived : (item : Item) (o : Option Use) → LifeOf item trees o → o ≡ life_now book item
+  pub lived : (item : Item) (o : Option Use) → LifeOf item trees o → o ≡ life_now book item
   lived item =
       looked (λ v. v ≡ life_now book item) (seq_of_item book item) (item_number trees book has item) (λ none. sym (no_life book item none))
       (λ n is v gave. by_number trees book has kept_total2 total_rows totals 0 (λ row. row.item) (λ row. refl) n life_in v gave.1 ∙ life_found book item n b is)
 
-  based : (id : List ℕ) {V : Type 0} (of : List BaseRow → V) (n : ℕ) (v : V) → Gives kept_base2 (is_of n id) of trees v → v ≡ of (filter (is_keyed n id) (base_rows book))
+  pub based : (id : List ℕ) {V : Type 0} (of : List BaseRow → V) (n : ℕ) (v : V) → Gives kept_base2 (is_of n id) of trees v → v ≡ of (filter (is_keyed n id) (base_rows book))
   based id of n v gave = gave.2 ∙ ap of (keyed_is n id trees book has gave.0 gave.1.are gave.1.fit)
 
   accomplished : (item : Item) (id : List ℕ) → Only (IsAccomplished item id) trees (is_accomplished book item id)
@@ -157,7 +147,7 @@ module _ (trees : Trees) (book : List Entry) (has : HasRowsAt rows_point trees b
 
   -- ── programmes ──
 
-  in_force : (kind : List ℕ) (o : Option (List TaskRow)) → RowsInForce kind trees o → o ≡ rows_in_force kind book
+  pub in_force : (kind : List ℕ) (o : Option (List TaskRow)) → RowsInForce kind trees o → o ≡ rows_in_force kind book
   in_force kind =
       looked (λ v. v ≡ rows_in_force kind book) (programme_number (programmes_of kind book)) (λ o gave. by_text trees book has kept_programme programme_rows programmes 1 (λ row. row.kind) (λ row. refl) kind programme_number o gave)
       (λ none. sym (ap (option_map (λ n. tasks_with n book)) none))
@@ -194,7 +184,7 @@ module _ (trees : Trees) (book : List Entry) (has : HasRowsAt rows_point trees b
       at n is v rows are (Some m) some gave =
           by_number trees book has kept_aircraft aircraft_rows aircraft_table 0 (λ row. row.seq) (λ row. refl) m (defect_in doc rows) v gave ∙ defect_said book b doc n is rows are m _ some refl
 
-  rectified_there : (n : ℕ) (v : Bool) → IsRectifiedAt n trees v → v ≡ is_rectified_at book n
+  pub rectified_there : (n : ℕ) (v : Bool) → IsRectifiedAt n trees v → v ≡ is_rectified_at book n
   rectified_there n v had = given trees book has kept_crs_line release_line_rows release_lines (has_value 4 (Int (pos n))) (rectifies n) (λ row. some_number row.defect n) is_rectified_in v had
 
   rectified : (doc : List ℕ) → Only (IsRectified doc) trees (is_rectified book doc)
@@ -206,42 +196,6 @@ module _ (trees : Trees) (book : List Entry) (has : HasRowsAt rows_point trees b
   extended doc =
       looked (λ v. v ≡ extension book doc) (seq_of_defect book doc) (defect_number trees book has doc) (λ none. sym (no_extension book b doc none))
       (λ n is v gave. by_number trees book has kept_extension extension_rows extensions 1 (λ row. row.defect) (λ row. refl) n (extension_in doc) v gave ∙ extension_is book b doc n is)
-
-  -- ── lists ──
-
-  last_base : (item : Item) (id : List ℕ) → Only (BaseOf item id) trees (base book item id)
-  last_base item id =
-      looked (λ v. v ≡ base book item id) (seq_of_item book item) (item_number trees book has item) (λ none. sym (no_base book item id b none)) (λ n is v gave. based id base_found n v gave ∙ base_is book item id n b is)
-
-  tasks_there : (kind : List ℕ) → Only (TasksInForce kind) trees (tasks_or_none book kind)
-  tasks_there kind v gave = gave.2 ∙ tasks_found book kind gave.0 b (in_force kind gave.0 gave.1)
-
-  placed : (row : SpanRow) (o : Option (List ℕ × List ℕ)) → PlaceSaid trees row o → o ≡ place_said book row
-  placed row o gave =
-      let serial = by_number trees book has kept_component component_rows components 0 (λ c. c.seq) (λ c. refl) row.component serial_in (Some gave.0) gave.1 ∙ serial_numbered book row.component in
-      gave.2 ∙ ap (option_map {U = List ℕ × List ℕ} (λ name. (row.position, name))) serial
-
-  all_placed : (tail : List ℕ) → Only (FittedTo tail) trees (fitted_on tail book)
-  all_placed tail =
-      looked (λ v. v ≡ fitted_on tail book) (seq_of_tail book tail) (tail_number trees book has tail) (λ none. sym (ap (map place_of) (none_fitted book tail b none)))
-      (λ n is v gave.
-      let rows : gave.0 ≡ filter (is_open_at n) (span_rows book) = given trees book has kept_span2 span_rows spans (is_open 2 (Int (pos n))) (is_open_at n) (is_open_at-cells n) (λ rows. rows) gave.0 (gave.0, gave.1, refl) in
-      said_is (PlaceSaid trees) (place_said book) placed gave.0 v gave.2 ∙ ap (filter_map (place_said book)) rows ∙ places_found book tail n b is)
-
-  doc_there : (n : ℕ) (o : Option (List ℕ)) → DocOfNumber n trees o → o ≡ doc_at book n
-  doc_there n o had = by_number trees book has kept_entry entry_rows entries 0 (λ row. row.seq) (λ row. refl) n doc_in o had ∙ doc_found book n
-
-  left_open : (tail : List ℕ) (row : DeferralRow) (doc : Option (List ℕ)) → DocIfOpen row.seq trees (option_map Some doc) → option_map (λ d. deferral_said d tail row) doc ≡ open_said book tail row
-  left_open tail row None had = ap (λ r. cond r None (option_map (λ d. deferral_said d tail row) (doc_at book row.seq))) (rectified_there row.seq true had)
-  left_open tail row (Some doc) had =
-      ap (option_map (λ d. deferral_said d tail row)) (doc_there row.seq (Some doc) had.1) ∙ ap (λ r. cond r None (option_map (λ d. deferral_said d tail row) (doc_at book row.seq))) (rectified_there row.seq false had.0)
-
-  all_open : (tail : List ℕ) → Only (OpenDefects tail) trees (open_defects book tail)
-  all_open tail =
-      looked (λ v. v ≡ open_defects book tail) (seq_of_tail book tail) (tail_number trees book has tail) (λ none. sym (none_open book tail b none))
-      (λ n is v gave.
-      let rows : gave.0 ≡ filter (λ (row : DeferralRow). nat_eq row.aircraft n) (deferral_rows book) = by_number trees book has kept_defect deferral_rows deferrals 1 (λ row. row.aircraft) (λ row. refl) n (λ rows. rows) gave.0 (gave.0, gave.1, refl) in
-      said_is (OpenSaid tail trees) (open_said book tail) (λ row o said. said.2 ∙ left_open tail row said.0 said.1) gave.0 v gave.2 ∙ ap (filter_map (open_said book tail)) rows ∙ open_found book tail n b is)
 
   -- they answer as the book
   pub answer_as : AnswerAs trees book
@@ -264,6 +218,3 @@ module _ (trees : Trees) (book : List Entry) (has : HasRowsAt rows_point trees b
     is_rectified = rectified;
     extension = extended;
   }
-
-  pub answer_lists_as : AnswerListsAs trees book
-  answer_lists_as = record { judge = answer_as; life = lived; base = last_base; tasks = tasks_there; fitted = all_placed; open_defects = all_open }

@@ -1,5 +1,5 @@
 -- When rows, whatever they are, answer as a book does, which is any list of entries here.
-use Rattle.std.specs.Prelude.{◌≡◌, ℕ, List, Option, Result, Some, length, ok_or, true}
+use Rattle.std.specs.Prelude.{◌≡◌, ℕ, List, Option, Some, length, true}
 use Rattle.std.specs.Option.{option_map}
 use Rattle.sqlite.specs.declared.types.Value.TheVariants.{Text}
 use Rattle.sqlite.specs.State.{State}
@@ -15,9 +15,7 @@ use Rattle.mx_book.specs.Life.{clock, life_now}
 use Rattle.mx_book.specs.Programme.{is_accomplished, life_ended, next_revision, tasks_or_none}
 use Rattle.mx_book.specs.Register.{aircraft, component, has_room_for_aircraft, has_room_for_component, part_at}
 use Rattle.mx_book.specs.Span.{is_taken, tail_fitted}
-use Rattle.mx_book.specs.declared.judging.TheConstants.{MOST_AIRCRAFT, MOST_COMPONENTS}
-use Rattle.mx_book.specs.declared.verdict.Refusal.{Refusal}
-use Rattle.mx_book.specs.declared.verdict.Refusal.TheVariants.{UnknownAircraft}
+use Rattle.mx_book.specs.declared.limits.TheConstants.{MOST_AIRCRAFT, MOST_COMPONENTS}
 use Rattle.mx_book.specs.declared.verdict.Verdict.{Verdict}
 use Rattle.mx_layout.specs.declared.fault.Table.TheVariants as table
 use Rattle.mx_lists.specs.Fitted.{fitted_on}
@@ -26,9 +24,9 @@ use Rattle.mx_chosen.specs.Choices.{backward, has_value, is_any}
 use Rattle.mx_stands.specs.Schemas.{schema_at}
 use Rattle.mx_found.specs.Names.{last_number}
 use Rattle.mx_found.specs.Said.{aircraft_in, component_in}
-use Rattle.mx_lookups.specs.AnyRows.{Gives, GivesFirst}
-use Rattle.mx_lookups.specs.Given.{BaseOf, ClockOf, DefectOf, ExtensionOf, FittedTo, HasRoom, IsAccomplished, IsRectified, IsRetired, IsTaken, LifeOf, NextRevision, OpenDefects, PartAt, TailFitted, TaskOf, TasksInForce}
-use Rattle.mx_lookups.specs.Reads.{rows_point}
+use Rattle.mx_numbers.specs.AnyRows.{Gives, GivesFirst}
+use Rattle.mx_numbers.specs.Given.{BaseOf, ClockOf, DefectOf, ExtensionOf, FittedTo, HasRoom, IsAccomplished, IsRectified, IsRetired, IsTaken, LifeOf, NextRevision, OpenDefects, PartAt, TailFitted, TaskOf, TasksInForce}
+use Rattle.mx_numbers.specs.Reads.{rows_point}
 use Rattle.mx_known.specs.Known.{KnownAs}
 
 -- whatever the rows answer to a question, it is this: they may answer nothing
@@ -81,7 +79,3 @@ pub record SpeaksFor (AnswersAs : Trees → List Entry → Type 0) (s : State) (
 -- the verdict on a command is the one on each book as which the rows answer
 abbrev pub VerdictOf : Entry → Trees → Verdict → Type 0
 VerdictOf command trees verdict = (book : List Entry) → AnswerAs trees book → verdict ≡ judge book command
-
--- what is listed of an aircraft, or the refusal of an unknown one, is what is so in each book as which the rows answer
-abbrev pub ListOf : {X : Type 0} → (List Entry → Option X) → Trees → Result X Refusal → Type 0
-ListOf what trees answer = (book : List Entry) → AnswerListsAs trees book → answer ≡ ok_or (what book) UnknownAircraft

@@ -1,4 +1,3 @@
 pub mod Answering
 pub mod Damage
 pub mod View
-pub mod Listing

@@ -2,19 +2,20 @@
 ghost use Rattle.std.specs.Prelude.{◌≡◌};
 ghost use Rattle.sqlite.specs.Held.{state};
 ghost use Rattle.mx_book.specs.Judge.{judge};
-ghost use Rattle.mx_lookups.specs.AnyRows.{ReadsAny};
-ghost use Rattle.mx_lookups.specs.Reads.{Reads};
-ghost use Rattle.mx_lookups.specs.Told.{TellsDamage};
+ghost use Rattle.mx_numbers.specs.AnyRows.{ReadsAny};
+ghost use Rattle.mx_numbers.specs.Reads.{Reads};
+ghost use Rattle.mx_numbers.specs.Told.{TellsDamage};
 ghost use Rattle.mx_rows.specs.Answering.{AnswerAs, VerdictOf};
 ghost use Rattle.mx_rows.specs.Damage.{JudgeDamage};
 ghost use Rattle.mx_rows.specs.View.{Asks};
 
 use crate::questions::JudgeQuestions;
 use crate::view::Rows;
-use mx_book::{Verdict, verdict_on};
+use mx_book::Verdict;
 use mx_command::Command;
+use mx_judge::verdict_on;
 use mx_layout::TableFault;
-use mx_lookups::entries::entry_count;
+use mx_numbers::entries::entry_count;
 use sqlite::{Alter, Transaction};
 use std::alloc::Global;
 

@@ -6,9 +6,10 @@ use mx_book::Defect;
 use mx_command::{Item, Task};
 use mx_layout::TableFault;
 use mx_lists::{Lists, Stop};
-use mx_lookups::lists::{fitted, open_defects, tasks};
-use mx_lookups::lives::life;
-use mx_lookups::work::base;
+use mx_lives::lives::life;
+use mx_lives::programmes::tasks;
+use mx_lives::work::base;
+use mx_lookups::lists::{fitted, open_defects};
 use sqlite::Alter;
 use std::alloc::Global;
 

@@ -15,7 +15,7 @@ use Rattle.sqlite.specs.State.{State, HasCleanDisk, Survives}
 use Rattle.sqlite.specs.Tree.{Trees}
 use Rattle.mx_command.specs.Act.{Entry}
 use Rattle.mx_book.specs.Programme.{last_of}
-use Rattle.mx_book.specs.declared.judging.TheConstants.{MOST_ENTRIES}
+use Rattle.mx_book.specs.declared.limits.TheConstants.{MOST_ENTRIES}
 use Rattle.mx_typed_rows.specs.declared.rows.ComponentRow.{ComponentRow}
 use Rattle.mx_typed_rows.specs.declared.rows.SectorRow.{SectorRow}
 use Rattle.mx_typed_rows.specs.Rows.{FitsComponent}
@@ -57,7 +57,7 @@ use Rattle.mx_migrate.specs.declared.spans.ChangeToSpans.{ChangeToSpans}
 use Rattle.mx_migrate.specs.declared.totals.ChangeToTotals.{ChangeToTotals}
 use Rattle.mx_steps.specs.Sectors.{MovesSectors, is_next_from}
 use Rattle.mx_steps.proofs.PageLemmas.{permutation_none}
-use Rattle.mx_verified.specs.declared.kept.KeptRows.{KeptRows}
+use Rattle.mx_derived.specs.declared.kept.KeptRows.{KeptRows}
 use Rattle.mx_settle.specs.declared.due.Due.{Due}
 use Rattle.mx_settle.specs.declared.due.Due.TheVariants as due
 use Rattle.mx_settle.specs.Choices.{Chooses, FindsLeft, FindsNext, GoesOn, HasLateNumber, IsUnfit, LiesIn, StandsIn}

@@ -8,7 +8,7 @@ use Rattle.std.proofs.lemmas.List.Elements.{All-weaker, recursion_from_All}
 use Rattle.sqlite_keyed.proofs.ListLemmas.{IsPermutation-filter}
 use Rattle.sqlite.specs.Tree.{Trees}
 use Rattle.mx_command.specs.Act.{Entry}
-use Rattle.mx_book.specs.declared.judging.TheConstants.{MOST_ENTRIES}
+use Rattle.mx_book.specs.declared.limits.TheConstants.{MOST_ENTRIES}
 use Rattle.mx_typed_rows.specs.declared.rows.BaseRow.{BaseRow}
 use Rattle.mx_typed_rows.specs.declared.rows.TotalRow.{TotalRow}
 use Rattle.mx_typed_rows.proofs.SortedLemmas.{keys_below}
@@ -24,7 +24,7 @@ use Rattle.mx_points.proofs.StepLemmas.{step_on_way}
 use Rattle.mx_stands.specs.Schemas.{IsOfFile}
 use Rattle.mx_steps.specs.Written.{bases_of}
 use Rattle.mx_steps.proofs.WrittenLemmas.{next_item, no_item}
-use Rattle.mx_verified.specs.declared.kept.KeptRows.{KeptRows}
+use Rattle.mx_derived.specs.declared.kept.KeptRows.{KeptRows}
 use Rattle.mx_settle.specs.declared.due.Due.{Due}
 use Rattle.mx_settle.specs.Choices.{GoesOn}
 use Rattle.mx_settle.specs.Due.{IsDueAt, IsFor}

@@ -23,14 +23,15 @@ use Rattle.mx_stands.proofs.RowLemmas.{readable_stored}
 use Rattle.mx_stands.proofs.SchemaLemmas.{has_tables}
 use Rattle.mx_tables.specs.Calls.{OnDamaged}
 use Rattle.mx_tables.specs.Sets.{IsDamaged, ReadsTables}
-use Rattle.mx_verified.specs.Kept.{AreKeptOf, AreRegistersIn}
-use Rattle.mx_verified.specs.declared.kept.KeptRows.{KeptRows}
-use Rattle.mx_verified.specs.declared.kept.Unkept.{Unkept}
-use Rattle.mx_verified.specs.declared.kept.Unkept.TheVariants as why
-use Rattle.mx_verified.specs.declared.verified.FileRows.{FileRows}
-use Rattle.mx_verify.specs.Damage.{table_of}
-use Rattle.mx_verify.specs.Stored.{AreRegisters, HasRegisters}
-use Rattle.mx_verify.proofs.RegisterLemmas.{moved_at_bases, moved_at_totals, registers_of, schema_at_bases, schema_at_totals}
+use Rattle.mx_derived.specs.Kept.{AreKeptOf}
+use Rattle.mx_file_rows.specs.Tables.{AreRegistersIn}
+use Rattle.mx_derived.specs.declared.kept.KeptRows.{KeptRows}
+use Rattle.mx_derived.specs.declared.kept.Unkept.{Unkept}
+use Rattle.mx_derived.specs.declared.kept.Unkept.TheVariants as why
+use Rattle.mx_file_rows.specs.declared.file_rows.FileRows.{FileRows}
+use Rattle.mx_reading.specs.Damage.{table_of}
+use Rattle.mx_reading.specs.Stored.{AreRegisters, HasRegisters}
+use Rattle.mx_reading.proofs.RegisterLemmas.{moved_at_bases, moved_at_totals, registers_of, schema_at_bases, schema_at_totals}
 use Rattle.mx_settle.specs.Choices.{FindsKept, IsKeeping, IsOfEntries, StandsIn, fault_by}
 use Rattle.mx_settle.specs.Items.{Knows}
 use Rattle.mx_settle.specs.Numbers.{late_table}

@@ -9,7 +9,7 @@ use Rattle.std.proofs.lemmas.List.Sorted.{All-permutation, IsPermutation-sym}
 use Rattle.mx_command.specs.Act.{Entry}
 use Rattle.mx_book.specs.Book.{IsBook}
 use Rattle.mx_book.specs.Span.{Span, span_begun}
-use Rattle.mx_book.specs.declared.judging.TheConstants.{MOST_ENTRIES}
+use Rattle.mx_book.specs.declared.limits.TheConstants.{MOST_ENTRIES}
 use Rattle.mx_typed_rows.specs.Rising.{IsRising}
 use Rattle.mx_typed_rows.specs.Rows.{line_key}
 use Rattle.mx_typed_rows.specs.declared.rows.AircraftRow.{AircraftRow}
@@ -31,8 +31,8 @@ use Rattle.mx_register.proofs.RegisterLemmas.{aircraft_rows-rising, component_ro
 use Rattle.mx_kept_rows.specs.Spans.{removal_from, removes, span_row, span_rows, span_rows_from}
 use Rattle.mx_layout.specs.TableName.{TableName}
 use Rattle.mx_layout.specs.declared.fault.Table.TheVariants as table
-use Rattle.mx_verified.specs.Kept.{AreRegistersIn}
-use Rattle.mx_verified.specs.declared.verified.FileRows.{FileRows}
+use Rattle.mx_file_rows.specs.Tables.{AreRegistersIn}
+use Rattle.mx_file_rows.specs.declared.file_rows.FileRows.{FileRows}
 use Rattle.mx_settle.specs.Numbers.{has_late, is_late, is_late_end, is_late_span, late_table, or_behind}
 
 -- ── rows with one number ──

@@ -5,7 +5,7 @@ use Rattle.sqlite.specs.declared.types.Value.TheVariants.{Int}
 use Rattle.sqlite.specs.Effect.{Database}
 use Rattle.sqlite.specs.State.{State, HasCleanDisk}
 use Rattle.sqlite.specs.Tree.{Trees}
-use Rattle.mx_book.specs.declared.judging.TheConstants.{MOST_ENTRIES}
+use Rattle.mx_book.specs.declared.limits.TheConstants.{MOST_ENTRIES}
 use Rattle.mx_book.specs.Book.{IsBook}
 use Rattle.mx_command.specs.Act.{Entry}
 use Rattle.mx_typed_rows.specs.declared.rows.EntryKind.{EntryKind}
@@ -28,13 +28,13 @@ use Rattle.mx_stands.specs.Schemas.{IsOfFile, schema_at}
 use Rattle.mx_stands.specs.Stands.{LiesAt, StandsAt}
 use Rattle.mx_tables.specs.Calls.{OnRead}
 use Rattle.mx_tables.specs.Sets.{IsDamaged}
-use Rattle.mx_verified.specs.Kept.{AreRegistersIn}
-use Rattle.mx_verified.specs.declared.kept.KeptRows.{KeptRows}
-use Rattle.mx_verified.specs.declared.kept.Unkept.{Unkept}
-use Rattle.mx_verified.specs.declared.kept.Unkept.TheVariants as why
-use Rattle.mx_verified.specs.declared.verified.FileRows.{FileRows}
-use Rattle.mx_verify.specs.Damage.{table_of}
-use Rattle.mx_verify.specs.Stored.{AreRegisters}
+use Rattle.mx_file_rows.specs.Tables.{AreRegistersIn}
+use Rattle.mx_derived.specs.declared.kept.KeptRows.{KeptRows}
+use Rattle.mx_derived.specs.declared.kept.Unkept.{Unkept}
+use Rattle.mx_derived.specs.declared.kept.Unkept.TheVariants as why
+use Rattle.mx_file_rows.specs.declared.file_rows.FileRows.{FileRows}
+use Rattle.mx_reading.specs.Damage.{table_of}
+use Rattle.mx_reading.specs.Stored.{AreRegisters}
 use Rattle.mx_settle.specs.Due.{IsDueAt, IsFor, MakesBy}
 use Rattle.mx_settle.specs.Items.{AreItemsOf, Knows, is_next}
 use Rattle.mx_settle.specs.Numbers.{late_table}

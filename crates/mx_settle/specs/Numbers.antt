@@ -1,12 +1,12 @@
 -- Tables of the registers that have a row whose number no entry can have.
 use Rattle.std.specs.Prelude.{ℕ, nat_lt, ◌||◌, Bool, false, List, Option, Some, None, if◌then◌else◌}
 use Rattle.std.specs.List.{list_any}
-use Rattle.mx_book.specs.declared.judging.TheConstants.{MOST_ENTRIES}
+use Rattle.mx_book.specs.declared.limits.TheConstants.{MOST_ENTRIES}
 use Rattle.mx_typed_rows.specs.declared.register_rows.RegisterRows.{RegisterRows}
 use Rattle.mx_typed_rows.specs.declared.rows.SpanRow.{SpanRow}
 use Rattle.mx_layout.specs.TableName.{TableName}
 use Rattle.mx_layout.specs.declared.fault.Table.TheVariants as table
-use Rattle.mx_verified.specs.declared.verified.FileRows.{FileRows}
+use Rattle.mx_file_rows.specs.declared.file_rows.FileRows.{FileRows}
 
 -- no entry can have this number
 abbrev pub is_late : ℕ → Bool

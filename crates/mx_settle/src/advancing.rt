@@ -11,9 +11,9 @@ ghost use Rattle.mx_settle.specs.Items.{Knows};
 use crate::choosing::next_due;
 use crate::fault::fault_of;
 use crate::place::place;
+use mx_derived::KeptRows;
 use mx_migrate::{MoveFault, commit_step};
 use mx_point::Point;
-use mx_verified::KeptRows;
 use sqlite::{Alter, Connection};
 use std::alloc::Global;
 

@@ -8,7 +8,7 @@ use Rattle.std.proofs.lemmas.List.Elements.{All-nil, All-cons, All-filter, All-h
 use Rattle.sqlite_keyed.proofs.ListLemmas.{filter-map}
 use Rattle.mx_command.specs.Act.{Entry}
 use Rattle.mx_book.specs.Book.{IsBook}
-use Rattle.mx_book.specs.declared.judging.TheConstants.{MOST_ENTRIES}
+use Rattle.mx_book.specs.declared.limits.TheConstants.{MOST_ENTRIES}
 use Rattle.mx_typed_rows.specs.declared.rows.FittingRow.{FittingRow}
 use Rattle.mx_typed_rows.specs.declared.rows.RemovalRow.{RemovalRow}
 use Rattle.mx_typed_rows.specs.declared.rows.SpanRow.{SpanRow}

@@ -14,7 +14,7 @@ use Rattle.sqlite_typed.proofs.TestLemmas.{at_ints}
 use Rattle.std.proofs.lemmas.Int.{ints}
 use Rattle.mx_command.specs.Act.{Entry}
 use Rattle.mx_book.specs.Book.{IsBook}
-use Rattle.mx_book.specs.declared.judging.TheConstants.{MOST_ENTRIES}
+use Rattle.mx_book.specs.declared.limits.TheConstants.{MOST_ENTRIES}
 use Rattle.mx_typed_rows.specs.declared.rows.SectorRow.{SectorRow}
 use Rattle.mx_typed_rows.specs.Rows.{FitsSector}
 use Rattle.mx_typed_rows.proofs.SortedLemmas.{keys_below}

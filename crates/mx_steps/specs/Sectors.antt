@@ -4,7 +4,7 @@ use Rattle.std.specs.List.{list_all}
 use Rattle.sqlite.specs.declared.types.Value.TheVariants.{Int}
 use Rattle.sqlite.specs.Order.{Row}
 use Rattle.sqlite.specs.Tree.{Trees}
-use Rattle.mx_book.specs.declared.judging.TheConstants.{MOST_ENTRIES}
+use Rattle.mx_book.specs.declared.limits.TheConstants.{MOST_ENTRIES}
 use Rattle.mx_typed_rows.specs.declared.rows.SectorRow.{SectorRow}
 use Rattle.mx_typed_rows.specs.Rows.{FitsSector}
 use Rattle.mx_point.specs.declared.point.Point.{Point}

@@ -1,8 +1,9 @@
 //! What the plain book answers, which the office is compared with.
 
-use mx_book::{Book, Reply, Verdict};
+use mx_book::{Reply, Verdict};
 use mx_cases::{append_reply, or_none, replies_in};
 use mx_command::Command;
+use mx_plain::Book;
 use std::alloc::{AllocError, Global};
 
 /// What a list of commands gives over a book.

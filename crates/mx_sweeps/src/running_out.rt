@@ -9,10 +9,10 @@ use crate::interrupted::{
 use crate::plain::append_reply_to;
 use crate::sweep::{Wrong, must};
 use mx_base::{Day, Tail};
-use mx_book::Book;
 use mx_cases::Unmade;
 use mx_command::Command;
 use mx_lists::Stop;
+use mx_plain::Book;
 use std::alloc::Global;
 
 // The number of questions by which everything is to be answered.

@@ -5,7 +5,7 @@ use Rattle.mx_register.specs.Registers.{AreRegistersOf}
 use Rattle.mx_kept_rows.specs.Bases.{base_rows}
 use Rattle.mx_kept_rows.specs.Spans.{span_rows}
 use Rattle.mx_kept_rows.specs.Totals.{total_rows}
-use Rattle.mx_verified.specs.declared.verified.FileRows.{FileRows}
+use Rattle.mx_file_rows.specs.declared.file_rows.FileRows.{FileRows}
 
 -- the kept rows are those that the book gives
 pub record HasKeptRows (rows : FileRows) (book : List Entry) : Type 0 where

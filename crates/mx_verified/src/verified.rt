@@ -8,28 +8,18 @@ ghost use Rattle.mx_register.specs.Registers.{AreRegistersOf};
 ghost use Rattle.mx_kept_rows.specs.Bases.{base_rows};
 ghost use Rattle.mx_kept_rows.specs.Spans.{span_rows};
 ghost use Rattle.mx_kept_rows.specs.Totals.{total_rows};
-ghost use Rattle.mx_verified.specs.Merging.{merging};
+ghost use Rattle.mx_merged.specs.Merging.{merging};
 ghost use Rattle.mx_verified.specs.Verified.{AreRowsOf, HasKeptRows};
 
 use crate::bases::are_bases;
-use crate::merged::{NoBook, merge_beside_maps};
 use crate::same::are_same;
-use crate::spans::spans_made;
-use crate::totals::total_rows;
-use mx_book::NoMemory;
+use mx_file_rows::FileRows;
+use mx_file_rows::spans::spans_made;
 use mx_indexed::IndexedBook;
-use mx_register::merge::Registers;
-use mx_typed_rows::{BaseRow, EntryKind, SpanRow, TotalRow};
+use mx_merged::{NoBook, merge_beside_maps, total_rows};
+use mx_plain::NoMemory;
+use mx_typed_rows::EntryKind;
 use std::alloc::Global;
-
-/// The rows of the tables of a file: the registers, and the kept rows.
-#[derive(Drop)]
-pub struct FileRows {
-    pub registers: Registers,
-    pub spans: Vec<SpanRow>,
-    pub totals: Vec<TotalRow>,
-    pub bases: Vec<BaseRow>,
-}
 
 /// Why it was not found out whether rows are those of a book.
 #[derive(Clone, Copy, Debug, PartialEq, Eq)]

@@ -1,7 +1,2 @@
 pub mod ListedLemmas
-pub mod LookLemmas
-pub mod PointLemmas
-pub mod ReadLemmas
-pub mod RegisterLemmas
-pub mod StoredLemmas
 pub mod TellLemmas

@@ -13,7 +13,8 @@ use Rattle.mx_layout.specs.declared.fault.Table.TheVariants as table
 use Rattle.mx_stands.specs.Family.{is_at}
 use Rattle.mx_stands.specs.Schemas.{schema_at}
 use Rattle.mx_stands.proofs.FamilyLemmas.{never}
-use Rattle.mx_verify.specs.Layout.{HasTables, lacks, lacks_any, verified_names, verified_point}
+use Rattle.mx_reading.specs.Layout.{HasTables, verified_point}
+use Rattle.mx_verify.specs.Listed.{lacks, lacks_any, verified_names}
 
 -- ── no others ──
 

@@ -15,18 +15,20 @@ use Rattle.mx_layout.specs.declared.fault.TableFault.TheVariants as fault
 use Rattle.mx_layout.specs.Point.{IsStop}
 use Rattle.mx_stands.specs.Family.{is_at}
 use Rattle.mx_stands.specs.Stands.{HasRowsAt}
-use Rattle.mx_verified.specs.Merging.{merging}
-use Rattle.mx_verified.specs.Tables.{AreFilePut, AreTablesOf}
-use Rattle.mx_verified.specs.declared.merged.NoBook.TheVariants as no_book
-use Rattle.mx_verified.specs.declared.verified.FileRows.{FileRows}
+use Rattle.mx_merged.specs.Merging.{merging}
+use Rattle.mx_file_rows.specs.Tables.{AreFilePut, AreTablesOf}
+use Rattle.mx_merged.specs.declared.merged.NoBook.TheVariants as no_book
+use Rattle.mx_file_rows.specs.declared.file_rows.FileRows.{FileRows}
 use Rattle.mx_verified.specs.declared.verified.Unverified.{Unverified}
 use Rattle.mx_verified.specs.declared.verified.Unverified.TheVariants as why
-use Rattle.mx_verify.specs.Layout.{verified_point}
-use Rattle.mx_verify.specs.Damage.{HasBadRow, IsCause, IsDamaged, IsUndamaged, table_of}
-use Rattle.mx_verify.specs.Stored.{AreStored}
-use Rattle.mx_verify.specs.Verifies.{HasBook, Looks, Tells, TellsPoint, Verifies, told_file, told_rows}
-use Rattle.mx_verify.proofs.LookLemmas.{on_read}
-use Rattle.mx_verify.proofs.StoredLemmas.{none_bad, point_given, tables_given, tables_read}
+use Rattle.mx_reading.specs.Layout.{verified_point}
+use Rattle.mx_reading.specs.Damage.{HasBadRow, IsCause, table_of}
+use Rattle.mx_verify.specs.Damage.{IsDamaged, IsUndamaged}
+use Rattle.mx_reading.specs.Stored.{AreStored}
+use Rattle.mx_verify.specs.Verifies.{HasBook, Tells, Verifies, told_file, told_rows}
+use Rattle.mx_reading.specs.Looks.{Looks, TellsPoint}
+use Rattle.mx_reading.proofs.LookLemmas.{on_read}
+use Rattle.mx_reading.proofs.StoredLemmas.{none_bad, point_given, tables_given, tables_read}
 
 -- ── what stopped ──
 

@@ -1,4 +1,3 @@
 pub mod Damage
-pub mod Layout
-pub mod Stored
+pub mod Listed
 pub mod Verifies

@@ -4,7 +4,7 @@ ghost use Rattle.sqlite.specs.Effect.{Database};
 ghost use Rattle.mx_command.specs.Act.{Entry};
 ghost use Rattle.mx_stands.specs.Schemas.{schema_at};
 ghost use Rattle.mx_stands.specs.Stands.{StandsAt};
-ghost use Rattle.mx_verify.specs.Layout.{HasTables, verified_point};
+ghost use Rattle.mx_reading.specs.Layout.{HasTables, verified_point};
 ghost use Rattle.mx_verify.specs.Verifies.{IsVerified};
 
 /// Tables that stand for a book at the newest layout are verified: what is verified is a part of what tables stand for.

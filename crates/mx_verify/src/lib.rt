@@ -1,16 +1,11 @@
 //! Whether the tables of a file stand for a book, whatever rows they have: inside a transaction the row of `office` and every
 //! other table of layout 2 are read, and compared with what the book gives that the registers say. `verify` does it in a
-//! transaction of its own, and looks at the tables that the file lists as well. `register_rows` reads the registers alone, for
-//! who makes of them what a layout keeps beside.
+//! transaction of its own, and looks at the tables that the file lists as well.
 #![tactic(auto)]
 
 pub mod laws;
 mod listed;
-mod point;
-pub mod reading;
 pub mod told;
 pub mod verifying;
 
-pub use reading::register_rows;
-pub use told::table_of;
 pub use verifying::{verify, verify_in};

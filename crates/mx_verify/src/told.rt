@@ -1,28 +1,10 @@
 //! What is answered, of whether rows are those of a book.
 ghost use Rattle.std.specs.Prelude.{◌≡◌};
-ghost use Rattle.mx_verify.specs.Damage.{table_of};
 ghost use Rattle.mx_verify.specs.Verifies.{fault_by, told_file, told_rows};
 
-use mx_layout::{Table, TableFault};
-use mx_typed_rows::EntryKind;
+use mx_layout::TableFault;
+use mx_reading::table_of;
 use mx_verified::Unverified;
-
-/// The table of the rows that entries of a kind have.
-pub fn table_of(kind: EntryKind) -> Table
-    ensures { result ≡ table_of kind }
-{
-    match kind {
-        EntryKind::AddAircraft => Table::Aircraft,
-        EntryKind::AddComponent => Table::Component,
-        EntryKind::LoadProgramme => Table::Programme,
-        EntryKind::Opening => Table::Opening,
-        EntryKind::Sector => Table::Sector2,
-        EntryKind::Fit | EntryKind::Remove => Table::Span2,
-        EntryKind::Release => Table::Crs,
-        EntryKind::Defer => Table::Defect,
-        EntryKind::Extend => Table::Extension,
-    }
-}
 
 // Why it was not found out, as the fault of a table.
 fn fault_by(why: Unverified) -> TableFault

@@ -7,15 +7,14 @@ ghost use Rattle.mx_layout.specs.Listed.{has_table};
 ghost use Rattle.mx_layout.specs.Names.{table_name};
 ghost use Rattle.mx_layout.specs.TableName.{TableName};
 ghost use Rattle.mx_stands.specs.Family.{is_at};
-ghost use Rattle.mx_verify.specs.Damage.{IsCause};
-ghost use Rattle.mx_verify.specs.Layout.{HasTables, verified_point};
+ghost use Rattle.mx_reading.specs.Damage.{IsCause};
+ghost use Rattle.mx_reading.specs.Layout.{HasTables, verified_point};
 ghost use Rattle.mx_verify.specs.Verifies.{HasBook, IsVerified, Tells, Verifies};
 
 use crate::listed::{has_no_other, lacks_any};
-use crate::point::is_at_point;
-use crate::reading::read_rows;
 use crate::told::{told_file, told_rows};
 use mx_layout::TableFault;
+use mx_reading::{is_at_point, read_rows};
 use mx_verified::verify_tables;
 use sqlite::{Alter, Connection, Transaction};
 use std::alloc::Global;

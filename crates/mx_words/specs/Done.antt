@@ -1,22 +1,21 @@
 -- What is printed where all that the words ask for was done.
 use Rattle.std.specs.Prelude.{◌≡◌, ◌⊎◌, ℕ, List, [], Option, Some, false, codes}
 use Rattle.std.specs.Io.KnownBytes.{Appends}
-use Rattle.clap.specs.Values.{kind_of}
 use Rattle.clap.specs.declared.error.Error.{Error}
 use Rattle.clap.specs.declared.parser.matches.ArgMatches.{ArgMatches}
-use Rattle.clap.specs.declared.error.kind.ErrorKind.TheVariants.{DisplayHelp, DisplayVersion}
-use Rattle.mx_jobs.specs.Entered.{AreReplyLines, AreSomeReplyLines}
+use Rattle.mx_upkeep.specs.Entered.{AreReplyLines, AreSomeReplyLines}
 use Rattle.mx_jobs.specs.Imported.{AreRowLines}
-use Rattle.mx_jobs.specs.Installed.{AreFirstReplies}
-use Rattle.mx_jobs.specs.Moved.{IsPointLine}
+use Rattle.mx_upkeep.specs.Installed.{AreFirstReplies}
+use Rattle.mx_upkeep.specs.Moved.{IsPointLine}
 use Rattle.mx_jobs.specs.Printed.{IsListAnswer}
-use Rattle.mx_desk.specs.Serving.{served_line}
+use Rattle.mx_responses.specs.Serving.{served_line}
 use Rattle.mx_command_line.specs.Trial.{is_trial_shaped, trial_commands}
 use Rattle.mx_jobs.specs.Tried.{TellsTrial}
 use Rattle.mx_jobs.specs.Verified.{IsVerifiedLine}
+use Rattle.mx_command_line.specs.Usage.{IsRequest}
 use Rattle.mx_command_line.specs.Job.{Job, said, tries, makes, lists, enters, imports, installs, loads, moves, serves, verifies}
-use Rattle.mx_jobs.specs.declared.fault.Ending.{Ending}
-use Rattle.mx_jobs.specs.declared.fault.Ending.TheVariants.{Done}
+use Rattle.mx_endings.specs.declared.ending.Ending.{Ending}
+use Rattle.mx_endings.specs.declared.ending.Ending.TheVariants.{Done}
 
 -- the text and the ending are those of this job
 abbrev pub IsDone : Job → List ℕ → Ending → Type 0
@@ -35,10 +34,6 @@ IsDone (installs file entries) text ending = AreFirstReplies text ending
 abbrev pub LacksShape : Job → Type 0
 LacksShape (tries trial) = is_trial_shaped trial ≡ false
 LacksShape _ = ⊥
-
--- the words ask for help or for the version
-abbrev pub IsRequest : Error → Type 0
-IsRequest error = (kind_of error ≡ DisplayHelp) ⊎ (kind_of error ≡ DisplayVersion)
 
 -- what is asked for was done, ending so, and its text printed
 abbrev pub IsEnded : Option Job → Ending → Option (List ℕ) → Option (List ℕ) → Type 0

@@ -5,7 +5,6 @@
 pub mod run;
 mod serving;
 mod trial;
-mod usage;
 
 pub use mx_desk::serve_on;
 pub use run::run_words;

@@ -3,19 +3,18 @@ ghost use Rattle.std.specs.Prelude.{◌≡◌, ◌≢◌, ◌↔◌, ◌⊎◌, 
 ghost use Rattle.std.specs.Io.KnownBytes.{Keeps};
 ghost use Rattle.mx_words.specs.Done.{IsAnswered, IsDone, IsEnded, IsEndedForSome, LacksShape};
 ghost use Rattle.mx_command_line.specs.Job.{job_of, said};
-ghost use Rattle.mx_jobs.specs.Status.{LeavesUnread, Shows, stop_status};
+ghost use Rattle.mx_endings.specs.Status.{LeavesUnread, Shows, stop_status};
 
 use crate::serving::serve_file;
 use crate::trial::try_out;
-use crate::usage::print_usage;
 use clap::ArgMatches;
 use clap::error::ErrorKind;
-use mx_command_line::{Words, command, words_of};
+use mx_command_line::{Words, command, print_usage, words_of};
+use mx_endings::{Ending, Stop, print_done};
 use mx_files::{
     enter_file, import_file, init_file, init_old_file, list_file, migrate_file, programme_file,
     verify_file,
 };
-use mx_jobs::{Ending, Stop, print_done};
 use std::io::Write;
 
 fn perform(rt: &HostRuntime, words: &Words<'_>, out: &mut Vec<u8>) -> Result<Ending, Stop>

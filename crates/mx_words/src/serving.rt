@@ -1,13 +1,13 @@
 //! `serve`: connections at a port of the loopback, with the office in a file.
 ghost use Rattle.std.specs.Prelude.{◌≡◌, ◌≤◌, ◌++◌, IfOk, IfErr};
 ghost use Rattle.mx_office.specs.Office.{IsInDoubt, IsReady};
-ghost use Rattle.mx_desk.specs.Serving.{served_line};
-ghost use Rattle.mx_jobs.specs.Status.{LeavesUnread, stop_status};
-ghost use Rattle.mx_jobs.specs.declared.fault.Ending.TheVariants.{Done};
+ghost use Rattle.mx_responses.specs.Serving.{served_line};
+ghost use Rattle.mx_endings.specs.Status.{LeavesUnread, stop_status};
+ghost use Rattle.mx_endings.specs.declared.ending.Ending.TheVariants.{Done};
 
 use mx_desk::serve_on;
+use mx_endings::{Ending, Stop};
 use mx_files::{Asked, answer_file};
-use mx_jobs::{Ending, Stop};
 use mx_office::{Fault, Office};
 use sqlite::Alter;
 use std::net::{Ipv4Addr, SocketAddr, SocketAddrV4, TcpListener};

@@ -1,5 +1,5 @@
 use Rattle.http.specs.Response.{body_of, head_of}
-use Rattle.mx_desk.specs.Request.{request_of}
+use Rattle.mx_responses.specs.Request.{request_of}
 use Rattle.mx_desk.proofs.ServedLemmas.{leaves, serves_result, stays}
 use Rattle.mx_request.specs.Routes.{asked}
 use Rattle.mx_desk.proofs.answering.route_response.Goals as goal

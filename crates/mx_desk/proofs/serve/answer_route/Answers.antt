@@ -4,7 +4,7 @@ use Rattle.http.specs.Response.{body_of, head_of}
 use Rattle.sqlite.specs.Held.{state}
 use Rattle.mx_request.specs.Body.{whole_body}
 use Rattle.mx_request.specs.Routes.{asked}
-use Rattle.mx_desk.specs.Request.{request_of}
+use Rattle.mx_responses.specs.Request.{request_of}
 use Rattle.mx_desk.proofs.ServedLemmas.{left_here}
 use Rattle.mx_desk.proofs.ServeLemmas.{a_body, no_body}
 use Rattle.mx_desk.proofs.serve.answer_route.Goals as goal

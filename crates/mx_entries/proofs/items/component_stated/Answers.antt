@@ -3,10 +3,10 @@ use Rattle.std.specs.Prelude.{slice_get}
 use Rattle.std.specs.Option.{option_map}
 use Rattle.mx_register.specs.Merge.{component_said}
 use Rattle.mx_found.specs.Stated.{component_stated}
-use Rattle.mx_lookups.proofs.AnyLemmas.{gives}
-use Rattle.mx_lookups.proofs.BookRows.{components_of_number}
-use Rattle.mx_lookups.proofs.ReadLemmas.{stopped, told}
-use Rattle.mx_lookups.proofs.TableLemmas.{components}
+use Rattle.mx_numbers.proofs.AnyLemmas.{gives}
+use Rattle.mx_numbers.proofs.BookRows.{components_of_number}
+use Rattle.mx_numbers.proofs.ReadLemmas.{stopped, told}
+use Rattle.mx_numbers.proofs.TableLemmas.{components}
 use Rattle.mx_entries.proofs.items.component_stated.Goals as goal
 
 pub returns-in_err-rows-clause-reads : goal.returns-in_err-rows-clause-reads

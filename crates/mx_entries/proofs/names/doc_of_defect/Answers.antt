@@ -1,10 +1,10 @@
 use Rattle.std.proofs.Common.{◌∙◌, ap}
 use Rattle.mx_found.specs.Names.{deferred_doc}
 use Rattle.mx_found.proofs.StatedLemmas.{deferral_numbered}
-use Rattle.mx_lookups.proofs.AnyLemmas.{gives}
-use Rattle.mx_lookups.proofs.BookRows.{entries_of_number}
-use Rattle.mx_lookups.proofs.ReadLemmas.{stopped, told}
-use Rattle.mx_lookups.proofs.TableLemmas.{entries}
+use Rattle.mx_numbers.proofs.AnyLemmas.{gives}
+use Rattle.mx_numbers.proofs.BookRows.{entries_of_number}
+use Rattle.mx_numbers.proofs.ReadLemmas.{stopped, told}
+use Rattle.mx_numbers.proofs.TableLemmas.{entries}
 use Rattle.mx_entries.proofs.names.doc_of_defect.Goals as goal
 
 pub returns-in_err-rows-clause-reads : goal.returns-in_err-rows-clause-reads

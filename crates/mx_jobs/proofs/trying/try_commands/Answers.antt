@@ -3,10 +3,10 @@ use Rattle.sqlite.specs.State.{HasCleanDisk}
 use Rattle.mx_book.specs.Run.{book_run}
 use Rattle.mx_office.specs.Calls.{IsRun}
 use Rattle.mx_office.specs.Office.{office_state}
-use Rattle.mx_office.specs.declared.fault.Fault.{Fault}
-use Rattle.mx_answers.specs.Question.{report_of}
+use Rattle.mx_faults.specs.declared.fault.Fault.{Fault}
+use Rattle.mx_questions.specs.Report.{report_of}
 use Rattle.mx_questions.specs.declared.question.Question.TheVariants.{Life}
-use Rattle.mx_jobs.specs.Entered.{reply_lines}
+use Rattle.mx_upkeep.specs.Entered.{reply_lines}
 use Rattle.mx_jobs.specs.Printed.{list_answer}
 use Rattle.mx_jobs.proofs.EnteredLemmas.{stands_behind}
 use Rattle.mx_jobs.proofs.trying.try_commands.Goals as goal

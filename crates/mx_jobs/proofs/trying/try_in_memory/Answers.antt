@@ -1,8 +1,6 @@
-use Rattle.std.proofs.Common.{[]}
 use Rattle.sqlite.proofs.Callers.{memory_is_clean}
+use Rattle.mx_jobs.proofs.TrialLemmas.{memory_rests}
 use Rattle.mx_jobs.proofs.trying.try_in_memory.Goals as goal
 
-pub returns-clause-exact : goal.returns-clause-exact
-returns-clause-exact c =
-    let tried = c.try_commands-tried in
-    tried.ensures.exact [] c.in_ok-office.ensures.ready c.in_ok-office.ensures.empty (memory_is_clean tried.new.office.conn)
+pub returns-in-Ok-clause-exact : goal.returns-in-Ok-clause-exact
+returns-in-Ok-clause-exact c = c.try_in.ensures.exact (memory_rests c.in-Ok.conn c.in-Ok.ensures.empty) memory_is_clean

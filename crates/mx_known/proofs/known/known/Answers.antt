@@ -3,10 +3,10 @@ use Rattle.sqlite.specs.declared.types.Value.TheVariants.{Text}
 use Rattle.mx_kept.specs.Cells.{kept_entry}
 use Rattle.mx_chosen.specs.Choices.{has_value}
 use Rattle.mx_found.specs.Names.{entry_number}
-use Rattle.mx_lookups.specs.AnyRows.{Gives}
-use Rattle.mx_lookups.proofs.AnyLemmas.{any_so, by_none, by_number}
-use Rattle.mx_lookups.proofs.ToldLemmas.{handed, told_by}
-use Rattle.mx_lookups.specs.Told.{EntryDamage}
+use Rattle.mx_numbers.specs.AnyRows.{Gives}
+use Rattle.mx_numbers.proofs.AnyLemmas.{any_so, by_none, by_number}
+use Rattle.mx_numbers.proofs.ToldLemmas.{handed, told_by}
+use Rattle.mx_numbers.specs.Told.{EntryDamage}
 use Rattle.mx_known.proofs.known.known.Goals as goal
 
 pub returns-in_ok-same-in-Some-clause-any_rows : goal.returns-in_ok-same-in-Some-clause-any_rows

@@ -4,14 +4,14 @@ use Rattle.mx_register.specs.Names.{or_zero}
 use Rattle.mx_found.specs.Spans.{begins_with}
 use Rattle.mx_found.proofs.AnswerLemmas.{fitting_by_spans}
 use Rattle.mx_found.proofs.FoundLemmas.{entry_is}
-use Rattle.mx_lookups.proofs.BookRows.{spans_of_fitting}
-use Rattle.mx_lookups.proofs.ReadLemmas.{reads_then, stopped, told}
-use Rattle.mx_lookups.specs.Given.{AircraftNumber}
+use Rattle.mx_numbers.proofs.BookRows.{spans_of_fitting}
+use Rattle.mx_numbers.proofs.ReadLemmas.{reads_then, stopped, told}
+use Rattle.mx_numbers.specs.Given.{AircraftNumber}
 use Rattle.mx_known.specs.Known.{Began, ByNumber}
-use Rattle.mx_lookups.proofs.AnyLemmas.{gives}
+use Rattle.mx_numbers.proofs.AnyLemmas.{gives}
 use Rattle.mx_known.proofs.KnownLemmas.{numbered}
-use Rattle.mx_lookups.proofs.TableLemmas.{spans}
-use Rattle.mx_lookups.proofs.ToldLemmas.{handed, told_as, told_later, unread}
+use Rattle.mx_numbers.proofs.TableLemmas.{spans}
+use Rattle.mx_numbers.proofs.ToldLemmas.{handed, told_as, told_later, unread}
 use Rattle.mx_known.proofs.moves.is_fitting.Goals as goal
 
 pub returns-in_err-rows-clause-reads : goal.returns-in_err-rows-clause-reads

@@ -5,8 +5,8 @@ use Rattle.mx_command.specs.declared.release.Line.{Line}
 use Rattle.mx_register.specs.Lines.{lines_from}
 use Rattle.mx_register.specs.Registers.{release_line_row}
 use Rattle.mx_found.specs.Given.{found, release_lines}
-use Rattle.mx_lookups.specs.AnyRows.{ReadsAny}
-use Rattle.mx_lookups.specs.Reads.{Reads}
+use Rattle.mx_numbers.specs.AnyRows.{ReadsAny}
+use Rattle.mx_numbers.specs.Reads.{Reads}
 use Rattle.mx_known.proofs.KnownLemmas.{IsLined}
 use Rattle.mx_known.proofs.releases.are_lines.Given as goal
 

@@ -1,11 +1,11 @@
 use Rattle.std.proofs.Common.{◌∙◌, ap}
 use Rattle.mx_found.specs.Names.{doc_in}
 use Rattle.mx_found.proofs.OpenDefectLemmas.{doc_found}
-use Rattle.mx_lookups.proofs.BookRows.{entries_of_number}
-use Rattle.mx_lookups.proofs.AnyLemmas.{gives}
-use Rattle.mx_lookups.proofs.TableLemmas.{entries}
-use Rattle.mx_lookups.proofs.ReadLemmas.{stopped, told}
-use Rattle.mx_lookups.proofs.ToldLemmas.{unread}
+use Rattle.mx_numbers.proofs.BookRows.{entries_of_number}
+use Rattle.mx_numbers.proofs.AnyLemmas.{gives}
+use Rattle.mx_numbers.proofs.TableLemmas.{entries}
+use Rattle.mx_numbers.proofs.ReadLemmas.{stopped, told}
+use Rattle.mx_numbers.proofs.ToldLemmas.{unread}
 use Rattle.mx_lookups.proofs.lists.doc_of_number.Goals as goal
 
 pub returns-in_err-rows-clause-reads : goal.returns-in_err-rows-clause-reads

@@ -1,11 +1,11 @@
 use Rattle.std.proofs.Common.{◌∙◌, ap}
 use Rattle.mx_found.specs.Names.{serial_in}
 use Rattle.mx_found.proofs.FoundLemmas.{serial_numbered}
-use Rattle.mx_lookups.proofs.BookRows.{components_of_number}
-use Rattle.mx_lookups.proofs.AnyLemmas.{gives}
-use Rattle.mx_lookups.proofs.TableLemmas.{components}
-use Rattle.mx_lookups.proofs.ReadLemmas.{stopped, told}
-use Rattle.mx_lookups.proofs.ToldLemmas.{unread}
+use Rattle.mx_numbers.proofs.BookRows.{components_of_number}
+use Rattle.mx_numbers.proofs.AnyLemmas.{gives}
+use Rattle.mx_numbers.proofs.TableLemmas.{components}
+use Rattle.mx_numbers.proofs.ReadLemmas.{stopped, told}
+use Rattle.mx_numbers.proofs.ToldLemmas.{unread}
 use Rattle.mx_lookups.proofs.lists.serial_of_number.Goals as goal
 
 pub returns-in_err-rows-clause-reads : goal.returns-in_err-rows-clause-reads

@@ -1,12 +1,12 @@
 use Rattle.std.proofs.Common.{◌∙◌, ap, subst, sym}
 use Rattle.std.specs.Prelude.{nat_lt}
-use Rattle.mx_book.specs.declared.judging.TheConstants.{MOST_COMPONENTS}
+use Rattle.mx_book.specs.declared.limits.TheConstants.{MOST_COMPONENTS}
 use Rattle.mx_found.proofs.PlaceLemmas.{room_for_components}
 use Rattle.mx_kept.specs.Cells.{kept_component}
-use Rattle.mx_lookups.proofs.TableLemmas.{components}
-use Rattle.mx_lookups.proofs.ReadLemmas.{stopped, told}
+use Rattle.mx_numbers.proofs.TableLemmas.{components}
+use Rattle.mx_numbers.proofs.ReadLemmas.{stopped, told}
 use Rattle.mx_lookups.proofs.RoomLookups.{components_counted}
-use Rattle.mx_lookups.proofs.ToldLemmas.{uncounted}
+use Rattle.mx_numbers.proofs.ToldLemmas.{uncounted}
 use Rattle.mx_lookups.proofs.rooms.has_room_for_component.Goals as goal
 
 pub returns-in_err-count-clause-reads : goal.returns-in_err-count-clause-reads

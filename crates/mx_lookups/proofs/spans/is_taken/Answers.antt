@@ -1,11 +1,11 @@
 use Rattle.std.proofs.Common.{◌∙◌, ap, sym}
 use Rattle.mx_found.specs.Spans.{is_taken_in}
 use Rattle.mx_found.proofs.OpenLemmas.{taken_by_none, taken_is}
-use Rattle.mx_lookups.proofs.BookRows.{open_spans_at}
-use Rattle.mx_lookups.proofs.ReadLemmas.{reads_then, stopped, told}
-use Rattle.mx_lookups.proofs.AnyLemmas.{by_number, by_none, gives}
-use Rattle.mx_lookups.proofs.TableLemmas.{spans}
-use Rattle.mx_lookups.proofs.ToldLemmas.{told_by, unread}
+use Rattle.mx_numbers.proofs.BookRows.{open_spans_at}
+use Rattle.mx_numbers.proofs.ReadLemmas.{reads_then, stopped, told}
+use Rattle.mx_numbers.proofs.AnyLemmas.{by_number, by_none, gives}
+use Rattle.mx_numbers.proofs.TableLemmas.{spans}
+use Rattle.mx_numbers.proofs.ToldLemmas.{told_by, unread}
 use Rattle.mx_lookups.proofs.spans.is_taken.Goals as goal
 
 pub returns-in_ok-rows-in-Some-clause-reads : goal.returns-in_ok-rows-in-Some-clause-reads

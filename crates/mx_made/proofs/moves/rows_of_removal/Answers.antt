@@ -1,19 +1,19 @@
 use Rattle.std.proofs.Common.{◌∙◌, ◌∷◌, map, ap, subst, sym, pos, None}
 use Rattle.mx_typed_rows.specs.declared.rows.SpanRow.{SpanRow}
-use Rattle.mx_lookups.proofs.BookRows.{open_spans_of}
-use Rattle.mx_lookups.proofs.ReadLemmas.{reads_then, stopped, told}
+use Rattle.mx_numbers.proofs.BookRows.{open_spans_of}
+use Rattle.mx_numbers.proofs.ReadLemmas.{reads_then, stopped, told}
 use Rattle.mx_made.proofs.AmongLemmas.{among}
 use Rattle.mx_made.proofs.MadeLemmas.{starved}
 use Rattle.mx_made.proofs.SpanLemmas.{spans_removed_are}
-use Rattle.mx_lookups.proofs.AnyLemmas.{any_so}
+use Rattle.mx_numbers.proofs.AnyLemmas.{any_so}
 use Rattle.mx_changes.specs.Made.{nothing_found}
 use Rattle.mx_made.specs.Found.{AreTotalsOf, numbers_removed}
 use Rattle.mx_made.proofs.AnyMadeLemmas.{any_then, chosen_read}
 use Rattle.sqlite.specs.declared.types.Value.TheVariants.{Int}
 use Rattle.mx_kept.specs.Cells.{kept_span2}
 use Rattle.mx_chosen.specs.Choices.{is_open}
-use Rattle.mx_lookups.specs.AnyRows.{AreChosen}
-use Rattle.mx_lookups.proofs.TableLemmas.{spans}
+use Rattle.mx_numbers.specs.AnyRows.{AreChosen}
+use Rattle.mx_numbers.proofs.TableLemmas.{spans}
 use Rattle.mx_made.proofs.moves.rows_of_removal.Goals as goal
 
 pub returns-in_err-spans-clause-reads : goal.returns-in_err-spans-clause-reads

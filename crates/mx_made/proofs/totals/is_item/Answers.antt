@@ -1,10 +1,10 @@
 use Rattle.std.proofs.Common.{◌∙◌, inl, refl, sym, ap}
 use Rattle.mx_found.specs.Names.{aircraft_number, component_number}
 use Rattle.mx_kept.specs.Cells.{kept_aircraft}
-use Rattle.mx_lookups.proofs.AnyLemmas.{any_so, first_kept, gives}
-use Rattle.mx_lookups.proofs.BookRows.{aircraft_of_number, components_of_number}
-use Rattle.mx_lookups.proofs.ReadLemmas.{reads_then, stopped, told}
-use Rattle.mx_lookups.proofs.TableLemmas.{aircraft, components}
+use Rattle.mx_numbers.proofs.AnyLemmas.{any_so, first_kept, gives}
+use Rattle.mx_numbers.proofs.BookRows.{aircraft_of_number, components_of_number}
+use Rattle.mx_numbers.proofs.ReadLemmas.{reads_then, stopped, told}
+use Rattle.mx_numbers.proofs.TableLemmas.{aircraft, components}
 use Rattle.mx_made.proofs.TotalLemmas.{aircraft_there, component_there, item_or_none, no_aircraft}
 use Rattle.mx_made.proofs.totals.is_item.Goals as goal
 

@@ -2,8 +2,8 @@ use Rattle.std.proofs.Common.{◌≡◌, ◌≤◌, ℕ, All, Ok, filter, take}
 use Rattle.sqlite.specs.Held.{state}
 use Rattle.mx_kept_rows.specs.Totals.{is_among, total_rows}
 use Rattle.mx_changes.specs.Kept.{HasLife}
-use Rattle.mx_lookups.specs.AnyRows.{ReadsAny}
-use Rattle.mx_lookups.specs.Reads.{Reads}
+use Rattle.mx_numbers.specs.AnyRows.{ReadsAny}
+use Rattle.mx_numbers.specs.Reads.{Reads}
 use Rattle.mx_made.specs.Found.{AreTotalsOf}
 use Rattle.mx_made.proofs.totals.totals_in_order.Given as goal
 

@@ -2,7 +2,7 @@ use Rattle.std.proofs.Common.{◌≡◌, ◌⊎◌, true, sym, subst, arith}
 use Rattle.std.specs.Prelude.{MatchResult}
 use Rattle.sqlite.specs.Held.{state}
 use Rattle.sqlite.specs.State.{HasCleanDisk}
-use Rattle.mx_office.specs.declared.fault.Fault.TheVariants.{Memory, Store}
+use Rattle.mx_faults.specs.declared.fault.Fault.TheVariants.{Memory, Store}
 use Rattle.mx_office.proofs.VerifiedLemmas.{verified_of_book}
 use Rattle.mx_office.proofs.office.Office.verify.Goals as goal
 

@@ -1,0 +1,9 @@
+//! The database in a file: it is opened, something is done over it, and it is closed. Here alone the store of a file is named, so
+//! that what is done over a database is proved once, for any store. What a file holds no contract can say.
+#![tactic(auto)]
+
+mod opening;
+pub mod working;
+
+pub use opening::Unopened;
+pub use working::{Work, Worked, work_in_file, work_in_new_file};

@@ -1,0 +1,62 @@
+//! Opening the database in a file. Here alone the store of a file is named.
+ghost use Rattle.std.specs.Prelude.{◌≡◌, ◌≢◌, ◌↔◌, false, IfOk, IfErr};
+
+use sqlite::{Connection, Error, ErrorCode, FileFrom, FileStore, Wary};
+use std::fs;
+use std::io::ErrorKind;
+
+/// The store of a file.
+pub(crate) type File = FileStore<FileFrom<Wary>>;
+
+/// Why no database was opened.
+#[derive(Clone, Copy)]
+pub enum Unopened {
+    /// Memory ran out.
+    Memory,
+    /// The file can't be opened, or made.
+    Store,
+    /// There is no file of that name, or it is empty or has one byte: it is none, and is left as it is.
+    Nothing,
+}
+
+// Why no database was opened, by the error that said so.
+fn unopened_by(error: Error) -> Unopened
+    ensures memory { (result ≡ Unopened.Memory) ↔ (error ≡ Error.SqliteFailure
+        ErrorCode.OutOfMemory) }
+    ensures opened { result ≢ Unopened.Nothing }
+{
+    match error {
+        Error::SqliteFailure(ErrorCode::OutOfMemory) => Unopened::Memory,
+        _ => Unopened::Store,
+    }
+}
+
+/// Opens the database in a file, which is made where it isn't there.
+pub(crate) fn open_or_make(rt: &HostRuntime, file: &str) -> Result<Connection<File>, Unopened>
+    ensures idle { IfOk result (λ conn. conn.in_transaction ≡ false) }
+    ensures opened { IfErr result (λ why. why ≢ Unopened.Nothing) }
+{
+    match Connection::open_from(rt, file, false, Wary) {
+        Ok(conn) => Ok(conn),
+        Err((error, _)) => Err(unopened_by(error)),
+    }
+}
+
+// Whether there is nothing to be opened: no file of that name, or an empty one.
+fn is_nothing(rt: &HostRuntime, file: &str) -> bool {
+    match fs::metadata(rt, file) {
+        Ok(about) => about.is_file() && about.len() <= 1,
+        Err(error) => error.kind() == ErrorKind::NotFound,
+    }
+}
+
+/// Opens the database in a file that holds one. A file that isn't there, is empty or has one byte is none, and is left as it is:
+/// opening it would make a database of it.
+pub(crate) fn open_there(rt: &HostRuntime, file: &str) -> Result<Connection<File>, Unopened>
+    ensures { IfOk result (λ conn. conn.in_transaction ≡ false) }
+{
+    if is_nothing(rt, file) {
+        return Err(Unopened::Nothing);
+    }
+    open_or_make(rt, file)
+}

@@ -1,0 +1,2 @@
+mod WorkedFaults
+mod WorkedStatus

@@ -1,0 +1,4 @@
+pub mod Bases
+pub mod Sorted
+pub mod Spans
+pub mod Tables

@@ -1,0 +1,3 @@
+pub mod DamageLemmas
+pub mod BaseLookups
+pub mod InForceLemmas

@@ -1,0 +1,3 @@
+pub mod MergingLemmas
+pub mod TotalLemmas
+pub mod KeyLemmas

@@ -1,0 +1,7 @@
+pub mod Keeping
+pub mod Damage
+pub mod Reads
+pub mod AnyRows
+pub mod InForce
+pub mod Given
+pub mod Told

@@ -1,0 +1,109 @@
+//! Deferred defects: which there are, which were rectified, and which are open.
+ghost use Rattle.std.specs.Prelude.{◌≡◌, [], ◌∷◌, IfOk};
+ghost use Rattle.std.specs.List.{cons_option, list_any};
+ghost use Rattle.mx_command.specs.Act.{lines_of};
+ghost use Rattle.mx_book.specs.Defect.{deferred_by, defect, rectifies, is_rectified, extension, is_open, open_from, open_defects};
+
+use mx_base::{Doc, Tail};
+use mx_book::Defect;
+use mx_command::{Command, Extension, Line};
+use std::alloc::{AllocError, Global};
+
+// The defect that an entry defers.
+fn deferred_defect(entry: &Command) -> Option<Defect>
+    ensures { result ≡ deferred_by entry.now }
+{
+    match entry.deferral() {
+        Some(deferral) => Some(Defect {
+            doc: entry.doc(),
+            deferral,
+        }),
+        None => None,
+    }
+}
+
+/// The defect that was deferred by a document.
+pub(crate) fn defect_of_document(entries: &[Command], doc: &Doc) -> Option<Defect>
+    ensures { result ≡ defect entries.now doc.now }
+{
+    entries
+        .iter()
+        .filter_map(|entry| deferred_defect(entry))
+        .find(|defect| defect.doc == *doc)
+}
+
+// Whether a line certifies that a defect was rectified.
+fn is_rectified_by(line: &Line, doc: &Doc) -> bool
+    ensures { result ≡ rectifies doc.now line.now }
+{
+    match line {
+        Line::Done(_, _) => false,
+        Line::Rectified(rectified) => *rectified == *doc,
+    }
+}
+
+// Whether one of the lines of an entry certifies that a defect was rectified.
+fn has_rectified(entry: &Command, doc: &Doc) -> bool
+    ensures { result ≡ list_any (rectifies doc.now) (lines_of entry.now.act) }
+{
+    entry.lines().iter().any(|line| is_rectified_by(line, doc))
+}
+
+/// Whether a defect was rectified.
+pub(crate) fn was_rectified(entries: &[Command], doc: &Doc) -> bool
+    ensures { result ≡ is_rectified entries.now doc.now }
+{
+    entries.iter().any(|entry| has_rectified(entry, doc))
+}
+
+/// The extension of a defect's interval.
+pub(crate) fn extension_of_defect(entries: &[Command], doc: &Doc) -> Option<Extension>
+    ensures { result ≡ extension entries.now doc.now }
+{
+    entries
+        .iter()
+        .filter_map(|entry| entry.extension())
+        .find(|extension| extension.defect == *doc)
+}
+
+// Whether a defect is of this aircraft, and was not rectified.
+fn is_open_on(entries: &[Command], tail: &Tail, defect: &Defect) -> bool
+    ensures { result ≡ is_open entries.now tail.now defect.now }
+{
+    defect.deferral.tail == *tail && !was_rectified(entries, &defect.doc)
+}
+
+// The open defect of an aircraft that an entry of the book defers.
+fn open_defect(entries: &[Command], tail: &Tail, entry: &Command) -> Option<Defect>
+    ensures { cons_option result [] ≡ open_from entries.now tail.now (entry.now ∷ []) }
+{
+    match deferred_defect(entry) {
+        None => None,
+        Some(defect) => {
+            if is_open_on(entries, tail, &defect) {
+                Some(defect)
+            } else {
+                None
+            }
+        }
+    }
+}
+
+/// The open defects of an aircraft, in the order of their entries. An error where memory runs out.
+pub fn list_open_defects(
+    alloc: Global,
+    entries: &[Command],
+    tail: &Tail,
+) -> Result<Vec<Defect>, AllocError>
+    ensures { IfOk result (λ defects. defects.items ≡ open_defects entries.now tail.now) }
+{
+    let mut found = Vec::new(alloc);
+    let mut rest = entries;
+    while let Some((entry, later)) = rest.split_first() {
+        if let Some(defect) = open_defect(entries, tail, entry) {
+            found.push(defect)?;
+        }
+        rest = later;
+    }
+    Ok(found)
+}

@@ -1,0 +1,5 @@
+pub mod LookLemmas
+pub mod PointLemmas
+pub mod ReadLemmas
+pub mod RegisterLemmas
+pub mod StoredLemmas

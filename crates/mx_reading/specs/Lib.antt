@@ -1,0 +1,4 @@
+pub mod Damage
+pub mod Layout
+pub mod Looks
+pub mod Stored

@@ -1,0 +1,3 @@
+pub mod Worked
+mod WorkedServing
+pub mod WritingLemmas

@@ -1,0 +1,4 @@
+pub mod Answer
+pub mod Request
+pub mod Serving
+pub mod Stopped

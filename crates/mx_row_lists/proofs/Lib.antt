@@ -1,0 +1,2 @@
+pub mod ListStanding
+pub mod ListLemmas

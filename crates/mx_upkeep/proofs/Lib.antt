@@ -1,0 +1,2 @@
+mod InstallLemmas
+mod WorkedPoints

@@ -1,0 +1,11 @@
+//! What a word does over a database where no office is open: a file moved on to the newest layout, and one made of a whole book; and
+//! the lines of replies.
+#![tactic(auto)]
+
+pub mod installing;
+mod moving;
+pub mod replies;
+
+pub use installing::{Accepted, accept_all, install_book, print_accepted};
+pub use moving::move_on;
+pub use replies::{ending_of, print_replies};
