@@ -1,5 +1,6 @@
-//! The database in a file: it is opened, something is done over it, and it is closed. Here alone the store of a file is named, so
-//! that what is done over a database is proved once, for any store. What a file holds no contract can say.
+//! The database in a file: it is opened, something is done over it, and it is closed. Of the crates of the
+//! program it alone names the store of a file, so that what is done over a database is proved once, for any store. What a file holds
+//! no contract can say.
 #![tactic(auto)]
 
 mod opening;

@@ -1,4 +1,4 @@
-//! Opening the database in a file. Here alone the store of a file is named.
+//! Opening the database in a file, whose store is named here.
 ghost use Rattle.std.specs.Prelude.{◌≡◌, ◌≢◌, ◌↔◌, false, IfOk, IfErr};
 
 use sqlite::{Connection, Error, ErrorCode, FileFrom, FileStore, Wary};

@@ -1,5 +1,5 @@
 //! What becomes of a word where its file was not opened, or not closed.
-ghost use Rattle.std.specs.Prelude.{◌≡◌, ◌≢◌, ◌⊎◌, Err};
+ghost use Rattle.std.specs.Prelude.{◌≡◌, ◌⊎◌, true, false, Err, OnOk, OnErr};
 ghost use Rattle.mx_database.specs.declared.opening.Unopened.{Unopened};
 ghost use Rattle.mx_endings.specs.Status.{stop_status};
 
@@ -9,8 +9,9 @@ use mx_office::{Fault, OpenFault};
 
 /// What stops a word whose file was not opened.
 pub(crate) fn stop_of(why: Unopened) -> Stop
-    ensures stops { why ≢ Unopened.Nothing
-        → (result ≡ Stop.Open OpenFault.Memory) ⊎ (result ≡ Stop.Open OpenFault.Store) }
+    ensures memory { why ≡ Unopened.Memory → result ≡ Stop.Open OpenFault.Memory }
+    ensures store { why ≡ Unopened.Store → result ≡ Stop.Open OpenFault.Store }
+    ensures nothing { why ≡ Unopened.Nothing → result ≡ Stop.Open OpenFault.NotOurs }
     ensures status { stop_status result ≡ 5 }
 {
     match why {
@@ -22,7 +23,11 @@ pub(crate) fn stop_of(why: Unopened) -> Stop
 
 /// How a word over a file ended: the store failed where the closing did and nothing else.
 pub(crate) fn ended(worked: Worked<Result<Ending, Stop>>) -> Result<Ending, Stop>
-    ensures { (result ≡ worked.done) ⊎ (result ≡ Err (Stop.Office Fault.Store)) }
+    ensures either { (result ≡ worked.done) ⊎ (result ≡ Err (Stop.Office Fault.Store)) }
+    ensures closed { worked.is_closed ≡ true → result ≡ worked.done }
+    ensures stopped { OnErr worked.done (result ≡ worked.done) }
+    ensures unclosed { worked.is_closed ≡ false
+        → OnOk worked.done (result ≡ Err (Stop.Office Fault.Store)) }
 {
     if worked.done.is_ok() && !worked.is_closed {
         return Err(Stop::Office(Fault::Store));
