@@ -1,9 +1,10 @@
-//! The vocabulary of the records office: identifiers, days and moments, the three dimensions of use, and
-//! the exact texts of days, moments and hours.
+//! The vocabulary of the records office: identifiers, days and moments, the three dimensions of use, the
+//! categories of deferred defects, and the exact texts of days, moments and hours.
 #![tactic(auto)]
 
 pub mod amounts;
 pub mod calendar;
+pub mod category;
 pub mod days;
 pub mod identifiers;
 pub mod moments;
@@ -11,6 +12,7 @@ pub mod print;
 mod texts;
 
 pub use amounts::{Base, Left, Limit, Status, Tolerance, Use};
+pub use category::Category;
 pub use days::{Day, plus_days};
 pub use identifiers::{BadText, Doc, Kind, MelRef, Part, Position, Serial, Tail, TaskId};
 pub use moments::{Moment, MomentText, day_of};

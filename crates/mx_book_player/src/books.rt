@@ -6,14 +6,15 @@ use mx_cases::{
     Unmade, append_number, command_of, documents, listed, number_text, verdict_text, yes_or_no,
 };
 use mx_command::{Command, Item};
+use mx_entry_list::Book;
 use mx_lists::life_list_of;
-use mx_plain::Book;
+use mx_plain::Plain;
 use std::alloc::Global;
 
 // judge COMMAND: the verdict on it, where nothing is entered.
 fn judge(alloc: Global, book: &Book, words: &[&str]) -> Result<String, Unmade> {
     let command = command_of(alloc, words)?;
-    Ok(verdict_text(alloc, &book.judge(&command))?)
+    Ok(verdict_text(alloc, &Plain { book }.judge(&command))?)
 }
 
 // copied judge COMMAND: the verdict of a copy of the book.
@@ -67,8 +68,8 @@ fn life_of(alloc: Global, life: Option<Use>) -> Result<String, Unmade> {
 // life TAIL [MOMENT], component-life SERIAL [MOMENT]: the life of an item, now or up to a moment.
 fn life(alloc: Global, book: &Book, item: &Item, until: &[&str]) -> Result<String, Unmade> {
     match until {
-        [] => life_of(alloc, book.life_now(item)),
-        [moment] => life_of(alloc, book.life(item, Moment::read(moment)?)),
+        [] => life_of(alloc, Plain { book }.life_now(item)),
+        [moment] => life_of(alloc, Plain { book }.life(item, Moment::read(moment)?)),
         _ => Err(Unmade::NoSuchLine),
     }
 }

@@ -2,14 +2,17 @@
 
 use mx_base::{Day, Tail};
 use mx_cases::{Unmade, append_joined, listed, or_none};
+use mx_entry_list::Book;
 use mx_lists::limits_of;
-use mx_plain::Book;
+use mx_plain::Plain;
 use std::alloc::Global;
 
 // open-defects TAIL: the documents of the open defects, in the order of their entries.
 fn open_defects(alloc: Global, book: &Book, tail: &str) -> Result<String, Unmade> {
     let mut text = String::new(alloc);
-    for defect in book.open_defects(alloc, &Tail::read(tail)?)?.iter() {
+    let tail = Tail::read(tail)?;
+    let defects = Plain { book }.open_defects(alloc, &tail)?;
+    for defect in defects.iter() {
         append_joined(&mut text, defect.doc.as_str())?;
     }
     Ok(or_none(text)?)

@@ -4,7 +4,8 @@ use crate::{books, calendar, commands, defects, dues, identifiers};
 use mx_book::{Reply, Verdict};
 use mx_cases::{Plays, Unmade, answer_of, command_of, reply_in, room_for_reply, verdict_text};
 use mx_command::Command;
-use mx_plain::Book;
+use mx_entry_list::Book;
+use mx_plain::Plain;
 use std::alloc::{AllocError, Global};
 
 /// A book in memory.
@@ -33,7 +34,8 @@ impl BookPlayer {
     // Judges a command, and enters it where it is new.
     fn hand_in(&mut self, command: Command) -> Result<String, Unmade> {
         let room = room_for_reply(self.alloc)?;
-        match self.book.judge(&command) {
+        let verdict = Plain { book: &self.book }.judge(&command);
+        match verdict {
             Verdict::New => match self.book.enter(command) {
                 Ok(seq) => Ok(reply_in(room, self.alloc, &Reply::Accepted(seq))?),
                 Err(_) => Err(Unmade::Memory),

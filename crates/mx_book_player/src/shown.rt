@@ -1,11 +1,11 @@
 //! Commands as text: what their accessors show.
 
 use crate::tasks::append_task;
-use mx_base::{Day, Moment, Part, Position, Use, print_day};
+use mx_base::{Category, Day, Moment, Part, Position, Use, print_day};
 use mx_cases::{append_number, append_word, begin_print, printed};
 use mx_command::{
-    Aircraft, Category, Command, Component, Deferral, Extension, Fitting, Item, Line, Opening,
-    Place, Programme, Release, Removal, Sector,
+    Aircraft, Command, Component, Deferral, Extension, Fitting, Item, Line, Opening, Place,
+    Programme, Release, Removal, Sector,
 };
 use std::alloc::{AllocError, Global};
 

@@ -2,9 +2,11 @@
 
 use crate::programmes::programme_of;
 use crate::releases::release_of;
-use mx_base::{BadText, Day, Doc, Kind, MelRef, Moment, Part, Position, Serial, Tail, TaskId, Use};
-use mx_command::{Body, Category, Command, Item, MakeFault};
-use mx_plain::NoMemory;
+use mx_base::{
+    BadText, Category, Day, Doc, Kind, MelRef, Moment, Part, Position, Serial, Tail, TaskId, Use,
+};
+use mx_command::{Body, Command, Item, MakeFault};
+use mx_entry_list::NoMemory;
 use std::alloc::{AllocError, AllocFailed, Global};
 use std::num::ParseIntError;
 

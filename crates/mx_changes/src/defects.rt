@@ -11,7 +11,8 @@ ghost use Rattle.mx_changes.specs.Rows.{AreCommandRows, IsEntryOf, totals_before
 use crate::plain::{none_added, none_changed};
 use crate::rows::CommandRows;
 use crate::totals::clocked_totals;
-use mx_command::{Category, Deferral, Extension};
+use mx_base::Category;
+use mx_command::{Deferral, Extension};
 use mx_register::{deferral_row, extension_row};
 use mx_typed_rows::{EntryRow, TotalRow};
 use std::alloc::{AllocError, Global};

@@ -20,7 +20,7 @@ use Rattle.mx_kept.specs.Kept.{over}
 use Rattle.mx_kept.specs.Schemas.{permanent, own_1, own_2, own_moving, HasBehind, HasOwn1}
 use Rattle.mx_chosen.specs.Choices.{backward}
 use Rattle.mx_chosen.specs.Lookups.{FindsFirst, Finds, Deletes}
-use Rattle.mx_chosen.specs.Texts.{sector2_by_seq, by_value, by_values, open_by, open_spans_by_component, open_spans_by_aircraft, up_to, any_row, entry_by_seq, entry_by_doc, aircraft_by_seq, aircraft_by_tail, place_by_seq, component_by_seq, component_by_serial, programme_by_seq, programme_by_kind, task_by_seq, opening_by_seq, crs_by_seq, crs_line_by_seq, crs_line_by_defect, defect_by_seq, defect_by_aircraft, extension_by_seq, extension_by_defect, span2_by_fit_seq, span2_by_component, span2_by_aircraft, span2_by_remove_seq, total2_by_item, base2_by_item_and_task, last_entry, sector1_gone, fit1_gone, span2_gone, total2_gone, base2_gone}
+use Rattle.mx_chosen.specs.Texts.{sector2_by_seq, by_value, by_values, open_by, open_spans_by_component, open_spans_by_aircraft, up_to, any_row, entry_by_seq, entry_by_doc, aircraft_by_seq, aircraft_by_tail, place_by_seq, component_by_seq, component_by_serial, programme_by_seq, programme_by_kind, task_by_seq, opening_by_seq, crs_by_seq, crs_line_by_seq, crs_line_by_defect, defect_by_seq, defect_by_aircraft, extension_by_seq, extension_by_defect, span2_by_fit_seq, span2_by_component, span2_by_aircraft, span2_by_remove_seq, total2_by_item, base2_by_item_and_task, last_entry, sector1_gone, fit1_gone}
 use Rattle.mx_chosen.proofs.LookupLemmas.{Chooses, Drops, given_at, first_found, last_found, two_found, deleted, either_finds, either_deletes}
 use Rattle.mx_chosen.proofs.EqualLemmas.{one_equal, two_equal, missing}
 
@@ -182,18 +182,3 @@ fit1_gone_in own at there texts = deleted (over kept_fit1 (HasBehind own)) own (
 pub fit1_gone_deletes : Deletes kept_fit1 fit1_gone (by_value 1)
 unfolding understood everything
 fit1_gone_deletes = either_deletes kept_fit1 HasOwn1 (HasBehind own_moving) fit1_gone (by_value 1) (fit1_gone_in own_1 13 (λ _ _. refl) (λ _ _. (refl, (refl, refl)))) (fit1_gone_in own_moving 12 (λ _ _. refl) (λ _ _. (refl, (refl, refl))))
-
-pub span2_gone_deletes : Deletes kept_span2 span2_gone (by_value 0)
-unfolding understood everything
-span2_gone_deletes =
-    either_deletes kept_span2 (HasBehind own_moving) (HasBehind (sector2 ∷ span2 ∷ [])) span2_gone (by_value 0)
-    (deleted (over kept_span2 (HasBehind own_moving)) own_moving (λ _ has. has) span2_gone (given_at Eq span2 0 0 ∷ []) (by_value 0) (λ _. refl) (λ _ _. one_equal _ _ refl) 15 (λ _ _. refl) (λ _ _. (refl, (refl, refl))))
-    (deleted (over kept_span2 (HasBehind (sector2 ∷ span2 ∷ []))) (sector2 ∷ span2 ∷ []) (λ _ has. has) span2_gone (given_at Eq span2 0 0 ∷ []) (by_value 0) (λ _. refl) (λ _ _. one_equal _ _ refl) 13 (λ _ _. refl) (λ _ _. (refl, (refl, refl))))
-
-pub total2_gone_deletes : Deletes kept_total2 total2_gone (by_value 0)
-unfolding understood everything
-total2_gone_deletes = deleted kept_total2 (sector2 ∷ span2 ∷ total2 ∷ []) (λ _ has. has) total2_gone (given_at Eq total2 0 0 ∷ []) (by_value 0) (λ _. refl) (λ _ _. one_equal _ _ refl) 14 (λ _ _. refl) (λ _ _. (refl, (refl, refl)))
-
-pub base2_gone_deletes : Deletes kept_base2 base2_gone (by_values 0 1)
-unfolding understood everything
-base2_gone_deletes = deleted kept_base2 own_2 (λ _ has. has) base2_gone (given_at Eq base2 0 0 ∷ given_at Eq base2 1 1 ∷ []) (by_values 0 1) (λ _. refl) (λ _ _. two_equal _ _ _ refl) 15 (λ _ _. refl) (λ _ _. (refl, (refl, refl)))

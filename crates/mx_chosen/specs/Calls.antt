@@ -15,7 +15,7 @@ use Rattle.mx_kept.specs.Kept.{Kept}
 use Rattle.mx_kept.specs.Family.{IsReadableAs}
 use Rattle.mx_tables.specs.Calls.{OnRead}
 use Rattle.sqlite.specs.declared.types.Value.{Value}
-use Rattle.mx_chosen.specs.Choices.{has_value, AreFirst, Loses, Replaces}
+use Rattle.mx_chosen.specs.Choices.{has_value, AreFirst, Loses}
 
 -- between these states the text, with these values, shows the first so many of the rows that are chosen, in this order, and changes nothing
 pub record ShowsFirst (text : List ℕ) (values : Row) (most : Option ℕ) (table : Table) (order : Row → Row → Ordering) (chosen : Row → Bool) (old new : State) : Type 0 where
@@ -43,13 +43,6 @@ ReadsBy k at value old new result = ReadsFirst k None k.order (has_value at valu
 -- the chosen rows of a table were deleted, and nothing else; or want of memory or the store stopped the call
 pub record DeletesRows {X V : Type 0} (k : Kept X) (chosen : Row → Bool) (old new : State) (result : Result V TableFault) : Type 0 where
   pub loses : HasCleanDisk new → IsTrue old.in_transaction → k.IsIn old.now.schema → HasNoReferences old.now.schema → Rises (table_named k.name) old.now.trees → OnOk result (Loses (table_named k.name) chosen old.now new.now)
-  pub cause : IfErr result (λ e. (e ≡ Memory) ⊎ (e ≡ Store))
-  pub inside : HasCleanDisk new → IsTrue old.in_transaction → OnOk result (StaysInside old new)
-  pub within : IsWithin old new
-
--- the table has the one row in place of those that are chosen, and nothing else changed; or want of memory or the store stopped the call
-pub record ReplacesRows {X V : Type 0} (k : Kept X) (chosen : Row → Bool) (x : X) (old new : State) (result : Result V TableFault) : Type 0 where
-  pub replaces : HasCleanDisk new → IsTrue old.in_transaction → k.IsIn old.now.schema → HasNoReferences old.now.schema → Rises (table_named k.name) old.now.trees → OnOk result (Replaces (table_named k.name) chosen (k.as_cells x) old.now new.now)
   pub cause : IfErr result (λ e. (e ≡ Memory) ⊎ (e ≡ Store))
   pub inside : HasCleanDisk new → IsTrue old.in_transaction → OnOk result (StaysInside old new)
   pub within : IsWithin old new

@@ -124,12 +124,3 @@ sector1_gone = codes "DELETE FROM sector1 WHERE seq <= ?1"
 
 abbrev pub fit1_gone : List ℕ
 fit1_gone = codes "DELETE FROM fit1 WHERE component = ?1"
-
-abbrev pub span2_gone : List ℕ
-span2_gone = codes "DELETE FROM span2 WHERE fit_seq = ?1"
-
-abbrev pub total2_gone : List ℕ
-total2_gone = codes "DELETE FROM total2 WHERE item = ?1"
-
-abbrev pub base2_gone : List ℕ
-base2_gone = codes "DELETE FROM base2 WHERE item = ?1 AND task = ?2"

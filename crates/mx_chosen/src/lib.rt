@@ -1,5 +1,5 @@
-//! Rows of a table that are chosen by what stands in their columns: read in the order of the key, deleted,
-//! and replaced. Each call is made inside a `Transaction`, which the caller commits or drops.
+//! Rows of a table that are chosen by what stands in their columns: read in the order of the key, and deleted. Each call is
+//! made inside a `Transaction`, which the caller commits or drops.
 #![tactic(auto)]
 
 pub mod changes;

@@ -1,7 +1,11 @@
 //! The program `office`.
 #![tactic(auto)]
 
+mod performing;
+mod serving;
+
 use mx_words::run_words;
+use performing::Jobs;
 use std::io::Write;
 use std::process::ExitCode;
 use std::{env, io};
@@ -16,7 +20,13 @@ fn words_of(rt: &HostRuntime) -> io::Result<Vec<String>> {
 
 fn main(rt: HostRuntime) -> ExitCode {
     let status = match words_of(&rt) {
-        Ok(words) => run_words(&rt, words.as_slice(), &mut rt.stdout(), &mut rt.stderr()),
+        Ok(words) => run_words(
+            &rt,
+            &Jobs,
+            words.as_slice(),
+            &mut rt.stdout(),
+            &mut rt.stderr(),
+        ),
         Err(_) => {
             let _ = rt.stderr().write_all(b"fault memory\n");
             NOT_OPENED

@@ -15,8 +15,8 @@ use Rattle.mx_command.specs.Same.{same_act, same_entry, same_text, same_position
 use Rattle.mx_command.specs.declared.body.Body.{Body}
 use Rattle.mx_command.specs.declared.body.Body.TheVariants as bodies
 use Rattle.mx_command.specs.declared.aircraft.Aircraft.{Aircraft}
-use Rattle.mx_command.specs.declared.deferral.Category.{Category}
-use Rattle.mx_command.specs.declared.deferral.Category.TheVariants as categories
+use Rattle.mx_base.specs.declared.category.Category.{Category}
+use Rattle.mx_base.specs.declared.category.Category.TheVariants as categories
 use Rattle.mx_command.specs.declared.deferral.Deferral.{Deferral}
 use Rattle.mx_command.specs.declared.item.Item.{Item}
 use Rattle.mx_command.specs.declared.item.Item.TheVariants as items
@@ -34,7 +34,7 @@ use Rattle.mx_command.specs.declared.sector.Sector.{Sector}
 use Rattle.mx_command.specs.contracts.body.BodyPartialEq.TheImpl as body
 use Rattle.mx_command.specs.contracts.sector.SectorPartialEq.TheImpl as sector
 use Rattle.mx_command.specs.contracts.aircraft.AircraftPartialEq.TheImpl as aircraft
-use Rattle.mx_command.specs.contracts.deferral.CategoryPartialEq.TheImpl as category
+use Rattle.mx_base.specs.contracts.category.CategoryPartialEq.TheImpl as category
 use Rattle.mx_command.specs.contracts.deferral.DeferralPartialEq.TheImpl as deferral
 use Rattle.mx_command.specs.contracts.item.ItemPartialEq.TheImpl as item
 use Rattle.mx_command.specs.contracts.opening.OpeningPartialEq.TheImpl as opening

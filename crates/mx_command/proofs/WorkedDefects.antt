@@ -5,8 +5,8 @@ use Rattle.std.specs.List.{list_all, list_any, flat_map}
 use Rattle.mx_command.specs.Act.{Act, Deferred, Extended, aircraft_of, positions_of, component_of, programme_of, tasks_of, opening_of, sector_of, fitting_of, removal_of, release_of, lines_of, deferral_of, extension_of}
 use Rattle.mx_command.specs.Same.{same_act}
 use Rattle.mx_command.specs.Shape.{has_shape, sector_entry, is_sector_shaped}
-use Rattle.mx_command.specs.declared.deferral.Category.{Category}
-use Rattle.mx_command.specs.declared.deferral.Category.TheVariants.{A, B, C, D}
+use Rattle.mx_base.specs.declared.category.Category.{Category}
+use Rattle.mx_base.specs.declared.category.Category.TheVariants.{A, B, C, D}
 use Rattle.mx_command.specs.declared.item.Item.TheVariants as items
 use Rattle.mx_command.specs.declared.release.Line.TheVariants.{Done, Rectified}
 use Rattle.mx_command.proofs.Worked.{abcd, command}

@@ -7,8 +7,8 @@ use Rattle.mx_base.specs.declared.amounts.Use.{Use}
 use Rattle.mx_base.specs.declared.amounts.Limit.{Limit}
 use Rattle.mx_base.specs.declared.amounts.Tolerance.{Tolerance}
 use Rattle.mx_command.specs.Act.{Act, Entry, Added, Listed, Loaded, Opened, Flown, Fitted, Removed, Released, Deferred, Extended}
-use Rattle.mx_command.specs.declared.deferral.Category.{Category}
-use Rattle.mx_command.specs.declared.deferral.Category.TheVariants.{A, B, C, D}
+use Rattle.mx_base.specs.declared.category.Category.{Category}
+use Rattle.mx_base.specs.declared.category.Category.TheVariants.{A, B, C, D}
 use Rattle.mx_command.specs.declared.item.Item.{Item}
 use Rattle.mx_command.specs.declared.item.Item.TheVariants as items
 use Rattle.mx_command.specs.declared.programme.Applies.{Applies}

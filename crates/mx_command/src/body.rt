@@ -2,11 +2,12 @@
 ghost use Rattle.std.specs.Prelude.{◌≡◌, IfOk};
 ghost use Rattle.mx_command.specs.Act.{act_of};
 
-use crate::deferral::Category;
 use crate::item::Item;
 use crate::programme::Task;
 use crate::release::{Line, Place};
-use mx_base::{Day, Doc, Kind, MelRef, Moment, Part, Position, Serial, Tail, TaskId, Use};
+use mx_base::{
+    Category, Day, Doc, Kind, MelRef, Moment, Part, Position, Serial, Tail, TaskId, Use,
+};
 use std::alloc::{AllocError, Global};
 
 /// What a command says, a variant for each kind of command.

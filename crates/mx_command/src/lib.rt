@@ -23,7 +23,7 @@ pub use aircraft::Aircraft;
 pub use body::Body;
 pub use command::{Command, MakeFault};
 pub use component::Component;
-pub use deferral::{Category, Deferral, Extension};
+pub use deferral::{Deferral, Extension};
 pub use document::is_of_log;
 pub use fitting::{Fitting, Removal};
 pub use item::Item;

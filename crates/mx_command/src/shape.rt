@@ -6,9 +6,8 @@ ghost use Rattle.mx_command.specs.Bounds.{are_distinct, within};
 ghost use Rattle.mx_command.specs.Shape.{act_shape, category_shape, opening_shape, positions_shape, same_name, use_shape};
 
 use crate::body::Body;
-use crate::deferral::Category;
 use crate::programme::Programme;
-use mx_base::{Day, Moment, Part, Position, Use, day_of};
+use mx_base::{Category, Day, Moment, Part, Position, Use, day_of};
 
 /// The most flight minutes that an item may bring with it.
 pub const MOST_OPENING_MINUTES: u32 = 100_000_000;

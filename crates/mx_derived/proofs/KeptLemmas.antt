@@ -21,7 +21,7 @@ use Rattle.mx_typed_rows.specs.declared.rows.ReleaseLineRow.{ReleaseLineRow}
 use Rattle.mx_register.specs.Left.{all_rows}
 use Rattle.mx_register.specs.Names.{item_at}
 use Rattle.mx_register.specs.Registers.{opening_rows, release_line_rows}
-use Rattle.mx_indexed.specs.Maps.{held}
+use Rattle.mx_indexes.specs.Maps.{held}
 use Rattle.mx_kept_rows.specs.Bases.{base_row, base_rows, is_keyed}
 use Rattle.mx_kept_rows.proofs.DoneLemmas.{both}
 use Rattle.mx_merged.specs.Keys.{AreKeys, key_cmp}

@@ -9,9 +9,9 @@ ghost use Rattle.mx_merged.specs.Keys.{AreKeys};
 ghost use Rattle.mx_derived.specs.Kept.{AreBasesAt, base_row_at, key_certified, key_stated};
 
 use mx_base::{Base, Day, TaskId, Use};
+use mx_entry_list::NoMemory;
 use mx_indexed::IndexedBook;
-use mx_indexed::maps::held;
-use mx_plain::NoMemory;
+use mx_indexes::maps::held;
 use mx_plain_register::item_of_entry;
 use mx_typed_rows::{BaseRow, OpeningRow, ReleaseLineRow};
 use std::alloc::Global;

@@ -5,7 +5,7 @@ use crate::database_lines::answer_of_database;
 use crate::office_lines::answer_of_office;
 use crate::texts::append_open_fault;
 use mx_cases::{Asked, Unmade};
-use mx_kept_lines::room;
+use mx_fault_texts::room;
 use mx_move_lines::answer_of_install;
 use mx_office::{Office, OpenFault, open_office};
 use sqlite::{Alter, Connection};

@@ -5,7 +5,8 @@ use crate::calls::{created, created_old};
 use crate::queries::{asked, tables};
 use crate::texts::append_error;
 use mx_cases::{Unmade, append_word};
-use mx_kept_lines::{answer_of_kept_rows, append_table_fault, room};
+use mx_fault_texts::{append_table_fault, room};
+use mx_kept_lines::answer_of_kept_rows;
 use mx_layout::{TableFault, point};
 use mx_move_lines::answer_of_step;
 use mx_row_lines::{

@@ -5,7 +5,7 @@ use crate::files::{
 };
 use crate::texts::append_error;
 use mx_cases::{Asked, Disks, Setting, Unmade};
-use mx_kept_lines::room;
+use mx_fault_texts::room;
 use mx_office::Office;
 use std::alloc::{AllocError, Global};
 

@@ -3,7 +3,7 @@
 
 use mx_book::Reply;
 use mx_cases::{Unmade, append_joined, or_none, replies_in, room_for_replies};
-use mx_kept_lines::{append_damaged, room};
+use mx_fault_texts::{append_damaged, room};
 use mx_office::{Ask, Fault, OpenFault};
 use sqlite::{Constraint, Error, ErrorCode};
 use std::alloc::{AllocError, Global};

@@ -3,7 +3,7 @@ ghost use Rattle.std.specs.Prelude.{◌≡◌, ℕ, OnOk};
 ghost use Rattle.mx_typed_rows.specs.Rows.{line_key, place_key, release_line_key, task_key};
 ghost use Rattle.mx_file_rows.specs.Sorted.{ArePut};
 
-use mx_plain::NoMemory;
+use mx_entry_list::NoMemory;
 use mx_typed_rows::{
     AircraftRow, ComponentRow, DeferralRow, EntryRow, ExtensionRow, OpeningRow, PlaceRow,
     ProgrammeRow, ReleaseLineRow, ReleaseRow, RemovalRow, SectorRow, SpanRow, TaskRow, TotalRow,

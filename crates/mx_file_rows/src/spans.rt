@@ -8,7 +8,7 @@ ghost use Rattle.mx_file_rows.specs.Sorted.{ArePut};
 ghost use Rattle.mx_file_rows.specs.Spans.{HasPut, IsLastBehind, span_by, spans_made};
 
 use crate::sorted::sort_rows;
-use mx_plain::NoMemory;
+use mx_entry_list::NoMemory;
 use mx_typed_rows::{FittingRow, RemovalRow, SpanRow};
 use std::alloc::Global;
 use std::collections::BTreeMap;

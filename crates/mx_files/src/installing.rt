@@ -1,8 +1,8 @@
 //! `init-old` over a file.
 ghost use Rattle.std.specs.Prelude.{◌≡◌, ◌≤◌, ◌++◌, [], IfOk, IfErr, OnErr};
 ghost use Rattle.mx_files.specs.Answered.{TellsNothing};
-ghost use Rattle.mx_upkeep.specs.Entered.{TellsReplies};
-ghost use Rattle.mx_upkeep.specs.Installed.{AreFirstReplies, HasAppended};
+ghost use Rattle.mx_printed.specs.Entered.{AreFirstReplies, TellsReplies};
+ghost use Rattle.mx_upkeep.specs.Installed.{HasAppended};
 ghost use Rattle.mx_endings.specs.Status.{LeavesUnread, Shows, stop_status};
 
 use crate::inputs::commands_in;
@@ -10,8 +10,8 @@ use crate::opening::stop_of;
 use mx_command::Command;
 use mx_database::{Work, Worked, work_in_new_file};
 use mx_endings::{Ending, Stop};
+use mx_entry_list::Book;
 use mx_layout::TableFault;
-use mx_plain::Book;
 use mx_upkeep::{Accepted, accept_all, install_book, print_accepted};
 use sqlite::{Alter, Connection};
 

@@ -1,7 +1,7 @@
 //! `migrate` over a file.
 ghost use Rattle.std.specs.Prelude.{◌≡◌, ◌≤◌, IfOk, IfErr};
 ghost use Rattle.mx_files.specs.Answered.{Answers};
-ghost use Rattle.mx_upkeep.specs.Moved.{IsPointLine};
+ghost use Rattle.mx_printed.specs.Moved.{IsPointLine};
 ghost use Rattle.mx_endings.specs.Status.{LeavesUnread, Shows, stop_status};
 
 use crate::opening::{ended, stop_of};

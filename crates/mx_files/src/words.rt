@@ -1,17 +1,19 @@
 //! The words that ask the office in a file.
 ghost use Rattle.std.specs.Prelude.{◌≤◌, length, IfOk, IfErr};
-ghost use Rattle.mx_upkeep.specs.Entered.{AreReplyLines, AreSomeReplyLines};
-ghost use Rattle.mx_jobs.specs.Imported.{AreRowLines};
-ghost use Rattle.mx_jobs.specs.Printed.{IsListAnswer};
+ghost use Rattle.mx_printed.specs.Entered.{AreReplyLines, AreSomeReplyLines};
+ghost use Rattle.mx_printed.specs.Imported.{AreRowLines};
+ghost use Rattle.mx_printed.specs.Listed.{IsListAnswer};
 ghost use Rattle.mx_endings.specs.Status.{LeavesUnread, Shows, stop_status};
-ghost use Rattle.mx_jobs.specs.Verified.{IsVerifiedLine};
+ghost use Rattle.mx_printed.specs.Verified.{IsVerifiedLine};
 
 use crate::asking::{Asked, answer_file};
 use crate::inputs::{UNOPENED, commands_in, programme_in};
+use mx_answers::print_list;
 use mx_base::Doc;
 use mx_command::Command;
 use mx_endings::{Ending, Stop};
-use mx_jobs::{enter_all, import_all, print_list, print_verified};
+use mx_import::import_all;
+use mx_jobs::{enter_all, print_verified};
 use mx_office::Office;
 use mx_questions::Question;
 use sqlite::Alter;

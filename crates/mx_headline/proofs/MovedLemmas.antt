@@ -3,8 +3,8 @@ use Rattle.std.proofs.Common.{◌≡◌, ℕ, zero, suc, List, None, Some, refl,
 use Rattle.sqlite.specs.State.{State}
 use Rattle.sqlite.specs.Tree.{Trees}
 use Rattle.mx_command.specs.Act.{Entry}
-use Rattle.mx_layout.specs.Found.{IsFound}
-use Rattle.mx_layout.proofs.FoundLemmas.{rests_found}
+use Rattle.mx_power.specs.Found.{IsFound}
+use Rattle.mx_power.proofs.FoundLemmas.{rests_found}
 use Rattle.mx_point.specs.declared.point.Point.{Point}
 use Rattle.mx_points.specs.Commits.{point_behind}
 use Rattle.mx_points.specs.Points.{next_point}

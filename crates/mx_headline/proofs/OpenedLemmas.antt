@@ -16,9 +16,9 @@ use Rattle.mx_points.specs.Commits.{point_behind}
 use Rattle.mx_points.specs.Points.{next_point}
 use Rattle.mx_points.proofs.CommitLemmas.{commit_counts}
 use Rattle.mx_layout.specs.Crash.{Leaves, RestsAs}
-use Rattle.mx_layout.specs.Found.{IsEndOf, IsFound}
+use Rattle.mx_power.specs.Found.{IsEndOf, IsFound}
 use Rattle.mx_layout.proofs.CrashLemmas.{rests_kept}
-use Rattle.mx_layout.proofs.FoundLemmas.{rests_found}
+use Rattle.mx_power.proofs.FoundLemmas.{rests_found}
 use Rattle.mx_settle.specs.Place.{IsPlacedAt, SaysAt}
 use Rattle.mx_stands.specs.Schemas.{IsOfFile, schema_at}
 use Rattle.mx_stands.specs.Stands.{RestsAt, StandsAt}

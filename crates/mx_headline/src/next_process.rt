@@ -7,7 +7,7 @@ ghost use Rattle.sqlite_trees.specs.View.{IsClean};
 ghost use Rattle.sqlite_wal.specs.Files.{image_at};
 ghost use Rattle.mx_command.specs.Act.{Entry};
 ghost use Rattle.mx_point.specs.declared.point.Point.{Point};
-ghost use Rattle.mx_layout.specs.Found.{WasLeft};
+ghost use Rattle.mx_power.specs.Found.{WasLeft};
 ghost use Rattle.mx_stands.specs.Schemas.{IsOfFile};
 ghost use Rattle.mx_stands.specs.Stands.{RestsAt};
 ghost use Rattle.mx_office.specs.Calls.{IsRun};
@@ -19,8 +19,8 @@ ghost use Rattle.mx_headline.specs.Reopened.{GoesOn, IsStopOf, KeepsUnopened, Re
 use crate::running::{Reopened, Stopped, Unopened, print_due};
 use mx_base::{Day, Tail};
 use mx_command::Command;
-use mx_layout::{end_process, reopen_file};
 use mx_office::{Fault, Office, OpenFault, Outcomes, open_office};
+use mx_power::{end_process, reopen_file};
 use sqlite::{Connection, FileFrom, FileStore};
 use sqlite_disk::{Disk, Start};
 use std::alloc::Global;

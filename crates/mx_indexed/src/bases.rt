@@ -9,7 +9,7 @@ ghost use Rattle.mx_book.specs.Life.{life_now, use_or_none};
 ghost use Rattle.mx_book.specs.Programme.{kind_at, task_at};
 ghost use Rattle.mx_kept_rows.specs.Bases.{base_reached, stated_base};
 ghost use Rattle.mx_kept_rows.specs.Changes.{due_at};
-ghost use Rattle.mx_indexed.specs.Work.{bases_set, line_base};
+ghost use Rattle.mx_indexes.specs.Work.{bases_set, line_base};
 
 use crate::indexed_book::IndexedBook;
 use mx_base::{Base, Kind, Limit, TaskId, Use, day_of};

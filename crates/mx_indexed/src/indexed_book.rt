@@ -12,18 +12,18 @@ ghost use Rattle.mx_book.specs.Life.{clock, life_now};
 ghost use Rattle.mx_book.specs.Programme.{is_accomplished, is_at_end, life_ended, next_revision, tasks_in_force};
 ghost use Rattle.mx_book.specs.Register.{aircraft, component, found_of, has_room_for_aircraft, has_room_for_component, part_at};
 ghost use Rattle.mx_book.specs.Span.{is_taken, tail_fitted};
-ghost use Rattle.mx_indexed.specs.Programmes.{programme_entry};
+ghost use Rattle.mx_indexes.specs.Programmes.{programme_entry};
 
 use crate::bases::bases_set;
-use crate::indexes::Indexes;
-use crate::maps::held;
-use crate::programmes::{one_retires, revision_after, task_named, tasks_loaded};
 use mx_base::{Base, Day, Doc, Kind, Moment, Part, Position, Serial, Tail, TaskId, Use};
 use mx_book::found::Found;
 use mx_book::limits::{MOST_AIRCRAFT, MOST_COMPONENTS};
 use mx_book::{Defect, Verdict};
 use mx_command::{Aircraft, Command, Component, Extension, Item, Task};
-use mx_plain::{Book, NoMemory};
+use mx_entry_list::{Book, NoMemory};
+use mx_indexes::indexes::Indexes;
+use mx_indexes::maps::held;
+use mx_indexes::programmes::{one_retires, revision_after, task_named, tasks_loaded};
 use std::alloc::Global;
 use std::marker::Model;
 
@@ -39,7 +39,7 @@ pub struct IndexedBook {
 impl Model for IndexedBook {
     ghost use Rattle.std.specs.Prelude.{List};
     ghost use Rattle.mx_command.specs.Act.{Entry};
-    ghost use Rattle.mx_indexed.specs.Indexed.{AreIndexes};
+    ghost use Rattle.mx_indexes.specs.Indexed.{AreIndexes};
 
     ghost Value = { List Entry };
 
@@ -167,7 +167,7 @@ impl IndexedBook {
     }
 
     /// Whether the task of an item was accomplished.
-    #[tactic(auto, using(crate::proofs::WorkLemmas::accomplished))]
+    #[tactic(auto, using(mx_indexes::proofs::WorkLemmas::accomplished))]
     pub fn is_accomplished(&self, item: &Item, id: &TaskId) -> bool
         ensures { result ≡ is_accomplished self.now item.now id.now }
     {

@@ -16,18 +16,8 @@
 #![tactic(auto)]
 
 pub mod bases;
-mod clocks;
-mod counts;
 pub mod indexed;
 pub mod indexed_book;
-mod indexes;
-mod lives;
-pub mod maps;
-mod places;
-mod positions;
-mod programmes;
-mod registers;
-mod work;
 
 pub use indexed::Indexed;
 pub use indexed_book::IndexedBook;

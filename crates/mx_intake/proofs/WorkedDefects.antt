@@ -2,8 +2,8 @@
 use Rattle.std.proofs.Common.{refl, ◌≡◌, ℕ, List, [], ◌∷◌, ◌++◌, Ok, Err}
 use Rattle.std.specs.Prelude.{codes, Result}
 use Rattle.mx_command.specs.Act.{Entry, Deferred, Extended}
-use Rattle.mx_command.specs.declared.deferral.Category.{Category}
-use Rattle.mx_command.specs.declared.deferral.Category.TheVariants.{A, B, C, D}
+use Rattle.mx_base.specs.declared.category.Category.{Category}
+use Rattle.mx_base.specs.declared.category.Category.TheVariants.{A, B, C, D}
 use Rattle.mx_intake.specs.declared.fault.IntakeFault.{IntakeFault}
 use Rattle.mx_intake.specs.Fault.{fault}
 use Rattle.mx_intake.specs.Entries.{entries_of_text}

@@ -5,8 +5,8 @@ use Rattle.std.specs.Str.{bytes_eq}
 use Rattle.serde_json.specs.Data.{Data}
 use Rattle.serde_json.specs.Find.{get}
 use Rattle.mx_command.specs.Act.{Entry, Deferred, Extended}
-use Rattle.mx_command.specs.declared.deferral.Category.{Category}
-use Rattle.mx_command.specs.declared.deferral.Category.TheVariants.{A, B, C, D}
+use Rattle.mx_base.specs.declared.category.Category.{Category}
+use Rattle.mx_base.specs.declared.category.Category.TheVariants.{A, B, C, D}
 use Rattle.mx_intake.specs.Form.{if_read, if_keys_agree, entry_by_form}
 use Rattle.mx_intake.specs.Keys.{is_key, if_there}
 use Rattle.mx_intake.specs.Object.{lacks_key, has_other_key, number_of, number_at_key, text_at_key}

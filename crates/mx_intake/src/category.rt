@@ -5,7 +5,7 @@ ghost use Rattle.mx_intake.specs.Defects.{names_category, lacks_days, states_oth
 
 use crate::keys::is_one_of;
 use crate::object::{has, number_if_there, text_at};
-use mx_command::Category;
+use mx_base::Category;
 use serde_json::Value;
 
 /// Whether the category of an object is one of these.

@@ -10,7 +10,7 @@ use Rattle.mx_office.specs.Calls.{IsRun}
 use Rattle.mx_office.specs.Office.{office_state, StandsFor}
 use Rattle.mx_office.specs.declared.office.Office.{Office}
 use Rattle.mx_reports.specs.Replies.{lines_of}
-use Rattle.mx_upkeep.specs.Entered.{TellsReplies}
+use Rattle.mx_printed.specs.Entered.{TellsReplies}
 use Rattle.mx_endings.specs.Status.{run_ending}
 use Rattle.mx_endings.specs.declared.ending.Ending.{Ending}
 

@@ -1,6 +1,1 @@
 pub mod EnteredLemmas
-pub mod QuestionLemmas
-pub mod TrialLemmas
-mod WorkedEndings
-mod WorkedFile
-mod WorkedTrial

@@ -1,4 +1,1 @@
-pub mod Imported
-pub mod Printed
-pub mod Tried
 pub mod Verified

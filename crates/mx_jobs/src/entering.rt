@@ -3,13 +3,13 @@ ghost use Rattle.std.specs.Prelude.{◌≡◌, length, IfOk, IfErr};
 ghost use Rattle.sqlite.specs.State.{HasCleanDisk};
 ghost use Rattle.mx_office.specs.Calls.{Runs};
 ghost use Rattle.mx_office.specs.Office.{office_state, StandsFor};
-ghost use Rattle.mx_upkeep.specs.Entered.{AreReplyLines, PrintsRun, TellsReplies};
+ghost use Rattle.mx_printed.specs.Entered.{AreReplyLines, PrintsRun, TellsReplies};
 ghost use Rattle.mx_endings.specs.Status.{Shows, stop_status};
 
 use mx_command::Command;
 use mx_endings::{Ending, Stop};
 use mx_office::Office;
-use mx_upkeep::{ending_of, print_replies};
+use mx_printed::{ending_of, print_replies};
 use sqlite::Alter;
 use std::alloc::Global;
 

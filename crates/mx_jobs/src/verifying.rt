@@ -1,49 +1,18 @@
 //! Whether the tables of an open office are those of a book, as text.
-ghost use Rattle.std.specs.Prelude.{◌≡◌, ◌++◌, true, false, IfOk, IfErr, OnOk, OnErr};
+ghost use Rattle.std.specs.Prelude.{◌≡◌, IfOk, IfErr, OnErr};
 ghost use Rattle.sqlite.specs.State.{HasCleanDisk};
 ghost use Rattle.mx_office.specs.Layout.{office_point};
 ghost use Rattle.mx_office.specs.Office.{office_state, IsReady};
 ghost use Rattle.mx_stands.specs.Schemas.{HasTablesAt};
 ghost use Rattle.mx_endings.specs.Status.{Shows, stop_status};
-ghost use Rattle.mx_jobs.specs.Verified.{AsksVerified, IsVerifiedLine, PrintsVerified};
-ghost use Rattle.mx_jobs.specs.Verified.{TellsVerified, verified_ending, verified_line};
+ghost use Rattle.mx_jobs.specs.Verified.{AsksVerified, TellsVerified};
+ghost use Rattle.mx_printed.specs.Verified.{IsVerifiedLine, PrintsVerified};
 
 use mx_endings::{Ending, Stop};
 use mx_office::Office;
+use mx_printed::print_answer;
 use sqlite::Alter;
-use std::alloc::{AllocError, Global};
-
-// Appends the line of an answer.
-fn append_answer(out: &mut Vec<u8>, same: bool) -> Result<(), AllocError>
-    ensures printed { OnOk result (out.new.items ≡ out.old.items ++ verified_line same) }
-    ensures unprinted { OnErr result (out.new.items ≡ out.old.items) }
-{
-    if same {
-        out.extend_from_slice(b"verified\n")
-    } else {
-        out.extend_from_slice(b"differs\n")
-    }
-}
-
-// How the word ends by an answer.
-fn ending_of(same: bool) -> Ending
-    ensures { result ≡ verified_ending same }
-{
-    if same { Ending::Done } else { Ending::Differs }
-}
-
-// Appends the line of an answer, and tells how the word ends.
-fn print_answer(out: &mut Vec<u8>, same: bool) -> Result<Ending, Stop>
-    ensures printed { OnOk result (out.new.items ≡ out.old.items ++ verified_line same) }
-    ensures ending { IfOk result (λ ending. ending ≡ verified_ending same) }
-    ensures unprinted { OnErr result (out.new.items ≡ out.old.items) }
-    ensures memory { IfErr result (λ stop. stop ≡ Stop.Print) }
-{
-    match append_answer(out, same) {
-        Ok(()) => Ok(ending_of(same)),
-        Err(_) => Err(Stop::Print),
-    }
-}
+use std::alloc::Global;
 
 /// Appends `verified` where the tables of an office stand for a book, and there is no other table; `differs` where each row
 /// can be read and they do not. No table changes.

@@ -3,8 +3,8 @@ use Rattle.std.proofs.Common.{◌≡◌, ◌==◌, cond, ℕ, Option, Some, None
 use Rattle.sqlite.specs.Listing.{understood}
 use Rattle.sqlite_tied.specs.Compute.{everything}
 use Rattle.mx_base.proofs.RoundTrips.{moment_text_injective}
-use Rattle.mx_command.specs.declared.deferral.Category.{Category}
-use Rattle.mx_command.specs.declared.deferral.Category.TheVariants as categories
+use Rattle.mx_base.specs.declared.category.Category.{Category}
+use Rattle.mx_base.specs.declared.category.Category.TheVariants as categories
 use Rattle.mx_typed_rows.specs.declared.rows.EntryKind.{EntryKind}
 use Rattle.mx_typed_rows.specs.declared.rows.EntryKind.TheVariants as kinds
 use Rattle.mx_typed_rows.specs.declared.rows.FittingRow.{FittingRow}

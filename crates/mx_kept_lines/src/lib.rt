@@ -3,12 +3,8 @@
 //!   to the lives of items; `total ITEM`;
 //! - `done ITEM TASK MINUTES CYCLES DAY`, `base ITEM TASK`: when a task was last done on an item;
 //! - `fitted AIRCRAFT`, `end COMPONENT ENTRY MOMENT`: what is fitted; ends the span of a component.
-//!
-//! With them stand the texts of faults of tables, which other lines over a database answer too.
 #![tactic(auto)]
 
 pub mod lines;
-pub mod texts;
 
 pub use lines::answer_of_kept_rows;
-pub use texts::{append_damaged, append_table_fault, room};

@@ -2,9 +2,9 @@
 ghost use Rattle.std.specs.Prelude.{◌≡◌, false, nat_eq};
 ghost use Rattle.mx_command.specs.Bounds.{are_distinct};
 
-use crate::texts::{append_table_fault, room};
 use mx_base::{Day, Moment, TaskId, Use};
 use mx_cases::{Unmade, append_joined, or_none};
+use mx_fault_texts::{append_table_fault, room};
 use mx_layout::TableFault;
 use mx_totals::bases::{base_row, set_base};
 use mx_totals::lives::Total;

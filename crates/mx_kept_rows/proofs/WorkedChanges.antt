@@ -2,7 +2,7 @@
 use Rattle.std.proofs.Common.{refl, ◌≡◌, ℕ, length, List, [], ◌∷◌, true, false, Option, Some, None, ◌++◌}
 use Rattle.std.specs.Prelude.{codes, map}
 use Rattle.mx_command.specs.Act.{Act, Flown, Deferred}
-use Rattle.mx_command.specs.declared.deferral.Category.TheVariants.{C}
+use Rattle.mx_base.specs.declared.category.Category.TheVariants.{C}
 use Rattle.mx_command.specs.declared.item.Item.{Item}
 use Rattle.mx_command.specs.declared.item.Item.TheVariants.{Airframe, Component}
 use Rattle.mx_command.specs.declared.release.Place.TheVariants.{Aircraft, Shop}

@@ -4,7 +4,6 @@ pub mod CrashLemmas
 pub mod CreateLemmas
 pub mod DropLemmas
 pub mod FillLemmas
-pub mod FoundLemmas
 pub mod IndexLemmas
 pub mod InsideLemmas
 pub mod ListedLemmas

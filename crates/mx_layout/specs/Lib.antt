@@ -1,7 +1,6 @@
 pub mod Contents
 pub mod CreateTexts
 pub mod Crash
-pub mod Found
 pub mod Listed
 pub mod Making
 pub mod Point

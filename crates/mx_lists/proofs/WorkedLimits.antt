@@ -5,7 +5,7 @@ use Rattle.std.specs.Option.{option_map}
 use Rattle.mx_base.specs.declared.amounts.Status.{Status}
 use Rattle.mx_base.specs.declared.amounts.Status.TheVariants as statuses
 use Rattle.mx_command.specs.Act.{Entry}
-use Rattle.mx_command.specs.declared.deferral.Category.TheVariants.{A, B, D}
+use Rattle.mx_base.specs.declared.category.Category.TheVariants.{A, B, D}
 use Rattle.mx_command.specs.declared.programme.Task.{Task}
 use Rattle.mx_command.specs.declared.release.Place.TheVariants.{Aircraft}
 use Rattle.mx_book.specs.declared.verdict.Refusal.TheVariants.{ExtensionTooLong}

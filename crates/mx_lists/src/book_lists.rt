@@ -17,7 +17,8 @@ use crate::limit_list::{LimitList, list_limits};
 use crate::plain_lists::unless_no_memory;
 use mx_base::{Base, Day, Kind, Limit, Tail, TaskId};
 use mx_command::Item;
-use mx_plain::{Book, NoMemory, Plain};
+use mx_entry_list::{Book, NoMemory};
+use mx_plain::Plain;
 use std::alloc::Global;
 
 /// The point that the next due of a task of an item is counted from: that of its last accomplishment, or `None` without

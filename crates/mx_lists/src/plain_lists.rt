@@ -8,10 +8,11 @@ use crate::stop::Stop;
 use mx_base::{Base, Kind, Position, Serial, Tail, TaskId, Use};
 use mx_book::Defect;
 use mx_command::{Item, Task};
+use mx_entry_list::NoMemory;
+use mx_plain::Plain;
 use mx_plain::defects::list_open_defects;
 use mx_plain::lives::life;
 use mx_plain::programmes::tasks_of_kind;
-use mx_plain::{NoMemory, Plain};
 use std::alloc::Global;
 use std::convert::Infallible;
 

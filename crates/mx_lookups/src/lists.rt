@@ -16,14 +16,13 @@ ghost use Rattle.mx_numbers.specs.Given.{DefectsAt, DocIfOpen, DocOfNumber, Fitt
 ghost use Rattle.mx_numbers.specs.Reads.{Reads};
 ghost use Rattle.mx_numbers.specs.Told.{DefectsDamage, DocDamage, DocIfOpenDamage, FittedDamage, OpenDamage, PlacesDamage, SerialDamage, TellsDamage};
 
-use mx_base::{Doc, Position, Serial, Tail};
+use mx_base::{Category, Doc, Position, Serial, Tail};
 use mx_book::Defect;
 use mx_chosen::defects::defect_by_aircraft;
 use mx_chosen::entries::entry_by_seq;
 use mx_chosen::items::component_by_seq;
 use mx_chosen::kept::open_spans_by_aircraft;
 use mx_chosen::works::crs_line_by_defect;
-use mx_command::Category;
 use mx_found::components::serial_in;
 use mx_found::defects::{defect_said, is_rectified_in};
 use mx_found::entries::doc_in;

@@ -11,8 +11,8 @@ use Rattle.std.proofs.lemmas.List.Folds.{list_any-append}
 use Rattle.mx_command.specs.Same.{same_text}
 use Rattle.mx_typed_rows.specs.declared.rows.BaseRow.{BaseRow}
 use Rattle.mx_kept_rows.specs.Bases.{is_keyed}
-use Rattle.mx_indexed.proofs.MapLemmas.{tie}
-use Rattle.mx_indexed.proofs.PlaceLemmas.{then_eq}
+use Rattle.mx_indexes.proofs.MapLemmas.{tie}
+use Rattle.mx_indexes.proofs.PlaceLemmas.{then_eq}
 use Rattle.mx_merged.specs.Keys.{AreKeys, key_cmp}
 
 -- the order of numbers tells the same number

@@ -6,7 +6,7 @@ use Rattle.std.specs.Cmp.Lexicographic.{slice_cmp}
 use Rattle.std.specs.declared.cmp.Ordering.{Ordering}
 use Rattle.mx_typed_rows.specs.declared.rows.BaseRow.{BaseRow}
 use Rattle.mx_file_rows.specs.Bases.{has_key}
-use Rattle.mx_indexed.specs.Maps.{held}
+use Rattle.mx_indexes.specs.Maps.{held}
 
 -- the order of two numbers with names: by the number, and then by the name
 abbrev pub key_cmp : ℕ × List ℕ → ℕ × List ℕ → Ordering

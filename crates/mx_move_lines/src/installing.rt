@@ -4,17 +4,19 @@ ghost use Rattle.std.specs.Prelude.{◌≡◌, false};
 use mx_book::Verdict;
 use mx_cases::Unmade;
 use mx_command::Command;
+use mx_entry_list::Book;
+use mx_fault_texts::{append_table_fault, room};
 use mx_install::install_v1;
-use mx_kept_lines::{append_table_fault, room};
 use mx_layout::TableFault;
-use mx_plain::Book;
+use mx_plain::Plain;
 use sqlite::{Alter, Connection};
 use std::alloc::{AllocError, Global};
 
 // Enters a command where it is new.
 fn enter(alloc: Global, book: &mut Book, command: &Command) -> Result<(), AllocError> {
     let command = command.copy(alloc)?;
-    match book.judge(&command) {
+    let verdict = Plain { book }.judge(&command);
+    match verdict {
         Verdict::New => match book.enter(command) {
             Ok(_) => Ok(()),
             Err((_, _)) => Err(AllocError),

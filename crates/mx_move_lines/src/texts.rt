@@ -1,7 +1,7 @@
 //! What a step leads to, or why it was not made.
 ghost use Rattle.std.specs.Prelude.{◌≡◌, false};
 
-use mx_kept_lines::{append_damaged, room};
+use mx_fault_texts::{append_damaged, room};
 use mx_migrate::{Migrate, MoveFault, commit_step};
 use mx_point::Point;
 use sqlite::{Alter, Connection};

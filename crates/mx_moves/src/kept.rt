@@ -6,7 +6,7 @@ ghost use Rattle.mx_kept.specs.Family.{on_top};
 ghost use Rattle.mx_moves.specs.Changes.{WritesRows};
 
 use crate::prelude::*;
-use mx_tables::{Insert, Tables};
+use mx_inserts::{Insert, Tables};
 use mx_typed_rows::{BaseRow, TotalRow};
 
 /// Adds a total to `total2`.

@@ -12,7 +12,7 @@ ghost use Rattle.mx_moves.specs.Schemas.{IsFree};
 use crate::prelude::*;
 use mx_chosen::changes::delete_sector1;
 use mx_chosen::chosen::rows_chosen;
-use mx_tables::Tables;
+use mx_inserts::Tables;
 use mx_typed_rows::{Sector2Row, SectorRow};
 use std::alloc::Global;
 

@@ -4,8 +4,8 @@ use Rattle.std.specs.Prelude.{codes}
 use Rattle.sqlite.specs.declared.types.Value.{Value}
 use Rattle.sqlite.specs.declared.types.Value.TheVariants.{Int, Null, Text}
 use Rattle.mx_command.specs.Act.{Act, Entry, Released, Deferred, Extended}
-use Rattle.mx_command.specs.declared.deferral.Category.{Category}
-use Rattle.mx_command.specs.declared.deferral.Category.TheVariants.{A, D}
+use Rattle.mx_base.specs.declared.category.Category.{Category}
+use Rattle.mx_base.specs.declared.category.Category.TheVariants.{A, D}
 use Rattle.mx_command.specs.declared.release.Line.TheVariants.{Rectified}
 use Rattle.mx_command.specs.declared.release.Place.TheVariants as place
 use Rattle.mx_book.proofs.Worked.{at, abcd, logged}

@@ -1,7 +1,6 @@
-//! The plain program: a book that keeps its entries alone, and reads them anew for each answer.
+//! The plain program: the entries of a book are read anew for each answer.
 #![tactic(auto)]
 
-pub mod book;
 pub mod defects;
 pub mod lives;
 pub mod plain;
@@ -9,5 +8,4 @@ pub mod programmes;
 pub mod register;
 pub mod spans;
 
-pub use book::{Book, NoMemory};
 pub use plain::Plain;

@@ -1,18 +1,25 @@
 //! The plain book as records: it reads its entries anew for each question, and answers each.
+ghost use Rattle.std.specs.Prelude.{◌≡◌, IfOk, IfSome};
+ghost use Rattle.mx_due.specs.Due.{IsLife};
+ghost use Rattle.mx_book.specs.Life.{life_now, life_at};
+ghost use Rattle.mx_book.specs.Defect.{open_defects};
+ghost use Rattle.mx_book.specs.Judge.{judge};
 ghost use Rattle.mx_plain.specs.Plain.{plain_reading};
 
-use crate::book::Book;
-use crate::defects::{defect_of_document, extension_of_defect, was_rectified};
-use crate::lives::{clock_of_airframe, clock_of_item};
+use crate::defects::{defect_of_document, extension_of_defect, list_open_defects, was_rectified};
+use crate::lives::{clock_of_airframe, clock_of_item, life};
 use crate::programmes::{is_retired, revision_expected, task_in_programme, was_accomplished};
 use crate::register::{
     aircraft_of_tail, component_of_serial, has_room_for_aircraft, has_room_for_component, known,
     part_at_position,
 };
 use crate::spans::{fitted_to, is_position_taken};
-use mx_base::{Day, Doc, Kind, Moment, Part, Position, Serial, Tail, TaskId};
-use mx_book::{Defect, Records};
+use mx_base::{Day, Doc, Kind, Moment, Part, Position, Serial, Tail, TaskId, Use};
+use mx_book::{Defect, Records, Verdict};
 use mx_command::{Aircraft, Command, Component, Extension, Item, Task};
+use mx_entry_list::{Book, NoMemory};
+use mx_judge::verdict_on;
+use std::alloc::Global;
 use std::convert::Infallible;
 
 /// A book that is read in place: no question changes it, and none is left without an answer.
@@ -20,6 +27,46 @@ use std::convert::Infallible;
 pub struct Plain<'a> {
     /// The book.
     pub book: &'a Book,
+}
+
+impl<'a> Plain<'a> {
+    /// The verdict on a command: `Already` where an entry has its document and equal contents; else the
+    /// refusal with the least number that applies; else `New`.
+    pub fn judge(&self, command: &Command) -> Verdict
+        ensures { result ≡ judge self.now.book.now command.now }
+    {
+        let mut records = Plain { book: self.book };
+        match verdict_on(&mut records, command) {
+            Ok(verdict) => verdict,
+            Err(never) => match never {},
+        }
+    }
+
+    /// The life of an item up to a moment, at most 1,540,000,000 minutes and 51,000,000 cycles, or `None` where the item is
+    /// unknown.
+    pub fn life(&self, item: &Item, moment: Moment) -> Option<Use>
+        ensures life { result ≡ life_at self.now.book.now item.now moment }
+        ensures bounded { IfSome result IsLife }
+    {
+        life(self.book.as_slice(), item, Some(moment.number()))
+    }
+
+    /// The life of an item with all of its sectors, at most 1,540,000,000 minutes and 51,000,000 cycles, or `None` where the
+    /// item is unknown.
+    pub fn life_now(&self, item: &Item) -> Option<Use>
+        ensures life { result ≡ life_now self.now.book.now item.now }
+        ensures bounded { IfSome result IsLife }
+    {
+        life(self.book.as_slice(), item, None)
+    }
+
+    /// The open defects of an aircraft, in the order of their entries; none of an unknown registration. `NoMemory` where
+    /// memory runs out.
+    pub fn open_defects(&self, alloc: Global, tail: &Tail) -> Result<Vec<Defect>, NoMemory>
+        ensures { IfOk result (λ defects. defects.items ≡ open_defects self.now.book.now tail.now) }
+    {
+        Ok(list_open_defects(alloc, self.book.as_slice(), tail)?)
+    }
 }
 
 impl<'a> Records for Plain<'a> {

@@ -7,7 +7,7 @@ ghost use Rattle.mx_register.specs.Added.{AreAdded, AreAddedRows};
 use crate::names::{seq_of_defect, seq_of_item, seq_of_place, seq_of_serial, seq_of_tail};
 use mx_base::Kind;
 use mx_command::{Command, Line};
-use mx_plain::{Book, NoMemory};
+use mx_entry_list::{Book, NoMemory};
 use mx_register::{
     aircraft_row, component_row, deferral_row, extension_row, fitting_row, opening_row, or_zero,
     place_row, programme_row, release_row, removal_row, sector_row, task_row,

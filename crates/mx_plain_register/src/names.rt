@@ -6,7 +6,7 @@ ghost use Rattle.mx_register.specs.Names.{adds_named, defect_at, defect_deferred
 
 use mx_base::{Doc, Serial, Tail};
 use mx_command::{Command, Item, Place};
-use mx_plain::Book;
+use mx_entry_list::Book;
 use mx_register::added_item;
 
 // Whether an entry adds the aircraft with this registration.

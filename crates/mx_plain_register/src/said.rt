@@ -6,7 +6,7 @@ ghost use Rattle.mx_register.specs.Merge.{aircraft_said, applies_said, component
 use crate::names::{document_of_defect, item_of_entry};
 use mx_base::{Doc, Kind, Limit, Part, Position, Serial, Tail, Use};
 use mx_command::{Applies, Body, Item, Line, Place, Task};
-use mx_plain::Book;
+use mx_entry_list::Book;
 use mx_typed_rows::{
     AircraftRow, ComponentRow, DeferralRow, ExtensionRow, FittingRow, OpeningRow, ProgrammeRow,
     ReleaseLineRow, ReleaseRow, RemovalRow, SectorRow,

@@ -12,7 +12,7 @@ use crate::said::{
 };
 use mx_base::{Part, Position};
 use mx_command::{Applies, Body, Item, Line, Task};
-use mx_plain::Book;
+use mx_entry_list::Book;
 use mx_register::merge::Left;
 use mx_typed_rows::{
     AircraftRow, ComponentRow, DeferralRow, EntryKind, EntryRow, ExtensionRow, FittingRow,

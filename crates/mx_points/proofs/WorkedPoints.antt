@@ -15,7 +15,7 @@ use Rattle.mx_points.specs.Moves.{sectors_mark, sectors_next, totals_mark, total
 use Rattle.mx_command.specs.declared.item.Item.TheVariants.{Airframe}
 use Rattle.mx_command.specs.declared.release.Line.TheVariants.{Rectified}
 use Rattle.mx_command.specs.declared.release.Place.TheVariants.{Aircraft}
-use Rattle.mx_command.specs.declared.deferral.Category.TheVariants.{C}
+use Rattle.mx_base.specs.declared.category.Category.TheVariants.{C}
 use Rattle.mx_book.proofs.WorkedProgrammes.{c172, hundred_hours, annual, overhaul, load, open_task}
 
 -- ── which tables there are ──

@@ -38,7 +38,7 @@ use Rattle.mx_stands.specs.Stands.{HasRowsAt}
 use Rattle.mx_stands.proofs.FamilyLemmas.{facts, never}
 use Rattle.mx_stands.proofs.RowLemmas.{readable_stored}
 use Rattle.mx_stands.proofs.SchemaLemmas.{has_tables}
-use Rattle.mx_tables.specs.Sets.{AreRowsOf, IsDamaged, ReadsTables}
+use Rattle.mx_inserts.specs.Sets.{AreRowsOf, IsDamaged, ReadsTables}
 use Rattle.mx_file_rows.specs.Tables.{AreTablesOf}
 use Rattle.mx_file_rows.specs.declared.file_rows.FileRows.{FileRows}
 use Rattle.mx_reading.specs.Layout.{HasTables, verified_point}

@@ -1,14 +1,14 @@
 //! The rows of the tables of layout 2 but `office`, as the types of these tables: those of the registers alone, and all.
 ghost use Rattle.std.specs.Prelude.{◌≡◌, IfOk, map};
 ghost use Rattle.sqlite.specs.Held.{state};
-ghost use Rattle.mx_tables.specs.Sets.{ReadsTables};
+ghost use Rattle.mx_inserts.specs.Sets.{ReadsTables};
 ghost use Rattle.mx_reading.specs.Stored.{AreInPairs, AreRegisters, AreStored, HasRegisters};
 ghost use Rattle.mx_reading.specs.Looks.{Looks};
 
 use mx_file_rows::FileRows;
+use mx_inserts::Tables;
 use mx_layout::TableFault;
 use mx_register::merge::Registers;
-use mx_tables::Tables;
 use mx_typed_rows::{
     AircraftRow, BaseRow, ComponentRow, DeferralRow, EntryRow, ExtensionRow, OpeningRow, PlaceRow,
     ProgrammeRow, RegisterRows, ReleaseLineRow, ReleaseRow, Sector2Row, SectorRow, SpanRow,

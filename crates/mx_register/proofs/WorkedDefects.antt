@@ -4,8 +4,8 @@ use Rattle.std.specs.Prelude.{codes, map, option_map}
 use Rattle.std.specs.List.{list_all}
 use Rattle.mx_command.specs.Act.{Act, Entry, Released, Deferred, Extended}
 use Rattle.mx_command.specs.Shape.{has_shape}
-use Rattle.mx_command.specs.declared.deferral.Category.{Category}
-use Rattle.mx_command.specs.declared.deferral.Category.TheVariants.{A, B, C, D}
+use Rattle.mx_base.specs.declared.category.Category.{Category}
+use Rattle.mx_base.specs.declared.category.Category.TheVariants.{A, B, C, D}
 use Rattle.mx_command.specs.declared.item.Item.TheVariants as items
 use Rattle.mx_command.specs.declared.release.Line.TheVariants.{Done, Rectified}
 use Rattle.mx_command.specs.declared.release.Place.TheVariants.{Aircraft}

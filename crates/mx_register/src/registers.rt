@@ -6,10 +6,10 @@ ghost use Rattle.mx_register.specs.Registers.{aircraft_row, component_row, defer
 ghost use Rattle.mx_command.specs.Act.{act_of};
 ghost use Rattle.mx_command.specs.Shape.{has_shape};
 
-use mx_base::{Kind, Limit, Part, Position, Tolerance};
+use mx_base::{Category, Kind, Limit, Part, Position, Tolerance};
 use mx_command::{
-    Aircraft, Applies, Body, Category, Command, Component, Deferral, Extension, Fitting, Opening,
-    Place, Programme, Release, Removal, Sector, Task,
+    Aircraft, Applies, Body, Command, Component, Deferral, Extension, Fitting, Opening, Place,
+    Programme, Release, Removal, Sector, Task,
 };
 use mx_typed_rows::{
     AircraftRow, ComponentRow, DeferralRow, EntryKind, EntryRow, ExtensionRow, FittingRow,

@@ -1,6 +1,6 @@
 //! What stopped a call, as the answer to a line.
 use mx_cases::Unmade;
-use mx_kept_lines::{append_table_fault, room};
+use mx_fault_texts::{append_table_fault, room};
 use mx_layout::TableFault;
 use std::alloc::Global;
 

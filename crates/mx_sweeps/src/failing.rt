@@ -7,8 +7,9 @@ ghost use Rattle.mx_sweeps.specs.Failing.{failing_reading};
 use mx_base::{Base, Day, Doc, Kind, Moment, Part, Position, Serial, Tail, TaskId, Use};
 use mx_book::{Defect, Records};
 use mx_command::{Aircraft, Command, Component, Extension, Item, Task};
+use mx_entry_list::Book;
 use mx_lists::{Lists, Stop};
-use mx_plain::{Book, Plain};
+use mx_plain::Plain;
 use std::alloc::Global;
 use std::convert::Infallible;
 
@@ -187,7 +188,7 @@ impl<'a> Lists for Failing<'a> {
     fn life(&mut self, item: &Item) -> Result<Option<Use>, Interrupted> {
         self.count()?;
         let mut plain = Plain { book: self.book };
-        Ok(answered(plain.life(item)))
+        Ok(answered(Lists::life(&mut plain, item)))
     }
 
     fn base(&mut self, item: &Item, task: &TaskId) -> Result<Option<Base>, Interrupted> {
@@ -227,7 +228,7 @@ impl<'a> Lists for Failing<'a> {
     ) -> Result<Vec<Defect>, Stop<Interrupted>> {
         self.count_or_stop()?;
         let mut plain = Plain { book: self.book };
-        match plain.open_defects(alloc, tail) {
+        match Lists::open_defects(&mut plain, alloc, tail) {
             Ok(defects) => Ok(defects),
             Err(Stop::NoMemory) => Err(Stop::NoMemory),
             Err(Stop::Fault(never)) => match never {},

@@ -13,12 +13,12 @@ use crate::failing::{Failing, Interrupted};
 use mx_base::{Day, Kind, Limit, Tail, TaskId};
 use mx_book::Verdict;
 use mx_command::{Command, Item};
+use mx_entry_list::Book;
 use mx_judge::verdict_on;
 use mx_lists::{
     DueList, ForecastList, LifeList, LimitList, Stop, due_of_kind, list_dues, list_forecast,
     list_limits, list_lives,
 };
-use mx_plain::Book;
 use std::alloc::Global;
 
 /// The verdict on a command by at most so many questions, or the fault of the next.

@@ -3,7 +3,7 @@
 use mx_book::{Reply, Verdict};
 use mx_cases::{append_reply, or_none, replies_in};
 use mx_command::Command;
-use mx_plain::Book;
+use mx_entry_list::Book;
 use std::alloc::{AllocError, Global};
 
 /// What a list of commands gives over a book.
@@ -25,7 +25,8 @@ pub(crate) fn append_reply_to(
     command: &Command,
 ) -> Result<(), AllocError> {
     let command = command.copy(alloc)?;
-    match book.judge(&command) {
+    let verdict = mx_plain::Plain { book }.judge(&command);
+    match verdict {
         Verdict::New => match book.enter(command) {
             Ok(seq) => append_reply(out, &Reply::Accepted(seq)),
             Err((_, _)) => Err(AllocError),

@@ -1,17 +1,15 @@
--- What a reader and an insert do to a connection, whatever the table.
-use Rattle.std.specs.Prelude.{◌≡◌, ◌⊎◌, ℕ, List, [], map, All, Result, Ok, Err, OnOk, IfOk, IfErr, IsTrue}
+-- What a reader does to a connection, whatever the table.
+use Rattle.std.specs.Prelude.{◌≡◌, ◌⊎◌, ℕ, List, [], map, All, Result, Ok, Err, IfOk, IfErr, IsTrue}
 use Rattle.std.specs.declared.cmp.Ordering.{Ordering}
 use Rattle.sqlite.specs.Order.{Row}
 use Rattle.sqlite.specs.Table.{Table}
-use Rattle.sqlite.specs.State.{State, HasCleanDisk, Shown, IsUnchanged, ExecutesInside}
-use Rattle.sqlite.specs.declared.error.Error.{Error}
+use Rattle.sqlite.specs.State.{State, HasCleanDisk, Shown, IsUnchanged}
 use Rattle.mx_layout.specs.declared.fault.TableFault.{TableFault}
 use Rattle.mx_layout.specs.declared.fault.TableFault.TheVariants.{Memory, Store, Damaged}
 use Rattle.mx_layout.specs.Contents.{rows_in}
 use Rattle.mx_layout.specs.Crash.{StaysInside, IsWithin}
 use Rattle.mx_layout.specs.Names.{table_named}
 use Rattle.mx_layout.specs.Reading.{AreAllBy, HasOther}
-use Rattle.mx_layout.specs.Writing.{Gains}
 use Rattle.mx_kept.specs.Kept.{Kept}
 use Rattle.mx_kept.specs.Family.{IsReadableAs}
 
@@ -19,10 +17,6 @@ use Rattle.mx_kept.specs.Family.{IsReadableAs}
 pub record ShowsAll (text : List ℕ) (table : Table) (order : Row → Row → Ordering) (old new : State) : Type 0 where
   pub all : (rows : List Row) → Shown text [] old new rows → AreAllBy order table old.now.trees rows
   pub same : (rows : List Row) → Shown text [] old new rows → IsUnchanged old new
-
--- between these states the text, with these values, adds the row to the table
-pub record AddsRow (text : List ℕ) (table : Table) (row : Row) (old new : State) : Type 0 where
-  pub gains : (ran : Result ℕ Error) → ExecutesInside 0 text row old new ran → OnOk ran (Gains table row old.now new.now)
 
 -- a damaged table is an answer, and the other faults are none
 abbrev pub OnDamaged : TableFault → Type 0 → Type 0
@@ -42,11 +36,4 @@ pub record ReadsRows {X V : Type 0} (k : Kept X) (items : V → List X) (old new
   pub damaged : HasCleanDisk new → k.IsIn old.now.schema → result ≡ Err (Damaged k.name) → HasOther (IsReadableAs k) (rows_in (table_named k.name) old.now.trees)
   pub unchanged : HasCleanDisk new → k.IsIn old.now.schema → OnRead result (IsUnchanged old new)
   pub inside : HasCleanDisk new → IsTrue old.in_transaction → OnRead result (StaysInside old new)
-  pub within : IsWithin old new
-
--- the table gained the one row, and every other table is as it was; or want of memory or the store stopped the call
-pub record InsertsRow {X V : Type 0} (k : Kept X) (x : X) (old new : State) (result : Result V TableFault) : Type 0 where
-  pub gains : HasCleanDisk new → IsTrue old.in_transaction → k.IsIn old.now.schema → OnOk result (Gains (table_named k.name) (k.as_cells x) old.now new.now)
-  pub cause : IfErr result (λ e. (e ≡ Memory) ⊎ (e ≡ Store))
-  pub inside : HasCleanDisk new → IsTrue old.in_transaction → OnOk result (StaysInside old new)
   pub within : IsWithin old new

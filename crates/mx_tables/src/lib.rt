@@ -1,18 +1,17 @@
-//! The tables as sets of typed rows. SQL for all rows of a table is in this crate, that for chosen rows in
-//! `mx_chosen`, and none in a crate above these: there a table is what `rows` gives for its type, in the order of its
-//! key, and `insert` adds one row to it. Each call is made inside a `Transaction`, which the caller commits or drops.
+//! The tables as sets of typed rows, which are read. SQL for all rows of a table, and for one that is added, is in this
+//! crate, that for chosen rows in `mx_chosen`, and for the rows in whose place others come in `mx_totals`. Above these a
+//! table is what `rows` gives for its type, in the order of its key, and `insert` of `mx_inserts` adds one row to it. Each
+//! call is made inside a `Transaction`, which the caller commits or drops.
 //!
 //! # What is promised
 //!
 //! Of a reader (`ReadsRows`), where the disk has returned what was written and the schema has the table: the
 //! rows that it gives are exactly those of the table, each fits its type, and nothing changed. It answers
-//! `Damaged` with its own table, and only where some row of it is none of the type. Of an insert
-//! (`InsertsRow`): where it answers `Ok`, its table has gained the one row, and every other table is as it was.
-//! Of both, at every exit: a crash has no new outcome before the commit, and the last commit stands.
+//! `Damaged` with its own table, and only where some row of it is none of the type. At every exit: a crash has no new
+//! outcome before the commit, and the last commit stands.
 //!
-//! One reader (`rows`) and one insert are proved for every type of rows; what a table adds is its data in
-//! `mx_kept` and its two impls. `Tables` reads and writes several tables at once, as a pair of a `Vec` and of
-//! the other tables, under clauses that do not grow with their number.
+//! One reader (`rows`) is proved for every type of rows; what a table adds is its data in `mx_kept`, its impl of `Stored`
+//! here, and that of `Insert` in `mx_inserts`.
 //!
 //! # To add a table
 //!
@@ -31,19 +30,22 @@
 //!    permanent one behind nothing. Its line of `each_lawful` in `proofs/EachLawful.antt`. Where another table has rows
 //!    of the same type, a type of its own holds them (`held`, `Sector2Row`).
 //! 3. `src/NOUN.rt`, from one that is there, with its line here: `Stored`, whose texts are those of `mx_kept` written
-//!    out, and whose `read` asks for the number of columns and takes each by a function of `column.rt`; `Insert`, which
-//!    passes each value in the order of the columns. Its row type is a word of `prelude.rt`. A kind of value that no
-//!    table has had needs a function in `column.rt`, whose contract says of what values it gives `None`.
-//! 4. Plants: two columns swapped in either text, two values swapped in `insert` or `read`, a text with no
-//!    ORDER BY, the name of another table.
+//!    out, and whose `read` asks for the number of columns and takes each by a function of `column.rt`. Its row type is a
+//!    word of `prelude.rt`. A kind of value that no table has had needs a function in `column.rt`, whose contract says of
+//!    what values it gives `None`.
+//! 4. `mx_inserts/src/NOUN.rt`, from one that is there, with its line in `lib.rt` there: `Insert`, which passes each value
+//!    in the order of the columns. Its row type is a word of `prelude.rt` there too. A kind of value that is not passed as
+//!    it stands in the row needs a function in `mx_inserts/src/values.rt`.
+//! 5. Plants here: two columns swapped in either text, two values swapped in `read`, a text with no ORDER BY, the name of
+//!    another table; and in `mx_inserts` two values swapped in `insert`.
 //!
 //! What it costs stands in docs/RECIPES.md.
 //!
 //! A column that may be NULL is kept by `number_or_null` or `text_or_null` of `mx_kept/specs/Values.antt`, one that
 //! says whether by `flag`, a limit by three numbers, a category by its number and the days that it states. They are
 //! read by the functions of `column.rt` of these names, and what may be missing is passed on by `number_if_any`,
-//! `text_if_any` or `days_of_category`, which tell what is known of it. In `Lawful` the lemmas of `ValueLemmas` stand
-//! where `task` has them, and `insert` has the answer of `task`, alike for all but its name.
+//! `text_if_any` or `days_of_category` of `values.rt`, which tell what is known of it. In `Lawful` the lemmas of
+//! `ValueLemmas` stand where `task` has them, and `insert` has the answer of `task`, alike for all but its name.
 #![tactic(auto)]
 
 mod aircraft;
@@ -63,12 +65,10 @@ mod release_line;
 mod removal;
 mod sector;
 mod sector2;
-pub mod sets;
 mod span;
 pub mod stored;
 mod task;
 mod total;
 
 pub use mx_layout::{Layout, Table, TableFault, create, point};
-pub use sets::Tables;
-pub use stored::{Insert, Stored, rows};
+pub use stored::{Stored, rows};

@@ -1,24 +1,21 @@
-//! A table as a set of rows of one type: all of them are read, and one is added.
-ghost use Rattle.std.specs.Prelude.{◌≡◌, ◌≢◌, ◌⊎◌, [], List, map, All, IsTrue, OnOk, IfOk, IfErr, IsErr, MatchOption};
+//! A table as a set of rows of one type: how they are kept, and all of them, which are read.
+ghost use Rattle.std.specs.Prelude.{◌≡◌, ◌≢◌, ◌⊎◌, List, map, All, IfOk, IfErr, IsErr, MatchOption};
 ghost use Rattle.std.specs.declared.cmp.Ordering.{Ordering};
 ghost use Rattle.sqlite.specs.declared.types.Value.{Value};
 ghost use Rattle.sqlite.specs.Table.{Table};
-ghost use Rattle.sqlite.specs.Values.{bound};
 ghost use Rattle.sqlite.specs.State.{HasCleanDisk, IsUnchanged};
 ghost use Rattle.sqlite.specs.Held.{state};
 ghost use Rattle.mx_layout.specs.Contents.{rows_in};
 ghost use Rattle.mx_layout.specs.Crash.{StaysIn};
 ghost use Rattle.mx_layout.specs.Point.{IsFaultOf};
 ghost use Rattle.mx_layout.specs.Reading.{AreAllBy, HasOther};
-ghost use Rattle.mx_layout.specs.Writing.{Gains};
 ghost use Rattle.mx_kept.specs.Kept.{Kept};
 ghost use Rattle.mx_kept.specs.Family.{IsReadableAs};
 ghost use Rattle.mx_kept.specs.Meanings.{IsLawful};
-ghost use Rattle.mx_tables.specs.Calls.{ShowsAll, AddsRow, OnRead, ReadsRows, InsertsRow};
+ghost use Rattle.mx_tables.specs.Calls.{ShowsAll, OnRead, ReadsRows};
 
 use mx_layout::TableFault;
 use mx_layout::fault::fault_of;
-use sqlite::types::ValueRef;
 use sqlite::{Alter, Error, Row, Transaction};
 use std::alloc::Global;
 
@@ -48,17 +45,6 @@ pub trait Stored: Sized {
 
     // What the texts mean, in each schema that has the table.
     ghost lawful: { IsLawful kept };
-}
-
-/// Rows that can be added to their table.
-pub trait Insert: Stored {
-    /// Adds the row. `Memory` for want of memory, and `Store` for an error of the store, a value that is taken
-    /// among them.
-    fn insert<S: Alter>(&self, tx: &mut Transaction<'_, S>) -> Result<(), TableFault>
-        ensures same_reference { tx.new.conn.ghost_name ≡ tx.old.conn.ghost_name }
-        ensures inserts { InsertsRow Self.kept self.now
-            (state S.Store tx.old.conn.now) (state S.Store tx.new.conn.now) result }
-        ensures fits { Self.kept.Fits self.now };
 }
 
 // The rows of an answer by their type. `Damaged` with the table where one is none.
@@ -138,26 +124,6 @@ fn read_rows<S: Alter, R: Stored + Drop>(
     answered(alloc, table, answer)
 }
 
-// Adds a row by a text that takes its values in the order of the columns.
-fn insert_row<S: Alter>(
-    tx: &mut Transaction<'_, S>,
-    sql: &str,
-    params: &[ValueRef<'_>],
-) -> Result<(), TableFault>
-    ensures stays { StaysIn S.Store (OnOk result) tx.old tx.new }
-    ensures adds { let old = state S.Store tx.old.conn.now in
-        let new = state S.Store tx.new.conn.now in
-        (table : Table) (row : List Value) → AddsRow sql.now table row old new
-        → bound params.now ≡ row → HasCleanDisk new
-        → IsTrue old.in_transaction → OnOk result (Gains table row old.now new.now) }
-    ensures cause { IfErr result (λ e. (e ≡ TableFault.Memory) ⊎ (e ≡ TableFault.Store)) }
-{
-    match tx.execute(sql, params) {
-        Ok(_) => Ok(()),
-        Err(error) => Err(fault_of(error)),
-    }
-}
-
 /// All rows of the table of a type, in the order of its key. `Memory` for want of memory, `Store` for an error of
 /// the store, and `Damaged` with the table where a row is none of the type.
 pub fn rows<S: Alter, R: Stored + Drop>(
@@ -170,18 +136,4 @@ pub fn rows<S: Alter, R: Stored + Drop>(
 {
     let texts = R::texts();
     read_rows(alloc, tx, texts.table, texts.select)
-}
-
-/// Adds a row, whose values are these in the order of the columns.
-pub(crate) fn insert_values<S: Alter, R: Stored>(
-    tx: &mut Transaction<'_, S>,
-    row: &R,
-    values: &[ValueRef<'_>],
-) -> Result<(), TableFault>
-    requires { bound values.now ≡ R.kept.as_cells row.now }
-    ensures same_reference { tx.new.conn.ghost_name ≡ tx.old.conn.ghost_name }
-    ensures inserts { InsertsRow R.kept row.now
-        (state S.Store tx.old.conn.now) (state S.Store tx.new.conn.now) result }
-{
-    insert_row(tx, R::texts().insert, values)
 }

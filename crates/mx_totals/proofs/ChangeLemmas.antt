@@ -12,9 +12,9 @@ use Rattle.mx_layout.specs.Crash.{IsWithin}
 use Rattle.mx_layout.specs.Names.{table_named}
 use Rattle.mx_layout.proofs.CrashLemmas.{within_then, stays_then}
 use Rattle.mx_kept.specs.Kept.{Kept}
-use Rattle.mx_tables.specs.Calls.{OnRead, InsertsRow}
-use Rattle.mx_chosen.specs.Choices.{Replaces}
-use Rattle.mx_chosen.specs.Calls.{ReplacesRows}
+use Rattle.mx_tables.specs.Calls.{OnRead}
+use Rattle.mx_inserts.specs.Calls.{InsertsRow}
+use Rattle.mx_totals.specs.InPlace.{Replaces, ReplacesRows}
 use Rattle.mx_totals.specs.Calls.{change_where, Becomes, ReadsFrom, ChangesRows}
 use Rattle.mx_totals.specs.Single.{IsOnly, HasOne}
 use Rattle.mx_totals.proofs.RowLemmas.{where_one}

@@ -7,3 +7,5 @@ pub mod SpanLemmas
 pub mod FittedLemmas
 pub mod StepLemmas
 mod WorkedTotals
+pub mod ReplaceLemmas
+pub mod Understood

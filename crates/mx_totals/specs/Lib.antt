@@ -4,3 +4,4 @@ pub mod Totals
 pub mod Bases
 pub mod Spans
 pub mod Steps
+pub mod InPlace

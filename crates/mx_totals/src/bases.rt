@@ -2,14 +2,14 @@
 ghost use Rattle.std.specs.Prelude.{◌≡◌};
 ghost use Rattle.sqlite.specs.Held.{state};
 ghost use Rattle.mx_kept.specs.Cells.{kept_base2};
-ghost use Rattle.mx_chosen.specs.Calls.{ReplacesRows};
+ghost use Rattle.mx_totals.specs.InPlace.{ReplacesRows};
 ghost use Rattle.mx_totals.specs.Calls.{ReadsFrom};
 ghost use Rattle.mx_totals.specs.Single.{IsOneOrNone, HasOneOrNone};
 ghost use Rattle.mx_totals.specs.Bases.{is_of_task};
 
+use crate::in_place;
 use crate::single::one_or_none;
 use mx_base::TaskId;
-use mx_chosen::changes;
 use mx_chosen::kept::base2_by_item_and_task;
 use mx_layout::{Table, TableFault};
 use mx_typed_rows::BaseRow;
@@ -40,5 +40,5 @@ pub fn set_base<S: Alter>(tx: &mut Transaction<'_, S>, row: &BaseRow) -> Result<
     ensures replaces { ReplacesRows kept_base2 (is_of_task row.now.item row.now.task) row.now
         (state S.Store tx.old.conn.now) (state S.Store tx.new.conn.now) result }
 {
-    changes::set_base(tx, row)
+    in_place::set_base(tx, row)
 }

@@ -3,6 +3,7 @@
 #![tactic(auto)]
 
 pub mod bases;
+pub mod in_place;
 pub mod lives;
 mod single;
 pub mod spans;

@@ -10,9 +10,9 @@ ghost use Rattle.mx_totals.specs.Calls.{ReadsFrom, ChangesRows, change_where};
 ghost use Rattle.mx_totals.specs.Single.{IsOnly, HasOne};
 ghost use Rattle.mx_totals.specs.Spans.{ended, fitted_by, AreFitted, HasOtherFitted};
 
+use crate::in_place::set_span2;
 use crate::single::only;
 use mx_base::{Moment, Position};
-use mx_chosen::changes::set_span2;
 use mx_chosen::kept::{open_spans_by_aircraft, open_spans_by_component};
 use mx_layout::{Table, TableFault};
 use mx_typed_rows::SpanRow;

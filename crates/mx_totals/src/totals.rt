@@ -10,13 +10,13 @@ ghost use Rattle.mx_totals.specs.Single.{IsOnly, HasOne};
 ghost use Rattle.mx_totals.specs.Totals.{total_row, is_of_item, is_of_any, credited, clocked, CanCredit, IsCredited};
 ghost use Rattle.mx_totals.specs.Steps.{ReadsTotals, PutsTotals};
 
+use crate::in_place::set_total;
 use crate::lives::{Total, life_with};
 use crate::single::only;
 use mx_base::{Moment, Use};
-use mx_chosen::changes::set_total;
 use mx_chosen::kept::total2_by_item;
+use mx_inserts::Insert;
 use mx_layout::{Table, TableFault};
-use mx_tables::stored::Insert;
 use mx_typed_rows::TotalRow;
 use sqlite::{Alter, Transaction};
 use std::alloc::Global;

@@ -3,9 +3,9 @@
 //! that deferred it.
 
 use mx_base::{
-    Day, Doc, Kind, Limit, MelRef, Moment, Part, Position, Serial, Tail, TaskId, Tolerance, Use,
+    Category, Day, Doc, Kind, Limit, MelRef, Moment, Part, Position, Serial, Tail, TaskId,
+    Tolerance, Use,
 };
-use mx_command::Category;
 
 /// The kind of an entry: which command it was.
 #[derive(Clone, Copy, Debug, PartialEq, Eq)]

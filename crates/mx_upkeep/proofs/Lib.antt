@@ -1,2 +1,1 @@
 mod InstallLemmas
-mod WorkedPoints

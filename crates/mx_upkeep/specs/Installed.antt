@@ -1,20 +1,14 @@
--- What is printed where a file is made with a whole book in it.
+-- What a new book makes of the commands that a file is made with.
 use Rattle.std.specs.Prelude.{◌≡◌, ℕ, List, ◌++◌, []}
 use Rattle.mx_command.specs.Act.{Entry}
 use Rattle.mx_book.specs.Run.{book_run, replies}
 use Rattle.mx_reports.specs.Replies.{lines_of}
-use Rattle.mx_upkeep.specs.Entered.{TellsReplies}
-use Rattle.mx_endings.specs.declared.ending.Ending.{Ending}
 use Rattle.mx_upkeep.specs.declared.installing.Accepted.{Accepted}
 
 -- the book of those of some commands that are accepted one after the other, and a reply to each command
 pub record AreAccepted (commands : List Entry) (found : Accepted) : Type 0 where
   pub book : found.book ≡ book_run [] commands
   pub replies : found.replies.items ≡ replies [] commands
-
--- the text is the replies of a new book to some commands, and the ending is theirs
-abbrev pub AreFirstReplies : List ℕ → Ending → Type 0
-AreFirstReplies text ending = (commands : List Entry) × TellsReplies [] commands [] text ending
 
 -- the text ends with the lines of the replies to the commands
 abbrev pub HasAppended : Accepted → List ℕ → Type 0

@@ -14,13 +14,14 @@ ghost use Rattle.mx_reports.specs.Replies.{lines_of};
 ghost use Rattle.mx_upkeep.specs.Installed.{AreAccepted};
 ghost use Rattle.mx_endings.specs.Status.{run_ending, stop_status};
 
-use crate::replies::{ending_of, print_replies};
 use mx_book::{Refusal, Reply, Verdict};
 use mx_command::Command;
 use mx_endings::{Ending, Stop};
+use mx_entry_list::{Book, NoMemory};
 use mx_install::install_v1;
 use mx_layout::TableFault;
-use mx_plain::{Book, NoMemory};
+use mx_plain::Plain;
+use mx_printed::{ending_of, print_replies};
 use sqlite::{Alter, Connection};
 use std::alloc::Global;
 
@@ -38,7 +39,8 @@ fn answer(alloc: Global, book: &mut Book, command: &Command) -> Result<Reply, No
     ensures reply { IfOk result (λ said. said ≡ reply book.old command.now) }
     ensures entered { OnOk result (book.new ≡ book_after book.old command.now) }
 {
-    match book.judge(command) {
+    let verdict = Plain { book }.judge(command);
+    match verdict {
         Verdict::New => {
             let Ok(entry) = command.copy(alloc) else {
                 return Err(NoMemory);

@@ -12,7 +12,7 @@ use Rattle.mx_command.specs.Act.{Entry}
 use Rattle.mx_book.specs.Book.{IsBook}
 use Rattle.mx_register.specs.Registers.{opening_rows, release_line_rows}
 use Rattle.mx_kept_rows.specs.Bases.{AreKeyedOnce, base_rows}
-use Rattle.mx_indexed.specs.Maps.{held}
+use Rattle.mx_indexes.specs.Maps.{held}
 use Rattle.mx_merged.specs.Keys.{AreKeys, key_cmp}
 use Rattle.mx_merged.proofs.KeyLemmas.{keys_more, keys_of_none}
 use Rattle.mx_verified.specs.Bases.{has_certified, has_stated}

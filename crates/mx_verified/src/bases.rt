@@ -10,9 +10,9 @@ ghost use Rattle.mx_verified.specs.Bases.{has_certified, has_stated};
 ghost use Rattle.mx_file_rows.specs.Bases.{is_last_base, same_base};
 
 use mx_base::{Base, TaskId};
+use mx_entry_list::NoMemory;
 use mx_indexed::IndexedBook;
-use mx_indexed::maps::held;
-use mx_plain::NoMemory;
+use mx_indexes::maps::held;
 use mx_plain_register::item_of_entry;
 use mx_typed_rows::{BaseRow, OpeningRow, ReleaseLineRow};
 use std::alloc::Global;

@@ -3,15 +3,14 @@ use Rattle.std.specs.Prelude.{◌≡◌, ◌⊎◌, ℕ, List, [], Option, Some,
 use Rattle.std.specs.Io.KnownBytes.{Appends}
 use Rattle.clap.specs.declared.error.Error.{Error}
 use Rattle.clap.specs.declared.parser.matches.ArgMatches.{ArgMatches}
-use Rattle.mx_upkeep.specs.Entered.{AreReplyLines, AreSomeReplyLines}
-use Rattle.mx_jobs.specs.Imported.{AreRowLines}
-use Rattle.mx_upkeep.specs.Installed.{AreFirstReplies}
-use Rattle.mx_upkeep.specs.Moved.{IsPointLine}
-use Rattle.mx_jobs.specs.Printed.{IsListAnswer}
+use Rattle.mx_printed.specs.Entered.{AreFirstReplies, AreReplyLines, AreSomeReplyLines}
+use Rattle.mx_printed.specs.Imported.{AreRowLines}
+use Rattle.mx_printed.specs.Moved.{IsPointLine}
+use Rattle.mx_printed.specs.Listed.{IsListAnswer}
 use Rattle.mx_responses.specs.Serving.{served_line}
 use Rattle.mx_command_line.specs.Trial.{is_trial_shaped, trial_commands}
-use Rattle.mx_jobs.specs.Tried.{TellsTrial}
-use Rattle.mx_jobs.specs.Verified.{IsVerifiedLine}
+use Rattle.mx_printed.specs.Tried.{TellsTrial}
+use Rattle.mx_printed.specs.Verified.{IsVerifiedLine}
 use Rattle.mx_command_line.specs.Usage.{IsRequest}
 use Rattle.mx_command_line.specs.Job.{Job, said, tries, makes, lists, enters, imports, installs, loads, moves, serves, verifies}
 use Rattle.mx_endings.specs.declared.ending.Ending.{Ending}

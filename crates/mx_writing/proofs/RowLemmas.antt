@@ -26,11 +26,10 @@ use Rattle.mx_kept.specs.Kept.{Kept}
 use Rattle.mx_kept.specs.Family.{on_top}
 use Rattle.mx_kept.specs.Meanings.{IsLawful}
 use Rattle.mx_kept.proofs.OntoLemmas.{on_top_keeps}
-use Rattle.mx_tables.specs.Calls.{InsertsRow}
-use Rattle.mx_tables.specs.Sets.{GainsRows, WritesTables}
-use Rattle.mx_tables.proofs.SetLemmas.{gains_none, gains_one, gains_then, on_weaker, stays_open}
-use Rattle.mx_chosen.specs.Choices.{Replaces}
-use Rattle.mx_chosen.specs.Calls.{ReplacesRows}
+use Rattle.mx_inserts.specs.Calls.{InsertsRow}
+use Rattle.mx_inserts.specs.Sets.{GainsRows, WritesTables}
+use Rattle.mx_inserts.proofs.SetLemmas.{gains_none, gains_one, gains_then, on_weaker, stays_open}
+use Rattle.mx_totals.specs.InPlace.{Replaces, ReplacesRows}
 use Rattle.mx_writing.specs.Changes.{AllRise, WritesRows, all_in_place, in_place}
 
 -- what is made of rows does not depend on their order

@@ -1,5 +1,5 @@
 use Rattle.std.proofs.Common.{Some, sym, ap, ◌∙◌}
-use Rattle.mx_indexed.specs.Work.{line_base}
+use Rattle.mx_indexes.specs.Work.{line_base}
 use Rattle.mx_indexed.proofs.bases.line_base.Goals as goal
 
 pub returns-in-Done-clause-base : goal.returns-in-Done-clause-base

@@ -5,8 +5,8 @@ use Rattle.mx_command.specs.Act.{Entry}
 use Rattle.mx_command.specs.declared.item.Item.{Item}
 use Rattle.mx_due.specs.Due.{IsBase}
 use Rattle.mx_book.specs.Judge.{judge}
-use Rattle.mx_indexed.specs.Indexed.{AreIndexes}
-use Rattle.mx_indexed.specs.Work.{bases_set}
+use Rattle.mx_indexes.specs.Indexed.{AreIndexes}
+use Rattle.mx_indexes.specs.Work.{bases_set}
 use Rattle.mx_indexed.proofs.indexed_book.IndexedBook.enter.Goals as goal
 
 pub invariant_of-self : goal.invariant_of-self

@@ -3,7 +3,7 @@ use Rattle.std.specs.Prelude.{Bool}
 use Rattle.std.specs.Option.{option_map, option_copied}
 use Rattle.mx_command.specs.Act.{Entry}
 use Rattle.mx_command.specs.Same.{same_entry}
-use Rattle.mx_indexed.proofs.RegisterLemmas.{known_by}
+use Rattle.mx_indexes.proofs.RegisterLemmas.{known_by}
 use Rattle.mx_indexed.proofs.indexed_book.IndexedBook.known.Goals as goal
 
 pub returns-in-None-entry : goal.returns-in-None-entry

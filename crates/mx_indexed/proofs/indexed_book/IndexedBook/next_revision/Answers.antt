@@ -1,6 +1,6 @@
 use Rattle.std.proofs.Common.{sym, ap, ◌∙◌, Some, None}
 use Rattle.std.specs.Option.{option_copied}
-use Rattle.mx_indexed.proofs.ProgrammeLemmas.{next_by}
+use Rattle.mx_indexes.proofs.ProgrammeLemmas.{next_by}
 use Rattle.mx_indexed.proofs.indexed_book.IndexedBook.next_revision.Goals as goal
 
 pub returns-in-Some : goal.returns-in-Some

@@ -1,6 +1,6 @@
 use Rattle.std.proofs.Common.{sym, ap, ◌∙◌, Some, None}
 use Rattle.std.specs.Option.{option_copied}
-use Rattle.mx_indexed.proofs.ProgrammeLemmas.{tasks_by}
+use Rattle.mx_indexes.proofs.ProgrammeLemmas.{tasks_by}
 use Rattle.mx_indexed.proofs.indexed_book.IndexedBook.tasks_in_force.Goals as goal
 
 pub returns-in-Some-clause-tasks : goal.returns-in-Some-clause-tasks

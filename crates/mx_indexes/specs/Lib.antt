@@ -1,0 +1,10 @@
+pub mod Clocks
+pub mod Counts
+pub mod Indexed
+pub mod Lives
+pub mod Maps
+pub mod Places
+pub mod Positions
+pub mod Programmes
+pub mod Registers
+pub mod Work

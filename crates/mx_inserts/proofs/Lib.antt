@@ -1,0 +1,3 @@
+pub mod AddLemmas
+pub mod BoundLemmas
+pub mod SetLemmas

@@ -1,0 +1,4 @@
+mod WorkedEndings
+mod WorkedFile
+mod WorkedPoints
+mod WorkedTrial

@@ -1,0 +1,6 @@
+pub mod Entered
+pub mod Imported
+pub mod Listed
+pub mod Moved
+pub mod Tried
+pub mod Verified
