@@ -199,6 +199,21 @@ removal_form d = entry_by_form (lacks_key removal_keys d) (stated_removal d) (ha
 
 -- ── each by its word ──
 
+-- the command by the form that a word of deferred defects chooses
+abbrev pub entry_by_defect_word : List ℕ → Data → Result Entry ℕ
+entry_by_defect_word word d =
+    if bytes_eq word (codes "defer") then deferral_form d
+    else if bytes_eq word (codes "extend") then extension_form d
+    else Err BAD_VALUE
+
+-- the command by the form that a word of maintenance chooses
+abbrev pub entry_by_maintenance_word : List ℕ → Data → Result Entry ℕ
+entry_by_maintenance_word word d =
+    if bytes_eq word (codes "fit") then fitting_form d
+    else if bytes_eq word (codes "remove") then removal_form d
+    else if bytes_eq word (codes "release") then release_form d
+    else entry_by_defect_word word d
+
 -- the command by the form that a word chooses
 abbrev pub entry_by_word : List ℕ → Data → Result Entry ℕ
 entry_by_word word d =
@@ -206,12 +221,7 @@ entry_by_word word d =
     else if bytes_eq word (codes "add-component") then component_form d
     else if bytes_eq word (codes "opening") then opening_form d
     else if bytes_eq word (codes "sector") then sector_form d
-    else if bytes_eq word (codes "fit") then fitting_form d
-    else if bytes_eq word (codes "remove") then removal_form d
-    else if bytes_eq word (codes "release") then release_form d
-    else if bytes_eq word (codes "defer") then deferral_form d
-    else if bytes_eq word (codes "extend") then extension_form d
-    else Err BAD_VALUE
+    else entry_by_maintenance_word word d
 
 -- the command by the text at `do`, if it is one
 abbrev pub entry_if_word : Option (List ℕ) → Data → Result Entry ℕ
