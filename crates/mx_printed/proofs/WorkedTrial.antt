@@ -37,3 +37,12 @@ another = refl
 another_refused : run_answer [] commands (codes "D-NONE") ≡ Refused
 unfolding digits
 another_refused = refl
+
+-- a sector of an aircraft that nobody entered is refused, though the life that is asked for is told
+refused_sector :
+    run_answer commands
+    (record { doc = codes "TL/D-NONE/1/1"; act = Flown (record { tail = codes "D-NONE"; page = 1; line = 1; off = 28488000; on = 28488090; cycles = 1 }) } ∷ [])
+    (codes "D-ABCD")
+    ≡ Refused
+unfolding digits
+refused_sector = refl
