@@ -10,7 +10,8 @@ use Rattle.sqlite_rules.proofs.ActionLemmas.{no_works}
 use Rattle.sqlite_schema.specs.declared.schema.Keys.TheVariants.{Enforced}
 use Rattle.mx_layout.specs.Contents.{cells}
 use Rattle.mx_layout.specs.Writing.{Gains}
-use Rattle.mx_layout.proofs.WriteLemmas.{added, inserts, uncounted}
+use Rattle.mx_layout.proofs.WriteLemmas.{inserts}
+use Rattle.mx_layout.specs.Plans.{added, uncounted}
 use Rattle.mx_layout.proofs.InsideLemmas.{gains}
 use Rattle.mx_inserts.specs.Calls.{AddsRow}
 use Rattle.mx_kept.specs.Meanings.{MeansAdded}

@@ -16,8 +16,7 @@ use Rattle.mx_typed_rows.specs.Rising.{IsFrom}
 use Rattle.mx_layout.specs.Contents.{cells}
 use Rattle.mx_layout.specs.Names.{table_named}
 use Rattle.mx_layout.specs.TableName.{TableName}
-use Rattle.mx_layout.proofs.ReadLemmas.{scan_by, Sorts}
-use Rattle.mx_layout.proofs.WriteLemmas.{added, uncounted}
+use Rattle.mx_layout.specs.Plans.{scan_by, Sorts, added, uncounted}
 use Rattle.mx_kept.specs.Kept.{Kept}
 use Rattle.mx_kept.specs.Family.{of_kept, IsReadable, IsReadableAs}
 

@@ -34,7 +34,8 @@ use Rattle.mx_layout.specs.Writing.{Gains}
 use Rattle.mx_layout.proofs.InsideLemmas.{gains}
 use Rattle.mx_layout.proofs.RowLemmas.{cast_int, cast_null}
 use Rattle.mx_layout.proofs.TreeLemmas.{same_tree}
-use Rattle.mx_layout.proofs.WriteLemmas.{added, inserts}
+use Rattle.mx_layout.proofs.WriteLemmas.{inserts}
+use Rattle.mx_layout.specs.Plans.{added}
 
 abbrev terms : List Term
 terms = lit (Int (pos 1)) ∷ lit Null ∷ col 0 0 ∷ col 0 1 ∷ col 0 2 ∷ []

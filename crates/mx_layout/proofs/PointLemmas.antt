@@ -22,7 +22,8 @@ use Rattle.sqlite.specs.Schema.{Schema}
 use Rattle.sqlite.specs.Table.{Table}
 use Rattle.sqlite_schema.specs.declared.schema.Index.{Index}
 use Rattle.sqlite_schema.specs.declared.schema.View.{View}
-use Rattle.mx_layout.proofs.ReadLemmas.{scan, first_key, Sorts, sorts_by_first, reads_all, reads_unchanged, reads_input, other_in}
+use Rattle.mx_layout.proofs.ReadLemmas.{scan, first_key, sorts_by_first, reads_all, reads_unchanged, reads_input, other_in}
+use Rattle.mx_layout.specs.Plans.{Sorts}
 
 abbrev pub project : List Term
 project = col 1 0 ∷ col 1 2 ∷ col 1 3 ∷ col 1 4 ∷ []

@@ -37,21 +37,8 @@ use Rattle.sqlite_trees.specs.declared.error.StoreError.{StoreError}
 use Rattle.sqlite_trees.specs.declared.error.StoreError.TheVariants as failure
 use Rattle.sqlite.specs.State.{store_error}
 use Rattle.sqlite.proofs.StateLemmas.{survives_weaker}
+use Rattle.mx_layout.specs.Plans.{scan_by, Sorts}
 use Rattle.mx_layout.specs.Writing.{Stops}
-
--- all rows of a table, sorted by these keys
-abbrev pub scan_by : List (Term × Key) → ℕ → List Term → Query
-scan_by keys tree project = record {
-  from = inner tree end;
-  filter = [];
-  group = None;
-  project = project;
-  distinct = false;
-  collations = [];
-  order = keys;
-  limit = lit (Int (negsuc 0));
-  offset = lit (Int (pos 0));
-}
 
 -- the key of a table whose first column is the rowid
 abbrev pub first_key : List (Term × Key)
@@ -64,12 +51,6 @@ two_keys = (col 1 1, ascending Binary) ∷ (col 1 2, ascending Binary) ∷ []
 -- all rows of a table, sorted by its rowid
 abbrev pub scan : ℕ → List Term → Query
 scan = scan_by first_key
-
--- rows that are sorted by these keys are shown in this order
-abbrev pub Sorts : List (Term × Key) → List Term → (Row → Row → Ordering) → Type 0
-Sorts keys project order =
-    (x y : Row) → is_lt (output_cmp (scan_by keys 0 project) (output (scan_by keys 0 project) ([] ∷ x ∷ [])) (output (scan_by keys 0 project) ([] ∷ y ∷ [])))
-    ≡ is_lt (order (eval_all project ([] ∷ x ∷ [])) (eval_all project ([] ∷ y ∷ [])))
 
 or_equal : (o : Ordering) → ordering_then o Equal ≡ o
 or_equal Less = refl

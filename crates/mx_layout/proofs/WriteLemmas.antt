@@ -25,6 +25,7 @@ use Rattle.sqlite.specs.State.{State, mode_of, text_of, shows_rows, RunsAlone, E
 use Rattle.sqlite.proofs.Callers.{IsPlain, command_of, runs_as}
 use Rattle.sqlite.proofs.StateLemmas.{survives_weaker}
 use Rattle.mx_layout.specs.Contents.{cells, Adds}
+use Rattle.mx_layout.specs.Plans.{added, uncounted}
 use Rattle.mx_layout.specs.Writing.{Inserts, MayInsert, Stops}
 use Rattle.mx_layout.proofs.RowLemmas.{adds_one}
 
@@ -35,14 +36,6 @@ went (inr on) = on
 
 pub same_value : {B E : Type 0} {a b : B} → ◌≡◌ {A = Result B E} (Ok a) (Ok b) → a ≡ b
 same_value e = cc
-
--- the edit of one INSERT of values
-abbrev pub added : Trees → Table → List Term → ℕ → Row → Edit
-added db table terms width params = edit_of db table [] Chosen 0 (value_rows (stamped table params) width (length terms / width) terms)
-
--- a table with no AUTOINCREMENT
-abbrev pub uncounted : Table → Table
-uncounted t = record t { is_counted = false }
 
 pub inserted : (schema : Schema) (at : ℕ) (t : Table) (terms : List Term) (width : ℕ) (limit : Option ℕ) (mode : Mode) (params : Row) (text : List ℕ) (db : Database) (tally : Tally) (after : Database)
     → slice_get schema.tables at ≡ Some (uncounted t) → works schema mode.keys 0 t.tree [] (added db.trees (uncounted t) terms width params).news ≡ []

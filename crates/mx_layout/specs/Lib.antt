@@ -10,3 +10,4 @@ pub mod Tables
 pub mod Writing
 pub mod Names
 pub mod TableName
+pub mod Plans

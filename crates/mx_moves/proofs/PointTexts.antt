@@ -18,7 +18,7 @@ use Rattle.mx_point.specs.declared.point.Point.{Point}
 use Rattle.mx_layout.specs.Point.{point_cells}
 use Rattle.mx_layout.specs.Tables.{office}
 use Rattle.mx_layout.proofs.RowLemmas.{cast_int, cast_null}
-use Rattle.mx_layout.proofs.WriteLemmas.{added}
+use Rattle.mx_layout.specs.Plans.{added}
 use Rattle.mx_kept.specs.Meanings.{MeansAdded}
 use Rattle.mx_kept.specs.Schemas.{HasPermanent, permanent}
 use Rattle.mx_chosen.specs.Lookups.{Deletes}
