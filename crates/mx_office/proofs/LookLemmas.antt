@@ -21,7 +21,7 @@ use Rattle.mx_numbers.specs.AnyRows.{ReadsAny}
 use Rattle.mx_numbers.specs.Damage.{IsDamaged}
 use Rattle.mx_numbers.specs.Reads.{IsStop, Reads, StandsFor}
 use Rattle.mx_entries.specs.Damage.{ReadsOr, Refuses}
-use Rattle.mx_rows.specs.Answering.{AnswerListsAs}
+use Rattle.mx_row_lists.specs.Answering.{AnswerListsAs}
 use Rattle.mx_row_lists.specs.Listing.{unknown, LifeAnswered}
 use Rattle.mx_apply.specs.Applies.{IsNoDamage}
 use Rattle.mx_office.specs.Faults.{call_answer, fault_from, found_or, question_answer, IsAnswer}

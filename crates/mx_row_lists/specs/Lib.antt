@@ -1,1 +1,2 @@
 pub mod Listing
+pub use Rattle.mx_rows.specs.Answering
