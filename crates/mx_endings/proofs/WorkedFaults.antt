@@ -5,7 +5,7 @@ use Rattle.std.specs.List.{flat_map}
 use Rattle.std.specs.Fmt.{digits}
 use Rattle.mx_layout.specs.declared.fault.Table.TheVariants as name
 use Rattle.mx_layout.specs.declared.fault.TableFault.TheVariants as table
-use Rattle.mx_migrate.specs.declared.fault.MoveFault.TheVariants as moving
+use Rattle.mx_faults.specs.declared.moving.MoveFault.TheVariants as moving
 use Rattle.mx_faults.specs.declared.fault.Fault.TheVariants as office
 use Rattle.mx_faults.specs.declared.fault.OpenFault.TheVariants as opening
 use Rattle.mx_endings.specs.declared.ending.Stop.TheVariants.{Words, Shape, Intake, MakeMemory, Create, Move, Open, Office, Print}

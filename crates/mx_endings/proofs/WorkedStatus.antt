@@ -3,7 +3,7 @@ use Rattle.std.proofs.Common.{refl, ◌≡◌, [], ◌∷◌, true, false}
 use Rattle.std.specs.Prelude.{map, Ok, Err}
 use Rattle.mx_layout.specs.declared.fault.TableFault.TheVariants as table
 use Rattle.mx_layout.specs.declared.fault.Table.TheVariants as name
-use Rattle.mx_migrate.specs.declared.fault.MoveFault.TheVariants as moving
+use Rattle.mx_faults.specs.declared.moving.MoveFault.TheVariants as moving
 use Rattle.mx_faults.specs.declared.fault.Fault.TheVariants as office
 use Rattle.mx_faults.specs.declared.fault.OpenFault.TheVariants as opening
 use Rattle.mx_book.specs.declared.verdict.Refusal.TheVariants.{UnknownAircraft, Full}

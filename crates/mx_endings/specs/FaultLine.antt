@@ -5,8 +5,8 @@ use Rattle.mx_layout.specs.Names.{table_name}
 use Rattle.mx_layout.specs.declared.fault.TableFault.{TableFault}
 use Rattle.mx_layout.specs.declared.fault.TableFault.TheVariants as table
 use Rattle.mx_intake.specs.declared.fault.IntakeFault.{IntakeFault}
-use Rattle.mx_migrate.specs.declared.fault.MoveFault.{MoveFault}
-use Rattle.mx_migrate.specs.declared.fault.MoveFault.TheVariants as moving
+use Rattle.mx_faults.specs.declared.moving.MoveFault.{MoveFault}
+use Rattle.mx_faults.specs.declared.moving.MoveFault.TheVariants as moving
 use Rattle.mx_faults.specs.declared.fault.Fault.{Fault}
 use Rattle.mx_faults.specs.declared.fault.Fault.TheVariants as office
 use Rattle.mx_faults.specs.declared.fault.OpenFault.{OpenFault}

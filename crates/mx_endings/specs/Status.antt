@@ -3,8 +3,8 @@ use Rattle.std.specs.Prelude.{◌≡◌, ℕ, List, ◌++◌, Result, Ok, Err, i
 use Rattle.std.specs.List.{list_any}
 use Rattle.mx_book.specs.declared.verdict.Reply.{Reply}
 use Rattle.mx_reports.specs.Replies.{is_refusal}
-use Rattle.mx_migrate.specs.declared.fault.MoveFault.{MoveFault}
-use Rattle.mx_migrate.specs.declared.fault.MoveFault.TheVariants as moving
+use Rattle.mx_faults.specs.declared.moving.MoveFault.{MoveFault}
+use Rattle.mx_faults.specs.declared.moving.MoveFault.TheVariants as moving
 use Rattle.mx_endings.specs.declared.ending.Ending.{Ending}
 use Rattle.mx_endings.specs.declared.ending.Ending.TheVariants.{Done, Refused, Bad, Differs}
 use Rattle.mx_endings.specs.declared.ending.Stop.{Stop}

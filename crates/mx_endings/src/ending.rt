@@ -7,10 +7,9 @@ ghost use Rattle.mx_endings.specs.FaultLine.{fault_line, create_words, line_of, 
 ghost use Rattle.mx_endings.specs.Status.{done_status, ending_status, graver, move_status, stop_status};
 
 use crate::lines::{write_damaged, write_fault, write_intake};
-use mx_faults::{Fault, OpenFault};
+use mx_faults::{Fault, MoveFault, OpenFault};
 use mx_intake::IntakeFault;
 use mx_layout::TableFault;
-use mx_migrate::MoveFault;
 use std::io;
 use std::io::Write;
 

@@ -2,5 +2,7 @@
 #![tactic(auto)]
 
 pub mod fault;
+pub mod moving;
 
 pub use fault::{Ask, Fault, OpenFault};
+pub use moving::MoveFault;

@@ -17,8 +17,8 @@ use Rattle.mx_layout.proofs.CrashLemmas.{IsSettled, commits_either, commits_ok, 
 use Rattle.mx_stands.specs.Schemas.{schema_at}
 use Rattle.mx_stands.specs.Stands.{LiesAt, StandsAt, RestsAt}
 use Rattle.mx_tables.specs.Calls.{OnDamaged}
-use Rattle.mx_migrate.specs.declared.fault.MoveFault.TheVariants as stop
-use Rattle.mx_migrate.specs.Faults.{fault_from}
+use Rattle.mx_faults.specs.declared.moving.MoveFault.TheVariants as stop
+use Rattle.mx_faults.specs.Moving.{fault_from}
 use Rattle.mx_migrate.specs.Steps.{Runs, CommitsStep, LeavesOneBook}
 
 -- a fault of a move that is damage is that of the tables

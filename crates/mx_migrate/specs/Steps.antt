@@ -14,8 +14,8 @@ use Rattle.mx_stands.specs.Schemas.{schema_at}
 use Rattle.mx_stands.specs.Stands.{LiesAt, StandsAt, RestsAt}
 use Rattle.mx_tables.specs.Calls.{OnRead}
 use Rattle.mx_inserts.specs.Sets.{IsInside}
-use Rattle.mx_migrate.specs.declared.fault.MoveFault.{MoveFault}
-use Rattle.mx_migrate.specs.declared.fault.MoveFault.TheVariants as stop
+use Rattle.mx_faults.specs.declared.moving.MoveFault.{MoveFault}
+use Rattle.mx_faults.specs.declared.moving.MoveFault.TheVariants as stop
 
 -- The statements of a step ran inside a transaction, over the tables of a point that the step is for, whatever rows they have. They made of the tables what the step makes of them, and the point that they lead to is answered; or a table is damaged, in a way that the step names; or want of memory or the store stopped the call.
 pub record Runs (IsAt : Point → Type 0) (Makes : Point → Point → Trees → Trees → Type 0) (IsOff : Point → TableName → Trees → Type 0) (old new : State) (result : Result Point TableFault) : Type 0 where

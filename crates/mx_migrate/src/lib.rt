@@ -12,7 +12,6 @@
 pub mod bases;
 pub mod components;
 pub mod creating;
-pub mod fault;
 pub mod finishing;
 mod looking;
 pub mod sectors;
@@ -23,7 +22,6 @@ pub mod totals;
 pub use bases::{CreateBases, WriteBases};
 pub use components::MoveComponent;
 pub use creating::CreateSectors;
-pub use fault::MoveFault;
 pub use finishing::Finish;
 pub use sectors::MoveSectors;
 pub use spans::ChangeToSpans;

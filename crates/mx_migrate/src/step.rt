@@ -9,7 +9,7 @@ ghost use Rattle.mx_layout.specs.TableName.{TableName};
 ghost use Rattle.mx_stands.specs.Stands.{StandsAt};
 ghost use Rattle.mx_migrate.specs.Steps.{Runs, CommitsStep, LeavesOneBook};
 
-use crate::fault::{MoveFault, fault_of};
+use mx_faults::moving::{MoveFault, fault_of};
 use mx_layout::TableFault;
 use mx_point::Point;
 use sqlite::{Alter, Connection, Transaction};

@@ -2,7 +2,8 @@
 ghost use Rattle.std.specs.Prelude.{◌≡◌, false};
 
 use mx_fault_texts::{append_damaged, room};
-use mx_migrate::{Migrate, MoveFault, commit_step};
+use mx_faults::MoveFault;
+use mx_migrate::{Migrate, commit_step};
 use mx_point::Point;
 use sqlite::{Alter, Connection};
 use std::alloc::{AllocError, Global};

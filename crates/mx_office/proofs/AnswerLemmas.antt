@@ -11,8 +11,8 @@ use Rattle.mx_command.specs.Act.{Entry}
 use Rattle.mx_layout.specs.Contents.{rows_in}
 use Rattle.mx_layout.specs.Listed.{LacksOffice}
 use Rattle.mx_layout.specs.Tables.{office, HasOffice}
-use Rattle.mx_migrate.specs.declared.fault.MoveFault.{MoveFault}
-use Rattle.mx_migrate.specs.declared.fault.MoveFault.TheVariants as move
+use Rattle.mx_faults.specs.declared.moving.MoveFault.{MoveFault}
+use Rattle.mx_faults.specs.declared.moving.MoveFault.TheVariants as move
 use Rattle.mx_point.specs.declared.point.Point.{Point}
 use Rattle.mx_points.specs.Points.{is_on_way}
 use Rattle.sqlite.specs.Order.{Row}

@@ -9,8 +9,8 @@ use Rattle.mx_point.specs.declared.point.Point.{Point}
 use Rattle.mx_points.specs.Points.{is_on_way}
 use Rattle.mx_layout.specs.Point.{point_cells, IsPoint}
 use Rattle.mx_layout.specs.Reading.{HasOther}
-use Rattle.mx_migrate.specs.declared.fault.MoveFault.{MoveFault}
-use Rattle.mx_migrate.specs.declared.fault.MoveFault.TheVariants as move
+use Rattle.mx_faults.specs.declared.moving.MoveFault.{MoveFault}
+use Rattle.mx_faults.specs.declared.moving.MoveFault.TheVariants as move
 use Rattle.sqlite.specs.Order.{Row}
 use Rattle.mx_office.specs.Layout.{office_point}
 use Rattle.mx_faults.specs.declared.fault.Fault.{Fault}

@@ -4,9 +4,8 @@ ghost use Rattle.mx_office.specs.Calls.{stop_asking, stop_in};
 ghost use Rattle.mx_office.specs.Faults.{call_answer, fault_from, moved_fault_from, open_fault_from, question_answer};
 
 use mx_book::{Refusal, Reply};
-use mx_faults::{Ask, Fault, OpenFault};
+use mx_faults::{Ask, Fault, MoveFault, OpenFault};
 use mx_layout::{Table, TableFault};
-use mx_migrate::MoveFault;
 
 /// What a run answered, and what stopped it.
 #[derive(Drop)]

@@ -2,7 +2,7 @@
 use Rattle.std.specs.Prelude.{◌≡◌, ℕ, List, [], ◌∷◌, ◌++◌, Result, Ok, Err, codes}
 use Rattle.std.specs.Fmt.{decimal}
 use Rattle.mx_point.specs.declared.point.Point.{Point}
-use Rattle.mx_migrate.specs.declared.fault.MoveFault.{MoveFault}
+use Rattle.mx_faults.specs.declared.moving.MoveFault.{MoveFault}
 use Rattle.mx_reports.specs.Words.{spaced}
 use Rattle.mx_endings.specs.declared.ending.Ending.{Ending}
 use Rattle.mx_endings.specs.declared.ending.Ending.TheVariants.{Done}

@@ -17,10 +17,10 @@ use Rattle.mx_layout.specs.Crash.{ChangesNothing, RestsAs}
 use Rattle.mx_layout.proofs.CrashLemmas.{rests_kept, rests_same}
 use Rattle.mx_stands.specs.Schemas.{IsOfFile, schema_at}
 use Rattle.mx_stands.specs.Stands.{LiesAt, RestsAt, StandsAt}
-use Rattle.mx_migrate.specs.Faults.{fault_from}
+use Rattle.mx_faults.specs.Moving.{fault_from}
 use Rattle.mx_migrate.specs.Steps.{CommitsStep, LeavesOneBook}
-use Rattle.mx_migrate.specs.declared.fault.MoveFault.{MoveFault}
-use Rattle.mx_migrate.specs.declared.fault.MoveFault.TheVariants as stop
+use Rattle.mx_faults.specs.declared.moving.MoveFault.{MoveFault}
+use Rattle.mx_faults.specs.declared.moving.MoveFault.TheVariants as stop
 use Rattle.mx_derived.specs.declared.kept.KeptRows.{KeptRows}
 use Rattle.mx_settle.specs.Advances.{Advances, AdvancesBook, IsStepOf}
 use Rattle.mx_settle.specs.Choices.{Chooses, GoesOn, IsUnfit, LiesIn, StandsIn}

@@ -22,9 +22,9 @@ use Rattle.mx_layout.specs.Tables.{office}
 use Rattle.mx_stands.specs.Schemas.{IsOfFile, schema_at}
 use Rattle.mx_stands.specs.Stands.{RestsAt, StandsAt}
 use Rattle.mx_stands.proofs.PointLemmas.{and_left, and_right}
-use Rattle.mx_migrate.specs.Faults.{fault_from}
-use Rattle.mx_migrate.specs.declared.fault.MoveFault.{MoveFault}
-use Rattle.mx_migrate.specs.declared.fault.MoveFault.TheVariants as stop
+use Rattle.mx_faults.specs.Moving.{fault_from}
+use Rattle.mx_faults.specs.declared.moving.MoveFault.{MoveFault}
+use Rattle.mx_faults.specs.declared.moving.MoveFault.TheVariants as stop
 use Rattle.mx_settle.specs.Place.{AnswersAs, IsMoveStop, IsPlacedAt, SaysAt, TellsPlace, checked, is_of_file}
 
 -- ── points ──

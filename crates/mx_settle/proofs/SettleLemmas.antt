@@ -16,7 +16,7 @@ use Rattle.mx_book.specs.Book.{IsBook}
 use Rattle.mx_layout.specs.Crash.{Leaves}
 use Rattle.mx_stands.specs.Schemas.{IsOfFile, schema_at}
 use Rattle.mx_stands.specs.Stands.{RestsAt, StandsAt}
-use Rattle.mx_migrate.specs.declared.fault.MoveFault.{MoveFault}
+use Rattle.mx_faults.specs.declared.moving.MoveFault.{MoveFault}
 use Rattle.mx_derived.specs.declared.kept.KeptRows.{KeptRows}
 use Rattle.mx_settle.specs.Advances.{Advances, AdvancesBook, AreMoved, IsStepOf, LeadsTo}
 use Rattle.mx_settle.specs.Due.{IsFor, MakesBy}

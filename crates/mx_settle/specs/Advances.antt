@@ -13,8 +13,8 @@ use Rattle.mx_layout.specs.Listed.{LacksOffice}
 use Rattle.mx_layout.specs.Point.{FitsPoint, HoldsPoint}
 use Rattle.mx_stands.specs.Schemas.{IsOfFile}
 use Rattle.mx_stands.specs.Stands.{StandsAt, RestsAt}
-use Rattle.mx_migrate.specs.declared.fault.MoveFault.{MoveFault}
-use Rattle.mx_migrate.specs.declared.fault.MoveFault.TheVariants.{Store, NotOurs, Damaged}
+use Rattle.mx_faults.specs.declared.moving.MoveFault.{MoveFault}
+use Rattle.mx_faults.specs.declared.moving.MoveFault.TheVariants.{Store, NotOurs, Damaged}
 use Rattle.mx_settle.specs.Choices.{IsUnfit}
 use Rattle.mx_settle.specs.Due.{IsFor, IsOffFor, MakesBy}
 use Rattle.mx_settle.specs.Place.{AnswersAs, IsBehind, IsMoveStop, IsPlacedAt, checked}

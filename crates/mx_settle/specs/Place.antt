@@ -12,8 +12,8 @@ use Rattle.mx_layout.specs.Point.{point_cells, FitsPoint, HoldsPoint}
 use Rattle.mx_layout.specs.Tables.{office}
 use Rattle.mx_stands.specs.Schemas.{IsOfFile, schema_at}
 use Rattle.mx_stands.specs.Stands.{LiesAt}
-use Rattle.mx_migrate.specs.declared.fault.MoveFault.{MoveFault}
-use Rattle.mx_migrate.specs.declared.fault.MoveFault.TheVariants.{Memory, Store, NotOurs, NewerLayout, Damaged}
+use Rattle.mx_faults.specs.declared.moving.MoveFault.{MoveFault}
+use Rattle.mx_faults.specs.declared.moving.MoveFault.TheVariants.{Memory, Store, NotOurs, NewerLayout, Damaged}
 use Rattle.mx_settle.specs.declared.place.TheConstants.{NEWEST_LAYOUT}
 
 -- ── points ──

@@ -9,8 +9,8 @@ use Rattle.mx_points.specs.Commits.{point_behind}
 use Rattle.mx_layout.specs.Crash.{Leaves}
 use Rattle.mx_stands.specs.Schemas.{IsOfFile}
 use Rattle.mx_stands.specs.Stands.{StandsAt, RestsAt}
-use Rattle.mx_migrate.specs.declared.fault.MoveFault.{MoveFault}
-use Rattle.mx_migrate.specs.declared.fault.MoveFault.TheVariants.{Store}
+use Rattle.mx_faults.specs.declared.moving.MoveFault.{MoveFault}
+use Rattle.mx_faults.specs.declared.moving.MoveFault.TheVariants.{Store}
 use Rattle.mx_settle.specs.Advances.{AreMoved}
 use Rattle.mx_settle.specs.Place.{IsMoveStop, IsPlacedAt}
 use Rattle.mx_settle.specs.declared.place.TheConstants.{NEWEST_LAYOUT}

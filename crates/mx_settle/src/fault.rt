@@ -1,9 +1,9 @@
 //! The fault of a move that a fault of the tables is.
 ghost use Rattle.std.specs.Prelude.{◌≡◌};
-ghost use Rattle.mx_migrate.specs.Faults.{fault_from};
+ghost use Rattle.mx_faults.specs.Moving.{fault_from};
 
+use mx_faults::MoveFault;
 use mx_layout::TableFault;
-use mx_migrate::MoveFault;
 
 /// What stops a move where the tables were not read.
 pub(crate) fn fault_of(fault: TableFault) -> MoveFault

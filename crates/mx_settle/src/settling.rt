@@ -12,7 +12,7 @@ ghost use Rattle.mx_settle.specs.Settles.{Settles};
 
 use crate::advancing::advance_knowing;
 use crate::place::{NEWEST_LAYOUT, place};
-use mx_migrate::MoveFault;
+use mx_faults::MoveFault;
 use mx_point::Point;
 use sqlite::{Alter, Connection};
 use std::alloc::Global;

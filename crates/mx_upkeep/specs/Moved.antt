@@ -2,7 +2,7 @@
 use Rattle.std.specs.Prelude.{ℕ, Result}
 use Rattle.sqlite.specs.State.{State}
 use Rattle.mx_point.specs.declared.point.Point.{Point}
-use Rattle.mx_migrate.specs.declared.fault.MoveFault.{MoveFault}
+use Rattle.mx_faults.specs.declared.moving.MoveFault.{MoveFault}
 use Rattle.mx_settle.specs.Settles.{Settles}
 
 -- a file was moved by at most so many commits, and this was printed of the answer

@@ -1,6 +1,6 @@
 use Rattle.std.proofs.Common.{rules, ◌≡◌, Err, Ok, sym, subst}
 use Rattle.sqlite.specs.Held.{state}
-use Rattle.mx_migrate.specs.declared.fault.MoveFault.TheVariants.{Store}
+use Rattle.mx_faults.specs.declared.moving.MoveFault.TheVariants.{Store}
 use Rattle.mx_migrate.specs.Steps.{Runs, CommitsStep, LeavesOneBook}
 use Rattle.mx_migrate.proofs.CommitLemmas.{commits, commits_in_doubt, commits_whole, stops, stops_whole}
 use Rattle.mx_migrate.proofs.step.commit_step.Goals as goal

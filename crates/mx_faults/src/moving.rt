@@ -1,6 +1,6 @@
 //! What stops a move.
 ghost use Rattle.std.specs.Prelude.{◌≡◌};
-ghost use Rattle.mx_migrate.specs.Faults.{fault_from};
+ghost use Rattle.mx_faults.specs.Moving.{fault_from};
 
 use mx_layout::{Table, TableFault};
 
@@ -21,7 +21,7 @@ pub enum MoveFault {
 }
 
 /// The fault of a move that a fault of the tables is.
-pub(crate) fn fault_of(fault: TableFault) -> MoveFault
+pub fn fault_of(fault: TableFault) -> MoveFault
     ensures { result ≡ fault_from fault }
 {
     match fault {
