@@ -10,7 +10,7 @@ use Rattle.mx_command.specs.Shape.{has_shape}
 use Rattle.mx_book.specs.Run.{reply, reply_to}
 use Rattle.mx_book.specs.declared.verdict.Reply.{Reply}
 use Rattle.mx_book.specs.declared.verdict.Reply.TheVariants as answers
-use Rattle.mx_typed_rows.specs.declared.rows.EntryRow.{EntryRow}
+use Rattle.mx_base.specs.declared.rows.rows.EntryRow.{EntryRow}
 use Rattle.mx_changes.specs.declared.rows.CommandRows.{CommandRows}
 use Rattle.mx_layout.specs.TableName.{TableName}
 use Rattle.mx_layout.specs.declared.fault.TableFault.{TableFault}

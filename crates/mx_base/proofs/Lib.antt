@@ -4,3 +4,4 @@ pub mod IdentifierLemmas
 pub mod RoundTrips
 pub mod TextLemmas
 pub mod Worked
+pub mod RowsProofs

@@ -8,7 +8,9 @@ pub mod category;
 pub mod days;
 pub mod identifiers;
 pub mod moments;
+pub mod point;
 pub mod print;
+pub mod rows;
 mod texts;
 
 pub use amounts::{Base, Left, Limit, Status, Tolerance, Use};
@@ -16,4 +18,5 @@ pub use category::Category;
 pub use days::{Day, plus_days};
 pub use identifiers::{BadText, Doc, Kind, MelRef, Part, Position, Serial, Tail, TaskId};
 pub use moments::{Moment, MomentText, day_of};
+pub use point::Point;
 pub use print::{print_day, print_day_number, print_hours, print_moment};

@@ -12,8 +12,8 @@ use Rattle.mx_due.specs.Due.{base_done}
 use Rattle.mx_book.specs.Life.{life_now, use_or_none}
 use Rattle.mx_register.specs.Lines.{lines_from}
 use Rattle.mx_register.specs.Registers.{release_line_row}
-use Rattle.mx_typed_rows.specs.Rows.{base_row_with}
-use Rattle.mx_typed_rows.specs.declared.rows.BaseRow.{BaseRow}
+use Rattle.mx_base.specs.rows.Rows.{base_row_with}
+use Rattle.mx_base.specs.declared.rows.rows.BaseRow.{BaseRow}
 use Rattle.mx_kept_rows.specs.Bases.{base_set}
 use Rattle.mx_kept_rows.specs.Changes.{due_at}
 use Rattle.mx_kept_rows.specs.Items.{number_of_item}

@@ -13,8 +13,8 @@ use Rattle.mx_book.specs.Book.{IsBook}
 use Rattle.mx_book.specs.Judge.{judge}
 use Rattle.mx_book.specs.Life.{use_after}
 use Rattle.mx_register.specs.Registers.{next}
-use Rattle.mx_typed_rows.specs.declared.rows.SpanRow.{SpanRow}
-use Rattle.mx_typed_rows.specs.declared.rows.TotalRow.{TotalRow}
+use Rattle.mx_base.specs.declared.rows.rows.SpanRow.{SpanRow}
+use Rattle.mx_base.specs.declared.rows.rows.TotalRow.{TotalRow}
 use Rattle.mx_kept_rows.specs.Items.{number_of_serial, number_of_tail}
 use Rattle.mx_kept_rows.specs.Spans.{is_open_of, is_span_touched, span_ended, span_rows, spans_opened}
 use Rattle.mx_kept_rows.specs.Totals.{clocked_row, credited_row, is_among, numbers_flown, numbers_touched, raised_row, total_by_number, total_rows, totals_opened}

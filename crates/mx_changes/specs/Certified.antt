@@ -7,9 +7,9 @@ use Rattle.mx_command.specs.declared.release.Release.{Release}
 use Rattle.mx_due.specs.Due.{IsLife, base_done}
 use Rattle.mx_book.specs.Life.{life_now, use_or_none}
 use Rattle.mx_register.specs.Names.{or_zero, seq_of_defect}
-use Rattle.mx_typed_rows.specs.Rows.{base_row_with}
-use Rattle.mx_typed_rows.specs.declared.rows.BaseRow.{BaseRow}
-use Rattle.mx_typed_rows.specs.declared.rows.ReleaseLineRow.{ReleaseLineRow}
+use Rattle.mx_base.specs.rows.Rows.{base_row_with}
+use Rattle.mx_base.specs.declared.rows.rows.BaseRow.{BaseRow}
+use Rattle.mx_base.specs.declared.rows.rows.ReleaseLineRow.{ReleaseLineRow}
 use Rattle.mx_kept_rows.specs.Changes.{due_at}
 use Rattle.mx_kept_rows.specs.Items.{number_of_item}
 use Rattle.mx_changes.specs.declared.releases.Certified.{Certified}

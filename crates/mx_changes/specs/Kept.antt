@@ -5,8 +5,8 @@ use Rattle.mx_command.specs.declared.fitting.Fitting.{Fitting}
 use Rattle.mx_command.specs.declared.sector.Sector.{Sector}
 use Rattle.mx_due.specs.Due.{IsLife}
 use Rattle.mx_book.specs.Life.{use_after}
-use Rattle.mx_typed_rows.specs.declared.rows.SpanRow.{SpanRow}
-use Rattle.mx_typed_rows.specs.declared.rows.TotalRow.{TotalRow}
+use Rattle.mx_base.specs.declared.rows.rows.SpanRow.{SpanRow}
+use Rattle.mx_base.specs.declared.rows.rows.TotalRow.{TotalRow}
 use Rattle.mx_kept_rows.specs.Totals.{raised_row}
 
 -- ── totals ──

@@ -3,12 +3,12 @@ use Rattle.std.specs.Prelude.{◌≡◌, ℕ, ◌/◌, List, [], ◌∷◌, map}
 use Rattle.std.specs.List.{filter_map}
 use Rattle.mx_command.specs.Act.{Act, Added, Listed, Opened, Flown, Fitted, Removed, Released, Deferred, aircraft_of, component_of, programme_of, opening_of, sector_of, fitting_of, release_of, deferral_of, extension_of, positions_of, tasks_of}
 use Rattle.mx_book.specs.Base.{base_at}
-use Rattle.mx_typed_rows.specs.Rows.{base_row_with}
-use Rattle.mx_typed_rows.specs.declared.rows.BaseRow.{BaseRow}
-use Rattle.mx_typed_rows.specs.declared.rows.EntryRow.{EntryRow}
-use Rattle.mx_typed_rows.specs.declared.rows.ReleaseLineRow.{ReleaseLineRow}
-use Rattle.mx_typed_rows.specs.declared.rows.SpanRow.{SpanRow}
-use Rattle.mx_typed_rows.specs.declared.rows.TotalRow.{TotalRow}
+use Rattle.mx_base.specs.rows.Rows.{base_row_with}
+use Rattle.mx_base.specs.declared.rows.rows.BaseRow.{BaseRow}
+use Rattle.mx_base.specs.declared.rows.rows.EntryRow.{EntryRow}
+use Rattle.mx_base.specs.declared.rows.rows.ReleaseLineRow.{ReleaseLineRow}
+use Rattle.mx_base.specs.declared.rows.rows.SpanRow.{SpanRow}
+use Rattle.mx_base.specs.declared.rows.rows.TotalRow.{TotalRow}
 use Rattle.mx_register.specs.Lines.{lines_from}
 use Rattle.mx_register.specs.Registers.{if_any, aircraft_row, place_row, component_row, programme_row, task_row, opening_row, sector_row, release_row, deferral_row, extension_row}
 use Rattle.mx_changes.specs.Certified.{base_made, line_made}

@@ -1,7 +1,7 @@
 -- Rows that come in place of others, one after another.
 use Rattle.std.specs.Prelude.{ℕ, Bool, nat_eq, not, List, [], ◌∷◌, filter}
-use Rattle.mx_typed_rows.specs.declared.rows.SpanRow.{SpanRow}
-use Rattle.mx_typed_rows.specs.declared.rows.TotalRow.{TotalRow}
+use Rattle.mx_base.specs.declared.rows.rows.SpanRow.{SpanRow}
+use Rattle.mx_base.specs.declared.rows.rows.TotalRow.{TotalRow}
 
 -- each of these rows in place of those that are the same, one after another
 abbrev pub rows_put : {Row : Type 0} → (Row → Row → Bool) → List Row → List Row → List Row

@@ -1,12 +1,12 @@
 -- Which rows of layout 2 are those of a command.
 use Rattle.std.specs.Prelude.{◌≡◌, List, [], map, filter}
 use Rattle.mx_command.specs.Act.{Act, Entry}
-use Rattle.mx_typed_rows.specs.declared.rows.EntryRow.{EntryRow}
-use Rattle.mx_typed_rows.specs.declared.rows.SectorRow.{SectorRow}
-use Rattle.mx_typed_rows.specs.declared.rows.Sector2Row.{Sector2Row}
-use Rattle.mx_typed_rows.specs.declared.rows.SpanRow.{SpanRow}
-use Rattle.mx_typed_rows.specs.declared.rows.TotalRow.{TotalRow}
-use Rattle.mx_typed_rows.specs.Rows.{FitsEntry, FitsAircraft, FitsPlace, FitsComponent, FitsProgramme, FitsTask, FitsOpening, FitsRelease, FitsReleaseLine, FitsDeferral, FitsExtension, FitsSector, FitsSpan, FitsTotal, FitsBase}
+use Rattle.mx_base.specs.declared.rows.rows.EntryRow.{EntryRow}
+use Rattle.mx_base.specs.declared.rows.rows.SectorRow.{SectorRow}
+use Rattle.mx_base.specs.declared.rows.rows.Sector2Row.{Sector2Row}
+use Rattle.mx_base.specs.declared.rows.rows.SpanRow.{SpanRow}
+use Rattle.mx_base.specs.declared.rows.rows.TotalRow.{TotalRow}
+use Rattle.mx_base.specs.rows.Rows.{FitsEntry, FitsAircraft, FitsPlace, FitsComponent, FitsProgramme, FitsTask, FitsOpening, FitsRelease, FitsReleaseLine, FitsDeferral, FitsExtension, FitsSector, FitsSpan, FitsTotal, FitsBase}
 use Rattle.mx_register.specs.Added.{AreAdded}
 use Rattle.mx_register.specs.Registers.{entry_row, next, aircraft_by, places_by, components_by, programmes_by, tasks_by, openings_by, releases_by, release_lines_by, deferrals_by, extensions_by, sectors_by}
 use Rattle.mx_kept_rows.specs.Bases.{bases_by}

@@ -1,7 +1,7 @@
 //! The rows of a deferral and of an extension.
 ghost use Rattle.std.specs.Prelude.{◌≡◌, ℕ, List, IfOk};
 ghost use Rattle.mx_command.specs.Act.{Deferred, Entry, Extended};
-ghost use Rattle.mx_typed_rows.specs.Rows.{FitsEntry};
+ghost use Rattle.mx_base.specs.rows.Rows.{FitsEntry};
 ghost use Rattle.mx_register.specs.Names.{or_zero, seq_of_defect};
 ghost use Rattle.mx_kept_rows.specs.Changes.{entry_of};
 ghost use Rattle.mx_kept_rows.specs.Items.{number_of_tail};
@@ -12,9 +12,9 @@ use crate::plain::{none_added, none_changed};
 use crate::rows::CommandRows;
 use crate::totals::clocked_totals;
 use mx_base::Category;
+use mx_base::rows::{EntryRow, TotalRow};
 use mx_command::{Deferral, Extension};
 use mx_register::{deferral_row, extension_row};
-use mx_typed_rows::{EntryRow, TotalRow};
 use std::alloc::{AllocError, Global};
 
 /// The rows of a deferral, by the number of its aircraft, and by the totals that it touches, as they are: that of its aircraft.

@@ -2,7 +2,7 @@
 ghost use Rattle.std.specs.Prelude.{◌≡◌, ◌≤◌, ℕ, List, All, IfOk, length};
 ghost use Rattle.mx_command.specs.Act.{Added, Entry, Listed};
 ghost use Rattle.mx_command.specs.declared.shape.TheConstants.{MOST_POSITIONS};
-ghost use Rattle.mx_typed_rows.specs.Rows.{FitsEntry, FitsPlace, FitsTotal};
+ghost use Rattle.mx_base.specs.rows.Rows.{FitsEntry, FitsPlace, FitsTotal};
 ghost use Rattle.mx_register.specs.Lines.{lines_from};
 ghost use Rattle.mx_register.specs.Registers.{place_row};
 ghost use Rattle.mx_kept_rows.specs.Changes.{entry_of};
@@ -12,10 +12,10 @@ ghost use Rattle.mx_changes.specs.Rows.{AreCommandRows, IsEntryOf};
 
 use crate::plain::{none_added, none_changed};
 use crate::rows::CommandRows;
+use mx_base::rows::{EntryRow, PlaceRow, TotalRow};
 use mx_base::{Moment, Part, Position, Use};
 use mx_command::{Aircraft, Component};
 use mx_register::{aircraft_row, component_row, place_row};
-use mx_typed_rows::{EntryRow, PlaceRow, TotalRow};
 use std::alloc::{AllocError, Global};
 
 // The first total of an item: the use that it brings with it, and the moment up to which that counts.

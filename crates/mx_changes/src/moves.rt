@@ -1,7 +1,7 @@
 //! The rows of a fitting and of a removal.
 ghost use Rattle.std.specs.Prelude.{◌≡◌, ℕ, List, map, All, IfOk};
 ghost use Rattle.mx_command.specs.Act.{Entry, Fitted, Removed};
-ghost use Rattle.mx_typed_rows.specs.Rows.{FitsEntry, FitsSpan};
+ghost use Rattle.mx_base.specs.rows.Rows.{FitsEntry, FitsSpan};
 ghost use Rattle.mx_kept_rows.specs.Changes.{entry_of};
 ghost use Rattle.mx_kept_rows.specs.Items.{number_of_serial, number_of_tail};
 ghost use Rattle.mx_changes.specs.Kept.{span_fitted, span_removed};
@@ -12,8 +12,8 @@ use crate::plain::{none_added, none_changed};
 use crate::rows::CommandRows;
 use crate::totals::clocked_totals;
 use mx_base::Moment;
+use mx_base::rows::{EntryRow, SpanRow, TotalRow};
 use mx_command::{Fitting, Removal};
-use mx_typed_rows::{EntryRow, SpanRow, TotalRow};
 use std::alloc::{AllocError, Global};
 
 // The span that a fitting begins, by the numbers of its entry, its component and its aircraft.

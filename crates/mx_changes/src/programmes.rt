@@ -3,7 +3,7 @@ ghost use Rattle.std.specs.Prelude.{◌≡◌, ◌≤◌, ℕ, List, All, IfOk, 
 ghost use Rattle.mx_command.specs.Act.{Entry, Loaded, Opened};
 ghost use Rattle.mx_command.specs.declared.programme_shape.TheConstants.{MOST_TASKS};
 ghost use Rattle.mx_book.specs.Base.{base_at};
-ghost use Rattle.mx_typed_rows.specs.Rows.{FitsBase, FitsEntry, FitsTask, base_row_with};
+ghost use Rattle.mx_base.specs.rows.Rows.{FitsBase, FitsEntry, FitsTask, base_row_with};
 ghost use Rattle.mx_register.specs.Lines.{lines_from};
 ghost use Rattle.mx_register.specs.Registers.{task_row};
 ghost use Rattle.mx_kept_rows.specs.Changes.{entry_of};
@@ -13,10 +13,10 @@ ghost use Rattle.mx_changes.specs.Rows.{AreCommandRows, IsEntryOf};
 
 use crate::plain::{none_added, none_changed};
 use crate::rows::CommandRows;
+use mx_base::rows::{BaseRow, EntryRow, TaskRow};
 use mx_base::{Day, TaskId, Use};
 use mx_command::{Opening, Programme, Task};
 use mx_register::{opening_row, programme_row, task_row};
-use mx_typed_rows::{BaseRow, EntryRow, TaskRow};
 use std::alloc::{AllocError, Global};
 
 // The rows of the tasks of the programme that the entry with a number loads.

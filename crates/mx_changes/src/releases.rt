@@ -5,7 +5,7 @@ ghost use Rattle.mx_command.specs.Act.{Entry, Released};
 ghost use Rattle.mx_command.specs.declared.release.Line.{Line};
 ghost use Rattle.mx_command.specs.declared.shape.TheConstants.{MOST_LINES};
 ghost use Rattle.mx_due.specs.Due.{IsLife, base_done};
-ghost use Rattle.mx_typed_rows.specs.Rows.{FitsBase, FitsEntry, FitsReleaseLine, base_row_with};
+ghost use Rattle.mx_base.specs.rows.Rows.{FitsBase, FitsEntry, FitsReleaseLine, base_row_with};
 ghost use Rattle.mx_register.specs.Lines.{lines_from};
 ghost use Rattle.mx_kept_rows.specs.Changes.{entry_of};
 ghost use Rattle.mx_kept_rows.specs.Items.{number_of_place};
@@ -16,11 +16,11 @@ ghost use Rattle.mx_changes.specs.Rows.{AreCommandRows, IsEntryOf, totals_before
 use crate::plain::{none_added, none_changed};
 use crate::rows::CommandRows;
 use crate::totals::clocked_totals;
+use mx_base::rows::{BaseRow, EntryRow, ReleaseLineRow, TotalRow};
 use mx_base::{Day, Limit, TaskId, Use, day_of};
 use mx_command::Release;
 use mx_due::base_done;
 use mx_register::release_row;
-use mx_typed_rows::{BaseRow, EntryRow, ReleaseLineRow, TotalRow};
 use std::alloc::{AllocError, Global};
 
 /// What is known of a line of a release.

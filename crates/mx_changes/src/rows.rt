@@ -1,6 +1,6 @@
 //! The rows of a command, by their tables. Most lists of a command are empty.
 
-use mx_typed_rows::{
+use mx_base::rows::{
     AircraftRow, BaseRow, ComponentRow, DeferralRow, EntryRow, ExtensionRow, OpeningRow, PlaceRow,
     ProgrammeRow, ReleaseLineRow, ReleaseRow, Sector2Row, SpanRow, TaskRow, TotalRow,
 };

@@ -2,8 +2,8 @@
 ghost use Rattle.std.specs.Prelude.{◌≡◌, ℕ, List, All, IfOk, true};
 ghost use Rattle.mx_command.specs.Act.{Entry, Flown};
 ghost use Rattle.mx_command.specs.Shape.{sector_shape};
-ghost use Rattle.mx_typed_rows.specs.Rows.{FitsEntry};
-ghost use Rattle.mx_typed_rows.specs.declared.rows.SpanRow.{SpanRow};
+ghost use Rattle.mx_base.specs.rows.Rows.{FitsEntry};
+ghost use Rattle.mx_base.specs.declared.rows.rows.SpanRow.{SpanRow};
 ghost use Rattle.mx_kept_rows.specs.Changes.{entry_of};
 ghost use Rattle.mx_kept_rows.specs.Items.{number_of_tail};
 ghost use Rattle.mx_changes.specs.Made.{AreMadeOf, nothing_found};
@@ -13,9 +13,9 @@ ghost use Rattle.mx_changes.specs.Kept.{HasLife};
 use crate::plain::{none_added, none_changed};
 use crate::rows::CommandRows;
 use crate::totals::flown_totals;
+use mx_base::rows::{EntryRow, Sector2Row, TotalRow};
 use mx_command::Sector;
 use mx_register::sector_row;
-use mx_typed_rows::{EntryRow, Sector2Row, TotalRow};
 use std::alloc::{AllocError, Global};
 
 /// The rows of a sector, by the number of its aircraft, and by the totals of the aircraft and of the components that were

@@ -11,9 +11,9 @@ use Rattle.std.proofs.lemmas.List.Sorted.{IsPermutation-trans, IsPermutation-rev
 use Rattle.sqlite_keyed.proofs.ListLemmas.{filter_all, all_of}
 use Rattle.sqlite.specs.Order.{Row}
 use Rattle.sqlite.specs.Tree.{Trees}
-use Rattle.mx_typed_rows.specs.Rising.{IsRising}
-use Rattle.mx_typed_rows.specs.declared.rows.EntryRow.{EntryRow}
-use Rattle.mx_typed_rows.proofs.SortedLemmas.{sorted_once, IsRising-map, IsFrom-map}
+use Rattle.mx_base.specs.rows.Rising.{IsRising}
+use Rattle.mx_base.specs.declared.rows.rows.EntryRow.{EntryRow}
+use Rattle.mx_base.proofs.RowsProofs.SortedLemmas.{sorted_once, IsRising-map, IsFrom-map}
 use Rattle.mx_layout.specs.Contents.{rows_in}
 use Rattle.mx_layout.specs.Names.{table_named}
 use Rattle.mx_kept.specs.Keys.{one_key}

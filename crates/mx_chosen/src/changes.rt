@@ -8,7 +8,7 @@ ghost use Rattle.mx_chosen.specs.Calls.{DeletesRows};
 
 use crate::chosen::delete_rows;
 use crate::prelude::*;
-use mx_typed_rows::{FittingRow, SectorRow};
+use mx_base::rows::{FittingRow, SectorRow};
 
 /// Deletes the sectors of `sector1` up to this entry.
 pub fn delete_sector1<S: Alter>(tx: &mut Transaction<'_, S>, seq: u32) -> Result<(), TableFault>

@@ -10,10 +10,10 @@ ghost use Rattle.mx_kept.specs.Cells.{kept_entry, kept_aircraft, kept_component}
 ghost use Rattle.mx_chosen.specs.Choices.{AreFirst, backward, is_any};
 ghost use Rattle.mx_chosen.specs.Counts.{Counts, CountsRows, AreNumbered, last_number};
 
+use mx_base::rows::{AircraftRow, ComponentRow, EntryRow};
 use mx_layout::TableFault;
 use mx_layout::fault::fault_of;
 use mx_tables::stored::Stored;
-use mx_typed_rows::{AircraftRow, ComponentRow, EntryRow};
 use sqlite::types::ValueRef;
 use sqlite::{Alter, Row, Transaction};
 

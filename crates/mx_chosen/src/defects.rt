@@ -6,7 +6,7 @@ ghost use Rattle.mx_kept.specs.Cells.{kept_defect, kept_extension};
 ghost use Rattle.mx_chosen.specs.Calls.{ReadsBy};
 
 use crate::prelude::*;
-use mx_typed_rows::{DeferralRow, ExtensionRow};
+use mx_base::rows::{DeferralRow, ExtensionRow};
 
 /// The defect that an entry deferred: at most one.
 pub fn defect_by_seq<S: Alter>(

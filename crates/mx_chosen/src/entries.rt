@@ -8,7 +8,7 @@ ghost use Rattle.mx_chosen.specs.Calls.{ReadsBy, ReadsFirst};
 
 use crate::prelude::*;
 use mx_base::Doc;
-use mx_typed_rows::EntryRow;
+use mx_base::rows::EntryRow;
 
 /// The entry with a number: at most one.
 pub fn entry_by_seq<S: Alter>(

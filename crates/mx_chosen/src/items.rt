@@ -6,8 +6,8 @@ ghost use Rattle.mx_kept.specs.Cells.{kept_aircraft, kept_place, kept_component}
 ghost use Rattle.mx_chosen.specs.Calls.{ReadsBy};
 
 use crate::prelude::*;
+use mx_base::rows::{AircraftRow, ComponentRow, PlaceRow};
 use mx_base::{Serial, Tail};
-use mx_typed_rows::{AircraftRow, ComponentRow, PlaceRow};
 
 /// The aircraft that an entry added: at most one.
 pub fn aircraft_by_seq<S: Alter>(

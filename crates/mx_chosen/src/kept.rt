@@ -8,7 +8,7 @@ ghost use Rattle.mx_chosen.specs.Calls.{ReadsBy, ReadsFirst};
 
 use crate::prelude::*;
 use mx_base::TaskId;
-use mx_typed_rows::{BaseRow, SpanRow, TotalRow};
+use mx_base::rows::{BaseRow, SpanRow, TotalRow};
 
 /// The span that an entry began: at most one.
 pub fn span2_by_fit_seq<S: Alter>(

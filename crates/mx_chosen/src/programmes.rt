@@ -7,7 +7,7 @@ ghost use Rattle.mx_chosen.specs.Calls.{ReadsBy};
 
 use crate::prelude::*;
 use mx_base::Kind;
-use mx_typed_rows::{ProgrammeRow, TaskRow};
+use mx_base::rows::{ProgrammeRow, TaskRow};
 
 /// The revision of a programme that an entry loaded: at most one.
 pub fn programme_by_seq<S: Alter>(

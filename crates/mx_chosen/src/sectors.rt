@@ -6,7 +6,7 @@ ghost use Rattle.mx_kept.specs.Cells.{kept_sector2_rows};
 ghost use Rattle.mx_chosen.specs.Calls.{ReadsBy};
 
 use crate::prelude::*;
-use mx_typed_rows::Sector2Row;
+use mx_base::rows::Sector2Row;
 
 /// The sector that an entry is: at most one.
 pub fn sector2_by_seq<S: Alter>(

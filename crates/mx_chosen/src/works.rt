@@ -6,7 +6,7 @@ ghost use Rattle.mx_kept.specs.Cells.{kept_opening, kept_crs, kept_crs_line};
 ghost use Rattle.mx_chosen.specs.Calls.{ReadsBy};
 
 use crate::prelude::*;
-use mx_typed_rows::{OpeningRow, ReleaseLineRow, ReleaseRow};
+use mx_base::rows::{OpeningRow, ReleaseLineRow, ReleaseRow};
 
 /// The accomplishment before the records that an entry stated: at most one.
 pub fn opening_by_seq<S: Alter>(

@@ -14,10 +14,10 @@ use Rattle.mx_command.specs.declared.item.Item.{Item}
 use Rattle.mx_command.proofs.SameLemmas.{text_same}
 use Rattle.mx_book.specs.Base.{base}
 use Rattle.mx_book.specs.Book.{IsBook}
-use Rattle.mx_typed_rows.specs.Rows.{base_in_row, base_row_with}
-use Rattle.mx_typed_rows.specs.declared.rows.BaseRow.{BaseRow}
-use Rattle.mx_typed_rows.specs.declared.rows.OpeningRow.{OpeningRow}
-use Rattle.mx_typed_rows.specs.declared.rows.ReleaseLineRow.{ReleaseLineRow}
+use Rattle.mx_base.specs.rows.Rows.{base_in_row, base_row_with}
+use Rattle.mx_base.specs.declared.rows.rows.BaseRow.{BaseRow}
+use Rattle.mx_base.specs.declared.rows.rows.OpeningRow.{OpeningRow}
+use Rattle.mx_base.specs.declared.rows.rows.ReleaseLineRow.{ReleaseLineRow}
 use Rattle.mx_register.specs.Left.{all_rows}
 use Rattle.mx_register.specs.Names.{item_at}
 use Rattle.mx_register.specs.Registers.{opening_rows, release_line_rows}

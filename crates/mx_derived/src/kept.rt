@@ -10,12 +10,12 @@ ghost use Rattle.mx_merged.specs.Merging.{merging};
 ghost use Rattle.mx_file_rows.specs.Tables.{AreFilePut};
 
 use crate::last_bases::last_bases;
+use mx_base::rows::{BaseRow, EntryKind, TotalRow};
 use mx_entry_list::NoMemory;
 use mx_file_rows::{FileRows, put_in_order};
 use mx_indexed::IndexedBook;
 use mx_merged::{NoBook, merge_beside_maps, total_rows};
 use mx_register::merge::Registers;
-use mx_typed_rows::{BaseRow, EntryKind, TotalRow};
 use std::alloc::Global;
 
 /// What layout 2 keeps of the items of a book beside its registers.

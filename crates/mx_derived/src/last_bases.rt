@@ -2,18 +2,18 @@
 ghost use Rattle.std.specs.Prelude.{◌≡◌, ℕ, List, [], ◌∷◌, ◌++◌, IfOk, IsPermutation, OnOk, map};
 ghost use Rattle.std.specs.List.{filter_map};
 ghost use Rattle.mx_due.specs.Due.{IsBase};
-ghost use Rattle.mx_typed_rows.specs.Rows.{base_row_with};
+ghost use Rattle.mx_base.specs.rows.Rows.{base_row_with};
 ghost use Rattle.mx_register.specs.Registers.{opening_rows, release_line_rows};
 ghost use Rattle.mx_kept_rows.specs.Bases.{base_rows};
 ghost use Rattle.mx_merged.specs.Keys.{AreKeys};
 ghost use Rattle.mx_derived.specs.Kept.{AreBasesAt, base_row_at, key_certified, key_stated};
 
+use mx_base::rows::{BaseRow, OpeningRow, ReleaseLineRow};
 use mx_base::{Base, Day, TaskId, Use};
 use mx_entry_list::NoMemory;
 use mx_indexed::IndexedBook;
 use mx_indexes::maps::held;
 use mx_plain_register::item_of_entry;
-use mx_typed_rows::{BaseRow, OpeningRow, ReleaseLineRow};
 use std::alloc::Global;
 use std::collections::BTreeMap;
 

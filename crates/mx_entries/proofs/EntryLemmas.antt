@@ -14,8 +14,8 @@ use Rattle.mx_command.specs.Shape.{has_shape}
 use Rattle.mx_book.specs.Book.{IsBook, entries_from, entry_at}
 use Rattle.mx_register.specs.Registers.{entry_rows, kind_of}
 use Rattle.mx_kept_rows.specs.Changes.{entry_of}
-use Rattle.mx_typed_rows.specs.declared.rows.EntryKind.{EntryKind}
-use Rattle.mx_typed_rows.specs.declared.rows.EntryRow.{EntryRow}
+use Rattle.mx_base.specs.declared.rows.rows.EntryKind.{EntryKind}
+use Rattle.mx_base.specs.declared.rows.rows.EntryRow.{EntryRow}
 use Rattle.mx_layout.specs.declared.fault.Table.TheVariants as table
 use Rattle.mx_layout.specs.declared.fault.TableFault.{TableFault}
 use Rattle.mx_layout.specs.declared.fault.TableFault.TheVariants as fault

@@ -8,15 +8,15 @@ use Rattle.mx_command.specs.declared.release.Line.{Line}
 use Rattle.mx_command.specs.declared.release.Place.{Place}
 use Rattle.mx_register.specs.Merge.{deferral_said, extension_said, fitting_said, opening_said, place_said, release_said, removal_said, sector_said}
 use Rattle.mx_register.specs.Names.{defect_at, item_at, serial_at, tail_at}
-use Rattle.mx_typed_rows.specs.declared.rows.DeferralRow.{DeferralRow}
-use Rattle.mx_typed_rows.specs.declared.rows.ExtensionRow.{ExtensionRow}
-use Rattle.mx_typed_rows.specs.declared.rows.FittingRow.{FittingRow}
-use Rattle.mx_typed_rows.specs.declared.rows.OpeningRow.{OpeningRow}
-use Rattle.mx_typed_rows.specs.declared.rows.ReleaseRow.{ReleaseRow}
-use Rattle.mx_typed_rows.specs.declared.rows.RemovalRow.{RemovalRow}
-use Rattle.mx_typed_rows.specs.declared.rows.Sector2Row.{Sector2Row}
-use Rattle.mx_typed_rows.specs.declared.rows.SectorRow.{SectorRow}
-use Rattle.mx_typed_rows.specs.declared.rows.SpanRow.{SpanRow}
+use Rattle.mx_base.specs.declared.rows.rows.DeferralRow.{DeferralRow}
+use Rattle.mx_base.specs.declared.rows.rows.ExtensionRow.{ExtensionRow}
+use Rattle.mx_base.specs.declared.rows.rows.FittingRow.{FittingRow}
+use Rattle.mx_base.specs.declared.rows.rows.OpeningRow.{OpeningRow}
+use Rattle.mx_base.specs.declared.rows.rows.ReleaseRow.{ReleaseRow}
+use Rattle.mx_base.specs.declared.rows.rows.RemovalRow.{RemovalRow}
+use Rattle.mx_base.specs.declared.rows.rows.Sector2Row.{Sector2Row}
+use Rattle.mx_base.specs.declared.rows.rows.SectorRow.{SectorRow}
+use Rattle.mx_base.specs.declared.rows.rows.SpanRow.{SpanRow}
 use Rattle.mx_kept_rows.specs.Spans.{fitting_in, removal_in}
 use Rattle.mx_kept.specs.Cells.{kept_crs, kept_defect, kept_extension, kept_opening, kept_sector2_rows, kept_span2}
 use Rattle.mx_chosen.specs.Choices.{has_value}

@@ -8,8 +8,8 @@ use Rattle.mx_command.specs.declared.release.Line.{Line}
 use Rattle.mx_command.specs.declared.release.Line.TheVariants as lines
 use Rattle.mx_command.specs.declared.release.Place.{Place}
 use Rattle.mx_register.specs.Merge.{place_of, release_said}
-use Rattle.mx_typed_rows.specs.declared.rows.ReleaseLineRow.{ReleaseLineRow}
-use Rattle.mx_typed_rows.specs.declared.rows.ReleaseRow.{ReleaseRow}
+use Rattle.mx_base.specs.declared.rows.rows.ReleaseLineRow.{ReleaseLineRow}
+use Rattle.mx_base.specs.declared.rows.rows.ReleaseRow.{ReleaseRow}
 use Rattle.mx_kept.specs.Cells.{kept_crs, kept_crs_line}
 use Rattle.mx_found.specs.declared.stated.Certified.{Certified}
 use Rattle.mx_found.specs.declared.stated.Certified.TheVariants.{Done, Rectified}

@@ -11,6 +11,7 @@ ghost use Rattle.mx_numbers.specs.Reads.{Reads};
 ghost use Rattle.mx_entries.specs.Stated.{FittingStated, OpeningStated, RemovalStated, SectorStated};
 
 use crate::names::{item_of_number, serial_of_number};
+use mx_base::rows::FittingRow;
 use mx_base::{Serial, Tail};
 use mx_chosen::kept::{span2_by_fit_seq, span2_by_remove_seq};
 use mx_chosen::sectors::sector2_by_seq;
@@ -20,7 +21,6 @@ use mx_found::stated::{first_fitting, first_removal};
 use mx_layout::TableFault;
 use mx_numbers::items::tail_of_number;
 use mx_plain_register::said::{body_of_fitting, body_of_opening, body_of_removal, body_of_sector};
-use mx_typed_rows::FittingRow;
 use sqlite::{Alter, Transaction};
 use std::alloc::Global;
 

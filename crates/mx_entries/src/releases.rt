@@ -11,12 +11,12 @@ ghost use Rattle.mx_numbers.specs.Reads.{Reads};
 ghost use Rattle.mx_entries.specs.Releases.{LineNamed, LinesStated, PlaceStated, ReleaseStated};
 
 use crate::names::{doc_of_defect, item_of_number};
+use mx_base::rows::ReleaseRow;
 use mx_chosen::works::{crs_by_seq, crs_line_by_seq};
 use mx_command::{Body, Line, Place};
 use mx_found::stated::{Certified, certified_in};
 use mx_layout::TableFault;
 use mx_plain_register::said::{body_of_release, place_of};
-use mx_typed_rows::ReleaseRow;
 use sqlite::{Alter, Transaction};
 use std::alloc::Global;
 

@@ -12,9 +12,9 @@ use crate::defects::{deferral_stated, extension_stated};
 use crate::items::{aircraft_stated, component_stated, programme_stated};
 use crate::moves::{fitting_stated, opening_stated, removal_stated, sector_stated};
 use crate::releases::release_stated;
+use mx_base::rows::{EntryKind, EntryRow};
 use mx_command::{Body, Command, MakeFault};
 use mx_layout::{Table, TableFault};
-use mx_typed_rows::{EntryKind, EntryRow};
 use sqlite::{Alter, Transaction};
 use std::alloc::Global;
 

@@ -22,10 +22,10 @@ use Rattle.mx_book.specs.Base.{base}
 use Rattle.mx_book.specs.Book.{IsBook}
 use Rattle.mx_book.specs.Judge.{judge}
 use Rattle.mx_book.specs.declared.verdict.Verdict.TheVariants.{New}
-use Rattle.mx_typed_rows.specs.declared.rows.BaseRow.{BaseRow}
-use Rattle.mx_typed_rows.specs.declared.rows.OpeningRow.{OpeningRow}
-use Rattle.mx_typed_rows.specs.declared.rows.ReleaseLineRow.{ReleaseLineRow}
-use Rattle.mx_typed_rows.specs.Rows.{base_in_row, base_row_with}
+use Rattle.mx_base.specs.declared.rows.rows.BaseRow.{BaseRow}
+use Rattle.mx_base.specs.declared.rows.rows.OpeningRow.{OpeningRow}
+use Rattle.mx_base.specs.declared.rows.rows.ReleaseLineRow.{ReleaseLineRow}
+use Rattle.mx_base.specs.rows.Rows.{base_in_row, base_row_with}
 use Rattle.mx_register.specs.Names.{item_at, or_zero, seq_of_item}
 use Rattle.mx_register.specs.Lines.{lines_from}
 use Rattle.mx_register.specs.Registers.{next, opening_rows, openings_by, release_line_row, release_line_rows, release_lines_by}

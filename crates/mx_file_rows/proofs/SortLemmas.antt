@@ -1,7 +1,7 @@
 -- Sorted rows are in the order of their key.
 use Rattle.std.proofs.Common.{ℕ, suc, ◌≤◌, List, [], ◌∷◌, arith}
 use Rattle.std.specs.List.Sorted.{IsNonDecreasingBy}
-use Rattle.mx_typed_rows.specs.Rising.{IsFrom}
+use Rattle.mx_base.specs.rows.Rising.{IsFrom}
 
 module _ {Row : Type 0} (key : Row → ℕ) where
   from_first : (low : ℕ) (row : Row) (rows : List Row) → low ≤ key row → IsNonDecreasingBy key (row ∷ rows) → IsFrom key low (row ∷ rows)

@@ -11,10 +11,10 @@ use Rattle.mx_command.specs.declared.fitting.Removal.{Removal}
 use Rattle.mx_book.specs.Book.{IsBook}
 use Rattle.mx_book.specs.Judge.{judge}
 use Rattle.mx_book.specs.declared.verdict.Verdict.TheVariants.{New}
-use Rattle.mx_typed_rows.specs.Rising.{IsRising}
-use Rattle.mx_typed_rows.specs.declared.rows.FittingRow.{FittingRow}
-use Rattle.mx_typed_rows.specs.declared.rows.RemovalRow.{RemovalRow}
-use Rattle.mx_typed_rows.specs.declared.rows.SpanRow.{SpanRow}
+use Rattle.mx_base.specs.rows.Rising.{IsRising}
+use Rattle.mx_base.specs.declared.rows.rows.FittingRow.{FittingRow}
+use Rattle.mx_base.specs.declared.rows.rows.RemovalRow.{RemovalRow}
+use Rattle.mx_base.specs.declared.rows.rows.SpanRow.{SpanRow}
 use Rattle.mx_register.specs.Registers.{fitting_row, fitting_rows, fittings_by, next, removal_row, removal_rows, removals_by}
 use Rattle.mx_register.proofs.RegisterLemmas.{fitting_rows-rising, gives-more, removal_rows-rising}
 use Rattle.mx_kept_rows.specs.Items.{number_of_serial, number_of_tail}

@@ -5,21 +5,21 @@ use Rattle.std.specs.List.{filter_map}
 use Rattle.std.proofs.lemmas.List.Sorted.{IsPermutation-sym, IsPermutation-trans}
 use Rattle.mx_command.specs.Act.{Entry}
 use Rattle.mx_book.specs.Book.{IsBook}
-use Rattle.mx_typed_rows.specs.Rising.{IsRising}
-use Rattle.mx_typed_rows.specs.Rows.{place_key, release_line_key, task_key}
-use Rattle.mx_typed_rows.specs.declared.rows.AircraftRow.{AircraftRow}
-use Rattle.mx_typed_rows.specs.declared.rows.ComponentRow.{ComponentRow}
-use Rattle.mx_typed_rows.specs.declared.rows.DeferralRow.{DeferralRow}
-use Rattle.mx_typed_rows.specs.declared.rows.EntryRow.{EntryRow}
-use Rattle.mx_typed_rows.specs.declared.rows.ExtensionRow.{ExtensionRow}
-use Rattle.mx_typed_rows.specs.declared.rows.FittingRow.{FittingRow}
-use Rattle.mx_typed_rows.specs.declared.rows.OpeningRow.{OpeningRow}
-use Rattle.mx_typed_rows.specs.declared.rows.ProgrammeRow.{ProgrammeRow}
-use Rattle.mx_typed_rows.specs.declared.rows.ReleaseRow.{ReleaseRow}
-use Rattle.mx_typed_rows.specs.declared.rows.RemovalRow.{RemovalRow}
-use Rattle.mx_typed_rows.specs.declared.rows.SectorRow.{SectorRow}
-use Rattle.mx_typed_rows.specs.declared.rows.SpanRow.{SpanRow}
-use Rattle.mx_typed_rows.proofs.SortedLemmas.{sorted_once}
+use Rattle.mx_base.specs.rows.Rising.{IsRising}
+use Rattle.mx_base.specs.rows.Rows.{place_key, release_line_key, task_key}
+use Rattle.mx_base.specs.declared.rows.rows.AircraftRow.{AircraftRow}
+use Rattle.mx_base.specs.declared.rows.rows.ComponentRow.{ComponentRow}
+use Rattle.mx_base.specs.declared.rows.rows.DeferralRow.{DeferralRow}
+use Rattle.mx_base.specs.declared.rows.rows.EntryRow.{EntryRow}
+use Rattle.mx_base.specs.declared.rows.rows.ExtensionRow.{ExtensionRow}
+use Rattle.mx_base.specs.declared.rows.rows.FittingRow.{FittingRow}
+use Rattle.mx_base.specs.declared.rows.rows.OpeningRow.{OpeningRow}
+use Rattle.mx_base.specs.declared.rows.rows.ProgrammeRow.{ProgrammeRow}
+use Rattle.mx_base.specs.declared.rows.rows.ReleaseRow.{ReleaseRow}
+use Rattle.mx_base.specs.declared.rows.rows.RemovalRow.{RemovalRow}
+use Rattle.mx_base.specs.declared.rows.rows.SectorRow.{SectorRow}
+use Rattle.mx_base.specs.declared.rows.rows.SpanRow.{SpanRow}
+use Rattle.mx_base.proofs.RowsProofs.SortedLemmas.{sorted_once}
 use Rattle.mx_register.specs.Registers.{AreRegistersOf, aircraft_rows, component_rows, deferral_rows, entry_rows, extension_rows, opening_rows, place_rows, programme_rows, release_line_rows, release_rows, removal_rows, sector_rows, task_rows}
 use Rattle.mx_register.proofs.RegisterLemmas.{aircraft_rows-rising, component_rows-rising, deferral_rows-rising, entry_rows-rising, extension_rows-rising, fitting_rows-rising, opening_rows-rising, place_rows-rising, programme_rows-rising, release_line_rows-rising, release_rows-rising, removal_rows-rising, sector_rows-rising, task_rows-rising}
 use Rattle.mx_kept_rows.specs.Spans.{fitting_in, removal_in, span_rows}

@@ -3,9 +3,9 @@ use Rattle.std.specs.Prelude.{◌≡◌, ◌⊎◌, ◌≤◌, ◌<◌, ℕ, Boo
 use Rattle.std.specs.BTreeMap.{BTreeMap, get}
 use Rattle.std.specs.Ordering.{nat_cmp}
 use Rattle.std.specs.Option.{option_map}
-use Rattle.mx_typed_rows.specs.declared.rows.FittingRow.{FittingRow}
-use Rattle.mx_typed_rows.specs.declared.rows.RemovalRow.{RemovalRow}
-use Rattle.mx_typed_rows.specs.declared.rows.SpanRow.{SpanRow}
+use Rattle.mx_base.specs.declared.rows.rows.FittingRow.{FittingRow}
+use Rattle.mx_base.specs.declared.rows.rows.RemovalRow.{RemovalRow}
+use Rattle.mx_base.specs.declared.rows.rows.SpanRow.{SpanRow}
 
 -- the removal is of this component
 abbrev pub is_of : ℕ → RemovalRow → Bool

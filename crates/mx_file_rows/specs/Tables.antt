@@ -2,8 +2,8 @@
 use Rattle.std.specs.Prelude.{◌≡◌, List, IsPermutation, map}
 use Rattle.std.specs.List.{filter_map}
 use Rattle.mx_command.specs.Act.{Entry}
-use Rattle.mx_typed_rows.specs.Rows.{place_key, release_line_key, task_key}
-use Rattle.mx_typed_rows.specs.declared.register_rows.RegisterRows.{RegisterRows}
+use Rattle.mx_base.specs.rows.Rows.{place_key, release_line_key, task_key}
+use Rattle.mx_base.specs.declared.rows.register_rows.RegisterRows.{RegisterRows}
 use Rattle.mx_register.specs.Registers.{aircraft_rows, component_rows, deferral_rows, entry_rows, extension_rows, opening_rows, place_rows, programme_rows, release_line_rows, release_rows, sector_rows, task_rows}
 use Rattle.mx_kept_rows.specs.Bases.{base_rows}
 use Rattle.mx_kept_rows.specs.Spans.{fitting_in, removal_in, span_rows}

@@ -1,7 +1,7 @@
 //! The rows of the tables of a file as one value.
 
+use mx_base::rows::{BaseRow, SpanRow, TotalRow};
 use mx_register::merge::Registers;
-use mx_typed_rows::{BaseRow, SpanRow, TotalRow};
 
 /// The rows of the tables of a file: the registers, and the kept rows.
 #[derive(Drop)]

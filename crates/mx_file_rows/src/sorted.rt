@@ -1,13 +1,13 @@
 //! Rows in the order of their keys.
 ghost use Rattle.std.specs.Prelude.{◌≡◌, ℕ, OnOk};
-ghost use Rattle.mx_typed_rows.specs.Rows.{line_key, place_key, release_line_key, task_key};
+ghost use Rattle.mx_base.specs.rows.Rows.{line_key, place_key, release_line_key, task_key};
 ghost use Rattle.mx_file_rows.specs.Sorted.{ArePut};
 
-use mx_entry_list::NoMemory;
-use mx_typed_rows::{
+use mx_base::rows::{
     AircraftRow, ComponentRow, DeferralRow, EntryRow, ExtensionRow, OpeningRow, PlaceRow,
     ProgrammeRow, ReleaseLineRow, ReleaseRow, RemovalRow, SectorRow, SpanRow, TaskRow, TotalRow,
 };
+use mx_entry_list::NoMemory;
 
 /// A row of a table that is in the order of a number, its key.
 pub trait Keyed: Copy {

@@ -2,14 +2,14 @@
 ghost use Rattle.std.specs.Prelude.{◌≡◌, ℕ, IfOk, OnOk, map};
 ghost use Rattle.std.specs.List.{filter_map};
 ghost use Rattle.std.specs.Option.{option_copied, option_map};
-ghost use Rattle.mx_typed_rows.specs.Rising.{IsRising};
+ghost use Rattle.mx_base.specs.rows.Rising.{IsRising};
 ghost use Rattle.mx_kept_rows.specs.Spans.{fitting_in, removal_in};
 ghost use Rattle.mx_file_rows.specs.Sorted.{ArePut};
 ghost use Rattle.mx_file_rows.specs.Spans.{HasPut, IsLastBehind, span_by, spans_made};
 
 use crate::sorted::sort_rows;
+use mx_base::rows::{FittingRow, RemovalRow, SpanRow};
 use mx_entry_list::NoMemory;
-use mx_typed_rows::{FittingRow, RemovalRow, SpanRow};
 use std::alloc::Global;
 use std::collections::BTreeMap;
 

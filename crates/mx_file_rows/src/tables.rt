@@ -5,8 +5,8 @@ ghost use Rattle.mx_file_rows.specs.Tables.{AreFilePut, AreMovesOf, AreRegisters
 use crate::file_rows::FileRows;
 use crate::sorted::sort_rows;
 use crate::spans::{fittings_in, removals_in};
+use mx_base::rows::RegisterRows;
 use mx_entry_list::NoMemory;
-use mx_typed_rows::RegisterRows;
 use std::alloc::Global;
 
 // Puts the rows of each register but the fittings and removals in order.

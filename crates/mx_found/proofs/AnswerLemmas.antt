@@ -12,8 +12,8 @@ use Rattle.mx_book.specs.Asking.{known_same}
 use Rattle.mx_book.specs.Book.{IsBook}
 use Rattle.mx_book.specs.Judge.{known_from}
 use Rattle.mx_register.specs.Registers.{entry_rows}
-use Rattle.mx_typed_rows.specs.declared.rows.EntryRow.{EntryRow}
-use Rattle.mx_typed_rows.specs.declared.rows.SpanRow.{SpanRow}
+use Rattle.mx_base.specs.declared.rows.rows.EntryRow.{EntryRow}
+use Rattle.mx_base.specs.declared.rows.rows.SpanRow.{SpanRow}
 use Rattle.mx_kept_rows.specs.Changes.{entry_of}
 use Rattle.mx_kept_rows.specs.Items.{number_of_serial, number_of_tail}
 use Rattle.mx_kept_rows.specs.Spans.{span_rows}

@@ -21,10 +21,10 @@ use Rattle.mx_register.specs.Lines.{lines_from}
 use Rattle.mx_register.specs.Names.{or_zero, seq_of_defect, seq_of_tail, defect_deferred}
 use Rattle.mx_register.specs.Registers.{gives_by, next, aircraft_rows, deferral_rows, extension_row, extension_rows, extensions_by, release_line_row, release_line_rows, release_lines_by}
 use Rattle.mx_register.proofs.NameLemmas.{said_at-number, tail_known}
-use Rattle.mx_typed_rows.specs.declared.rows.AircraftRow.{AircraftRow}
-use Rattle.mx_typed_rows.specs.declared.rows.DeferralRow.{DeferralRow}
-use Rattle.mx_typed_rows.specs.declared.rows.ExtensionRow.{ExtensionRow}
-use Rattle.mx_typed_rows.specs.declared.rows.ReleaseLineRow.{ReleaseLineRow}
+use Rattle.mx_base.specs.declared.rows.rows.AircraftRow.{AircraftRow}
+use Rattle.mx_base.specs.declared.rows.rows.DeferralRow.{DeferralRow}
+use Rattle.mx_base.specs.declared.rows.rows.ExtensionRow.{ExtensionRow}
+use Rattle.mx_base.specs.declared.rows.rows.ReleaseLineRow.{ReleaseLineRow}
 use Rattle.mx_kept_rows.proofs.KnownLemmas.{other_name}
 use Rattle.mx_found.specs.Defects.{deferral_aircraft, defect_in, defect_said, extension_in, extension_said, is_rectified_in, rectifies}
 use Rattle.mx_found.specs.Given.{deferrals}

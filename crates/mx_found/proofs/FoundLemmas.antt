@@ -11,9 +11,9 @@ use Rattle.mx_book.specs.Judge.{known_from}
 use Rattle.mx_book.specs.Register.{register, aircraft, component}
 use Rattle.mx_register.specs.Names.{number_from, said_at, seq_of_tail, seq_of_serial, tail_at, serial_at}
 use Rattle.mx_register.specs.Registers.{gives, gives_by, next, if_any, entry_added, entry_rows, aircraft_row, aircraft_rows, component_row, component_rows}
-use Rattle.mx_typed_rows.specs.declared.rows.AircraftRow.{AircraftRow}
-use Rattle.mx_typed_rows.specs.declared.rows.ComponentRow.{ComponentRow}
-use Rattle.mx_typed_rows.specs.declared.rows.EntryRow.{EntryRow}
+use Rattle.mx_base.specs.declared.rows.rows.AircraftRow.{AircraftRow}
+use Rattle.mx_base.specs.declared.rows.rows.ComponentRow.{ComponentRow}
+use Rattle.mx_base.specs.declared.rows.rows.EntryRow.{EntryRow}
 use Rattle.mx_found.specs.Names.{entry_number, aircraft_number, component_number, tail_in, serial_in}
 use Rattle.mx_found.specs.Said.{aircraft_said, aircraft_in, component_said, component_in}
 use Rattle.std.proofs.Common.{◌≡◌, ℕ, ◌+◌, Bool, true, false, ◌&&◌, cond, List, [], ◌∷◌, ◌++◌, filter, length, Option, Some, refl, ap, ◌∙◌, length-append}

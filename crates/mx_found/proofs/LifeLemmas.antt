@@ -9,8 +9,8 @@ use Rattle.mx_book.specs.Base.{base}
 use Rattle.mx_book.specs.Book.{IsBook}
 use Rattle.mx_book.specs.Life.{clock, credited, has_landed_by, life_now, opening_of, use_after, use_or_none}
 use Rattle.mx_register.specs.Names.{has_item, seq_of_item}
-use Rattle.mx_typed_rows.specs.Rows.{base_in_row}
-use Rattle.mx_typed_rows.specs.declared.rows.TotalRow.{TotalRow}
+use Rattle.mx_base.specs.rows.Rows.{base_in_row}
+use Rattle.mx_base.specs.declared.rows.rows.TotalRow.{TotalRow}
 use Rattle.mx_kept_rows.specs.Bases.{base_rows, is_keyed}
 use Rattle.mx_kept_rows.specs.Totals.{total_row, total_rows}
 use Rattle.mx_kept_rows.proofs.BaseRows.{base_in_rows}

@@ -14,7 +14,7 @@ use Rattle.mx_book.proofs.JudgeLemmas.{both_true}
 use Rattle.mx_register.specs.Names.{or_zero, seq_of_serial, seq_of_tail, tail_at}
 use Rattle.mx_register.proofs.NameLemmas.{tail_known}
 use Rattle.mx_register.proofs.NewLemmas.{fitted_is_known}
-use Rattle.mx_typed_rows.specs.declared.rows.SpanRow.{SpanRow}
+use Rattle.mx_base.specs.declared.rows.rows.SpanRow.{SpanRow}
 use Rattle.mx_kept_rows.specs.Items.{number_of_tail}
 use Rattle.mx_kept_rows.specs.Spans.{is_open_of as is_open_span, open_span_in, removal_from, removes, span_row, span_rows, span_rows_from}
 use Rattle.mx_kept_rows.proofs.FittedRows.{aircraft_found}

@@ -16,7 +16,7 @@ use Rattle.mx_register.specs.Names.{adds_named, number_from, seq_of_tail, tail_a
 use Rattle.mx_register.specs.Registers.{gives_by, if_any, next, aircraft_row, aircraft_rows, component_row, component_rows, place_row, place_rows}
 use Rattle.mx_register.proofs.NameLemmas.{said_at-number}
 use Rattle.mx_register.proofs.NewLemmas.{added_is_unknown}
-use Rattle.mx_typed_rows.specs.declared.rows.PlaceRow.{PlaceRow}
+use Rattle.mx_base.specs.declared.rows.rows.PlaceRow.{PlaceRow}
 use Rattle.mx_kept_rows.proofs.SpanRows.{number-append}
 use Rattle.mx_found.specs.Given.{places}
 use Rattle.mx_found.specs.Said.{part_in}

@@ -30,8 +30,8 @@ use Rattle.mx_register.specs.Merge.{applies_said, task_lines, task_said}
 use Rattle.mx_register.specs.Registers.{gives_by, next, programme_row, programme_rows, programmes_by, task_row, task_rows}
 use Rattle.mx_register.proofs.TakeLemmas.{IsSaid, same_some}
 use Rattle.mx_register.proofs.TaskLemmas.{tasks_said}
-use Rattle.mx_typed_rows.specs.declared.rows.ProgrammeRow.{ProgrammeRow}
-use Rattle.mx_typed_rows.specs.declared.rows.TaskRow.{TaskRow}
+use Rattle.mx_base.specs.declared.rows.rows.ProgrammeRow.{ProgrammeRow}
+use Rattle.mx_base.specs.declared.rows.rows.TaskRow.{TaskRow}
 use Rattle.mx_kept_rows.proofs.SpanGrowth.{same_sym}
 use Rattle.mx_found.specs.Given.{tasks}
 use Rattle.mx_found.specs.Programmes.{is_retired_in, programme_number, retires, revision_after, task_in}

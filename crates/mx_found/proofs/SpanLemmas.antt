@@ -17,9 +17,9 @@ use Rattle.mx_book.specs.Judge.{known_from}
 use Rattle.mx_book.proofs.JudgeLemmas.{both_true}
 use Rattle.mx_register.specs.Names.{or_zero, seq_of_tail, seq_of_serial}
 use Rattle.mx_register.specs.Registers.{if_any, fitting_row, removal_row, fitting_rows, removal_rows}
-use Rattle.mx_typed_rows.specs.declared.rows.FittingRow.{FittingRow}
-use Rattle.mx_typed_rows.specs.declared.rows.RemovalRow.{RemovalRow}
-use Rattle.mx_typed_rows.specs.declared.rows.SpanRow.{SpanRow}
+use Rattle.mx_base.specs.declared.rows.rows.FittingRow.{FittingRow}
+use Rattle.mx_base.specs.declared.rows.rows.RemovalRow.{RemovalRow}
+use Rattle.mx_base.specs.declared.rows.rows.SpanRow.{SpanRow}
 use Rattle.mx_kept_rows.specs.Spans.{span_rows, fitting_in, removal_in, removal_by}
 use Rattle.mx_kept_rows.proofs.SpanRegisters.{fittings_in_spans, removals_in_spans}
 use Rattle.mx_found.specs.Given.{found, fittings, removals}

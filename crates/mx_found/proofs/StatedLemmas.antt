@@ -15,8 +15,8 @@ use Rattle.mx_register.specs.Lines.{lines_from}
 use Rattle.mx_register.specs.Merge.{line_of, line_said, opening_said, sector_said, fitting_said, removal_said, place_of, release_said, deferral_said, extension_said}
 use Rattle.mx_register.specs.Names.{item_added, number_from, said_at, or_zero, tail_added, serial_added, defect_deferred, seq_of_tail, seq_of_serial, seq_of_defect, seq_of_item, item_at, tail_at, serial_at, defect_at}
 use Rattle.mx_register.specs.Registers.{entry_rows, entry_added, entry_row, kind_of, kind_in_shop, next, place_row, task_row, opening_row, sector_row, fitting_row, removal_row, release_row, release_line_row, deferral_row, extension_row}
-use Rattle.mx_typed_rows.specs.declared.rows.EntryRow.{EntryRow}
-use Rattle.mx_typed_rows.specs.declared.rows.ReleaseLineRow.{ReleaseLineRow}
+use Rattle.mx_base.specs.declared.rows.rows.EntryRow.{EntryRow}
+use Rattle.mx_base.specs.declared.rows.rows.ReleaseLineRow.{ReleaseLineRow}
 use Rattle.mx_register.proofs.NameLemmas.{said_at-number, airframe_at, component_at}
 use Rattle.mx_register.proofs.ReleaseLemmas.{place_again}
 use Rattle.mx_register.proofs.TakeLemmas.{same_some}

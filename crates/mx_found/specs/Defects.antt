@@ -5,10 +5,10 @@ use Rattle.mx_command.specs.Act.{Entry}
 use Rattle.mx_command.specs.declared.deferral.Extension.{Extension}
 use Rattle.mx_book.specs.declared.defects.Defect.{Defect}
 use Rattle.mx_register.specs.Registers.{release_line_rows}
-use Rattle.mx_typed_rows.specs.declared.rows.AircraftRow.{AircraftRow}
-use Rattle.mx_typed_rows.specs.declared.rows.DeferralRow.{DeferralRow}
-use Rattle.mx_typed_rows.specs.declared.rows.ExtensionRow.{ExtensionRow}
-use Rattle.mx_typed_rows.specs.declared.rows.ReleaseLineRow.{ReleaseLineRow}
+use Rattle.mx_base.specs.declared.rows.rows.AircraftRow.{AircraftRow}
+use Rattle.mx_base.specs.declared.rows.rows.DeferralRow.{DeferralRow}
+use Rattle.mx_base.specs.declared.rows.rows.ExtensionRow.{ExtensionRow}
+use Rattle.mx_base.specs.declared.rows.rows.ReleaseLineRow.{ReleaseLineRow}
 use Rattle.mx_found.specs.Names.{doc_at, tail_in}
 
 -- the defect that the row of its deferral says, where this is its document and the registration of its aircraft

@@ -7,19 +7,19 @@ use Rattle.mx_book.specs.Judge.{item_at}
 use Rattle.mx_register.specs.Lines.{lines_from}
 use Rattle.mx_register.specs.Names.{or_zero, seq_of_tail, seq_of_serial, seq_of_defect, seq_of_item}
 use Rattle.mx_register.specs.Registers.{gives_by, next, if_any, aircraft_row, place_row, component_row, programme_row, task_row, opening_row, sector_row, fitting_row, removal_row, release_row, release_line_row, deferral_row, extension_row}
-use Rattle.mx_typed_rows.specs.declared.rows.AircraftRow.{AircraftRow}
-use Rattle.mx_typed_rows.specs.declared.rows.PlaceRow.{PlaceRow}
-use Rattle.mx_typed_rows.specs.declared.rows.ComponentRow.{ComponentRow}
-use Rattle.mx_typed_rows.specs.declared.rows.ProgrammeRow.{ProgrammeRow}
-use Rattle.mx_typed_rows.specs.declared.rows.TaskRow.{TaskRow}
-use Rattle.mx_typed_rows.specs.declared.rows.OpeningRow.{OpeningRow}
-use Rattle.mx_typed_rows.specs.declared.rows.SectorRow.{SectorRow}
-use Rattle.mx_typed_rows.specs.declared.rows.FittingRow.{FittingRow}
-use Rattle.mx_typed_rows.specs.declared.rows.RemovalRow.{RemovalRow}
-use Rattle.mx_typed_rows.specs.declared.rows.ReleaseRow.{ReleaseRow}
-use Rattle.mx_typed_rows.specs.declared.rows.ReleaseLineRow.{ReleaseLineRow}
-use Rattle.mx_typed_rows.specs.declared.rows.DeferralRow.{DeferralRow}
-use Rattle.mx_typed_rows.specs.declared.rows.ExtensionRow.{ExtensionRow}
+use Rattle.mx_base.specs.declared.rows.rows.AircraftRow.{AircraftRow}
+use Rattle.mx_base.specs.declared.rows.rows.PlaceRow.{PlaceRow}
+use Rattle.mx_base.specs.declared.rows.rows.ComponentRow.{ComponentRow}
+use Rattle.mx_base.specs.declared.rows.rows.ProgrammeRow.{ProgrammeRow}
+use Rattle.mx_base.specs.declared.rows.rows.TaskRow.{TaskRow}
+use Rattle.mx_base.specs.declared.rows.rows.OpeningRow.{OpeningRow}
+use Rattle.mx_base.specs.declared.rows.rows.SectorRow.{SectorRow}
+use Rattle.mx_base.specs.declared.rows.rows.FittingRow.{FittingRow}
+use Rattle.mx_base.specs.declared.rows.rows.RemovalRow.{RemovalRow}
+use Rattle.mx_base.specs.declared.rows.rows.ReleaseRow.{ReleaseRow}
+use Rattle.mx_base.specs.declared.rows.rows.ReleaseLineRow.{ReleaseLineRow}
+use Rattle.mx_base.specs.declared.rows.rows.DeferralRow.{DeferralRow}
+use Rattle.mx_base.specs.declared.rows.rows.ExtensionRow.{ExtensionRow}
 
 -- a register: the number of the entry that a row is of, and the rows that a command would have with a number, where a book gives the numbers of the things that it names
 pub record Register (Row : Type 0) : Type 0 where

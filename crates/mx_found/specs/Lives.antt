@@ -3,9 +3,9 @@ use Rattle.std.specs.Prelude.{ℕ, List, Option, slice_get}
 use Rattle.std.specs.Option.{option_map}
 use Rattle.mx_base.specs.declared.amounts.Base.{Base}
 use Rattle.mx_base.specs.declared.amounts.Use.{Use}
-use Rattle.mx_typed_rows.specs.Rows.{base_in_row}
-use Rattle.mx_typed_rows.specs.declared.rows.BaseRow.{BaseRow}
-use Rattle.mx_typed_rows.specs.declared.rows.TotalRow.{TotalRow}
+use Rattle.mx_base.specs.rows.Rows.{base_in_row}
+use Rattle.mx_base.specs.declared.rows.rows.BaseRow.{BaseRow}
+use Rattle.mx_base.specs.declared.rows.rows.TotalRow.{TotalRow}
 
 -- the clock in the first of these totals
 abbrev pub clock_in : List TotalRow → Option ℕ

@@ -11,8 +11,8 @@ use Rattle.mx_due.specs.Left.{left_of, is_used_up}
 use Rattle.mx_book.specs.Programme.{last_of}
 use Rattle.mx_register.specs.Merge.{task_said}
 use Rattle.mx_register.specs.Registers.{programme_rows, task_rows}
-use Rattle.mx_typed_rows.specs.declared.rows.ProgrammeRow.{ProgrammeRow}
-use Rattle.mx_typed_rows.specs.declared.rows.TaskRow.{TaskRow}
+use Rattle.mx_base.specs.declared.rows.rows.ProgrammeRow.{ProgrammeRow}
+use Rattle.mx_base.specs.declared.rows.rows.TaskRow.{TaskRow}
 
 -- the rows of the programmes of a kind
 abbrev pub programmes_of : List ℕ → List Entry → List ProgrammeRow

@@ -7,7 +7,7 @@ use Rattle.mx_command.specs.Same.{same_text}
 use Rattle.mx_command.specs.declared.fitting.Fitting.{Fitting}
 use Rattle.mx_command.specs.declared.fitting.Removal.{Removal}
 use Rattle.mx_register.specs.Names.{serial_at}
-use Rattle.mx_typed_rows.specs.declared.rows.SpanRow.{SpanRow}
+use Rattle.mx_base.specs.declared.rows.rows.SpanRow.{SpanRow}
 
 -- the span is of the component with this number, and nothing removed it
 abbrev pub is_open_of : ℕ → SpanRow → Bool

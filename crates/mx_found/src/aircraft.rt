@@ -7,14 +7,14 @@ ghost use Rattle.mx_book.specs.Register.{aircraft, has_room_for_aircraft, part_a
 ghost use Rattle.mx_book.specs.declared.limits.TheConstants.{MOST_AIRCRAFT};
 ghost use Rattle.mx_register.specs.Names.{seq_of_tail, tail_at};
 ghost use Rattle.mx_register.specs.Registers.{aircraft_rows, place_rows};
-ghost use Rattle.mx_typed_rows.specs.declared.rows.AircraftRow.{AircraftRow};
-ghost use Rattle.mx_typed_rows.specs.declared.rows.PlaceRow.{PlaceRow};
+ghost use Rattle.mx_base.specs.declared.rows.rows.AircraftRow.{AircraftRow};
+ghost use Rattle.mx_base.specs.declared.rows.rows.PlaceRow.{PlaceRow};
 ghost use Rattle.mx_found.specs.Names.{aircraft_number, tail_in};
 ghost use Rattle.mx_found.specs.Said.{aircraft_in, part_in};
 
+use mx_base::rows::{AircraftRow, PlaceRow};
 use mx_base::{Part, Position, Tail, Use};
 use mx_command::Aircraft;
-use mx_typed_rows::{AircraftRow, PlaceRow};
 
 /// The number of the first of these aircraft.
 pub fn aircraft_number(rows: &[AircraftRow]) -> Option<u32>

@@ -6,13 +6,13 @@ ghost use Rattle.mx_book.specs.Register.{component, has_room_for_component};
 ghost use Rattle.mx_book.specs.declared.limits.TheConstants.{MOST_COMPONENTS};
 ghost use Rattle.mx_register.specs.Names.{seq_of_serial, serial_at};
 ghost use Rattle.mx_register.specs.Registers.{component_rows};
-ghost use Rattle.mx_typed_rows.specs.declared.rows.ComponentRow.{ComponentRow};
+ghost use Rattle.mx_base.specs.declared.rows.rows.ComponentRow.{ComponentRow};
 ghost use Rattle.mx_found.specs.Names.{component_number, serial_in};
 ghost use Rattle.mx_found.specs.Said.{component_in};
 
+use mx_base::rows::ComponentRow;
 use mx_base::{Serial, Use};
 use mx_command::Component;
-use mx_typed_rows::ComponentRow;
 
 /// The number of the first of these components.
 pub fn component_number(rows: &[ComponentRow]) -> Option<u32>

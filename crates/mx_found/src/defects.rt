@@ -6,17 +6,17 @@ ghost use Rattle.mx_book.specs.Book.{IsBook};
 ghost use Rattle.mx_book.specs.Defect.{defect, extension, is_rectified, open_defects};
 ghost use Rattle.mx_register.specs.Names.{seq_of_defect, seq_of_tail};
 ghost use Rattle.mx_register.specs.Registers.{aircraft_rows, deferral_rows, extension_rows, release_line_rows};
-ghost use Rattle.mx_typed_rows.specs.declared.rows.AircraftRow.{AircraftRow};
-ghost use Rattle.mx_typed_rows.specs.declared.rows.DeferralRow.{DeferralRow};
-ghost use Rattle.mx_typed_rows.specs.declared.rows.ExtensionRow.{ExtensionRow};
+ghost use Rattle.mx_base.specs.declared.rows.rows.AircraftRow.{AircraftRow};
+ghost use Rattle.mx_base.specs.declared.rows.rows.DeferralRow.{DeferralRow};
+ghost use Rattle.mx_base.specs.declared.rows.rows.ExtensionRow.{ExtensionRow};
 ghost use Rattle.mx_found.specs.Defects.{deferral_aircraft, defect_in, defect_said, extension_in, is_rectified_in, open_said, rectifies};
 ghost use Rattle.mx_found.specs.Names.{doc_at};
 
 use crate::aircraft::tail_in;
+use mx_base::rows::{AircraftRow, DeferralRow, ExtensionRow, ReleaseLineRow};
 use mx_base::{Doc, Tail};
 use mx_book::Defect;
 use mx_command::{Deferral, Extension};
-use mx_typed_rows::{AircraftRow, DeferralRow, ExtensionRow, ReleaseLineRow};
 
 /// The number of the aircraft of the first of these deferrals.
 pub fn deferral_aircraft(rows: &[DeferralRow]) -> Option<u32>

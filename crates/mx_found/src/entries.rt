@@ -6,11 +6,11 @@ ghost use Rattle.mx_command.specs.Act.{Entry};
 ghost use Rattle.mx_book.specs.Judge.{known_from};
 ghost use Rattle.mx_register.specs.Names.{seq_of_defect};
 ghost use Rattle.mx_register.specs.Registers.{entry_rows};
-ghost use Rattle.mx_typed_rows.specs.declared.rows.EntryRow.{EntryRow};
+ghost use Rattle.mx_base.specs.declared.rows.rows.EntryRow.{EntryRow};
 ghost use Rattle.mx_found.specs.Names.{deferral_number, deferred_doc, doc_at, doc_in, entries_with, entry_number, is_deferral, last_number};
 
 use mx_base::Doc;
-use mx_typed_rows::{EntryKind, EntryRow};
+use mx_base::rows::{EntryKind, EntryRow};
 
 /// The number of the first of these entries, or 0 where there is none. Of the last entry alone it is how many there are.
 pub fn last_number(rows: &[EntryRow]) -> u32

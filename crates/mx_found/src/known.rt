@@ -14,13 +14,13 @@ ghost use Rattle.mx_kept_rows.specs.Items.{number_of_serial, number_of_tail};
 ghost use Rattle.mx_kept_rows.specs.Spans.{span_rows};
 ghost use Rattle.mx_register.specs.Names.{or_zero};
 ghost use Rattle.mx_register.specs.Registers.{release_line_row};
-ghost use Rattle.mx_typed_rows.specs.declared.rows.SpanRow.{SpanRow};
+ghost use Rattle.mx_base.specs.declared.rows.rows.SpanRow.{SpanRow};
 ghost use Rattle.mx_found.specs.Given.{AreSame, line_row, seq_of_line};
 ghost use Rattle.mx_found.specs.Names.{entries_with, entry_number};
 ghost use Rattle.mx_found.specs.Spans.{begins_with, ends_with, is_removed_by};
 
+use mx_base::rows::{ReleaseLineRow, SpanRow};
 use mx_command::{Fitting, Line, Removal};
-use mx_typed_rows::{ReleaseLineRow, SpanRow};
 
 /// The row that a line of a release would have with a number on a line, where this is the number of what it is of: of the item
 /// that a task was done on, or of the defect that was rectified, or 0 where the book has none.

@@ -11,11 +11,11 @@ ghost use Rattle.mx_book.specs.Programme.{is_accomplished};
 ghost use Rattle.mx_register.specs.Names.{seq_of_item};
 ghost use Rattle.mx_kept_rows.specs.Bases.{base_rows, is_keyed};
 ghost use Rattle.mx_kept_rows.specs.Totals.{total_rows};
-ghost use Rattle.mx_typed_rows.specs.declared.rows.TotalRow.{TotalRow};
+ghost use Rattle.mx_base.specs.declared.rows.rows.TotalRow.{TotalRow};
 ghost use Rattle.mx_found.specs.Lives.{base_found, clock_in, life_in, life_in_base};
 
+use mx_base::rows::{BaseRow, TotalRow};
 use mx_base::{Base, Moment, Use};
-use mx_typed_rows::{BaseRow, TotalRow};
 
 /// The most minutes that a base has.
 const MOST_MINUTES: u32 = 1_540_000_000;

@@ -15,13 +15,13 @@ ghost use Rattle.mx_book.specs.Life.{life_now};
 ghost use Rattle.mx_book.specs.Programme.{life_ended, next_revision, tasks_in_force};
 ghost use Rattle.mx_book.specs.Register.{aircraft, component};
 ghost use Rattle.mx_register.specs.Merge.{task_said};
-ghost use Rattle.mx_typed_rows.specs.declared.rows.TaskRow.{TaskRow};
+ghost use Rattle.mx_base.specs.declared.rows.rows.TaskRow.{TaskRow};
 ghost use Rattle.mx_found.specs.Programmes.{is_retired_in, programme_number, programmes_of, retires, revision_after, task_in, tasks_with};
 
+use mx_base::rows::{ProgrammeRow, TaskRow};
 use mx_base::{Day, Part, TaskId, Use};
 use mx_command::{Applies, Task};
 use mx_due::{first_due, is_used_up, left_of};
-use mx_typed_rows::{ProgrammeRow, TaskRow};
 use std::alloc::{AllocError, Global};
 
 /// The number of the last of these programmes.

@@ -1,7 +1,7 @@
 //! Whether rows that were found are those that a command would have.
 ghost use Rattle.std.specs.Prelude.{◌≡◌, ◌↔◌, IsTrue};
 
-use mx_typed_rows::{
+use mx_base::rows::{
     AircraftRow, ComponentRow, DeferralRow, ExtensionRow, OpeningRow, PlaceRow, ProgrammeRow,
     ReleaseLineRow, ReleaseRow, TaskRow,
 };

@@ -10,7 +10,7 @@ ghost use Rattle.mx_kept_rows.specs.Spans.{span_rows};
 ghost use Rattle.mx_found.specs.Spans.{is_open_at, is_open_of, is_taken_in, place_said, span_aircraft};
 
 use mx_base::Position;
-use mx_typed_rows::SpanRow;
+use mx_base::rows::SpanRow;
 
 /// The number of the aircraft of the first of these spans.
 pub fn span_aircraft(rows: &[SpanRow]) -> Option<u32>

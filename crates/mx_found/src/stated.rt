@@ -9,9 +9,9 @@ ghost use Rattle.mx_register.specs.Registers.{kind_of};
 ghost use Rattle.mx_found.specs.Stated.{certified_in, position_said, stated};
 
 use crate::programmes::task_said;
+use mx_base::rows::{FittingRow, PlaceRow, ReleaseLineRow, RemovalRow, SpanRow, TaskRow};
 use mx_base::{Limit, Part, Position, TaskId};
 use mx_command::{Applies, Task};
-use mx_typed_rows::{FittingRow, PlaceRow, ReleaseLineRow, RemovalRow, SpanRow, TaskRow};
 use std::alloc::{AllocError, Global};
 
 /// What a line of a release certifies, by number.

@@ -5,7 +5,7 @@ use Rattle.sqlite.specs.Tree.{Trees}
 use Rattle.mx_command.specs.Act.{Entry}
 use Rattle.mx_power.specs.Found.{IsFound}
 use Rattle.mx_power.proofs.FoundLemmas.{rests_found}
-use Rattle.mx_point.specs.declared.point.Point.{Point}
+use Rattle.mx_base.specs.declared.point.Point.{Point}
 use Rattle.mx_points.specs.Commits.{point_behind}
 use Rattle.mx_points.specs.Points.{next_point}
 use Rattle.mx_stands.specs.Schemas.{schema_at}

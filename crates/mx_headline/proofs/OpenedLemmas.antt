@@ -11,7 +11,7 @@ use Rattle.sqlite.specs.Tree.{Trees}
 use Rattle.mx_command.specs.Act.{Entry}
 use Rattle.mx_book.specs.Book.{IsBook}
 use Rattle.mx_book.specs.Run.{replies}
-use Rattle.mx_point.specs.declared.point.Point.{Point}
+use Rattle.mx_base.specs.declared.point.Point.{Point}
 use Rattle.mx_points.specs.Commits.{point_behind}
 use Rattle.mx_points.specs.Points.{next_point}
 use Rattle.mx_points.proofs.CommitLemmas.{commit_counts}

@@ -6,7 +6,7 @@ ghost use Rattle.sqlite_store.specs.FileStore as files;
 ghost use Rattle.sqlite_trees.specs.View.{IsClean};
 ghost use Rattle.sqlite_wal.specs.Files.{image_at};
 ghost use Rattle.mx_command.specs.Act.{Entry};
-ghost use Rattle.mx_point.specs.declared.point.Point.{Point};
+ghost use Rattle.mx_base.specs.declared.point.Point.{Point};
 ghost use Rattle.mx_power.specs.Found.{WasLeft};
 ghost use Rattle.mx_stands.specs.Schemas.{IsOfFile};
 ghost use Rattle.mx_stands.specs.Stands.{RestsAt};

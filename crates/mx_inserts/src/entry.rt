@@ -1,7 +1,7 @@
 //! Adding a row to `entry`.
 ghost use Rattle.std.specs.Prelude.{◌≡◌};
-ghost use Rattle.mx_typed_rows.specs.Rows.{kind_number};
-ghost use Rattle.mx_typed_rows.specs.declared.rows.EntryKind.{EntryKind};
+ghost use Rattle.mx_base.specs.rows.Rows.{kind_number};
+ghost use Rattle.mx_base.specs.declared.rows.rows.EntryKind.{EntryKind};
 
 use crate::prelude::*;
 

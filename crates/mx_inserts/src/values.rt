@@ -6,7 +6,7 @@ ghost use Rattle.sqlite.specs.Values.{or_null};
 ghost use Rattle.mx_base.specs.Calendar.{last_moment};
 ghost use Rattle.mx_base.specs.Identifier.{IsIdentifier, is_graphic};
 ghost use Rattle.mx_base.specs.Texts.{moment_text};
-ghost use Rattle.mx_typed_rows.specs.Rows.{category_number, days_stated, FitsCategory};
+ghost use Rattle.mx_base.specs.rows.Rows.{category_number, days_stated, FitsCategory};
 ghost use Rattle.mx_kept.specs.Values.{text_or_null};
 
 use mx_base::identifiers::{Graphic, Identifier};

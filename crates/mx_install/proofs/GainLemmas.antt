@@ -5,8 +5,8 @@ use Rattle.sqlite.specs.Order.{Row}
 use Rattle.sqlite.specs.Schema.{Schema}
 use Rattle.sqlite.specs.Effect.{Database}
 use Rattle.mx_command.specs.Act.{Entry}
-use Rattle.mx_typed_rows.specs.declared.rows.EntryRow.{EntryRow}
-use Rattle.mx_typed_rows.specs.declared.register_rows.RegisterRows.{RegisterRows}
+use Rattle.mx_base.specs.declared.rows.rows.EntryRow.{EntryRow}
+use Rattle.mx_base.specs.declared.rows.register_rows.RegisterRows.{RegisterRows}
 use Rattle.mx_register.specs.Added.{AreAddedRows}
 use Rattle.mx_register.specs.Registers.{entry_added}
 use Rattle.mx_points.specs.Tables.{Line, is_table_at}

@@ -11,6 +11,7 @@ ghost use Rattle.mx_stands.specs.Schemas.{schema_at};
 ghost use Rattle.mx_inserts.specs.Sets.{GainsRows};
 ghost use Rattle.mx_install.specs.Entries.{AddsEntries, FitsNext, first_point, with_command};
 
+use mx_base::rows::RegisterRows;
 use mx_book::Verdict;
 use mx_command::Command;
 use mx_entry_list::Book;
@@ -18,7 +19,6 @@ use mx_inserts::{Insert, Tables};
 use mx_layout::TableFault;
 use mx_plain_register::added_rows;
 use mx_register::entry_row;
-use mx_typed_rows::RegisterRows;
 use sqlite::{Alter, Transaction};
 use std::alloc::Global;
 

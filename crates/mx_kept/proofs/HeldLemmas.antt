@@ -4,7 +4,7 @@ use Rattle.std.specs.Prelude.{All, IsSorted}
 use Rattle.std.proofs.lemmas.List.Elements.{All-map}
 use Rattle.std.proofs.lemmas.Simd.{map-map}
 use Rattle.sqlite.specs.Order.{Row}
-use Rattle.mx_typed_rows.specs.Rising.{IsFrom}
+use Rattle.mx_base.specs.rows.Rising.{IsFrom}
 use Rattle.mx_kept.specs.Kept.{Kept, held}
 use Rattle.mx_kept.specs.Meanings.{IsLawful}
 

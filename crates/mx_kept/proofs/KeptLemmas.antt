@@ -26,7 +26,7 @@ use Rattle.mx_layout.specs.Names.{table_named}
 use Rattle.mx_layout.specs.Reading.{by_first, by_two}
 use Rattle.mx_layout.proofs.ReadLemmas.{first_key, two_keys, sorts_by_first, sorts_by_two}
 use Rattle.mx_layout.specs.Plans.{scan_by, Sorts, added, uncounted}
-use Rattle.mx_typed_rows.specs.Rising.{IsFrom}
+use Rattle.mx_base.specs.rows.Rising.{IsFrom}
 use Rattle.mx_kept.proofs.OrderLemmas.{first_ascends}
 use Rattle.mx_kept.specs.Kept.{Kept, over}
 use Rattle.mx_kept.specs.Family.{IsReadable, IsReadableAs}

@@ -5,7 +5,7 @@ use Rattle.mx_base.specs.Calendar.{date_of}
 use Rattle.mx_base.specs.Texts.{day_text, moment_text}
 use Rattle.sqlite.specs.declared.types.Value.TheVariants.{Int, Text, Null}
 use Rattle.mx_base.specs.declared.category.Category.TheVariants.{A, C}
-use Rattle.mx_typed_rows.specs.declared.rows.EntryKind.TheVariants.{Opening}
+use Rattle.mx_base.specs.declared.rows.rows.EntryKind.TheVariants.{Opening}
 use Rattle.mx_kept.specs.Cells.{kept_entry, kept_aircraft, kept_place, kept_component, kept_programme, kept_task, kept_opening, kept_crs, kept_crs_line, kept_defect, kept_extension, kept_sector1, kept_fit1, kept_removal1}
 
 entry_cells : kept_entry.as_cells (record { seq = 9; doc = codes "O1"; kind = Opening }) ≡ Int (pos 9) ∷ Text (codes "O1") ∷ Int (pos 4) ∷ []

@@ -3,7 +3,7 @@ use Rattle.std.specs.Prelude.{ℕ, pos}
 use Rattle.sqlite.specs.declared.types.Value.{Value}
 use Rattle.sqlite.specs.declared.types.Value.TheVariants.{Int}
 use Rattle.sqlite.specs.Order.{Row, column}
-use Rattle.mx_typed_rows.specs.Rows.{line_key}
+use Rattle.mx_base.specs.rows.Rows.{line_key}
 
 -- the number that a value is, or 0
 abbrev pub number_of : Value → ℕ

@@ -12,7 +12,7 @@ use Rattle.sqlite.specs.Listing.{understood, reads_listing}
 use Rattle.sqlite.specs.Program.{overlay}
 use Rattle.sqlite.proofs.Callers.{IsPlain, command_of}
 use Rattle.sqlite_value.specs.declared.keys.Key.{Key}
-use Rattle.mx_typed_rows.specs.Rising.{IsFrom}
+use Rattle.mx_base.specs.rows.Rising.{IsFrom}
 use Rattle.mx_layout.specs.Contents.{cells}
 use Rattle.mx_layout.specs.Names.{table_named}
 use Rattle.mx_layout.specs.TableName.{TableName}

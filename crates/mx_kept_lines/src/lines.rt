@@ -2,6 +2,7 @@
 ghost use Rattle.std.specs.Prelude.{◌≡◌, false, nat_eq};
 ghost use Rattle.mx_command.specs.Bounds.{are_distinct};
 
+use mx_base::rows::BaseRow;
 use mx_base::{Day, Moment, TaskId, Use};
 use mx_cases::{Unmade, append_joined, or_none};
 use mx_fault_texts::{append_table_fault, room};
@@ -10,7 +11,6 @@ use mx_totals::bases::{base_row, set_base};
 use mx_totals::lives::Total;
 use mx_totals::spans::{FittedComponent, end_span2, fitted};
 use mx_totals::totals::{credit, new_total, set_clock, total};
-use mx_typed_rows::BaseRow;
 use sqlite::{Alter, Connection, Transaction};
 use std::alloc::{AllocError, Global};
 

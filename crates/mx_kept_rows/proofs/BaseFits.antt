@@ -22,7 +22,7 @@ use Rattle.mx_book.specs.Life.{life_at, use_or_none}
 use Rattle.mx_book.specs.Programme.{is_done}
 use Rattle.mx_book.specs.Register.{birth}
 use Rattle.mx_book.proofs.LifeLemmas.{life_bounded}
-use Rattle.mx_typed_rows.specs.Rows.{FitsBase, FitsBaseValue, base_row_with}
+use Rattle.mx_base.specs.rows.Rows.{FitsBase, FitsBaseValue, base_row_with}
 use Rattle.mx_kept_rows.specs.Bases.{base_row, base_rows, base_rows_of, each_once, task_done, tasks_accomplished, tasks_by}
 use Rattle.mx_kept_rows.specs.Fits.{FitRegisters}
 use Rattle.mx_kept_rows.specs.Items.{items}

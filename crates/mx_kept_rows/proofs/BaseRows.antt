@@ -19,8 +19,8 @@ use Rattle.mx_book.proofs.BaseLemmas.{accomplished-base}
 use Rattle.mx_book.proofs.NamedLemmas.{any_named}
 use Rattle.mx_register.specs.Names.{item_added, item_at}
 use Rattle.mx_register.specs.Registers.{gives_by, next}
-use Rattle.mx_typed_rows.specs.declared.rows.BaseRow.{BaseRow}
-use Rattle.mx_typed_rows.specs.Rows.{base_in_row, base_row_with}
+use Rattle.mx_base.specs.declared.rows.rows.BaseRow.{BaseRow}
+use Rattle.mx_base.specs.rows.Rows.{base_in_row, base_row_with}
 use Rattle.mx_kept_rows.specs.Bases.{base_in, base_row, base_rows, base_rows_of, each_once, task_done, tasks_accomplished, tasks_by}
 use Rattle.mx_kept_rows.specs.Items.{items, items_by}
 use Rattle.mx_kept_rows.proofs.ItemNumbers.{items_numbered}

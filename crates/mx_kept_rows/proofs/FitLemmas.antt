@@ -15,8 +15,8 @@ use Rattle.mx_book.specs.Book.{IsBook}
 use Rattle.mx_book.specs.Life.{latest, if_same, if_at_aircraft, if_in_shop, airframe_moments, component_moments, clock}
 use Rattle.mx_book.specs.Span.{Span, first_removal, span_begun, spans}
 use Rattle.mx_book.proofs.LifeLemmas.{life_bounded}
-use Rattle.mx_typed_rows.specs.Rising.{IsRising}
-use Rattle.mx_typed_rows.specs.Rows.{FitsSpan, FitsTotal}
+use Rattle.mx_base.specs.rows.Rising.{IsRising}
+use Rattle.mx_base.specs.rows.Rows.{FitsSpan, FitsTotal}
 use Rattle.mx_register.specs.Names.{number_from, or_zero, serial_added, tail_added}
 use Rattle.mx_register.specs.Registers.{next}
 use Rattle.mx_kept_rows.specs.Fits.{FitRegisters}

@@ -16,7 +16,7 @@ use Rattle.mx_book.specs.Life.{clock, use_after}
 use Rattle.mx_register.specs.Names.{has_item, tail_at, item_at, or_zero, seq_of_tail}
 use Rattle.mx_register.proofs.NameLemmas.{tail_known}
 use Rattle.mx_register.proofs.NewLemmas.{flown_is_known}
-use Rattle.mx_typed_rows.specs.declared.rows.TotalRow.{TotalRow}
+use Rattle.mx_base.specs.declared.rows.rows.TotalRow.{TotalRow}
 use Rattle.mx_kept_rows.specs.Items.{items}
 use Rattle.mx_kept_rows.specs.Spans.{span_rows}
 use Rattle.mx_kept_rows.specs.Totals.{credited_row, numbers_during, numbers_there, raised_row, set_row, total_row, total_rows}

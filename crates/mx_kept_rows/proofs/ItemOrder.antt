@@ -3,11 +3,11 @@ use Rattle.std.proofs.Common.{arith, subst, ◌≡◌, ℕ, ◌+◌, ◌≤◌, 
 use Rattle.std.specs.Prelude.{map}
 use Rattle.mx_command.specs.Act.{Act, Entry, Added, Listed}
 use Rattle.mx_command.specs.declared.item.Item.{Item}
-use Rattle.mx_typed_rows.specs.Rising.{IsRising}
+use Rattle.mx_base.specs.rows.Rising.{IsRising}
 use Rattle.mx_register.specs.Registers.{gives_by, next}
 use Rattle.mx_kept_rows.specs.Items.{items, items_by}
 use Rattle.mx_kept_rows.specs.Totals.{total_row, total_rows}
-use Rattle.mx_typed_rows.specs.declared.rows.TotalRow.{TotalRow}
+use Rattle.mx_base.specs.declared.rows.rows.TotalRow.{TotalRow}
 
 rising_lower : (low more high : ℕ) (xs : List (ℕ × Item)) → low ≤ more → IsRising (λ (x : ℕ × Item). x.0) more xs high → IsRising (λ (x : ℕ × Item). x.0) low xs high
 rising_lower low more high [] h up = omega arith

@@ -12,9 +12,9 @@ use Rattle.mx_command.specs.Same.{same_text}
 use Rattle.mx_command.specs.declared.item.Item.{Item}
 use Rattle.mx_command.proofs.SameLemmas.{text_same}
 use Rattle.mx_book.specs.Base.{base}
-use Rattle.mx_typed_rows.specs.Rising.{IsRising}
-use Rattle.mx_typed_rows.specs.declared.rows.BaseRow.{BaseRow}
-use Rattle.mx_typed_rows.specs.Rows.{base_in_row, base_row_with}
+use Rattle.mx_base.specs.rows.Rising.{IsRising}
+use Rattle.mx_base.specs.declared.rows.rows.BaseRow.{BaseRow}
+use Rattle.mx_base.specs.rows.Rows.{base_in_row, base_row_with}
 use Rattle.mx_kept_rows.specs.Bases.{AreKeyedOnce, base_in, base_row, base_rows, base_rows_of, each_once, is_keyed, tasks_accomplished}
 use Rattle.mx_kept_rows.specs.Items.{items}
 use Rattle.mx_kept_rows.proofs.ItemOrder.{items_from}

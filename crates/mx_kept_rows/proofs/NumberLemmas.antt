@@ -18,8 +18,8 @@ use Rattle.mx_book.specs.Programme.{is_done}
 use Rattle.mx_register.specs.Names.{has_item, item_at, or_zero, seq_of_item}
 use Rattle.mx_register.proofs.NameLemmas.{item_known, item_number}
 use Rattle.mx_register.proofs.NewLemmas.{opened_is_known}
-use Rattle.mx_typed_rows.specs.declared.rows.BaseRow.{BaseRow}
-use Rattle.mx_typed_rows.specs.Rows.{base_in_row, base_row_with}
+use Rattle.mx_base.specs.declared.rows.rows.BaseRow.{BaseRow}
+use Rattle.mx_base.specs.rows.Rows.{base_in_row, base_row_with}
 use Rattle.mx_kept_rows.specs.Bases.{base_in, base_row, base_rows, base_rows_of, is_keyed, tasks_accomplished}
 use Rattle.mx_kept_rows.specs.Items.{items}
 use Rattle.mx_kept_rows.proofs.DoneLemmas.{accomplishments-more, done_there, item_same}

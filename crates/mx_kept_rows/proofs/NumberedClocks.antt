@@ -23,8 +23,8 @@ use Rattle.mx_book.proofs.JudgeLemmas.{both_true}
 use Rattle.mx_register.specs.Names.{has_item, item_at, serial_at, or_zero, seq_of_item, seq_of_serial, seq_of_tail}
 use Rattle.mx_register.proofs.NameLemmas.{item_known, item_number, tail_known}
 use Rattle.mx_register.proofs.NewLemmas.{added_is_unknown, deferred_is_known, fitted_is_known, listed_is_unknown, released_is_known, removed_is_known}
-use Rattle.mx_typed_rows.specs.declared.rows.SpanRow.{SpanRow}
-use Rattle.mx_typed_rows.specs.declared.rows.TotalRow.{TotalRow}
+use Rattle.mx_base.specs.declared.rows.rows.SpanRow.{SpanRow}
+use Rattle.mx_base.specs.declared.rows.rows.TotalRow.{TotalRow}
 use Rattle.mx_kept_rows.specs.Changes.{is_fitted_to, moments_given, sectors_given}
 use Rattle.mx_kept_rows.specs.Items.{items}
 use Rattle.mx_kept_rows.specs.Spans.{is_open_of, span_row, span_rows, span_rows_from}

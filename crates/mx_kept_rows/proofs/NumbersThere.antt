@@ -23,8 +23,8 @@ use Rattle.mx_book.proofs.JudgeLemmas.{both_true}
 use Rattle.mx_register.specs.Names.{has_item, tail_added, tail_at, item_at, seq_of_tail, seq_of_serial, number_from, or_zero}
 use Rattle.mx_register.proofs.NameLemmas.{tail_known, serial_known, tail_number, serial_number}
 use Rattle.mx_register.proofs.NewLemmas.{fitted_is_known, flown_is_known}
-use Rattle.mx_typed_rows.specs.declared.rows.SpanRow.{SpanRow}
-use Rattle.mx_typed_rows.specs.declared.rows.TotalRow.{TotalRow}
+use Rattle.mx_base.specs.declared.rows.rows.SpanRow.{SpanRow}
+use Rattle.mx_base.specs.declared.rows.rows.TotalRow.{TotalRow}
 use Rattle.mx_kept_rows.specs.Changes.{moments_given}
 use Rattle.mx_kept_rows.specs.Items.{items}
 use Rattle.mx_kept_rows.specs.Spans.{span_row, span_rows, span_rows_from}

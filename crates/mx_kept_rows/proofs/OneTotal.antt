@@ -10,11 +10,11 @@ use Rattle.mx_command.specs.declared.release.Release.{Release}
 use Rattle.mx_book.specs.declared.verdict.Verdict.TheVariants.{New}
 use Rattle.mx_book.specs.Book.{IsBook, is_new}
 use Rattle.mx_book.specs.Judge.{judge, item_at as item_of_place}
-use Rattle.mx_typed_rows.specs.Rising.{IsRising}
+use Rattle.mx_base.specs.rows.Rising.{IsRising}
 use Rattle.mx_register.specs.Names.{item_at}
 use Rattle.mx_register.proofs.NameLemmas.{item_known}
 use Rattle.mx_register.proofs.NewLemmas.{released_is_known}
-use Rattle.mx_typed_rows.specs.declared.rows.TotalRow.{TotalRow}
+use Rattle.mx_base.specs.declared.rows.rows.TotalRow.{TotalRow}
 use Rattle.mx_kept_rows.specs.Items.{items, number_of_place}
 use Rattle.mx_kept_rows.specs.Totals.{total_in, total_row, total_rows}
 use Rattle.mx_kept_rows.proofs.ItemNumbers.{items_numbered}

@@ -23,8 +23,8 @@ use Rattle.mx_book.proofs.JudgeLemmas.{IsBook-entered, both_true}
 use Rattle.mx_register.specs.Names.{has_item, item_at, or_zero, seq_of_item}
 use Rattle.mx_register.proofs.NameLemmas.{item_known, item_number}
 use Rattle.mx_register.proofs.NewLemmas.{HasLines, opened_is_known, released_is_known}
-use Rattle.mx_typed_rows.specs.declared.rows.BaseRow.{BaseRow}
-use Rattle.mx_typed_rows.specs.Rows.{base_in_row, base_row_with}
+use Rattle.mx_base.specs.declared.rows.rows.BaseRow.{BaseRow}
+use Rattle.mx_base.specs.rows.Rows.{base_in_row, base_row_with}
 use Rattle.mx_kept_rows.specs.Bases.{base_in, base_put, base_rows, base_set, base_stated, bases_by, bases_put}
 use Rattle.mx_kept_rows.specs.Changes.{due_at, sectors_late}
 use Rattle.mx_kept_rows.proofs.BaseGrowth.{timely_none_late}

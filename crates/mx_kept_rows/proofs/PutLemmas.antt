@@ -2,8 +2,8 @@
 use Rattle.std.proofs.Common.{refl, ◌≡◌, ℕ, List, [], ◌∷◌, Bool, true, false, cond, Some}
 use Rattle.std.specs.Prelude.{not, find}
 use Rattle.std.specs.Option.{option_map}
-use Rattle.mx_typed_rows.specs.declared.rows.BaseRow.{BaseRow}
-use Rattle.mx_typed_rows.specs.Rows.{base_in_row}
+use Rattle.mx_base.specs.declared.rows.rows.BaseRow.{BaseRow}
+use Rattle.mx_base.specs.rows.Rows.{base_in_row}
 use Rattle.mx_kept_rows.specs.Bases.{AreKeyedOnce, base_in, base_put, bases_put, is_keyed}
 use Rattle.mx_kept_rows.proofs.KeyedLemmas.{gone, keyed_fewer, others_stay, without}
 

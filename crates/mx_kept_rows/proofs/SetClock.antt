@@ -19,7 +19,7 @@ use Rattle.mx_book.specs.Judge.{judge, item_at as item_of_place}
 use Rattle.mx_book.specs.Life.{latest, clock}
 use Rattle.mx_register.specs.Names.{item_at}
 use Rattle.mx_register.proofs.NewLemmas.{released_is_known}
-use Rattle.mx_typed_rows.specs.declared.rows.TotalRow.{TotalRow}
+use Rattle.mx_base.specs.declared.rows.rows.TotalRow.{TotalRow}
 use Rattle.mx_kept_rows.specs.Changes.{moments_given}
 use Rattle.mx_kept_rows.specs.Items.{items, number_of_place}
 use Rattle.mx_kept_rows.specs.Totals.{set_row, total_grown, total_row, total_rows}

@@ -7,9 +7,9 @@ use Rattle.std.proofs.lemmas.List.Sorted.{All-permutation, IsPermutation-sym}
 use Rattle.mx_base.specs.Calendar.{last_moment}
 use Rattle.mx_command.specs.Act.{Entry}
 use Rattle.mx_book.specs.Book.{IsBook}
-use Rattle.mx_typed_rows.specs.Rows.{FitsFitting, FitsRemoval, FitsSpan}
-use Rattle.mx_typed_rows.specs.declared.rows.RemovalRow.{RemovalRow}
-use Rattle.mx_typed_rows.specs.declared.rows.SpanRow.{SpanRow}
+use Rattle.mx_base.specs.rows.Rows.{FitsFitting, FitsRemoval, FitsSpan}
+use Rattle.mx_base.specs.declared.rows.rows.RemovalRow.{RemovalRow}
+use Rattle.mx_base.specs.declared.rows.rows.SpanRow.{SpanRow}
 use Rattle.mx_register.specs.Registers.{fitting_rows, removal_rows}
 use Rattle.mx_kept_rows.specs.Spans.{fitting_in, removal_by, removal_in, span_rows}
 use Rattle.mx_kept_rows.proofs.SpanRegisters.{fittings_in_spans, removals_in_spans}

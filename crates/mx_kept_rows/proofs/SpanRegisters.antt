@@ -16,12 +16,12 @@ use Rattle.mx_book.specs.Judge.{judge}
 use Rattle.mx_book.specs.Span.{Span, first_removal, span_begun, spans, fitted, open_spans_of}
 use Rattle.mx_book.proofs.JudgeLemmas.{both_true}
 use Rattle.mx_book.proofs.SpanLemmas.{one_place}
-use Rattle.mx_typed_rows.specs.declared.rows.RemovalRow.{RemovalRow}
+use Rattle.mx_base.specs.declared.rows.rows.RemovalRow.{RemovalRow}
 use Rattle.mx_register.specs.Names.{seq_of_serial, or_zero}
 use Rattle.mx_register.specs.Registers.{gives_by, next, fittings_by, removals_by, fitting_rows, removal_rows}
 use Rattle.mx_register.proofs.NewLemmas.{fitted_is_known, removed_is_known}
 use Rattle.mx_register.proofs.RegisterLemmas.{gives-more}
-use Rattle.mx_typed_rows.specs.declared.rows.SpanRow.{SpanRow}
+use Rattle.mx_base.specs.declared.rows.rows.SpanRow.{SpanRow}
 use Rattle.mx_kept_rows.specs.Spans.{fitting_in, removal_by, removal_in, span_ended, span_row, span_rows, span_rows_from, spans_opened}
 use Rattle.mx_kept_rows.proofs.SpanGrowth.{span_of}
 use Rattle.mx_kept_rows.proofs.KnownLemmas.{component_kept}

@@ -20,7 +20,7 @@ use Rattle.mx_register.specs.Names.{serial_added, serial_at, seq_of_serial, numb
 use Rattle.mx_register.specs.Registers.{next}
 use Rattle.mx_register.proofs.NameLemmas.{serial_known}
 use Rattle.mx_register.proofs.NewLemmas.{fitted_is_known, removed_is_known}
-use Rattle.mx_typed_rows.specs.declared.rows.SpanRow.{SpanRow}
+use Rattle.mx_base.specs.declared.rows.rows.SpanRow.{SpanRow}
 use Rattle.mx_kept_rows.specs.Spans.{removal_from, removes, span_ended, span_row, span_rows, span_rows_from, spans_opened}
 use Rattle.mx_kept_rows.proofs.SpanGrowth.{span_of, first_removal-append, same_sym}
 use Rattle.mx_kept_rows.proofs.KnownLemmas.{component_kept}

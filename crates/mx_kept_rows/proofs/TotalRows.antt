@@ -24,7 +24,7 @@ use Rattle.mx_book.specs.Life.{latest, if_same, if_at_aircraft, if_in_shop, cloc
 use Rattle.mx_register.specs.Registers.{next}
 use Rattle.mx_register.proofs.NewLemmas.{added_is_unknown, listed_is_unknown, flown_is_known, fitted_is_known, removed_is_known, deferred_is_known, released_is_known}
 use Rattle.mx_register.proofs.RegisterLemmas.{gives-more}
-use Rattle.mx_typed_rows.specs.declared.rows.TotalRow.{TotalRow}
+use Rattle.mx_base.specs.declared.rows.rows.TotalRow.{TotalRow}
 use Rattle.mx_kept_rows.specs.Changes.{moments_given, sectors_given}
 use Rattle.mx_kept_rows.specs.Items.{items, items_by}
 use Rattle.mx_kept_rows.specs.Totals.{total_grown, total_row, total_rows, totals_opened}

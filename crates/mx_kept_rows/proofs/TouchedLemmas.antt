@@ -16,8 +16,8 @@ use Rattle.mx_book.specs.Life.{clock, latest}
 use Rattle.mx_register.specs.Names.{has_item, item_at, or_zero, seq_of_tail}
 use Rattle.mx_register.specs.Registers.{next}
 use Rattle.mx_register.proofs.NewLemmas.{flown_is_known}
-use Rattle.mx_typed_rows.specs.declared.rows.SpanRow.{SpanRow}
-use Rattle.mx_typed_rows.specs.declared.rows.TotalRow.{TotalRow}
+use Rattle.mx_base.specs.declared.rows.rows.SpanRow.{SpanRow}
+use Rattle.mx_base.specs.declared.rows.rows.TotalRow.{TotalRow}
 use Rattle.mx_kept_rows.specs.Changes.{moments_given, sectors_given}
 use Rattle.mx_kept_rows.specs.Items.{items}
 use Rattle.mx_kept_rows.specs.Spans.{is_span_touched, span_ended, span_rows}

@@ -11,7 +11,7 @@ use Rattle.mx_book.specs.Span.{Span, spans}
 use Rattle.mx_book.proofs.Worked.{at, abcd, logged}
 use Rattle.mx_book.proofs.WorkedFittings.{engine, propeller, e1, e2, engine_with, fit, remove}
 use Rattle.mx_book.proofs.WorkedProgrammes.{c172, minutes_alone, open_task}
-use Rattle.mx_typed_rows.specs.declared.rows.SpanRow.{SpanRow}
+use Rattle.mx_base.specs.declared.rows.rows.SpanRow.{SpanRow}
 use Rattle.mx_register.specs.Registers.{fitting_rows, fittings_by}
 use Rattle.mx_kept_rows.specs.Bases.{each_once, is_keyed, tasks_accomplished, tasks_by}
 use Rattle.mx_kept_rows.specs.Becomes.{adding, bases_become, spans_become, totals_become}

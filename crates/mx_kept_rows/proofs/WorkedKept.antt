@@ -11,10 +11,10 @@ use Rattle.mx_book.specs.Book.{is_book}
 use Rattle.mx_book.proofs.Worked.{at, used, abcd, logged}
 use Rattle.mx_book.proofs.WorkedFittings.{engine, e1, e2, replaced}
 use Rattle.mx_book.proofs.WorkedProgrammes.{c172, first_programme}
-use Rattle.mx_typed_rows.specs.declared.rows.BaseRow.{BaseRow}
-use Rattle.mx_typed_rows.specs.declared.rows.SpanRow.{SpanRow}
-use Rattle.mx_typed_rows.specs.declared.rows.TotalRow.{TotalRow}
-use Rattle.mx_typed_rows.specs.Rows.{base_row_with}
+use Rattle.mx_base.specs.declared.rows.rows.BaseRow.{BaseRow}
+use Rattle.mx_base.specs.declared.rows.rows.SpanRow.{SpanRow}
+use Rattle.mx_base.specs.declared.rows.rows.TotalRow.{TotalRow}
+use Rattle.mx_base.specs.rows.Rows.{base_row_with}
 use Rattle.mx_kept_rows.specs.Bases.{base_in, base_rows, bases_by, bases_put}
 use Rattle.mx_kept_rows.specs.Changes.{clock_of_place}
 use Rattle.mx_kept_rows.specs.Items.{items}

@@ -13,8 +13,8 @@ use Rattle.mx_command.specs.declared.release.Release.{Release}
 use Rattle.mx_due.specs.Due.{base_done}
 use Rattle.mx_book.specs.Base.{base, base_at}
 use Rattle.mx_book.specs.Life.{life_now, use_or_none}
-use Rattle.mx_typed_rows.specs.Rows.{base_key, base_in_row, base_row_with}
-use Rattle.mx_typed_rows.specs.declared.rows.BaseRow.{BaseRow}
+use Rattle.mx_base.specs.rows.Rows.{base_key, base_in_row, base_row_with}
+use Rattle.mx_base.specs.declared.rows.rows.BaseRow.{BaseRow}
 use Rattle.mx_kept_rows.specs.Changes.{due_at}
 use Rattle.mx_kept_rows.specs.Items.{items, number_of_item}
 

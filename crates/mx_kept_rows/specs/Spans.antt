@@ -4,9 +4,9 @@ use Rattle.mx_command.specs.Act.{Act, Entry, Removed}
 use Rattle.mx_command.specs.Same.{same_text}
 use Rattle.mx_book.specs.Span.{Span, span_begun}
 use Rattle.mx_register.specs.Registers.{next}
-use Rattle.mx_typed_rows.specs.declared.rows.FittingRow.{FittingRow}
-use Rattle.mx_typed_rows.specs.declared.rows.RemovalRow.{RemovalRow}
-use Rattle.mx_typed_rows.specs.declared.rows.SpanRow.{SpanRow}
+use Rattle.mx_base.specs.declared.rows.rows.FittingRow.{FittingRow}
+use Rattle.mx_base.specs.declared.rows.rows.RemovalRow.{RemovalRow}
+use Rattle.mx_base.specs.declared.rows.rows.SpanRow.{SpanRow}
 use Rattle.mx_kept_rows.specs.Items.{number_of_serial, number_of_tail}
 
 -- the entry removes the component

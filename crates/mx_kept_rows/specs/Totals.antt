@@ -8,8 +8,8 @@ use Rattle.mx_command.specs.declared.sector.Sector.{Sector}
 use Rattle.mx_book.specs.Life.{life_now, clock, latest, use_after, use_or_none}
 use Rattle.mx_register.specs.Names.{item_at}
 use Rattle.mx_register.specs.Registers.{next}
-use Rattle.mx_typed_rows.specs.declared.rows.SpanRow.{SpanRow}
-use Rattle.mx_typed_rows.specs.declared.rows.TotalRow.{TotalRow}
+use Rattle.mx_base.specs.declared.rows.rows.SpanRow.{SpanRow}
+use Rattle.mx_base.specs.declared.rows.rows.TotalRow.{TotalRow}
 use Rattle.mx_kept_rows.specs.Changes.{moments_given, sectors_given}
 use Rattle.mx_kept_rows.specs.Items.{items, number_of_place, number_of_serial, number_of_tail}
 use Rattle.mx_kept_rows.specs.Spans.{is_open_of, span_rows}

@@ -17,7 +17,7 @@ ghost use Rattle.mx_book.specs.declared.verdict.Verdict.TheVariants.{New};
 ghost use Rattle.mx_register.specs.Names.{item_at};
 ghost use Rattle.mx_kept_rows.specs.Bases.{AreKeyedOnce, base_in, base_reached, base_rows, bases_by, bases_put, stated_base};
 ghost use Rattle.mx_kept_rows.specs.Changes.{entry_of, sectors_late};
-ghost use Rattle.mx_typed_rows.specs.declared.rows.BaseRow.{BaseRow};
+ghost use Rattle.mx_base.specs.declared.rows.rows.BaseRow.{BaseRow};
 
 /// The base of a task of an item with a new entry that gives the item no sector late: the accomplishments of the entry,
 /// behind the base before it. So the bases of earlier accomplishments stay what they are.

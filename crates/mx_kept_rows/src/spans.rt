@@ -12,7 +12,7 @@ ghost use Rattle.mx_register.specs.Registers.{fitting_rows, removal_rows};
 ghost use Rattle.mx_kept_rows.specs.Changes.{IsTimed, ended_by};
 ghost use Rattle.mx_kept_rows.specs.Items.{number_of_serial, number_of_tail};
 ghost use Rattle.mx_kept_rows.specs.Spans.{fitting_in, open_span_in, removal_in, span_ended, span_rows, spans_opened};
-ghost use Rattle.mx_typed_rows.specs.declared.rows.SpanRow.{SpanRow};
+ghost use Rattle.mx_base.specs.declared.rows.rows.SpanRow.{SpanRow};
 
 /// One entry more ends the open span of the component that it removes, and begins one where it fits a component.
 pub fn spans_change()

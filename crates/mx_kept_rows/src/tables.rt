@@ -3,7 +3,7 @@
 ghost use Rattle.std.specs.Prelude.{List, All};
 ghost use Rattle.mx_command.specs.Act.{Entry};
 ghost use Rattle.mx_book.specs.Book.{IsBook};
-ghost use Rattle.mx_typed_rows.specs.Rows.{FitsBase, FitsFitting, FitsRemoval, FitsSpan, FitsTotal};
+ghost use Rattle.mx_base.specs.rows.Rows.{FitsBase, FitsFitting, FitsRemoval, FitsSpan, FitsTotal};
 ghost use Rattle.mx_register.specs.Registers.{aircraft_by, aircraft_rows, components_by, component_rows, deferrals_by, deferral_rows, extensions_by, extension_rows, fittings_by, fitting_rows, openings_by, opening_rows, places_by, place_rows, programmes_by, programme_rows, release_lines_by, release_line_rows, releases_by, release_rows, removals_by, removal_rows, sectors_by, sector_rows, tasks_by, task_rows};
 ghost use Rattle.mx_kept_rows.specs.Bases.{base_rows};
 ghost use Rattle.mx_kept_rows.specs.Becomes.{Becomes, BecomesSome, adding, bases_become, spans_become, totals_become};

@@ -20,8 +20,8 @@ ghost use Rattle.mx_kept_rows.specs.Changes.{entry_of};
 ghost use Rattle.mx_kept_rows.specs.Items.{number_of_place, number_of_tail};
 ghost use Rattle.mx_kept_rows.specs.Spans.{is_span_touched, span_ended, span_rows};
 ghost use Rattle.mx_kept_rows.specs.Totals.{credited_row, is_among, numbers_fitted, numbers_flown, numbers_there, numbers_touched, raised_row, set_row, total_by_number, total_changed, total_in, total_row, total_rows, totals_opened};
-ghost use Rattle.mx_typed_rows.specs.declared.rows.SpanRow.{SpanRow};
-ghost use Rattle.mx_typed_rows.specs.declared.rows.TotalRow.{TotalRow};
+ghost use Rattle.mx_base.specs.declared.rows.rows.SpanRow.{SpanRow};
+ghost use Rattle.mx_base.specs.declared.rows.rows.TotalRow.{TotalRow};
 
 /// The row of the item with a number has its life now and its clock.
 pub fn rows_have_the_totals()

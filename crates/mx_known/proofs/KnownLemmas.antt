@@ -7,7 +7,7 @@ use Rattle.sqlite.specs.Tree.{Trees}
 use Rattle.mx_command.specs.Act.{Entry}
 use Rattle.mx_command.specs.declared.release.Line.{Line}
 use Rattle.mx_register.specs.Names.{or_zero}
-use Rattle.mx_typed_rows.specs.declared.rows.ReleaseLineRow.{ReleaseLineRow}
+use Rattle.mx_base.specs.declared.rows.rows.ReleaseLineRow.{ReleaseLineRow}
 use Rattle.mx_layout.specs.Crash.{IsWithin}
 use Rattle.mx_kept.specs.Cells.{kept_crs_line}
 use Rattle.mx_kept.specs.Kept.{Kept}

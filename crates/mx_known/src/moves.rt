@@ -2,12 +2,13 @@
 ghost use Rattle.sqlite.specs.Held.{state};
 ghost use Rattle.mx_command.specs.Act.{Fitted, Flown, Removed};
 ghost use Rattle.std.specs.Prelude.{◌≡◌, ◌↔◌, ◌∷◌, [], IsTrue, map};
-ghost use Rattle.mx_typed_rows.specs.declared.rows.Sector2Row.{Sector2Row};
+ghost use Rattle.mx_base.specs.declared.rows.rows.Sector2Row.{Sector2Row};
 ghost use Rattle.mx_numbers.specs.AnyRows.{ReadsAny};
 ghost use Rattle.mx_known.specs.Known.{Says, SaysDamage, Tells};
 ghost use Rattle.mx_numbers.specs.Reads.{Reads};
 ghost use Rattle.mx_numbers.specs.Told.{TellsDamage};
 
+use mx_base::rows::Sector2Row;
 use mx_chosen::kept::{span2_by_fit_seq, span2_by_remove_seq};
 use mx_chosen::sectors::sector2_by_seq;
 use mx_command::{Fitting, Removal, Sector};
@@ -15,7 +16,6 @@ use mx_found::known::{begins_in, ends_in};
 use mx_layout::TableFault;
 use mx_numbers::items::{aircraft_number, component_number};
 use mx_register::{SectorRow, or_zero, sector_row};
-use mx_typed_rows::Sector2Row;
 use sqlite::{Alter, Transaction};
 use std::alloc::Global;
 

@@ -20,10 +20,10 @@ use Rattle.sqlite.specs.State.{State, ExecutesInside}
 use Rattle.sqlite.proofs.Callers.{IsPlain, command_of, one_permutation}
 use Rattle.sqlite_tied.specs.Compute.{everything}
 use Rattle.sqlite_catalog.specs.Listing.{IsSound}
-use Rattle.mx_point.specs.declared.point.Point.{Point}
+use Rattle.mx_base.specs.declared.point.Point.{Point}
 use Rattle.mx_layout.specs.Contents.{cells, rows_in, Adds, Rises}
 use Rattle.mx_layout.specs.Making.{IsBlank, IsEmptyAt, IsEmptyIn}
-use Rattle.mx_point.specs.Settled.{settled}
+use Rattle.mx_base.specs.Settled.{settled}
 use Rattle.mx_layout.specs.Names.{table_named}
 use Rattle.mx_layout.specs.Point.{point_cells, insert_office_text}
 use Rattle.mx_layout.specs.Steps.{schema_of, IsLayout}

@@ -5,8 +5,8 @@ use Rattle.sqlite.specs.Schema.{Schema}
 use Rattle.sqlite.specs.Tree.{Trees}
 use Rattle.sqlite.specs.Effect.{Database}
 use Rattle.sqlite_catalog.specs.Listing.{IsSound}
-use Rattle.mx_point.specs.declared.point.Point.{Point}
-use Rattle.mx_point.specs.Settled.{settled}
+use Rattle.mx_base.specs.declared.point.Point.{Point}
+use Rattle.mx_base.specs.Settled.{settled}
 use Rattle.mx_layout.specs.Contents.{rows_in, Rises}
 use Rattle.mx_layout.specs.Point.{point_cells}
 use Rattle.mx_layout.specs.Steps.{schema_of}

@@ -16,7 +16,7 @@ ghost use Rattle.mx_layout.specs.Writing.{Gains};
 use crate::fault::{TableFault, fault_of};
 use crate::layout::Layout;
 use crate::listed::refusal_of;
-use mx_point::Point;
+use mx_base::Point;
 use sqlite::{Alter, Connection, Error, Row, Transaction, params};
 
 /// How many statements make a layout of no table.

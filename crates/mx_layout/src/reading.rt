@@ -13,7 +13,7 @@ ghost use Rattle.mx_layout.specs.Tables.{office, HasOffice};
 
 use crate::fault::{Table, TableFault, fault_of};
 use crate::listed::has_office;
-use mx_point::Point;
+use mx_base::Point;
 use sqlite::types::ValueRef;
 use sqlite::{Alter, Connection, Error, Row, Transaction};
 

@@ -15,10 +15,10 @@ use Rattle.mx_command.specs.declared.item.Item.TheVariants.{Airframe, Component}
 use Rattle.mx_due.specs.Due.{IsLife}
 use Rattle.mx_book.specs.Programme.{last_of}
 use Rattle.mx_register.specs.Merge.{task_said}
-use Rattle.mx_typed_rows.specs.Rows.{base_in_row}
-use Rattle.mx_typed_rows.specs.declared.rows.ProgrammeRow.{ProgrammeRow}
-use Rattle.mx_typed_rows.specs.declared.rows.TaskRow.{TaskRow}
-use Rattle.mx_typed_rows.specs.declared.rows.TotalRow.{TotalRow}
+use Rattle.mx_base.specs.rows.Rows.{base_in_row}
+use Rattle.mx_base.specs.declared.rows.rows.ProgrammeRow.{ProgrammeRow}
+use Rattle.mx_base.specs.declared.rows.rows.TaskRow.{TaskRow}
+use Rattle.mx_base.specs.declared.rows.rows.TotalRow.{TotalRow}
 use Rattle.mx_layout.specs.declared.fault.Table.TheVariants as table
 use Rattle.mx_kept.specs.Cells.{kept_aircraft, kept_base2, kept_component, kept_programme, kept_task, kept_total2}
 use Rattle.mx_chosen.specs.Choices.{has_value}

@@ -8,7 +8,7 @@ ghost use Rattle.mx_book.specs.Asking.{task_of};
 ghost use Rattle.mx_book.specs.Programme.{life_ended, next_revision, tasks_or_none};
 ghost use Rattle.mx_book.specs.Register.{found_of};
 ghost use Rattle.mx_register.specs.Merge.{task_said};
-ghost use Rattle.mx_typed_rows.specs.declared.rows.TaskRow.{TaskRow};
+ghost use Rattle.mx_base.specs.declared.rows.rows.TaskRow.{TaskRow};
 ghost use Rattle.mx_numbers.specs.InForce.{born_as, rows_in_force};
 ghost use Rattle.mx_numbers.specs.AnyRows.{ReadsAny};
 ghost use Rattle.mx_numbers.specs.Given.{BornOf, IsRetired, NextRevision, RowsInForce, TaskOf, TasksInForce};
@@ -16,6 +16,7 @@ ghost use Rattle.mx_numbers.specs.Reads.{Reads};
 ghost use Rattle.mx_numbers.specs.Told.{InForceDamage, ItemDamage, RetiredDamage, RevisionDamage, TellsDamage};
 
 use crate::lives::life;
+use mx_base::rows::TaskRow;
 use mx_base::{Day, Kind, Part, TaskId};
 use mx_chosen::programmes::{programme_by_kind, task_by_seq};
 use mx_command::{Item, Task};
@@ -24,7 +25,6 @@ use mx_found::programmes::{
 };
 use mx_layout::{Table, TableFault};
 use mx_numbers::items::{aircraft, component};
-use mx_typed_rows::TaskRow;
 use sqlite::{Alter, Transaction};
 use std::alloc::Global;
 

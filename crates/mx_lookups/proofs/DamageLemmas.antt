@@ -7,13 +7,13 @@ use Rattle.sqlite_rules.proofs.ListLemmas.{has_found}
 use Rattle.sqlite.specs.declared.types.Value.TheVariants.{Int}
 use Rattle.sqlite.specs.Order.{Row}
 use Rattle.sqlite.specs.Tree.{Trees}
-use Rattle.mx_typed_rows.specs.Rows.{kind_number}
-use Rattle.mx_typed_rows.specs.declared.rows.AircraftRow.{AircraftRow}
-use Rattle.mx_typed_rows.specs.declared.rows.DeferralRow.{DeferralRow}
-use Rattle.mx_typed_rows.specs.declared.rows.EntryKind.{EntryKind}
-use Rattle.mx_typed_rows.specs.declared.rows.EntryKind.TheVariants as kinds
-use Rattle.mx_typed_rows.specs.declared.rows.EntryRow.{EntryRow}
-use Rattle.mx_typed_rows.specs.declared.rows.SpanRow.{SpanRow}
+use Rattle.mx_base.specs.rows.Rows.{kind_number}
+use Rattle.mx_base.specs.declared.rows.rows.AircraftRow.{AircraftRow}
+use Rattle.mx_base.specs.declared.rows.rows.DeferralRow.{DeferralRow}
+use Rattle.mx_base.specs.declared.rows.rows.EntryKind.{EntryKind}
+use Rattle.mx_base.specs.declared.rows.rows.EntryKind.TheVariants as kinds
+use Rattle.mx_base.specs.declared.rows.rows.EntryRow.{EntryRow}
+use Rattle.mx_base.specs.declared.rows.rows.SpanRow.{SpanRow}
 use Rattle.mx_layout.specs.declared.fault.Table.TheVariants as table
 use Rattle.mx_kept.specs.Cells.{kept_aircraft, kept_component, kept_defect, kept_entry, kept_span2}
 use Rattle.mx_chosen.specs.Choices.{has_value, is_open}

@@ -6,9 +6,9 @@ use Rattle.sqlite.specs.State.{State, IsUnchanged}
 use Rattle.sqlite.specs.Tree.{Trees}
 use Rattle.mx_command.specs.Act.{Entry}
 use Rattle.mx_book.specs.Book.{IsBook}
-use Rattle.mx_typed_rows.specs.Rising.{IsRising}
-use Rattle.mx_typed_rows.specs.declared.rows.AircraftRow.{AircraftRow}
-use Rattle.mx_typed_rows.specs.declared.rows.ComponentRow.{ComponentRow}
+use Rattle.mx_base.specs.rows.Rising.{IsRising}
+use Rattle.mx_base.specs.declared.rows.rows.AircraftRow.{AircraftRow}
+use Rattle.mx_base.specs.declared.rows.rows.ComponentRow.{ComponentRow}
 use Rattle.mx_register.specs.Registers.{aircraft_rows, component_rows}
 use Rattle.mx_register.proofs.RegisterLemmas.{aircraft_rows-rising, component_rows-rising}
 use Rattle.mx_layout.specs.Contents.{rows_in}

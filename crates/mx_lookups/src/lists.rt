@@ -7,7 +7,7 @@ ghost use Rattle.mx_book.specs.Span.{is_open_on, spans};
 ghost use Rattle.mx_kept_rows.specs.Spans.{span_rows};
 ghost use Rattle.mx_register.specs.Names.{serial_at};
 ghost use Rattle.mx_register.specs.Registers.{deferral_rows};
-ghost use Rattle.mx_typed_rows.specs.declared.rows.DeferralRow.{DeferralRow};
+ghost use Rattle.mx_base.specs.declared.rows.rows.DeferralRow.{DeferralRow};
 ghost use Rattle.mx_found.specs.Defects.{is_rectified_at, open_said};
 ghost use Rattle.mx_found.specs.Names.{doc_at};
 ghost use Rattle.mx_found.specs.Spans.{is_open_at, place_said};

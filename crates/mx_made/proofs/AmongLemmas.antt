@@ -10,8 +10,8 @@ use Rattle.std.proofs.Math.Seq.{take-suc}
 use Rattle.sqlite_keyed.proofs.ListLemmas.{filter_same}
 use Rattle.sqlite.specs.State.{State}
 use Rattle.mx_command.specs.Act.{Entry}
-use Rattle.mx_typed_rows.specs.Rising.{IsRising}
-use Rattle.mx_typed_rows.specs.declared.rows.TotalRow.{TotalRow}
+use Rattle.mx_base.specs.rows.Rising.{IsRising}
+use Rattle.mx_base.specs.declared.rows.rows.TotalRow.{TotalRow}
 use Rattle.mx_kept_rows.specs.Totals.{is_among, total_in, total_rows}
 use Rattle.mx_kept_rows.proofs.ItemOrder.{total_rows-rising}
 use Rattle.mx_numbers.specs.Reads.{Reads}

@@ -13,7 +13,7 @@ use Rattle.mx_command.specs.Act.{Act, Entry}
 use Rattle.mx_command.specs.declared.programme.Task.{Task}
 use Rattle.mx_command.specs.declared.release.Line.{Line}
 use Rattle.mx_command.specs.declared.release.Place.{Place}
-use Rattle.mx_typed_rows.specs.declared.rows.EntryRow.{EntryRow}
+use Rattle.mx_base.specs.declared.rows.rows.EntryRow.{EntryRow}
 use Rattle.mx_layout.specs.declared.fault.TableFault.{TableFault}
 use Rattle.mx_layout.specs.Crash.{IsWithin}
 use Rattle.mx_kept.specs.Kept.{Kept}

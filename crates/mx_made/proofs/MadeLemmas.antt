@@ -5,7 +5,7 @@ use Rattle.sqlite.specs.State.{State}
 use Rattle.mx_command.specs.Act.{Act, Entry}
 use Rattle.mx_book.specs.Book.{IsBook}
 use Rattle.mx_register.specs.Registers.{next}
-use Rattle.mx_typed_rows.specs.declared.rows.EntryRow.{EntryRow}
+use Rattle.mx_base.specs.declared.rows.rows.EntryRow.{EntryRow}
 use Rattle.mx_kept_rows.specs.Changes.{entry_of}
 use Rattle.mx_changes.specs.Rows.{AreCommandRows, IsEntryOf}
 use Rattle.mx_changes.specs.declared.rows.CommandRows.{CommandRows}

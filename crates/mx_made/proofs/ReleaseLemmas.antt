@@ -21,7 +21,7 @@ use Rattle.mx_book.specs.Register.{birth}
 use Rattle.mx_kept_rows.specs.Items.{number_of_place}
 use Rattle.mx_changes.specs.Certified.{AreKnownOf, IsKnownOf}
 use Rattle.mx_changes.specs.declared.releases.Certified.{Certified}
-use Rattle.mx_typed_rows.specs.declared.rows.TotalRow.{TotalRow}
+use Rattle.mx_base.specs.declared.rows.rows.TotalRow.{TotalRow}
 use Rattle.mx_layout.specs.declared.fault.Table.TheVariants as table
 use Rattle.mx_layout.specs.declared.fault.TableFault.{TableFault}
 use Rattle.mx_layout.specs.declared.fault.TableFault.TheVariants.{Memory}

@@ -6,7 +6,7 @@ use Rattle.sqlite.specs.declared.types.Value.TheVariants.{Int}
 use Rattle.sqlite.specs.State.{State}
 use Rattle.mx_command.specs.Act.{Act, Entry, Fitted}
 use Rattle.mx_book.specs.Span.{span_begun}
-use Rattle.mx_typed_rows.specs.declared.rows.SpanRow.{SpanRow}
+use Rattle.mx_base.specs.declared.rows.rows.SpanRow.{SpanRow}
 use Rattle.mx_kept_rows.specs.Items.{number_of_serial}
 use Rattle.mx_kept_rows.specs.Spans.{is_open_of, span_row, span_rows, span_rows_from}
 use Rattle.mx_kept_rows.specs.Totals.{has_between, numbers_during}

@@ -20,9 +20,9 @@ use Rattle.mx_book.specs.Book.{IsBook}
 use Rattle.mx_book.proofs.LifeLemmas.{life_bounded}
 use Rattle.mx_register.specs.Names.{item_at, serial_at, tail_at}
 use Rattle.mx_register.specs.Registers.{aircraft_rows, component_rows}
-use Rattle.mx_typed_rows.specs.declared.rows.AircraftRow.{AircraftRow}
-use Rattle.mx_typed_rows.specs.declared.rows.ComponentRow.{ComponentRow}
-use Rattle.mx_typed_rows.specs.declared.rows.TotalRow.{TotalRow}
+use Rattle.mx_base.specs.declared.rows.rows.AircraftRow.{AircraftRow}
+use Rattle.mx_base.specs.declared.rows.rows.ComponentRow.{ComponentRow}
+use Rattle.mx_base.specs.declared.rows.rows.TotalRow.{TotalRow}
 use Rattle.mx_kept_rows.specs.Items.{items}
 use Rattle.mx_kept_rows.specs.Totals.{total_in, total_row, total_rows}
 use Rattle.mx_kept_rows.proofs.OneTotal.{total_found}

@@ -22,9 +22,9 @@ use Rattle.mx_book.specs.Programme.{kind_at}
 use Rattle.mx_book.specs.Register.{birth_in, found_of}
 use Rattle.mx_book.specs.declared.found.Found.{Found}
 use Rattle.mx_book.specs.declared.found.Found.TheVariants as founds
-use Rattle.mx_typed_rows.specs.declared.rows.EntryRow.{EntryRow}
-use Rattle.mx_typed_rows.specs.declared.rows.SpanRow.{SpanRow}
-use Rattle.mx_typed_rows.specs.declared.rows.TotalRow.{TotalRow}
+use Rattle.mx_base.specs.declared.rows.rows.EntryRow.{EntryRow}
+use Rattle.mx_base.specs.declared.rows.rows.SpanRow.{SpanRow}
+use Rattle.mx_base.specs.declared.rows.rows.TotalRow.{TotalRow}
 use Rattle.mx_register.specs.Names.{or_zero}
 use Rattle.mx_register.specs.Registers.{entry_row}
 use Rattle.mx_kept_rows.specs.Totals.{has_between}

@@ -10,7 +10,7 @@ ghost use Rattle.mx_book.specs.Life.{life_now, use_or_none};
 ghost use Rattle.mx_book.specs.Programme.{kind_at};
 ghost use Rattle.mx_book.specs.Register.{found_of};
 ghost use Rattle.mx_kept_rows.specs.Items.{number_of_place};
-ghost use Rattle.mx_typed_rows.specs.Rows.{FitsEntry};
+ghost use Rattle.mx_base.specs.rows.Rows.{FitsEntry};
 ghost use Rattle.mx_changes.specs.Certified.{AreKnownOf, HasLifeReached, IsKnownOf};
 ghost use Rattle.mx_numbers.specs.AnyRows.{ReadsAny};
 ghost use Rattle.mx_numbers.specs.Given.{ItemNumber};
@@ -21,6 +21,7 @@ ghost use Rattle.mx_made.specs.Releases.{due_by_kind};
 
 use crate::numbers::{number_of_defect, number_of_item};
 use crate::totals::{is_life, totals_of};
+use mx_base::rows::EntryRow;
 use mx_base::{Kind, Limit, TaskId, Use};
 use mx_book::found::{Found, birth_of, item_of_place, kind_of_place};
 use mx_changes::{Certified, CommandRows, release_rows};
@@ -31,7 +32,6 @@ use mx_lives::lives::life;
 use mx_lives::programmes::task;
 use mx_lives::work::base;
 use mx_numbers::items::{aircraft, component};
-use mx_typed_rows::EntryRow;
 use sqlite::{Alter, Transaction};
 use std::alloc::Global;
 

@@ -4,7 +4,7 @@ ghost use Rattle.sqlite.specs.Held.{state};
 ghost use Rattle.mx_command.specs.Act.{Flown};
 ghost use Rattle.mx_command.specs.Shape.{sector_shape};
 ghost use Rattle.mx_kept_rows.specs.Totals.{has_between};
-ghost use Rattle.mx_typed_rows.specs.Rows.{FitsEntry};
+ghost use Rattle.mx_base.specs.rows.Rows.{FitsEntry};
 ghost use Rattle.mx_numbers.specs.AnyRows.{ReadsAny};
 ghost use Rattle.mx_numbers.specs.Reads.{Reads};
 ghost use Rattle.mx_made.specs.Found.{AreRowsBy, numbers_flown};
@@ -12,11 +12,11 @@ ghost use Rattle.mx_made.specs.Made.{AreRowsOf};
 
 use crate::numbers::number_of_aircraft;
 use crate::totals::totals_of;
+use mx_base::rows::{EntryRow, SpanRow};
 use mx_changes::{CommandRows, sector_rows};
 use mx_chosen::kept::span2_by_aircraft;
 use mx_command::Sector;
 use mx_layout::TableFault;
-use mx_typed_rows::{EntryRow, SpanRow};
 use sqlite::{Alter, Transaction};
 use std::alloc::{AllocError, Global};
 

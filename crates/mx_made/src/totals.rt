@@ -11,6 +11,7 @@ ghost use Rattle.mx_numbers.specs.Reads.{Reads};
 ghost use Rattle.mx_made.specs.Found.{AppendsTotal, AreTotalsOf};
 ghost use Rattle.mx_made.specs.Totals.{HasItem, TotalOf};
 
+use mx_base::rows::TotalRow;
 use mx_base::{Base, Use};
 use mx_chosen::items::{aircraft_by_seq, component_by_seq};
 use mx_chosen::kept::total2_by_item;
@@ -18,7 +19,6 @@ use mx_found::aircraft::aircraft_number;
 use mx_found::components::component_number;
 use mx_found::lives::is_of_life;
 use mx_layout::{Table, TableFault};
-use mx_typed_rows::TotalRow;
 use sqlite::{Alter, Transaction};
 use std::alloc::Global;
 

@@ -9,7 +9,7 @@ use Rattle.std.specs.Cmp.Lexicographic.{slice_cmp}
 use Rattle.std.proofs.lemmas.Bool.Decides.{nat_tests}
 use Rattle.std.proofs.lemmas.List.Folds.{list_any-append}
 use Rattle.mx_command.specs.Same.{same_text}
-use Rattle.mx_typed_rows.specs.declared.rows.BaseRow.{BaseRow}
+use Rattle.mx_base.specs.declared.rows.rows.BaseRow.{BaseRow}
 use Rattle.mx_kept_rows.specs.Bases.{is_keyed}
 use Rattle.mx_indexes.proofs.MapLemmas.{tie}
 use Rattle.mx_indexes.proofs.PlaceLemmas.{then_eq}

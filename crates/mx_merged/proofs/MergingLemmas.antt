@@ -5,7 +5,7 @@ use Rattle.std.specs.Option.{option_and_then, option_map_or}
 use Rattle.mx_command.specs.Act.{Entry}
 use Rattle.mx_book.specs.Book.{is_new, IsBook}
 use Rattle.mx_book.specs.Judge.{judge}
-use Rattle.mx_typed_rows.specs.declared.rows.EntryRow.{EntryRow}
+use Rattle.mx_base.specs.declared.rows.rows.EntryRow.{EntryRow}
 use Rattle.mx_register.specs.declared.merge.Registers.{Registers}
 use Rattle.mx_register.specs.Registers.{AreRegistersOf}
 use Rattle.mx_register.specs.Merge.{Rest, are_taken, merged, take_command}

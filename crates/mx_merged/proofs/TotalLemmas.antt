@@ -6,7 +6,7 @@ use Rattle.mx_command.specs.Act.{Entry}
 use Rattle.mx_command.specs.declared.item.Item.{Item}
 use Rattle.mx_register.specs.Names.{item_added}
 use Rattle.mx_register.specs.Registers.{gives_by}
-use Rattle.mx_typed_rows.specs.declared.rows.TotalRow.{TotalRow}
+use Rattle.mx_base.specs.declared.rows.rows.TotalRow.{TotalRow}
 use Rattle.mx_kept_rows.specs.Items.{items_by}
 use Rattle.mx_kept_rows.specs.Totals.{total_row, total_rows}
 

@@ -6,13 +6,13 @@ ghost use Rattle.mx_register.specs.Registers.{AreRegistersOf};
 ghost use Rattle.mx_register.specs.Left.{all_rows, rest_of};
 ghost use Rattle.mx_merged.specs.Merging.{has_row, merging, without_command};
 
+use mx_base::rows::{EntryKind, EntryRow};
 use mx_book::Verdict;
 use mx_entry_list::NoMemory;
 use mx_indexed::IndexedBook;
 use mx_indexed::indexed::judge;
 use mx_plain_register::merge::{are_all_taken, next_command, rows_of};
 use mx_register::merge::{Left, Registers};
-use mx_typed_rows::{EntryKind, EntryRow};
 use std::alloc::Global;
 
 /// Why rows are those of no book.

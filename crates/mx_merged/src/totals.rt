@@ -2,12 +2,12 @@
 ghost use Rattle.std.specs.Prelude.{◌≡◌, IfOk};
 ghost use Rattle.mx_kept_rows.specs.Totals.{total_row, total_rows};
 
+use mx_base::rows::TotalRow;
 use mx_command::Item;
 use mx_entry_list::NoMemory;
 use mx_indexed::IndexedBook;
 use mx_indexed::bases::life_reached;
 use mx_register::added_item;
-use mx_typed_rows::TotalRow;
 use std::alloc::Global;
 
 // The total of an item with its number.

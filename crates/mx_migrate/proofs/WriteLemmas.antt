@@ -5,10 +5,10 @@ use Rattle.sqlite.specs.declared.types.Value.TheVariants.{Int}
 use Rattle.sqlite.specs.Order.{Row}
 use Rattle.sqlite.specs.Schema.{Schema}
 use Rattle.sqlite.specs.State.{State}
-use Rattle.mx_typed_rows.specs.declared.rows.Sector2Row.{Sector2Row}
-use Rattle.mx_typed_rows.specs.declared.rows.SpanRow.{SpanRow}
-use Rattle.mx_point.specs.Settled.{settled}
-use Rattle.mx_point.specs.declared.point.Point.{Point}
+use Rattle.mx_base.specs.declared.rows.rows.Sector2Row.{Sector2Row}
+use Rattle.mx_base.specs.declared.rows.rows.SpanRow.{SpanRow}
+use Rattle.mx_base.specs.Settled.{settled}
+use Rattle.mx_base.specs.declared.point.Point.{Point}
 use Rattle.mx_points.specs.Points.{moving}
 use Rattle.mx_layout.specs.TableName.{TableName}
 use Rattle.mx_layout.specs.declared.fault.Table.TheVariants as table

@@ -8,12 +8,12 @@ ghost use Rattle.mx_steps.specs.Tables.{table_made};
 ghost use Rattle.mx_steps.specs.Written.{bases_written};
 
 use crate::step::Migrate;
+use mx_base::Point;
+use mx_base::rows::BaseRow;
 use mx_layout::{Table, TableFault};
 use mx_moves::kept::insert_bases;
 use mx_moves::point::set_point;
 use mx_moves::tables::create_base2;
-use mx_point::Point;
-use mx_typed_rows::BaseRow;
 use sqlite::{Alter, Transaction};
 use std::alloc::Global;
 

@@ -10,14 +10,14 @@ ghost use Rattle.mx_steps.specs.Pairing.{are_fittings_numbered, are_removals_num
 ghost use Rattle.mx_steps.specs.Pairing.{next_span, paired, span_closed, span_open, spans_made};
 
 use crate::step::Migrate;
+use mx_base::Point;
+use mx_base::rows::{FittingRow, RemovalRow, SpanRow};
 use mx_layout::{Table, TableFault};
 use mx_moves::components::{
     delete_fittings, delete_removals, fittings_of, insert_spans, removals_of,
 };
 use mx_moves::point::set_point;
-use mx_point::Point;
 use mx_points::LAST_MARK;
-use mx_typed_rows::{FittingRow, RemovalRow, SpanRow};
 use sqlite::{Alter, Transaction};
 use std::alloc::Global;
 

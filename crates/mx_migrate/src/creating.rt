@@ -1,17 +1,17 @@
 //! The step that makes the table of layout 2 that the sectors move to.
 ghost use Rattle.std.specs.Prelude.{◌≡◌};
 ghost use Rattle.sqlite.specs.Held.{state};
-ghost use Rattle.mx_point.specs.Settled.{settled};
+ghost use Rattle.mx_base.specs.Settled.{settled};
 ghost use Rattle.mx_points.specs.Points.{moving};
 ghost use Rattle.mx_stands.specs.Schemas.{schema_at};
 ghost use Rattle.mx_moves.specs.Changes.{Alters, WasOpen};
 ghost use Rattle.mx_steps.specs.Tables.{table_made};
 
 use crate::step::Migrate;
+use mx_base::Point;
 use mx_layout::{Table, TableFault};
 use mx_moves::point::set_point;
 use mx_moves::tables::create_sector2;
-use mx_point::Point;
 use sqlite::{Alter, Transaction};
 use std::alloc::Global;
 
@@ -33,7 +33,7 @@ fn write_made<S: Alter>(tx: &mut Transaction<'_, S>, to: &Point) -> Result<(), T
 
 impl Migrate for CreateSectors {
     ghost use Rattle.std.specs.Prelude.{⊤, ◌≡◌};
-    ghost use Rattle.mx_point.specs.Settled.{settled};
+    ghost use Rattle.mx_base.specs.Settled.{settled};
     ghost use Rattle.mx_steps.specs.Tables.{MakesSectors};
     ghost use Rattle.mx_steps.proofs.MadeLemmas.{made_stands};
 

@@ -1,17 +1,17 @@
 //! The step that ends the move to layout 2.
 ghost use Rattle.std.specs.Prelude.{◌≡◌};
 ghost use Rattle.sqlite.specs.Held.{state};
-ghost use Rattle.mx_point.specs.Settled.{settled};
+ghost use Rattle.mx_base.specs.Settled.{settled};
 ghost use Rattle.mx_points.specs.Points.{moving};
 ghost use Rattle.mx_stands.specs.Schemas.{schema_at};
 ghost use Rattle.mx_moves.specs.Changes.{Alters, WasOpen};
 ghost use Rattle.mx_moves.specs.Keeping.{point_set};
 
 use crate::step::Migrate;
+use mx_base::Point;
 use mx_layout::TableFault;
 use mx_moves::point::set_point;
 use mx_moves::tables::index_registers;
-use mx_point::Point;
 use sqlite::{Alter, Transaction};
 use std::alloc::Global;
 

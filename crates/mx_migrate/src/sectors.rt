@@ -9,12 +9,12 @@ ghost use Rattle.mx_moves.specs.Changes.{Alters};
 ghost use Rattle.mx_steps.specs.Sectors.{is_next_from, sectors_moved};
 
 use crate::step::Migrate;
+use mx_base::Point;
+use mx_base::rows::{Sector2Row, SectorRow};
 use mx_layout::{Table, TableFault};
 use mx_moves::point::set_point;
 use mx_moves::sectors::{delete_sectors, first_sectors, insert_sectors};
-use mx_point::Point;
 use mx_points::LAST_MARK;
-use mx_typed_rows::{Sector2Row, SectorRow};
 use sqlite::{Alter, Transaction};
 use std::alloc::Global;
 

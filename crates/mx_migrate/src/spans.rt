@@ -9,11 +9,11 @@ ghost use Rattle.mx_steps.specs.Tables.{table_made};
 ghost use Rattle.mx_migrate.specs.Seeing.{SeesNone};
 
 use crate::step::Migrate;
+use mx_base::Point;
 use mx_layout::{Table, TableFault};
 use mx_moves::point::set_point;
 use mx_moves::sectors::first_sectors;
 use mx_moves::tables::{create_span2, drop_sector1, index_span2};
-use mx_point::Point;
 use sqlite::{Alter, Transaction};
 use std::alloc::Global;
 

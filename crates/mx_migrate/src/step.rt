@@ -3,15 +3,15 @@ ghost use Rattle.std.specs.Prelude.{◌≡◌, false, List};
 ghost use Rattle.sqlite.specs.Tree.{Trees};
 ghost use Rattle.sqlite.specs.Held.{state};
 ghost use Rattle.mx_command.specs.Act.{Entry};
-ghost use Rattle.mx_point.specs.declared.point.Point.{Point};
+ghost use Rattle.mx_base.specs.declared.point.Point.{Point};
 ghost use Rattle.mx_points.specs.Points.{next_point};
 ghost use Rattle.mx_layout.specs.TableName.{TableName};
 ghost use Rattle.mx_stands.specs.Stands.{StandsAt};
 ghost use Rattle.mx_migrate.specs.Steps.{Runs, CommitsStep, LeavesOneBook};
 
+use mx_base::Point;
 use mx_faults::moving::{MoveFault, fault_of};
 use mx_layout::TableFault;
-use mx_point::Point;
 use sqlite::{Alter, Connection, Transaction};
 use std::alloc::Global;
 

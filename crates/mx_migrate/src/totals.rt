@@ -9,12 +9,12 @@ ghost use Rattle.mx_steps.specs.Written.{total_written};
 
 use crate::looking::none_left;
 use crate::step::Migrate;
+use mx_base::Point;
+use mx_base::rows::{FittingRow, RemovalRow, TotalRow};
 use mx_layout::{Table, TableFault};
 use mx_moves::kept::insert_total;
 use mx_moves::point::set_point;
 use mx_moves::tables::{create_total2, drop_fittings};
-use mx_point::Point;
-use mx_typed_rows::{FittingRow, RemovalRow, TotalRow};
 use sqlite::{Alter, Transaction};
 use std::alloc::Global;
 

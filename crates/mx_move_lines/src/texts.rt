@@ -1,10 +1,10 @@
 //! What a step leads to, or why it was not made.
 ghost use Rattle.std.specs.Prelude.{◌≡◌, false};
 
+use mx_base::Point;
 use mx_fault_texts::{append_damaged, room};
 use mx_faults::MoveFault;
 use mx_migrate::{Migrate, commit_step};
-use mx_point::Point;
 use sqlite::{Alter, Connection};
 use std::alloc::{AllocError, Global};
 

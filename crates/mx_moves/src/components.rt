@@ -10,10 +10,10 @@ ghost use Rattle.mx_moves.specs.Changes.{WritesRows, less};
 ghost use Rattle.mx_moves.specs.Schemas.{IsFree};
 
 use crate::prelude::*;
+use mx_base::rows::{FittingRow, RemovalRow, SpanRow};
 use mx_chosen::changes::delete_fit1;
 use mx_chosen::chosen::{delete_rows, rows_chosen};
 use mx_inserts::Tables;
-use mx_typed_rows::{FittingRow, RemovalRow, SpanRow};
 use sqlite::params;
 use std::alloc::Global;
 

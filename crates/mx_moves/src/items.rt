@@ -7,8 +7,8 @@ ghost use Rattle.mx_chosen.specs.Calls.{ReadsFirst};
 ghost use Rattle.mx_chosen.specs.Choices.{is_above};
 
 use crate::prelude::*;
+use mx_base::rows::ComponentRow;
 use mx_chosen::chosen::rows_chosen;
-use mx_typed_rows::ComponentRow;
 use sqlite::params;
 use std::alloc::Global;
 

@@ -6,8 +6,8 @@ ghost use Rattle.mx_kept.specs.Family.{on_top};
 ghost use Rattle.mx_moves.specs.Changes.{WritesRows};
 
 use crate::prelude::*;
+use mx_base::rows::{BaseRow, TotalRow};
 use mx_inserts::{Insert, Tables};
-use mx_typed_rows::{BaseRow, TotalRow};
 
 /// Adds a total to `total2`.
 ///

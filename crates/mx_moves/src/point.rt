@@ -8,7 +8,7 @@ ghost use Rattle.mx_moves.specs.Schemas.{IsFree};
 
 use crate::prelude::*;
 use crate::statement::execute;
-use mx_point::Point;
+use mx_base::Point;
 use sqlite::params;
 
 // Deletes the row of the point.

@@ -10,10 +10,10 @@ ghost use Rattle.mx_moves.specs.Changes.{WritesRows, less};
 ghost use Rattle.mx_moves.specs.Schemas.{IsFree};
 
 use crate::prelude::*;
+use mx_base::rows::{Sector2Row, SectorRow};
 use mx_chosen::changes::delete_sector1;
 use mx_chosen::chosen::rows_chosen;
 use mx_inserts::Tables;
-use mx_typed_rows::{Sector2Row, SectorRow};
 use std::alloc::Global;
 
 /// The first 64 sectors of `sector1`, from the front, whatever has moved before.

@@ -10,8 +10,8 @@ use Rattle.sqlite.specs.Order.{Row}
 use Rattle.sqlite.specs.Tree.{Trees}
 use Rattle.sqlite.specs.Table.{Table}
 use Rattle.std.specs.declared.cmp.Ordering.{Ordering}
-use Rattle.mx_typed_rows.specs.Rising.{IsRising}
-use Rattle.mx_typed_rows.proofs.SortedLemmas.{sorted_once, IsRising-map, IsFrom-map}
+use Rattle.mx_base.specs.rows.Rising.{IsRising}
+use Rattle.mx_base.proofs.RowsProofs.SortedLemmas.{sorted_once, IsRising-map, IsFrom-map}
 use Rattle.mx_layout.specs.Contents.{rows_in}
 use Rattle.mx_layout.specs.Names.{table_named}
 use Rattle.mx_layout.specs.Reading.{HasOther}

@@ -13,7 +13,7 @@ use Rattle.sqlite_rules.proofs.ListLemmas.{contains_had, fails_has}
 use Rattle.mx_command.specs.Act.{Entry}
 use Rattle.mx_command.specs.Programme.{task_shape}
 use Rattle.mx_register.specs.Merge.{task_said}
-use Rattle.mx_typed_rows.specs.declared.rows.TaskRow.{TaskRow}
+use Rattle.mx_base.specs.declared.rows.rows.TaskRow.{TaskRow}
 use Rattle.mx_layout.specs.TableName.{TableName}
 use Rattle.mx_layout.specs.Crash.{IsWithin}
 use Rattle.mx_layout.specs.declared.fault.TableFault.{TableFault}

@@ -6,8 +6,8 @@ use Rattle.sqlite.specs.Tree.{Trees}
 use Rattle.mx_command.specs.Programme.{task_shape}
 use Rattle.mx_due.specs.Due.{IsLife}
 use Rattle.mx_register.specs.Merge.{task_said}
-use Rattle.mx_typed_rows.specs.Rows.{kind_number}
-use Rattle.mx_typed_rows.specs.declared.rows.EntryKind.TheVariants.{Defer}
+use Rattle.mx_base.specs.rows.Rows.{kind_number}
+use Rattle.mx_base.specs.declared.rows.rows.EntryKind.TheVariants.{Defer}
 use Rattle.mx_layout.specs.TableName.{TableName}
 use Rattle.mx_layout.specs.declared.fault.Table.TheVariants as table
 use Rattle.mx_layout.specs.Contents.{rows_in}

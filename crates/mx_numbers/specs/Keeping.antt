@@ -1,7 +1,7 @@
 -- The rows that a table keeps, in the order in which a book gives them.
 use Rattle.std.specs.Prelude.{ℕ, List, map, All, IsPermutation}
 use Rattle.sqlite.specs.Tree.{Trees}
-use Rattle.mx_typed_rows.specs.Rising.{IsRising}
+use Rattle.mx_base.specs.rows.Rising.{IsRising}
 use Rattle.mx_layout.specs.Contents.{rows_in}
 use Rattle.mx_layout.specs.Names.{table_named}
 use Rattle.mx_kept.specs.Kept.{Kept}

@@ -6,8 +6,8 @@ use Rattle.sqlite.specs.Schema.{Schema}
 use Rattle.sqlite.specs.State.{State, HasCleanDisk}
 use Rattle.sqlite.specs.Tree.{Trees}
 use Rattle.mx_command.specs.Act.{Entry}
-use Rattle.mx_typed_rows.specs.Rising.{IsFrom}
-use Rattle.mx_typed_rows.proofs.SortedLemmas.{sorted_once}
+use Rattle.mx_base.specs.rows.Rising.{IsFrom}
+use Rattle.mx_base.proofs.RowsProofs.SortedLemmas.{sorted_once}
 use Rattle.mx_layout.specs.Contents.{rows_in}
 use Rattle.mx_layout.specs.declared.fault.Table.TheVariants as table
 use Rattle.mx_layout.specs.Making.{IsEmptyIn}

@@ -1,7 +1,7 @@
 -- The point at which the office keeps its tables, settled at the newest layout. No other definition names a layout.
 use Rattle.sqlite.specs.Schema.{Schema}
-use Rattle.mx_point.specs.declared.point.Point.{Point}
-use Rattle.mx_point.specs.Settled.{settled}
+use Rattle.mx_base.specs.declared.point.Point.{Point}
+use Rattle.mx_base.specs.Settled.{settled}
 use Rattle.mx_stands.specs.Schemas.{schema_at}
 use Rattle.mx_settle.specs.declared.place.TheConstants.{NEWEST_LAYOUT}
 

@@ -7,7 +7,7 @@ use Rattle.sqlite.specs.Tree.{Trees}
 use Rattle.sqlite_trees.specs.View.{doubt}
 use Rattle.mx_command.specs.Act.{Entry}
 use Rattle.mx_layout.specs.declared.fault.TableFault.{TableFault}
-use Rattle.mx_point.specs.declared.point.Point.{Point}
+use Rattle.mx_base.specs.declared.point.Point.{Point}
 use Rattle.mx_points.specs.Commits.{point_behind}
 use Rattle.mx_points.specs.Points.{is_on_way}
 use Rattle.mx_layout.specs.Contents.{rows_in}

@@ -3,7 +3,7 @@ ghost use Rattle.std.specs.Prelude.{◌≡◌, ◌≢◌, ◌≤◌, List, None,
 ghost use Rattle.sqlite.specs.Held.{state};
 ghost use Rattle.sqlite.specs.State.{HasCleanDisk};
 ghost use Rattle.mx_command.specs.Act.{Entry};
-ghost use Rattle.mx_point.specs.declared.point.Point.{Point};
+ghost use Rattle.mx_base.specs.declared.point.Point.{Point};
 ghost use Rattle.mx_stands.specs.Schemas.{IsOfFile};
 ghost use Rattle.mx_stands.specs.Stands.{RestsAt};
 ghost use Rattle.mx_office.specs.Faults.{is_office_point, open_answer, IsStop, IsStopped};
@@ -12,9 +12,9 @@ ghost use Rattle.mx_office.specs.Opening.{ChangesOnWay, HasReason, MovesOn, Says
 
 use crate::fault::{moved_fault_of, open_fault_of};
 use crate::office::Office;
+use mx_base::Point;
 use mx_faults::OpenFault;
 use mx_layout::{Table, point};
-use mx_point::Point;
 use mx_points::is_on_way;
 use mx_settle::{ENOUGH_COMMITS, NEWEST_LAYOUT, settle};
 use sqlite::{Alter, Connection};

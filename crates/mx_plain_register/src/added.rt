@@ -1,20 +1,20 @@
 //! The rows that a command adds beside its entry, register by register, behind the entries of a book.
 ghost use Rattle.std.specs.Prelude.{◌≡◌, [], ◌∷◌, IfOk};
-ghost use Rattle.mx_typed_rows.specs.Rows.{FitsAircraft, FitsComponent, FitsDeferral, FitsExtension, FitsFitting, FitsOpening, FitsPlace, FitsProgramme, FitsRelease, FitsReleaseLine, FitsRemoval, FitsSector, FitsTask};
+ghost use Rattle.mx_base.specs.rows.Rows.{FitsAircraft, FitsComponent, FitsDeferral, FitsExtension, FitsFitting, FitsOpening, FitsPlace, FitsProgramme, FitsRelease, FitsReleaseLine, FitsRemoval, FitsSector, FitsTask};
 ghost use Rattle.mx_register.specs.Registers.{aircraft_by, components_by, deferrals_by, extensions_by, fittings_by, openings_by, places_by, programmes_by, release_line_row, release_lines_by, releases_by, removals_by, sectors_by, tasks_by};
 ghost use Rattle.mx_register.specs.Added.{AreAdded, AreAddedRows};
 
 use crate::names::{seq_of_defect, seq_of_item, seq_of_place, seq_of_serial, seq_of_tail};
 use mx_base::Kind;
+use mx_base::rows::{
+    AircraftRow, ComponentRow, DeferralRow, ExtensionRow, FittingRow, OpeningRow, PlaceRow,
+    ProgrammeRow, RegisterRows, ReleaseLineRow, ReleaseRow, RemovalRow, SectorRow, TaskRow,
+};
 use mx_command::{Command, Line};
 use mx_entry_list::{Book, NoMemory};
 use mx_register::{
     aircraft_row, component_row, deferral_row, extension_row, fitting_row, opening_row, or_zero,
     place_row, programme_row, release_row, removal_row, sector_row, task_row,
-};
-use mx_typed_rows::{
-    AircraftRow, ComponentRow, DeferralRow, ExtensionRow, FittingRow, OpeningRow, PlaceRow,
-    ProgrammeRow, RegisterRows, ReleaseLineRow, ReleaseRow, RemovalRow, SectorRow, TaskRow,
 };
 use std::alloc::Global;
 

@@ -8,10 +8,10 @@ ghost use Rattle.mx_register.specs.Left.{all_rows, rest_of, taken};
 
 use crate::taking::take_said;
 use mx_base::Doc;
+use mx_base::rows::EntryRow;
 use mx_command::{Body, Command, MakeFault};
 use mx_entry_list::{Book, NoMemory};
 use mx_register::merge::{Left, Registers};
-use mx_typed_rows::EntryRow;
 use std::alloc::Global;
 
 /// All rows but those of the entries.

@@ -4,13 +4,13 @@ ghost use Rattle.mx_command.specs.Act.{act_of};
 ghost use Rattle.mx_register.specs.Merge.{aircraft_said, applies_said, component_said, deferral_said, extension_said, fitting_said, limit_said, line_said, opening_said, place_of, place_said, programme_said, release_said, removal_said, sector_said};
 
 use crate::names::{document_of_defect, item_of_entry};
-use mx_base::{Doc, Kind, Limit, Part, Position, Serial, Tail, Use};
-use mx_command::{Applies, Body, Item, Line, Place, Task};
-use mx_entry_list::Book;
-use mx_typed_rows::{
+use mx_base::rows::{
     AircraftRow, ComponentRow, DeferralRow, ExtensionRow, FittingRow, OpeningRow, ProgrammeRow,
     ReleaseLineRow, ReleaseRow, RemovalRow, SectorRow,
 };
+use mx_base::{Doc, Kind, Limit, Part, Position, Serial, Tail, Use};
+use mx_command::{Applies, Body, Item, Line, Place, Task};
+use mx_entry_list::Book;
 
 /// What the row of an aircraft says, with these positions.
 pub fn body_of_aircraft(row: &AircraftRow, positions: Vec<(Position, Part)>) -> Body

@@ -10,14 +10,14 @@ use crate::said::{
     body_of_fitting, body_of_opening, body_of_programme, body_of_release, body_of_removal,
     body_of_sector, limit_if_any, line_said, place_said,
 };
+use mx_base::rows::{
+    AircraftRow, ComponentRow, DeferralRow, EntryKind, EntryRow, ExtensionRow, FittingRow,
+    OpeningRow, PlaceRow, ProgrammeRow, ReleaseLineRow, ReleaseRow, RemovalRow, SectorRow, TaskRow,
+};
 use mx_base::{Part, Position};
 use mx_command::{Applies, Body, Item, Line, Task};
 use mx_entry_list::Book;
 use mx_register::merge::Left;
-use mx_typed_rows::{
-    AircraftRow, ComponentRow, DeferralRow, EntryKind, EntryRow, ExtensionRow, FittingRow,
-    OpeningRow, PlaceRow, ProgrammeRow, ReleaseLineRow, ReleaseRow, RemovalRow, SectorRow, TaskRow,
-};
 use std::alloc::{AllocError, Global};
 
 // The positions of the entry with this number, and the rows behind them.

@@ -7,9 +7,9 @@ use Rattle.mx_book.specs.Book.{IsBook}
 use Rattle.mx_book.specs.Programme.{last_of}
 use Rattle.mx_book.specs.declared.limits.TheConstants.{MOST_ENTRIES}
 use Rattle.mx_book.proofs.JudgeLemmas.{both_true}
-use Rattle.mx_typed_rows.specs.Rising.{IsRising}
-use Rattle.mx_typed_rows.specs.declared.rows.ComponentRow.{ComponentRow}
-use Rattle.mx_typed_rows.specs.declared.rows.SectorRow.{SectorRow}
+use Rattle.mx_base.specs.rows.Rising.{IsRising}
+use Rattle.mx_base.specs.declared.rows.rows.ComponentRow.{ComponentRow}
+use Rattle.mx_base.specs.declared.rows.rows.SectorRow.{SectorRow}
 use Rattle.mx_register.specs.Registers.{component_rows, sector_rows}
 use Rattle.mx_register.proofs.RegisterLemmas.{component_rows-rising, sector_rows-rising}
 use Rattle.mx_command.specs.declared.item.Item.{Item}
@@ -18,8 +18,8 @@ use Rattle.mx_kept_rows.proofs.ItemOrder.{items_from}
 use Rattle.mx_points.specs.Commits.{commits_left, later_commits, rounds, step_commits}
 use Rattle.mx_points.specs.Moves.{last_moved}
 use Rattle.mx_points.specs.Points.{is_on_way, moving, next_mark, next_point, numbers_left, numbers_of, on_to, size_of}
-use Rattle.mx_point.specs.Settled.{settled}
-use Rattle.mx_point.specs.declared.point.Point.{Point}
+use Rattle.mx_base.specs.Settled.{settled}
+use Rattle.mx_base.specs.declared.point.Point.{Point}
 use Rattle.mx_points.proofs.NextLemmas.{numbers_rise, self}
 use Rattle.mx_points.proofs.PointLemmas.{above, left_less}
 use Rattle.mx_points.proofs.StepLemmas.{mark_bound, not_zero, rising_bound, step_after, step_on_way}

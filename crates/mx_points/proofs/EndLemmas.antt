@@ -6,9 +6,9 @@ use Rattle.mx_command.specs.Act.{Entry}
 use Rattle.mx_book.specs.Book.{IsBook}
 use Rattle.mx_book.specs.declared.limits.TheConstants.{MOST_ENTRIES}
 use Rattle.mx_kept_rows.proofs.CreditLemmas.{all_of, filter_on}
-use Rattle.mx_point.specs.declared.point.Point.{Point}
+use Rattle.mx_base.specs.declared.point.Point.{Point}
 use Rattle.mx_points.specs.Points.{is_on_way, moving, next_mark, next_point, on_to}
-use Rattle.mx_point.specs.Settled.{settled}
+use Rattle.mx_base.specs.Settled.{settled}
 use Rattle.mx_points.specs.Tables.{Line, bases_2, fittings_1, removals_1, sectors_1, sectors_2, spans_2, stands_there, totals_2}
 use Rattle.mx_points.specs.Moves.{AllStay, Stays}
 use Rattle.mx_points.proofs.PointLemmas.{le_false, le_true}

@@ -8,7 +8,7 @@ use Rattle.mx_book.specs.Book.{IsBook}
 use Rattle.mx_book.specs.Judge.{judge}
 use Rattle.mx_book.specs.declared.verdict.Verdict.TheVariants.{New}
 use Rattle.mx_book.proofs.JudgeLemmas.{both_true}
-use Rattle.mx_typed_rows.specs.declared.rows.SpanRow.{SpanRow}
+use Rattle.mx_base.specs.declared.rows.rows.SpanRow.{SpanRow}
 use Rattle.mx_register.specs.Registers.{aircraft_by, components_by, deferrals_by, extensions_by, fittings_by, openings_by, places_by, programmes_by, release_lines_by, releases_by, removals_by, sectors_by, tasks_by}
 use Rattle.mx_kept_rows.specs.Becomes.{Becomes, Change, adding, spans_become, totals_become}
 use Rattle.mx_kept_rows.specs.Spans.{is_span_touched, span_ended, span_rows, spans_opened}
@@ -17,7 +17,7 @@ use Rattle.mx_kept_rows.proofs.ItemNumbers.{total_rows-changed}
 use Rattle.mx_kept_rows.proofs.SpanRows.{span_rows-more}
 use Rattle.mx_kept_rows.proofs.TableLemmas.{register_becomes}
 use Rattle.mx_kept_rows.proofs.TouchedLemmas.{spans_untouched, totals_untouched}
-use Rattle.mx_point.specs.declared.point.Point.{Point}
+use Rattle.mx_base.specs.declared.point.Point.{Point}
 use Rattle.mx_points.specs.Standing.{AreLeft, IsLeft}
 use Rattle.mx_points.specs.Tables.{Line, aircraft_all, components_all, deferrals_all, extensions_all, fittings_1, openings_all, places_all, programmes_all, release_lines_all, releases_all, removals_1, sectors_1, sectors_2, spans_2, stands_there, tasks_all, totals_2}
 

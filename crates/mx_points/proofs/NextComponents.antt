@@ -16,16 +16,16 @@ use Rattle.mx_book.specs.Book.{IsBook, is_new, is_book_from}
 use Rattle.mx_book.specs.Judge.{judge}
 use Rattle.mx_book.specs.Span.{span_begun}
 use Rattle.mx_book.proofs.JudgeLemmas.{both_true, IsBook-entered}
-use Rattle.mx_typed_rows.specs.declared.rows.ComponentRow.{ComponentRow}
-use Rattle.mx_typed_rows.specs.declared.rows.FittingRow.{FittingRow}
-use Rattle.mx_typed_rows.specs.declared.rows.RemovalRow.{RemovalRow}
+use Rattle.mx_base.specs.declared.rows.rows.ComponentRow.{ComponentRow}
+use Rattle.mx_base.specs.declared.rows.rows.FittingRow.{FittingRow}
+use Rattle.mx_base.specs.declared.rows.rows.RemovalRow.{RemovalRow}
 use Rattle.mx_register.specs.Names.{seq_of_serial, or_zero}
-use Rattle.mx_typed_rows.specs.Rising.{IsRising}
+use Rattle.mx_base.specs.rows.Rising.{IsRising}
 use Rattle.mx_register.specs.Registers.{gives_by, next, components_by, removals_by, component_rows, fitting_rows, removal_rows}
 use Rattle.mx_register.proofs.NameLemmas.{serial_number}
 use Rattle.mx_register.proofs.NewLemmas.{fitted_is_known, removed_is_known}
 use Rattle.mx_register.proofs.RegisterLemmas.{gives-more, component_rows-rising}
-use Rattle.mx_typed_rows.specs.declared.rows.SpanRow.{SpanRow}
+use Rattle.mx_base.specs.declared.rows.rows.SpanRow.{SpanRow}
 use Rattle.mx_kept_rows.specs.Spans.{fitting_in, span_row, span_rows, span_rows_from}
 use Rattle.mx_points.specs.Moves.{IsNext}
 use Rattle.mx_points.specs.Points.{next_mark, moving}

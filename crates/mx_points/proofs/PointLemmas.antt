@@ -6,8 +6,8 @@ use Rattle.std.proofs.lemmas.List.Elements.{filter_agree}
 use Rattle.mx_command.specs.Act.{Entry}
 use Rattle.mx_book.specs.Book.{IsBook}
 use Rattle.mx_book.specs.Programme.{last_of}
-use Rattle.mx_typed_rows.specs.declared.rows.SectorRow.{SectorRow}
-use Rattle.mx_typed_rows.specs.Rising.{IsRising}
+use Rattle.mx_base.specs.declared.rows.rows.SectorRow.{SectorRow}
+use Rattle.mx_base.specs.rows.Rising.{IsRising}
 use Rattle.mx_register.specs.Registers.{sector_rows}
 use Rattle.mx_register.proofs.RegisterLemmas.{sector_rows-rising}
 use Rattle.mx_points.specs.Moves.{last_moved}

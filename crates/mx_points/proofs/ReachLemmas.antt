@@ -4,14 +4,14 @@ use Rattle.std.proofs.lemmas.List.{length-map}
 use Rattle.mx_command.specs.Act.{Act, Entry, Added, Listed}
 use Rattle.mx_command.specs.declared.item.Item.{Item}
 use Rattle.mx_book.specs.Book.{IsBook}
-use Rattle.mx_typed_rows.specs.declared.rows.ComponentRow.{ComponentRow}
-use Rattle.mx_typed_rows.specs.declared.rows.SectorRow.{SectorRow}
+use Rattle.mx_base.specs.declared.rows.rows.ComponentRow.{ComponentRow}
+use Rattle.mx_base.specs.declared.rows.rows.SectorRow.{SectorRow}
 use Rattle.mx_register.specs.Registers.{aircraft_by, component_rows, components_by, gives_by, sector_rows}
 use Rattle.mx_kept_rows.specs.Items.{items, items_by}
 use Rattle.mx_points.specs.Commits.{commits_left, commits_of_move, point_behind, rounds, step_commits}
 use Rattle.mx_points.specs.Points.{is_on_way, next_point, numbers_of, size_of}
-use Rattle.mx_point.specs.Settled.{settled}
-use Rattle.mx_point.specs.declared.point.Point.{Point}
+use Rattle.mx_base.specs.Settled.{settled}
+use Rattle.mx_base.specs.declared.point.Point.{Point}
 use Rattle.mx_points.proofs.NextLemmas.{self}
 use Rattle.mx_points.proofs.PointLemmas.{all_above}
 use Rattle.mx_points.proofs.CommitLemmas.{commit_counts, numbers_rising}

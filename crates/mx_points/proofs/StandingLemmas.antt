@@ -7,16 +7,16 @@ use Rattle.std.proofs.lemmas.List.Elements.{filter_agree}
 use Rattle.std.proofs.lemmas.List.Sorted.{IsPermutation-append, IsPermutation-refl, IsPermutation-trans}
 use Rattle.mx_command.specs.Act.{Entry}
 use Rattle.mx_book.specs.Book.{IsBook}
-use Rattle.mx_typed_rows.specs.declared.rows.FittingRow.{FittingRow}
-use Rattle.mx_typed_rows.specs.declared.rows.RemovalRow.{RemovalRow}
-use Rattle.mx_typed_rows.specs.declared.rows.SectorRow.{SectorRow}
-use Rattle.mx_typed_rows.specs.declared.rows.SpanRow.{SpanRow}
+use Rattle.mx_base.specs.declared.rows.rows.FittingRow.{FittingRow}
+use Rattle.mx_base.specs.declared.rows.rows.RemovalRow.{RemovalRow}
+use Rattle.mx_base.specs.declared.rows.rows.SectorRow.{SectorRow}
+use Rattle.mx_base.specs.declared.rows.rows.SpanRow.{SpanRow}
 use Rattle.mx_register.specs.Registers.{fitting_rows, removal_rows, sector_rows}
 use Rattle.mx_kept_rows.specs.Bases.{base_rows}
 use Rattle.mx_kept_rows.specs.Spans.{fitting_in, removal_in, span_rows}
 use Rattle.mx_kept_rows.specs.Totals.{total_rows}
 use Rattle.mx_kept_rows.proofs.SpanRegisters.{fittings_in_spans, removals_in_spans}
-use Rattle.mx_point.specs.declared.point.Point.{Point}
+use Rattle.mx_base.specs.declared.point.Point.{Point}
 use Rattle.mx_points.specs.Points.{Step, has_moved, is_past, is_within_step, step_of}
 use Rattle.mx_points.specs.Standing.{AreAlwaysWhole, AreEmptyWhereAbsent, AreWholeWhereSettled, StandOnce}
 use Rattle.mx_points.specs.Tables.{aircraft_all, bases_2, components_all, deferrals_all, entries_all, extensions_all, fittings_1, is_table_at, openings_all, places_all, programmes_all, release_lines_all, releases_all, removals_1, rows_at, sectors_1, sectors_2, spans_2, stands_there, tasks_all, totals_2}

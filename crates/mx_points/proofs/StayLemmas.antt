@@ -10,25 +10,25 @@ use Rattle.mx_command.specs.declared.item.Item.{Item}
 use Rattle.mx_book.specs.Book.{IsBook}
 use Rattle.mx_book.specs.Programme.{last_of}
 use Rattle.mx_book.specs.Register.{component}
-use Rattle.mx_typed_rows.specs.Rising.{IsRising}
-use Rattle.mx_typed_rows.specs.declared.rows.FittingRow.{FittingRow}
-use Rattle.mx_typed_rows.specs.declared.rows.RemovalRow.{RemovalRow}
-use Rattle.mx_typed_rows.specs.declared.rows.SectorRow.{SectorRow}
+use Rattle.mx_base.specs.rows.Rising.{IsRising}
+use Rattle.mx_base.specs.declared.rows.rows.FittingRow.{FittingRow}
+use Rattle.mx_base.specs.declared.rows.rows.RemovalRow.{RemovalRow}
+use Rattle.mx_base.specs.declared.rows.rows.SectorRow.{SectorRow}
 use Rattle.mx_register.specs.Names.{or_zero, seq_of_serial}
 use Rattle.mx_register.specs.Registers.{component_rows, fitting_rows, removal_rows, sector_rows}
 use Rattle.mx_kept_rows.specs.Bases.{base_rows}
 use Rattle.mx_kept_rows.specs.Items.{items}
 use Rattle.mx_kept_rows.specs.Spans.{span_rows}
 use Rattle.mx_kept_rows.specs.Totals.{total_row, total_rows}
-use Rattle.mx_typed_rows.specs.declared.rows.BaseRow.{BaseRow}
-use Rattle.mx_typed_rows.specs.declared.rows.SpanRow.{SpanRow}
-use Rattle.mx_typed_rows.specs.declared.rows.TotalRow.{TotalRow}
+use Rattle.mx_base.specs.declared.rows.rows.BaseRow.{BaseRow}
+use Rattle.mx_base.specs.declared.rows.rows.SpanRow.{SpanRow}
+use Rattle.mx_base.specs.declared.rows.rows.TotalRow.{TotalRow}
 use Rattle.mx_kept_rows.proofs.CreditLemmas.{filter_on}
 use Rattle.mx_kept_rows.proofs.DoneLemmas.{neither}
 use Rattle.mx_kept_rows.proofs.SpanRegisters.{fittings_in_spans}
-use Rattle.mx_point.specs.declared.point.Point.{Point}
+use Rattle.mx_base.specs.declared.point.Point.{Point}
 use Rattle.mx_points.specs.Points.{Step, has_moved, is_on_way, is_past, is_within_step, moving, next_mark, next_point, numbers_left, numbers_of, on_to, point_after, size_of}
-use Rattle.mx_point.specs.Settled.{settled}
+use Rattle.mx_base.specs.Settled.{settled}
 use Rattle.mx_points.specs.Tables.{Line, bases_2, fittings_1, is_moved_at, removals_1, rows_at, sectors_1, sectors_2, spans_2, stands_there, totals_2}
 use Rattle.mx_points.specs.Moves.{AllStay, OthersStay, Stays}
 use Rattle.mx_points.proofs.NextLemmas.{rows_of_all, self}

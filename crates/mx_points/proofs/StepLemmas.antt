@@ -5,8 +5,8 @@ use Rattle.std.proofs.lemmas.Bool.Decides.{nat_tests}
 use Rattle.mx_command.specs.Act.{Entry}
 use Rattle.mx_book.specs.Book.{IsBook}
 use Rattle.mx_book.specs.declared.limits.TheConstants.{MOST_ENTRIES}
-use Rattle.mx_typed_rows.specs.Rising.{IsRising}
-use Rattle.mx_typed_rows.specs.declared.rows.SectorRow.{SectorRow}
+use Rattle.mx_base.specs.rows.Rising.{IsRising}
+use Rattle.mx_base.specs.declared.rows.rows.SectorRow.{SectorRow}
 use Rattle.mx_register.specs.Registers.{sector_rows}
 use Rattle.mx_register.proofs.RegisterLemmas.{sector_rows-rising}
 use Rattle.mx_points.specs.Moves.{sectors_mark, sectors_next}

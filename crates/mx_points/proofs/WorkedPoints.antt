@@ -6,10 +6,10 @@ use Rattle.mx_command.specs.declared.sector.Sector.{Sector}
 use Rattle.mx_book.proofs.Worked.{at, abcd, logged}
 use Rattle.mx_book.proofs.WorkedFittings.{e1, e2, engine_with, first_aircraft, replaced}
 use Rattle.mx_kept_rows.proofs.WorkedKept.{overhauled}
-use Rattle.mx_point.specs.declared.point.Point.{Point}
+use Rattle.mx_base.specs.declared.point.Point.{Point}
 use Rattle.mx_points.specs.Commits.{commits_of_move, point_behind, rounds, commits_left}
 use Rattle.mx_points.specs.Points.{is_on_way, moving, next_point}
-use Rattle.mx_point.specs.Settled.{settled}
+use Rattle.mx_base.specs.Settled.{settled}
 use Rattle.mx_points.specs.Tables.{bases_2, fittings_1, is_table_at, removals_1, rows_at, sectors_1, sectors_2, spans_2, totals_2, is_moved_at, entries_all, aircraft_all, places_all, components_all, programmes_all, tasks_all, openings_all, releases_all, release_lines_all, deferrals_all, extensions_all}
 use Rattle.mx_points.specs.Moves.{sectors_mark, sectors_next, totals_mark, totals_next}
 use Rattle.mx_command.specs.declared.item.Item.TheVariants.{Airframe}

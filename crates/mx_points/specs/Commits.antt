@@ -3,7 +3,7 @@ use Rattle.std.specs.Prelude.{ℕ, zero, suc, ◌+◌, ◌*◌, ◌-◌, ◌/◌
 use Rattle.std.specs.List.{sum}
 use Rattle.mx_command.specs.Act.{Entry}
 use Rattle.mx_register.specs.Registers.{aircraft_rows, component_rows, sector_rows}
-use Rattle.mx_point.specs.declared.point.Point.{Point}
+use Rattle.mx_base.specs.declared.point.Point.{Point}
 use Rattle.mx_points.specs.Points.{is_on_way, next_point, numbers_left, size_of}
 
 -- the point of a file of this book that is so many commits behind one

@@ -2,12 +2,12 @@
 use Rattle.std.specs.Prelude.{◌≡◌, ◌⊎◌, ◌≤◌, ◌<◌, ℕ, nat_le, nat_eq, List, [], ◌∷◌, ◌++◌, filter, not, take, drop, false, IsPermutation}
 use Rattle.std.specs.List.{AllByRecursion}
 use Rattle.mx_command.specs.Act.{Entry}
-use Rattle.mx_typed_rows.specs.declared.rows.SectorRow.{SectorRow}
+use Rattle.mx_base.specs.declared.rows.rows.SectorRow.{SectorRow}
 use Rattle.mx_kept_rows.specs.Totals.{total_rows}
 use Rattle.mx_points.specs.Points.{moving}
 use Rattle.mx_points.specs.Tables.{Line, bases_2, fittings_1, is_moved_at, removals_1, rows_at, sectors_1, sectors_2, spans_2, totals_2}
-use Rattle.mx_typed_rows.specs.declared.rows.TotalRow.{TotalRow}
-use Rattle.mx_point.specs.declared.point.Point.{Point}
+use Rattle.mx_base.specs.declared.rows.rows.TotalRow.{TotalRow}
+use Rattle.mx_base.specs.declared.point.Point.{Point}
 
 -- the rows with a number above a mark
 abbrev pub rows_beyond : {Row : Type 0} → (Row → ℕ) → ℕ → List Row → List Row

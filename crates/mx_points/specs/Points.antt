@@ -6,8 +6,8 @@ use Rattle.mx_book.specs.Programme.{last_of}
 use Rattle.mx_book.specs.declared.limits.TheConstants.{MOST_ENTRIES}
 use Rattle.mx_register.specs.Registers.{sector_rows, component_rows}
 use Rattle.mx_kept_rows.specs.Items.{items}
-use Rattle.mx_point.specs.declared.point.Point.{Point}
-use Rattle.mx_point.specs.Settled.{settled}
+use Rattle.mx_base.specs.declared.point.Point.{Point}
+use Rattle.mx_base.specs.Settled.{settled}
 
 -- ── points ──
 

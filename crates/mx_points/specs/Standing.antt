@@ -5,7 +5,7 @@ use Rattle.mx_command.specs.Act.{Act, Entry}
 use Rattle.mx_register.specs.Registers.{aircraft_by, components_by, deferrals_by, extensions_by, fitting_rows, fittings_by, openings_by, places_by, programmes_by, release_lines_by, releases_by, removal_rows, removals_by, sector_rows, sectors_by, tasks_by}
 use Rattle.mx_kept_rows.specs.Spans.{fitting_in, is_span_touched, removal_in, span_rows, spans_opened}
 use Rattle.mx_kept_rows.specs.Totals.{is_among, numbers_touched, total_rows, totals_opened}
-use Rattle.mx_point.specs.declared.point.Point.{Point}
+use Rattle.mx_base.specs.declared.point.Point.{Point}
 use Rattle.mx_points.specs.Tables.{Line, aircraft_all, bases_2, components_all, deferrals_all, entries_all, extensions_all, fittings_1, is_table_at, openings_all, places_all, programmes_all, release_lines_all, releases_all, removals_1, rows_at, sectors_1, sectors_2, spans_2, tasks_all, totals_2}
 
 -- the sectors stand each in one of two tables, and the fittings and removals in theirs or in the spans

@@ -3,10 +3,10 @@
 ghost use Rattle.std.specs.Prelude.{◌≡◌, ◌+◌, ◌<◌, ℕ, true, List};
 ghost use Rattle.mx_command.specs.Act.{Entry};
 ghost use Rattle.mx_book.specs.Book.{IsBook};
-ghost use Rattle.mx_point.specs.declared.point.Point.{Point};
+ghost use Rattle.mx_base.specs.declared.point.Point.{Point};
 ghost use Rattle.mx_points.specs.Commits.{commits_left, commits_of_move, point_behind};
 ghost use Rattle.mx_points.specs.Points.{is_on_way, next_point};
-ghost use Rattle.mx_point.specs.Settled.{settled};
+ghost use Rattle.mx_base.specs.Settled.{settled};
 ghost use Rattle.mx_points.specs.Same.{GiveSameRegisters};
 
 /// The tables at a point stand for at most one book: books that give the same rows to the registers that there are at

@@ -4,14 +4,14 @@ ghost use Rattle.std.specs.Prelude.{◌≡◌, ◌++◌, ◌∷◌, false, Some,
 ghost use Rattle.mx_command.specs.Act.{Entry};
 ghost use Rattle.mx_book.specs.Book.{IsBook};
 ghost use Rattle.mx_register.specs.Registers.{fitting_rows, removal_rows};
-ghost use Rattle.mx_typed_rows.specs.declared.rows.SectorRow.{SectorRow};
+ghost use Rattle.mx_base.specs.declared.rows.rows.SectorRow.{SectorRow};
 ghost use Rattle.mx_kept_rows.specs.Bases.{base_rows};
 ghost use Rattle.mx_kept_rows.specs.Spans.{span_rows};
 ghost use Rattle.mx_points.specs.Moves.{AllStay, Brings, IsNext, MovesSectors, OthersStay, Takes, sectors_mark, sectors_next, totals_mark, totals_next};
 ghost use Rattle.mx_points.specs.Points.{Step, has_moved, is_within_step, moving, next_mark, next_point};
-ghost use Rattle.mx_point.specs.Settled.{settled};
+ghost use Rattle.mx_base.specs.Settled.{settled};
 ghost use Rattle.mx_points.specs.Tables.{bases_2, fittings_1, removals_1, rows_at, spans_2, totals_2};
-ghost use Rattle.mx_point.specs.declared.point.Point.{Point};
+ghost use Rattle.mx_base.specs.declared.point.Point.{Point};
 
 /// A commit of the move of sectors takes the next of the old table in the order of their numbers, at most 64: at the
 /// point of the last of them, the new table has those that it had and these, and the old table the others.

@@ -2,7 +2,7 @@
 ghost use Rattle.std.specs.Prelude.{◌≡◌};
 ghost use Rattle.mx_points.specs.Points.{is_on_way, point_after};
 
-use mx_point::Point;
+use mx_base::Point;
 
 /// The greatest mark: no entry has a greater number.
 pub const LAST_MARK: u32 = 1_000_000;

@@ -6,7 +6,7 @@ ghost use Rattle.mx_book.specs.Book.{IsBook};
 ghost use Rattle.mx_book.specs.Judge.{judge};
 ghost use Rattle.mx_book.specs.declared.verdict.Verdict.TheVariants.{New};
 ghost use Rattle.mx_points.specs.Standing.{AreAlwaysWhole, AreEmptyWhereAbsent, AreLeft, AreWholeWhereSettled, StandOnce};
-ghost use Rattle.mx_point.specs.declared.point.Point.{Point};
+ghost use Rattle.mx_base.specs.declared.point.Point.{Point};
 
 /// At every point each sector stands in the old table or in the new one and not in both, and each fitting and removal in
 /// its table or in the span of its component.

@@ -1,7 +1,7 @@
 -- What is printed of a file that is moved to the newest layout, and how the word ends.
 use Rattle.std.specs.Prelude.{◌≡◌, ℕ, List, [], ◌∷◌, ◌++◌, Result, Ok, Err, codes}
 use Rattle.std.specs.Fmt.{decimal}
-use Rattle.mx_point.specs.declared.point.Point.{Point}
+use Rattle.mx_base.specs.declared.point.Point.{Point}
 use Rattle.mx_faults.specs.declared.moving.MoveFault.{MoveFault}
 use Rattle.mx_reports.specs.Words.{spaced}
 use Rattle.mx_endings.specs.declared.ending.Ending.{Ending}

@@ -5,8 +5,8 @@ ghost use Rattle.mx_reports.specs.Words.{spaced, StartsWith};
 ghost use Rattle.mx_printed.specs.Moved.{point_line};
 
 use itoa::Buffer;
+use mx_base::Point;
 use mx_endings::{Ending, Stop};
-use mx_point::Point;
 use mx_reports::{Text, append_whole};
 use std::alloc::AllocError;
 

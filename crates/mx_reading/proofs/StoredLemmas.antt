@@ -11,10 +11,10 @@ use Rattle.sqlite.specs.State.{State}
 use Rattle.sqlite.specs.Tree.{Trees}
 use Rattle.mx_command.specs.Act.{Entry}
 use Rattle.mx_book.specs.Book.{IsBook}
-use Rattle.mx_typed_rows.specs.declared.rows.BaseRow.{BaseRow}
-use Rattle.mx_typed_rows.specs.declared.rows.Sector2Row.{Sector2Row}
-use Rattle.mx_typed_rows.specs.declared.rows.SpanRow.{SpanRow}
-use Rattle.mx_typed_rows.specs.declared.rows.TotalRow.{TotalRow}
+use Rattle.mx_base.specs.declared.rows.rows.BaseRow.{BaseRow}
+use Rattle.mx_base.specs.declared.rows.rows.Sector2Row.{Sector2Row}
+use Rattle.mx_base.specs.declared.rows.rows.SpanRow.{SpanRow}
+use Rattle.mx_base.specs.declared.rows.rows.TotalRow.{TotalRow}
 use Rattle.mx_kept_rows.specs.Bases.{base_rows}
 use Rattle.mx_kept_rows.specs.Totals.{total_rows}
 use Rattle.mx_points.specs.Tables.{rows_at, entries_all, aircraft_all, places_all, components_all, programmes_all, tasks_all, openings_all, releases_all, release_lines_all, deferrals_all, extensions_all, sectors_2, spans_2, totals_2, bases_2}

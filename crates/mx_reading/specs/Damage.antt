@@ -1,9 +1,9 @@
 -- When a row of a table is none of its type, whatever rows stand there, and of which table the rows of entries are.
 use Rattle.std.specs.Prelude.{◌≡◌, ◌≢◌, ◌⊎◌, true, ◌∷◌, [], length}
 use Rattle.sqlite.specs.Tree.{Trees}
-use Rattle.mx_typed_rows.specs.declared.rows.EntryKind.{EntryKind}
-use Rattle.mx_typed_rows.specs.declared.rows.EntryKind.TheVariants as kind
-use Rattle.mx_point.specs.declared.point.Point.{Point}
+use Rattle.mx_base.specs.declared.rows.rows.EntryKind.{EntryKind}
+use Rattle.mx_base.specs.declared.rows.rows.EntryKind.TheVariants as kind
+use Rattle.mx_base.specs.declared.point.Point.{Point}
 use Rattle.mx_layout.specs.TableName.{TableName}
 use Rattle.mx_layout.specs.declared.fault.TableFault.{TableFault}
 use Rattle.mx_layout.specs.declared.fault.TableFault.TheVariants as fault

@@ -1,7 +1,7 @@
 -- The point whose tables are verified, the newest layout where no move has begun, and the tables of a file there.
 use Rattle.sqlite.specs.Schema.{Schema}
-use Rattle.mx_point.specs.declared.point.Point.{Point}
-use Rattle.mx_point.specs.Settled.{settled}
+use Rattle.mx_base.specs.declared.point.Point.{Point}
+use Rattle.mx_base.specs.Settled.{settled}
 use Rattle.mx_stands.specs.Schemas.{HasTablesAt}
 
 -- the point whose tables are verified

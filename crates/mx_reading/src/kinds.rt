@@ -2,8 +2,8 @@
 ghost use Rattle.std.specs.Prelude.{◌≡◌};
 ghost use Rattle.mx_reading.specs.Damage.{table_of};
 
+use mx_base::rows::EntryKind;
 use mx_layout::Table;
-use mx_typed_rows::EntryKind;
 
 /// The table of the rows that entries of a kind have.
 pub fn table_of(kind: EntryKind) -> Table

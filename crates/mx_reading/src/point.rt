@@ -3,8 +3,8 @@ ghost use Rattle.std.specs.Prelude.{◌≡◌};
 ghost use Rattle.sqlite.specs.Held.{state};
 ghost use Rattle.mx_reading.specs.Looks.{Looks, TellsPoint, told_point};
 
+use mx_base::Point;
 use mx_layout::{TableFault, point_in};
-use mx_point::Point;
 use sqlite::{Alter, Transaction};
 
 // Whether what was read is the point.

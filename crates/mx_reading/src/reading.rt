@@ -5,15 +5,15 @@ ghost use Rattle.mx_inserts.specs.Sets.{ReadsTables};
 ghost use Rattle.mx_reading.specs.Stored.{AreInPairs, AreRegisters, AreStored, HasRegisters};
 ghost use Rattle.mx_reading.specs.Looks.{Looks};
 
-use mx_file_rows::FileRows;
-use mx_inserts::Tables;
-use mx_layout::TableFault;
-use mx_register::merge::Registers;
-use mx_typed_rows::{
+use mx_base::rows::{
     AircraftRow, BaseRow, ComponentRow, DeferralRow, EntryRow, ExtensionRow, OpeningRow, PlaceRow,
     ProgrammeRow, RegisterRows, ReleaseLineRow, ReleaseRow, Sector2Row, SectorRow, SpanRow,
     TaskRow, TotalRow,
 };
+use mx_file_rows::FileRows;
+use mx_inserts::Tables;
+use mx_layout::TableFault;
+use mx_register::merge::Registers;
 use sqlite::{Alter, Transaction};
 use std::alloc::{AllocError, Global};
 

@@ -13,9 +13,9 @@ use Rattle.mx_command.specs.declared.release.Place.TheVariants.{Aircraft, Shop}
 use Rattle.mx_command.proofs.ShapeLemmas.{lines_few}
 use Rattle.mx_book.specs.Book.{is_book_from}
 use Rattle.mx_book.specs.Judge.{item_at as item_of_place}
-use Rattle.mx_typed_rows.specs.declared.rows.ReleaseRow.{ReleaseRow}
-use Rattle.mx_typed_rows.specs.declared.rows.ReleaseLineRow.{ReleaseLineRow}
-use Rattle.mx_typed_rows.specs.Rows.{line_key, release_line_key}
+use Rattle.mx_base.specs.declared.rows.rows.ReleaseRow.{ReleaseRow}
+use Rattle.mx_base.specs.declared.rows.rows.ReleaseLineRow.{ReleaseLineRow}
+use Rattle.mx_base.specs.rows.Rows.{line_key, release_line_key}
 use Rattle.mx_register.specs.Names.{item_at, defect_at, seq_of_item, or_zero, has_item}
 use Rattle.mx_register.specs.Registers.{kind_in_shop, release_line_row}
 use Rattle.mx_register.specs.Merge.{place_of, place_said, line_of, lines_of_release}

@@ -14,7 +14,7 @@ use Rattle.mx_command.specs.declared.programme.Applies.TheVariants.{Airframe, Pa
 use Rattle.mx_command.specs.declared.programme.Programme.{Programme}
 use Rattle.mx_command.specs.declared.programme.Task.{Task}
 use Rattle.mx_book.proofs.JudgeLemmas.{both_true}
-use Rattle.mx_typed_rows.specs.declared.rows.TaskRow.{TaskRow}
+use Rattle.mx_base.specs.declared.rows.rows.TaskRow.{TaskRow}
 use Rattle.mx_register.specs.Registers.{no_limit, part_of, task_row}
 use Rattle.mx_register.specs.Merge.{applies_said, limit_said, task_said, task_lines}
 use Rattle.mx_register.proofs.TakeLemmas.{AreOnLines, AreOfLines, IsSaid, same_some}

@@ -5,16 +5,16 @@ use Rattle.std.specs.Fmt.{digits}
 use Rattle.mx_command.specs.Act.{Entry}
 use Rattle.mx_book.proofs.Worked.{at, abcd}
 use Rattle.mx_book.proofs.WorkedFittings.{efgh, engine, propeller, e1, e2, on_another}
-use Rattle.mx_typed_rows.specs.declared.rows.EntryKind.{EntryKind}
-use Rattle.mx_typed_rows.specs.declared.rows.EntryKind.TheVariants.{AddAircraft, AddComponent, LoadProgramme, Opening, Sector, Fit, Remove, Release, Defer, Extend}
-use Rattle.mx_typed_rows.specs.declared.rows.EntryRow.{EntryRow}
-use Rattle.mx_typed_rows.specs.declared.rows.AircraftRow.{AircraftRow}
-use Rattle.mx_typed_rows.specs.declared.rows.PlaceRow.{PlaceRow}
-use Rattle.mx_typed_rows.specs.declared.rows.ComponentRow.{ComponentRow}
-use Rattle.mx_typed_rows.specs.declared.rows.SectorRow.{SectorRow}
-use Rattle.mx_typed_rows.specs.declared.rows.FittingRow.{FittingRow}
-use Rattle.mx_typed_rows.specs.declared.rows.RemovalRow.{RemovalRow}
-use Rattle.mx_typed_rows.specs.Rows.{kind_number, place_key}
+use Rattle.mx_base.specs.declared.rows.rows.EntryKind.{EntryKind}
+use Rattle.mx_base.specs.declared.rows.rows.EntryKind.TheVariants.{AddAircraft, AddComponent, LoadProgramme, Opening, Sector, Fit, Remove, Release, Defer, Extend}
+use Rattle.mx_base.specs.declared.rows.rows.EntryRow.{EntryRow}
+use Rattle.mx_base.specs.declared.rows.rows.AircraftRow.{AircraftRow}
+use Rattle.mx_base.specs.declared.rows.rows.PlaceRow.{PlaceRow}
+use Rattle.mx_base.specs.declared.rows.rows.ComponentRow.{ComponentRow}
+use Rattle.mx_base.specs.declared.rows.rows.SectorRow.{SectorRow}
+use Rattle.mx_base.specs.declared.rows.rows.FittingRow.{FittingRow}
+use Rattle.mx_base.specs.declared.rows.rows.RemovalRow.{RemovalRow}
+use Rattle.mx_base.specs.rows.Rows.{kind_number, place_key}
 use Rattle.mx_register.specs.Names.{seq_of_tail, seq_of_serial, tail_at, serial_at}
 use Rattle.mx_register.specs.Registers.{next, entry_rows, aircraft_rows, place_rows, component_rows, sector_rows, fitting_rows, removal_rows}
 use Rattle.mx_register.specs.Merge.{Rest, merged}

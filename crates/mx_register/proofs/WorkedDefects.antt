@@ -12,12 +12,12 @@ use Rattle.mx_command.specs.declared.release.Place.TheVariants.{Aircraft}
 use Rattle.mx_book.specs.Book.{is_book}
 use Rattle.mx_book.proofs.Worked.{at, abcd, logged}
 use Rattle.mx_book.proofs.WorkedFittings.{engine, propeller, first_aircraft}
-use Rattle.mx_typed_rows.specs.declared.rows.EntryKind.TheVariants as kinds
-use Rattle.mx_typed_rows.specs.declared.rows.EntryRow.{EntryRow}
-use Rattle.mx_typed_rows.specs.declared.rows.ReleaseLineRow.{ReleaseLineRow}
-use Rattle.mx_typed_rows.specs.declared.rows.DeferralRow.{DeferralRow}
-use Rattle.mx_typed_rows.specs.declared.rows.ExtensionRow.{ExtensionRow}
-use Rattle.mx_typed_rows.specs.Rows.{category_number, days_stated}
+use Rattle.mx_base.specs.declared.rows.rows.EntryKind.TheVariants as kinds
+use Rattle.mx_base.specs.declared.rows.rows.EntryRow.{EntryRow}
+use Rattle.mx_base.specs.declared.rows.rows.ReleaseLineRow.{ReleaseLineRow}
+use Rattle.mx_base.specs.declared.rows.rows.DeferralRow.{DeferralRow}
+use Rattle.mx_base.specs.declared.rows.rows.ExtensionRow.{ExtensionRow}
+use Rattle.mx_base.specs.rows.Rows.{category_number, days_stated}
 use Rattle.mx_register.specs.Names.{seq_of_defect, defect_at}
 use Rattle.mx_register.specs.Registers.{entry_rows, release_line_rows, deferral_rows, extension_rows}
 use Rattle.mx_register.specs.Merge.{Rest, line_said, merged}

@@ -13,12 +13,12 @@ use Rattle.mx_command.specs.declared.programme.Task.{Task}
 use Rattle.mx_book.specs.Book.{is_book}
 use Rattle.mx_book.proofs.Worked.{used, abcd, logged}
 use Rattle.mx_book.proofs.WorkedFittings.{engine, propeller, e1, engine_with, first_aircraft}
-use Rattle.mx_typed_rows.specs.declared.rows.EntryKind.TheVariants as kinds
-use Rattle.mx_typed_rows.specs.declared.rows.EntryRow.{EntryRow}
-use Rattle.mx_typed_rows.specs.declared.rows.ProgrammeRow.{ProgrammeRow}
-use Rattle.mx_typed_rows.specs.declared.rows.TaskRow.{TaskRow}
-use Rattle.mx_typed_rows.specs.declared.rows.OpeningRow.{OpeningRow}
-use Rattle.mx_typed_rows.specs.Rows.{task_key}
+use Rattle.mx_base.specs.declared.rows.rows.EntryKind.TheVariants as kinds
+use Rattle.mx_base.specs.declared.rows.rows.EntryRow.{EntryRow}
+use Rattle.mx_base.specs.declared.rows.rows.ProgrammeRow.{ProgrammeRow}
+use Rattle.mx_base.specs.declared.rows.rows.TaskRow.{TaskRow}
+use Rattle.mx_base.specs.declared.rows.rows.OpeningRow.{OpeningRow}
+use Rattle.mx_base.specs.rows.Rows.{task_key}
 use Rattle.mx_register.specs.Names.{seq_of_item, item_at}
 use Rattle.mx_register.specs.Registers.{no_limit, entry_rows, programme_rows, task_rows, opening_rows}
 use Rattle.mx_register.specs.Merge.{Rest, task_said, take_tasks, merged}

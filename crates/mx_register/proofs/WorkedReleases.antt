@@ -12,11 +12,11 @@ use Rattle.mx_command.specs.declared.release.Place.TheVariants.{Aircraft, Shop}
 use Rattle.mx_book.specs.Book.{is_book}
 use Rattle.mx_book.proofs.Worked.{at, abcd, logged}
 use Rattle.mx_book.proofs.WorkedFittings.{engine, propeller, e1, e2, engine_with, first_aircraft, fit}
-use Rattle.mx_typed_rows.specs.declared.rows.EntryKind.TheVariants as kinds
-use Rattle.mx_typed_rows.specs.declared.rows.EntryRow.{EntryRow}
-use Rattle.mx_typed_rows.specs.declared.rows.ReleaseRow.{ReleaseRow}
-use Rattle.mx_typed_rows.specs.declared.rows.ReleaseLineRow.{ReleaseLineRow}
-use Rattle.mx_typed_rows.specs.Rows.{release_line_key}
+use Rattle.mx_base.specs.declared.rows.rows.EntryKind.TheVariants as kinds
+use Rattle.mx_base.specs.declared.rows.rows.EntryRow.{EntryRow}
+use Rattle.mx_base.specs.declared.rows.rows.ReleaseRow.{ReleaseRow}
+use Rattle.mx_base.specs.declared.rows.rows.ReleaseLineRow.{ReleaseLineRow}
+use Rattle.mx_base.specs.rows.Rows.{release_line_key}
 use Rattle.mx_register.specs.Registers.{entry_rows, release_rows, release_line_rows}
 use Rattle.mx_register.specs.Merge.{Rest, place_said, line_said, take_release_lines, merged}
 use Rattle.mx_register.proofs.Worked.{entry, first_aircraft_row, place, component_with, fitted_row, no_rows}

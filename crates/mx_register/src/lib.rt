@@ -7,7 +7,7 @@ pub mod merge;
 pub mod names;
 pub mod registers;
 
-pub use mx_typed_rows::{
+pub use mx_base::rows::{
     AircraftRow, BaseRow, ComponentRow, DeferralRow, EntryKind, EntryRow, ExtensionRow, FittingRow,
     OpeningRow, PlaceRow, ProgrammeRow, RegisterRows, ReleaseLineRow, ReleaseRow, RemovalRow,
     SectorRow, SpanRow, TaskRow, TotalRow,

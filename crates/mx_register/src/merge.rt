@@ -1,6 +1,6 @@
 //! The rows that a book is made of again: those of every register, and those that no entry has taken yet.
 
-use mx_typed_rows::{
+use mx_base::rows::{
     AircraftRow, ComponentRow, DeferralRow, EntryRow, ExtensionRow, FittingRow, OpeningRow,
     PlaceRow, ProgrammeRow, RegisterRows, ReleaseLineRow, ReleaseRow, RemovalRow, SectorRow,
     TaskRow,

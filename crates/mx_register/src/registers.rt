@@ -1,19 +1,19 @@
 //! The rows that a command gives.
 ghost use Rattle.std.specs.Prelude.{◌≡◌, ◌<◌, ◌^◌, true, unwrap_or, IfSome};
 ghost use Rattle.mx_base.specs.Identifier.{IsIdentifier, is_graphic};
-ghost use Rattle.mx_typed_rows.specs.Rows.{FitsAircraft, FitsCategory, FitsComponent, FitsDeferral, FitsEntry, FitsExtension, FitsFitting, FitsLimit, FitsOpening, FitsPlace, FitsProgramme, FitsRelease, FitsRemoval, FitsSector, FitsTask, FitsTolerance};
+ghost use Rattle.mx_base.specs.rows.Rows.{FitsAircraft, FitsCategory, FitsComponent, FitsDeferral, FitsEntry, FitsExtension, FitsFitting, FitsLimit, FitsOpening, FitsPlace, FitsProgramme, FitsRelease, FitsRemoval, FitsSector, FitsTask, FitsTolerance};
 ghost use Rattle.mx_register.specs.Registers.{aircraft_row, component_row, deferral_row, entry_row, extension_row, fitting_row, kind_of, no_limit, opening_row, part_of, place_row, programme_row, kind_in_shop, release_row, removal_row, sector_row, task_row};
 ghost use Rattle.mx_command.specs.Act.{act_of};
 ghost use Rattle.mx_command.specs.Shape.{has_shape};
 
+use mx_base::rows::{
+    AircraftRow, ComponentRow, DeferralRow, EntryKind, EntryRow, ExtensionRow, FittingRow,
+    OpeningRow, PlaceRow, ProgrammeRow, ReleaseRow, RemovalRow, SectorRow, TaskRow,
+};
 use mx_base::{Category, Kind, Limit, Part, Position, Tolerance};
 use mx_command::{
     Aircraft, Applies, Body, Command, Component, Deferral, Extension, Fitting, Opening, Place,
     Programme, Release, Removal, Sector, Task,
-};
-use mx_typed_rows::{
-    AircraftRow, ComponentRow, DeferralRow, EntryKind, EntryRow, ExtensionRow, FittingRow,
-    OpeningRow, PlaceRow, ProgrammeRow, ReleaseRow, RemovalRow, SectorRow, TaskRow,
 };
 
 // The kind of entry that a body makes.

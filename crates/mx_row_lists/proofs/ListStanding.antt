@@ -10,7 +10,7 @@ use Rattle.mx_command.specs.declared.item.Item.{Item}
 use Rattle.mx_book.specs.Book.{IsBook}
 use Rattle.mx_book.specs.Defect.{open_defects}
 use Rattle.mx_book.specs.Programme.{tasks_or_none}
-use Rattle.mx_typed_rows.specs.declared.rows.DeferralRow.{DeferralRow}
+use Rattle.mx_base.specs.declared.rows.rows.DeferralRow.{DeferralRow}
 use Rattle.mx_register.specs.Names.{seq_of_item, seq_of_tail}
 use Rattle.mx_register.specs.Registers.{component_rows, deferral_rows, entry_rows}
 use Rattle.mx_kept_rows.specs.Spans.{span_rows}
@@ -36,7 +36,7 @@ use Rattle.mx_book.specs.Base.{base}
 use Rattle.mx_lists.specs.Fitted.{fitted_on}
 use Rattle.mx_found.proofs.FittedLemmas.{none_fitted, place_of, places_found}
 use Rattle.mx_found.proofs.OpenDefectLemmas.{doc_found, none_open, open_found}
-use Rattle.mx_typed_rows.specs.declared.rows.SpanRow.{SpanRow}
+use Rattle.mx_base.specs.declared.rows.rows.SpanRow.{SpanRow}
 
 -- what rows said, where each says what it says of the book
 said_is : {X V : Type 0} (Says : X → Option V → Type 0) (says : X → Option V) → ((x : X) (o : Option V) → Says x o → o ≡ says x) → (rows : List X) (answer : List V) → AreSaid Says rows answer → answer ≡ filter_map says rows

@@ -12,7 +12,7 @@ use Rattle.mx_command.specs.Act.{Entry}
 use Rattle.mx_command.specs.Same.{same_text}
 use Rattle.mx_command.proofs.SameLemmas.{text_same}
 use Rattle.mx_book.proofs.JudgeLemmas.{both_true}
-use Rattle.mx_typed_rows.specs.declared.rows.BaseRow.{BaseRow}
+use Rattle.mx_base.specs.declared.rows.rows.BaseRow.{BaseRow}
 use Rattle.mx_kept_rows.specs.Bases.{AreKeyedOnce, base_rows, is_keyed}
 use Rattle.mx_kept_rows.proofs.KeyedLemmas.{base_rows_once}
 use Rattle.mx_points.specs.Tables.{bases_2, rows_at}

@@ -13,7 +13,7 @@ use Rattle.mx_command.specs.declared.release.Line.TheVariants.{Done, Rectified}
 use Rattle.mx_book.specs.Asking.{known_same}
 use Rattle.mx_book.specs.Book.{IsBook}
 use Rattle.mx_book.specs.Judge.{item_at, known_from}
-use Rattle.mx_typed_rows.specs.declared.rows.ReleaseLineRow.{ReleaseLineRow}
+use Rattle.mx_base.specs.declared.rows.rows.ReleaseLineRow.{ReleaseLineRow}
 use Rattle.mx_register.specs.Lines.{lines_from}
 use Rattle.mx_register.specs.Names.{or_zero}
 use Rattle.mx_register.specs.Registers.{aircraft_row, aircraft_rows, component_row, component_rows, deferral_row, deferral_rows, entry_rows, extension_row, extension_rows, opening_row, opening_rows, place_row, place_rows, programme_row, programme_rows, release_line_row, release_line_rows, release_row, release_rows, sector_row, sector_rows, task_row, task_rows}

@@ -20,9 +20,9 @@ use Rattle.mx_book.specs.Span.{is_taken, tail_fitted}
 use Rattle.mx_book.specs.declared.defects.Defect.{Defect}
 use Rattle.mx_book.specs.declared.limits.TheConstants.{MOST_AIRCRAFT, MOST_COMPONENTS}
 use Rattle.mx_book.proofs.BaseLemmas.{accomplished-base}
-use Rattle.mx_typed_rows.specs.declared.rows.BaseRow.{BaseRow}
-use Rattle.mx_typed_rows.specs.declared.rows.DeferralRow.{DeferralRow}
-use Rattle.mx_typed_rows.specs.declared.rows.TaskRow.{TaskRow}
+use Rattle.mx_base.specs.declared.rows.rows.BaseRow.{BaseRow}
+use Rattle.mx_base.specs.declared.rows.rows.DeferralRow.{DeferralRow}
+use Rattle.mx_base.specs.declared.rows.rows.TaskRow.{TaskRow}
 use Rattle.mx_register.specs.Names.{seq_of_defect, seq_of_item, seq_of_serial, seq_of_tail, tail_at}
 use Rattle.mx_register.specs.Registers.{aircraft_rows, component_rows, deferral_rows, entry_rows, extension_rows, place_rows, programme_rows, release_line_rows, task_rows}
 use Rattle.mx_kept_rows.specs.Bases.{base_rows, is_keyed}
@@ -61,7 +61,7 @@ use Rattle.mx_numbers.proofs.TableLemmas.{IsTable, aircraft as aircraft_table, c
 use Rattle.mx_rows.proofs.GivenLemmas.{by_number, by_text, defect_number, given, item_number, looked, serial_number, some_number, tail_number}
 use Rattle.mx_rows.proofs.KnownStanding.{known_as}
 use Rattle.mx_book.specs.declared.found.Found.TheVariants as founds
-use Rattle.mx_typed_rows.specs.declared.rows.EntryRow.{EntryRow}
+use Rattle.mx_base.specs.declared.rows.rows.EntryRow.{EntryRow}
 
 -- the last number is the same by either definition
 last_is : (found : List EntryRow) → last_number found ≡ last_chosen found

@@ -16,14 +16,14 @@ use Rattle.sqlite.specs.Tree.{Trees}
 use Rattle.mx_command.specs.Act.{Entry}
 use Rattle.mx_book.specs.Programme.{last_of}
 use Rattle.mx_book.specs.declared.limits.TheConstants.{MOST_ENTRIES}
-use Rattle.mx_typed_rows.specs.declared.rows.ComponentRow.{ComponentRow}
-use Rattle.mx_typed_rows.specs.declared.rows.SectorRow.{SectorRow}
-use Rattle.mx_typed_rows.specs.Rows.{FitsComponent}
-use Rattle.mx_typed_rows.proofs.SortedLemmas.{keys_below}
+use Rattle.mx_base.specs.declared.rows.rows.ComponentRow.{ComponentRow}
+use Rattle.mx_base.specs.declared.rows.rows.SectorRow.{SectorRow}
+use Rattle.mx_base.specs.rows.Rows.{FitsComponent}
+use Rattle.mx_base.proofs.RowsProofs.SortedLemmas.{keys_below}
 use Rattle.mx_register.specs.Registers.{component_rows, sector_rows}
 use Rattle.mx_register.proofs.RegisterLemmas.{component_rows-rising}
-use Rattle.mx_point.specs.declared.point.Point.{Point}
-use Rattle.mx_point.specs.Settled.{settled}
+use Rattle.mx_base.specs.declared.point.Point.{Point}
+use Rattle.mx_base.specs.Settled.{settled}
 use Rattle.mx_points.specs.Moves.{last_moved}
 use Rattle.mx_points.specs.Points.{moving, next_mark}
 use Rattle.mx_points.specs.Tables.{components_all, rows_at, sectors_1}

@@ -19,9 +19,9 @@ use Rattle.sqlite.specs.Table.{Table}
 use Rattle.sqlite.specs.Tree.{Trees}
 use Rattle.sqlite_sql.specs.declared.ops.CompareOp.TheVariants.{Gt}
 use Rattle.sqlite_typed.proofs.TestLemmas.{at_ints}
-use Rattle.mx_typed_rows.specs.declared.rows.SectorRow.{SectorRow}
-use Rattle.mx_typed_rows.specs.Rising.{IsRising}
-use Rattle.mx_typed_rows.proofs.SortedLemmas.{IsFrom-map, IsRising-map, sorted_once}
+use Rattle.mx_base.specs.declared.rows.rows.SectorRow.{SectorRow}
+use Rattle.mx_base.specs.rows.Rising.{IsRising}
+use Rattle.mx_base.proofs.RowsProofs.SortedLemmas.{IsFrom-map, IsRising-map, sorted_once}
 use Rattle.mx_book.specs.declared.limits.TheConstants.{MOST_ENTRIES}
 use Rattle.mx_points.proofs.OneBook.{all_there}
 use Rattle.mx_layout.specs.declared.fault.TableFault.{TableFault}

@@ -8,8 +8,8 @@ use Rattle.sqlite.specs.State.{State, HasCleanDisk}
 use Rattle.sqlite.specs.Tree.{Trees}
 use Rattle.mx_command.specs.Act.{Entry}
 use Rattle.mx_book.specs.declared.limits.TheConstants.{MOST_ENTRIES}
-use Rattle.mx_point.specs.declared.point.Point.{Point}
-use Rattle.mx_point.specs.Settled.{settled}
+use Rattle.mx_base.specs.declared.point.Point.{Point}
+use Rattle.mx_base.specs.Settled.{settled}
 use Rattle.mx_points.specs.Points.{is_on_way}
 use Rattle.mx_layout.specs.declared.fault.Table.TheVariants as table
 use Rattle.mx_layout.specs.declared.fault.TableFault.{TableFault}

@@ -2,8 +2,8 @@
 use Rattle.std.specs.Prelude.{⊤, ◌≡◌, ◌≢◌, true, List, [], ◌∷◌, None, Some, IsPermutation}
 use Rattle.sqlite.specs.Tree.{Trees}
 use Rattle.mx_command.specs.Act.{Entry}
-use Rattle.mx_point.specs.declared.point.Point.{Point}
-use Rattle.mx_point.specs.Settled.{settled}
+use Rattle.mx_base.specs.declared.point.Point.{Point}
+use Rattle.mx_base.specs.Settled.{settled}
 use Rattle.mx_points.specs.Moves.{totals_next}
 use Rattle.mx_points.specs.Points.{is_on_way, moving, next_mark}
 use Rattle.mx_layout.specs.TableName.{TableName}

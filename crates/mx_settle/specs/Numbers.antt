@@ -2,8 +2,8 @@
 use Rattle.std.specs.Prelude.{ℕ, nat_lt, ◌||◌, Bool, false, List, Option, Some, None, if◌then◌else◌}
 use Rattle.std.specs.List.{list_any}
 use Rattle.mx_book.specs.declared.limits.TheConstants.{MOST_ENTRIES}
-use Rattle.mx_typed_rows.specs.declared.register_rows.RegisterRows.{RegisterRows}
-use Rattle.mx_typed_rows.specs.declared.rows.SpanRow.{SpanRow}
+use Rattle.mx_base.specs.declared.rows.register_rows.RegisterRows.{RegisterRows}
+use Rattle.mx_base.specs.declared.rows.rows.SpanRow.{SpanRow}
 use Rattle.mx_layout.specs.TableName.{TableName}
 use Rattle.mx_layout.specs.declared.fault.Table.TheVariants as table
 use Rattle.mx_file_rows.specs.declared.file_rows.FileRows.{FileRows}

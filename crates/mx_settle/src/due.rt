@@ -1,12 +1,12 @@
 //! The step that is due.
 ghost use Rattle.std.specs.Prelude.{◌≡◌};
 
+use mx_base::Point;
 use mx_layout::TableFault;
 use mx_migrate::{
     ChangeToSpans, ChangeToTotals, CreateBases, CreateSectors, Finish, Migrate, MoveComponent,
     MoveSectors, WriteBases, WriteTotal,
 };
-use mx_point::Point;
 use sqlite::{Alter, Transaction};
 use std::alloc::Global;
 

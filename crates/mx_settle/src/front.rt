@@ -5,11 +5,11 @@ ghost use Rattle.sqlite.specs.Held.{state};
 ghost use Rattle.mx_kept.specs.Cells.{kept_component};
 ghost use Rattle.mx_settle.specs.Choices.{next_checked, FindsLeft, FindsNext};
 
+use mx_base::rows::ComponentRow;
 use mx_layout::{Table, TableFault};
 use mx_moves::items::next_components;
 use mx_moves::sectors::first_sectors;
 use mx_points::LAST_MARK;
-use mx_typed_rows::ComponentRow;
 use sqlite::{Alter, Transaction};
 use std::alloc::Global;
 

@@ -3,10 +3,10 @@ ghost use Rattle.std.specs.Prelude.{◌≡◌, IfOk, filter, nat_eq};
 ghost use Rattle.mx_settle.specs.Items.{next_total, total_by, IsBasesBy};
 
 use crate::due::Due;
+use mx_base::rows::{BaseRow, TotalRow};
 use mx_derived::KeptRows;
 use mx_migrate::{CreateBases, Finish, WriteBases, WriteTotal};
 use mx_points::LAST_MARK;
-use mx_typed_rows::{BaseRow, TotalRow};
 use std::alloc::{AllocError, Global};
 
 // The total of the next item behind a mark, if there is one: no item has a number that no entry can have.

@@ -4,13 +4,13 @@ ghost use Rattle.std.specs.List.{list_any};
 ghost use Rattle.mx_settle.specs.Numbers.{has_late, is_late, is_late_span, late_item, late_table};
 ghost use Rattle.mx_settle.specs.Numbers.{late_upkeep, late_use, or_behind};
 
-use mx_file_rows::FileRows;
-use mx_layout::Table;
-use mx_points::LAST_MARK;
-use mx_typed_rows::{
+use mx_base::rows::{
     AircraftRow, ComponentRow, DeferralRow, EntryRow, ExtensionRow, OpeningRow, PlaceRow,
     ProgrammeRow, RegisterRows, ReleaseLineRow, ReleaseRow, SectorRow, SpanRow, TaskRow,
 };
+use mx_file_rows::FileRows;
+use mx_layout::Table;
+use mx_points::LAST_MARK;
 
 // Whether no entry can have the number.
 fn is_late(number: u32) -> bool

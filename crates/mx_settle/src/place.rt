@@ -4,9 +4,9 @@ ghost use Rattle.sqlite.specs.Held.{state};
 ghost use Rattle.mx_settle.specs.Place.{checked, is_of_file, TellsPlace};
 
 use crate::fault::fault_of;
+use mx_base::Point;
 use mx_faults::MoveFault;
 use mx_layout::{Table, point};
-use mx_point::Point;
 use mx_points::is_on_way;
 use sqlite::{Alter, Connection};
 

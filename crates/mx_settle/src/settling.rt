@@ -4,7 +4,7 @@ ghost use Rattle.sqlite.specs.Held.{state};
 ghost use Rattle.sqlite.specs.State.{HasCleanDisk};
 ghost use Rattle.mx_command.specs.Act.{Entry};
 ghost use Rattle.mx_book.specs.Book.{IsBook};
-ghost use Rattle.mx_point.specs.Settled.{settled};
+ghost use Rattle.mx_base.specs.Settled.{settled};
 ghost use Rattle.mx_points.specs.Commits.{commits_of_move};
 ghost use Rattle.mx_points.specs.Points.{is_on_way};
 ghost use Rattle.mx_stands.specs.Stands.{RestsAt};
@@ -12,8 +12,8 @@ ghost use Rattle.mx_settle.specs.Settles.{Settles};
 
 use crate::advancing::advance_knowing;
 use crate::place::{NEWEST_LAYOUT, place};
+use mx_base::Point;
 use mx_faults::MoveFault;
-use mx_point::Point;
 use sqlite::{Alter, Connection};
 use std::alloc::Global;
 

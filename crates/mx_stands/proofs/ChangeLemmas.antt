@@ -14,7 +14,7 @@ use Rattle.mx_kept_rows.proofs.ItemNumbers.{total_rows-changed}
 use Rattle.mx_kept_rows.proofs.PutBases.{command_bases}
 use Rattle.mx_kept_rows.proofs.SpanRows.{span_rows-more}
 use Rattle.mx_kept_rows.proofs.TableLemmas.{register_becomes}
-use Rattle.mx_point.specs.Settled.{settled}
+use Rattle.mx_base.specs.Settled.{settled}
 use Rattle.mx_points.specs.Tables.{rows_at}
 use Rattle.mx_layout.specs.Steps.{IsLayout}
 use Rattle.mx_layout.specs.TableName.{TableName}

@@ -5,8 +5,8 @@ use Rattle.std.proofs.lemmas.List.{length-map}
 use Rattle.std.proofs.lemmas.List.Elements.{All-append, All-contains, All-from_recursion, Contains-append_left, Contains-append_right}
 use Rattle.sqlite.specs.Table.{Table}
 use Rattle.sqlite_tied.specs.Compute.{everything}
-use Rattle.mx_point.specs.declared.point.Point.{Point}
-use Rattle.mx_point.specs.Settled.{settled}
+use Rattle.mx_base.specs.declared.point.Point.{Point}
+use Rattle.mx_base.specs.Settled.{settled}
 use Rattle.mx_layout.specs.Names.{table_named}
 use Rattle.mx_layout.specs.Steps.{IsLayout, schema_after, schema_of}
 use Rattle.mx_layout.specs.TableName.{TableName}

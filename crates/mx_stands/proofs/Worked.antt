@@ -9,8 +9,8 @@ use Rattle.mx_command.specs.Act.{Entry, Flown}
 use Rattle.mx_command.specs.declared.sector.Sector.{Sector}
 use Rattle.mx_book.proofs.Worked.{abcd, at as moment, logged}
 use Rattle.mx_book.proofs.WorkedFittings.{first_aircraft}
-use Rattle.mx_point.specs.declared.point.Point.{Point}
-use Rattle.mx_point.specs.Settled.{settled}
+use Rattle.mx_base.specs.declared.point.Point.{Point}
+use Rattle.mx_base.specs.Settled.{settled}
 use Rattle.mx_points.specs.Points.{moving}
 use Rattle.mx_layout.specs.TableName.{TableName}
 use Rattle.mx_layout.specs.declared.fault.Table.TheVariants as table

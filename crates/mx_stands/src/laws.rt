@@ -2,8 +2,8 @@
 ghost use Rattle.std.specs.Prelude.{◌≡◌, ◌↔◌, ℕ, true, List, [], All, Contains};
 ghost use Rattle.sqlite.specs.Tree.{Trees};
 ghost use Rattle.mx_command.specs.Act.{Entry};
-ghost use Rattle.mx_point.specs.declared.point.Point.{Point};
-ghost use Rattle.mx_point.specs.Settled.{settled};
+ghost use Rattle.mx_base.specs.declared.point.Point.{Point};
+ghost use Rattle.mx_base.specs.Settled.{settled};
 ghost use Rattle.mx_layout.specs.Contents.{rows_in};
 ghost use Rattle.mx_layout.specs.Making.{IsEmptyIn};
 ghost use Rattle.mx_layout.specs.Names.{table_named};

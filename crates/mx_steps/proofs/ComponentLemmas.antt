@@ -9,13 +9,13 @@ use Rattle.sqlite_keyed.proofs.ListLemmas.{filter-filter, filter-map, filter_sam
 use Rattle.sqlite.specs.Tree.{Trees}
 use Rattle.mx_command.specs.Act.{Entry}
 use Rattle.mx_book.specs.Book.{IsBook}
-use Rattle.mx_typed_rows.specs.declared.rows.FittingRow.{FittingRow}
-use Rattle.mx_typed_rows.specs.declared.rows.RemovalRow.{RemovalRow}
-use Rattle.mx_typed_rows.specs.declared.rows.SpanRow.{SpanRow}
-use Rattle.mx_typed_rows.specs.Rows.{FitsFitting, FitsRemoval, FitsSpan}
+use Rattle.mx_base.specs.declared.rows.rows.FittingRow.{FittingRow}
+use Rattle.mx_base.specs.declared.rows.rows.RemovalRow.{RemovalRow}
+use Rattle.mx_base.specs.declared.rows.rows.SpanRow.{SpanRow}
+use Rattle.mx_base.specs.rows.Rows.{FitsFitting, FitsRemoval, FitsSpan}
 use Rattle.mx_register.specs.Registers.{fitting_rows, removal_rows}
 use Rattle.mx_register.proofs.RegisterLemmas.{fitting_rows-rising, removal_rows-rising}
-use Rattle.mx_point.specs.declared.point.Point.{Point}
+use Rattle.mx_base.specs.declared.point.Point.{Point}
 use Rattle.mx_points.specs.Points.{moving, next_mark, next_point}
 use Rattle.mx_points.specs.Tables.{rows_at, fittings_1, removals_1, spans_2}
 use Rattle.mx_points.proofs.MoveLemmas.{spans_moved, fittings_left, removals_left}

@@ -6,9 +6,9 @@ use Rattle.std.proofs.lemmas.List.Sorted.{IsPermutation-refl}
 use Rattle.sqlite_keyed.proofs.ListLemmas.{IsPermutation-same}
 use Rattle.sqlite.specs.Tree.{Trees}
 use Rattle.mx_command.specs.Act.{Entry}
-use Rattle.mx_typed_rows.specs.Rows.{FitsBase, FitsSpan, FitsTotal}
-use Rattle.mx_point.specs.Settled.{settled}
-use Rattle.mx_point.specs.declared.point.Point.{Point}
+use Rattle.mx_base.specs.rows.Rows.{FitsBase, FitsSpan, FitsTotal}
+use Rattle.mx_base.specs.Settled.{settled}
+use Rattle.mx_base.specs.declared.point.Point.{Point}
 use Rattle.mx_points.specs.Moves.{AllStay}
 use Rattle.mx_points.specs.Points.{is_on_way, moving, next_mark, next_point}
 use Rattle.mx_points.specs.Tables.{bases_2, fittings_1, removals_1, rows_at, totals_2}

@@ -8,9 +8,9 @@ use Rattle.sqlite_keyed.proofs.ListLemmas.{IsPermutation-same}
 use Rattle.sqlite.specs.Tree.{Trees}
 use Rattle.mx_command.specs.Act.{Entry}
 use Rattle.mx_book.specs.Book.{IsBook}
-use Rattle.mx_typed_rows.specs.Rows.{FitsSector, FitsSpan, FitsFitting, FitsRemoval}
-use Rattle.mx_point.specs.Settled.{settled}
-use Rattle.mx_point.specs.declared.point.Point.{Point}
+use Rattle.mx_base.specs.rows.Rows.{FitsSector, FitsSpan, FitsFitting, FitsRemoval}
+use Rattle.mx_base.specs.Settled.{settled}
+use Rattle.mx_base.specs.declared.point.Point.{Point}
 use Rattle.mx_points.specs.Moves.{AllStay}
 use Rattle.mx_points.specs.Points.{is_on_way, moving, next_mark, next_point, on_to}
 use Rattle.mx_points.specs.Tables.{rows_at, sectors_1, sectors_2, spans_2}

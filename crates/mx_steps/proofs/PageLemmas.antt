@@ -12,8 +12,8 @@ use Rattle.sqlite_rules.proofs.ListLemmas.{contains_had, has_contained, has_filt
 use Rattle.sqlite.specs.Order.{Row}
 use Rattle.sqlite.specs.Table.{Table}
 use Rattle.sqlite.specs.Tree.{Trees}
-use Rattle.mx_typed_rows.specs.Rising.{IsRising}
-use Rattle.mx_typed_rows.proofs.SortedLemmas.{IsFrom-map, IsRising-map, sorted_once}
+use Rattle.mx_base.specs.rows.Rising.{IsRising}
+use Rattle.mx_base.proofs.RowsProofs.SortedLemmas.{IsFrom-map, IsRising-map, sorted_once}
 use Rattle.mx_points.proofs.OneBook.{all_there}
 use Rattle.mx_layout.specs.Contents.{rows_in}
 use Rattle.mx_layout.specs.Names.{table_named}

@@ -9,12 +9,12 @@ use Rattle.sqlite_keyed.proofs.ListLemmas.{filter-map}
 use Rattle.mx_command.specs.Act.{Entry}
 use Rattle.mx_book.specs.Book.{IsBook}
 use Rattle.mx_book.specs.declared.limits.TheConstants.{MOST_ENTRIES}
-use Rattle.mx_typed_rows.specs.declared.rows.FittingRow.{FittingRow}
-use Rattle.mx_typed_rows.specs.declared.rows.RemovalRow.{RemovalRow}
-use Rattle.mx_typed_rows.specs.declared.rows.SpanRow.{SpanRow}
-use Rattle.mx_typed_rows.specs.Rising.{IsRising}
-use Rattle.mx_typed_rows.specs.Rows.{FitsFitting, FitsRemoval, FitsSpan}
-use Rattle.mx_typed_rows.proofs.SortedLemmas.{IsFrom-rising, keys_below, sorted_once}
+use Rattle.mx_base.specs.declared.rows.rows.FittingRow.{FittingRow}
+use Rattle.mx_base.specs.declared.rows.rows.RemovalRow.{RemovalRow}
+use Rattle.mx_base.specs.declared.rows.rows.SpanRow.{SpanRow}
+use Rattle.mx_base.specs.rows.Rising.{IsRising}
+use Rattle.mx_base.specs.rows.Rows.{FitsFitting, FitsRemoval, FitsSpan}
+use Rattle.mx_base.proofs.RowsProofs.SortedLemmas.{IsFrom-rising, keys_below, sorted_once}
 use Rattle.mx_register.specs.Registers.{fitting_rows, next, removal_rows}
 use Rattle.mx_register.proofs.RegisterLemmas.{fitting_rows-rising, removal_rows-rising}
 use Rattle.mx_kept_rows.specs.Spans.{fitting_in, removal_by, removal_in, span_rows}

@@ -15,12 +15,12 @@ use Rattle.std.proofs.lemmas.Int.{ints}
 use Rattle.mx_command.specs.Act.{Entry}
 use Rattle.mx_book.specs.Book.{IsBook}
 use Rattle.mx_book.specs.declared.limits.TheConstants.{MOST_ENTRIES}
-use Rattle.mx_typed_rows.specs.declared.rows.SectorRow.{SectorRow}
-use Rattle.mx_typed_rows.specs.Rows.{FitsSector}
-use Rattle.mx_typed_rows.proofs.SortedLemmas.{keys_below}
+use Rattle.mx_base.specs.declared.rows.rows.SectorRow.{SectorRow}
+use Rattle.mx_base.specs.rows.Rows.{FitsSector}
+use Rattle.mx_base.proofs.RowsProofs.SortedLemmas.{keys_below}
 use Rattle.mx_register.specs.Registers.{sector_rows}
 use Rattle.mx_register.proofs.RegisterLemmas.{sector_rows-rising}
-use Rattle.mx_point.specs.declared.point.Point.{Point}
+use Rattle.mx_base.specs.declared.point.Point.{Point}
 use Rattle.mx_points.specs.Moves.{last_moved, sectors_next, sectors_mark}
 use Rattle.mx_points.specs.Points.{moving, next_mark, next_point}
 use Rattle.mx_points.proofs.OneBook.{filter_through}

@@ -5,7 +5,7 @@ use Rattle.std.proofs.lemmas.List.Elements.{All-filter, recursion_from_All}
 use Rattle.mx_command.specs.Act.{Entry}
 use Rattle.mx_book.specs.Book.{IsBook}
 use Rattle.mx_book.specs.Programme.{last_of}
-use Rattle.mx_typed_rows.proofs.SortedLemmas.{keys_below}
+use Rattle.mx_base.proofs.RowsProofs.SortedLemmas.{keys_below}
 use Rattle.mx_points.specs.Points.{moving, next_mark, next_point, numbers_left, numbers_of, on_to, size_of}
 use Rattle.mx_points.proofs.CommitLemmas.{numbers_rising}
 use Rattle.mx_points.proofs.NextLemmas.{next_is_least, Apart}

@@ -15,7 +15,7 @@ use Rattle.mx_book.proofs.PassLemmas.{new-fitting}
 use Rattle.mx_register.specs.Registers.{next}
 use Rattle.mx_register.specs.Names.{seq_of_serial, or_zero}
 use Rattle.mx_register.proofs.NewLemmas.{fitted_is_known}
-use Rattle.mx_typed_rows.specs.declared.rows.SpanRow.{SpanRow}
+use Rattle.mx_base.specs.declared.rows.rows.SpanRow.{SpanRow}
 use Rattle.mx_kept_rows.specs.Spans.{span_ended, span_rows, spans_opened}
 use Rattle.mx_kept_rows.proofs.Induction.{of_each_book}
 use Rattle.mx_kept_rows.proofs.SpanRegisters.{is_open_row, open_alike}

@@ -9,9 +9,9 @@ use Rattle.sqlite.specs.Tree.{Trees}
 use Rattle.mx_command.specs.Act.{Entry}
 use Rattle.mx_command.specs.declared.item.Item.{Item}
 use Rattle.mx_book.specs.Programme.{last_of}
-use Rattle.mx_typed_rows.specs.declared.rows.BaseRow.{BaseRow}
-use Rattle.mx_typed_rows.specs.declared.rows.TotalRow.{TotalRow}
-use Rattle.mx_typed_rows.specs.Rows.{FitsAircraft, FitsBase, FitsComponent, FitsDeferral, FitsOpening, FitsRelease, FitsReleaseLine, FitsSector, FitsSpan, FitsTotal}
+use Rattle.mx_base.specs.declared.rows.rows.BaseRow.{BaseRow}
+use Rattle.mx_base.specs.declared.rows.rows.TotalRow.{TotalRow}
+use Rattle.mx_base.specs.rows.Rows.{FitsAircraft, FitsBase, FitsComponent, FitsDeferral, FitsOpening, FitsRelease, FitsReleaseLine, FitsSector, FitsSpan, FitsTotal}
 use Rattle.mx_register.specs.Registers.{sector_rows}
 use Rattle.mx_kept_rows.specs.Bases.{base_rows}
 use Rattle.mx_kept_rows.specs.Fits.{FitRegisters}
@@ -21,7 +21,7 @@ use Rattle.mx_kept_rows.specs.Totals.{total_row, total_rows}
 use Rattle.mx_kept_rows.proofs.BaseFits.{bases_fit}
 use Rattle.mx_kept_rows.proofs.FitLemmas.{totals_fit}
 use Rattle.mx_kept_rows.proofs.SpanFits.{fittings_fit, removals_fit}
-use Rattle.mx_point.specs.declared.point.Point.{Point}
+use Rattle.mx_base.specs.declared.point.Point.{Point}
 use Rattle.mx_points.specs.Moves.{last_moved, totals_next}
 use Rattle.mx_points.specs.Points.{moving, next_mark, next_point}
 use Rattle.mx_points.specs.Tables.{bases_2, rows_at, sectors_2, spans_2, stands_there, totals_2}

@@ -2,8 +2,8 @@
 ghost use Rattle.std.specs.Prelude.{◌≡◌, ◌≢◌, ⊤, ℕ, true, List, [], ◌∷◌, Some, None, IsPermutation};
 ghost use Rattle.sqlite.specs.Tree.{Trees};
 ghost use Rattle.mx_command.specs.Act.{Entry};
-ghost use Rattle.mx_point.specs.Settled.{settled};
-ghost use Rattle.mx_point.specs.declared.point.Point.{Point};
+ghost use Rattle.mx_base.specs.Settled.{settled};
+ghost use Rattle.mx_base.specs.declared.point.Point.{Point};
 ghost use Rattle.mx_points.specs.Moves.{totals_next};
 ghost use Rattle.mx_points.specs.Points.{is_on_way, moving, next_mark, next_point};
 ghost use Rattle.mx_layout.specs.TableName.{TableName};
@@ -12,8 +12,8 @@ ghost use Rattle.mx_steps.specs.Components.{IsComponentOff, MovesComponent};
 ghost use Rattle.mx_steps.specs.Sectors.{IsOldOff, MovesSectors};
 ghost use Rattle.mx_steps.specs.Tables.{ChangesToSpans, ChangesToTotals, Finishes, IsLeftOver, IsUnmoved, MakesBases, MakesSectors};
 ghost use Rattle.mx_steps.specs.Written.{WritesBases, WritesTotal, bases_of};
-ghost use Rattle.mx_typed_rows.specs.declared.rows.BaseRow.{BaseRow};
-ghost use Rattle.mx_typed_rows.specs.declared.rows.TotalRow.{TotalRow};
+ghost use Rattle.mx_base.specs.declared.rows.rows.BaseRow.{BaseRow};
+ghost use Rattle.mx_base.specs.declared.rows.rows.TotalRow.{TotalRow};
 
 /// Where the new table of sectors is made in tables settled at layout 1 that stand for a book, they stand for it at the
 /// next point.

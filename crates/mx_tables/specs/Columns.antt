@@ -5,7 +5,7 @@ use Rattle.sqlite.specs.declared.types.Value.TheVariants.{Int}
 use Rattle.sqlite.specs.Order.{Row, column}
 use Rattle.mx_base.specs.declared.amounts.Limit.{Limit}
 use Rattle.mx_base.specs.declared.category.Category.{Category}
-use Rattle.mx_typed_rows.specs.Rows.{category_number, days_stated}
+use Rattle.mx_base.specs.rows.Rows.{category_number, days_stated}
 use Rattle.mx_kept.specs.Values.{number_or_null}
 
 -- the values in the first so many columns of a row

@@ -2,8 +2,8 @@
 ghost use Rattle.std.specs.Prelude.{◌≡◌, ◌≢◌, ◌<◌, pos, length, MatchOption};
 ghost use Rattle.sqlite.specs.declared.types.Value.TheVariants.{Int};
 ghost use Rattle.sqlite.specs.Order.{column};
-ghost use Rattle.mx_typed_rows.specs.Rows.{kind_number};
-ghost use Rattle.mx_typed_rows.specs.declared.rows.EntryKind.{EntryKind};
+ghost use Rattle.mx_base.specs.rows.Rows.{kind_number};
+ghost use Rattle.mx_base.specs.declared.rows.rows.EntryKind.{EntryKind};
 
 use crate::prelude::*;
 

@@ -15,7 +15,7 @@
 //!
 //! # To add a table
 //!
-//! For a table whose row type stands in `mx_typed_rows` with its `Fits`. Its key is its first column, an
+//! For a table whose row type stands in `mx_base::rows` with its `Fits`. Its key is its first column, an
 //! `INTEGER PRIMARY KEY`, or its first two, a `PRIMARY KEY` of both. Where no layout has it, first `mx_layout`:
 //! `Table`, its name, `table_named`; its columns and tree, and the schema of its layout; its text in `step_text` and
 //! `CreateTexts`; its statement in `steps` and `step_texts`, and what that makes, in `StepLemmas`; `by_tree` of

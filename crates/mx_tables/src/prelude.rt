@@ -5,10 +5,10 @@ pub(crate) use crate::column::{
     moment_or_null_at, number_at, number_or_null_at, tail_at, written_moment_at,
 };
 pub(crate) use crate::stored::{Stored, Texts};
-pub(crate) use mx_layout::Table;
-pub(crate) use mx_typed_rows::{
+pub(crate) use mx_base::rows::{
     AircraftRow, BaseRow, ComponentRow, DeferralRow, EntryKind, EntryRow, ExtensionRow, FittingRow,
     OpeningRow, PlaceRow, ProgrammeRow, ReleaseLineRow, ReleaseRow, RemovalRow, Sector2Row,
     SectorRow, SpanRow, TaskRow, TotalRow,
 };
+pub(crate) use mx_layout::Table;
 pub(crate) use sqlite::Row;

@@ -4,7 +4,7 @@ use Rattle.std.specs.Prelude.{IsErrAnd, IsSorted}
 use Rattle.std.proofs.lemmas.List.Sorted.{IsPermutation-sym, Contains-permutation}
 use Rattle.sqlite.specs.declared.types.Value.TheVariants.{Int}
 use Rattle.sqlite.specs.State.{State}
-use Rattle.mx_typed_rows.specs.declared.rows.SpanRow.{SpanRow}
+use Rattle.mx_base.specs.declared.rows.rows.SpanRow.{SpanRow}
 use Rattle.mx_layout.specs.declared.fault.TableFault.{TableFault}
 use Rattle.mx_layout.specs.declared.fault.TableFault.TheVariants.{Memory}
 use Rattle.mx_layout.specs.Contents.{rows_in}

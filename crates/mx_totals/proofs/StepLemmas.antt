@@ -12,7 +12,7 @@ use Rattle.sqlite.specs.Tree.{Trees}
 use Rattle.sqlite.specs.Effect.{Database}
 use Rattle.sqlite.specs.State.{State, HasCleanDisk}
 use Rattle.mx_base.specs.declared.amounts.Use.{Use}
-use Rattle.mx_typed_rows.specs.declared.rows.TotalRow.{TotalRow}
+use Rattle.mx_base.specs.declared.rows.rows.TotalRow.{TotalRow}
 use Rattle.mx_layout.specs.declared.fault.TableFault.{TableFault}
 use Rattle.mx_layout.specs.declared.fault.TableFault.TheVariants.{Memory}
 use Rattle.mx_layout.specs.declared.fault.Table.TheVariants.{Total2}

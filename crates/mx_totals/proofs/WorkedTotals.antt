@@ -7,7 +7,7 @@ use Rattle.sqlite_sql.specs.Ops.{binary}
 use Rattle.sqlite_value.specs.Order.{value_cmp}
 use lib.Ieee.{is_nan, lt}
 use Rattle.mx_base.specs.declared.amounts.Use.{Use}
-use Rattle.mx_typed_rows.specs.declared.rows.TotalRow.{TotalRow}
+use Rattle.mx_base.specs.declared.rows.rows.TotalRow.{TotalRow}
 use Rattle.mx_layout.specs.declared.fault.Table.TheVariants.{Total2, Base2}
 use Rattle.mx_layout.specs.declared.fault.TableFault.TheVariants.{Store, Damaged}
 use Rattle.mx_totals.specs.declared.lives.Total.{Total}

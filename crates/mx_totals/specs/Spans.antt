@@ -2,7 +2,7 @@
 use Rattle.std.specs.Prelude.{◌≡◌, ℕ, pos, List, ◌∷◌, map, filter, All, IsPermutation, IsSorted}
 use Rattle.sqlite.specs.declared.types.Value.TheVariants.{Int}
 use Rattle.sqlite.specs.Order.{Row}
-use Rattle.mx_typed_rows.specs.declared.rows.SpanRow.{SpanRow}
+use Rattle.mx_base.specs.declared.rows.rows.SpanRow.{SpanRow}
 use Rattle.mx_kept.specs.Cells.{kept_span2}
 use Rattle.mx_layout.specs.Reading.{HasOther}
 use Rattle.mx_kept.specs.Family.{IsReadableAs}

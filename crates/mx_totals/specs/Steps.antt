@@ -2,7 +2,7 @@
 use Rattle.std.specs.Prelude.{◌≡◌, ◌⊎◌, ℕ, List, Any, Result, Err, OnOk, IfOk, IfErr, IsTrue}
 use Rattle.sqlite.specs.State.{State, HasCleanDisk, IsUnchanged, KeepsCounts}
 use Rattle.mx_base.specs.declared.amounts.Use.{Use}
-use Rattle.mx_typed_rows.specs.declared.rows.TotalRow.{TotalRow}
+use Rattle.mx_base.specs.declared.rows.rows.TotalRow.{TotalRow}
 use Rattle.mx_layout.specs.declared.fault.TableFault.{TableFault}
 use Rattle.mx_layout.specs.declared.fault.TableFault.TheVariants.{Memory, Store, Damaged}
 use Rattle.mx_layout.specs.declared.fault.Table.TheVariants.{Total2}

@@ -6,7 +6,7 @@ use Rattle.sqlite.specs.declared.types.Value.TheVariants.{Int}
 use Rattle.sqlite.specs.Order.{Row}
 use Rattle.mx_base.specs.declared.amounts.Use.{Use}
 use Rattle.mx_due.specs.Due.{IsLife}
-use Rattle.mx_typed_rows.specs.declared.rows.TotalRow.{TotalRow}
+use Rattle.mx_base.specs.declared.rows.rows.TotalRow.{TotalRow}
 use Rattle.mx_kept.specs.Cells.{kept_total2}
 use Rattle.mx_chosen.specs.Choices.{has_value}
 use Rattle.mx_totals.specs.declared.lives.Total.{Total}

@@ -10,9 +10,9 @@ ghost use Rattle.mx_totals.specs.Bases.{is_of_task};
 use crate::in_place;
 use crate::single::one_or_none;
 use mx_base::TaskId;
+use mx_base::rows::BaseRow;
 use mx_chosen::kept::base2_by_item_and_task;
 use mx_layout::{Table, TableFault};
-use mx_typed_rows::BaseRow;
 use sqlite::{Alter, Transaction};
 use std::alloc::Global;
 

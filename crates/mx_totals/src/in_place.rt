@@ -9,10 +9,10 @@ ghost use Rattle.mx_chosen.specs.Choices.{has_value};
 ghost use Rattle.mx_chosen.specs.Lookups.{Deletes};
 ghost use Rattle.mx_totals.specs.InPlace.{ReplacesRows};
 
+use mx_base::rows::{BaseRow, SpanRow, TotalRow};
 use mx_chosen::chosen::delete_rows;
 use mx_inserts::Insert;
 use mx_layout::TableFault;
-use mx_typed_rows::{BaseRow, SpanRow, TotalRow};
 use sqlite::types::ValueRef;
 use sqlite::{Alter, Transaction, params};
 

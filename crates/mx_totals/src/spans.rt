@@ -12,10 +12,10 @@ ghost use Rattle.mx_totals.specs.Spans.{ended, fitted_by, AreFitted, HasOtherFit
 
 use crate::in_place::set_span2;
 use crate::single::only;
+use mx_base::rows::SpanRow;
 use mx_base::{Moment, Position};
 use mx_chosen::kept::{open_spans_by_aircraft, open_spans_by_component};
 use mx_layout::{Table, TableFault};
-use mx_typed_rows::SpanRow;
 use sqlite::{Alter, Transaction};
 use std::alloc::{AllocError, Global};
 

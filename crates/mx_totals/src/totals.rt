@@ -13,11 +13,11 @@ ghost use Rattle.mx_totals.specs.Steps.{ReadsTotals, PutsTotals};
 use crate::in_place::set_total;
 use crate::lives::{Total, life_with};
 use crate::single::only;
+use mx_base::rows::TotalRow;
 use mx_base::{Moment, Use};
 use mx_chosen::kept::total2_by_item;
 use mx_inserts::Insert;
 use mx_layout::{Table, TableFault};
-use mx_typed_rows::TotalRow;
 use sqlite::{Alter, Transaction};
 use std::alloc::Global;
 

@@ -1,7 +1,7 @@
 -- What becomes of a file that is moved to the newest layout.
 use Rattle.std.specs.Prelude.{ℕ, Result}
 use Rattle.sqlite.specs.State.{State}
-use Rattle.mx_point.specs.declared.point.Point.{Point}
+use Rattle.mx_base.specs.declared.point.Point.{Point}
 use Rattle.mx_faults.specs.declared.moving.MoveFault.{MoveFault}
 use Rattle.mx_settle.specs.Settles.{Settles}
 

@@ -3,20 +3,20 @@ use Rattle.std.proofs.Common.{◌+◌, Bool, List, [], length, sym, subst}
 use Rattle.std.specs.Prelude.{◌≢◌, Result, Ok, Err, IfOk, IsPermutation}
 use Rattle.mx_command.specs.Act.{Entry}
 use Rattle.mx_book.specs.Book.{IsBook}
-use Rattle.mx_typed_rows.specs.Rows.{place_key, release_line_key, task_key}
-use Rattle.mx_typed_rows.specs.declared.rows.AircraftRow.{AircraftRow}
-use Rattle.mx_typed_rows.specs.declared.rows.BaseRow.{BaseRow}
-use Rattle.mx_typed_rows.specs.declared.rows.ComponentRow.{ComponentRow}
-use Rattle.mx_typed_rows.specs.declared.rows.DeferralRow.{DeferralRow}
-use Rattle.mx_typed_rows.specs.declared.rows.EntryRow.{EntryRow}
-use Rattle.mx_typed_rows.specs.declared.rows.EntryKind.{EntryKind}
-use Rattle.mx_typed_rows.specs.declared.rows.ExtensionRow.{ExtensionRow}
-use Rattle.mx_typed_rows.specs.declared.rows.OpeningRow.{OpeningRow}
-use Rattle.mx_typed_rows.specs.declared.rows.ProgrammeRow.{ProgrammeRow}
-use Rattle.mx_typed_rows.specs.declared.rows.ReleaseRow.{ReleaseRow}
-use Rattle.mx_typed_rows.specs.declared.rows.SectorRow.{SectorRow}
-use Rattle.mx_typed_rows.specs.declared.rows.SpanRow.{SpanRow}
-use Rattle.mx_typed_rows.specs.declared.rows.TotalRow.{TotalRow}
+use Rattle.mx_base.specs.rows.Rows.{place_key, release_line_key, task_key}
+use Rattle.mx_base.specs.declared.rows.rows.AircraftRow.{AircraftRow}
+use Rattle.mx_base.specs.declared.rows.rows.BaseRow.{BaseRow}
+use Rattle.mx_base.specs.declared.rows.rows.ComponentRow.{ComponentRow}
+use Rattle.mx_base.specs.declared.rows.rows.DeferralRow.{DeferralRow}
+use Rattle.mx_base.specs.declared.rows.rows.EntryRow.{EntryRow}
+use Rattle.mx_base.specs.declared.rows.rows.EntryKind.{EntryKind}
+use Rattle.mx_base.specs.declared.rows.rows.ExtensionRow.{ExtensionRow}
+use Rattle.mx_base.specs.declared.rows.rows.OpeningRow.{OpeningRow}
+use Rattle.mx_base.specs.declared.rows.rows.ProgrammeRow.{ProgrammeRow}
+use Rattle.mx_base.specs.declared.rows.rows.ReleaseRow.{ReleaseRow}
+use Rattle.mx_base.specs.declared.rows.rows.SectorRow.{SectorRow}
+use Rattle.mx_base.specs.declared.rows.rows.SpanRow.{SpanRow}
+use Rattle.mx_base.specs.declared.rows.rows.TotalRow.{TotalRow}
 use Rattle.mx_register.specs.Registers.{aircraft_rows, component_rows, deferral_rows, entry_rows, extension_rows, opening_rows, place_rows, programme_rows, release_line_rows, release_rows, sector_rows, task_rows}
 use Rattle.mx_kept_rows.specs.Bases.{base_rows}
 use Rattle.mx_kept_rows.specs.Spans.{span_rows}

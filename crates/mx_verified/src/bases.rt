@@ -2,19 +2,19 @@
 ghost use Rattle.std.specs.Prelude.{◌≡◌, ◌&&◌, IfOk, MatchOption, IsPermutation};
 ghost use Rattle.std.specs.Bool.{Decides};
 ghost use Rattle.std.specs.List.{list_all};
-ghost use Rattle.mx_typed_rows.specs.Rows.{base_in_row};
+ghost use Rattle.mx_base.specs.rows.Rows.{base_in_row};
 ghost use Rattle.mx_register.specs.Registers.{opening_rows, release_line_rows};
 ghost use Rattle.mx_kept_rows.specs.Bases.{AreKeyedOnce, base_rows};
 ghost use Rattle.mx_merged.specs.Keys.{AreKeys};
 ghost use Rattle.mx_verified.specs.Bases.{has_certified, has_stated};
 ghost use Rattle.mx_file_rows.specs.Bases.{is_last_base, same_base};
 
+use mx_base::rows::{BaseRow, OpeningRow, ReleaseLineRow};
 use mx_base::{Base, TaskId};
 use mx_entry_list::NoMemory;
 use mx_indexed::IndexedBook;
 use mx_indexes::maps::held;
 use mx_plain_register::item_of_entry;
-use mx_typed_rows::{BaseRow, OpeningRow, ReleaseLineRow};
 use std::alloc::Global;
 use std::collections::BTreeMap;
 

@@ -2,7 +2,7 @@
 ghost use Rattle.std.specs.Prelude.{◌≡◌};
 ghost use Rattle.std.specs.Bool.{Decides};
 
-use mx_typed_rows::{BaseRow, SpanRow, TotalRow};
+use mx_base::rows::{BaseRow, SpanRow, TotalRow};
 
 /// A row that is compared with another.
 pub trait Compared: Copy {

@@ -7,9 +7,9 @@ ghost use Rattle.mx_merged.specs.Merging.{merging};
 ghost use Rattle.mx_file_rows.specs.Tables.{AreFilePut, AreTablesOf};
 
 use crate::verified::{Unverified, verify_rows};
+use mx_base::rows::EntryKind;
 use mx_file_rows::{FileRows, put_in_order};
 use mx_merged::NoBook;
-use mx_typed_rows::EntryKind;
 use std::alloc::Global;
 
 /// Whether the rows of the tables of a file, each table's in any order, are those of a book; which fittings and removals

@@ -13,12 +13,12 @@ ghost use Rattle.mx_verified.specs.Verified.{AreRowsOf, HasKeptRows};
 
 use crate::bases::are_bases;
 use crate::same::are_same;
+use mx_base::rows::EntryKind;
 use mx_entry_list::NoMemory;
 use mx_file_rows::FileRows;
 use mx_file_rows::spans::spans_made;
 use mx_indexed::IndexedBook;
 use mx_merged::{NoBook, merge_beside_maps, total_rows};
-use mx_typed_rows::EntryKind;
 use std::alloc::Global;
 
 /// Why it was not found out whether rows are those of a book.

@@ -1,7 +1,7 @@
 -- When a table is damaged, whatever rows stand there.
 use Rattle.std.specs.Prelude.{◌≡◌, ◌≢◌, ◌⊎◌, [], Err}
 use Rattle.sqlite.specs.Tree.{Trees}
-use Rattle.mx_typed_rows.specs.declared.rows.EntryKind.{EntryKind}
+use Rattle.mx_base.specs.declared.rows.rows.EntryKind.{EntryKind}
 use Rattle.mx_register.specs.Left.{all_rows}
 use Rattle.mx_layout.specs.TableName.{TableName}
 use Rattle.mx_layout.specs.Tables.{office}

@@ -2,11 +2,11 @@
 ghost use Rattle.std.specs.Prelude.{◌≡◌};
 ghost use Rattle.mx_writing.specs.Pairs.{added_in_pairs};
 
-use mx_changes::AddedRows;
-use mx_typed_rows::{
+use mx_base::rows::{
     AircraftRow, ComponentRow, DeferralRow, ExtensionRow, OpeningRow, PlaceRow, ProgrammeRow,
     ReleaseLineRow, ReleaseRow, Sector2Row, SpanRow, TaskRow, TotalRow,
 };
+use mx_changes::AddedRows;
 
 /// The last of the pairs: what was flown, the spans and the totals.
 pub(crate) type FlownPairs = (Vec<Sector2Row>, (Vec<SpanRow>, Vec<TotalRow>));

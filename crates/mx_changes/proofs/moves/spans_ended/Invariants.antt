@@ -1,5 +1,5 @@
 use Rattle.std.proofs.Common.{◌≡◌, take, map, All}
-use Rattle.mx_typed_rows.specs.Rows.{FitsSpan}
+use Rattle.mx_base.specs.rows.Rows.{FitsSpan}
 use Rattle.mx_changes.specs.Kept.{span_removed}
 use Rattle.mx_changes.proofs.moves.spans_ended.Given as goal
 

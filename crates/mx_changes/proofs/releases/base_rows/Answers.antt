@@ -2,7 +2,7 @@ use Rattle.std.proofs.Common.{◌∙◌, ◌≡◌, ◌+◌, ◌<◌, suc, get_o
 use Rattle.std.specs.List.{filter_map, cons_option}
 use Rattle.std.proofs.Math.Seq.{take-suc}
 use Rattle.std.proofs.lemmas.List.Elements.{All-append, All-cons, All-nil}
-use Rattle.mx_typed_rows.specs.Rows.{FitsBase}
+use Rattle.mx_base.specs.rows.Rows.{FitsBase}
 use Rattle.mx_changes.specs.Certified.{base_made}
 use Rattle.mx_changes.proofs.CertifiedLemmas.{base_more}
 use Rattle.mx_changes.proofs.releases.base_rows.Goals as goal

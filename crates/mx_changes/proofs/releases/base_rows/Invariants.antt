@@ -1,6 +1,6 @@
 use Rattle.std.proofs.Common.{◌≡◌, take, All}
 use Rattle.std.specs.List.{filter_map}
-use Rattle.mx_typed_rows.specs.Rows.{FitsBase}
+use Rattle.mx_base.specs.rows.Rows.{FitsBase}
 use Rattle.mx_changes.specs.Certified.{base_made}
 use Rattle.mx_changes.proofs.releases.base_rows.Given as goal
 

@@ -1,5 +1,5 @@
 use Rattle.std.proofs.Common.{◌≡◌, take, map, All}
-use Rattle.mx_typed_rows.specs.Rows.{FitsTotal}
+use Rattle.mx_base.specs.rows.Rows.{FitsTotal}
 use Rattle.mx_changes.specs.Kept.{total_clocked}
 use Rattle.mx_changes.proofs.totals.clocked_totals.Given as goal
 

@@ -2,7 +2,7 @@ use Rattle.std.proofs.Common.{◌∙◌, ◌≡◌, ◌+◌, ◌<◌, suc, get_o
 use Rattle.std.proofs.Math.Seq.{take-suc}
 use Rattle.std.proofs.lemmas.List.{map-append}
 use Rattle.std.proofs.lemmas.List.Elements.{All-append, All-cons, All-nil}
-use Rattle.mx_typed_rows.specs.Rows.{FitsTotal}
+use Rattle.mx_base.specs.rows.Rows.{FitsTotal}
 use Rattle.mx_changes.specs.Kept.{total_flown}
 use Rattle.mx_changes.proofs.totals.flown_totals.Goals as goal
 

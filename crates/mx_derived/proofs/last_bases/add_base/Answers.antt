@@ -1,5 +1,5 @@
 use Rattle.std.proofs.Common.{List, [], ◌∷◌, ◌++◌, sym, subst, ◌∙◌}
-use Rattle.mx_typed_rows.specs.declared.rows.BaseRow.{BaseRow}
+use Rattle.mx_base.specs.declared.rows.rows.BaseRow.{BaseRow}
 use Rattle.mx_merged.specs.Keys.{AreKeys}
 use Rattle.mx_derived.specs.Kept.{AreBasesAt}
 use Rattle.mx_derived.proofs.KeptLemmas.{has_none, met_before, one_base}

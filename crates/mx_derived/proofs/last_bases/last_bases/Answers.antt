@@ -1,6 +1,6 @@
 use Rattle.std.proofs.Common.{[], List, ◌∙◌, subst, sym}
 use Rattle.mx_book.specs.Book.{IsBook}
-use Rattle.mx_typed_rows.specs.declared.rows.BaseRow.{BaseRow}
+use Rattle.mx_base.specs.declared.rows.rows.BaseRow.{BaseRow}
 use Rattle.mx_merged.specs.Keys.{AreKeys}
 use Rattle.mx_derived.specs.Kept.{AreBasesAt}
 use Rattle.mx_derived.proofs.KeptLemmas.{gathered, none_yet}

@@ -1,5 +1,5 @@
 use Rattle.std.proofs.Common.{[], ◌∷◌, ◌++◌, ap, ◌∙◌}
-use Rattle.mx_typed_rows.specs.declared.rows.SpanRow.{SpanRow}
+use Rattle.mx_base.specs.declared.rows.rows.SpanRow.{SpanRow}
 use Rattle.mx_file_rows.specs.Spans.{span_by}
 use Rattle.mx_file_rows.proofs.WalkLemmas.{makes, starts, takes, walked}
 use Rattle.mx_file_rows.proofs.spans.spans_made.Goals as goal

@@ -3,7 +3,7 @@ use Rattle.std.specs.List.{list_all, list_any}
 use Rattle.mx_command.specs.Programme.{task_shape}
 use Rattle.mx_book.proofs.JudgeLemmas.{both_true}
 use Rattle.mx_register.specs.Merge.{task_said}
-use Rattle.mx_typed_rows.specs.declared.rows.TaskRow.{TaskRow}
+use Rattle.mx_base.specs.declared.rows.rows.TaskRow.{TaskRow}
 use Rattle.mx_found.specs.Programmes.{retires}
 use Rattle.mx_found.proofs.programmes.is_retired_in.Goals as goal
 

@@ -1,6 +1,6 @@
 use Rattle.std.proofs.Common.{◌+◌, [], ◌∷◌, sym, ap, subst, ◌∙◌}
 use Rattle.sqlite.specs.Held.{state}
-use Rattle.mx_typed_rows.specs.Pairs.{rows_in_pairs}
+use Rattle.mx_base.specs.rows.Pairs.{rows_in_pairs}
 use Rattle.mx_register.specs.Added.{AreAddedRows}
 use Rattle.mx_register.specs.Registers.{entry_row}
 use Rattle.mx_kept.specs.Cells.{kept_entry}

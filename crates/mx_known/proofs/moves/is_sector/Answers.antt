@@ -1,6 +1,6 @@
 use Rattle.std.proofs.Common.{[], ◌∷◌, map, ap, ◌∙◌, inr}
 use Rattle.mx_command.specs.Act.{Flown}
-use Rattle.mx_typed_rows.specs.declared.rows.Sector2Row.{Sector2Row}
+use Rattle.mx_base.specs.declared.rows.rows.Sector2Row.{Sector2Row}
 use Rattle.mx_register.specs.Names.{or_zero, seq_of_tail}
 use Rattle.mx_register.specs.Registers.{sector_row}
 use Rattle.mx_found.specs.Given as registers

@@ -4,7 +4,7 @@ use Rattle.std.specs.Option.{option_map}
 use Rattle.mx_command.specs.Programme.{task_shape}
 use Rattle.mx_layout.specs.declared.fault.Table.TheVariants as table
 use Rattle.mx_register.specs.Merge.{task_said}
-use Rattle.mx_typed_rows.specs.declared.rows.TaskRow.{TaskRow}
+use Rattle.mx_base.specs.declared.rows.rows.TaskRow.{TaskRow}
 use Rattle.mx_found.specs.Programmes.{programme_number, programmes_of, tasks_with}
 use Rattle.mx_found.proofs.ProgrammeLemmas.{tasks_shaped}
 use Rattle.mx_numbers.proofs.AnyLemmas.{any_later, gives}

@@ -4,7 +4,7 @@ use Rattle.std.specs.Option.{option_map}
 use Rattle.sqlite.specs.declared.types.Value.TheVariants.{Int}
 use Rattle.mx_command.specs.Act.{Entry}
 use Rattle.mx_register.specs.Registers.{deferral_rows}
-use Rattle.mx_typed_rows.specs.declared.rows.DeferralRow.{DeferralRow}
+use Rattle.mx_base.specs.declared.rows.rows.DeferralRow.{DeferralRow}
 use Rattle.mx_found.specs.Defects.{defect_said, is_rectified_at, open_said}
 use Rattle.mx_found.specs.Names.{doc_at}
 use Rattle.mx_found.proofs.OpenDefectLemmas.{entries_there}

@@ -3,7 +3,7 @@ use Rattle.std.specs.Prelude.{is_some}
 use Rattle.std.specs.Option.{option_map}
 use Rattle.sqlite.specs.declared.types.Value.TheVariants.{Int}
 use Rattle.mx_command.specs.Act.{Entry}
-use Rattle.mx_typed_rows.specs.declared.rows.SpanRow.{SpanRow}
+use Rattle.mx_base.specs.declared.rows.rows.SpanRow.{SpanRow}
 use Rattle.mx_kept_rows.specs.Spans.{span_rows}
 use Rattle.mx_found.specs.Spans.{is_open_at, place_said}
 use Rattle.mx_found.proofs.FittedLemmas.{components_there}

@@ -1,5 +1,5 @@
 use Rattle.std.proofs.Common.{◌≡◌, map, take}
-use Rattle.mx_typed_rows.specs.declared.rows.Sector2Row.{Sector2Row}
+use Rattle.mx_base.specs.declared.rows.rows.Sector2Row.{Sector2Row}
 use Rattle.mx_migrate.proofs.sectors.as_numbered.Given as goal
 
 -- the rows so far are there

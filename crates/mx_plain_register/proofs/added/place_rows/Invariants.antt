@@ -1,6 +1,6 @@
 use Rattle.std.proofs.Common.{◌≡◌, ◌+◌, ◌++◌, length, All}
 use Rattle.mx_command.specs.Act.{positions_of}
-use Rattle.mx_typed_rows.specs.Rows.{FitsPlace}
+use Rattle.mx_base.specs.rows.Rows.{FitsPlace}
 use Rattle.mx_register.specs.Lines.{lines_from}
 use Rattle.mx_register.specs.Registers.{place_row}
 use Rattle.mx_plain_register.proofs.added.place_rows.Given as goal

@@ -1,6 +1,6 @@
 use Rattle.std.proofs.Common.{◌≡◌, ◌+◌, ◌++◌, length, All}
 use Rattle.mx_command.specs.Act.{lines_of}
-use Rattle.mx_typed_rows.specs.Rows.{FitsReleaseLine}
+use Rattle.mx_base.specs.rows.Rows.{FitsReleaseLine}
 use Rattle.mx_register.specs.Lines.{lines_from}
 use Rattle.mx_register.specs.Registers.{release_line_row}
 use Rattle.mx_plain_register.proofs.added.release_line_rows.Given as goal

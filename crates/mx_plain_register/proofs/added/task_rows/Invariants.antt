@@ -1,6 +1,6 @@
 use Rattle.std.proofs.Common.{◌≡◌, ◌+◌, ◌++◌, length, All}
 use Rattle.mx_command.specs.Act.{tasks_of}
-use Rattle.mx_typed_rows.specs.Rows.{FitsTask}
+use Rattle.mx_base.specs.rows.Rows.{FitsTask}
 use Rattle.mx_register.specs.Lines.{lines_from}
 use Rattle.mx_register.specs.Registers.{task_row}
 use Rattle.mx_plain_register.proofs.added.task_rows.Given as goal

@@ -1,6 +1,6 @@
 use Rattle.std.proofs.Common.{refl}
 use Rattle.mx_points.specs.Commits.{commits_of_move}
-use Rattle.mx_point.specs.Settled.{settled}
+use Rattle.mx_base.specs.Settled.{settled}
 use Rattle.mx_points.proofs.ReachLemmas.{from_first, reach}
 use Rattle.mx_points.proofs.laws.a_move_takes_so_many_commits.Goals as goal
 

@@ -1,5 +1,5 @@
 use Rattle.std.proofs.Common.{arith}
-use Rattle.mx_point.specs.Settled.{settled}
+use Rattle.mx_base.specs.Settled.{settled}
 use Rattle.mx_points.proofs.EndLemmas.{tables_stay}
 use Rattle.mx_points.proofs.moves.a_commit_ends_a_step.Goals as goal
 

@@ -1,7 +1,7 @@
 use Rattle.std.proofs.Common.{◌≡◌, length, not, vec_len, Vec, arith}
 use Rattle.std.specs.declared.alloc.Global.{Global}
 use Rattle.sqlite.specs.Held.{state}
-use Rattle.mx_typed_rows.specs.declared.rows.SectorRow.{SectorRow}
+use Rattle.mx_base.specs.declared.rows.rows.SectorRow.{SectorRow}
 use Rattle.mx_settle.proofs.FrontLemmas.{left_of, left_read, left_stops}
 use Rattle.mx_settle.proofs.front.is_sector_left.Goals as goal
 

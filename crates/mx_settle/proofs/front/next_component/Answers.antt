@@ -2,7 +2,7 @@ use Rattle.std.proofs.Common.{rules, ◌≡◌, ◌∙◌, slice_get, sym, ap, s
 use Rattle.std.specs.Option.{option_map}
 use Rattle.std.specs.declared.alloc.Global.{Global}
 use Rattle.sqlite.specs.Held.{state}
-use Rattle.mx_typed_rows.specs.declared.rows.ComponentRow.{ComponentRow}
+use Rattle.mx_base.specs.declared.rows.rows.ComponentRow.{ComponentRow}
 use Rattle.mx_layout.specs.declared.fault.Table.TheVariants as table
 use Rattle.mx_kept.specs.Cells.{kept_component}
 use Rattle.mx_settle.specs.Choices.{FindsNext, next_checked}

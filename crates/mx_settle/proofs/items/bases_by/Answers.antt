@@ -1,5 +1,5 @@
 use Rattle.std.proofs.Common.{rules, ◌≡◌, ◌∙◌, filter, nat_eq, Some, refl, ap, subst}
-use Rattle.mx_typed_rows.specs.declared.rows.BaseRow.{BaseRow}
+use Rattle.mx_base.specs.declared.rows.rows.BaseRow.{BaseRow}
 use Rattle.mx_settle.specs.declared.due.Due.TheVariants as due
 use Rattle.mx_settle.specs.Items.{IsBasesBy, next_total}
 use Rattle.mx_settle.proofs.items.bases_by.Goals as goal

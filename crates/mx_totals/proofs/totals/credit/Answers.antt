@@ -1,6 +1,6 @@
 use Rattle.std.proofs.Common.{List, subst}
 use Rattle.sqlite.specs.Held.{state}
-use Rattle.mx_typed_rows.specs.declared.rows.TotalRow.{TotalRow}
+use Rattle.mx_base.specs.declared.rows.rows.TotalRow.{TotalRow}
 use Rattle.mx_totals.specs.Steps.{PutsTotals}
 use Rattle.mx_totals.proofs.CreditLemmas.{no_two}
 use Rattle.mx_totals.proofs.StepLemmas.{read_then_put, totals_unread}

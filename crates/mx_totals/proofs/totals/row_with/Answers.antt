@@ -2,7 +2,7 @@ use Rattle.std.proofs.Common.{ap, subst}
 use Rattle.sqlite.specs.Held.{state}
 use Rattle.mx_due.specs.Due.{IsLife}
 use Rattle.mx_base.specs.declared.amounts.Use.{Use}
-use Rattle.mx_typed_rows.specs.declared.rows.TotalRow.{TotalRow}
+use Rattle.mx_base.specs.declared.rows.rows.TotalRow.{TotalRow}
 use Rattle.mx_kept.specs.Cells.{kept_total2}
 use Rattle.mx_kept.proofs.MovedLawful.{total2_lawful}
 use Rattle.mx_totals.specs.Single.{IsOnly, HasOne}

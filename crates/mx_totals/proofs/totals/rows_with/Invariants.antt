@@ -1,6 +1,6 @@
 use Rattle.std.proofs.Common.{◌≡◌, List, take, Ok}
 use Rattle.sqlite.specs.Held.{state}
-use Rattle.mx_typed_rows.specs.declared.rows.TotalRow.{TotalRow}
+use Rattle.mx_base.specs.declared.rows.rows.TotalRow.{TotalRow}
 use Rattle.mx_totals.specs.Steps.{ReadsTotals}
 use Rattle.mx_totals.proofs.totals.rows_with.Given as goal
 

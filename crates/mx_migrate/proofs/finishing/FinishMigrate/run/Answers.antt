@@ -1,6 +1,6 @@
 use Rattle.std.proofs.Common.{refl}
 use Rattle.sqlite.specs.Held.{state}
-use Rattle.mx_point.specs.Settled.{settled}
+use Rattle.mx_base.specs.Settled.{settled}
 use Rattle.mx_points.specs.Points.{moving}
 use Rattle.mx_moves.specs.Keeping.{point_set}
 use Rattle.mx_migrate.proofs.RunLemmas.{store_stops, writes_alone}

@@ -1,7 +1,7 @@
 use Rattle.std.proofs.Common.{◌≡◌, Result, sym, subst}
 use Rattle.sqlite.specs.Held.{state}
 use Rattle.sqlite.specs.State.{State}
-use Rattle.mx_point.specs.declared.point.Point.{Point}
+use Rattle.mx_base.specs.declared.point.Point.{Point}
 use Rattle.mx_layout.specs.declared.fault.TableFault.{TableFault}
 use Rattle.mx_migrate.specs.Steps.{Runs}
 use Rattle.mx_settle.specs.declared.due.Due.{Due}

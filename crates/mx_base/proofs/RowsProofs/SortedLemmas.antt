@@ -6,7 +6,7 @@ use Rattle.std.proofs.lemmas.List.Sorted.{All-permutation, sum_by-IsPermutation}
 use Rattle.std.proofs.lemmas.List.Elements.{All-cons, All-nil, All-weaker, recursion_from_All}
 use Rattle.std.proofs.lemmas.List.Sums.{sum_by-cons}
 use Rattle.std.proofs.lemmas.Bool.Decides.{nat_tests}
-use Rattle.mx_typed_rows.specs.Rising.{IsRising, IsFrom}
+use Rattle.mx_base.specs.rows.Rising.{IsRising, IsFrom}
 
 module _ {Row : Type 0} (key : Row → ℕ) where
   -- 1 for a row with this key, else 0

@@ -1,8 +1,8 @@
 //! The rows of every register but that of the entries, and the same rows in pairs.
 ghost use Rattle.std.specs.Prelude.{◌≡◌};
-ghost use Rattle.mx_typed_rows.specs.Pairs.{rows_in_pairs};
+ghost use Rattle.mx_base.specs.rows.Pairs.{rows_in_pairs};
 
-use crate::rows::{
+use crate::rows::rows::{
     AircraftRow, ComponentRow, DeferralRow, ExtensionRow, FittingRow, OpeningRow, PlaceRow,
     ProgrammeRow, ReleaseLineRow, ReleaseRow, RemovalRow, SectorRow, TaskRow,
 };

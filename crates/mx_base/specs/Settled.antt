@@ -1,6 +1,6 @@
 -- The points at which no move has begun.
 use Rattle.std.specs.Prelude.{ℕ}
-use Rattle.mx_point.specs.declared.point.Point.{Point}
+use Rattle.mx_base.specs.declared.point.Point.{Point}
 
 -- the point of a file that has a layout, where no move has begun
 abbrev pub settled : ℕ → Point

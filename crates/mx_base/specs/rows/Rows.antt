@@ -8,25 +8,25 @@ use Rattle.mx_base.specs.declared.amounts.Tolerance.{Tolerance}
 use Rattle.mx_base.specs.declared.amounts.Use.{Use}
 use Rattle.mx_base.specs.declared.category.Category.{Category}
 use Rattle.mx_base.specs.declared.category.Category.TheVariants.{A, B, C, D}
-use Rattle.mx_typed_rows.specs.declared.rows.EntryKind.{EntryKind}
-use Rattle.mx_typed_rows.specs.declared.rows.EntryKind.TheVariants.{AddAircraft, AddComponent, LoadProgramme, Opening, Sector, Fit, Remove, Release, Defer, Extend}
-use Rattle.mx_typed_rows.specs.declared.rows.EntryRow.{EntryRow}
-use Rattle.mx_typed_rows.specs.declared.rows.AircraftRow.{AircraftRow}
-use Rattle.mx_typed_rows.specs.declared.rows.PlaceRow.{PlaceRow}
-use Rattle.mx_typed_rows.specs.declared.rows.ComponentRow.{ComponentRow}
-use Rattle.mx_typed_rows.specs.declared.rows.SectorRow.{SectorRow}
-use Rattle.mx_typed_rows.specs.declared.rows.FittingRow.{FittingRow}
-use Rattle.mx_typed_rows.specs.declared.rows.RemovalRow.{RemovalRow}
-use Rattle.mx_typed_rows.specs.declared.rows.ProgrammeRow.{ProgrammeRow}
-use Rattle.mx_typed_rows.specs.declared.rows.TaskRow.{TaskRow}
-use Rattle.mx_typed_rows.specs.declared.rows.OpeningRow.{OpeningRow}
-use Rattle.mx_typed_rows.specs.declared.rows.ReleaseRow.{ReleaseRow}
-use Rattle.mx_typed_rows.specs.declared.rows.ReleaseLineRow.{ReleaseLineRow}
-use Rattle.mx_typed_rows.specs.declared.rows.DeferralRow.{DeferralRow}
-use Rattle.mx_typed_rows.specs.declared.rows.ExtensionRow.{ExtensionRow}
-use Rattle.mx_typed_rows.specs.declared.rows.SpanRow.{SpanRow}
-use Rattle.mx_typed_rows.specs.declared.rows.TotalRow.{TotalRow}
-use Rattle.mx_typed_rows.specs.declared.rows.BaseRow.{BaseRow}
+use Rattle.mx_base.specs.declared.rows.rows.EntryKind.{EntryKind}
+use Rattle.mx_base.specs.declared.rows.rows.EntryKind.TheVariants.{AddAircraft, AddComponent, LoadProgramme, Opening, Sector, Fit, Remove, Release, Defer, Extend}
+use Rattle.mx_base.specs.declared.rows.rows.EntryRow.{EntryRow}
+use Rattle.mx_base.specs.declared.rows.rows.AircraftRow.{AircraftRow}
+use Rattle.mx_base.specs.declared.rows.rows.PlaceRow.{PlaceRow}
+use Rattle.mx_base.specs.declared.rows.rows.ComponentRow.{ComponentRow}
+use Rattle.mx_base.specs.declared.rows.rows.SectorRow.{SectorRow}
+use Rattle.mx_base.specs.declared.rows.rows.FittingRow.{FittingRow}
+use Rattle.mx_base.specs.declared.rows.rows.RemovalRow.{RemovalRow}
+use Rattle.mx_base.specs.declared.rows.rows.ProgrammeRow.{ProgrammeRow}
+use Rattle.mx_base.specs.declared.rows.rows.TaskRow.{TaskRow}
+use Rattle.mx_base.specs.declared.rows.rows.OpeningRow.{OpeningRow}
+use Rattle.mx_base.specs.declared.rows.rows.ReleaseRow.{ReleaseRow}
+use Rattle.mx_base.specs.declared.rows.rows.ReleaseLineRow.{ReleaseLineRow}
+use Rattle.mx_base.specs.declared.rows.rows.DeferralRow.{DeferralRow}
+use Rattle.mx_base.specs.declared.rows.rows.ExtensionRow.{ExtensionRow}
+use Rattle.mx_base.specs.declared.rows.rows.SpanRow.{SpanRow}
+use Rattle.mx_base.specs.declared.rows.rows.TotalRow.{TotalRow}
+use Rattle.mx_base.specs.declared.rows.rows.BaseRow.{BaseRow}
 
 -- the number of a kind of entry, in the order of the commands
 abbrev pub kind_number : EntryKind → ℕ

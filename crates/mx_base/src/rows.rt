@@ -1,5 +1,4 @@
 //! The row of each table as a type: what its columns hold, and what fits them.
-#![tactic(auto)]
 
 pub mod register_rows;
 pub mod rows;

@@ -2,7 +2,7 @@
 //! column `aircraft`, `component` or `item` the number of the entry that added it, and a column `defect` that of the entry
 //! that deferred it.
 
-use mx_base::{
+use crate::{
     Category, Day, Doc, Kind, Limit, MelRef, Moment, Part, Position, Serial, Tail, TaskId,
     Tolerance, Use,
 };
