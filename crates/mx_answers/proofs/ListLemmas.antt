@@ -1,6 +1,6 @@
 -- What is printed of an answer of the office.
 use Rattle.std.proofs.Common.{◌≡◌, refl, sym, ap, ◌∙◌, inl, inr, ℕ, List, ◌++◌, Option, Some, None, Result, Ok, Err, OnOk, IfOk}
-use Rattle.mx_command.specs.Act.{Entry}
+use Rattle.mx_book.specs.commands.Act.{Entry}
 use Rattle.mx_book.specs.declared.verdict.Refusal.{Refusal}
 use Rattle.mx_book.specs.declared.verdict.Refusal.TheVariants.{UnknownAircraft}
 use Rattle.mx_book.specs.declared.verdict.Reply.TheVariants as reply

@@ -5,8 +5,8 @@ use Rattle.sqlite.specs.Schema.{Schema}
 use Rattle.sqlite.specs.Effect.{Database}
 use Rattle.sqlite.specs.State.{State, HasCleanDisk}
 use Rattle.sqlite.specs.Tree.{Trees}
-use Rattle.mx_command.specs.Act.{Entry}
-use Rattle.mx_command.specs.Shape.{has_shape}
+use Rattle.mx_book.specs.commands.Act.{Entry}
+use Rattle.mx_book.specs.commands.Shape.{has_shape}
 use Rattle.mx_book.specs.Run.{reply, reply_to}
 use Rattle.mx_book.specs.declared.verdict.Reply.{Reply}
 use Rattle.mx_book.specs.declared.verdict.Reply.TheVariants as answers

@@ -8,7 +8,7 @@ use Rattle.sqlite.specs.Tree.{Trees}
 use Rattle.sqlite_rules.specs.Lists.{Has}
 use Rattle.sqlite_rules.proofs.ListLemmas.{contains_had, has_contained, has_kept, has_right}
 use Rattle.sqlite_rules.proofs.ProbeLemmas.{has_mapped, mapped_has}
-use Rattle.mx_command.specs.Act.{Act, Entry, Flown, Fitted, Removed, Released, Deferred}
+use Rattle.mx_book.specs.commands.Act.{Act, Entry, Flown, Fitted, Removed, Released, Deferred}
 use Rattle.mx_base.specs.declared.rows.rows.SpanRow.{SpanRow}
 use Rattle.mx_base.specs.declared.rows.rows.TotalRow.{TotalRow}
 use Rattle.mx_changes.specs.Kept.{span_removed, total_clocked, total_credited, total_flown}

@@ -1,7 +1,7 @@
 -- What was asked of a command.
 use Rattle.std.specs.Prelude.{⊤, ◌≡◌, List}
 use Rattle.sqlite.specs.Tree.{Trees}
-use Rattle.mx_command.specs.Act.{Entry}
+use Rattle.mx_book.specs.commands.Act.{Entry}
 use Rattle.mx_book.specs.Judge.{judge}
 use Rattle.mx_book.specs.declared.verdict.Verdict.TheVariants as verdicts
 use Rattle.mx_changes.specs.Rows.{AreCommandRows}

@@ -2,7 +2,7 @@
 use Rattle.std.specs.Prelude.{◌≡◌, ℕ, pos, true, List, [], map, Contains}
 use Rattle.sqlite.specs.declared.types.Value.TheVariants.{Int}
 use Rattle.sqlite.specs.Order.{Row}
-use Rattle.mx_command.specs.Act.{Act, Removed}
+use Rattle.mx_book.specs.commands.Act.{Act, Removed}
 use Rattle.mx_base.specs.declared.rows.rows.BaseRow.{BaseRow}
 use Rattle.mx_layout.specs.TableName.{TableName}
 use Rattle.mx_layout.specs.declared.fault.Table.TheVariants as table

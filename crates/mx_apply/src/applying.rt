@@ -6,7 +6,7 @@ ghost use Rattle.mx_apply.specs.Applies.{Applies, HasOneCommit, Runs};
 
 use crate::judged::{Judged, verdict_and_rows};
 use mx_book::Reply;
-use mx_command::Command;
+use mx_book::commands::Command;
 use mx_layout::TableFault;
 use mx_writing::write_rows;
 use sqlite::{Alter, Connection, Transaction};

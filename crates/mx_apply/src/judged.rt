@@ -5,9 +5,9 @@ ghost use Rattle.mx_numbers.specs.AnyRows.{ReadsAny};
 ghost use Rattle.mx_numbers.specs.Reads.{Reads};
 ghost use Rattle.mx_apply.specs.Judged.{IsJudged, JudgedOf};
 
+use mx_book::commands::Command;
 use mx_book::{Refusal, Verdict};
 use mx_changes::CommandRows;
-use mx_command::Command;
 use mx_layout::TableFault;
 use mx_made::rows_of_command;
 use mx_rows::judging::judge_by_rows;

@@ -3,12 +3,12 @@ use Rattle.std.proofs.Common.{refl, ap, ◌∙◌, ◌≡◌, ℕ, ◌+◌, List
 use Rattle.std.specs.Prelude.{is_some, filter, fold, map}
 use Rattle.std.specs.List.{list_any}
 use Rattle.mx_base.specs.declared.amounts.Base.{Base}
-use Rattle.mx_command.specs.Act.{Act, Entry, Opened, Released}
-use Rattle.mx_command.specs.Same.{same_text, same_item}
-use Rattle.mx_command.specs.declared.item.Item.{Item}
-use Rattle.mx_command.specs.declared.opening.Opening.{Opening}
-use Rattle.mx_command.specs.declared.release.Line.{Line}
-use Rattle.mx_command.specs.declared.release.Release.{Release}
+use Rattle.mx_book.specs.commands.Act.{Act, Entry, Opened, Released}
+use Rattle.mx_book.specs.commands.Same.{same_text, same_item}
+use Rattle.mx_book.specs.declared.commands.item.Item.{Item}
+use Rattle.mx_book.specs.declared.commands.opening.Opening.{Opening}
+use Rattle.mx_book.specs.declared.commands.release.Line.{Line}
+use Rattle.mx_book.specs.declared.commands.release.Release.{Release}
 use Rattle.mx_book.specs.Programme.{is_done, accomplishes, is_accomplished}
 use Rattle.mx_book.specs.Base.{Accomplishment, Stated, DoneIn, accomplished_by, accomplished_from, base, base_of}
 

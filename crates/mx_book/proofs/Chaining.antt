@@ -1,7 +1,7 @@
 -- One question behind another.
 use Rattle.std.proofs.Common.{◌≡◌, ◌∙◌, List}
 use Rattle.std.specs.Prelude.{Result, Ok, Err}
-use Rattle.mx_command.specs.Act.{Entry}
+use Rattle.mx_book.specs.commands.Act.{Entry}
 use Rattle.mx_book.specs.Reading.{Reading, Answers}
 
 -- where a question was answered, the next answers for both

@@ -1,6 +1,6 @@
 -- Loops that ask records for each of some values.
 use Rattle.std.proofs.Common.{◌≡◌, List, Ok}
-use Rattle.mx_command.specs.Act.{Entry}
+use Rattle.mx_book.specs.commands.Act.{Entry}
 use Rattle.mx_book.specs.Reading.{Reading, Answers}
 
 -- records were asked, and what is had with what is left is the whole, in each book that they stood for

@@ -5,12 +5,12 @@ use Rattle.std.specs.List.{list_all}
 use Rattle.std.specs.Option.{option_map, option_or}
 use Rattle.std.proofs.lemmas.List.Elements.{filter-append, filter_map-append}
 use Rattle.std.proofs.lemmas.List.Folds.{find-append}
-use Rattle.mx_command.specs.Act.{Entry, aircraft_of, sector_of}
-use Rattle.mx_command.specs.Same.{same_text}
-use Rattle.mx_command.specs.Shape.{has_shape}
-use Rattle.mx_command.specs.declared.aircraft.Aircraft.{Aircraft}
-use Rattle.mx_command.specs.declared.sector.Sector.{Sector}
-use Rattle.mx_command.specs.declared.item.Item.TheVariants.{Airframe}
+use Rattle.mx_book.specs.commands.Act.{Entry, aircraft_of, sector_of}
+use Rattle.mx_book.specs.commands.Same.{same_text}
+use Rattle.mx_book.specs.commands.Shape.{has_shape}
+use Rattle.mx_book.specs.declared.commands.aircraft.Aircraft.{Aircraft}
+use Rattle.mx_book.specs.declared.commands.sector.Sector.{Sector}
+use Rattle.mx_book.specs.declared.commands.item.Item.TheVariants.{Airframe}
 use Rattle.mx_book.specs.Register.{register, aircraft}
 use Rattle.mx_book.specs.Life.{minutes_of, cycles_of, credited, has_landed_by, use_after, life_now}
 use Rattle.mx_book.specs.Judge.{judge}

@@ -2,9 +2,9 @@
 use Rattle.std.proofs.Common.{arith, refl, sym, ap, ◌∙◌, ◌≡◌, ◌≢◌, ℕ, ◌+◌, ◌<◌, zero, suc, length, get_or, take, List, [], ◌∷◌, ◌++◌, Bool, true, false, cond, Option, Some, None, append_assoc, append-nil, length-take-le}
 use Rattle.std.specs.List.{AllPairs}
 use Rattle.std.proofs.lemmas.List.{get_or-take}
-use Rattle.mx_command.specs.Act.{Entry}
-use Rattle.mx_command.specs.Same.{same_entry, same_text}
-use Rattle.mx_command.proofs.SameLemmas.{entry_same, text_same}
+use Rattle.mx_book.specs.commands.Act.{Entry}
+use Rattle.mx_book.specs.commands.Same.{same_entry, same_text}
+use Rattle.mx_book.proofs.CommandsProofs.SameLemmas.{entry_same, text_same}
 use Rattle.mx_book.specs.declared.verdict.Refusal.TheVariants.{Conflict}
 use Rattle.mx_book.specs.declared.verdict.Verdict.TheVariants.{New, Already, Refused}
 use Rattle.mx_book.specs.Judge.{judge, judge_by, known_from}

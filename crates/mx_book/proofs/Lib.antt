@@ -19,3 +19,6 @@ pub mod WorkedProgrammes
 pub mod WorkedReleases
 pub mod WorkedDefects
 pub mod WorkedQuestions
+pub mod CommandsProofs
+pub mod DueProofs
+pub mod JudgingProofs

@@ -4,17 +4,17 @@ use Rattle.std.proofs.lemmas.Bool.Decides.{nat_tests}
 use Rattle.std.specs.Prelude.{find, filter, IfSome}
 use Rattle.std.specs.List.{cons_option, list_all}
 use Rattle.std.specs.Option.{option_map}
-use Rattle.mx_command.specs.Act.{Act, Entry, Added, Listed, Flown, aircraft_of, component_of, sector_of}
-use Rattle.mx_command.specs.Shape.{has_shape, act_shape, doc_shape, opening_shape, sector_shape, use_shape}
+use Rattle.mx_book.specs.commands.Act.{Act, Entry, Added, Listed, Flown, aircraft_of, component_of, sector_of}
+use Rattle.mx_book.specs.commands.Shape.{has_shape, act_shape, doc_shape, opening_shape, sector_shape, use_shape}
 use Rattle.mx_base.specs.declared.amounts.Use.{Use}
-use Rattle.mx_command.specs.declared.item.Item.{Item}
-use Rattle.mx_command.specs.declared.item.Item.TheVariants.{Airframe as OfAirframe, Component as OfComponent}
-use Rattle.mx_command.specs.declared.sector.Sector.{Sector}
-use Rattle.mx_command.specs.declared.aircraft.Aircraft.{Aircraft}
-use Rattle.mx_command.specs.declared.component.Component.{Component}
-use Rattle.mx_command.specs.Same.{same_text}
+use Rattle.mx_book.specs.declared.commands.item.Item.{Item}
+use Rattle.mx_book.specs.declared.commands.item.Item.TheVariants.{Airframe as OfAirframe, Component as OfComponent}
+use Rattle.mx_book.specs.declared.commands.sector.Sector.{Sector}
+use Rattle.mx_book.specs.declared.commands.aircraft.Aircraft.{Aircraft}
+use Rattle.mx_book.specs.declared.commands.component.Component.{Component}
+use Rattle.mx_book.specs.commands.Same.{same_text}
 use Rattle.mx_book.specs.Register.{register, aircraft, component}
-use Rattle.mx_due.specs.Due.{IsLife}
+use Rattle.mx_book.specs.due.Due.{IsLife}
 use Rattle.mx_book.specs.Life.{opening_of, life_until, selected, share, use_after, minutes_of, cycles_of, is_credited, has_landed_by, use_or_none}
 use Rattle.mx_book.specs.Book.{IsBook}
 

@@ -2,8 +2,8 @@
 use Rattle.std.proofs.Common.{rules, ◌≡◌, refl, sym, subst, List, [], ◌∷◌, Bool, true, false, cond, ◌&&◌, Option, Some, IfSome}
 use Rattle.std.specs.Prelude.{find}
 use Rattle.std.specs.List.{list_all}
-use Rattle.mx_command.specs.Programme.{task_shape}
-use Rattle.mx_command.specs.declared.programme.Task.{Task}
+use Rattle.mx_book.specs.commands.Programme.{task_shape}
+use Rattle.mx_book.specs.declared.commands.programme.Task.{Task}
 
 both_true : (p q : Bool) → p && q ≡ true → (p ≡ true) × (q ≡ true)
 both_true true true h = (refl, refl)

@@ -3,9 +3,9 @@ use Rattle.std.proofs.Common.{arith, refl, subst, ◌≡◌, ℕ, ◌+◌, ◌�
 use Rattle.std.proofs.lemmas.Bool.Decides.{nat_tests}
 use Rattle.std.specs.Prelude.{nat_le, is_some}
 use Rattle.std.specs.Option.{option_map}
-use Rattle.mx_command.specs.Act.{Act, Entry, Added, Listed, Fitted}
-use Rattle.mx_command.specs.Same.{same_entry}
-use Rattle.mx_command.specs.declared.fitting.Fitting.{Fitting}
+use Rattle.mx_book.specs.commands.Act.{Act, Entry, Added, Listed, Fitted}
+use Rattle.mx_book.specs.commands.Same.{same_entry}
+use Rattle.mx_book.specs.declared.commands.fitting.Fitting.{Fitting}
 use Rattle.mx_book.specs.declared.verdict.Refusal.{Refusal}
 use Rattle.mx_book.specs.declared.verdict.Refusal.TheVariants as reasons
 use Rattle.mx_book.specs.declared.verdict.Verdict.TheVariants.{New, Already, Refused}

@@ -6,11 +6,11 @@ use Rattle.std.specs.Option.{option_map_or}
 use Rattle.std.proofs.lemmas.Bool.Decides.{nat_tests}
 use Rattle.std.proofs.lemmas.List.Elements.{filter_map-append}
 use Rattle.std.proofs.lemmas.List.Sums.{fold-append}
-use Rattle.mx_command.specs.Act.{Act, Entry, Loaded}
-use Rattle.mx_command.specs.Same.{same_text}
-use Rattle.mx_command.specs.declared.programme.Programme.{Programme}
-use Rattle.mx_command.specs.declared.programme.Task.{Task}
-use Rattle.mx_command.proofs.SameLemmas.{text_same}
+use Rattle.mx_book.specs.commands.Act.{Act, Entry, Loaded}
+use Rattle.mx_book.specs.commands.Same.{same_text}
+use Rattle.mx_book.specs.declared.commands.programme.Programme.{Programme}
+use Rattle.mx_book.specs.declared.commands.programme.Task.{Task}
+use Rattle.mx_book.proofs.CommandsProofs.SameLemmas.{text_same}
 use Rattle.mx_book.specs.declared.verdict.Verdict.TheVariants.{New}
 use Rattle.mx_book.specs.Register.{register}
 use Rattle.mx_book.specs.Programme.{last_of, tasks_loaded, revision_loaded, revision_in_force, next_revision}

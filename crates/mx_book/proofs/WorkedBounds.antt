@@ -1,11 +1,11 @@
 -- Worked examples: the ends of spans, clocks, limits and pages, and which refusal comes first.
 use Rattle.std.proofs.Common.{refl, ap, ◌∙◌, ◌≡◌, ℕ, List, [], ◌∷◌, ◌++◌, length, true, false, Some, None}
 use Rattle.std.specs.Prelude.{codes, nat_le, nat_lt, not, ◌||◌, map}
-use Rattle.mx_command.specs.Act.{Entry, Added, Listed, Flown, aircraft_of, component_of}
-use Rattle.mx_command.specs.declared.aircraft.Aircraft.{Aircraft}
-use Rattle.mx_command.specs.declared.component.Component.{Component as Listing}
-use Rattle.mx_command.specs.declared.sector.Sector.{Sector}
-use Rattle.mx_command.specs.declared.item.Item.TheVariants.{Airframe, Component}
+use Rattle.mx_book.specs.commands.Act.{Entry, Added, Listed, Flown, aircraft_of, component_of}
+use Rattle.mx_book.specs.declared.commands.aircraft.Aircraft.{Aircraft}
+use Rattle.mx_book.specs.declared.commands.component.Component.{Component as Listing}
+use Rattle.mx_book.specs.declared.commands.sector.Sector.{Sector}
+use Rattle.mx_book.specs.declared.commands.item.Item.TheVariants.{Airframe, Component}
 use Rattle.mx_book.specs.declared.verdict.Refusal.TheVariants.{Conflict, Full, UnknownAircraft, UnknownComponent, UnknownPosition, UnknownProgramme, UnknownTask, UnknownDefect, AircraftExists, ComponentExists, PositionTaken, AlreadyFitted, NotFitted, WrongPart, ItemElsewhere, TaskClosed, LifeLimit, DefectClosed, OutOfOrder, NotExtendable, AlreadyExtended, ExtensionTooLong, IntervalEnded, WrongRevision, OtherAircraft, OpeningTooLate, OpeningTooLarge, RepeatedLine}
 use Rattle.mx_book.specs.declared.verdict.Verdict.TheVariants.{New, Refused}
 use Rattle.mx_book.specs.Register.{register}

@@ -2,10 +2,10 @@
 use Rattle.std.proofs.Common.{refl, ◌≡◌, ℕ, List, [], ◌∷◌, ◌++◌, true, Some, None}
 use Rattle.std.specs.Prelude.{codes}
 use Rattle.std.specs.Fmt.{digits}
-use Rattle.mx_command.specs.Act.{Act, Entry, Added, Listed, Flown, Fitted, Removed}
-use Rattle.mx_command.specs.Shape.{has_shape}
+use Rattle.mx_book.specs.commands.Act.{Act, Entry, Added, Listed, Flown, Fitted, Removed}
+use Rattle.mx_book.specs.commands.Shape.{has_shape}
 use Rattle.std.specs.List.{list_all}
-use Rattle.mx_command.specs.declared.item.Item.TheVariants.{Airframe, Component}
+use Rattle.mx_book.specs.declared.commands.item.Item.TheVariants.{Airframe, Component}
 use Rattle.mx_book.specs.declared.verdict.Refusal.TheVariants.{UnknownAircraft, UnknownComponent, UnknownPosition, ComponentExists, PositionTaken, AlreadyFitted, NotFitted, WrongPart, OutOfOrder}
 use Rattle.mx_book.specs.declared.verdict.Verdict.TheVariants.{New, Refused}
 use Rattle.mx_book.specs.declared.verdict.Reply.TheVariants.{Accepted}

@@ -1,6 +1,6 @@
 -- What a run accepts, and what it acknowledges.
 use Rattle.std.specs.Prelude.{◌≡◌, ◌⊎◌, ℕ, List, [], ◌∷◌, ◌++◌, slice_get, Bool, true, false, Option, Some, IsSomeAnd, if◌then◌else◌}
-use Rattle.mx_command.specs.Act.{Entry}
+use Rattle.mx_book.specs.commands.Act.{Entry}
 use Rattle.mx_book.specs.declared.verdict.Reply.{Reply}
 use Rattle.mx_book.specs.declared.verdict.Reply.TheVariants.{Accepted, Already}
 use Rattle.mx_book.specs.Judge.{judge}

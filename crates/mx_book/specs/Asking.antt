@@ -1,9 +1,9 @@
 -- What judging asks of records, where that is not one definition of the book.
 use Rattle.std.specs.Prelude.{ℕ, List, Bool, Option, find}
 use Rattle.std.specs.Option.{option_map, option_and_then}
-use Rattle.mx_command.specs.Act.{Entry}
-use Rattle.mx_command.specs.Same.{same_text, same_entry}
-use Rattle.mx_command.specs.declared.programme.Task.{Task}
+use Rattle.mx_book.specs.commands.Act.{Entry}
+use Rattle.mx_book.specs.commands.Same.{same_text, same_entry}
+use Rattle.mx_book.specs.declared.commands.programme.Task.{Task}
 use Rattle.mx_book.specs.Programme.{tasks_in_force}
 
 -- the number of a known entry, and whether the command is the same

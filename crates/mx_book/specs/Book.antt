@@ -1,8 +1,8 @@
 -- Which lists of entries are books.
 use Rattle.std.specs.Prelude.{◌≡◌, ◌≤◌, ℕ, zero, suc, length, List, [], ◌∷◌, ◌++◌, Bool, true, false, ◌&&◌, Option, None, slice_get, take, drop}
 use Rattle.std.specs.List.{list_all}
-use Rattle.mx_command.specs.Act.{Entry}
-use Rattle.mx_command.specs.Shape.{has_shape}
+use Rattle.mx_book.specs.commands.Act.{Entry}
+use Rattle.mx_book.specs.commands.Shape.{has_shape}
 use Rattle.mx_book.specs.declared.limits.TheConstants.{MOST_ENTRIES}
 use Rattle.mx_book.specs.declared.verdict.Verdict.{Verdict}
 use Rattle.mx_book.specs.declared.verdict.Verdict.TheVariants.{New, Already, Refused}

@@ -11,3 +11,5 @@ pub mod Facts
 pub mod Book
 pub mod Run
 pub mod Base
+pub mod commands
+pub mod due

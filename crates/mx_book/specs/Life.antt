@@ -3,13 +3,13 @@ use Rattle.std.specs.Prelude.{ℕ, ◌+◌, ◌-◌, max, nat_le, List, [], ◌�
 use Rattle.std.specs.List.{filter_map, flat_map, list_any}
 use Rattle.std.specs.Option.{option_map, option_map_or}
 use Rattle.mx_base.specs.declared.amounts.Use.{Use}
-use Rattle.mx_command.specs.Act.{Act, Entry, Added, Listed, Flown, Fitted, Removed, Released, Deferred, sector_of}
-use Rattle.mx_command.specs.Same.{same_text}
-use Rattle.mx_command.specs.declared.item.Item.{Item}
-use Rattle.mx_command.specs.declared.item.Item.TheVariants.{Airframe, Component}
-use Rattle.mx_command.specs.declared.release.Place.{Place}
-use Rattle.mx_command.specs.declared.release.Place.TheVariants as places
-use Rattle.mx_command.specs.declared.sector.Sector.{Sector}
+use Rattle.mx_book.specs.commands.Act.{Act, Entry, Added, Listed, Flown, Fitted, Removed, Released, Deferred, sector_of}
+use Rattle.mx_book.specs.commands.Same.{same_text}
+use Rattle.mx_book.specs.declared.commands.item.Item.{Item}
+use Rattle.mx_book.specs.declared.commands.item.Item.TheVariants.{Airframe, Component}
+use Rattle.mx_book.specs.declared.commands.release.Place.{Place}
+use Rattle.mx_book.specs.declared.commands.release.Place.TheVariants as places
+use Rattle.mx_book.specs.declared.commands.sector.Sector.{Sector}
 use Rattle.mx_book.specs.declared.found.Found.{Found}
 use Rattle.mx_book.specs.declared.found.Found.TheVariants as founds
 use Rattle.mx_book.specs.Register.{register, found_of}

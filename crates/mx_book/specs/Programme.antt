@@ -3,18 +3,18 @@ use Rattle.std.specs.Prelude.{ℕ, ◌+◌, List, [], Bool, false, ◌&&◌, Opt
 use Rattle.std.specs.List.{list_any}
 use Rattle.std.specs.Option.{option_map, option_map_or, option_and_then}
 use Rattle.mx_base.specs.declared.amounts.Use.{Use}
-use Rattle.mx_command.specs.Act.{Act, Entry, Loaded, Opened, Released}
-use Rattle.mx_command.specs.Same.{same_text, same_item}
-use Rattle.mx_command.specs.declared.item.Item.{Item}
-use Rattle.mx_command.specs.declared.programme.Applies.{Applies}
-use Rattle.mx_command.specs.declared.programme.Applies.TheVariants.{Airframe as ToAirframe, Part as ToPart}
-use Rattle.mx_command.specs.declared.programme.Task.{Task}
-use Rattle.mx_command.specs.declared.release.Line.{Line}
-use Rattle.mx_command.specs.declared.release.Line.TheVariants.{Done, Rectified}
-use Rattle.mx_command.specs.declared.release.Place.{Place}
-use Rattle.mx_command.specs.declared.release.Place.TheVariants.{Aircraft, Shop}
-use Rattle.mx_due.specs.Due.{first_due}
-use Rattle.mx_due.specs.Left.{left_of, is_used_up}
+use Rattle.mx_book.specs.commands.Act.{Act, Entry, Loaded, Opened, Released}
+use Rattle.mx_book.specs.commands.Same.{same_text, same_item}
+use Rattle.mx_book.specs.declared.commands.item.Item.{Item}
+use Rattle.mx_book.specs.declared.commands.programme.Applies.{Applies}
+use Rattle.mx_book.specs.declared.commands.programme.Applies.TheVariants.{Airframe as ToAirframe, Part as ToPart}
+use Rattle.mx_book.specs.declared.commands.programme.Task.{Task}
+use Rattle.mx_book.specs.declared.commands.release.Line.{Line}
+use Rattle.mx_book.specs.declared.commands.release.Line.TheVariants.{Done, Rectified}
+use Rattle.mx_book.specs.declared.commands.release.Place.{Place}
+use Rattle.mx_book.specs.declared.commands.release.Place.TheVariants.{Aircraft, Shop}
+use Rattle.mx_book.specs.due.Due.{first_due}
+use Rattle.mx_book.specs.due.Left.{left_of, is_used_up}
 use Rattle.mx_book.specs.declared.found.Found.{Found}
 use Rattle.mx_book.specs.declared.found.Found.TheVariants as founds
 use Rattle.mx_book.specs.Register.{register, aircraft, birth, found_of}

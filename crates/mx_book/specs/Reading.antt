@@ -1,6 +1,6 @@
 -- What an answer of records says of the book that they stand for.
 use Rattle.std.specs.Prelude.{◌≡◌, List, Result, IfOk, OnOk, MatchResult}
-use Rattle.mx_command.specs.Act.{Entry}
+use Rattle.mx_book.specs.commands.Act.{Entry}
 
 -- how records of a type are read: which book they stand for, what questions leave of them, and why one is not answered
 pub record Reading (S F : Type 0) : Type 1 where

@@ -2,12 +2,12 @@
 use Rattle.std.specs.Prelude.{ℕ, List, [], length, nat_lt, not, Bool, false, Option, find, if◌then◌else◌}
 use Rattle.std.specs.List.{filter_map, flat_map}
 use Rattle.std.specs.Option.{option_map, option_map_or}
-use Rattle.mx_command.specs.Act.{Act, Entry, Added, aircraft_of, component_of}
-use Rattle.mx_command.specs.Same.{same_text}
-use Rattle.mx_command.specs.declared.aircraft.Aircraft.{Aircraft}
-use Rattle.mx_command.specs.declared.component.Component.{Component}
-use Rattle.mx_command.specs.declared.item.Item.{Item}
-use Rattle.mx_command.specs.declared.item.Item.TheVariants as items
+use Rattle.mx_book.specs.commands.Act.{Act, Entry, Added, aircraft_of, component_of}
+use Rattle.mx_book.specs.commands.Same.{same_text}
+use Rattle.mx_book.specs.declared.commands.aircraft.Aircraft.{Aircraft}
+use Rattle.mx_book.specs.declared.commands.component.Component.{Component}
+use Rattle.mx_book.specs.declared.commands.item.Item.{Item}
+use Rattle.mx_book.specs.declared.commands.item.Item.TheVariants as items
 use Rattle.mx_book.specs.declared.limits.TheConstants.{MOST_AIRCRAFT, MOST_COMPONENTS}
 use Rattle.mx_book.specs.declared.found.Found.{Found}
 use Rattle.mx_book.specs.declared.found.Found.TheVariants as founds

@@ -1,6 +1,6 @@
 -- Runs: commands handed in one after the other, the replies and the book after them.
 use Rattle.std.specs.Prelude.{ℕ, ◌+◌, length, List, [], ◌∷◌, ◌++◌, if◌then◌else◌}
-use Rattle.mx_command.specs.Act.{Entry}
+use Rattle.mx_book.specs.commands.Act.{Entry}
 use Rattle.mx_book.specs.declared.verdict.Verdict.{Verdict}
 use Rattle.mx_book.specs.declared.verdict.Verdict.TheVariants.{New, Already, Refused}
 use Rattle.mx_book.specs.declared.verdict.Reply.{Reply}

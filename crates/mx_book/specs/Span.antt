@@ -2,8 +2,8 @@
 use Rattle.std.specs.Prelude.{ℕ, List, [], ◌∷◌, ◌++◌, Bool, ◌&&◌, Option, is_none, find, filter}
 use Rattle.std.specs.List.{list_any}
 use Rattle.std.specs.Option.{option_map}
-use Rattle.mx_command.specs.Act.{Act, Entry, Fitted, removal_of}
-use Rattle.mx_command.specs.Same.{same_text}
+use Rattle.mx_book.specs.commands.Act.{Act, Entry, Fitted, removal_of}
+use Rattle.mx_book.specs.commands.Same.{same_text}
 use Rattle.mx_book.specs.Register.{register}
 
 -- a component in a position of an aircraft, from its fitting to its removal; open while it is not removed

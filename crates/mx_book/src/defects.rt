@@ -2,8 +2,8 @@
 ghost use Rattle.std.specs.Prelude.{◌≡◌, ◌+◌, pos};
 ghost use Rattle.mx_book.specs.Defect.{day_found, interval, is_stated, letter_of};
 
+use crate::commands::Deferral;
 use mx_base::{Category, Doc, day_of};
-use mx_command::Deferral;
 
 /// A deferred defect.
 #[derive(Clone, Copy, Debug, PartialEq, Eq)]

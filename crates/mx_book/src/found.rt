@@ -1,13 +1,13 @@
 //! What the registers have of an item, and what that says of it.
 ghost use Rattle.std.specs.Prelude.{◌≡◌, List};
-ghost use Rattle.mx_command.specs.Act.{Entry};
+ghost use Rattle.mx_book.specs.commands.Act.{Entry};
 ghost use Rattle.mx_book.specs.Judge.{item_at};
 ghost use Rattle.mx_book.specs.Life.{opening_in};
 ghost use Rattle.mx_book.specs.Programme.{is_done_in, kind_at};
 ghost use Rattle.mx_book.specs.Register.{found_of, birth_in, as_of_in, is_other_kind_in};
 
+use crate::commands::{Aircraft, Applies, Component, Item, Place, Task};
 use mx_base::{Day, Kind, Moment, Use, day_of};
-use mx_command::{Aircraft, Applies, Component, Item, Place, Task};
 
 /// The aircraft or the component that an item names, where there is one.
 #[derive(Clone, Copy)]

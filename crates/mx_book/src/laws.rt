@@ -2,15 +2,15 @@
 //! nothing; its contract is the law, and the checker proves it.
 ghost use Rattle.std.specs.Prelude.{◌≡◌, ◌≢◌, ◌+◌, ◌*◌, ◌≤◌, ℕ, List, [], ◌∷◌, ◌++◌, length, filter, not, true, false, None, is_some, IfSome, IsSomeAnd};
 ghost use Rattle.std.specs.List.{AllPairs, flat_map, list_all, list_any};
-ghost use Rattle.mx_command.specs.Act.{Entry, Fitted, Removed, Released, Extended};
-ghost use Rattle.mx_command.specs.Shape.{has_shape};
-ghost use Rattle.mx_command.specs.declared.item.Item.{Item};
-ghost use Rattle.mx_command.specs.declared.item.Item.TheVariants.{Airframe};
-ghost use Rattle.mx_command.specs.declared.fitting.Fitting.{Fitting};
-ghost use Rattle.mx_command.specs.declared.fitting.Removal.{Removal};
-ghost use Rattle.mx_command.specs.declared.release.Line.{Line};
-ghost use Rattle.mx_command.specs.declared.release.Release.{Release};
-ghost use Rattle.mx_command.specs.declared.deferral.Extension.{Extension};
+ghost use Rattle.mx_book.specs.commands.Act.{Entry, Fitted, Removed, Released, Extended};
+ghost use Rattle.mx_book.specs.commands.Shape.{has_shape};
+ghost use Rattle.mx_book.specs.declared.commands.item.Item.{Item};
+ghost use Rattle.mx_book.specs.declared.commands.item.Item.TheVariants.{Airframe};
+ghost use Rattle.mx_book.specs.declared.commands.fitting.Fitting.{Fitting};
+ghost use Rattle.mx_book.specs.declared.commands.fitting.Removal.{Removal};
+ghost use Rattle.mx_book.specs.declared.commands.release.Line.{Line};
+ghost use Rattle.mx_book.specs.declared.commands.release.Release.{Release};
+ghost use Rattle.mx_book.specs.declared.commands.deferral.Extension.{Extension};
 ghost use Rattle.mx_book.specs.Register.{register};
 ghost use Rattle.mx_book.specs.Span.{fitted, is_taken, open_spans_of, open_spans_at};
 ghost use Rattle.mx_book.specs.Programme.{tasks_loaded, revision_in_force, next_revision};

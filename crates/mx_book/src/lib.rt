@@ -2,9 +2,13 @@
 //! they speak of.
 #![tactic(auto)]
 
+pub mod commands;
 pub mod defects;
+pub mod due;
+pub mod entry_list;
 pub mod facts;
 pub mod found;
+pub mod judging;
 pub mod laws;
 pub mod limits;
 pub mod records;

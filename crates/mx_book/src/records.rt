@@ -1,7 +1,7 @@
 //! What judging asks of records: of the plain book, or of whatever else stands for a book.
 ghost use Rattle.std.specs.Prelude.{◌≡◌, true, length, IfOk, IfSome};
 ghost use Rattle.std.specs.Option.{option_map};
-ghost use Rattle.mx_command.specs.Programme.{task_shape};
+ghost use Rattle.mx_book.specs.commands.Programme.{task_shape};
 ghost use Rattle.mx_book.specs.Register.{aircraft, component, part_at, has_room_for_aircraft, has_room_for_component};
 ghost use Rattle.mx_book.specs.Span.{tail_fitted, is_taken};
 ghost use Rattle.mx_book.specs.Life.{clock};
@@ -11,9 +11,9 @@ ghost use Rattle.mx_book.specs.Judge.{known_from, earliest_takeoff};
 ghost use Rattle.mx_book.specs.Reading.{Reading, Answers};
 ghost use Rattle.mx_book.specs.Asking.{known_same, task_of};
 
+use crate::commands::{Aircraft, Command, Component, Extension, Item, Task};
 use crate::defects::Defect;
 use mx_base::{Day, Doc, Kind, Moment, Part, Position, Serial, Tail, TaskId};
-use mx_command::{Aircraft, Command, Component, Extension, Item, Task};
 
 /// Records that stand for a book. Each look-up answers what one definition says of that book, or the fault that stopped it;
 /// none takes memory. Asking may change the records, and not the book: `reading` says which book they stand for, and what

@@ -2,11 +2,11 @@
 
 use crate::same::are_same;
 use mx_base::{Moment, Serial, Tail, Use};
+use mx_book::commands::{Command, Item};
+use mx_book::entry_list::Book;
 use mx_cases::{
     Unmade, append_number, command_of, documents, listed, number_text, verdict_text, yes_or_no,
 };
-use mx_command::{Command, Item};
-use mx_entry_list::Book;
 use mx_lists::life_list_of;
 use mx_plain::Plain;
 use std::alloc::Global;

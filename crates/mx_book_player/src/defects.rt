@@ -1,8 +1,8 @@
 //! Questions on deferred defects: which are open, and the last day of each.
 
 use mx_base::{Day, Tail};
+use mx_book::entry_list::Book;
 use mx_cases::{Unmade, append_joined, listed, or_none};
-use mx_entry_list::Book;
 use mx_lists::limits_of;
 use mx_plain::Plain;
 use std::alloc::Global;

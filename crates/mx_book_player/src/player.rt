@@ -1,10 +1,10 @@
 //! The player: a book that commands are handed in to, and that is asked.
 
 use crate::{books, calendar, commands, defects, dues, identifiers};
+use mx_book::commands::Command;
+use mx_book::entry_list::Book;
 use mx_book::{Reply, Verdict};
 use mx_cases::{Plays, Unmade, answer_of, command_of, reply_in, room_for_reply, verdict_text};
-use mx_command::Command;
-use mx_entry_list::Book;
 use mx_plain::Plain;
 use std::alloc::{AllocError, Global};
 

@@ -1,6 +1,6 @@
 //! Whether commands are the same as others.
 
-use mx_command::Command;
+use mx_book::commands::Command;
 
 /// The first command that isn't the one in its place among others.
 pub fn first_other<'a>(found: &'a [Command], wanted: &[Command]) -> Option<&'a Command> {

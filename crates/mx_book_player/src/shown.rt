@@ -2,11 +2,11 @@
 
 use crate::tasks::append_task;
 use mx_base::{Category, Day, Moment, Part, Position, Use, print_day};
-use mx_cases::{append_number, append_word, begin_print, printed};
-use mx_command::{
+use mx_book::commands::{
     Aircraft, Command, Component, Deferral, Extension, Fitting, Item, Line, Opening, Place,
     Programme, Release, Removal, Sector,
 };
+use mx_cases::{append_number, append_word, begin_print, printed};
 use std::alloc::{AllocError, Global};
 
 /// The text of a day, as it is printed.

@@ -1,8 +1,8 @@
 //! The tasks of a programme as text, in the words of a case.
 
 use mx_base::{Limit, Part, Tolerance};
+use mx_book::commands::{Applies, Task};
 use mx_cases::append_word;
-use mx_command::{Applies, Task};
 use std::alloc::AllocError;
 
 fn append_amount(text: &mut String, amount: Option<u32>) -> Result<(), AllocError> {

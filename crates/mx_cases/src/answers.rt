@@ -1,8 +1,8 @@
 //! Answers as text, each one line.
 
 use crate::commands::Unmade;
+use mx_book::commands::Command;
 use mx_book::{Reply, Verdict};
-use mx_command::Command;
 use mx_reports::{Text, append_whole, reply_text};
 use std::alloc::{AllocError, Global};
 use std::{slice, str};

@@ -5,8 +5,8 @@ use crate::releases::release_of;
 use mx_base::{
     BadText, Category, Day, Doc, Kind, MelRef, Moment, Part, Position, Serial, Tail, TaskId, Use,
 };
-use mx_command::{Body, Command, Item, MakeFault};
-use mx_entry_list::NoMemory;
+use mx_book::commands::{Body, Command, Item, MakeFault};
+use mx_book::entry_list::NoMemory;
 use std::alloc::{AllocError, AllocFailed, Global};
 use std::num::ParseIntError;
 

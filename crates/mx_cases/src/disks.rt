@@ -1,7 +1,7 @@
 //! What disks are: files that stop, lose power and are opened again, and an office over them, asked in lines.
 
 use crate::commands::Unmade;
-use mx_command::Command;
+use mx_book::commands::Command;
 use std::alloc::{AllocError, Global};
 
 /// The length of the log of a real file, in pages.

@@ -2,7 +2,7 @@
 
 use crate::commands::Unmade;
 use mx_base::{Kind, Limit, Part, TaskId, Tolerance};
-use mx_command::{Applies, Body, Task};
+use mx_book::commands::{Applies, Body, Task};
 use std::alloc::Global;
 
 // airframe, or part:PART

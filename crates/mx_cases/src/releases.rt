@@ -2,7 +2,7 @@
 
 use crate::commands::{Unmade, item_of};
 use mx_base::{Doc, Kind, Moment, Serial, Tail, TaskId};
-use mx_command::{Body, Item, Line, Place};
+use mx_book::commands::{Body, Item, Line, Place};
 use std::alloc::Global;
 
 // airframe:TAIL=TASK, or component:SERIAL=TASK

@@ -1,7 +1,7 @@
 -- Lists of the rows of a command: those that are empty, and those with one row.
 use Rattle.std.proofs.Common.{◌≡◌, List, [], ◌∷◌, ◌++◌, All, sym, ap, subst, ◌∙◌}
 use Rattle.std.proofs.lemmas.List.Elements.{All-cons, All-nil}
-use Rattle.mx_command.specs.Act.{Act, Entry}
+use Rattle.mx_book.specs.commands.Act.{Act, Entry}
 use Rattle.mx_register.specs.Added.{AreAdded}
 
 -- no row is added to a table to which the command adds none

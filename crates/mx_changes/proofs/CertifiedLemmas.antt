@@ -4,11 +4,11 @@ use Rattle.std.specs.List.{filter_map, cons_option}
 use Rattle.std.proofs.lemmas.List.Elements.{filter_map-append}
 use Rattle.mx_base.specs.declared.amounts.Limit.{Limit}
 use Rattle.mx_base.specs.declared.amounts.Use.{Use}
-use Rattle.mx_command.specs.Act.{Entry}
-use Rattle.mx_command.specs.declared.release.Line.{Line}
-use Rattle.mx_command.specs.declared.release.Line.TheVariants as lines
-use Rattle.mx_command.specs.declared.release.Release.{Release}
-use Rattle.mx_due.specs.Due.{base_done}
+use Rattle.mx_book.specs.commands.Act.{Entry}
+use Rattle.mx_book.specs.declared.commands.release.Line.{Line}
+use Rattle.mx_book.specs.declared.commands.release.Line.TheVariants as lines
+use Rattle.mx_book.specs.declared.commands.release.Release.{Release}
+use Rattle.mx_book.specs.due.Due.{base_done}
 use Rattle.mx_book.specs.Life.{life_now, use_or_none}
 use Rattle.mx_register.specs.Lines.{lines_from}
 use Rattle.mx_register.specs.Registers.{release_line_row}

@@ -4,10 +4,10 @@ use Rattle.std.specs.Prelude.{max}
 use Rattle.std.specs.List.{AllByRecursion}
 use Rattle.std.specs.List.Sorted.{IsPermutation}
 use Rattle.std.proofs.lemmas.List.Sorted.{IsPermutation-append_comm, IsPermutation-append_right, IsPermutation-trans}
-use Rattle.mx_command.specs.Act.{Act, Entry, Flown, Fitted, Removed, Released, Deferred}
-use Rattle.mx_command.specs.Shape.{act_shape}
-use Rattle.mx_command.specs.declared.fitting.Removal.{Removal}
-use Rattle.mx_command.specs.declared.sector.Sector.{Sector}
+use Rattle.mx_book.specs.commands.Act.{Act, Entry, Flown, Fitted, Removed, Released, Deferred}
+use Rattle.mx_book.specs.commands.Shape.{act_shape}
+use Rattle.mx_book.specs.declared.commands.fitting.Removal.{Removal}
+use Rattle.mx_book.specs.declared.commands.sector.Sector.{Sector}
 use Rattle.mx_book.specs.declared.verdict.Verdict.TheVariants.{New}
 use Rattle.mx_book.specs.Book.{IsBook}
 use Rattle.mx_book.specs.Judge.{judge}

@@ -1,10 +1,10 @@
 -- What is known of the lines of a release, and the rows that are made of it.
 use Rattle.std.specs.Prelude.{⊤, ◌≡◌, ℕ, List, [], ◌∷◌, Option, Some, None}
-use Rattle.mx_command.specs.Act.{Entry}
-use Rattle.mx_command.specs.declared.release.Line.{Line}
-use Rattle.mx_command.specs.declared.release.Line.TheVariants as lines
-use Rattle.mx_command.specs.declared.release.Release.{Release}
-use Rattle.mx_due.specs.Due.{IsLife, base_done}
+use Rattle.mx_book.specs.commands.Act.{Entry}
+use Rattle.mx_book.specs.declared.commands.release.Line.{Line}
+use Rattle.mx_book.specs.declared.commands.release.Line.TheVariants as lines
+use Rattle.mx_book.specs.declared.commands.release.Release.{Release}
+use Rattle.mx_book.specs.due.Due.{IsLife, base_done}
 use Rattle.mx_book.specs.Life.{life_now, use_or_none}
 use Rattle.mx_register.specs.Names.{or_zero, seq_of_defect}
 use Rattle.mx_base.specs.rows.Rows.{base_row_with}

@@ -1,9 +1,9 @@
 -- The kept rows of a command: those that begin with it, and what becomes of those that it touches.
 use Rattle.std.specs.Prelude.{ℕ, max, [], ◌∷◌, Some, None}
 use Rattle.mx_base.specs.declared.amounts.Use.{Use}
-use Rattle.mx_command.specs.declared.fitting.Fitting.{Fitting}
-use Rattle.mx_command.specs.declared.sector.Sector.{Sector}
-use Rattle.mx_due.specs.Due.{IsLife}
+use Rattle.mx_book.specs.declared.commands.fitting.Fitting.{Fitting}
+use Rattle.mx_book.specs.declared.commands.sector.Sector.{Sector}
+use Rattle.mx_book.specs.due.Due.{IsLife}
 use Rattle.mx_book.specs.Life.{use_after}
 use Rattle.mx_base.specs.declared.rows.rows.SpanRow.{SpanRow}
 use Rattle.mx_base.specs.declared.rows.rows.TotalRow.{TotalRow}

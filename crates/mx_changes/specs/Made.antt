@@ -1,7 +1,7 @@
 -- The rows that are made of what a command says, by the row of its entry and by what was found for it, whatever that is.
 use Rattle.std.specs.Prelude.{◌≡◌, ℕ, ◌/◌, List, [], ◌∷◌, map}
 use Rattle.std.specs.List.{filter_map}
-use Rattle.mx_command.specs.Act.{Act, Added, Listed, Opened, Flown, Fitted, Removed, Released, Deferred, aircraft_of, component_of, programme_of, opening_of, sector_of, fitting_of, release_of, deferral_of, extension_of, positions_of, tasks_of}
+use Rattle.mx_book.specs.commands.Act.{Act, Added, Listed, Opened, Flown, Fitted, Removed, Released, Deferred, aircraft_of, component_of, programme_of, opening_of, sector_of, fitting_of, release_of, deferral_of, extension_of, positions_of, tasks_of}
 use Rattle.mx_book.specs.Base.{base_at}
 use Rattle.mx_base.specs.rows.Rows.{base_row_with}
 use Rattle.mx_base.specs.declared.rows.rows.BaseRow.{BaseRow}

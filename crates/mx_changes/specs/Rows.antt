@@ -1,6 +1,6 @@
 -- Which rows of layout 2 are those of a command.
 use Rattle.std.specs.Prelude.{◌≡◌, List, [], map, filter}
-use Rattle.mx_command.specs.Act.{Act, Entry}
+use Rattle.mx_book.specs.commands.Act.{Act, Entry}
 use Rattle.mx_base.specs.declared.rows.rows.EntryRow.{EntryRow}
 use Rattle.mx_base.specs.declared.rows.rows.SectorRow.{SectorRow}
 use Rattle.mx_base.specs.declared.rows.rows.Sector2Row.{Sector2Row}

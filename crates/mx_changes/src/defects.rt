@@ -1,6 +1,6 @@
 //! The rows of a deferral and of an extension.
 ghost use Rattle.std.specs.Prelude.{◌≡◌, ℕ, List, IfOk};
-ghost use Rattle.mx_command.specs.Act.{Deferred, Entry, Extended};
+ghost use Rattle.mx_book.specs.commands.Act.{Deferred, Entry, Extended};
 ghost use Rattle.mx_base.specs.rows.Rows.{FitsEntry};
 ghost use Rattle.mx_register.specs.Names.{or_zero, seq_of_defect};
 ghost use Rattle.mx_kept_rows.specs.Changes.{entry_of};
@@ -13,7 +13,7 @@ use crate::rows::CommandRows;
 use crate::totals::clocked_totals;
 use mx_base::Category;
 use mx_base::rows::{EntryRow, TotalRow};
-use mx_command::{Deferral, Extension};
+use mx_book::commands::{Deferral, Extension};
 use mx_register::{deferral_row, extension_row};
 use std::alloc::{AllocError, Global};
 

@@ -1,7 +1,7 @@
 //! The rows of an aircraft and of a component that come into the records.
 ghost use Rattle.std.specs.Prelude.{◌≡◌, ◌≤◌, ℕ, List, All, IfOk, length};
-ghost use Rattle.mx_command.specs.Act.{Added, Entry, Listed};
-ghost use Rattle.mx_command.specs.declared.shape.TheConstants.{MOST_POSITIONS};
+ghost use Rattle.mx_book.specs.commands.Act.{Added, Entry, Listed};
+ghost use Rattle.mx_book.specs.declared.commands.shape.TheConstants.{MOST_POSITIONS};
 ghost use Rattle.mx_base.specs.rows.Rows.{FitsEntry, FitsPlace, FitsTotal};
 ghost use Rattle.mx_register.specs.Lines.{lines_from};
 ghost use Rattle.mx_register.specs.Registers.{place_row};
@@ -14,7 +14,7 @@ use crate::plain::{none_added, none_changed};
 use crate::rows::CommandRows;
 use mx_base::rows::{EntryRow, PlaceRow, TotalRow};
 use mx_base::{Moment, Part, Position, Use};
-use mx_command::{Aircraft, Component};
+use mx_book::commands::{Aircraft, Component};
 use mx_register::{aircraft_row, component_row, place_row};
 use std::alloc::{AllocError, Global};
 

@@ -1,7 +1,7 @@
 //! Laws of the kept rows of a command. Each function does nothing; its contract is the law, and the checker proves it.
 ghost use Rattle.std.specs.Prelude.{◌≡◌, List, [], ◌∷◌, ◌++◌, IsPermutation, true};
-ghost use Rattle.mx_command.specs.Act.{Entry};
-ghost use Rattle.mx_command.specs.Shape.{act_shape};
+ghost use Rattle.mx_book.specs.commands.Act.{Entry};
+ghost use Rattle.mx_book.specs.commands.Shape.{act_shape};
 ghost use Rattle.mx_book.specs.Book.{IsBook};
 ghost use Rattle.mx_book.specs.Judge.{judge};
 ghost use Rattle.mx_book.specs.declared.verdict.Verdict.TheVariants.{New};

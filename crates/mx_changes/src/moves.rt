@@ -1,6 +1,6 @@
 //! The rows of a fitting and of a removal.
 ghost use Rattle.std.specs.Prelude.{◌≡◌, ℕ, List, map, All, IfOk};
-ghost use Rattle.mx_command.specs.Act.{Entry, Fitted, Removed};
+ghost use Rattle.mx_book.specs.commands.Act.{Entry, Fitted, Removed};
 ghost use Rattle.mx_base.specs.rows.Rows.{FitsEntry, FitsSpan};
 ghost use Rattle.mx_kept_rows.specs.Changes.{entry_of};
 ghost use Rattle.mx_kept_rows.specs.Items.{number_of_serial, number_of_tail};
@@ -13,7 +13,7 @@ use crate::rows::CommandRows;
 use crate::totals::clocked_totals;
 use mx_base::Moment;
 use mx_base::rows::{EntryRow, SpanRow, TotalRow};
-use mx_command::{Fitting, Removal};
+use mx_book::commands::{Fitting, Removal};
 use std::alloc::{AllocError, Global};
 
 // The span that a fitting begins, by the numbers of its entry, its component and its aircraft.

@@ -1,7 +1,7 @@
 //! The rows of a revision of a programme that is loaded, and of an opening.
 ghost use Rattle.std.specs.Prelude.{◌≡◌, ◌≤◌, ℕ, List, All, IfOk, length};
-ghost use Rattle.mx_command.specs.Act.{Entry, Loaded, Opened};
-ghost use Rattle.mx_command.specs.declared.programme_shape.TheConstants.{MOST_TASKS};
+ghost use Rattle.mx_book.specs.commands.Act.{Entry, Loaded, Opened};
+ghost use Rattle.mx_book.specs.declared.commands.programme_shape.TheConstants.{MOST_TASKS};
 ghost use Rattle.mx_book.specs.Base.{base_at};
 ghost use Rattle.mx_base.specs.rows.Rows.{FitsBase, FitsEntry, FitsTask, base_row_with};
 ghost use Rattle.mx_register.specs.Lines.{lines_from};
@@ -15,7 +15,7 @@ use crate::plain::{none_added, none_changed};
 use crate::rows::CommandRows;
 use mx_base::rows::{BaseRow, EntryRow, TaskRow};
 use mx_base::{Day, TaskId, Use};
-use mx_command::{Opening, Programme, Task};
+use mx_book::commands::{Opening, Programme, Task};
 use mx_register::{opening_row, programme_row, task_row};
 use std::alloc::{AllocError, Global};
 

@@ -1,10 +1,10 @@
 //! The rows of a release.
 ghost use Rattle.std.specs.Prelude.{◌≡◌, ◌≤◌, ℕ, List, length, All, IfOk};
 ghost use Rattle.std.specs.List.{filter_map};
-ghost use Rattle.mx_command.specs.Act.{Entry, Released};
-ghost use Rattle.mx_command.specs.declared.release.Line.{Line};
-ghost use Rattle.mx_command.specs.declared.shape.TheConstants.{MOST_LINES};
-ghost use Rattle.mx_due.specs.Due.{IsLife, base_done};
+ghost use Rattle.mx_book.specs.commands.Act.{Entry, Released};
+ghost use Rattle.mx_book.specs.declared.commands.release.Line.{Line};
+ghost use Rattle.mx_book.specs.declared.commands.shape.TheConstants.{MOST_LINES};
+ghost use Rattle.mx_book.specs.due.Due.{IsLife, base_done};
 ghost use Rattle.mx_base.specs.rows.Rows.{FitsBase, FitsEntry, FitsReleaseLine, base_row_with};
 ghost use Rattle.mx_register.specs.Lines.{lines_from};
 ghost use Rattle.mx_kept_rows.specs.Changes.{entry_of};
@@ -18,8 +18,8 @@ use crate::rows::CommandRows;
 use crate::totals::clocked_totals;
 use mx_base::rows::{BaseRow, EntryRow, ReleaseLineRow, TotalRow};
 use mx_base::{Day, Limit, TaskId, Use, day_of};
-use mx_command::Release;
-use mx_due::base_done;
+use mx_book::commands::Release;
+use mx_book::due::base_done;
 use mx_register::release_row;
 use std::alloc::{AllocError, Global};
 

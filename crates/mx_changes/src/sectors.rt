@@ -1,7 +1,7 @@
 //! The rows of a sector.
 ghost use Rattle.std.specs.Prelude.{◌≡◌, ℕ, List, All, IfOk, true};
-ghost use Rattle.mx_command.specs.Act.{Entry, Flown};
-ghost use Rattle.mx_command.specs.Shape.{sector_shape};
+ghost use Rattle.mx_book.specs.commands.Act.{Entry, Flown};
+ghost use Rattle.mx_book.specs.commands.Shape.{sector_shape};
 ghost use Rattle.mx_base.specs.rows.Rows.{FitsEntry};
 ghost use Rattle.mx_base.specs.declared.rows.rows.SpanRow.{SpanRow};
 ghost use Rattle.mx_kept_rows.specs.Changes.{entry_of};
@@ -14,7 +14,7 @@ use crate::plain::{none_added, none_changed};
 use crate::rows::CommandRows;
 use crate::totals::flown_totals;
 use mx_base::rows::{EntryRow, Sector2Row, TotalRow};
-use mx_command::Sector;
+use mx_book::commands::Sector;
 use mx_register::sector_row;
 use std::alloc::{AllocError, Global};
 

@@ -1,12 +1,12 @@
 //! Totals as they are behind a command.
 ghost use Rattle.std.specs.Prelude.{◌≡◌, map, max, All, IfOk, true};
-ghost use Rattle.mx_command.specs.Shape.{sector_shape};
+ghost use Rattle.mx_book.specs.commands.Shape.{sector_shape};
 ghost use Rattle.mx_base.specs.rows.Rows.{FitsTotal};
 ghost use Rattle.mx_changes.specs.Kept.{HasLife, total_clocked, total_credited, total_flown};
 
 use mx_base::rows::TotalRow;
 use mx_base::{Moment, Use};
-use mx_command::Sector;
+use mx_book::commands::Sector;
 use std::alloc::{AllocError, Global};
 
 // The later of two moments.

@@ -4,7 +4,7 @@ use Rattle.std.specs.Prelude.{codes, map}
 use Rattle.std.specs.Fmt.{digits}
 use Rattle.mx_base.specs.Calendar.{date_of}
 use Rattle.mx_base.specs.Texts.{day_text, moment_text}
-use Rattle.mx_command.specs.Act.{Added, Flown}
+use Rattle.mx_book.specs.commands.Act.{Added, Flown}
 use Rattle.mx_command_line.specs.declared.trial.Trial.{Trial}
 use Rattle.mx_command_line.specs.Number.{number_in}
 use Rattle.mx_command_line.specs.Trial.{trial_aircraft, trial_sector, trial_commands, is_trial_shaped}

@@ -1,7 +1,7 @@
 -- A trial of an aircraft and a sector: its commands.
 use Rattle.std.specs.Prelude.{List, [], ◌∷◌, Bool, ◌&&◌, codes, option_to_list}
-use Rattle.mx_command.specs.Act.{Act, Entry, Added, Flown}
-use Rattle.mx_command.specs.Shape.{has_shape, is_sector_shaped, sector_entry}
+use Rattle.mx_book.specs.commands.Act.{Act, Entry, Added, Flown}
+use Rattle.mx_book.specs.commands.Shape.{has_shape, is_sector_shaped, sector_entry}
 use Rattle.mx_command_line.specs.declared.trial.Trial.{Trial}
 
 -- the aircraft: by document A1, of kind TRY, built and as of the first moment, without positions

@@ -1,10 +1,10 @@
 //! `try`: an aircraft and one sector, and the commands that enter them.
 ghost use Rattle.std.specs.Prelude.{◌≡◌, true, false, Some, codes, IfOk, IfErr, OnOk};
-ghost use Rattle.mx_command.specs.Shape.{has_shape, is_sector_shaped, sector_entry};
+ghost use Rattle.mx_book.specs.commands.Shape.{has_shape, is_sector_shaped, sector_entry};
 ghost use Rattle.mx_command_line.specs.Trial.{trial_aircraft, trial_sector, trial_commands, is_trial_shaped};
 
 use mx_base::{Day, Doc, Kind, Moment, Tail, Use};
-use mx_command::{Body, Command, MakeFault};
+use mx_book::commands::{Body, Command, MakeFault};
 use std::alloc::Global;
 
 /// The words of `try`: an aircraft with what it comes with, and a sector of it.

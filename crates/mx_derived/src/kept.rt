@@ -1,6 +1,6 @@
 //! What layout 2 keeps of the items of a book, made of the registers of a file.
 ghost use Rattle.std.specs.Prelude.{◌≡◌, List, [], Err, IfOk, MatchResult, Ok};
-ghost use Rattle.mx_command.specs.Act.{Entry};
+ghost use Rattle.mx_book.specs.commands.Act.{Entry};
 ghost use Rattle.mx_book.specs.Book.{IsBook};
 ghost use Rattle.mx_register.specs.Left.{all_rows};
 ghost use Rattle.mx_register.specs.Registers.{AreRegistersOf};
@@ -11,7 +11,7 @@ ghost use Rattle.mx_file_rows.specs.Tables.{AreFilePut};
 
 use crate::last_bases::last_bases;
 use mx_base::rows::{BaseRow, EntryKind, TotalRow};
-use mx_entry_list::NoMemory;
+use mx_book::entry_list::NoMemory;
 use mx_file_rows::{FileRows, put_in_order};
 use mx_indexed::IndexedBook;
 use mx_merged::{NoBook, merge_beside_maps, total_rows};

@@ -1,7 +1,7 @@
 //! The last bases of a book, made of its openings and of the lines of its releases.
 ghost use Rattle.std.specs.Prelude.{◌≡◌, ℕ, List, [], ◌∷◌, ◌++◌, IfOk, IsPermutation, OnOk, map};
 ghost use Rattle.std.specs.List.{filter_map};
-ghost use Rattle.mx_due.specs.Due.{IsBase};
+ghost use Rattle.mx_book.specs.due.Due.{IsBase};
 ghost use Rattle.mx_base.specs.rows.Rows.{base_row_with};
 ghost use Rattle.mx_register.specs.Registers.{opening_rows, release_line_rows};
 ghost use Rattle.mx_kept_rows.specs.Bases.{base_rows};
@@ -10,7 +10,7 @@ ghost use Rattle.mx_derived.specs.Kept.{AreBasesAt, base_row_at, key_certified, 
 
 use mx_base::rows::{BaseRow, OpeningRow, ReleaseLineRow};
 use mx_base::{Base, Day, TaskId, Use};
-use mx_entry_list::NoMemory;
+use mx_book::entry_list::NoMemory;
 use mx_indexed::IndexedBook;
 use mx_indexes::maps::held;
 use mx_plain_register::item_of_entry;

@@ -1,6 +1,6 @@
 -- What a book answers to a request.
 use Rattle.std.specs.Prelude.{ℕ, List, take, Option, Some, None, Result, Err}
-use Rattle.mx_command.specs.Act.{Entry}
+use Rattle.mx_book.specs.commands.Act.{Entry}
 use Rattle.mx_book.specs.Run.{replies}
 use Rattle.mx_book.specs.declared.verdict.Refusal.TheVariants.{UnknownAircraft}
 use Rattle.mx_office.specs.Faults.{found_or}

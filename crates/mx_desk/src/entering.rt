@@ -10,7 +10,7 @@ ghost use Rattle.mx_desk.specs.Answered.{AnswersIfRoom};
 ghost use Rattle.mx_responses.specs.Request.{entering, importing, loading};
 
 use http::Response;
-use mx_command::Command;
+use mx_book::commands::Command;
 use mx_import::import_text;
 use mx_intake::{commands_of_json, programme_of};
 use mx_office::Office;

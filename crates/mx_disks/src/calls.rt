@@ -4,7 +4,7 @@ ghost use Rattle.std.specs.Prelude.{◌≡◌, false};
 
 use mx_base::{Day, Tail, Use};
 use mx_book::Reply;
-use mx_command::{Command, Item};
+use mx_book::commands::{Command, Item};
 use mx_layout::{Layout, TableFault, create};
 use mx_lists::{DueList, ForecastList, LifeList, LimitList};
 use mx_office::{Ask, Fault, Office, Outcomes};

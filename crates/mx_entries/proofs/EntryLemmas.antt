@@ -8,9 +8,9 @@ use Rattle.std.proofs.lemmas.Option.{slice_get_cases}
 use Rattle.sqlite.specs.declared.types.Value.TheVariants.{Int}
 use Rattle.sqlite.specs.State.{State, HasCleanDisk}
 use Rattle.sqlite.specs.Tree.{Trees}
-use Rattle.mx_command.specs.Act.{Act, Entry, act_of}
-use Rattle.mx_command.specs.declared.body.Body.{Body}
-use Rattle.mx_command.specs.Shape.{has_shape}
+use Rattle.mx_book.specs.commands.Act.{Act, Entry, act_of}
+use Rattle.mx_book.specs.declared.commands.body.Body.{Body}
+use Rattle.mx_book.specs.commands.Shape.{has_shape}
 use Rattle.mx_book.specs.Book.{IsBook, entries_from, entry_at}
 use Rattle.mx_register.specs.Registers.{entry_rows, kind_of}
 use Rattle.mx_kept_rows.specs.Changes.{entry_of}

@@ -4,8 +4,8 @@ use Rattle.std.specs.Prelude.{slice_get}
 use Rattle.std.specs.List.{filter_map}
 use Rattle.std.specs.Option.{option_and_then, option_map}
 use Rattle.sqlite.specs.declared.types.Value.TheVariants.{Int}
-use Rattle.mx_command.specs.declared.release.Line.{Line}
-use Rattle.mx_command.specs.declared.release.Place.{Place}
+use Rattle.mx_book.specs.declared.commands.release.Line.{Line}
+use Rattle.mx_book.specs.declared.commands.release.Place.{Place}
 use Rattle.mx_register.specs.Merge.{deferral_said, extension_said, fitting_said, opening_said, place_said, release_said, removal_said, sector_said}
 use Rattle.mx_register.specs.Names.{defect_at, item_at, serial_at, tail_at}
 use Rattle.mx_base.specs.declared.rows.rows.DeferralRow.{DeferralRow}

@@ -5,8 +5,8 @@ use Rattle.std.specs.Option.{option_and_then, option_map}
 use Rattle.std.specs.declared.alloc.Global.{Global}
 use Rattle.std.proofs.lemmas.List.{append_assoc, append-nil}
 use Rattle.sqlite.specs.State.{State, HasCleanDisk}
-use Rattle.mx_command.specs.Act.{Entry}
-use Rattle.mx_command.specs.declared.release.Line.{Line}
+use Rattle.mx_book.specs.commands.Act.{Entry}
+use Rattle.mx_book.specs.declared.commands.release.Line.{Line}
 use Rattle.mx_register.specs.Merge.{line_said}
 use Rattle.mx_base.specs.declared.rows.rows.ReleaseLineRow.{ReleaseLineRow}
 use Rattle.mx_layout.specs.declared.fault.TableFault.{TableFault}

@@ -8,7 +8,7 @@ use Rattle.std.proofs.lemmas.List.Sorted.{length_permutation, Contains-permutati
 use Rattle.sqlite_rules.specs.Lists.{Has}
 use Rattle.sqlite_rules.proofs.ListLemmas.{has_contained}
 use Rattle.sqlite_keyed.proofs.ListLemmas.{filter-map, IsPermutation-filter}
-use Rattle.mx_command.specs.Act.{Entry, removal_of}
+use Rattle.mx_book.specs.commands.Act.{Entry, removal_of}
 use Rattle.mx_book.specs.Book.{IsBook}
 use Rattle.mx_register.specs.Registers.{if_any, next, removal_rows}
 use Rattle.mx_base.specs.declared.rows.rows.FittingRow.{FittingRow}

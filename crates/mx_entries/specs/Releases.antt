@@ -2,11 +2,11 @@
 use Rattle.std.specs.Prelude.{◌≡◌, ℕ, List, [], ◌∷◌, Option, Some, None, MatchOption}
 use Rattle.std.specs.Option.{option_and_then, option_map}
 use Rattle.sqlite.specs.Tree.{Trees}
-use Rattle.mx_command.specs.Act.{Act}
-use Rattle.mx_command.specs.declared.item.Item.{Item}
-use Rattle.mx_command.specs.declared.release.Line.{Line}
-use Rattle.mx_command.specs.declared.release.Line.TheVariants as lines
-use Rattle.mx_command.specs.declared.release.Place.{Place}
+use Rattle.mx_book.specs.commands.Act.{Act}
+use Rattle.mx_book.specs.declared.commands.item.Item.{Item}
+use Rattle.mx_book.specs.declared.commands.release.Line.{Line}
+use Rattle.mx_book.specs.declared.commands.release.Line.TheVariants as lines
+use Rattle.mx_book.specs.declared.commands.release.Place.{Place}
 use Rattle.mx_register.specs.Merge.{place_of, release_said}
 use Rattle.mx_base.specs.declared.rows.rows.ReleaseLineRow.{ReleaseLineRow}
 use Rattle.mx_base.specs.declared.rows.rows.ReleaseRow.{ReleaseRow}

@@ -4,7 +4,7 @@ use Rattle.std.specs.List.{filter_map}
 use Rattle.std.specs.Option.{option_and_then, option_map}
 use Rattle.sqlite.specs.declared.types.Value.TheVariants.{Int}
 use Rattle.sqlite.specs.Tree.{Trees}
-use Rattle.mx_command.specs.Act.{Act}
+use Rattle.mx_book.specs.commands.Act.{Act}
 use Rattle.mx_register.specs.Merge.{deferral_said, extension_said, fitting_said, opening_said, removal_said, sector_said}
 use Rattle.mx_base.specs.declared.rows.rows.PlaceRow.{PlaceRow}
 use Rattle.mx_base.specs.declared.rows.rows.Sector2Row.{Sector2Row}

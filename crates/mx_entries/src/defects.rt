@@ -2,7 +2,7 @@
 ghost use Rattle.std.specs.Prelude.{◌≡◌};
 ghost use Rattle.std.specs.Option.{option_map};
 ghost use Rattle.sqlite.specs.Held.{state};
-ghost use Rattle.mx_command.specs.Act.{act_of};
+ghost use Rattle.mx_book.specs.commands.Act.{act_of};
 ghost use Rattle.mx_found.specs.Given.{deferrals, extensions, found};
 ghost use Rattle.mx_found.specs.Stated.{deferral_stated, extension_stated};
 ghost use Rattle.mx_numbers.specs.AnyRows.{ReadsAny};
@@ -10,8 +10,8 @@ ghost use Rattle.mx_numbers.specs.Reads.{Reads};
 ghost use Rattle.mx_entries.specs.Stated.{DeferralStated, ExtensionStated};
 
 use crate::names::doc_of_defect;
+use mx_book::commands::Body;
 use mx_chosen::defects::{defect_by_seq, extension_by_seq};
-use mx_command::Body;
 use mx_layout::TableFault;
 use mx_numbers::items::tail_of_number;
 use mx_plain_register::said::{body_of_deferral, body_of_extension};

@@ -7,8 +7,8 @@ ghost use Rattle.mx_entries.specs.Entries.{AreEntries, IsEntry};
 ghost use Rattle.mx_entries.specs.Damage.{IsSkipped, IsUnstated, ReadsOr};
 
 use crate::stated::{body_stated, command_said};
+use mx_book::commands::Command;
 use mx_chosen::entries::entry_by_seq;
-use mx_command::Command;
 use mx_layout::{Table, TableFault};
 use mx_numbers::entries::entry_count;
 use sqlite::{Alter, Transaction};

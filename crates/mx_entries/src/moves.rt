@@ -2,7 +2,7 @@
 ghost use Rattle.std.specs.Prelude.{◌≡◌};
 ghost use Rattle.std.specs.Option.{option_and_then, option_map};
 ghost use Rattle.sqlite.specs.Held.{state};
-ghost use Rattle.mx_command.specs.Act.{act_of};
+ghost use Rattle.mx_book.specs.commands.Act.{act_of};
 ghost use Rattle.mx_register.specs.Merge.{fitting_said};
 ghost use Rattle.mx_found.specs.Given.{fittings, found, openings, removals, sectors};
 ghost use Rattle.mx_found.specs.Stated.{fitting_stated, opening_stated, removal_stated, sector_stated};
@@ -13,10 +13,10 @@ ghost use Rattle.mx_entries.specs.Stated.{FittingStated, OpeningStated, RemovalS
 use crate::names::{item_of_number, serial_of_number};
 use mx_base::rows::FittingRow;
 use mx_base::{Serial, Tail};
+use mx_book::commands::Body;
 use mx_chosen::kept::{span2_by_fit_seq, span2_by_remove_seq};
 use mx_chosen::sectors::sector2_by_seq;
 use mx_chosen::works::opening_by_seq;
-use mx_command::Body;
 use mx_found::stated::{first_fitting, first_removal};
 use mx_layout::TableFault;
 use mx_numbers::items::tail_of_number;

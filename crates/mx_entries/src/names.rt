@@ -8,9 +8,9 @@ ghost use Rattle.mx_numbers.specs.Reads.{Reads};
 ghost use Rattle.mx_entries.specs.Names.{DocOfDefect, ItemOfNumber};
 
 use mx_base::{Doc, Serial};
+use mx_book::commands::Item;
 use mx_chosen::entries::entry_by_seq;
 use mx_chosen::items::component_by_seq;
-use mx_command::Item;
 use mx_found::components::serial_in;
 use mx_found::entries::deferred_doc;
 use mx_layout::TableFault;

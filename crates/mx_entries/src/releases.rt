@@ -2,7 +2,7 @@
 ghost use Rattle.std.specs.Prelude.{◌≡◌};
 ghost use Rattle.std.specs.Option.{option_and_then, option_map};
 ghost use Rattle.sqlite.specs.Held.{state};
-ghost use Rattle.mx_command.specs.Act.{act_of};
+ghost use Rattle.mx_book.specs.commands.Act.{act_of};
 ghost use Rattle.mx_register.specs.Merge.{place_said, release_said};
 ghost use Rattle.mx_found.specs.Given.{found, release_lines, releases};
 ghost use Rattle.mx_found.specs.Stated.{certified_said, lines_stated, release_stated};
@@ -12,8 +12,8 @@ ghost use Rattle.mx_entries.specs.Releases.{LineNamed, LinesStated, PlaceStated,
 
 use crate::names::{doc_of_defect, item_of_number};
 use mx_base::rows::ReleaseRow;
+use mx_book::commands::{Body, Line, Place};
 use mx_chosen::works::{crs_by_seq, crs_line_by_seq};
-use mx_command::{Body, Line, Place};
 use mx_found::stated::{Certified, certified_in};
 use mx_layout::TableFault;
 use mx_plain_register::said::{body_of_release, place_of};

@@ -2,7 +2,7 @@
 ghost use Rattle.std.specs.Prelude.{◌≡◌, ◌⊎◌, MatchResult, None, Some};
 ghost use Rattle.std.specs.Option.{option_map};
 ghost use Rattle.sqlite.specs.Held.{state};
-ghost use Rattle.mx_command.specs.Act.{act_of};
+ghost use Rattle.mx_book.specs.commands.Act.{act_of};
 ghost use Rattle.mx_found.specs.Stated.{stated};
 ghost use Rattle.mx_numbers.specs.AnyRows.{ReadsAny};
 ghost use Rattle.mx_numbers.specs.Reads.{Reads};
@@ -13,7 +13,7 @@ use crate::items::{aircraft_stated, component_stated, programme_stated};
 use crate::moves::{fitting_stated, opening_stated, removal_stated, sector_stated};
 use crate::releases::release_stated;
 use mx_base::rows::{EntryKind, EntryRow};
-use mx_command::{Body, Command, MakeFault};
+use mx_book::commands::{Body, Command, MakeFault};
 use mx_layout::{Table, TableFault};
 use sqlite::{Alter, Transaction};
 use std::alloc::Global;

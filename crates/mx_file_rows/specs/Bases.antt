@@ -3,8 +3,8 @@ use Rattle.std.specs.Prelude.{ℕ, nat_eq, Bool, true, false, ◌&&◌, List}
 use Rattle.std.specs.List.{list_any}
 use Rattle.std.specs.Option.{option_map_or}
 use Rattle.mx_base.specs.declared.amounts.Base.{Base}
-use Rattle.mx_command.specs.Act.{Entry}
-use Rattle.mx_command.specs.Same.{same_text}
+use Rattle.mx_book.specs.commands.Act.{Entry}
+use Rattle.mx_book.specs.commands.Same.{same_text}
 use Rattle.mx_book.specs.Base.{base}
 use Rattle.mx_register.specs.Names.{item_at}
 use Rattle.mx_base.specs.declared.rows.rows.BaseRow.{BaseRow}

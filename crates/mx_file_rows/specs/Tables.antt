@@ -1,7 +1,7 @@
 -- The rows of the tables of a file as sets, and those rows in the order of their keys.
 use Rattle.std.specs.Prelude.{◌≡◌, List, IsPermutation, map}
 use Rattle.std.specs.List.{filter_map}
-use Rattle.mx_command.specs.Act.{Entry}
+use Rattle.mx_book.specs.commands.Act.{Entry}
 use Rattle.mx_base.specs.rows.Rows.{place_key, release_line_key, task_key}
 use Rattle.mx_base.specs.declared.rows.register_rows.RegisterRows.{RegisterRows}
 use Rattle.mx_register.specs.Registers.{aircraft_rows, component_rows, deferral_rows, entry_rows, extension_rows, opening_rows, place_rows, programme_rows, release_line_rows, release_rows, sector_rows, task_rows}

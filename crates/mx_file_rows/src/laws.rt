@@ -1,6 +1,6 @@
 //! Laws of kept rows and registers. Each function does nothing; its contract is the law, and the checker proves it.
 ghost use Rattle.std.specs.Prelude.{◌≡◌, List};
-ghost use Rattle.mx_command.specs.Act.{Entry};
+ghost use Rattle.mx_book.specs.commands.Act.{Entry};
 ghost use Rattle.mx_book.specs.Book.{IsBook};
 ghost use Rattle.mx_register.specs.Registers.{fitting_rows, removal_rows};
 ghost use Rattle.mx_kept_rows.specs.Spans.{span_rows};

@@ -7,7 +7,7 @@ use mx_base::rows::{
     AircraftRow, ComponentRow, DeferralRow, EntryRow, ExtensionRow, OpeningRow, PlaceRow,
     ProgrammeRow, ReleaseLineRow, ReleaseRow, RemovalRow, SectorRow, SpanRow, TaskRow, TotalRow,
 };
-use mx_entry_list::NoMemory;
+use mx_book::entry_list::NoMemory;
 
 /// A row of a table that is in the order of a number, its key.
 pub trait Keyed: Copy {

@@ -9,7 +9,7 @@ ghost use Rattle.mx_file_rows.specs.Spans.{HasPut, IsLastBehind, span_by, spans_
 
 use crate::sorted::sort_rows;
 use mx_base::rows::{FittingRow, RemovalRow, SpanRow};
-use mx_entry_list::NoMemory;
+use mx_book::entry_list::NoMemory;
 use std::alloc::Global;
 use std::collections::BTreeMap;
 

@@ -6,7 +6,7 @@ use crate::file_rows::FileRows;
 use crate::sorted::sort_rows;
 use crate::spans::{fittings_in, removals_in};
 use mx_base::rows::RegisterRows;
-use mx_entry_list::NoMemory;
+use mx_book::entry_list::NoMemory;
 use std::alloc::Global;
 
 // Puts the rows of each register but the fittings and removals in order.

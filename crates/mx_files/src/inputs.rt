@@ -1,6 +1,6 @@
 //! What the input files of words give: the commands of one, a maintenance programme, the rows of a log.
 use mx_base::Doc;
-use mx_command::Command;
+use mx_book::commands::Command;
 use mx_intake::{IntakeFault, MOST_BYTES, READ_FAILED, commands_of_json, programme_of, read_all};
 use std::fs;
 

@@ -7,10 +7,10 @@ ghost use Rattle.mx_endings.specs.Status.{LeavesUnread, Shows, stop_status};
 
 use crate::inputs::commands_in;
 use crate::opening::stop_of;
-use mx_command::Command;
+use mx_book::commands::Command;
+use mx_book::entry_list::Book;
 use mx_database::{Work, Worked, work_in_new_file};
 use mx_endings::{Ending, Stop};
-use mx_entry_list::Book;
 use mx_layout::TableFault;
 use mx_upkeep::{Accepted, accept_all, install_book, print_accepted};
 use sqlite::{Alter, Connection};

@@ -5,7 +5,7 @@ ghost use Rattle.mx_endings.specs.Status.{stop_status};
 ghost use Rattle.mx_printed.specs.Tried.{TellsTrial};
 
 use crate::trying::try_in_memory;
-use mx_command::MakeFault;
+use mx_book::commands::MakeFault;
 use mx_command_line::{Trial, trial_commands};
 use mx_endings::{Ending, Stop};
 use std::alloc::Global;

@@ -11,7 +11,7 @@ ghost use Rattle.mx_printed.specs.Tried.{TellsTrial};
 
 use mx_answers::print_list;
 use mx_base::Tail;
-use mx_command::Command;
+use mx_book::commands::Command;
 use mx_endings::{Ending, Stop};
 use mx_jobs::{enter_all, open};
 use mx_layout::{Layout, create};

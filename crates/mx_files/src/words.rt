@@ -10,7 +10,7 @@ use crate::asking::{Asked, answer_file};
 use crate::inputs::{UNOPENED, commands_in, programme_in};
 use mx_answers::print_list;
 use mx_base::Doc;
-use mx_command::Command;
+use mx_book::commands::Command;
 use mx_endings::{Ending, Stop};
 use mx_import::import_all;
 use mx_jobs::{enter_all, print_verified};

@@ -3,10 +3,10 @@ use Rattle.std.proofs.Common.{◌≡◌, ℕ, zero, suc, ◌+◌, Bool, true, fa
 use Rattle.std.specs.Prelude.{find, nat_eq, slice_get}
 use Rattle.std.specs.List.{cons_option, range_with_len, AllByRecursion}
 use Rattle.std.specs.Option.{option_map, option_map_or, option_and_then}
-use Rattle.mx_command.specs.Act.{Act, Entry, aircraft_of, component_of}
-use Rattle.mx_command.specs.Same.{same_text}
-use Rattle.mx_command.specs.declared.aircraft.Aircraft.{Aircraft}
-use Rattle.mx_command.specs.declared.component.Component.{Component}
+use Rattle.mx_book.specs.commands.Act.{Act, Entry, aircraft_of, component_of}
+use Rattle.mx_book.specs.commands.Same.{same_text}
+use Rattle.mx_book.specs.declared.commands.aircraft.Aircraft.{Aircraft}
+use Rattle.mx_book.specs.declared.commands.component.Component.{Component}
 use Rattle.mx_book.specs.Judge.{known_from}
 use Rattle.mx_book.specs.Register.{register, aircraft, component}
 use Rattle.mx_register.specs.Names.{number_from, said_at, seq_of_tail, seq_of_serial, tail_at, serial_at}
@@ -19,7 +19,7 @@ use Rattle.mx_found.specs.Said.{aircraft_said, aircraft_in, component_said, comp
 use Rattle.std.proofs.Common.{◌≡◌, ℕ, ◌+◌, Bool, true, false, ◌&&◌, cond, List, [], ◌∷◌, ◌++◌, filter, length, Option, Some, refl, ap, ◌∙◌, length-append}
 use Rattle.std.specs.Prelude.{find}
 use Rattle.std.specs.Option.{option_map}
-use Rattle.mx_command.specs.Act.{Act, Entry, Deferred}
+use Rattle.mx_book.specs.commands.Act.{Act, Entry, Deferred}
 use Rattle.mx_register.specs.Names.{number_from, adds_named, defect_deferred, seq_of_defect}
 use Rattle.mx_register.specs.Registers.{gives, entry_added, entry_rows, kind_of}
 use Rattle.mx_found.specs.Names.{is_deferral}

@@ -2,9 +2,9 @@
 use Rattle.std.proofs.Common.{◌≡◌, ℕ, ◌+◌, List, ◌++◌, length, true, Option, Some, None, refl, sym, ap, ◌∙◌}
 use Rattle.std.specs.Prelude.{is_some}
 use Rattle.std.specs.Option.{option_or, option_and_then}
-use Rattle.mx_command.specs.Act.{Act, Entry, Added}
-use Rattle.mx_command.specs.declared.item.Item.{Item}
-use Rattle.mx_command.specs.declared.item.Item.TheVariants.{Airframe, Component}
+use Rattle.mx_book.specs.commands.Act.{Act, Entry, Added}
+use Rattle.mx_book.specs.declared.commands.item.Item.{Item}
+use Rattle.mx_book.specs.declared.commands.item.Item.TheVariants.{Airframe, Component}
 use Rattle.mx_book.specs.Book.{entry_at}
 use Rattle.mx_book.specs.Defect.{defect}
 use Rattle.mx_book.specs.Register.{aircraft, component}

@@ -5,20 +5,20 @@ use Rattle.std.specs.List.{cons_option, list_all, list_any, AllByRecursion}
 use Rattle.std.specs.Option.{option_eq, option_map, option_map_or}
 use Rattle.std.proofs.lemmas.Bool.Decides.{nat_tests}
 use Rattle.mx_base.specs.declared.amounts.Use.{Use}
-use Rattle.mx_command.specs.Act.{Act, Entry, Loaded, tasks_of}
-use Rattle.mx_command.specs.Bounds.{within}
-use Rattle.mx_command.specs.Programme.{programme_shape, task_shape}
-use Rattle.mx_command.specs.Same.{same_text}
-use Rattle.mx_command.specs.Shape.{act_shape, doc_shape, has_shape}
-use Rattle.mx_command.specs.declared.aircraft.Aircraft.{Aircraft}
-use Rattle.mx_command.specs.declared.component.Component.{Component}
-use Rattle.mx_command.specs.declared.item.Item.{Item}
-use Rattle.mx_command.specs.declared.item.Item.TheVariants as items
-use Rattle.mx_command.specs.declared.programme.Programme.{Programme}
-use Rattle.mx_command.specs.declared.programme.Task.{Task}
-use Rattle.mx_command.specs.declared.programme_shape.TheConstants.{LAST_REVISION}
-use Rattle.mx_due.specs.Due.{first_due}
-use Rattle.mx_due.specs.Left.{left_of, is_used_up}
+use Rattle.mx_book.specs.commands.Act.{Act, Entry, Loaded, tasks_of}
+use Rattle.mx_book.specs.commands.Bounds.{within}
+use Rattle.mx_book.specs.commands.Programme.{programme_shape, task_shape}
+use Rattle.mx_book.specs.commands.Same.{same_text}
+use Rattle.mx_book.specs.commands.Shape.{act_shape, doc_shape, has_shape}
+use Rattle.mx_book.specs.declared.commands.aircraft.Aircraft.{Aircraft}
+use Rattle.mx_book.specs.declared.commands.component.Component.{Component}
+use Rattle.mx_book.specs.declared.commands.item.Item.{Item}
+use Rattle.mx_book.specs.declared.commands.item.Item.TheVariants as items
+use Rattle.mx_book.specs.declared.commands.programme.Programme.{Programme}
+use Rattle.mx_book.specs.declared.commands.programme.Task.{Task}
+use Rattle.mx_book.specs.declared.commands.programme_shape.TheConstants.{LAST_REVISION}
+use Rattle.mx_book.specs.due.Due.{first_due}
+use Rattle.mx_book.specs.due.Left.{left_of, is_used_up}
 use Rattle.mx_book.specs.Asking.{task_of}
 use Rattle.mx_book.specs.Book.{IsBook, entry_at}
 use Rattle.mx_book.specs.Life.{life_now}

@@ -2,16 +2,16 @@
 use Rattle.std.proofs.Common.{◌≡◌, ℕ, ◌+◌, List, [], ◌∷◌, ◌++◌, true, Option, Some, None, refl, ap, ap₂, ◌∙◌}
 use Rattle.std.specs.Prelude.{is_some, ⊤}
 use Rattle.std.specs.List.{AllByRecursion}
-use Rattle.mx_command.specs.Act.{Act, Entry, Opened, Flown, Fitted, Removed, Released, Deferred, Extended, aircraft_of, positions_of, component_of, programme_of, tasks_of, opening_of, sector_of, fitting_of, removal_of, release_of, lines_of, deferral_of, extension_of}
-use Rattle.mx_command.specs.declared.opening.Opening.{Opening}
-use Rattle.mx_command.specs.declared.sector.Sector.{Sector}
-use Rattle.mx_command.specs.declared.fitting.Fitting.{Fitting}
-use Rattle.mx_command.specs.declared.fitting.Removal.{Removal}
-use Rattle.mx_command.specs.declared.release.Release.{Release}
-use Rattle.mx_command.specs.declared.release.Line.{Line}
-use Rattle.mx_command.specs.declared.release.Line.TheVariants.{Done, Rectified}
-use Rattle.mx_command.specs.declared.deferral.Deferral.{Deferral}
-use Rattle.mx_command.specs.declared.deferral.Extension.{Extension}
+use Rattle.mx_book.specs.commands.Act.{Act, Entry, Opened, Flown, Fitted, Removed, Released, Deferred, Extended, aircraft_of, positions_of, component_of, programme_of, tasks_of, opening_of, sector_of, fitting_of, removal_of, release_of, lines_of, deferral_of, extension_of}
+use Rattle.mx_book.specs.declared.commands.opening.Opening.{Opening}
+use Rattle.mx_book.specs.declared.commands.sector.Sector.{Sector}
+use Rattle.mx_book.specs.declared.commands.fitting.Fitting.{Fitting}
+use Rattle.mx_book.specs.declared.commands.fitting.Removal.{Removal}
+use Rattle.mx_book.specs.declared.commands.release.Release.{Release}
+use Rattle.mx_book.specs.declared.commands.release.Line.{Line}
+use Rattle.mx_book.specs.declared.commands.release.Line.TheVariants.{Done, Rectified}
+use Rattle.mx_book.specs.declared.commands.deferral.Deferral.{Deferral}
+use Rattle.mx_book.specs.declared.commands.deferral.Extension.{Extension}
 use Rattle.mx_book.specs.Book.{is_new}
 use Rattle.mx_book.specs.Judge.{judge, item_at}
 use Rattle.mx_register.specs.Lines.{lines_from}

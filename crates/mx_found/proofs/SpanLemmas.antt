@@ -6,12 +6,12 @@ use Rattle.std.specs.Prelude.{Decides, IsPermutation}
 use Rattle.std.proofs.lemmas.Bool.Decides.{Decides-eqb, same_from_decides}
 use Rattle.std.proofs.lemmas.List.Sorted.{list_any-IsPermutation}
 use Rattle.std.proofs.lemmas.Map.Views.{any-filter_same}
-use Rattle.mx_command.specs.Act.{Entry, Fitted, Removed, fitting_of, removal_of}
-use Rattle.mx_command.specs.Same.{same_text, same_entry}
-use Rattle.mx_command.specs.Shape.{has_shape}
-use Rattle.mx_command.specs.declared.fitting.Fitting.{Fitting}
-use Rattle.mx_command.specs.declared.fitting.Removal.{Removal}
-use Rattle.mx_command.proofs.SameLemmas.{text_same}
+use Rattle.mx_book.specs.commands.Act.{Entry, Fitted, Removed, fitting_of, removal_of}
+use Rattle.mx_book.specs.commands.Same.{same_text, same_entry}
+use Rattle.mx_book.specs.commands.Shape.{has_shape}
+use Rattle.mx_book.specs.declared.commands.fitting.Fitting.{Fitting}
+use Rattle.mx_book.specs.declared.commands.fitting.Removal.{Removal}
+use Rattle.mx_book.proofs.CommandsProofs.SameLemmas.{text_same}
 use Rattle.mx_book.specs.Book.{IsBook}
 use Rattle.mx_book.specs.Judge.{known_from}
 use Rattle.mx_book.proofs.JudgeLemmas.{both_true}

@@ -1,7 +1,7 @@
 -- Worked rows that were found: what they say of books in which components are replaced, a programme is revised, and defects are extended and rectified, counted by hand.
 use Rattle.std.proofs.Common.{refl, ◌≡◌, ℕ, List, [], ◌∷◌, true, false, Some, None, filter, map, nat_eq, take}
 use Rattle.std.specs.Prelude.{codes, reverse}
-use Rattle.mx_command.specs.Same.{same_text}
+use Rattle.mx_book.specs.commands.Same.{same_text}
 use Rattle.mx_book.specs.Defect.{defect}
 use Rattle.mx_book.proofs.Worked.{at, used}
 use Rattle.mx_book.proofs.WorkedDefects.{x2, x4, once_extended, once_rectified}

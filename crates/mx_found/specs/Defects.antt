@@ -1,8 +1,8 @@
 -- What the rows of deferrals, of extensions and of lines of releases that were found say.
 use Rattle.std.specs.Prelude.{ℕ, List, Bool, Option, None, Some, if◌then◌else◌, filter, is_some, nat_eq, slice_get}
 use Rattle.std.specs.Option.{option_and_then, option_eq, option_map}
-use Rattle.mx_command.specs.Act.{Entry}
-use Rattle.mx_command.specs.declared.deferral.Extension.{Extension}
+use Rattle.mx_book.specs.commands.Act.{Entry}
+use Rattle.mx_book.specs.declared.commands.deferral.Extension.{Extension}
 use Rattle.mx_book.specs.declared.defects.Defect.{Defect}
 use Rattle.mx_register.specs.Registers.{release_line_rows}
 use Rattle.mx_base.specs.declared.rows.rows.AircraftRow.{AircraftRow}

@@ -1,8 +1,8 @@
 -- The registers as one family: the number in a row, and the rows that a command would have with a number, of names that are looked up in a book.
 use Rattle.std.specs.Prelude.{◌≡◌, ℕ, List, [], Option, None, Some, filter, nat_eq}
-use Rattle.mx_command.specs.Act.{Act, Entry, Added, Listed, Loaded, Opened, Flown, Fitted, Removed, Released, Deferred, Extended, aircraft_of, positions_of, component_of, programme_of, tasks_of, opening_of, sector_of, fitting_of, removal_of, release_of, lines_of, deferral_of, extension_of}
-use Rattle.mx_command.specs.declared.release.Line.{Line}
-use Rattle.mx_command.specs.declared.release.Line.TheVariants.{Done, Rectified}
+use Rattle.mx_book.specs.commands.Act.{Act, Entry, Added, Listed, Loaded, Opened, Flown, Fitted, Removed, Released, Deferred, Extended, aircraft_of, positions_of, component_of, programme_of, tasks_of, opening_of, sector_of, fitting_of, removal_of, release_of, lines_of, deferral_of, extension_of}
+use Rattle.mx_book.specs.declared.commands.release.Line.{Line}
+use Rattle.mx_book.specs.declared.commands.release.Line.TheVariants.{Done, Rectified}
 use Rattle.mx_book.specs.Judge.{item_at}
 use Rattle.mx_register.specs.Lines.{lines_from}
 use Rattle.mx_register.specs.Names.{or_zero, seq_of_tail, seq_of_serial, seq_of_defect, seq_of_item}

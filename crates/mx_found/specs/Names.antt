@@ -1,8 +1,8 @@
 -- Numbers of entries by the names of what they added, and names by these numbers, in rows that were found.
 use Rattle.std.specs.Prelude.{ℕ, List, Bool, true, false, Option, filter, find, slice_get}
 use Rattle.std.specs.Option.{option_map, option_map_or}
-use Rattle.mx_command.specs.Act.{Entry}
-use Rattle.mx_command.specs.Same.{same_text}
+use Rattle.mx_book.specs.commands.Act.{Entry}
+use Rattle.mx_book.specs.commands.Same.{same_text}
 use Rattle.mx_book.specs.Book.{entry_at}
 use Rattle.mx_register.specs.Registers.{entry_rows}
 use Rattle.mx_base.specs.declared.rows.rows.AircraftRow.{AircraftRow}

@@ -3,11 +3,11 @@ use Rattle.std.specs.Prelude.{ℕ, ◌+◌, List, Bool, ◌&&◌, Option, filter
 use Rattle.std.specs.List.{list_any}
 use Rattle.std.specs.Option.{option_eq, option_map, option_map_or}
 use Rattle.mx_base.specs.declared.amounts.Use.{Use}
-use Rattle.mx_command.specs.Act.{Entry}
-use Rattle.mx_command.specs.Same.{same_text}
-use Rattle.mx_command.specs.declared.programme.Task.{Task}
-use Rattle.mx_due.specs.Due.{first_due}
-use Rattle.mx_due.specs.Left.{left_of, is_used_up}
+use Rattle.mx_book.specs.commands.Act.{Entry}
+use Rattle.mx_book.specs.commands.Same.{same_text}
+use Rattle.mx_book.specs.declared.commands.programme.Task.{Task}
+use Rattle.mx_book.specs.due.Due.{first_due}
+use Rattle.mx_book.specs.due.Left.{left_of, is_used_up}
 use Rattle.mx_book.specs.Programme.{last_of}
 use Rattle.mx_register.specs.Merge.{task_said}
 use Rattle.mx_register.specs.Registers.{programme_rows, task_rows}

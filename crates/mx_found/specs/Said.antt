@@ -1,9 +1,9 @@
 -- What the rows of aircraft, of their positions and of components that were found say.
 use Rattle.std.specs.Prelude.{ℕ, List, Option, find, slice_get}
 use Rattle.std.specs.Option.{option_map}
-use Rattle.mx_command.specs.Same.{same_text}
-use Rattle.mx_command.specs.declared.aircraft.Aircraft.{Aircraft}
-use Rattle.mx_command.specs.declared.component.Component.{Component}
+use Rattle.mx_book.specs.commands.Same.{same_text}
+use Rattle.mx_book.specs.declared.commands.aircraft.Aircraft.{Aircraft}
+use Rattle.mx_book.specs.declared.commands.component.Component.{Component}
 use Rattle.mx_base.specs.declared.rows.rows.AircraftRow.{AircraftRow}
 use Rattle.mx_base.specs.declared.rows.rows.ComponentRow.{ComponentRow}
 use Rattle.mx_base.specs.declared.rows.rows.PlaceRow.{PlaceRow}

@@ -1,7 +1,7 @@
 //! Aircraft that were found, and their positions.
 ghost use Rattle.std.specs.Prelude.{◌≡◌, ℕ, List, filter, nat_eq, nat_lt, length, None, Some};
-ghost use Rattle.mx_command.specs.Act.{Entry};
-ghost use Rattle.mx_command.specs.Same.{same_text};
+ghost use Rattle.mx_book.specs.commands.Act.{Entry};
+ghost use Rattle.mx_book.specs.commands.Same.{same_text};
 ghost use Rattle.mx_book.specs.Book.{IsBook};
 ghost use Rattle.mx_book.specs.Register.{aircraft, has_room_for_aircraft, part_at};
 ghost use Rattle.mx_book.specs.declared.limits.TheConstants.{MOST_AIRCRAFT};
@@ -14,7 +14,7 @@ ghost use Rattle.mx_found.specs.Said.{aircraft_in, part_in};
 
 use mx_base::rows::{AircraftRow, PlaceRow};
 use mx_base::{Part, Position, Tail, Use};
-use mx_command::Aircraft;
+use mx_book::commands::Aircraft;
 
 /// The number of the first of these aircraft.
 pub fn aircraft_number(rows: &[AircraftRow]) -> Option<u32>

@@ -1,7 +1,7 @@
 //! Components that were found.
 ghost use Rattle.std.specs.Prelude.{◌≡◌, ℕ, List, filter, nat_eq, nat_lt, length};
-ghost use Rattle.mx_command.specs.Act.{Entry};
-ghost use Rattle.mx_command.specs.Same.{same_text};
+ghost use Rattle.mx_book.specs.commands.Act.{Entry};
+ghost use Rattle.mx_book.specs.commands.Same.{same_text};
 ghost use Rattle.mx_book.specs.Register.{component, has_room_for_component};
 ghost use Rattle.mx_book.specs.declared.limits.TheConstants.{MOST_COMPONENTS};
 ghost use Rattle.mx_register.specs.Names.{seq_of_serial, serial_at};
@@ -12,7 +12,7 @@ ghost use Rattle.mx_found.specs.Said.{component_in};
 
 use mx_base::rows::ComponentRow;
 use mx_base::{Serial, Use};
-use mx_command::Component;
+use mx_book::commands::Component;
 
 /// The number of the first of these components.
 pub fn component_number(rows: &[ComponentRow]) -> Option<u32>

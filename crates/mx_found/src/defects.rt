@@ -1,7 +1,7 @@
 //! Defects that were found, their extensions, and whether they were rectified.
 ghost use Rattle.std.specs.Prelude.{◌≡◌, ℕ, List, [], false, filter, is_some, nat_eq, true, None, Some, IsSomeAnd};
 ghost use Rattle.std.specs.List.{filter_map, AllByRecursion};
-ghost use Rattle.mx_command.specs.Act.{Entry};
+ghost use Rattle.mx_book.specs.commands.Act.{Entry};
 ghost use Rattle.mx_book.specs.Book.{IsBook};
 ghost use Rattle.mx_book.specs.Defect.{defect, extension, is_rectified, open_defects};
 ghost use Rattle.mx_register.specs.Names.{seq_of_defect, seq_of_tail};
@@ -16,7 +16,7 @@ use crate::aircraft::tail_in;
 use mx_base::rows::{AircraftRow, DeferralRow, ExtensionRow, ReleaseLineRow};
 use mx_base::{Doc, Tail};
 use mx_book::Defect;
-use mx_command::{Deferral, Extension};
+use mx_book::commands::{Deferral, Extension};
 
 /// The number of the aircraft of the first of these deferrals.
 pub fn deferral_aircraft(rows: &[DeferralRow]) -> Option<u32>

@@ -2,7 +2,7 @@
 ghost use Rattle.std.specs.Prelude.{◌≡◌, ℕ, List, filter, length, map, nat_eq};
 ghost use Rattle.std.specs.List.{range_with_len};
 ghost use Rattle.std.specs.Option.{option_map};
-ghost use Rattle.mx_command.specs.Act.{Entry};
+ghost use Rattle.mx_book.specs.commands.Act.{Entry};
 ghost use Rattle.mx_book.specs.Judge.{known_from};
 ghost use Rattle.mx_register.specs.Names.{seq_of_defect};
 ghost use Rattle.mx_register.specs.Registers.{entry_rows};

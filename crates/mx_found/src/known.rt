@@ -2,10 +2,10 @@
 ghost use Rattle.std.specs.Prelude.{◌≡◌, ◌↔◌, ℕ, Bool, List, None, Some, filter, nat_eq, true};
 ghost use Rattle.std.specs.List.{list_any};
 ghost use Rattle.std.specs.Option.{option_map};
-ghost use Rattle.mx_command.specs.Act.{Entry, Fitted, Removed};
-ghost use Rattle.mx_command.specs.Shape.{has_shape};
-ghost use Rattle.mx_command.specs.declared.fitting.Fitting.{Fitting};
-ghost use Rattle.mx_command.specs.declared.fitting.Removal.{Removal};
+ghost use Rattle.mx_book.specs.commands.Act.{Entry, Fitted, Removed};
+ghost use Rattle.mx_book.specs.commands.Shape.{has_shape};
+ghost use Rattle.mx_book.specs.declared.commands.fitting.Fitting.{Fitting};
+ghost use Rattle.mx_book.specs.declared.commands.fitting.Removal.{Removal};
 ghost use Rattle.mx_book.specs.Asking.{known_same};
 ghost use Rattle.mx_book.specs.Book.{IsBook};
 ghost use Rattle.mx_book.specs.Judge.{known_from};
@@ -20,7 +20,7 @@ ghost use Rattle.mx_found.specs.Names.{entries_with, entry_number};
 ghost use Rattle.mx_found.specs.Spans.{begins_with, ends_with, is_removed_by};
 
 use mx_base::rows::{ReleaseLineRow, SpanRow};
-use mx_command::{Fitting, Line, Removal};
+use mx_book::commands::{Fitting, Line, Removal};
 
 /// The row that a line of a release would have with a number on a line, where this is the number of what it is of: of the item
 /// that a task was done on, or of the defect that was rectified, or 0 where the book has none.

@@ -3,12 +3,12 @@ ghost use Rattle.std.specs.Prelude.{◌≡◌, ◌<◌, ◌^◌, ℕ, List, fals
 ghost use Rattle.std.specs.List.{list_all};
 ghost use Rattle.std.specs.Option.{option_map, option_map_or, SomeIff};
 ghost use Rattle.mx_base.specs.declared.amounts.Use.{Use};
-ghost use Rattle.mx_command.specs.Act.{Entry};
-ghost use Rattle.mx_command.specs.Programme.{task_shape};
-ghost use Rattle.mx_command.specs.declared.aircraft.Aircraft.{Aircraft};
-ghost use Rattle.mx_command.specs.declared.component.Component.{Component};
-ghost use Rattle.mx_command.specs.declared.item.Item.{Item};
-ghost use Rattle.mx_command.specs.declared.item.Item.TheVariants as items;
+ghost use Rattle.mx_book.specs.commands.Act.{Entry};
+ghost use Rattle.mx_book.specs.commands.Programme.{task_shape};
+ghost use Rattle.mx_book.specs.declared.commands.aircraft.Aircraft.{Aircraft};
+ghost use Rattle.mx_book.specs.declared.commands.component.Component.{Component};
+ghost use Rattle.mx_book.specs.declared.commands.item.Item.{Item};
+ghost use Rattle.mx_book.specs.declared.commands.item.Item.TheVariants as items;
 ghost use Rattle.mx_book.specs.Asking.{task_of};
 ghost use Rattle.mx_book.specs.Book.{IsBook};
 ghost use Rattle.mx_book.specs.Life.{life_now};
@@ -20,8 +20,8 @@ ghost use Rattle.mx_found.specs.Programmes.{is_retired_in, programme_number, pro
 
 use mx_base::rows::{ProgrammeRow, TaskRow};
 use mx_base::{Day, Part, TaskId, Use};
-use mx_command::{Applies, Task};
-use mx_due::{first_due, is_used_up, left_of};
+use mx_book::commands::{Applies, Task};
+use mx_book::due::{first_due, is_used_up, left_of};
 use std::alloc::{AllocError, Global};
 
 /// The number of the last of these programmes.

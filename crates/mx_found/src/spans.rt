@@ -2,7 +2,7 @@
 ghost use Rattle.std.specs.Prelude.{◌≡◌, ℕ, List, [], false, filter, is_some, map, true, None, Some};
 ghost use Rattle.std.specs.List.{filter_map, AllByRecursion};
 ghost use Rattle.std.specs.Option.{option_and_then};
-ghost use Rattle.mx_command.specs.Act.{Entry};
+ghost use Rattle.mx_book.specs.commands.Act.{Entry};
 ghost use Rattle.mx_book.specs.Book.{IsBook};
 ghost use Rattle.mx_book.specs.Span.{is_open_on, is_taken, spans, tail_fitted};
 ghost use Rattle.mx_register.specs.Names.{seq_of_serial, seq_of_tail, tail_at};

@@ -1,7 +1,7 @@
 //! What the rows of an entry that were found state.
 ghost use Rattle.std.specs.Prelude.{◌≡◌, ℕ, List, IfOk, Some, map, slice_get};
 ghost use Rattle.std.specs.List.{filter_map};
-ghost use Rattle.mx_command.specs.Act.{Entry};
+ghost use Rattle.mx_book.specs.commands.Act.{Entry};
 ghost use Rattle.mx_book.specs.Book.{IsBook, entry_at};
 ghost use Rattle.mx_kept_rows.specs.Spans.{fitting_in, removal_in};
 ghost use Rattle.mx_register.specs.Merge.{task_said};
@@ -11,7 +11,7 @@ ghost use Rattle.mx_found.specs.Stated.{certified_in, position_said, stated};
 use crate::programmes::task_said;
 use mx_base::rows::{FittingRow, PlaceRow, ReleaseLineRow, RemovalRow, SpanRow, TaskRow};
 use mx_base::{Limit, Part, Position, TaskId};
-use mx_command::{Applies, Task};
+use mx_book::commands::{Applies, Task};
 use std::alloc::{AllocError, Global};
 
 /// What a line of a release certifies, by number.

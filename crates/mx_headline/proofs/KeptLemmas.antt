@@ -7,7 +7,7 @@ use Rattle.sqlite.specs.Store.{Ghosts}
 use Rattle.sqlite.specs.Held.{Held, state}
 use Rattle.sqlite.specs.State.{State, HasCleanDisk}
 use Rattle.sqlite.proofs.MarkLemmas.{slice_get-take}
-use Rattle.mx_command.specs.Act.{Entry}
+use Rattle.mx_book.specs.commands.Act.{Entry}
 use Rattle.mx_book.specs.Accepted.{accepted, is_accepted, Acknowledges, HasAcknowledged}
 use Rattle.mx_book.specs.Book.{entry_at}
 use Rattle.mx_book.specs.Run.{book_run, replies}

@@ -2,7 +2,7 @@
 use Rattle.std.proofs.Common.{◌≡◌, ℕ, zero, suc, List, None, Some, refl, subst}
 use Rattle.sqlite.specs.State.{State}
 use Rattle.sqlite.specs.Tree.{Trees}
-use Rattle.mx_command.specs.Act.{Entry}
+use Rattle.mx_book.specs.commands.Act.{Entry}
 use Rattle.mx_power.specs.Found.{IsFound}
 use Rattle.mx_power.proofs.FoundLemmas.{rests_found}
 use Rattle.mx_base.specs.declared.point.Point.{Point}

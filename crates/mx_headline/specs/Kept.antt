@@ -1,6 +1,6 @@
 -- What a stop leaves of a run, as a book.
 use Rattle.std.specs.Prelude.{◌≡◌, ◌≢◌, ◌⊎◌, ℕ, ◌+◌, List, ◌++◌, length, take, count_by, Some}
-use Rattle.mx_command.specs.Act.{Entry}
+use Rattle.mx_book.specs.commands.Act.{Entry}
 use Rattle.mx_book.specs.Accepted.{accepted, is_accepted, HasAcknowledged}
 use Rattle.mx_book.specs.Run.{replies}
 use Rattle.mx_layout.specs.declared.fault.Table.{Table}

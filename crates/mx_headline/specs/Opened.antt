@@ -7,7 +7,7 @@ use Rattle.sqlite.specs.Held.{Held}
 use Rattle.sqlite.specs.State.{State, HasCleanDisk}
 use Rattle.sqlite.specs.Tree.{Trees}
 use Rattle.sqlite.specs.Files.{file_state, over_files}
-use Rattle.mx_command.specs.Act.{Entry}
+use Rattle.mx_book.specs.commands.Act.{Entry}
 use Rattle.mx_base.specs.declared.point.Point.{Point}
 use Rattle.mx_layout.specs.Crash.{Leaves, RestsAs}
 use Rattle.mx_settle.specs.Place.{IsPlacedAt, SaysAt}

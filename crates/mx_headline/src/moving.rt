@@ -3,7 +3,7 @@
 ghost use Rattle.std.specs.Prelude.{◌≡◌, List, false, IfOk, IfErr};
 ghost use Rattle.sqlite.specs.Files.{file_state};
 ghost use Rattle.sqlite.specs.Held.{state};
-ghost use Rattle.mx_command.specs.Act.{Entry};
+ghost use Rattle.mx_book.specs.commands.Act.{Entry};
 ghost use Rattle.mx_layout.specs.Crash.{Leaves};
 ghost use Rattle.mx_base.specs.declared.point.Point.{Point};
 ghost use Rattle.mx_stands.specs.Stands.{RestsAt};

@@ -5,7 +5,7 @@ ghost use Rattle.sqlite.specs.Files.{file_state};
 ghost use Rattle.sqlite_store.specs.FileStore as files;
 ghost use Rattle.sqlite_trees.specs.View.{IsClean};
 ghost use Rattle.sqlite_wal.specs.Files.{image_at};
-ghost use Rattle.mx_command.specs.Act.{Entry};
+ghost use Rattle.mx_book.specs.commands.Act.{Entry};
 ghost use Rattle.mx_base.specs.declared.point.Point.{Point};
 ghost use Rattle.mx_power.specs.Found.{WasLeft};
 ghost use Rattle.mx_stands.specs.Schemas.{IsOfFile};
@@ -18,7 +18,7 @@ ghost use Rattle.mx_headline.specs.Reopened.{GoesOn, IsStopOf, KeepsUnopened, Re
 
 use crate::running::{Reopened, Stopped, Unopened, print_due};
 use mx_base::{Day, Tail};
-use mx_command::Command;
+use mx_book::commands::Command;
 use mx_office::{Fault, Office, OpenFault, Outcomes, open_office};
 use mx_power::{end_process, reopen_file};
 use sqlite::{Connection, FileFrom, FileStore};

@@ -3,7 +3,7 @@
 ghost use Rattle.std.specs.Prelude.{◌≡◌, ◌≢◌, ◌≤◌, [], None, Some, false, length, List, IfOk, IfErr};
 ghost use Rattle.sqlite.specs.State.{HasCleanDisk};
 ghost use Rattle.sqlite.specs.Files.{file_state};
-ghost use Rattle.mx_command.specs.Act.{Entry};
+ghost use Rattle.mx_book.specs.commands.Act.{Entry};
 ghost use Rattle.mx_base.specs.declared.point.Point.{Point};
 ghost use Rattle.mx_stands.specs.Schemas.{IsOfFile};
 ghost use Rattle.mx_stands.specs.Stands.{RestsAt};
@@ -14,7 +14,7 @@ ghost use Rattle.mx_headline.specs.Reopened.{GoesOn, IsStopOf, Reopens};
 
 use crate::running::{Reopened, Stopped, Unopened, print_due, run_and_reopen};
 use mx_base::{Day, Tail};
-use mx_command::Command;
+use mx_book::commands::Command;
 use mx_office::{Fault, Office, OpenFault, Outcomes, open_office};
 use mx_power::reopen;
 use sqlite::{Alter, Connection, FileStore, Options};

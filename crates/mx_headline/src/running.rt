@@ -11,7 +11,7 @@ ghost use Rattle.mx_office.specs.Office.{office_state, IsInDoubt, IsReady, Stand
 ghost use Rattle.mx_headline.specs.Reopened.{FindsUnopened, GoesOn, IsPrintOf, KeepsUnopened, Reopens};
 
 use mx_base::{Day, Tail};
-use mx_command::Command;
+use mx_book::commands::Command;
 use mx_office::{Ask, Fault, Office, OpenFault, Outcomes, open_office};
 use mx_power::reopen;
 use mx_reports::due_text;

@@ -2,7 +2,7 @@
 ghost use Rattle.std.specs.Prelude.{◌≡◌, ◌≢◌, [], None, false, length, List, IfOk, IfErr};
 ghost use Rattle.sqlite.specs.State.{HasCleanDisk};
 ghost use Rattle.sqlite.specs.Files.{file_state};
-ghost use Rattle.mx_command.specs.Act.{Entry};
+ghost use Rattle.mx_book.specs.commands.Act.{Entry};
 ghost use Rattle.mx_base.specs.declared.point.Point.{Point};
 ghost use Rattle.mx_stands.specs.Schemas.{IsOfFile};
 ghost use Rattle.mx_stands.specs.Stands.{RestsAt};
@@ -14,7 +14,7 @@ ghost use Rattle.mx_headline.specs.Reopened.{KeepsUnopened, ReopensTwice};
 use crate::opening::{Opened, open_run_and_reopen};
 use crate::running::{Reopened, Stopped, Unopened, run_and_reopen};
 use mx_base::{Day, Tail};
-use mx_command::Command;
+use mx_book::commands::Command;
 use mx_office::{Office, OpenFault, Outcomes};
 use mx_power::reopen;
 use sqlite::{Alter, Connection, Error, FileStore, Options};

@@ -1,6 +1,6 @@
 -- An import: the rows of what a reader has left, or why there are none.
 use Rattle.std.specs.Prelude.{◌≡◌, ◌⊎◌, ℕ, List, Option, Result, Ok, Err}
-use Rattle.mx_command.specs.Act.{Entry}
+use Rattle.mx_book.specs.commands.Act.{Entry}
 use Rattle.mx_intake.specs.Input.{IfKnownAll, IfKnownLonger}
 use Rattle.mx_intake.specs.Sectors.{sector_rows}
 use Rattle.mx_intake.specs.Fault.{fault}

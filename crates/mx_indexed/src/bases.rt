@@ -1,10 +1,10 @@
 //! The bases that an entry sets behind a book beside its maps.
 ghost use Rattle.std.specs.Prelude.{◌≡◌, true, IfOk, IfSome};
 ghost use Rattle.std.specs.List.{AllByRecursion};
-ghost use Rattle.mx_command.specs.Act.{Released};
-ghost use Rattle.mx_command.specs.Programme.{task_shape};
-ghost use Rattle.mx_command.specs.Shape.{use_shape};
-ghost use Rattle.mx_due.specs.Due.{IsBase, IsLife};
+ghost use Rattle.mx_book.specs.commands.Act.{Released};
+ghost use Rattle.mx_book.specs.commands.Programme.{task_shape};
+ghost use Rattle.mx_book.specs.commands.Shape.{use_shape};
+ghost use Rattle.mx_book.specs.due.Due.{IsBase, IsLife};
 ghost use Rattle.mx_book.specs.Life.{life_now, use_or_none};
 ghost use Rattle.mx_book.specs.Programme.{kind_at, task_at};
 ghost use Rattle.mx_kept_rows.specs.Bases.{base_reached, stated_base};
@@ -13,9 +13,9 @@ ghost use Rattle.mx_indexes.specs.Work.{bases_set, line_base};
 
 use crate::indexed_book::IndexedBook;
 use mx_base::{Base, Kind, Limit, TaskId, Use, day_of};
+use mx_book::commands::{Command, Item, Line, Opening, Place, Release, Task};
+use mx_book::due::{base_done, due_after};
 use mx_book::found::birth_of;
-use mx_command::{Command, Item, Line, Opening, Place, Release, Task};
-use mx_due::{base_done, due_after};
 use std::alloc::{AllocError, Global};
 
 // The kind of aircraft by whose programme the work at a place is done, where it is known.

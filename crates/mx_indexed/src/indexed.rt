@@ -5,9 +5,9 @@ ghost use Rattle.mx_indexed.specs.Reading.{indexed_reading};
 
 use crate::indexed_book::IndexedBook;
 use mx_base::{Day, Doc, Kind, Moment, Part, Position, Serial, Tail, TaskId};
+use mx_book::commands::{Aircraft, Command, Component, Extension, Item, Task};
+use mx_book::judging::verdict_on;
 use mx_book::{Defect, Records, Verdict};
-use mx_command::{Aircraft, Command, Component, Extension, Item, Task};
-use mx_judge::verdict_on;
 use std::convert::Infallible;
 
 /// A book beside its maps that is read in place: no question changes it, and none is left without an answer.

@@ -2,9 +2,9 @@
 ghost use Rattle.std.specs.Prelude.{◌≡◌, ◌+◌, [], ◌∷◌, ◌++◌, length, false, true, OnOk, OnErr, IfOk, IfErr, IfSome};
 ghost use Rattle.std.specs.List.{list_all, list_any};
 ghost use Rattle.std.specs.Option.{option_copied, option_map, option_map_or};
-ghost use Rattle.mx_command.specs.Programme.{task_shape};
+ghost use Rattle.mx_book.specs.commands.Programme.{task_shape};
 ghost use Rattle.mx_book.specs.Asking.{known_same, task_of};
-ghost use Rattle.mx_due.specs.Due.{IsBase};
+ghost use Rattle.mx_book.specs.due.Due.{IsBase};
 ghost use Rattle.mx_book.specs.Base.{base};
 ghost use Rattle.mx_book.specs.Defect.{defect, extension, is_rectified};
 ghost use Rattle.mx_book.specs.Judge.{earliest_takeoff, judge, known_from};
@@ -16,11 +16,11 @@ ghost use Rattle.mx_indexes.specs.Programmes.{programme_entry};
 
 use crate::bases::bases_set;
 use mx_base::{Base, Day, Doc, Kind, Moment, Part, Position, Serial, Tail, TaskId, Use};
+use mx_book::commands::{Aircraft, Command, Component, Extension, Item, Task};
+use mx_book::entry_list::{Book, NoMemory};
 use mx_book::found::Found;
 use mx_book::limits::{MOST_AIRCRAFT, MOST_COMPONENTS};
 use mx_book::{Defect, Verdict};
-use mx_command::{Aircraft, Command, Component, Extension, Item, Task};
-use mx_entry_list::{Book, NoMemory};
 use mx_indexes::indexes::Indexes;
 use mx_indexes::maps::held;
 use mx_indexes::programmes::{one_retires, revision_after, task_named, tasks_loaded};
@@ -38,7 +38,7 @@ pub struct IndexedBook {
 
 impl Model for IndexedBook {
     ghost use Rattle.std.specs.Prelude.{List};
-    ghost use Rattle.mx_command.specs.Act.{Entry};
+    ghost use Rattle.mx_book.specs.commands.Act.{Entry};
     ghost use Rattle.mx_indexes.specs.Indexed.{AreIndexes};
 
     ghost Value = { List Entry };

@@ -4,7 +4,7 @@ use Rattle.std.specs.Ordering.{is_eq, nat_cmp}
 use Rattle.std.specs.declared.cmp.Ordering.{Ordering}
 use Rattle.std.specs.BTreeMap.{BTreeMap}
 use Rattle.std.specs.Cmp.Lexicographic.{slice_cmp, texts_ties}
-use Rattle.mx_command.specs.Same.{same_text}
+use Rattle.mx_book.specs.commands.Same.{same_text}
 use Rattle.mx_indexes.specs.Maps.{HasRoomForAll, IsIndex, KeepsRows, changed, changed_all, held}
 
 module _ {K V : Type 0} (cmp : K → K → Ordering) (none : V) where

@@ -6,11 +6,11 @@ use Rattle.std.specs.Option.{option_and_then, option_map, option_map_or}
 use Rattle.std.specs.Ordering.{nat_cmp}
 use Rattle.std.specs.Cmp.Lexicographic.{slice_cmp}
 use Rattle.std.proofs.lemmas.List.{length-append}
-use Rattle.mx_command.specs.Act.{Act, Entry, Loaded}
-use Rattle.mx_command.specs.Same.{same_text}
+use Rattle.mx_book.specs.commands.Act.{Act, Entry, Loaded}
+use Rattle.mx_book.specs.commands.Same.{same_text}
 use Rattle.mx_base.specs.declared.amounts.Use.{Use}
-use Rattle.mx_command.specs.declared.item.Item.{Item}
-use Rattle.mx_command.specs.declared.programme.Task.{Task}
+use Rattle.mx_book.specs.declared.commands.item.Item.{Item}
+use Rattle.mx_book.specs.declared.commands.programme.Task.{Task}
 use Rattle.mx_book.specs.Book.{entry_at}
 use Rattle.mx_book.specs.Life.{life_now}
 use Rattle.mx_book.specs.Programme.{is_at_end, is_ended_by, last_of, life_ended, next_revision, revision_in_force, revision_loaded, tasks_in_force, tasks_loaded}

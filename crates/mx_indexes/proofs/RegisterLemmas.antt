@@ -8,12 +8,12 @@ use Rattle.std.specs.Cmp.Lexicographic.{slice_cmp}
 use Rattle.std.specs.BTreeMap.{BTreeMap}
 use Rattle.std.proofs.lemmas.List.Elements.{filter_map-append}
 use Rattle.std.proofs.lemmas.List.Folds.{find-append}
-use Rattle.mx_command.specs.Act.{Act, Entry, Added, Listed, Extended, aircraft_of, component_of, deferral_of, extension_of}
-use Rattle.mx_command.specs.Same.{same_entry, same_text}
-use Rattle.mx_command.specs.declared.aircraft.Aircraft.{Aircraft}
-use Rattle.mx_command.specs.declared.component.Component.{Component}
-use Rattle.mx_command.specs.declared.deferral.Extension.{Extension}
-use Rattle.mx_command.proofs.SameLemmas.{text_same}
+use Rattle.mx_book.specs.commands.Act.{Act, Entry, Added, Listed, Extended, aircraft_of, component_of, deferral_of, extension_of}
+use Rattle.mx_book.specs.commands.Same.{same_entry, same_text}
+use Rattle.mx_book.specs.declared.commands.aircraft.Aircraft.{Aircraft}
+use Rattle.mx_book.specs.declared.commands.component.Component.{Component}
+use Rattle.mx_book.specs.declared.commands.deferral.Extension.{Extension}
+use Rattle.mx_book.proofs.CommandsProofs.SameLemmas.{text_same}
 use Rattle.mx_book.specs.declared.defects.Defect.{Defect}
 use Rattle.mx_book.specs.declared.verdict.Verdict.TheVariants.{New}
 use Rattle.mx_book.specs.Asking.{known_same}

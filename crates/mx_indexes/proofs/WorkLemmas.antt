@@ -8,16 +8,16 @@ use Rattle.std.specs.Ordering.{nat_cmp}
 use Rattle.std.specs.Cmp.Lexicographic.{slice_cmp}
 use Rattle.std.proofs.lemmas.List.Folds.{list_any-append}
 use Rattle.mx_base.specs.declared.amounts.Base.{Base}
-use Rattle.mx_command.specs.Act.{Act, Entry, Added, Listed, Loaded, Opened, Flown, Fitted, Removed, Released, Deferred, Extended, lines_of}
-use Rattle.mx_command.specs.Same.{same_item, same_text}
-use Rattle.mx_command.specs.Shape.{act_shape, doc_shape, has_shape}
-use Rattle.mx_command.specs.declared.item.Item.{Item}
-use Rattle.mx_command.specs.declared.item.Item.TheVariants.{Airframe, Component}
-use Rattle.mx_command.specs.declared.release.Line.{Line}
-use Rattle.mx_command.specs.declared.release.Line.TheVariants.{Done, Rectified}
-use Rattle.mx_command.specs.declared.release.Release.{Release}
-use Rattle.mx_command.proofs.SameLemmas.{text_same}
-use Rattle.mx_due.specs.Due.{IsBase}
+use Rattle.mx_book.specs.commands.Act.{Act, Entry, Added, Listed, Loaded, Opened, Flown, Fitted, Removed, Released, Deferred, Extended, lines_of}
+use Rattle.mx_book.specs.commands.Same.{same_item, same_text}
+use Rattle.mx_book.specs.commands.Shape.{act_shape, doc_shape, has_shape}
+use Rattle.mx_book.specs.declared.commands.item.Item.{Item}
+use Rattle.mx_book.specs.declared.commands.item.Item.TheVariants.{Airframe, Component}
+use Rattle.mx_book.specs.declared.commands.release.Line.{Line}
+use Rattle.mx_book.specs.declared.commands.release.Line.TheVariants.{Done, Rectified}
+use Rattle.mx_book.specs.declared.commands.release.Release.{Release}
+use Rattle.mx_book.proofs.CommandsProofs.SameLemmas.{text_same}
+use Rattle.mx_book.specs.due.Due.{IsBase}
 use Rattle.mx_book.specs.Base.{base}
 use Rattle.mx_book.specs.Book.{IsBook}
 use Rattle.mx_book.specs.Defect.{is_rectified, rectifies}

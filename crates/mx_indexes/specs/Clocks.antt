@@ -3,10 +3,10 @@ use Rattle.std.specs.Prelude.{ℕ, max, List, Option, Some, None}
 use Rattle.std.specs.Option.{option_map}
 use Rattle.std.specs.Ordering.{nat_cmp}
 use Rattle.std.specs.Cmp.Lexicographic.{slice_cmp}
-use Rattle.mx_command.specs.Act.{Act, Entry, Added, Listed, Flown, Fitted, Removed, Released, Deferred}
-use Rattle.mx_command.specs.declared.item.Item.TheVariants.{Airframe, Component}
-use Rattle.mx_command.specs.declared.release.Place.{Place}
-use Rattle.mx_command.specs.declared.release.Place.TheVariants as places
+use Rattle.mx_book.specs.commands.Act.{Act, Entry, Added, Listed, Flown, Fitted, Removed, Released, Deferred}
+use Rattle.mx_book.specs.declared.commands.item.Item.TheVariants.{Airframe, Component}
+use Rattle.mx_book.specs.declared.commands.release.Place.{Place}
+use Rattle.mx_book.specs.declared.commands.release.Place.TheVariants as places
 use Rattle.mx_book.specs.Life.{clock}
 use Rattle.mx_book.specs.Span.{tail_fitted}
 use Rattle.mx_indexes.specs.Maps.{HasRoom, IsIndex}

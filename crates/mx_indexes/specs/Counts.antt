@@ -1,6 +1,6 @@
 -- How many aircraft and components a book has.
 use Rattle.std.specs.Prelude.{List, length}
-use Rattle.mx_command.specs.Act.{Entry, aircraft_of, component_of}
+use Rattle.mx_book.specs.commands.Act.{Entry, aircraft_of, component_of}
 use Rattle.mx_book.specs.Register.{register}
 use Rattle.mx_indexes.specs.declared.counts.Counts.{Counts}
 

@@ -2,7 +2,7 @@
 use Rattle.std.specs.Prelude.{◌≡◌, List, [], ◌∷◌, ◌++◌}
 use Rattle.std.specs.Ordering.{nat_cmp}
 use Rattle.std.specs.Cmp.Lexicographic.{slice_cmp}
-use Rattle.mx_command.specs.Act.{Entry}
+use Rattle.mx_book.specs.commands.Act.{Entry}
 use Rattle.mx_indexes.specs.Clocks.{AreClocks, ClocksHaveRoom, clocks_changed}
 use Rattle.mx_indexes.specs.Counts.{counts_of}
 use Rattle.mx_indexes.specs.Lives.{AreLives, LivesHaveRoom, lives_changed}

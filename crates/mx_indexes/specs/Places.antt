@@ -4,7 +4,7 @@ use Rattle.std.specs.Option.{option_map}
 use Rattle.std.specs.declared.cmp.Ordering.{Ordering}
 use Rattle.std.specs.Ordering.{nat_cmp, ordering_then}
 use Rattle.std.specs.Cmp.Lexicographic.{slice_cmp}
-use Rattle.mx_command.specs.Act.{Act, Entry, Fitted, Removed}
+use Rattle.mx_book.specs.commands.Act.{Act, Entry, Fitted, Removed}
 use Rattle.mx_book.specs.Span.{fitted, is_taken}
 use Rattle.mx_indexes.specs.Maps.{HasRoom, IsIndex}
 use Rattle.mx_indexes.specs.declared.places.PlaceChanges.{PlaceChanges}

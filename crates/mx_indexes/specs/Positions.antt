@@ -1,6 +1,6 @@
 -- The positions of the aircraft, in a map, and which an entry gives.
 use Rattle.std.specs.Prelude.{ℕ, List, [], map, Option, Some, None}
-use Rattle.mx_command.specs.Act.{Act, Entry, Added}
+use Rattle.mx_book.specs.commands.Act.{Act, Entry, Added}
 use Rattle.mx_book.specs.Register.{part_at}
 use Rattle.mx_indexes.specs.Maps.{IsIndex}
 use Rattle.mx_indexes.specs.Places.{names_cmp}

@@ -4,7 +4,7 @@ use Rattle.std.specs.Option.{option_and_then, option_map}
 use Rattle.std.specs.BTreeMap.{BTreeMap}
 use Rattle.std.specs.Ordering.{nat_cmp}
 use Rattle.std.specs.Cmp.Lexicographic.{slice_cmp}
-use Rattle.mx_command.specs.Act.{Entry, programme_of}
+use Rattle.mx_book.specs.commands.Act.{Entry, programme_of}
 use Rattle.mx_book.specs.Book.{entry_at}
 use Rattle.mx_register.specs.Names.{adds_named}
 use Rattle.mx_indexes.specs.Maps.{IsIndex}

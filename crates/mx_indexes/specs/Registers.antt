@@ -3,7 +3,7 @@ use Rattle.std.specs.Prelude.{ℕ, ◌+◌, length, List, Option, Some, None}
 use Rattle.std.specs.Option.{option_map}
 use Rattle.std.specs.Ordering.{nat_cmp}
 use Rattle.std.specs.Cmp.Lexicographic.{slice_cmp}
-use Rattle.mx_command.specs.Act.{Entry, aircraft_of, component_of, extension_of}
+use Rattle.mx_book.specs.commands.Act.{Entry, aircraft_of, component_of, extension_of}
 use Rattle.mx_book.specs.Defect.{deferred_by, defect, extension}
 use Rattle.mx_book.specs.Judge.{known_from}
 use Rattle.mx_book.specs.Register.{aircraft, component}

@@ -1,8 +1,8 @@
 //! The clocks of the items in maps.
 ghost use Rattle.std.specs.Prelude.{◌≡◌, [], ◌∷◌, ◌++◌, ℕ, List, max, true};
 ghost use Rattle.std.specs.Bool.{OnTrue};
-ghost use Rattle.mx_command.specs.Act.{Entry};
-ghost use Rattle.mx_command.specs.Shape.{has_shape};
+ghost use Rattle.mx_book.specs.commands.Act.{Entry};
+ghost use Rattle.mx_book.specs.commands.Shape.{has_shape};
 ghost use Rattle.mx_book.specs.Book.{IsBook};
 ghost use Rattle.mx_book.specs.Judge.{judge};
 ghost use Rattle.mx_book.specs.Life.{clock};
@@ -13,7 +13,7 @@ use crate::maps::{held, make_room, put};
 use crate::places::Places;
 use mx_base::{Moment, Serial, Tail};
 use mx_book::Verdict;
-use mx_command::{Body, Command, Item, Place};
+use mx_book::commands::{Body, Command, Item, Place};
 use std::alloc::Global;
 use std::collections::BTreeMap;
 

@@ -1,10 +1,10 @@
 //! How many aircraft and components a book has.
 ghost use Rattle.std.specs.Prelude.{◌≡◌, ◌+◌, ◌-◌, ◌^◌, ◌<◌, [], ◌∷◌, ◌++◌, List, if◌then◌else◌};
-ghost use Rattle.mx_command.specs.Act.{Entry};
+ghost use Rattle.mx_book.specs.commands.Act.{Entry};
 ghost use Rattle.mx_book.specs.Book.{IsBook};
 ghost use Rattle.mx_indexes.specs.Counts.{counts_of};
 
-use mx_command::Command;
+use mx_book::commands::Command;
 
 /// How many aircraft and components there are.
 #[derive(Clone, Copy)]

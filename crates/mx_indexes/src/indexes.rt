@@ -2,9 +2,9 @@
 ghost use Rattle.std.specs.Prelude.{◌≡◌, ◌+◌, [], ◌∷◌, ◌++◌, List, length, true, IfOk};
 ghost use Rattle.std.specs.Bool.{OnTrue};
 ghost use Rattle.std.specs.List.{AllByRecursion};
-ghost use Rattle.mx_command.specs.Act.{Entry};
-ghost use Rattle.mx_command.specs.Shape.{has_shape};
-ghost use Rattle.mx_due.specs.Due.{IsBase};
+ghost use Rattle.mx_book.specs.commands.Act.{Entry};
+ghost use Rattle.mx_book.specs.commands.Shape.{has_shape};
+ghost use Rattle.mx_book.specs.due.Due.{IsBase};
 ghost use Rattle.mx_book.specs.Book.{IsBook};
 ghost use Rattle.mx_book.specs.Judge.{judge};
 ghost use Rattle.mx_indexes.specs.Indexed.{AreChanges, AreIndexes, HaveRoom};
@@ -21,7 +21,7 @@ use crate::registers::{RegisterChanges, Registers, registers_changed};
 use crate::work::{Work, WorkChanges, work_changed};
 use mx_base::{Base, Kind, Part, Position, Tail, TaskId};
 use mx_book::Verdict;
-use mx_command::{Command, Item};
+use mx_book::commands::{Command, Item};
 use std::alloc::{AllocError, Global};
 use std::collections::BTreeMap;
 

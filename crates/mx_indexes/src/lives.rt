@@ -3,9 +3,9 @@ ghost use Rattle.std.specs.Prelude.{◌≡◌, ◌<◌, ◌^◌, ℕ, pos, ◌-�
 ghost use Rattle.mx_base.specs.declared.amounts.Use.{Use};
 ghost use Rattle.std.specs.Bool.{OnTrue};
 ghost use Rattle.std.specs.Option.{option_map};
-ghost use Rattle.mx_command.specs.Act.{Entry};
-ghost use Rattle.mx_command.specs.Shape.{has_shape, sector_shape};
-ghost use Rattle.mx_due.specs.Due.{IsLife};
+ghost use Rattle.mx_book.specs.commands.Act.{Entry};
+ghost use Rattle.mx_book.specs.commands.Shape.{has_shape, sector_shape};
+ghost use Rattle.mx_book.specs.due.Due.{IsLife};
 ghost use Rattle.mx_book.specs.Book.{IsBook};
 ghost use Rattle.mx_book.specs.Judge.{judge};
 ghost use Rattle.mx_book.specs.Life.{life_now, use_after, use_or_none};
@@ -16,7 +16,7 @@ use crate::maps::{held, make_room, put};
 use crate::places::Places;
 use mx_base::{Serial, Tail, Use};
 use mx_book::Verdict;
-use mx_command::{Body, Command, Item, Sector};
+use mx_book::commands::{Body, Command, Item, Sector};
 use std::alloc::Global;
 use std::collections::BTreeMap;
 

@@ -1,8 +1,8 @@
 //! Where components are fitted, in maps.
 ghost use Rattle.std.specs.Prelude.{◌≡◌, [], ◌∷◌, ◌++◌, List, true};
 ghost use Rattle.std.specs.Bool.{OnTrue};
-ghost use Rattle.mx_command.specs.Act.{Entry};
-ghost use Rattle.mx_command.specs.Shape.{has_shape};
+ghost use Rattle.mx_book.specs.commands.Act.{Entry};
+ghost use Rattle.mx_book.specs.commands.Shape.{has_shape};
 ghost use Rattle.mx_book.specs.Book.{IsBook};
 ghost use Rattle.mx_book.specs.Judge.{judge};
 ghost use Rattle.mx_book.specs.Span.{is_taken, tail_fitted};
@@ -11,7 +11,7 @@ ghost use Rattle.mx_indexes.specs.Places.{ArePlaces, PlacesHaveRoom, component_m
 use crate::maps::{held, make_room, put};
 use mx_base::{Position, Serial, Tail};
 use mx_book::Verdict;
-use mx_command::{Body, Command};
+use mx_book::commands::{Body, Command};
 use std::alloc::Global;
 use std::collections::BTreeMap;
 

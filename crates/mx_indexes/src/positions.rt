@@ -3,7 +3,7 @@ ghost use Rattle.std.specs.Prelude.{◌≡◌, IfOk, Some, map};
 ghost use Rattle.mx_indexes.specs.Positions.{parts_given};
 
 use mx_base::{Part, Position, Tail};
-use mx_command::Command;
+use mx_book::commands::Command;
 use std::alloc::{AllocError, Global};
 
 // The parts of positions, each by its aircraft and its name.

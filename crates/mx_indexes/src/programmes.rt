@@ -2,18 +2,18 @@
 ghost use Rattle.std.specs.Prelude.{◌≡◌, ◌+◌, List, find, length, true, IfSome};
 ghost use Rattle.std.specs.List.{list_all, list_any};
 ghost use Rattle.std.specs.Option.{option_map, option_map_or, option_and_then, option_copied};
-ghost use Rattle.mx_command.specs.Act.{Entry};
-ghost use Rattle.mx_command.specs.Programme.{task_shape};
-ghost use Rattle.mx_command.specs.Same.{same_text};
-ghost use Rattle.mx_command.specs.declared.item.Item.{Item};
+ghost use Rattle.mx_book.specs.commands.Act.{Entry};
+ghost use Rattle.mx_book.specs.commands.Programme.{task_shape};
+ghost use Rattle.mx_book.specs.commands.Same.{same_text};
+ghost use Rattle.mx_book.specs.declared.commands.item.Item.{Item};
 ghost use Rattle.mx_book.specs.Programme.{is_at_end, revision_loaded, tasks_loaded};
 ghost use Rattle.mx_book.specs.Register.{found_of};
 ghost use Rattle.mx_indexes.specs.Programmes.{programme_changed};
 
 use mx_base::{Day, Kind, TaskId, Use};
+use mx_book::commands::{Command, Task};
+use mx_book::due::{first_due, is_used_up, left_of};
 use mx_book::found::{Found, birth_of, is_task_of};
-use mx_command::{Command, Task};
-use mx_due::{first_due, is_used_up, left_of};
 
 /// What an entry changes that has this number.
 pub fn programme_changed(entry: &Command, seq: u32) -> Option<(Kind, Option<u32>)>

@@ -1,8 +1,8 @@
 //! The registers in maps: the number of each document, and the row of each aircraft, component, defect and extension.
 ghost use Rattle.std.specs.Prelude.{◌≡◌, ◌+◌, [], ◌∷◌, ◌++◌, List, length, true};
 ghost use Rattle.std.specs.Bool.{OnTrue};
-ghost use Rattle.mx_command.specs.Act.{Entry};
-ghost use Rattle.mx_command.specs.Shape.{has_shape};
+ghost use Rattle.mx_book.specs.commands.Act.{Entry};
+ghost use Rattle.mx_book.specs.commands.Shape.{has_shape};
 ghost use Rattle.mx_book.specs.Book.{IsBook};
 ghost use Rattle.mx_book.specs.Defect.{deferred_by};
 ghost use Rattle.mx_book.specs.Judge.{judge};
@@ -10,8 +10,8 @@ ghost use Rattle.mx_indexes.specs.Registers.{AreRegisters, RegistersHaveRoom, re
 
 use crate::maps::{make_room, put};
 use mx_base::{Doc, Serial, Tail};
+use mx_book::commands::{Aircraft, Command, Component, Extension};
 use mx_book::{Defect, Verdict};
-use mx_command::{Aircraft, Command, Component, Extension};
 use std::alloc::Global;
 use std::collections::BTreeMap;
 

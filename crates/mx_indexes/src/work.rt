@@ -2,9 +2,9 @@
 ghost use Rattle.std.specs.Prelude.{◌≡◌, [], ◌∷◌, ◌++◌, IfOk, List, true};
 ghost use Rattle.std.specs.Bool.{OnTrue};
 ghost use Rattle.std.specs.List.{AllByRecursion, filter_map};
-ghost use Rattle.mx_command.specs.Act.{Entry, lines_of};
-ghost use Rattle.mx_command.specs.Shape.{has_shape};
-ghost use Rattle.mx_due.specs.Due.{IsBase};
+ghost use Rattle.mx_book.specs.commands.Act.{Entry, lines_of};
+ghost use Rattle.mx_book.specs.commands.Shape.{has_shape};
+ghost use Rattle.mx_book.specs.due.Due.{IsBase};
 ghost use Rattle.mx_book.specs.Base.{base};
 ghost use Rattle.mx_book.specs.Book.{IsBook};
 ghost use Rattle.mx_book.specs.Defect.{is_rectified};
@@ -14,7 +14,7 @@ ghost use Rattle.mx_indexes.specs.Work.{IsWork, IsWorkChanged, WorkHasRoom, airf
 use crate::maps::{held, make_room_for_all, put_all};
 use mx_base::{Base, Doc, Serial, Tail, TaskId};
 use mx_book::Verdict;
-use mx_command::{Command, Item, Line};
+use mx_book::commands::{Command, Item, Line};
 use std::alloc::{AllocError, Global};
 use std::collections::BTreeMap;
 

@@ -13,8 +13,8 @@ ghost use Rattle.mx_install.specs.Entries.{AddsEntries, FitsNext, first_point, w
 
 use mx_base::rows::RegisterRows;
 use mx_book::Verdict;
-use mx_command::Command;
-use mx_entry_list::Book;
+use mx_book::commands::Command;
+use mx_book::entry_list::Book;
 use mx_inserts::{Insert, Tables};
 use mx_layout::TableFault;
 use mx_plain_register::added_rows;

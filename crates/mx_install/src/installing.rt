@@ -14,7 +14,7 @@ ghost use Rattle.mx_stands.specs.Stands.{RestsAt, StandsAt};
 ghost use Rattle.mx_install.specs.Entries.{first_point};
 
 use crate::adding::add_all;
-use mx_entry_list::Book;
+use mx_book::entry_list::Book;
 use mx_layout::listed::refusal_of;
 use mx_layout::making::fill_new;
 use mx_layout::{Layout, TableFault};

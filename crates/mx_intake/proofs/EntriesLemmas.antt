@@ -8,7 +8,7 @@ use Rattle.serde_json.specs.Read.{read}
 use Rattle.serde_json.specs.View.{view, items_view}
 use Rattle.serde_json.specs.declared.value.Value.{Value, Array}
 use Rattle.serde_json.proofs.Views.{view-Array, items_len-items_view}
-use Rattle.mx_command.specs.Act.{Entry}
+use Rattle.mx_book.specs.commands.Act.{Entry}
 use Rattle.mx_intake.specs.Entries.{value_of_text, entries_of_value, entries_from}
 use Rattle.mx_intake.specs.Fault.{fault}
 use Rattle.mx_intake.specs.Forms.{entry_by_json}

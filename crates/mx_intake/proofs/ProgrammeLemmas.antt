@@ -9,10 +9,10 @@ use Rattle.toml.specs.Parse.{parse_document}
 use Rattle.toml.specs.View.{view, items_view, table_view}
 use Rattle.toml.specs.declared.value.Value.{Value, Table}
 use Rattle.toml.proofs.Views.{view-Table}
-use Rattle.mx_command.specs.Programme.{task_shape, same_name_of_task, programme_shape}
-use Rattle.mx_command.specs.Bounds.{within, are_distinct}
-use Rattle.mx_command.specs.declared.programme.Programme.{Programme}
-use Rattle.mx_command.specs.declared.programme.Task.{Task}
+use Rattle.mx_book.specs.commands.Programme.{task_shape, same_name_of_task, programme_shape}
+use Rattle.mx_book.specs.commands.Bounds.{within, are_distinct}
+use Rattle.mx_book.specs.declared.commands.programme.Programme.{Programme}
+use Rattle.mx_book.specs.declared.commands.programme.Task.{Task}
 use Rattle.mx_intake.specs.Fault.{fault}
 use Rattle.mx_intake.specs.Form.{by_form}
 use Rattle.mx_intake.specs.ProgrammeText.{top_shape, tasks_from, if_distinct, table_of_document, table_of_text}

@@ -6,7 +6,7 @@ use Rattle.std.proofs.lemmas.List.{drop_more, length-take-le, take_all}
 use Rattle.std.proofs.lemmas.Str.{IsUtf8-from_is_utf8, is_utf8-from_IsUtf8}
 use Rattle.std.specs.Str.{is_utf8}
 use Rattle.csv.specs.Reading.{default_config, records, strip_bom}
-use Rattle.mx_command.specs.Act.{Entry}
+use Rattle.mx_book.specs.commands.Act.{Entry}
 use Rattle.mx_intake.specs.Fault.{fault}
 use Rattle.mx_intake.specs.Sectors.{text_of_field, is_header, row_of, rows_from, rows_if_few, rows_under_header, sector_rows}
 use Rattle.mx_intake.specs.declared.fault.IntakeFault.{IntakeFault}

@@ -7,8 +7,8 @@ use Rattle.mx_base.specs.declared.calendar.CivilDate.{CivilDate}
 use Rattle.mx_base.specs.Calendar.{date_of}
 use Rattle.mx_base.specs.Texts.{date_text, day_text, moment_text}
 use Rattle.mx_base.proofs.CalendarLemmas.{date_of-is_day}
-use Rattle.mx_command.specs.Same.{same_text}
-use Rattle.mx_command.proofs.SameLemmas.{text_same}
+use Rattle.mx_book.specs.commands.Same.{same_text}
+use Rattle.mx_book.proofs.CommandsProofs.SameLemmas.{text_same}
 use Rattle.mx_intake.specs.Vocabulary.{pair_at, named_day, day_of_text, named_moment, moment_of_text}
 
 -- the year, the month and the day that the text of a date writes

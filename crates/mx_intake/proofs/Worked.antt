@@ -6,7 +6,7 @@ use Rattle.jiff_core.specs.Calendar.{days_from_civil, day_count, days_of_years, 
 use Rattle.serde_json.proofs.OnLiterals.{serde_json_on_literals}
 use Rattle.mx_base.specs.Calendar.{date_of}
 use Rattle.mx_base.specs.Texts.{day_text, moment_text}
-use Rattle.mx_command.specs.Act.{Removed}
+use Rattle.mx_book.specs.commands.Act.{Removed}
 use Rattle.mx_intake.specs.Fault.{fault}
 use Rattle.mx_intake.specs.Entries.{value_of_text, entries_of_value, entries_from, entries_of_text}
 use Rattle.mx_intake.proofs.EntriesLemmas.{value_of_text-long}

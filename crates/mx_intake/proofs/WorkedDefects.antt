@@ -1,7 +1,7 @@
 -- Worked deferrals and extensions, computed from the definitions.
 use Rattle.std.proofs.Common.{refl, ◌≡◌, ℕ, List, [], ◌∷◌, ◌++◌, Ok, Err}
 use Rattle.std.specs.Prelude.{codes, Result}
-use Rattle.mx_command.specs.Act.{Entry, Deferred, Extended}
+use Rattle.mx_book.specs.commands.Act.{Entry, Deferred, Extended}
 use Rattle.mx_base.specs.declared.category.Category.{Category}
 use Rattle.mx_base.specs.declared.category.Category.TheVariants.{A, B, C, D}
 use Rattle.mx_intake.specs.declared.fault.IntakeFault.{IntakeFault}

@@ -1,10 +1,10 @@
 -- Worked commands that load a programme, and their faults, computed from the definitions.
 use Rattle.std.proofs.Common.{refl, ◌≡◌, [], ◌∷◌, Some, None, Ok, Err, false}
 use Rattle.std.specs.Prelude.{codes}
-use Rattle.mx_command.specs.Act.{Loaded}
-use Rattle.mx_command.specs.declared.programme.Applies.TheVariants.{Part}
-use Rattle.mx_command.specs.declared.programme.Programme.{Programme}
-use Rattle.mx_command.specs.declared.programme.Task.{Task}
+use Rattle.mx_book.specs.commands.Act.{Loaded}
+use Rattle.mx_book.specs.declared.commands.programme.Applies.TheVariants.{Part}
+use Rattle.mx_book.specs.declared.commands.programme.Programme.{Programme}
+use Rattle.mx_book.specs.declared.commands.programme.Task.{Task}
 use Rattle.mx_intake.specs.Fault.{fault}
 use Rattle.mx_intake.specs.Loading.{entry_if_programme, fault_by_document}
 

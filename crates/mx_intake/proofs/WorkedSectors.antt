@@ -4,7 +4,7 @@ use Rattle.std.specs.Prelude.{codes, ⊤}
 use Rattle.std.specs.Fmt.{digits}
 use Rattle.csv.proofs.OnLiterals.{csv_on_literals}
 use Rattle.csv.specs.Records.{field_at}
-use Rattle.mx_command.specs.Act.{Entry, Flown}
+use Rattle.mx_book.specs.commands.Act.{Entry, Flown}
 use Rattle.mx_intake.specs.Fault.{fault}
 use Rattle.mx_intake.specs.Number.{number_of_digits}
 use Rattle.mx_intake.specs.Sectors.{sector_rows, text_of_field, rows_if_few, rows_from}

@@ -4,9 +4,9 @@ use Rattle.std.specs.Prelude.{codes, ⊤, ℤ, pos, negsuc, Option, Result}
 use Rattle.toml.specs.Data.{Data, string, integer, boolean, array, table, Items, no_items, item, Members, no_members, member}
 use Rattle.mx_base.specs.declared.amounts.Limit.{Limit}
 use Rattle.mx_base.specs.declared.amounts.Tolerance.{Tolerance}
-use Rattle.mx_command.specs.declared.programme.Applies.TheVariants.{Airframe, Part}
-use Rattle.mx_command.specs.declared.programme.Programme.{Programme}
-use Rattle.mx_command.specs.declared.programme.Task.{Task}
+use Rattle.mx_book.specs.declared.commands.programme.Applies.TheVariants.{Airframe, Part}
+use Rattle.mx_book.specs.declared.commands.programme.Programme.{Programme}
+use Rattle.mx_book.specs.declared.commands.programme.Task.{Task}
 use Rattle.mx_intake.specs.Fault.{fault}
 use Rattle.mx_intake.specs.ProgrammeText.{programme_of_table, table_of_text, programme_of_text}
 use Rattle.mx_intake.specs.Tasks.{task_by_toml}

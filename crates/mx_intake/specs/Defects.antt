@@ -4,7 +4,7 @@ use Rattle.std.specs.Option.{option_map_or}
 use Rattle.std.specs.Str.{bytes_eq}
 use Rattle.serde_json.specs.Data.{Data}
 use Rattle.serde_json.specs.Find.{get}
-use Rattle.mx_command.specs.Act.{Entry, Deferred, Extended}
+use Rattle.mx_book.specs.commands.Act.{Entry, Deferred, Extended}
 use Rattle.mx_base.specs.declared.category.Category.{Category}
 use Rattle.mx_base.specs.declared.category.Category.TheVariants.{A, B, C, D}
 use Rattle.mx_intake.specs.Form.{if_read, if_keys_agree, entry_by_form}

@@ -1,8 +1,8 @@
 -- What an entry gives by its form: what it states, or the least of its faults.
 use Rattle.std.specs.Prelude.{ℕ, List, Bool, true, false, Option, Some, None, option_and_then, Result, Ok, Err, if◌then◌else◌}
-use Rattle.mx_command.specs.Act.{Entry, act_of}
-use Rattle.mx_command.specs.Shape.{has_shape}
-use Rattle.mx_command.specs.declared.body.Body.{Body}
+use Rattle.mx_book.specs.commands.Act.{Entry, act_of}
+use Rattle.mx_book.specs.commands.Shape.{has_shape}
+use Rattle.mx_book.specs.declared.commands.body.Body.{Body}
 use Rattle.mx_intake.specs.declared.fault.TheConstants.{MISSING, BAD_VALUE, UNKNOWN_KEY, BAD_SHAPE}
 
 -- what follows from a value, where that can be read

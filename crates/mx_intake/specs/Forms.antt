@@ -4,9 +4,9 @@ use Rattle.std.specs.Str.{bytes_eq}
 use Rattle.serde_json.specs.Data.{Data, Items, no_items, item}
 use Rattle.serde_json.specs.Find.{get, as_str, as_object}
 use Rattle.mx_base.specs.declared.amounts.Use.{Use}
-use Rattle.mx_command.specs.Act.{Entry, Added, Listed, Opened, Flown, Fitted, Removed}
-use Rattle.mx_command.specs.Shape.{sector_doc}
-use Rattle.mx_command.specs.declared.sector.Sector.{Sector}
+use Rattle.mx_book.specs.commands.Act.{Entry, Added, Listed, Opened, Flown, Fitted, Removed}
+use Rattle.mx_book.specs.commands.Shape.{sector_doc}
+use Rattle.mx_book.specs.declared.commands.sector.Sector.{Sector}
 use Rattle.mx_intake.specs.declared.fault.TheConstants.{MISSING, BAD_VALUE}
 use Rattle.mx_intake.specs.Defects.{deferral_form, extension_form}
 use Rattle.mx_intake.specs.Form.{if_read, if_keys_agree, entry_by_form}

@@ -2,8 +2,8 @@
 use Rattle.std.specs.Prelude.{Bool, not, ◌&&◌, Option, Some, is_some, option_map, codes, if◌then◌else◌}
 use Rattle.serde_json.specs.Data.{Data}
 use Rattle.serde_json.specs.Find.{get}
-use Rattle.mx_command.specs.declared.item.Item.{Item}
-use Rattle.mx_command.specs.declared.item.Item.TheVariants.{Airframe, Component}
+use Rattle.mx_book.specs.declared.commands.item.Item.{Item}
+use Rattle.mx_book.specs.declared.commands.item.Item.TheVariants.{Airframe, Component}
 use Rattle.mx_intake.specs.Form.{if_read}
 use Rattle.mx_intake.specs.Vocabulary.{tail_at_key, name_at_key}
 

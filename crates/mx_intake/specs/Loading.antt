@@ -1,9 +1,9 @@
 -- The command that loads the maintenance programme of a text.
 use Rattle.std.specs.Prelude.{ℕ, List, ◌&&◌, nat_lt, Result, Ok, Err, if◌then◌else◌}
-use Rattle.mx_command.specs.Act.{Entry, Loaded}
-use Rattle.mx_command.specs.Shape.{has_shape, is_log_doc}
-use Rattle.mx_command.specs.declared.programme.Programme.{Programme}
-use Rattle.mx_command.specs.declared.programme.Task.{Task}
+use Rattle.mx_book.specs.commands.Act.{Entry, Loaded}
+use Rattle.mx_book.specs.commands.Shape.{has_shape, is_log_doc}
+use Rattle.mx_book.specs.declared.commands.programme.Programme.{Programme}
+use Rattle.mx_book.specs.declared.commands.programme.Task.{Task}
 use Rattle.mx_intake.specs.declared.fault.IntakeFault.{IntakeFault}
 use Rattle.mx_intake.specs.declared.fault.TheConstants.{BAD_SHAPE}
 use Rattle.mx_intake.specs.Fault.{fault}

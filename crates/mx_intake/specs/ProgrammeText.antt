@@ -2,11 +2,11 @@
 use Rattle.std.specs.Prelude.{ℕ, ◌+◌, List, [], ◌∷◌, codes, Bool, ◌&&◌, Option, Some, option_map, Result, Ok, Err, if◌then◌else◌}
 use Rattle.toml.specs.Data.{Data, table, Items, no_items, item}
 use Rattle.toml.specs.Parse.{parse_document}
-use Rattle.mx_command.specs.Programme.{same_name_of_task}
-use Rattle.mx_command.specs.Bounds.{within, are_distinct}
-use Rattle.mx_command.specs.declared.programme.Programme.{Programme}
-use Rattle.mx_command.specs.declared.programme.Task.{Task}
-use Rattle.mx_command.specs.declared.programme_shape.TheConstants.{LAST_REVISION, MOST_TASKS}
+use Rattle.mx_book.specs.commands.Programme.{same_name_of_task}
+use Rattle.mx_book.specs.commands.Bounds.{within, are_distinct}
+use Rattle.mx_book.specs.declared.commands.programme.Programme.{Programme}
+use Rattle.mx_book.specs.declared.commands.programme.Task.{Task}
+use Rattle.mx_book.specs.declared.commands.programme_shape.TheConstants.{LAST_REVISION, MOST_TASKS}
 use Rattle.mx_intake.specs.declared.fault.IntakeFault.{IntakeFault}
 use Rattle.mx_intake.specs.declared.fault.TheConstants.{BAD_SHAPE}
 use Rattle.mx_intake.specs.Fault.{fault}

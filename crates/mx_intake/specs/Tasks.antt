@@ -7,10 +7,10 @@ use Rattle.toml.specs.Data.{Data, get, as_bool, as_table}
 use Rattle.mx_base.specs.Identifier.{is_graphic}
 use Rattle.mx_base.specs.declared.amounts.Limit.{Limit}
 use Rattle.mx_base.specs.declared.amounts.Tolerance.{Tolerance}
-use Rattle.mx_command.specs.Programme.{task_shape}
-use Rattle.mx_command.specs.declared.programme.Applies.{Applies}
-use Rattle.mx_command.specs.declared.programme.Applies.TheVariants.{Airframe, Part}
-use Rattle.mx_command.specs.declared.programme.Task.{Task}
+use Rattle.mx_book.specs.commands.Programme.{task_shape}
+use Rattle.mx_book.specs.declared.commands.programme.Applies.{Applies}
+use Rattle.mx_book.specs.declared.commands.programme.Applies.TheVariants.{Airframe, Part}
+use Rattle.mx_book.specs.declared.commands.programme.Task.{Task}
 use Rattle.mx_intake.specs.declared.fault.TheConstants.{BAD_VALUE}
 use Rattle.mx_intake.specs.Form.{if_read, by_form}
 use Rattle.mx_intake.specs.Keys.{if_small, if_there}

@@ -6,7 +6,7 @@ use Rattle.serde_json.specs.Data.{Data}
 use Rattle.mx_base.specs.Calendar.{last_day, last_moment}
 use Rattle.mx_base.specs.Identifier.{is_graphic, is_tail_character}
 use Rattle.mx_base.specs.Texts.{day_text, moment_text}
-use Rattle.mx_command.specs.Same.{same_text}
+use Rattle.mx_book.specs.commands.Same.{same_text}
 use Rattle.mx_intake.specs.Object.{text_at_key}
 
 -- the identifier that a text is: 1 to `most` characters of the alphabet

@@ -12,7 +12,7 @@ use crate::object::{has_other, lacks};
 use crate::positions::{have_other_key, lack_key, positions_at};
 use crate::vocabulary::{day_at, identifier_at, moment_at};
 use mx_base::{Doc, Part, Position};
-use mx_command::{Body, Command};
+use mx_book::commands::{Body, Command};
 use serde_json::Value;
 use std::alloc::{AllocError, Global};
 

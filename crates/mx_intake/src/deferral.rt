@@ -10,7 +10,7 @@ use crate::form::command_if_keys_agree;
 use crate::object::{has_other, lacks};
 use crate::vocabulary::{identifier_at, moment_at};
 use mx_base::Doc;
-use mx_command::{Body, Command};
+use mx_book::commands::{Body, Command};
 use serde_json::Value;
 use std::alloc::Global;
 

@@ -9,7 +9,7 @@ use crate::form::command_by_form;
 use crate::object::{has_other, lacks, number_at};
 use crate::vocabulary::{day_at, identifier_at};
 use mx_base::Doc;
-use mx_command::{Body, Command};
+use mx_book::commands::{Body, Command};
 use serde_json::Value;
 use std::alloc::Global;
 

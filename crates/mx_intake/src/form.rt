@@ -5,7 +5,7 @@ ghost use Rattle.mx_intake.specs.Form.{entry_by_form, if_keys_agree, entry_of};
 
 use crate::fault::{BAD_SHAPE, BAD_VALUE, MEMORY, MISSING, UNKNOWN_KEY};
 use mx_base::Doc;
-use mx_command::{Body, Command, MakeFault};
+use mx_book::commands::{Body, Command, MakeFault};
 use std::alloc::Global;
 
 /// The command of a form: from whether a key is missing, the document and the body where every value can be read, and

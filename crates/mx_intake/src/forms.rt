@@ -11,7 +11,7 @@ ghost use Rattle.mx_intake.specs.Forms.{
 
 use crate::fault::{BAD_VALUE, MISSING};
 use crate::{aircraft, component, deferral, extension, fitting, opening, release, removal, sector};
-use mx_command::Command;
+use mx_book::commands::Command;
 use serde_json::Value;
 use std::alloc::Global;
 

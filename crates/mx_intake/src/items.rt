@@ -5,7 +5,7 @@ ghost use Rattle.mx_intake.specs.Items.{airframe_at_key, component_at_key, item_
 
 use crate::object::has;
 use crate::vocabulary::identifier_at;
-use mx_command::Item;
+use mx_book::commands::Item;
 use serde_json::Value;
 
 /// Whether an object names no item.

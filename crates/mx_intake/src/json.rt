@@ -8,7 +8,7 @@ ghost use Rattle.mx_intake.specs.Entries.{entries_from, entries_of_value, value_
 use crate::fault::{BAD_VALUE, IntakeFault, MEMORY, NOT_TEXT, TOO_LONG, of_whole};
 use crate::forms::command_of;
 use crate::text::text_of;
-use mx_command::Command;
+use mx_book::commands::Command;
 use serde_json::Value;
 use std::alloc::{AllocError, Global};
 

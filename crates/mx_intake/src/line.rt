@@ -7,7 +7,7 @@ use crate::items::{item_at, lacks_item, names_two_items};
 use crate::object::has;
 use crate::vocabulary::identifier_at;
 use mx_base::TaskId;
-use mx_command::Line;
+use mx_book::commands::Line;
 use serde_json::Value;
 
 /// Whether a line, if it is an object, lacks a key.

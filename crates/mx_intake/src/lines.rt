@@ -6,7 +6,7 @@ ghost use Rattle.mx_intake.specs.Release.{line_keys, lacks_line_key, line_keys_e
 
 use crate::line::{keys_exclude, lacks_key, line_of};
 use crate::object::{list_at, one_has_other};
-use mx_command::{Item, Line};
+use mx_book::commands::{Item, Line};
 use serde_json::Value;
 use std::alloc::{AllocError, Global};
 

@@ -6,7 +6,7 @@ ghost use Rattle.mx_intake.specs.Loading.{entry_if_programme, entry_of_programme
 use crate::fault::{BAD_SHAPE, IntakeFault, MEMORY, of_whole};
 use crate::programme::programme_of_toml;
 use mx_base::Doc;
-use mx_command::{Body, Command, MakeFault, Programme, Task, is_of_log};
+use mx_book::commands::{Body, Command, MakeFault, Programme, Task, is_of_log};
 use std::alloc::Global;
 
 /// The fault that is told by a document, by which no programme is loaded where it is one of the technical log.

@@ -11,7 +11,7 @@ use crate::items::{item_at, lacks_item, names_two_items};
 use crate::object::{has_other, lacks};
 use crate::vocabulary::{day_at, identifier_at};
 use mx_base::Doc;
-use mx_command::{Body, Command};
+use mx_book::commands::{Body, Command};
 use serde_json::Value;
 use std::alloc::Global;
 

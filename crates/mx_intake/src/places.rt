@@ -7,7 +7,7 @@ ghost use Rattle.mx_intake.specs.Release.{lacks_place, names_two_places, is_shop
 use crate::object::{has, lacks};
 use crate::vocabulary::identifier_at;
 use mx_base::{Kind, Serial};
-use mx_command::Place;
+use mx_book::commands::Place;
 use serde_json::Value;
 
 /// Whether an object names no place, or a component in a shop in part.

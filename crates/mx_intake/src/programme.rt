@@ -1,6 +1,6 @@
 //! The maintenance programme of a TOML text.
 ghost use Rattle.std.specs.Prelude.{◌≡◌, ◌≢◌, ◌≤◌, ◌&&◌, Ok, Err, IfOk, IfErr, IsTrue, length, option_map};
-ghost use Rattle.mx_command.specs.Bounds.{within};
+ghost use Rattle.mx_book.specs.commands.Bounds.{within};
 ghost use Rattle.toml.specs.View.{view, items_view};
 ghost use Rattle.mx_intake.specs.declared.fault.TheConstants.{MEMORY};
 ghost use Rattle.mx_intake.specs.ProgrammeText.{stated_programme, top_shape, top_by_toml, tasks_from, if_distinct, programme_of_table, table_of_text, programme_of_text};
@@ -12,8 +12,8 @@ use crate::fault::{
 use crate::table::{has_other, identifier_at, lacks, list_at, number_at};
 use crate::task::task_of;
 use crate::text::text_of;
-use mx_command::programme_shape::{LAST_REVISION, MOST_TASKS};
-use mx_command::{Applies, Programme, Task};
+use mx_book::commands::programme_shape::{LAST_REVISION, MOST_TASKS};
+use mx_book::commands::{Applies, Programme, Task};
 use std::alloc::{AllocError, Global};
 use toml::Value;
 

@@ -12,7 +12,7 @@ use crate::object::{has_other, lacks};
 use crate::places::{lacks_place, names_two_places, place_at};
 use crate::vocabulary::{identifier_at, moment_at};
 use mx_base::Doc;
-use mx_command::{Body, Command, Line};
+use mx_book::commands::{Body, Command, Line};
 use serde_json::Value;
 use std::alloc::{AllocError, Global};
 

@@ -1,7 +1,7 @@
 //! The form of a sector.
 ghost use Rattle.std.specs.Prelude.{◌≡◌, ◌≢◌, Ok, Err, IfOk, IfErr, option_map};
 ghost use Rattle.serde_json.specs.View.{view};
-ghost use Rattle.mx_command.specs.Act.{act_of, Flown};
+ghost use Rattle.mx_book.specs.commands.Act.{act_of, Flown};
 ghost use Rattle.mx_intake.specs.declared.fault.TheConstants.{MEMORY};
 ghost use Rattle.mx_intake.specs.Form.{entry_by_form};
 ghost use Rattle.mx_intake.specs.Forms.{stated_sector, logged, sector_form};
@@ -9,7 +9,7 @@ ghost use Rattle.mx_intake.specs.Forms.{stated_sector, logged, sector_form};
 use crate::fault::{BAD_SHAPE, BAD_VALUE, MEMORY, MISSING, UNKNOWN_KEY};
 use crate::object::{has_other, lacks, number_at};
 use crate::vocabulary::{identifier_at, moment_at};
-use mx_command::{Body, Command, MakeFault, Sector};
+use mx_book::commands::{Body, Command, MakeFault, Sector};
 use serde_json::Value;
 use std::alloc::Global;
 

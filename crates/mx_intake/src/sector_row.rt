@@ -11,7 +11,7 @@ use crate::sector::sector_by_form;
 use crate::vocabulary::{read_identifier, read_moment};
 use csv::ByteRecord;
 use mx_base::{Moment, Tail};
-use mx_command::{Command, Sector};
+use mx_book::commands::{Command, Sector};
 use std::alloc::Global;
 use std::str;
 

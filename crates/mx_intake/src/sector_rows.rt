@@ -10,7 +10,7 @@ use crate::records::first_records;
 use crate::sector_row::{FIELDS, row_of};
 use crate::text::MOST_BYTES;
 use csv::ByteRecord;
-use mx_command::Command;
+use mx_book::commands::Command;
 use std::alloc::{AllocError, Global};
 
 /// The most rows of a log.

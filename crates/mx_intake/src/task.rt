@@ -1,6 +1,6 @@
 //! The form of a task of a maintenance programme.
 ghost use Rattle.std.specs.Prelude.{◌≡◌, ◌≢◌, IfErr, option_map, option_and_then};
-ghost use Rattle.mx_command.specs.Programme.{task_shape};
+ghost use Rattle.mx_book.specs.commands.Programme.{task_shape};
 ghost use Rattle.toml.specs.View.{view};
 ghost use Rattle.mx_intake.specs.declared.fault.TheConstants.{MEMORY};
 ghost use Rattle.mx_intake.specs.Form.{by_form};
@@ -11,7 +11,7 @@ use crate::fault::{BAD_SHAPE, BAD_VALUE, MISSING, UNKNOWN_KEY};
 use crate::limits::{have_other_key, limit_at, limit_if_there, tolerance_of};
 use crate::table::{flag_if_there, has_other, identifier_at, lacks, text_at};
 use crate::vocabulary::read_identifier;
-use mx_command::{Applies, Task};
+use mx_book::commands::{Applies, Task};
 use toml::Value;
 
 /// What stands in a text behind a prefix.

@@ -6,7 +6,7 @@ ghost use Rattle.mx_office.specs.Office.{office_state, StandsFor};
 ghost use Rattle.mx_printed.specs.Entered.{AreReplyLines, PrintsRun, TellsReplies};
 ghost use Rattle.mx_endings.specs.Status.{Shows, stop_status};
 
-use mx_command::Command;
+use mx_book::commands::Command;
 use mx_endings::{Ending, Stop};
 use mx_office::Office;
 use mx_printed::{ending_of, print_replies};

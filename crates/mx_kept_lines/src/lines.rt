@@ -1,6 +1,6 @@
 //! What is asked of the totals, last bases and spans that layout 2 keeps, each line in a transaction of its own.
 ghost use Rattle.std.specs.Prelude.{◌≡◌, false, nat_eq};
-ghost use Rattle.mx_command.specs.Bounds.{are_distinct};
+ghost use Rattle.mx_book.specs.commands.Bounds.{are_distinct};
 
 use mx_base::rows::BaseRow;
 use mx_base::{Day, Moment, TaskId, Use};

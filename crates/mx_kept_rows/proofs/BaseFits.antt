@@ -9,13 +9,13 @@ use Rattle.mx_base.specs.Identifier.{IsIdentifier, is_graphic}
 use Rattle.mx_base.specs.declared.amounts.Base.{Base}
 use Rattle.mx_base.specs.declared.amounts.Limit.{Limit}
 use Rattle.mx_base.specs.declared.amounts.Use.{Use}
-use Rattle.mx_command.specs.Act.{Act, Entry, Opened, Released}
-use Rattle.mx_command.specs.Same.{same_text, same_item}
-use Rattle.mx_command.specs.declared.item.Item.{Item}
-use Rattle.mx_command.specs.declared.release.Line.{Line}
-use Rattle.mx_command.specs.declared.release.Line.TheVariants.{Done, Rectified}
-use Rattle.mx_command.specs.declared.release.Release.{Release}
-use Rattle.mx_due.specs.Due.{IsLife, base_done, due_after, lesser}
+use Rattle.mx_book.specs.commands.Act.{Act, Entry, Opened, Released}
+use Rattle.mx_book.specs.commands.Same.{same_text, same_item}
+use Rattle.mx_book.specs.declared.commands.item.Item.{Item}
+use Rattle.mx_book.specs.declared.commands.release.Line.{Line}
+use Rattle.mx_book.specs.declared.commands.release.Line.TheVariants.{Done, Rectified}
+use Rattle.mx_book.specs.declared.commands.release.Release.{Release}
+use Rattle.mx_book.specs.due.Due.{IsLife, base_done, due_after, lesser}
 use Rattle.mx_book.specs.Base.{Accomplishment, Stated, DoneIn, accomplished_by, accomplished_from, accomplishments, base, base_from, base_of, task_then}
 use Rattle.mx_book.specs.Book.{IsBook}
 use Rattle.mx_book.specs.Life.{life_at, use_or_none}

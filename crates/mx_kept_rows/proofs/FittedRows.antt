@@ -2,9 +2,9 @@
 use Rattle.std.proofs.Common.{refl, sym, subst, ap, ◌∙◌, ◌≡◌, ℕ, List, [], ◌∷◌, ◌++◌, Bool, true, false, cond, ◌&&◌, Option, Some, None, append_assoc, nat_eq}
 use Rattle.std.specs.Prelude.{find, is_none, is_some, map}
 use Rattle.std.specs.Option.{option_map}
-use Rattle.mx_command.specs.Act.{Act, Entry, Fitted}
-use Rattle.mx_command.specs.Same.{same_text}
-use Rattle.mx_command.specs.declared.fitting.Fitting.{Fitting}
+use Rattle.mx_book.specs.commands.Act.{Act, Entry, Fitted}
+use Rattle.mx_book.specs.commands.Same.{same_text}
+use Rattle.mx_book.specs.declared.commands.fitting.Fitting.{Fitting}
 use Rattle.mx_book.specs.Register.{aircraft, component}
 use Rattle.mx_book.specs.Book.{IsBook, is_new, is_book_from}
 use Rattle.mx_book.specs.Judge.{judge}

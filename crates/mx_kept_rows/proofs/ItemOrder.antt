@@ -1,8 +1,8 @@
 -- The order of the items of a book and of their totals: by the numbers of the entries that added them.
 use Rattle.std.proofs.Common.{arith, subst, ◌≡◌, ℕ, ◌+◌, ◌≤◌, length, List, [], ◌∷◌, ◌++◌, length-append}
 use Rattle.std.specs.Prelude.{map}
-use Rattle.mx_command.specs.Act.{Act, Entry, Added, Listed}
-use Rattle.mx_command.specs.declared.item.Item.{Item}
+use Rattle.mx_book.specs.commands.Act.{Act, Entry, Added, Listed}
+use Rattle.mx_book.specs.declared.commands.item.Item.{Item}
 use Rattle.mx_base.specs.rows.Rising.{IsRising}
 use Rattle.mx_register.specs.Registers.{gives_by, next}
 use Rattle.mx_kept_rows.specs.Items.{items, items_by}

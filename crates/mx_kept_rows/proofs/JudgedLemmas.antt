@@ -3,12 +3,12 @@ use Rattle.std.proofs.Common.{arith, refl, ◌≡◌, ℕ, ◌≤◌, List, Bool
 use Rattle.std.specs.Prelude.{is_none, nat_lt, not}
 use Rattle.std.specs.List.{list_any}
 use Rattle.std.proofs.lemmas.Bool.Decides.{nat_tests}
-use Rattle.mx_command.specs.Act.{Entry, Removed, Released}
-use Rattle.mx_command.specs.Bounds.{are_distinct}
-use Rattle.mx_command.specs.Same.{same_line}
-use Rattle.mx_command.specs.declared.fitting.Removal.{Removal}
-use Rattle.mx_command.specs.declared.release.Line.{Line}
-use Rattle.mx_command.specs.declared.release.Release.{Release}
+use Rattle.mx_book.specs.commands.Act.{Entry, Removed, Released}
+use Rattle.mx_book.specs.commands.Bounds.{are_distinct}
+use Rattle.mx_book.specs.commands.Same.{same_line}
+use Rattle.mx_book.specs.declared.commands.fitting.Removal.{Removal}
+use Rattle.mx_book.specs.declared.commands.release.Line.{Line}
+use Rattle.mx_book.specs.declared.commands.release.Release.{Release}
 use Rattle.mx_book.specs.declared.verdict.Verdict.TheVariants.{New}
 use Rattle.mx_book.specs.Judge.{judge, too_early, clock_passed, fitted_in_shop, line_of_item_elsewhere}
 use Rattle.mx_book.specs.Span.{fitted}

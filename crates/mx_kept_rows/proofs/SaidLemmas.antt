@@ -4,9 +4,9 @@ use Rattle.std.specs.List.{AllByRecursion}
 use Rattle.std.proofs.lemmas.List.Elements.{recursion_from_All}
 use Rattle.mx_base.specs.Calendar.{last_day, last_moment}
 use Rattle.mx_base.specs.Identifier.{IsIdentifier, is_graphic}
-use Rattle.mx_command.specs.Act.{Act, Entry, Added, Listed, Loaded, Opened, Flown, Fitted, Removed, Released, Deferred, Extended}
-use Rattle.mx_command.specs.declared.release.Line.{Line}
-use Rattle.mx_command.specs.declared.release.Line.TheVariants.{Done, Rectified}
+use Rattle.mx_book.specs.commands.Act.{Act, Entry, Added, Listed, Loaded, Opened, Flown, Fitted, Removed, Released, Deferred, Extended}
+use Rattle.mx_book.specs.declared.commands.release.Line.{Line}
+use Rattle.mx_book.specs.declared.commands.release.Line.TheVariants.{Done, Rectified}
 use Rattle.mx_base.specs.rows.Rows.{FitsAircraft, FitsComponent, FitsOpening, FitsSector, FitsFitting, FitsRemoval, FitsRelease, FitsReleaseLine, FitsDeferral}
 use Rattle.mx_register.specs.Lines.{lines_from}
 use Rattle.mx_register.specs.Registers.{gives_by, next, release_line_row, aircraft_by, components_by, openings_by, sectors_by, fittings_by, removals_by, releases_by, release_lines_by, deferrals_by}

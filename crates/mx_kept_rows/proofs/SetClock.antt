@@ -4,15 +4,15 @@ use Rattle.std.specs.Prelude.{map, max}
 use Rattle.std.specs.List.{AllByRecursion}
 use Rattle.std.proofs.lemmas.Bool.Decides.{same_from_decides, Decides-eqb}
 use Rattle.mx_base.specs.declared.amounts.Use.{Use}
-use Rattle.mx_command.specs.Act.{Entry, Released}
-use Rattle.mx_command.specs.Same.{same_text, same_item}
-use Rattle.mx_command.specs.Shape.{act_shape}
-use Rattle.mx_command.specs.declared.item.Item.{Item}
-use Rattle.mx_command.specs.declared.item.Item.TheVariants.{Airframe, Component}
-use Rattle.mx_command.specs.declared.release.Line.{Line}
-use Rattle.mx_command.specs.declared.release.Place.{Place}
-use Rattle.mx_command.specs.declared.release.Place.TheVariants as places
-use Rattle.mx_command.specs.declared.release.Release.{Release}
+use Rattle.mx_book.specs.commands.Act.{Entry, Released}
+use Rattle.mx_book.specs.commands.Same.{same_text, same_item}
+use Rattle.mx_book.specs.commands.Shape.{act_shape}
+use Rattle.mx_book.specs.declared.commands.item.Item.{Item}
+use Rattle.mx_book.specs.declared.commands.item.Item.TheVariants.{Airframe, Component}
+use Rattle.mx_book.specs.declared.commands.release.Line.{Line}
+use Rattle.mx_book.specs.declared.commands.release.Place.{Place}
+use Rattle.mx_book.specs.declared.commands.release.Place.TheVariants as places
+use Rattle.mx_book.specs.declared.commands.release.Release.{Release}
 use Rattle.mx_book.specs.declared.verdict.Verdict.TheVariants.{New}
 use Rattle.mx_book.specs.Book.{IsBook, is_new}
 use Rattle.mx_book.specs.Judge.{judge, item_at as item_of_place}

@@ -6,9 +6,9 @@ use Rattle.std.proofs.lemmas.Bool.Decides.{Decides-eqb}
 use Rattle.std.proofs.lemmas.List.{map-id}
 use Rattle.std.proofs.lemmas.List.Elements.{filter-append, filter_map-append}
 use Rattle.std.proofs.lemmas.List.Sorted.{IsPermutation-refl, IsPermutation-trans, IsPermutation-cons, IsPermutation-middle, IsPermutation-append_right, IsPermutation-append_comm}
-use Rattle.mx_command.specs.Act.{Act, Entry, Fitted, Removed}
-use Rattle.mx_command.specs.Same.{same_text}
-use Rattle.mx_command.specs.declared.fitting.Removal.{Removal}
+use Rattle.mx_book.specs.commands.Act.{Act, Entry, Fitted, Removed}
+use Rattle.mx_book.specs.commands.Same.{same_text}
+use Rattle.mx_book.specs.declared.commands.fitting.Removal.{Removal}
 use Rattle.mx_book.specs.declared.verdict.Verdict.TheVariants.{New}
 use Rattle.mx_book.specs.Register.{component}
 use Rattle.mx_book.specs.Book.{IsBook, is_new, is_book_from}

@@ -5,11 +5,11 @@ use Rattle.std.specs.List.{cons_option}
 use Rattle.std.specs.Option.{option_map, option_or}
 use Rattle.std.proofs.lemmas.Bool.Decides.{same_from_decides, Decides-eqb}
 use Rattle.std.proofs.lemmas.List.{map-append}
-use Rattle.mx_command.specs.Act.{Act, Entry, Fitted, Removed, removal_of}
-use Rattle.mx_command.specs.Same.{same_text}
-use Rattle.mx_command.specs.declared.fitting.Fitting.{Fitting}
-use Rattle.mx_command.specs.declared.fitting.Removal.{Removal}
-use Rattle.mx_command.proofs.SameLemmas.{text_same}
+use Rattle.mx_book.specs.commands.Act.{Act, Entry, Fitted, Removed, removal_of}
+use Rattle.mx_book.specs.commands.Same.{same_text}
+use Rattle.mx_book.specs.declared.commands.fitting.Fitting.{Fitting}
+use Rattle.mx_book.specs.declared.commands.fitting.Removal.{Removal}
+use Rattle.mx_book.proofs.CommandsProofs.SameLemmas.{text_same}
 use Rattle.mx_book.specs.declared.verdict.Verdict.TheVariants.{New}
 use Rattle.mx_book.specs.Register.{register, component}
 use Rattle.mx_book.specs.Book.{IsBook, is_new, is_book_from}

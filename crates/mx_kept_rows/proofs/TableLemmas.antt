@@ -1,6 +1,6 @@
 -- What the rows of a table become with a command, whichever table it is.
 use Rattle.std.proofs.Common.{List, []}
-use Rattle.mx_command.specs.Act.{Act, Entry}
+use Rattle.mx_book.specs.commands.Act.{Act, Entry}
 use Rattle.mx_register.specs.Registers.{gives_by}
 use Rattle.mx_register.proofs.RegisterLemmas.{gives-more}
 use Rattle.mx_kept_rows.specs.Becomes.{Becomes, adding}

@@ -1,12 +1,12 @@
 -- Worked changes: what one command makes of spans, totals and last bases, and which it touches, counted by hand.
 use Rattle.std.proofs.Common.{refl, ◌≡◌, ℕ, length, List, [], ◌∷◌, true, false, Option, Some, None, ◌++◌}
 use Rattle.std.specs.Prelude.{codes, map}
-use Rattle.mx_command.specs.Act.{Act, Flown, Deferred}
+use Rattle.mx_book.specs.commands.Act.{Act, Flown, Deferred}
 use Rattle.mx_base.specs.declared.category.Category.TheVariants.{C}
-use Rattle.mx_command.specs.declared.item.Item.{Item}
-use Rattle.mx_command.specs.declared.item.Item.TheVariants.{Airframe, Component}
-use Rattle.mx_command.specs.declared.release.Place.TheVariants.{Aircraft, Shop}
-use Rattle.mx_command.specs.declared.sector.Sector.{Sector}
+use Rattle.mx_book.specs.declared.commands.item.Item.{Item}
+use Rattle.mx_book.specs.declared.commands.item.Item.TheVariants.{Airframe, Component}
+use Rattle.mx_book.specs.declared.commands.release.Place.TheVariants.{Aircraft, Shop}
+use Rattle.mx_book.specs.declared.commands.sector.Sector.{Sector}
 use Rattle.mx_book.specs.Span.{Span, spans}
 use Rattle.mx_book.proofs.Worked.{at, abcd, logged}
 use Rattle.mx_book.proofs.WorkedFittings.{engine, propeller, e1, e2, engine_with, fit, remove}

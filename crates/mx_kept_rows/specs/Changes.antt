@@ -2,13 +2,13 @@
 use Rattle.std.specs.Prelude.{ℕ, ◌≤◌, List, [], ◌∷◌, Bool, false, Option, Some, None, IfSome, is_none, filter, ◌&&◌, if◌then◌else◌}
 use Rattle.std.specs.Option.{option_map_or, option_and_then}
 use Rattle.mx_base.specs.declared.amounts.Limit.{Limit}
-use Rattle.mx_command.specs.Act.{Act, Entry, Flown, Removed}
-use Rattle.mx_command.specs.Same.{same_text}
-use Rattle.mx_command.specs.declared.item.Item.{Item}
-use Rattle.mx_command.specs.declared.item.Item.TheVariants.{Airframe, Component}
-use Rattle.mx_command.specs.declared.release.Place.{Place}
-use Rattle.mx_command.specs.declared.sector.Sector.{Sector}
-use Rattle.mx_due.specs.Due.{due_after}
+use Rattle.mx_book.specs.commands.Act.{Act, Entry, Flown, Removed}
+use Rattle.mx_book.specs.commands.Same.{same_text}
+use Rattle.mx_book.specs.declared.commands.item.Item.{Item}
+use Rattle.mx_book.specs.declared.commands.item.Item.TheVariants.{Airframe, Component}
+use Rattle.mx_book.specs.declared.commands.release.Place.{Place}
+use Rattle.mx_book.specs.declared.commands.sector.Sector.{Sector}
+use Rattle.mx_book.specs.due.Due.{due_after}
 use Rattle.mx_book.specs.Base.{base}
 use Rattle.mx_book.specs.Life.{airframe_moments, component_moments, clock, has_landed_by, is_credited}
 use Rattle.mx_book.specs.Programme.{task_at}

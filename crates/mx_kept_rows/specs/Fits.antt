@@ -1,6 +1,6 @@
 -- Kept rows that fit their columns.
 use Rattle.std.specs.Prelude.{List, All}
-use Rattle.mx_command.specs.Act.{Entry}
+use Rattle.mx_book.specs.commands.Act.{Entry}
 use Rattle.mx_base.specs.rows.Rows.{FitsAircraft, FitsComponent, FitsOpening, FitsSector, FitsFitting, FitsRemoval, FitsRelease, FitsReleaseLine, FitsDeferral}
 use Rattle.mx_register.specs.Registers.{aircraft_rows, component_rows, opening_rows, sector_rows, fitting_rows, removal_rows, release_rows, release_line_rows, deferral_rows}
 

@@ -1,8 +1,8 @@
 -- The items of a book, by the numbers of the entries that added them.
 use Rattle.std.specs.Prelude.{ℕ, List, []}
-use Rattle.mx_command.specs.Act.{Act, Entry}
-use Rattle.mx_command.specs.declared.item.Item.{Item}
-use Rattle.mx_command.specs.declared.release.Place.{Place}
+use Rattle.mx_book.specs.commands.Act.{Act, Entry}
+use Rattle.mx_book.specs.declared.commands.item.Item.{Item}
+use Rattle.mx_book.specs.declared.commands.release.Place.{Place}
 use Rattle.mx_book.specs.Judge.{item_at as item_of_place}
 use Rattle.mx_register.specs.Names.{item_added, or_zero, seq_of_item, seq_of_serial, seq_of_tail}
 use Rattle.mx_register.specs.Registers.{gives_by, if_any, next}

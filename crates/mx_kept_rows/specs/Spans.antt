@@ -1,7 +1,7 @@
 -- The spans of a book as rows, and what one command makes of them.
 use Rattle.std.specs.Prelude.{ℕ, ◌+◌, List, [], ◌∷◌, ◌++◌, map, Bool, false, Option, Some, None, is_none, find, nat_eq, ◌&&◌, if◌then◌else◌}
-use Rattle.mx_command.specs.Act.{Act, Entry, Removed}
-use Rattle.mx_command.specs.Same.{same_text}
+use Rattle.mx_book.specs.commands.Act.{Act, Entry, Removed}
+use Rattle.mx_book.specs.commands.Same.{same_text}
 use Rattle.mx_book.specs.Span.{Span, span_begun}
 use Rattle.mx_register.specs.Registers.{next}
 use Rattle.mx_base.specs.declared.rows.rows.FittingRow.{FittingRow}

@@ -2,9 +2,9 @@
 use Rattle.std.specs.Prelude.{ℕ, max, nat_eq, nat_le, is_none, ◌&&◌, Bool, true, Option, List, [], ◌∷◌, filter, find, map, if◌then◌else◌}
 use Rattle.std.specs.List.{list_any}
 use Rattle.std.specs.Option.{option_map_or}
-use Rattle.mx_command.specs.Act.{Act, Entry, Added, Listed, Flown, Fitted, Removed, Released, Deferred}
-use Rattle.mx_command.specs.declared.item.Item.{Item}
-use Rattle.mx_command.specs.declared.sector.Sector.{Sector}
+use Rattle.mx_book.specs.commands.Act.{Act, Entry, Added, Listed, Flown, Fitted, Removed, Released, Deferred}
+use Rattle.mx_book.specs.declared.commands.item.Item.{Item}
+use Rattle.mx_book.specs.declared.commands.sector.Sector.{Sector}
 use Rattle.mx_book.specs.Life.{life_now, clock, latest, use_after, use_or_none}
 use Rattle.mx_register.specs.Names.{item_at}
 use Rattle.mx_register.specs.Registers.{next}

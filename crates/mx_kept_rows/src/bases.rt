@@ -2,13 +2,13 @@
 //! its contract is the law, and the checker proves it.
 ghost use Rattle.std.specs.Prelude.{◌≡◌, ◌+◌, ℕ, length, Some, List, [], ◌∷◌, ◌++◌, ◌&&◌, IsPermutation, true, if◌then◌else◌};
 ghost use Rattle.std.specs.List.{list_any};
-ghost use Rattle.mx_command.specs.Act.{Entry, Opened, Released};
-ghost use Rattle.mx_command.specs.Same.{same_item, same_text};
-ghost use Rattle.mx_command.specs.Shape.{act_shape, has_shape};
-ghost use Rattle.mx_command.specs.declared.item.Item.{Item};
-ghost use Rattle.mx_command.specs.declared.opening.Opening.{Opening};
-ghost use Rattle.mx_command.specs.declared.release.Line.{Line};
-ghost use Rattle.mx_command.specs.declared.release.Release.{Release};
+ghost use Rattle.mx_book.specs.commands.Act.{Entry, Opened, Released};
+ghost use Rattle.mx_book.specs.commands.Same.{same_item, same_text};
+ghost use Rattle.mx_book.specs.commands.Shape.{act_shape, has_shape};
+ghost use Rattle.mx_book.specs.declared.commands.item.Item.{Item};
+ghost use Rattle.mx_book.specs.declared.commands.opening.Opening.{Opening};
+ghost use Rattle.mx_book.specs.declared.commands.release.Line.{Line};
+ghost use Rattle.mx_book.specs.declared.commands.release.Release.{Release};
 ghost use Rattle.mx_book.specs.Base.{accomplished_by, base, base_from};
 ghost use Rattle.mx_book.specs.Book.{IsBook};
 ghost use Rattle.mx_book.specs.Judge.{judge};

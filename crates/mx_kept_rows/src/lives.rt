@@ -2,12 +2,12 @@
 //! the checker proves it.
 ghost use Rattle.std.specs.Prelude.{◌≡◌, ◌≤◌, ◌<◌, ℕ, max, true, List, [], ◌∷◌, ◌++◌};
 ghost use Rattle.std.specs.Option.{option_map, option_or};
-ghost use Rattle.mx_command.specs.Act.{Entry, Flown};
-ghost use Rattle.mx_command.specs.Shape.{act_shape};
-ghost use Rattle.mx_command.specs.declared.item.Item.{Item};
-ghost use Rattle.mx_command.specs.declared.item.Item.TheVariants.{Airframe, Component};
-ghost use Rattle.mx_command.specs.declared.release.Place.TheVariants.{Aircraft};
-ghost use Rattle.mx_command.specs.declared.sector.Sector.{Sector};
+ghost use Rattle.mx_book.specs.commands.Act.{Entry, Flown};
+ghost use Rattle.mx_book.specs.commands.Shape.{act_shape};
+ghost use Rattle.mx_book.specs.declared.commands.item.Item.{Item};
+ghost use Rattle.mx_book.specs.declared.commands.item.Item.TheVariants.{Airframe, Component};
+ghost use Rattle.mx_book.specs.declared.commands.release.Place.TheVariants.{Aircraft};
+ghost use Rattle.mx_book.specs.declared.commands.sector.Sector.{Sector};
 ghost use Rattle.mx_book.specs.Book.{IsBook};
 ghost use Rattle.mx_book.specs.Judge.{is_at, judge};
 ghost use Rattle.mx_book.specs.Life.{clock, credited, is_credited, latest, life_now, opening_of, use_after};

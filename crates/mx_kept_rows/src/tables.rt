@@ -1,7 +1,7 @@
 //! Laws of tables: what a new command makes of the rows of each. Each function does nothing; its contract is the law,
 //! and the checker proves it.
 ghost use Rattle.std.specs.Prelude.{List, All};
-ghost use Rattle.mx_command.specs.Act.{Entry};
+ghost use Rattle.mx_book.specs.commands.Act.{Entry};
 ghost use Rattle.mx_book.specs.Book.{IsBook};
 ghost use Rattle.mx_base.specs.rows.Rows.{FitsBase, FitsFitting, FitsRemoval, FitsSpan, FitsTotal};
 ghost use Rattle.mx_register.specs.Registers.{aircraft_by, aircraft_rows, components_by, component_rows, deferrals_by, deferral_rows, extensions_by, extension_rows, fittings_by, fitting_rows, openings_by, opening_rows, places_by, place_rows, programmes_by, programme_rows, release_lines_by, release_line_rows, releases_by, release_rows, removals_by, removal_rows, sectors_by, sector_rows, tasks_by, task_rows};

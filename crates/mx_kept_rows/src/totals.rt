@@ -2,14 +2,14 @@
 //! contract is the law, and the checker proves it.
 ghost use Rattle.std.specs.Prelude.{◌≡◌, ◌≤◌, ℕ, length, List, [], ◌∷◌, ◌++◌, filter, is_some, map, nat_eq, Some, true, false};
 ghost use Rattle.std.specs.List.{list_any, AllByRecursion};
-ghost use Rattle.mx_command.specs.Act.{Act, Entry, Flown, Released};
-ghost use Rattle.mx_command.specs.Shape.{act_shape};
-ghost use Rattle.mx_command.specs.declared.item.Item.{Item};
-ghost use Rattle.mx_command.specs.declared.item.Item.TheVariants.{Airframe};
-ghost use Rattle.mx_command.specs.declared.release.Line.{Line};
-ghost use Rattle.mx_command.specs.declared.release.Place.TheVariants.{Aircraft};
-ghost use Rattle.mx_command.specs.declared.release.Release.{Release};
-ghost use Rattle.mx_command.specs.declared.sector.Sector.{Sector};
+ghost use Rattle.mx_book.specs.commands.Act.{Act, Entry, Flown, Released};
+ghost use Rattle.mx_book.specs.commands.Shape.{act_shape};
+ghost use Rattle.mx_book.specs.declared.commands.item.Item.{Item};
+ghost use Rattle.mx_book.specs.declared.commands.item.Item.TheVariants.{Airframe};
+ghost use Rattle.mx_book.specs.declared.commands.release.Line.{Line};
+ghost use Rattle.mx_book.specs.declared.commands.release.Place.TheVariants.{Aircraft};
+ghost use Rattle.mx_book.specs.declared.commands.release.Release.{Release};
+ghost use Rattle.mx_book.specs.declared.commands.sector.Sector.{Sector};
 ghost use Rattle.mx_book.specs.Book.{IsBook};
 ghost use Rattle.mx_book.specs.Judge.{is_at, judge};
 ghost use Rattle.mx_book.specs.Life.{clock, is_credited};

@@ -4,8 +4,8 @@ use Rattle.std.specs.Prelude.{◌+◌}
 use Rattle.sqlite.specs.declared.types.Value.TheVariants.{Int}
 use Rattle.sqlite.specs.State.{State}
 use Rattle.sqlite.specs.Tree.{Trees}
-use Rattle.mx_command.specs.Act.{Entry}
-use Rattle.mx_command.specs.declared.release.Line.{Line}
+use Rattle.mx_book.specs.commands.Act.{Entry}
+use Rattle.mx_book.specs.declared.commands.release.Line.{Line}
 use Rattle.mx_register.specs.Names.{or_zero}
 use Rattle.mx_base.specs.declared.rows.rows.ReleaseLineRow.{ReleaseLineRow}
 use Rattle.mx_layout.specs.Crash.{IsWithin}

@@ -1,7 +1,7 @@
 -- What the rows of an entry say of a command, from how they compare with those that the command would have.
 use Rattle.std.proofs.Common.{◌≡◌, ◌↔◌, ℕ, ◌+◌, Bool, false, List, [], ◌∷◌, ◌++◌, IsTrue, sym, subst, ap, ◌∙◌}
 use Rattle.std.proofs.lemmas.List.{append_assoc}
-use Rattle.mx_command.specs.Act.{Act, Entry}
+use Rattle.mx_book.specs.commands.Act.{Act, Entry}
 use Rattle.mx_book.specs.Book.{IsBook}
 use Rattle.mx_register.specs.Lines.{lines_from}
 use Rattle.mx_kept_rows.specs.Changes.{entry_of}

@@ -1,8 +1,8 @@
 //! Whether the entry with a number adds an aircraft or a component, by its rows.
 ghost use Rattle.std.specs.Prelude.{◌≡◌, ◌≤◌, ◌∷◌, [], length};
 ghost use Rattle.sqlite.specs.Held.{state};
-ghost use Rattle.mx_command.specs.Act.{Added, Listed};
-ghost use Rattle.mx_command.specs.declared.shape.TheConstants.{MOST_POSITIONS};
+ghost use Rattle.mx_book.specs.commands.Act.{Added, Listed};
+ghost use Rattle.mx_book.specs.declared.commands.shape.TheConstants.{MOST_POSITIONS};
 ghost use Rattle.mx_register.specs.Lines.{lines_from};
 ghost use Rattle.mx_register.specs.Registers.{aircraft_row, place_row};
 ghost use Rattle.mx_kept.specs.Cells.{kept_aircraft, kept_place};
@@ -14,8 +14,8 @@ ghost use Rattle.mx_numbers.specs.Told.{TellsDamage};
 
 use crate::lines::place_rows;
 use mx_base::{Part, Position};
+use mx_book::commands::{Aircraft, Component};
 use mx_chosen::items::{aircraft_by_seq, component_by_seq, place_by_seq};
-use mx_command::{Aircraft, Component};
 use mx_found::same::{are_same_aircraft, are_same_components, are_same_places};
 use mx_layout::TableFault;
 use mx_register::{aircraft_row, component_row};

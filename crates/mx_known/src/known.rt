@@ -13,7 +13,7 @@ use crate::items::{is_aircraft, is_component};
 use crate::moves::{is_fitting, is_removal, is_sector};
 use crate::releases::is_release;
 use crate::works::{is_deferral, is_extension, is_opening, is_programme};
-use mx_command::{Command, Said};
+use mx_book::commands::{Command, Said};
 use mx_layout::TableFault;
 use mx_numbers::entries::entry_of_doc;
 use sqlite::{Alter, Transaction};

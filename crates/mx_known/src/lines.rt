@@ -1,12 +1,12 @@
 //! The rows that lists of a command would have, on the lines of its entry.
 ghost use Rattle.std.specs.Prelude.{◌≡◌, ◌≤◌, length, IfErr, IfOk};
-ghost use Rattle.mx_command.specs.declared.programme_shape.TheConstants.{MOST_TASKS};
-ghost use Rattle.mx_command.specs.declared.shape.TheConstants.{MOST_POSITIONS};
+ghost use Rattle.mx_book.specs.declared.commands.programme_shape.TheConstants.{MOST_TASKS};
+ghost use Rattle.mx_book.specs.declared.commands.shape.TheConstants.{MOST_POSITIONS};
 ghost use Rattle.mx_register.specs.Lines.{lines_from};
 ghost use Rattle.mx_register.specs.Registers.{place_row, task_row};
 
 use mx_base::{Part, Position};
-use mx_command::Task;
+use mx_book::commands::Task;
 use mx_layout::TableFault;
 use mx_register::{PlaceRow, TaskRow, place_row, task_row};
 use std::alloc::Global;

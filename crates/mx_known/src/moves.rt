@@ -1,6 +1,6 @@
 //! Whether the entry with a number is a sector, a fitting or a removal, by its rows.
 ghost use Rattle.sqlite.specs.Held.{state};
-ghost use Rattle.mx_command.specs.Act.{Fitted, Flown, Removed};
+ghost use Rattle.mx_book.specs.commands.Act.{Fitted, Flown, Removed};
 ghost use Rattle.std.specs.Prelude.{◌≡◌, ◌↔◌, ◌∷◌, [], IsTrue, map};
 ghost use Rattle.mx_base.specs.declared.rows.rows.Sector2Row.{Sector2Row};
 ghost use Rattle.mx_numbers.specs.AnyRows.{ReadsAny};
@@ -9,9 +9,9 @@ ghost use Rattle.mx_numbers.specs.Reads.{Reads};
 ghost use Rattle.mx_numbers.specs.Told.{TellsDamage};
 
 use mx_base::rows::Sector2Row;
+use mx_book::commands::{Fitting, Removal, Sector};
 use mx_chosen::kept::{span2_by_fit_seq, span2_by_remove_seq};
 use mx_chosen::sectors::sector2_by_seq;
-use mx_command::{Fitting, Removal, Sector};
 use mx_found::known::{begins_in, ends_in};
 use mx_layout::TableFault;
 use mx_numbers::items::{aircraft_number, component_number};

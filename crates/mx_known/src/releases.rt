@@ -1,8 +1,8 @@
 //! Whether the entry with a number is a release, by its rows.
 ghost use Rattle.std.specs.Prelude.{◌≡◌, ◌≤◌, ◌∷◌, [], length};
 ghost use Rattle.sqlite.specs.Held.{state};
-ghost use Rattle.mx_command.specs.Act.{Released};
-ghost use Rattle.mx_command.specs.declared.shape.TheConstants.{MOST_LINES};
+ghost use Rattle.mx_book.specs.commands.Act.{Released};
+ghost use Rattle.mx_book.specs.declared.commands.shape.TheConstants.{MOST_LINES};
 ghost use Rattle.mx_book.specs.Judge.{item_at};
 ghost use Rattle.mx_register.specs.Lines.{lines_from};
 ghost use Rattle.mx_register.specs.Names.{or_zero, seq_of_item};
@@ -16,8 +16,8 @@ ghost use Rattle.mx_known.specs.Known.{AreLines, AreRows, ByNumber, LineDamage, 
 ghost use Rattle.mx_numbers.specs.Reads.{Reads};
 ghost use Rattle.mx_numbers.specs.Told.{Either, ItemDamage, TellsDamage};
 
+use mx_book::commands::{Line, Place, Release};
 use mx_chosen::works::{crs_by_seq, crs_line_by_seq};
-use mx_command::{Line, Place, Release};
 use mx_found::known::release_line_row;
 use mx_found::same::{are_same_release_lines, are_same_releases};
 use mx_layout::TableFault;

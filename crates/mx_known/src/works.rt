@@ -1,8 +1,8 @@
 //! Whether the entry with a number loads a programme, states an opening, defers a defect or extends its interval, by its rows.
 ghost use Rattle.std.specs.Prelude.{◌≡◌, ◌≤◌, ◌∷◌, [], length};
 ghost use Rattle.sqlite.specs.Held.{state};
-ghost use Rattle.mx_command.specs.Act.{Deferred, Extended, Loaded, Opened};
-ghost use Rattle.mx_command.specs.declared.programme_shape.TheConstants.{MOST_TASKS};
+ghost use Rattle.mx_book.specs.commands.Act.{Deferred, Extended, Loaded, Opened};
+ghost use Rattle.mx_book.specs.declared.commands.programme_shape.TheConstants.{MOST_TASKS};
 ghost use Rattle.mx_register.specs.Lines.{lines_from};
 ghost use Rattle.mx_register.specs.Registers.{programme_row, task_row};
 ghost use Rattle.mx_kept.specs.Cells.{kept_programme, kept_task};
@@ -13,10 +13,10 @@ ghost use Rattle.mx_numbers.specs.Reads.{Reads};
 ghost use Rattle.mx_numbers.specs.Told.{TellsDamage};
 
 use crate::lines::task_rows;
+use mx_book::commands::{Deferral, Extension, Opening, Programme, Task};
 use mx_chosen::defects::{defect_by_seq, extension_by_seq};
 use mx_chosen::programmes::{programme_by_seq, task_by_seq};
 use mx_chosen::works::opening_by_seq;
-use mx_command::{Deferral, Extension, Opening, Programme, Task};
 use mx_found::same::{
     are_same_deferrals, are_same_extensions, are_same_openings, are_same_programmes, are_same_tasks,
 };

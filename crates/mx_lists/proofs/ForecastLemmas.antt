@@ -1,8 +1,8 @@
 -- The row of a forecast: by the least number of days that reaches its due.
 use Rattle.std.proofs.Common.{◌≡◌, ℕ, ◌≤◌, ◌<◌, ap, sym, subst, Option, Some, None}
 use Rattle.std.specs.Option.{option_map}
-use Rattle.mx_due.specs.Reach.{IsLeast, IsLeastIfAny}
-use Rattle.mx_due.proofs.ReachLemmas.{up_to_some, up_to_none, up_to_less}
+use Rattle.mx_book.specs.due.Reach.{IsLeast, IsLeastIfAny}
+use Rattle.mx_book.proofs.DueProofs.ReachLemmas.{up_to_some, up_to_none, up_to_less}
 use Rattle.mx_lists.specs.declared.due_row.DueRow.{DueRow}
 use Rattle.mx_lists.specs.Forecast.{is_reached_after, row_after, forecast_row}
 

@@ -2,8 +2,8 @@
 use Rattle.std.proofs.Common.{◌≡◌, ◌∙◌, refl, ap, subst, List, [], ◌++◌, append_assoc}
 use Rattle.std.specs.Prelude.{Result, Ok, Err, IfOk}
 use Rattle.std.specs.declared.convert.Infallible.{Infallible}
-use Rattle.mx_command.specs.Act.{Entry}
-use Rattle.mx_entry_list.specs.declared.book.NoMemory.{NoMemory}
+use Rattle.mx_book.specs.commands.Act.{Entry}
+use Rattle.mx_book.specs.declared.entry_list.book.NoMemory.{NoMemory}
 use Rattle.mx_plain.specs.declared.plain.Plain.{Plain}
 use Rattle.mx_plain.specs.Plain.{plain_reading}
 use Rattle.mx_book.specs.Reading.{Answers}

@@ -6,15 +6,15 @@ use Rattle.mx_base.specs.declared.amounts.Base.{Base}
 use Rattle.mx_base.specs.declared.amounts.Left.{Left}
 use Rattle.mx_base.specs.declared.amounts.Status.{Status}
 use Rattle.mx_base.specs.declared.amounts.Status.TheVariants as statuses
-use Rattle.mx_command.specs.Act.{Entry, Added, Listed, Released}
-use Rattle.mx_command.specs.Shape.{has_shape}
-use Rattle.mx_command.specs.declared.item.Item.TheVariants.{Airframe, Component}
-use Rattle.mx_command.specs.declared.programme.Applies.TheVariants as applies
-use Rattle.mx_command.specs.declared.programme.Task.{Task}
-use Rattle.mx_command.specs.declared.release.Line.{Line}
-use Rattle.mx_command.specs.declared.release.Line.TheVariants.{Done}
-use Rattle.mx_command.specs.declared.release.Place.{Place}
-use Rattle.mx_command.specs.declared.release.Place.TheVariants.{Aircraft, Shop}
+use Rattle.mx_book.specs.commands.Act.{Entry, Added, Listed, Released}
+use Rattle.mx_book.specs.commands.Shape.{has_shape}
+use Rattle.mx_book.specs.declared.commands.item.Item.TheVariants.{Airframe, Component}
+use Rattle.mx_book.specs.declared.commands.programme.Applies.TheVariants as applies
+use Rattle.mx_book.specs.declared.commands.programme.Task.{Task}
+use Rattle.mx_book.specs.declared.commands.release.Line.{Line}
+use Rattle.mx_book.specs.declared.commands.release.Line.TheVariants.{Done}
+use Rattle.mx_book.specs.declared.commands.release.Place.{Place}
+use Rattle.mx_book.specs.declared.commands.release.Place.TheVariants.{Aircraft, Shop}
 use Rattle.mx_book.specs.Book.{is_book}
 use Rattle.mx_book.specs.Base.{base}
 use Rattle.mx_book.proofs.Worked.{at, used, abcd, logged}

@@ -2,7 +2,7 @@
 use Rattle.std.proofs.Common.{refl, ◌≡◌, List, [], ◌∷◌, Some, None}
 use Rattle.std.specs.Prelude.{codes, pos}
 use Rattle.mx_base.specs.declared.amounts.Status.TheVariants as statuses
-use Rattle.mx_command.specs.Act.{Entry, Deferred}
+use Rattle.mx_book.specs.commands.Act.{Entry, Deferred}
 use Rattle.mx_base.specs.declared.category.Category.TheVariants.{B}
 use Rattle.mx_book.proofs.Worked.{at, abcd, logged}
 use Rattle.mx_book.proofs.WorkedFittings.{efgh, first_aircraft}

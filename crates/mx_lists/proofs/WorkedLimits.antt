@@ -4,10 +4,10 @@ use Rattle.std.specs.Prelude.{codes, map, ℤ, pos, neg_ℤ}
 use Rattle.std.specs.Option.{option_map}
 use Rattle.mx_base.specs.declared.amounts.Status.{Status}
 use Rattle.mx_base.specs.declared.amounts.Status.TheVariants as statuses
-use Rattle.mx_command.specs.Act.{Entry}
+use Rattle.mx_book.specs.commands.Act.{Entry}
 use Rattle.mx_base.specs.declared.category.Category.TheVariants.{A, B, D}
-use Rattle.mx_command.specs.declared.programme.Task.{Task}
-use Rattle.mx_command.specs.declared.release.Place.TheVariants.{Aircraft}
+use Rattle.mx_book.specs.declared.commands.programme.Task.{Task}
+use Rattle.mx_book.specs.declared.commands.release.Place.TheVariants.{Aircraft}
 use Rattle.mx_book.specs.declared.verdict.Refusal.TheVariants.{ExtensionTooLong}
 use Rattle.mx_book.specs.declared.verdict.Verdict.TheVariants.{New, Refused}
 use Rattle.mx_book.specs.Defect.{defect, last_permitted, open_defects}

@@ -4,12 +4,12 @@ use Rattle.std.specs.List.{filter_map, flat_map}
 use Rattle.std.specs.Option.{option_map}
 use Rattle.mx_base.specs.declared.amounts.Limit.{Limit}
 use Rattle.mx_base.specs.declared.amounts.Use.{Use}
-use Rattle.mx_command.specs.Act.{Entry}
-use Rattle.mx_command.specs.declared.item.Item.{Item}
-use Rattle.mx_command.specs.declared.item.Item.TheVariants.{Airframe, Component}
-use Rattle.mx_command.specs.declared.programme.Task.{Task}
-use Rattle.mx_due.specs.Left.{left_of}
-use Rattle.mx_due.specs.Status.{status_by, status_of}
+use Rattle.mx_book.specs.commands.Act.{Entry}
+use Rattle.mx_book.specs.declared.commands.item.Item.{Item}
+use Rattle.mx_book.specs.declared.commands.item.Item.TheVariants.{Airframe, Component}
+use Rattle.mx_book.specs.declared.commands.programme.Task.{Task}
+use Rattle.mx_book.specs.due.Left.{left_of}
+use Rattle.mx_book.specs.due.Status.{status_by, status_of}
 use Rattle.mx_book.specs.declared.defects.Defect.{Defect}
 use Rattle.mx_book.specs.Register.{aircraft}
 use Rattle.mx_book.specs.Life.{life_now, use_or_none}

@@ -1,6 +1,6 @@
 -- What is fitted to an aircraft by places, as lists ask it of records, and the parts that they make of the answer.
 use Rattle.std.specs.Prelude.{ℕ, List, map, filter, Option}
-use Rattle.mx_command.specs.Act.{Entry}
+use Rattle.mx_book.specs.commands.Act.{Entry}
 use Rattle.mx_book.specs.Span.{Span, spans, span_begun, is_open_on}
 use Rattle.mx_lists.specs.declared.life_list.FittedPart.{FittedPart}
 use Rattle.mx_lists.specs.Lists.{part_in}

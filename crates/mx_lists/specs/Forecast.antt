@@ -2,8 +2,8 @@
 use Rattle.std.specs.Prelude.{ℕ, ◌+◌, pos, nat_lt, List, Bool, Option}
 use Rattle.std.specs.List.{filter_map}
 use Rattle.std.specs.Option.{option_map}
-use Rattle.mx_command.specs.Act.{Entry}
-use Rattle.mx_due.specs.Reach.{reaches, reaches_some, least_up_to}
+use Rattle.mx_book.specs.commands.Act.{Entry}
+use Rattle.mx_book.specs.due.Reach.{reaches, reaches_some, least_up_to}
 use Rattle.mx_book.specs.Register.{aircraft}
 use Rattle.mx_lists.specs.declared.due_row.DueRow.{DueRow}
 use Rattle.mx_lists.specs.declared.due_row.DueRow.TheVariants.{Task as TaskRow, Defect as DefectRow}

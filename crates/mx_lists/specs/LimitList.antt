@@ -1,9 +1,9 @@
 -- The limits of an aircraft: the last day of each of its open defects.
 use Rattle.std.specs.Prelude.{ℕ, ℤ, pos, int_lt, List, map, Bool, Option}
 use Rattle.std.specs.Option.{option_map}
-use Rattle.mx_command.specs.Act.{Entry}
-use Rattle.mx_due.specs.Left.{left_until}
-use Rattle.mx_due.specs.Status.{status_by}
+use Rattle.mx_book.specs.commands.Act.{Entry}
+use Rattle.mx_book.specs.due.Left.{left_until}
+use Rattle.mx_book.specs.due.Status.{status_by}
 use Rattle.mx_book.specs.declared.defects.Defect.{Defect}
 use Rattle.mx_book.specs.Register.{aircraft}
 use Rattle.mx_book.specs.Defect.{days_extended, day_found, last_permitted, letter_of, open_defects}

@@ -2,8 +2,8 @@
 use Rattle.std.specs.Prelude.{ℕ, List, Bool, Option, filter}
 use Rattle.std.specs.List.{filter_map}
 use Rattle.std.specs.Option.{option_map}
-use Rattle.mx_command.specs.Act.{Entry}
-use Rattle.mx_command.specs.declared.item.Item.TheVariants.{Airframe, Component}
+use Rattle.mx_book.specs.commands.Act.{Entry}
+use Rattle.mx_book.specs.declared.commands.item.Item.TheVariants.{Airframe, Component}
 use Rattle.mx_book.specs.Register.{aircraft, component}
 use Rattle.mx_book.specs.Span.{Span, spans, is_open_on}
 use Rattle.mx_book.specs.Life.{life_now, use_or_none}

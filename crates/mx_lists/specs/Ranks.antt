@@ -5,7 +5,7 @@ use Rattle.std.specs.Cmp.Lexicographic.{nat_list_cmp_total}
 use Rattle.std.proofs.Common.{arith}
 use Rattle.std.proofs.lemmas.Int.{ints}
 use Rattle.std.proofs.lemmas.List.Sorted.{ranks_by, IsStrictWeakOrder-by_number}
-use Rattle.mx_command.specs.declared.programme.Task.{Task}
+use Rattle.mx_book.specs.declared.commands.programme.Task.{Task}
 use Rattle.mx_lists.specs.declared.due_row.DueRow.{DueRow}
 use Rattle.mx_lists.specs.declared.forecast.ForecastRow.{ForecastRow}
 use Rattle.mx_lists.specs.declared.life_list.FittedPart.{FittedPart}

@@ -2,10 +2,10 @@
 ghost use Rattle.std.specs.Prelude.{◌≡◌, ◌≤◌, length, true, IfSome};
 ghost use Rattle.std.specs.List.{list_all};
 ghost use Rattle.std.specs.Option.{option_and_then};
-ghost use Rattle.mx_command.specs.Act.{Released};
-ghost use Rattle.mx_command.specs.Programme.{task_shape};
-ghost use Rattle.mx_command.specs.Shape.{has_shape, use_shape};
-ghost use Rattle.mx_due.specs.Due.{IsLife, IsBase, due_after};
+ghost use Rattle.mx_book.specs.commands.Act.{Released};
+ghost use Rattle.mx_book.specs.commands.Programme.{task_shape};
+ghost use Rattle.mx_book.specs.commands.Shape.{has_shape, use_shape};
+ghost use Rattle.mx_book.specs.due.Due.{IsLife, IsBase, due_after};
 ghost use Rattle.mx_book.specs.Register.{birth};
 ghost use Rattle.mx_book.specs.Life.{life_at, use_or_none};
 ghost use Rattle.mx_book.specs.Base.{DoneIn, accomplished_by, task_then, base_of, base_from, base};
@@ -13,9 +13,9 @@ ghost use Rattle.mx_book.specs.declared.limits.TheConstants.{MOST_ENTRIES};
 
 use crate::life_list::life_or_none;
 use mx_base::{Base, Day, Limit, Moment, TaskId, Use, day_of};
+use mx_book::commands::{Body, Command, Item, Line, Release, Task};
+use mx_book::due::{base_done, due_after};
 use mx_book::found::{birth_of, item_of_place, kind_of_place};
-use mx_command::{Body, Command, Item, Line, Release, Task};
-use mx_due::{base_done, due_after};
 use mx_plain::lives::life;
 use mx_plain::programmes::{is_done_by, task_of_kind};
 use mx_plain::register::found_of;
@@ -133,7 +133,7 @@ fn base_stated(used: &Use, day: Day) -> Base
 }
 
 // The base behind the entry with a number.
-#[tactic(auto, using(mx_command::proofs::SameLemmas::item_is))]
+#[tactic(auto, using(mx_book::proofs::CommandsProofs::SameLemmas::item_is))]
 fn base_after_entry(
     entries: &[Command],
     item: &Item,

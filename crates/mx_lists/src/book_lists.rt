@@ -16,8 +16,8 @@ use crate::life_list::{LifeList, list_lives};
 use crate::limit_list::{LimitList, list_limits};
 use crate::plain_lists::unless_no_memory;
 use mx_base::{Base, Day, Kind, Limit, Tail, TaskId};
-use mx_command::Item;
-use mx_entry_list::{Book, NoMemory};
+use mx_book::commands::Item;
+use mx_book::entry_list::{Book, NoMemory};
 use mx_plain::Plain;
 use std::alloc::Global;
 

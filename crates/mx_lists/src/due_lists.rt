@@ -1,8 +1,8 @@
 //! The due list of an aircraft: what is due on its airframe and on what is fitted to it, and its open defects.
 ghost use Rattle.std.specs.Prelude.{◌≡◌, ◌++◌, [], true, map, List, IfOk, OnOk};
 ghost use Rattle.std.specs.List.{cons_option, flat_map, list_all};
-ghost use Rattle.mx_command.specs.Act.{Entry};
-ghost use Rattle.mx_command.specs.Programme.{task_shape};
+ghost use Rattle.mx_book.specs.commands.Act.{Entry};
+ghost use Rattle.mx_book.specs.commands.Programme.{task_shape};
 ghost use Rattle.mx_book.specs.Defect.{days_extended};
 ghost use Rattle.mx_book.specs.Reading.{Answers};
 ghost use Rattle.mx_lists.specs.DueList.{row_by_due, task_before, tasks_by_name, row_with, rows_with, rows_of_item, rows_of_part, defect_row, rows_by_place, due_list};
@@ -17,9 +17,9 @@ use crate::lists::Lists;
 use crate::order::{Placed, Rows, sorted};
 use crate::stop::Stop;
 use mx_base::{Day, Kind, Limit, Position, Serial, Tail, Use};
+use mx_book::commands::{Item, Task};
 use mx_book::defects::{Defect, category_letter, last_day_with};
-use mx_command::{Item, Task};
-use mx_due::{left_of, status_by, status_of};
+use mx_book::due::{left_of, status_by, status_of};
 use std::alloc::{AllocError, Global};
 
 impl Placed for Task {

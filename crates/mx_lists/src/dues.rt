@@ -1,7 +1,7 @@
 //! When a task is due on an item: counted from the base of its last accomplishment, or from the item's birth.
 ghost use Rattle.std.specs.Prelude.{◌≡◌, true};
-ghost use Rattle.mx_command.specs.Programme.{task_shape};
-ghost use Rattle.mx_due.specs.Due.{due_after};
+ghost use Rattle.mx_book.specs.commands.Programme.{task_shape};
+ghost use Rattle.mx_book.specs.due.Due.{due_after};
 ghost use Rattle.mx_book.specs.Base.{base};
 ghost use Rattle.mx_book.specs.Register.{birth_in};
 ghost use Rattle.mx_book.specs.Reading.{Answers};
@@ -10,10 +10,10 @@ ghost use Rattle.mx_lists.specs.Dues.{due_by, due};
 use crate::lists::Lists;
 use mx_base::{Kind, Limit, TaskId};
 use mx_book::Records;
+use mx_book::commands::{Item, Task};
+use mx_book::due::due_after;
 use mx_book::found::{Found, birth_of, is_task_of};
-use mx_command::{Item, Task};
-use mx_due::due_after;
-use mx_judge::judging_items::found_of;
+use mx_book::judging::judging_items::found_of;
 
 // When a task that applies to an item, of which this was found, is due on it, or `None` where it is due no more.
 fn due_of_applied<R: Lists>(

@@ -4,7 +4,7 @@ ghost use Rattle.std.specs.List.{cons_option};
 ghost use Rattle.mx_lists.specs.Fitted.{fitted_on, fitted_begun};
 
 use mx_base::{Position, Serial, Tail};
-use mx_command::Command;
+use mx_book::commands::Command;
 use mx_plain::spans::removed_at;
 use std::alloc::{AllocError, Global};
 

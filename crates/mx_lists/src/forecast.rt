@@ -1,7 +1,7 @@
 //! The forecast of an aircraft: after how many days each row of its due list is reached, at the rate that it is flown.
 ghost use Rattle.std.specs.Prelude.{◌≡◌, IfOk};
 ghost use Rattle.std.specs.List.{filter_map};
-ghost use Rattle.mx_due.specs.Reach.{IsLeastIfAny};
+ghost use Rattle.mx_book.specs.due.Reach.{IsLeastIfAny};
 ghost use Rattle.mx_book.specs.Reading.{Answers};
 ghost use Rattle.mx_lists.specs.Forecast.{is_reached_after, row_after, forecast_row, sooner, forecast};
 ghost use Rattle.mx_lists.specs.Memory.{with_memory};
@@ -14,7 +14,7 @@ use crate::lists::Lists;
 use crate::order::{Placed, Rows, sorted};
 use crate::stop::Stop;
 use mx_base::{Day, Tail};
-use mx_due::{days_to_reach, days_to_reach_some};
+use mx_book::due::{days_to_reach, days_to_reach_some};
 use std::alloc::{AllocError, Global};
 
 /// The most days that a forecast is asked for.

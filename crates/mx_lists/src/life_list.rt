@@ -13,7 +13,7 @@ use crate::lists::Lists;
 use crate::order::{Placed, Rows, sorted};
 use crate::stop::Stop;
 use mx_base::{Kind, Part, Position, Serial, Tail, Use};
-use mx_command::Item;
+use mx_book::commands::Item;
 use std::alloc::Global;
 
 /// A component in a position of an aircraft, with its life.

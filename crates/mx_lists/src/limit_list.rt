@@ -1,6 +1,6 @@
 //! The limits of an aircraft: the last day of each of its open defects.
 ghost use Rattle.std.specs.Prelude.{◌≡◌, map, List};
-ghost use Rattle.mx_command.specs.Act.{Entry};
+ghost use Rattle.mx_book.specs.commands.Act.{Entry};
 ghost use Rattle.mx_book.specs.Defect.{days_extended};
 ghost use Rattle.mx_book.specs.Reading.{Answers};
 ghost use Rattle.mx_lists.specs.LimitList.{limit_before, limit_row, limits};
@@ -13,7 +13,7 @@ use crate::order::{Placed, Rows, sorted};
 use crate::stop::Stop;
 use mx_base::{Day, Doc, MelRef, Status, Tail, day_of};
 use mx_book::defects::{Defect, category_letter, last_day_with};
-use mx_due::status_by;
+use mx_book::due::status_by;
 use std::alloc::Global;
 
 /// An open defect, and how long it may stay open.

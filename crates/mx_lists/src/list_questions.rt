@@ -10,8 +10,8 @@ use crate::lists::Lists;
 use crate::stop::Stop;
 use mx_base::{Doc, Tail, Use};
 use mx_book::Records;
-use mx_command::{Aircraft, Item};
-use mx_judge::judging_defects::extension_days;
+use mx_book::commands::{Aircraft, Item};
+use mx_book::judging::judging_defects::extension_days;
 
 /// The aircraft with a registration.
 pub(crate) fn aircraft_of<R: Lists>(

@@ -1,8 +1,8 @@
 //! What lists ask of records, beside what judging does.
 ghost use Rattle.std.specs.Prelude.{◌≡◌, true, IfOk, IfSome};
 ghost use Rattle.std.specs.List.{list_all};
-ghost use Rattle.mx_command.specs.Programme.{task_shape};
-ghost use Rattle.mx_due.specs.Due.{IsBase};
+ghost use Rattle.mx_book.specs.commands.Programme.{task_shape};
+ghost use Rattle.mx_book.specs.due.Due.{IsBase};
 ghost use Rattle.mx_book.specs.Base.{base};
 ghost use Rattle.mx_book.specs.Defect.{open_defects};
 ghost use Rattle.mx_book.specs.Life.{life_now};
@@ -13,8 +13,8 @@ ghost use Rattle.mx_lists.specs.Memory.{with_memory, seen_as};
 
 use crate::stop::Stop;
 use mx_base::{Base, Kind, Position, Serial, Tail, TaskId, Use};
+use mx_book::commands::{Item, Task};
 use mx_book::{Defect, Records};
-use mx_command::{Item, Task};
 use std::alloc::Global;
 
 /// Records of which lists are made. A look-up that answers a list takes memory, and stops where that runs out.

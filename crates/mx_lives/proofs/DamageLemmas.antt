@@ -9,10 +9,10 @@ use Rattle.sqlite.specs.declared.types.Value.TheVariants.{Int}
 use Rattle.sqlite.specs.Order.{Row}
 use Rattle.sqlite.specs.Tree.{Trees}
 use Rattle.mx_base.specs.declared.amounts.Base.{Base}
-use Rattle.mx_command.specs.Programme.{task_shape}
-use Rattle.mx_command.specs.declared.item.Item.{Item}
-use Rattle.mx_command.specs.declared.item.Item.TheVariants.{Airframe, Component}
-use Rattle.mx_due.specs.Due.{IsLife}
+use Rattle.mx_book.specs.commands.Programme.{task_shape}
+use Rattle.mx_book.specs.declared.commands.item.Item.{Item}
+use Rattle.mx_book.specs.declared.commands.item.Item.TheVariants.{Airframe, Component}
+use Rattle.mx_book.specs.due.Due.{IsLife}
 use Rattle.mx_book.specs.Programme.{last_of}
 use Rattle.mx_register.specs.Merge.{task_said}
 use Rattle.mx_base.specs.rows.Rows.{base_in_row}

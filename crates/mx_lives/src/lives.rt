@@ -1,7 +1,7 @@
 //! Clocks and lives, by totals.
 ghost use Rattle.std.specs.Prelude.{◌≡◌};
 ghost use Rattle.sqlite.specs.Held.{state};
-ghost use Rattle.mx_command.specs.declared.item.Item.TheVariants.{Airframe};
+ghost use Rattle.mx_book.specs.declared.commands.item.Item.TheVariants.{Airframe};
 ghost use Rattle.mx_book.specs.Judge.{earliest_takeoff};
 ghost use Rattle.mx_book.specs.Life.{clock, life_now};
 ghost use Rattle.mx_numbers.specs.AnyRows.{ReadsAny};
@@ -10,8 +10,8 @@ ghost use Rattle.mx_numbers.specs.Reads.{Reads};
 ghost use Rattle.mx_numbers.specs.Told.{TotalDamage, TellsDamage};
 
 use mx_base::{Moment, Tail, Use};
+use mx_book::commands::Item;
 use mx_chosen::kept::total2_by_item;
-use mx_command::Item;
 use mx_found::lives::{clock_in, life_in};
 use mx_layout::{Table, TableFault};
 use mx_numbers::items::item_number;

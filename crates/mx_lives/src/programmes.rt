@@ -3,7 +3,7 @@ ghost use Rattle.std.specs.Prelude.{◌≡◌, true, IfOk, IfSome};
 ghost use Rattle.std.specs.List.{list_all};
 ghost use Rattle.std.specs.Option.{option_map};
 ghost use Rattle.sqlite.specs.Held.{state};
-ghost use Rattle.mx_command.specs.Programme.{task_shape};
+ghost use Rattle.mx_book.specs.commands.Programme.{task_shape};
 ghost use Rattle.mx_book.specs.Asking.{task_of};
 ghost use Rattle.mx_book.specs.Programme.{life_ended, next_revision, tasks_or_none};
 ghost use Rattle.mx_book.specs.Register.{found_of};
@@ -18,8 +18,8 @@ ghost use Rattle.mx_numbers.specs.Told.{InForceDamage, ItemDamage, RetiredDamage
 use crate::lives::life;
 use mx_base::rows::TaskRow;
 use mx_base::{Day, Kind, Part, TaskId};
+use mx_book::commands::{Item, Task};
 use mx_chosen::programmes::{programme_by_kind, task_by_seq};
-use mx_command::{Item, Task};
 use mx_found::programmes::{
     have_task_shapes, is_retired_in, programme_number, revision_after, task_in, tasks_said,
 };

@@ -1,7 +1,7 @@
 //! What was accomplished on items, by last bases.
 ghost use Rattle.std.specs.Prelude.{◌≡◌, IfOk, IfSome};
 ghost use Rattle.sqlite.specs.Held.{state};
-ghost use Rattle.mx_due.specs.Due.{IsBase};
+ghost use Rattle.mx_book.specs.due.Due.{IsBase};
 ghost use Rattle.mx_book.specs.Base.{base};
 ghost use Rattle.mx_book.specs.Programme.{is_accomplished};
 ghost use Rattle.mx_numbers.specs.AnyRows.{ReadsAny};
@@ -10,8 +10,8 @@ ghost use Rattle.mx_numbers.specs.Reads.{Reads};
 ghost use Rattle.mx_numbers.specs.Told.{BaseDamage, DoneDamage, TellsDamage};
 
 use mx_base::{Base, TaskId};
+use mx_book::commands::Item;
 use mx_chosen::kept::base2_by_item_and_task;
-use mx_command::Item;
 use mx_found::lives::{base_found, is_of_life};
 use mx_layout::{Table, TableFault};
 use mx_numbers::items::item_number;

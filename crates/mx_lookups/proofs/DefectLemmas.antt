@@ -1,7 +1,7 @@
 -- The defect that the rows with its number and with that of its aircraft say.
 use Rattle.std.proofs.Common.{◌≡◌, ◌∙◌, ℕ, List, filter, Option, Some, None, sym, ap, subst}
 use Rattle.std.specs.Prelude.{IsSomeAnd, nat_eq}
-use Rattle.mx_command.specs.Act.{Entry}
+use Rattle.mx_book.specs.commands.Act.{Entry}
 use Rattle.mx_book.specs.Book.{IsBook}
 use Rattle.mx_book.specs.Defect.{defect}
 use Rattle.mx_register.specs.Names.{seq_of_defect}

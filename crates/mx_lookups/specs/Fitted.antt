@@ -1,7 +1,7 @@
 -- Where a component is fitted, by number.
 use Rattle.std.specs.Prelude.{◌≡◌, ℕ, List, Option, is_some}
 use Rattle.std.specs.Option.{option_and_then}
-use Rattle.mx_command.specs.Act.{Entry}
+use Rattle.mx_book.specs.commands.Act.{Entry}
 use Rattle.mx_book.specs.Span.{tail_fitted}
 use Rattle.mx_register.specs.Names.{tail_at}
 

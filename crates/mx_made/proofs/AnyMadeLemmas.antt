@@ -9,10 +9,10 @@ use Rattle.sqlite.specs.State.{State}
 use Rattle.sqlite.specs.Tree.{Trees}
 use Rattle.mx_base.specs.declared.amounts.Base.{Base}
 use Rattle.mx_base.specs.declared.amounts.Limit.{Limit}
-use Rattle.mx_command.specs.Act.{Act, Entry}
-use Rattle.mx_command.specs.declared.programme.Task.{Task}
-use Rattle.mx_command.specs.declared.release.Line.{Line}
-use Rattle.mx_command.specs.declared.release.Place.{Place}
+use Rattle.mx_book.specs.commands.Act.{Act, Entry}
+use Rattle.mx_book.specs.declared.commands.programme.Task.{Task}
+use Rattle.mx_book.specs.declared.commands.release.Line.{Line}
+use Rattle.mx_book.specs.declared.commands.release.Place.{Place}
 use Rattle.mx_base.specs.declared.rows.rows.EntryRow.{EntryRow}
 use Rattle.mx_layout.specs.declared.fault.TableFault.{TableFault}
 use Rattle.mx_layout.specs.Crash.{IsWithin}
@@ -23,7 +23,7 @@ use Rattle.mx_numbers.specs.Reads.{Reads}
 use Rattle.mx_numbers.proofs.AnyLemmas.{any_later, any_so}
 use Rattle.mx_numbers.proofs.TableLemmas.{IsTable}
 use Rattle.mx_chosen.specs.Calls.{ReadsFirst}
-use Rattle.mx_due.specs.Due.{due_after}
+use Rattle.mx_book.specs.due.Due.{due_after}
 use Rattle.mx_book.specs.Judge.{item_at}
 use Rattle.mx_book.specs.Register.{birth_in}
 use Rattle.mx_book.specs.declared.found.Found.{Found}

@@ -2,7 +2,7 @@
 use Rattle.std.proofs.Common.{◌≡◌, ◌∙◌, ◌+◌, ◌-◌, ◌^◌, ◌≤◌, arith, inl, min, ℕ, List, length, Result, Ok, refl, sym, subst}
 use Rattle.std.specs.Prelude.{IsErrAnd}
 use Rattle.sqlite.specs.State.{State}
-use Rattle.mx_command.specs.Act.{Act, Entry}
+use Rattle.mx_book.specs.commands.Act.{Act, Entry}
 use Rattle.mx_book.specs.Book.{IsBook}
 use Rattle.mx_register.specs.Registers.{next}
 use Rattle.mx_base.specs.declared.rows.rows.EntryRow.{EntryRow}

@@ -4,7 +4,7 @@ use Rattle.std.specs.Prelude.{is_none}
 use Rattle.std.specs.List.{AllByRecursion}
 use Rattle.sqlite.specs.declared.types.Value.TheVariants.{Int}
 use Rattle.sqlite.specs.State.{State}
-use Rattle.mx_command.specs.Act.{Act, Entry, Fitted}
+use Rattle.mx_book.specs.commands.Act.{Act, Entry, Fitted}
 use Rattle.mx_book.specs.Span.{span_begun}
 use Rattle.mx_base.specs.declared.rows.rows.SpanRow.{SpanRow}
 use Rattle.mx_kept_rows.specs.Items.{number_of_serial}

@@ -7,15 +7,15 @@ use Rattle.sqlite.specs.Tree.{Trees}
 use Rattle.mx_base.specs.declared.amounts.Base.{Base}
 use Rattle.mx_base.specs.declared.amounts.Limit.{Limit}
 use Rattle.mx_base.specs.declared.amounts.Use.{Use}
-use Rattle.mx_command.specs.Act.{Act, Entry, Opened, Flown, Fitted, Removed, Released, Deferred, Extended}
-use Rattle.mx_command.specs.declared.item.Item.{Item}
-use Rattle.mx_command.specs.declared.item.Item.TheVariants.{Airframe, Component}
-use Rattle.mx_command.specs.declared.programme.Task.{Task}
-use Rattle.mx_command.specs.declared.release.Line.{Line}
-use Rattle.mx_command.specs.declared.release.Line.TheVariants as lines
-use Rattle.mx_command.specs.declared.release.Place.{Place}
-use Rattle.mx_command.specs.declared.sector.Sector.{Sector}
-use Rattle.mx_due.specs.Due.{due_after}
+use Rattle.mx_book.specs.commands.Act.{Act, Entry, Opened, Flown, Fitted, Removed, Released, Deferred, Extended}
+use Rattle.mx_book.specs.declared.commands.item.Item.{Item}
+use Rattle.mx_book.specs.declared.commands.item.Item.TheVariants.{Airframe, Component}
+use Rattle.mx_book.specs.declared.commands.programme.Task.{Task}
+use Rattle.mx_book.specs.declared.commands.release.Line.{Line}
+use Rattle.mx_book.specs.declared.commands.release.Line.TheVariants as lines
+use Rattle.mx_book.specs.declared.commands.release.Place.{Place}
+use Rattle.mx_book.specs.declared.commands.sector.Sector.{Sector}
+use Rattle.mx_book.specs.due.Due.{due_after}
 use Rattle.mx_book.specs.Judge.{item_at}
 use Rattle.mx_book.specs.Life.{use_or_none}
 use Rattle.mx_book.specs.Programme.{kind_at}

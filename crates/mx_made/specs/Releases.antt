@@ -2,11 +2,11 @@
 use Rattle.std.specs.Prelude.{ℕ, List, Option, find}
 use Rattle.std.specs.Option.{option_and_then}
 use Rattle.mx_base.specs.declared.amounts.Limit.{Limit}
-use Rattle.mx_command.specs.Act.{Entry}
-use Rattle.mx_command.specs.Same.{same_text}
-use Rattle.mx_command.specs.declared.item.Item.{Item}
-use Rattle.mx_command.specs.declared.programme.Task.{Task}
-use Rattle.mx_due.specs.Due.{due_after}
+use Rattle.mx_book.specs.commands.Act.{Entry}
+use Rattle.mx_book.specs.commands.Same.{same_text}
+use Rattle.mx_book.specs.declared.commands.item.Item.{Item}
+use Rattle.mx_book.specs.declared.commands.programme.Task.{Task}
+use Rattle.mx_book.specs.due.Due.{due_after}
 use Rattle.mx_book.specs.Base.{base}
 use Rattle.mx_book.specs.Programme.{tasks_in_force}
 use Rattle.mx_book.specs.Register.{birth}

@@ -1,7 +1,7 @@
 //! The rows of a deferral and of an extension.
 ghost use Rattle.std.specs.Prelude.{◌≡◌};
 ghost use Rattle.sqlite.specs.Held.{state};
-ghost use Rattle.mx_command.specs.Act.{Deferred, Extended};
+ghost use Rattle.mx_book.specs.commands.Act.{Deferred, Extended};
 ghost use Rattle.mx_base.specs.rows.Rows.{FitsEntry};
 ghost use Rattle.mx_numbers.specs.AnyRows.{ReadsAny};
 ghost use Rattle.mx_numbers.specs.Reads.{Reads};
@@ -11,8 +11,8 @@ ghost use Rattle.mx_made.specs.Made.{AreRowsOf};
 use crate::numbers::{number_of_aircraft, number_of_defect};
 use crate::totals::totals_of;
 use mx_base::rows::EntryRow;
+use mx_book::commands::{Deferral, Extension};
 use mx_changes::{CommandRows, deferral_rows, extension_rows};
-use mx_command::{Deferral, Extension};
 use mx_layout::TableFault;
 use sqlite::{Alter, Transaction};
 use std::alloc::Global;

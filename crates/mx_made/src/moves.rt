@@ -1,7 +1,7 @@
 //! The rows of a fitting and of a removal.
 ghost use Rattle.std.specs.Prelude.{◌≡◌, IfOk};
 ghost use Rattle.sqlite.specs.Held.{state};
-ghost use Rattle.mx_command.specs.Act.{Fitted, Removed};
+ghost use Rattle.mx_book.specs.commands.Act.{Fitted, Removed};
 ghost use Rattle.mx_base.specs.rows.Rows.{FitsEntry};
 ghost use Rattle.mx_numbers.specs.AnyRows.{ReadsAny};
 ghost use Rattle.mx_numbers.specs.Reads.{Reads};
@@ -11,9 +11,9 @@ ghost use Rattle.mx_made.specs.Made.{AreRowsOf};
 use crate::numbers::{number_of_aircraft, number_of_component};
 use crate::totals::totals_of;
 use mx_base::rows::{EntryRow, SpanRow};
+use mx_book::commands::{Fitting, Removal};
 use mx_changes::{CommandRows, fitting_rows, removal_rows};
 use mx_chosen::kept::open_spans_by_component;
-use mx_command::{Fitting, Removal};
 use mx_layout::TableFault;
 use sqlite::{Alter, Transaction};
 use std::alloc::{AllocError, Global};

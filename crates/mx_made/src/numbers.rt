@@ -1,7 +1,7 @@
 //! The row of the entry of a command, and the numbers of what a command names.
 ghost use Rattle.std.specs.Prelude.{◌≡◌, true, IfOk};
 ghost use Rattle.sqlite.specs.Held.{state};
-ghost use Rattle.mx_command.specs.Shape.{has_shape};
+ghost use Rattle.mx_book.specs.commands.Shape.{has_shape};
 ghost use Rattle.mx_base.specs.rows.Rows.{FitsEntry};
 ghost use Rattle.mx_register.specs.Names.{or_zero, seq_of_defect};
 ghost use Rattle.mx_kept_rows.specs.Items.{number_of_item, number_of_serial, number_of_tail};
@@ -13,7 +13,7 @@ ghost use Rattle.mx_made.specs.Found.{IsEntryBehind, NumberBy};
 
 use mx_base::rows::EntryRow;
 use mx_base::{Doc, Serial, Tail};
-use mx_command::{Command, Item};
+use mx_book::commands::{Command, Item};
 use mx_layout::TableFault;
 use mx_numbers::entries::{defect_number, entry_count};
 use mx_numbers::items::{aircraft_number, component_number, item_number};

@@ -1,7 +1,7 @@
 //! The rows of an opening.
 ghost use Rattle.std.specs.Prelude.{◌≡◌};
 ghost use Rattle.sqlite.specs.Held.{state};
-ghost use Rattle.mx_command.specs.Act.{Opened};
+ghost use Rattle.mx_book.specs.commands.Act.{Opened};
 ghost use Rattle.mx_base.specs.rows.Rows.{FitsEntry};
 ghost use Rattle.mx_numbers.specs.AnyRows.{ReadsAny};
 ghost use Rattle.mx_numbers.specs.Reads.{Reads};
@@ -10,8 +10,8 @@ ghost use Rattle.mx_made.specs.Made.{AreRowsOf};
 
 use crate::numbers::number_of_item;
 use mx_base::rows::EntryRow;
+use mx_book::commands::Opening;
 use mx_changes::{CommandRows, opening_rows};
-use mx_command::Opening;
 use mx_layout::TableFault;
 use sqlite::{Alter, Transaction};
 use std::alloc::Global;

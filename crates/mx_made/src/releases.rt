@@ -1,10 +1,10 @@
 //! The rows of a release, and what is known of its lines.
 ghost use Rattle.std.specs.Prelude.{◌≡◌, ◌≤◌, All, IfOk, IfSome, length, true};
 ghost use Rattle.sqlite.specs.Held.{state};
-ghost use Rattle.mx_command.specs.Act.{Released};
-ghost use Rattle.mx_command.specs.Programme.{task_shape};
-ghost use Rattle.mx_command.specs.declared.shape.TheConstants.{MOST_LINES};
-ghost use Rattle.mx_due.specs.Due.{IsLife};
+ghost use Rattle.mx_book.specs.commands.Act.{Released};
+ghost use Rattle.mx_book.specs.commands.Programme.{task_shape};
+ghost use Rattle.mx_book.specs.declared.commands.shape.TheConstants.{MOST_LINES};
+ghost use Rattle.mx_book.specs.due.Due.{IsLife};
 ghost use Rattle.mx_book.specs.Judge.{item_at};
 ghost use Rattle.mx_book.specs.Life.{life_now, use_or_none};
 ghost use Rattle.mx_book.specs.Programme.{kind_at};
@@ -23,10 +23,10 @@ use crate::numbers::{number_of_defect, number_of_item};
 use crate::totals::{is_life, totals_of};
 use mx_base::rows::EntryRow;
 use mx_base::{Kind, Limit, TaskId, Use};
+use mx_book::commands::{Item, Line, Place, Release};
+use mx_book::due::due_after;
 use mx_book::found::{Found, birth_of, item_of_place, kind_of_place};
 use mx_changes::{Certified, CommandRows, release_rows};
-use mx_command::{Item, Line, Place, Release};
-use mx_due::due_after;
 use mx_layout::{Table, TableFault};
 use mx_lives::lives::life;
 use mx_lives::programmes::task;

@@ -1,8 +1,8 @@
 //! The rows of a sector.
 ghost use Rattle.std.specs.Prelude.{◌≡◌, IfOk, true};
 ghost use Rattle.sqlite.specs.Held.{state};
-ghost use Rattle.mx_command.specs.Act.{Flown};
-ghost use Rattle.mx_command.specs.Shape.{sector_shape};
+ghost use Rattle.mx_book.specs.commands.Act.{Flown};
+ghost use Rattle.mx_book.specs.commands.Shape.{sector_shape};
 ghost use Rattle.mx_kept_rows.specs.Totals.{has_between};
 ghost use Rattle.mx_base.specs.rows.Rows.{FitsEntry};
 ghost use Rattle.mx_numbers.specs.AnyRows.{ReadsAny};
@@ -13,9 +13,9 @@ ghost use Rattle.mx_made.specs.Made.{AreRowsOf};
 use crate::numbers::number_of_aircraft;
 use crate::totals::totals_of;
 use mx_base::rows::{EntryRow, SpanRow};
+use mx_book::commands::Sector;
 use mx_changes::{CommandRows, sector_rows};
 use mx_chosen::kept::span2_by_aircraft;
-use mx_command::Sector;
 use mx_layout::TableFault;
 use sqlite::{Alter, Transaction};
 use std::alloc::{AllocError, Global};

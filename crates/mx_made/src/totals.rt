@@ -2,7 +2,7 @@
 ghost use Rattle.std.specs.Prelude.{◌≡◌, ◌+◌, ◌≤◌, ◌<◌, ◌↔◌, ◌++◌, [], ℕ, All, Some, IfOk, IfSome, IsTrue, OnOk, filter, get_or, is_some, length};
 ghost use Rattle.std.specs.List.{cons_option};
 ghost use Rattle.sqlite.specs.Held.{state};
-ghost use Rattle.mx_due.specs.Due.{IsLife};
+ghost use Rattle.mx_book.specs.due.Due.{IsLife};
 ghost use Rattle.mx_register.specs.Names.{item_at};
 ghost use Rattle.mx_kept_rows.specs.Totals.{is_among, total_in, total_rows};
 ghost use Rattle.mx_changes.specs.Kept.{HasLife};

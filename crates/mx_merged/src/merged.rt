@@ -1,6 +1,6 @@
 //! The book that registers are those of, beside maps, or why they are those of none.
 ghost use Rattle.std.specs.Prelude.{◌≡◌, List, [], IfOk, Ok};
-ghost use Rattle.mx_command.specs.Act.{Entry};
+ghost use Rattle.mx_book.specs.commands.Act.{Entry};
 ghost use Rattle.mx_book.specs.Book.{IsBook};
 ghost use Rattle.mx_register.specs.Registers.{AreRegistersOf};
 ghost use Rattle.mx_register.specs.Left.{all_rows, rest_of};
@@ -8,7 +8,7 @@ ghost use Rattle.mx_merged.specs.Merging.{has_row, merging, without_command};
 
 use mx_base::rows::{EntryKind, EntryRow};
 use mx_book::Verdict;
-use mx_entry_list::NoMemory;
+use mx_book::entry_list::NoMemory;
 use mx_indexed::IndexedBook;
 use mx_indexed::indexed::judge;
 use mx_plain_register::merge::{are_all_taken, next_command, rows_of};

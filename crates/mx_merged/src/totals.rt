@@ -3,8 +3,8 @@ ghost use Rattle.std.specs.Prelude.{◌≡◌, IfOk};
 ghost use Rattle.mx_kept_rows.specs.Totals.{total_row, total_rows};
 
 use mx_base::rows::TotalRow;
-use mx_command::Item;
-use mx_entry_list::NoMemory;
+use mx_book::commands::Item;
+use mx_book::entry_list::NoMemory;
 use mx_indexed::IndexedBook;
 use mx_indexed::bases::life_reached;
 use mx_register::added_item;

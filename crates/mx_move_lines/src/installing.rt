@@ -2,9 +2,9 @@
 ghost use Rattle.std.specs.Prelude.{◌≡◌, false};
 
 use mx_book::Verdict;
+use mx_book::commands::Command;
+use mx_book::entry_list::Book;
 use mx_cases::Unmade;
-use mx_command::Command;
-use mx_entry_list::Book;
 use mx_fault_texts::{append_table_fault, room};
 use mx_install::install_v1;
 use mx_layout::TableFault;

@@ -8,8 +8,8 @@ use Rattle.sqlite.specs.Order.{column}
 use Rattle.sqlite.specs.State.{State}
 use Rattle.sqlite_schema.specs.Rules.{equal}
 use Rattle.sqlite_sql.specs.Ops.{binary}
-use Rattle.mx_command.specs.Act.{Entry}
-use Rattle.mx_command.specs.Same.{same_text}
+use Rattle.mx_book.specs.commands.Act.{Entry}
+use Rattle.mx_book.specs.commands.Same.{same_text}
 use Rattle.mx_register.specs.Registers.{entry_rows, aircraft_rows, place_rows, component_rows, programme_rows, task_rows, opening_rows, release_rows, release_line_rows, deferral_rows, extension_rows}
 use Rattle.mx_kept_rows.specs.Spans.{span_rows}
 use Rattle.mx_kept_rows.specs.Totals.{total_rows}

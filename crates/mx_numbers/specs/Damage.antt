@@ -3,8 +3,8 @@ use Rattle.std.specs.Prelude.{◌≡◌, ◌⊎◌, ◌+◌, ◌≤◌, ◌^◌,
 use Rattle.sqlite.specs.declared.types.Value.TheVariants.{Int}
 use Rattle.sqlite.specs.Order.{Row, column}
 use Rattle.sqlite.specs.Tree.{Trees}
-use Rattle.mx_command.specs.Programme.{task_shape}
-use Rattle.mx_due.specs.Due.{IsLife}
+use Rattle.mx_book.specs.commands.Programme.{task_shape}
+use Rattle.mx_book.specs.due.Due.{IsLife}
 use Rattle.mx_register.specs.Merge.{task_said}
 use Rattle.mx_base.specs.rows.Rows.{kind_number}
 use Rattle.mx_base.specs.declared.rows.rows.EntryKind.TheVariants.{Defer}

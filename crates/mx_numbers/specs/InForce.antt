@@ -1,7 +1,7 @@
 -- The tasks of the programme in force, as rows, and what an item is to the tasks that retire it.
 use Rattle.std.specs.Prelude.{ℕ, List, Option, Some, None}
 use Rattle.std.specs.Option.{option_map}
-use Rattle.mx_command.specs.Act.{Entry}
+use Rattle.mx_book.specs.commands.Act.{Entry}
 use Rattle.mx_book.specs.declared.found.Found.{Found}
 use Rattle.mx_book.specs.declared.found.Found.TheVariants as founds
 use Rattle.mx_base.specs.declared.rows.rows.TaskRow.{TaskRow}

@@ -1,7 +1,7 @@
 -- What look-ups inside a transaction answer, and what they leave.
 use Rattle.std.specs.Prelude.{◌≡◌, ◌⊎◌, List, Result, Err, IsTrue, IfOk, IfErr}
 use Rattle.sqlite.specs.State.{State, HasCleanDisk}
-use Rattle.mx_command.specs.Act.{Entry}
+use Rattle.mx_book.specs.commands.Act.{Entry}
 use Rattle.mx_base.specs.declared.point.Point.{Point}
 use Rattle.mx_base.specs.Settled.{settled}
 use Rattle.mx_layout.specs.TableName.{TableName}

@@ -7,10 +7,10 @@ use Rattle.sqlite.specs.Order.{Row}
 use Rattle.sqlite.specs.State.{State, HasCleanDisk}
 use Rattle.sqlite.specs.Tree.{Trees}
 use Rattle.mx_base.specs.declared.amounts.Base.{Base}
-use Rattle.mx_command.specs.Programme.{task_shape}
-use Rattle.mx_command.specs.declared.item.Item.{Item}
-use Rattle.mx_command.specs.declared.item.Item.TheVariants.{Airframe, Component}
-use Rattle.mx_due.specs.Due.{IsLife}
+use Rattle.mx_book.specs.commands.Programme.{task_shape}
+use Rattle.mx_book.specs.declared.commands.item.Item.{Item}
+use Rattle.mx_book.specs.declared.commands.item.Item.TheVariants.{Airframe, Component}
+use Rattle.mx_book.specs.due.Due.{IsLife}
 use Rattle.mx_register.specs.Merge.{task_said}
 use Rattle.mx_base.specs.declared.rows.rows.TaskRow.{TaskRow}
 use Rattle.mx_layout.specs.TableName.{TableName}

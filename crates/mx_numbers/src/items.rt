@@ -13,8 +13,8 @@ ghost use Rattle.mx_numbers.specs.Reads.{Reads};
 ghost use Rattle.mx_numbers.specs.Told.{AircraftDamage, ComponentDamage, ItemDamage, PartDamage, TailDamage, TellsDamage};
 
 use mx_base::{Part, Position, Serial, Tail};
+use mx_book::commands::{Aircraft, Component, Item};
 use mx_chosen::items::{aircraft_by_seq, aircraft_by_tail, component_by_serial, place_by_seq};
-use mx_command::{Aircraft, Component, Item};
 use mx_found::aircraft::{aircraft_in, aircraft_number as number_of_aircraft, part_in, tail_in};
 use mx_found::components::{component_in, component_number as number_of_component};
 use mx_layout::TableFault;

@@ -1,7 +1,7 @@
 -- A run, from what handing the commands to the tables answered; and what stopped a question.
 use Rattle.std.proofs.Common.{◌≡◌, ◌≢◌, ◌⊎◌, inl, inr, ◌≤◌, ◌<◌, true, false, refl, sym, ap, ◌∙◌, arith, Bool, List, [], ◌∷◌, length, Option, Some, None, Result, Ok, Err}
 use Rattle.sqlite.specs.Store.{Ghosts}
-use Rattle.mx_command.specs.Act.{Entry}
+use Rattle.mx_book.specs.commands.Act.{Entry}
 use Rattle.mx_book.specs.declared.verdict.Reply.{Reply}
 use Rattle.mx_layout.specs.Crash.{ChangesNothing}
 use Rattle.mx_office.specs.Calls.{stop_asking, HandsIn, IsRun, RunsOver, RunsOverRows, replies_in, stop_in}

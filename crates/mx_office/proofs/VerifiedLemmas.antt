@@ -2,7 +2,7 @@
 use Rattle.std.proofs.Common.{◌≡◌, ◌⊎◌, inl, inr, refl, ap, sym, Bool, true, List, [], IsTrue, Result, Ok, Err}
 use Rattle.std.specs.Prelude.{MatchResult}
 use Rattle.sqlite.specs.State.{State, HasCleanDisk}
-use Rattle.mx_command.specs.Act.{Entry}
+use Rattle.mx_book.specs.commands.Act.{Entry}
 use Rattle.mx_layout.specs.Point.{IsStop}
 use Rattle.mx_layout.specs.declared.fault.TableFault.{TableFault}
 use Rattle.mx_stands.specs.Schemas.{HasTablesAt, indexes_at}

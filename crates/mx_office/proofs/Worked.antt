@@ -3,7 +3,7 @@ use Rattle.std.proofs.Common.{refl, ◌≡◌, ℕ, pos, [], ◌∷◌, Some, No
 use Rattle.std.specs.Prelude.{codes}
 use Rattle.sqlite.specs.declared.types.Value.{Value}
 use Rattle.sqlite.specs.declared.types.Value.TheVariants.{Int, Null, Text}
-use Rattle.mx_command.specs.declared.item.Item.TheVariants as item
+use Rattle.mx_book.specs.declared.commands.item.Item.TheVariants as item
 use Rattle.mx_book.specs.declared.verdict.Refusal.TheVariants.{UnknownAircraft, UnknownComponent}
 use Rattle.mx_book.proofs.WorkedFittings.{replaced}
 use Rattle.mx_layout.specs.declared.fault.Table.TheVariants.{Office, Entry, Aircraft, Place, Component, Programme, Sector2, Span2, Total2, Base2}

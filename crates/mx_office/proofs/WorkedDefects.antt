@@ -3,11 +3,11 @@ use Rattle.std.proofs.Common.{refl, ◌≡◌, ℕ, pos, List, [], ◌∷◌}
 use Rattle.std.specs.Prelude.{codes}
 use Rattle.sqlite.specs.declared.types.Value.{Value}
 use Rattle.sqlite.specs.declared.types.Value.TheVariants.{Int, Null, Text}
-use Rattle.mx_command.specs.Act.{Act, Entry, Released, Deferred, Extended}
+use Rattle.mx_book.specs.commands.Act.{Act, Entry, Released, Deferred, Extended}
 use Rattle.mx_base.specs.declared.category.Category.{Category}
 use Rattle.mx_base.specs.declared.category.Category.TheVariants.{A, D}
-use Rattle.mx_command.specs.declared.release.Line.TheVariants.{Rectified}
-use Rattle.mx_command.specs.declared.release.Place.TheVariants as place
+use Rattle.mx_book.specs.declared.commands.release.Line.TheVariants.{Rectified}
+use Rattle.mx_book.specs.declared.commands.release.Place.TheVariants as place
 use Rattle.mx_book.proofs.Worked.{at, abcd, logged}
 use Rattle.mx_book.proofs.WorkedFittings.{first_aircraft}
 use Rattle.mx_layout.specs.declared.fault.Table.TheVariants.{Entry as Entries, Defect, Extension, Crs, CrsLine}

@@ -3,7 +3,7 @@ use Rattle.std.specs.Prelude.{◌≡◌, false, true, List}
 use Rattle.sqlite.specs.Store.{Ghosts}
 use Rattle.sqlite.specs.State.{State}
 use Rattle.sqlite.specs.Held.{state}
-use Rattle.mx_command.specs.Act.{Entry}
+use Rattle.mx_book.specs.commands.Act.{Entry}
 use Rattle.mx_office.specs.Stands.{Rests}
 use Rattle.mx_office.specs.declared.office.Office.{Office}
 

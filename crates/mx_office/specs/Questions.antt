@@ -2,7 +2,7 @@
 use Rattle.std.specs.Prelude.{◌≡◌, ◌≢◌, List, Result, Err}
 use Rattle.sqlite.specs.Store.{Ghosts}
 use Rattle.sqlite.specs.State.{HasCleanDisk}
-use Rattle.mx_command.specs.Act.{Entry}
+use Rattle.mx_book.specs.commands.Act.{Entry}
 use Rattle.mx_layout.specs.TableName.{TableName}
 use Rattle.mx_numbers.specs.Damage.{IsDamaged}
 use Rattle.mx_row_lists.specs.Answering.{AnswerListsAs}

@@ -15,7 +15,7 @@ ghost use Rattle.mx_office.specs.Looks.{Finds, IsFound, LooksUp};
 
 use mx_base::{Day, Tail, Use};
 use mx_book::Refusal;
-use mx_command::{Command, Item};
+use mx_book::commands::{Command, Item};
 use mx_entries::entries::entries;
 use mx_layout::TableFault;
 use mx_lists::{DueList, ForecastList, LifeList, LimitList};

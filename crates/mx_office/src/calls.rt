@@ -11,7 +11,7 @@ use crate::office::Office;
 use crate::running::run_by_rows;
 use mx_apply::apply;
 use mx_book::Reply;
-use mx_command::Command;
+use mx_book::commands::Command;
 use mx_faults::Fault;
 use sqlite::Alter;
 use std::alloc::Global;

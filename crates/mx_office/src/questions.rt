@@ -25,7 +25,7 @@ use crate::fault::{call_answer, call_failed, question_answer, question_failed};
 use crate::office::Office;
 use mx_base::{Day, Tail, Use};
 use mx_book::Refusal;
-use mx_command::{Command, Item};
+use mx_book::commands::{Command, Item};
 use mx_faults::{Ask, Fault};
 use mx_lists::{DueList, ForecastList, LifeList, LimitList};
 use sqlite::Alter;

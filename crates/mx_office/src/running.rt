@@ -6,7 +6,7 @@ ghost use Rattle.mx_office.specs.Calls.{HandsIn};
 use crate::fault::{Outcomes, fault_of};
 use mx_apply::apply;
 use mx_book::Reply;
-use mx_command::Command;
+use mx_book::commands::Command;
 use sqlite::{Alter, Connection};
 use std::alloc::Global;
 

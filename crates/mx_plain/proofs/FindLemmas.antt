@@ -3,8 +3,8 @@ use Rattle.std.proofs.Common.{refl, sym, ap, ◌∙◌, ◌≡◌, ℕ, List, []
 use Rattle.std.specs.Prelude.{find}
 use Rattle.std.specs.List.{flat_map}
 use Rattle.std.specs.Option.{option_map}
-use Rattle.mx_command.specs.Act.{Entry}
-use Rattle.mx_command.specs.Same.{same_text}
+use Rattle.mx_book.specs.commands.Act.{Entry}
+use Rattle.mx_book.specs.commands.Same.{same_text}
 use Rattle.mx_book.specs.Register.{part_among, part_at, positions_added}
 
 found_among : (xs ys : List (List ℕ × List ℕ)) (position part : List ℕ) → part_among xs position ≡ Some part → part_among (xs ++ ys) position ≡ Some part

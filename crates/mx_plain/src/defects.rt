@@ -1,12 +1,12 @@
 //! Deferred defects: which there are, which were rectified, and which are open.
 ghost use Rattle.std.specs.Prelude.{◌≡◌, [], ◌∷◌, IfOk};
 ghost use Rattle.std.specs.List.{cons_option, list_any};
-ghost use Rattle.mx_command.specs.Act.{lines_of};
+ghost use Rattle.mx_book.specs.commands.Act.{lines_of};
 ghost use Rattle.mx_book.specs.Defect.{deferred_by, defect, rectifies, is_rectified, extension, is_open, open_from, open_defects};
 
 use mx_base::{Doc, Tail};
 use mx_book::Defect;
-use mx_command::{Command, Extension, Line};
+use mx_book::commands::{Command, Extension, Line};
 use std::alloc::{AllocError, Global};
 
 // The defect that an entry defers.

@@ -1,17 +1,17 @@
 //! Lives and clocks, read from all entries anew.
 ghost use Rattle.std.specs.Prelude.{◌≡◌, ◌≤◌, ◌+◌, length, true, if◌then◌else◌};
 ghost use Rattle.std.specs.List.{flat_map, list_all};
-ghost use Rattle.mx_command.specs.Act.{Flown};
-ghost use Rattle.mx_command.specs.Shape.{has_shape, use_shape, sector_shape};
-ghost use Rattle.mx_command.specs.declared.item.Item.TheVariants.{Airframe, Component};
+ghost use Rattle.mx_book.specs.commands.Act.{Flown};
+ghost use Rattle.mx_book.specs.commands.Shape.{has_shape, use_shape, sector_shape};
+ghost use Rattle.mx_book.specs.declared.commands.item.Item.TheVariants.{Airframe, Component};
 ghost use Rattle.mx_book.specs.Life.{selected, is_credited, has_landed_by, share, use_after, life_until, latest, if_at_aircraft, if_in_shop, airframe_moments, component_moments, clock};
 ghost use Rattle.mx_book.specs.declared.limits.TheConstants.{MOST_ENTRIES};
 
 use crate::register::found_of;
 use crate::spans::{is_within_span, latest_removal};
 use mx_base::{Moment, Serial, Tail, Use};
+use mx_book::commands::{Body, Command, Item, Place, Sector};
 use mx_book::found::opening_use;
-use mx_command::{Body, Command, Item, Place, Sector};
 
 const NO_USE: Use = Use {
     minutes: 0,

@@ -1,6 +1,6 @@
 //! The plain book as records: it reads its entries anew for each question, and answers each.
 ghost use Rattle.std.specs.Prelude.{◌≡◌, IfOk, IfSome};
-ghost use Rattle.mx_due.specs.Due.{IsLife};
+ghost use Rattle.mx_book.specs.due.Due.{IsLife};
 ghost use Rattle.mx_book.specs.Life.{life_now, life_at};
 ghost use Rattle.mx_book.specs.Defect.{open_defects};
 ghost use Rattle.mx_book.specs.Judge.{judge};
@@ -15,10 +15,10 @@ use crate::register::{
 };
 use crate::spans::{fitted_to, is_position_taken};
 use mx_base::{Day, Doc, Kind, Moment, Part, Position, Serial, Tail, TaskId, Use};
+use mx_book::commands::{Aircraft, Command, Component, Extension, Item, Task};
+use mx_book::entry_list::{Book, NoMemory};
+use mx_book::judging::verdict_on;
 use mx_book::{Defect, Records, Verdict};
-use mx_command::{Aircraft, Command, Component, Extension, Item, Task};
-use mx_entry_list::{Book, NoMemory};
-use mx_judge::verdict_on;
 use std::alloc::Global;
 use std::convert::Infallible;
 

@@ -2,20 +2,20 @@
 ghost use Rattle.std.specs.Prelude.{◌≡◌, ◌≤◌, length, true, find, IfOk, IfSome};
 ghost use Rattle.std.specs.List.{list_all, list_any};
 ghost use Rattle.std.specs.Option.{option_copied};
-ghost use Rattle.mx_command.specs.Programme.{task_shape};
-ghost use Rattle.mx_command.specs.Same.{same_text};
-ghost use Rattle.mx_command.specs.Shape.{has_shape};
+ghost use Rattle.mx_book.specs.commands.Programme.{task_shape};
+ghost use Rattle.mx_book.specs.commands.Same.{same_text};
+ghost use Rattle.mx_book.specs.commands.Shape.{has_shape};
 ghost use Rattle.mx_book.specs.Programme.{tasks_loaded, revision_loaded, tasks_in_force, tasks_or_none, revision_in_force, next_revision, task_in_force, is_done, accomplishes, is_accomplished, is_at_end, is_ended_by, life_ended};
 ghost use Rattle.mx_book.specs.Asking.{task_of};
 ghost use Rattle.mx_book.specs.declared.limits.TheConstants.{MOST_ENTRIES};
-ghost use Rattle.mx_command.specs.declared.programme_shape.TheConstants.{LAST_REVISION};
+ghost use Rattle.mx_book.specs.declared.commands.programme_shape.TheConstants.{LAST_REVISION};
 
 use crate::lives::life;
 use crate::register::found_of;
 use mx_base::{Day, Kind, TaskId, Use};
+use mx_book::commands::{Command, Item, Line, Task};
+use mx_book::due::{first_due, is_used_up, left_of};
 use mx_book::found::{birth_of, is_task_of};
-use mx_command::{Command, Item, Line, Task};
-use mx_due::{first_due, is_used_up, left_of};
 use std::alloc::{AllocError, Global};
 
 // The tasks that an entry loads for a kind, each of its shape.
@@ -147,7 +147,7 @@ pub fn task_of_kind(entries: &[Command], kind: &Kind, id: &TaskId) -> Option<Tas
 }
 
 /// Whether a line certifies that the task of an item was done.
-#[tactic(auto, using(mx_command::proofs::SameLemmas::item_is))]
+#[tactic(auto, using(mx_book::proofs::CommandsProofs::SameLemmas::item_is))]
 pub fn is_done_by(line: &Line, item: &Item, id: &TaskId) -> bool
     ensures { result ≡ is_done item.now id.now line.now }
 {
@@ -165,7 +165,7 @@ fn is_done_among(lines: &[Line], item: &Item, id: &TaskId) -> bool
 }
 
 // Whether an entry accomplishes the task of an item.
-#[tactic(auto, using(mx_command::proofs::SameLemmas::item_is))]
+#[tactic(auto, using(mx_book::proofs::CommandsProofs::SameLemmas::item_is))]
 fn is_accomplished_by(entry: &Command, item: &Item, id: &TaskId) -> bool
     ensures { result ≡ accomplishes item.now id.now entry.now.act }
 {

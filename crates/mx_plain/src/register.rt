@@ -1,16 +1,16 @@
 //! Finding an entry by its document, and a row in the registers of a book.
 ghost use Rattle.std.specs.Prelude.{◌≡◌, ◌≤◌, length};
 ghost use Rattle.std.specs.Option.{option_map};
-ghost use Rattle.mx_command.specs.Act.{aircraft_of, component_of};
+ghost use Rattle.mx_book.specs.commands.Act.{aircraft_of, component_of};
 ghost use Rattle.mx_book.specs.Register.{register, aircraft, component, found_of, has_room_for_aircraft, has_room_for_component, positions_added, part_among, part_at};
 ghost use Rattle.mx_book.specs.Judge.{known_from};
 ghost use Rattle.mx_book.specs.Asking.{known_same};
 ghost use Rattle.mx_book.specs.declared.limits.TheConstants.{MOST_ENTRIES};
 
 use mx_base::{Part, Position, Serial, Tail};
+use mx_book::commands::{Aircraft, Command, Component, Item};
 use mx_book::found::Found;
 use mx_book::limits::{MOST_AIRCRAFT, MOST_COMPONENTS};
-use mx_command::{Aircraft, Command, Component, Item};
 
 /// The number of the entry with the document of a command, and whether it is the same command.
 pub(crate) fn known(entries: &[Command], command: &Command) -> Option<(u32, bool)>

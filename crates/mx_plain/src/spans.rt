@@ -2,14 +2,14 @@
 //! component.
 ghost use Rattle.std.specs.Prelude.{◌≡◌, [], find};
 ghost use Rattle.std.specs.List.{cons_option, list_any};
-ghost use Rattle.mx_command.specs.Act.{removal_of};
-ghost use Rattle.mx_command.specs.Same.{same_text};
+ghost use Rattle.mx_book.specs.commands.Act.{removal_of};
+ghost use Rattle.mx_book.specs.commands.Same.{same_text};
 ghost use Rattle.mx_book.specs.Register.{register};
 ghost use Rattle.mx_book.specs.Span.{first_removal, spans_of, spans_begun_of, tail_fitted, is_taken};
 ghost use Rattle.mx_book.specs.Life.{has_landed_by, is_within, latest, removals_from, removals_begun};
 
 use mx_base::{Moment, Position, Serial, Tail};
-use mx_command::{Command, Removal, Sector};
+use mx_book::commands::{Command, Removal, Sector};
 
 // The first removal of a component.
 fn removal_of_serial(entries: &[Command], serial: &Serial) -> Option<Removal>

@@ -3,7 +3,7 @@ use Rattle.std.proofs.Common.{◌≡◌, ℕ, ◌+◌, List, [], ◌∷◌, Bool
 use Rattle.std.specs.List.{position, position_from}
 use Rattle.std.specs.Option.{option_map}
 use Rattle.std.proofs.lemmas.Iterator.Adapters.{position_from-zero}
-use Rattle.mx_command.specs.Act.{Entry}
+use Rattle.mx_book.specs.commands.Act.{Entry}
 use Rattle.mx_register.specs.Names.{adds_named, number_from}
 
 step_if : (b : Bool) (k : ℕ) (o p : Option ℕ) → o ≡ option_map (λ i. i + 1) p → cond b (Some (k + 1)) o ≡ option_map (λ i. i + 1) (cond b (Some k) p)

@@ -3,10 +3,10 @@ use Rattle.std.proofs.Common.{◌≡◌, ℕ, ◌+◌, ◌==◌, Bool, cond, ◌
 use Rattle.std.specs.Option.{option_and_then, option_map}
 use Rattle.std.proofs.lemmas.Bool.{eqb-true}
 use Rattle.std.proofs.lemmas.Option.{option_and_then_some}
-use Rattle.mx_command.specs.Act.{Act, Entry}
-use Rattle.mx_command.specs.Shape.{has_shape}
-use Rattle.mx_command.specs.declared.item.Item.{Item}
-use Rattle.mx_command.specs.declared.release.Place.{Place}
+use Rattle.mx_book.specs.commands.Act.{Act, Entry}
+use Rattle.mx_book.specs.commands.Shape.{has_shape}
+use Rattle.mx_book.specs.declared.commands.item.Item.{Item}
+use Rattle.mx_book.specs.declared.commands.release.Place.{Place}
 use Rattle.mx_book.specs.Judge.{judge, item_at as item_of_place}
 use Rattle.mx_book.specs.Book.{is_new, IsBook}
 use Rattle.mx_book.proofs.JudgeLemmas.{both_true, is_new-New, IsBook-entered}

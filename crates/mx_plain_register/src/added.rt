@@ -10,8 +10,8 @@ use mx_base::rows::{
     AircraftRow, ComponentRow, DeferralRow, ExtensionRow, FittingRow, OpeningRow, PlaceRow,
     ProgrammeRow, RegisterRows, ReleaseLineRow, ReleaseRow, RemovalRow, SectorRow, TaskRow,
 };
-use mx_command::{Command, Line};
-use mx_entry_list::{Book, NoMemory};
+use mx_book::commands::{Command, Line};
+use mx_book::entry_list::{Book, NoMemory};
 use mx_register::{
     aircraft_row, component_row, deferral_row, extension_row, fitting_row, opening_row, or_zero,
     place_row, programme_row, release_row, removal_row, sector_row, task_row,

@@ -2,15 +2,15 @@
 //! whether rows are left over.
 ghost use Rattle.std.specs.Prelude.{◌≡◌, IfOk, IsSome, OnErr};
 ghost use Rattle.std.specs.Option.{option_map};
-ghost use Rattle.mx_command.specs.Act.{act_of, sector_of};
+ghost use Rattle.mx_book.specs.commands.Act.{act_of, sector_of};
 ghost use Rattle.mx_register.specs.Merge.{are_defects_taken, are_items_taken, are_moves_taken, are_programmes_taken, are_releases_taken, are_taken, command_of, take_by, take_command};
 ghost use Rattle.mx_register.specs.Left.{all_rows, rest_of, taken};
 
 use crate::taking::take_said;
 use mx_base::Doc;
 use mx_base::rows::EntryRow;
-use mx_command::{Body, Command, MakeFault};
-use mx_entry_list::{Book, NoMemory};
+use mx_book::commands::{Body, Command, MakeFault};
+use mx_book::entry_list::{Book, NoMemory};
 use mx_register::merge::{Left, Registers};
 use std::alloc::Global;
 

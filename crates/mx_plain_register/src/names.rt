@@ -5,8 +5,8 @@ ghost use Rattle.mx_book.specs.Judge.{item_at as item_of_place};
 ghost use Rattle.mx_register.specs.Names.{adds_named, defect_at, defect_deferred, item_at, seq_of_defect, seq_of_item, seq_of_serial, seq_of_tail, serial_added, serial_at, tail_added, tail_at};
 
 use mx_base::{Doc, Serial, Tail};
-use mx_command::{Command, Item, Place};
-use mx_entry_list::Book;
+use mx_book::commands::{Command, Item, Place};
+use mx_book::entry_list::Book;
 use mx_register::added_item;
 
 // Whether an entry adds the aircraft with this registration.

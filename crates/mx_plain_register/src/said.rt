@@ -1,6 +1,6 @@
 //! What rows say.
 ghost use Rattle.std.specs.Prelude.{◌≡◌};
-ghost use Rattle.mx_command.specs.Act.{act_of};
+ghost use Rattle.mx_book.specs.commands.Act.{act_of};
 ghost use Rattle.mx_register.specs.Merge.{aircraft_said, applies_said, component_said, deferral_said, extension_said, fitting_said, limit_said, line_said, opening_said, place_of, place_said, programme_said, release_said, removal_said, sector_said};
 
 use crate::names::{document_of_defect, item_of_entry};
@@ -9,8 +9,8 @@ use mx_base::rows::{
     ReleaseLineRow, ReleaseRow, RemovalRow, SectorRow,
 };
 use mx_base::{Doc, Kind, Limit, Part, Position, Serial, Tail, Use};
-use mx_command::{Applies, Body, Item, Line, Place, Task};
-use mx_entry_list::Book;
+use mx_book::commands::{Applies, Body, Item, Line, Place, Task};
+use mx_book::entry_list::Book;
 
 /// What the row of an aircraft says, with these positions.
 pub fn body_of_aircraft(row: &AircraftRow, positions: Vec<(Position, Part)>) -> Body

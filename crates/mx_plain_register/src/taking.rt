@@ -15,8 +15,8 @@ use mx_base::rows::{
     OpeningRow, PlaceRow, ProgrammeRow, ReleaseLineRow, ReleaseRow, RemovalRow, SectorRow, TaskRow,
 };
 use mx_base::{Part, Position};
-use mx_command::{Applies, Body, Item, Line, Task};
-use mx_entry_list::Book;
+use mx_book::commands::{Applies, Body, Item, Line, Task};
+use mx_book::entry_list::Book;
 use mx_register::merge::Left;
 use std::alloc::{AllocError, Global};
 

@@ -2,7 +2,7 @@
 use Rattle.std.proofs.Common.{arith, refl, sym, subst, ap, ◌∙◌, ◌≡◌, ◌⊎◌, inl, inr, ℕ, ◌+◌, ◌-◌, ◌/◌, ◌≤◌, ◌<◌, zero, suc, length, List, [], ◌∷◌, Bool, true, false, cond, ◌&&◌, ◌||◌, Option, Some, None, take, drop, length-drop}
 use Rattle.std.specs.Prelude.{nat_le, nat_eq, filter, fold, map, not}
 use Rattle.std.proofs.lemmas.Bool.Decides.{Decides-eqb, nat_tests}
-use Rattle.mx_command.specs.Act.{Entry}
+use Rattle.mx_book.specs.commands.Act.{Entry}
 use Rattle.mx_book.specs.Book.{IsBook}
 use Rattle.mx_book.specs.Programme.{last_of}
 use Rattle.mx_book.specs.declared.limits.TheConstants.{MOST_ENTRIES}
@@ -12,7 +12,7 @@ use Rattle.mx_base.specs.declared.rows.rows.ComponentRow.{ComponentRow}
 use Rattle.mx_base.specs.declared.rows.rows.SectorRow.{SectorRow}
 use Rattle.mx_register.specs.Registers.{component_rows, sector_rows}
 use Rattle.mx_register.proofs.RegisterLemmas.{component_rows-rising, sector_rows-rising}
-use Rattle.mx_command.specs.declared.item.Item.{Item}
+use Rattle.mx_book.specs.declared.commands.item.Item.{Item}
 use Rattle.mx_kept_rows.specs.Items.{items}
 use Rattle.mx_kept_rows.proofs.ItemOrder.{items_from}
 use Rattle.mx_points.specs.Commits.{commits_left, later_commits, rounds, step_commits}

@@ -5,8 +5,8 @@ use Rattle.std.specs.List.{filter_map, flat_map, cons_option, AllByRecursion}
 use Rattle.std.specs.Option.{option_map}
 use Rattle.std.proofs.lemmas.Bool.Decides.{nat_tests}
 use Rattle.mx_base.specs.declared.amounts.Base.{Base}
-use Rattle.mx_command.specs.Act.{Entry}
-use Rattle.mx_command.specs.declared.item.Item.{Item}
+use Rattle.mx_book.specs.commands.Act.{Entry}
+use Rattle.mx_book.specs.declared.commands.item.Item.{Item}
 use Rattle.mx_book.specs.Base.{base}
 use Rattle.mx_book.specs.Programme.{last_of}
 use Rattle.mx_base.specs.rows.Rising.{IsRising}

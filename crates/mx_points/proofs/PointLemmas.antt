@@ -3,7 +3,7 @@ use Rattle.std.proofs.Common.{arith, refl, sym, subst, ap, ◌∙◌, ◌≡◌,
 use Rattle.std.specs.Prelude.{nat_le, filter, fold, map, not}
 use Rattle.std.proofs.lemmas.Bool.Decides.{nat_tests}
 use Rattle.std.proofs.lemmas.List.Elements.{filter_agree}
-use Rattle.mx_command.specs.Act.{Entry}
+use Rattle.mx_book.specs.commands.Act.{Entry}
 use Rattle.mx_book.specs.Book.{IsBook}
 use Rattle.mx_book.specs.Programme.{last_of}
 use Rattle.mx_base.specs.declared.rows.rows.SectorRow.{SectorRow}

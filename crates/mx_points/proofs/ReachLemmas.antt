@@ -1,8 +1,8 @@
 -- A move from layout 1 reaches layout 2 with so many commits.
 use Rattle.std.proofs.Common.{arith, sym, subst, ap, ◌∙◌, ◌≡◌, ◌⊎◌, inl, inr, ℕ, ◌+◌, ◌<◌, zero, suc, length, List, [], ◌∷◌, ◌++◌, true}
 use Rattle.std.proofs.lemmas.List.{length-map}
-use Rattle.mx_command.specs.Act.{Act, Entry, Added, Listed}
-use Rattle.mx_command.specs.declared.item.Item.{Item}
+use Rattle.mx_book.specs.commands.Act.{Act, Entry, Added, Listed}
+use Rattle.mx_book.specs.declared.commands.item.Item.{Item}
 use Rattle.mx_book.specs.Book.{IsBook}
 use Rattle.mx_base.specs.declared.rows.rows.ComponentRow.{ComponentRow}
 use Rattle.mx_base.specs.declared.rows.rows.SectorRow.{SectorRow}

@@ -5,8 +5,8 @@ use Rattle.std.specs.List.{AllByRecursion}
 use Rattle.std.specs.Option.{option_map_or}
 use Rattle.std.proofs.lemmas.Bool.Decides.{nat_tests}
 use Rattle.std.proofs.lemmas.List.Elements.{filter_agree}
-use Rattle.mx_command.specs.Act.{Entry}
-use Rattle.mx_command.specs.declared.item.Item.{Item}
+use Rattle.mx_book.specs.commands.Act.{Entry}
+use Rattle.mx_book.specs.declared.commands.item.Item.{Item}
 use Rattle.mx_book.specs.Book.{IsBook}
 use Rattle.mx_book.specs.Programme.{last_of}
 use Rattle.mx_book.specs.Register.{component}

@@ -1,8 +1,8 @@
 -- Worked points: a fleet of one aircraft, two engines and 130 sectors on its way from layout 1 to layout 2.
 use Rattle.std.proofs.Common.{refl, ◌≡◌, ℕ, zero, suc, ◌+◌, length, List, [], ◌∷◌, Bool, true, false}
 use Rattle.std.specs.Prelude.{codes, map}
-use Rattle.mx_command.specs.Act.{Entry, Flown, Released, Deferred, Extended}
-use Rattle.mx_command.specs.declared.sector.Sector.{Sector}
+use Rattle.mx_book.specs.commands.Act.{Entry, Flown, Released, Deferred, Extended}
+use Rattle.mx_book.specs.declared.commands.sector.Sector.{Sector}
 use Rattle.mx_book.proofs.Worked.{at, abcd, logged}
 use Rattle.mx_book.proofs.WorkedFittings.{e1, e2, engine_with, first_aircraft, replaced}
 use Rattle.mx_kept_rows.proofs.WorkedKept.{overhauled}
@@ -12,9 +12,9 @@ use Rattle.mx_points.specs.Points.{is_on_way, moving, next_point}
 use Rattle.mx_base.specs.Settled.{settled}
 use Rattle.mx_points.specs.Tables.{bases_2, fittings_1, is_table_at, removals_1, rows_at, sectors_1, sectors_2, spans_2, totals_2, is_moved_at, entries_all, aircraft_all, places_all, components_all, programmes_all, tasks_all, openings_all, releases_all, release_lines_all, deferrals_all, extensions_all}
 use Rattle.mx_points.specs.Moves.{sectors_mark, sectors_next, totals_mark, totals_next}
-use Rattle.mx_command.specs.declared.item.Item.TheVariants.{Airframe}
-use Rattle.mx_command.specs.declared.release.Line.TheVariants.{Rectified}
-use Rattle.mx_command.specs.declared.release.Place.TheVariants.{Aircraft}
+use Rattle.mx_book.specs.declared.commands.item.Item.TheVariants.{Airframe}
+use Rattle.mx_book.specs.declared.commands.release.Line.TheVariants.{Rectified}
+use Rattle.mx_book.specs.declared.commands.release.Place.TheVariants.{Aircraft}
 use Rattle.mx_base.specs.declared.category.Category.TheVariants.{C}
 use Rattle.mx_book.proofs.WorkedProgrammes.{c172, hundred_hours, annual, overhaul, load, open_task}
 

@@ -1,7 +1,7 @@
 -- How many commits a move takes.
 use Rattle.std.specs.Prelude.{ℕ, zero, suc, ◌+◌, ◌*◌, ◌-◌, ◌/◌, nat_lt, nat_eq, List, [], ◌∷◌, length, filter, map, if◌then◌else◌}
 use Rattle.std.specs.List.{sum}
-use Rattle.mx_command.specs.Act.{Entry}
+use Rattle.mx_book.specs.commands.Act.{Entry}
 use Rattle.mx_register.specs.Registers.{aircraft_rows, component_rows, sector_rows}
 use Rattle.mx_base.specs.declared.point.Point.{Point}
 use Rattle.mx_points.specs.Points.{is_on_way, next_point, numbers_left, size_of}

@@ -1,7 +1,7 @@
 -- What a commit of a move does with the rows of a book.
 use Rattle.std.specs.Prelude.{◌≡◌, ◌⊎◌, ◌≤◌, ◌<◌, ℕ, nat_le, nat_eq, List, [], ◌∷◌, ◌++◌, filter, not, take, drop, false, IsPermutation}
 use Rattle.std.specs.List.{AllByRecursion}
-use Rattle.mx_command.specs.Act.{Entry}
+use Rattle.mx_book.specs.commands.Act.{Entry}
 use Rattle.mx_base.specs.declared.rows.rows.SectorRow.{SectorRow}
 use Rattle.mx_kept_rows.specs.Totals.{total_rows}
 use Rattle.mx_points.specs.Points.{moving}

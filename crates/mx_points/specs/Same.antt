@@ -1,6 +1,6 @@
 -- Two books that give the same rows to the tables at a point.
 use Rattle.std.specs.Prelude.{◌≡◌, List, true, IsPermutation}
-use Rattle.mx_command.specs.Act.{Entry}
+use Rattle.mx_book.specs.commands.Act.{Entry}
 use Rattle.mx_base.specs.declared.point.Point.{Point}
 use Rattle.mx_points.specs.Tables.{Line, aircraft_all, components_all, deferrals_all, entries_all, extensions_all, fittings_1, is_table_at, openings_all, places_all, programmes_all, release_lines_all, releases_all, removals_1, rows_at, sectors_1, sectors_2, spans_2, tasks_all}
 

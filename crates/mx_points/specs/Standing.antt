@@ -1,7 +1,7 @@
 -- What holds of the tables at every point: a row that moves stands in one table alone, a table that is not there has none, and what a command does not touch stays.
 use Rattle.std.specs.Prelude.{◌≡◌, List, [], ◌∷◌, ◌++◌, true, false, filter, map, nat_eq, IsPermutation}
 use Rattle.std.specs.List.{filter_map}
-use Rattle.mx_command.specs.Act.{Act, Entry}
+use Rattle.mx_book.specs.commands.Act.{Act, Entry}
 use Rattle.mx_register.specs.Registers.{aircraft_by, components_by, deferrals_by, extensions_by, fitting_rows, fittings_by, openings_by, places_by, programmes_by, release_lines_by, releases_by, removal_rows, removals_by, sector_rows, sectors_by, tasks_by}
 use Rattle.mx_kept_rows.specs.Spans.{fitting_in, is_span_touched, removal_in, span_rows, spans_opened}
 use Rattle.mx_kept_rows.specs.Totals.{is_among, numbers_touched, total_rows, totals_opened}

@@ -1,7 +1,7 @@
 -- The tables on the way from one layout to the next: which there are at a point, and which rows of a book stand in each.
 use Rattle.std.specs.Prelude.{ℕ, List, filter, Bool, true, false, not, ◌&&◌, ◌||◌, Option, Some, None}
 use Rattle.std.specs.Option.{option_map_or}
-use Rattle.mx_command.specs.Act.{Entry}
+use Rattle.mx_book.specs.commands.Act.{Entry}
 use Rattle.mx_base.specs.rows.Rows.{place_key, task_key, release_line_key}
 use Rattle.mx_base.specs.declared.rows.rows.AircraftRow.{AircraftRow}
 use Rattle.mx_base.specs.declared.rows.rows.ComponentRow.{ComponentRow}

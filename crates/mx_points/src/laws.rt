@@ -1,7 +1,7 @@
 //! Laws of points: what stands for one book, and how many commits a move takes. Each function does nothing; its contract
 //! is the law, and the checker proves it.
 ghost use Rattle.std.specs.Prelude.{◌≡◌, ◌+◌, ◌<◌, ℕ, true, List};
-ghost use Rattle.mx_command.specs.Act.{Entry};
+ghost use Rattle.mx_book.specs.commands.Act.{Entry};
 ghost use Rattle.mx_book.specs.Book.{IsBook};
 ghost use Rattle.mx_base.specs.declared.point.Point.{Point};
 ghost use Rattle.mx_points.specs.Commits.{commits_left, commits_of_move, point_behind};

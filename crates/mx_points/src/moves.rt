@@ -1,7 +1,7 @@
 //! Laws of moves: which rows stand in each table behind a commit. Each function does nothing; its contract is the law,
 //! and the checker proves it.
 ghost use Rattle.std.specs.Prelude.{◌≡◌, ◌++◌, ◌∷◌, false, Some, None, ℕ, List};
-ghost use Rattle.mx_command.specs.Act.{Entry};
+ghost use Rattle.mx_book.specs.commands.Act.{Entry};
 ghost use Rattle.mx_book.specs.Book.{IsBook};
 ghost use Rattle.mx_register.specs.Registers.{fitting_rows, removal_rows};
 ghost use Rattle.mx_base.specs.declared.rows.rows.SectorRow.{SectorRow};

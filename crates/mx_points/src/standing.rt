@@ -1,7 +1,7 @@
 //! Laws of what stands at a point. Each function does nothing; its contract is the law, and the checker proves it.
 ghost use Rattle.std.specs.Prelude.{◌≡◌, true, List};
-ghost use Rattle.mx_command.specs.Act.{Entry};
-ghost use Rattle.mx_command.specs.Shape.{has_shape};
+ghost use Rattle.mx_book.specs.commands.Act.{Entry};
+ghost use Rattle.mx_book.specs.commands.Shape.{has_shape};
 ghost use Rattle.mx_book.specs.Book.{IsBook};
 ghost use Rattle.mx_book.specs.Judge.{judge};
 ghost use Rattle.mx_book.specs.declared.verdict.Verdict.TheVariants.{New};

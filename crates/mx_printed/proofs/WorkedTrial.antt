@@ -2,7 +2,7 @@
 use Rattle.std.proofs.Common.{refl, ◌≡◌, List, [], ◌∷◌}
 use Rattle.std.specs.Prelude.{codes}
 use Rattle.std.specs.Fmt.{digits}
-use Rattle.mx_command.specs.Act.{Entry, Added, Flown}
+use Rattle.mx_book.specs.commands.Act.{Entry, Added, Flown}
 use Rattle.mx_printed.specs.Tried.{run_text, run_answer}
 use Rattle.mx_endings.specs.declared.ending.Ending.TheVariants.{Done, Refused}
 

@@ -1,6 +1,6 @@
 -- What a trial prints: the replies to its commands, and the life of its aircraft.
 use Rattle.std.specs.Prelude.{◌≡◌, ℕ, List, ◌++◌}
-use Rattle.mx_command.specs.Act.{Entry}
+use Rattle.mx_book.specs.commands.Act.{Entry}
 use Rattle.mx_book.specs.Run.{book_run, replies}
 use Rattle.mx_questions.specs.Report.{report_of}
 use Rattle.mx_questions.specs.declared.question.Question.TheVariants.{Life}

@@ -4,7 +4,7 @@ use Rattle.std.specs.Prelude.{codes, map}
 use Rattle.std.specs.Fmt.{digits}
 use Rattle.mx_base.specs.Calendar.{date_of}
 use Rattle.mx_base.specs.Texts.{day_text}
-use Rattle.mx_command.specs.Act.{Entry, Added, Flown}
+use Rattle.mx_book.specs.commands.Act.{Entry, Added, Flown}
 use Rattle.mx_questions.specs.declared.question.Question.TheVariants as asked
 use Rattle.mx_questions.specs.declared.report.Report.TheVariants as report
 use Rattle.mx_questions.specs.Report.{report_lines, report_of}

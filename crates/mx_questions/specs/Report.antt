@@ -1,7 +1,7 @@
 -- Questions for a list of an aircraft: the list that a book has, and its text.
 use Rattle.std.specs.Prelude.{ℕ, List, Option, ⊤}
 use Rattle.std.specs.Option.{option_map}
-use Rattle.mx_command.specs.Act.{Entry}
+use Rattle.mx_book.specs.commands.Act.{Entry}
 use Rattle.mx_lists.specs.DueList.{due_list}
 use Rattle.mx_lists.specs.Forecast.{forecast}
 use Rattle.mx_lists.specs.LimitList.{limits}

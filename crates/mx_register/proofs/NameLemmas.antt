@@ -3,14 +3,14 @@ use Rattle.std.proofs.Common.{arith, ◌≡◌, ℕ, ◌+◌, zero, suc, List, [
 use Rattle.std.specs.Prelude.{is_some, find}
 use Rattle.std.specs.List.{slice_get, cons_option, filter_map}
 use Rattle.std.specs.Option.{option_map, option_map_or, option_and_then}
-use Rattle.mx_command.specs.Act.{Act, Entry, Added, Listed, aircraft_of, component_of, deferral_of}
-use Rattle.mx_command.specs.Same.{same_text}
-use Rattle.mx_command.specs.declared.aircraft.Aircraft.{Aircraft}
-use Rattle.mx_command.specs.declared.component.Component.{Component}
-use Rattle.mx_command.specs.declared.deferral.Deferral.{Deferral}
-use Rattle.mx_command.specs.declared.item.Item.{Item}
-use Rattle.mx_command.specs.declared.item.Item.TheVariants as items
-use Rattle.mx_command.proofs.SameLemmas.{text_same}
+use Rattle.mx_book.specs.commands.Act.{Act, Entry, Added, Listed, aircraft_of, component_of, deferral_of}
+use Rattle.mx_book.specs.commands.Same.{same_text}
+use Rattle.mx_book.specs.declared.commands.aircraft.Aircraft.{Aircraft}
+use Rattle.mx_book.specs.declared.commands.component.Component.{Component}
+use Rattle.mx_book.specs.declared.commands.deferral.Deferral.{Deferral}
+use Rattle.mx_book.specs.declared.commands.item.Item.{Item}
+use Rattle.mx_book.specs.declared.commands.item.Item.TheVariants as items
+use Rattle.mx_book.proofs.CommandsProofs.SameLemmas.{text_same}
 use Rattle.mx_book.specs.declared.defects.Defect.{Defect}
 use Rattle.mx_book.specs.Defect.{deferred_by, defect}
 use Rattle.mx_book.specs.Register.{aircraft, component}

@@ -3,20 +3,20 @@ use Rattle.std.proofs.Common.{◌≡◌, List, [], ◌∷◌, ◌++◌, ℕ, Boo
 use Rattle.std.specs.Prelude.{not, is_some, is_none}
 use Rattle.std.specs.List.{list_any, flat_map, AllByRecursion}
 use Rattle.std.proofs.lemmas.List.Folds.{list_any-append}
-use Rattle.mx_command.specs.Act.{Act, Entry, Added, Listed, Opened, Flown, Fitted, Removed, Released, Deferred, Extended}
-use Rattle.mx_command.specs.declared.aircraft.Aircraft.{Aircraft}
-use Rattle.mx_command.specs.declared.component.Component.{Component}
-use Rattle.mx_command.specs.declared.item.Item.{Item}
-use Rattle.mx_command.specs.declared.item.Item.TheVariants as items
-use Rattle.mx_command.specs.declared.opening.Opening.{Opening}
-use Rattle.mx_command.specs.declared.sector.Sector.{Sector}
-use Rattle.mx_command.specs.declared.fitting.Fitting.{Fitting}
-use Rattle.mx_command.specs.declared.fitting.Removal.{Removal}
-use Rattle.mx_command.specs.declared.release.Release.{Release}
-use Rattle.mx_command.specs.declared.release.Line.{Line}
-use Rattle.mx_command.specs.declared.release.Line.TheVariants.{Done, Rectified}
-use Rattle.mx_command.specs.declared.deferral.Deferral.{Deferral}
-use Rattle.mx_command.specs.declared.deferral.Extension.{Extension}
+use Rattle.mx_book.specs.commands.Act.{Act, Entry, Added, Listed, Opened, Flown, Fitted, Removed, Released, Deferred, Extended}
+use Rattle.mx_book.specs.declared.commands.aircraft.Aircraft.{Aircraft}
+use Rattle.mx_book.specs.declared.commands.component.Component.{Component}
+use Rattle.mx_book.specs.declared.commands.item.Item.{Item}
+use Rattle.mx_book.specs.declared.commands.item.Item.TheVariants as items
+use Rattle.mx_book.specs.declared.commands.opening.Opening.{Opening}
+use Rattle.mx_book.specs.declared.commands.sector.Sector.{Sector}
+use Rattle.mx_book.specs.declared.commands.fitting.Fitting.{Fitting}
+use Rattle.mx_book.specs.declared.commands.fitting.Removal.{Removal}
+use Rattle.mx_book.specs.declared.commands.release.Release.{Release}
+use Rattle.mx_book.specs.declared.commands.release.Line.{Line}
+use Rattle.mx_book.specs.declared.commands.release.Line.TheVariants.{Done, Rectified}
+use Rattle.mx_book.specs.declared.commands.deferral.Deferral.{Deferral}
+use Rattle.mx_book.specs.declared.commands.deferral.Extension.{Extension}
 use Rattle.mx_book.specs.declared.verdict.Refusal.{Refusal}
 use Rattle.mx_book.specs.declared.verdict.Refusal.TheVariants.{Full, UnknownAircraft, UnknownComponent, UnknownPosition, UnknownProgramme, UnknownTask, UnknownDefect, AircraftExists, ComponentExists}
 use Rattle.mx_book.specs.declared.verdict.Verdict.TheVariants.{New}

@@ -3,15 +3,15 @@ use Rattle.std.proofs.Common.{◌≡◌, ℕ, ◌+◌, ◌*◌, ◌^◌, ◌≤�
 use Rattle.std.specs.Prelude.{nat_le}
 use Rattle.std.specs.List.{list_all}
 use Rattle.std.proofs.lemmas.Bool.Decides.{nat_tests}
-use Rattle.mx_command.specs.Act.{Act, Entry, Added, positions_of, tasks_of, lines_of, aircraft_of, component_of, programme_of, opening_of, sector_of, fitting_of, removal_of, release_of, deferral_of, extension_of}
-use Rattle.mx_command.specs.Shape.{has_shape, act_shape, doc_shape, opening_shape, positions_shape}
-use Rattle.mx_command.specs.declared.opening.Opening.{Opening}
-use Rattle.mx_command.specs.declared.sector.Sector.{Sector}
-use Rattle.mx_command.specs.declared.fitting.Fitting.{Fitting}
-use Rattle.mx_command.specs.declared.fitting.Removal.{Removal}
-use Rattle.mx_command.specs.declared.release.Release.{Release}
-use Rattle.mx_command.specs.declared.deferral.Deferral.{Deferral}
-use Rattle.mx_command.specs.declared.deferral.Extension.{Extension}
+use Rattle.mx_book.specs.commands.Act.{Act, Entry, Added, positions_of, tasks_of, lines_of, aircraft_of, component_of, programme_of, opening_of, sector_of, fitting_of, removal_of, release_of, deferral_of, extension_of}
+use Rattle.mx_book.specs.commands.Shape.{has_shape, act_shape, doc_shape, opening_shape, positions_shape}
+use Rattle.mx_book.specs.declared.commands.opening.Opening.{Opening}
+use Rattle.mx_book.specs.declared.commands.sector.Sector.{Sector}
+use Rattle.mx_book.specs.declared.commands.fitting.Fitting.{Fitting}
+use Rattle.mx_book.specs.declared.commands.fitting.Removal.{Removal}
+use Rattle.mx_book.specs.declared.commands.release.Release.{Release}
+use Rattle.mx_book.specs.declared.commands.deferral.Deferral.{Deferral}
+use Rattle.mx_book.specs.declared.commands.deferral.Extension.{Extension}
 use Rattle.mx_book.specs.Judge.{item_at as item_of_place}
 use Rattle.mx_book.proofs.JudgeLemmas.{both_true}
 use Rattle.mx_base.specs.declared.rows.rows.EntryRow.{EntryRow}

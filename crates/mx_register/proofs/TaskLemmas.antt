@@ -5,14 +5,14 @@ use Rattle.std.specs.List.{list_all, AllByRecursion}
 use Rattle.std.specs.Option.{option_map_or}
 use Rattle.std.proofs.lemmas.Bool.Decides.{nat_tests}
 use Rattle.mx_base.specs.declared.amounts.Limit.{Limit}
-use Rattle.mx_command.specs.Act.{Act, Loaded, tasks_of}
-use Rattle.mx_command.specs.Bounds.{within}
-use Rattle.mx_command.specs.Programme.{has_dimension, limit_shape, task_shape, programme_shape}
-use Rattle.mx_command.specs.Shape.{act_shape, doc_shape, has_shape}
-use Rattle.mx_command.specs.declared.programme.Applies.{Applies}
-use Rattle.mx_command.specs.declared.programme.Applies.TheVariants.{Airframe, Part}
-use Rattle.mx_command.specs.declared.programme.Programme.{Programme}
-use Rattle.mx_command.specs.declared.programme.Task.{Task}
+use Rattle.mx_book.specs.commands.Act.{Act, Loaded, tasks_of}
+use Rattle.mx_book.specs.commands.Bounds.{within}
+use Rattle.mx_book.specs.commands.Programme.{has_dimension, limit_shape, task_shape, programme_shape}
+use Rattle.mx_book.specs.commands.Shape.{act_shape, doc_shape, has_shape}
+use Rattle.mx_book.specs.declared.commands.programme.Applies.{Applies}
+use Rattle.mx_book.specs.declared.commands.programme.Applies.TheVariants.{Airframe, Part}
+use Rattle.mx_book.specs.declared.commands.programme.Programme.{Programme}
+use Rattle.mx_book.specs.declared.commands.programme.Task.{Task}
 use Rattle.mx_book.proofs.JudgeLemmas.{both_true}
 use Rattle.mx_base.specs.declared.rows.rows.TaskRow.{TaskRow}
 use Rattle.mx_register.specs.Registers.{no_limit, part_of, task_row}

@@ -4,12 +4,12 @@ use Rattle.std.specs.Prelude.{codes, map, option_map}
 use Rattle.std.specs.List.{list_all}
 use Rattle.mx_base.specs.declared.amounts.Limit.{Limit}
 use Rattle.mx_base.specs.declared.amounts.Tolerance.{Tolerance}
-use Rattle.mx_command.specs.Act.{Act, Entry, Loaded, Opened}
-use Rattle.mx_command.specs.Shape.{has_shape}
-use Rattle.mx_command.specs.declared.item.Item.{Item}
-use Rattle.mx_command.specs.declared.item.Item.TheVariants as items
-use Rattle.mx_command.specs.declared.programme.Applies.TheVariants as applies
-use Rattle.mx_command.specs.declared.programme.Task.{Task}
+use Rattle.mx_book.specs.commands.Act.{Act, Entry, Loaded, Opened}
+use Rattle.mx_book.specs.commands.Shape.{has_shape}
+use Rattle.mx_book.specs.declared.commands.item.Item.{Item}
+use Rattle.mx_book.specs.declared.commands.item.Item.TheVariants as items
+use Rattle.mx_book.specs.declared.commands.programme.Applies.TheVariants as applies
+use Rattle.mx_book.specs.declared.commands.programme.Task.{Task}
 use Rattle.mx_book.specs.Book.{is_book}
 use Rattle.mx_book.proofs.Worked.{used, abcd, logged}
 use Rattle.mx_book.proofs.WorkedFittings.{engine, propeller, e1, engine_with, first_aircraft}

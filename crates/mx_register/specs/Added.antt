@@ -1,6 +1,6 @@
 -- The rows that a command adds beside its entry, as the code has them.
 use Rattle.std.specs.Prelude.{◌≡◌, List, All}
-use Rattle.mx_command.specs.Act.{Act, Entry}
+use Rattle.mx_book.specs.commands.Act.{Act, Entry}
 use Rattle.mx_base.specs.declared.rows.register_rows.RegisterRows.{RegisterRows}
 use Rattle.mx_base.specs.rows.Rows.{FitsAircraft, FitsPlace, FitsComponent, FitsProgramme, FitsTask, FitsOpening, FitsSector, FitsFitting, FitsRemoval, FitsRelease, FitsReleaseLine, FitsDeferral, FitsExtension}
 use Rattle.mx_register.specs.Registers.{aircraft_by, places_by, components_by, programmes_by, tasks_by, openings_by, sectors_by, fittings_by, removals_by, releases_by, release_lines_by, deferrals_by, extensions_by}

@@ -1,6 +1,6 @@
 -- The rows that the code has left, as lists.
-use Rattle.mx_command.specs.Act.{Act, Entry, act_of}
-use Rattle.mx_command.specs.declared.body.Body.{Body}
+use Rattle.mx_book.specs.commands.Act.{Act, Entry, act_of}
+use Rattle.mx_book.specs.declared.commands.body.Body.{Body}
 use Rattle.mx_register.specs.declared.merge.Left.{Left}
 use Rattle.mx_register.specs.declared.merge.Registers.{Registers}
 use Rattle.mx_register.specs.Merge.{Rest}

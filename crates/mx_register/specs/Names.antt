@@ -1,10 +1,10 @@
 -- The things that entries add, by name and by number: which entry added the aircraft with a registration, or the component with a serial number, or deferred the defect that has a document.
 use Rattle.std.specs.Prelude.{ℕ, ◌+◌, List, [], ◌∷◌, Bool, false, Option, Some, None, is_some, unwrap_or, if◌then◌else◌}
 use Rattle.std.specs.Option.{option_and_then, option_map, option_map_or}
-use Rattle.mx_command.specs.Act.{Act, Entry, Added, Listed, aircraft_of, component_of}
-use Rattle.mx_command.specs.Same.{same_text}
-use Rattle.mx_command.specs.declared.item.Item.{Item}
-use Rattle.mx_command.specs.declared.item.Item.TheVariants.{Airframe, Component}
+use Rattle.mx_book.specs.commands.Act.{Act, Entry, Added, Listed, aircraft_of, component_of}
+use Rattle.mx_book.specs.commands.Same.{same_text}
+use Rattle.mx_book.specs.declared.commands.item.Item.{Item}
+use Rattle.mx_book.specs.declared.commands.item.Item.TheVariants.{Airframe, Component}
 use Rattle.mx_book.specs.Book.{entry_at}
 use Rattle.mx_book.specs.Defect.{deferred_by}
 use Rattle.mx_book.specs.Register.{aircraft, component}

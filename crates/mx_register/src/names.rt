@@ -1,9 +1,9 @@
 //! The item that an entry adds, and the number of an entry that was not found.
 ghost use Rattle.std.specs.Prelude.{◌≡◌};
-ghost use Rattle.mx_command.specs.Act.{act_of};
+ghost use Rattle.mx_book.specs.commands.Act.{act_of};
 ghost use Rattle.mx_register.specs.Names.{item_added, or_zero};
 
-use mx_command::{Body, Item};
+use mx_book::commands::{Body, Item};
 
 /// The number of the entry that a name was found at, or 0, which no entry has: a command that was judged new names only
 /// what the book has.

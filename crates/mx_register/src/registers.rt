@@ -3,15 +3,15 @@ ghost use Rattle.std.specs.Prelude.{◌≡◌, ◌<◌, ◌^◌, true, unwrap_or
 ghost use Rattle.mx_base.specs.Identifier.{IsIdentifier, is_graphic};
 ghost use Rattle.mx_base.specs.rows.Rows.{FitsAircraft, FitsCategory, FitsComponent, FitsDeferral, FitsEntry, FitsExtension, FitsFitting, FitsLimit, FitsOpening, FitsPlace, FitsProgramme, FitsRelease, FitsRemoval, FitsSector, FitsTask, FitsTolerance};
 ghost use Rattle.mx_register.specs.Registers.{aircraft_row, component_row, deferral_row, entry_row, extension_row, fitting_row, kind_of, no_limit, opening_row, part_of, place_row, programme_row, kind_in_shop, release_row, removal_row, sector_row, task_row};
-ghost use Rattle.mx_command.specs.Act.{act_of};
-ghost use Rattle.mx_command.specs.Shape.{has_shape};
+ghost use Rattle.mx_book.specs.commands.Act.{act_of};
+ghost use Rattle.mx_book.specs.commands.Shape.{has_shape};
 
 use mx_base::rows::{
     AircraftRow, ComponentRow, DeferralRow, EntryKind, EntryRow, ExtensionRow, FittingRow,
     OpeningRow, PlaceRow, ProgrammeRow, ReleaseRow, RemovalRow, SectorRow, TaskRow,
 };
 use mx_base::{Category, Kind, Limit, Part, Position, Tolerance};
-use mx_command::{
+use mx_book::commands::{
     Aircraft, Applies, Body, Command, Component, Deferral, Extension, Fitting, Opening, Place,
     Programme, Release, Removal, Sector, Task,
 };

@@ -4,7 +4,7 @@ use Rattle.std.specs.Prelude.{codes, map, is_some}
 use Rattle.std.specs.Fmt.{digits}
 use Rattle.mx_base.specs.Calendar.{date_of}
 use Rattle.mx_base.specs.Texts.{day_text}
-use Rattle.mx_command.specs.Act.{Entry, Added, Flown}
+use Rattle.mx_book.specs.commands.Act.{Entry, Added, Flown}
 use Rattle.mx_book.specs.declared.verdict.Refusal.TheVariants.{UnknownAircraft}
 use Rattle.mx_book.specs.declared.verdict.Reply.TheVariants.{Accepted, Already}
 use Rattle.mx_book.specs.declared.verdict.Reply.TheVariants as reply

@@ -1,6 +1,6 @@
 -- What a request asks of an office, by its route, the parts of its path, and its body.
 use Rattle.std.specs.Prelude.{ℕ, List, [], ◌∷◌, Option, Some, None, Result, Ok, Err}
-use Rattle.mx_command.specs.Act.{Entry}
+use Rattle.mx_book.specs.commands.Act.{Entry}
 use Rattle.mx_intake.specs.Entries.{entries_of_text}
 use Rattle.mx_intake.specs.Form.{if_read}
 use Rattle.mx_intake.specs.Loading.{entry_of_programme}

@@ -4,7 +4,7 @@ ghost use Rattle.std.specs.Prelude.{◌≡◌, false};
 
 use mx_base::{Day, Tail, Use};
 use mx_book::Refusal;
-use mx_command::Item;
+use mx_book::commands::Item;
 use mx_layout::TableFault;
 use mx_lists::{DueList, ForecastList, LifeList, LimitList};
 use mx_row_lists::listing::{due_rows, forecast_rows, life, life_rows, limits_rows};

@@ -3,7 +3,7 @@ use Rattle.std.proofs.Common.{◌≡◌, inl, inr, List, Ok, Err, Option, Result
 use Rattle.sqlite.specs.Store.{Ghosts}
 use Rattle.sqlite.specs.Tree.{Trees}
 use Rattle.sqlite.specs.Held.{Held, state}
-use Rattle.mx_command.specs.Act.{Entry}
+use Rattle.mx_book.specs.commands.Act.{Entry}
 use Rattle.mx_book.specs.Reading.{Answers}
 use Rattle.mx_book.specs.declared.verdict.Refusal.TheVariants.{UnknownAircraft}
 use Rattle.mx_layout.specs.declared.fault.TableFault.{TableFault}

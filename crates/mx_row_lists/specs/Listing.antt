@@ -2,9 +2,9 @@
 use Rattle.std.specs.Prelude.{◌≡◌, List, Option, Result, Ok, Err, ok_or}
 use Rattle.sqlite.specs.Tree.{Trees}
 use Rattle.mx_base.specs.declared.amounts.Use.{Use}
-use Rattle.mx_command.specs.Act.{Entry}
-use Rattle.mx_command.specs.declared.item.Item.{Item}
-use Rattle.mx_command.specs.declared.item.Item.TheVariants.{Airframe, Component}
+use Rattle.mx_book.specs.commands.Act.{Entry}
+use Rattle.mx_book.specs.declared.commands.item.Item.{Item}
+use Rattle.mx_book.specs.declared.commands.item.Item.TheVariants.{Airframe, Component}
 use Rattle.mx_book.specs.declared.verdict.Refusal.{Refusal}
 use Rattle.mx_book.specs.declared.verdict.Refusal.TheVariants.{UnknownAircraft, UnknownComponent}
 use Rattle.mx_layout.specs.declared.fault.TableFault.{TableFault}

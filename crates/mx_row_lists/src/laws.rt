@@ -1,7 +1,7 @@
 //! Laws of rows that are asked. Each function does nothing; its contract is the law, and the checker proves it.
 ghost use Rattle.std.specs.Prelude.{List};
 ghost use Rattle.sqlite.specs.Tree.{Trees};
-ghost use Rattle.mx_command.specs.Act.{Entry};
+ghost use Rattle.mx_book.specs.commands.Act.{Entry};
 ghost use Rattle.mx_stands.specs.Stands.{HasRowsAt};
 ghost use Rattle.mx_numbers.specs.Reads.{rows_point};
 ghost use Rattle.mx_rows.specs.Answering.{AnswerListsAs};

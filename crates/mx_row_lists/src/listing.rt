@@ -17,7 +17,7 @@ ghost use Rattle.mx_row_lists.specs.Listing.{answered, unknown, LifeAnswered, Li
 
 use mx_base::{Day, Tail, Use};
 use mx_book::Refusal;
-use mx_command::Item;
+use mx_book::commands::Item;
 use mx_layout::TableFault;
 use mx_lists::{
     DueList, ForecastList, LifeList, LimitList, Stop, list_dues, list_forecast, list_limits,

@@ -7,10 +7,10 @@ use Rattle.sqlite.specs.Collation.TheVariants.{Binary}
 use Rattle.sqlite.specs.Order.{Row, column}
 use Rattle.sqlite.specs.Tree.{Trees}
 use Rattle.sqlite_schema.specs.Rules.{equal}
-use Rattle.mx_command.specs.Act.{Entry}
-use Rattle.mx_command.specs.Same.{same_text}
-use Rattle.mx_command.specs.declared.item.Item.{Item}
-use Rattle.mx_command.specs.declared.item.Item.TheVariants.{Airframe, Component}
+use Rattle.mx_book.specs.commands.Act.{Entry}
+use Rattle.mx_book.specs.commands.Same.{same_text}
+use Rattle.mx_book.specs.declared.commands.item.Item.{Item}
+use Rattle.mx_book.specs.declared.commands.item.Item.TheVariants.{Airframe, Component}
 use Rattle.mx_book.specs.Book.{IsBook}
 use Rattle.mx_register.specs.Names.{seq_of_defect, seq_of_item, seq_of_serial, seq_of_tail}
 use Rattle.mx_register.specs.Registers.{aircraft_rows, component_rows, entry_rows}

@@ -6,10 +6,10 @@ use Rattle.std.specs.Option.{option_map}
 use Rattle.sqlite.specs.declared.types.Value.TheVariants.{Int}
 use Rattle.sqlite.specs.Order.{column}
 use Rattle.sqlite.specs.Tree.{Trees}
-use Rattle.mx_command.specs.Act.{Act, Entry, Added, Listed, Loaded, Opened, Flown, Fitted, Removed, Released, Deferred, Extended}
-use Rattle.mx_command.specs.Shape.{has_shape}
-use Rattle.mx_command.specs.declared.release.Line.{Line}
-use Rattle.mx_command.specs.declared.release.Line.TheVariants.{Done, Rectified}
+use Rattle.mx_book.specs.commands.Act.{Act, Entry, Added, Listed, Loaded, Opened, Flown, Fitted, Removed, Released, Deferred, Extended}
+use Rattle.mx_book.specs.commands.Shape.{has_shape}
+use Rattle.mx_book.specs.declared.commands.release.Line.{Line}
+use Rattle.mx_book.specs.declared.commands.release.Line.TheVariants.{Done, Rectified}
 use Rattle.mx_book.specs.Asking.{known_same}
 use Rattle.mx_book.specs.Book.{IsBook}
 use Rattle.mx_book.specs.Judge.{item_at, known_from}

@@ -1,8 +1,8 @@
 -- Which table is told damaged, and by which question of the judge or of a list.
 use Rattle.std.specs.Prelude.{ℕ, List, true, ◌≡◌}
 use Rattle.sqlite.specs.Tree.{Trees}
-use Rattle.mx_command.specs.Act.{Entry}
-use Rattle.mx_command.specs.declared.item.Item.{Item}
+use Rattle.mx_book.specs.commands.Act.{Entry}
+use Rattle.mx_book.specs.declared.commands.item.Item.{Item}
 use Rattle.mx_layout.specs.TableName.{TableName}
 use Rattle.mx_layout.specs.declared.fault.Table.TheVariants as table
 use Rattle.mx_numbers.specs.Told.{AircraftDamage, BaseDamage, ComponentDamage, CountDamage, DefectDamage, DoneDamage, ExtensionDamage, FittedDamage, InForceDamage, LastDamage, OpenDamage, PartDamage, RectifiedDamage, RetiredDamage, RevisionDamage, TailFittedDamage, TakenDamage, TotalDamage}

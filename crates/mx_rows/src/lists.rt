@@ -3,7 +3,7 @@ use crate::questions::ListQuestions;
 use crate::view::Rows;
 use mx_base::{Base, Kind, Position, Serial, Tail, TaskId, Use};
 use mx_book::Defect;
-use mx_command::{Item, Task};
+use mx_book::commands::{Item, Task};
 use mx_layout::TableFault;
 use mx_lists::{Lists, Stop};
 use mx_lives::lives::life;

@@ -5,7 +5,7 @@
 pub trait Questions {
     ghost use Rattle.std.specs.Prelude.{List};
     ghost use Rattle.sqlite.specs.Tree.{Trees};
-    ghost use Rattle.mx_command.specs.Act.{Entry};
+    ghost use Rattle.mx_book.specs.commands.Act.{Entry};
     ghost use Rattle.mx_layout.specs.TableName.{TableName};
     ghost use Rattle.mx_rows.specs.Answering.{AnswerAs};
     ghost use Rattle.mx_rows.specs.Damage.{JudgeDamage};

@@ -1,8 +1,8 @@
 //! The rows that a transaction shows, as records that the judge asks.
 use crate::questions::Questions;
 use mx_base::{Day, Doc, Kind, Moment, Part, Position, Serial, Tail, TaskId};
+use mx_book::commands::{Aircraft, Command, Component, Extension, Item, Task};
 use mx_book::{Defect, Records};
-use mx_command::{Aircraft, Command, Component, Extension, Item, Task};
 use mx_known::known::known;
 use mx_layout::TableFault;
 use mx_lives::lives::{clock, earliest_takeoff};

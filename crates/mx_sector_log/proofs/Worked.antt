@@ -2,7 +2,7 @@
 use Rattle.std.proofs.Common.{refl, ◌≡◌, ℕ, List, [], ◌∷◌, true, false, Result, Ok, Err}
 use Rattle.std.specs.Prelude.{codes, map}
 use Rattle.std.specs.Fmt.{digits}
-use Rattle.mx_command.specs.Act.{Entry, Flown}
+use Rattle.mx_book.specs.commands.Act.{Entry, Flown}
 use Rattle.mx_book.specs.declared.verdict.Refusal.TheVariants.{UnknownAircraft}
 use Rattle.mx_book.specs.declared.verdict.Reply.TheVariants.{Accepted, Already, Refused}
 use Rattle.mx_intake.specs.Fault.{fault}

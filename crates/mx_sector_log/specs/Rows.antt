@@ -1,6 +1,6 @@
 -- The rows of a sector log: the commands that they state, and what each is told.
 use Rattle.std.specs.Prelude.{List, [], ◌∷◌, Result, Ok, Err}
-use Rattle.mx_command.specs.Act.{Entry}
+use Rattle.mx_book.specs.commands.Act.{Entry}
 use Rattle.mx_book.specs.declared.verdict.Reply.{Reply}
 use Rattle.mx_intake.specs.declared.fault.IntakeFault.{IntakeFault}
 use Rattle.mx_sector_log.specs.declared.report.RowReply.{RowReply}

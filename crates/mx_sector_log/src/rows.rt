@@ -4,7 +4,7 @@ ghost use Rattle.mx_sector_log.specs.Rows.{good_rows, told};
 
 use crate::report::RowReply;
 use mx_book::Reply;
-use mx_command::Command;
+use mx_book::commands::Command;
 use mx_intake::IntakeFault;
 use std::alloc::{AllocError, Global};
 

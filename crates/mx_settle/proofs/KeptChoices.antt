@@ -1,7 +1,7 @@
 -- Which step is due where what is kept of items is written, by the kept rows of all of them.
 use Rattle.std.proofs.Common.{◌≡◌, inl, inr, ℕ, List, Option, None, Some, Ok, Err, IsTrue, refl, sym, subst}
 use Rattle.sqlite.specs.State.{State, HasCleanDisk}
-use Rattle.mx_command.specs.Act.{Entry}
+use Rattle.mx_book.specs.commands.Act.{Entry}
 use Rattle.mx_base.specs.declared.point.Point.{Point}
 use Rattle.mx_points.specs.Points.{moving}
 use Rattle.mx_layout.specs.declared.fault.TableFault.{TableFault}

@@ -6,7 +6,7 @@ use Rattle.sqlite.proofs.Callers.{one_permutation}
 use Rattle.sqlite.specs.Schema.{Schema}
 use Rattle.sqlite.specs.State.{State, HasCleanDisk}
 use Rattle.sqlite.specs.Tree.{Trees}
-use Rattle.mx_command.specs.Act.{Entry}
+use Rattle.mx_book.specs.commands.Act.{Entry}
 use Rattle.mx_book.specs.declared.limits.TheConstants.{MOST_ENTRIES}
 use Rattle.mx_base.specs.declared.point.Point.{Point}
 use Rattle.mx_base.specs.Settled.{settled}

@@ -1,7 +1,7 @@
 -- The step that is due, as one step: what each of them is for, when it is due, and what it makes of the tables.
 use Rattle.std.specs.Prelude.{⊤, ◌≡◌, ◌≢◌, true, List, [], ◌∷◌, None, Some, IsPermutation}
 use Rattle.sqlite.specs.Tree.{Trees}
-use Rattle.mx_command.specs.Act.{Entry}
+use Rattle.mx_book.specs.commands.Act.{Entry}
 use Rattle.mx_base.specs.declared.point.Point.{Point}
 use Rattle.mx_base.specs.Settled.{settled}
 use Rattle.mx_points.specs.Moves.{totals_next}

@@ -1,7 +1,7 @@
 -- What layout 2 keeps of all items, while it is known: whose it is, and which step it makes due for the next item.
 use Rattle.std.specs.Prelude.{◌≡◌, ◌&&◌, ℕ, nat_eq, nat_le, nat_lt, Bool, List, filter, find, Vec, Option, None, Some, IfSome}
 use Rattle.std.specs.declared.alloc.Global.{Global}
-use Rattle.mx_command.specs.Act.{Entry}
+use Rattle.mx_book.specs.commands.Act.{Entry}
 use Rattle.mx_book.specs.Book.{IsBook}
 use Rattle.mx_book.specs.declared.limits.TheConstants.{MOST_ENTRIES}
 use Rattle.mx_base.specs.declared.rows.rows.BaseRow.{BaseRow}

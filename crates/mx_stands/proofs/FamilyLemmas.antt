@@ -4,8 +4,8 @@ use Rattle.std.specs.Prelude.{⊤}
 use Rattle.std.specs.List.{list_all}
 use Rattle.sqlite.specs.Order.{Row}
 use Rattle.sqlite.specs.Schema.{Schema}
-use Rattle.mx_command.specs.Act.{Entry}
-use Rattle.mx_command.specs.Shape.{has_shape}
+use Rattle.mx_book.specs.commands.Act.{Entry}
+use Rattle.mx_book.specs.commands.Shape.{has_shape}
 use Rattle.mx_base.specs.rows.Rising.{IsRising}
 use Rattle.mx_register.specs.Registers.{entry_added, aircraft_by, places_by, components_by, programmes_by, tasks_by, openings_by, sectors_by, fittings_by, removals_by, releases_by, release_lines_by, deferrals_by, extensions_by}
 use Rattle.mx_register.proofs.RegisterLemmas.{gives-more, entry_rows-rising, aircraft_rows-rising, place_rows-rising, component_rows-rising, programme_rows-rising, task_rows-rising, opening_rows-rising, sector_rows-rising, fitting_rows-rising, removal_rows-rising, release_rows-rising, release_line_rows-rising, deferral_rows-rising, extension_rows-rising}

@@ -5,8 +5,8 @@ use Rattle.mx_base.specs.Calendar.{date_of}
 use Rattle.mx_base.specs.Texts.{day_text, moment_text}
 use Rattle.sqlite.specs.Order.{Row}
 use Rattle.sqlite.specs.declared.types.Value.TheVariants.{Int, Text}
-use Rattle.mx_command.specs.Act.{Entry, Flown}
-use Rattle.mx_command.specs.declared.sector.Sector.{Sector}
+use Rattle.mx_book.specs.commands.Act.{Entry, Flown}
+use Rattle.mx_book.specs.declared.commands.sector.Sector.{Sector}
 use Rattle.mx_book.proofs.Worked.{abcd, at as moment, logged}
 use Rattle.mx_book.proofs.WorkedFittings.{first_aircraft}
 use Rattle.mx_base.specs.declared.point.Point.{Point}

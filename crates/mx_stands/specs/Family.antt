@@ -1,8 +1,8 @@
 -- The tables as one family, with a line for each: how its rows are kept, which of a book's rows stand in it at a point, what a command makes of them, and where they are among the registers.
 use Rattle.std.specs.Prelude.{⊤, ◌≡◌, Bool, true, false, List, [], ◌∷◌, ◌++◌, map, All, IsPermutation, Option, Some, None, if◌then◌else◌}
 use Rattle.sqlite.specs.Order.{Row}
-use Rattle.mx_command.specs.Act.{Entry}
-use Rattle.mx_command.specs.Shape.{has_shape}
+use Rattle.mx_book.specs.commands.Act.{Entry}
+use Rattle.mx_book.specs.commands.Shape.{has_shape}
 use Rattle.mx_book.specs.Book.{IsBook}
 use Rattle.mx_book.specs.Judge.{judge}
 use Rattle.mx_book.specs.declared.verdict.Verdict.TheVariants.{New}

@@ -7,7 +7,7 @@ use Rattle.std.proofs.lemmas.List.Elements.{All-append, All-contains, All-filter
 use Rattle.std.proofs.lemmas.List.Sorted.{All-permutation, IsPermutation-append_comm, IsPermutation-map, IsPermutation-refl, IsPermutation-sym, IsPermutation-trans}
 use Rattle.sqlite_keyed.proofs.ListLemmas.{filter-filter, filter-map, filter_same, IsPermutation-same}
 use Rattle.sqlite.specs.Tree.{Trees}
-use Rattle.mx_command.specs.Act.{Entry}
+use Rattle.mx_book.specs.commands.Act.{Entry}
 use Rattle.mx_book.specs.Book.{IsBook}
 use Rattle.mx_base.specs.declared.rows.rows.FittingRow.{FittingRow}
 use Rattle.mx_base.specs.declared.rows.rows.RemovalRow.{RemovalRow}

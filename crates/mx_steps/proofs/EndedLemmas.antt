@@ -5,7 +5,7 @@ use Rattle.std.proofs.lemmas.List.Elements.{All-nil}
 use Rattle.std.proofs.lemmas.List.Sorted.{IsPermutation-refl}
 use Rattle.sqlite_keyed.proofs.ListLemmas.{IsPermutation-same}
 use Rattle.sqlite.specs.Tree.{Trees}
-use Rattle.mx_command.specs.Act.{Entry}
+use Rattle.mx_book.specs.commands.Act.{Entry}
 use Rattle.mx_base.specs.rows.Rows.{FitsBase, FitsSpan, FitsTotal}
 use Rattle.mx_base.specs.Settled.{settled}
 use Rattle.mx_base.specs.declared.point.Point.{Point}

@@ -12,7 +12,7 @@ use Rattle.sqlite.specs.Tree.{Trees}
 use Rattle.sqlite_sql.specs.declared.ops.CompareOp.TheVariants.{Le}
 use Rattle.sqlite_typed.proofs.TestLemmas.{at_ints}
 use Rattle.std.proofs.lemmas.Int.{ints}
-use Rattle.mx_command.specs.Act.{Entry}
+use Rattle.mx_book.specs.commands.Act.{Entry}
 use Rattle.mx_book.specs.Book.{IsBook}
 use Rattle.mx_book.specs.declared.limits.TheConstants.{MOST_ENTRIES}
 use Rattle.mx_base.specs.declared.rows.rows.SectorRow.{SectorRow}

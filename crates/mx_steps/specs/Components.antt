@@ -3,7 +3,7 @@ use Rattle.std.specs.Prelude.{◌≡◌, ◌⊎◌, ℕ, pos, nat_eq, Bool, List
 use Rattle.sqlite.specs.declared.types.Value.TheVariants.{Int}
 use Rattle.sqlite.specs.Order.{Row}
 use Rattle.sqlite.specs.Tree.{Trees}
-use Rattle.mx_command.specs.Act.{Entry}
+use Rattle.mx_book.specs.commands.Act.{Entry}
 use Rattle.mx_base.specs.declared.rows.rows.FittingRow.{FittingRow}
 use Rattle.mx_base.specs.declared.rows.rows.RemovalRow.{RemovalRow}
 use Rattle.mx_base.specs.declared.rows.rows.SpanRow.{SpanRow}

@@ -2,7 +2,7 @@
 use Rattle.std.proofs.Common.{ℕ, ap, arith, refl, sym, subst, ◌∙◌, ◌≡◌, List}
 use Rattle.std.specs.Prelude.{Result, Ok, Err, MatchResult}
 use Rattle.std.specs.declared.convert.Infallible.{Infallible}
-use Rattle.mx_command.specs.Act.{Entry}
+use Rattle.mx_book.specs.commands.Act.{Entry}
 use Rattle.mx_lists.specs.Memory.{StopsBy, with_memory}
 use Rattle.mx_plain.specs.Plain.{plain_reading}
 use Rattle.mx_book.specs.Reading.{Answers}

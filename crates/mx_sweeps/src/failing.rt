@@ -5,9 +5,9 @@ ghost use Rattle.mx_book.specs.Reading.{GoesOn};
 ghost use Rattle.mx_sweeps.specs.Failing.{failing_reading};
 
 use mx_base::{Base, Day, Doc, Kind, Moment, Part, Position, Serial, Tail, TaskId, Use};
+use mx_book::commands::{Aircraft, Command, Component, Extension, Item, Task};
+use mx_book::entry_list::Book;
 use mx_book::{Defect, Records};
-use mx_command::{Aircraft, Command, Component, Extension, Item, Task};
-use mx_entry_list::Book;
 use mx_lists::{Lists, Stop};
 use mx_plain::Plain;
 use std::alloc::Global;

@@ -12,9 +12,9 @@ ghost use Rattle.mx_sweeps.specs.Failing.{IsStop};
 use crate::failing::{Failing, Interrupted};
 use mx_base::{Day, Kind, Limit, Tail, TaskId};
 use mx_book::Verdict;
-use mx_command::{Command, Item};
-use mx_entry_list::Book;
-use mx_judge::verdict_on;
+use mx_book::commands::{Command, Item};
+use mx_book::entry_list::Book;
+use mx_book::judging::verdict_on;
 use mx_lists::{
     DueList, ForecastList, LifeList, LimitList, Stop, due_of_kind, list_dues, list_forecast,
     list_limits, list_lives,

@@ -1,9 +1,9 @@
 //! What the plain book answers, which the office is compared with.
 
+use mx_book::commands::Command;
+use mx_book::entry_list::Book;
 use mx_book::{Reply, Verdict};
 use mx_cases::{append_reply, or_none, replies_in};
-use mx_command::Command;
-use mx_entry_list::Book;
 use std::alloc::{AllocError, Global};
 
 /// What a list of commands gives over a book.

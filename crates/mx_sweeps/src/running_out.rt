@@ -9,9 +9,9 @@ use crate::interrupted::{
 use crate::plain::append_reply_to;
 use crate::sweep::{Wrong, must};
 use mx_base::{Day, Tail};
+use mx_book::commands::Command;
+use mx_book::entry_list::Book;
 use mx_cases::Unmade;
-use mx_command::Command;
-use mx_entry_list::Book;
 use mx_lists::Stop;
 use std::alloc::Global;
 

@@ -4,8 +4,8 @@
 use crate::plain::{Plain, is_start, plain_run};
 use crate::player::Player;
 use crate::sweep::{End, Stops, Wrong, all_entries, must};
+use mx_book::commands::Command;
 use mx_cases::{Disks, Unmade};
-use mx_command::Command;
 use std::alloc::{AllocError, Global};
 
 // Lines that an office answers by saying that it has to be opened again.

@@ -2,8 +2,8 @@
 //! of the stops. What it does and looks at are lines of the player.
 
 use crate::player::Player;
+use mx_book::commands::Command;
 use mx_cases::{Disks, Unmade, append_joined};
-use mx_command::Command;
 use std::alloc::{AllocError, Global};
 
 /// The number of calls past which the work is to end.

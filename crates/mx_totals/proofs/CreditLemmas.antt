@@ -10,7 +10,7 @@ use Rattle.sqlite.specs.Order.{Row}
 use Rattle.sqlite.specs.Collation.TheVariants.{Binary}
 use Rattle.sqlite_schema.specs.Rules.{equal}
 use Rattle.mx_base.specs.declared.amounts.Use.{Use}
-use Rattle.mx_command.specs.Bounds.{are_distinct}
+use Rattle.mx_book.specs.commands.Bounds.{are_distinct}
 use Rattle.mx_base.specs.declared.rows.rows.TotalRow.{TotalRow}
 use Rattle.mx_kept.specs.Cells.{kept_total2}
 use Rattle.mx_chosen.proofs.EqualLemmas.{equal_numbers}

@@ -5,7 +5,7 @@ use Rattle.sqlite.specs.declared.types.Value.{Value}
 use Rattle.sqlite.specs.declared.types.Value.TheVariants.{Int}
 use Rattle.sqlite.specs.Order.{Row}
 use Rattle.mx_base.specs.declared.amounts.Use.{Use}
-use Rattle.mx_due.specs.Due.{IsLife}
+use Rattle.mx_book.specs.due.Due.{IsLife}
 use Rattle.mx_base.specs.declared.rows.rows.TotalRow.{TotalRow}
 use Rattle.mx_kept.specs.Cells.{kept_total2}
 use Rattle.mx_chosen.specs.Choices.{has_value}

@@ -1,6 +1,6 @@
 //! The life and the clock of an item, and a life that a use is added to.
 ghost use Rattle.std.specs.Option.{SomeIff};
-ghost use Rattle.mx_due.specs.Due.{IsLife};
+ghost use Rattle.mx_book.specs.due.Due.{IsLife};
 ghost use Rattle.mx_totals.specs.Totals.{life_with};
 
 use mx_base::{Moment, Use};

@@ -1,6 +1,6 @@
 //! The total of an item: its life now, and its clock.
 ghost use Rattle.std.specs.Prelude.{◌≡◌, ◌⊎◌, ◌∷◌, ⊤, All, Any, IsTrue, OnOk, IfErr, nat_eq, true};
-ghost use Rattle.mx_command.specs.Bounds.{are_distinct};
+ghost use Rattle.mx_book.specs.commands.Bounds.{are_distinct};
 ghost use Rattle.sqlite.specs.State.{HasCleanDisk};
 ghost use Rattle.sqlite.specs.Held.{state};
 ghost use Rattle.mx_kept.specs.Cells.{kept_total2};

@@ -1,6 +1,6 @@
 -- What a new book makes of the commands that a file is made with.
 use Rattle.std.specs.Prelude.{◌≡◌, ℕ, List, ◌++◌, []}
-use Rattle.mx_command.specs.Act.{Entry}
+use Rattle.mx_book.specs.commands.Act.{Entry}
 use Rattle.mx_book.specs.Run.{book_run, replies}
 use Rattle.mx_reports.specs.Replies.{lines_of}
 use Rattle.mx_upkeep.specs.declared.installing.Accepted.{Accepted}

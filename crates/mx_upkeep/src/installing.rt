@@ -14,10 +14,10 @@ ghost use Rattle.mx_reports.specs.Replies.{lines_of};
 ghost use Rattle.mx_upkeep.specs.Installed.{AreAccepted};
 ghost use Rattle.mx_endings.specs.Status.{run_ending, stop_status};
 
+use mx_book::commands::Command;
+use mx_book::entry_list::{Book, NoMemory};
 use mx_book::{Refusal, Reply, Verdict};
-use mx_command::Command;
 use mx_endings::{Ending, Stop};
-use mx_entry_list::{Book, NoMemory};
 use mx_install::install_v1;
 use mx_layout::TableFault;
 use mx_plain::Plain;

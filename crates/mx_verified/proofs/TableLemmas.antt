@@ -1,7 +1,7 @@
 -- Rows in the order of their keys are those of a book exactly where the rows are as sets.
 use Rattle.std.proofs.Common.{◌+◌, Bool, List, [], length, sym, subst}
 use Rattle.std.specs.Prelude.{◌≢◌, Result, Ok, Err, IfOk, IsPermutation}
-use Rattle.mx_command.specs.Act.{Entry}
+use Rattle.mx_book.specs.commands.Act.{Entry}
 use Rattle.mx_book.specs.Book.{IsBook}
 use Rattle.mx_base.specs.rows.Rows.{place_key, release_line_key, task_key}
 use Rattle.mx_base.specs.declared.rows.rows.AircraftRow.{AircraftRow}

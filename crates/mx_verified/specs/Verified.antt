@@ -1,6 +1,6 @@
 -- Rows that are those of a book.
 use Rattle.std.specs.Prelude.{◌≡◌, List, IsPermutation}
-use Rattle.mx_command.specs.Act.{Entry}
+use Rattle.mx_book.specs.commands.Act.{Entry}
 use Rattle.mx_register.specs.Registers.{AreRegistersOf}
 use Rattle.mx_kept_rows.specs.Bases.{base_rows}
 use Rattle.mx_kept_rows.specs.Spans.{span_rows}

@@ -11,7 +11,7 @@ ghost use Rattle.mx_file_rows.specs.Bases.{is_last_base, same_base};
 
 use mx_base::rows::{BaseRow, OpeningRow, ReleaseLineRow};
 use mx_base::{Base, TaskId};
-use mx_entry_list::NoMemory;
+use mx_book::entry_list::NoMemory;
 use mx_indexed::IndexedBook;
 use mx_indexes::maps::held;
 use mx_plain_register::item_of_entry;

@@ -1,6 +1,6 @@
 //! Whether the rows of the tables of a file, each table's in any order, are those of a book.
 ghost use Rattle.std.specs.Prelude.{◌≡◌, ◌≢◌, List, [], true, Err, IfOk, MatchResult, Ok};
-ghost use Rattle.mx_command.specs.Act.{Entry};
+ghost use Rattle.mx_book.specs.commands.Act.{Entry};
 ghost use Rattle.mx_book.specs.Book.{IsBook};
 ghost use Rattle.mx_register.specs.Left.{all_rows};
 ghost use Rattle.mx_merged.specs.Merging.{merging};

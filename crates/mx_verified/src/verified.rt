@@ -1,7 +1,7 @@
 //! Whether the rows of a file are those of a book.
 ghost use Rattle.std.specs.Prelude.{◌≡◌, ◌≢◌, List, [], true, Err, IfOk, IsPermutation, MatchResult, Ok};
 ghost use Rattle.std.specs.Bool.{Decides};
-ghost use Rattle.mx_command.specs.Act.{Entry};
+ghost use Rattle.mx_book.specs.commands.Act.{Entry};
 ghost use Rattle.mx_book.specs.Book.{IsBook};
 ghost use Rattle.mx_register.specs.Left.{all_rows};
 ghost use Rattle.mx_register.specs.Registers.{AreRegistersOf};
@@ -14,7 +14,7 @@ ghost use Rattle.mx_verified.specs.Verified.{AreRowsOf, HasKeptRows};
 use crate::bases::are_bases;
 use crate::same::are_same;
 use mx_base::rows::EntryKind;
-use mx_entry_list::NoMemory;
+use mx_book::entry_list::NoMemory;
 use mx_file_rows::FileRows;
 use mx_file_rows::spans::spans_made;
 use mx_indexed::IndexedBook;

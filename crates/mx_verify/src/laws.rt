@@ -1,7 +1,7 @@
 //! Laws of what is verified. Each function does nothing; its contract is the law, and the checker proves it.
 ghost use Rattle.std.specs.Prelude.{◌≡◌, List};
 ghost use Rattle.sqlite.specs.Effect.{Database};
-ghost use Rattle.mx_command.specs.Act.{Entry};
+ghost use Rattle.mx_book.specs.commands.Act.{Entry};
 ghost use Rattle.mx_stands.specs.Schemas.{schema_at};
 ghost use Rattle.mx_stands.specs.Stands.{StandsAt};
 ghost use Rattle.mx_reading.specs.Layout.{HasTables, verified_point};

@@ -1,5 +1,5 @@
 use Rattle.std.proofs.Common.{◌≡◌, ℕ, refl, ap, [], ◌∷◌, ◌∙◌, map}
-use Rattle.mx_command.specs.Act.{Listed}
+use Rattle.mx_book.specs.commands.Act.{Listed}
 use Rattle.mx_base.specs.rows.Rows.{FitsAircraft, FitsPlace, FitsComponent, FitsProgramme, FitsTask, FitsOpening, FitsRelease, FitsReleaseLine, FitsDeferral, FitsExtension, FitsSpan, FitsTotal, FitsBase}
 use Rattle.mx_base.specs.declared.rows.rows.EntryRow.{EntryRow}
 use Rattle.mx_register.specs.Registers.{aircraft_by, places_by, components_by, programmes_by, tasks_by, openings_by, releases_by, release_lines_by, deferrals_by, extensions_by, next, component_row}

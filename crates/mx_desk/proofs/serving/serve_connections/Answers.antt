@@ -1,6 +1,6 @@
 use Rattle.std.proofs.Common.{◌≡◌, refl, sym, subst, List, ◌++◌, false}
 use Rattle.sqlite.specs.Held.{state}
-use Rattle.mx_command.specs.Act.{Entry}
+use Rattle.mx_book.specs.commands.Act.{Entry}
 use Rattle.mx_book.specs.Run.{book_run}
 use Rattle.mx_book.proofs.GrowthLemmas.{book_run-append}
 use Rattle.mx_office.specs.Stands.{Rests}

@@ -2,7 +2,7 @@ use Rattle.std.proofs.Common.{Option, Vec, sym, ap, ap₂, ◌∙◌}
 use Rattle.std.specs.Prelude.{slice_get}
 use Rattle.std.specs.Option.{option_and_then, option_map}
 use Rattle.std.specs.declared.alloc.Global.{Global}
-use Rattle.mx_command.specs.declared.release.Line.{Line}
+use Rattle.mx_book.specs.declared.commands.release.Line.{Line}
 use Rattle.mx_register.specs.Merge.{release_said}
 use Rattle.mx_entries.specs.Releases.{LinesStated, PlaceStated}
 use Rattle.mx_numbers.proofs.ReadLemmas.{reads_then}

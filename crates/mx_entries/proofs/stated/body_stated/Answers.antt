@@ -1,5 +1,5 @@
 use Rattle.std.specs.Option.{option_map}
-use Rattle.mx_command.specs.Act.{act_of}
+use Rattle.mx_book.specs.commands.Act.{act_of}
 use Rattle.mx_entries.specs.Entries.{KindStated}
 use Rattle.mx_entries.proofs.StatedLemmas.{any_as}
 use Rattle.mx_entries.proofs.stated.body_stated.Goals as goal

@@ -1,5 +1,5 @@
 use Rattle.std.proofs.Common.{◌≡◌, List, [], ◌∙◌, IfOk, subst}
-use Rattle.mx_command.specs.Act.{Entry}
+use Rattle.mx_book.specs.commands.Act.{Entry}
 use Rattle.mx_command_line.specs.Trial.{trial_commands}
 use Rattle.mx_printed.specs.Tried.{TellsTrial}
 use Rattle.mx_files.proofs.trial.try_out.Goals as goal

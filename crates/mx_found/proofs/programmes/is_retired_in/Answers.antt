@@ -1,6 +1,6 @@
 use Rattle.std.proofs.Common.{◌≡◌, sym, ap, ◌∙◌, List, ◌∷◌, Bool, true, false, ◌||◌}
 use Rattle.std.specs.List.{list_all, list_any}
-use Rattle.mx_command.specs.Programme.{task_shape}
+use Rattle.mx_book.specs.commands.Programme.{task_shape}
 use Rattle.mx_book.proofs.JudgeLemmas.{both_true}
 use Rattle.mx_register.specs.Merge.{task_said}
 use Rattle.mx_base.specs.declared.rows.rows.TaskRow.{TaskRow}

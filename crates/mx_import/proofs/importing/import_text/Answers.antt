@@ -1,5 +1,5 @@
 use Rattle.std.proofs.Common.{◌≡◌, ◌∙◌, List, ap, subst}
-use Rattle.mx_command.specs.Act.{Entry}
+use Rattle.mx_book.specs.commands.Act.{Entry}
 use Rattle.mx_office.specs.Calls.{IsRun}
 use Rattle.mx_sector_log.specs.Rows.{good_rows, told}
 use Rattle.mx_import.proofs.importing.import_text.Goals as goal

@@ -1,6 +1,6 @@
 use Rattle.std.proofs.Common.{◌≡◌, ◌++◌, length}
 use Rattle.std.specs.List.{AllByRecursion, filter_map}
-use Rattle.mx_due.specs.Due.{IsBase}
+use Rattle.mx_book.specs.due.Due.{IsBase}
 use Rattle.mx_indexes.specs.Work.{line_base}
 use Rattle.mx_indexed.proofs.bases.bases_of_lines.Given as goal
 

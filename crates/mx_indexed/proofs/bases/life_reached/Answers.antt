@@ -1,5 +1,5 @@
 use Rattle.std.proofs.Common.{None, sym, ap, subst, ◌∙◌}
-use Rattle.mx_due.specs.Due.{IsLife}
+use Rattle.mx_book.specs.due.Due.{IsLife}
 use Rattle.mx_book.specs.Book.{IsBook}
 use Rattle.mx_book.specs.Life.{use_or_none}
 use Rattle.mx_book.proofs.LifeLemmas.{life_bounded}

@@ -1,8 +1,8 @@
 use Rattle.std.proofs.Common.{◌≡◌, List, true, length}
 use Rattle.std.specs.List.{list_all, list_any}
-use Rattle.mx_command.specs.Act.{Entry}
-use Rattle.mx_command.specs.Programme.{task_shape}
-use Rattle.mx_command.specs.declared.item.Item.{Item}
+use Rattle.mx_book.specs.commands.Act.{Entry}
+use Rattle.mx_book.specs.commands.Programme.{task_shape}
+use Rattle.mx_book.specs.declared.commands.item.Item.{Item}
 use Rattle.mx_book.specs.Programme.{is_at_end}
 use Rattle.mx_book.specs.Register.{found_of}
 use Rattle.mx_indexes.proofs.programmes.one_retires.Given as goal

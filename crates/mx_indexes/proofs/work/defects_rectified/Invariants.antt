@@ -1,6 +1,6 @@
 use Rattle.std.proofs.Common.{◌≡◌, ◌++◌, length}
 use Rattle.std.specs.List.{filter_map}
-use Rattle.mx_command.specs.Act.{lines_of}
+use Rattle.mx_book.specs.commands.Act.{lines_of}
 use Rattle.mx_indexes.specs.Work.{line_defect}
 use Rattle.mx_indexes.proofs.work.defects_rectified.Given as goal
 

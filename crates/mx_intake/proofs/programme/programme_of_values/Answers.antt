@@ -1,6 +1,6 @@
 use Rattle.std.proofs.Common.{◌≡◌, ◌∙◌, Err, false, sym, ap}
 use Rattle.toml.specs.View.{items_view}
-use Rattle.mx_command.specs.Programme.{programme_shape}
+use Rattle.mx_book.specs.commands.Programme.{programme_shape}
 use Rattle.mx_intake.proofs.ProgrammeLemmas.{few_values, if_distinct-not_shaped}
 use Rattle.mx_intake.proofs.programme.programme_of_values.Goals as goal
 

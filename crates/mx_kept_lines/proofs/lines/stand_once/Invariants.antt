@@ -1,6 +1,6 @@
 use Rattle.std.proofs.Common.{◌≡◌, length}
 use Rattle.std.specs.Prelude.{nat_eq}
-use Rattle.mx_command.specs.Bounds.{are_distinct}
+use Rattle.mx_book.specs.commands.Bounds.{are_distinct}
 use Rattle.mx_kept_lines.proofs.lines.stand_once.Given as goal
 
 -- what is left answers for all

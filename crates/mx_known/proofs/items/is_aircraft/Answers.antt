@@ -1,5 +1,5 @@
 use Rattle.std.proofs.Common.{◌∙◌, ◌&&◌, ap, sym, inr}
-use Rattle.mx_command.specs.Act.{Added}
+use Rattle.mx_book.specs.commands.Act.{Added}
 use Rattle.mx_numbers.proofs.ReadLemmas.{reads_then, told}
 use Rattle.mx_known.proofs.TellLemmas.{first_fails, second_tells, tells}
 use Rattle.mx_known.proofs.KnownLemmas.{both_same}

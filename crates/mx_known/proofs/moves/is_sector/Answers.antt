@@ -1,5 +1,5 @@
 use Rattle.std.proofs.Common.{[], ◌∷◌, map, ap, ◌∙◌, inr}
-use Rattle.mx_command.specs.Act.{Flown}
+use Rattle.mx_book.specs.commands.Act.{Flown}
 use Rattle.mx_base.specs.declared.rows.rows.Sector2Row.{Sector2Row}
 use Rattle.mx_register.specs.Names.{or_zero, seq_of_tail}
 use Rattle.mx_register.specs.Registers.{sector_row}

@@ -1,7 +1,7 @@
 use Rattle.std.proofs.Common.{◌≡◌, ℕ, ◌+◌, ◌++◌, length, Ok}
 use Rattle.sqlite.specs.Held.{state}
 use Rattle.sqlite_rules.specs.Lists.{Has}
-use Rattle.mx_command.specs.declared.release.Line.{Line}
+use Rattle.mx_book.specs.declared.commands.release.Line.{Line}
 use Rattle.mx_register.specs.Lines.{lines_from}
 use Rattle.mx_register.specs.Registers.{release_line_row}
 use Rattle.mx_found.specs.Given.{found, release_lines}

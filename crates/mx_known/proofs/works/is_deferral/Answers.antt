@@ -1,5 +1,5 @@
 use Rattle.std.proofs.Common.{[], ◌∷◌, ap, ◌∙◌, inr}
-use Rattle.mx_command.specs.Act.{Deferred}
+use Rattle.mx_book.specs.commands.Act.{Deferred}
 use Rattle.mx_register.specs.Names.{or_zero, seq_of_tail}
 use Rattle.mx_register.specs.Registers.{deferral_row}
 use Rattle.mx_found.specs.Given as registers

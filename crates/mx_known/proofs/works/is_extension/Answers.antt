@@ -1,5 +1,5 @@
 use Rattle.std.proofs.Common.{[], ◌∷◌, ap, ◌∙◌, inr}
-use Rattle.mx_command.specs.Act.{Extended}
+use Rattle.mx_book.specs.commands.Act.{Extended}
 use Rattle.mx_register.specs.Names.{or_zero, seq_of_defect}
 use Rattle.mx_register.specs.Registers.{extension_row}
 use Rattle.mx_found.specs.Given as registers

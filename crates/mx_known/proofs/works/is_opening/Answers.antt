@@ -1,5 +1,5 @@
 use Rattle.std.proofs.Common.{[], ◌∷◌, ap, ◌∙◌, inr}
-use Rattle.mx_command.specs.Act.{Opened}
+use Rattle.mx_book.specs.commands.Act.{Opened}
 use Rattle.mx_register.specs.Names.{or_zero, seq_of_item}
 use Rattle.mx_register.specs.Registers.{opening_row}
 use Rattle.mx_found.specs.Given as registers

@@ -1,6 +1,6 @@
 use Rattle.std.proofs.Common.{◌≡◌, length, IfSome}
-use Rattle.mx_command.specs.Act.{Released}
-use Rattle.mx_due.specs.Due.{IsBase}
+use Rattle.mx_book.specs.commands.Act.{Released}
+use Rattle.mx_book.specs.due.Due.{IsBase}
 use Rattle.mx_book.specs.Base.{base_from, accomplished_by}
 use Rattle.mx_lists.proofs.bases.base_after_lines.Given as goal
 

@@ -1,5 +1,5 @@
 use Rattle.std.proofs.Common.{◌≡◌, ◌+◌, length, IfSome}
-use Rattle.mx_due.specs.Due.{IsBase}
+use Rattle.mx_book.specs.due.Due.{IsBase}
 use Rattle.mx_book.specs.Base.{base, base_from, accomplished_from}
 use Rattle.mx_lists.proofs.bases.last_base.Given as goal
 

@@ -1,5 +1,5 @@
 use Rattle.std.proofs.Common.{Some, sym, subst, ap, ◌∙◌}
-use Rattle.mx_due.specs.Due.{IsLife}
+use Rattle.mx_book.specs.due.Due.{IsLife}
 use Rattle.mx_book.specs.Life.{use_or_none}
 use Rattle.mx_book.proofs.LifeLemmas.{life_bounded}
 use Rattle.mx_lists.proofs.bases.life_reached.Goals as goal

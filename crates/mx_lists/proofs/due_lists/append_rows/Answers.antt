@@ -1,4 +1,4 @@
-use Rattle.mx_command.specs.Programme.{task_shape}
+use Rattle.mx_book.specs.commands.Programme.{task_shape}
 use Rattle.mx_book.proofs.Gathering.{goes_on}
 use Rattle.mx_lists.proofs.InOrder.{all_left}
 use Rattle.mx_lists.specs.DueList.{row_with}

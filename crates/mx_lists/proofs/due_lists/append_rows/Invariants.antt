@@ -1,6 +1,6 @@
 use Rattle.std.proofs.Common.{◌≡◌, ◌++◌, true, length}
 use Rattle.std.specs.List.{list_all}
-use Rattle.mx_command.specs.Programme.{task_shape}
+use Rattle.mx_book.specs.commands.Programme.{task_shape}
 use Rattle.mx_book.proofs.Gathering.{Gathers}
 use Rattle.mx_lists.specs.DueList.{rows_with}
 use Rattle.mx_lists.specs.Memory.{with_memory}

@@ -1,6 +1,6 @@
 use Rattle.std.proofs.Common.{ap, ◌∙◌, map, None}
 use Rattle.std.specs.List.{flat_map}
-use Rattle.mx_command.specs.declared.item.Item.TheVariants.{Airframe}
+use Rattle.mx_book.specs.declared.commands.item.Item.TheVariants.{Airframe}
 use Rattle.mx_book.proofs.Chaining.{first, then, done}
 use Rattle.mx_lists.specs.DueList.{tasks_by_name, rows_of_item, rows_of_part, defect_row}
 use Rattle.mx_lists.proofs.Told.{three}

@@ -1,6 +1,6 @@
 use Rattle.std.proofs.Common.{◌∙◌, ap, subst, sym, inl, inr, refl}
 use Rattle.std.specs.Prelude.{IfSome}
-use Rattle.mx_due.specs.Due.{IsLife}
+use Rattle.mx_book.specs.due.Due.{IsLife}
 use Rattle.mx_layout.specs.declared.fault.Table.TheVariants as table
 use Rattle.mx_found.specs.Lives.{base_found, life_in_base}
 use Rattle.mx_found.proofs.BoundLemmas.{base_low}

@@ -2,7 +2,7 @@ use Rattle.std.proofs.Common.{◌≡◌, ◌∙◌, ℕ, pos, List, ap, filter, 
 use Rattle.std.specs.Prelude.{is_some}
 use Rattle.std.specs.Option.{option_map}
 use Rattle.sqlite.specs.declared.types.Value.TheVariants.{Int}
-use Rattle.mx_command.specs.Act.{Entry}
+use Rattle.mx_book.specs.commands.Act.{Entry}
 use Rattle.mx_base.specs.declared.rows.rows.SpanRow.{SpanRow}
 use Rattle.mx_kept_rows.specs.Spans.{span_rows}
 use Rattle.mx_found.specs.Spans.{is_open_at, place_said}

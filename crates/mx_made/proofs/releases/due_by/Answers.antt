@@ -1,6 +1,6 @@
 use Rattle.std.proofs.Common.{◌∙◌, Some, ap, ap₂, sym, refl}
 use Rattle.std.specs.Option.{option_and_then}
-use Rattle.mx_due.specs.Due.{due_after}
+use Rattle.mx_book.specs.due.Due.{due_after}
 use Rattle.mx_book.specs.Base.{base}
 use Rattle.mx_book.specs.Register.{birth, birth_in}
 use Rattle.mx_numbers.proofs.ReadLemmas.{reads_then, stopped, told}

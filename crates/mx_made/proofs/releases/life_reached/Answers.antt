@@ -1,6 +1,6 @@
 use Rattle.std.proofs.Common.{◌∙◌, None, ap, subst, sym}
 use Rattle.std.specs.Prelude.{IfSome}
-use Rattle.mx_due.specs.Due.{IsLife}
+use Rattle.mx_book.specs.due.Due.{IsLife}
 use Rattle.mx_book.specs.Life.{use_or_none}
 use Rattle.mx_book.proofs.LifeLemmas.{life_in_bounds}
 use Rattle.mx_layout.specs.declared.fault.Table.TheVariants as table

@@ -1,6 +1,6 @@
 use Rattle.std.proofs.Common.{◌≡◌, sym, ap, ◌∙◌, List, ◌∷◌, Bool, true, false, ◌||◌}
 use Rattle.std.specs.List.{list_all, list_any}
-use Rattle.mx_command.specs.Programme.{task_shape}
+use Rattle.mx_book.specs.commands.Programme.{task_shape}
 use Rattle.mx_book.specs.Programme.{is_at_end}
 use Rattle.mx_book.proofs.JudgeLemmas.{both_true}
 use Rattle.mx_plain.proofs.programmes.is_retired_by_any.Goals as goal

@@ -1,6 +1,6 @@
 use Rattle.std.proofs.Common.{◌≡◌, ◌≤◌, Some, length, IfSome}
 use Rattle.std.specs.Prelude.{fold}
-use Rattle.mx_command.specs.declared.programme_shape.TheConstants.{LAST_REVISION}
+use Rattle.mx_book.specs.declared.commands.programme_shape.TheConstants.{LAST_REVISION}
 use Rattle.mx_book.specs.Register.{register}
 use Rattle.mx_book.specs.Programme.{revision_loaded, revision_in_force}
 use Rattle.mx_plain.proofs.programmes.last_revision.Given as goal

@@ -2,7 +2,7 @@ use Rattle.std.proofs.Common.{◌≡◌, Some, true, length, IfSome}
 use Rattle.std.specs.Prelude.{fold}
 use Rattle.std.specs.List.{list_all}
 use Rattle.std.specs.Option.{option_copied}
-use Rattle.mx_command.specs.Programme.{task_shape}
+use Rattle.mx_book.specs.commands.Programme.{task_shape}
 use Rattle.mx_book.specs.Register.{register}
 use Rattle.mx_book.specs.Programme.{tasks_loaded, tasks_in_force}
 use Rattle.mx_plain.proofs.programmes.programme_in_force.Given as goal

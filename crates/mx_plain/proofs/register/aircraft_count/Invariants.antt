@@ -1,5 +1,5 @@
 use Rattle.std.proofs.Common.{◌≡◌, ◌≤◌, ◌+◌, length}
-use Rattle.mx_command.specs.Act.{aircraft_of}
+use Rattle.mx_book.specs.commands.Act.{aircraft_of}
 use Rattle.mx_book.specs.Register.{register}
 use Rattle.mx_plain.proofs.register.aircraft_count.Given as goal
 

@@ -1,5 +1,5 @@
 use Rattle.std.proofs.Common.{◌≡◌, ◌≤◌, ◌+◌, length}
-use Rattle.mx_command.specs.Act.{component_of}
+use Rattle.mx_book.specs.commands.Act.{component_of}
 use Rattle.mx_book.specs.Register.{register}
 use Rattle.mx_plain.proofs.register.component_count.Given as goal
 

@@ -1,5 +1,5 @@
 use Rattle.std.proofs.Common.{◌≡◌, ◌+◌, ◌++◌, length, All}
-use Rattle.mx_command.specs.Act.{positions_of}
+use Rattle.mx_book.specs.commands.Act.{positions_of}
 use Rattle.mx_base.specs.rows.Rows.{FitsPlace}
 use Rattle.mx_register.specs.Lines.{lines_from}
 use Rattle.mx_register.specs.Registers.{place_row}

@@ -1,5 +1,5 @@
 use Rattle.std.proofs.Common.{◌≡◌, ◌+◌, ◌++◌, length, All}
-use Rattle.mx_command.specs.Act.{lines_of}
+use Rattle.mx_book.specs.commands.Act.{lines_of}
 use Rattle.mx_base.specs.rows.Rows.{FitsReleaseLine}
 use Rattle.mx_register.specs.Lines.{lines_from}
 use Rattle.mx_register.specs.Registers.{release_line_row}

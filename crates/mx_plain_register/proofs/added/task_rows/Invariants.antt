@@ -1,5 +1,5 @@
 use Rattle.std.proofs.Common.{◌≡◌, ◌+◌, ◌++◌, length, All}
-use Rattle.mx_command.specs.Act.{tasks_of}
+use Rattle.mx_book.specs.commands.Act.{tasks_of}
 use Rattle.mx_base.specs.rows.Rows.{FitsTask}
 use Rattle.mx_register.specs.Lines.{lines_from}
 use Rattle.mx_register.specs.Registers.{task_row}

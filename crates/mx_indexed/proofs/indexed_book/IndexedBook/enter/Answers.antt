@@ -1,9 +1,9 @@
 use Rattle.std.proofs.Common.{sym, ap, ◌∙◌, ◌+◌, subst, ℕ, List}
 use Rattle.std.specs.List.{AllByRecursion}
 use Rattle.mx_base.specs.declared.amounts.Base.{Base}
-use Rattle.mx_command.specs.Act.{Entry}
-use Rattle.mx_command.specs.declared.item.Item.{Item}
-use Rattle.mx_due.specs.Due.{IsBase}
+use Rattle.mx_book.specs.commands.Act.{Entry}
+use Rattle.mx_book.specs.declared.commands.item.Item.{Item}
+use Rattle.mx_book.specs.due.Due.{IsBase}
 use Rattle.mx_book.specs.Judge.{judge}
 use Rattle.mx_indexes.specs.Indexed.{AreIndexes}
 use Rattle.mx_indexes.specs.Work.{bases_set}

@@ -1,8 +1,8 @@
 use Rattle.std.proofs.Common.{sym, ap, ◌∙◌, Some}
 use Rattle.std.specs.Prelude.{Bool}
 use Rattle.std.specs.Option.{option_map, option_copied}
-use Rattle.mx_command.specs.Act.{Entry}
-use Rattle.mx_command.specs.Same.{same_entry}
+use Rattle.mx_book.specs.commands.Act.{Entry}
+use Rattle.mx_book.specs.commands.Same.{same_entry}
 use Rattle.mx_indexes.proofs.RegisterLemmas.{known_by}
 use Rattle.mx_indexed.proofs.indexed_book.IndexedBook.known.Goals as goal
 

@@ -1,5 +1,5 @@
 use Rattle.std.proofs.Common.{ap, ◌∙◌, ℕ, [], ◌∷◌, ◌++◌, length}
-use Rattle.mx_command.specs.Act.{aircraft_of, component_of}
+use Rattle.mx_book.specs.commands.Act.{aircraft_of, component_of}
 use Rattle.mx_book.specs.Register.{register}
 use Rattle.mx_indexes.specs.declared.counts.Counts.{Counts}
 use Rattle.mx_indexes.proofs.CountLemmas.{counted}

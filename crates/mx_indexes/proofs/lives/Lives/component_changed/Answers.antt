@@ -1,7 +1,7 @@
 use Rattle.std.proofs.Common.{sym, ap, ◌∙◌, Option, Some}
 use Rattle.std.specs.Option.{option_map}
 use Rattle.mx_base.specs.declared.amounts.Use.{Use}
-use Rattle.mx_command.specs.Act.{act_of}
+use Rattle.mx_book.specs.commands.Act.{act_of}
 use Rattle.mx_indexes.specs.Lives.{component_changed, component_life, lead_over}
 use Rattle.mx_indexes.specs.declared.lives.Lead.{Lead}
 use Rattle.mx_indexes.proofs.lives.Lives.component_changed.Goals as goal

@@ -1,7 +1,7 @@
 use Rattle.std.proofs.Common.{sym, ap, ◌∙◌, [], ◌∷◌, Some, None}
 use Rattle.std.specs.Option.{option_map}
 use Rattle.mx_base.specs.declared.amounts.Use.{Use}
-use Rattle.mx_command.specs.declared.item.Item.TheVariants.{Airframe}
+use Rattle.mx_book.specs.declared.commands.item.Item.TheVariants.{Airframe}
 use Rattle.mx_book.specs.Life.{use_after}
 use Rattle.mx_book.proofs.LifeLemmas.{life_in_bounds}
 use Rattle.mx_indexes.proofs.lives.Lives.flown.Goals as goal

@@ -2,7 +2,7 @@ use Rattle.std.proofs.Common.{[], ◌∷◌, ◌++◌, None, false}
 use Rattle.std.specs.List.{filter_map}
 use Rattle.std.specs.Ordering.{nat_cmp}
 use Rattle.std.specs.Cmp.Lexicographic.{slice_cmp}
-use Rattle.mx_command.specs.Act.{lines_of}
+use Rattle.mx_book.specs.commands.Act.{lines_of}
 use Rattle.mx_book.specs.Defect.{is_rectified}
 use Rattle.mx_indexes.specs.Places.{names_cmp}
 use Rattle.mx_indexes.specs.Work.{airframe_base, airframe_task, bases_set, component_base, component_task, keyed, line_defect}

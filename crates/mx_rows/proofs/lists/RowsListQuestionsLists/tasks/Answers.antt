@@ -1,6 +1,6 @@
 use Rattle.std.proofs.Common.{Vec, refl}
 use Rattle.std.specs.declared.alloc.Global.{Global}
-use Rattle.mx_command.specs.declared.programme.Task.{Task}
+use Rattle.mx_book.specs.declared.commands.programme.Task.{Task}
 use Rattle.mx_book.specs.Programme.{tasks_or_none}
 use Rattle.mx_rows.specs.Answering.{AnswerListsAs}
 use Rattle.mx_rows.proofs.ListLemmas.{gives_list, gives_none}

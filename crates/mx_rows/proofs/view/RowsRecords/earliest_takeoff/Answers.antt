@@ -1,5 +1,5 @@
 use Rattle.std.proofs.Common.{refl}
-use Rattle.mx_command.specs.declared.item.Item.TheVariants.{Airframe}
+use Rattle.mx_book.specs.declared.commands.item.Item.TheVariants.{Airframe}
 use Rattle.mx_book.specs.Judge.{earliest_takeoff}
 use Rattle.mx_rows.proofs.ViewLemmas.{answers_by}
 use Rattle.mx_numbers.proofs.ToldLemmas.{told_as}
