@@ -8,7 +8,7 @@ use mx_cases::{
     Unmade, append_number, command_of, documents, listed, number_text, verdict_text, yes_or_no,
 };
 use mx_lists::life_list_of;
-use mx_plain::Plain;
+use mx_plain_book::Plain;
 use std::alloc::Global;
 
 // judge COMMAND: the verdict on it, where nothing is entered.

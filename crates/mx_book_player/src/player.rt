@@ -5,7 +5,7 @@ use mx_book::commands::Command;
 use mx_book::entry_list::Book;
 use mx_book::{Reply, Verdict};
 use mx_cases::{Plays, Unmade, answer_of, command_of, reply_in, room_for_reply, verdict_text};
-use mx_plain::Plain;
+use mx_plain_book::Plain;
 use std::alloc::{AllocError, Global};
 
 /// A book in memory.

@@ -4,8 +4,8 @@ use Rattle.std.specs.Prelude.{Result, Ok, Err, IfOk}
 use Rattle.std.specs.declared.convert.Infallible.{Infallible}
 use Rattle.mx_book.specs.commands.Act.{Entry}
 use Rattle.mx_book.specs.declared.entry_list.book.NoMemory.{NoMemory}
-use Rattle.mx_plain.specs.declared.plain.Plain.{Plain}
-use Rattle.mx_plain.specs.Plain.{plain_reading}
+use Rattle.mx_plain_book.specs.declared.plain.Plain.{Plain}
+use Rattle.mx_plain_book.specs.Plain.{plain_reading}
 use Rattle.mx_book.specs.Reading.{Answers}
 use Rattle.mx_lists.specs.Memory.{with_memory}
 use Rattle.mx_lists.specs.declared.stop.Stop.{Stop}

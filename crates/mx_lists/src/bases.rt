@@ -16,9 +16,9 @@ use mx_base::{Base, Day, Limit, Moment, TaskId, Use, day_of};
 use mx_book::commands::{Body, Command, Item, Line, Release, Task};
 use mx_book::due::{base_done, due_after};
 use mx_book::found::{birth_of, item_of_place, kind_of_place};
-use mx_plain::lives::life;
-use mx_plain::programmes::{is_done_by, task_of_kind};
-use mx_plain::register::found_of;
+use mx_plain_book::lives::life;
+use mx_plain_book::programmes::{is_done_by, task_of_kind};
+use mx_plain_book::register::found_of;
 
 // The life of an item up to a moment, or none at all where the item is unknown.
 #[tactic(auto, using(mx_book::proofs::LifeLemmas::life_bounded))]

@@ -18,7 +18,7 @@ use crate::plain_lists::unless_no_memory;
 use mx_base::{Base, Day, Kind, Limit, Tail, TaskId};
 use mx_book::commands::Item;
 use mx_book::entry_list::{Book, NoMemory};
-use mx_plain::Plain;
+use mx_plain_book::Plain;
 use std::alloc::Global;
 
 /// The point that the next due of a task of an item is counted from: that of its last accomplishment, or `None` without

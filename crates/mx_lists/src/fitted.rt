@@ -5,7 +5,7 @@ ghost use Rattle.mx_lists.specs.Fitted.{fitted_on, fitted_begun};
 
 use mx_base::{Position, Serial, Tail};
 use mx_book::commands::Command;
-use mx_plain::spans::removed_at;
+use mx_plain_book::spans::removed_at;
 use std::alloc::{AllocError, Global};
 
 // The position and the component that an entry leaves fitted to an aircraft.

@@ -9,10 +9,10 @@ use mx_base::{Base, Kind, Position, Serial, Tail, TaskId, Use};
 use mx_book::Defect;
 use mx_book::commands::{Item, Task};
 use mx_book::entry_list::NoMemory;
-use mx_plain::Plain;
-use mx_plain::defects::list_open_defects;
-use mx_plain::lives::life;
-use mx_plain::programmes::tasks_of_kind;
+use mx_plain_book::Plain;
+use mx_plain_book::defects::list_open_defects;
+use mx_plain_book::lives::life;
+use mx_plain_book::programmes::tasks_of_kind;
 use std::alloc::Global;
 use std::convert::Infallible;
 

@@ -8,7 +8,7 @@ use mx_cases::Unmade;
 use mx_fault_texts::{append_table_fault, room};
 use mx_install::install_v1;
 use mx_layout::TableFault;
-use mx_plain::Plain;
+use mx_plain_book::Plain;
 use sqlite::{Alter, Connection};
 use std::alloc::{AllocError, Global};
 

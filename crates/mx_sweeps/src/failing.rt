@@ -9,7 +9,7 @@ use mx_book::commands::{Aircraft, Command, Component, Extension, Item, Task};
 use mx_book::entry_list::Book;
 use mx_book::{Defect, Records};
 use mx_lists::{Lists, Stop};
-use mx_plain::Plain;
+use mx_plain_book::Plain;
 use std::alloc::Global;
 use std::convert::Infallible;
 

@@ -25,7 +25,7 @@ pub(crate) fn append_reply_to(
     command: &Command,
 ) -> Result<(), AllocError> {
     let command = command.copy(alloc)?;
-    let verdict = mx_plain::Plain { book }.judge(&command);
+    let verdict = mx_plain_book::Plain { book }.judge(&command);
     match verdict {
         Verdict::New => match book.enter(command) {
             Ok(seq) => append_reply(out, &Reply::Accepted(seq)),

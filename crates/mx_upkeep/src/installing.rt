@@ -20,7 +20,7 @@ use mx_book::{Refusal, Reply, Verdict};
 use mx_endings::{Ending, Stop};
 use mx_install::install_v1;
 use mx_layout::TableFault;
-use mx_plain::Plain;
+use mx_plain_book::Plain;
 use mx_printed::{ending_of, print_replies};
 use sqlite::{Alter, Connection};
 use std::alloc::Global;

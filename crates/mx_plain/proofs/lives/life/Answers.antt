@@ -1,8 +1,0 @@
-use Rattle.std.proofs.Common.{sym, ap, ◌∙◌}
-use Rattle.mx_book.specs.Life.{opening_in}
-use Rattle.mx_book.proofs.LifeLemmas.{opening_small}
-use Rattle.mx_plain.proofs.lives.life.Goals as goal
-
-pub use_after_sectors-requires-clause-small : goal.use_after_sectors-requires-clause-small
-use_after_sectors-requires-clause-small c =
-    opening_small c.args.entries.now c.args.item.now c.in-Some.opening c.requires.shaped (ap opening_in (sym c.found_of.ensures) ∙ sym c.in-Some.ensures)
