@@ -2,7 +2,7 @@
 use Rattle.std.proofs.Common.{◌≡◌, List, [], ◌∷◌, ◌++◌, All, sym, ap, subst, ◌∙◌}
 use Rattle.std.proofs.lemmas.List.Elements.{All-cons, All-nil}
 use Rattle.mx_book.specs.commands.Act.{Act, Entry}
-use Rattle.mx_register.specs.Added.{AreAdded}
+use Rattle.mx_registers.specs.Added.{AreAdded}
 
 -- no row is added to a table to which the command adds none
 pub nothing : {Row : Type 0} (Fits : Row → Type 0) (by : List Entry → Act → List Row) {rows : List Row} (before : List Entry) (command : Entry) → rows ≡ [] → by before command.act ≡ [] → AreAdded Fits by rows before command

@@ -10,13 +10,13 @@ use Rattle.mx_book.specs.declared.commands.release.Line.TheVariants as lines
 use Rattle.mx_book.specs.declared.commands.release.Release.{Release}
 use Rattle.mx_book.specs.due.Due.{base_done}
 use Rattle.mx_book.specs.Life.{life_now, use_or_none}
-use Rattle.mx_register.specs.Lines.{lines_from}
-use Rattle.mx_register.specs.Registers.{release_line_row}
+use Rattle.mx_registers.specs.Lines.{lines_from}
+use Rattle.mx_registers.specs.Registers.{release_line_row}
 use Rattle.mx_base.specs.rows.Rows.{base_row_with}
 use Rattle.mx_base.specs.declared.rows.rows.BaseRow.{BaseRow}
-use Rattle.mx_kept_rows.specs.Bases.{base_set}
-use Rattle.mx_kept_rows.specs.Changes.{due_at}
-use Rattle.mx_kept_rows.specs.Items.{number_of_item}
+use Rattle.mx_registers.specs.kept.Bases.{base_set}
+use Rattle.mx_registers.specs.kept.Changes.{due_at}
+use Rattle.mx_registers.specs.kept.Items.{number_of_item}
 use Rattle.mx_changes.specs.declared.releases.Certified.{Certified}
 use Rattle.mx_changes.specs.declared.releases.Certified.TheVariants.{Done, Rectified}
 use Rattle.mx_changes.specs.Certified.{AreKnownOf, IsKnownOf, base_made, line_made}

@@ -12,18 +12,18 @@ use Rattle.mx_book.specs.declared.verdict.Verdict.TheVariants.{New}
 use Rattle.mx_book.specs.Book.{IsBook}
 use Rattle.mx_book.specs.Judge.{judge}
 use Rattle.mx_book.specs.Life.{use_after}
-use Rattle.mx_register.specs.Registers.{next}
+use Rattle.mx_registers.specs.Registers.{next}
 use Rattle.mx_base.specs.declared.rows.rows.SpanRow.{SpanRow}
 use Rattle.mx_base.specs.declared.rows.rows.TotalRow.{TotalRow}
-use Rattle.mx_kept_rows.specs.Items.{number_of_serial, number_of_tail}
-use Rattle.mx_kept_rows.specs.Spans.{is_open_of, is_span_touched, span_ended, span_rows, spans_opened}
-use Rattle.mx_kept_rows.specs.Totals.{clocked_row, credited_row, is_among, numbers_flown, numbers_touched, raised_row, total_by_number, total_rows, totals_opened}
-use Rattle.mx_kept_rows.proofs.DoneLemmas.{neither}
-use Rattle.mx_kept_rows.proofs.ItemOrder.{total_rows-rising}
-use Rattle.mx_kept_rows.proofs.NumberedClocks.{totals_by_number}
-use Rattle.mx_kept_rows.proofs.SpanRows.{span_rows-more}
-use Rattle.mx_kept_rows.proofs.TouchedLemmas.{spans_untouched}
-use Rattle.mx_points.proofs.OneBook.{span_rows-rising}
+use Rattle.mx_registers.specs.kept.Items.{number_of_serial, number_of_tail}
+use Rattle.mx_registers.specs.kept.Spans.{is_open_of, is_span_touched, span_ended, span_rows, spans_opened}
+use Rattle.mx_registers.specs.kept.Totals.{clocked_row, credited_row, is_among, numbers_flown, numbers_touched, raised_row, total_by_number, total_rows, totals_opened}
+use Rattle.mx_registers.proofs.KeptProofs.DoneLemmas.{neither}
+use Rattle.mx_registers.proofs.KeptProofs.ItemOrder.{total_rows-rising}
+use Rattle.mx_registers.proofs.KeptProofs.NumberedClocks.{totals_by_number}
+use Rattle.mx_registers.proofs.KeptProofs.SpanRows.{span_rows-more}
+use Rattle.mx_registers.proofs.KeptProofs.TouchedLemmas.{spans_untouched}
+use Rattle.mx_registers.proofs.PointsProofs.OneBook.{span_rows-rising}
 use Rattle.mx_changes.specs.Puts.{spans_put, totals_put}
 use Rattle.mx_changes.specs.Rows.{spans_open_of, spans_touched, totals_before, totals_touched}
 use Rattle.mx_changes.specs.Kept.{span_removed, total_clocked, total_flown}

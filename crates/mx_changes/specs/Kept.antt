@@ -7,7 +7,7 @@ use Rattle.mx_book.specs.due.Due.{IsLife}
 use Rattle.mx_book.specs.Life.{use_after}
 use Rattle.mx_base.specs.declared.rows.rows.SpanRow.{SpanRow}
 use Rattle.mx_base.specs.declared.rows.rows.TotalRow.{TotalRow}
-use Rattle.mx_kept_rows.specs.Totals.{raised_row}
+use Rattle.mx_registers.specs.kept.Totals.{raised_row}
 
 -- ── totals ──
 

@@ -9,8 +9,8 @@ use Rattle.mx_base.specs.declared.rows.rows.EntryRow.{EntryRow}
 use Rattle.mx_base.specs.declared.rows.rows.ReleaseLineRow.{ReleaseLineRow}
 use Rattle.mx_base.specs.declared.rows.rows.SpanRow.{SpanRow}
 use Rattle.mx_base.specs.declared.rows.rows.TotalRow.{TotalRow}
-use Rattle.mx_register.specs.Lines.{lines_from}
-use Rattle.mx_register.specs.Registers.{if_any, aircraft_row, place_row, component_row, programme_row, task_row, opening_row, sector_row, release_row, deferral_row, extension_row}
+use Rattle.mx_registers.specs.Lines.{lines_from}
+use Rattle.mx_registers.specs.Registers.{if_any, aircraft_row, place_row, component_row, programme_row, task_row, opening_row, sector_row, release_row, deferral_row, extension_row}
 use Rattle.mx_changes.specs.Certified.{base_made, line_made}
 use Rattle.mx_changes.specs.Kept.{span_fitted, span_removed, total_begun, total_clocked, total_flown}
 use Rattle.mx_changes.specs.Rows.{held}

@@ -7,11 +7,11 @@ use Rattle.mx_base.specs.declared.rows.rows.Sector2Row.{Sector2Row}
 use Rattle.mx_base.specs.declared.rows.rows.SpanRow.{SpanRow}
 use Rattle.mx_base.specs.declared.rows.rows.TotalRow.{TotalRow}
 use Rattle.mx_base.specs.rows.Rows.{FitsEntry, FitsAircraft, FitsPlace, FitsComponent, FitsProgramme, FitsTask, FitsOpening, FitsRelease, FitsReleaseLine, FitsDeferral, FitsExtension, FitsSector, FitsSpan, FitsTotal, FitsBase}
-use Rattle.mx_register.specs.Added.{AreAdded}
-use Rattle.mx_register.specs.Registers.{entry_row, next, aircraft_by, places_by, components_by, programmes_by, tasks_by, openings_by, releases_by, release_lines_by, deferrals_by, extensions_by, sectors_by}
-use Rattle.mx_kept_rows.specs.Bases.{bases_by}
-use Rattle.mx_kept_rows.specs.Spans.{is_span_touched, span_ended, span_rows, spans_opened}
-use Rattle.mx_kept_rows.specs.Totals.{is_among, numbers_touched, total_by_number, total_rows, totals_opened}
+use Rattle.mx_registers.specs.Added.{AreAdded}
+use Rattle.mx_registers.specs.Registers.{entry_row, next, aircraft_by, places_by, components_by, programmes_by, tasks_by, openings_by, releases_by, release_lines_by, deferrals_by, extensions_by, sectors_by}
+use Rattle.mx_registers.specs.kept.Bases.{bases_by}
+use Rattle.mx_registers.specs.kept.Spans.{is_span_touched, span_ended, span_rows, spans_opened}
+use Rattle.mx_registers.specs.kept.Totals.{is_among, numbers_touched, total_by_number, total_rows, totals_opened}
 use Rattle.mx_changes.specs.declared.rows.AddedRows.{AddedRows}
 use Rattle.mx_changes.specs.declared.rows.ChangedRows.{ChangedRows}
 use Rattle.mx_changes.specs.declared.rows.CommandRows.{CommandRows}

@@ -2,9 +2,9 @@
 ghost use Rattle.std.specs.Prelude.{◌≡◌, ℕ, List, IfOk};
 ghost use Rattle.mx_book.specs.commands.Act.{Deferred, Entry, Extended};
 ghost use Rattle.mx_base.specs.rows.Rows.{FitsEntry};
-ghost use Rattle.mx_register.specs.Names.{or_zero, seq_of_defect};
-ghost use Rattle.mx_kept_rows.specs.Changes.{entry_of};
-ghost use Rattle.mx_kept_rows.specs.Items.{number_of_tail};
+ghost use Rattle.mx_registers.specs.Names.{or_zero, seq_of_defect};
+ghost use Rattle.mx_registers.specs.kept.Changes.{entry_of};
+ghost use Rattle.mx_registers.specs.kept.Items.{number_of_tail};
 ghost use Rattle.mx_changes.specs.Made.{AreMadeOf, nothing_found};
 ghost use Rattle.mx_changes.specs.Rows.{AreCommandRows, IsEntryOf, totals_before};
 
@@ -14,7 +14,7 @@ use crate::totals::clocked_totals;
 use mx_base::Category;
 use mx_base::rows::{EntryRow, TotalRow};
 use mx_book::commands::{Deferral, Extension};
-use mx_register::{deferral_row, extension_row};
+use mx_registers::{deferral_row, extension_row};
 use std::alloc::{AllocError, Global};
 
 /// The rows of a deferral, by the number of its aircraft, and by the totals that it touches, as they are: that of its aircraft.

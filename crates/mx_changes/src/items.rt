@@ -3,9 +3,9 @@ ghost use Rattle.std.specs.Prelude.{◌≡◌, ◌≤◌, ℕ, List, All, IfOk, 
 ghost use Rattle.mx_book.specs.commands.Act.{Added, Entry, Listed};
 ghost use Rattle.mx_book.specs.declared.commands.shape.TheConstants.{MOST_POSITIONS};
 ghost use Rattle.mx_base.specs.rows.Rows.{FitsEntry, FitsPlace, FitsTotal};
-ghost use Rattle.mx_register.specs.Lines.{lines_from};
-ghost use Rattle.mx_register.specs.Registers.{place_row};
-ghost use Rattle.mx_kept_rows.specs.Changes.{entry_of};
+ghost use Rattle.mx_registers.specs.Lines.{lines_from};
+ghost use Rattle.mx_registers.specs.Registers.{place_row};
+ghost use Rattle.mx_registers.specs.kept.Changes.{entry_of};
 ghost use Rattle.mx_changes.specs.Kept.{total_begun};
 ghost use Rattle.mx_changes.specs.Made.{AreMadeOf, nothing_found};
 ghost use Rattle.mx_changes.specs.Rows.{AreCommandRows, IsEntryOf};
@@ -15,7 +15,7 @@ use crate::rows::CommandRows;
 use mx_base::rows::{EntryRow, PlaceRow, TotalRow};
 use mx_base::{Moment, Part, Position, Use};
 use mx_book::commands::{Aircraft, Component};
-use mx_register::{aircraft_row, component_row, place_row};
+use mx_registers::{aircraft_row, component_row, place_row};
 use std::alloc::{AllocError, Global};
 
 // The first total of an item: the use that it brings with it, and the moment up to which that counts.

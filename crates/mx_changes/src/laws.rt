@@ -5,8 +5,8 @@ ghost use Rattle.mx_book.specs.commands.Shape.{act_shape};
 ghost use Rattle.mx_book.specs.Book.{IsBook};
 ghost use Rattle.mx_book.specs.Judge.{judge};
 ghost use Rattle.mx_book.specs.declared.verdict.Verdict.TheVariants.{New};
-ghost use Rattle.mx_kept_rows.specs.Spans.{span_rows, spans_opened};
-ghost use Rattle.mx_kept_rows.specs.Totals.{total_rows, totals_opened};
+ghost use Rattle.mx_registers.specs.kept.Spans.{span_rows, spans_opened};
+ghost use Rattle.mx_registers.specs.kept.Totals.{total_rows, totals_opened};
 ghost use Rattle.mx_changes.specs.Puts.{spans_put, totals_put};
 ghost use Rattle.mx_changes.specs.Rows.{spans_touched, totals_touched};
 

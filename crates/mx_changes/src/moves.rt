@@ -2,8 +2,8 @@
 ghost use Rattle.std.specs.Prelude.{◌≡◌, ℕ, List, map, All, IfOk};
 ghost use Rattle.mx_book.specs.commands.Act.{Entry, Fitted, Removed};
 ghost use Rattle.mx_base.specs.rows.Rows.{FitsEntry, FitsSpan};
-ghost use Rattle.mx_kept_rows.specs.Changes.{entry_of};
-ghost use Rattle.mx_kept_rows.specs.Items.{number_of_serial, number_of_tail};
+ghost use Rattle.mx_registers.specs.kept.Changes.{entry_of};
+ghost use Rattle.mx_registers.specs.kept.Items.{number_of_serial, number_of_tail};
 ghost use Rattle.mx_changes.specs.Kept.{span_fitted, span_removed};
 ghost use Rattle.mx_changes.specs.Made.{AreMadeOf, nothing_found};
 ghost use Rattle.mx_changes.specs.Rows.{AreCommandRows, IsEntryOf, spans_open_of, totals_before};

@@ -4,10 +4,10 @@ ghost use Rattle.mx_book.specs.commands.Act.{Entry, Loaded, Opened};
 ghost use Rattle.mx_book.specs.declared.commands.programme_shape.TheConstants.{MOST_TASKS};
 ghost use Rattle.mx_book.specs.Base.{base_at};
 ghost use Rattle.mx_base.specs.rows.Rows.{FitsBase, FitsEntry, FitsTask, base_row_with};
-ghost use Rattle.mx_register.specs.Lines.{lines_from};
-ghost use Rattle.mx_register.specs.Registers.{task_row};
-ghost use Rattle.mx_kept_rows.specs.Changes.{entry_of};
-ghost use Rattle.mx_kept_rows.specs.Items.{number_of_item};
+ghost use Rattle.mx_registers.specs.Lines.{lines_from};
+ghost use Rattle.mx_registers.specs.Registers.{task_row};
+ghost use Rattle.mx_registers.specs.kept.Changes.{entry_of};
+ghost use Rattle.mx_registers.specs.kept.Items.{number_of_item};
 ghost use Rattle.mx_changes.specs.Made.{AreMadeOf, nothing_found};
 ghost use Rattle.mx_changes.specs.Rows.{AreCommandRows, IsEntryOf};
 
@@ -16,7 +16,7 @@ use crate::rows::CommandRows;
 use mx_base::rows::{BaseRow, EntryRow, TaskRow};
 use mx_base::{Day, TaskId, Use};
 use mx_book::commands::{Opening, Programme, Task};
-use mx_register::{opening_row, programme_row, task_row};
+use mx_registers::{opening_row, programme_row, task_row};
 use std::alloc::{AllocError, Global};
 
 // The rows of the tasks of the programme that the entry with a number loads.

@@ -6,9 +6,9 @@ ghost use Rattle.mx_book.specs.declared.commands.release.Line.{Line};
 ghost use Rattle.mx_book.specs.declared.commands.shape.TheConstants.{MOST_LINES};
 ghost use Rattle.mx_book.specs.due.Due.{IsLife, base_done};
 ghost use Rattle.mx_base.specs.rows.Rows.{FitsBase, FitsEntry, FitsReleaseLine, base_row_with};
-ghost use Rattle.mx_register.specs.Lines.{lines_from};
-ghost use Rattle.mx_kept_rows.specs.Changes.{entry_of};
-ghost use Rattle.mx_kept_rows.specs.Items.{number_of_place};
+ghost use Rattle.mx_registers.specs.Lines.{lines_from};
+ghost use Rattle.mx_registers.specs.kept.Changes.{entry_of};
+ghost use Rattle.mx_registers.specs.kept.Items.{number_of_place};
 ghost use Rattle.mx_changes.specs.Certified.{AreKnownOf, HasLifeReached, base_made, line_made};
 ghost use Rattle.mx_changes.specs.Made.{AreMadeOf, nothing_found};
 ghost use Rattle.mx_changes.specs.Rows.{AreCommandRows, IsEntryOf, totals_before};
@@ -20,7 +20,7 @@ use mx_base::rows::{BaseRow, EntryRow, ReleaseLineRow, TotalRow};
 use mx_base::{Day, Limit, TaskId, Use, day_of};
 use mx_book::commands::Release;
 use mx_book::due::base_done;
-use mx_register::release_row;
+use mx_registers::release_row;
 use std::alloc::{AllocError, Global};
 
 /// What is known of a line of a release.

@@ -4,8 +4,8 @@ ghost use Rattle.mx_book.specs.commands.Act.{Entry, Flown};
 ghost use Rattle.mx_book.specs.commands.Shape.{sector_shape};
 ghost use Rattle.mx_base.specs.rows.Rows.{FitsEntry};
 ghost use Rattle.mx_base.specs.declared.rows.rows.SpanRow.{SpanRow};
-ghost use Rattle.mx_kept_rows.specs.Changes.{entry_of};
-ghost use Rattle.mx_kept_rows.specs.Items.{number_of_tail};
+ghost use Rattle.mx_registers.specs.kept.Changes.{entry_of};
+ghost use Rattle.mx_registers.specs.kept.Items.{number_of_tail};
 ghost use Rattle.mx_changes.specs.Made.{AreMadeOf, nothing_found};
 ghost use Rattle.mx_changes.specs.Rows.{AreCommandRows, IsEntryOf, totals_before};
 ghost use Rattle.mx_changes.specs.Kept.{HasLife};
@@ -15,7 +15,7 @@ use crate::rows::CommandRows;
 use crate::totals::flown_totals;
 use mx_base::rows::{EntryRow, Sector2Row, TotalRow};
 use mx_book::commands::Sector;
-use mx_register::sector_row;
+use mx_registers::sector_row;
 use std::alloc::{AllocError, Global};
 
 /// The rows of a sector, by the number of its aircraft, and by the totals of the aircraft and of the components that were

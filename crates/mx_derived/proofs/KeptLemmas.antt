@@ -18,21 +18,21 @@ use Rattle.mx_base.specs.rows.Rows.{base_in_row, base_row_with}
 use Rattle.mx_base.specs.declared.rows.rows.BaseRow.{BaseRow}
 use Rattle.mx_base.specs.declared.rows.rows.OpeningRow.{OpeningRow}
 use Rattle.mx_base.specs.declared.rows.rows.ReleaseLineRow.{ReleaseLineRow}
-use Rattle.mx_register.specs.Left.{all_rows}
-use Rattle.mx_register.specs.Names.{item_at}
-use Rattle.mx_register.specs.Registers.{opening_rows, release_line_rows}
+use Rattle.mx_registers.specs.Left.{all_rows}
+use Rattle.mx_registers.specs.Names.{item_at}
+use Rattle.mx_registers.specs.Registers.{opening_rows, release_line_rows}
 use Rattle.mx_indexes.specs.Maps.{held}
-use Rattle.mx_kept_rows.specs.Bases.{base_row, base_rows, is_keyed}
-use Rattle.mx_kept_rows.proofs.DoneLemmas.{both}
+use Rattle.mx_registers.specs.kept.Bases.{base_row, base_rows, is_keyed}
+use Rattle.mx_registers.proofs.KeptProofs.DoneLemmas.{both}
 use Rattle.mx_merged.specs.Keys.{AreKeys, key_cmp}
-use Rattle.mx_file_rows.specs.Bases.{certifies, has_key, is_last_base, same_base, states}
+use Rattle.mx_registers.specs.file.Bases.{certifies, has_key, is_last_base, same_base, states}
 use Rattle.mx_derived.specs.Kept.{AreBasesAt, AreKeptOf, base_row_at, is_key, key_certified, key_stated}
 use Rattle.mx_merged.specs.Merging.{merging}
-use Rattle.mx_file_rows.specs.Tables.{AreFilePut}
+use Rattle.mx_registers.specs.file.Tables.{AreFilePut}
 use Rattle.mx_derived.specs.declared.kept.KeptRows.{KeptRows}
 use Rattle.mx_derived.specs.declared.kept.Unkept.{Unkept}
-use Rattle.mx_file_rows.specs.declared.file_rows.FileRows.{FileRows}
-use Rattle.mx_file_rows.proofs.BaseLemmas.{all_both, base_self, book_says, certified_all, once_more, right_of, rows_say, stated_all, they_are}
+use Rattle.mx_registers.specs.declared.file.file_rows.FileRows.{FileRows}
+use Rattle.mx_registers.proofs.FileProofs.BaseLemmas.{all_both, base_self, book_says, certified_all, once_more, right_of, rows_say, stated_all, they_are}
 use Rattle.mx_merged.proofs.KeyLemmas.{keys_more}
 
 -- ── the row of one task ──

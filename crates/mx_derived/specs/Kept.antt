@@ -7,10 +7,10 @@ use Rattle.mx_book.specs.commands.Same.{same_text}
 use Rattle.mx_base.specs.declared.rows.rows.BaseRow.{BaseRow}
 use Rattle.mx_base.specs.declared.rows.rows.OpeningRow.{OpeningRow}
 use Rattle.mx_base.specs.declared.rows.rows.ReleaseLineRow.{ReleaseLineRow}
-use Rattle.mx_register.specs.Names.{item_at}
-use Rattle.mx_kept_rows.specs.Bases.{AreKeyedOnce, base_row, base_rows}
-use Rattle.mx_kept_rows.specs.Totals.{total_rows}
-use Rattle.mx_file_rows.specs.Bases.{has_key, is_last_base}
+use Rattle.mx_registers.specs.Names.{item_at}
+use Rattle.mx_registers.specs.kept.Bases.{AreKeyedOnce, base_row, base_rows}
+use Rattle.mx_registers.specs.kept.Totals.{total_rows}
+use Rattle.mx_registers.specs.file.Bases.{has_key, is_last_base}
 use Rattle.mx_derived.specs.declared.kept.KeptRows.{KeptRows}
 
 -- ── what is kept of a book ──

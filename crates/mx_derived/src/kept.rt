@@ -2,20 +2,20 @@
 ghost use Rattle.std.specs.Prelude.{◌≡◌, List, [], Err, IfOk, MatchResult, Ok};
 ghost use Rattle.mx_book.specs.commands.Act.{Entry};
 ghost use Rattle.mx_book.specs.Book.{IsBook};
-ghost use Rattle.mx_register.specs.Left.{all_rows};
-ghost use Rattle.mx_register.specs.Registers.{AreRegistersOf};
+ghost use Rattle.mx_registers.specs.Left.{all_rows};
+ghost use Rattle.mx_registers.specs.Registers.{AreRegistersOf};
 ghost use Rattle.mx_derived.specs.Kept.{AreKeptOf};
-ghost use Rattle.mx_file_rows.specs.Tables.{AreRegistersIn};
+ghost use Rattle.mx_registers.specs.file.Tables.{AreRegistersIn};
 ghost use Rattle.mx_merged.specs.Merging.{merging};
-ghost use Rattle.mx_file_rows.specs.Tables.{AreFilePut};
+ghost use Rattle.mx_registers.specs.file.Tables.{AreFilePut};
 
 use crate::last_bases::last_bases;
 use mx_base::rows::{BaseRow, EntryKind, TotalRow};
 use mx_book::entry_list::NoMemory;
-use mx_file_rows::{FileRows, put_in_order};
 use mx_indexed::IndexedBook;
 use mx_merged::{NoBook, merge_beside_maps, total_rows};
-use mx_register::merge::Registers;
+use mx_registers::file::{FileRows, put_in_order};
+use mx_registers::merge::Registers;
 use std::alloc::Global;
 
 /// What layout 2 keeps of the items of a book beside its registers.

@@ -3,8 +3,8 @@ ghost use Rattle.std.specs.Prelude.{◌≡◌, ℕ, List, [], ◌∷◌, ◌++�
 ghost use Rattle.std.specs.List.{filter_map};
 ghost use Rattle.mx_book.specs.due.Due.{IsBase};
 ghost use Rattle.mx_base.specs.rows.Rows.{base_row_with};
-ghost use Rattle.mx_register.specs.Registers.{opening_rows, release_line_rows};
-ghost use Rattle.mx_kept_rows.specs.Bases.{base_rows};
+ghost use Rattle.mx_registers.specs.Registers.{opening_rows, release_line_rows};
+ghost use Rattle.mx_registers.specs.kept.Bases.{base_rows};
 ghost use Rattle.mx_merged.specs.Keys.{AreKeys};
 ghost use Rattle.mx_derived.specs.Kept.{AreBasesAt, base_row_at, key_certified, key_stated};
 
@@ -13,7 +13,7 @@ use mx_base::{Base, Day, TaskId, Use};
 use mx_book::entry_list::NoMemory;
 use mx_indexed::IndexedBook;
 use mx_indexes::maps::held;
-use mx_plain_register::item_of_entry;
+use mx_registers::plain::item_of_entry;
 use std::alloc::Global;
 use std::collections::BTreeMap;
 

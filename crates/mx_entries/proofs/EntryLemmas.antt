@@ -12,8 +12,8 @@ use Rattle.mx_book.specs.commands.Act.{Act, Entry, act_of}
 use Rattle.mx_book.specs.declared.commands.body.Body.{Body}
 use Rattle.mx_book.specs.commands.Shape.{has_shape}
 use Rattle.mx_book.specs.Book.{IsBook, entries_from, entry_at}
-use Rattle.mx_register.specs.Registers.{entry_rows, kind_of}
-use Rattle.mx_kept_rows.specs.Changes.{entry_of}
+use Rattle.mx_registers.specs.Registers.{entry_rows, kind_of}
+use Rattle.mx_registers.specs.kept.Changes.{entry_of}
 use Rattle.mx_base.specs.declared.rows.rows.EntryKind.{EntryKind}
 use Rattle.mx_base.specs.declared.rows.rows.EntryRow.{EntryRow}
 use Rattle.mx_layout.specs.declared.fault.Table.TheVariants as table

@@ -6,8 +6,8 @@ use Rattle.std.specs.Option.{option_and_then, option_map}
 use Rattle.sqlite.specs.declared.types.Value.TheVariants.{Int}
 use Rattle.mx_book.specs.declared.commands.release.Line.{Line}
 use Rattle.mx_book.specs.declared.commands.release.Place.{Place}
-use Rattle.mx_register.specs.Merge.{deferral_said, extension_said, fitting_said, opening_said, place_said, release_said, removal_said, sector_said}
-use Rattle.mx_register.specs.Names.{defect_at, item_at, serial_at, tail_at}
+use Rattle.mx_registers.specs.Merge.{deferral_said, extension_said, fitting_said, opening_said, place_said, release_said, removal_said, sector_said}
+use Rattle.mx_registers.specs.Names.{defect_at, item_at, serial_at, tail_at}
 use Rattle.mx_base.specs.declared.rows.rows.DeferralRow.{DeferralRow}
 use Rattle.mx_base.specs.declared.rows.rows.ExtensionRow.{ExtensionRow}
 use Rattle.mx_base.specs.declared.rows.rows.FittingRow.{FittingRow}
@@ -17,7 +17,7 @@ use Rattle.mx_base.specs.declared.rows.rows.RemovalRow.{RemovalRow}
 use Rattle.mx_base.specs.declared.rows.rows.Sector2Row.{Sector2Row}
 use Rattle.mx_base.specs.declared.rows.rows.SectorRow.{SectorRow}
 use Rattle.mx_base.specs.declared.rows.rows.SpanRow.{SpanRow}
-use Rattle.mx_kept_rows.specs.Spans.{fitting_in, removal_in}
+use Rattle.mx_registers.specs.kept.Spans.{fitting_in, removal_in}
 use Rattle.mx_kept.specs.Cells.{kept_crs, kept_defect, kept_extension, kept_opening, kept_sector2_rows, kept_span2}
 use Rattle.mx_chosen.specs.Choices.{has_value}
 use Rattle.mx_found.specs.Given as register

@@ -10,12 +10,12 @@ use Rattle.sqlite_rules.proofs.ListLemmas.{has_contained}
 use Rattle.sqlite_keyed.proofs.ListLemmas.{filter-map, IsPermutation-filter}
 use Rattle.mx_book.specs.commands.Act.{Entry, removal_of}
 use Rattle.mx_book.specs.Book.{IsBook}
-use Rattle.mx_register.specs.Registers.{if_any, next, removal_rows}
+use Rattle.mx_registers.specs.Registers.{if_any, next, removal_rows}
 use Rattle.mx_base.specs.declared.rows.rows.FittingRow.{FittingRow}
 use Rattle.mx_base.specs.declared.rows.rows.RemovalRow.{RemovalRow}
 use Rattle.mx_base.specs.declared.rows.rows.SpanRow.{SpanRow}
-use Rattle.mx_kept_rows.specs.Spans.{fitting_in, removal_by, removal_in, span_rows}
-use Rattle.mx_kept_rows.proofs.SpanRegisters.{fittings_in_spans, removals_in_spans}
+use Rattle.mx_registers.specs.kept.Spans.{fitting_in, removal_by, removal_in, span_rows}
+use Rattle.mx_registers.proofs.KeptProofs.SpanRegisters.{fittings_in_spans, removals_in_spans}
 use Rattle.mx_found.specs.Given.{fittings, found, removals}
 use Rattle.mx_found.specs.Spans.{is_removed_by}
 use Rattle.mx_found.proofs.EntryLemmas.{rows_at}

@@ -4,7 +4,7 @@ use Rattle.std.specs.Option.{option_and_then}
 use Rattle.sqlite.specs.Tree.{Trees}
 use Rattle.mx_book.specs.commands.Act.{Act, Entry}
 use Rattle.mx_book.specs.commands.Shape.{has_shape}
-use Rattle.mx_kept_rows.specs.Changes.{entry_of}
+use Rattle.mx_registers.specs.kept.Changes.{entry_of}
 use Rattle.mx_base.specs.declared.rows.rows.EntryKind.{EntryKind}
 use Rattle.mx_base.specs.declared.rows.rows.EntryKind.TheVariants.{AddAircraft, AddComponent, LoadProgramme, Opening, Sector, Fit, Remove, Release, Defer, Extend}
 use Rattle.mx_layout.specs.TableName.{TableName}

@@ -7,7 +7,7 @@ use Rattle.mx_book.specs.declared.commands.item.Item.{Item}
 use Rattle.mx_book.specs.declared.commands.release.Line.{Line}
 use Rattle.mx_book.specs.declared.commands.release.Line.TheVariants as lines
 use Rattle.mx_book.specs.declared.commands.release.Place.{Place}
-use Rattle.mx_register.specs.Merge.{place_of, release_said}
+use Rattle.mx_registers.specs.Merge.{place_of, release_said}
 use Rattle.mx_base.specs.declared.rows.rows.ReleaseLineRow.{ReleaseLineRow}
 use Rattle.mx_base.specs.declared.rows.rows.ReleaseRow.{ReleaseRow}
 use Rattle.mx_kept.specs.Cells.{kept_crs, kept_crs_line}

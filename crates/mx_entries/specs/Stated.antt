@@ -5,11 +5,11 @@ use Rattle.std.specs.Option.{option_and_then, option_map}
 use Rattle.sqlite.specs.declared.types.Value.TheVariants.{Int}
 use Rattle.sqlite.specs.Tree.{Trees}
 use Rattle.mx_book.specs.commands.Act.{Act}
-use Rattle.mx_register.specs.Merge.{deferral_said, extension_said, fitting_said, opening_said, removal_said, sector_said}
+use Rattle.mx_registers.specs.Merge.{deferral_said, extension_said, fitting_said, opening_said, removal_said, sector_said}
 use Rattle.mx_base.specs.declared.rows.rows.PlaceRow.{PlaceRow}
 use Rattle.mx_base.specs.declared.rows.rows.Sector2Row.{Sector2Row}
 use Rattle.mx_base.specs.declared.rows.rows.TaskRow.{TaskRow}
-use Rattle.mx_kept_rows.specs.Spans.{fitting_in, removal_in}
+use Rattle.mx_registers.specs.kept.Spans.{fitting_in, removal_in}
 use Rattle.mx_kept.specs.Cells.{kept_aircraft, kept_component, kept_defect, kept_extension, kept_opening, kept_place, kept_programme, kept_sector2_rows, kept_span2, kept_task}
 use Rattle.mx_kept.specs.Kept.{Kept}
 use Rattle.mx_chosen.specs.Choices.{has_value}

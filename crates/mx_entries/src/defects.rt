@@ -14,7 +14,7 @@ use mx_book::commands::Body;
 use mx_chosen::defects::{defect_by_seq, extension_by_seq};
 use mx_layout::TableFault;
 use mx_numbers::items::tail_of_number;
-use mx_plain_register::said::{body_of_deferral, body_of_extension};
+use mx_registers::plain::said::{body_of_deferral, body_of_extension};
 use sqlite::{Alter, Transaction};
 use std::alloc::Global;
 

@@ -14,7 +14,7 @@ use mx_chosen::items::{aircraft_by_seq, component_by_seq, place_by_seq};
 use mx_chosen::programmes::{programme_by_seq, task_by_seq};
 use mx_found::stated::{positions_said, tasks_said};
 use mx_layout::TableFault;
-use mx_plain_register::said::{body_of_aircraft, body_of_component, body_of_programme};
+use mx_registers::plain::said::{body_of_aircraft, body_of_component, body_of_programme};
 use sqlite::{Alter, Transaction};
 use std::alloc::Global;
 

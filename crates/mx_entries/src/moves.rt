@@ -3,7 +3,7 @@ ghost use Rattle.std.specs.Prelude.{◌≡◌};
 ghost use Rattle.std.specs.Option.{option_and_then, option_map};
 ghost use Rattle.sqlite.specs.Held.{state};
 ghost use Rattle.mx_book.specs.commands.Act.{act_of};
-ghost use Rattle.mx_register.specs.Merge.{fitting_said};
+ghost use Rattle.mx_registers.specs.Merge.{fitting_said};
 ghost use Rattle.mx_found.specs.Given.{fittings, found, openings, removals, sectors};
 ghost use Rattle.mx_found.specs.Stated.{fitting_stated, opening_stated, removal_stated, sector_stated};
 ghost use Rattle.mx_numbers.specs.AnyRows.{ReadsAny};
@@ -20,7 +20,9 @@ use mx_chosen::works::opening_by_seq;
 use mx_found::stated::{first_fitting, first_removal};
 use mx_layout::TableFault;
 use mx_numbers::items::tail_of_number;
-use mx_plain_register::said::{body_of_fitting, body_of_opening, body_of_removal, body_of_sector};
+use mx_registers::plain::said::{
+    body_of_fitting, body_of_opening, body_of_removal, body_of_sector,
+};
 use sqlite::{Alter, Transaction};
 use std::alloc::Global;
 

@@ -1,7 +1,7 @@
 //! The names of things by the numbers of the entries that added them.
 ghost use Rattle.std.specs.Prelude.{◌≡◌};
 ghost use Rattle.sqlite.specs.Held.{state};
-ghost use Rattle.mx_register.specs.Names.{defect_at, item_at, serial_at};
+ghost use Rattle.mx_registers.specs.Names.{defect_at, item_at, serial_at};
 ghost use Rattle.mx_numbers.specs.AnyRows.{ReadsAny};
 ghost use Rattle.mx_numbers.specs.Given.{SerialOfNumber};
 ghost use Rattle.mx_numbers.specs.Reads.{Reads};

@@ -3,7 +3,7 @@ ghost use Rattle.std.specs.Prelude.{◌≡◌};
 ghost use Rattle.std.specs.Option.{option_and_then, option_map};
 ghost use Rattle.sqlite.specs.Held.{state};
 ghost use Rattle.mx_book.specs.commands.Act.{act_of};
-ghost use Rattle.mx_register.specs.Merge.{place_said, release_said};
+ghost use Rattle.mx_registers.specs.Merge.{place_said, release_said};
 ghost use Rattle.mx_found.specs.Given.{found, release_lines, releases};
 ghost use Rattle.mx_found.specs.Stated.{certified_said, lines_stated, release_stated};
 ghost use Rattle.mx_numbers.specs.AnyRows.{ReadsAny};
@@ -16,7 +16,7 @@ use mx_book::commands::{Body, Line, Place};
 use mx_chosen::works::{crs_by_seq, crs_line_by_seq};
 use mx_found::stated::{Certified, certified_in};
 use mx_layout::TableFault;
-use mx_plain_register::said::{body_of_release, place_of};
+use mx_registers::plain::said::{body_of_release, place_of};
 use sqlite::{Alter, Transaction};
 use std::alloc::Global;
 

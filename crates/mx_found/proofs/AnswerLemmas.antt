@@ -11,12 +11,12 @@ use Rattle.mx_book.specs.declared.commands.fitting.Removal.{Removal}
 use Rattle.mx_book.specs.Asking.{known_same}
 use Rattle.mx_book.specs.Book.{IsBook}
 use Rattle.mx_book.specs.Judge.{known_from}
-use Rattle.mx_register.specs.Registers.{entry_rows}
+use Rattle.mx_registers.specs.Registers.{entry_rows}
 use Rattle.mx_base.specs.declared.rows.rows.EntryRow.{EntryRow}
 use Rattle.mx_base.specs.declared.rows.rows.SpanRow.{SpanRow}
-use Rattle.mx_kept_rows.specs.Changes.{entry_of}
-use Rattle.mx_kept_rows.specs.Items.{number_of_serial, number_of_tail}
-use Rattle.mx_kept_rows.specs.Spans.{span_rows}
+use Rattle.mx_registers.specs.kept.Changes.{entry_of}
+use Rattle.mx_registers.specs.kept.Items.{number_of_serial, number_of_tail}
+use Rattle.mx_registers.specs.kept.Spans.{span_rows}
 use Rattle.mx_found.specs.Given.{AreSame}
 use Rattle.mx_found.specs.Names.{entry_number}
 use Rattle.mx_found.specs.Spans.{begins_with, ends_with}

@@ -20,7 +20,7 @@ use Rattle.mx_book.specs.Programme.{is_done}
 use Rattle.mx_book.specs.Register.{birth}
 use Rattle.mx_book.proofs.JudgeLemmas.{both_true}
 use Rattle.mx_book.proofs.LifeLemmas.{life_bounded, opening_bounds}
-use Rattle.mx_kept_rows.proofs.KnownLemmas.{all_append}
+use Rattle.mx_registers.proofs.KeptProofs.KnownLemmas.{all_append}
 use Rattle.mx_found.specs.Lives.{life_in_base}
 
 -- what an opening states has its shape

@@ -17,15 +17,15 @@ use Rattle.mx_book.specs.Defect.{deferred_by, defect, extension, is_rectified, r
 use Rattle.mx_book.specs.Judge.{judge}
 use Rattle.mx_book.specs.Register.{register}
 use Rattle.mx_book.proofs.JudgeLemmas.{both_true}
-use Rattle.mx_register.specs.Lines.{lines_from}
-use Rattle.mx_register.specs.Names.{or_zero, seq_of_defect, seq_of_tail, defect_deferred}
-use Rattle.mx_register.specs.Registers.{gives_by, next, aircraft_rows, deferral_rows, extension_row, extension_rows, extensions_by, release_line_row, release_line_rows, release_lines_by}
-use Rattle.mx_register.proofs.NameLemmas.{said_at-number, tail_known}
+use Rattle.mx_registers.specs.Lines.{lines_from}
+use Rattle.mx_registers.specs.Names.{or_zero, seq_of_defect, seq_of_tail, defect_deferred}
+use Rattle.mx_registers.specs.Registers.{gives_by, next, aircraft_rows, deferral_rows, extension_row, extension_rows, extensions_by, release_line_row, release_line_rows, release_lines_by}
+use Rattle.mx_registers.proofs.NameLemmas.{said_at-number, tail_known}
 use Rattle.mx_base.specs.declared.rows.rows.AircraftRow.{AircraftRow}
 use Rattle.mx_base.specs.declared.rows.rows.DeferralRow.{DeferralRow}
 use Rattle.mx_base.specs.declared.rows.rows.ExtensionRow.{ExtensionRow}
 use Rattle.mx_base.specs.declared.rows.rows.ReleaseLineRow.{ReleaseLineRow}
-use Rattle.mx_kept_rows.proofs.KnownLemmas.{other_name}
+use Rattle.mx_registers.proofs.KeptProofs.KnownLemmas.{other_name}
 use Rattle.mx_found.specs.Defects.{deferral_aircraft, defect_in, defect_said, extension_in, extension_said, is_rectified_in, rectifies}
 use Rattle.mx_found.specs.Given.{deferrals}
 use Rattle.mx_found.specs.Names.{tail_in}

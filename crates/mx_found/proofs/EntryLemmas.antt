@@ -11,7 +11,7 @@ use Rattle.mx_book.specs.commands.Shape.{has_shape}
 use Rattle.mx_book.specs.Book.{IsBook, entry_at, is_book_from, is_new}
 use Rattle.mx_book.specs.Judge.{judge, known_from}
 use Rattle.mx_book.proofs.JudgeLemmas.{both_true}
-use Rattle.mx_register.specs.Registers.{gives, next}
+use Rattle.mx_registers.specs.Registers.{gives, next}
 use Rattle.mx_found.specs.Given.{Register, rows_of, found}
 use Rattle.mx_found.proofs.ListLemmas.{filter_all, filter_none}
 use Rattle.mx_found.proofs.RowLemmas.{IsRegister, Named, named, named_stays}

@@ -10,14 +10,14 @@ use Rattle.mx_book.specs.Judge.{judge}
 use Rattle.mx_book.specs.Register.{aircraft, component}
 use Rattle.mx_book.specs.Span.{Span, is_open_on, span_begun, spans}
 use Rattle.mx_book.proofs.JudgeLemmas.{both_true}
-use Rattle.mx_register.specs.Names.{or_zero, seq_of_serial, seq_of_tail, serial_at}
-use Rattle.mx_register.proofs.NameLemmas.{serial_known}
-use Rattle.mx_register.proofs.NewLemmas.{fitted_is_known}
-use Rattle.mx_kept_rows.specs.Spans.{span_row, span_rows, span_rows_from}
-use Rattle.mx_kept_rows.proofs.KnownLemmas.{aircraft_kept, component_kept, other_name, spans_placed}
-use Rattle.mx_kept_rows.proofs.NumbersThere.{one_tail_number, tail_number_kept}
-use Rattle.mx_kept_rows.proofs.SpanGrowth.{span_of}
-use Rattle.mx_kept_rows.proofs.SpanRows.{serial_number_kept}
+use Rattle.mx_registers.specs.Names.{or_zero, seq_of_serial, seq_of_tail, serial_at}
+use Rattle.mx_registers.proofs.NameLemmas.{serial_known}
+use Rattle.mx_registers.proofs.NewLemmas.{fitted_is_known}
+use Rattle.mx_registers.specs.kept.Spans.{span_row, span_rows, span_rows_from}
+use Rattle.mx_registers.proofs.KeptProofs.KnownLemmas.{aircraft_kept, component_kept, other_name, spans_placed}
+use Rattle.mx_registers.proofs.KeptProofs.NumbersThere.{one_tail_number, tail_number_kept}
+use Rattle.mx_registers.proofs.KeptProofs.SpanGrowth.{span_of}
+use Rattle.mx_registers.proofs.KeptProofs.SpanRows.{serial_number_kept}
 use Rattle.mx_found.specs.Spans.{is_open_at, place_said}
 use Rattle.mx_found.proofs.ListLemmas.{all_left}
 use Rattle.mx_found.proofs.OpenLemmas.{ends_alike}

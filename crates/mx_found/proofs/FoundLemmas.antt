@@ -9,8 +9,8 @@ use Rattle.mx_book.specs.declared.commands.aircraft.Aircraft.{Aircraft}
 use Rattle.mx_book.specs.declared.commands.component.Component.{Component}
 use Rattle.mx_book.specs.Judge.{known_from}
 use Rattle.mx_book.specs.Register.{register, aircraft, component}
-use Rattle.mx_register.specs.Names.{number_from, said_at, seq_of_tail, seq_of_serial, tail_at, serial_at}
-use Rattle.mx_register.specs.Registers.{gives, gives_by, next, if_any, entry_added, entry_rows, aircraft_row, aircraft_rows, component_row, component_rows}
+use Rattle.mx_registers.specs.Names.{number_from, said_at, seq_of_tail, seq_of_serial, tail_at, serial_at}
+use Rattle.mx_registers.specs.Registers.{gives, gives_by, next, if_any, entry_added, entry_rows, aircraft_row, aircraft_rows, component_row, component_rows}
 use Rattle.mx_base.specs.declared.rows.rows.AircraftRow.{AircraftRow}
 use Rattle.mx_base.specs.declared.rows.rows.ComponentRow.{ComponentRow}
 use Rattle.mx_base.specs.declared.rows.rows.EntryRow.{EntryRow}
@@ -20,8 +20,8 @@ use Rattle.std.proofs.Common.{◌≡◌, ℕ, ◌+◌, Bool, true, false, ◌&&�
 use Rattle.std.specs.Prelude.{find}
 use Rattle.std.specs.Option.{option_map}
 use Rattle.mx_book.specs.commands.Act.{Act, Entry, Deferred}
-use Rattle.mx_register.specs.Names.{number_from, adds_named, defect_deferred, seq_of_defect}
-use Rattle.mx_register.specs.Registers.{gives, entry_added, entry_rows, kind_of}
+use Rattle.mx_registers.specs.Names.{number_from, adds_named, defect_deferred, seq_of_defect}
+use Rattle.mx_registers.specs.Registers.{gives, entry_added, entry_rows, kind_of}
 use Rattle.mx_found.specs.Names.{is_deferral}
 use Rattle.mx_found.proofs.ListLemmas.{first_if, first_left}
 use Rattle.mx_found.proofs.EntryLemmas.{given_by, rows_numbered}

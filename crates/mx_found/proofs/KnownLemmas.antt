@@ -23,9 +23,9 @@ use Rattle.mx_book.specs.declared.commands.deferral.Extension.{Extension}
 use Rattle.mx_book.proofs.CommandsProofs.SameLemmas.{entry_same, text_same}
 use Rattle.mx_book.specs.Book.{IsBook}
 use Rattle.mx_book.specs.Judge.{item_at, known_from}
-use Rattle.mx_register.specs.Merge.{aircraft_said, component_said, programme_said, opening_said, sector_said, fitting_said, removal_said, deferral_said, extension_said, task_lines}
-use Rattle.mx_register.specs.Names.{or_zero, seq_of_tail, seq_of_serial, seq_of_defect, seq_of_item, tail_added, serial_added, defect_deferred}
-use Rattle.mx_register.specs.Registers.{kind_in_shop, aircraft_row, place_row, component_row, programme_row, task_row, opening_row, sector_row, fitting_row, removal_row, release_row, release_line_row, deferral_row, extension_row}
+use Rattle.mx_registers.specs.Merge.{aircraft_said, component_said, programme_said, opening_said, sector_said, fitting_said, removal_said, deferral_said, extension_said, task_lines}
+use Rattle.mx_registers.specs.Names.{or_zero, seq_of_tail, seq_of_serial, seq_of_defect, seq_of_item, tail_added, serial_added, defect_deferred}
+use Rattle.mx_registers.specs.Registers.{kind_in_shop, aircraft_row, place_row, component_row, programme_row, task_row, opening_row, sector_row, fitting_row, removal_row, release_row, release_line_row, deferral_row, extension_row}
 use Rattle.mx_base.specs.declared.rows.rows.PlaceRow.{PlaceRow}
 use Rattle.mx_base.specs.declared.rows.rows.OpeningRow.{OpeningRow}
 use Rattle.mx_base.specs.declared.rows.rows.SectorRow.{SectorRow}
@@ -35,8 +35,8 @@ use Rattle.mx_base.specs.declared.rows.rows.ReleaseRow.{ReleaseRow}
 use Rattle.mx_base.specs.declared.rows.rows.ReleaseLineRow.{ReleaseLineRow}
 use Rattle.mx_base.specs.declared.rows.rows.DeferralRow.{DeferralRow}
 use Rattle.mx_base.specs.declared.rows.rows.ExtensionRow.{ExtensionRow}
-use Rattle.mx_register.proofs.TakeLemmas.{IsSaid, same_some}
-use Rattle.mx_register.proofs.TaskLemmas.{tasks_said}
+use Rattle.mx_registers.proofs.TakeLemmas.{IsSaid, same_some}
+use Rattle.mx_registers.proofs.TaskLemmas.{tasks_said}
 use Rattle.mx_found.specs.Given.{seq_of_line, Register, found, AreSame, aircraft, places, components, programmes, tasks, openings, sectors, fittings, removals, releases, release_lines, deferrals, extensions}
 use Rattle.mx_found.proofs.ListLemmas.{one_of, lines_once}
 use Rattle.mx_found.proofs.NumberLemmas.{once, item_once}

@@ -8,17 +8,17 @@ use Rattle.mx_book.specs.declared.commands.item.Item.{Item}
 use Rattle.mx_book.specs.Base.{base}
 use Rattle.mx_book.specs.Book.{IsBook}
 use Rattle.mx_book.specs.Life.{clock, credited, has_landed_by, life_now, opening_of, use_after, use_or_none}
-use Rattle.mx_register.specs.Names.{has_item, seq_of_item}
+use Rattle.mx_registers.specs.Names.{has_item, seq_of_item}
 use Rattle.mx_base.specs.rows.Rows.{base_in_row}
 use Rattle.mx_base.specs.declared.rows.rows.TotalRow.{TotalRow}
-use Rattle.mx_kept_rows.specs.Bases.{base_rows, is_keyed}
-use Rattle.mx_kept_rows.specs.Totals.{total_row, total_rows}
-use Rattle.mx_kept_rows.proofs.BaseRows.{base_in_rows}
-use Rattle.mx_kept_rows.proofs.Induction.{of_each_book}
-use Rattle.mx_kept_rows.proofs.LifeGrowth.{opening_known}
-use Rattle.mx_kept_rows.proofs.NumberLemmas.{unknown_unbased}
-use Rattle.mx_kept_rows.proofs.OneTotal.{total_found}
-use Rattle.mx_kept_rows.proofs.TotalRows.{still_absent, unknown_clock}
+use Rattle.mx_registers.specs.kept.Bases.{base_rows, is_keyed}
+use Rattle.mx_registers.specs.kept.Totals.{total_row, total_rows}
+use Rattle.mx_registers.proofs.KeptProofs.BaseRows.{base_in_rows}
+use Rattle.mx_registers.proofs.KeptProofs.Induction.{of_each_book}
+use Rattle.mx_registers.proofs.KeptProofs.LifeGrowth.{opening_known}
+use Rattle.mx_registers.proofs.KeptProofs.NumberLemmas.{unknown_unbased}
+use Rattle.mx_registers.proofs.KeptProofs.OneTotal.{total_found}
+use Rattle.mx_registers.proofs.KeptProofs.TotalRows.{still_absent, unknown_clock}
 use Rattle.mx_found.specs.Lives.{base_found, clock_in, life_in}
 use Rattle.mx_found.proofs.ListLemmas.{first_left, none_is, some_map}
 use Rattle.mx_found.proofs.ThereLemmas.{item_numbered, item_there, no_item}

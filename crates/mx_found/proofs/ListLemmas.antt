@@ -3,8 +3,8 @@ use Rattle.std.proofs.Common.{◌≡◌, ℕ, ◌+◌, Bool, true, false, List, 
 use Rattle.std.specs.Prelude.{find, is_some, slice_get}
 use Rattle.std.specs.List.{list_any, AllByRecursion}
 use Rattle.std.specs.Option.{option_map}
-use Rattle.mx_register.specs.Lines.{lines_from}
-use Rattle.mx_register.specs.Registers.{if_any}
+use Rattle.mx_registers.specs.Lines.{lines_from}
+use Rattle.mx_registers.specs.Registers.{if_any}
 
 pub filter_all : {A : Type 0} (p : A → Bool) (xs : List A) → AllByRecursion (λ x. p x ≡ true) xs → filter p xs ≡ xs
 filter_all p [] h = refl

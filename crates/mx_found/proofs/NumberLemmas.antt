@@ -8,11 +8,11 @@ use Rattle.mx_book.specs.declared.commands.item.Item.TheVariants.{Airframe, Comp
 use Rattle.mx_book.specs.Book.{entry_at}
 use Rattle.mx_book.specs.Defect.{defect}
 use Rattle.mx_book.specs.Register.{aircraft, component}
-use Rattle.mx_register.specs.Names.{number_from, said_at, tail_added, serial_added, defect_deferred, seq_of_tail, seq_of_serial, seq_of_defect, seq_of_item, tail_at, serial_at, or_zero}
-use Rattle.mx_register.proofs.NameLemmas.{said_at-number, tail_known, serial_known, defect_known}
-use Rattle.mx_register.specs.Names.{has_item}
-use Rattle.mx_register.proofs.TakeLemmas.{same_some}
-use Rattle.mx_kept_rows.proofs.SpanRows.{number-append}
+use Rattle.mx_registers.specs.Names.{number_from, said_at, tail_added, serial_added, defect_deferred, seq_of_tail, seq_of_serial, seq_of_defect, seq_of_item, tail_at, serial_at, or_zero}
+use Rattle.mx_registers.proofs.NameLemmas.{said_at-number, tail_known, serial_known, defect_known}
+use Rattle.mx_registers.specs.Names.{has_item}
+use Rattle.mx_registers.proofs.TakeLemmas.{same_some}
+use Rattle.mx_registers.proofs.KeptProofs.SpanRows.{number-append}
 
 first_there : (o p : Option ℕ) → is_some o ≡ true → option_or o p ≡ o
 first_there None p h = absurd cc

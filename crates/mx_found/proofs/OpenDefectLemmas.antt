@@ -11,13 +11,13 @@ use Rattle.mx_book.specs.Defect.{deferred_by, defects, is_open, is_rectified, op
 use Rattle.mx_book.specs.Judge.{judge}
 use Rattle.mx_book.specs.Register.{aircraft}
 use Rattle.mx_book.proofs.JudgeLemmas.{both_true}
-use Rattle.mx_register.specs.Names.{defect_at, defect_deferred, or_zero, seq_of_defect, seq_of_tail}
-use Rattle.mx_register.specs.Registers.{deferral_row, deferral_rows, deferrals_by, entry_added, entry_rows, gives_by, next}
-use Rattle.mx_register.proofs.NameLemmas.{defect_number}
-use Rattle.mx_register.proofs.NewLemmas.{deferred_is_known}
+use Rattle.mx_registers.specs.Names.{defect_at, defect_deferred, or_zero, seq_of_defect, seq_of_tail}
+use Rattle.mx_registers.specs.Registers.{deferral_row, deferral_rows, deferrals_by, entry_added, entry_rows, gives_by, next}
+use Rattle.mx_registers.proofs.NameLemmas.{defect_number}
+use Rattle.mx_registers.proofs.NewLemmas.{deferred_is_known}
 use Rattle.mx_base.specs.declared.rows.rows.DeferralRow.{DeferralRow}
 use Rattle.mx_base.specs.declared.rows.rows.EntryRow.{EntryRow}
-use Rattle.mx_kept_rows.proofs.KnownLemmas.{aircraft_kept, other_name}
+use Rattle.mx_registers.proofs.KeptProofs.KnownLemmas.{aircraft_kept, other_name}
 use Rattle.mx_found.specs.Defects.{defect_said, open_said}
 use Rattle.mx_found.specs.Names.{doc_at, doc_in}
 use Rattle.mx_found.proofs.DeferralLemmas.{rectified_is}

@@ -11,18 +11,18 @@ use Rattle.mx_book.specs.Judge.{judge}
 use Rattle.mx_book.specs.Register.{aircraft, component, register}
 use Rattle.mx_book.specs.Span.{Span, first_removal, is_open_on, is_taken, span_begun, spans, tail_fitted}
 use Rattle.mx_book.proofs.JudgeLemmas.{both_true}
-use Rattle.mx_register.specs.Names.{or_zero, seq_of_serial, seq_of_tail, tail_at}
-use Rattle.mx_register.proofs.NameLemmas.{tail_known}
-use Rattle.mx_register.proofs.NewLemmas.{fitted_is_known}
+use Rattle.mx_registers.specs.Names.{or_zero, seq_of_serial, seq_of_tail, tail_at}
+use Rattle.mx_registers.proofs.NameLemmas.{tail_known}
+use Rattle.mx_registers.proofs.NewLemmas.{fitted_is_known}
 use Rattle.mx_base.specs.declared.rows.rows.SpanRow.{SpanRow}
-use Rattle.mx_kept_rows.specs.Items.{number_of_tail}
-use Rattle.mx_kept_rows.specs.Spans.{is_open_of as is_open_span, open_span_in, removal_from, removes, span_row, span_rows, span_rows_from}
-use Rattle.mx_kept_rows.proofs.FittedRows.{aircraft_found}
-use Rattle.mx_kept_rows.proofs.KnownLemmas.{aircraft_kept, other_name, spans_known, spans_placed}
-use Rattle.mx_kept_rows.proofs.CreditLemmas.{filter_on}
-use Rattle.mx_kept_rows.proofs.NumbersThere.{one_tail_number, tail_number_kept}
-use Rattle.mx_kept_rows.proofs.SpanGrowth.{span_of}
-use Rattle.mx_kept_rows.proofs.SpanRegisters.{and_swap}
+use Rattle.mx_registers.specs.kept.Items.{number_of_tail}
+use Rattle.mx_registers.specs.kept.Spans.{is_open_of as is_open_span, open_span_in, removal_from, removes, span_row, span_rows, span_rows_from}
+use Rattle.mx_registers.proofs.KeptProofs.FittedRows.{aircraft_found}
+use Rattle.mx_registers.proofs.KeptProofs.KnownLemmas.{aircraft_kept, other_name, spans_known, spans_placed}
+use Rattle.mx_registers.proofs.KeptProofs.CreditLemmas.{filter_on}
+use Rattle.mx_registers.proofs.KeptProofs.NumbersThere.{one_tail_number, tail_number_kept}
+use Rattle.mx_registers.proofs.KeptProofs.SpanGrowth.{span_of}
+use Rattle.mx_registers.proofs.KeptProofs.SpanRegisters.{and_swap}
 use Rattle.mx_found.specs.Spans.{is_open_at, is_open_of, is_taken_in, span_aircraft}
 use Rattle.mx_found.proofs.ListLemmas.{first_left, some_map}
 use Rattle.mx_found.proofs.ThereLemmas.{no_serial, no_tail, serial_there, tail_there}

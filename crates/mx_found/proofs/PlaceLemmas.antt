@@ -11,13 +11,13 @@ use Rattle.mx_book.specs.Book.{IsBook, is_book_from, is_new, entry_at}
 use Rattle.mx_book.specs.Judge.{judge}
 use Rattle.mx_book.specs.Register.{register, aircraft, has_room_for_aircraft, has_room_for_component, part_among, part_at, positions_added}
 use Rattle.mx_book.proofs.JudgeLemmas.{both_true}
-use Rattle.mx_register.specs.Lines.{lines_from}
-use Rattle.mx_register.specs.Names.{adds_named, number_from, seq_of_tail, tail_added, tail_at}
-use Rattle.mx_register.specs.Registers.{gives_by, if_any, next, aircraft_row, aircraft_rows, component_row, component_rows, place_row, place_rows}
-use Rattle.mx_register.proofs.NameLemmas.{said_at-number}
-use Rattle.mx_register.proofs.NewLemmas.{added_is_unknown}
+use Rattle.mx_registers.specs.Lines.{lines_from}
+use Rattle.mx_registers.specs.Names.{adds_named, number_from, seq_of_tail, tail_added, tail_at}
+use Rattle.mx_registers.specs.Registers.{gives_by, if_any, next, aircraft_row, aircraft_rows, component_row, component_rows, place_row, place_rows}
+use Rattle.mx_registers.proofs.NameLemmas.{said_at-number}
+use Rattle.mx_registers.proofs.NewLemmas.{added_is_unknown}
 use Rattle.mx_base.specs.declared.rows.rows.PlaceRow.{PlaceRow}
-use Rattle.mx_kept_rows.proofs.SpanRows.{number-append}
+use Rattle.mx_registers.proofs.KeptProofs.SpanRows.{number-append}
 use Rattle.mx_found.specs.Given.{places}
 use Rattle.mx_found.specs.Said.{part_in}
 use Rattle.mx_found.proofs.EntryLemmas.{get_seam, given_by, rows_at}

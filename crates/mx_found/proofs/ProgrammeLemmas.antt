@@ -25,14 +25,14 @@ use Rattle.mx_book.specs.Life.{life_now}
 use Rattle.mx_book.specs.Programme.{is_at_end, is_done_in, is_ended_by, last_of, life_ended, next_revision, revision_loaded, tasks_in_force, tasks_loaded}
 use Rattle.mx_book.specs.Register.{register, aircraft, birth as birth_of, component, found_of}
 use Rattle.mx_book.proofs.JudgeLemmas.{both_true}
-use Rattle.mx_register.specs.Lines.{lines_from}
-use Rattle.mx_register.specs.Merge.{applies_said, task_lines, task_said}
-use Rattle.mx_register.specs.Registers.{gives_by, next, programme_row, programme_rows, programmes_by, task_row, task_rows}
-use Rattle.mx_register.proofs.TakeLemmas.{IsSaid, same_some}
-use Rattle.mx_register.proofs.TaskLemmas.{tasks_said}
+use Rattle.mx_registers.specs.Lines.{lines_from}
+use Rattle.mx_registers.specs.Merge.{applies_said, task_lines, task_said}
+use Rattle.mx_registers.specs.Registers.{gives_by, next, programme_row, programme_rows, programmes_by, task_row, task_rows}
+use Rattle.mx_registers.proofs.TakeLemmas.{IsSaid, same_some}
+use Rattle.mx_registers.proofs.TaskLemmas.{tasks_said}
 use Rattle.mx_base.specs.declared.rows.rows.ProgrammeRow.{ProgrammeRow}
 use Rattle.mx_base.specs.declared.rows.rows.TaskRow.{TaskRow}
-use Rattle.mx_kept_rows.proofs.SpanGrowth.{same_sym}
+use Rattle.mx_registers.proofs.KeptProofs.SpanGrowth.{same_sym}
 use Rattle.mx_found.specs.Given.{tasks}
 use Rattle.mx_found.specs.Programmes.{is_retired_in, programme_number, retires, revision_after, task_in}
 use Rattle.mx_found.proofs.EntryLemmas.{entry_is_at, get_seam, given_by, rows_at, shape_at}

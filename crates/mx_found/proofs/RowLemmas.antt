@@ -14,12 +14,12 @@ use Rattle.mx_book.specs.declared.commands.deferral.Deferral.{Deferral}
 use Rattle.mx_book.specs.declared.commands.deferral.Extension.{Extension}
 use Rattle.mx_book.specs.Book.{is_new}
 use Rattle.mx_book.specs.Judge.{judge, item_at}
-use Rattle.mx_register.specs.Lines.{lines_from}
-use Rattle.mx_register.specs.Names.{or_zero, seq_of_tail, seq_of_serial, seq_of_defect, seq_of_item, tail_added, serial_added, defect_deferred}
-use Rattle.mx_register.specs.Registers.{if_any, aircraft_row, place_row, component_row, programme_row, task_row, opening_row, sector_row, fitting_row, removal_row, release_row, release_line_row, deferral_row, extension_row}
+use Rattle.mx_registers.specs.Lines.{lines_from}
+use Rattle.mx_registers.specs.Names.{or_zero, seq_of_tail, seq_of_serial, seq_of_defect, seq_of_item, tail_added, serial_added, defect_deferred}
+use Rattle.mx_registers.specs.Registers.{if_any, aircraft_row, place_row, component_row, programme_row, task_row, opening_row, sector_row, fitting_row, removal_row, release_row, release_line_row, deferral_row, extension_row}
 use Rattle.mx_base.specs.declared.rows.rows.ReleaseLineRow.{ReleaseLineRow}
-use Rattle.mx_register.proofs.NewLemmas.{flown_is_known, fitted_is_known, removed_is_known, deferred_is_known, extended_is_known, opened_is_known, released_is_known, HasLines}
-use Rattle.mx_register.proofs.ReleaseLemmas.{entry_of_line}
+use Rattle.mx_registers.proofs.NewLemmas.{flown_is_known, fitted_is_known, removed_is_known, deferred_is_known, extended_is_known, opened_is_known, released_is_known, HasLines}
+use Rattle.mx_registers.proofs.ReleaseLemmas.{entry_of_line}
 use Rattle.mx_found.specs.Given.{seq_of_line, Register, aircraft, places, components, programmes, tasks, openings, sectors, fittings, removals, releases, release_lines, deferrals, extensions}
 use Rattle.mx_found.proofs.NumberLemmas.{stays, tail_there, serial_there, defect_there, item_there, item_stays}
 

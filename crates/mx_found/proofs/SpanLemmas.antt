@@ -15,13 +15,13 @@ use Rattle.mx_book.proofs.CommandsProofs.SameLemmas.{text_same}
 use Rattle.mx_book.specs.Book.{IsBook}
 use Rattle.mx_book.specs.Judge.{known_from}
 use Rattle.mx_book.proofs.JudgeLemmas.{both_true}
-use Rattle.mx_register.specs.Names.{or_zero, seq_of_tail, seq_of_serial}
-use Rattle.mx_register.specs.Registers.{if_any, fitting_row, removal_row, fitting_rows, removal_rows}
+use Rattle.mx_registers.specs.Names.{or_zero, seq_of_tail, seq_of_serial}
+use Rattle.mx_registers.specs.Registers.{if_any, fitting_row, removal_row, fitting_rows, removal_rows}
 use Rattle.mx_base.specs.declared.rows.rows.FittingRow.{FittingRow}
 use Rattle.mx_base.specs.declared.rows.rows.RemovalRow.{RemovalRow}
 use Rattle.mx_base.specs.declared.rows.rows.SpanRow.{SpanRow}
-use Rattle.mx_kept_rows.specs.Spans.{span_rows, fitting_in, removal_in, removal_by}
-use Rattle.mx_kept_rows.proofs.SpanRegisters.{fittings_in_spans, removals_in_spans}
+use Rattle.mx_registers.specs.kept.Spans.{span_rows, fitting_in, removal_in, removal_by}
+use Rattle.mx_registers.proofs.KeptProofs.SpanRegisters.{fittings_in_spans, removals_in_spans}
 use Rattle.mx_found.specs.Given.{found, fittings, removals}
 use Rattle.mx_found.specs.Spans.{begins_with, ends_with}
 use Rattle.mx_found.proofs.ListLemmas.{any_same}

@@ -11,16 +11,16 @@ use Rattle.mx_book.specs.declared.commands.release.Line.{Line}
 use Rattle.mx_book.specs.declared.commands.release.Line.TheVariants.{Done, Rectified}
 use Rattle.mx_book.specs.Book.{IsBook, entry_at}
 use Rattle.mx_book.specs.Judge.{item_at as item_of_place}
-use Rattle.mx_register.specs.Lines.{lines_from}
-use Rattle.mx_register.specs.Merge.{line_of, line_said, opening_said, sector_said, fitting_said, removal_said, place_of, release_said, deferral_said, extension_said}
-use Rattle.mx_register.specs.Names.{item_added, number_from, said_at, or_zero, tail_added, serial_added, defect_deferred, seq_of_tail, seq_of_serial, seq_of_defect, seq_of_item, item_at, tail_at, serial_at, defect_at}
-use Rattle.mx_register.specs.Registers.{entry_rows, entry_added, entry_row, kind_of, kind_in_shop, next, place_row, task_row, opening_row, sector_row, fitting_row, removal_row, release_row, release_line_row, deferral_row, extension_row}
+use Rattle.mx_registers.specs.Lines.{lines_from}
+use Rattle.mx_registers.specs.Merge.{line_of, line_said, opening_said, sector_said, fitting_said, removal_said, place_of, release_said, deferral_said, extension_said}
+use Rattle.mx_registers.specs.Names.{item_added, number_from, said_at, or_zero, tail_added, serial_added, defect_deferred, seq_of_tail, seq_of_serial, seq_of_defect, seq_of_item, item_at, tail_at, serial_at, defect_at}
+use Rattle.mx_registers.specs.Registers.{entry_rows, entry_added, entry_row, kind_of, kind_in_shop, next, place_row, task_row, opening_row, sector_row, fitting_row, removal_row, release_row, release_line_row, deferral_row, extension_row}
 use Rattle.mx_base.specs.declared.rows.rows.EntryRow.{EntryRow}
 use Rattle.mx_base.specs.declared.rows.rows.ReleaseLineRow.{ReleaseLineRow}
-use Rattle.mx_register.proofs.NameLemmas.{said_at-number, airframe_at, component_at}
-use Rattle.mx_register.proofs.ReleaseLemmas.{place_again}
-use Rattle.mx_register.proofs.TakeLemmas.{same_some}
-use Rattle.mx_register.proofs.TaskLemmas.{tasks_said}
+use Rattle.mx_registers.proofs.NameLemmas.{said_at-number, airframe_at, component_at}
+use Rattle.mx_registers.proofs.ReleaseLemmas.{place_again}
+use Rattle.mx_registers.proofs.TakeLemmas.{same_some}
+use Rattle.mx_registers.proofs.TaskLemmas.{tasks_said}
 use Rattle.mx_found.specs.Given.{aircraft, places, components, programmes, tasks, openings, sectors, fittings, removals, releases, release_lines, deferrals, extensions}
 use Rattle.mx_found.specs.Names.{deferred_doc}
 use Rattle.mx_found.specs.Stated.{certified_by, certified_in, certified_said, position_said, stated, aircraft_stated, component_stated, programme_stated, opening_stated, sector_stated, fitting_stated, removal_stated, lines_stated, release_stated, deferral_stated, extension_stated}

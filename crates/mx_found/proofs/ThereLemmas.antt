@@ -11,8 +11,8 @@ use Rattle.mx_book.specs.declared.commands.item.Item.{Item}
 use Rattle.mx_book.specs.declared.commands.item.Item.TheVariants as items
 use Rattle.mx_book.specs.Book.{entry_at}
 use Rattle.mx_book.specs.Register.{aircraft, component}
-use Rattle.mx_register.specs.Names.{number_from, said_at, seq_of_tail, seq_of_serial, seq_of_item, item_at, has_item, or_zero}
-use Rattle.mx_register.proofs.NameLemmas.{said_at-number, item_known}
+use Rattle.mx_registers.specs.Names.{number_from, said_at, seq_of_tail, seq_of_serial, seq_of_item, item_at, has_item, or_zero}
+use Rattle.mx_registers.proofs.NameLemmas.{said_at-number, item_known}
 use Rattle.mx_found.proofs.EntryLemmas.{get_seam}
 
 module _ {X : Type 0} (pick : Entry → Option X) (name : X → List ℕ) (text : List ℕ) where

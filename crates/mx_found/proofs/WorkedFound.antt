@@ -7,16 +7,16 @@ use Rattle.mx_book.proofs.Worked.{at, used}
 use Rattle.mx_book.proofs.WorkedDefects.{x2, x4, once_extended, once_rectified}
 use Rattle.mx_book.proofs.WorkedFittings.{engine, propeller, replaced, without_engine}
 use Rattle.mx_book.proofs.WorkedProgrammes.{c172, hundred_hours, second_revision}
-use Rattle.mx_register.specs.Registers.{aircraft_rows, deferral_rows, entry_rows, extension_rows, release_line_rows}
+use Rattle.mx_registers.specs.Registers.{aircraft_rows, deferral_rows, entry_rows, extension_rows, release_line_rows}
 use Rattle.mx_base.specs.declared.rows.rows.AircraftRow.{AircraftRow}
 use Rattle.mx_base.specs.declared.rows.rows.DeferralRow.{DeferralRow}
 use Rattle.mx_base.specs.declared.rows.rows.EntryRow.{EntryRow}
 use Rattle.mx_base.specs.declared.rows.rows.ExtensionRow.{ExtensionRow}
 use Rattle.mx_base.specs.declared.rows.rows.TaskRow.{TaskRow}
 use Rattle.mx_base.specs.declared.rows.rows.TotalRow.{TotalRow}
-use Rattle.mx_kept_rows.specs.Spans.{span_rows}
-use Rattle.mx_kept_rows.specs.Totals.{total_rows}
-use Rattle.mx_kept_rows.proofs.WorkedKept.{in_service}
+use Rattle.mx_registers.specs.kept.Spans.{span_rows}
+use Rattle.mx_registers.specs.kept.Totals.{total_rows}
+use Rattle.mx_registers.proofs.KeptProofs.WorkedKept.{in_service}
 use Rattle.mx_found.specs.Defects.{defect_in, extension_in, is_rectified_in, rectifies}
 use Rattle.mx_found.specs.Lives.{clock_in, life_in}
 use Rattle.mx_found.specs.Names.{deferral_number, entry_number, last_number}

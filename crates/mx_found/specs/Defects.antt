@@ -4,7 +4,7 @@ use Rattle.std.specs.Option.{option_and_then, option_eq, option_map}
 use Rattle.mx_book.specs.commands.Act.{Entry}
 use Rattle.mx_book.specs.declared.commands.deferral.Extension.{Extension}
 use Rattle.mx_book.specs.declared.defects.Defect.{Defect}
-use Rattle.mx_register.specs.Registers.{release_line_rows}
+use Rattle.mx_registers.specs.Registers.{release_line_rows}
 use Rattle.mx_base.specs.declared.rows.rows.AircraftRow.{AircraftRow}
 use Rattle.mx_base.specs.declared.rows.rows.DeferralRow.{DeferralRow}
 use Rattle.mx_base.specs.declared.rows.rows.ExtensionRow.{ExtensionRow}

@@ -4,9 +4,9 @@ use Rattle.mx_book.specs.commands.Act.{Act, Entry, Added, Listed, Loaded, Opened
 use Rattle.mx_book.specs.declared.commands.release.Line.{Line}
 use Rattle.mx_book.specs.declared.commands.release.Line.TheVariants.{Done, Rectified}
 use Rattle.mx_book.specs.Judge.{item_at}
-use Rattle.mx_register.specs.Lines.{lines_from}
-use Rattle.mx_register.specs.Names.{or_zero, seq_of_tail, seq_of_serial, seq_of_defect, seq_of_item}
-use Rattle.mx_register.specs.Registers.{gives_by, next, if_any, aircraft_row, place_row, component_row, programme_row, task_row, opening_row, sector_row, fitting_row, removal_row, release_row, release_line_row, deferral_row, extension_row}
+use Rattle.mx_registers.specs.Lines.{lines_from}
+use Rattle.mx_registers.specs.Names.{or_zero, seq_of_tail, seq_of_serial, seq_of_defect, seq_of_item}
+use Rattle.mx_registers.specs.Registers.{gives_by, next, if_any, aircraft_row, place_row, component_row, programme_row, task_row, opening_row, sector_row, fitting_row, removal_row, release_row, release_line_row, deferral_row, extension_row}
 use Rattle.mx_base.specs.declared.rows.rows.AircraftRow.{AircraftRow}
 use Rattle.mx_base.specs.declared.rows.rows.PlaceRow.{PlaceRow}
 use Rattle.mx_base.specs.declared.rows.rows.ComponentRow.{ComponentRow}

@@ -4,7 +4,7 @@ use Rattle.std.specs.Option.{option_map, option_map_or}
 use Rattle.mx_book.specs.commands.Act.{Entry}
 use Rattle.mx_book.specs.commands.Same.{same_text}
 use Rattle.mx_book.specs.Book.{entry_at}
-use Rattle.mx_register.specs.Registers.{entry_rows}
+use Rattle.mx_registers.specs.Registers.{entry_rows}
 use Rattle.mx_base.specs.declared.rows.rows.AircraftRow.{AircraftRow}
 use Rattle.mx_base.specs.declared.rows.rows.ComponentRow.{ComponentRow}
 use Rattle.mx_base.specs.declared.rows.rows.EntryKind.{EntryKind}

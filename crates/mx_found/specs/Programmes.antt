@@ -9,8 +9,8 @@ use Rattle.mx_book.specs.declared.commands.programme.Task.{Task}
 use Rattle.mx_book.specs.due.Due.{first_due}
 use Rattle.mx_book.specs.due.Left.{left_of, is_used_up}
 use Rattle.mx_book.specs.Programme.{last_of}
-use Rattle.mx_register.specs.Merge.{task_said}
-use Rattle.mx_register.specs.Registers.{programme_rows, task_rows}
+use Rattle.mx_registers.specs.Merge.{task_said}
+use Rattle.mx_registers.specs.Registers.{programme_rows, task_rows}
 use Rattle.mx_base.specs.declared.rows.rows.ProgrammeRow.{ProgrammeRow}
 use Rattle.mx_base.specs.declared.rows.rows.TaskRow.{TaskRow}
 

@@ -6,7 +6,7 @@ use Rattle.mx_book.specs.commands.Act.{Entry}
 use Rattle.mx_book.specs.commands.Same.{same_text}
 use Rattle.mx_book.specs.declared.commands.fitting.Fitting.{Fitting}
 use Rattle.mx_book.specs.declared.commands.fitting.Removal.{Removal}
-use Rattle.mx_register.specs.Names.{serial_at}
+use Rattle.mx_registers.specs.Names.{serial_at}
 use Rattle.mx_base.specs.declared.rows.rows.SpanRow.{SpanRow}
 
 -- the span is of the component with this number, and nothing removed it

@@ -4,8 +4,8 @@ use Rattle.std.specs.Option.{option_and_then, option_map}
 use Rattle.mx_book.specs.commands.Act.{Act, Entry}
 use Rattle.mx_book.specs.declared.commands.release.Line.{Line}
 use Rattle.mx_book.specs.declared.commands.release.Line.TheVariants as lines
-use Rattle.mx_register.specs.Merge.{aircraft_said, component_said, programme_said, task_said, opening_said, sector_said, fitting_said, removal_said, place_said, release_said, line_said, deferral_said, extension_said}
-use Rattle.mx_register.specs.Names.{tail_at, serial_at, item_at, defect_at}
+use Rattle.mx_registers.specs.Merge.{aircraft_said, component_said, programme_said, task_said, opening_said, sector_said, fitting_said, removal_said, place_said, release_said, line_said, deferral_said, extension_said}
+use Rattle.mx_registers.specs.Names.{tail_at, serial_at, item_at, defect_at}
 use Rattle.mx_base.specs.declared.rows.rows.AircraftRow.{AircraftRow}
 use Rattle.mx_base.specs.declared.rows.rows.PlaceRow.{PlaceRow}
 use Rattle.mx_base.specs.declared.rows.rows.ComponentRow.{ComponentRow}

@@ -4,8 +4,8 @@ ghost use Rattle.std.specs.List.{range_with_len};
 ghost use Rattle.std.specs.Option.{option_map};
 ghost use Rattle.mx_book.specs.commands.Act.{Entry};
 ghost use Rattle.mx_book.specs.Judge.{known_from};
-ghost use Rattle.mx_register.specs.Names.{seq_of_defect};
-ghost use Rattle.mx_register.specs.Registers.{entry_rows};
+ghost use Rattle.mx_registers.specs.Names.{seq_of_defect};
+ghost use Rattle.mx_registers.specs.Registers.{entry_rows};
 ghost use Rattle.mx_base.specs.declared.rows.rows.EntryRow.{EntryRow};
 ghost use Rattle.mx_found.specs.Names.{deferral_number, deferred_doc, doc_at, doc_in, entries_with, entry_number, is_deferral, last_number};
 

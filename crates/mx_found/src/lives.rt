@@ -8,9 +8,9 @@ ghost use Rattle.mx_book.specs.Base.{base};
 ghost use Rattle.mx_book.specs.Book.{IsBook};
 ghost use Rattle.mx_book.specs.Life.{clock, life_now};
 ghost use Rattle.mx_book.specs.Programme.{is_accomplished};
-ghost use Rattle.mx_register.specs.Names.{seq_of_item};
-ghost use Rattle.mx_kept_rows.specs.Bases.{base_rows, is_keyed};
-ghost use Rattle.mx_kept_rows.specs.Totals.{total_rows};
+ghost use Rattle.mx_registers.specs.Names.{seq_of_item};
+ghost use Rattle.mx_registers.specs.kept.Bases.{base_rows, is_keyed};
+ghost use Rattle.mx_registers.specs.kept.Totals.{total_rows};
 ghost use Rattle.mx_base.specs.declared.rows.rows.TotalRow.{TotalRow};
 ghost use Rattle.mx_found.specs.Lives.{base_found, clock_in, life_in, life_in_base};
 

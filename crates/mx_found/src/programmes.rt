@@ -14,7 +14,7 @@ ghost use Rattle.mx_book.specs.Book.{IsBook};
 ghost use Rattle.mx_book.specs.Life.{life_now};
 ghost use Rattle.mx_book.specs.Programme.{life_ended, next_revision, tasks_in_force};
 ghost use Rattle.mx_book.specs.Register.{aircraft, component};
-ghost use Rattle.mx_register.specs.Merge.{task_said};
+ghost use Rattle.mx_registers.specs.Merge.{task_said};
 ghost use Rattle.mx_base.specs.declared.rows.rows.TaskRow.{TaskRow};
 ghost use Rattle.mx_found.specs.Programmes.{is_retired_in, programme_number, programmes_of, retires, revision_after, task_in, tasks_with};
 

@@ -5,8 +5,8 @@ ghost use Rattle.std.specs.Option.{option_and_then};
 ghost use Rattle.mx_book.specs.commands.Act.{Entry};
 ghost use Rattle.mx_book.specs.Book.{IsBook};
 ghost use Rattle.mx_book.specs.Span.{is_open_on, is_taken, spans, tail_fitted};
-ghost use Rattle.mx_register.specs.Names.{seq_of_serial, seq_of_tail, tail_at};
-ghost use Rattle.mx_kept_rows.specs.Spans.{span_rows};
+ghost use Rattle.mx_registers.specs.Names.{seq_of_serial, seq_of_tail, tail_at};
+ghost use Rattle.mx_registers.specs.kept.Spans.{span_rows};
 ghost use Rattle.mx_found.specs.Spans.{is_open_at, is_open_of, is_taken_in, place_said, span_aircraft};
 
 use mx_base::Position;

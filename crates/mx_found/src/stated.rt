@@ -3,9 +3,9 @@ ghost use Rattle.std.specs.Prelude.{◌≡◌, ℕ, List, IfOk, Some, map, slice
 ghost use Rattle.std.specs.List.{filter_map};
 ghost use Rattle.mx_book.specs.commands.Act.{Entry};
 ghost use Rattle.mx_book.specs.Book.{IsBook, entry_at};
-ghost use Rattle.mx_kept_rows.specs.Spans.{fitting_in, removal_in};
-ghost use Rattle.mx_register.specs.Merge.{task_said};
-ghost use Rattle.mx_register.specs.Registers.{kind_of};
+ghost use Rattle.mx_registers.specs.kept.Spans.{fitting_in, removal_in};
+ghost use Rattle.mx_registers.specs.Merge.{task_said};
+ghost use Rattle.mx_registers.specs.Registers.{kind_of};
 ghost use Rattle.mx_found.specs.Stated.{certified_in, position_said, stated};
 
 use crate::programmes::task_said;

@@ -6,8 +6,8 @@ use Rattle.mx_book.specs.commands.Act.{Entry}
 use Rattle.mx_power.specs.Found.{IsFound}
 use Rattle.mx_power.proofs.FoundLemmas.{rests_found}
 use Rattle.mx_base.specs.declared.point.Point.{Point}
-use Rattle.mx_points.specs.Commits.{point_behind}
-use Rattle.mx_points.specs.Points.{next_point}
+use Rattle.mx_registers.specs.points.Commits.{point_behind}
+use Rattle.mx_registers.specs.points.Points.{next_point}
 use Rattle.mx_stands.specs.Schemas.{schema_at}
 use Rattle.mx_stands.specs.Stands.{RestsAt, StandsAt}
 use Rattle.mx_office.specs.Opening.{HasReason, MovesOn, StandsBehind}

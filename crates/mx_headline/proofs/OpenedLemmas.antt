@@ -12,9 +12,9 @@ use Rattle.mx_book.specs.commands.Act.{Entry}
 use Rattle.mx_book.specs.Book.{IsBook}
 use Rattle.mx_book.specs.Run.{replies}
 use Rattle.mx_base.specs.declared.point.Point.{Point}
-use Rattle.mx_points.specs.Commits.{point_behind}
-use Rattle.mx_points.specs.Points.{next_point}
-use Rattle.mx_points.proofs.CommitLemmas.{commit_counts}
+use Rattle.mx_registers.specs.points.Commits.{point_behind}
+use Rattle.mx_registers.specs.points.Points.{next_point}
+use Rattle.mx_registers.proofs.PointsProofs.CommitLemmas.{commit_counts}
 use Rattle.mx_layout.specs.Crash.{Leaves, RestsAs}
 use Rattle.mx_power.specs.Found.{IsEndOf, IsFound}
 use Rattle.mx_layout.proofs.CrashLemmas.{rests_kept}

@@ -8,7 +8,7 @@ use Rattle.sqlite.specs.Files.{file_state}
 use Rattle.mx_book.specs.commands.Act.{Entry}
 use Rattle.mx_layout.specs.Crash.{Leaves}
 use Rattle.mx_base.specs.declared.point.Point.{Point}
-use Rattle.mx_points.specs.Commits.{point_behind}
+use Rattle.mx_registers.specs.points.Commits.{point_behind}
 use Rattle.mx_stands.specs.Schemas.{IsOfFile}
 use Rattle.mx_stands.specs.Stands.{RestsAt}
 use Rattle.mx_faults.specs.declared.fault.OpenFault.{OpenFault}

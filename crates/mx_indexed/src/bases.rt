@@ -7,8 +7,8 @@ ghost use Rattle.mx_book.specs.commands.Shape.{use_shape};
 ghost use Rattle.mx_book.specs.due.Due.{IsBase, IsLife};
 ghost use Rattle.mx_book.specs.Life.{life_now, use_or_none};
 ghost use Rattle.mx_book.specs.Programme.{kind_at, task_at};
-ghost use Rattle.mx_kept_rows.specs.Bases.{base_reached, stated_base};
-ghost use Rattle.mx_kept_rows.specs.Changes.{due_at};
+ghost use Rattle.mx_registers.specs.kept.Bases.{base_reached, stated_base};
+ghost use Rattle.mx_registers.specs.kept.Changes.{due_at};
 ghost use Rattle.mx_indexes.specs.Work.{bases_set, line_base};
 
 use crate::indexed_book::IndexedBook;

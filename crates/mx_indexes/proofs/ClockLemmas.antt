@@ -12,8 +12,8 @@ use Rattle.mx_book.proofs.CommandsProofs.SameLemmas.{text_same}
 use Rattle.mx_book.specs.Book.{IsBook}
 use Rattle.mx_book.specs.Life.{latest, if_at_aircraft, if_in_shop}
 use Rattle.mx_book.specs.Span.{tail_fitted}
-use Rattle.mx_kept_rows.specs.Changes.{moments_given}
-use Rattle.mx_kept_rows.proofs.ClockLemmas.{clock-more}
+use Rattle.mx_registers.specs.kept.Changes.{moments_given}
+use Rattle.mx_registers.proofs.KeptProofs.ClockLemmas.{clock-more}
 use Rattle.mx_indexes.specs.Clocks.{aircraft_at, airframe_clock, airframe_moment, component_clock, component_in_shop, component_moment, raised}
 use Rattle.mx_indexes.specs.Maps.{changed}
 use Rattle.mx_indexes.proofs.MapLemmas.{tie}

@@ -21,16 +21,16 @@ use Rattle.mx_book.specs.Span.{Span, fitted, spans, tail_fitted}
 use Rattle.mx_book.specs.Register.{aircraft, component}
 use Rattle.mx_book.proofs.JudgeLemmas.{both_true}
 use Rattle.mx_book.proofs.SpanLemmas.{removed_nowhere}
-use Rattle.mx_register.proofs.NewLemmas.{added_is_unknown, flown_is_known, listed_is_unknown}
-use Rattle.mx_kept_rows.proofs.CreditLemmas.{credited_there, lands_later}
-use Rattle.mx_kept_rows.proofs.JudgedLemmas.{new-timely, not_passed}
-use Rattle.mx_kept_rows.proofs.SpanGrowth.{same_sym}
-use Rattle.mx_kept_rows.proofs.LifeGrowth.{life_now-more, use_after_none}
+use Rattle.mx_registers.proofs.NewLemmas.{added_is_unknown, flown_is_known, listed_is_unknown}
+use Rattle.mx_registers.proofs.KeptProofs.CreditLemmas.{credited_there, lands_later}
+use Rattle.mx_registers.proofs.KeptProofs.JudgedLemmas.{new-timely, not_passed}
+use Rattle.mx_registers.proofs.KeptProofs.SpanGrowth.{same_sym}
+use Rattle.mx_registers.proofs.KeptProofs.LifeGrowth.{life_now-more, use_after_none}
 use Rattle.mx_indexes.specs.Lives.{airframe_changed, airframe_life, component_changed, component_life, lead, lead_over, life_where_fitted}
 use Rattle.mx_indexes.specs.declared.lives.Lead.{Lead}
 use Rattle.mx_indexes.specs.Places.{place_of}
-use Rattle.mx_kept_rows.proofs.KnownLemmas.{other_name, spans_known, spans_placed}
-use Rattle.mx_kept_rows.proofs.PlaceLemmas.{fitted_kept, moves}
+use Rattle.mx_registers.proofs.KeptProofs.KnownLemmas.{other_name, spans_known, spans_placed}
+use Rattle.mx_registers.proofs.KeptProofs.PlaceLemmas.{fitted_kept, moves}
 use Rattle.mx_indexes.proofs.PlaceLemmas.{all_found, found_passes, just_fitted}
 use Rattle.mx_indexes.specs.Maps.{changed}
 use Rattle.mx_indexes.proofs.MapLemmas.{tie}

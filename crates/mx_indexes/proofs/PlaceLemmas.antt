@@ -20,10 +20,10 @@ use Rattle.mx_book.specs.Span.{Span, fitted, is_open_on, is_taken, span_begun, s
 use Rattle.mx_book.proofs.JudgeLemmas.{both_true}
 use Rattle.mx_book.proofs.PassLemmas.{new-fitting}
 use Rattle.mx_book.proofs.SpanLemmas.{one_component, removed_nowhere}
-use Rattle.mx_kept_rows.specs.Changes.{ended_by}
-use Rattle.mx_kept_rows.proofs.CreditLemmas.{all_of}
-use Rattle.mx_kept_rows.proofs.PlaceLemmas.{fitted_kept, moves, only_found, open_is_fitted}
-use Rattle.mx_kept_rows.proofs.SpanGrowth.{span_of, spans-more}
+use Rattle.mx_registers.specs.kept.Changes.{ended_by}
+use Rattle.mx_registers.proofs.KeptProofs.CreditLemmas.{all_of}
+use Rattle.mx_registers.proofs.KeptProofs.PlaceLemmas.{fitted_kept, moves, only_found, open_is_fitted}
+use Rattle.mx_registers.proofs.KeptProofs.SpanGrowth.{span_of, spans-more}
 use Rattle.mx_indexes.specs.Maps.{changed}
 use Rattle.mx_indexes.specs.Places.{component_moved, has_component, names_cmp, place_changed, place_of}
 use Rattle.mx_indexes.proofs.MapLemmas.{tie}

@@ -15,9 +15,9 @@ use Rattle.mx_book.specs.Book.{is_new}
 use Rattle.mx_book.specs.Judge.{judge}
 use Rattle.mx_book.specs.Register.{aircraft, part_among, part_at, positions, positions_added}
 use Rattle.mx_book.proofs.JudgeLemmas.{both_true}
-use Rattle.mx_kept_rows.proofs.DoneLemmas.{neither}
-use Rattle.mx_kept_rows.proofs.SpanGrowth.{same_sym}
-use Rattle.mx_register.proofs.NewLemmas.{added_is_unknown}
+use Rattle.mx_registers.proofs.KeptProofs.DoneLemmas.{neither}
+use Rattle.mx_registers.proofs.KeptProofs.SpanGrowth.{same_sym}
+use Rattle.mx_registers.proofs.NewLemmas.{added_is_unknown}
 use Rattle.mx_indexes.specs.Maps.{changed, changed_all}
 use Rattle.mx_indexes.specs.Places.{names_cmp}
 use Rattle.mx_indexes.specs.Positions.{part_of, parts_given}

@@ -15,7 +15,7 @@ use Rattle.mx_book.specs.Book.{entry_at}
 use Rattle.mx_book.specs.Life.{life_now}
 use Rattle.mx_book.specs.Programme.{is_at_end, is_ended_by, last_of, life_ended, next_revision, revision_in_force, revision_loaded, tasks_in_force, tasks_loaded}
 use Rattle.mx_book.specs.Register.{register}
-use Rattle.mx_register.specs.Names.{adds_named}
+use Rattle.mx_registers.specs.Names.{adds_named}
 use Rattle.mx_indexes.specs.Maps.{changed}
 use Rattle.mx_indexes.specs.Programmes.{kind_loaded, last_loaded, last_loaded_from, programme_changed, programme_entry}
 use Rattle.mx_indexes.proofs.MapLemmas.{tie}

@@ -23,7 +23,7 @@ use Rattle.mx_book.specs.Judge.{judge, known_from}
 use Rattle.mx_book.specs.Register.{aircraft, component}
 use Rattle.mx_book.proofs.KnownLemmas.{unknown_document}
 use Rattle.mx_book.proofs.PassLemmas.{new-passes}
-use Rattle.mx_register.proofs.NewLemmas.{added_is_unknown, listed_is_unknown}
+use Rattle.mx_registers.proofs.NewLemmas.{added_is_unknown, listed_is_unknown}
 use Rattle.mx_indexes.specs.Maps.{IsIndex, changed, held}
 use Rattle.mx_indexes.specs.Registers.{named, number_of}
 use Rattle.mx_indexes.proofs.MapLemmas.{tie}

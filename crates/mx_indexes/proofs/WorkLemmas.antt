@@ -26,10 +26,10 @@ use Rattle.mx_book.specs.Programme.{is_accomplished, is_done}
 use Rattle.mx_book.specs.declared.verdict.Verdict.TheVariants.{New}
 use Rattle.mx_book.proofs.BaseLemmas.{accomplished-base}
 use Rattle.mx_book.proofs.JudgeLemmas.{both_true}
-use Rattle.mx_kept_rows.specs.Bases.{base_reached}
-use Rattle.mx_kept_rows.proofs.DoneLemmas.{both, item_same}
-use Rattle.mx_kept_rows.proofs.PutBases.{none_late}
-use Rattle.mx_kept_rows.proofs.ReleaseBases.{opened-base, released-base, unaccomplished-base}
+use Rattle.mx_registers.specs.kept.Bases.{base_reached}
+use Rattle.mx_registers.proofs.KeptProofs.DoneLemmas.{both, item_same}
+use Rattle.mx_registers.proofs.KeptProofs.PutBases.{none_late}
+use Rattle.mx_registers.proofs.KeptProofs.ReleaseBases.{opened-base, released-base, unaccomplished-base}
 use Rattle.mx_indexes.specs.Maps.{IsIndex, changed, changed_all, held}
 use Rattle.mx_indexes.specs.Places.{names_cmp}
 use Rattle.mx_indexes.specs.Work.{airframe_base, airframe_task, bases_set, component_base, component_task, keyed, line_base, line_defect}

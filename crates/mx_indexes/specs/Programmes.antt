@@ -6,7 +6,7 @@ use Rattle.std.specs.Ordering.{nat_cmp}
 use Rattle.std.specs.Cmp.Lexicographic.{slice_cmp}
 use Rattle.mx_book.specs.commands.Act.{Entry, programme_of}
 use Rattle.mx_book.specs.Book.{entry_at}
-use Rattle.mx_register.specs.Names.{adds_named}
+use Rattle.mx_registers.specs.Names.{adds_named}
 use Rattle.mx_indexes.specs.Maps.{IsIndex}
 
 -- the kind that an entry loads a programme for, where it loads one

@@ -14,7 +14,7 @@ use Rattle.mx_book.specs.declared.commands.release.Release.{Release}
 use Rattle.mx_book.specs.due.Due.{IsBase}
 use Rattle.mx_book.specs.Base.{base}
 use Rattle.mx_book.specs.Defect.{is_rectified}
-use Rattle.mx_kept_rows.specs.Bases.{base_reached, stated_base}
+use Rattle.mx_registers.specs.kept.Bases.{base_reached, stated_base}
 use Rattle.mx_indexes.specs.Maps.{HasRoomForAll, IsIndex}
 use Rattle.mx_indexes.specs.Places.{names_cmp}
 use Rattle.mx_indexes.specs.declared.work.Work.{Work}

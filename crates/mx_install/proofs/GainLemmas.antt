@@ -7,9 +7,9 @@ use Rattle.sqlite.specs.Effect.{Database}
 use Rattle.mx_book.specs.commands.Act.{Entry}
 use Rattle.mx_base.specs.declared.rows.rows.EntryRow.{EntryRow}
 use Rattle.mx_base.specs.declared.rows.register_rows.RegisterRows.{RegisterRows}
-use Rattle.mx_register.specs.Added.{AreAddedRows}
-use Rattle.mx_register.specs.Registers.{entry_added}
-use Rattle.mx_points.specs.Tables.{Line, is_table_at}
+use Rattle.mx_registers.specs.Added.{AreAddedRows}
+use Rattle.mx_registers.specs.Registers.{entry_added}
+use Rattle.mx_registers.specs.points.Tables.{Line, is_table_at}
 use Rattle.mx_layout.specs.TableName.{TableName}
 use Rattle.mx_layout.specs.declared.fault.Table.TheVariants as table
 use Rattle.mx_layout.specs.Contents.{rows_in}

@@ -6,7 +6,7 @@ use Rattle.sqlite.specs.State.{State}
 use Rattle.sqlite.specs.Tree.{Trees}
 use Rattle.mx_book.specs.commands.Act.{Entry}
 use Rattle.mx_book.specs.declared.commands.release.Line.{Line}
-use Rattle.mx_register.specs.Names.{or_zero}
+use Rattle.mx_registers.specs.Names.{or_zero}
 use Rattle.mx_base.specs.declared.rows.rows.ReleaseLineRow.{ReleaseLineRow}
 use Rattle.mx_layout.specs.Crash.{IsWithin}
 use Rattle.mx_kept.specs.Cells.{kept_crs_line}

@@ -3,8 +3,8 @@ use Rattle.std.proofs.Common.{◌≡◌, ◌↔◌, ℕ, ◌+◌, Bool, false, L
 use Rattle.std.proofs.lemmas.List.{append_assoc}
 use Rattle.mx_book.specs.commands.Act.{Act, Entry}
 use Rattle.mx_book.specs.Book.{IsBook}
-use Rattle.mx_register.specs.Lines.{lines_from}
-use Rattle.mx_kept_rows.specs.Changes.{entry_of}
+use Rattle.mx_registers.specs.Lines.{lines_from}
+use Rattle.mx_registers.specs.kept.Changes.{entry_of}
 use Rattle.mx_found.specs.Given.{AreSame, Register, found}
 use Rattle.mx_found.proofs.AnswerLemmas.{known_by_rows}
 use Rattle.mx_found.proofs.FoundLemmas.{entry_is}

@@ -13,11 +13,11 @@ use Rattle.mx_book.specs.declared.commands.release.Line.TheVariants.{Done, Recti
 use Rattle.mx_book.specs.declared.commands.sector.Sector.{Sector}
 use Rattle.mx_book.specs.Asking.{known_same}
 use Rattle.mx_book.specs.Judge.{item_at, known_from}
-use Rattle.mx_register.specs.Lines.{lines_from}
-use Rattle.mx_register.specs.Names.{or_zero}
-use Rattle.mx_register.specs.Registers.{aircraft_row, component_row, deferral_row, extension_row, opening_row, place_row, programme_row, release_row, sector_row, task_row}
+use Rattle.mx_registers.specs.Lines.{lines_from}
+use Rattle.mx_registers.specs.Names.{or_zero}
+use Rattle.mx_registers.specs.Registers.{aircraft_row, component_row, deferral_row, extension_row, opening_row, place_row, programme_row, release_row, sector_row, task_row}
 use Rattle.mx_base.specs.declared.rows.rows.ReleaseLineRow.{ReleaseLineRow}
-use Rattle.mx_kept_rows.specs.Changes.{entry_of}
+use Rattle.mx_registers.specs.kept.Changes.{entry_of}
 use Rattle.mx_kept.specs.Cells.{kept_aircraft, kept_component, kept_crs, kept_crs_line, kept_defect, kept_entry, kept_extension, kept_opening, kept_place, kept_programme, kept_sector2, kept_span2, kept_task}
 use Rattle.mx_kept.specs.Kept.{Kept}
 use Rattle.mx_chosen.specs.Choices.{has_value}

@@ -2,13 +2,13 @@
 ghost use Rattle.std.specs.Prelude.{◌≡◌, ◌≤◌, length, IfErr, IfOk};
 ghost use Rattle.mx_book.specs.declared.commands.programme_shape.TheConstants.{MOST_TASKS};
 ghost use Rattle.mx_book.specs.declared.commands.shape.TheConstants.{MOST_POSITIONS};
-ghost use Rattle.mx_register.specs.Lines.{lines_from};
-ghost use Rattle.mx_register.specs.Registers.{place_row, task_row};
+ghost use Rattle.mx_registers.specs.Lines.{lines_from};
+ghost use Rattle.mx_registers.specs.Registers.{place_row, task_row};
 
 use mx_base::{Part, Position};
 use mx_book::commands::Task;
 use mx_layout::TableFault;
-use mx_register::{PlaceRow, TaskRow, place_row, task_row};
+use mx_registers::{PlaceRow, TaskRow, place_row, task_row};
 use std::alloc::Global;
 
 // The rows of positions, on the lines of the aircraft that is entered with a number.

@@ -15,7 +15,7 @@ use mx_chosen::sectors::sector2_by_seq;
 use mx_found::known::{begins_in, ends_in};
 use mx_layout::TableFault;
 use mx_numbers::items::{aircraft_number, component_number};
-use mx_register::{SectorRow, or_zero, sector_row};
+use mx_registers::{SectorRow, or_zero, sector_row};
 use sqlite::{Alter, Transaction};
 use std::alloc::Global;
 

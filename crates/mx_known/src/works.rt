@@ -3,8 +3,8 @@ ghost use Rattle.std.specs.Prelude.{◌≡◌, ◌≤◌, ◌∷◌, [], length}
 ghost use Rattle.sqlite.specs.Held.{state};
 ghost use Rattle.mx_book.specs.commands.Act.{Deferred, Extended, Loaded, Opened};
 ghost use Rattle.mx_book.specs.declared.commands.programme_shape.TheConstants.{MOST_TASKS};
-ghost use Rattle.mx_register.specs.Lines.{lines_from};
-ghost use Rattle.mx_register.specs.Registers.{programme_row, task_row};
+ghost use Rattle.mx_registers.specs.Lines.{lines_from};
+ghost use Rattle.mx_registers.specs.Registers.{programme_row, task_row};
 ghost use Rattle.mx_kept.specs.Cells.{kept_programme, kept_task};
 ghost use Rattle.mx_found.specs.Given as registers;
 ghost use Rattle.mx_numbers.specs.AnyRows.{ReadsAny};
@@ -23,7 +23,7 @@ use mx_found::same::{
 use mx_layout::TableFault;
 use mx_numbers::entries::defect_number;
 use mx_numbers::items::{aircraft_number, item_number};
-use mx_register::{deferral_row, extension_row, opening_row, or_zero, programme_row};
+use mx_registers::{deferral_row, extension_row, opening_row, or_zero, programme_row};
 use sqlite::{Alter, Transaction};
 use std::alloc::Global;
 use std::slice;

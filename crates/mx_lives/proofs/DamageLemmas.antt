@@ -14,7 +14,7 @@ use Rattle.mx_book.specs.declared.commands.item.Item.{Item}
 use Rattle.mx_book.specs.declared.commands.item.Item.TheVariants.{Airframe, Component}
 use Rattle.mx_book.specs.due.Due.{IsLife}
 use Rattle.mx_book.specs.Programme.{last_of}
-use Rattle.mx_register.specs.Merge.{task_said}
+use Rattle.mx_registers.specs.Merge.{task_said}
 use Rattle.mx_base.specs.rows.Rows.{base_in_row}
 use Rattle.mx_base.specs.declared.rows.rows.ProgrammeRow.{ProgrammeRow}
 use Rattle.mx_base.specs.declared.rows.rows.TaskRow.{TaskRow}

@@ -17,7 +17,7 @@ use Rattle.mx_book.specs.Life.{life_now}
 use Rattle.mx_book.specs.Programme.{life_ended, tasks_or_none}
 use Rattle.mx_book.specs.Register.{aircraft, component, found_of}
 use Rattle.mx_book.proofs.JudgeLemmas.{both_true}
-use Rattle.mx_register.specs.Merge.{task_said}
+use Rattle.mx_registers.specs.Merge.{task_said}
 use Rattle.mx_base.specs.declared.rows.rows.TaskRow.{TaskRow}
 use Rattle.mx_found.specs.Programmes.{is_retired_in, programme_number, programmes_of, task_in, tasks_with}
 use Rattle.mx_found.proofs.ProgrammeLemmas.{airframe_ended, component_ended, task_is, tasks_are}

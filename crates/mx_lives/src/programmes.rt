@@ -7,7 +7,7 @@ ghost use Rattle.mx_book.specs.commands.Programme.{task_shape};
 ghost use Rattle.mx_book.specs.Asking.{task_of};
 ghost use Rattle.mx_book.specs.Programme.{life_ended, next_revision, tasks_or_none};
 ghost use Rattle.mx_book.specs.Register.{found_of};
-ghost use Rattle.mx_register.specs.Merge.{task_said};
+ghost use Rattle.mx_registers.specs.Merge.{task_said};
 ghost use Rattle.mx_base.specs.declared.rows.rows.TaskRow.{TaskRow};
 ghost use Rattle.mx_numbers.specs.InForce.{born_as, rows_in_force};
 ghost use Rattle.mx_numbers.specs.AnyRows.{ReadsAny};

@@ -4,8 +4,8 @@ use Rattle.std.specs.Prelude.{IsSomeAnd, nat_eq}
 use Rattle.mx_book.specs.commands.Act.{Entry}
 use Rattle.mx_book.specs.Book.{IsBook}
 use Rattle.mx_book.specs.Defect.{defect}
-use Rattle.mx_register.specs.Names.{seq_of_defect}
-use Rattle.mx_register.specs.Registers.{aircraft_rows, deferral_rows}
+use Rattle.mx_registers.specs.Names.{seq_of_defect}
+use Rattle.mx_registers.specs.Registers.{aircraft_rows, deferral_rows}
 use Rattle.mx_base.specs.declared.rows.rows.AircraftRow.{AircraftRow}
 use Rattle.mx_base.specs.declared.rows.rows.DeferralRow.{DeferralRow}
 use Rattle.mx_found.specs.Defects.{deferral_aircraft, defect_in}

@@ -9,8 +9,8 @@ use Rattle.mx_book.specs.Book.{IsBook}
 use Rattle.mx_base.specs.rows.Rising.{IsRising}
 use Rattle.mx_base.specs.declared.rows.rows.AircraftRow.{AircraftRow}
 use Rattle.mx_base.specs.declared.rows.rows.ComponentRow.{ComponentRow}
-use Rattle.mx_register.specs.Registers.{aircraft_rows, component_rows}
-use Rattle.mx_register.proofs.RegisterLemmas.{aircraft_rows-rising, component_rows-rising}
+use Rattle.mx_registers.specs.Registers.{aircraft_rows, component_rows}
+use Rattle.mx_registers.proofs.RegisterLemmas.{aircraft_rows-rising, component_rows-rising}
 use Rattle.mx_layout.specs.Contents.{rows_in}
 use Rattle.mx_layout.specs.Names.{table_named}
 use Rattle.mx_layout.specs.TableName.{TableName}

@@ -12,8 +12,8 @@ use Rattle.sqlite.specs.State.{State}
 use Rattle.mx_book.specs.commands.Act.{Entry}
 use Rattle.mx_base.specs.rows.Rising.{IsRising}
 use Rattle.mx_base.specs.declared.rows.rows.TotalRow.{TotalRow}
-use Rattle.mx_kept_rows.specs.Totals.{is_among, total_in, total_rows}
-use Rattle.mx_kept_rows.proofs.ItemOrder.{total_rows-rising}
+use Rattle.mx_registers.specs.kept.Totals.{is_among, total_in, total_rows}
+use Rattle.mx_registers.proofs.KeptProofs.ItemOrder.{total_rows-rising}
 use Rattle.mx_numbers.specs.Reads.{Reads}
 use Rattle.mx_numbers.proofs.ReadLemmas.{reads_then, told}
 

@@ -18,7 +18,7 @@ use Rattle.mx_book.specs.Asking.{task_of}
 use Rattle.mx_book.specs.Base.{base}
 use Rattle.mx_book.specs.Programme.{kind_at, tasks_in_force}
 use Rattle.mx_book.specs.Register.{birth}
-use Rattle.mx_kept_rows.specs.Items.{number_of_place}
+use Rattle.mx_registers.specs.kept.Items.{number_of_place}
 use Rattle.mx_changes.specs.Certified.{AreKnownOf, IsKnownOf}
 use Rattle.mx_changes.specs.declared.releases.Certified.{Certified}
 use Rattle.mx_base.specs.declared.rows.rows.TotalRow.{TotalRow}

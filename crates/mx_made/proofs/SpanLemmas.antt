@@ -7,11 +7,11 @@ use Rattle.sqlite.specs.State.{State}
 use Rattle.mx_book.specs.commands.Act.{Act, Entry, Fitted}
 use Rattle.mx_book.specs.Span.{span_begun}
 use Rattle.mx_base.specs.declared.rows.rows.SpanRow.{SpanRow}
-use Rattle.mx_kept_rows.specs.Items.{number_of_serial}
-use Rattle.mx_kept_rows.specs.Spans.{is_open_of, span_row, span_rows, span_rows_from}
-use Rattle.mx_kept_rows.specs.Totals.{has_between, numbers_during}
-use Rattle.mx_kept_rows.proofs.CreditLemmas.{filter_on}
-use Rattle.mx_kept_rows.proofs.SpanRegisters.{and_swap}
+use Rattle.mx_registers.specs.kept.Items.{number_of_serial}
+use Rattle.mx_registers.specs.kept.Spans.{is_open_of, span_row, span_rows, span_rows_from}
+use Rattle.mx_registers.specs.kept.Totals.{has_between, numbers_during}
+use Rattle.mx_registers.proofs.KeptProofs.CreditLemmas.{filter_on}
+use Rattle.mx_registers.proofs.KeptProofs.SpanRegisters.{and_swap}
 use Rattle.mx_layout.specs.declared.fault.TableFault.{TableFault}
 use Rattle.mx_kept.specs.Cells.{kept_span2}
 use Rattle.mx_chosen.specs.Calls.{ReadsBy}

@@ -18,14 +18,14 @@ use Rattle.mx_book.specs.commands.Act.{Entry}
 use Rattle.mx_book.specs.declared.commands.item.Item.{Item}
 use Rattle.mx_book.specs.Book.{IsBook}
 use Rattle.mx_book.proofs.LifeLemmas.{life_bounded}
-use Rattle.mx_register.specs.Names.{item_at, serial_at, tail_at}
-use Rattle.mx_register.specs.Registers.{aircraft_rows, component_rows}
+use Rattle.mx_registers.specs.Names.{item_at, serial_at, tail_at}
+use Rattle.mx_registers.specs.Registers.{aircraft_rows, component_rows}
 use Rattle.mx_base.specs.declared.rows.rows.AircraftRow.{AircraftRow}
 use Rattle.mx_base.specs.declared.rows.rows.ComponentRow.{ComponentRow}
 use Rattle.mx_base.specs.declared.rows.rows.TotalRow.{TotalRow}
-use Rattle.mx_kept_rows.specs.Items.{items}
-use Rattle.mx_kept_rows.specs.Totals.{total_in, total_row, total_rows}
-use Rattle.mx_kept_rows.proofs.OneTotal.{total_found}
+use Rattle.mx_registers.specs.kept.Items.{items}
+use Rattle.mx_registers.specs.kept.Totals.{total_in, total_row, total_rows}
+use Rattle.mx_registers.proofs.KeptProofs.OneTotal.{total_found}
 use Rattle.mx_changes.specs.Kept.{HasLife}
 use Rattle.mx_layout.specs.declared.fault.Table.TheVariants as table
 use Rattle.mx_layout.specs.Contents.{rows_in}

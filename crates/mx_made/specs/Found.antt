@@ -25,9 +25,9 @@ use Rattle.mx_book.specs.declared.found.Found.TheVariants as founds
 use Rattle.mx_base.specs.declared.rows.rows.EntryRow.{EntryRow}
 use Rattle.mx_base.specs.declared.rows.rows.SpanRow.{SpanRow}
 use Rattle.mx_base.specs.declared.rows.rows.TotalRow.{TotalRow}
-use Rattle.mx_register.specs.Names.{or_zero}
-use Rattle.mx_register.specs.Registers.{entry_row}
-use Rattle.mx_kept_rows.specs.Totals.{has_between}
+use Rattle.mx_registers.specs.Names.{or_zero}
+use Rattle.mx_registers.specs.Registers.{entry_row}
+use Rattle.mx_registers.specs.kept.Totals.{has_between}
 use Rattle.mx_kept.specs.Cells.{kept_aircraft, kept_component, kept_entry, kept_span2}
 use Rattle.mx_chosen.specs.Choices.{backward, has_value, is_any, is_open}
 use Rattle.mx_found.specs.Names.{last_number}

@@ -2,7 +2,7 @@
 use Rattle.std.specs.Prelude.{ℕ, List}
 use Rattle.mx_book.specs.commands.Act.{Act, Entry}
 use Rattle.mx_base.specs.declared.rows.rows.EntryRow.{EntryRow}
-use Rattle.mx_kept_rows.specs.Changes.{entry_of}
+use Rattle.mx_registers.specs.kept.Changes.{entry_of}
 use Rattle.mx_changes.specs.declared.rows.CommandRows.{CommandRows}
 use Rattle.mx_changes.specs.Rows.{AreCommandRows, IsEntryOf}
 

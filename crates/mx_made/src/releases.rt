@@ -9,7 +9,7 @@ ghost use Rattle.mx_book.specs.Judge.{item_at};
 ghost use Rattle.mx_book.specs.Life.{life_now, use_or_none};
 ghost use Rattle.mx_book.specs.Programme.{kind_at};
 ghost use Rattle.mx_book.specs.Register.{found_of};
-ghost use Rattle.mx_kept_rows.specs.Items.{number_of_place};
+ghost use Rattle.mx_registers.specs.kept.Items.{number_of_place};
 ghost use Rattle.mx_base.specs.rows.Rows.{FitsEntry};
 ghost use Rattle.mx_changes.specs.Certified.{AreKnownOf, HasLifeReached, IsKnownOf};
 ghost use Rattle.mx_numbers.specs.AnyRows.{ReadsAny};

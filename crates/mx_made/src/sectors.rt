@@ -3,7 +3,7 @@ ghost use Rattle.std.specs.Prelude.{◌≡◌, IfOk, true};
 ghost use Rattle.sqlite.specs.Held.{state};
 ghost use Rattle.mx_book.specs.commands.Act.{Flown};
 ghost use Rattle.mx_book.specs.commands.Shape.{sector_shape};
-ghost use Rattle.mx_kept_rows.specs.Totals.{has_between};
+ghost use Rattle.mx_registers.specs.kept.Totals.{has_between};
 ghost use Rattle.mx_base.specs.rows.Rows.{FitsEntry};
 ghost use Rattle.mx_numbers.specs.AnyRows.{ReadsAny};
 ghost use Rattle.mx_numbers.specs.Reads.{Reads};

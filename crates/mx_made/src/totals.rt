@@ -3,8 +3,8 @@ ghost use Rattle.std.specs.Prelude.{◌≡◌, ◌+◌, ◌≤◌, ◌<◌, ◌�
 ghost use Rattle.std.specs.List.{cons_option};
 ghost use Rattle.sqlite.specs.Held.{state};
 ghost use Rattle.mx_book.specs.due.Due.{IsLife};
-ghost use Rattle.mx_register.specs.Names.{item_at};
-ghost use Rattle.mx_kept_rows.specs.Totals.{is_among, total_in, total_rows};
+ghost use Rattle.mx_registers.specs.Names.{item_at};
+ghost use Rattle.mx_registers.specs.kept.Totals.{is_among, total_in, total_rows};
 ghost use Rattle.mx_changes.specs.Kept.{HasLife};
 ghost use Rattle.mx_numbers.specs.AnyRows.{ReadsAny};
 ghost use Rattle.mx_numbers.specs.Reads.{Reads};

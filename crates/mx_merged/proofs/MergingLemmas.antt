@@ -6,12 +6,12 @@ use Rattle.mx_book.specs.commands.Act.{Entry}
 use Rattle.mx_book.specs.Book.{is_new, IsBook}
 use Rattle.mx_book.specs.Judge.{judge}
 use Rattle.mx_base.specs.declared.rows.rows.EntryRow.{EntryRow}
-use Rattle.mx_register.specs.declared.merge.Registers.{Registers}
-use Rattle.mx_register.specs.Registers.{AreRegistersOf}
-use Rattle.mx_register.specs.Merge.{Rest, are_taken, merged, take_command}
-use Rattle.mx_register.specs.Left.{all_rows}
-use Rattle.mx_register.proofs.MergeLemmas.{merged_from}
-use Rattle.mx_plain_register.proofs.SoundLemmas.{merged_sound}
+use Rattle.mx_registers.specs.declared.merge.Registers.{Registers}
+use Rattle.mx_registers.specs.Registers.{AreRegistersOf}
+use Rattle.mx_registers.specs.Merge.{Rest, are_taken, merged, take_command}
+use Rattle.mx_registers.specs.Left.{all_rows}
+use Rattle.mx_registers.proofs.MergeLemmas.{merged_from}
+use Rattle.mx_registers.proofs.PlainProofs.SoundLemmas.{merged_sound}
 use Rattle.mx_merged.specs.Merging.{merging, without_command}
 use Rattle.mx_merged.specs.declared.merged.NoBook.{NoBook}
 use Rattle.mx_merged.specs.declared.merged.NoBook.TheVariants.{Damaged, Differs}

@@ -4,11 +4,11 @@ use Rattle.std.specs.List.{cons_option}
 use Rattle.std.specs.Option.{option_map}
 use Rattle.mx_book.specs.commands.Act.{Entry}
 use Rattle.mx_book.specs.declared.commands.item.Item.{Item}
-use Rattle.mx_register.specs.Names.{item_added}
-use Rattle.mx_register.specs.Registers.{gives_by}
+use Rattle.mx_registers.specs.Names.{item_added}
+use Rattle.mx_registers.specs.Registers.{gives_by}
 use Rattle.mx_base.specs.declared.rows.rows.TotalRow.{TotalRow}
-use Rattle.mx_kept_rows.specs.Items.{items_by}
-use Rattle.mx_kept_rows.specs.Totals.{total_row, total_rows}
+use Rattle.mx_registers.specs.kept.Items.{items_by}
+use Rattle.mx_registers.specs.kept.Totals.{total_row, total_rows}
 
 -- the totals of the items that entries add, where the entries are numbered from seq
 abbrev pub totals_from : List Entry → ℕ → List Entry → List TotalRow

@@ -5,7 +5,7 @@ use Rattle.std.specs.Ordering.{nat_cmp, ordering_then}
 use Rattle.std.specs.Cmp.Lexicographic.{slice_cmp}
 use Rattle.std.specs.declared.cmp.Ordering.{Ordering}
 use Rattle.mx_base.specs.declared.rows.rows.BaseRow.{BaseRow}
-use Rattle.mx_file_rows.specs.Bases.{has_key}
+use Rattle.mx_registers.specs.file.Bases.{has_key}
 use Rattle.mx_indexes.specs.Maps.{held}
 
 -- the order of two numbers with names: by the number, and then by the name

@@ -7,7 +7,7 @@ use Rattle.mx_book.specs.Book.{is_new}
 use Rattle.mx_base.specs.declared.rows.rows.EntryKind.{EntryKind}
 use Rattle.mx_base.specs.declared.rows.rows.EntryKind.TheVariants as kind
 use Rattle.mx_base.specs.declared.rows.rows.EntryRow.{EntryRow}
-use Rattle.mx_register.specs.Merge.{Rest, are_taken, first_of_entry, take_command}
+use Rattle.mx_registers.specs.Merge.{Rest, are_taken, first_of_entry, take_command}
 use Rattle.mx_merged.specs.declared.merged.NoBook.{NoBook}
 use Rattle.mx_merged.specs.declared.merged.NoBook.TheVariants.{Damaged, Differs}
 

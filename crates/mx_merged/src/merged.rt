@@ -2,8 +2,8 @@
 ghost use Rattle.std.specs.Prelude.{◌≡◌, List, [], IfOk, Ok};
 ghost use Rattle.mx_book.specs.commands.Act.{Entry};
 ghost use Rattle.mx_book.specs.Book.{IsBook};
-ghost use Rattle.mx_register.specs.Registers.{AreRegistersOf};
-ghost use Rattle.mx_register.specs.Left.{all_rows, rest_of};
+ghost use Rattle.mx_registers.specs.Registers.{AreRegistersOf};
+ghost use Rattle.mx_registers.specs.Left.{all_rows, rest_of};
 ghost use Rattle.mx_merged.specs.Merging.{has_row, merging, without_command};
 
 use mx_base::rows::{EntryKind, EntryRow};
@@ -11,8 +11,8 @@ use mx_book::Verdict;
 use mx_book::entry_list::NoMemory;
 use mx_indexed::IndexedBook;
 use mx_indexed::indexed::judge;
-use mx_plain_register::merge::{are_all_taken, next_command, rows_of};
-use mx_register::merge::{Left, Registers};
+use mx_registers::merge::{Left, Registers};
+use mx_registers::plain::merge::{are_all_taken, next_command, rows_of};
 use std::alloc::Global;
 
 /// Why rows are those of no book.

@@ -1,13 +1,13 @@
 //! The totals that a book beside its maps gives.
 ghost use Rattle.std.specs.Prelude.{◌≡◌, IfOk};
-ghost use Rattle.mx_kept_rows.specs.Totals.{total_row, total_rows};
+ghost use Rattle.mx_registers.specs.kept.Totals.{total_row, total_rows};
 
 use mx_base::rows::TotalRow;
 use mx_book::commands::Item;
 use mx_book::entry_list::NoMemory;
 use mx_indexed::IndexedBook;
 use mx_indexed::bases::life_reached;
-use mx_register::added_item;
+use mx_registers::added_item;
 use std::alloc::Global;
 
 // The total of an item with its number.

@@ -9,7 +9,7 @@ use Rattle.mx_base.specs.declared.rows.rows.Sector2Row.{Sector2Row}
 use Rattle.mx_base.specs.declared.rows.rows.SpanRow.{SpanRow}
 use Rattle.mx_base.specs.Settled.{settled}
 use Rattle.mx_base.specs.declared.point.Point.{Point}
-use Rattle.mx_points.specs.Points.{moving}
+use Rattle.mx_registers.specs.points.Points.{moving}
 use Rattle.mx_layout.specs.TableName.{TableName}
 use Rattle.mx_layout.specs.declared.fault.Table.TheVariants as table
 use Rattle.mx_layout.specs.declared.fault.TableFault.{TableFault}

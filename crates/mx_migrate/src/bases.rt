@@ -1,7 +1,7 @@
 //! The steps that make `base2`, and write the last bases of one item there.
 ghost use Rattle.std.specs.Prelude.{◌≡◌};
 ghost use Rattle.sqlite.specs.Held.{state};
-ghost use Rattle.mx_points.specs.Points.{moving};
+ghost use Rattle.mx_registers.specs.points.Points.{moving};
 ghost use Rattle.mx_stands.specs.Schemas.{schema_at};
 ghost use Rattle.mx_moves.specs.Changes.{Alters, WasOpen};
 ghost use Rattle.mx_steps.specs.Tables.{table_made};
@@ -66,7 +66,7 @@ fn write_bases<S: Alter>(
 
 impl Migrate for CreateBases {
     ghost use Rattle.std.specs.Prelude.{◌≡◌, true, None};
-    ghost use Rattle.mx_points.specs.Points.{is_on_way, moving, next_mark};
+    ghost use Rattle.mx_registers.specs.points.Points.{is_on_way, moving, next_mark};
     ghost use Rattle.mx_steps.specs.Tables.{MakesBases};
     ghost use Rattle.mx_steps.proofs.EndedLemmas.{bases_stand};
 
@@ -101,7 +101,7 @@ impl Migrate for CreateBases {
 
 impl Migrate for WriteBases {
     ghost use Rattle.std.specs.Prelude.{◌≡◌, Some, IsPermutation};
-    ghost use Rattle.mx_points.specs.Points.{moving, next_mark};
+    ghost use Rattle.mx_registers.specs.points.Points.{moving, next_mark};
     ghost use Rattle.mx_steps.specs.Written.{WritesBases, bases_of};
     ghost use Rattle.mx_steps.proofs.WrittenLemmas.{bases_stand as written_stand};
 

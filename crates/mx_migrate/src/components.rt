@@ -2,7 +2,7 @@
 ghost use Rattle.std.specs.Prelude.{◌≡◌, ◌⊎◌, drop, Ok, Err, IfOk, IfErr};
 ghost use Rattle.sqlite.specs.Held.{state};
 ghost use Rattle.mx_layout.specs.TableName.{TableName};
-ghost use Rattle.mx_points.specs.Points.{moving};
+ghost use Rattle.mx_registers.specs.points.Points.{moving};
 ghost use Rattle.mx_stands.specs.Schemas.{schema_at};
 ghost use Rattle.mx_moves.specs.Changes.{Alters};
 ghost use Rattle.mx_steps.specs.Components.{component_moved};
@@ -17,7 +17,7 @@ use mx_moves::components::{
     delete_fittings, delete_removals, fittings_of, insert_spans, removals_of,
 };
 use mx_moves::point::set_point;
-use mx_points::LAST_MARK;
+use mx_registers::points::LAST_MARK;
 use sqlite::{Alter, Transaction};
 use std::alloc::Global;
 
@@ -193,7 +193,7 @@ fn write_component<S: Alter>(
 
 impl Migrate for MoveComponent {
     ghost use Rattle.std.specs.Prelude.{◌≡◌, Some};
-    ghost use Rattle.mx_points.specs.Points.{moving, next_mark};
+    ghost use Rattle.mx_registers.specs.points.Points.{moving, next_mark};
     ghost use Rattle.mx_steps.specs.Components.{MovesComponent, IsComponentOff};
     ghost use Rattle.mx_steps.proofs.ComponentLemmas.{component_stands, component_whole};
 

@@ -2,7 +2,7 @@
 ghost use Rattle.std.specs.Prelude.{◌≡◌};
 ghost use Rattle.sqlite.specs.Held.{state};
 ghost use Rattle.mx_base.specs.Settled.{settled};
-ghost use Rattle.mx_points.specs.Points.{moving};
+ghost use Rattle.mx_registers.specs.points.Points.{moving};
 ghost use Rattle.mx_stands.specs.Schemas.{schema_at};
 ghost use Rattle.mx_moves.specs.Changes.{Alters, WasOpen};
 ghost use Rattle.mx_moves.specs.Keeping.{point_set};
@@ -35,7 +35,7 @@ fn write_finished<S: Alter>(tx: &mut Transaction<'_, S>, to: &Point) -> Result<(
 
 impl Migrate for Finish {
     ghost use Rattle.std.specs.Prelude.{◌≡◌, true, None};
-    ghost use Rattle.mx_points.specs.Points.{is_on_way, moving, next_mark};
+    ghost use Rattle.mx_registers.specs.points.Points.{is_on_way, moving, next_mark};
     ghost use Rattle.mx_steps.specs.Tables.{Finishes};
     ghost use Rattle.mx_steps.proofs.EndedLemmas.{finished_stands};
 

@@ -2,8 +2,8 @@
 ghost use Rattle.std.specs.Prelude.{◌≡◌, map, IfOk, IfErr};
 ghost use Rattle.std.specs.List.{list_all};
 ghost use Rattle.sqlite.specs.Held.{state};
-ghost use Rattle.mx_points.specs.Moves.{last_moved};
-ghost use Rattle.mx_points.specs.Points.{moving};
+ghost use Rattle.mx_registers.specs.points.Moves.{last_moved};
+ghost use Rattle.mx_registers.specs.points.Points.{moving};
 ghost use Rattle.mx_stands.specs.Schemas.{schema_at};
 ghost use Rattle.mx_moves.specs.Changes.{Alters};
 ghost use Rattle.mx_steps.specs.Sectors.{is_next_from, sectors_moved};
@@ -14,7 +14,7 @@ use mx_base::rows::{Sector2Row, SectorRow};
 use mx_layout::{Table, TableFault};
 use mx_moves::point::set_point;
 use mx_moves::sectors::{delete_sectors, first_sectors, insert_sectors};
-use mx_points::LAST_MARK;
+use mx_registers::points::LAST_MARK;
 use sqlite::{Alter, Transaction};
 use std::alloc::Global;
 
@@ -80,7 +80,7 @@ fn write_moved<S: Alter>(
 
 impl Migrate for MoveSectors {
     ghost use Rattle.std.specs.Prelude.{◌≡◌, ◌≢◌, None};
-    ghost use Rattle.mx_points.specs.Points.{moving, next_mark};
+    ghost use Rattle.mx_registers.specs.points.Points.{moving, next_mark};
     ghost use Rattle.mx_steps.specs.Sectors.{MovesSectors, IsOldOff};
     ghost use Rattle.mx_steps.proofs.SectorLemmas.{sectors_stand, sectors_whole};
 

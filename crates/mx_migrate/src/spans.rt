@@ -1,7 +1,7 @@
 //! The step that drops the old table of sectors, which all have moved, and makes that of spans.
 ghost use Rattle.std.specs.Prelude.{◌≡◌};
 ghost use Rattle.sqlite.specs.Held.{state};
-ghost use Rattle.mx_points.specs.Points.{moving};
+ghost use Rattle.mx_registers.specs.points.Points.{moving};
 ghost use Rattle.mx_kept.specs.Cells.{kept_sector1};
 ghost use Rattle.mx_stands.specs.Schemas.{schema_at};
 ghost use Rattle.mx_moves.specs.Changes.{Alters};
@@ -54,7 +54,7 @@ fn write_changed<S: Alter>(tx: &mut Transaction<'_, S>, to: &Point) -> Result<()
 
 impl Migrate for ChangeToSpans {
     ghost use Rattle.std.specs.Prelude.{◌≡◌, true, None};
-    ghost use Rattle.mx_points.specs.Points.{is_on_way, moving, next_mark};
+    ghost use Rattle.mx_registers.specs.points.Points.{is_on_way, moving, next_mark};
     ghost use Rattle.mx_steps.specs.Tables.{ChangesToSpans, IsLeftOver};
     ghost use Rattle.mx_steps.proofs.MadeLemmas.{changed_stands, changed_whole};
 

@@ -4,7 +4,7 @@ ghost use Rattle.sqlite.specs.Tree.{Trees};
 ghost use Rattle.sqlite.specs.Held.{state};
 ghost use Rattle.mx_book.specs.commands.Act.{Entry};
 ghost use Rattle.mx_base.specs.declared.point.Point.{Point};
-ghost use Rattle.mx_points.specs.Points.{next_point};
+ghost use Rattle.mx_registers.specs.points.Points.{next_point};
 ghost use Rattle.mx_layout.specs.TableName.{TableName};
 ghost use Rattle.mx_stands.specs.Stands.{StandsAt};
 ghost use Rattle.mx_migrate.specs.Steps.{Runs, CommitsStep, LeavesOneBook};

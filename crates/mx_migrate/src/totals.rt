@@ -1,7 +1,7 @@
 //! The steps that make `total2` in place of `fit1` and `removal1`, and write the total of one item there.
 ghost use Rattle.std.specs.Prelude.{◌≡◌};
 ghost use Rattle.sqlite.specs.Held.{state};
-ghost use Rattle.mx_points.specs.Points.{moving};
+ghost use Rattle.mx_registers.specs.points.Points.{moving};
 ghost use Rattle.mx_stands.specs.Schemas.{schema_at};
 ghost use Rattle.mx_moves.specs.Changes.{Alters, WasOpen};
 ghost use Rattle.mx_steps.specs.Tables.{table_made};
@@ -66,7 +66,7 @@ fn write_total<S: Alter>(
 
 impl Migrate for ChangeToTotals {
     ghost use Rattle.std.specs.Prelude.{◌≡◌, true, None};
-    ghost use Rattle.mx_points.specs.Points.{is_on_way, moving, next_mark};
+    ghost use Rattle.mx_registers.specs.points.Points.{is_on_way, moving, next_mark};
     ghost use Rattle.mx_steps.specs.Tables.{ChangesToTotals, IsUnmoved};
     ghost use Rattle.mx_steps.proofs.EndedLemmas.{totals_stand, totals_whole};
 
@@ -103,8 +103,8 @@ impl Migrate for ChangeToTotals {
 
 impl Migrate for WriteTotal {
     ghost use Rattle.std.specs.Prelude.{◌≡◌, [], ◌∷◌};
-    ghost use Rattle.mx_points.specs.Moves.{totals_next};
-    ghost use Rattle.mx_points.specs.Points.{moving};
+    ghost use Rattle.mx_registers.specs.points.Moves.{totals_next};
+    ghost use Rattle.mx_registers.specs.points.Points.{moving};
     ghost use Rattle.mx_steps.specs.Written.{WritesTotal};
     ghost use Rattle.mx_steps.proofs.WrittenLemmas.{total_stands};
 

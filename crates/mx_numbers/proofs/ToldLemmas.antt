@@ -12,7 +12,7 @@ use Rattle.sqlite_rules.specs.Lists.{Has}
 use Rattle.sqlite_rules.proofs.ListLemmas.{contains_had, fails_has}
 use Rattle.mx_book.specs.commands.Act.{Entry}
 use Rattle.mx_book.specs.commands.Programme.{task_shape}
-use Rattle.mx_register.specs.Merge.{task_said}
+use Rattle.mx_registers.specs.Merge.{task_said}
 use Rattle.mx_base.specs.declared.rows.rows.TaskRow.{TaskRow}
 use Rattle.mx_layout.specs.TableName.{TableName}
 use Rattle.mx_layout.specs.Crash.{IsWithin}

@@ -5,7 +5,7 @@ use Rattle.sqlite.specs.Order.{Row, column}
 use Rattle.sqlite.specs.Tree.{Trees}
 use Rattle.mx_book.specs.commands.Programme.{task_shape}
 use Rattle.mx_book.specs.due.Due.{IsLife}
-use Rattle.mx_register.specs.Merge.{task_said}
+use Rattle.mx_registers.specs.Merge.{task_said}
 use Rattle.mx_base.specs.rows.Rows.{kind_number}
 use Rattle.mx_base.specs.declared.rows.rows.EntryKind.TheVariants.{Defer}
 use Rattle.mx_layout.specs.TableName.{TableName}

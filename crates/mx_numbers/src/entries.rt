@@ -5,7 +5,7 @@ ghost use Rattle.sqlite.specs.declared.types.Value.TheVariants.{Text};
 ghost use Rattle.sqlite.specs.Held.{state};
 ghost use Rattle.mx_book.specs.commands.Act.{Entry};
 ghost use Rattle.mx_book.specs.Judge.{known_from};
-ghost use Rattle.mx_register.specs.Names.{seq_of_defect};
+ghost use Rattle.mx_registers.specs.Names.{seq_of_defect};
 ghost use Rattle.mx_kept.specs.Cells.{kept_entry};
 ghost use Rattle.mx_chosen.specs.Choices.{backward, has_value, is_any};
 ghost use Rattle.mx_found.specs.Names.{entry_number, last_number};

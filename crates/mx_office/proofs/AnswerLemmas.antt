@@ -14,7 +14,7 @@ use Rattle.mx_layout.specs.Tables.{office, HasOffice}
 use Rattle.mx_faults.specs.declared.moving.MoveFault.{MoveFault}
 use Rattle.mx_faults.specs.declared.moving.MoveFault.TheVariants as move
 use Rattle.mx_base.specs.declared.point.Point.{Point}
-use Rattle.mx_points.specs.Points.{is_on_way}
+use Rattle.mx_registers.specs.points.Points.{is_on_way}
 use Rattle.sqlite.specs.Order.{Row}
 use Rattle.mx_layout.specs.Point.{point_cells, FitsPoint, HoldsPoint, IsNoPoint, TellsPoint, IsStop as IsTableStop}
 use Rattle.mx_layout.specs.declared.fault.TableFault.{TableFault}

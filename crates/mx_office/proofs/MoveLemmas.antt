@@ -10,8 +10,8 @@ use Rattle.mx_book.specs.commands.Act.{Entry}
 use Rattle.mx_faults.specs.declared.moving.MoveFault.{MoveFault}
 use Rattle.mx_faults.specs.declared.moving.MoveFault.TheVariants as move
 use Rattle.mx_base.specs.declared.point.Point.{Point}
-use Rattle.mx_points.specs.Commits.{point_behind}
-use Rattle.mx_points.specs.Points.{is_on_way}
+use Rattle.mx_registers.specs.points.Commits.{point_behind}
+use Rattle.mx_registers.specs.points.Points.{is_on_way}
 use Rattle.mx_layout.specs.Crash.{ChangesNothing, Leaves}
 use Rattle.mx_layout.specs.Point.{FitsPoint, HoldsPoint}
 use Rattle.mx_layout.specs.declared.fault.Table.TheVariants.{Office}

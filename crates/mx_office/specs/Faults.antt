@@ -6,7 +6,7 @@ use Rattle.mx_layout.specs.declared.fault.Table.TheVariants.{Office}
 use Rattle.mx_layout.specs.declared.fault.TableFault.{TableFault}
 use Rattle.mx_layout.specs.declared.fault.TableFault.TheVariants as table
 use Rattle.mx_base.specs.declared.point.Point.{Point}
-use Rattle.mx_points.specs.Points.{is_on_way}
+use Rattle.mx_registers.specs.points.Points.{is_on_way}
 use Rattle.mx_layout.specs.Point.{point_cells, IsPoint}
 use Rattle.mx_layout.specs.Reading.{HasOther}
 use Rattle.mx_faults.specs.declared.moving.MoveFault.{MoveFault}

@@ -8,8 +8,8 @@ use Rattle.sqlite_trees.specs.View.{doubt}
 use Rattle.mx_book.specs.commands.Act.{Entry}
 use Rattle.mx_layout.specs.declared.fault.TableFault.{TableFault}
 use Rattle.mx_base.specs.declared.point.Point.{Point}
-use Rattle.mx_points.specs.Commits.{point_behind}
-use Rattle.mx_points.specs.Points.{is_on_way}
+use Rattle.mx_registers.specs.points.Commits.{point_behind}
+use Rattle.mx_registers.specs.points.Points.{is_on_way}
 use Rattle.mx_layout.specs.Contents.{rows_in}
 use Rattle.mx_layout.specs.Crash.{ChangesNothing, Leaves}
 use Rattle.mx_layout.specs.Listed.{LacksOffice}

@@ -15,7 +15,7 @@ use crate::office::Office;
 use mx_base::Point;
 use mx_faults::OpenFault;
 use mx_layout::{Table, point};
-use mx_points::is_on_way;
+use mx_registers::points::is_on_way;
 use mx_settle::{ENOUGH_COMMITS, NEWEST_LAYOUT, settle};
 use sqlite::{Alter, Connection};
 use std::alloc::Global;

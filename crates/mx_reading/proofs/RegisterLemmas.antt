@@ -5,13 +5,13 @@ use Rattle.std.proofs.lemmas.List.Sorted.{All-permutation, IsPermutation-map, Is
 use Rattle.sqlite.specs.Schema.{Schema}
 use Rattle.sqlite.specs.Tree.{Trees}
 use Rattle.mx_book.specs.commands.Act.{Entry}
-use Rattle.mx_register.specs.Registers.{sector_rows}
-use Rattle.mx_kept_rows.specs.Spans.{span_rows}
+use Rattle.mx_registers.specs.Registers.{sector_rows}
+use Rattle.mx_registers.specs.kept.Spans.{span_rows}
 use Rattle.mx_base.specs.declared.point.Point.{Point}
-use Rattle.mx_points.specs.Points.{moving}
-use Rattle.mx_points.specs.Tables.{Line, rows_at, entries_all, aircraft_all, places_all, components_all, programmes_all, tasks_all, openings_all, releases_all, release_lines_all, deferrals_all, extensions_all, sectors_2, spans_2}
-use Rattle.mx_points.proofs.OneBook.{all_there}
-use Rattle.mx_points.proofs.StandingLemmas.{always_whole}
+use Rattle.mx_registers.specs.points.Points.{moving}
+use Rattle.mx_registers.specs.points.Tables.{Line, rows_at, entries_all, aircraft_all, places_all, components_all, programmes_all, tasks_all, openings_all, releases_all, release_lines_all, deferrals_all, extensions_all, sectors_2, spans_2}
+use Rattle.mx_registers.proofs.PointsProofs.OneBook.{all_there}
+use Rattle.mx_registers.proofs.PointsProofs.StandingLemmas.{always_whole}
 use Rattle.mx_layout.specs.TableName.{TableName}
 use Rattle.mx_layout.specs.declared.fault.Table.TheVariants as table
 use Rattle.mx_layout.specs.Contents.{rows_in}
@@ -26,8 +26,8 @@ use Rattle.mx_stands.specs.Stands.{HasRowsAt}
 use Rattle.mx_stands.proofs.FamilyLemmas.{AreFacts, facts}
 use Rattle.mx_stands.proofs.RowLemmas.{rows_once}
 use Rattle.mx_inserts.specs.Sets.{AreRowsOf}
-use Rattle.mx_file_rows.specs.Tables.{AreRegistersIn}
-use Rattle.mx_file_rows.specs.declared.file_rows.FileRows.{FileRows}
+use Rattle.mx_registers.specs.file.Tables.{AreRegistersIn}
+use Rattle.mx_registers.specs.declared.file.file_rows.FileRows.{FileRows}
 use Rattle.mx_reading.specs.Layout.{HasTables, verified_point}
 use Rattle.mx_reading.specs.Stored.{AreRegisters, AreRegisterRows, HasRegisters}
 

@@ -15,11 +15,11 @@ use Rattle.mx_base.specs.declared.rows.rows.BaseRow.{BaseRow}
 use Rattle.mx_base.specs.declared.rows.rows.Sector2Row.{Sector2Row}
 use Rattle.mx_base.specs.declared.rows.rows.SpanRow.{SpanRow}
 use Rattle.mx_base.specs.declared.rows.rows.TotalRow.{TotalRow}
-use Rattle.mx_kept_rows.specs.Bases.{base_rows}
-use Rattle.mx_kept_rows.specs.Totals.{total_rows}
-use Rattle.mx_points.specs.Tables.{rows_at, entries_all, aircraft_all, places_all, components_all, programmes_all, tasks_all, openings_all, releases_all, release_lines_all, deferrals_all, extensions_all, sectors_2, spans_2, totals_2, bases_2}
-use Rattle.mx_points.proofs.OneBook.{all_there}
-use Rattle.mx_points.proofs.StandingLemmas.{always_whole}
+use Rattle.mx_registers.specs.kept.Bases.{base_rows}
+use Rattle.mx_registers.specs.kept.Totals.{total_rows}
+use Rattle.mx_registers.specs.points.Tables.{rows_at, entries_all, aircraft_all, places_all, components_all, programmes_all, tasks_all, openings_all, releases_all, release_lines_all, deferrals_all, extensions_all, sectors_2, spans_2, totals_2, bases_2}
+use Rattle.mx_registers.proofs.PointsProofs.OneBook.{all_there}
+use Rattle.mx_registers.proofs.PointsProofs.StandingLemmas.{always_whole}
 use Rattle.mx_layout.specs.TableName.{TableName}
 use Rattle.mx_layout.specs.declared.fault.TableFault.{TableFault}
 use Rattle.mx_layout.specs.declared.fault.TableFault.TheVariants as fault
@@ -39,8 +39,8 @@ use Rattle.mx_stands.proofs.FamilyLemmas.{facts, never}
 use Rattle.mx_stands.proofs.RowLemmas.{readable_stored}
 use Rattle.mx_stands.proofs.SchemaLemmas.{has_tables}
 use Rattle.mx_inserts.specs.Sets.{AreRowsOf, IsDamaged, ReadsTables}
-use Rattle.mx_file_rows.specs.Tables.{AreTablesOf}
-use Rattle.mx_file_rows.specs.declared.file_rows.FileRows.{FileRows}
+use Rattle.mx_registers.specs.file.Tables.{AreTablesOf}
+use Rattle.mx_registers.specs.declared.file.file_rows.FileRows.{FileRows}
 use Rattle.mx_reading.specs.Layout.{HasTables, verified_point}
 use Rattle.mx_reading.specs.Damage.{HasBadRow, IsCause}
 use Rattle.mx_reading.specs.Stored.{AreInPairs, AreRegisterRows, AreRegisters, AreStored, HasRegisters, RegisterPairs}

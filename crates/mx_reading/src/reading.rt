@@ -10,10 +10,10 @@ use mx_base::rows::{
     ProgrammeRow, RegisterRows, ReleaseLineRow, ReleaseRow, Sector2Row, SectorRow, SpanRow,
     TaskRow, TotalRow,
 };
-use mx_file_rows::FileRows;
 use mx_inserts::Tables;
 use mx_layout::TableFault;
-use mx_register::merge::Registers;
+use mx_registers::file::FileRows;
+use mx_registers::merge::Registers;
 use sqlite::{Alter, Transaction};
 use std::alloc::{AllocError, Global};
 

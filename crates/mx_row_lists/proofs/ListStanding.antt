@@ -11,9 +11,9 @@ use Rattle.mx_book.specs.Book.{IsBook}
 use Rattle.mx_book.specs.Defect.{open_defects}
 use Rattle.mx_book.specs.Programme.{tasks_or_none}
 use Rattle.mx_base.specs.declared.rows.rows.DeferralRow.{DeferralRow}
-use Rattle.mx_register.specs.Names.{seq_of_item, seq_of_tail}
-use Rattle.mx_register.specs.Registers.{component_rows, deferral_rows, entry_rows}
-use Rattle.mx_kept_rows.specs.Spans.{span_rows}
+use Rattle.mx_registers.specs.Names.{seq_of_item, seq_of_tail}
+use Rattle.mx_registers.specs.Registers.{component_rows, deferral_rows, entry_rows}
+use Rattle.mx_registers.specs.kept.Spans.{span_rows}
 use Rattle.mx_kept.specs.Cells.{kept_component, kept_defect, kept_entry, kept_span2}
 use Rattle.mx_chosen.specs.Choices.{is_open}
 use Rattle.mx_stands.specs.Stands.{HasRowsAt}

@@ -13,9 +13,9 @@ use Rattle.mx_book.specs.commands.Same.{same_text}
 use Rattle.mx_book.proofs.CommandsProofs.SameLemmas.{text_same}
 use Rattle.mx_book.proofs.JudgeLemmas.{both_true}
 use Rattle.mx_base.specs.declared.rows.rows.BaseRow.{BaseRow}
-use Rattle.mx_kept_rows.specs.Bases.{AreKeyedOnce, base_rows, is_keyed}
-use Rattle.mx_kept_rows.proofs.KeyedLemmas.{base_rows_once}
-use Rattle.mx_points.specs.Tables.{bases_2, rows_at}
+use Rattle.mx_registers.specs.kept.Bases.{AreKeyedOnce, base_rows, is_keyed}
+use Rattle.mx_registers.proofs.KeptProofs.KeyedLemmas.{base_rows_once}
+use Rattle.mx_registers.specs.points.Tables.{bases_2, rows_at}
 use Rattle.mx_layout.specs.Contents.{rows_in}
 use Rattle.mx_layout.specs.Names.{table_named}
 use Rattle.mx_layout.specs.declared.fault.Table.TheVariants as table

@@ -12,8 +12,8 @@ use Rattle.mx_book.specs.commands.Same.{same_text}
 use Rattle.mx_book.specs.declared.commands.item.Item.{Item}
 use Rattle.mx_book.specs.declared.commands.item.Item.TheVariants.{Airframe, Component}
 use Rattle.mx_book.specs.Book.{IsBook}
-use Rattle.mx_register.specs.Names.{seq_of_defect, seq_of_item, seq_of_serial, seq_of_tail}
-use Rattle.mx_register.specs.Registers.{aircraft_rows, component_rows, entry_rows}
+use Rattle.mx_registers.specs.Names.{seq_of_defect, seq_of_item, seq_of_serial, seq_of_tail}
+use Rattle.mx_registers.specs.Registers.{aircraft_rows, component_rows, entry_rows}
 use Rattle.mx_kept.specs.Cells.{kept_aircraft, kept_component, kept_entry}
 use Rattle.mx_kept.specs.Kept.{Kept}
 use Rattle.mx_chosen.specs.Choices.{has_value}

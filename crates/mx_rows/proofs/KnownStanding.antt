@@ -14,10 +14,10 @@ use Rattle.mx_book.specs.Asking.{known_same}
 use Rattle.mx_book.specs.Book.{IsBook}
 use Rattle.mx_book.specs.Judge.{item_at, known_from}
 use Rattle.mx_base.specs.declared.rows.rows.ReleaseLineRow.{ReleaseLineRow}
-use Rattle.mx_register.specs.Lines.{lines_from}
-use Rattle.mx_register.specs.Names.{or_zero}
-use Rattle.mx_register.specs.Registers.{aircraft_row, aircraft_rows, component_row, component_rows, deferral_row, deferral_rows, entry_rows, extension_row, extension_rows, opening_row, opening_rows, place_row, place_rows, programme_row, programme_rows, release_line_row, release_line_rows, release_row, release_rows, sector_row, sector_rows, task_row, task_rows}
-use Rattle.mx_kept_rows.specs.Spans.{span_rows}
+use Rattle.mx_registers.specs.Lines.{lines_from}
+use Rattle.mx_registers.specs.Names.{or_zero}
+use Rattle.mx_registers.specs.Registers.{aircraft_row, aircraft_rows, component_row, component_rows, deferral_row, deferral_rows, entry_rows, extension_row, extension_rows, opening_row, opening_rows, place_row, place_rows, programme_row, programme_rows, release_line_row, release_line_rows, release_row, release_rows, sector_row, sector_rows, task_row, task_rows}
+use Rattle.mx_registers.specs.kept.Spans.{span_rows}
 use Rattle.mx_kept.specs.Cells.{kept_aircraft, kept_component, kept_crs, kept_crs_line, kept_defect, kept_entry, kept_extension, kept_opening, kept_place, kept_programme, kept_sector2, kept_span2, kept_task}
 use Rattle.mx_kept.specs.Kept.{Kept}
 use Rattle.mx_chosen.specs.Choices.{has_value}

@@ -23,11 +23,11 @@ use Rattle.mx_book.proofs.BaseLemmas.{accomplished-base}
 use Rattle.mx_base.specs.declared.rows.rows.BaseRow.{BaseRow}
 use Rattle.mx_base.specs.declared.rows.rows.DeferralRow.{DeferralRow}
 use Rattle.mx_base.specs.declared.rows.rows.TaskRow.{TaskRow}
-use Rattle.mx_register.specs.Names.{seq_of_defect, seq_of_item, seq_of_serial, seq_of_tail, tail_at}
-use Rattle.mx_register.specs.Registers.{aircraft_rows, component_rows, deferral_rows, entry_rows, extension_rows, place_rows, programme_rows, release_line_rows, task_rows}
-use Rattle.mx_kept_rows.specs.Bases.{base_rows, is_keyed}
-use Rattle.mx_kept_rows.specs.Spans.{span_rows}
-use Rattle.mx_kept_rows.specs.Totals.{total_rows}
+use Rattle.mx_registers.specs.Names.{seq_of_defect, seq_of_item, seq_of_serial, seq_of_tail, tail_at}
+use Rattle.mx_registers.specs.Registers.{aircraft_rows, component_rows, deferral_rows, entry_rows, extension_rows, place_rows, programme_rows, release_line_rows, task_rows}
+use Rattle.mx_registers.specs.kept.Bases.{base_rows, is_keyed}
+use Rattle.mx_registers.specs.kept.Spans.{span_rows}
+use Rattle.mx_registers.specs.kept.Totals.{total_rows}
 use Rattle.mx_kept.specs.Cells.{kept_aircraft, kept_base2, kept_component, kept_crs_line, kept_defect, kept_entry, kept_extension, kept_place, kept_programme, kept_span2, kept_task, kept_total2}
 use Rattle.mx_kept.specs.Kept.{Kept}
 use Rattle.mx_chosen.specs.Choices.{backward, has_value, is_any, is_open}

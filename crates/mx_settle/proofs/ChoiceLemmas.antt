@@ -20,17 +20,17 @@ use Rattle.mx_base.specs.declared.rows.rows.ComponentRow.{ComponentRow}
 use Rattle.mx_base.specs.declared.rows.rows.SectorRow.{SectorRow}
 use Rattle.mx_base.specs.rows.Rows.{FitsComponent}
 use Rattle.mx_base.proofs.RowsProofs.SortedLemmas.{keys_below}
-use Rattle.mx_register.specs.Registers.{component_rows, sector_rows}
-use Rattle.mx_register.proofs.RegisterLemmas.{component_rows-rising}
+use Rattle.mx_registers.specs.Registers.{component_rows, sector_rows}
+use Rattle.mx_registers.proofs.RegisterLemmas.{component_rows-rising}
 use Rattle.mx_base.specs.declared.point.Point.{Point}
 use Rattle.mx_base.specs.Settled.{settled}
-use Rattle.mx_points.specs.Moves.{last_moved}
-use Rattle.mx_points.specs.Points.{moving, next_mark}
-use Rattle.mx_points.specs.Tables.{components_all, rows_at, sectors_1}
-use Rattle.mx_points.proofs.CommitLemmas.{last_self}
-use Rattle.mx_points.proofs.OneBook.{filter_through}
-use Rattle.mx_points.proofs.StandingLemmas.{always_whole}
-use Rattle.mx_points.proofs.StepLemmas.{step_on_way}
+use Rattle.mx_registers.specs.points.Moves.{last_moved}
+use Rattle.mx_registers.specs.points.Points.{moving, next_mark}
+use Rattle.mx_registers.specs.points.Tables.{components_all, rows_at, sectors_1}
+use Rattle.mx_registers.proofs.PointsProofs.CommitLemmas.{last_self}
+use Rattle.mx_registers.proofs.PointsProofs.OneBook.{filter_through}
+use Rattle.mx_registers.proofs.PointsProofs.StandingLemmas.{always_whole}
+use Rattle.mx_registers.proofs.PointsProofs.StepLemmas.{step_on_way}
 use Rattle.mx_layout.specs.TableName.{TableName}
 use Rattle.mx_layout.specs.declared.fault.Table.TheVariants as table
 use Rattle.mx_layout.specs.declared.fault.TableFault.{TableFault}

@@ -23,7 +23,7 @@ use Rattle.mx_base.specs.declared.rows.rows.SectorRow.{SectorRow}
 use Rattle.mx_base.specs.rows.Rising.{IsRising}
 use Rattle.mx_base.proofs.RowsProofs.SortedLemmas.{IsFrom-map, IsRising-map, sorted_once}
 use Rattle.mx_book.specs.declared.limits.TheConstants.{MOST_ENTRIES}
-use Rattle.mx_points.proofs.OneBook.{all_there}
+use Rattle.mx_registers.proofs.PointsProofs.OneBook.{all_there}
 use Rattle.mx_layout.specs.declared.fault.TableFault.{TableFault}
 use Rattle.mx_layout.specs.declared.fault.TableFault.TheVariants.{Damaged}
 use Rattle.mx_layout.specs.Contents.{rows_in}

@@ -12,15 +12,15 @@ use Rattle.mx_book.specs.declared.limits.TheConstants.{MOST_ENTRIES}
 use Rattle.mx_base.specs.declared.rows.rows.BaseRow.{BaseRow}
 use Rattle.mx_base.specs.declared.rows.rows.TotalRow.{TotalRow}
 use Rattle.mx_base.proofs.RowsProofs.SortedLemmas.{keys_below}
-use Rattle.mx_register.specs.Registers.{next}
-use Rattle.mx_kept_rows.specs.Bases.{base_rows}
-use Rattle.mx_kept_rows.specs.Totals.{total_rows}
-use Rattle.mx_kept_rows.proofs.ItemOrder.{total_rows-rising}
+use Rattle.mx_registers.specs.Registers.{next}
+use Rattle.mx_registers.specs.kept.Bases.{base_rows}
+use Rattle.mx_registers.specs.kept.Totals.{total_rows}
+use Rattle.mx_registers.proofs.KeptProofs.ItemOrder.{total_rows-rising}
 use Rattle.mx_base.specs.declared.point.Point.{Point}
 use Rattle.mx_base.specs.Settled.{settled}
-use Rattle.mx_points.specs.Moves.{totals_next}
-use Rattle.mx_points.specs.Points.{is_on_way, moving}
-use Rattle.mx_points.proofs.StepLemmas.{step_on_way}
+use Rattle.mx_registers.specs.points.Moves.{totals_next}
+use Rattle.mx_registers.specs.points.Points.{is_on_way, moving}
+use Rattle.mx_registers.proofs.PointsProofs.StepLemmas.{step_on_way}
 use Rattle.mx_stands.specs.Schemas.{IsOfFile}
 use Rattle.mx_steps.specs.Written.{bases_of}
 use Rattle.mx_steps.proofs.WrittenLemmas.{next_item, no_item}

@@ -7,7 +7,7 @@ use Rattle.sqlite.specs.Tree.{Trees}
 use Rattle.mx_book.specs.commands.Act.{Entry}
 use Rattle.mx_book.specs.Book.{IsBook}
 use Rattle.mx_base.specs.declared.point.Point.{Point}
-use Rattle.mx_points.specs.Points.{moving}
+use Rattle.mx_registers.specs.points.Points.{moving}
 use Rattle.mx_layout.specs.TableName.{TableName}
 use Rattle.mx_layout.specs.declared.fault.Table.TheVariants as table
 use Rattle.mx_layout.specs.declared.fault.TableFault.{TableFault}
@@ -24,11 +24,11 @@ use Rattle.mx_stands.proofs.SchemaLemmas.{has_tables}
 use Rattle.mx_tables.specs.Calls.{OnDamaged}
 use Rattle.mx_inserts.specs.Sets.{IsDamaged, ReadsTables}
 use Rattle.mx_derived.specs.Kept.{AreKeptOf}
-use Rattle.mx_file_rows.specs.Tables.{AreRegistersIn}
+use Rattle.mx_registers.specs.file.Tables.{AreRegistersIn}
 use Rattle.mx_derived.specs.declared.kept.KeptRows.{KeptRows}
 use Rattle.mx_derived.specs.declared.kept.Unkept.{Unkept}
 use Rattle.mx_derived.specs.declared.kept.Unkept.TheVariants as why
-use Rattle.mx_file_rows.specs.declared.file_rows.FileRows.{FileRows}
+use Rattle.mx_registers.specs.declared.file.file_rows.FileRows.{FileRows}
 use Rattle.mx_reading.specs.Damage.{table_of}
 use Rattle.mx_reading.specs.Stored.{AreRegisters, HasRegisters}
 use Rattle.mx_reading.proofs.RegisterLemmas.{moved_at_bases, moved_at_totals, registers_of, schema_at_bases, schema_at_totals}

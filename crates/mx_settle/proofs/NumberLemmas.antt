@@ -26,13 +26,13 @@ use Rattle.mx_base.specs.declared.rows.rows.SectorRow.{SectorRow}
 use Rattle.mx_base.specs.declared.rows.rows.SpanRow.{SpanRow}
 use Rattle.mx_base.specs.declared.rows.rows.TaskRow.{TaskRow}
 use Rattle.mx_base.proofs.RowsProofs.SortedLemmas.{keys_below}
-use Rattle.mx_register.specs.Registers.{aircraft_rows, component_rows, deferral_rows, entry_rows, extension_rows, next, opening_rows, place_rows, programme_rows, release_line_rows, release_rows, sector_rows, task_rows}
-use Rattle.mx_register.proofs.RegisterLemmas.{aircraft_rows-rising, component_rows-rising, deferral_rows-rising, entry_rows-rising, extension_rows-rising, opening_rows-rising, place_rows-rising, programme_rows-rising, release_line_rows-rising, release_rows-rising, sector_rows-rising, task_rows-rising}
-use Rattle.mx_kept_rows.specs.Spans.{removal_from, removes, span_row, span_rows, span_rows_from}
+use Rattle.mx_registers.specs.Registers.{aircraft_rows, component_rows, deferral_rows, entry_rows, extension_rows, next, opening_rows, place_rows, programme_rows, release_line_rows, release_rows, sector_rows, task_rows}
+use Rattle.mx_registers.proofs.RegisterLemmas.{aircraft_rows-rising, component_rows-rising, deferral_rows-rising, entry_rows-rising, extension_rows-rising, opening_rows-rising, place_rows-rising, programme_rows-rising, release_line_rows-rising, release_rows-rising, sector_rows-rising, task_rows-rising}
+use Rattle.mx_registers.specs.kept.Spans.{removal_from, removes, span_row, span_rows, span_rows_from}
 use Rattle.mx_layout.specs.TableName.{TableName}
 use Rattle.mx_layout.specs.declared.fault.Table.TheVariants as table
-use Rattle.mx_file_rows.specs.Tables.{AreRegistersIn}
-use Rattle.mx_file_rows.specs.declared.file_rows.FileRows.{FileRows}
+use Rattle.mx_registers.specs.file.Tables.{AreRegistersIn}
+use Rattle.mx_registers.specs.declared.file.file_rows.FileRows.{FileRows}
 use Rattle.mx_settle.specs.Numbers.{has_late, is_late, is_late_end, is_late_span, late_table, or_behind}
 
 -- ── rows with one number ──

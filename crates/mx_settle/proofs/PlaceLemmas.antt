@@ -10,7 +10,7 @@ use Rattle.mx_book.specs.commands.Act.{Entry}
 use Rattle.mx_book.specs.declared.limits.TheConstants.{MOST_ENTRIES}
 use Rattle.mx_base.specs.declared.point.Point.{Point}
 use Rattle.mx_base.specs.Settled.{settled}
-use Rattle.mx_points.specs.Points.{is_on_way}
+use Rattle.mx_registers.specs.points.Points.{is_on_way}
 use Rattle.mx_layout.specs.declared.fault.Table.TheVariants as table
 use Rattle.mx_layout.specs.declared.fault.TableFault.{TableFault}
 use Rattle.mx_layout.specs.Contents.{rows_in}

@@ -9,9 +9,9 @@ use Rattle.sqlite_trees.specs.View.{doubt}
 use Rattle.mx_book.specs.commands.Act.{Entry}
 use Rattle.mx_base.specs.declared.point.Point.{Point}
 use Rattle.mx_base.specs.Settled.{settled}
-use Rattle.mx_points.specs.Commits.{commits_of_move, point_behind}
-use Rattle.mx_points.specs.Points.{is_on_way, next_point}
-use Rattle.mx_points.proofs.ReachLemmas.{from_first, reach}
+use Rattle.mx_registers.specs.points.Commits.{commits_of_move, point_behind}
+use Rattle.mx_registers.specs.points.Points.{is_on_way, next_point}
+use Rattle.mx_registers.proofs.PointsProofs.ReachLemmas.{from_first, reach}
 use Rattle.mx_book.specs.Book.{IsBook}
 use Rattle.mx_layout.specs.Crash.{Leaves}
 use Rattle.mx_stands.specs.Schemas.{IsOfFile, schema_at}

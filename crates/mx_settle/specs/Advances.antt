@@ -6,7 +6,7 @@ use Rattle.sqlite_trees.specs.View.{doubt}
 use Rattle.mx_book.specs.commands.Act.{Entry}
 use Rattle.mx_base.specs.declared.point.Point.{Point}
 use Rattle.mx_base.specs.Settled.{settled}
-use Rattle.mx_points.specs.Points.{next_point}
+use Rattle.mx_registers.specs.points.Points.{next_point}
 use Rattle.mx_layout.specs.TableName.{TableName}
 use Rattle.mx_layout.specs.Crash.{Leaves, ChangesNothing}
 use Rattle.mx_layout.specs.Listed.{LacksOffice}

@@ -11,7 +11,7 @@ use Rattle.mx_book.specs.commands.Act.{Entry}
 use Rattle.mx_base.specs.declared.rows.rows.EntryKind.{EntryKind}
 use Rattle.mx_base.specs.declared.point.Point.{Point}
 use Rattle.mx_base.specs.Settled.{settled}
-use Rattle.mx_points.specs.Points.{moving}
+use Rattle.mx_registers.specs.points.Points.{moving}
 use Rattle.mx_layout.specs.TableName.{TableName}
 use Rattle.mx_layout.specs.declared.fault.Table.TheVariants as table
 use Rattle.mx_layout.specs.declared.fault.TableFault.{TableFault}
@@ -28,11 +28,11 @@ use Rattle.mx_stands.specs.Schemas.{IsOfFile, schema_at}
 use Rattle.mx_stands.specs.Stands.{LiesAt, StandsAt}
 use Rattle.mx_tables.specs.Calls.{OnRead}
 use Rattle.mx_inserts.specs.Sets.{IsDamaged}
-use Rattle.mx_file_rows.specs.Tables.{AreRegistersIn}
+use Rattle.mx_registers.specs.file.Tables.{AreRegistersIn}
 use Rattle.mx_derived.specs.declared.kept.KeptRows.{KeptRows}
 use Rattle.mx_derived.specs.declared.kept.Unkept.{Unkept}
 use Rattle.mx_derived.specs.declared.kept.Unkept.TheVariants as why
-use Rattle.mx_file_rows.specs.declared.file_rows.FileRows.{FileRows}
+use Rattle.mx_registers.specs.declared.file.file_rows.FileRows.{FileRows}
 use Rattle.mx_reading.specs.Damage.{table_of}
 use Rattle.mx_reading.specs.Stored.{AreRegisters}
 use Rattle.mx_settle.specs.Due.{IsDueAt, IsFor, MakesBy}

@@ -4,8 +4,8 @@ use Rattle.sqlite.specs.Tree.{Trees}
 use Rattle.mx_book.specs.commands.Act.{Entry}
 use Rattle.mx_base.specs.declared.point.Point.{Point}
 use Rattle.mx_base.specs.Settled.{settled}
-use Rattle.mx_points.specs.Moves.{totals_next}
-use Rattle.mx_points.specs.Points.{is_on_way, moving, next_mark}
+use Rattle.mx_registers.specs.points.Moves.{totals_next}
+use Rattle.mx_registers.specs.points.Points.{is_on_way, moving, next_mark}
 use Rattle.mx_layout.specs.TableName.{TableName}
 use Rattle.mx_steps.specs.Components.{MovesComponent, IsComponentOff}
 use Rattle.mx_steps.specs.Sectors.{MovesSectors, IsOldOff}

@@ -3,7 +3,7 @@ use Rattle.std.specs.Prelude.{◌≡◌, List}
 use Rattle.sqlite.specs.Tree.{Trees}
 use Rattle.mx_book.specs.commands.Act.{Entry}
 use Rattle.mx_base.specs.declared.point.Point.{Point}
-use Rattle.mx_points.specs.Points.{next_point}
+use Rattle.mx_registers.specs.points.Points.{next_point}
 use Rattle.mx_layout.specs.TableName.{TableName}
 use Rattle.mx_stands.specs.Stands.{StandsAt}
 use Rattle.mx_steps.proofs.ComponentLemmas.{component_stands, component_whole}

@@ -6,7 +6,7 @@ use Rattle.mx_base.specs.declared.rows.register_rows.RegisterRows.{RegisterRows}
 use Rattle.mx_base.specs.declared.rows.rows.SpanRow.{SpanRow}
 use Rattle.mx_layout.specs.TableName.{TableName}
 use Rattle.mx_layout.specs.declared.fault.Table.TheVariants as table
-use Rattle.mx_file_rows.specs.declared.file_rows.FileRows.{FileRows}
+use Rattle.mx_registers.specs.declared.file.file_rows.FileRows.{FileRows}
 
 -- no entry can have this number
 abbrev pub is_late : ℕ → Bool

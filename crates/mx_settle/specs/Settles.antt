@@ -5,7 +5,7 @@ use Rattle.sqlite_trees.specs.View.{doubt}
 use Rattle.mx_book.specs.commands.Act.{Entry}
 use Rattle.mx_base.specs.declared.point.Point.{Point}
 use Rattle.mx_base.specs.Settled.{settled}
-use Rattle.mx_points.specs.Commits.{point_behind}
+use Rattle.mx_registers.specs.points.Commits.{point_behind}
 use Rattle.mx_layout.specs.Crash.{Leaves}
 use Rattle.mx_stands.specs.Schemas.{IsOfFile}
 use Rattle.mx_stands.specs.Stands.{StandsAt, RestsAt}

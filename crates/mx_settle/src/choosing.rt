@@ -2,7 +2,7 @@
 ghost use Rattle.std.specs.Prelude.{◌≡◌, false, None, IsTrue};
 ghost use Rattle.sqlite.specs.Held.{state};
 ghost use Rattle.mx_layout.specs.Crash.{ChangesNothing, IsWithin};
-ghost use Rattle.mx_points.specs.Points.{moving};
+ghost use Rattle.mx_registers.specs.points.Points.{moving};
 ghost use Rattle.mx_settle.specs.Choices.{Chooses};
 
 use crate::due::Due;

@@ -9,7 +9,7 @@ use mx_base::rows::ComponentRow;
 use mx_layout::{Table, TableFault};
 use mx_moves::items::next_components;
 use mx_moves::sectors::first_sectors;
-use mx_points::LAST_MARK;
+use mx_registers::points::LAST_MARK;
 use sqlite::{Alter, Transaction};
 use std::alloc::Global;
 

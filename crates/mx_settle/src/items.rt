@@ -6,7 +6,7 @@ use crate::due::Due;
 use mx_base::rows::{BaseRow, TotalRow};
 use mx_derived::KeptRows;
 use mx_migrate::{CreateBases, Finish, WriteBases, WriteTotal};
-use mx_points::LAST_MARK;
+use mx_registers::points::LAST_MARK;
 use std::alloc::{AllocError, Global};
 
 // The total of the next item behind a mark, if there is one: no item has a number that no entry can have.

@@ -8,9 +8,9 @@ use mx_base::rows::{
     AircraftRow, ComponentRow, DeferralRow, EntryRow, ExtensionRow, OpeningRow, PlaceRow,
     ProgrammeRow, RegisterRows, ReleaseLineRow, ReleaseRow, SectorRow, SpanRow, TaskRow,
 };
-use mx_file_rows::FileRows;
 use mx_layout::Table;
-use mx_points::LAST_MARK;
+use mx_registers::file::FileRows;
+use mx_registers::points::LAST_MARK;
 
 // Whether no entry can have the number.
 fn is_late(number: u32) -> bool

@@ -7,7 +7,7 @@ use crate::fault::fault_of;
 use mx_base::Point;
 use mx_faults::MoveFault;
 use mx_layout::{Table, point};
-use mx_points::is_on_way;
+use mx_registers::points::is_on_way;
 use sqlite::{Alter, Connection};
 
 /// The newest layout.

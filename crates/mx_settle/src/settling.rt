@@ -5,8 +5,8 @@ ghost use Rattle.sqlite.specs.State.{HasCleanDisk};
 ghost use Rattle.mx_book.specs.commands.Act.{Entry};
 ghost use Rattle.mx_book.specs.Book.{IsBook};
 ghost use Rattle.mx_base.specs.Settled.{settled};
-ghost use Rattle.mx_points.specs.Commits.{commits_of_move};
-ghost use Rattle.mx_points.specs.Points.{is_on_way};
+ghost use Rattle.mx_registers.specs.points.Commits.{commits_of_move};
+ghost use Rattle.mx_registers.specs.points.Points.{is_on_way};
 ghost use Rattle.mx_stands.specs.Stands.{RestsAt};
 ghost use Rattle.mx_settle.specs.Settles.{Settles};
 

@@ -5,17 +5,17 @@ use Rattle.std.proofs.lemmas.List.{map-append}
 use Rattle.std.proofs.lemmas.List.Sorted.{IsPermutation-map, IsPermutation-refl}
 use Rattle.mx_book.specs.commands.Act.{Act, Entry}
 use Rattle.mx_book.proofs.JudgeLemmas.{both_true}
-use Rattle.mx_register.specs.Registers.{gives_by, entry_rows, entry_added, aircraft_by, places_by, components_by, programmes_by, tasks_by, openings_by, sectors_by, fittings_by, removals_by, releases_by, release_lines_by, deferrals_by, extensions_by}
-use Rattle.mx_register.proofs.RegisterLemmas.{gives-more}
-use Rattle.mx_kept_rows.specs.Becomes.{Becomes, BecomesSome, Change, adding, spans_become, totals_become}
-use Rattle.mx_kept_rows.specs.Spans.{span_rows}
-use Rattle.mx_kept_rows.specs.Totals.{total_rows}
-use Rattle.mx_kept_rows.proofs.ItemNumbers.{total_rows-changed}
-use Rattle.mx_kept_rows.proofs.PutBases.{command_bases}
-use Rattle.mx_kept_rows.proofs.SpanRows.{span_rows-more}
-use Rattle.mx_kept_rows.proofs.TableLemmas.{register_becomes}
+use Rattle.mx_registers.specs.Registers.{gives_by, entry_rows, entry_added, aircraft_by, places_by, components_by, programmes_by, tasks_by, openings_by, sectors_by, fittings_by, removals_by, releases_by, release_lines_by, deferrals_by, extensions_by}
+use Rattle.mx_registers.proofs.RegisterLemmas.{gives-more}
+use Rattle.mx_registers.specs.kept.Becomes.{Becomes, BecomesSome, Change, adding, spans_become, totals_become}
+use Rattle.mx_registers.specs.kept.Spans.{span_rows}
+use Rattle.mx_registers.specs.kept.Totals.{total_rows}
+use Rattle.mx_registers.proofs.KeptProofs.ItemNumbers.{total_rows-changed}
+use Rattle.mx_registers.proofs.KeptProofs.PutBases.{command_bases}
+use Rattle.mx_registers.proofs.KeptProofs.SpanRows.{span_rows-more}
+use Rattle.mx_registers.proofs.KeptProofs.TableLemmas.{register_becomes}
 use Rattle.mx_base.specs.Settled.{settled}
-use Rattle.mx_points.specs.Tables.{rows_at}
+use Rattle.mx_registers.specs.points.Tables.{rows_at}
 use Rattle.mx_layout.specs.Steps.{IsLayout}
 use Rattle.mx_layout.specs.TableName.{TableName}
 use Rattle.mx_layout.specs.declared.fault.Table.TheVariants as table

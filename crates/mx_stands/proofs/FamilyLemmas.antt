@@ -7,14 +7,14 @@ use Rattle.sqlite.specs.Schema.{Schema}
 use Rattle.mx_book.specs.commands.Act.{Entry}
 use Rattle.mx_book.specs.commands.Shape.{has_shape}
 use Rattle.mx_base.specs.rows.Rising.{IsRising}
-use Rattle.mx_register.specs.Registers.{entry_added, aircraft_by, places_by, components_by, programmes_by, tasks_by, openings_by, sectors_by, fittings_by, removals_by, releases_by, release_lines_by, deferrals_by, extensions_by}
-use Rattle.mx_register.proofs.RegisterLemmas.{gives-more, entry_rows-rising, aircraft_rows-rising, place_rows-rising, component_rows-rising, programme_rows-rising, task_rows-rising, opening_rows-rising, sector_rows-rising, fitting_rows-rising, removal_rows-rising, release_rows-rising, release_line_rows-rising, deferral_rows-rising, extension_rows-rising}
-use Rattle.mx_kept_rows.specs.Becomes.{Change}
+use Rattle.mx_registers.specs.Registers.{entry_added, aircraft_by, places_by, components_by, programmes_by, tasks_by, openings_by, sectors_by, fittings_by, removals_by, releases_by, release_lines_by, deferrals_by, extensions_by}
+use Rattle.mx_registers.proofs.RegisterLemmas.{gives-more, entry_rows-rising, aircraft_rows-rising, place_rows-rising, component_rows-rising, programme_rows-rising, task_rows-rising, opening_rows-rising, sector_rows-rising, fitting_rows-rising, removal_rows-rising, release_rows-rising, release_line_rows-rising, deferral_rows-rising, extension_rows-rising}
+use Rattle.mx_registers.specs.kept.Becomes.{Change}
 use Rattle.mx_base.specs.declared.point.Point.{Point}
 use Rattle.mx_base.specs.Settled.{settled}
-use Rattle.mx_points.specs.Tables.{Line, rows_at, is_table_at, entries_all, aircraft_all, places_all, components_all, programmes_all, tasks_all, openings_all, releases_all, release_lines_all, deferrals_all, extensions_all, sectors_1, fittings_1, removals_1, sectors_2, spans_2, totals_2, bases_2}
-use Rattle.mx_points.proofs.OneBook.{all_there}
-use Rattle.mx_points.proofs.StandingLemmas.{whole_where_settled}
+use Rattle.mx_registers.specs.points.Tables.{Line, rows_at, is_table_at, entries_all, aircraft_all, places_all, components_all, programmes_all, tasks_all, openings_all, releases_all, release_lines_all, deferrals_all, extensions_all, sectors_1, fittings_1, removals_1, sectors_2, spans_2, totals_2, bases_2}
+use Rattle.mx_registers.proofs.PointsProofs.OneBook.{all_there}
+use Rattle.mx_registers.proofs.PointsProofs.StandingLemmas.{whole_where_settled}
 use Rattle.mx_layout.specs.Steps.{IsLayout}
 use Rattle.mx_layout.specs.TableName.{TableName}
 use Rattle.mx_layout.specs.Tables.{sector2, span2, total2, base2}

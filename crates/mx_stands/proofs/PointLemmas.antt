@@ -4,7 +4,7 @@ use Rattle.std.proofs.lemmas.Bool.Decides.{Decides-eqb, leb_tells}
 use Rattle.mx_book.specs.declared.limits.TheConstants.{MOST_ENTRIES}
 use Rattle.mx_base.specs.declared.point.Point.{Point}
 use Rattle.mx_base.specs.Settled.{settled}
-use Rattle.mx_points.specs.Points.{is_on_way, moving}
+use Rattle.mx_registers.specs.points.Points.{is_on_way, moving}
 use Rattle.mx_stands.specs.Schemas.{IsOfFile}
 
 pub and_left : (a b : Bool) → a && b ≡ true → a ≡ true

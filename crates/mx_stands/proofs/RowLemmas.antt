@@ -10,9 +10,9 @@ use Rattle.sqlite.specs.Order.{Row}
 use Rattle.sqlite.specs.Tree.{Trees}
 use Rattle.mx_book.specs.commands.Act.{Entry}
 use Rattle.mx_base.specs.declared.point.Point.{Point}
-use Rattle.mx_points.specs.Same.{GiveSame}
-use Rattle.mx_points.specs.Tables.{rows_at}
-use Rattle.mx_points.proofs.OneBook.{one_book_at}
+use Rattle.mx_registers.specs.points.Same.{GiveSame}
+use Rattle.mx_registers.specs.points.Tables.{rows_at}
+use Rattle.mx_registers.proofs.PointsProofs.OneBook.{one_book_at}
 use Rattle.mx_layout.specs.Contents.{rows_in}
 use Rattle.mx_layout.specs.Names.{table_named}
 use Rattle.mx_layout.specs.Point.{point_cells}

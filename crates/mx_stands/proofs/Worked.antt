@@ -11,7 +11,7 @@ use Rattle.mx_book.proofs.Worked.{abcd, at as moment, logged}
 use Rattle.mx_book.proofs.WorkedFittings.{first_aircraft}
 use Rattle.mx_base.specs.declared.point.Point.{Point}
 use Rattle.mx_base.specs.Settled.{settled}
-use Rattle.mx_points.specs.Points.{moving}
+use Rattle.mx_registers.specs.points.Points.{moving}
 use Rattle.mx_layout.specs.TableName.{TableName}
 use Rattle.mx_layout.specs.declared.fault.Table.TheVariants as table
 use Rattle.mx_stands.specs.Family.{is_at, is_register, rows_of, own_names, permanent_names, first_rows, rows_given, added}

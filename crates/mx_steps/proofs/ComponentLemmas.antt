@@ -13,13 +13,13 @@ use Rattle.mx_base.specs.declared.rows.rows.FittingRow.{FittingRow}
 use Rattle.mx_base.specs.declared.rows.rows.RemovalRow.{RemovalRow}
 use Rattle.mx_base.specs.declared.rows.rows.SpanRow.{SpanRow}
 use Rattle.mx_base.specs.rows.Rows.{FitsFitting, FitsRemoval, FitsSpan}
-use Rattle.mx_register.specs.Registers.{fitting_rows, removal_rows}
-use Rattle.mx_register.proofs.RegisterLemmas.{fitting_rows-rising, removal_rows-rising}
+use Rattle.mx_registers.specs.Registers.{fitting_rows, removal_rows}
+use Rattle.mx_registers.proofs.RegisterLemmas.{fitting_rows-rising, removal_rows-rising}
 use Rattle.mx_base.specs.declared.point.Point.{Point}
-use Rattle.mx_points.specs.Points.{moving, next_mark, next_point}
-use Rattle.mx_points.specs.Tables.{rows_at, fittings_1, removals_1, spans_2}
-use Rattle.mx_points.proofs.MoveLemmas.{spans_moved, fittings_left, removals_left}
-use Rattle.mx_points.proofs.NextComponents.{spans_next, fittings_next, removals_next}
+use Rattle.mx_registers.specs.points.Points.{moving, next_mark, next_point}
+use Rattle.mx_registers.specs.points.Tables.{rows_at, fittings_1, removals_1, spans_2}
+use Rattle.mx_registers.proofs.PointsProofs.MoveLemmas.{spans_moved, fittings_left, removals_left}
+use Rattle.mx_registers.proofs.PointsProofs.NextComponents.{spans_next, fittings_next, removals_next}
 use Rattle.mx_layout.specs.TableName.{TableName}
 use Rattle.mx_layout.specs.declared.fault.Table.TheVariants as table
 use Rattle.mx_layout.specs.Contents.{rows_in}

@@ -9,10 +9,10 @@ use Rattle.mx_book.specs.commands.Act.{Entry}
 use Rattle.mx_base.specs.rows.Rows.{FitsBase, FitsSpan, FitsTotal}
 use Rattle.mx_base.specs.Settled.{settled}
 use Rattle.mx_base.specs.declared.point.Point.{Point}
-use Rattle.mx_points.specs.Moves.{AllStay}
-use Rattle.mx_points.specs.Points.{is_on_way, moving, next_mark, next_point}
-use Rattle.mx_points.specs.Tables.{bases_2, fittings_1, removals_1, rows_at, totals_2}
-use Rattle.mx_points.proofs.StandingLemmas.{empty_where_absent}
+use Rattle.mx_registers.specs.points.Moves.{AllStay}
+use Rattle.mx_registers.specs.points.Points.{is_on_way, moving, next_mark, next_point}
+use Rattle.mx_registers.specs.points.Tables.{bases_2, fittings_1, removals_1, rows_at, totals_2}
+use Rattle.mx_registers.proofs.PointsProofs.StandingLemmas.{empty_where_absent}
 use Rattle.mx_layout.specs.TableName.{TableName}
 use Rattle.mx_layout.specs.declared.fault.Table.TheVariants as table
 use Rattle.mx_layout.specs.Contents.{rows_in}

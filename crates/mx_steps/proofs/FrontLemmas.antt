@@ -21,8 +21,8 @@ use Rattle.sqlite_sql.specs.declared.ops.CompareOp.TheVariants.{Le}
 use Rattle.sqlite_trees.specs.Tree.{IsAscending}
 use Rattle.sqlite_typed.proofs.TestLemmas.{at_ints, int_test}
 use Rattle.sqlite_value.proofs.OrderLemmas.{value_cmp-Int, value_cmp_total}
-use Rattle.mx_points.specs.Moves.{last_moved}
-use Rattle.mx_points.proofs.OneBook.{all_there}
+use Rattle.mx_registers.specs.points.Moves.{last_moved}
+use Rattle.mx_registers.proofs.PointsProofs.OneBook.{all_there}
 use Rattle.mx_layout.specs.Contents.{cells, rows_in, Rises}
 use Rattle.mx_layout.specs.Reading.{by_first}
 use Rattle.mx_chosen.specs.Choices.{AreFirst, is_any, is_up_to}

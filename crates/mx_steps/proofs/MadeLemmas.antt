@@ -11,13 +11,13 @@ use Rattle.mx_book.specs.Book.{IsBook}
 use Rattle.mx_base.specs.rows.Rows.{FitsSector, FitsSpan, FitsFitting, FitsRemoval}
 use Rattle.mx_base.specs.Settled.{settled}
 use Rattle.mx_base.specs.declared.point.Point.{Point}
-use Rattle.mx_points.specs.Moves.{AllStay}
-use Rattle.mx_points.specs.Points.{is_on_way, moving, next_mark, next_point, on_to}
-use Rattle.mx_points.specs.Tables.{rows_at, sectors_1, sectors_2, spans_2}
-use Rattle.mx_points.proofs.CommitLemmas.{way_parts}
-use Rattle.mx_points.proofs.EndLemmas.{tables_stay}
-use Rattle.mx_points.proofs.StandingLemmas.{empty_where_absent}
-use Rattle.mx_points.proofs.StepLemmas.{step_after}
+use Rattle.mx_registers.specs.points.Moves.{AllStay}
+use Rattle.mx_registers.specs.points.Points.{is_on_way, moving, next_mark, next_point, on_to}
+use Rattle.mx_registers.specs.points.Tables.{rows_at, sectors_1, sectors_2, spans_2}
+use Rattle.mx_registers.proofs.PointsProofs.CommitLemmas.{way_parts}
+use Rattle.mx_registers.proofs.PointsProofs.EndLemmas.{tables_stay}
+use Rattle.mx_registers.proofs.PointsProofs.StandingLemmas.{empty_where_absent}
+use Rattle.mx_registers.proofs.PointsProofs.StepLemmas.{step_after}
 use Rattle.mx_layout.specs.TableName.{TableName}
 use Rattle.mx_layout.specs.declared.fault.Table.TheVariants as table
 use Rattle.mx_layout.specs.Contents.{rows_in}

@@ -14,7 +14,7 @@ use Rattle.sqlite.specs.Table.{Table}
 use Rattle.sqlite.specs.Tree.{Trees}
 use Rattle.mx_base.specs.rows.Rising.{IsRising}
 use Rattle.mx_base.proofs.RowsProofs.SortedLemmas.{IsFrom-map, IsRising-map, sorted_once}
-use Rattle.mx_points.proofs.OneBook.{all_there}
+use Rattle.mx_registers.proofs.PointsProofs.OneBook.{all_there}
 use Rattle.mx_layout.specs.Contents.{rows_in}
 use Rattle.mx_layout.specs.Names.{table_named}
 use Rattle.mx_layout.specs.Reading.{HasOther, IsRowOf}

@@ -15,11 +15,11 @@ use Rattle.mx_base.specs.declared.rows.rows.SpanRow.{SpanRow}
 use Rattle.mx_base.specs.rows.Rising.{IsRising}
 use Rattle.mx_base.specs.rows.Rows.{FitsFitting, FitsRemoval, FitsSpan}
 use Rattle.mx_base.proofs.RowsProofs.SortedLemmas.{IsFrom-rising, keys_below, sorted_once}
-use Rattle.mx_register.specs.Registers.{fitting_rows, next, removal_rows}
-use Rattle.mx_register.proofs.RegisterLemmas.{fitting_rows-rising, removal_rows-rising}
-use Rattle.mx_kept_rows.specs.Spans.{fitting_in, removal_by, removal_in, span_rows}
-use Rattle.mx_kept_rows.proofs.SpanRegisters.{fittings_in_spans, removals_in_spans}
-use Rattle.mx_kept_rows.proofs.SpanRows.{row_to}
+use Rattle.mx_registers.specs.Registers.{fitting_rows, next, removal_rows}
+use Rattle.mx_registers.proofs.RegisterLemmas.{fitting_rows-rising, removal_rows-rising}
+use Rattle.mx_registers.specs.kept.Spans.{fitting_in, removal_by, removal_in, span_rows}
+use Rattle.mx_registers.proofs.KeptProofs.SpanRegisters.{fittings_in_spans, removals_in_spans}
+use Rattle.mx_registers.proofs.KeptProofs.SpanRows.{row_to}
 use Rattle.mx_layout.specs.TableName.{TableName}
 use Rattle.mx_layout.specs.declared.fault.Table.TheVariants as table
 use Rattle.mx_steps.specs.Components.{fittings_by, removals_by, spans_by}

@@ -18,16 +18,16 @@ use Rattle.mx_book.specs.declared.limits.TheConstants.{MOST_ENTRIES}
 use Rattle.mx_base.specs.declared.rows.rows.SectorRow.{SectorRow}
 use Rattle.mx_base.specs.rows.Rows.{FitsSector}
 use Rattle.mx_base.proofs.RowsProofs.SortedLemmas.{keys_below}
-use Rattle.mx_register.specs.Registers.{sector_rows}
-use Rattle.mx_register.proofs.RegisterLemmas.{sector_rows-rising}
+use Rattle.mx_registers.specs.Registers.{sector_rows}
+use Rattle.mx_registers.proofs.RegisterLemmas.{sector_rows-rising}
 use Rattle.mx_base.specs.declared.point.Point.{Point}
-use Rattle.mx_points.specs.Moves.{last_moved, sectors_next, sectors_mark}
-use Rattle.mx_points.specs.Points.{moving, next_mark, next_point}
-use Rattle.mx_points.proofs.OneBook.{filter_through}
+use Rattle.mx_registers.specs.points.Moves.{last_moved, sectors_next, sectors_mark}
+use Rattle.mx_registers.specs.points.Points.{moving, next_mark, next_point}
+use Rattle.mx_registers.proofs.PointsProofs.OneBook.{filter_through}
 use Rattle.mx_book.specs.Programme.{last_of}
-use Rattle.mx_points.specs.Tables.{rows_at, sectors_1, sectors_2}
-use Rattle.mx_points.proofs.PointLemmas.{sectors_moved as moved_law}
-use Rattle.mx_points.proofs.StepLemmas.{sectors_next_point}
+use Rattle.mx_registers.specs.points.Tables.{rows_at, sectors_1, sectors_2}
+use Rattle.mx_registers.proofs.PointsProofs.PointLemmas.{sectors_moved as moved_law}
+use Rattle.mx_registers.proofs.PointsProofs.StepLemmas.{sectors_next_point}
 use Rattle.mx_layout.specs.TableName.{TableName}
 use Rattle.mx_layout.specs.declared.fault.Table.TheVariants as table
 use Rattle.mx_layout.specs.Contents.{rows_in}

@@ -6,10 +6,10 @@ use Rattle.mx_book.specs.commands.Act.{Entry}
 use Rattle.mx_book.specs.Book.{IsBook}
 use Rattle.mx_book.specs.Programme.{last_of}
 use Rattle.mx_base.proofs.RowsProofs.SortedLemmas.{keys_below}
-use Rattle.mx_points.specs.Points.{moving, next_mark, next_point, numbers_left, numbers_of, on_to, size_of}
-use Rattle.mx_points.proofs.CommitLemmas.{numbers_rising}
-use Rattle.mx_points.proofs.NextLemmas.{next_is_least, Apart}
-use Rattle.mx_points.proofs.StepLemmas.{step_after}
+use Rattle.mx_registers.specs.points.Points.{moving, next_mark, next_point, numbers_left, numbers_of, on_to, size_of}
+use Rattle.mx_registers.proofs.PointsProofs.CommitLemmas.{numbers_rising}
+use Rattle.mx_registers.proofs.PointsProofs.NextLemmas.{next_is_least, Apart}
+use Rattle.mx_registers.proofs.PointsProofs.StepLemmas.{step_after}
 use Rattle.mx_layout.specs.Point.{FitsPoint}
 
 of_last : (P : ℕ → Type 0) (n : ℕ) (xs : List ℕ) → AllByRecursion P xs → last_of (take 1 xs) ≡ Some n → P n

@@ -12,14 +12,14 @@ use Rattle.mx_book.specs.Book.{IsBook, is_new}
 use Rattle.mx_book.specs.Judge.{judge}
 use Rattle.mx_book.specs.Span.{Span, spans}
 use Rattle.mx_book.proofs.PassLemmas.{new-fitting}
-use Rattle.mx_register.specs.Registers.{next}
-use Rattle.mx_register.specs.Names.{seq_of_serial, or_zero}
-use Rattle.mx_register.proofs.NewLemmas.{fitted_is_known}
+use Rattle.mx_registers.specs.Registers.{next}
+use Rattle.mx_registers.specs.Names.{seq_of_serial, or_zero}
+use Rattle.mx_registers.proofs.NewLemmas.{fitted_is_known}
 use Rattle.mx_base.specs.declared.rows.rows.SpanRow.{SpanRow}
-use Rattle.mx_kept_rows.specs.Spans.{span_ended, span_rows, spans_opened}
-use Rattle.mx_kept_rows.proofs.Induction.{of_each_book}
-use Rattle.mx_kept_rows.proofs.SpanRegisters.{is_open_row, open_alike}
-use Rattle.mx_kept_rows.proofs.SpanRows.{row_to, span_rows-more}
+use Rattle.mx_registers.specs.kept.Spans.{span_ended, span_rows, spans_opened}
+use Rattle.mx_registers.proofs.KeptProofs.Induction.{of_each_book}
+use Rattle.mx_registers.proofs.KeptProofs.SpanRegisters.{is_open_row, open_alike}
+use Rattle.mx_registers.proofs.KeptProofs.SpanRows.{row_to, span_rows-more}
 use Rattle.mx_steps.specs.Pairing.{AreTurns}
 
 abbrev pub Ends : SpanRow → List SpanRow → ℕ → Type 0

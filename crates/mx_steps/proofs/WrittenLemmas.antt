@@ -12,24 +12,24 @@ use Rattle.mx_book.specs.Programme.{last_of}
 use Rattle.mx_base.specs.declared.rows.rows.BaseRow.{BaseRow}
 use Rattle.mx_base.specs.declared.rows.rows.TotalRow.{TotalRow}
 use Rattle.mx_base.specs.rows.Rows.{FitsAircraft, FitsBase, FitsComponent, FitsDeferral, FitsOpening, FitsRelease, FitsReleaseLine, FitsSector, FitsSpan, FitsTotal}
-use Rattle.mx_register.specs.Registers.{sector_rows}
-use Rattle.mx_kept_rows.specs.Bases.{base_rows}
-use Rattle.mx_kept_rows.specs.Fits.{FitRegisters}
-use Rattle.mx_kept_rows.specs.Items.{items}
-use Rattle.mx_kept_rows.specs.Spans.{span_rows}
-use Rattle.mx_kept_rows.specs.Totals.{total_row, total_rows}
-use Rattle.mx_kept_rows.proofs.BaseFits.{bases_fit}
-use Rattle.mx_kept_rows.proofs.FitLemmas.{totals_fit}
-use Rattle.mx_kept_rows.proofs.SpanFits.{fittings_fit, removals_fit}
+use Rattle.mx_registers.specs.Registers.{sector_rows}
+use Rattle.mx_registers.specs.kept.Bases.{base_rows}
+use Rattle.mx_registers.specs.kept.Fits.{FitRegisters}
+use Rattle.mx_registers.specs.kept.Items.{items}
+use Rattle.mx_registers.specs.kept.Spans.{span_rows}
+use Rattle.mx_registers.specs.kept.Totals.{total_row, total_rows}
+use Rattle.mx_registers.proofs.KeptProofs.BaseFits.{bases_fit}
+use Rattle.mx_registers.proofs.KeptProofs.FitLemmas.{totals_fit}
+use Rattle.mx_registers.proofs.KeptProofs.SpanFits.{fittings_fit, removals_fit}
 use Rattle.mx_base.specs.declared.point.Point.{Point}
-use Rattle.mx_points.specs.Moves.{last_moved, totals_next}
-use Rattle.mx_points.specs.Points.{moving, next_mark, next_point}
-use Rattle.mx_points.specs.Tables.{bases_2, rows_at, sectors_2, spans_2, stands_there, totals_2}
-use Rattle.mx_points.proofs.MoveLemmas.{bases_written as written_law, totals_moved}
-use Rattle.mx_points.proofs.NextLemmas.{bases_next}
-use Rattle.mx_points.proofs.OneBook.{all_there, filter_through}
-use Rattle.mx_points.proofs.PointLemmas.{next_number}
-use Rattle.mx_points.proofs.StandingLemmas.{always_whole}
+use Rattle.mx_registers.specs.points.Moves.{last_moved, totals_next}
+use Rattle.mx_registers.specs.points.Points.{moving, next_mark, next_point}
+use Rattle.mx_registers.specs.points.Tables.{bases_2, rows_at, sectors_2, spans_2, stands_there, totals_2}
+use Rattle.mx_registers.proofs.PointsProofs.MoveLemmas.{bases_written as written_law, totals_moved}
+use Rattle.mx_registers.proofs.PointsProofs.NextLemmas.{bases_next}
+use Rattle.mx_registers.proofs.PointsProofs.OneBook.{all_there, filter_through}
+use Rattle.mx_registers.proofs.PointsProofs.PointLemmas.{next_number}
+use Rattle.mx_registers.proofs.PointsProofs.StandingLemmas.{always_whole}
 use Rattle.mx_layout.specs.TableName.{TableName}
 use Rattle.mx_layout.specs.declared.fault.Table.TheVariants as table
 use Rattle.mx_kept.specs.Cells.{kept_base2, kept_total2}

@@ -8,10 +8,10 @@ use Rattle.mx_base.specs.declared.rows.rows.FittingRow.{FittingRow}
 use Rattle.mx_base.specs.declared.rows.rows.RemovalRow.{RemovalRow}
 use Rattle.mx_base.specs.declared.rows.rows.SpanRow.{SpanRow}
 use Rattle.mx_base.specs.rows.Rows.{FitsFitting, FitsRemoval}
-use Rattle.mx_register.specs.Registers.{fitting_rows, removal_rows}
-use Rattle.mx_kept_rows.specs.Spans.{span_rows}
+use Rattle.mx_registers.specs.Registers.{fitting_rows, removal_rows}
+use Rattle.mx_registers.specs.kept.Spans.{span_rows}
 use Rattle.mx_base.specs.declared.point.Point.{Point}
-use Rattle.mx_points.specs.Points.{moving}
+use Rattle.mx_registers.specs.points.Points.{moving}
 use Rattle.mx_layout.specs.TableName.{TableName}
 use Rattle.mx_layout.specs.declared.fault.Table.TheVariants as table
 use Rattle.mx_layout.specs.Tables.{fit1, removal1}

@@ -8,8 +8,8 @@ use Rattle.mx_book.specs.declared.limits.TheConstants.{MOST_ENTRIES}
 use Rattle.mx_base.specs.declared.rows.rows.SectorRow.{SectorRow}
 use Rattle.mx_base.specs.rows.Rows.{FitsSector}
 use Rattle.mx_base.specs.declared.point.Point.{Point}
-use Rattle.mx_points.specs.Moves.{last_moved}
-use Rattle.mx_points.specs.Points.{moving}
+use Rattle.mx_registers.specs.points.Moves.{last_moved}
+use Rattle.mx_registers.specs.points.Points.{moving}
 use Rattle.mx_layout.specs.TableName.{TableName}
 use Rattle.mx_layout.specs.declared.fault.Table.TheVariants as table
 use Rattle.mx_layout.specs.Contents.{rows_in}

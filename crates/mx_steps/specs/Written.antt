@@ -5,9 +5,9 @@ use Rattle.sqlite.specs.Tree.{Trees}
 use Rattle.mx_book.specs.commands.Act.{Entry}
 use Rattle.mx_base.specs.declared.rows.rows.BaseRow.{BaseRow}
 use Rattle.mx_base.specs.declared.rows.rows.TotalRow.{TotalRow}
-use Rattle.mx_kept_rows.specs.Bases.{base_rows}
+use Rattle.mx_registers.specs.kept.Bases.{base_rows}
 use Rattle.mx_base.specs.declared.point.Point.{Point}
-use Rattle.mx_points.specs.Points.{moving}
+use Rattle.mx_registers.specs.points.Points.{moving}
 use Rattle.mx_layout.specs.TableName.{TableName}
 use Rattle.mx_kept.specs.Cells.{kept_base2, kept_total2}
 use Rattle.mx_kept.specs.Family.{on_top}

@@ -10,14 +10,14 @@ use Rattle.mx_base.specs.declared.rows.rows.OpeningRow.{OpeningRow}
 use Rattle.mx_base.specs.declared.rows.rows.ReleaseLineRow.{ReleaseLineRow}
 use Rattle.mx_book.specs.commands.Act.{Entry}
 use Rattle.mx_book.specs.Book.{IsBook}
-use Rattle.mx_register.specs.Registers.{opening_rows, release_line_rows}
-use Rattle.mx_kept_rows.specs.Bases.{AreKeyedOnce, base_rows}
+use Rattle.mx_registers.specs.Registers.{opening_rows, release_line_rows}
+use Rattle.mx_registers.specs.kept.Bases.{AreKeyedOnce, base_rows}
 use Rattle.mx_indexes.specs.Maps.{held}
 use Rattle.mx_merged.specs.Keys.{AreKeys, key_cmp}
 use Rattle.mx_merged.proofs.KeyLemmas.{keys_more, keys_of_none}
 use Rattle.mx_verified.specs.Bases.{has_certified, has_stated}
-use Rattle.mx_file_rows.specs.Bases.{has_key, is_certified_in, is_last_base, is_stated_in}
-use Rattle.mx_file_rows.proofs.BaseLemmas.{decided, once_apart, once_if, once_more}
+use Rattle.mx_registers.specs.file.Bases.{has_key, is_certified_in, is_last_base, is_stated_in}
+use Rattle.mx_registers.proofs.FileProofs.BaseLemmas.{decided, once_apart, once_if, once_more}
 
 -- the rows so far have distinct keys, which the map has
 pub record Keeps (rows rest : List BaseRow) (keys : BTreeMap (ℕ × List ℕ) Bool) : Type 0 where

@@ -17,18 +17,18 @@ use Rattle.mx_base.specs.declared.rows.rows.ReleaseRow.{ReleaseRow}
 use Rattle.mx_base.specs.declared.rows.rows.SectorRow.{SectorRow}
 use Rattle.mx_base.specs.declared.rows.rows.SpanRow.{SpanRow}
 use Rattle.mx_base.specs.declared.rows.rows.TotalRow.{TotalRow}
-use Rattle.mx_register.specs.Registers.{aircraft_rows, component_rows, deferral_rows, entry_rows, extension_rows, opening_rows, place_rows, programme_rows, release_line_rows, release_rows, sector_rows, task_rows}
-use Rattle.mx_kept_rows.specs.Bases.{base_rows}
-use Rattle.mx_kept_rows.specs.Spans.{span_rows}
-use Rattle.mx_kept_rows.specs.Totals.{total_rows}
-use Rattle.mx_kept_rows.proofs.ItemOrder.{total_rows-rising}
-use Rattle.mx_register.specs.Left.{all_rows}
+use Rattle.mx_registers.specs.Registers.{aircraft_rows, component_rows, deferral_rows, entry_rows, extension_rows, opening_rows, place_rows, programme_rows, release_line_rows, release_rows, sector_rows, task_rows}
+use Rattle.mx_registers.specs.kept.Bases.{base_rows}
+use Rattle.mx_registers.specs.kept.Spans.{span_rows}
+use Rattle.mx_registers.specs.kept.Totals.{total_rows}
+use Rattle.mx_registers.proofs.KeptProofs.ItemOrder.{total_rows-rising}
+use Rattle.mx_registers.specs.Left.{all_rows}
 use Rattle.mx_merged.specs.Merging.{merging}
-use Rattle.mx_file_rows.proofs.TableLemmas.{put_is, put_of, registers_put, spans_put}
-use Rattle.mx_file_rows.specs.Tables.{AreFilePut, AreTablesOf}
+use Rattle.mx_registers.proofs.FileProofs.TableLemmas.{put_is, put_of, registers_put, spans_put}
+use Rattle.mx_registers.specs.file.Tables.{AreFilePut, AreTablesOf}
 use Rattle.mx_verified.specs.Verified.{AreRowsOf}
 use Rattle.mx_merged.specs.declared.merged.NoBook.TheVariants.{Damaged}
-use Rattle.mx_file_rows.specs.declared.file_rows.FileRows.{FileRows}
+use Rattle.mx_registers.specs.declared.file.file_rows.FileRows.{FileRows}
 use Rattle.mx_verified.specs.declared.verified.Unverified.{Unverified}
 
 -- tables whose rows are those of a book as sets have, in order, the rows of the book

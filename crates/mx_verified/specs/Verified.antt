@@ -1,11 +1,11 @@
 -- Rows that are those of a book.
 use Rattle.std.specs.Prelude.{◌≡◌, List, IsPermutation}
 use Rattle.mx_book.specs.commands.Act.{Entry}
-use Rattle.mx_register.specs.Registers.{AreRegistersOf}
-use Rattle.mx_kept_rows.specs.Bases.{base_rows}
-use Rattle.mx_kept_rows.specs.Spans.{span_rows}
-use Rattle.mx_kept_rows.specs.Totals.{total_rows}
-use Rattle.mx_file_rows.specs.declared.file_rows.FileRows.{FileRows}
+use Rattle.mx_registers.specs.Registers.{AreRegistersOf}
+use Rattle.mx_registers.specs.kept.Bases.{base_rows}
+use Rattle.mx_registers.specs.kept.Spans.{span_rows}
+use Rattle.mx_registers.specs.kept.Totals.{total_rows}
+use Rattle.mx_registers.specs.declared.file.file_rows.FileRows.{FileRows}
 
 -- the kept rows are those that the book gives
 pub record HasKeptRows (rows : FileRows) (book : List Entry) : Type 0 where

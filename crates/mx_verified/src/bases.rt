@@ -3,18 +3,18 @@ ghost use Rattle.std.specs.Prelude.{◌≡◌, ◌&&◌, IfOk, MatchOption, IsPe
 ghost use Rattle.std.specs.Bool.{Decides};
 ghost use Rattle.std.specs.List.{list_all};
 ghost use Rattle.mx_base.specs.rows.Rows.{base_in_row};
-ghost use Rattle.mx_register.specs.Registers.{opening_rows, release_line_rows};
-ghost use Rattle.mx_kept_rows.specs.Bases.{AreKeyedOnce, base_rows};
+ghost use Rattle.mx_registers.specs.Registers.{opening_rows, release_line_rows};
+ghost use Rattle.mx_registers.specs.kept.Bases.{AreKeyedOnce, base_rows};
 ghost use Rattle.mx_merged.specs.Keys.{AreKeys};
 ghost use Rattle.mx_verified.specs.Bases.{has_certified, has_stated};
-ghost use Rattle.mx_file_rows.specs.Bases.{is_last_base, same_base};
+ghost use Rattle.mx_registers.specs.file.Bases.{is_last_base, same_base};
 
 use mx_base::rows::{BaseRow, OpeningRow, ReleaseLineRow};
 use mx_base::{Base, TaskId};
 use mx_book::entry_list::NoMemory;
 use mx_indexed::IndexedBook;
 use mx_indexes::maps::held;
-use mx_plain_register::item_of_entry;
+use mx_registers::plain::item_of_entry;
 use std::alloc::Global;
 use std::collections::BTreeMap;
 

@@ -2,14 +2,14 @@
 ghost use Rattle.std.specs.Prelude.{◌≡◌, ◌≢◌, List, [], true, Err, IfOk, MatchResult, Ok};
 ghost use Rattle.mx_book.specs.commands.Act.{Entry};
 ghost use Rattle.mx_book.specs.Book.{IsBook};
-ghost use Rattle.mx_register.specs.Left.{all_rows};
+ghost use Rattle.mx_registers.specs.Left.{all_rows};
 ghost use Rattle.mx_merged.specs.Merging.{merging};
-ghost use Rattle.mx_file_rows.specs.Tables.{AreFilePut, AreTablesOf};
+ghost use Rattle.mx_registers.specs.file.Tables.{AreFilePut, AreTablesOf};
 
 use crate::verified::{Unverified, verify_rows};
 use mx_base::rows::EntryKind;
-use mx_file_rows::{FileRows, put_in_order};
 use mx_merged::NoBook;
+use mx_registers::file::{FileRows, put_in_order};
 use std::alloc::Global;
 
 /// Whether the rows of the tables of a file, each table's in any order, are those of a book; which fittings and removals

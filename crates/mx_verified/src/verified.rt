@@ -3,11 +3,11 @@ ghost use Rattle.std.specs.Prelude.{◌≡◌, ◌≢◌, List, [], true, Err, I
 ghost use Rattle.std.specs.Bool.{Decides};
 ghost use Rattle.mx_book.specs.commands.Act.{Entry};
 ghost use Rattle.mx_book.specs.Book.{IsBook};
-ghost use Rattle.mx_register.specs.Left.{all_rows};
-ghost use Rattle.mx_register.specs.Registers.{AreRegistersOf};
-ghost use Rattle.mx_kept_rows.specs.Bases.{base_rows};
-ghost use Rattle.mx_kept_rows.specs.Spans.{span_rows};
-ghost use Rattle.mx_kept_rows.specs.Totals.{total_rows};
+ghost use Rattle.mx_registers.specs.Left.{all_rows};
+ghost use Rattle.mx_registers.specs.Registers.{AreRegistersOf};
+ghost use Rattle.mx_registers.specs.kept.Bases.{base_rows};
+ghost use Rattle.mx_registers.specs.kept.Spans.{span_rows};
+ghost use Rattle.mx_registers.specs.kept.Totals.{total_rows};
 ghost use Rattle.mx_merged.specs.Merging.{merging};
 ghost use Rattle.mx_verified.specs.Verified.{AreRowsOf, HasKeptRows};
 
@@ -15,10 +15,10 @@ use crate::bases::are_bases;
 use crate::same::are_same;
 use mx_base::rows::EntryKind;
 use mx_book::entry_list::NoMemory;
-use mx_file_rows::FileRows;
-use mx_file_rows::spans::spans_made;
 use mx_indexed::IndexedBook;
 use mx_merged::{NoBook, merge_beside_maps, total_rows};
+use mx_registers::file::FileRows;
+use mx_registers::file::spans::spans_made;
 use std::alloc::Global;
 
 /// Why it was not found out whether rows are those of a book.

@@ -8,7 +8,7 @@ use Rattle.mx_book.specs.commands.Act.{Entry}
 use Rattle.mx_book.specs.Book.{IsBook}
 use Rattle.mx_base.specs.declared.rows.rows.EntryKind.{EntryKind}
 use Rattle.mx_base.specs.declared.rows.rows.EntryKind.TheVariants as kind
-use Rattle.mx_register.specs.Left.{all_rows}
+use Rattle.mx_registers.specs.Left.{all_rows}
 use Rattle.mx_layout.specs.TableName.{TableName}
 use Rattle.mx_layout.specs.declared.fault.TableFault.{TableFault}
 use Rattle.mx_layout.specs.declared.fault.TableFault.TheVariants as fault
@@ -16,9 +16,9 @@ use Rattle.mx_layout.specs.Point.{IsStop}
 use Rattle.mx_stands.specs.Family.{is_at}
 use Rattle.mx_stands.specs.Stands.{HasRowsAt}
 use Rattle.mx_merged.specs.Merging.{merging}
-use Rattle.mx_file_rows.specs.Tables.{AreFilePut, AreTablesOf}
+use Rattle.mx_registers.specs.file.Tables.{AreFilePut, AreTablesOf}
 use Rattle.mx_merged.specs.declared.merged.NoBook.TheVariants as no_book
-use Rattle.mx_file_rows.specs.declared.file_rows.FileRows.{FileRows}
+use Rattle.mx_registers.specs.declared.file.file_rows.FileRows.{FileRows}
 use Rattle.mx_verified.specs.declared.verified.Unverified.{Unverified}
 use Rattle.mx_verified.specs.declared.verified.Unverified.TheVariants as why
 use Rattle.mx_reading.specs.Layout.{verified_point}

@@ -2,13 +2,13 @@
 use Rattle.std.specs.Prelude.{◌≡◌, ◌≢◌, ◌⊎◌, [], Err}
 use Rattle.sqlite.specs.Tree.{Trees}
 use Rattle.mx_base.specs.declared.rows.rows.EntryKind.{EntryKind}
-use Rattle.mx_register.specs.Left.{all_rows}
+use Rattle.mx_registers.specs.Left.{all_rows}
 use Rattle.mx_layout.specs.TableName.{TableName}
 use Rattle.mx_layout.specs.Tables.{office}
 use Rattle.mx_merged.specs.Merging.{merging}
-use Rattle.mx_file_rows.specs.Tables.{AreFilePut}
+use Rattle.mx_registers.specs.file.Tables.{AreFilePut}
 use Rattle.mx_merged.specs.declared.merged.NoBook.TheVariants as no_book
-use Rattle.mx_file_rows.specs.declared.file_rows.FileRows.{FileRows}
+use Rattle.mx_registers.specs.declared.file.file_rows.FileRows.{FileRows}
 use Rattle.mx_reading.specs.Damage.{HasBadRow, IsOfficeRead, table_of}
 use Rattle.mx_reading.specs.Stored.{AreStored}
 

@@ -13,18 +13,18 @@ use Rattle.mx_book.specs.Judge.{judge}
 use Rattle.mx_book.proofs.JudgeLemmas.{both_true}
 use Rattle.mx_base.specs.declared.rows.rows.SpanRow.{SpanRow}
 use Rattle.mx_base.specs.declared.rows.rows.TotalRow.{TotalRow}
-use Rattle.mx_register.specs.Registers.{sectors_by}
-use Rattle.mx_kept_rows.specs.Bases.{base_rows, bases_put}
-use Rattle.mx_kept_rows.specs.Spans.{span_rows, spans_opened}
-use Rattle.mx_kept_rows.specs.Totals.{total_rows, totals_opened}
-use Rattle.mx_kept_rows.proofs.PutBases.{command_bases}
+use Rattle.mx_registers.specs.Registers.{sectors_by}
+use Rattle.mx_registers.specs.kept.Bases.{base_rows, bases_put}
+use Rattle.mx_registers.specs.kept.Spans.{span_rows, spans_opened}
+use Rattle.mx_registers.specs.kept.Totals.{total_rows, totals_opened}
+use Rattle.mx_registers.proofs.KeptProofs.PutBases.{command_bases}
 use Rattle.mx_changes.specs.Puts.{has_number_of, spans_put, totals_put}
 use Rattle.mx_changes.specs.Rows.{AreCommandRows, held, spans_touched, totals_touched}
 use Rattle.mx_changes.specs.declared.rows.ChangedRows.{ChangedRows}
 use Rattle.mx_changes.specs.declared.rows.CommandRows.{CommandRows}
 use Rattle.mx_changes.proofs.PutLemmas.{same_rows}
 use Rattle.mx_changes.proofs.TouchLemmas.{spans_are_put, totals_are_put}
-use Rattle.mx_points.specs.Tables.{bases_2, spans_2, totals_2}
+use Rattle.mx_registers.specs.points.Tables.{bases_2, spans_2, totals_2}
 use Rattle.mx_layout.specs.TableName.{TableName}
 use Rattle.mx_layout.specs.declared.fault.Table.TheVariants as table
 use Rattle.mx_layout.specs.Steps.{IsLayout}

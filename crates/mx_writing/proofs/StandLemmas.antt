@@ -18,12 +18,12 @@ use Rattle.mx_base.specs.rows.Rows.{FitsEntry, FitsAircraft, FitsPlace, FitsComp
 use Rattle.mx_base.specs.declared.rows.rows.SectorRow.{SectorRow}
 use Rattle.mx_base.specs.declared.rows.rows.SpanRow.{SpanRow}
 use Rattle.mx_base.specs.declared.rows.rows.TotalRow.{TotalRow}
-use Rattle.mx_register.specs.Added.{AreAdded}
-use Rattle.mx_register.specs.Registers.{aircraft_by, components_by, deferrals_by, extensions_by, openings_by, places_by, programmes_by, release_lines_by, releases_by, sectors_by, tasks_by}
-use Rattle.mx_kept_rows.specs.Bases.{base_rows, bases_by}
-use Rattle.mx_kept_rows.specs.Spans.{span_rows, spans_opened}
-use Rattle.mx_kept_rows.specs.Totals.{total_rows, totals_opened}
-use Rattle.mx_kept_rows.proofs.PutBases.{command_bases}
+use Rattle.mx_registers.specs.Added.{AreAdded}
+use Rattle.mx_registers.specs.Registers.{aircraft_by, components_by, deferrals_by, extensions_by, openings_by, places_by, programmes_by, release_lines_by, releases_by, sectors_by, tasks_by}
+use Rattle.mx_registers.specs.kept.Bases.{base_rows, bases_by}
+use Rattle.mx_registers.specs.kept.Spans.{span_rows, spans_opened}
+use Rattle.mx_registers.specs.kept.Totals.{total_rows, totals_opened}
+use Rattle.mx_registers.proofs.KeptProofs.PutBases.{command_bases}
 use Rattle.mx_changes.specs.Puts.{has_number_of, rows_put}
 use Rattle.mx_changes.specs.Rows.{AreCommandRows, FitsHeld, held, sectors_held_by, spans_touched, totals_touched}
 use Rattle.mx_changes.specs.declared.rows.AddedRows.{AddedRows}

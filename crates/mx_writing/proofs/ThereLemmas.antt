@@ -1,7 +1,7 @@
 -- The tables of a file that is settled at layout 2, as its statements ask for them.
 use Rattle.std.proofs.Common.{◌≡◌, inr, true, refl, sym, subst, []}
 use Rattle.sqlite.specs.Schema.{Schema}
-use Rattle.mx_points.specs.Tables.{Line, is_table_at}
+use Rattle.mx_registers.specs.points.Tables.{Line, is_table_at}
 use Rattle.mx_layout.specs.TableName.{TableName}
 use Rattle.mx_layout.specs.Contents.{HasNoReferences}
 use Rattle.mx_layout.specs.declared.fault.Table.TheVariants as table

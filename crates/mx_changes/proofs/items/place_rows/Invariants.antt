@@ -1,7 +1,7 @@
 use Rattle.std.proofs.Common.{◌≡◌, ◌+◌, ◌++◌, length, All}
 use Rattle.mx_base.specs.rows.Rows.{FitsPlace}
-use Rattle.mx_register.specs.Lines.{lines_from}
-use Rattle.mx_register.specs.Registers.{place_row}
+use Rattle.mx_registers.specs.Lines.{lines_from}
+use Rattle.mx_registers.specs.Registers.{place_row}
 use Rattle.mx_changes.proofs.items.place_rows.Given as goal
 
 -- some positions have their rows, and those that are left come behind them

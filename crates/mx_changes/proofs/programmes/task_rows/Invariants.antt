@@ -1,7 +1,7 @@
 use Rattle.std.proofs.Common.{◌≡◌, ◌+◌, ◌++◌, length, All}
 use Rattle.mx_base.specs.rows.Rows.{FitsTask}
-use Rattle.mx_register.specs.Lines.{lines_from}
-use Rattle.mx_register.specs.Registers.{task_row}
+use Rattle.mx_registers.specs.Lines.{lines_from}
+use Rattle.mx_registers.specs.Registers.{task_row}
 use Rattle.mx_changes.proofs.programmes.task_rows.Given as goal
 
 -- some tasks have their rows, and those that are left come behind them

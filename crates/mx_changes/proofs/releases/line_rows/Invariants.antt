@@ -1,6 +1,6 @@
 use Rattle.std.proofs.Common.{◌≡◌, ◌+◌, ◌++◌, length, All}
 use Rattle.mx_base.specs.rows.Rows.{FitsReleaseLine}
-use Rattle.mx_register.specs.Lines.{lines_from}
+use Rattle.mx_registers.specs.Lines.{lines_from}
 use Rattle.mx_changes.specs.Certified.{line_made}
 use Rattle.mx_changes.proofs.releases.line_rows.Given as goal
 

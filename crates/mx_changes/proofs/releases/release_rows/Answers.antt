@@ -2,13 +2,13 @@ use Rattle.std.proofs.Common.{◌≡◌, ℕ, refl, ap, [], ◌∷◌, ◌∙◌
 use Rattle.mx_book.specs.commands.Act.{Released}
 use Rattle.mx_base.specs.rows.Rows.{FitsAircraft, FitsPlace, FitsComponent, FitsProgramme, FitsTask, FitsOpening, FitsRelease, FitsReleaseLine, FitsDeferral, FitsExtension, FitsSpan, FitsTotal, FitsBase}
 use Rattle.mx_base.specs.declared.rows.rows.EntryRow.{EntryRow}
-use Rattle.mx_register.specs.Registers.{aircraft_by, places_by, components_by, programmes_by, tasks_by, openings_by, releases_by, release_lines_by, deferrals_by, extensions_by, next, release_row}
-use Rattle.mx_register.specs.Lines.{lines_from}
-use Rattle.mx_kept_rows.specs.Bases.{bases_by}
-use Rattle.mx_kept_rows.specs.Changes.{entry_of}
+use Rattle.mx_registers.specs.Registers.{aircraft_by, places_by, components_by, programmes_by, tasks_by, openings_by, releases_by, release_lines_by, deferrals_by, extensions_by, next, release_row}
+use Rattle.mx_registers.specs.Lines.{lines_from}
+use Rattle.mx_registers.specs.kept.Bases.{bases_by}
+use Rattle.mx_registers.specs.kept.Changes.{entry_of}
 use Rattle.mx_changes.specs.Kept.{total_clocked}
-use Rattle.mx_kept_rows.specs.Spans.{span_ended, span_rows, spans_opened}
-use Rattle.mx_kept_rows.specs.Totals.{totals_opened}
+use Rattle.mx_registers.specs.kept.Spans.{span_ended, span_rows, spans_opened}
+use Rattle.mx_registers.specs.kept.Totals.{totals_opened}
 use Rattle.mx_changes.specs.Rows.{FitsHeld, sectors_held_by, spans_touched, totals_touched}
 use Rattle.mx_changes.proofs.AddedLemmas.{nothing, one, these}
 use Rattle.mx_changes.proofs.TouchLemmas.{clocked_are, none_pass}

@@ -1,5 +1,5 @@
 use Rattle.mx_derived.proofs.KeptLemmas.{of_merged}
-use Rattle.mx_file_rows.proofs.TableLemmas.{registers_put}
+use Rattle.mx_registers.proofs.FileProofs.TableLemmas.{registers_put}
 use Rattle.mx_derived.proofs.kept.kept_rows.Goals as goal
 
 pub returns-in-Ok-clause-whole : goal.returns-in-Ok-clause-whole

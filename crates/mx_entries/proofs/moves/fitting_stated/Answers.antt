@@ -1,8 +1,8 @@
 use Rattle.std.proofs.Common.{map, sym, ap, ap₂, ◌∙◌}
 use Rattle.std.specs.Prelude.{slice_get}
 use Rattle.std.specs.Option.{option_and_then, option_map}
-use Rattle.mx_register.specs.Merge.{fitting_said}
-use Rattle.mx_kept_rows.specs.Spans.{fitting_in}
+use Rattle.mx_registers.specs.Merge.{fitting_said}
+use Rattle.mx_registers.specs.kept.Spans.{fitting_in}
 use Rattle.mx_numbers.specs.Given.{SerialOfNumber, TailOfNumber}
 use Rattle.mx_numbers.proofs.ReadLemmas.{reads_then}
 use Rattle.mx_entries.proofs.KindLemmas.{fitting_kind}

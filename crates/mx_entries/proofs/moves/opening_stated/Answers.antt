@@ -1,7 +1,7 @@
 use Rattle.std.proofs.Common.{Some, None, sym, ap, ◌∙◌}
 use Rattle.std.specs.Prelude.{slice_get}
 use Rattle.std.specs.Option.{option_map}
-use Rattle.mx_register.specs.Merge.{opening_said}
+use Rattle.mx_registers.specs.Merge.{opening_said}
 use Rattle.mx_entries.proofs.KindLemmas.{opening_kind}
 use Rattle.mx_entries.proofs.StatedLemmas.{it_said, it_said-any, none_said, none_said-any, unnamed, unread}
 use Rattle.mx_entries.proofs.moves.opening_stated.Goals as goal

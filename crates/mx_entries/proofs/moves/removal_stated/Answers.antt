@@ -2,8 +2,8 @@ use Rattle.std.proofs.Common.{Some, None, sym, ap, ◌∙◌}
 use Rattle.std.specs.Prelude.{slice_get}
 use Rattle.std.specs.List.{filter_map}
 use Rattle.std.specs.Option.{option_map}
-use Rattle.mx_register.specs.Merge.{removal_said}
-use Rattle.mx_kept_rows.specs.Spans.{removal_in}
+use Rattle.mx_registers.specs.Merge.{removal_said}
+use Rattle.mx_registers.specs.kept.Spans.{removal_in}
 use Rattle.mx_entries.proofs.KindLemmas.{removal_kind}
 use Rattle.mx_entries.proofs.StatedLemmas.{it_said, it_said-any, none_said, none_said-any, unnamed, unread}
 use Rattle.mx_entries.proofs.moves.removal_stated.Goals as goal

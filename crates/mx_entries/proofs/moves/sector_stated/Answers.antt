@@ -1,6 +1,6 @@
 use Rattle.std.proofs.Common.{Some, None, sym, ap, ◌∙◌}
 use Rattle.std.specs.Option.{option_map}
-use Rattle.mx_register.specs.Merge.{sector_said}
+use Rattle.mx_registers.specs.Merge.{sector_said}
 use Rattle.mx_entries.proofs.KindLemmas.{first_sector, sector_kind}
 use Rattle.mx_entries.proofs.StatedLemmas.{it_said, it_said-any, none_said, none_said-any, unnamed, unread}
 use Rattle.mx_entries.proofs.moves.sector_stated.Goals as goal

@@ -3,7 +3,7 @@ use Rattle.std.specs.Prelude.{slice_get}
 use Rattle.std.specs.Option.{option_and_then, option_map}
 use Rattle.std.specs.declared.alloc.Global.{Global}
 use Rattle.mx_book.specs.declared.commands.release.Line.{Line}
-use Rattle.mx_register.specs.Merge.{release_said}
+use Rattle.mx_registers.specs.Merge.{release_said}
 use Rattle.mx_entries.specs.Releases.{LinesStated, PlaceStated}
 use Rattle.mx_numbers.proofs.ReadLemmas.{reads_then}
 use Rattle.mx_entries.proofs.KindLemmas.{release_kind}

@@ -2,7 +2,7 @@ use Rattle.std.proofs.Common.{◌≡◌, sym, ap, ◌∙◌, List, ◌∷◌, Bo
 use Rattle.std.specs.List.{list_all, list_any}
 use Rattle.mx_book.specs.commands.Programme.{task_shape}
 use Rattle.mx_book.proofs.JudgeLemmas.{both_true}
-use Rattle.mx_register.specs.Merge.{task_said}
+use Rattle.mx_registers.specs.Merge.{task_said}
 use Rattle.mx_base.specs.declared.rows.rows.TaskRow.{TaskRow}
 use Rattle.mx_found.specs.Programmes.{retires}
 use Rattle.mx_found.proofs.programmes.is_retired_in.Goals as goal

@@ -1,7 +1,7 @@
 use Rattle.std.proofs.Common.{◌≡◌, true, length}
 use Rattle.std.specs.List.{list_all}
 use Rattle.mx_book.specs.commands.Programme.{task_shape}
-use Rattle.mx_register.specs.Merge.{task_said}
+use Rattle.mx_registers.specs.Merge.{task_said}
 use Rattle.mx_base.specs.declared.rows.rows.TaskRow.{TaskRow}
 use Rattle.mx_found.specs.Programmes.{is_retired_in}
 use Rattle.mx_found.proofs.programmes.is_retired_in.Given as goal

@@ -1,7 +1,7 @@
 use Rattle.std.proofs.Common.{◌≡◌, drop}
 use Rattle.std.specs.Prelude.{slice_get}
 use Rattle.std.specs.List.{filter_map}
-use Rattle.mx_kept_rows.specs.Spans.{removal_in}
+use Rattle.mx_registers.specs.kept.Spans.{removal_in}
 use Rattle.mx_found.proofs.stated.first_removal.Given as goal
 
 -- none of those before has one

@@ -1,6 +1,6 @@
 use Rattle.std.proofs.Common.{◌∙◌}
-use Rattle.mx_register.specs.Lines.{lines_from}
-use Rattle.mx_register.specs.Registers.{place_row}
+use Rattle.mx_registers.specs.Lines.{lines_from}
+use Rattle.mx_registers.specs.Registers.{place_row}
 use Rattle.mx_found.specs.Given as registers
 use Rattle.mx_numbers.proofs.BookRows.{places_of}
 use Rattle.mx_numbers.proofs.ReadLemmas.{stopped, told}

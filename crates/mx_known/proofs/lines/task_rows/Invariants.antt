@@ -1,6 +1,6 @@
 use Rattle.std.proofs.Common.{◌≡◌, ◌+◌, ◌++◌, length}
-use Rattle.mx_register.specs.Lines.{lines_from}
-use Rattle.mx_register.specs.Registers.{task_row}
+use Rattle.mx_registers.specs.Lines.{lines_from}
+use Rattle.mx_registers.specs.Registers.{task_row}
 use Rattle.mx_known.proofs.lines.task_rows.Given as goal
 
 -- some tasks have their rows, and those that are left come behind them

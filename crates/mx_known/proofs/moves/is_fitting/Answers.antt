@@ -1,6 +1,6 @@
 use Rattle.std.proofs.Common.{Some, sym, ap, ap₂, ◌∙◌, inl, inr}
 use Rattle.std.specs.List.{list_any}
-use Rattle.mx_register.specs.Names.{or_zero}
+use Rattle.mx_registers.specs.Names.{or_zero}
 use Rattle.mx_found.specs.Spans.{begins_with}
 use Rattle.mx_found.proofs.AnswerLemmas.{fitting_by_spans}
 use Rattle.mx_found.proofs.FoundLemmas.{entry_is}

@@ -1,8 +1,8 @@
 use Rattle.std.proofs.Common.{[], ◌∷◌, map, ap, ◌∙◌, inr}
 use Rattle.mx_book.specs.commands.Act.{Flown}
 use Rattle.mx_base.specs.declared.rows.rows.Sector2Row.{Sector2Row}
-use Rattle.mx_register.specs.Names.{or_zero, seq_of_tail}
-use Rattle.mx_register.specs.Registers.{sector_row}
+use Rattle.mx_registers.specs.Names.{or_zero, seq_of_tail}
+use Rattle.mx_registers.specs.Registers.{sector_row}
 use Rattle.mx_found.specs.Given as registers
 use Rattle.mx_numbers.proofs.SectorRows.{sectors_held, sectors_read}
 use Rattle.mx_numbers.proofs.ReadLemmas.{reads_then, stopped, told}

@@ -1,8 +1,8 @@
 use Rattle.std.proofs.Common.{rules, ◌≡◌, ◌++◌, ◌∷◌, refl, sym, ap, inl, inr, subst}
 use Rattle.sqlite_rules.specs.Lists.{Has}
 use Rattle.sqlite_rules.proofs.ListLemmas.{contains_had}
-use Rattle.mx_register.specs.Lines.{lines_from}
-use Rattle.mx_register.specs.Registers.{release_line_row}
+use Rattle.mx_registers.specs.Lines.{lines_from}
+use Rattle.mx_registers.specs.Registers.{release_line_row}
 use Rattle.mx_numbers.proofs.AnyLemmas.{empty_is}
 use Rattle.mx_numbers.proofs.BookRows.{lines_of}
 use Rattle.mx_numbers.proofs.ReadLemmas.{reads_then, stopped, told}

@@ -3,7 +3,7 @@ use Rattle.std.specs.List.{list_all}
 use Rattle.std.specs.Option.{option_map}
 use Rattle.mx_book.specs.commands.Programme.{task_shape}
 use Rattle.mx_layout.specs.declared.fault.Table.TheVariants as table
-use Rattle.mx_register.specs.Merge.{task_said}
+use Rattle.mx_registers.specs.Merge.{task_said}
 use Rattle.mx_base.specs.declared.rows.rows.TaskRow.{TaskRow}
 use Rattle.mx_found.specs.Programmes.{programme_number, programmes_of, tasks_with}
 use Rattle.mx_found.proofs.ProgrammeLemmas.{tasks_shaped}

@@ -3,7 +3,7 @@ use Rattle.std.specs.Prelude.{is_some}
 use Rattle.std.specs.Option.{option_map}
 use Rattle.sqlite.specs.declared.types.Value.TheVariants.{Int}
 use Rattle.mx_book.specs.commands.Act.{Entry}
-use Rattle.mx_register.specs.Registers.{deferral_rows}
+use Rattle.mx_registers.specs.Registers.{deferral_rows}
 use Rattle.mx_base.specs.declared.rows.rows.DeferralRow.{DeferralRow}
 use Rattle.mx_found.specs.Defects.{defect_said, is_rectified_at, open_said}
 use Rattle.mx_found.specs.Names.{doc_at}

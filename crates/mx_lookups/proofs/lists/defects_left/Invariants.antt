@@ -2,7 +2,7 @@ use Rattle.std.proofs.Common.{◌≡◌, pos, true, filter, nat_eq, length}
 use Rattle.std.specs.Prelude.{is_some}
 use Rattle.sqlite.specs.declared.types.Value.TheVariants.{Int}
 use Rattle.sqlite.specs.Held.{state}
-use Rattle.mx_register.specs.Registers.{deferral_rows}
+use Rattle.mx_registers.specs.Registers.{deferral_rows}
 use Rattle.mx_base.specs.declared.rows.rows.DeferralRow.{DeferralRow}
 use Rattle.mx_kept.specs.Cells.{kept_defect}
 use Rattle.mx_chosen.specs.Choices.{has_value}

@@ -4,7 +4,7 @@ use Rattle.std.specs.Option.{option_map}
 use Rattle.sqlite.specs.declared.types.Value.TheVariants.{Int}
 use Rattle.mx_book.specs.commands.Act.{Entry}
 use Rattle.mx_base.specs.declared.rows.rows.SpanRow.{SpanRow}
-use Rattle.mx_kept_rows.specs.Spans.{span_rows}
+use Rattle.mx_registers.specs.kept.Spans.{span_rows}
 use Rattle.mx_found.specs.Spans.{is_open_at, place_said}
 use Rattle.mx_found.proofs.FittedLemmas.{components_there}
 use Rattle.mx_layout.specs.declared.fault.Table.TheVariants as table

@@ -2,7 +2,7 @@ use Rattle.std.proofs.Common.{◌≡◌, pos, true, filter, length}
 use Rattle.std.specs.Prelude.{is_some}
 use Rattle.sqlite.specs.declared.types.Value.TheVariants.{Int}
 use Rattle.sqlite.specs.Held.{state}
-use Rattle.mx_kept_rows.specs.Spans.{span_rows}
+use Rattle.mx_registers.specs.kept.Spans.{span_rows}
 use Rattle.mx_kept.specs.Cells.{kept_span2}
 use Rattle.mx_chosen.specs.Choices.{is_open}
 use Rattle.mx_found.specs.Spans.{is_open_at, place_said}

@@ -1,7 +1,7 @@
 use Rattle.std.proofs.Common.{◌∙◌, ap, sym}
 use Rattle.std.specs.Prelude.{is_some}
 use Rattle.std.specs.Option.{option_and_then}
-use Rattle.mx_register.specs.Names.{tail_at}
+use Rattle.mx_registers.specs.Names.{tail_at}
 use Rattle.mx_found.specs.Spans.{span_aircraft}
 use Rattle.mx_found.proofs.OpenLemmas.{fitted_nowhere, fitted_tail, fitted_there}
 use Rattle.mx_numbers.proofs.BookRows.{open_spans_of}

@@ -2,7 +2,7 @@ use Rattle.std.proofs.Common.{◌≡◌, ◌∙◌, ap, sym, subst, inl, inr, re
 use Rattle.std.specs.Prelude.{is_some}
 use Rattle.std.specs.Option.{option_and_then}
 use Rattle.mx_book.specs.Span.{tail_fitted}
-use Rattle.mx_register.specs.Names.{tail_at}
+use Rattle.mx_registers.specs.Names.{tail_at}
 use Rattle.mx_layout.specs.declared.fault.Table.TheVariants as table
 use Rattle.mx_numbers.specs.Given.{NumberFitted, TailOfNumber}
 use Rattle.mx_numbers.proofs.AnyLemmas.{any_later, found_some}

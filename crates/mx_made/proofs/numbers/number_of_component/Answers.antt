@@ -1,5 +1,5 @@
 use Rattle.std.proofs.Common.{◌∙◌, ap}
-use Rattle.mx_register.specs.Names.{or_zero}
+use Rattle.mx_registers.specs.Names.{or_zero}
 use Rattle.mx_numbers.proofs.AnyLemmas.{any_so}
 use Rattle.mx_numbers.proofs.ReadLemmas.{told}
 use Rattle.mx_made.proofs.numbers.number_of_component.Goals as goal

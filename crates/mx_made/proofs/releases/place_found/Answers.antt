@@ -1,5 +1,5 @@
 use Rattle.std.proofs.Common.{◌∙◌, ap, subst}
-use Rattle.mx_kept_rows.specs.Items.{number_of_item}
+use Rattle.mx_registers.specs.kept.Items.{number_of_item}
 use Rattle.mx_book.specs.Register.{found_of}
 use Rattle.mx_numbers.proofs.ReadLemmas.{reads_then, told}
 use Rattle.mx_numbers.proofs.AnyLemmas.{any_so}

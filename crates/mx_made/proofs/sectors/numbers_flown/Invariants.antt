@@ -1,6 +1,6 @@
 use Rattle.std.proofs.Common.{◌≡◌, ◌∷◌, filter, map, take}
 use Rattle.mx_base.specs.declared.rows.rows.SpanRow.{SpanRow}
-use Rattle.mx_kept_rows.specs.Totals.{has_between}
+use Rattle.mx_registers.specs.kept.Totals.{has_between}
 use Rattle.mx_made.proofs.sectors.numbers_flown.Given as goal
 
 -- the numbers so far

@@ -1,6 +1,6 @@
 use Rattle.std.proofs.Common.{◌∙◌, ap, subst, sym}
-use Rattle.mx_kept_rows.specs.Totals.{numbers_during}
-use Rattle.mx_kept_rows.specs.Spans.{span_rows}
+use Rattle.mx_registers.specs.kept.Totals.{numbers_during}
+use Rattle.mx_registers.specs.kept.Spans.{span_rows}
 use Rattle.mx_numbers.proofs.ReadLemmas.{reads_then, stopped, told}
 use Rattle.mx_made.proofs.AmongLemmas.{among}
 use Rattle.mx_made.proofs.MadeLemmas.{starved}

@@ -1,5 +1,5 @@
 use Rattle.std.proofs.Common.{◌≡◌, [], length}
-use Rattle.mx_register.specs.Left.{rest_of}
+use Rattle.mx_registers.specs.Left.{rest_of}
 use Rattle.mx_merged.specs.Merging.{merging}
 use Rattle.mx_merged.proofs.merged.merged_book.Given as goal
 

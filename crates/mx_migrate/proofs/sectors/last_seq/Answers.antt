@@ -1,6 +1,6 @@
 use Rattle.std.proofs.Common.{◌≡◌, ℕ, ◌-◌, suc, List, [], ◌∷◌, length, slice_get, Some, sym, ap, ◌∙◌, arith}
 use Rattle.mx_base.specs.declared.rows.rows.SectorRow.{SectorRow}
-use Rattle.mx_points.specs.Moves.{last_moved}
+use Rattle.mx_registers.specs.points.Moves.{last_moved}
 use Rattle.mx_steps.proofs.SectorLemmas.{seq_of}
 use Rattle.mx_migrate.proofs.sectors.last_seq.Goals as goal
 

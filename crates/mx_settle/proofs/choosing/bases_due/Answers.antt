@@ -1,6 +1,6 @@
 use Rattle.std.proofs.Common.{Some, inr, refl}
 use Rattle.sqlite.specs.Held.{state}
-use Rattle.mx_points.specs.Points.{moving}
+use Rattle.mx_registers.specs.points.Points.{moving}
 use Rattle.mx_settle.proofs.KeptChoices.{bases_chosen, bases_stop, kept_unfound}
 use Rattle.mx_settle.proofs.choosing.bases_due.Goals as goal
 

@@ -1,6 +1,6 @@
 use Rattle.std.proofs.Common.{Ok, Some, inl, refl, sym, subst}
 use Rattle.sqlite.specs.Held.{state}
-use Rattle.mx_points.specs.Points.{moving}
+use Rattle.mx_registers.specs.points.Points.{moving}
 use Rattle.mx_settle.specs.Choices.{Chooses}
 use Rattle.mx_settle.proofs.KeptChoices.{kept_unfound, total_chosen}
 use Rattle.mx_settle.proofs.choosing.total_due.Goals as goal

@@ -1,7 +1,7 @@
 use Rattle.std.proofs.Common.{Bool, IsPermutation, sym, subst}
 use Rattle.std.specs.Bool.{Decides}
 use Rattle.mx_book.specs.Book.{IsBook}
-use Rattle.mx_kept_rows.specs.Bases.{base_rows}
+use Rattle.mx_registers.specs.kept.Bases.{base_rows}
 use Rattle.mx_verified.proofs.KeyLemmas.{tells, tells_not}
 use Rattle.mx_verified.proofs.bases.are_bases.Goals as goal
 

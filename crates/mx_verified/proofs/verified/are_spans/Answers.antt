@@ -1,6 +1,6 @@
 use Rattle.std.proofs.Common.{sym, subst, ◌∙◌}
 use Rattle.mx_book.specs.Book.{IsBook}
-use Rattle.mx_file_rows.proofs.SpansMade.{made_right}
+use Rattle.mx_registers.proofs.FileProofs.SpansMade.{made_right}
 use Rattle.mx_verified.proofs.verified.are_spans.Goals as goal
 
 pub returns : goal.returns

@@ -1,6 +1,6 @@
 use Rattle.std.proofs.Common.{refl}
 use Rattle.sqlite.specs.Held.{state}
-use Rattle.mx_points.specs.Points.{moving}
+use Rattle.mx_registers.specs.points.Points.{moving}
 use Rattle.mx_steps.specs.Written.{bases_written}
 use Rattle.mx_migrate.proofs.RunLemmas.{store_stops, writes_alone}
 use Rattle.mx_migrate.proofs.bases.WriteBasesMigrate.run.Goals as goal

@@ -1,7 +1,7 @@
 use Rattle.std.proofs.Common.{refl}
 use Rattle.sqlite.specs.Held.{state}
 use Rattle.mx_base.specs.Settled.{settled}
-use Rattle.mx_points.specs.Points.{moving}
+use Rattle.mx_registers.specs.points.Points.{moving}
 use Rattle.mx_moves.specs.Keeping.{point_set}
 use Rattle.mx_migrate.proofs.RunLemmas.{store_stops, writes_alone}
 use Rattle.mx_migrate.proofs.finishing.FinishMigrate.run.Goals as goal

@@ -6,8 +6,8 @@ use Rattle.std.specs.declared.alloc.Global.{Global}
 use Rattle.sqlite.specs.Held.{state}
 use Rattle.mx_base.specs.declared.rows.rows.SectorRow.{SectorRow}
 use Rattle.mx_base.specs.declared.point.Point.{Point}
-use Rattle.mx_points.specs.Moves.{last_moved}
-use Rattle.mx_points.specs.Points.{moving}
+use Rattle.mx_registers.specs.points.Moves.{last_moved}
+use Rattle.mx_registers.specs.points.Points.{moving}
 use Rattle.mx_stands.specs.Schemas.{schema_at}
 use Rattle.mx_moves.specs.Changes.{Alters}
 use Rattle.mx_steps.specs.Sectors.{is_next_from, sectors_moved}

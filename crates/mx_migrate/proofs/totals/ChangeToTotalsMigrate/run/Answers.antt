@@ -3,7 +3,7 @@ use Rattle.sqlite.specs.Held.{state}
 use Rattle.sqlite.specs.State.{HasCleanDisk}
 use Rattle.mx_kept.specs.Cells.{kept_fit1, kept_removal1}
 use Rattle.mx_layout.specs.declared.fault.Table.TheVariants as table
-use Rattle.mx_points.specs.Points.{moving}
+use Rattle.mx_registers.specs.points.Points.{moving}
 use Rattle.mx_steps.specs.Tables.{table_made}
 use Rattle.mx_migrate.proofs.LookLemmas.{look_stops, looked_writes, sees_then}
 use Rattle.mx_migrate.proofs.RunLemmas.{stopped_by}

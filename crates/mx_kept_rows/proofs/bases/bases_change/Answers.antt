@@ -1,5 +1,0 @@
-use Rattle.mx_kept_rows.proofs.BaseGrowth.{base-more}
-use Rattle.mx_kept_rows.proofs.bases.bases_change.Goals as goal
-
-pub returns : goal.returns
-returns c book entry item id = base-more book entry.doc entry.act item id

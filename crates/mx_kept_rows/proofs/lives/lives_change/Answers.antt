@@ -1,5 +1,0 @@
-use Rattle.mx_kept_rows.proofs.LifeGrowth.{life_now-more}
-use Rattle.mx_kept_rows.proofs.lives.lives_change.Goals as goal
-
-pub returns : goal.returns
-returns c book entry item = life_now-more book entry.doc entry.act item

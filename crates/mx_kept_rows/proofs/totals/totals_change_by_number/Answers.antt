@@ -1,5 +1,0 @@
-use Rattle.mx_kept_rows.proofs.NumberedClocks.{totals_by_number}
-use Rattle.mx_kept_rows.proofs.totals.totals_change_by_number.Goals as goal
-
-pub returns : goal.returns
-returns c book entry = totals_by_number book entry.doc entry.act

@@ -1,5 +1,0 @@
-use Rattle.mx_register.proofs.MergeLemmas.{one_book}
-use Rattle.mx_register.proofs.laws.registers_decide_the_book.Goals as goal
-
-pub returns : goal.returns
-returns c = one_book

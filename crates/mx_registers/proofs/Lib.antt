@@ -1,0 +1,15 @@
+pub mod NewLemmas
+pub mod NameLemmas
+pub mod TakeLemmas
+pub mod TaskLemmas
+pub mod ReleaseLemmas
+pub mod MergeLemmas
+pub mod RegisterLemmas
+pub mod Worked
+pub mod WorkedProgrammes
+pub mod WorkedReleases
+pub mod WorkedDefects
+pub mod FileProofs
+pub mod KeptProofs
+pub mod PlainProofs
+pub mod PointsProofs

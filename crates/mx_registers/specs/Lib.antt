@@ -1,0 +1,9 @@
+pub mod Names
+pub mod Lines
+pub mod Registers
+pub mod Merge
+pub mod Left
+pub mod Added
+pub mod file
+pub mod kept
+pub mod points

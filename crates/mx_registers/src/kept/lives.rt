@@ -1,0 +1,65 @@
+//! Laws of lives and clocks: what one entry more makes of them. Each function does nothing; its contract is the law, and
+//! the checker proves it.
+ghost use Rattle.std.specs.Prelude.{◌≡◌, ◌≤◌, ◌<◌, ℕ, max, true, List, [], ◌∷◌, ◌++◌};
+ghost use Rattle.std.specs.Option.{option_map, option_or};
+ghost use Rattle.mx_book.specs.commands.Act.{Entry, Flown};
+ghost use Rattle.mx_book.specs.commands.Shape.{act_shape};
+ghost use Rattle.mx_book.specs.declared.commands.item.Item.{Item};
+ghost use Rattle.mx_book.specs.declared.commands.item.Item.TheVariants.{Airframe, Component};
+ghost use Rattle.mx_book.specs.declared.commands.release.Place.TheVariants.{Aircraft};
+ghost use Rattle.mx_book.specs.declared.commands.sector.Sector.{Sector};
+ghost use Rattle.mx_book.specs.Book.{IsBook};
+ghost use Rattle.mx_book.specs.Judge.{is_at, judge};
+ghost use Rattle.mx_book.specs.Life.{clock, credited, is_credited, latest, life_now, opening_of, use_after};
+ghost use Rattle.mx_book.specs.declared.verdict.Verdict.TheVariants.{New};
+ghost use Rattle.mx_registers.specs.kept.Changes.{clock_of_place, moments_given, sectors_given, sectors_late};
+
+/// One entry more gives the clock of each item its moments.
+pub fn clocks_change()
+    ensures { (book : List Entry) (entry : Entry) (item : Item) → IsBook book
+        → clock (book ++ entry ∷ []) item
+        ≡ max (clock book item) (latest (moments_given book item entry.act)) }
+{}
+
+/// What a new entry adds to the sectors of an item: a sector is added to those of exactly the items that are credited
+/// with it by the spans before it, whenever it was flown.
+pub fn credits_change()
+    ensures { (book : List Entry) (entry : Entry) (item : Item) → IsBook book
+        → judge book entry ≡ New → act_shape entry.act ≡ true
+        → credited (book ++ entry ∷ []) item
+        ≡ credited book item ++ sectors_given book item entry.act }
+{}
+
+/// A sector that takes off by the clock of its airframe is credited to exactly the items that are at its aircraft, and
+/// to none of them late; nor is one late for any item that takes off before the clock and lands after it.
+pub fn sectors_in_order()
+    ensures there { (book : List Entry) (sector : Sector) (item : Item) → IsBook book
+        → act_shape (Flown sector) ≡ true → clock book (Airframe sector.tail) ≤ sector.off
+        → is_credited book item sector ≡ is_at book (Aircraft sector.tail) item }
+    ensures timely { (book : List Entry) (sector : Sector) (item : Item) → IsBook book
+        → act_shape (Flown sector) ≡ true → clock book (Airframe sector.tail) ≤ sector.off
+        → sectors_late book item (Flown sector) ≡ [] }
+    ensures landing { (book : List Entry) (sector : Sector) (item : Item) → IsBook book
+        → clock book (Airframe sector.tail) < sector.on
+        → sectors_late book item (Flown sector) ≡ [] }
+{}
+
+/// The life of each item with a new entry: the sectors that this gives the item are added to its life; an item that the
+/// entry adds begins with the use that it brought with it.
+pub fn lives_change()
+    ensures { (book : List Entry) (entry : Entry) (item : Item) → IsBook book
+        → judge book entry ≡ New → act_shape entry.act ≡ true
+        → life_now (book ++ entry ∷ []) item
+        ≡ option_or
+        (option_map (use_after (sectors_given book item entry.act)) (life_now book item))
+        (opening_of (entry ∷ []) item) }
+{}
+
+/// The clock of the place where an item is never falls, and that of a component is not after it.
+pub fn places_have_clocks()
+    ensures grows { (book : List Entry) (entry : Entry) (item : Item) → IsBook book
+        → judge book entry ≡ New
+        → clock_of_place book item ≤ clock_of_place (book ++ entry ∷ []) item }
+    ensures placed { (book : List Entry) → IsBook book → (serial : List ℕ)
+        → clock book (Component serial) ≤ clock_of_place book (Component serial) }
+{}
