@@ -11,10 +11,10 @@ use Rattle.sqlite_rules.proofs.ProbeLemmas.{has_mapped, mapped_has}
 use Rattle.mx_book.specs.commands.Act.{Act, Entry, Flown, Fitted, Removed, Released, Deferred}
 use Rattle.mx_base.specs.declared.rows.rows.SpanRow.{SpanRow}
 use Rattle.mx_base.specs.declared.rows.rows.TotalRow.{TotalRow}
-use Rattle.mx_changes.specs.Kept.{span_removed, total_clocked, total_credited, total_flown}
-use Rattle.mx_changes.specs.Made.{Findings, bases_made, spans_ended, totals_moved}
-use Rattle.mx_changes.specs.declared.rows.AddedRows.{AddedRows}
-use Rattle.mx_changes.specs.declared.rows.CommandRows.{CommandRows}
+use Rattle.mx_row_rules.specs.changes.Kept.{span_removed, total_clocked, total_credited, total_flown}
+use Rattle.mx_row_rules.specs.changes.Made.{Findings, bases_made, spans_ended, totals_moved}
+use Rattle.mx_row_rules.specs.declared.changes.rows.AddedRows.{AddedRows}
+use Rattle.mx_row_rules.specs.declared.changes.rows.CommandRows.{CommandRows}
 use Rattle.mx_layout.specs.TableName.{TableName}
 use Rattle.mx_layout.specs.declared.fault.Table.TheVariants as table
 use Rattle.mx_layout.specs.Contents.{rows_in}
@@ -25,7 +25,7 @@ use Rattle.mx_kept.specs.Kept.{Kept}
 use Rattle.mx_chosen.specs.Choices.{has_value}
 use Rattle.mx_made.specs.Found.{AreRowsFor, AreTotalsOf, numbers_given}
 use Rattle.mx_made.specs.Totals.{TotalOf}
-use Rattle.mx_changes.proofs.TouchLemmas.{raised_item}
+use Rattle.mx_row_rules.proofs.ChangesProofs.TouchLemmas.{raised_item}
 use Rattle.mx_writing.specs.Changes.{all_in_place, in_place}
 use Rattle.mx_writing.specs.Written.{is_same_base, is_same_span, is_same_total, with_added, with_rows}
 use Rattle.mx_writing.proofs.CellLemmas.{other_table}

@@ -4,7 +4,7 @@ use Rattle.sqlite.specs.Tree.{Trees}
 use Rattle.mx_book.specs.commands.Act.{Entry}
 use Rattle.mx_book.specs.Judge.{judge}
 use Rattle.mx_book.specs.declared.verdict.Verdict.TheVariants as verdicts
-use Rattle.mx_changes.specs.Rows.{AreCommandRows}
+use Rattle.mx_row_rules.specs.changes.Rows.{AreCommandRows}
 use Rattle.mx_book.specs.declared.verdict.Verdict.{Verdict}
 use Rattle.mx_made.specs.Found.{AreRowsFor}
 use Rattle.mx_rows.specs.Answering.{AnswerAs}

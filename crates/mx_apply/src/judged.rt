@@ -7,9 +7,9 @@ ghost use Rattle.mx_apply.specs.Judged.{IsJudged, JudgedOf};
 
 use mx_book::commands::Command;
 use mx_book::{Refusal, Verdict};
-use mx_changes::CommandRows;
 use mx_layout::TableFault;
 use mx_made::rows_of_command;
+use mx_row_rules::changes::CommandRows;
 use mx_rows::judging::judge_by_rows;
 use sqlite::{Alter, Transaction};
 use std::alloc::Global;

@@ -3,7 +3,7 @@ ghost use Rattle.std.specs.Prelude.{Contains};
 ghost use Rattle.sqlite.specs.Order.{Row};
 ghost use Rattle.sqlite.specs.Tree.{Trees};
 ghost use Rattle.mx_book.specs.commands.Act.{Entry};
-ghost use Rattle.mx_changes.specs.declared.rows.CommandRows.{CommandRows};
+ghost use Rattle.mx_row_rules.specs.declared.changes.rows.CommandRows.{CommandRows};
 ghost use Rattle.mx_layout.specs.Contents.{rows_in};
 ghost use Rattle.mx_layout.specs.Names.{table_named};
 ghost use Rattle.mx_layout.specs.TableName.{TableName};

@@ -21,9 +21,9 @@ use Rattle.mx_layout.specs.declared.fault.TableFault.{TableFault}
 use Rattle.mx_layout.specs.declared.fault.TableFault.TheVariants as fault
 use Rattle.mx_kept.specs.Cells.{kept_entry}
 use Rattle.mx_chosen.specs.Calls.{ReadsBy}
-use Rattle.mx_found.specs.Stated.{stated}
-use Rattle.mx_found.proofs.EntryLemmas.{entry_is_at, shape_at}
-use Rattle.mx_found.proofs.StatedLemmas.{doc_numbered, entry_stated, kind_numbered}
+use Rattle.mx_row_rules.specs.found.Stated.{stated}
+use Rattle.mx_row_rules.proofs.FoundProofs.EntryLemmas.{entry_is_at, shape_at}
+use Rattle.mx_row_rules.proofs.FoundProofs.StatedLemmas.{doc_numbered, entry_stated, kind_numbered}
 use Rattle.mx_numbers.specs.AnyRows.{ReadsAny}
 use Rattle.mx_numbers.specs.Reads.{Reads}
 use Rattle.mx_numbers.proofs.AnyLemmas.{any_later, gives}

@@ -20,8 +20,8 @@ use Rattle.mx_base.specs.declared.rows.rows.SpanRow.{SpanRow}
 use Rattle.mx_registers.specs.kept.Spans.{fitting_in, removal_in}
 use Rattle.mx_kept.specs.Cells.{kept_crs, kept_defect, kept_extension, kept_opening, kept_sector2_rows, kept_span2}
 use Rattle.mx_chosen.specs.Choices.{has_value}
-use Rattle.mx_found.specs.Given as register
-use Rattle.mx_found.specs.Stated.{lines_stated}
+use Rattle.mx_row_rules.specs.found.Given as register
+use Rattle.mx_row_rules.specs.found.Stated.{lines_stated}
 use Rattle.mx_numbers.specs.Given.{SerialOfNumber, TailOfNumber}
 use Rattle.mx_numbers.proofs.BookRows.{deferrals_of_number, extensions_of_number, openings_of_number, releases_of_number, spans_of_fitting, spans_of_removal}
 use Rattle.mx_numbers.proofs.ReadLemmas.{follows}

@@ -12,11 +12,11 @@ use Rattle.mx_base.specs.declared.rows.rows.ReleaseLineRow.{ReleaseLineRow}
 use Rattle.mx_layout.specs.declared.fault.TableFault.{TableFault}
 use Rattle.mx_layout.specs.declared.fault.TableFault.TheVariants.{Memory}
 use Rattle.mx_kept.specs.Cells.{kept_crs_line}
-use Rattle.mx_found.specs.Given.{found, release_lines}
+use Rattle.mx_row_rules.specs.found.Given.{found, release_lines}
 use Rattle.mx_stands.specs.Schemas.{schema_at}
-use Rattle.mx_found.specs.declared.stated.Certified.{Certified}
-use Rattle.mx_found.specs.Stated.{certified_in, certified_said, lines_stated}
-use Rattle.mx_found.proofs.StatedLemmas.{line_certified}
+use Rattle.mx_row_rules.specs.declared.found.stated.Certified.{Certified}
+use Rattle.mx_row_rules.specs.found.Stated.{certified_in, certified_said, lines_stated}
+use Rattle.mx_row_rules.proofs.FoundProofs.StatedLemmas.{line_certified}
 use Rattle.mx_numbers.specs.AnyRows.{ReadsAny}
 use Rattle.mx_numbers.specs.Reads.{Reads, rows_point}
 use Rattle.mx_numbers.proofs.AnyLemmas.{any_later}

@@ -16,10 +16,10 @@ use Rattle.mx_base.specs.declared.rows.rows.RemovalRow.{RemovalRow}
 use Rattle.mx_base.specs.declared.rows.rows.SpanRow.{SpanRow}
 use Rattle.mx_registers.specs.kept.Spans.{fitting_in, removal_by, removal_in, span_rows}
 use Rattle.mx_registers.proofs.KeptProofs.SpanRegisters.{fittings_in_spans, removals_in_spans}
-use Rattle.mx_found.specs.Given.{fittings, found, removals}
-use Rattle.mx_found.specs.Spans.{is_removed_by}
-use Rattle.mx_found.proofs.EntryLemmas.{rows_at}
-use Rattle.mx_found.proofs.RowLemmas.{removals_law}
+use Rattle.mx_row_rules.specs.found.Given.{fittings, found, removals}
+use Rattle.mx_row_rules.specs.found.Spans.{is_removed_by}
+use Rattle.mx_row_rules.proofs.FoundProofs.EntryLemmas.{rows_at}
+use Rattle.mx_row_rules.proofs.FoundProofs.RowLemmas.{removals_law}
 use Rattle.mx_numbers.proofs.AnyLemmas.{empty_is}
 
 -- the first of things that are seen otherwise

@@ -11,7 +11,7 @@ use Rattle.mx_layout.specs.TableName.{TableName}
 use Rattle.mx_layout.specs.declared.fault.Table.TheVariants as table
 use Rattle.mx_kept.specs.Cells.{kept_entry}
 use Rattle.mx_chosen.specs.Choices.{backward, is_any}
-use Rattle.mx_found.specs.Names.{last_number}
+use Rattle.mx_row_rules.specs.found.Names.{last_number}
 use Rattle.mx_numbers.specs.AnyRows.{GivesFirst}
 use Rattle.mx_entries.specs.Names.{ByRow}
 use Rattle.mx_entries.specs.Releases.{ReleaseStated}

@@ -11,9 +11,9 @@ use Rattle.mx_registers.specs.Merge.{place_of, release_said}
 use Rattle.mx_base.specs.declared.rows.rows.ReleaseLineRow.{ReleaseLineRow}
 use Rattle.mx_base.specs.declared.rows.rows.ReleaseRow.{ReleaseRow}
 use Rattle.mx_kept.specs.Cells.{kept_crs, kept_crs_line}
-use Rattle.mx_found.specs.declared.stated.Certified.{Certified}
-use Rattle.mx_found.specs.declared.stated.Certified.TheVariants.{Done, Rectified}
-use Rattle.mx_found.specs.Stated.{certified_in}
+use Rattle.mx_row_rules.specs.declared.found.stated.Certified.{Certified}
+use Rattle.mx_row_rules.specs.declared.found.stated.Certified.TheVariants.{Done, Rectified}
+use Rattle.mx_row_rules.specs.found.Stated.{certified_in}
 use Rattle.mx_entries.specs.Names.{ByRow, DocOfDefect, ItemOfNumber, WithName}
 use Rattle.mx_entries.specs.Stated.{AllOf, FirstOf}
 

@@ -3,8 +3,8 @@ ghost use Rattle.std.specs.Prelude.{◌≡◌};
 ghost use Rattle.std.specs.Option.{option_map};
 ghost use Rattle.sqlite.specs.Held.{state};
 ghost use Rattle.mx_book.specs.commands.Act.{act_of};
-ghost use Rattle.mx_found.specs.Given.{aircraft, components, found, places, programmes, tasks};
-ghost use Rattle.mx_found.specs.Stated.{aircraft_stated, component_stated, programme_stated};
+ghost use Rattle.mx_row_rules.specs.found.Given.{aircraft, components, found, places, programmes, tasks};
+ghost use Rattle.mx_row_rules.specs.found.Stated.{aircraft_stated, component_stated, programme_stated};
 ghost use Rattle.mx_numbers.specs.AnyRows.{ReadsAny};
 ghost use Rattle.mx_numbers.specs.Reads.{Reads};
 ghost use Rattle.mx_entries.specs.Stated.{AircraftStated, ComponentStated, ProgrammeStated};
@@ -12,9 +12,9 @@ ghost use Rattle.mx_entries.specs.Stated.{AircraftStated, ComponentStated, Progr
 use mx_book::commands::Body;
 use mx_chosen::items::{aircraft_by_seq, component_by_seq, place_by_seq};
 use mx_chosen::programmes::{programme_by_seq, task_by_seq};
-use mx_found::stated::{positions_said, tasks_said};
 use mx_layout::TableFault;
 use mx_registers::plain::said::{body_of_aircraft, body_of_component, body_of_programme};
+use mx_row_rules::found::stated::{positions_said, tasks_said};
 use sqlite::{Alter, Transaction};
 use std::alloc::Global;
 

@@ -4,8 +4,8 @@ ghost use Rattle.std.specs.Option.{option_and_then, option_map};
 ghost use Rattle.sqlite.specs.Held.{state};
 ghost use Rattle.mx_book.specs.commands.Act.{act_of};
 ghost use Rattle.mx_registers.specs.Merge.{fitting_said};
-ghost use Rattle.mx_found.specs.Given.{fittings, found, openings, removals, sectors};
-ghost use Rattle.mx_found.specs.Stated.{fitting_stated, opening_stated, removal_stated, sector_stated};
+ghost use Rattle.mx_row_rules.specs.found.Given.{fittings, found, openings, removals, sectors};
+ghost use Rattle.mx_row_rules.specs.found.Stated.{fitting_stated, opening_stated, removal_stated, sector_stated};
 ghost use Rattle.mx_numbers.specs.AnyRows.{ReadsAny};
 ghost use Rattle.mx_numbers.specs.Reads.{Reads};
 ghost use Rattle.mx_entries.specs.Stated.{FittingStated, OpeningStated, RemovalStated, SectorStated};
@@ -17,12 +17,12 @@ use mx_book::commands::Body;
 use mx_chosen::kept::{span2_by_fit_seq, span2_by_remove_seq};
 use mx_chosen::sectors::sector2_by_seq;
 use mx_chosen::works::opening_by_seq;
-use mx_found::stated::{first_fitting, first_removal};
 use mx_layout::TableFault;
 use mx_numbers::items::tail_of_number;
 use mx_registers::plain::said::{
     body_of_fitting, body_of_opening, body_of_removal, body_of_sector,
 };
+use mx_row_rules::found::stated::{first_fitting, first_removal};
 use sqlite::{Alter, Transaction};
 use std::alloc::Global;
 

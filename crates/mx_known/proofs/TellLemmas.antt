@@ -5,9 +5,9 @@ use Rattle.mx_book.specs.commands.Act.{Act, Entry}
 use Rattle.mx_book.specs.Book.{IsBook}
 use Rattle.mx_registers.specs.Lines.{lines_from}
 use Rattle.mx_registers.specs.kept.Changes.{entry_of}
-use Rattle.mx_found.specs.Given.{AreSame, Register, found}
-use Rattle.mx_found.proofs.AnswerLemmas.{known_by_rows}
-use Rattle.mx_found.proofs.FoundLemmas.{entry_is}
+use Rattle.mx_row_rules.specs.found.Given.{AreSame, Register, found}
+use Rattle.mx_row_rules.proofs.FoundProofs.AnswerLemmas.{known_by_rows}
+use Rattle.mx_row_rules.proofs.FoundProofs.FoundLemmas.{entry_is}
 use Rattle.mx_known.specs.Known.{Tells, TellsRows}
 
 -- rows that were read and compared

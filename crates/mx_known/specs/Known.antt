@@ -21,9 +21,9 @@ use Rattle.mx_registers.specs.kept.Changes.{entry_of}
 use Rattle.mx_kept.specs.Cells.{kept_aircraft, kept_component, kept_crs, kept_crs_line, kept_defect, kept_entry, kept_extension, kept_opening, kept_place, kept_programme, kept_sector2, kept_span2, kept_task}
 use Rattle.mx_kept.specs.Kept.{Kept}
 use Rattle.mx_chosen.specs.Choices.{has_value}
-use Rattle.mx_found.specs.Given.{Register, found, line_row}
-use Rattle.mx_found.specs.Names.{entry_number}
-use Rattle.mx_found.specs.Spans.{begins_with, ends_with}
+use Rattle.mx_row_rules.specs.found.Given.{Register, found, line_row}
+use Rattle.mx_row_rules.specs.found.Names.{entry_number}
+use Rattle.mx_row_rules.specs.found.Spans.{begins_with, ends_with}
 use Rattle.mx_numbers.specs.AnyRows.{AreChosen, Gives, GivesBy}
 use Rattle.mx_numbers.specs.Given.{AircraftNumber, ComponentNumber, DefectNumber, ItemNumber}
 use Rattle.mx_numbers.specs.Told.{AircraftDamage, ComponentDamage, Damage, DamageBy, Either, EntryDamage, ItemDamage, Unread}

@@ -6,7 +6,7 @@ ghost use Rattle.mx_book.specs.declared.commands.programme_shape.TheConstants.{M
 ghost use Rattle.mx_registers.specs.Lines.{lines_from};
 ghost use Rattle.mx_registers.specs.Registers.{programme_row, task_row};
 ghost use Rattle.mx_kept.specs.Cells.{kept_programme, kept_task};
-ghost use Rattle.mx_found.specs.Given as registers;
+ghost use Rattle.mx_row_rules.specs.found.Given as registers;
 ghost use Rattle.mx_numbers.specs.AnyRows.{ReadsAny};
 ghost use Rattle.mx_known.specs.Known.{AreRows, RowsDamage, Says, SaysDamage, Tells, TellsRows};
 ghost use Rattle.mx_numbers.specs.Reads.{Reads};
@@ -17,13 +17,13 @@ use mx_book::commands::{Deferral, Extension, Opening, Programme, Task};
 use mx_chosen::defects::{defect_by_seq, extension_by_seq};
 use mx_chosen::programmes::{programme_by_seq, task_by_seq};
 use mx_chosen::works::opening_by_seq;
-use mx_found::same::{
-    are_same_deferrals, are_same_extensions, are_same_openings, are_same_programmes, are_same_tasks,
-};
 use mx_layout::TableFault;
 use mx_numbers::entries::defect_number;
 use mx_numbers::items::{aircraft_number, item_number};
 use mx_registers::{deferral_row, extension_row, opening_row, or_zero, programme_row};
+use mx_row_rules::found::same::{
+    are_same_deferrals, are_same_extensions, are_same_openings, are_same_programmes, are_same_tasks,
+};
 use sqlite::{Alter, Transaction};
 use std::alloc::Global;
 use std::slice;

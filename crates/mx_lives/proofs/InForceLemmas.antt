@@ -19,8 +19,8 @@ use Rattle.mx_book.specs.Register.{aircraft, component, found_of}
 use Rattle.mx_book.proofs.JudgeLemmas.{both_true}
 use Rattle.mx_registers.specs.Merge.{task_said}
 use Rattle.mx_base.specs.declared.rows.rows.TaskRow.{TaskRow}
-use Rattle.mx_found.specs.Programmes.{is_retired_in, programme_number, programmes_of, task_in, tasks_with}
-use Rattle.mx_found.proofs.ProgrammeLemmas.{airframe_ended, component_ended, task_is, tasks_are}
+use Rattle.mx_row_rules.specs.found.Programmes.{is_retired_in, programme_number, programmes_of, task_in, tasks_with}
+use Rattle.mx_row_rules.proofs.FoundProofs.ProgrammeLemmas.{airframe_ended, component_ended, task_is, tasks_are}
 use Rattle.mx_numbers.specs.InForce.{born_as, rows_in_force}
 
 map_twice : {X Y Z : Type 0} (f : X → Y) (g : Y → Z) (o : Option X) → option_map g (option_map f o) ≡ option_map (λ x. g (f x)) o

@@ -12,9 +12,9 @@ ghost use Rattle.mx_numbers.specs.Told.{TotalDamage, TellsDamage};
 use mx_base::{Moment, Tail, Use};
 use mx_book::commands::Item;
 use mx_chosen::kept::total2_by_item;
-use mx_found::lives::{clock_in, life_in};
 use mx_layout::{Table, TableFault};
 use mx_numbers::items::item_number;
+use mx_row_rules::found::lives::{clock_in, life_in};
 use sqlite::{Alter, Transaction};
 use std::alloc::Global;
 

@@ -12,9 +12,9 @@ ghost use Rattle.mx_numbers.specs.Told.{BaseDamage, DoneDamage, TellsDamage};
 use mx_base::{Base, TaskId};
 use mx_book::commands::Item;
 use mx_chosen::kept::base2_by_item_and_task;
-use mx_found::lives::{base_found, is_of_life};
 use mx_layout::{Table, TableFault};
 use mx_numbers::items::item_number;
+use mx_row_rules::found::lives::{base_found, is_of_life};
 use sqlite::{Alter, Transaction};
 use std::alloc::Global;
 

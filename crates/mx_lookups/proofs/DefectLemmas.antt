@@ -8,8 +8,8 @@ use Rattle.mx_registers.specs.Names.{seq_of_defect}
 use Rattle.mx_registers.specs.Registers.{aircraft_rows, deferral_rows}
 use Rattle.mx_base.specs.declared.rows.rows.AircraftRow.{AircraftRow}
 use Rattle.mx_base.specs.declared.rows.rows.DeferralRow.{DeferralRow}
-use Rattle.mx_found.specs.Defects.{deferral_aircraft, defect_in}
-use Rattle.mx_found.proofs.DeferralLemmas.{defect_found}
+use Rattle.mx_row_rules.specs.found.Defects.{deferral_aircraft, defect_in}
+use Rattle.mx_row_rules.proofs.FoundProofs.DeferralLemmas.{defect_found}
 
 module _ (book : List Entry) (b : IsBook book) (doc : List ℕ) (n : ℕ) (number : seq_of_defect book doc ≡ Some n) (rows : List DeferralRow) (are : rows ≡ filter (λ (row : DeferralRow). nat_eq row.seq n) (deferral_rows book)) where
   abbrev named : ℕ → List AircraftRow

@@ -27,8 +27,8 @@ use Rattle.mx_book.specs.due.Due.{due_after}
 use Rattle.mx_book.specs.Judge.{item_at}
 use Rattle.mx_book.specs.Register.{birth_in}
 use Rattle.mx_book.specs.declared.found.Found.{Found}
-use Rattle.mx_changes.specs.declared.releases.Certified.{Certified}
-use Rattle.mx_changes.specs.declared.rows.CommandRows.{CommandRows}
+use Rattle.mx_row_rules.specs.declared.changes.releases.Certified.{Certified}
+use Rattle.mx_row_rules.specs.declared.changes.rows.CommandRows.{CommandRows}
 use Rattle.mx_made.specs.Found.{AreLinesFound, AreLinesAt, AreRowsBy, AreRowsFor, IsEntryBehind, IsLineFound, KindAt, NumberBy}
 
 -- ── one look-up behind another ──

@@ -7,8 +7,8 @@ use Rattle.mx_book.specs.Book.{IsBook}
 use Rattle.mx_registers.specs.Registers.{next}
 use Rattle.mx_base.specs.declared.rows.rows.EntryRow.{EntryRow}
 use Rattle.mx_registers.specs.kept.Changes.{entry_of}
-use Rattle.mx_changes.specs.Rows.{AreCommandRows, IsEntryOf}
-use Rattle.mx_changes.specs.declared.rows.CommandRows.{CommandRows}
+use Rattle.mx_row_rules.specs.changes.Rows.{AreCommandRows, IsEntryOf}
+use Rattle.mx_row_rules.specs.declared.changes.rows.CommandRows.{CommandRows}
 use Rattle.mx_layout.specs.declared.fault.TableFault.{TableFault}
 use Rattle.mx_layout.specs.declared.fault.TableFault.TheVariants.{Memory}
 use Rattle.mx_layout.proofs.CrashLemmas.{within_itself}

@@ -19,15 +19,15 @@ use Rattle.mx_book.specs.Base.{base}
 use Rattle.mx_book.specs.Programme.{kind_at, tasks_in_force}
 use Rattle.mx_book.specs.Register.{birth}
 use Rattle.mx_registers.specs.kept.Items.{number_of_place}
-use Rattle.mx_changes.specs.Certified.{AreKnownOf, IsKnownOf}
-use Rattle.mx_changes.specs.declared.releases.Certified.{Certified}
+use Rattle.mx_row_rules.specs.changes.Certified.{AreKnownOf, IsKnownOf}
+use Rattle.mx_row_rules.specs.declared.changes.releases.Certified.{Certified}
 use Rattle.mx_base.specs.declared.rows.rows.TotalRow.{TotalRow}
 use Rattle.mx_layout.specs.declared.fault.Table.TheVariants as table
 use Rattle.mx_layout.specs.declared.fault.TableFault.{TableFault}
 use Rattle.mx_layout.specs.declared.fault.TableFault.TheVariants.{Memory}
 use Rattle.mx_kept.specs.Cells.{kept_total2}
 use Rattle.mx_chosen.specs.Choices.{has_value}
-use Rattle.mx_found.specs.Lives.{life_in}
+use Rattle.mx_row_rules.specs.found.Lives.{life_in}
 use Rattle.mx_numbers.specs.AnyRows.{Gives}
 use Rattle.mx_numbers.specs.Damage.{HasRow, IsDamaged}
 use Rattle.mx_numbers.specs.Given.{LifeOf}

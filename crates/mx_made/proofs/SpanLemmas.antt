@@ -16,8 +16,8 @@ use Rattle.mx_layout.specs.declared.fault.TableFault.{TableFault}
 use Rattle.mx_kept.specs.Cells.{kept_span2}
 use Rattle.mx_chosen.specs.Calls.{ReadsBy}
 use Rattle.mx_chosen.specs.Choices.{has_value}
-use Rattle.mx_found.specs.Spans.{is_open_of as is_left_of}
-use Rattle.mx_found.proofs.OpenLemmas.{ends_alike}
+use Rattle.mx_row_rules.specs.found.Spans.{is_open_of as is_left_of}
+use Rattle.mx_row_rules.proofs.FoundProofs.OpenLemmas.{ends_alike}
 use Rattle.mx_numbers.specs.Reads.{Reads}
 use Rattle.mx_numbers.proofs.LookupLemmas.{number_is, rows_read}
 use Rattle.mx_numbers.proofs.TableLemmas.{spans}

@@ -26,7 +26,7 @@ use Rattle.mx_base.specs.declared.rows.rows.TotalRow.{TotalRow}
 use Rattle.mx_registers.specs.kept.Items.{items}
 use Rattle.mx_registers.specs.kept.Totals.{total_in, total_row, total_rows}
 use Rattle.mx_registers.proofs.KeptProofs.OneTotal.{total_found}
-use Rattle.mx_changes.specs.Kept.{HasLife}
+use Rattle.mx_row_rules.specs.changes.Kept.{HasLife}
 use Rattle.mx_layout.specs.declared.fault.Table.TheVariants as table
 use Rattle.mx_layout.specs.Contents.{rows_in}
 use Rattle.mx_layout.specs.Crash.{IsWithin}
@@ -35,10 +35,10 @@ use Rattle.mx_kept.specs.Cells.{kept_aircraft, kept_component, kept_total2}
 use Rattle.mx_kept.specs.Kept.{Kept}
 use Rattle.mx_chosen.specs.Choices.{has_value, is_any}
 use Rattle.mx_stands.specs.Schemas.{schema_at}
-use Rattle.mx_found.specs.Names.{aircraft_number, component_number}
-use Rattle.mx_found.proofs.FoundLemmas.{serial_numbered, tail_numbered}
-use Rattle.mx_found.proofs.ListLemmas.{all_left, first_left}
-use Rattle.mx_found.proofs.StatedLemmas.{airframe_numbered, component_numbered, no_item_numbered}
+use Rattle.mx_row_rules.specs.found.Names.{aircraft_number, component_number}
+use Rattle.mx_row_rules.proofs.FoundProofs.FoundLemmas.{serial_numbered, tail_numbered}
+use Rattle.mx_row_rules.proofs.FoundProofs.ListLemmas.{all_left, first_left}
+use Rattle.mx_row_rules.proofs.FoundProofs.StatedLemmas.{airframe_numbered, component_numbered, no_item_numbered}
 use Rattle.mx_numbers.specs.AnyRows.{AreChosen, Gives, ReadsAny}
 use Rattle.mx_numbers.specs.Damage.{HasRow, IsDamaged}
 use Rattle.mx_numbers.specs.Reads.{Reads, rows_point}

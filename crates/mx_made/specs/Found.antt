@@ -30,14 +30,14 @@ use Rattle.mx_registers.specs.Registers.{entry_row}
 use Rattle.mx_registers.specs.kept.Totals.{has_between}
 use Rattle.mx_kept.specs.Cells.{kept_aircraft, kept_component, kept_entry, kept_span2}
 use Rattle.mx_chosen.specs.Choices.{backward, has_value, is_any, is_open}
-use Rattle.mx_found.specs.Names.{last_number}
-use Rattle.mx_found.specs.Said.{aircraft_in, component_in}
+use Rattle.mx_row_rules.specs.found.Names.{last_number}
+use Rattle.mx_row_rules.specs.found.Said.{aircraft_in, component_in}
 use Rattle.mx_numbers.specs.AnyRows.{AreChosen, Gives, GivesFirst}
 use Rattle.mx_numbers.specs.Given.{AircraftNumber, BaseOf, ComponentNumber, DefectNumber, ItemNumber, LifeOf, TaskOf}
-use Rattle.mx_changes.specs.Made.{AreMadeOf, Findings}
-use Rattle.mx_changes.specs.declared.releases.Certified.{Certified}
-use Rattle.mx_changes.specs.declared.releases.Certified.TheVariants.{Done, Rectified}
-use Rattle.mx_changes.specs.declared.rows.CommandRows.{CommandRows}
+use Rattle.mx_row_rules.specs.changes.Made.{AreMadeOf, Findings}
+use Rattle.mx_row_rules.specs.declared.changes.releases.Certified.{Certified}
+use Rattle.mx_row_rules.specs.declared.changes.releases.Certified.TheVariants.{Done, Rectified}
+use Rattle.mx_row_rules.specs.declared.changes.rows.CommandRows.{CommandRows}
 use Rattle.mx_made.specs.Totals.{TotalOf}
 
 -- ── numbers ──

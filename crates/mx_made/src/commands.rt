@@ -1,7 +1,7 @@
 //! The rows of a command, whichever it is.
 ghost use Rattle.std.specs.Prelude.{◌≡◌};
 ghost use Rattle.sqlite.specs.Held.{state};
-ghost use Rattle.mx_changes.specs.Rows.{AreCommandRows};
+ghost use Rattle.mx_row_rules.specs.changes.Rows.{AreCommandRows};
 ghost use Rattle.mx_numbers.specs.AnyRows.{ReadsAny};
 ghost use Rattle.mx_numbers.specs.Reads.{Reads};
 ghost use Rattle.mx_made.specs.Found.{AreRowsFor};
@@ -13,8 +13,8 @@ use crate::openings::rows_of_opening;
 use crate::releases::rows_of_release;
 use crate::sectors::rows_of_sector;
 use mx_book::commands::{Command, Said};
-use mx_changes::{CommandRows, aircraft_rows, component_rows, programme_rows};
 use mx_layout::TableFault;
+use mx_row_rules::changes::{CommandRows, aircraft_rows, component_rows, programme_rows};
 use sqlite::{Alter, Transaction};
 use std::alloc::Global;
 

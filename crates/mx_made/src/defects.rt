@@ -12,8 +12,8 @@ use crate::numbers::{number_of_aircraft, number_of_defect};
 use crate::totals::totals_of;
 use mx_base::rows::EntryRow;
 use mx_book::commands::{Deferral, Extension};
-use mx_changes::{CommandRows, deferral_rows, extension_rows};
 use mx_layout::TableFault;
+use mx_row_rules::changes::{CommandRows, deferral_rows, extension_rows};
 use sqlite::{Alter, Transaction};
 use std::alloc::Global;
 

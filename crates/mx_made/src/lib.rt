@@ -1,4 +1,4 @@
-//! The rows of a command at layout 2, made inside a transaction: what `mx_changes` makes them of is looked up here, and no table
+//! The rows of a command at layout 2, made inside a transaction: what `mx_row_rules::changes` makes them of is looked up here, and no table
 //! is changed. Over tables that stand for a book they are those of the book; over any rows they are this command's, made of what
 //! it says and of what was looked up for it.
 //!

@@ -5,7 +5,7 @@ ghost use Rattle.mx_book.specs.commands.Shape.{has_shape};
 ghost use Rattle.mx_base.specs.rows.Rows.{FitsEntry};
 ghost use Rattle.mx_registers.specs.Names.{or_zero, seq_of_defect};
 ghost use Rattle.mx_registers.specs.kept.Items.{number_of_item, number_of_serial, number_of_tail};
-ghost use Rattle.mx_changes.specs.Rows.{IsEntryOf};
+ghost use Rattle.mx_row_rules.specs.changes.Rows.{IsEntryOf};
 ghost use Rattle.mx_numbers.specs.AnyRows.{ReadsAny};
 ghost use Rattle.mx_numbers.specs.Given.{AircraftNumber, ComponentNumber, DefectNumber, ItemNumber};
 ghost use Rattle.mx_numbers.specs.Reads.{Reads};

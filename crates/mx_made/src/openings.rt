@@ -11,8 +11,8 @@ ghost use Rattle.mx_made.specs.Made.{AreRowsOf};
 use crate::numbers::number_of_item;
 use mx_base::rows::EntryRow;
 use mx_book::commands::Opening;
-use mx_changes::{CommandRows, opening_rows};
 use mx_layout::TableFault;
+use mx_row_rules::changes::{CommandRows, opening_rows};
 use sqlite::{Alter, Transaction};
 use std::alloc::Global;
 

@@ -19,8 +19,8 @@ use Rattle.mx_kept.specs.Kept.{Kept}
 use Rattle.mx_kept.specs.Values.{number_or_null}
 use Rattle.mx_chosen.specs.Choices.{has_value, is_open}
 use Rattle.mx_chosen.specs.Calls.{ReadsBy, ReadsFirst}
-use Rattle.mx_found.specs.Defects.{rectifies}
-use Rattle.mx_found.specs.Spans.{is_open_at, is_open_of, is_removed_by}
+use Rattle.mx_row_rules.specs.found.Defects.{rectifies}
+use Rattle.mx_row_rules.specs.found.Spans.{is_open_at, is_open_of, is_removed_by}
 use Rattle.mx_numbers.specs.Reads.{Reads}
 use Rattle.mx_numbers.proofs.LookupLemmas.{rows_read, text_is, number_is, is_open_at-cells, is_open_of-cells}
 use Rattle.mx_numbers.proofs.TableLemmas.{IsTable, entries, aircraft, places, components, programmes, tasks, openings, releases, release_lines, deferrals, extensions, spans, totals}

@@ -33,9 +33,9 @@ use Rattle.mx_chosen.proofs.LastLemmas.{last_tells}
 use Rattle.mx_chosen.proofs.EqualLemmas.{equal_numbers, equal_texts}
 use Rattle.mx_stands.specs.Schemas.{schema_at}
 use Rattle.mx_stands.specs.Stands.{HasRowsAt}
-use Rattle.mx_found.specs.Names.{last_number}
-use Rattle.mx_found.specs.Spans.{is_open_at, is_open_of}
-use Rattle.mx_found.proofs.FoundLemmas.{entries_counted, entries_numbered}
+use Rattle.mx_row_rules.specs.found.Names.{last_number}
+use Rattle.mx_row_rules.specs.found.Spans.{is_open_at, is_open_of}
+use Rattle.mx_row_rules.proofs.FoundProofs.FoundLemmas.{entries_counted, entries_numbered}
 use Rattle.mx_numbers.specs.Damage.{IsDamaged}
 use Rattle.mx_numbers.specs.Reads.{IsStop, Reads, rows_point}
 use Rattle.mx_numbers.proofs.ChosenLemmas.{chosen_is, none_other, other_chosen}

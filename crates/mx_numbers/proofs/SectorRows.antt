@@ -14,8 +14,8 @@ use Rattle.mx_kept.specs.Kept.{Kept, held}
 use Rattle.mx_kept.specs.Cells.{kept_sector2, kept_sector2_rows}
 use Rattle.mx_chosen.specs.Calls.{ReadsBy, ReadsFirst}
 use Rattle.mx_chosen.specs.Choices.{AreFirst, has_value}
-use Rattle.mx_found.specs.Given as given
-use Rattle.mx_found.specs.Given.{found, rows_of}
+use Rattle.mx_row_rules.specs.found.Given as given
+use Rattle.mx_row_rules.specs.found.Given.{found, rows_of}
 use Rattle.mx_numbers.specs.Reads.{Reads}
 use Rattle.mx_numbers.proofs.LookupLemmas.{rows_read, number_is}
 use Rattle.mx_numbers.proofs.TableLemmas.{sectors}

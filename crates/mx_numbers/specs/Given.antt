@@ -21,12 +21,12 @@ use Rattle.mx_layout.specs.Contents.{rows_in}
 use Rattle.mx_layout.specs.Names.{table_named}
 use Rattle.mx_kept.specs.Cells.{kept_aircraft, kept_base2, kept_component, kept_crs_line, kept_defect, kept_entry, kept_extension, kept_place, kept_programme, kept_span2, kept_task, kept_total2}
 use Rattle.mx_chosen.specs.Choices.{has_value, is_open}
-use Rattle.mx_found.specs.Defects.{deferral_aircraft, defect_in, defect_said, extension_in, is_rectified_in}
-use Rattle.mx_found.specs.Lives.{base_found, clock_in, life_in}
-use Rattle.mx_found.specs.Names.{aircraft_number, component_number, deferral_number, doc_in, serial_in, tail_in}
-use Rattle.mx_found.specs.Programmes.{is_retired_in, programme_number, revision_after, task_in}
-use Rattle.mx_found.specs.Said.{aircraft_in, component_in, part_in}
-use Rattle.mx_found.specs.Spans.{is_taken_in, span_aircraft}
+use Rattle.mx_row_rules.specs.found.Defects.{deferral_aircraft, defect_in, defect_said, extension_in, is_rectified_in}
+use Rattle.mx_row_rules.specs.found.Lives.{base_found, clock_in, life_in}
+use Rattle.mx_row_rules.specs.found.Names.{aircraft_number, component_number, deferral_number, doc_in, serial_in, tail_in}
+use Rattle.mx_row_rules.specs.found.Programmes.{is_retired_in, programme_number, revision_after, task_in}
+use Rattle.mx_row_rules.specs.found.Said.{aircraft_in, component_in, part_in}
+use Rattle.mx_row_rules.specs.found.Spans.{is_taken_in, span_aircraft}
 use Rattle.mx_numbers.specs.AnyRows.{AreChosen, Gives, GivesBy, GivesEach}
 use Rattle.mx_numbers.specs.InForce.{born_as}
 

@@ -5,7 +5,7 @@ use Rattle.mx_book.specs.commands.Act.{Entry}
 use Rattle.mx_book.specs.declared.found.Found.{Found}
 use Rattle.mx_book.specs.declared.found.Found.TheVariants as founds
 use Rattle.mx_base.specs.declared.rows.rows.TaskRow.{TaskRow}
-use Rattle.mx_found.specs.Programmes.{programme_number, programmes_of, tasks_with}
+use Rattle.mx_row_rules.specs.found.Programmes.{programme_number, programmes_of, tasks_with}
 
 -- the rows of the tasks of the last programme of a kind, where there is one
 abbrev pub rows_in_force : List ℕ → List Entry → Option (List TaskRow)

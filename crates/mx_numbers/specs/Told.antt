@@ -25,8 +25,8 @@ use Rattle.mx_kept.specs.Family.{IsReadableAs}
 use Rattle.mx_kept.specs.Kept.{Kept}
 use Rattle.mx_chosen.specs.Choices.{AreFirst, backward, has_value, is_any, is_open}
 use Rattle.mx_stands.specs.Schemas.{schema_at}
-use Rattle.mx_found.specs.Defects.{deferral_aircraft}
-use Rattle.mx_found.specs.Lives.{base_found, life_in_base}
+use Rattle.mx_row_rules.specs.found.Defects.{deferral_aircraft}
+use Rattle.mx_row_rules.specs.found.Lives.{base_found, life_in_base}
 use Rattle.mx_numbers.specs.AnyRows.{AreChosen, Gives}
 use Rattle.mx_numbers.specs.Damage.{IsUncounted}
 use Rattle.mx_numbers.specs.Given.{AircraftNumber, BornOf, ComponentNumber, DefectNumber, DocOfNumber, IsRectifiedAt, ItemNumber, LifeOf, NextRevision, NumberFitted, ProgrammeNumber, TailOfNumber, is_of}

@@ -8,7 +8,7 @@ ghost use Rattle.mx_book.specs.Judge.{known_from};
 ghost use Rattle.mx_registers.specs.Names.{seq_of_defect};
 ghost use Rattle.mx_kept.specs.Cells.{kept_entry};
 ghost use Rattle.mx_chosen.specs.Choices.{backward, has_value, is_any};
-ghost use Rattle.mx_found.specs.Names.{entry_number, last_number};
+ghost use Rattle.mx_row_rules.specs.found.Names.{entry_number, last_number};
 ghost use Rattle.mx_numbers.specs.AnyRows.{Gives, GivesFirst, ReadsAny};
 ghost use Rattle.mx_numbers.specs.Given.{DefectNumber};
 ghost use Rattle.mx_numbers.specs.Reads.{Reads};
@@ -16,8 +16,8 @@ ghost use Rattle.mx_numbers.specs.Told.{EntryDamage, LastDamage, TellsDamage};
 
 use mx_base::Doc;
 use mx_chosen::entries::{entry_by_doc, last_entry};
-use mx_found::entries::{deferral_number, entry_number, last_number};
 use mx_layout::TableFault;
+use mx_row_rules::found::entries::{deferral_number, entry_number, last_number};
 use sqlite::{Alter, Transaction};
 use std::alloc::Global;
 

@@ -17,12 +17,12 @@ use Rattle.mx_registers.specs.kept.Spans.{span_rows}
 use Rattle.mx_kept.specs.Cells.{kept_component, kept_defect, kept_entry, kept_span2}
 use Rattle.mx_chosen.specs.Choices.{is_open}
 use Rattle.mx_stands.specs.Stands.{HasRowsAt}
-use Rattle.mx_found.specs.Defects.{defect_said as deferral_said, open_said}
-use Rattle.mx_found.specs.Lives.{base_found}
-use Rattle.mx_found.specs.Names.{serial_in, doc_in, doc_at}
-use Rattle.mx_found.specs.Spans.{is_open_at, place_said}
-use Rattle.mx_found.proofs.FoundLemmas.{serial_numbered}
-use Rattle.mx_found.proofs.LifeLemmas.{base_is, no_base}
+use Rattle.mx_row_rules.specs.found.Defects.{defect_said as deferral_said, open_said}
+use Rattle.mx_row_rules.specs.found.Lives.{base_found}
+use Rattle.mx_row_rules.specs.found.Names.{serial_in, doc_in, doc_at}
+use Rattle.mx_row_rules.specs.found.Spans.{is_open_at, place_said}
+use Rattle.mx_row_rules.proofs.FoundProofs.FoundLemmas.{serial_numbered}
+use Rattle.mx_row_rules.proofs.FoundProofs.LifeLemmas.{base_is, no_base}
 use Rattle.mx_rows.specs.Answering.{Only, AnswerListsAs}
 use Rattle.mx_numbers.specs.AnyRows.{AreSaid}
 use Rattle.mx_numbers.specs.Given.{BaseOf, DocIfOpen, DocOfNumber, FittedTo, OpenDefects, OpenSaid, PlaceSaid, TasksInForce}
@@ -34,8 +34,8 @@ use Rattle.mx_rows.proofs.GivenLemmas.{by_number, given, item_number, looked, ta
 use Rattle.mx_rows.proofs.StandingLemmas.{answer_as, based, in_force, lived, rectified_there}
 use Rattle.mx_book.specs.Base.{base}
 use Rattle.mx_lists.specs.Fitted.{fitted_on}
-use Rattle.mx_found.proofs.FittedLemmas.{none_fitted, place_of, places_found}
-use Rattle.mx_found.proofs.OpenDefectLemmas.{doc_found, none_open, open_found}
+use Rattle.mx_row_rules.proofs.FoundProofs.FittedLemmas.{none_fitted, place_of, places_found}
+use Rattle.mx_row_rules.proofs.FoundProofs.OpenDefectLemmas.{doc_found, none_open, open_found}
 use Rattle.mx_base.specs.declared.rows.rows.SpanRow.{SpanRow}
 
 -- what rows said, where each says what it says of the book

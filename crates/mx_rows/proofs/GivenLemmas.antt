@@ -18,8 +18,8 @@ use Rattle.mx_kept.specs.Cells.{kept_aircraft, kept_component, kept_entry}
 use Rattle.mx_kept.specs.Kept.{Kept}
 use Rattle.mx_chosen.specs.Choices.{has_value}
 use Rattle.mx_stands.specs.Stands.{HasRowsAt}
-use Rattle.mx_found.specs.Names.{aircraft_number, component_number, deferral_number}
-use Rattle.mx_found.proofs.FoundLemmas.{defect_is, serial_is, tail_is}
+use Rattle.mx_row_rules.specs.found.Names.{aircraft_number, component_number, deferral_number}
+use Rattle.mx_row_rules.proofs.FoundProofs.FoundLemmas.{defect_is, serial_is, tail_is}
 use Rattle.mx_numbers.specs.AnyRows.{Gives, GivesBy}
 use Rattle.mx_numbers.specs.Given.{AircraftNumber, ComponentNumber, DefectNumber, ItemNumber}
 use Rattle.mx_numbers.specs.Reads.{rows_point}

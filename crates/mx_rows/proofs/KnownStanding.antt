@@ -22,11 +22,11 @@ use Rattle.mx_kept.specs.Cells.{kept_aircraft, kept_component, kept_crs, kept_cr
 use Rattle.mx_kept.specs.Kept.{Kept}
 use Rattle.mx_chosen.specs.Choices.{has_value}
 use Rattle.mx_stands.specs.Stands.{HasRowsAt}
-use Rattle.mx_found.specs.Given.{AreSame, line_row, seq_of_line}
-use Rattle.mx_found.specs.Names.{entry_number}
-use Rattle.mx_found.specs.Spans.{begins_with, ends_with, is_removed_by}
-use Rattle.mx_found.proofs.AnswerLemmas.{fitting_by_spans, removal_by_spans}
-use Rattle.mx_found.proofs.FoundLemmas.{entry_is}
+use Rattle.mx_row_rules.specs.found.Given.{AreSame, line_row, seq_of_line}
+use Rattle.mx_row_rules.specs.found.Names.{entry_number}
+use Rattle.mx_row_rules.specs.found.Spans.{begins_with, ends_with, is_removed_by}
+use Rattle.mx_row_rules.proofs.FoundProofs.AnswerLemmas.{fitting_by_spans, removal_by_spans}
+use Rattle.mx_row_rules.proofs.FoundProofs.FoundLemmas.{entry_is}
 use Rattle.mx_rows.specs.Answering.{Only}
 use Rattle.mx_known.specs.Known.{AreRows, KnownAs, LineNumber, LineRows, Says, Tells}
 use Rattle.mx_numbers.specs.Reads.{rows_point}

@@ -34,19 +34,19 @@ use Rattle.mx_chosen.specs.Choices.{backward, has_value, is_any, is_open}
 use Rattle.mx_chosen.specs.Counts.{AreNumbered, last_number as last_chosen}
 use Rattle.mx_chosen.proofs.LastLemmas.{last_tells}
 use Rattle.mx_stands.specs.Stands.{HasRowsAt}
-use Rattle.mx_found.specs.Defects.{deferral_aircraft, defect_in, extension_in, is_rectified_in, rectifies, is_rectified_at}
-use Rattle.mx_found.specs.Lives.{base_found, clock_in, life_in}
-use Rattle.mx_found.specs.Names.{last_number, tail_in}
-use Rattle.mx_found.specs.Programmes.{programme_number, programmes_of, revision_after, tasks_with}
-use Rattle.mx_found.specs.Said.{aircraft_in, component_in, part_in}
-use Rattle.mx_found.specs.Spans.{is_open_at, is_open_of, is_taken_in, span_aircraft}
-use Rattle.mx_found.proofs.DeferralLemmas.{extension_is, no_defect, no_extension, not_rectified, rectified_is}
-use Rattle.mx_found.proofs.FoundLemmas.{aircraft_is, component_is, entries_counted, entries_numbered, tail_numbered}
-use Rattle.mx_found.proofs.LifeLemmas.{base_is, clock_found, life_found, no_base, no_clock, no_life}
-use Rattle.mx_found.proofs.OpenLemmas.{fitted_nowhere, fitted_tail, fitted_there, taken_by_none, taken_is}
-use Rattle.mx_found.proofs.PlaceLemmas.{part_found, part_missed, room_for_aircraft, room_for_components}
-use Rattle.mx_found.proofs.ProgrammeLemmas.{revision_is}
-use Rattle.mx_found.proofs.ThereLemmas.{serial_there, tail_there}
+use Rattle.mx_row_rules.specs.found.Defects.{deferral_aircraft, defect_in, extension_in, is_rectified_in, rectifies, is_rectified_at}
+use Rattle.mx_row_rules.specs.found.Lives.{base_found, clock_in, life_in}
+use Rattle.mx_row_rules.specs.found.Names.{last_number, tail_in}
+use Rattle.mx_row_rules.specs.found.Programmes.{programme_number, programmes_of, revision_after, tasks_with}
+use Rattle.mx_row_rules.specs.found.Said.{aircraft_in, component_in, part_in}
+use Rattle.mx_row_rules.specs.found.Spans.{is_open_at, is_open_of, is_taken_in, span_aircraft}
+use Rattle.mx_row_rules.proofs.FoundProofs.DeferralLemmas.{extension_is, no_defect, no_extension, not_rectified, rectified_is}
+use Rattle.mx_row_rules.proofs.FoundProofs.FoundLemmas.{aircraft_is, component_is, entries_counted, entries_numbered, tail_numbered}
+use Rattle.mx_row_rules.proofs.FoundProofs.LifeLemmas.{base_is, clock_found, life_found, no_base, no_clock, no_life}
+use Rattle.mx_row_rules.proofs.FoundProofs.OpenLemmas.{fitted_nowhere, fitted_tail, fitted_there, taken_by_none, taken_is}
+use Rattle.mx_row_rules.proofs.FoundProofs.PlaceLemmas.{part_found, part_missed, room_for_aircraft, room_for_components}
+use Rattle.mx_row_rules.proofs.FoundProofs.ProgrammeLemmas.{revision_is}
+use Rattle.mx_row_rules.proofs.FoundProofs.ThereLemmas.{serial_there, tail_there}
 use Rattle.mx_rows.specs.Answering.{AnswerAs, Only}
 use Rattle.mx_numbers.specs.AnyRows.{Gives, GivesFirst}
 use Rattle.mx_lookups.specs.Fitted.{IsNumberFitted}

@@ -22,8 +22,8 @@ use Rattle.mx_lists.specs.Fitted.{fitted_on}
 use Rattle.mx_kept.specs.Cells.{kept_aircraft, kept_component, kept_entry}
 use Rattle.mx_chosen.specs.Choices.{backward, has_value, is_any}
 use Rattle.mx_stands.specs.Schemas.{schema_at}
-use Rattle.mx_found.specs.Names.{last_number}
-use Rattle.mx_found.specs.Said.{aircraft_in, component_in}
+use Rattle.mx_row_rules.specs.found.Names.{last_number}
+use Rattle.mx_row_rules.specs.found.Said.{aircraft_in, component_in}
 use Rattle.mx_numbers.specs.AnyRows.{Gives, GivesFirst}
 use Rattle.mx_numbers.specs.Given.{BaseOf, ClockOf, DefectOf, ExtensionOf, FittedTo, HasRoom, IsAccomplished, IsRectified, IsRetired, IsTaken, LifeOf, NextRevision, OpenDefects, PartAt, TailFitted, TaskOf, TasksInForce}
 use Rattle.mx_numbers.specs.Reads.{rows_point}

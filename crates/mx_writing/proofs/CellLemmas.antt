@@ -9,7 +9,7 @@ use Rattle.sqlite_schema.specs.Rules.{equal}
 use Rattle.mx_book.specs.commands.Same.{same_text}
 use Rattle.mx_base.specs.declared.rows.rows.BaseRow.{BaseRow}
 use Rattle.mx_registers.specs.kept.Bases.{base_put, bases_put, is_keyed}
-use Rattle.mx_changes.specs.Puts.{rows_put}
+use Rattle.mx_row_rules.specs.changes.Puts.{rows_put}
 use Rattle.mx_layout.specs.TableName.{TableName}
 use Rattle.mx_layout.specs.Names.{table_named}
 use Rattle.mx_kept.specs.Kept.{Kept}

@@ -18,12 +18,12 @@ use Rattle.mx_registers.specs.kept.Bases.{base_rows, bases_put}
 use Rattle.mx_registers.specs.kept.Spans.{span_rows, spans_opened}
 use Rattle.mx_registers.specs.kept.Totals.{total_rows, totals_opened}
 use Rattle.mx_registers.proofs.KeptProofs.PutBases.{command_bases}
-use Rattle.mx_changes.specs.Puts.{has_number_of, spans_put, totals_put}
-use Rattle.mx_changes.specs.Rows.{AreCommandRows, held, spans_touched, totals_touched}
-use Rattle.mx_changes.specs.declared.rows.ChangedRows.{ChangedRows}
-use Rattle.mx_changes.specs.declared.rows.CommandRows.{CommandRows}
-use Rattle.mx_changes.proofs.PutLemmas.{same_rows}
-use Rattle.mx_changes.proofs.TouchLemmas.{spans_are_put, totals_are_put}
+use Rattle.mx_row_rules.specs.changes.Puts.{has_number_of, spans_put, totals_put}
+use Rattle.mx_row_rules.specs.changes.Rows.{AreCommandRows, held, spans_touched, totals_touched}
+use Rattle.mx_row_rules.specs.declared.changes.rows.ChangedRows.{ChangedRows}
+use Rattle.mx_row_rules.specs.declared.changes.rows.CommandRows.{CommandRows}
+use Rattle.mx_row_rules.proofs.ChangesProofs.PutLemmas.{same_rows}
+use Rattle.mx_row_rules.proofs.ChangesProofs.TouchLemmas.{spans_are_put, totals_are_put}
 use Rattle.mx_registers.specs.points.Tables.{bases_2, spans_2, totals_2}
 use Rattle.mx_layout.specs.TableName.{TableName}
 use Rattle.mx_layout.specs.declared.fault.Table.TheVariants as table

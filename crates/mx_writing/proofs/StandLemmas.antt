@@ -24,13 +24,13 @@ use Rattle.mx_registers.specs.kept.Bases.{base_rows, bases_by}
 use Rattle.mx_registers.specs.kept.Spans.{span_rows, spans_opened}
 use Rattle.mx_registers.specs.kept.Totals.{total_rows, totals_opened}
 use Rattle.mx_registers.proofs.KeptProofs.PutBases.{command_bases}
-use Rattle.mx_changes.specs.Puts.{has_number_of, rows_put}
-use Rattle.mx_changes.specs.Rows.{AreCommandRows, FitsHeld, held, sectors_held_by, spans_touched, totals_touched}
-use Rattle.mx_changes.specs.declared.rows.AddedRows.{AddedRows}
-use Rattle.mx_changes.specs.declared.rows.ChangedRows.{ChangedRows}
-use Rattle.mx_changes.specs.declared.rows.CommandRows.{CommandRows}
-use Rattle.mx_changes.proofs.PutLemmas.{put_fit}
-use Rattle.mx_changes.proofs.TouchLemmas.{spans_are_put, totals_are_put}
+use Rattle.mx_row_rules.specs.changes.Puts.{has_number_of, rows_put}
+use Rattle.mx_row_rules.specs.changes.Rows.{AreCommandRows, FitsHeld, held, sectors_held_by, spans_touched, totals_touched}
+use Rattle.mx_row_rules.specs.declared.changes.rows.AddedRows.{AddedRows}
+use Rattle.mx_row_rules.specs.declared.changes.rows.ChangedRows.{ChangedRows}
+use Rattle.mx_row_rules.specs.declared.changes.rows.CommandRows.{CommandRows}
+use Rattle.mx_row_rules.proofs.ChangesProofs.PutLemmas.{put_fit}
+use Rattle.mx_row_rules.proofs.ChangesProofs.TouchLemmas.{spans_are_put, totals_are_put}
 use Rattle.mx_layout.specs.TableName.{TableName}
 use Rattle.mx_layout.specs.declared.fault.Table.TheVariants as table
 use Rattle.mx_layout.specs.Names.{table_named}

@@ -2,7 +2,7 @@
 use Rattle.std.specs.Prelude.{◌≡◌, true, IsPermutation, IsTrue}
 use Rattle.sqlite.specs.State.{State}
 use Rattle.sqlite.specs.Tree.{Trees}
-use Rattle.mx_changes.specs.declared.rows.CommandRows.{CommandRows}
+use Rattle.mx_row_rules.specs.declared.changes.rows.CommandRows.{CommandRows}
 use Rattle.mx_layout.specs.TableName.{TableName}
 use Rattle.mx_layout.specs.Contents.{rows_in}
 use Rattle.mx_layout.specs.Names.{table_named}

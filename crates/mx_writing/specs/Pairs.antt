@@ -14,7 +14,7 @@ use Rattle.mx_base.specs.declared.rows.rows.ExtensionRow.{ExtensionRow}
 use Rattle.mx_base.specs.declared.rows.rows.Sector2Row.{Sector2Row}
 use Rattle.mx_base.specs.declared.rows.rows.SpanRow.{SpanRow}
 use Rattle.mx_base.specs.declared.rows.rows.TotalRow.{TotalRow}
-use Rattle.mx_changes.specs.declared.rows.AddedRows.{AddedRows}
+use Rattle.mx_row_rules.specs.declared.changes.rows.AddedRows.{AddedRows}
 
 -- pairs from the sectors, the deferrals, the releases, the programmes on, and all
 abbrev pub FlownPairs : Type 0

@@ -6,7 +6,7 @@ use mx_base::rows::{
     AircraftRow, ComponentRow, DeferralRow, ExtensionRow, OpeningRow, PlaceRow, ProgrammeRow,
     ReleaseLineRow, ReleaseRow, Sector2Row, SpanRow, TaskRow, TotalRow,
 };
-use mx_changes::AddedRows;
+use mx_row_rules::changes::AddedRows;
 
 /// The last of the pairs: what was flown, the spans and the totals.
 pub(crate) type FlownPairs = (Vec<Sector2Row>, (Vec<SpanRow>, Vec<TotalRow>));

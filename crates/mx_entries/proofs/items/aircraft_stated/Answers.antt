@@ -2,7 +2,7 @@ use Rattle.std.proofs.Common.{Some, None, map, ap, ◌∙◌}
 use Rattle.std.specs.Prelude.{slice_get}
 use Rattle.std.specs.Option.{option_map}
 use Rattle.mx_registers.specs.Merge.{aircraft_said}
-use Rattle.mx_found.specs.Stated.{position_said, aircraft_stated}
+use Rattle.mx_row_rules.specs.found.Stated.{position_said, aircraft_stated}
 use Rattle.mx_numbers.proofs.BookRows.{places_of, aircraft_of_number}
 use Rattle.mx_numbers.proofs.ReadLemmas.{reads_then, stopped}
 use Rattle.mx_numbers.proofs.TableLemmas.{places, aircraft}

@@ -2,7 +2,7 @@ use Rattle.std.proofs.Common.{Some, ap, ◌∙◌}
 use Rattle.std.specs.Prelude.{slice_get}
 use Rattle.std.specs.Option.{option_map}
 use Rattle.mx_registers.specs.Merge.{component_said}
-use Rattle.mx_found.specs.Stated.{component_stated}
+use Rattle.mx_row_rules.specs.found.Stated.{component_stated}
 use Rattle.mx_numbers.proofs.AnyLemmas.{gives}
 use Rattle.mx_numbers.proofs.BookRows.{components_of_number}
 use Rattle.mx_numbers.proofs.ReadLemmas.{stopped, told}

@@ -2,7 +2,7 @@ use Rattle.std.proofs.Common.{Some, None, map, ap, ◌∙◌}
 use Rattle.std.specs.Prelude.{slice_get}
 use Rattle.std.specs.Option.{option_map}
 use Rattle.mx_registers.specs.Merge.{programme_said, task_said}
-use Rattle.mx_found.specs.Stated.{programme_stated}
+use Rattle.mx_row_rules.specs.found.Stated.{programme_stated}
 use Rattle.mx_numbers.proofs.BookRows.{programmes_of_number, tasks_of}
 use Rattle.mx_numbers.proofs.ReadLemmas.{reads_then, stopped}
 use Rattle.mx_numbers.proofs.TableLemmas.{programmes, tasks}

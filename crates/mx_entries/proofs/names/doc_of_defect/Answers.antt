@@ -1,6 +1,6 @@
 use Rattle.std.proofs.Common.{◌∙◌, ap}
-use Rattle.mx_found.specs.Names.{deferred_doc}
-use Rattle.mx_found.proofs.StatedLemmas.{deferral_numbered}
+use Rattle.mx_row_rules.specs.found.Names.{deferred_doc}
+use Rattle.mx_row_rules.proofs.FoundProofs.StatedLemmas.{deferral_numbered}
 use Rattle.mx_numbers.proofs.AnyLemmas.{gives}
 use Rattle.mx_numbers.proofs.BookRows.{entries_of_number}
 use Rattle.mx_numbers.proofs.ReadLemmas.{stopped, told}

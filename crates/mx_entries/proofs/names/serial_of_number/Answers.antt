@@ -1,6 +1,6 @@
 use Rattle.std.proofs.Common.{◌∙◌, ap}
-use Rattle.mx_found.specs.Names.{serial_in}
-use Rattle.mx_found.proofs.FoundLemmas.{serial_numbered}
+use Rattle.mx_row_rules.specs.found.Names.{serial_in}
+use Rattle.mx_row_rules.proofs.FoundProofs.FoundLemmas.{serial_numbered}
 use Rattle.mx_numbers.proofs.BookRows.{components_of_number}
 use Rattle.mx_numbers.proofs.AnyLemmas.{gives}
 use Rattle.mx_numbers.proofs.TableLemmas.{components}

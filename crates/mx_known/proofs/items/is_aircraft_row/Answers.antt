@@ -1,6 +1,6 @@
 use Rattle.std.proofs.Common.{[], ◌∷◌, ap, ◌∙◌}
 use Rattle.mx_registers.specs.Registers.{aircraft_row}
-use Rattle.mx_found.specs.Given as registers
+use Rattle.mx_row_rules.specs.found.Given as registers
 use Rattle.mx_numbers.proofs.BookRows.{aircraft_of_number}
 use Rattle.mx_numbers.proofs.ReadLemmas.{stopped, told}
 use Rattle.mx_known.proofs.TellLemmas.{compared}

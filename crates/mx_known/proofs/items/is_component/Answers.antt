@@ -1,7 +1,7 @@
 use Rattle.std.proofs.Common.{[], ◌∷◌, ap, ◌∙◌}
 use Rattle.mx_book.specs.commands.Act.{Listed}
 use Rattle.mx_registers.specs.Registers.{component_row}
-use Rattle.mx_found.specs.Given.{components}
+use Rattle.mx_row_rules.specs.found.Given.{components}
 use Rattle.mx_numbers.proofs.BookRows.{components_of_number}
 use Rattle.mx_numbers.proofs.ReadLemmas.{stopped, told}
 use Rattle.mx_known.proofs.TellLemmas.{compared, tells}

@@ -1,9 +1,9 @@
 use Rattle.std.proofs.Common.{Some, sym, ap, ap₂, ◌∙◌, inl, inr}
 use Rattle.std.specs.List.{list_any}
 use Rattle.mx_registers.specs.Names.{or_zero}
-use Rattle.mx_found.specs.Spans.{begins_with}
-use Rattle.mx_found.proofs.AnswerLemmas.{fitting_by_spans}
-use Rattle.mx_found.proofs.FoundLemmas.{entry_is}
+use Rattle.mx_row_rules.specs.found.Spans.{begins_with}
+use Rattle.mx_row_rules.proofs.FoundProofs.AnswerLemmas.{fitting_by_spans}
+use Rattle.mx_row_rules.proofs.FoundProofs.FoundLemmas.{entry_is}
 use Rattle.mx_numbers.proofs.BookRows.{spans_of_fitting}
 use Rattle.mx_numbers.proofs.ReadLemmas.{reads_then, stopped, told}
 use Rattle.mx_numbers.specs.Given.{AircraftNumber}

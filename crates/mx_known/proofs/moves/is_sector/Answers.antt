@@ -3,7 +3,7 @@ use Rattle.mx_book.specs.commands.Act.{Flown}
 use Rattle.mx_base.specs.declared.rows.rows.Sector2Row.{Sector2Row}
 use Rattle.mx_registers.specs.Names.{or_zero, seq_of_tail}
 use Rattle.mx_registers.specs.Registers.{sector_row}
-use Rattle.mx_found.specs.Given as registers
+use Rattle.mx_row_rules.specs.found.Given as registers
 use Rattle.mx_numbers.proofs.SectorRows.{sectors_held, sectors_read}
 use Rattle.mx_numbers.proofs.ReadLemmas.{reads_then, stopped, told}
 use Rattle.mx_known.proofs.TellLemmas.{compared, tells}

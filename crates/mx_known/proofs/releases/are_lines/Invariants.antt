@@ -4,7 +4,7 @@ use Rattle.sqlite_rules.specs.Lists.{Has}
 use Rattle.mx_book.specs.declared.commands.release.Line.{Line}
 use Rattle.mx_registers.specs.Lines.{lines_from}
 use Rattle.mx_registers.specs.Registers.{release_line_row}
-use Rattle.mx_found.specs.Given.{found, release_lines}
+use Rattle.mx_row_rules.specs.found.Given.{found, release_lines}
 use Rattle.mx_numbers.specs.AnyRows.{ReadsAny}
 use Rattle.mx_numbers.specs.Reads.{Reads}
 use Rattle.mx_known.proofs.KnownLemmas.{IsLined}

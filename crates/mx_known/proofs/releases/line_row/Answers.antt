@@ -1,5 +1,5 @@
 use Rattle.std.proofs.Common.{◌∙◌, ap}
-use Rattle.mx_found.specs.Given.{line_row}
+use Rattle.mx_row_rules.specs.found.Given.{line_row}
 use Rattle.mx_numbers.proofs.AnyLemmas.{any_so}
 use Rattle.mx_known.proofs.releases.line_row.Goals as goal
 

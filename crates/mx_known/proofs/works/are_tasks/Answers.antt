@@ -1,7 +1,7 @@
 use Rattle.std.proofs.Common.{◌∙◌}
 use Rattle.mx_registers.specs.Lines.{lines_from}
 use Rattle.mx_registers.specs.Registers.{task_row}
-use Rattle.mx_found.specs.Given as registers
+use Rattle.mx_row_rules.specs.found.Given as registers
 use Rattle.mx_numbers.proofs.BookRows.{tasks_of}
 use Rattle.mx_numbers.proofs.ReadLemmas.{stopped, told}
 use Rattle.mx_known.proofs.TellLemmas.{compared}

@@ -2,7 +2,7 @@ use Rattle.std.proofs.Common.{[], ◌∷◌, ap, ◌∙◌, inr}
 use Rattle.mx_book.specs.commands.Act.{Extended}
 use Rattle.mx_registers.specs.Names.{or_zero, seq_of_defect}
 use Rattle.mx_registers.specs.Registers.{extension_row}
-use Rattle.mx_found.specs.Given as registers
+use Rattle.mx_row_rules.specs.found.Given as registers
 use Rattle.mx_numbers.proofs.BookRows.{extensions_of_number}
 use Rattle.mx_numbers.proofs.ReadLemmas.{reads_then, stopped, told}
 use Rattle.mx_known.proofs.TellLemmas.{compared, tells}

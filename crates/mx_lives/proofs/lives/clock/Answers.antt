@@ -1,8 +1,8 @@
 use Rattle.std.proofs.Common.{◌≡◌, ◌∙◌, ap, sym, Some, inl, inr, refl}
 use Rattle.mx_book.specs.Life.{clock}
 use Rattle.mx_layout.specs.declared.fault.Table.TheVariants as table
-use Rattle.mx_found.specs.Lives.{clock_in}
-use Rattle.mx_found.proofs.LifeLemmas.{clock_found, no_clock}
+use Rattle.mx_row_rules.specs.found.Lives.{clock_in}
+use Rattle.mx_row_rules.proofs.FoundProofs.LifeLemmas.{clock_found, no_clock}
 use Rattle.mx_numbers.proofs.BookRows.{totals_of}
 use Rattle.mx_numbers.proofs.ReadLemmas.{reads_then, refused, stopped, told}
 use Rattle.mx_numbers.specs.Given.{ItemNumber}

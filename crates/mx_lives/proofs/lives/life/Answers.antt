@@ -2,8 +2,8 @@ use Rattle.std.proofs.Common.{◌≡◌, ◌∙◌, ap, sym, refl, inl, inr}
 use Rattle.std.specs.Prelude.{is_some}
 use Rattle.mx_book.specs.Life.{life_now}
 use Rattle.mx_layout.specs.declared.fault.Table.TheVariants as table
-use Rattle.mx_found.specs.Lives.{life_in}
-use Rattle.mx_found.proofs.LifeLemmas.{alive, life_found, no_life}
+use Rattle.mx_row_rules.specs.found.Lives.{life_in}
+use Rattle.mx_row_rules.proofs.FoundProofs.LifeLemmas.{alive, life_found, no_life}
 use Rattle.mx_numbers.proofs.BookRows.{totals_of}
 use Rattle.mx_numbers.proofs.ReadLemmas.{reads_then, refused, stopped, told}
 use Rattle.mx_numbers.specs.Given.{ItemNumber}

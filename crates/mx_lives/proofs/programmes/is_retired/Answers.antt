@@ -2,7 +2,7 @@ use Rattle.std.proofs.Common.{◌∙◌, ap, sym, None, Vec, inl}
 use Rattle.std.specs.Option.{option_map}
 use Rattle.std.specs.declared.alloc.Global.{Global}
 use Rattle.mx_base.specs.declared.rows.rows.TaskRow.{TaskRow}
-use Rattle.mx_found.specs.Programmes.{is_retired_in}
+use Rattle.mx_row_rules.specs.found.Programmes.{is_retired_in}
 use Rattle.mx_numbers.proofs.AnyLemmas.{by_itself, by_missing, by_number}
 use Rattle.mx_lives.proofs.InForceLemmas.{retired_is}
 use Rattle.mx_numbers.proofs.ReadLemmas.{reads_then, told, stopped}

@@ -1,7 +1,7 @@
 use Rattle.std.proofs.Common.{◌<◌, ◌^◌, ◌∙◌, ap, refl, sym, subst, arith, inl, inr}
 use Rattle.mx_layout.specs.declared.fault.Table.TheVariants as table
-use Rattle.mx_found.specs.Programmes.{revision_after}
-use Rattle.mx_found.proofs.ProgrammeLemmas.{revision_is, revision_low}
+use Rattle.mx_row_rules.specs.found.Programmes.{revision_after}
+use Rattle.mx_row_rules.proofs.FoundProofs.ProgrammeLemmas.{revision_is, revision_low}
 use Rattle.mx_numbers.proofs.AnyLemmas.{gives}
 use Rattle.mx_lives.proofs.DamageLemmas.{revision_past}
 use Rattle.mx_numbers.proofs.TableLemmas.{programmes}

@@ -5,8 +5,8 @@ use Rattle.mx_book.specs.commands.Programme.{task_shape}
 use Rattle.mx_layout.specs.declared.fault.Table.TheVariants as table
 use Rattle.mx_registers.specs.Merge.{task_said}
 use Rattle.mx_base.specs.declared.rows.rows.TaskRow.{TaskRow}
-use Rattle.mx_found.specs.Programmes.{programme_number, programmes_of, tasks_with}
-use Rattle.mx_found.proofs.ProgrammeLemmas.{tasks_shaped}
+use Rattle.mx_row_rules.specs.found.Programmes.{programme_number, programmes_of, tasks_with}
+use Rattle.mx_row_rules.proofs.FoundProofs.ProgrammeLemmas.{tasks_shaped}
 use Rattle.mx_numbers.proofs.AnyLemmas.{any_later, gives}
 use Rattle.mx_lives.proofs.DamageLemmas.{task_past}
 use Rattle.mx_numbers.proofs.TableLemmas.{programmes, tasks}

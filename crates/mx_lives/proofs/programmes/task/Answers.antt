@@ -6,7 +6,7 @@ use Rattle.std.specs.declared.alloc.Global.{Global}
 use Rattle.mx_book.specs.commands.Programme.{task_shape}
 use Rattle.mx_registers.specs.Merge.{task_said}
 use Rattle.mx_base.specs.declared.rows.rows.TaskRow.{TaskRow}
-use Rattle.mx_found.specs.Programmes.{task_in}
+use Rattle.mx_row_rules.specs.found.Programmes.{task_in}
 use Rattle.mx_lives.proofs.InForceLemmas.{task_found, task_shaped}
 use Rattle.mx_numbers.proofs.ReadLemmas.{told, stopped}
 use Rattle.mx_lives.proofs.programmes.task.Goals as goal

@@ -2,9 +2,9 @@ use Rattle.std.proofs.Common.{◌∙◌, ap, subst, sym, inl, inr, refl}
 use Rattle.std.specs.Prelude.{IfSome}
 use Rattle.mx_book.specs.due.Due.{IsLife}
 use Rattle.mx_layout.specs.declared.fault.Table.TheVariants as table
-use Rattle.mx_found.specs.Lives.{base_found, life_in_base}
-use Rattle.mx_found.proofs.BoundLemmas.{base_low}
-use Rattle.mx_found.proofs.LifeLemmas.{base_is, no_base}
+use Rattle.mx_row_rules.specs.found.Lives.{base_found, life_in_base}
+use Rattle.mx_row_rules.proofs.FoundProofs.BoundLemmas.{base_low}
+use Rattle.mx_row_rules.proofs.FoundProofs.LifeLemmas.{base_is, no_base}
 use Rattle.mx_numbers.proofs.AnyLemmas.{any_later, by_number, by_none}
 use Rattle.mx_lives.proofs.BaseLookups.{base_by_key, bases_give, bases_in}
 use Rattle.mx_lives.proofs.DamageLemmas.{base_past}

@@ -1,8 +1,8 @@
 use Rattle.std.proofs.Common.{◌∙◌, ap, sym}
 use Rattle.std.specs.Prelude.{is_some}
 use Rattle.mx_book.proofs.BaseLemmas.{accomplished-base}
-use Rattle.mx_found.specs.Lives.{base_found}
-use Rattle.mx_found.proofs.LifeLemmas.{base_is, no_base}
+use Rattle.mx_row_rules.specs.found.Lives.{base_found}
+use Rattle.mx_row_rules.proofs.FoundProofs.LifeLemmas.{base_is, no_base}
 use Rattle.mx_lives.proofs.BaseLookups.{base_by_key, bases_give, bases_in}
 use Rattle.mx_numbers.proofs.AnyLemmas.{by_number, by_none}
 use Rattle.mx_numbers.proofs.ReadLemmas.{reads_then, stopped, told}

@@ -2,9 +2,9 @@ use Rattle.std.proofs.Common.{◌≡◌, ℕ, Option, Some, ◌∙◌, ap, ap₂
 use Rattle.std.specs.Prelude.{IsSomeAnd, is_some}
 use Rattle.mx_layout.specs.declared.fault.Table.TheVariants as table
 use Rattle.mx_kept.specs.Cells.{kept_defect}
-use Rattle.mx_found.specs.Defects.{deferral_aircraft, defect_in}
-use Rattle.mx_found.proofs.DeferralLemmas.{defect_there, no_defect}
-use Rattle.mx_found.specs.Names.{tail_in}
+use Rattle.mx_row_rules.specs.found.Defects.{deferral_aircraft, defect_in}
+use Rattle.mx_row_rules.proofs.FoundProofs.DeferralLemmas.{defect_there, no_defect}
+use Rattle.mx_row_rules.specs.found.Names.{tail_in}
 use Rattle.mx_numbers.specs.Given.{DefectNumber}
 use Rattle.mx_numbers.proofs.AnyLemmas.{any_later, by_none, by_number, found_some, gives}
 use Rattle.mx_lookups.proofs.DamageLemmas.{aircraft_unmet, deferral_unmet, no_tail}

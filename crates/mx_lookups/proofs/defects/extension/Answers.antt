@@ -1,6 +1,6 @@
 use Rattle.std.proofs.Common.{◌∙◌, ap, sym}
-use Rattle.mx_found.specs.Defects.{extension_in}
-use Rattle.mx_found.proofs.DeferralLemmas.{extension_is, no_extension}
+use Rattle.mx_row_rules.specs.found.Defects.{extension_in}
+use Rattle.mx_row_rules.proofs.FoundProofs.DeferralLemmas.{extension_is, no_extension}
 use Rattle.mx_numbers.proofs.AnyLemmas.{by_number, by_none, gives}
 use Rattle.mx_numbers.proofs.TableLemmas.{extensions}
 use Rattle.mx_numbers.proofs.ReadLemmas.{reads_then, stopped, told}

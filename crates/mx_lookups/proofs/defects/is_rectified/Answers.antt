@@ -1,6 +1,6 @@
 use Rattle.std.proofs.Common.{◌∙◌, ap, sym}
-use Rattle.mx_found.specs.Defects.{is_rectified_in}
-use Rattle.mx_found.proofs.DeferralLemmas.{not_rectified, rectified_is}
+use Rattle.mx_row_rules.specs.found.Defects.{is_rectified_in}
+use Rattle.mx_row_rules.proofs.FoundProofs.DeferralLemmas.{not_rectified, rectified_is}
 use Rattle.mx_numbers.proofs.AnyLemmas.{by_number, by_none, gives}
 use Rattle.mx_numbers.proofs.TableLemmas.{release_lines}
 use Rattle.mx_numbers.proofs.ReadLemmas.{reads_then, stopped, told}

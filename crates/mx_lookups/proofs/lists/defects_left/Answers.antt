@@ -5,9 +5,9 @@ use Rattle.sqlite.specs.declared.types.Value.TheVariants.{Int}
 use Rattle.mx_book.specs.commands.Act.{Entry}
 use Rattle.mx_registers.specs.Registers.{deferral_rows}
 use Rattle.mx_base.specs.declared.rows.rows.DeferralRow.{DeferralRow}
-use Rattle.mx_found.specs.Defects.{defect_said, is_rectified_at, open_said}
-use Rattle.mx_found.specs.Names.{doc_at}
-use Rattle.mx_found.proofs.OpenDefectLemmas.{entries_there}
+use Rattle.mx_row_rules.specs.found.Defects.{defect_said, is_rectified_at, open_said}
+use Rattle.mx_row_rules.specs.found.Names.{doc_at}
+use Rattle.mx_row_rules.proofs.FoundProofs.OpenDefectLemmas.{entries_there}
 use Rattle.mx_layout.specs.declared.fault.Table.TheVariants as table
 use Rattle.mx_kept.specs.Cells.{kept_defect}
 use Rattle.mx_chosen.specs.Choices.{has_value}

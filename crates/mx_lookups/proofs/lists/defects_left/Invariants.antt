@@ -6,8 +6,8 @@ use Rattle.mx_registers.specs.Registers.{deferral_rows}
 use Rattle.mx_base.specs.declared.rows.rows.DeferralRow.{DeferralRow}
 use Rattle.mx_kept.specs.Cells.{kept_defect}
 use Rattle.mx_chosen.specs.Choices.{has_value}
-use Rattle.mx_found.specs.Defects.{open_said}
-use Rattle.mx_found.specs.Names.{doc_at}
+use Rattle.mx_row_rules.specs.found.Defects.{open_said}
+use Rattle.mx_row_rules.specs.found.Names.{doc_at}
 use Rattle.mx_numbers.specs.Given.{OpenSaid}
 use Rattle.mx_lookups.proofs.WalkLemmas.{Walks}
 use Rattle.mx_lookups.proofs.lists.defects_left.Given as goal

@@ -1,6 +1,6 @@
 use Rattle.std.proofs.Common.{◌≡◌, ◌∙◌, ap, arith, cond, false, None, Some, sym, true, inl, inr}
-use Rattle.mx_found.specs.Defects.{is_rectified_at, is_rectified_in}
-use Rattle.mx_found.specs.Names.{doc_at}
+use Rattle.mx_row_rules.specs.found.Defects.{is_rectified_at, is_rectified_in}
+use Rattle.mx_row_rules.specs.found.Names.{doc_at}
 use Rattle.mx_numbers.proofs.BookRows.{lines_of_defect}
 use Rattle.mx_numbers.proofs.AnyLemmas.{any_later, gives}
 use Rattle.mx_numbers.proofs.TableLemmas.{release_lines}

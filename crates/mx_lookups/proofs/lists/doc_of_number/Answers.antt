@@ -1,6 +1,6 @@
 use Rattle.std.proofs.Common.{◌∙◌, ap}
-use Rattle.mx_found.specs.Names.{doc_in}
-use Rattle.mx_found.proofs.OpenDefectLemmas.{doc_found}
+use Rattle.mx_row_rules.specs.found.Names.{doc_in}
+use Rattle.mx_row_rules.proofs.FoundProofs.OpenDefectLemmas.{doc_found}
 use Rattle.mx_numbers.proofs.BookRows.{entries_of_number}
 use Rattle.mx_numbers.proofs.AnyLemmas.{gives}
 use Rattle.mx_numbers.proofs.TableLemmas.{entries}

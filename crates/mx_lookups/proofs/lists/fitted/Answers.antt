@@ -1,5 +1,5 @@
 use Rattle.std.proofs.Common.{◌∙◌, ap, map, sym}
-use Rattle.mx_found.proofs.FittedLemmas.{none_fitted, place_of, places_found}
+use Rattle.mx_row_rules.proofs.FoundProofs.FittedLemmas.{none_fitted, place_of, places_found}
 use Rattle.mx_numbers.proofs.AnyLemmas.{by_nothing, by_result}
 use Rattle.mx_numbers.proofs.ReadLemmas.{follows, reads_then, told}
 use Rattle.mx_numbers.proofs.ToldLemmas.{told_by}

@@ -5,8 +5,8 @@ use Rattle.sqlite.specs.declared.types.Value.TheVariants.{Int}
 use Rattle.mx_book.specs.commands.Act.{Entry}
 use Rattle.mx_base.specs.declared.rows.rows.SpanRow.{SpanRow}
 use Rattle.mx_registers.specs.kept.Spans.{span_rows}
-use Rattle.mx_found.specs.Spans.{is_open_at, place_said}
-use Rattle.mx_found.proofs.FittedLemmas.{components_there}
+use Rattle.mx_row_rules.specs.found.Spans.{is_open_at, place_said}
+use Rattle.mx_row_rules.proofs.FoundProofs.FittedLemmas.{components_there}
 use Rattle.mx_layout.specs.declared.fault.Table.TheVariants as table
 use Rattle.mx_kept.specs.Cells.{kept_span2}
 use Rattle.mx_chosen.specs.Choices.{is_open}

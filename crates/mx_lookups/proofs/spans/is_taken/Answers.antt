@@ -1,6 +1,6 @@
 use Rattle.std.proofs.Common.{◌∙◌, ap, sym}
-use Rattle.mx_found.specs.Spans.{is_taken_in}
-use Rattle.mx_found.proofs.OpenLemmas.{taken_by_none, taken_is}
+use Rattle.mx_row_rules.specs.found.Spans.{is_taken_in}
+use Rattle.mx_row_rules.proofs.FoundProofs.OpenLemmas.{taken_by_none, taken_is}
 use Rattle.mx_numbers.proofs.BookRows.{open_spans_at}
 use Rattle.mx_numbers.proofs.ReadLemmas.{reads_then, stopped, told}
 use Rattle.mx_numbers.proofs.AnyLemmas.{by_number, by_none, gives}

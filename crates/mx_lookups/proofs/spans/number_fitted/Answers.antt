@@ -2,8 +2,8 @@ use Rattle.std.proofs.Common.{◌∙◌, ap, sym}
 use Rattle.std.specs.Prelude.{is_some}
 use Rattle.std.specs.Option.{option_and_then}
 use Rattle.mx_registers.specs.Names.{tail_at}
-use Rattle.mx_found.specs.Spans.{span_aircraft}
-use Rattle.mx_found.proofs.OpenLemmas.{fitted_nowhere, fitted_tail, fitted_there}
+use Rattle.mx_row_rules.specs.found.Spans.{span_aircraft}
+use Rattle.mx_row_rules.proofs.FoundProofs.OpenLemmas.{fitted_nowhere, fitted_tail, fitted_there}
 use Rattle.mx_numbers.proofs.BookRows.{open_spans_of}
 use Rattle.mx_numbers.proofs.ReadLemmas.{reads_then, stopped, told}
 use Rattle.mx_numbers.proofs.AnyLemmas.{by_number, by_none, gives}

@@ -1,7 +1,7 @@
 use Rattle.std.proofs.Common.{◌∙◌, [], ap, refl, sym}
 use Rattle.mx_book.specs.commands.Act.{Added, Deferred, Extended, Fitted, Flown, Listed, Loaded, Opened, Released, Removed}
 use Rattle.mx_book.specs.commands.Said.{act_said}
-use Rattle.mx_changes.specs.Made.{nothing_found}
+use Rattle.mx_row_rules.specs.changes.Made.{nothing_found}
 use Rattle.mx_made.proofs.AnyMadeLemmas.{command_by, command_by_entry}
 use Rattle.mx_made.proofs.AnyTotalLemmas.{none_of}
 use Rattle.mx_made.proofs.MadeLemmas.{command_made, command_made_alone}

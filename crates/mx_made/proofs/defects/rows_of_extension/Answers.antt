@@ -2,7 +2,7 @@ use Rattle.std.proofs.Common.{[], refl}
 use Rattle.mx_numbers.proofs.ReadLemmas.{told}
 use Rattle.mx_numbers.proofs.AnyLemmas.{any_so}
 use Rattle.mx_made.proofs.AnyTotalLemmas.{none_of}
-use Rattle.mx_changes.specs.Made.{nothing_found}
+use Rattle.mx_row_rules.specs.changes.Made.{nothing_found}
 use Rattle.mx_made.proofs.defects.rows_of_extension.Goals as goal
 
 pub returns-clause-reads : goal.returns-clause-reads

@@ -6,7 +6,7 @@ use Rattle.mx_made.proofs.AmongLemmas.{among}
 use Rattle.mx_made.proofs.MadeLemmas.{starved}
 use Rattle.mx_made.proofs.SpanLemmas.{spans_removed_are}
 use Rattle.mx_numbers.proofs.AnyLemmas.{any_so}
-use Rattle.mx_changes.specs.Made.{nothing_found}
+use Rattle.mx_row_rules.specs.changes.Made.{nothing_found}
 use Rattle.mx_made.specs.Found.{AreTotalsOf, numbers_removed}
 use Rattle.mx_made.proofs.AnyMadeLemmas.{any_then, chosen_read}
 use Rattle.sqlite.specs.declared.types.Value.TheVariants.{Int}

@@ -1,6 +1,6 @@
 use Rattle.std.proofs.Common.{◌∙◌, ap, subst, sym, refl}
-use Rattle.mx_changes.specs.Certified.{IsKnownOf}
-use Rattle.mx_changes.specs.declared.releases.Certified.TheVariants as certified
+use Rattle.mx_row_rules.specs.changes.Certified.{IsKnownOf}
+use Rattle.mx_row_rules.specs.declared.changes.releases.Certified.TheVariants as certified
 use Rattle.mx_numbers.proofs.ReadLemmas.{reads_then, told}
 use Rattle.mx_made.specs.Releases.{due_by_kind}
 use Rattle.mx_numbers.proofs.AnyLemmas.{any_so}

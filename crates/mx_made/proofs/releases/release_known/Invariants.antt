@@ -1,6 +1,6 @@
 use Rattle.std.proofs.Common.{◌≡◌, ◌+◌, All, length}
 use Rattle.sqlite.specs.Held.{state}
-use Rattle.mx_changes.specs.Certified.{HasLifeReached}
+use Rattle.mx_row_rules.specs.changes.Certified.{HasLifeReached}
 use Rattle.mx_made.proofs.AnyMadeLemmas.{AnyWalk}
 use Rattle.mx_made.proofs.ReleaseLemmas.{LinesWalk}
 use Rattle.mx_made.proofs.releases.release_known.Given as goal

@@ -1,9 +1,9 @@
 use Rattle.std.proofs.Common.{◌∙◌, [], ◌∷◌, ap, subst, sym}
-use Rattle.mx_changes.specs.Certified.{AreKnownOf}
+use Rattle.mx_row_rules.specs.changes.Certified.{AreKnownOf}
 use Rattle.mx_numbers.proofs.ReadLemmas.{reads_then, told}
 use Rattle.mx_made.proofs.AmongLemmas.{among}
 use Rattle.mx_numbers.proofs.AnyLemmas.{any_so}
-use Rattle.mx_changes.specs.Made.{nothing_found}
+use Rattle.mx_row_rules.specs.changes.Made.{nothing_found}
 use Rattle.mx_made.specs.Found.{AreLinesAt, AreTotalsOf}
 use Rattle.mx_made.proofs.AnyMadeLemmas.{any_then}
 use Rattle.mx_made.proofs.releases.rows_of_release.Goals as goal

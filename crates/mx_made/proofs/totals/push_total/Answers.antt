@@ -2,7 +2,7 @@ use Rattle.std.proofs.Common.{◌∙◌, ◌++◌, [], ◌∷◌, All, ap, subst
 use Rattle.std.specs.List.{cons_option}
 use Rattle.std.specs.Prelude.{IfSome}
 use Rattle.std.proofs.lemmas.List.Elements.{All-append, All-cons, All-nil}
-use Rattle.mx_changes.specs.Kept.{HasLife}
+use Rattle.mx_row_rules.specs.changes.Kept.{HasLife}
 use Rattle.mx_numbers.proofs.ReadLemmas.{told}
 use Rattle.mx_numbers.proofs.AnyLemmas.{any_so}
 use Rattle.mx_made.proofs.totals.push_total.Goals as goal

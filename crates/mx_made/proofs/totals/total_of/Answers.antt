@@ -1,7 +1,7 @@
 use Rattle.std.proofs.Common.{◌∙◌, None, Option, List, refl, sym, ap}
 use Rattle.std.specs.Prelude.{slice_get}
 use Rattle.mx_base.specs.declared.rows.rows.TotalRow.{TotalRow}
-use Rattle.mx_changes.specs.Kept.{HasLife}
+use Rattle.mx_row_rules.specs.changes.Kept.{HasLife}
 use Rattle.mx_layout.specs.declared.fault.Table.TheVariants as table
 use Rattle.mx_numbers.proofs.AnyLemmas.{any_so, gives}
 use Rattle.mx_numbers.proofs.BookRows.{totals_of}

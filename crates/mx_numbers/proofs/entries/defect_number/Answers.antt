@@ -1,6 +1,6 @@
 use Rattle.std.proofs.Common.{◌∙◌, ap}
-use Rattle.mx_found.specs.Names.{deferral_number}
-use Rattle.mx_found.proofs.FoundLemmas.{defect_is}
+use Rattle.mx_row_rules.specs.found.Names.{deferral_number}
+use Rattle.mx_row_rules.proofs.FoundProofs.FoundLemmas.{defect_is}
 use Rattle.mx_numbers.proofs.BookRows.{entries_of_doc}
 use Rattle.mx_numbers.proofs.ReadLemmas.{stopped, told}
 use Rattle.mx_numbers.proofs.AnyLemmas.{gives}

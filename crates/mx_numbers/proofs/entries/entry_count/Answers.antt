@@ -1,5 +1,5 @@
 use Rattle.std.proofs.Common.{◌∙◌, ap}
-use Rattle.mx_found.specs.Names.{last_number}
+use Rattle.mx_row_rules.specs.found.Names.{last_number}
 use Rattle.mx_numbers.proofs.AnyLemmas.{gives}
 use Rattle.mx_numbers.proofs.LookupLemmas.{last_read}
 use Rattle.mx_numbers.proofs.ReadLemmas.{stopped, told}

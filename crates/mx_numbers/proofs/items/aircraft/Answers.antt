@@ -1,6 +1,6 @@
 use Rattle.std.proofs.Common.{◌∙◌, ap}
-use Rattle.mx_found.specs.Said.{aircraft_in}
-use Rattle.mx_found.proofs.FoundLemmas.{aircraft_is}
+use Rattle.mx_row_rules.specs.found.Said.{aircraft_in}
+use Rattle.mx_row_rules.proofs.FoundProofs.FoundLemmas.{aircraft_is}
 use Rattle.mx_numbers.proofs.BookRows.{aircraft_of_tail}
 use Rattle.mx_numbers.proofs.ReadLemmas.{stopped, told}
 use Rattle.mx_numbers.proofs.AnyLemmas.{gives}

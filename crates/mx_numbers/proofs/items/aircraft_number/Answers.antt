@@ -1,6 +1,6 @@
 use Rattle.std.proofs.Common.{◌∙◌, ap}
-use Rattle.mx_found.specs.Names.{aircraft_number}
-use Rattle.mx_found.proofs.FoundLemmas.{tail_is}
+use Rattle.mx_row_rules.specs.found.Names.{aircraft_number}
+use Rattle.mx_row_rules.proofs.FoundProofs.FoundLemmas.{tail_is}
 use Rattle.mx_numbers.proofs.BookRows.{aircraft_of_tail}
 use Rattle.mx_numbers.proofs.ReadLemmas.{stopped, told}
 use Rattle.mx_numbers.proofs.AnyLemmas.{gives}

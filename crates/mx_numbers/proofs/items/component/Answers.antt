@@ -1,6 +1,6 @@
 use Rattle.std.proofs.Common.{◌∙◌, ap}
-use Rattle.mx_found.specs.Said.{component_in}
-use Rattle.mx_found.proofs.FoundLemmas.{component_is}
+use Rattle.mx_row_rules.specs.found.Said.{component_in}
+use Rattle.mx_row_rules.proofs.FoundProofs.FoundLemmas.{component_is}
 use Rattle.mx_numbers.proofs.BookRows.{components_of_serial}
 use Rattle.mx_numbers.proofs.ReadLemmas.{stopped, told}
 use Rattle.mx_numbers.proofs.AnyLemmas.{gives}

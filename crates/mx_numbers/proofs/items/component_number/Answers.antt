@@ -1,6 +1,6 @@
 use Rattle.std.proofs.Common.{◌∙◌, ap}
-use Rattle.mx_found.specs.Names.{component_number}
-use Rattle.mx_found.proofs.FoundLemmas.{serial_is}
+use Rattle.mx_row_rules.specs.found.Names.{component_number}
+use Rattle.mx_row_rules.proofs.FoundProofs.FoundLemmas.{serial_is}
 use Rattle.mx_numbers.proofs.BookRows.{components_of_serial}
 use Rattle.mx_numbers.proofs.ReadLemmas.{stopped, told}
 use Rattle.mx_numbers.proofs.AnyLemmas.{gives}

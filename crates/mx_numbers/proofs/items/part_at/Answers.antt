@@ -1,6 +1,6 @@
 use Rattle.std.proofs.Common.{◌∙◌, ap, sym}
-use Rattle.mx_found.specs.Said.{part_in}
-use Rattle.mx_found.proofs.PlaceLemmas.{part_found, part_missed}
+use Rattle.mx_row_rules.specs.found.Said.{part_in}
+use Rattle.mx_row_rules.proofs.FoundProofs.PlaceLemmas.{part_found, part_missed}
 use Rattle.mx_numbers.proofs.BookRows.{places_of}
 use Rattle.mx_numbers.proofs.ReadLemmas.{reads_then, stopped, told}
 use Rattle.mx_numbers.proofs.AnyLemmas.{by_number, by_none, gives}

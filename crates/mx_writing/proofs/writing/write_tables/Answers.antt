@@ -2,7 +2,7 @@ use Rattle.std.proofs.Common.{List, [], ◌∷◌, Ok, IsTrue, subst, arith}
 use Rattle.sqlite.specs.Order.{Row}
 use Rattle.sqlite.specs.State.{HasCleanDisk}
 use Rattle.sqlite.specs.Held.{state}
-use Rattle.mx_changes.specs.declared.rows.AddedRows.{AddedRows}
+use Rattle.mx_row_rules.specs.declared.changes.rows.AddedRows.{AddedRows}
 use Rattle.mx_layout.specs.TableName.{TableName}
 use Rattle.mx_kept.specs.Cells.{kept_entry}
 use Rattle.mx_kept.specs.Family.{on_top}

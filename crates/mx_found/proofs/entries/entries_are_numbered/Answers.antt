@@ -1,8 +1,0 @@
-use Rattle.mx_found.proofs.FoundLemmas.{entries_counted, entries_numbered}
-use Rattle.mx_found.proofs.entries.entries_are_numbered.Goals as goal
-
-pub returns-clause-numbers : goal.returns-clause-numbers
-returns-clause-numbers c = entries_numbered
-
-pub returns-clause-count : goal.returns-clause-count
-returns-clause-count c = entries_counted

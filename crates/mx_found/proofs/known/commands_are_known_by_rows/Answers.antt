@@ -1,8 +1,0 @@
-use Rattle.mx_found.proofs.AnswerLemmas.{known_by_rows, unknown_by_rows}
-use Rattle.mx_found.proofs.known.commands_are_known_by_rows.Goals as goal
-
-pub returns-clause-known : goal.returns-clause-known
-returns-clause-known c = known_by_rows
-
-pub returns-clause-unknown : goal.returns-clause-unknown
-returns-clause-unknown c = unknown_by_rows

@@ -1,6 +1,0 @@
-use Rattle.std.proofs.Common.{rules}
-use Rattle.mx_found.proofs.EqualLemmas.{equal_lists}
-use Rattle.mx_found.proofs.same.are_same_components.Goals as goal
-
-pub returns : goal.returns
-returns c = equal_lists _ c.eq.result c.args.found.now c.args.given.now c.eq.ensures (λ x y. search rules)

@@ -1,0 +1,2 @@
+pub mod ChangesProofs
+pub mod FoundProofs

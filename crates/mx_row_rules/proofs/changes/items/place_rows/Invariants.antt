@@ -1,0 +1,16 @@
+use Rattle.std.proofs.Common.{◌≡◌, ◌+◌, ◌++◌, length, All}
+use Rattle.mx_base.specs.rows.Rows.{FitsPlace}
+use Rattle.mx_registers.specs.Lines.{lines_from}
+use Rattle.mx_registers.specs.Registers.{place_row}
+use Rattle.mx_row_rules.proofs.changes.items.place_rows.Given as goal
+
+-- some positions have their rows, and those that are left come behind them
+abbrev pub invariant-loop-place : goal.invariant-loop-place
+invariant-loop-place l = record {
+  count : l.line + length l.rest ≡ 1 + length l.positions;
+  split : lines_from place_row l.seq 1 l.positions ≡ l.rows.items ++ lines_from place_row l.seq l.line l.rest;
+  fits : All FitsPlace l.rows.items;
+}
+
+abbrev pub decreases-loop-place : goal.decreases-loop-place
+decreases-loop-place l = length l.rest

@@ -1,0 +1,109 @@
+//! The rows of an aircraft and of a component that come into the records.
+ghost use Rattle.std.specs.Prelude.{◌≡◌, ◌≤◌, ℕ, List, All, IfOk, length};
+ghost use Rattle.mx_book.specs.commands.Act.{Added, Entry, Listed};
+ghost use Rattle.mx_book.specs.declared.commands.shape.TheConstants.{MOST_POSITIONS};
+ghost use Rattle.mx_base.specs.rows.Rows.{FitsEntry, FitsPlace, FitsTotal};
+ghost use Rattle.mx_registers.specs.Lines.{lines_from};
+ghost use Rattle.mx_registers.specs.Registers.{place_row};
+ghost use Rattle.mx_registers.specs.kept.Changes.{entry_of};
+ghost use Rattle.mx_row_rules.specs.changes.Kept.{total_begun};
+ghost use Rattle.mx_row_rules.specs.changes.Made.{AreMadeOf, nothing_found};
+ghost use Rattle.mx_row_rules.specs.changes.Rows.{AreCommandRows, IsEntryOf};
+
+use crate::changes::plain::{none_added, none_changed};
+use crate::changes::rows::CommandRows;
+use mx_base::rows::{EntryRow, PlaceRow, TotalRow};
+use mx_base::{Moment, Part, Position, Use};
+use mx_book::commands::{Aircraft, Component};
+use mx_registers::{aircraft_row, component_row, place_row};
+use std::alloc::{AllocError, Global};
+
+// The first total of an item: the use that it brings with it, and the moment up to which that counts.
+fn first_total(item: u32, life: Use, clock: Moment) -> TotalRow
+    ensures row { result ≡ total_begun item life clock }
+    ensures fits { FitsTotal result }
+{
+    // The number of a moment fits its column.
+    let _ = clock.number();
+    TotalRow {
+        item,
+        life: Use {
+            minutes: life.minutes,
+            cycles: life.cycles,
+        },
+        clock,
+    }
+}
+
+// The rows of the positions of the aircraft that the entry with a number adds.
+fn place_rows(
+    alloc: Global,
+    seq: u32,
+    positions: &[(Position, Part)],
+) -> Result<Vec<PlaceRow>, AllocError>
+    requires few { length positions.now ≤ MOST_POSITIONS }
+    ensures rows { IfOk result (λ rows. rows.items ≡ lines_from place_row seq 1 positions.now) }
+    ensures fits { IfOk result (λ rows. All FitsPlace rows.items) }
+{
+    let mut rows = Vec::new(alloc);
+    let mut line = 1u32;
+    let mut rest = positions;
+    while let Some((place, later)) = rest.split_first() {
+        rows.push(place_row(seq, line, place))?;
+        line += 1;
+        rest = later;
+    }
+    Ok(rows)
+}
+
+/// The rows of an aircraft that an entry adds, with its positions.
+pub fn aircraft_rows(
+    alloc: Global,
+    entry: EntryRow,
+    aircraft: Aircraft,
+    positions: &[(Position, Part)],
+) -> Result<CommandRows, AllocError>
+    requires fits { FitsEntry entry }
+    requires few { length positions.now ≤ MOST_POSITIONS }
+    ensures of_book { IfOk result (λ rows. (book : List Entry) (doc : List ℕ)
+        → IsEntryOf book (entry_of doc (Added aircraft positions.now)) entry
+        → AreCommandRows book (entry_of doc (Added aircraft positions.now)) rows) }
+    ensures made { IfOk result (AreMadeOf (Added aircraft positions.now) entry nothing_found) }
+{
+    let total = first_total(entry.seq, aircraft.opening, aircraft.as_of);
+    let row = aircraft_row(entry.seq, aircraft);
+    let places = place_rows(alloc, entry.seq, positions)?;
+    let mut added = none_added(alloc);
+    added.places = places;
+    added.aircraft.push(row)?;
+    added.totals.push(total)?;
+    Ok(CommandRows {
+        entry,
+        changed: none_changed(alloc),
+        added,
+    })
+}
+
+/// The rows of a component that an entry adds.
+pub fn component_rows(
+    alloc: Global,
+    entry: EntryRow,
+    component: Component,
+) -> Result<CommandRows, AllocError>
+    requires fits { FitsEntry entry }
+    ensures of_book { IfOk result (λ rows. (book : List Entry) (doc : List ℕ)
+        → IsEntryOf book (entry_of doc (Listed component)) entry
+        → AreCommandRows book (entry_of doc (Listed component)) rows) }
+    ensures made { IfOk result (AreMadeOf (Listed component) entry nothing_found) }
+{
+    let total = first_total(entry.seq, component.opening, component.as_of);
+    let row = component_row(entry.seq, component);
+    let mut added = none_added(alloc);
+    added.components.push(row)?;
+    added.totals.push(total)?;
+    Ok(CommandRows {
+        entry,
+        changed: none_changed(alloc),
+        added,
+    })
+}

@@ -1,0 +1,110 @@
+//! The rows of a revision of a programme that is loaded, and of an opening.
+ghost use Rattle.std.specs.Prelude.{◌≡◌, ◌≤◌, ℕ, List, All, IfOk, length};
+ghost use Rattle.mx_book.specs.commands.Act.{Entry, Loaded, Opened};
+ghost use Rattle.mx_book.specs.declared.commands.programme_shape.TheConstants.{MOST_TASKS};
+ghost use Rattle.mx_book.specs.Base.{base_at};
+ghost use Rattle.mx_base.specs.rows.Rows.{FitsBase, FitsEntry, FitsTask, base_row_with};
+ghost use Rattle.mx_registers.specs.Lines.{lines_from};
+ghost use Rattle.mx_registers.specs.Registers.{task_row};
+ghost use Rattle.mx_registers.specs.kept.Changes.{entry_of};
+ghost use Rattle.mx_registers.specs.kept.Items.{number_of_item};
+ghost use Rattle.mx_row_rules.specs.changes.Made.{AreMadeOf, nothing_found};
+ghost use Rattle.mx_row_rules.specs.changes.Rows.{AreCommandRows, IsEntryOf};
+
+use crate::changes::plain::{none_added, none_changed};
+use crate::changes::rows::CommandRows;
+use mx_base::rows::{BaseRow, EntryRow, TaskRow};
+use mx_base::{Day, TaskId, Use};
+use mx_book::commands::{Opening, Programme, Task};
+use mx_registers::{opening_row, programme_row, task_row};
+use std::alloc::{AllocError, Global};
+
+// The rows of the tasks of the programme that the entry with a number loads.
+fn task_rows(alloc: Global, seq: u32, tasks: &[Task]) -> Result<Vec<TaskRow>, AllocError>
+    requires few { length tasks.now ≤ MOST_TASKS }
+    ensures rows { IfOk result (λ rows. rows.items ≡ lines_from task_row seq 1 tasks.now) }
+    ensures fits { IfOk result (λ rows. All FitsTask rows.items) }
+{
+    let mut rows = Vec::new(alloc);
+    let mut line = 1u32;
+    let mut rest = tasks;
+    while let Some((task, later)) = rest.split_first() {
+        rows.push(task_row(seq, line, task))?;
+        line += 1;
+        rest = later;
+    }
+    Ok(rows)
+}
+
+// The last base of a task that an opening states, of the item with a number.
+fn stated_row(item: u32, task: &TaskId, use_then: Use, day: Day) -> BaseRow
+    ensures row { result ≡ base_row_with item task.now (base_at use_then day) }
+    ensures fits { FitsBase result }
+{
+    // The text of an identifier, and the number of a day, fit their columns.
+    let _ = task.as_str();
+    let _ = day.number();
+    BaseRow {
+        item,
+        task: *task,
+        life: Use {
+            minutes: use_then.minutes,
+            cycles: use_then.cycles,
+        },
+        day,
+    }
+}
+
+/// The rows of a revision of a programme that an entry loads, with its tasks.
+pub fn programme_rows(
+    alloc: Global,
+    entry: EntryRow,
+    programme: Programme,
+    tasks: &[Task],
+) -> Result<CommandRows, AllocError>
+    requires fits { FitsEntry entry }
+    requires few { length tasks.now ≤ MOST_TASKS }
+    ensures of_book { IfOk result (λ rows. (book : List Entry) (doc : List ℕ)
+        → IsEntryOf book (entry_of doc (Loaded programme tasks.now)) entry
+        → AreCommandRows book (entry_of doc (Loaded programme tasks.now)) rows) }
+    ensures made { IfOk result (AreMadeOf (Loaded programme tasks.now) entry nothing_found) }
+{
+    let row = programme_row(entry.seq, programme);
+    let lines = task_rows(alloc, entry.seq, tasks)?;
+    let mut added = none_added(alloc);
+    added.tasks = lines;
+    added.programmes.push(row)?;
+    Ok(CommandRows {
+        entry,
+        changed: none_changed(alloc),
+        added,
+    })
+}
+
+/// The rows of an opening of a task of the item with a number.
+pub fn opening_rows(
+    alloc: Global,
+    entry: EntryRow,
+    opening: Opening,
+    item: u32,
+) -> Result<CommandRows, AllocError>
+    requires fits { FitsEntry entry }
+    ensures of_book { IfOk result (λ rows. (book : List Entry) (doc : List ℕ)
+        → IsEntryOf book (entry_of doc (Opened opening)) entry
+        → item ≡ number_of_item book opening.item
+        → AreCommandRows book (entry_of doc (Opened opening)) rows) }
+    ensures made { IfOk result (λ rows. AreMadeOf (Opened opening) entry
+        (record nothing_found { number = item }) rows) }
+{
+    let base = stated_row(item, &opening.task, opening.use_then, opening.day);
+    let row = opening_row(entry.seq, item, opening);
+    let mut added = none_added(alloc);
+    let mut changed = none_changed(alloc);
+    added.openings.push(row)?;
+    changed.bases.push(base)?;
+    Ok(CommandRows {
+        entry,
+        changed,
+        added,
+    })
+}

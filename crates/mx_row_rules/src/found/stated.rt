@@ -1,0 +1,109 @@
+//! What the rows of an entry that were found state.
+ghost use Rattle.std.specs.Prelude.{◌≡◌, ℕ, List, IfOk, Some, map, slice_get};
+ghost use Rattle.std.specs.List.{filter_map};
+ghost use Rattle.mx_book.specs.commands.Act.{Entry};
+ghost use Rattle.mx_book.specs.Book.{IsBook, entry_at};
+ghost use Rattle.mx_registers.specs.kept.Spans.{fitting_in, removal_in};
+ghost use Rattle.mx_registers.specs.Merge.{task_said};
+ghost use Rattle.mx_registers.specs.Registers.{kind_of};
+ghost use Rattle.mx_row_rules.specs.found.Stated.{certified_in, position_said, stated};
+
+use crate::found::programmes::task_said;
+use mx_base::rows::{FittingRow, PlaceRow, ReleaseLineRow, RemovalRow, SpanRow, TaskRow};
+use mx_base::{Limit, Part, Position, TaskId};
+use mx_book::commands::{Applies, Task};
+use std::alloc::{AllocError, Global};
+
+/// What a line of a release certifies, by number.
+#[derive(Clone, Copy, Debug, PartialEq, Eq)]
+pub enum Certified {
+    /// A task was done on the item that the entry with this number added.
+    Done(u32, TaskId),
+    /// The defect that the entry with this number deferred was rectified.
+    Rectified(u32),
+}
+
+/// What the row of a line of a release certifies: an item and a task without a defect, or a defect alone.
+pub fn certified_in(row: &ReleaseLineRow) -> Option<Certified>
+    ensures { result ≡ certified_in row.now }
+{
+    match (row.item, row.task, row.defect) {
+        (Some(item), Some(task), None) => Some(Certified::Done(item, task)),
+        (None, None, Some(defect)) => Some(Certified::Rectified(defect)),
+        _ => None,
+    }
+}
+
+/// The positions that their rows say.
+pub fn positions_said(alloc: Global, rows: &[PlaceRow]) -> Result<Vec<(Position, Part)>, AllocError>
+    ensures { IfOk result (λ positions. positions.items ≡ map position_said rows.now) }
+{
+    let mut positions = Vec::with_capacity(alloc, rows.len())?;
+    for row in rows {
+        positions.push((row.position, row.part))?;
+    }
+    Ok(positions)
+}
+
+/// The tasks that their rows say.
+pub fn tasks_said(alloc: Global, rows: &[TaskRow]) -> Result<Vec<Task>, AllocError>
+    ensures { IfOk result (λ tasks. tasks.items ≡ map task_said rows.now) }
+{
+    // The checker proves this loop only where the type of each field of a task is named in the function.
+    let _: Option<Applies> = None;
+    let _: Option<Limit> = None;
+    let mut tasks = Vec::with_capacity(alloc, rows.len())?;
+    for row in rows {
+        tasks.push(task_said(row))?;
+    }
+    Ok(tasks)
+}
+
+/// The fitting that begins the first of these spans.
+pub fn first_fitting(spans: &[SpanRow]) -> Option<FittingRow>
+    ensures { result ≡ slice_get (map fitting_in spans.now) 0 }
+{
+    match spans.first() {
+        Some(span) => Some(FittingRow {
+            seq: span.fit_seq,
+            component: span.component,
+            aircraft: span.aircraft,
+            position: span.position,
+            moment: span.from,
+        }),
+        None => None,
+    }
+}
+
+// The removal that ends a span.
+fn removal_in(span: &SpanRow) -> Option<RemovalRow>
+    ensures { result ≡ removal_in span.now }
+{
+    match (span.to, span.remove_seq) {
+        (Some(moment), Some(seq)) => Some(RemovalRow {
+            seq,
+            component: span.component,
+            moment,
+        }),
+        _ => None,
+    }
+}
+
+/// The removal that ends the first of these spans that one ends.
+pub fn first_removal(spans: &[SpanRow]) -> Option<RemovalRow>
+    ensures { result ≡ slice_get (filter_map removal_in spans.now) 0 }
+{
+    for span in spans {
+        if let Some(removal) = removal_in(span) {
+            return Some(removal);
+        }
+    }
+    None
+}
+
+/// The rows with the number of an entry of a book state what it says: those of its kind, by the names that the book gives
+/// to the numbers in them.
+pub fn entries_are_stated_by_rows()
+    ensures { (book : List Entry) (n : ℕ) (e : Entry) → IsBook book → entry_at book n ≡ Some e
+        → stated book n (kind_of e.act) ≡ Some e.act }
+{}
