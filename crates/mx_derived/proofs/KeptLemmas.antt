@@ -21,7 +21,7 @@ use Rattle.mx_base.specs.declared.rows.rows.ReleaseLineRow.{ReleaseLineRow}
 use Rattle.mx_registers.specs.Left.{all_rows}
 use Rattle.mx_registers.specs.Names.{item_at}
 use Rattle.mx_registers.specs.Registers.{opening_rows, release_line_rows}
-use Rattle.mx_indexes.specs.Maps.{held}
+use Rattle.mx_indexed_book.specs.maps.Maps.{held}
 use Rattle.mx_registers.specs.kept.Bases.{base_row, base_rows, is_keyed}
 use Rattle.mx_registers.proofs.KeptProofs.DoneLemmas.{both}
 use Rattle.mx_merged.specs.Keys.{AreKeys, key_cmp}

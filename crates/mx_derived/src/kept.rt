@@ -12,7 +12,7 @@ ghost use Rattle.mx_registers.specs.file.Tables.{AreFilePut};
 use crate::last_bases::last_bases;
 use mx_base::rows::{BaseRow, EntryKind, TotalRow};
 use mx_book::entry_list::NoMemory;
-use mx_indexed::IndexedBook;
+use mx_indexed_book::IndexedBook;
 use mx_merged::{NoBook, merge_beside_maps, total_rows};
 use mx_registers::file::{FileRows, put_in_order};
 use mx_registers::merge::Registers;

@@ -11,8 +11,8 @@ ghost use Rattle.mx_derived.specs.Kept.{AreBasesAt, base_row_at, key_certified, 
 use mx_base::rows::{BaseRow, OpeningRow, ReleaseLineRow};
 use mx_base::{Base, Day, TaskId, Use};
 use mx_book::entry_list::NoMemory;
-use mx_indexed::IndexedBook;
-use mx_indexes::maps::held;
+use mx_indexed_book::IndexedBook;
+use mx_indexed_book::maps::maps::held;
 use mx_registers::plain::item_of_entry;
 use std::alloc::Global;
 use std::collections::BTreeMap;

@@ -11,8 +11,8 @@ use Rattle.std.proofs.lemmas.List.Folds.{list_any-append}
 use Rattle.mx_book.specs.commands.Same.{same_text}
 use Rattle.mx_base.specs.declared.rows.rows.BaseRow.{BaseRow}
 use Rattle.mx_registers.specs.kept.Bases.{is_keyed}
-use Rattle.mx_indexes.proofs.MapLemmas.{tie}
-use Rattle.mx_indexes.proofs.PlaceLemmas.{then_eq}
+use Rattle.mx_indexed_book.proofs.MapsProofs.MapLemmas.{tie}
+use Rattle.mx_indexed_book.proofs.MapsProofs.PlaceLemmas.{then_eq}
 use Rattle.mx_merged.specs.Keys.{AreKeys, key_cmp}
 
 -- the order of numbers tells the same number

@@ -6,7 +6,7 @@ use Rattle.std.specs.Cmp.Lexicographic.{slice_cmp}
 use Rattle.std.specs.declared.cmp.Ordering.{Ordering}
 use Rattle.mx_base.specs.declared.rows.rows.BaseRow.{BaseRow}
 use Rattle.mx_registers.specs.file.Bases.{has_key}
-use Rattle.mx_indexes.specs.Maps.{held}
+use Rattle.mx_indexed_book.specs.maps.Maps.{held}
 
 -- the order of two numbers with names: by the number, and then by the name
 abbrev pub key_cmp : ℕ × List ℕ → ℕ × List ℕ → Ordering

@@ -5,8 +5,8 @@ ghost use Rattle.mx_registers.specs.kept.Totals.{total_row, total_rows};
 use mx_base::rows::TotalRow;
 use mx_book::commands::Item;
 use mx_book::entry_list::NoMemory;
-use mx_indexed::IndexedBook;
-use mx_indexed::bases::life_reached;
+use mx_indexed_book::IndexedBook;
+use mx_indexed_book::bases::life_reached;
 use mx_registers::added_item;
 use std::alloc::Global;
 

@@ -12,7 +12,7 @@ use Rattle.mx_book.specs.commands.Act.{Entry}
 use Rattle.mx_book.specs.Book.{IsBook}
 use Rattle.mx_registers.specs.Registers.{opening_rows, release_line_rows}
 use Rattle.mx_registers.specs.kept.Bases.{AreKeyedOnce, base_rows}
-use Rattle.mx_indexes.specs.Maps.{held}
+use Rattle.mx_indexed_book.specs.maps.Maps.{held}
 use Rattle.mx_merged.specs.Keys.{AreKeys, key_cmp}
 use Rattle.mx_merged.proofs.KeyLemmas.{keys_more, keys_of_none}
 use Rattle.mx_verified.specs.Bases.{has_certified, has_stated}

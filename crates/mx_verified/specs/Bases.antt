@@ -4,7 +4,7 @@ use Rattle.std.specs.BTreeMap.{BTreeMap}
 use Rattle.std.specs.Option.{option_map_or}
 use Rattle.mx_base.specs.declared.rows.rows.OpeningRow.{OpeningRow}
 use Rattle.mx_base.specs.declared.rows.rows.ReleaseLineRow.{ReleaseLineRow}
-use Rattle.mx_indexes.specs.Maps.{held}
+use Rattle.mx_indexed_book.specs.maps.Maps.{held}
 use Rattle.mx_merged.specs.Keys.{key_cmp}
 
 -- the map has the task that an opening states

@@ -15,7 +15,7 @@ use crate::bases::are_bases;
 use crate::same::are_same;
 use mx_base::rows::EntryKind;
 use mx_book::entry_list::NoMemory;
-use mx_indexed::IndexedBook;
+use mx_indexed_book::IndexedBook;
 use mx_merged::{NoBook, merge_beside_maps, total_rows};
 use mx_registers::file::FileRows;
 use mx_registers::file::spans::spans_made;
