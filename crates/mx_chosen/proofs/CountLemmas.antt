@@ -27,7 +27,7 @@ use Rattle.mx_layout.specs.Names.{table_named}
 use Rattle.mx_layout.specs.Point.{IsStop}
 use Rattle.mx_layout.specs.declared.fault.TableFault.{TableFault}
 use Rattle.mx_layout.specs.declared.fault.TableFault.TheVariants.{Damaged}
-use Rattle.mx_kept.specs.Kept.{Kept}
+use Rattle.mx_layout.specs.kept.Kept.{Kept}
 use Rattle.mx_tables.proofs.AnswerLemmas.{never_damaged, not_read}
 use Rattle.mx_layout.proofs.InsideLemmas.{shown_keeps, shown_stays, query_keeps}
 use Rattle.mx_layout.proofs.ReadLemmas.{shown_unchanged}

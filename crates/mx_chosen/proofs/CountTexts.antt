@@ -11,9 +11,9 @@ use Rattle.sqlite_schema.specs.declared.schema.Index.{Index}
 use Rattle.sqlite_tied.specs.Compute.{everything}
 use Rattle.mx_layout.specs.Names.{table_named}
 use Rattle.mx_layout.specs.Tables.{aircraft, component}
-use Rattle.mx_kept.specs.Kept.{Kept}
-use Rattle.mx_kept.specs.Cells.{kept_aircraft, kept_component}
-use Rattle.mx_kept.specs.Schemas.{HasBehind, permanent}
+use Rattle.mx_layout.specs.kept.Kept.{Kept}
+use Rattle.mx_layout.specs.kept.Cells.{kept_aircraft, kept_component}
+use Rattle.mx_layout.specs.kept.Schemas.{HasBehind, permanent}
 use Rattle.mx_chosen.specs.Counts.{tally, MeansCount, Counts, count_aircraft, count_component}
 
 -- the text tells how many rows the table has

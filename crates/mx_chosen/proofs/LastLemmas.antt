@@ -16,9 +16,9 @@ use Rattle.mx_base.specs.declared.rows.rows.EntryRow.{EntryRow}
 use Rattle.mx_base.proofs.RowsProofs.SortedLemmas.{sorted_once, IsRising-map, IsFrom-map}
 use Rattle.mx_layout.specs.Contents.{rows_in}
 use Rattle.mx_layout.specs.Names.{table_named}
-use Rattle.mx_kept.specs.Keys.{one_key}
-use Rattle.mx_kept.specs.Cells.{kept_entry}
-use Rattle.mx_kept.proofs.OrderLemmas.{first_ascends}
+use Rattle.mx_layout.specs.kept.Keys.{one_key}
+use Rattle.mx_layout.specs.kept.Cells.{kept_entry}
+use Rattle.mx_layout.proofs.KeptProofs.OrderLemmas.{first_ascends}
 use Rattle.mx_chosen.specs.Choices.{AreFirst, backward, is_any}
 use Rattle.mx_chosen.specs.Counts.{AreNumbered, last_number}
 

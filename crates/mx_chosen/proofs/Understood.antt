@@ -15,9 +15,9 @@ use Rattle.sqlite_sql.specs.declared.ops.CompareOp.TheVariants.{Eq, Le}
 use Rattle.sqlite_tied.specs.Compute.{everything}
 use Rattle.mx_layout.specs.Contents.{cells}
 use Rattle.mx_layout.specs.Tables.{entry, aircraft, place, component, programme, task, opening, crs, crs_line, extension, defect, sector1, fit1, removal1, sector2, span2, total2, base2}
-use Rattle.mx_kept.specs.Cells.{kept_entry, kept_aircraft, kept_place, kept_component, kept_programme, kept_task, kept_opening, kept_crs, kept_crs_line, kept_extension, kept_defect, kept_sector1, kept_fit1, kept_sector2_rows, kept_span2, kept_total2, kept_base2}
-use Rattle.mx_kept.specs.Kept.{over}
-use Rattle.mx_kept.specs.Schemas.{permanent, own_1, own_2, own_moving, HasBehind, HasOwn1}
+use Rattle.mx_layout.specs.kept.Cells.{kept_entry, kept_aircraft, kept_place, kept_component, kept_programme, kept_task, kept_opening, kept_crs, kept_crs_line, kept_extension, kept_defect, kept_sector1, kept_fit1, kept_sector2_rows, kept_span2, kept_total2, kept_base2}
+use Rattle.mx_layout.specs.kept.Kept.{over}
+use Rattle.mx_layout.specs.kept.Schemas.{permanent, own_1, own_2, own_moving, HasBehind, HasOwn1}
 use Rattle.mx_chosen.specs.Choices.{backward}
 use Rattle.mx_chosen.specs.Lookups.{FindsFirst, Finds, Deletes}
 use Rattle.mx_chosen.specs.Texts.{sector2_by_seq, by_value, by_values, open_by, open_spans_by_component, open_spans_by_aircraft, up_to, any_row, entry_by_seq, entry_by_doc, aircraft_by_seq, aircraft_by_tail, place_by_seq, component_by_seq, component_by_serial, programme_by_seq, programme_by_kind, task_by_seq, opening_by_seq, crs_by_seq, crs_line_by_seq, crs_line_by_defect, defect_by_seq, defect_by_aircraft, extension_by_seq, extension_by_defect, span2_by_fit_seq, span2_by_component, span2_by_aircraft, span2_by_remove_seq, total2_by_item, base2_by_item_and_task, last_entry, sector1_gone, fit1_gone}

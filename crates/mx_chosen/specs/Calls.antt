@@ -11,8 +11,8 @@ use Rattle.mx_layout.specs.Contents.{HasNoReferences, Rises}
 use Rattle.mx_layout.specs.Crash.{StaysInside, IsWithin}
 use Rattle.mx_layout.specs.Names.{table_named}
 use Rattle.mx_layout.specs.Reading.{HasOther}
-use Rattle.mx_kept.specs.Kept.{Kept}
-use Rattle.mx_kept.specs.Family.{IsReadableAs}
+use Rattle.mx_layout.specs.kept.Kept.{Kept}
+use Rattle.mx_layout.specs.kept.Family.{IsReadableAs}
 use Rattle.mx_tables.specs.Calls.{OnRead}
 use Rattle.sqlite.specs.declared.types.Value.{Value}
 use Rattle.mx_chosen.specs.Choices.{has_value, AreFirst, Loses}

@@ -21,7 +21,7 @@ use Rattle.mx_layout.specs.Contents.{rows_in}
 use Rattle.mx_layout.specs.Crash.{StaysInside, IsWithin}
 use Rattle.mx_layout.specs.Names.{table_named}
 use Rattle.mx_base.specs.declared.rows.rows.EntryRow.{EntryRow}
-use Rattle.mx_kept.specs.Kept.{Kept}
+use Rattle.mx_layout.specs.kept.Kept.{Kept}
 use Rattle.mx_tables.specs.Calls.{OnRead}
 
 -- how many rows there are, whatever they are

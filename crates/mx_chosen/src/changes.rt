@@ -2,7 +2,7 @@
 ghost use Rattle.std.specs.Prelude.{◌≡◌, pos};
 ghost use Rattle.sqlite.specs.declared.types.Value.TheVariants.{Int};
 ghost use Rattle.sqlite.specs.Held.{state};
-ghost use Rattle.mx_kept.specs.Cells.{kept_sector1, kept_fit1};
+ghost use Rattle.mx_layout.specs.kept.Cells.{kept_sector1, kept_fit1};
 ghost use Rattle.mx_chosen.specs.Choices.{has_value, is_up_to};
 ghost use Rattle.mx_chosen.specs.Calls.{DeletesRows};
 

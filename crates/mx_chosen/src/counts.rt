@@ -6,7 +6,7 @@ ghost use Rattle.sqlite.specs.Tree.{Trees};
 ghost use Rattle.sqlite.specs.Held.{state};
 ghost use Rattle.mx_layout.specs.Contents.{rows_in};
 ghost use Rattle.mx_layout.specs.Names.{table_named};
-ghost use Rattle.mx_kept.specs.Cells.{kept_entry, kept_aircraft, kept_component};
+ghost use Rattle.mx_layout.specs.kept.Cells.{kept_entry, kept_aircraft, kept_component};
 ghost use Rattle.mx_chosen.specs.Choices.{AreFirst, backward, is_any};
 ghost use Rattle.mx_chosen.specs.Counts.{Counts, CountsRows, AreNumbered, last_number};
 

@@ -2,7 +2,7 @@
 ghost use Rattle.std.specs.Prelude.{◌≡◌, pos};
 ghost use Rattle.sqlite.specs.declared.types.Value.TheVariants.{Int, Text};
 ghost use Rattle.sqlite.specs.Held.{state};
-ghost use Rattle.mx_kept.specs.Cells.{kept_aircraft, kept_place, kept_component};
+ghost use Rattle.mx_layout.specs.kept.Cells.{kept_aircraft, kept_place, kept_component};
 ghost use Rattle.mx_chosen.specs.Calls.{ReadsBy};
 
 use crate::prelude::*;

@@ -2,7 +2,7 @@
 ghost use Rattle.std.specs.Prelude.{◌≡◌, ◌&&◌, pos, None};
 ghost use Rattle.sqlite.specs.declared.types.Value.TheVariants.{Int, Text};
 ghost use Rattle.sqlite.specs.Held.{state};
-ghost use Rattle.mx_kept.specs.Cells.{kept_span2, kept_total2, kept_base2};
+ghost use Rattle.mx_layout.specs.kept.Cells.{kept_span2, kept_total2, kept_base2};
 ghost use Rattle.mx_chosen.specs.Choices.{has_value, is_open};
 ghost use Rattle.mx_chosen.specs.Calls.{ReadsBy, ReadsFirst};
 

@@ -11,7 +11,7 @@ use Rattle.mx_registers.specs.Merge.{line_said}
 use Rattle.mx_base.specs.declared.rows.rows.ReleaseLineRow.{ReleaseLineRow}
 use Rattle.mx_layout.specs.declared.fault.TableFault.{TableFault}
 use Rattle.mx_layout.specs.declared.fault.TableFault.TheVariants.{Memory}
-use Rattle.mx_kept.specs.Cells.{kept_crs_line}
+use Rattle.mx_layout.specs.kept.Cells.{kept_crs_line}
 use Rattle.mx_row_rules.specs.found.Given.{found, release_lines}
 use Rattle.mx_stands.specs.Schemas.{schema_at}
 use Rattle.mx_row_rules.specs.declared.found.stated.Certified.{Certified}

@@ -9,7 +9,7 @@ use Rattle.mx_base.specs.declared.rows.rows.EntryKind.{EntryKind}
 use Rattle.mx_base.specs.declared.rows.rows.EntryKind.TheVariants.{AddAircraft, AddComponent, LoadProgramme, Opening, Sector, Fit, Remove, Release, Defer, Extend}
 use Rattle.mx_layout.specs.TableName.{TableName}
 use Rattle.mx_layout.specs.declared.fault.Table.TheVariants as table
-use Rattle.mx_kept.specs.Cells.{kept_entry}
+use Rattle.mx_layout.specs.kept.Cells.{kept_entry}
 use Rattle.mx_chosen.specs.Choices.{backward, is_any}
 use Rattle.mx_row_rules.specs.found.Names.{last_number}
 use Rattle.mx_numbers.specs.AnyRows.{GivesFirst}

@@ -10,7 +10,7 @@ use Rattle.mx_book.specs.declared.commands.release.Place.{Place}
 use Rattle.mx_registers.specs.Merge.{place_of, release_said}
 use Rattle.mx_base.specs.declared.rows.rows.ReleaseLineRow.{ReleaseLineRow}
 use Rattle.mx_base.specs.declared.rows.rows.ReleaseRow.{ReleaseRow}
-use Rattle.mx_kept.specs.Cells.{kept_crs, kept_crs_line}
+use Rattle.mx_layout.specs.kept.Cells.{kept_crs, kept_crs_line}
 use Rattle.mx_row_rules.specs.declared.found.stated.Certified.{Certified}
 use Rattle.mx_row_rules.specs.declared.found.stated.Certified.TheVariants.{Done, Rectified}
 use Rattle.mx_row_rules.specs.found.Stated.{certified_in}

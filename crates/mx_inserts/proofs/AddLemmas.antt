@@ -14,7 +14,7 @@ use Rattle.mx_layout.proofs.WriteLemmas.{inserts}
 use Rattle.mx_layout.specs.Plans.{added, uncounted}
 use Rattle.mx_layout.proofs.InsideLemmas.{gains}
 use Rattle.mx_inserts.specs.Calls.{AddsRow}
-use Rattle.mx_kept.specs.Meanings.{MeansAdded}
+use Rattle.mx_layout.specs.kept.Meanings.{MeansAdded}
 
 gains_same : (one other : Table) (row : Row) (old new : State) (ran : Result ℕ Error) → one ≡ other → OnOk ran (Gains one row old.now new.now) → OnOk ran (Gains other row old.now new.now)
 gains_same one other row old new (Ok n) same h = subst (λ t. Gains t row old.now new.now) same h

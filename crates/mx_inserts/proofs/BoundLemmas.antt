@@ -4,7 +4,7 @@ use Rattle.sqlite.specs.declared.types.Value.{Value}
 use Rattle.sqlite.specs.declared.types.Value.TheVariants.{Int, Text}
 use Rattle.sqlite.specs.Values.{bound_value, or_null}
 use Rattle.sqlite.specs.Order.{Row}
-use Rattle.mx_kept.specs.Values.{number_or_null, text_or_null}
+use Rattle.mx_layout.specs.kept.Values.{number_or_null, text_or_null}
 
 -- a column that may be empty
 pub bound-number_or_null : (v : Value) (o : Option ℕ) → v ≡ or_null (λ n. Int (pos n)) o → bound_value v ≡ number_or_null o

@@ -23,9 +23,9 @@ use Rattle.mx_layout.specs.Contents.{cells, rows_in, Rises}
 use Rattle.mx_layout.specs.Names.{table_named}
 use Rattle.mx_layout.specs.Reading.{HasOther}
 use Rattle.mx_layout.specs.Writing.{Gains}
-use Rattle.mx_kept.specs.Kept.{Kept}
-use Rattle.mx_kept.specs.Family.{IsReadableAs, on_top}
-use Rattle.mx_kept.specs.Meanings.{IsLawful}
+use Rattle.mx_layout.specs.kept.Kept.{Kept}
+use Rattle.mx_layout.specs.kept.Family.{IsReadableAs, on_top}
+use Rattle.mx_layout.specs.kept.Meanings.{IsLawful}
 use Rattle.mx_layout.specs.Reading.{AreAllBy}
 use Rattle.mx_tables.specs.Calls.{OnRead, ReadsRows}
 use Rattle.mx_inserts.specs.Calls.{InsertsRow}

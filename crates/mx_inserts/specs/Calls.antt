@@ -9,7 +9,7 @@ use Rattle.mx_layout.specs.declared.fault.TableFault.TheVariants.{Memory, Store}
 use Rattle.mx_layout.specs.Crash.{StaysInside, IsWithin}
 use Rattle.mx_layout.specs.Names.{table_named}
 use Rattle.mx_layout.specs.Writing.{Gains}
-use Rattle.mx_kept.specs.Kept.{Kept}
+use Rattle.mx_layout.specs.kept.Kept.{Kept}
 
 -- between these states the text, with these values, adds the row to the table
 pub record AddsRow (text : List ℕ) (table : Table) (row : Row) (old new : State) : Type 0 where

@@ -12,8 +12,8 @@ use Rattle.mx_layout.specs.Contents.{rows_in, Rises}
 use Rattle.mx_layout.specs.Crash.{StaysInside, IsWithin}
 use Rattle.mx_layout.specs.Names.{table_named}
 use Rattle.mx_layout.specs.Reading.{AreAllBy, HasOther}
-use Rattle.mx_kept.specs.Kept.{Kept}
-use Rattle.mx_kept.specs.Family.{IsReadable}
+use Rattle.mx_layout.specs.kept.Kept.{Kept}
+use Rattle.mx_layout.specs.kept.Family.{IsReadable}
 use Rattle.mx_tables.specs.Calls.{OnRead}
 
 -- some row of the table is none of its type

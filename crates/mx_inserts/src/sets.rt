@@ -43,8 +43,8 @@ pub trait Tables: Sized {
 
 impl<R: Insert + Drop> Tables for Vec<R> {
     ghost use Rattle.mx_inserts.specs.Sets.{AreRowsOf};
-    ghost use Rattle.mx_kept.specs.Family.{on_top};
-    ghost use Rattle.mx_kept.proofs.OntoLemmas.{on_top_keeps};
+    ghost use Rattle.mx_layout.specs.kept.Family.{on_top};
+    ghost use Rattle.mx_layout.proofs.KeptProofs.OntoLemmas.{on_top_keeps};
 
     ghost IsIn = { R.kept.IsIn };
 

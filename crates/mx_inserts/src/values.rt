@@ -7,7 +7,7 @@ ghost use Rattle.mx_base.specs.Calendar.{last_moment};
 ghost use Rattle.mx_base.specs.Identifier.{IsIdentifier, is_graphic};
 ghost use Rattle.mx_base.specs.Texts.{moment_text};
 ghost use Rattle.mx_base.specs.rows.Rows.{category_number, days_stated, FitsCategory};
-ghost use Rattle.mx_kept.specs.Values.{text_or_null};
+ghost use Rattle.mx_layout.specs.kept.Values.{text_or_null};
 
 use mx_base::identifiers::{Graphic, Identifier};
 use mx_base::moments::MomentText;

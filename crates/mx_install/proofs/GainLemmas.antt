@@ -14,10 +14,10 @@ use Rattle.mx_layout.specs.TableName.{TableName}
 use Rattle.mx_layout.specs.declared.fault.Table.TheVariants as table
 use Rattle.mx_layout.specs.Contents.{rows_in}
 use Rattle.mx_layout.specs.Names.{table_named}
-use Rattle.mx_kept.specs.Kept.{Kept}
-use Rattle.mx_kept.specs.Family.{on_top}
-use Rattle.mx_kept.proofs.OntoLemmas.{on_top_keeps}
-use Rattle.mx_kept.specs.Cells.{kept_entry, kept_aircraft, kept_place, kept_component, kept_programme, kept_task, kept_opening, kept_crs, kept_crs_line, kept_defect, kept_extension, kept_sector1, kept_fit1, kept_removal1}
+use Rattle.mx_layout.specs.kept.Kept.{Kept}
+use Rattle.mx_layout.specs.kept.Family.{on_top}
+use Rattle.mx_layout.proofs.KeptProofs.OntoLemmas.{on_top_keeps}
+use Rattle.mx_layout.specs.kept.Cells.{kept_entry, kept_aircraft, kept_place, kept_component, kept_programme, kept_task, kept_opening, kept_crs, kept_crs_line, kept_defect, kept_extension, kept_sector1, kept_fit1, kept_removal1}
 use Rattle.mx_stands.specs.Schemas.{HasTablesAt, IsOfFile, indexes_at, schema_at}
 use Rattle.mx_stands.proofs.FamilyLemmas.{AreFacts, facts}
 use Rattle.mx_inserts.specs.Sets.{GainsRows}

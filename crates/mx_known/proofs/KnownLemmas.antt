@@ -9,8 +9,8 @@ use Rattle.mx_book.specs.declared.commands.release.Line.{Line}
 use Rattle.mx_registers.specs.Names.{or_zero}
 use Rattle.mx_base.specs.declared.rows.rows.ReleaseLineRow.{ReleaseLineRow}
 use Rattle.mx_layout.specs.Crash.{IsWithin}
-use Rattle.mx_kept.specs.Cells.{kept_crs_line}
-use Rattle.mx_kept.specs.Kept.{Kept}
+use Rattle.mx_layout.specs.kept.Cells.{kept_crs_line}
+use Rattle.mx_layout.specs.kept.Kept.{Kept}
 use Rattle.mx_chosen.specs.Calls.{ReadsFirst}
 use Rattle.mx_chosen.specs.Choices.{has_value}
 use Rattle.mx_numbers.specs.AnyRows.{AreChosen, ReadsAny}

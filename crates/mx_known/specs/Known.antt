@@ -18,8 +18,8 @@ use Rattle.mx_registers.specs.Names.{or_zero}
 use Rattle.mx_registers.specs.Registers.{aircraft_row, component_row, deferral_row, extension_row, opening_row, place_row, programme_row, release_row, sector_row, task_row}
 use Rattle.mx_base.specs.declared.rows.rows.ReleaseLineRow.{ReleaseLineRow}
 use Rattle.mx_registers.specs.kept.Changes.{entry_of}
-use Rattle.mx_kept.specs.Cells.{kept_aircraft, kept_component, kept_crs, kept_crs_line, kept_defect, kept_entry, kept_extension, kept_opening, kept_place, kept_programme, kept_sector2, kept_span2, kept_task}
-use Rattle.mx_kept.specs.Kept.{Kept}
+use Rattle.mx_layout.specs.kept.Cells.{kept_aircraft, kept_component, kept_crs, kept_crs_line, kept_defect, kept_entry, kept_extension, kept_opening, kept_place, kept_programme, kept_sector2, kept_span2, kept_task}
+use Rattle.mx_layout.specs.kept.Kept.{Kept}
 use Rattle.mx_chosen.specs.Choices.{has_value}
 use Rattle.mx_row_rules.specs.found.Given.{Register, found, line_row}
 use Rattle.mx_row_rules.specs.found.Names.{entry_number}

@@ -5,7 +5,7 @@ ghost use Rattle.mx_book.specs.commands.Act.{Added, Listed};
 ghost use Rattle.mx_book.specs.declared.commands.shape.TheConstants.{MOST_POSITIONS};
 ghost use Rattle.mx_registers.specs.Lines.{lines_from};
 ghost use Rattle.mx_registers.specs.Registers.{aircraft_row, place_row};
-ghost use Rattle.mx_kept.specs.Cells.{kept_aircraft, kept_place};
+ghost use Rattle.mx_layout.specs.kept.Cells.{kept_aircraft, kept_place};
 ghost use Rattle.mx_row_rules.specs.found.Given as registers;
 ghost use Rattle.mx_numbers.specs.AnyRows.{ReadsAny};
 ghost use Rattle.mx_known.specs.Known.{AreRows, RowsDamage, Says, SaysDamage, Tells, TellsRows};

@@ -7,7 +7,7 @@ ghost use Rattle.mx_book.specs.Judge.{item_at};
 ghost use Rattle.mx_registers.specs.Lines.{lines_from};
 ghost use Rattle.mx_registers.specs.Names.{or_zero, seq_of_item};
 ghost use Rattle.mx_registers.specs.Registers.{release_line_row, release_row};
-ghost use Rattle.mx_kept.specs.Cells.{kept_crs, kept_crs_line};
+ghost use Rattle.mx_layout.specs.kept.Cells.{kept_crs, kept_crs_line};
 ghost use Rattle.mx_row_rules.specs.found.Given as registers;
 ghost use Rattle.mx_row_rules.specs.found.Given.{seq_of_line};
 ghost use Rattle.mx_numbers.specs.AnyRows.{ReadsAny};

@@ -5,7 +5,7 @@ ghost use Rattle.mx_book.specs.commands.Act.{Deferred, Extended, Loaded, Opened}
 ghost use Rattle.mx_book.specs.declared.commands.programme_shape.TheConstants.{MOST_TASKS};
 ghost use Rattle.mx_registers.specs.Lines.{lines_from};
 ghost use Rattle.mx_registers.specs.Registers.{programme_row, task_row};
-ghost use Rattle.mx_kept.specs.Cells.{kept_programme, kept_task};
+ghost use Rattle.mx_layout.specs.kept.Cells.{kept_programme, kept_task};
 ghost use Rattle.mx_row_rules.specs.found.Given as registers;
 ghost use Rattle.mx_numbers.specs.AnyRows.{ReadsAny};
 ghost use Rattle.mx_known.specs.Known.{AreRows, RowsDamage, Says, SaysDamage, Tells, TellsRows};

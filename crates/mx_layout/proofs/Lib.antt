@@ -14,3 +14,4 @@ pub mod RowLemmas
 pub mod StepLemmas
 pub mod TreeLemmas
 pub mod WriteLemmas
+pub mod KeptProofs

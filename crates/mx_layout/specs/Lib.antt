@@ -11,3 +11,4 @@ pub mod Writing
 pub mod Names
 pub mod TableName
 pub mod Plans
+pub mod kept

@@ -3,6 +3,7 @@
 #![tactic(auto)]
 
 pub mod fault;
+pub mod kept;
 pub mod layout;
 pub mod listed;
 pub mod making;

@@ -23,8 +23,8 @@ use Rattle.mx_layout.specs.Contents.{rows_in}
 use Rattle.mx_layout.specs.Names.{table_named}
 use Rattle.mx_layout.specs.declared.fault.Table.TheVariants as table
 use Rattle.mx_layout.specs.declared.fault.TableFault.{TableFault}
-use Rattle.mx_kept.specs.Cells.{kept_base2}
-use Rattle.mx_kept.proofs.MovedLawful.{base2_lawful}
+use Rattle.mx_layout.specs.kept.Cells.{kept_base2}
+use Rattle.mx_layout.proofs.KeptProofs.MovedLawful.{base2_lawful}
 use Rattle.mx_chosen.specs.Calls.{ReadsFirst}
 use Rattle.mx_chosen.specs.Choices.{AreFirst}
 use Rattle.mx_stands.specs.Schemas.{schema_at}

@@ -16,8 +16,8 @@ use Rattle.mx_layout.specs.Names.{table_named}
 use Rattle.mx_layout.specs.TableName.{TableName}
 use Rattle.mx_layout.specs.declared.fault.TableFault.{TableFault}
 use Rattle.mx_layout.specs.declared.fault.TableFault.TheVariants as fault
-use Rattle.mx_kept.specs.Cells.{kept_aircraft, kept_component}
-use Rattle.mx_kept.specs.Kept.{Kept}
+use Rattle.mx_layout.specs.kept.Cells.{kept_aircraft, kept_component}
+use Rattle.mx_layout.specs.kept.Kept.{Kept}
 use Rattle.mx_chosen.specs.Counts.{CountsRows}
 use Rattle.mx_stands.specs.Schemas.{schema_at}
 use Rattle.mx_stands.specs.Stands.{HasRowsAt}

@@ -16,7 +16,7 @@ use Rattle.mx_book.specs.declared.commands.release.Place.{Place}
 use Rattle.mx_base.specs.declared.rows.rows.EntryRow.{EntryRow}
 use Rattle.mx_layout.specs.declared.fault.TableFault.{TableFault}
 use Rattle.mx_layout.specs.Crash.{IsWithin}
-use Rattle.mx_kept.specs.Kept.{Kept}
+use Rattle.mx_layout.specs.kept.Kept.{Kept}
 use Rattle.mx_numbers.specs.AnyRows.{AreChosen, ReadsAny}
 use Rattle.mx_numbers.specs.Given.{ItemNumber, TaskOf}
 use Rattle.mx_numbers.specs.Reads.{Reads}

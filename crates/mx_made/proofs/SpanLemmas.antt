@@ -13,7 +13,7 @@ use Rattle.mx_registers.specs.kept.Totals.{has_between, numbers_during}
 use Rattle.mx_registers.proofs.KeptProofs.CreditLemmas.{filter_on}
 use Rattle.mx_registers.proofs.KeptProofs.SpanRegisters.{and_swap}
 use Rattle.mx_layout.specs.declared.fault.TableFault.{TableFault}
-use Rattle.mx_kept.specs.Cells.{kept_span2}
+use Rattle.mx_layout.specs.kept.Cells.{kept_span2}
 use Rattle.mx_chosen.specs.Calls.{ReadsBy}
 use Rattle.mx_chosen.specs.Choices.{has_value}
 use Rattle.mx_row_rules.specs.found.Spans.{is_open_of as is_left_of}

@@ -10,9 +10,9 @@ use Rattle.mx_layout.specs.declared.fault.Table.TheVariants as table
 use Rattle.mx_layout.specs.declared.fault.TableFault.{TableFault}
 use Rattle.mx_layout.specs.Steps.{schema_after}
 use Rattle.mx_layout.proofs.DropLemmas.{none_refer}
-use Rattle.mx_kept.specs.Cells.{kept_base2, kept_total2}
-use Rattle.mx_kept.specs.Family.{on_top}
-use Rattle.mx_kept.proofs.OntoLemmas.{on_top_keeps}
+use Rattle.mx_layout.specs.kept.Cells.{kept_base2, kept_total2}
+use Rattle.mx_layout.specs.kept.Family.{on_top}
+use Rattle.mx_layout.proofs.KeptProofs.OntoLemmas.{on_top_keeps}
 use Rattle.mx_stands.specs.Schemas.{schema_at}
 use Rattle.mx_stands.proofs.SchemaLemmas.{file_schema}
 use Rattle.mx_moves.specs.Changes.{Alters, WritesRows, emptied, unchanged}

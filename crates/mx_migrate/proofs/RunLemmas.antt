@@ -22,9 +22,9 @@ use Rattle.mx_layout.specs.Contents.{rows_in}
 use Rattle.mx_layout.specs.Crash.{IsWithin}
 use Rattle.mx_layout.specs.Tables.{sector1}
 use Rattle.mx_layout.proofs.CrashLemmas.{stays_then, within_then}
-use Rattle.mx_kept.specs.Cells.{kept_sector1}
-use Rattle.mx_kept.specs.Family.{IsReadableAs}
-use Rattle.mx_kept.specs.Schemas.{HasOwn1}
+use Rattle.mx_layout.specs.kept.Cells.{kept_sector1}
+use Rattle.mx_layout.specs.kept.Family.{IsReadableAs}
+use Rattle.mx_layout.specs.kept.Schemas.{HasOwn1}
 use Rattle.mx_chosen.specs.Calls.{ReadsFirst}
 use Rattle.mx_chosen.specs.Choices.{is_any, is_up_to}
 use Rattle.mx_stands.specs.Schemas.{schema_at}

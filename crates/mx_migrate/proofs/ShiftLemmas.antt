@@ -14,9 +14,9 @@ use Rattle.mx_layout.specs.declared.fault.TableFault.TheVariants.{Memory, Store,
 use Rattle.mx_layout.specs.Crash.{StaysInside, IsWithin}
 use Rattle.mx_layout.specs.Tables.{fit1, removal1}
 use Rattle.mx_layout.proofs.CrashLemmas.{stays_then, within_then}
-use Rattle.mx_kept.specs.Cells.{kept_fit1, kept_removal1}
-use Rattle.mx_kept.specs.Family.{IsReadableAs}
-use Rattle.mx_kept.specs.Schemas.{HasFittings}
+use Rattle.mx_layout.specs.kept.Cells.{kept_fit1, kept_removal1}
+use Rattle.mx_layout.specs.kept.Family.{IsReadableAs}
+use Rattle.mx_layout.specs.kept.Schemas.{HasFittings}
 use Rattle.mx_chosen.specs.Calls.{ReadsFirst}
 use Rattle.mx_chosen.specs.Choices.{AreFirst}
 use Rattle.mx_stands.specs.Schemas.{schema_at}

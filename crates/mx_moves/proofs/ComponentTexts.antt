@@ -6,9 +6,9 @@ use Rattle.sqlite_schema.specs.declared.schema.Index.{Index}
 use Rattle.sqlite_sql.specs.declared.ops.CompareOp.TheVariants.{Eq}
 use Rattle.sqlite_tied.specs.Compute.{everything}
 use Rattle.mx_layout.specs.Tables.{fit1, removal1}
-use Rattle.mx_kept.specs.Cells.{kept_fit1, kept_removal1}
-use Rattle.mx_kept.specs.Kept.{over}
-use Rattle.mx_kept.specs.Schemas.{HasBehind, HasOwn1, own_1, own_moving, permanent}
+use Rattle.mx_layout.specs.kept.Cells.{kept_fit1, kept_removal1}
+use Rattle.mx_layout.specs.kept.Kept.{over}
+use Rattle.mx_layout.specs.kept.Schemas.{HasBehind, HasOwn1, own_1, own_moving, permanent}
 use Rattle.mx_chosen.specs.Lookups.{Deletes, Finds}
 use Rattle.mx_chosen.specs.Texts.{by_value}
 use Rattle.mx_chosen.proofs.EqualLemmas.{one_equal}

@@ -5,7 +5,7 @@ use Rattle.sqlite.specs.Listing.{understood}
 use Rattle.sqlite_sql.specs.declared.ops.CompareOp.TheVariants.{Gt}
 use Rattle.sqlite_tied.specs.Compute.{everything}
 use Rattle.mx_layout.specs.Tables.{component}
-use Rattle.mx_kept.specs.Cells.{kept_component}
+use Rattle.mx_layout.specs.kept.Cells.{kept_component}
 use Rattle.mx_chosen.specs.Lookups.{FindsFirst}
 use Rattle.mx_chosen.specs.Texts.{above}
 use Rattle.mx_chosen.proofs.EqualLemmas.{one_equal}

@@ -19,8 +19,8 @@ use Rattle.mx_layout.specs.Point.{point_cells}
 use Rattle.mx_layout.specs.Tables.{office}
 use Rattle.mx_layout.proofs.RowLemmas.{cast_int, cast_null}
 use Rattle.mx_layout.specs.Plans.{added}
-use Rattle.mx_kept.specs.Meanings.{MeansAdded}
-use Rattle.mx_kept.specs.Schemas.{HasPermanent, permanent}
+use Rattle.mx_layout.specs.kept.Meanings.{MeansAdded}
+use Rattle.mx_layout.specs.kept.Schemas.{HasPermanent, permanent}
 use Rattle.mx_chosen.specs.Lookups.{Deletes}
 use Rattle.mx_chosen.specs.Texts.{by_value}
 use Rattle.mx_chosen.proofs.EqualLemmas.{one_equal}

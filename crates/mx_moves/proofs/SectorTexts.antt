@@ -2,8 +2,8 @@
 use Rattle.std.proofs.Common.{Some, [], refl}
 use Rattle.sqlite.specs.Listing.{understood}
 use Rattle.sqlite_tied.specs.Compute.{everything}
-use Rattle.mx_kept.specs.Cells.{kept_sector1}
-use Rattle.mx_kept.specs.Schemas.{own_1}
+use Rattle.mx_layout.specs.kept.Cells.{kept_sector1}
+use Rattle.mx_layout.specs.kept.Schemas.{own_1}
 use Rattle.mx_chosen.specs.Lookups.{FindsFirst}
 use Rattle.mx_chosen.specs.Texts.{any_row}
 use Rattle.mx_chosen.proofs.LookupLemmas.{first_page}

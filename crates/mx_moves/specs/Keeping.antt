@@ -6,8 +6,8 @@ use Rattle.mx_base.specs.declared.point.Point.{Point}
 use Rattle.mx_layout.specs.TableName.{TableName}
 use Rattle.mx_layout.specs.declared.fault.Table.TheVariants as table
 use Rattle.mx_layout.specs.Point.{point_cells, FitsPoint}
-use Rattle.mx_kept.specs.Kept.{Kept, numbered}
-use Rattle.mx_kept.specs.Schemas.{HasPermanent}
+use Rattle.mx_layout.specs.kept.Kept.{Kept, numbered}
+use Rattle.mx_layout.specs.kept.Schemas.{HasPermanent}
 use Rattle.mx_chosen.specs.Choices.{has_value}
 use Rattle.mx_moves.specs.Changes.{in_place}
 

@@ -2,8 +2,8 @@
 ghost use Rattle.std.specs.Prelude.{◌≡◌, pos};
 ghost use Rattle.sqlite.specs.declared.types.Value.TheVariants.{Int};
 ghost use Rattle.sqlite.specs.Held.{state};
-ghost use Rattle.mx_kept.specs.Cells.{kept_fit1, kept_removal1, kept_span2};
-ghost use Rattle.mx_kept.specs.Family.{on_top};
+ghost use Rattle.mx_layout.specs.kept.Cells.{kept_fit1, kept_removal1, kept_span2};
+ghost use Rattle.mx_layout.specs.kept.Family.{on_top};
 ghost use Rattle.mx_chosen.specs.Calls.{DeletesRows, ReadsBy};
 ghost use Rattle.mx_chosen.specs.Choices.{has_value};
 ghost use Rattle.mx_moves.specs.Changes.{WritesRows, less};

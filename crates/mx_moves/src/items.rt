@@ -2,7 +2,7 @@
 ghost use Rattle.std.specs.Prelude.{◌≡◌, pos, Some};
 ghost use Rattle.sqlite.specs.declared.types.Value.TheVariants.{Int};
 ghost use Rattle.sqlite.specs.Held.{state};
-ghost use Rattle.mx_kept.specs.Cells.{kept_component};
+ghost use Rattle.mx_layout.specs.kept.Cells.{kept_component};
 ghost use Rattle.mx_chosen.specs.Calls.{ReadsFirst};
 ghost use Rattle.mx_chosen.specs.Choices.{is_above};
 

@@ -1,8 +1,8 @@
 //! Totals and last bases that are written to `total2` and `base2`.
 ghost use Rattle.std.specs.Prelude.{◌≡◌, [], ◌∷◌};
 ghost use Rattle.sqlite.specs.Held.{state};
-ghost use Rattle.mx_kept.specs.Cells.{kept_base2, kept_total2};
-ghost use Rattle.mx_kept.specs.Family.{on_top};
+ghost use Rattle.mx_layout.specs.kept.Cells.{kept_base2, kept_total2};
+ghost use Rattle.mx_layout.specs.kept.Family.{on_top};
 ghost use Rattle.mx_moves.specs.Changes.{WritesRows};
 
 use crate::prelude::*;

@@ -1,7 +1,7 @@
 //! The point that a file is at, written in place of the one before.
 ghost use Rattle.std.specs.Prelude.{◌≡◌, [], ◌∷◌};
 ghost use Rattle.sqlite.specs.Held.{state};
-ghost use Rattle.mx_kept.specs.Family.{on_top};
+ghost use Rattle.mx_layout.specs.kept.Family.{on_top};
 ghost use Rattle.mx_moves.specs.Changes.{WasOpen, WritesRows, less};
 ghost use Rattle.mx_moves.specs.Keeping.{kept_point, is_point_row, point_set};
 ghost use Rattle.mx_moves.specs.Schemas.{IsFree};

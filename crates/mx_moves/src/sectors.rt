@@ -2,8 +2,8 @@
 ghost use Rattle.std.specs.Prelude.{◌≡◌, pos, Some};
 ghost use Rattle.sqlite.specs.declared.types.Value.TheVariants.{Int};
 ghost use Rattle.sqlite.specs.Held.{state};
-ghost use Rattle.mx_kept.specs.Cells.{kept_sector1, kept_sector2_rows};
-ghost use Rattle.mx_kept.specs.Family.{on_top};
+ghost use Rattle.mx_layout.specs.kept.Cells.{kept_sector1, kept_sector2_rows};
+ghost use Rattle.mx_layout.specs.kept.Family.{on_top};
 ghost use Rattle.mx_chosen.specs.Calls.{ReadsFirst};
 ghost use Rattle.mx_chosen.specs.Choices.{is_any, is_up_to};
 ghost use Rattle.mx_moves.specs.Changes.{WritesRows, less};

@@ -20,7 +20,7 @@ use Rattle.mx_layout.specs.declared.fault.TableFault.{TableFault}
 use Rattle.mx_layout.specs.Contents.{rows_in}
 use Rattle.mx_layout.specs.Crash.{IsWithin}
 use Rattle.mx_layout.specs.Names.{table_named}
-use Rattle.mx_kept.specs.Kept.{Kept}
+use Rattle.mx_layout.specs.kept.Kept.{Kept}
 use Rattle.mx_chosen.specs.Choices.{has_value, is_any}
 use Rattle.mx_chosen.specs.Calls.{ReadsFirst}
 use Rattle.mx_stands.specs.Schemas.{schema_at}

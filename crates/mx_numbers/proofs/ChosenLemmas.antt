@@ -15,9 +15,9 @@ use Rattle.mx_base.proofs.RowsProofs.SortedLemmas.{sorted_once, IsRising-map, Is
 use Rattle.mx_layout.specs.Contents.{rows_in}
 use Rattle.mx_layout.specs.Names.{table_named}
 use Rattle.mx_layout.specs.Reading.{HasOther}
-use Rattle.mx_kept.specs.Kept.{Kept}
-use Rattle.mx_kept.specs.Family.{IsReadableAs}
-use Rattle.mx_kept.specs.Meanings.{IsLawful}
+use Rattle.mx_layout.specs.kept.Kept.{Kept}
+use Rattle.mx_layout.specs.kept.Family.{IsReadableAs}
+use Rattle.mx_layout.specs.kept.Meanings.{IsLawful}
 use Rattle.mx_chosen.specs.Choices.{AreFirst}
 use Rattle.mx_stands.proofs.RowLemmas.{cells_once, good_rows}
 use Rattle.mx_numbers.specs.Keeping.{KeepsRows}

@@ -22,10 +22,10 @@ use Rattle.mx_layout.specs.declared.fault.TableFault.TheVariants.{Memory, Store,
 use Rattle.mx_layout.specs.Contents.{rows_in}
 use Rattle.mx_layout.specs.Names.{table_named}
 use Rattle.mx_layout.specs.Reading.{HasOther}
-use Rattle.mx_kept.specs.Cells.{kept_entry, kept_span2}
-use Rattle.mx_kept.specs.Kept.{Kept}
-use Rattle.mx_kept.specs.Family.{IsReadable, IsReadableAs}
-use Rattle.mx_kept.specs.Meanings.{IsLawful}
+use Rattle.mx_layout.specs.kept.Cells.{kept_entry, kept_span2}
+use Rattle.mx_layout.specs.kept.Kept.{Kept}
+use Rattle.mx_layout.specs.kept.Family.{IsReadable, IsReadableAs}
+use Rattle.mx_layout.specs.kept.Meanings.{IsLawful}
 use Rattle.mx_chosen.specs.Choices.{AreFirst, backward, is_any, is_missing, is_open}
 use Rattle.mx_chosen.specs.Calls.{ReadsFirst}
 use Rattle.mx_chosen.specs.Counts.{AreNumbered, last_number as counted}

@@ -10,8 +10,8 @@ use Rattle.sqlite.specs.declared.types.Value.TheVariants.{Int}
 use Rattle.mx_layout.specs.Names.{table_named}
 use Rattle.mx_layout.specs.declared.fault.TableFault.{TableFault}
 use Rattle.mx_base.specs.declared.rows.rows.Sector2Row.{Sector2Row}
-use Rattle.mx_kept.specs.Kept.{Kept, held}
-use Rattle.mx_kept.specs.Cells.{kept_sector2, kept_sector2_rows}
+use Rattle.mx_layout.specs.kept.Kept.{Kept, held}
+use Rattle.mx_layout.specs.kept.Cells.{kept_sector2, kept_sector2_rows}
 use Rattle.mx_chosen.specs.Calls.{ReadsBy, ReadsFirst}
 use Rattle.mx_chosen.specs.Choices.{AreFirst, has_value}
 use Rattle.mx_row_rules.specs.found.Given as given

@@ -18,8 +18,8 @@ use Rattle.mx_layout.specs.TableName.{TableName}
 use Rattle.mx_layout.specs.Crash.{IsWithin}
 use Rattle.mx_layout.specs.declared.fault.TableFault.{TableFault}
 use Rattle.mx_layout.specs.declared.fault.TableFault.TheVariants.{Damaged}
-use Rattle.mx_kept.specs.Cells.{kept_task}
-use Rattle.mx_kept.specs.Kept.{Kept}
+use Rattle.mx_layout.specs.kept.Cells.{kept_task}
+use Rattle.mx_layout.specs.kept.Kept.{Kept}
 use Rattle.mx_chosen.specs.Calls.{ReadsFirst}
 use Rattle.mx_chosen.specs.Counts.{CountsRows}
 use Rattle.mx_stands.specs.Schemas.{schema_at}

@@ -13,9 +13,9 @@ use Rattle.mx_layout.specs.declared.fault.Table.TheVariants as table
 use Rattle.mx_layout.specs.Contents.{rows_in}
 use Rattle.mx_layout.specs.Names.{table_named}
 use Rattle.mx_layout.specs.Reading.{HasOther}
-use Rattle.mx_kept.specs.Cells.{kept_base2, kept_programme, kept_task, kept_total2}
-use Rattle.mx_kept.specs.Family.{IsReadable}
-use Rattle.mx_kept.specs.Kept.{Kept}
+use Rattle.mx_layout.specs.kept.Cells.{kept_base2, kept_programme, kept_task, kept_total2}
+use Rattle.mx_layout.specs.kept.Family.{IsReadable}
+use Rattle.mx_layout.specs.kept.Kept.{Kept}
 use Rattle.mx_chosen.specs.Choices.{has_value, is_any}
 
 -- ── what a row needs in another table ──

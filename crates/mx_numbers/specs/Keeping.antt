@@ -4,7 +4,7 @@ use Rattle.sqlite.specs.Tree.{Trees}
 use Rattle.mx_base.specs.rows.Rising.{IsRising}
 use Rattle.mx_layout.specs.Contents.{rows_in}
 use Rattle.mx_layout.specs.Names.{table_named}
-use Rattle.mx_kept.specs.Kept.{Kept}
+use Rattle.mx_layout.specs.kept.Kept.{Kept}
 
 -- the table has exactly these rows, in whatever order, each can be kept in its columns, and as listed here they rise by their key
 pub record KeepsRows {X : Type 0} (k : Kept X) (trees : Trees) (rows : List X) : Type 0 where

@@ -20,9 +20,9 @@ use Rattle.mx_layout.specs.declared.fault.TableFault.TheVariants.{Damaged}
 use Rattle.mx_layout.specs.Contents.{rows_in}
 use Rattle.mx_layout.specs.Names.{table_named}
 use Rattle.mx_layout.specs.Reading.{HasOther}
-use Rattle.mx_kept.specs.Cells.{kept_aircraft, kept_base2, kept_component, kept_crs_line, kept_defect, kept_entry, kept_extension, kept_place, kept_programme, kept_span2, kept_task, kept_total2}
-use Rattle.mx_kept.specs.Family.{IsReadableAs}
-use Rattle.mx_kept.specs.Kept.{Kept}
+use Rattle.mx_layout.specs.kept.Cells.{kept_aircraft, kept_base2, kept_component, kept_crs_line, kept_defect, kept_entry, kept_extension, kept_place, kept_programme, kept_span2, kept_task, kept_total2}
+use Rattle.mx_layout.specs.kept.Family.{IsReadableAs}
+use Rattle.mx_layout.specs.kept.Kept.{Kept}
 use Rattle.mx_chosen.specs.Choices.{AreFirst, backward, has_value, is_any, is_open}
 use Rattle.mx_stands.specs.Schemas.{schema_at}
 use Rattle.mx_row_rules.specs.found.Defects.{deferral_aircraft}

@@ -6,7 +6,7 @@ ghost use Rattle.sqlite.specs.Held.{state};
 ghost use Rattle.mx_book.specs.commands.Act.{Entry};
 ghost use Rattle.mx_book.specs.Judge.{known_from};
 ghost use Rattle.mx_registers.specs.Names.{seq_of_defect};
-ghost use Rattle.mx_kept.specs.Cells.{kept_entry};
+ghost use Rattle.mx_layout.specs.kept.Cells.{kept_entry};
 ghost use Rattle.mx_chosen.specs.Choices.{backward, has_value, is_any};
 ghost use Rattle.mx_row_rules.specs.found.Names.{entry_number, last_number};
 ghost use Rattle.mx_numbers.specs.AnyRows.{Gives, GivesFirst, ReadsAny};

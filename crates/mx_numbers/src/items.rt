@@ -4,7 +4,7 @@ ghost use Rattle.sqlite.specs.declared.types.Value.TheVariants.{Text};
 ghost use Rattle.sqlite.specs.Held.{state};
 ghost use Rattle.mx_book.specs.Register.{aircraft, component, part_at};
 ghost use Rattle.mx_registers.specs.Names.{seq_of_item, seq_of_serial, seq_of_tail, tail_at};
-ghost use Rattle.mx_kept.specs.Cells.{kept_aircraft, kept_component};
+ghost use Rattle.mx_layout.specs.kept.Cells.{kept_aircraft, kept_component};
 ghost use Rattle.mx_chosen.specs.Choices.{has_value};
 ghost use Rattle.mx_row_rules.specs.found.Said.{aircraft_in, component_in};
 ghost use Rattle.mx_numbers.specs.AnyRows.{Gives, ReadsAny};

@@ -17,9 +17,9 @@ use Rattle.mx_layout.specs.declared.fault.Table.TheVariants as table
 use Rattle.mx_layout.specs.Contents.{rows_in}
 use Rattle.mx_layout.specs.Names.{table_named}
 use Rattle.mx_layout.specs.Tables.{span2, total2, base2}
-use Rattle.mx_kept.specs.Kept.{Kept}
-use Rattle.mx_kept.specs.Cells.{kept_aircraft, kept_component, kept_crs, kept_crs_line, kept_defect, kept_entry, kept_extension, kept_opening, kept_place, kept_programme, kept_sector2, kept_span2, kept_task}
-use Rattle.mx_kept.specs.Schemas.{HasPermanent}
+use Rattle.mx_layout.specs.kept.Kept.{Kept}
+use Rattle.mx_layout.specs.kept.Cells.{kept_aircraft, kept_component, kept_crs, kept_crs_line, kept_defect, kept_entry, kept_extension, kept_opening, kept_place, kept_programme, kept_sector2, kept_span2, kept_task}
+use Rattle.mx_layout.specs.kept.Schemas.{HasPermanent}
 use Rattle.mx_stands.specs.Family.{first_rows, is_at}
 use Rattle.mx_stands.specs.Schemas.{HasTablesAt, indexes_at, own_at, schema_at}
 use Rattle.mx_stands.specs.Stands.{HasRowsAt}

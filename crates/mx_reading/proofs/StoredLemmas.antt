@@ -29,9 +29,9 @@ use Rattle.mx_layout.specs.Names.{table_named}
 use Rattle.mx_layout.specs.Point.{IsPoint, point_cells}
 use Rattle.mx_layout.specs.Reading.{AreAllBy}
 use Rattle.mx_layout.specs.Tables.{office}
-use Rattle.mx_kept.specs.Kept.{Kept}
-use Rattle.mx_kept.specs.Cells.{kept_aircraft, kept_base2, kept_component, kept_crs, kept_crs_line, kept_defect, kept_entry, kept_extension, kept_opening, kept_place, kept_programme, kept_sector2, kept_sector2_rows, kept_span2, kept_task, kept_total2}
-use Rattle.mx_kept.specs.Family.{IsReadable}
+use Rattle.mx_layout.specs.kept.Kept.{Kept}
+use Rattle.mx_layout.specs.kept.Cells.{kept_aircraft, kept_base2, kept_component, kept_crs, kept_crs_line, kept_defect, kept_entry, kept_extension, kept_opening, kept_place, kept_programme, kept_sector2, kept_sector2_rows, kept_span2, kept_task, kept_total2}
+use Rattle.mx_layout.specs.kept.Family.{IsReadable}
 use Rattle.mx_stands.specs.Family.{Fit, is_at, rows_given, rows_of}
 use Rattle.mx_stands.specs.Schemas.{schema_at}
 use Rattle.mx_stands.specs.Stands.{HasRowsAt}

@@ -13,7 +13,7 @@ use Rattle.mx_layout.specs.Names.{table_named}
 use Rattle.mx_layout.specs.Point.{IsPoint, IsStop, point_cells}
 use Rattle.mx_layout.specs.Reading.{HasOther}
 use Rattle.mx_layout.specs.Tables.{office}
-use Rattle.mx_kept.specs.Family.{IsReadable}
+use Rattle.mx_layout.specs.kept.Family.{IsReadable}
 use Rattle.mx_stands.specs.Family.{is_at}
 use Rattle.mx_reading.specs.Layout.{verified_point}
 

@@ -19,8 +19,8 @@ use Rattle.mx_registers.specs.points.Tables.{bases_2, rows_at}
 use Rattle.mx_layout.specs.Contents.{rows_in}
 use Rattle.mx_layout.specs.Names.{table_named}
 use Rattle.mx_layout.specs.declared.fault.Table.TheVariants as table
-use Rattle.mx_kept.specs.Cells.{kept_base2}
-use Rattle.mx_kept.proofs.MovedLawful.{base2_lawful}
+use Rattle.mx_layout.specs.kept.Cells.{kept_base2}
+use Rattle.mx_layout.proofs.KeptProofs.MovedLawful.{base2_lawful}
 use Rattle.mx_chosen.specs.Choices.{AreFirst}
 use Rattle.mx_stands.specs.Stands.{HasRowsAt}
 use Rattle.mx_stands.proofs.FamilyLemmas.{facts}

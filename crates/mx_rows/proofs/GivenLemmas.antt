@@ -14,8 +14,8 @@ use Rattle.mx_book.specs.declared.commands.item.Item.TheVariants.{Airframe, Comp
 use Rattle.mx_book.specs.Book.{IsBook}
 use Rattle.mx_registers.specs.Names.{seq_of_defect, seq_of_item, seq_of_serial, seq_of_tail}
 use Rattle.mx_registers.specs.Registers.{aircraft_rows, component_rows, entry_rows}
-use Rattle.mx_kept.specs.Cells.{kept_aircraft, kept_component, kept_entry}
-use Rattle.mx_kept.specs.Kept.{Kept}
+use Rattle.mx_layout.specs.kept.Cells.{kept_aircraft, kept_component, kept_entry}
+use Rattle.mx_layout.specs.kept.Kept.{Kept}
 use Rattle.mx_chosen.specs.Choices.{has_value}
 use Rattle.mx_stands.specs.Stands.{HasRowsAt}
 use Rattle.mx_row_rules.specs.found.Names.{aircraft_number, component_number, deferral_number}
@@ -28,7 +28,7 @@ use Rattle.mx_numbers.proofs.LookupLemmas.{number_is, text_is}
 use Rattle.mx_numbers.proofs.TableLemmas.{IsTable, aircraft as aircraft_table, components, entries}
 use Rattle.std.specs.Option.{option_eq}
 use Rattle.sqlite_sql.specs.Ops.{binary}
-use Rattle.mx_kept.specs.Values.{number_or_null}
+use Rattle.mx_layout.specs.kept.Values.{number_or_null}
 
 -- a number that may be missing
 pub some_number : (o : Option ℕ) (n : ℕ) → equal Binary (number_or_null o) (Int (pos n)) ≡ option_eq nat_eq o (Some n)

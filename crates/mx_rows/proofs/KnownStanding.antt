@@ -18,8 +18,8 @@ use Rattle.mx_registers.specs.Lines.{lines_from}
 use Rattle.mx_registers.specs.Names.{or_zero}
 use Rattle.mx_registers.specs.Registers.{aircraft_row, aircraft_rows, component_row, component_rows, deferral_row, deferral_rows, entry_rows, extension_row, extension_rows, opening_row, opening_rows, place_row, place_rows, programme_row, programme_rows, release_line_row, release_line_rows, release_row, release_rows, sector_row, sector_rows, task_row, task_rows}
 use Rattle.mx_registers.specs.kept.Spans.{span_rows}
-use Rattle.mx_kept.specs.Cells.{kept_aircraft, kept_component, kept_crs, kept_crs_line, kept_defect, kept_entry, kept_extension, kept_opening, kept_place, kept_programme, kept_sector2, kept_span2, kept_task}
-use Rattle.mx_kept.specs.Kept.{Kept}
+use Rattle.mx_layout.specs.kept.Cells.{kept_aircraft, kept_component, kept_crs, kept_crs_line, kept_defect, kept_entry, kept_extension, kept_opening, kept_place, kept_programme, kept_sector2, kept_span2, kept_task}
+use Rattle.mx_layout.specs.kept.Kept.{Kept}
 use Rattle.mx_chosen.specs.Choices.{has_value}
 use Rattle.mx_stands.specs.Stands.{HasRowsAt}
 use Rattle.mx_row_rules.specs.found.Given.{AreSame, line_row, seq_of_line}

@@ -28,8 +28,8 @@ use Rattle.mx_registers.specs.Registers.{aircraft_rows, component_rows, deferral
 use Rattle.mx_registers.specs.kept.Bases.{base_rows, is_keyed}
 use Rattle.mx_registers.specs.kept.Spans.{span_rows}
 use Rattle.mx_registers.specs.kept.Totals.{total_rows}
-use Rattle.mx_kept.specs.Cells.{kept_aircraft, kept_base2, kept_component, kept_crs_line, kept_defect, kept_entry, kept_extension, kept_place, kept_programme, kept_span2, kept_task, kept_total2}
-use Rattle.mx_kept.specs.Kept.{Kept}
+use Rattle.mx_layout.specs.kept.Cells.{kept_aircraft, kept_base2, kept_component, kept_crs_line, kept_defect, kept_entry, kept_extension, kept_place, kept_programme, kept_span2, kept_task, kept_total2}
+use Rattle.mx_layout.specs.kept.Kept.{Kept}
 use Rattle.mx_chosen.specs.Choices.{backward, has_value, is_any, is_open}
 use Rattle.mx_chosen.specs.Counts.{AreNumbered, last_number as last_chosen}
 use Rattle.mx_chosen.proofs.LastLemmas.{last_tells}

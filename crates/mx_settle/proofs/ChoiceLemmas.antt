@@ -40,10 +40,10 @@ use Rattle.mx_layout.specs.Crash.{StaysInside}
 use Rattle.mx_layout.specs.Names.{table_named}
 use Rattle.mx_layout.specs.Point.{IsStop}
 use Rattle.mx_layout.specs.Tables.{sector1}
-use Rattle.mx_kept.specs.Cells.{kept_component, kept_sector1}
-use Rattle.mx_kept.specs.Family.{IsReadable}
-use Rattle.mx_kept.specs.Schemas.{HasOwn1, HasPermanent}
-use Rattle.mx_kept.proofs.Lawful.{component_lawful}
+use Rattle.mx_layout.specs.kept.Cells.{kept_component, kept_sector1}
+use Rattle.mx_layout.specs.kept.Family.{IsReadable}
+use Rattle.mx_layout.specs.kept.Schemas.{HasOwn1, HasPermanent}
+use Rattle.mx_layout.proofs.KeptProofs.Lawful.{component_lawful}
 use Rattle.mx_chosen.specs.Choices.{AreFirst, is_above}
 use Rattle.mx_stands.specs.Schemas.{IsOfFile, schema_at}
 use Rattle.mx_stands.specs.Stands.{StandsAt}

@@ -30,10 +30,10 @@ use Rattle.mx_layout.specs.Contents.{rows_in}
 use Rattle.mx_layout.specs.Names.{table_named}
 use Rattle.mx_layout.specs.Reading.{IsRowOf}
 use Rattle.mx_layout.specs.Tables.{sector1}
-use Rattle.mx_kept.specs.Cells.{kept_sector1}
-use Rattle.mx_kept.specs.Family.{IsReadable, IsReadableAs}
-use Rattle.mx_kept.specs.Kept.{Kept}
-use Rattle.mx_kept.specs.Meanings.{IsLawful}
+use Rattle.mx_layout.specs.kept.Cells.{kept_sector1}
+use Rattle.mx_layout.specs.kept.Family.{IsReadable, IsReadableAs}
+use Rattle.mx_layout.specs.kept.Kept.{Kept}
+use Rattle.mx_layout.specs.kept.Meanings.{IsLawful}
 use Rattle.mx_chosen.specs.Calls.{ReadsFirst}
 use Rattle.mx_chosen.specs.Choices.{AreFirst, is_above, is_any}
 use Rattle.mx_stands.proofs.RowLemmas.{cells_once}

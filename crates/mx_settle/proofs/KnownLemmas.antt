@@ -16,7 +16,7 @@ use Rattle.mx_layout.specs.Contents.{rows_in}
 use Rattle.mx_layout.specs.Crash.{StaysInside}
 use Rattle.mx_layout.specs.Names.{table_named}
 use Rattle.mx_layout.specs.Point.{IsStop}
-use Rattle.mx_kept.specs.Family.{IsReadable}
+use Rattle.mx_layout.specs.kept.Family.{IsReadable}
 use Rattle.mx_stands.specs.Schemas.{schema_at}
 use Rattle.mx_stands.specs.Stands.{StandsAt}
 use Rattle.mx_stands.proofs.RowLemmas.{readable_stored}

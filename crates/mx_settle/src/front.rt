@@ -2,7 +2,7 @@
 ghost use Rattle.std.specs.Prelude.{◌≡◌, slice_get};
 ghost use Rattle.std.specs.Option.{option_map};
 ghost use Rattle.sqlite.specs.Held.{state};
-ghost use Rattle.mx_kept.specs.Cells.{kept_component};
+ghost use Rattle.mx_layout.specs.kept.Cells.{kept_component};
 ghost use Rattle.mx_settle.specs.Choices.{next_checked, FindsLeft, FindsNext};
 
 use mx_base::rows::ComponentRow;

@@ -19,13 +19,13 @@ use Rattle.mx_layout.specs.Steps.{IsLayout}
 use Rattle.mx_layout.specs.TableName.{TableName}
 use Rattle.mx_layout.specs.Tables.{sector2, span2, total2, base2}
 use Rattle.mx_layout.specs.declared.fault.Table.TheVariants as table
-use Rattle.mx_kept.specs.Kept.{Kept}
-use Rattle.mx_kept.specs.Cells.{kept_sector1, kept_fit1, kept_removal1, kept_sector2, kept_span2, kept_total2, kept_base2}
-use Rattle.mx_kept.specs.Family.{IsReadable, IsReadableAs}
-use Rattle.mx_kept.specs.Meanings.{IsLawful}
-use Rattle.mx_kept.specs.Schemas.{HasPermanent}
-use Rattle.mx_kept.proofs.Lawful.{entry_lawful, aircraft_lawful, place_lawful, component_lawful, programme_lawful, task_lawful, opening_lawful, crs_lawful, crs_line_lawful, defect_lawful, extension_lawful, sector1_lawful, fit1_lawful, removal1_lawful}
-use Rattle.mx_kept.proofs.MovedLawful.{sector2_lawful, span2_lawful, total2_lawful, base2_lawful}
+use Rattle.mx_layout.specs.kept.Kept.{Kept}
+use Rattle.mx_layout.specs.kept.Cells.{kept_sector1, kept_fit1, kept_removal1, kept_sector2, kept_span2, kept_total2, kept_base2}
+use Rattle.mx_layout.specs.kept.Family.{IsReadable, IsReadableAs}
+use Rattle.mx_layout.specs.kept.Meanings.{IsLawful}
+use Rattle.mx_layout.specs.kept.Schemas.{HasPermanent}
+use Rattle.mx_layout.proofs.KeptProofs.Lawful.{entry_lawful, aircraft_lawful, place_lawful, component_lawful, programme_lawful, task_lawful, opening_lawful, crs_lawful, crs_line_lawful, defect_lawful, extension_lawful, sector1_lawful, fit1_lawful, removal1_lawful}
+use Rattle.mx_layout.proofs.KeptProofs.MovedLawful.{sector2_lawful, span2_lawful, total2_lawful, base2_lawful}
 use Rattle.mx_stands.specs.Family.{Rows, of, none, rows_of, first_rows}
 use Rattle.mx_stands.specs.Schemas.{IsOfFile, HasTablesAt, own_at}
 use Rattle.mx_stands.proofs.PointLemmas.{by_point}

@@ -18,9 +18,9 @@ use Rattle.mx_layout.specs.Names.{table_named}
 use Rattle.mx_layout.specs.Point.{point_cells}
 use Rattle.mx_layout.specs.TableName.{TableName}
 use Rattle.mx_layout.specs.declared.fault.Table.TheVariants as table
-use Rattle.mx_kept.specs.Kept.{Kept}
-use Rattle.mx_kept.specs.Family.{IsReadable, IsReadableAs}
-use Rattle.mx_kept.specs.Meanings.{IsLawful}
+use Rattle.mx_layout.specs.kept.Kept.{Kept}
+use Rattle.mx_layout.specs.kept.Family.{IsReadable, IsReadableAs}
+use Rattle.mx_layout.specs.kept.Meanings.{IsLawful}
 use Rattle.mx_stands.specs.Family.{Rows, of, none, rows_of, is_there, is_at, given, Fit, first_rows, rows_given}
 use Rattle.mx_stands.specs.Stands.{HasRowsAt}
 use Rattle.mx_stands.proofs.FamilyLemmas.{Facts, facts}

@@ -14,8 +14,8 @@ use Rattle.mx_registers.specs.points.Tables.{Line, rows_at, is_table_at, entries
 use Rattle.mx_layout.specs.TableName.{TableName}
 use Rattle.mx_layout.specs.declared.fault.Table.TheVariants as table
 use Rattle.mx_layout.specs.Point.{point_cells}
-use Rattle.mx_kept.specs.Kept.{Kept}
-use Rattle.mx_kept.specs.Cells.{kept_entry, kept_aircraft, kept_place, kept_component, kept_programme, kept_task, kept_opening, kept_crs, kept_crs_line, kept_defect, kept_extension, kept_sector1, kept_fit1, kept_removal1, kept_sector2, kept_span2, kept_total2, kept_base2}
+use Rattle.mx_layout.specs.kept.Kept.{Kept}
+use Rattle.mx_layout.specs.kept.Cells.{kept_entry, kept_aircraft, kept_place, kept_component, kept_programme, kept_task, kept_opening, kept_crs, kept_crs_line, kept_defect, kept_extension, kept_sector1, kept_fit1, kept_removal1, kept_sector2, kept_span2, kept_total2, kept_base2}
 
 -- the rows of a table: how they are kept, which of a book's stand in it at a point, what a command makes of them, and where they are among the registers, if they are one; or none, of a table that no command writes
 pub data Rows : Type 1 where

@@ -8,7 +8,7 @@ use Rattle.mx_base.specs.Settled.{settled}
 use Rattle.mx_registers.specs.points.Points.{Step, step_of, is_past, is_within_step, is_on_way}
 use Rattle.mx_layout.specs.Names.{table_named}
 use Rattle.mx_layout.specs.Tables.{unique, span2_by_component, span2_by_aircraft, span2_by_remove_seq, crs_line_by_defect, extension_by_defect, defect_by_aircraft}
-use Rattle.mx_kept.specs.Schemas.{permanent, HasBehind}
+use Rattle.mx_layout.specs.kept.Schemas.{permanent, HasBehind}
 use Rattle.mx_stands.specs.Family.{is_at, own_names}
 
 -- the tables behind the permanent ones that a file at this point has

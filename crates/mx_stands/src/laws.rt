@@ -9,7 +9,7 @@ ghost use Rattle.mx_layout.specs.Making.{IsEmptyIn};
 ghost use Rattle.mx_layout.specs.Names.{table_named};
 ghost use Rattle.mx_layout.specs.Steps.{IsLayout, schema_after, schema_of};
 ghost use Rattle.mx_layout.specs.TableName.{TableName};
-ghost use Rattle.mx_kept.specs.Family.{IsReadable};
+ghost use Rattle.mx_layout.specs.kept.Family.{IsReadable};
 ghost use Rattle.mx_stands.specs.Family.{BecomesAt, BecomesBy, Brings, is_at, is_register, is_there, rows_of};
 ghost use Rattle.mx_stands.specs.Schemas.{IsOfFile, schema_at, statements_at};
 ghost use Rattle.mx_stands.specs.Stands.{HasRowsAt, StandsAt};

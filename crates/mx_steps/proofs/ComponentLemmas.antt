@@ -24,10 +24,10 @@ use Rattle.mx_layout.specs.TableName.{TableName}
 use Rattle.mx_layout.specs.declared.fault.Table.TheVariants as table
 use Rattle.mx_layout.specs.Contents.{rows_in}
 use Rattle.mx_layout.specs.Names.{table_named}
-use Rattle.mx_kept.specs.Cells.{kept_fit1, kept_removal1, kept_span2}
-use Rattle.mx_kept.specs.Family.{IsReadable}
-use Rattle.mx_kept.proofs.Lawful.{fit1_lawful, removal1_lawful}
-use Rattle.mx_kept.proofs.OntoLemmas.{on_top_keeps}
+use Rattle.mx_layout.specs.kept.Cells.{kept_fit1, kept_removal1, kept_span2}
+use Rattle.mx_layout.specs.kept.Family.{IsReadable}
+use Rattle.mx_layout.proofs.KeptProofs.Lawful.{fit1_lawful, removal1_lawful}
+use Rattle.mx_layout.proofs.KeptProofs.OntoLemmas.{on_top_keeps}
 use Rattle.mx_chosen.proofs.EqualLemmas.{equal_numbers}
 use Rattle.mx_stands.specs.Family.{rows_of, rows_given, is_at, Fit}
 use Rattle.mx_stands.specs.Stands.{StandsAt}

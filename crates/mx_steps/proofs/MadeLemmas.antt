@@ -22,7 +22,7 @@ use Rattle.mx_layout.specs.TableName.{TableName}
 use Rattle.mx_layout.specs.declared.fault.Table.TheVariants as table
 use Rattle.mx_layout.specs.Contents.{rows_in}
 use Rattle.mx_layout.specs.Tables.{sector1}
-use Rattle.mx_kept.specs.Cells.{kept_sector1, kept_sector2, kept_span2, kept_fit1, kept_removal1}
+use Rattle.mx_layout.specs.kept.Cells.{kept_sector1, kept_sector2, kept_span2, kept_fit1, kept_removal1}
 use Rattle.mx_stands.specs.Family.{rows_of, rows_given, is_at, Fit}
 use Rattle.mx_stands.specs.Stands.{StandsAt}
 use Rattle.mx_moves.proofs.RowLemmas.{Keeps, Forgets, emptied_keeps}

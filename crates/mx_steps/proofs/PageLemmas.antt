@@ -18,8 +18,8 @@ use Rattle.mx_registers.proofs.PointsProofs.OneBook.{all_there}
 use Rattle.mx_layout.specs.Contents.{rows_in}
 use Rattle.mx_layout.specs.Names.{table_named}
 use Rattle.mx_layout.specs.Reading.{HasOther, IsRowOf}
-use Rattle.mx_kept.specs.Kept.{Kept}
-use Rattle.mx_kept.specs.Meanings.{IsLawful}
+use Rattle.mx_layout.specs.kept.Kept.{Kept}
+use Rattle.mx_layout.specs.kept.Meanings.{IsLawful}
 use Rattle.mx_chosen.specs.Choices.{AreFirst, is_any}
 use Rattle.mx_stands.proofs.RowLemmas.{cells_once}
 

@@ -33,10 +33,10 @@ use Rattle.mx_layout.specs.declared.fault.Table.TheVariants as table
 use Rattle.mx_layout.specs.Contents.{rows_in}
 use Rattle.mx_layout.specs.Point.{point_cells, FitsPoint}
 use Rattle.mx_layout.specs.Tables.{sector1}
-use Rattle.mx_kept.specs.Cells.{kept_sector1, kept_sector2}
-use Rattle.mx_kept.specs.Family.{IsReadable}
-use Rattle.mx_kept.proofs.Lawful.{sector1_lawful}
-use Rattle.mx_kept.proofs.OntoLemmas.{on_top_keeps}
+use Rattle.mx_layout.specs.kept.Cells.{kept_sector1, kept_sector2}
+use Rattle.mx_layout.specs.kept.Family.{IsReadable}
+use Rattle.mx_layout.proofs.KeptProofs.Lawful.{sector1_lawful}
+use Rattle.mx_layout.proofs.KeptProofs.OntoLemmas.{on_top_keeps}
 use Rattle.mx_chosen.specs.Choices.{is_up_to}
 use Rattle.mx_chosen.proofs.EqualLemmas.{equal_numbers}
 use Rattle.mx_stands.specs.Family.{rows_of, rows_given, is_at, Fit}

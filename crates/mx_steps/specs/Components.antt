@@ -15,8 +15,8 @@ use Rattle.mx_registers.specs.points.Points.{moving}
 use Rattle.mx_layout.specs.TableName.{TableName}
 use Rattle.mx_layout.specs.declared.fault.Table.TheVariants as table
 use Rattle.mx_layout.specs.Tables.{fit1, removal1}
-use Rattle.mx_kept.specs.Cells.{kept_fit1, kept_removal1, kept_span2}
-use Rattle.mx_kept.specs.Family.{on_top}
+use Rattle.mx_layout.specs.kept.Cells.{kept_fit1, kept_removal1, kept_span2}
+use Rattle.mx_layout.specs.kept.Family.{on_top}
 use Rattle.mx_chosen.specs.Choices.{AreFirst, has_value}
 use Rattle.mx_inserts.specs.Sets.{IsDamaged}
 use Rattle.mx_moves.specs.Changes.{less}

@@ -14,8 +14,8 @@ use Rattle.mx_layout.specs.TableName.{TableName}
 use Rattle.mx_layout.specs.declared.fault.Table.TheVariants as table
 use Rattle.mx_layout.specs.Contents.{rows_in}
 use Rattle.mx_layout.specs.Tables.{sector1}
-use Rattle.mx_kept.specs.Cells.{kept_sector1, kept_sector2}
-use Rattle.mx_kept.specs.Family.{on_top}
+use Rattle.mx_layout.specs.kept.Cells.{kept_sector1, kept_sector2}
+use Rattle.mx_layout.specs.kept.Family.{on_top}
 use Rattle.mx_chosen.specs.Choices.{AreFirst, is_any, is_up_to}
 use Rattle.mx_inserts.specs.Sets.{IsDamaged}
 use Rattle.mx_moves.specs.Changes.{less}

@@ -9,8 +9,8 @@ use Rattle.mx_registers.specs.kept.Bases.{base_rows}
 use Rattle.mx_base.specs.declared.point.Point.{Point}
 use Rattle.mx_registers.specs.points.Points.{moving}
 use Rattle.mx_layout.specs.TableName.{TableName}
-use Rattle.mx_kept.specs.Cells.{kept_base2, kept_total2}
-use Rattle.mx_kept.specs.Family.{on_top}
+use Rattle.mx_layout.specs.kept.Cells.{kept_base2, kept_total2}
+use Rattle.mx_layout.specs.kept.Family.{on_top}
 use Rattle.mx_moves.specs.Keeping.{point_set}
 use Rattle.mx_steps.specs.Rows.{MakesRows}
 

@@ -7,7 +7,7 @@ use Rattle.sqlite.specs.State.{State}
 use Rattle.std.specs.declared.cmp.Ordering.{Ordering}
 use Rattle.mx_layout.proofs.ReadLemmas.{reads_all, reads_unchanged}
 use Rattle.mx_tables.specs.Calls.{ShowsAll}
-use Rattle.mx_kept.specs.Meanings.{MeansAll}
+use Rattle.mx_layout.specs.kept.Meanings.{MeansAll}
 
 pub shows_all : (schema : Schema) (text : List ℕ) (table : Table) (order : Row → Row → Ordering) → MeansAll schema text table order → (old new : State) → old.now.schema ≡ schema → ShowsAll text table order old new
 shows_all schema text table order m old new has = record {

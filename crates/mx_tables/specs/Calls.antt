@@ -10,8 +10,8 @@ use Rattle.mx_layout.specs.Contents.{rows_in}
 use Rattle.mx_layout.specs.Crash.{StaysInside, IsWithin}
 use Rattle.mx_layout.specs.Names.{table_named}
 use Rattle.mx_layout.specs.Reading.{AreAllBy, HasOther}
-use Rattle.mx_kept.specs.Kept.{Kept}
-use Rattle.mx_kept.specs.Family.{IsReadableAs}
+use Rattle.mx_layout.specs.kept.Kept.{Kept}
+use Rattle.mx_layout.specs.kept.Family.{IsReadableAs}
 
 -- between these states the text shows all rows of the table, in this order, and changes nothing
 pub record ShowsAll (text : List ℕ) (table : Table) (order : Row → Row → Ordering) (old new : State) : Type 0 where

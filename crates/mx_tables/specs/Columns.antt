@@ -6,7 +6,7 @@ use Rattle.sqlite.specs.Order.{Row, column}
 use Rattle.mx_base.specs.declared.amounts.Limit.{Limit}
 use Rattle.mx_base.specs.declared.category.Category.{Category}
 use Rattle.mx_base.specs.rows.Rows.{category_number, days_stated}
-use Rattle.mx_kept.specs.Values.{number_or_null}
+use Rattle.mx_layout.specs.kept.Values.{number_or_null}
 
 -- the values in the first so many columns of a row
 abbrev pub columns_of : ℕ → Row → Row

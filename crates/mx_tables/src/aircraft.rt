@@ -3,7 +3,7 @@
 use crate::prelude::*;
 
 impl Stored for AircraftRow {
-    ghost use Rattle.mx_kept.{specs.Cells.kept_aircraft, proofs.Lawful.aircraft_lawful};
+    ghost use Rattle.mx_layout.{specs.kept.Cells.kept_aircraft, proofs.KeptProofs.Lawful.aircraft_lawful};
 
     ghost kept = { kept_aircraft };
 

@@ -4,7 +4,7 @@ use crate::prelude::*;
 use mx_base::Use;
 
 impl Stored for BaseRow {
-    ghost use Rattle.mx_kept.{specs.Cells.kept_base2, proofs.MovedLawful.base2_lawful};
+    ghost use Rattle.mx_layout.{specs.kept.Cells.kept_base2, proofs.KeptProofs.MovedLawful.base2_lawful};
 
     ghost kept = { kept_base2 };
 

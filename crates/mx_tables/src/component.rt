@@ -3,7 +3,7 @@
 use crate::prelude::*;
 
 impl Stored for ComponentRow {
-    ghost use Rattle.mx_kept.{specs.Cells.kept_component, proofs.Lawful.component_lawful};
+    ghost use Rattle.mx_layout.{specs.kept.Cells.kept_component, proofs.KeptProofs.Lawful.component_lawful};
 
     ghost kept = { kept_component };
 

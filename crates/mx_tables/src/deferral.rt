@@ -4,7 +4,7 @@
 use crate::prelude::*;
 
 impl Stored for DeferralRow {
-    ghost use Rattle.mx_kept.{specs.Cells.kept_defect, proofs.Lawful.defect_lawful};
+    ghost use Rattle.mx_layout.{specs.kept.Cells.kept_defect, proofs.KeptProofs.Lawful.defect_lawful};
 
     ghost kept = { kept_defect };
 

@@ -29,7 +29,7 @@ fn kind_at(row: &Row, at: usize) -> Option<EntryKind>
 }
 
 impl Stored for EntryRow {
-    ghost use Rattle.mx_kept.{specs.Cells.kept_entry, proofs.Lawful.entry_lawful};
+    ghost use Rattle.mx_layout.{specs.kept.Cells.kept_entry, proofs.KeptProofs.Lawful.entry_lawful};
 
     ghost kept = { kept_entry };
 

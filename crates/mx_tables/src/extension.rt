@@ -3,7 +3,7 @@
 use crate::prelude::*;
 
 impl Stored for ExtensionRow {
-    ghost use Rattle.mx_kept.{specs.Cells.kept_extension, proofs.Lawful.extension_lawful};
+    ghost use Rattle.mx_layout.{specs.kept.Cells.kept_extension, proofs.KeptProofs.Lawful.extension_lawful};
 
     ghost kept = { kept_extension };
 

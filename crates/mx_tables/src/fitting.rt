@@ -3,7 +3,7 @@
 use crate::prelude::*;
 
 impl Stored for FittingRow {
-    ghost use Rattle.mx_kept.{specs.Cells.kept_fit1, proofs.Lawful.fit1_lawful};
+    ghost use Rattle.mx_layout.{specs.kept.Cells.kept_fit1, proofs.KeptProofs.Lawful.fit1_lawful};
 
     ghost kept = { kept_fit1 };
 

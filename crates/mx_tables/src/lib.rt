@@ -10,7 +10,7 @@
 //! `Damaged` with its own table, and only where some row of it is none of the type. At every exit: a crash has no new
 //! outcome before the commit, and the last commit stands.
 //!
-//! One reader (`rows`) is proved for every type of rows; what a table adds is its data in `mx_kept`, its impl of `Stored`
+//! One reader (`rows`) is proved for every type of rows; what a table adds is its data in `mx_layout::kept`, its impl of `Stored`
 //! here, and that of `Insert` in `mx_inserts`.
 //!
 //! # To add a table
@@ -19,17 +19,17 @@
 //! `INTEGER PRIMARY KEY`, or its first two, a `PRIMARY KEY` of both. Where no layout has it, first `mx_layout`:
 //! `Table`, its name, `table_named`; its columns and tree, and the schema of its layout; its text in `step_text` and
 //! `CreateTexts`; its statement in `steps` and `step_texts`, and what that makes, in `StepLemmas`; `by_tree` of
-//! `TreeLemmas`. Then `mx_kept/specs/Schemas.antt`: which schemas have it.
+//! `TreeLemmas`. Then `mx_layout/specs/kept/Schemas.antt`: which schemas have it.
 //!
-//! 1. `mx_kept/specs/Cells.antt`: how its rows are kept, by `numbered` or, where two columns are its key, `lined`; its
+//! 1. `mx_layout/specs/kept/Cells.antt`: how its rows are kept, by `numbered` or, where two columns are its key, `lined`; its
 //!    two texts follow from its columns. Its line of `of_kept` in `specs/Family.antt`.
-//! 2. `mx_kept/proofs/MovedLawful.antt`: `TABLE_lawful`, by `first_keyed` or `two_keyed` with the place of the table in
+//! 2. `mx_layout/proofs/KeptProofs/MovedLawful.antt`: `TABLE_lawful`, by `first_keyed` or `two_keyed` with the place of the table in
 //!    the schema, from 0, what is computed there (`refl`), and how a row is had back from its values. Where the `refl` is
 //!    refused, the place, a kind of column or the text that is computed is another. A table of a layout stands behind
 //!    those that come before it there, at each point of a move where it stands (`span2` at two, `sector2` at three), a
 //!    permanent one behind nothing. Its line of `each_lawful` in `proofs/EachLawful.antt`. Where another table has rows
 //!    of the same type, a type of its own holds them (`held`, `Sector2Row`).
-//! 3. `src/NOUN.rt`, from one that is there, with its line here: `Stored`, whose texts are those of `mx_kept` written
+//! 3. `src/NOUN.rt`, from one that is there, with its line here: `Stored`, whose texts are those of `mx_layout::kept` written
 //!    out, and whose `read` asks for the number of columns and takes each by a function of `column.rt`. Its row type is a
 //!    word of `prelude.rt`. A kind of value that no table has had needs a function in `column.rt`, whose contract says of
 //!    what values it gives `None`.
@@ -41,7 +41,7 @@
 //!
 //! What it costs stands in docs/RECIPES.md.
 //!
-//! A column that may be NULL is kept by `number_or_null` or `text_or_null` of `mx_kept/specs/Values.antt`, one that
+//! A column that may be NULL is kept by `number_or_null` or `text_or_null` of `mx_layout/specs/kept/Values.antt`, one that
 //! says whether by `flag`, a limit by three numbers, a category by its number and the days that it states. They are
 //! read by the functions of `column.rt` of these names, and what may be missing is passed on by `number_if_any`,
 //! `text_if_any` or `days_of_category` of `values.rt`, which tell what is known of it. In `Lawful` the lemmas of

@@ -3,7 +3,7 @@
 use crate::prelude::*;
 
 impl Stored for OpeningRow {
-    ghost use Rattle.mx_kept.{specs.Cells.kept_opening, proofs.Lawful.opening_lawful};
+    ghost use Rattle.mx_layout.{specs.kept.Cells.kept_opening, proofs.KeptProofs.Lawful.opening_lawful};
 
     ghost kept = { kept_opening };
 

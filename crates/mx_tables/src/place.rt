@@ -3,7 +3,7 @@
 use crate::prelude::*;
 
 impl Stored for PlaceRow {
-    ghost use Rattle.mx_kept.{specs.Cells.kept_place, proofs.Lawful.place_lawful};
+    ghost use Rattle.mx_layout.{specs.kept.Cells.kept_place, proofs.KeptProofs.Lawful.place_lawful};
 
     ghost kept = { kept_place };
 

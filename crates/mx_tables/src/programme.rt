@@ -3,7 +3,7 @@
 use crate::prelude::*;
 
 impl Stored for ProgrammeRow {
-    ghost use Rattle.mx_kept.{specs.Cells.kept_programme, proofs.Lawful.programme_lawful};
+    ghost use Rattle.mx_layout.{specs.kept.Cells.kept_programme, proofs.KeptProofs.Lawful.programme_lawful};
 
     ghost kept = { kept_programme };
 

@@ -3,7 +3,7 @@
 use crate::prelude::*;
 
 impl Stored for ReleaseRow {
-    ghost use Rattle.mx_kept.{specs.Cells.kept_crs, proofs.Lawful.crs_lawful};
+    ghost use Rattle.mx_layout.{specs.kept.Cells.kept_crs, proofs.KeptProofs.Lawful.crs_lawful};
 
     ghost kept = { kept_crs };
 

@@ -4,7 +4,7 @@
 use crate::prelude::*;
 
 impl Stored for ReleaseLineRow {
-    ghost use Rattle.mx_kept.{specs.Cells.kept_crs_line, proofs.Lawful.crs_line_lawful};
+    ghost use Rattle.mx_layout.{specs.kept.Cells.kept_crs_line, proofs.KeptProofs.Lawful.crs_line_lawful};
 
     ghost kept = { kept_crs_line };
 

@@ -3,7 +3,7 @@
 use crate::prelude::*;
 
 impl Stored for RemovalRow {
-    ghost use Rattle.mx_kept.{specs.Cells.kept_removal1, proofs.Lawful.removal1_lawful};
+    ghost use Rattle.mx_layout.{specs.kept.Cells.kept_removal1, proofs.KeptProofs.Lawful.removal1_lawful};
 
     ghost kept = { kept_removal1 };
 

@@ -3,7 +3,7 @@
 use crate::prelude::*;
 
 impl Stored for SectorRow {
-    ghost use Rattle.mx_kept.{specs.Cells.kept_sector1, proofs.Lawful.sector1_lawful};
+    ghost use Rattle.mx_layout.{specs.kept.Cells.kept_sector1, proofs.KeptProofs.Lawful.sector1_lawful};
 
     ghost kept = { kept_sector1 };
 

@@ -3,7 +3,7 @@
 use crate::prelude::*;
 
 impl Stored for Sector2Row {
-    ghost use Rattle.mx_kept.{specs.Cells.kept_sector2_rows, proofs.MovedLawful.sector2_row_lawful};
+    ghost use Rattle.mx_layout.{specs.kept.Cells.kept_sector2_rows, proofs.KeptProofs.MovedLawful.sector2_row_lawful};
 
     ghost kept = { kept_sector2_rows };
 

@@ -3,7 +3,7 @@
 use crate::prelude::*;
 
 impl Stored for SpanRow {
-    ghost use Rattle.mx_kept.{specs.Cells.kept_span2, proofs.MovedLawful.span2_lawful};
+    ghost use Rattle.mx_layout.{specs.kept.Cells.kept_span2, proofs.KeptProofs.MovedLawful.span2_lawful};
 
     ghost kept = { kept_span2 };
 

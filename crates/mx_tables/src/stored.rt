@@ -9,9 +9,9 @@ ghost use Rattle.mx_layout.specs.Contents.{rows_in};
 ghost use Rattle.mx_layout.specs.Crash.{StaysIn};
 ghost use Rattle.mx_layout.specs.Point.{IsFaultOf};
 ghost use Rattle.mx_layout.specs.Reading.{AreAllBy, HasOther};
-ghost use Rattle.mx_kept.specs.Kept.{Kept};
-ghost use Rattle.mx_kept.specs.Family.{IsReadableAs};
-ghost use Rattle.mx_kept.specs.Meanings.{IsLawful};
+ghost use Rattle.mx_layout.specs.kept.Kept.{Kept};
+ghost use Rattle.mx_layout.specs.kept.Family.{IsReadableAs};
+ghost use Rattle.mx_layout.specs.kept.Meanings.{IsLawful};
 ghost use Rattle.mx_tables.specs.Calls.{ShowsAll, OnRead, ReadsRows};
 
 use mx_layout::TableFault;

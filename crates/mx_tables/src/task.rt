@@ -4,7 +4,7 @@ use crate::prelude::*;
 use mx_base::Tolerance;
 
 impl Stored for TaskRow {
-    ghost use Rattle.mx_kept.{specs.Cells.kept_task, proofs.Lawful.task_lawful};
+    ghost use Rattle.mx_layout.{specs.kept.Cells.kept_task, proofs.KeptProofs.Lawful.task_lawful};
 
     ghost kept = { kept_task };
 

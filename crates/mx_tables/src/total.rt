@@ -4,7 +4,7 @@ use crate::prelude::*;
 use mx_base::Use;
 
 impl Stored for TotalRow {
-    ghost use Rattle.mx_kept.{specs.Cells.kept_total2, proofs.MovedLawful.total2_lawful};
+    ghost use Rattle.mx_layout.{specs.kept.Cells.kept_total2, proofs.KeptProofs.MovedLawful.total2_lawful};
 
     ghost kept = { kept_total2 };
 

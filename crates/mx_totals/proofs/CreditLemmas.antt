@@ -12,7 +12,7 @@ use Rattle.sqlite_schema.specs.Rules.{equal}
 use Rattle.mx_base.specs.declared.amounts.Use.{Use}
 use Rattle.mx_book.specs.commands.Bounds.{are_distinct}
 use Rattle.mx_base.specs.declared.rows.rows.TotalRow.{TotalRow}
-use Rattle.mx_kept.specs.Cells.{kept_total2}
+use Rattle.mx_layout.specs.kept.Cells.{kept_total2}
 use Rattle.mx_chosen.proofs.EqualLemmas.{equal_numbers}
 use Rattle.mx_totals.specs.Calls.{change_where}
 use Rattle.mx_totals.specs.Single.{IsOnly}

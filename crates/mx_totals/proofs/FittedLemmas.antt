@@ -9,7 +9,7 @@ use Rattle.mx_layout.specs.declared.fault.TableFault.{TableFault}
 use Rattle.mx_layout.specs.declared.fault.TableFault.TheVariants.{Memory}
 use Rattle.mx_layout.specs.Contents.{rows_in}
 use Rattle.mx_layout.specs.Tables.{span2}
-use Rattle.mx_kept.specs.Cells.{kept_span2}
+use Rattle.mx_layout.specs.kept.Cells.{kept_span2}
 use Rattle.mx_chosen.specs.Choices.{is_open}
 use Rattle.mx_chosen.specs.Calls.{ReadsFirst}
 use Rattle.mx_totals.specs.declared.spans.FittedComponent.{FittedComponent}

@@ -12,9 +12,9 @@ use Rattle.mx_layout.specs.Contents.{rows_in}
 use Rattle.mx_layout.specs.Crash.{StaysInside, IsWithin}
 use Rattle.mx_layout.specs.Names.{table_named}
 use Rattle.mx_layout.specs.Reading.{HasOther}
-use Rattle.mx_kept.specs.Kept.{Kept}
-use Rattle.mx_kept.specs.Family.{IsReadableAs}
-use Rattle.mx_kept.specs.Meanings.{IsLawful}
+use Rattle.mx_layout.specs.kept.Kept.{Kept}
+use Rattle.mx_layout.specs.kept.Family.{IsReadableAs}
+use Rattle.mx_layout.specs.kept.Meanings.{IsLawful}
 use Rattle.mx_chosen.specs.Choices.{AreFirst}
 use Rattle.mx_chosen.specs.Calls.{ReadsFirst}
 use Rattle.mx_totals.specs.Calls.{ReadsFrom}

@@ -20,7 +20,7 @@ use Rattle.sqlite_typed.proofs.TestLemmas.{at_ints, int_test}
 use Rattle.mx_base.specs.declared.rows.rows.SpanRow.{SpanRow}
 use Rattle.mx_layout.specs.Contents.{cells, rows_in, Rises}
 use Rattle.mx_layout.specs.Tables.{span2}
-use Rattle.mx_kept.specs.Cells.{kept_span2}
+use Rattle.mx_layout.specs.kept.Cells.{kept_span2}
 use Rattle.mx_chosen.specs.Choices.{has_value, is_open}
 use Rattle.mx_chosen.proofs.EqualLemmas.{equal_numbers}
 use Rattle.mx_totals.specs.Single.{IsOnly}

@@ -20,7 +20,7 @@ use Rattle.mx_layout.specs.Contents.{rows_in, HasNoReferences, Rises}
 use Rattle.mx_layout.specs.Crash.{IsWithin}
 use Rattle.mx_layout.specs.Tables.{total2}
 use Rattle.mx_layout.proofs.CrashLemmas.{within_then, within_itself, stays_then}
-use Rattle.mx_kept.specs.Cells.{kept_total2}
+use Rattle.mx_layout.specs.kept.Cells.{kept_total2}
 use Rattle.mx_totals.specs.InPlace.{Replaces, ReplacesRows}
 use Rattle.mx_totals.specs.Calls.{change_where, Becomes, ReadsFrom, ChangesRows}
 use Rattle.mx_totals.specs.Totals.{is_of_item, is_of_any, credited, CanCredit, IsCredited, AreCredited, totals_put}

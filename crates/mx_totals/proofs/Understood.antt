@@ -4,9 +4,9 @@ use Rattle.sqlite.specs.Listing.{understood}
 use Rattle.sqlite_sql.specs.declared.ops.CompareOp.TheVariants.{Eq}
 use Rattle.sqlite_tied.specs.Compute.{everything}
 use Rattle.mx_layout.specs.Tables.{sector2, span2, total2, base2}
-use Rattle.mx_kept.specs.Cells.{kept_span2, kept_total2, kept_base2}
-use Rattle.mx_kept.specs.Kept.{over}
-use Rattle.mx_kept.specs.Schemas.{own_2, own_moving, HasBehind}
+use Rattle.mx_layout.specs.kept.Cells.{kept_span2, kept_total2, kept_base2}
+use Rattle.mx_layout.specs.kept.Kept.{over}
+use Rattle.mx_layout.specs.kept.Schemas.{own_2, own_moving, HasBehind}
 use Rattle.mx_chosen.specs.Lookups.{Deletes}
 use Rattle.mx_chosen.specs.Texts.{by_value, by_values}
 use Rattle.mx_chosen.proofs.LookupLemmas.{given_at, deleted, either_deletes}

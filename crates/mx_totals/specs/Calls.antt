@@ -10,7 +10,7 @@ use Rattle.mx_layout.specs.declared.fault.TableFault.TheVariants.{Memory, Store,
 use Rattle.mx_layout.specs.Contents.{rows_in, HasNoReferences, Rises}
 use Rattle.mx_layout.specs.Crash.{StaysInside, IsWithin}
 use Rattle.mx_layout.specs.Names.{table_named}
-use Rattle.mx_kept.specs.Kept.{Kept}
+use Rattle.mx_layout.specs.kept.Kept.{Kept}
 use Rattle.mx_tables.specs.Calls.{OnRead}
 use Rattle.mx_inserts.specs.Sets.{IsInside}
 

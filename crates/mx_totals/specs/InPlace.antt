@@ -10,7 +10,7 @@ use Rattle.mx_layout.specs.declared.fault.TableFault.TheVariants.{Memory, Store}
 use Rattle.mx_layout.specs.Contents.{rows_in, HasNoReferences, Rises}
 use Rattle.mx_layout.specs.Crash.{StaysInside, IsWithin}
 use Rattle.mx_layout.specs.Names.{table_named}
-use Rattle.mx_kept.specs.Kept.{Kept}
+use Rattle.mx_layout.specs.kept.Kept.{Kept}
 
 -- the table has the one row in place of those that are chosen, and each other table of the schema is as it was
 pub record Replaces (table : Table) (chosen : Row → Bool) (row : Row) (old new : Database) : Type 0 where

@@ -3,9 +3,9 @@ use Rattle.std.specs.Prelude.{◌≡◌, ℕ, pos, List, ◌∷◌, map, filter,
 use Rattle.sqlite.specs.declared.types.Value.TheVariants.{Int}
 use Rattle.sqlite.specs.Order.{Row}
 use Rattle.mx_base.specs.declared.rows.rows.SpanRow.{SpanRow}
-use Rattle.mx_kept.specs.Cells.{kept_span2}
+use Rattle.mx_layout.specs.kept.Cells.{kept_span2}
 use Rattle.mx_layout.specs.Reading.{HasOther}
-use Rattle.mx_kept.specs.Family.{IsReadableAs}
+use Rattle.mx_layout.specs.kept.Family.{IsReadableAs}
 use Rattle.mx_chosen.specs.Choices.{is_open}
 use Rattle.mx_totals.specs.declared.spans.FittedComponent.{FittedComponent}
 

@@ -9,7 +9,7 @@ use Rattle.mx_layout.specs.declared.fault.Table.TheVariants.{Total2}
 use Rattle.mx_layout.specs.Contents.{rows_in, HasNoReferences, Rises}
 use Rattle.mx_layout.specs.Crash.{StaysInside, IsWithin}
 use Rattle.mx_layout.specs.Tables.{total2}
-use Rattle.mx_kept.specs.Cells.{kept_total2}
+use Rattle.mx_layout.specs.kept.Cells.{kept_total2}
 use Rattle.mx_tables.specs.Calls.{OnRead}
 use Rattle.mx_inserts.specs.Sets.{IsInside}
 use Rattle.mx_totals.specs.Calls.{Becomes}

@@ -7,7 +7,7 @@ use Rattle.sqlite.specs.Order.{Row}
 use Rattle.mx_base.specs.declared.amounts.Use.{Use}
 use Rattle.mx_book.specs.due.Due.{IsLife}
 use Rattle.mx_base.specs.declared.rows.rows.TotalRow.{TotalRow}
-use Rattle.mx_kept.specs.Cells.{kept_total2}
+use Rattle.mx_layout.specs.kept.Cells.{kept_total2}
 use Rattle.mx_chosen.specs.Choices.{has_value}
 use Rattle.mx_totals.specs.declared.lives.Total.{Total}
 use Rattle.mx_totals.specs.Single.{IsOnly}

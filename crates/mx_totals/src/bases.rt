@@ -1,7 +1,7 @@
 //! The last base of a task of an item.
 ghost use Rattle.std.specs.Prelude.{◌≡◌};
 ghost use Rattle.sqlite.specs.Held.{state};
-ghost use Rattle.mx_kept.specs.Cells.{kept_base2};
+ghost use Rattle.mx_layout.specs.kept.Cells.{kept_base2};
 ghost use Rattle.mx_totals.specs.InPlace.{ReplacesRows};
 ghost use Rattle.mx_totals.specs.Calls.{ReadsFrom};
 ghost use Rattle.mx_totals.specs.Single.{IsOneOrNone, HasOneOrNone};

@@ -4,7 +4,7 @@ ghost use Rattle.sqlite.specs.declared.types.Value.{Value};
 ghost use Rattle.sqlite.specs.declared.types.Value.TheVariants.{Int, Text};
 ghost use Rattle.sqlite.specs.Values.{bound};
 ghost use Rattle.sqlite.specs.Held.{state};
-ghost use Rattle.mx_kept.specs.Cells.{kept_span2, kept_total2, kept_base2};
+ghost use Rattle.mx_layout.specs.kept.Cells.{kept_span2, kept_total2, kept_base2};
 ghost use Rattle.mx_chosen.specs.Choices.{has_value};
 ghost use Rattle.mx_chosen.specs.Lookups.{Deletes};
 ghost use Rattle.mx_totals.specs.InPlace.{ReplacesRows};

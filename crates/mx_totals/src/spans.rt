@@ -3,7 +3,7 @@ ghost use Rattle.std.specs.Prelude.{◌≡◌, map, pos, IfOk, IsTrue};
 ghost use Rattle.sqlite.specs.declared.types.Value.TheVariants.{Int};
 ghost use Rattle.sqlite.specs.State.{HasCleanDisk};
 ghost use Rattle.sqlite.specs.Held.{state};
-ghost use Rattle.mx_kept.specs.Cells.{kept_span2};
+ghost use Rattle.mx_layout.specs.kept.Cells.{kept_span2};
 ghost use Rattle.mx_tables.specs.Calls.{OnRead};
 ghost use Rattle.mx_chosen.specs.Choices.{is_open};
 ghost use Rattle.mx_totals.specs.Calls.{ReadsFrom, ChangesRows, change_where};

@@ -3,7 +3,7 @@ ghost use Rattle.std.specs.Prelude.{◌≡◌, ◌⊎◌, ◌∷◌, ⊤, All, A
 ghost use Rattle.mx_book.specs.commands.Bounds.{are_distinct};
 ghost use Rattle.sqlite.specs.State.{HasCleanDisk};
 ghost use Rattle.sqlite.specs.Held.{state};
-ghost use Rattle.mx_kept.specs.Cells.{kept_total2};
+ghost use Rattle.mx_layout.specs.kept.Cells.{kept_total2};
 ghost use Rattle.mx_tables.specs.Calls.{OnRead};
 ghost use Rattle.mx_totals.specs.Calls.{ReadsFrom, ChangesRows, change_where};
 ghost use Rattle.mx_totals.specs.Single.{IsOnly, HasOne};

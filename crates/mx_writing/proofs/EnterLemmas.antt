@@ -28,8 +28,8 @@ use Rattle.mx_registers.specs.points.Tables.{bases_2, spans_2, totals_2}
 use Rattle.mx_layout.specs.TableName.{TableName}
 use Rattle.mx_layout.specs.declared.fault.Table.TheVariants as table
 use Rattle.mx_layout.specs.Steps.{IsLayout}
-use Rattle.mx_kept.specs.Kept.{Kept}
-use Rattle.mx_kept.specs.Cells.{kept_entry, kept_aircraft, kept_place, kept_component, kept_programme, kept_task, kept_opening, kept_crs, kept_crs_line, kept_defect, kept_extension, kept_sector2, kept_sector2_rows, kept_span2, kept_total2, kept_base2}
+use Rattle.mx_layout.specs.kept.Kept.{Kept}
+use Rattle.mx_layout.specs.kept.Cells.{kept_entry, kept_aircraft, kept_place, kept_component, kept_programme, kept_task, kept_opening, kept_crs, kept_crs_line, kept_defect, kept_extension, kept_sector2, kept_sector2_rows, kept_span2, kept_total2, kept_base2}
 use Rattle.mx_stands.specs.Family.{added, first_rows, given, is_at, is_register, is_there, rows_given, rows_of}
 use Rattle.mx_stands.proofs.FamilyLemmas.{AreFacts, facts, never}
 use Rattle.mx_stands.proofs.ChangeLemmas.{brings}

@@ -22,10 +22,10 @@ use Rattle.mx_layout.specs.Crash.{IsWithin}
 use Rattle.mx_layout.specs.Names.{table_named}
 use Rattle.mx_layout.proofs.CrashLemmas.{stays_then, within_itself, within_then}
 use Rattle.mx_layout.proofs.TreeLemmas.{same_tree}
-use Rattle.mx_kept.specs.Kept.{Kept}
-use Rattle.mx_kept.specs.Family.{on_top}
-use Rattle.mx_kept.specs.Meanings.{IsLawful}
-use Rattle.mx_kept.proofs.OntoLemmas.{on_top_keeps}
+use Rattle.mx_layout.specs.kept.Kept.{Kept}
+use Rattle.mx_layout.specs.kept.Family.{on_top}
+use Rattle.mx_layout.specs.kept.Meanings.{IsLawful}
+use Rattle.mx_layout.proofs.KeptProofs.OntoLemmas.{on_top_keeps}
 use Rattle.mx_inserts.specs.Calls.{InsertsRow}
 use Rattle.mx_inserts.specs.Sets.{GainsRows, WritesTables}
 use Rattle.mx_inserts.proofs.SetLemmas.{gains_none, gains_one, gains_then, on_weaker, stays_open}

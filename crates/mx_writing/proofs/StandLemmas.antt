@@ -34,8 +34,8 @@ use Rattle.mx_row_rules.proofs.ChangesProofs.TouchLemmas.{spans_are_put, totals_
 use Rattle.mx_layout.specs.TableName.{TableName}
 use Rattle.mx_layout.specs.declared.fault.Table.TheVariants as table
 use Rattle.mx_layout.specs.Names.{table_named}
-use Rattle.mx_kept.specs.Cells.{kept_entry, kept_aircraft, kept_place, kept_component, kept_programme, kept_task, kept_opening, kept_crs, kept_crs_line, kept_defect, kept_extension, kept_sector2_rows, kept_span2, kept_total2, kept_base2}
-use Rattle.mx_kept.proofs.OntoLemmas.{on_top_keeps}
+use Rattle.mx_layout.specs.kept.Cells.{kept_entry, kept_aircraft, kept_place, kept_component, kept_programme, kept_task, kept_opening, kept_crs, kept_crs_line, kept_defect, kept_extension, kept_sector2_rows, kept_span2, kept_total2, kept_base2}
+use Rattle.mx_layout.proofs.KeptProofs.OntoLemmas.{on_top_keeps}
 use Rattle.mx_stands.specs.Family.{Fit, FitBrought, Rows, is_at, is_register, is_there, none, of, rows_of}
 use Rattle.mx_stands.specs.Schemas.{schema_at}
 use Rattle.mx_stands.specs.Stands.{StandsAt}

@@ -1,6 +1,6 @@
 use Rattle.std.proofs.Common.{None, rules, [], ◌∷◌, pos}
 use Rattle.sqlite.specs.declared.types.Value.TheVariants.{Int}
-use Rattle.mx_kept.specs.Cells.{kept_defect}
+use Rattle.mx_layout.specs.kept.Cells.{kept_defect}
 use Rattle.mx_chosen.specs.Texts.{by_value}
 use Rattle.mx_chosen.proofs.Understood.{defect_by_aircraft_finds}
 use Rattle.mx_chosen.proofs.defects.defect_by_aircraft.Goals as goal

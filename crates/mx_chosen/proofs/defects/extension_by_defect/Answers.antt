@@ -1,6 +1,6 @@
 use Rattle.std.proofs.Common.{None, rules, [], ◌∷◌, pos}
 use Rattle.sqlite.specs.declared.types.Value.TheVariants.{Int}
-use Rattle.mx_kept.specs.Cells.{kept_extension}
+use Rattle.mx_layout.specs.kept.Cells.{kept_extension}
 use Rattle.mx_chosen.specs.Texts.{by_value}
 use Rattle.mx_chosen.proofs.Understood.{extension_by_defect_finds}
 use Rattle.mx_chosen.proofs.defects.extension_by_defect.Goals as goal

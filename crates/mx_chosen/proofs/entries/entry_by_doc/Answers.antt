@@ -1,6 +1,6 @@
 use Rattle.std.proofs.Common.{None, rules, [], ◌∷◌}
 use Rattle.sqlite.specs.declared.types.Value.TheVariants.{Text}
-use Rattle.mx_kept.specs.Cells.{kept_entry}
+use Rattle.mx_layout.specs.kept.Cells.{kept_entry}
 use Rattle.mx_chosen.specs.Texts.{by_value}
 use Rattle.mx_chosen.proofs.Understood.{entry_by_doc_finds}
 use Rattle.mx_chosen.proofs.entries.entry_by_doc.Goals as goal

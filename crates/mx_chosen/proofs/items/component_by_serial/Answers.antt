@@ -1,6 +1,6 @@
 use Rattle.std.proofs.Common.{None, rules, [], ◌∷◌}
 use Rattle.sqlite.specs.declared.types.Value.TheVariants.{Text}
-use Rattle.mx_kept.specs.Cells.{kept_component}
+use Rattle.mx_layout.specs.kept.Cells.{kept_component}
 use Rattle.mx_chosen.specs.Texts.{by_value}
 use Rattle.mx_chosen.proofs.Understood.{component_by_serial_finds}
 use Rattle.mx_chosen.proofs.items.component_by_serial.Goals as goal

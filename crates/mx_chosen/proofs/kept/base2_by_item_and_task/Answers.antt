@@ -1,6 +1,6 @@
 use Rattle.std.proofs.Common.{None, rules, [], ◌∷◌, pos}
 use Rattle.sqlite.specs.declared.types.Value.TheVariants.{Int, Text}
-use Rattle.mx_kept.specs.Cells.{kept_base2}
+use Rattle.mx_layout.specs.kept.Cells.{kept_base2}
 use Rattle.mx_chosen.specs.Texts.{by_values}
 use Rattle.mx_chosen.proofs.Understood.{base2_by_item_and_task_finds}
 use Rattle.mx_chosen.proofs.kept.base2_by_item_and_task.Goals as goal

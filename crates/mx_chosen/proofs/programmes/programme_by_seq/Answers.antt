@@ -1,6 +1,6 @@
 use Rattle.std.proofs.Common.{None, rules, [], ◌∷◌, pos}
 use Rattle.sqlite.specs.declared.types.Value.TheVariants.{Int}
-use Rattle.mx_kept.specs.Cells.{kept_programme}
+use Rattle.mx_layout.specs.kept.Cells.{kept_programme}
 use Rattle.mx_chosen.specs.Texts.{by_value}
 use Rattle.mx_chosen.proofs.Understood.{programme_by_seq_finds}
 use Rattle.mx_chosen.proofs.programmes.programme_by_seq.Goals as goal

@@ -1,6 +1,6 @@
 use Rattle.std.proofs.Common.{refl, subst, inl}
 use Rattle.sqlite.specs.declared.types.Value.TheVariants.{Text}
-use Rattle.mx_kept.specs.Cells.{kept_entry}
+use Rattle.mx_layout.specs.kept.Cells.{kept_entry}
 use Rattle.mx_chosen.specs.Choices.{has_value}
 use Rattle.mx_row_rules.specs.found.Names.{entry_number}
 use Rattle.mx_numbers.specs.AnyRows.{Gives}

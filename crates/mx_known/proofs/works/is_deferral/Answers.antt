@@ -6,7 +6,7 @@ use Rattle.mx_row_rules.specs.found.Given as registers
 use Rattle.mx_numbers.proofs.BookRows.{deferrals_of_number}
 use Rattle.mx_numbers.proofs.ReadLemmas.{reads_then, stopped, told}
 use Rattle.mx_known.proofs.TellLemmas.{compared, tells}
-use Rattle.mx_kept.specs.Cells.{kept_defect}
+use Rattle.mx_layout.specs.kept.Cells.{kept_defect}
 use Rattle.mx_known.specs.Known.{AreRows}
 use Rattle.mx_known.proofs.KnownLemmas.{numbered, rows_same}
 use Rattle.mx_numbers.proofs.TableLemmas.{deferrals}

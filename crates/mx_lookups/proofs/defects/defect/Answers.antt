@@ -1,7 +1,7 @@
 use Rattle.std.proofs.Common.{◌≡◌, ℕ, Option, Some, ◌∙◌, ap, ap₂, arith, refl, subst, sym, inl, inr}
 use Rattle.std.specs.Prelude.{IsSomeAnd, is_some}
 use Rattle.mx_layout.specs.declared.fault.Table.TheVariants as table
-use Rattle.mx_kept.specs.Cells.{kept_defect}
+use Rattle.mx_layout.specs.kept.Cells.{kept_defect}
 use Rattle.mx_row_rules.specs.found.Defects.{deferral_aircraft, defect_in}
 use Rattle.mx_row_rules.proofs.FoundProofs.DeferralLemmas.{defect_there, no_defect}
 use Rattle.mx_row_rules.specs.found.Names.{tail_in}

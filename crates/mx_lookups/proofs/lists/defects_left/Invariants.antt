@@ -4,7 +4,7 @@ use Rattle.sqlite.specs.declared.types.Value.TheVariants.{Int}
 use Rattle.sqlite.specs.Held.{state}
 use Rattle.mx_registers.specs.Registers.{deferral_rows}
 use Rattle.mx_base.specs.declared.rows.rows.DeferralRow.{DeferralRow}
-use Rattle.mx_kept.specs.Cells.{kept_defect}
+use Rattle.mx_layout.specs.kept.Cells.{kept_defect}
 use Rattle.mx_chosen.specs.Choices.{has_value}
 use Rattle.mx_row_rules.specs.found.Defects.{open_said}
 use Rattle.mx_row_rules.specs.found.Names.{doc_at}

@@ -2,7 +2,7 @@ use Rattle.std.proofs.Common.{◌∙◌, ap, subst, sym}
 use Rattle.std.specs.Prelude.{nat_lt}
 use Rattle.mx_book.specs.declared.limits.TheConstants.{MOST_AIRCRAFT}
 use Rattle.mx_row_rules.proofs.FoundProofs.PlaceLemmas.{room_for_aircraft}
-use Rattle.mx_kept.specs.Cells.{kept_aircraft}
+use Rattle.mx_layout.specs.kept.Cells.{kept_aircraft}
 use Rattle.mx_numbers.proofs.TableLemmas.{aircraft}
 use Rattle.mx_numbers.proofs.ReadLemmas.{stopped, told}
 use Rattle.mx_lookups.proofs.RoomLookups.{aircraft_counted}

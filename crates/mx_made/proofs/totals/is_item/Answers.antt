@@ -1,6 +1,6 @@
 use Rattle.std.proofs.Common.{◌∙◌, inl, refl, sym, ap}
 use Rattle.mx_row_rules.specs.found.Names.{aircraft_number, component_number}
-use Rattle.mx_kept.specs.Cells.{kept_aircraft}
+use Rattle.mx_layout.specs.kept.Cells.{kept_aircraft}
 use Rattle.mx_numbers.proofs.AnyLemmas.{any_so, first_kept, gives}
 use Rattle.mx_numbers.proofs.BookRows.{aircraft_of_number, components_of_number}
 use Rattle.mx_numbers.proofs.ReadLemmas.{reads_then, stopped, told}

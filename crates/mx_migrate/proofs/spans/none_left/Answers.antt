@@ -1,6 +1,6 @@
 use Rattle.std.proofs.Common.{◌∙◌, sym}
 use Rattle.sqlite.specs.Held.{state}
-use Rattle.mx_kept.specs.Cells.{kept_sector1}
+use Rattle.mx_layout.specs.kept.Cells.{kept_sector1}
 use Rattle.mx_migrate.proofs.LengthLemmas.{items_of, none_of, some_of}
 use Rattle.mx_migrate.proofs.LookLemmas.{sees_none, sees_some, sees_stops}
 use Rattle.mx_migrate.proofs.spans.none_left.Goals as goal

@@ -1,8 +1,8 @@
 use Rattle.std.proofs.Common.{pos}
 use Rattle.sqlite.specs.declared.types.Value.TheVariants.{Int}
 use Rattle.sqlite.specs.Held.{state}
-use Rattle.mx_kept.specs.Cells.{kept_removal1}
-use Rattle.mx_kept.proofs.Lawful.{removal1_lawful}
+use Rattle.mx_layout.specs.kept.Cells.{kept_removal1}
+use Rattle.mx_layout.proofs.KeptProofs.Lawful.{removal1_lawful}
 use Rattle.mx_chosen.specs.Choices.{has_value}
 use Rattle.mx_moves.proofs.RowLemmas.{deletes_write}
 use Rattle.mx_moves.proofs.components.delete_removals.Goals as goal

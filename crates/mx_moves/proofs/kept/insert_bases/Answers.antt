@@ -1,6 +1,6 @@
 use Rattle.sqlite.specs.Held.{state}
-use Rattle.mx_kept.specs.Cells.{kept_base2}
-use Rattle.mx_kept.specs.Family.{on_top}
+use Rattle.mx_layout.specs.kept.Cells.{kept_base2}
+use Rattle.mx_layout.specs.kept.Family.{on_top}
 use Rattle.mx_moves.proofs.RowLemmas.{tables_write}
 use Rattle.mx_moves.proofs.kept.insert_bases.Goals as goal
 

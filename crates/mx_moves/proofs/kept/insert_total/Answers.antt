@@ -1,5 +1,5 @@
 use Rattle.sqlite.specs.Held.{state}
-use Rattle.mx_kept.specs.Cells.{kept_total2}
+use Rattle.mx_layout.specs.kept.Cells.{kept_total2}
 use Rattle.mx_moves.proofs.RowLemmas.{inserts_write}
 use Rattle.mx_moves.proofs.kept.insert_total.Goals as goal
 

@@ -1,7 +1,7 @@
 use Rattle.std.proofs.Common.{[], ◌∷◌}
 use Rattle.sqlite.specs.Held.{state}
-use Rattle.mx_kept.specs.Family.{on_top}
-use Rattle.mx_kept.proofs.OntoLemmas.{on_top_keeps}
+use Rattle.mx_layout.specs.kept.Family.{on_top}
+use Rattle.mx_layout.proofs.KeptProofs.OntoLemmas.{on_top_keeps}
 use Rattle.mx_moves.specs.Changes.{less}
 use Rattle.mx_moves.specs.Keeping.{kept_point, is_point_row}
 use Rattle.mx_moves.specs.Schemas.{IsFree}

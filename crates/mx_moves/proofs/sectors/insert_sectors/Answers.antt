@@ -1,6 +1,6 @@
 use Rattle.sqlite.specs.Held.{state}
-use Rattle.mx_kept.specs.Cells.{kept_sector2_rows}
-use Rattle.mx_kept.specs.Family.{on_top}
+use Rattle.mx_layout.specs.kept.Cells.{kept_sector2_rows}
+use Rattle.mx_layout.specs.kept.Family.{on_top}
 use Rattle.mx_moves.proofs.RowLemmas.{tables_write}
 use Rattle.mx_moves.proofs.sectors.insert_sectors.Goals as goal
 

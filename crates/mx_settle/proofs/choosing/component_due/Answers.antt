@@ -1,6 +1,6 @@
 use Rattle.std.proofs.Common.{Ok, refl, subst}
 use Rattle.sqlite.specs.Held.{state}
-use Rattle.mx_kept.specs.Cells.{kept_component}
+use Rattle.mx_layout.specs.kept.Cells.{kept_component}
 use Rattle.mx_settle.specs.Choices.{FindsNext}
 use Rattle.mx_settle.proofs.ChoiceLemmas.{component_chosen, component_unread, totals_chosen}
 use Rattle.mx_settle.proofs.choosing.component_due.Goals as goal

@@ -4,7 +4,7 @@ use Rattle.std.specs.declared.alloc.Global.{Global}
 use Rattle.sqlite.specs.Held.{state}
 use Rattle.mx_base.specs.declared.rows.rows.ComponentRow.{ComponentRow}
 use Rattle.mx_layout.specs.declared.fault.Table.TheVariants as table
-use Rattle.mx_kept.specs.Cells.{kept_component}
+use Rattle.mx_layout.specs.kept.Cells.{kept_component}
 use Rattle.mx_settle.specs.Choices.{FindsNext, next_checked}
 use Rattle.mx_settle.proofs.FrontLemmas.{above_number, next_read, next_stops}
 use Rattle.mx_settle.proofs.front.next_component.Goals as goal

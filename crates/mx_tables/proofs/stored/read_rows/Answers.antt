@@ -5,7 +5,7 @@ use Rattle.mx_layout.specs.Crash.{StaysInside}
 use Rattle.std.proofs.Common.{[]}
 use Rattle.mx_layout.proofs.InsideLemmas.{shown_stays}
 use Rattle.mx_layout.proofs.QueryLemmas.{query_within}
-use Rattle.mx_kept.specs.Family.{IsReadableAs}
+use Rattle.mx_layout.specs.kept.Family.{IsReadableAs}
 use Rattle.mx_tables.proofs.AnswerLemmas.{answer_read, answer_rows, answer_damaged}
 use Rattle.mx_tables.proofs.stored.read_rows.Goals as goal
 

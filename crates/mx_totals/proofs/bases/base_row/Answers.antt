@@ -1,6 +1,6 @@
 use Rattle.std.proofs.Common.{sym, subst}
 use Rattle.sqlite.specs.Held.{state}
-use Rattle.mx_kept.specs.Cells.{kept_base2}
+use Rattle.mx_layout.specs.kept.Cells.{kept_base2}
 use Rattle.mx_totals.specs.Calls.{ReadsFrom}
 use Rattle.mx_totals.specs.Single.{IsOneOrNone, HasOneOrNone}
 use Rattle.mx_totals.specs.Bases.{is_of_task}

@@ -1,7 +1,7 @@
 use Rattle.std.proofs.Common.{pos, refl, Some}
 use Rattle.sqlite.specs.declared.types.Value.TheVariants.{Int}
 use Rattle.sqlite.specs.Held.{state}
-use Rattle.mx_kept.specs.Cells.{kept_span2}
+use Rattle.mx_layout.specs.kept.Cells.{kept_span2}
 use Rattle.mx_chosen.specs.Choices.{has_value, is_open}
 use Rattle.mx_totals.specs.Calls.{change_where}
 use Rattle.mx_totals.specs.Single.{IsOnly, HasOne}

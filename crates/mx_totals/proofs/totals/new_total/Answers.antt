@@ -1,5 +1,5 @@
 use Rattle.sqlite.specs.Held.{state}
-use Rattle.mx_kept.specs.Cells.{kept_total2}
+use Rattle.mx_layout.specs.kept.Cells.{kept_total2}
 use Rattle.mx_totals.specs.Totals.{total_row}
 use Rattle.mx_totals.proofs.ChangeLemmas.{inserts_is}
 use Rattle.mx_totals.proofs.KeepLemmas.{on_ok_weaker}

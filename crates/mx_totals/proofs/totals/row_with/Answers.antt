@@ -3,8 +3,8 @@ use Rattle.sqlite.specs.Held.{state}
 use Rattle.mx_book.specs.due.Due.{IsLife}
 use Rattle.mx_base.specs.declared.amounts.Use.{Use}
 use Rattle.mx_base.specs.declared.rows.rows.TotalRow.{TotalRow}
-use Rattle.mx_kept.specs.Cells.{kept_total2}
-use Rattle.mx_kept.proofs.MovedLawful.{total2_lawful}
+use Rattle.mx_layout.specs.kept.Cells.{kept_total2}
+use Rattle.mx_layout.proofs.KeptProofs.MovedLawful.{total2_lawful}
 use Rattle.mx_totals.specs.Single.{IsOnly, HasOne}
 use Rattle.mx_totals.specs.Totals.{is_of_item, life_with, CanCredit, IsCredited}
 use Rattle.mx_totals.proofs.ReadLemmas.{reads_as, reads_worse, stops_reading, only_once}

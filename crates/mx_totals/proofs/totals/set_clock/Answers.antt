@@ -2,7 +2,7 @@ use Rattle.std.proofs.Common.{ap, filter, not, refl}
 use Rattle.sqlite.specs.Held.{state}
 use Rattle.mx_layout.specs.Contents.{rows_in}
 use Rattle.mx_layout.specs.Tables.{total2}
-use Rattle.mx_kept.specs.Cells.{kept_total2}
+use Rattle.mx_layout.specs.kept.Cells.{kept_total2}
 use Rattle.mx_totals.specs.Calls.{change_where}
 use Rattle.mx_totals.specs.Single.{IsOnly, HasOne}
 use Rattle.mx_totals.specs.Totals.{is_of_item, clocked}

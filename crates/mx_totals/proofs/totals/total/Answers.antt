@@ -1,6 +1,6 @@
 use Rattle.std.proofs.Common.{subst}
 use Rattle.sqlite.specs.Held.{state}
-use Rattle.mx_kept.specs.Cells.{kept_total2}
+use Rattle.mx_layout.specs.kept.Cells.{kept_total2}
 use Rattle.mx_totals.specs.Single.{IsOnly, HasOne}
 use Rattle.mx_totals.specs.Totals.{is_of_item, total_row}
 use Rattle.mx_totals.proofs.ReadLemmas.{reads_as, stops_reading}

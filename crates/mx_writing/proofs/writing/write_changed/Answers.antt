@@ -2,7 +2,7 @@ use Rattle.std.proofs.Common.{List, Ok}
 use Rattle.sqlite.specs.Order.{Row}
 use Rattle.sqlite.specs.Held.{state}
 use Rattle.mx_layout.specs.TableName.{TableName}
-use Rattle.mx_kept.specs.Cells.{kept_span2, kept_total2, kept_base2}
+use Rattle.mx_layout.specs.kept.Cells.{kept_span2, kept_total2, kept_base2}
 use Rattle.mx_writing.specs.Changes.{all_in_place}
 use Rattle.mx_writing.specs.Written.{IsSettled, is_same_base, is_same_span, is_same_total}
 use Rattle.mx_writing.proofs.RowLemmas.{all_in_place_keeps, placed, rows_then, stop_after}

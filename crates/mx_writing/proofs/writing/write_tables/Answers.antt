@@ -4,8 +4,8 @@ use Rattle.sqlite.specs.State.{HasCleanDisk}
 use Rattle.sqlite.specs.Held.{state}
 use Rattle.mx_row_rules.specs.declared.changes.rows.AddedRows.{AddedRows}
 use Rattle.mx_layout.specs.TableName.{TableName}
-use Rattle.mx_kept.specs.Cells.{kept_entry}
-use Rattle.mx_kept.specs.Family.{on_top}
+use Rattle.mx_layout.specs.kept.Cells.{kept_entry}
+use Rattle.mx_layout.specs.kept.Family.{on_top}
 use Rattle.mx_writing.specs.Changes.{WritesRows}
 use Rattle.mx_writing.specs.Pairs.{added_in_pairs}
 use Rattle.mx_writing.specs.Written.{IsSettled, with_added, with_changed}

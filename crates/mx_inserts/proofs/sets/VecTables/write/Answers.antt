@@ -4,7 +4,7 @@ use Rattle.std.proofs.Math.Seq.{take-suc}
 use Rattle.sqlite.specs.Held.{state}
 use Rattle.sqlite.specs.State.{HasCleanDisk}
 use Rattle.mx_layout.proofs.CrashLemmas.{within_itself, within_then, stays_then}
-use Rattle.mx_kept.specs.Family.{on_top}
+use Rattle.mx_layout.specs.kept.Family.{on_top}
 use Rattle.mx_inserts.specs.Sets.{GainsRows}
 use Rattle.mx_inserts.proofs.SetLemmas.{gains_none, gains_one, stops_writing, stays_open}
 use Rattle.mx_inserts.proofs.sets.VecTables.write.Goals as goal

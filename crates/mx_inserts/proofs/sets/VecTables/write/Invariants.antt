@@ -2,7 +2,7 @@ use Rattle.std.proofs.Common.{◌≡◌, take, IsTrue}
 use Rattle.sqlite.specs.Held.{state}
 use Rattle.sqlite.specs.State.{HasCleanDisk}
 use Rattle.mx_layout.specs.Crash.{StaysInside, IsWithin}
-use Rattle.mx_kept.specs.Family.{on_top}
+use Rattle.mx_layout.specs.kept.Family.{on_top}
 use Rattle.mx_inserts.specs.Sets.{GainsRows, IsInside}
 use Rattle.mx_inserts.proofs.sets.VecTables.write.Given as goal
 

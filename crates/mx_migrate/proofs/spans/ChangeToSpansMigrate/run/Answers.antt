@@ -1,6 +1,6 @@
 use Rattle.std.proofs.Common.{refl}
 use Rattle.sqlite.specs.Held.{state}
-use Rattle.mx_kept.specs.Cells.{kept_sector1}
+use Rattle.mx_layout.specs.kept.Cells.{kept_sector1}
 use Rattle.mx_layout.specs.declared.fault.Table.TheVariants as table
 use Rattle.mx_registers.specs.points.Points.{moving}
 use Rattle.mx_steps.specs.Tables.{table_made}

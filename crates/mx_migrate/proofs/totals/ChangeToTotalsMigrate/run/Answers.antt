@@ -1,7 +1,7 @@
 use Rattle.std.proofs.Common.{inl, inr, refl, arith}
 use Rattle.sqlite.specs.Held.{state}
 use Rattle.sqlite.specs.State.{HasCleanDisk}
-use Rattle.mx_kept.specs.Cells.{kept_fit1, kept_removal1}
+use Rattle.mx_layout.specs.kept.Cells.{kept_fit1, kept_removal1}
 use Rattle.mx_layout.specs.declared.fault.Table.TheVariants as table
 use Rattle.mx_registers.specs.points.Points.{moving}
 use Rattle.mx_steps.specs.Tables.{table_made}

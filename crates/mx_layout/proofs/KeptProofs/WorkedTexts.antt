@@ -1,0 +1,17 @@
+-- Worked texts: of a table with one column for its key, and of one with two.
+use Rattle.std.proofs.Common.{◌≡◌, refl}
+use Rattle.std.specs.Prelude.{codes}
+use Rattle.mx_layout.specs.Tables.{task, extension}
+use Rattle.mx_layout.specs.kept.Texts.{select_text, insert_text}
+
+extension_shown : select_text extension ≡ codes "SELECT seq, defect, day, days FROM extension ORDER BY seq"
+extension_shown = refl
+
+extension_added : insert_text extension ≡ codes "INSERT INTO extension (seq, defect, day, days) VALUES (?1, ?2, ?3, ?4)"
+extension_added = refl
+
+task_shown : select_text task ≡ codes "SELECT seq, line, id, part, retire, first_m, first_c, first_d, rep_m, rep_c, rep_d, tol_m, tol_c, tol_d FROM task ORDER BY seq, line"
+task_shown = refl
+
+task_added : insert_text task ≡ codes "INSERT INTO task (seq, line, id, part, retire, first_m, first_c, first_d, rep_m, rep_c, rep_d, tol_m, tol_c, tol_d) VALUES (?1, ?2, ?3, ?4, ?5, ?6, ?7, ?8, ?9, ?10, ?11, ?12, ?13, ?14)"
+task_added = refl

@@ -1,0 +1,17 @@
+use Rattle.std.proofs.Common.{inl, inr}
+use Rattle.mx_layout.proofs.KeptProofs.SchemaLemmas.{first_stay, sectors_come, spans_come, totals_come, bases_come, totals_sectors, totals_spans}
+use Rattle.mx_layout.proofs.kept.laws.points_have_their_tables.Goals as goal
+
+pub returns : goal.returns
+returns c = record {
+  own_with_sectors = first_stay;
+  fittings_with_sectors = inl first_stay;
+  sectors = inl sectors_come;
+  fittings_with_spans = inr spans_come;
+  sectors_with_spans = inr (inl spans_come);
+  spans = inl spans_come;
+  sectors_with_totals = totals_sectors _ totals_come;
+  spans_with_totals = totals_spans _ totals_come;
+  totals = totals_come;
+  bases = bases_come;
+}
