@@ -22,7 +22,7 @@ use Rattle.mx_stands.specs.Schemas.{schema_at}
 use Rattle.mx_stands.specs.Stands.{StandsAt}
 use Rattle.mx_stands.proofs.SchemaLemmas.{has_tables}
 use Rattle.mx_tables.specs.Calls.{OnRead}
-use Rattle.mx_inserts.specs.Sets.{GainsRows, IsInside}
+use Rattle.mx_tables.specs.inserts.Sets.{GainsRows, IsInside}
 use Rattle.mx_numbers.specs.AnyRows.{ReadsAny}
 use Rattle.mx_numbers.specs.Reads.{IsStop, Reads, StandsFor}
 use Rattle.mx_writing.specs.Changes.{AllRise, WritesRows}

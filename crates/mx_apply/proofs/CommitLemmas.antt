@@ -24,7 +24,7 @@ use Rattle.mx_stands.specs.Schemas.{schema_at}
 use Rattle.mx_stands.specs.Stands.{IsEither, RestsAt, StandsAt}
 use Rattle.mx_stands.proofs.SchemaLemmas.{has_tables}
 use Rattle.mx_tables.specs.Calls.{OnDamaged, OnRead}
-use Rattle.mx_inserts.specs.Sets.{GainsRows}
+use Rattle.mx_tables.specs.inserts.Sets.{GainsRows}
 use Rattle.mx_writing.specs.Written.{IsSettled, with_rows, written_point}
 use Rattle.mx_apply.specs.Applies.{Applies, HasOneCommit, IsNoDamage, Runs, behind}
 

@@ -18,7 +18,7 @@ use Rattle.mx_layout.specs.Crash.{ChangesNothing, IsWithin, Leaves, StaysInside}
 use Rattle.mx_stands.specs.Schemas.{schema_at}
 use Rattle.mx_stands.specs.Stands.{IsEither, RestsAt, StandsAt}
 use Rattle.mx_tables.specs.Calls.{OnRead}
-use Rattle.mx_inserts.specs.Sets.{GainsRows}
+use Rattle.mx_tables.specs.inserts.Sets.{GainsRows}
 use Rattle.mx_numbers.specs.Damage.{IsDamaged}
 use Rattle.mx_numbers.specs.Reads.{IsStop}
 use Rattle.mx_made.specs.Found.{AreRowsFor}

@@ -32,8 +32,8 @@ use Rattle.mx_stands.proofs.ChangeLemmas.{brings}
 use Rattle.mx_stands.proofs.EmptyLemmas.{empty_stands}
 use Rattle.mx_stands.proofs.FamilyLemmas.{Facts, RegisterFacts, facts, never, register_facts}
 use Rattle.mx_stands.proofs.SchemaLemmas.{has_tables, settled_schema}
-use Rattle.mx_inserts.specs.Sets.{GainsRows}
-use Rattle.mx_inserts.proofs.SetLemmas.{stays_open}
+use Rattle.mx_tables.specs.inserts.Sets.{GainsRows}
+use Rattle.mx_tables.proofs.InsertsProofs.SetLemmas.{stays_open}
 use Rattle.mx_install.specs.Entries.{AddsEntries, FitsNext, first_point, with_command}
 
 is_layout : IsLayout 1

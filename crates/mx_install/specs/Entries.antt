@@ -11,7 +11,7 @@ use Rattle.mx_layout.specs.Crash.{StaysInside, IsWithin}
 use Rattle.mx_stands.specs.Family.{FitBrought, added, rows_of}
 use Rattle.mx_stands.specs.Schemas.{schema_at}
 use Rattle.mx_stands.specs.Stands.{StandsAt}
-use Rattle.mx_inserts.specs.Sets.{IsInside}
+use Rattle.mx_tables.specs.inserts.Sets.{IsInside}
 
 -- the point of the files that are made: settled at layout 1
 abbrev pub first_point : Point

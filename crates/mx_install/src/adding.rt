@@ -8,17 +8,17 @@ ghost use Rattle.mx_registers.specs.Added.{AreAddedRows};
 ghost use Rattle.mx_layout.specs.Crash.{StaysIn};
 ghost use Rattle.mx_layout.specs.Point.{IsStop};
 ghost use Rattle.mx_stands.specs.Schemas.{schema_at};
-ghost use Rattle.mx_inserts.specs.Sets.{GainsRows};
+ghost use Rattle.mx_tables.specs.inserts.Sets.{GainsRows};
 ghost use Rattle.mx_install.specs.Entries.{AddsEntries, FitsNext, first_point, with_command};
 
 use mx_base::rows::RegisterRows;
 use mx_book::Verdict;
 use mx_book::commands::Command;
 use mx_book::entry_list::Book;
-use mx_inserts::{Insert, Tables};
 use mx_layout::TableFault;
 use mx_registers::entry_row;
 use mx_registers::plain::added_rows;
+use mx_tables::inserts::{Insert, Tables};
 use sqlite::{Alter, Transaction};
 use std::alloc::Global;
 

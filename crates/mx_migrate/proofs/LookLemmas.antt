@@ -24,7 +24,7 @@ use Rattle.mx_chosen.specs.Choices.{is_any}
 use Rattle.mx_stands.specs.Schemas.{schema_at}
 use Rattle.mx_stands.specs.Stands.{LiesAt}
 use Rattle.mx_tables.specs.Calls.{OnRead, ReadsRows}
-use Rattle.mx_inserts.proofs.SetLemmas.{on_weaker}
+use Rattle.mx_tables.proofs.InsertsProofs.SetLemmas.{on_weaker}
 use Rattle.mx_moves.specs.Changes.{Alters, AllRise, Reaches}
 use Rattle.mx_steps.specs.Rows.{MakesRows}
 use Rattle.mx_steps.proofs.PageLemmas.{among, page_damaged, permutation_none}

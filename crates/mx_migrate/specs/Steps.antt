@@ -13,7 +13,7 @@ use Rattle.mx_layout.specs.Crash.{Leaves, RestsAs, StaysInside, IsWithin, Change
 use Rattle.mx_stands.specs.Schemas.{schema_at}
 use Rattle.mx_stands.specs.Stands.{LiesAt, StandsAt, RestsAt}
 use Rattle.mx_tables.specs.Calls.{OnRead}
-use Rattle.mx_inserts.specs.Sets.{IsInside}
+use Rattle.mx_tables.specs.inserts.Sets.{IsInside}
 use Rattle.mx_faults.specs.declared.moving.MoveFault.{MoveFault}
 use Rattle.mx_faults.specs.declared.moving.MoveFault.TheVariants as stop
 

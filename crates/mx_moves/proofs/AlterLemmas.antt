@@ -40,7 +40,7 @@ use Rattle.mx_layout.proofs.DropLemmas.{MeansRemoved}
 use Rattle.mx_layout.proofs.IndexLemmas.{MeansIndexed}
 use Rattle.mx_layout.proofs.TreeLemmas.{same_tree}
 use Rattle.mx_layout.proofs.WriteLemmas.{went, same_value}
-use Rattle.mx_inserts.proofs.SetLemmas.{on_weaker}
+use Rattle.mx_tables.proofs.InsertsProofs.SetLemmas.{on_weaker}
 use Rattle.mx_moves.specs.Changes.{emptied, unchanged, AllRise, Reaches, Alters}
 use Rattle.mx_moves.proofs.RowLemmas.{Turns, Forgets, emptied_keeps, not_same, rises_kept}
 

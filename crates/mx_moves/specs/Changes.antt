@@ -12,7 +12,7 @@ use Rattle.mx_layout.specs.Crash.{StaysInside, IsWithin}
 use Rattle.mx_layout.specs.Names.{table_named}
 use Rattle.mx_layout.specs.kept.Kept.{Kept}
 use Rattle.mx_layout.specs.kept.Family.{on_top}
-use Rattle.mx_inserts.specs.Sets.{GainsRows, IsInside}
+use Rattle.mx_tables.specs.inserts.Sets.{GainsRows, IsInside}
 
 -- ── what becomes of the rows of a table ──
 

@@ -13,7 +13,7 @@ use crate::prelude::*;
 use mx_base::rows::{FittingRow, RemovalRow, SpanRow};
 use mx_chosen::changes::delete_fit1;
 use mx_chosen::chosen::{delete_rows, rows_chosen};
-use mx_inserts::Tables;
+use mx_tables::inserts::Tables;
 use sqlite::params;
 use std::alloc::Global;
 

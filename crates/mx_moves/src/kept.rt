@@ -7,7 +7,7 @@ ghost use Rattle.mx_moves.specs.Changes.{WritesRows};
 
 use crate::prelude::*;
 use mx_base::rows::{BaseRow, TotalRow};
-use mx_inserts::{Insert, Tables};
+use mx_tables::inserts::{Insert, Tables};
 
 /// Adds a total to `total2`.
 ///

@@ -13,7 +13,7 @@ use crate::prelude::*;
 use mx_base::rows::{Sector2Row, SectorRow};
 use mx_chosen::changes::delete_sector1;
 use mx_chosen::chosen::rows_chosen;
-use mx_inserts::Tables;
+use mx_tables::inserts::Tables;
 use std::alloc::Global;
 
 /// The first 64 sectors of `sector1`, from the front, whatever has moved before.

@@ -6,7 +6,7 @@ use Rattle.sqlite.specs.State.{State}
 use Rattle.sqlite.specs.Tree.{Trees}
 use Rattle.mx_layout.specs.declared.fault.TableFault.{TableFault}
 use Rattle.mx_layout.specs.declared.fault.TableFault.TheVariants as fault
-use Rattle.mx_inserts.specs.Sets.{ReadsTables}
+use Rattle.mx_tables.specs.inserts.Sets.{ReadsTables}
 
 module _ {V W : Type 0} (IsIn Has : Schema → Type 0) (AreRead : Trees → V → Type 0) (Are : Trees → W → Type 0) (has : (schema : Schema) → Has schema → IsIn schema) (old new : State) where
   -- what follows from the rows that were read

@@ -25,7 +25,7 @@ use Rattle.mx_stands.specs.Schemas.{HasTablesAt, indexes_at, own_at, schema_at}
 use Rattle.mx_stands.specs.Stands.{HasRowsAt}
 use Rattle.mx_stands.proofs.FamilyLemmas.{AreFacts, facts}
 use Rattle.mx_stands.proofs.RowLemmas.{rows_once}
-use Rattle.mx_inserts.specs.Sets.{AreRowsOf}
+use Rattle.mx_tables.specs.inserts.Sets.{AreRowsOf}
 use Rattle.mx_registers.specs.file.Tables.{AreRegistersIn}
 use Rattle.mx_registers.specs.declared.file.file_rows.FileRows.{FileRows}
 use Rattle.mx_reading.specs.Layout.{HasTables, verified_point}

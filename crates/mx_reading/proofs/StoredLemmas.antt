@@ -38,7 +38,7 @@ use Rattle.mx_stands.specs.Stands.{HasRowsAt}
 use Rattle.mx_stands.proofs.FamilyLemmas.{facts, never}
 use Rattle.mx_stands.proofs.RowLemmas.{readable_stored}
 use Rattle.mx_stands.proofs.SchemaLemmas.{has_tables}
-use Rattle.mx_inserts.specs.Sets.{AreRowsOf, IsDamaged, ReadsTables}
+use Rattle.mx_tables.specs.inserts.Sets.{AreRowsOf, IsDamaged, ReadsTables}
 use Rattle.mx_registers.specs.file.Tables.{AreTablesOf}
 use Rattle.mx_registers.specs.declared.file.file_rows.FileRows.{FileRows}
 use Rattle.mx_reading.specs.Layout.{HasTables, verified_point}

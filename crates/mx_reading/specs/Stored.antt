@@ -18,7 +18,7 @@ use Rattle.mx_base.specs.declared.rows.rows.SpanRow.{SpanRow}
 use Rattle.mx_base.specs.declared.rows.rows.TaskRow.{TaskRow}
 use Rattle.mx_registers.specs.declared.merge.Registers.{Registers}
 use Rattle.mx_layout.specs.kept.Cells.{kept_aircraft, kept_base2, kept_component, kept_crs, kept_crs_line, kept_defect, kept_entry, kept_extension, kept_opening, kept_place, kept_programme, kept_sector2, kept_span2, kept_task, kept_total2}
-use Rattle.mx_inserts.specs.Sets.{AreRowsOf}
+use Rattle.mx_tables.specs.inserts.Sets.{AreRowsOf}
 use Rattle.mx_registers.specs.declared.file.file_rows.FileRows.{FileRows}
 
 -- ── tables ──

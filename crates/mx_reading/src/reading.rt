@@ -1,7 +1,7 @@
 //! The rows of the tables of layout 2 but `office`, as the types of these tables: those of the registers alone, and all.
 ghost use Rattle.std.specs.Prelude.{◌≡◌, IfOk, map};
 ghost use Rattle.sqlite.specs.Held.{state};
-ghost use Rattle.mx_inserts.specs.Sets.{ReadsTables};
+ghost use Rattle.mx_tables.specs.inserts.Sets.{ReadsTables};
 ghost use Rattle.mx_reading.specs.Stored.{AreInPairs, AreRegisters, AreStored, HasRegisters};
 ghost use Rattle.mx_reading.specs.Looks.{Looks};
 
@@ -10,10 +10,10 @@ use mx_base::rows::{
     ProgrammeRow, RegisterRows, ReleaseLineRow, ReleaseRow, Sector2Row, SectorRow, SpanRow,
     TaskRow, TotalRow,
 };
-use mx_inserts::Tables;
 use mx_layout::TableFault;
 use mx_registers::file::FileRows;
 use mx_registers::merge::Registers;
+use mx_tables::inserts::Tables;
 use sqlite::{Alter, Transaction};
 use std::alloc::{AllocError, Global};
 

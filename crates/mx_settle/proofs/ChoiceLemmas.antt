@@ -49,7 +49,7 @@ use Rattle.mx_stands.specs.Schemas.{IsOfFile, schema_at}
 use Rattle.mx_stands.specs.Stands.{StandsAt}
 use Rattle.mx_stands.proofs.RowLemmas.{readable_stored}
 use Rattle.mx_tables.specs.Calls.{OnDamaged}
-use Rattle.mx_inserts.specs.Sets.{IsDamaged}
+use Rattle.mx_tables.specs.inserts.Sets.{IsDamaged}
 use Rattle.mx_migrate.specs.declared.components.MoveComponent.{MoveComponent}
 use Rattle.mx_migrate.specs.declared.creating.CreateSectors.{CreateSectors}
 use Rattle.mx_migrate.specs.declared.sectors.MoveSectors.{MoveSectors}

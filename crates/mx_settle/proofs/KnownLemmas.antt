@@ -22,7 +22,7 @@ use Rattle.mx_stands.specs.Stands.{StandsAt}
 use Rattle.mx_stands.proofs.RowLemmas.{readable_stored}
 use Rattle.mx_stands.proofs.SchemaLemmas.{has_tables}
 use Rattle.mx_tables.specs.Calls.{OnDamaged}
-use Rattle.mx_inserts.specs.Sets.{IsDamaged, ReadsTables}
+use Rattle.mx_tables.specs.inserts.Sets.{IsDamaged, ReadsTables}
 use Rattle.mx_derived.specs.Kept.{AreKeptOf}
 use Rattle.mx_registers.specs.file.Tables.{AreRegistersIn}
 use Rattle.mx_derived.specs.declared.kept.KeptRows.{KeptRows}

@@ -27,7 +27,7 @@ use Rattle.mx_chosen.specs.Choices.{AreFirst, is_above}
 use Rattle.mx_stands.specs.Schemas.{IsOfFile, schema_at}
 use Rattle.mx_stands.specs.Stands.{LiesAt, StandsAt}
 use Rattle.mx_tables.specs.Calls.{OnRead}
-use Rattle.mx_inserts.specs.Sets.{IsDamaged}
+use Rattle.mx_tables.specs.inserts.Sets.{IsDamaged}
 use Rattle.mx_registers.specs.file.Tables.{AreRegistersIn}
 use Rattle.mx_derived.specs.declared.kept.KeptRows.{KeptRows}
 use Rattle.mx_derived.specs.declared.kept.Unkept.{Unkept}

@@ -1,6 +1,6 @@
 //! The tables as sets of typed rows, which are read. SQL for all rows of a table, and for one that is added, is in this
 //! crate, that for chosen rows in `mx_chosen`, and for the rows in whose place others come in `mx_totals`. Above these a
-//! table is what `rows` gives for its type, in the order of its key, and `insert` of `mx_inserts` adds one row to it. Each
+//! table is what `rows` gives for its type, in the order of its key, and `insert` of `mx_tables::inserts` adds one row to it. Each
 //! call is made inside a `Transaction`, which the caller commits or drops.
 //!
 //! # What is promised
@@ -11,7 +11,7 @@
 //! outcome before the commit, and the last commit stands.
 //!
 //! One reader (`rows`) is proved for every type of rows; what a table adds is its data in `mx_layout::kept`, its impl of `Stored`
-//! here, and that of `Insert` in `mx_inserts`.
+//! here, and that of `Insert` in `mx_tables::inserts`.
 //!
 //! # To add a table
 //!
@@ -33,11 +33,11 @@
 //!    out, and whose `read` asks for the number of columns and takes each by a function of `column.rt`. Its row type is a
 //!    word of `prelude.rt`. A kind of value that no table has had needs a function in `column.rt`, whose contract says of
 //!    what values it gives `None`.
-//! 4. `mx_inserts/src/NOUN.rt`, from one that is there, with its line in `lib.rt` there: `Insert`, which passes each value
+//! 4. `mx_tables/src/inserts/NOUN.rt`, from one that is there, with its line in `lib.rt` there: `Insert`, which passes each value
 //!    in the order of the columns. Its row type is a word of `prelude.rt` there too. A kind of value that is not passed as
-//!    it stands in the row needs a function in `mx_inserts/src/values.rt`.
+//!    it stands in the row needs a function in `mx_tables/src/inserts/values.rt`.
 //! 5. Plants here: two columns swapped in either text, two values swapped in `read`, a text with no ORDER BY, the name of
-//!    another table; and in `mx_inserts` two values swapped in `insert`.
+//!    another table; and in `mx_tables::inserts` two values swapped in `insert`.
 //!
 //! What it costs stands in docs/RECIPES.md.
 //!
@@ -56,6 +56,7 @@ mod deferral;
 mod entry;
 mod extension;
 mod fitting;
+pub mod inserts;
 mod opening;
 mod place;
 mod prelude;

@@ -13,7 +13,7 @@ use Rattle.mx_layout.specs.Names.{table_named}
 use Rattle.mx_layout.proofs.CrashLemmas.{within_then, stays_then}
 use Rattle.mx_layout.specs.kept.Kept.{Kept}
 use Rattle.mx_tables.specs.Calls.{OnRead}
-use Rattle.mx_inserts.specs.Calls.{InsertsRow}
+use Rattle.mx_tables.specs.inserts.Calls.{InsertsRow}
 use Rattle.mx_totals.specs.InPlace.{Replaces, ReplacesRows}
 use Rattle.mx_totals.specs.Calls.{change_where, Becomes, ReadsFrom, ChangesRows}
 use Rattle.mx_totals.specs.Single.{IsOnly, HasOne}

@@ -6,7 +6,7 @@ use Rattle.mx_layout.specs.declared.fault.TableFault.{TableFault}
 use Rattle.mx_layout.specs.declared.fault.TableFault.TheVariants.{Memory, Store, NotOurs, Exists, Damaged}
 use Rattle.mx_layout.specs.Crash.{StaysInside}
 use Rattle.mx_tables.specs.Calls.{OnRead, OnDamaged}
-use Rattle.mx_inserts.specs.Sets.{IsInside}
+use Rattle.mx_tables.specs.inserts.Sets.{IsInside}
 use Rattle.mx_totals.specs.Steps.{Keeps}
 
 pub keeps_itself : (s : State) → Keeps s s

@@ -16,7 +16,7 @@ use Rattle.mx_layout.specs.Names.{table_named}
 use Rattle.mx_layout.specs.Writing.{Gains}
 use Rattle.mx_layout.proofs.CrashLemmas.{within_then, stays_then}
 use Rattle.mx_layout.specs.kept.Kept.{Kept}
-use Rattle.mx_inserts.specs.Calls.{InsertsRow}
+use Rattle.mx_tables.specs.inserts.Calls.{InsertsRow}
 use Rattle.mx_chosen.specs.Choices.{Loses}
 use Rattle.mx_totals.specs.InPlace.{Replaces, ReplacesRows}
 use Rattle.mx_chosen.specs.Calls.{DeletesRows}

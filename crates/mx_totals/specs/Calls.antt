@@ -12,7 +12,7 @@ use Rattle.mx_layout.specs.Crash.{StaysInside, IsWithin}
 use Rattle.mx_layout.specs.Names.{table_named}
 use Rattle.mx_layout.specs.kept.Kept.{Kept}
 use Rattle.mx_tables.specs.Calls.{OnRead}
-use Rattle.mx_inserts.specs.Sets.{IsInside}
+use Rattle.mx_tables.specs.inserts.Sets.{IsInside}
 
 -- the rows that pass the test, changed, and the others as they are
 abbrev pub change_where : (Row → Bool) → (Row → Row) → List Row → List Row

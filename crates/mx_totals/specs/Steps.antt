@@ -11,7 +11,7 @@ use Rattle.mx_layout.specs.Crash.{StaysInside, IsWithin}
 use Rattle.mx_layout.specs.Tables.{total2}
 use Rattle.mx_layout.specs.kept.Cells.{kept_total2}
 use Rattle.mx_tables.specs.Calls.{OnRead}
-use Rattle.mx_inserts.specs.Sets.{IsInside}
+use Rattle.mx_tables.specs.inserts.Sets.{IsInside}
 use Rattle.mx_totals.specs.Calls.{Becomes}
 use Rattle.mx_totals.specs.Totals.{CanCredit, AreCredited, totals_put}
 

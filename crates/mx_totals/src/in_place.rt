@@ -11,8 +11,8 @@ ghost use Rattle.mx_totals.specs.InPlace.{ReplacesRows};
 
 use mx_base::rows::{BaseRow, SpanRow, TotalRow};
 use mx_chosen::chosen::delete_rows;
-use mx_inserts::Insert;
 use mx_layout::TableFault;
+use mx_tables::inserts::Insert;
 use sqlite::types::ValueRef;
 use sqlite::{Alter, Transaction, params};
 

@@ -16,8 +16,8 @@ use crate::single::only;
 use mx_base::rows::TotalRow;
 use mx_base::{Moment, Use};
 use mx_chosen::kept::total2_by_item;
-use mx_inserts::Insert;
 use mx_layout::{Table, TableFault};
+use mx_tables::inserts::Insert;
 use sqlite::{Alter, Transaction};
 use std::alloc::Global;
 

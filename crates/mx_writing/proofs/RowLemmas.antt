@@ -26,9 +26,9 @@ use Rattle.mx_layout.specs.kept.Kept.{Kept}
 use Rattle.mx_layout.specs.kept.Family.{on_top}
 use Rattle.mx_layout.specs.kept.Meanings.{IsLawful}
 use Rattle.mx_layout.proofs.KeptProofs.OntoLemmas.{on_top_keeps}
-use Rattle.mx_inserts.specs.Calls.{InsertsRow}
-use Rattle.mx_inserts.specs.Sets.{GainsRows, WritesTables}
-use Rattle.mx_inserts.proofs.SetLemmas.{gains_none, gains_one, gains_then, on_weaker, stays_open}
+use Rattle.mx_tables.specs.inserts.Calls.{InsertsRow}
+use Rattle.mx_tables.specs.inserts.Sets.{GainsRows, WritesTables}
+use Rattle.mx_tables.proofs.InsertsProofs.SetLemmas.{gains_none, gains_one, gains_then, on_weaker, stays_open}
 use Rattle.mx_totals.specs.InPlace.{Replaces, ReplacesRows}
 use Rattle.mx_writing.specs.Changes.{AllRise, WritesRows, all_in_place, in_place}
 

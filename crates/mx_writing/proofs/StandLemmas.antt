@@ -41,7 +41,7 @@ use Rattle.mx_stands.specs.Schemas.{schema_at}
 use Rattle.mx_stands.specs.Stands.{StandsAt}
 use Rattle.mx_stands.proofs.FamilyLemmas.{Facts, RegisterFacts, facts, never, register_facts}
 use Rattle.mx_stands.proofs.SchemaLemmas.{has_tables}
-use Rattle.mx_inserts.specs.Sets.{GainsRows}
+use Rattle.mx_tables.specs.inserts.Sets.{GainsRows}
 use Rattle.mx_writing.specs.Written.{written_point, is_same_base, is_same_span, is_same_total, with_added, with_changed, with_rows}
 use Rattle.mx_writing.proofs.CellLemmas.{bases_put_are, is_of_same_task}
 use Rattle.mx_writing.proofs.EnterLemmas.{base_facts, enter, is_layout, span_facts, total_facts}

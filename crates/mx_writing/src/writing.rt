@@ -7,9 +7,9 @@ ghost use Rattle.mx_writing.specs.Written.{IsSettled, with_changed, with_rows};
 
 use crate::pairs::in_pairs;
 use crate::replacing::replace_all;
-use mx_inserts::{Insert, Tables};
 use mx_layout::TableFault;
 use mx_row_rules::changes::{ChangedRows, CommandRows};
+use mx_tables::inserts::{Insert, Tables};
 use sqlite::{Alter, Transaction};
 
 // Writes the kept rows that a command changes, each in place of what it was.

@@ -4,7 +4,7 @@ use Rattle.mx_base.specs.rows.Pairs.{rows_in_pairs}
 use Rattle.mx_registers.specs.Added.{AreAddedRows}
 use Rattle.mx_registers.specs.Registers.{entry_row}
 use Rattle.mx_layout.specs.kept.Cells.{kept_entry}
-use Rattle.mx_inserts.proofs.SetLemmas.{one_then, on_weaker}
+use Rattle.mx_tables.proofs.InsertsProofs.SetLemmas.{one_then, on_weaker}
 use Rattle.mx_install.proofs.GainLemmas.{AreIn, entries_in, gains_command, onto_rest, rest_in, rest_keeps}
 use Rattle.mx_install.proofs.adding.add_rows.Goals as goal
 

@@ -7,7 +7,7 @@ use Rattle.mx_layout.proofs.CrashLemmas.{stays_then, within_then}
 use Rattle.mx_layout.proofs.PointLemmas.{open_either}
 use Rattle.mx_stands.specs.Schemas.{schema_at}
 use Rattle.mx_stands.specs.Stands.{StandsAt}
-use Rattle.mx_inserts.proofs.SetLemmas.{on_weaker}
+use Rattle.mx_tables.proofs.InsertsProofs.SetLemmas.{on_weaker}
 use Rattle.mx_install.specs.Entries.{first_point}
 use Rattle.mx_install.proofs.EntryLemmas.{new_stand}
 use Rattle.mx_install.proofs.installing.install_in.Goals as goal

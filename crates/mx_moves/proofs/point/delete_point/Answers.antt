@@ -6,7 +6,7 @@ use Rattle.sqlite.specs.State.{ExecutesInside}
 use Rattle.mx_layout.specs.Tables.{office}
 use Rattle.mx_chosen.specs.Texts.{by_value}
 use Rattle.mx_chosen.proofs.DeleteLemmas.{deletes_those}
-use Rattle.mx_inserts.proofs.SetLemmas.{on_weaker}
+use Rattle.mx_tables.proofs.InsertsProofs.SetLemmas.{on_weaker}
 use Rattle.mx_moves.specs.Keeping.{kept_point, is_point_row}
 use Rattle.mx_moves.specs.Texts.{point_gone}
 use Rattle.mx_moves.proofs.PointTexts.{office_there, point_gone_deletes}

@@ -5,8 +5,8 @@ use Rattle.sqlite.specs.State.{ExecutesInside}
 use Rattle.mx_layout.specs.Point.{point_cells}
 use Rattle.mx_layout.specs.Tables.{office}
 use Rattle.mx_layout.specs.Writing.{Gains}
-use Rattle.mx_inserts.proofs.AddLemmas.{adds_row}
-use Rattle.mx_inserts.proofs.SetLemmas.{gains_none, gains_one, on_weaker}
+use Rattle.mx_tables.proofs.InsertsProofs.AddLemmas.{adds_row}
+use Rattle.mx_tables.proofs.InsertsProofs.SetLemmas.{gains_none, gains_one, on_weaker}
 use Rattle.mx_moves.specs.Keeping.{kept_point}
 use Rattle.mx_moves.proofs.PointTexts.{point_adds}
 use Rattle.mx_moves.proofs.point.insert_point.Goals as goal

@@ -5,7 +5,7 @@ use Rattle.mx_layout.specs.declared.fault.Table.TheVariants as table
 use Rattle.mx_moves.specs.Changes.{emptied}
 use Rattle.mx_moves.proofs.AlterLemmas.{alters_by, table_made}
 use Rattle.mx_moves.proofs.TableTexts.{base2_defined, base2_new}
-use Rattle.mx_inserts.proofs.SetLemmas.{on_weaker}
+use Rattle.mx_tables.proofs.InsertsProofs.SetLemmas.{on_weaker}
 use Rattle.mx_moves.proofs.tables.create_base2.Goals as goal
 
 pub returns-clause-alters : goal.returns-clause-alters

@@ -6,7 +6,7 @@ use Rattle.mx_layout.specs.Tables.{crs_line, crs_line_by_defect}
 use Rattle.mx_moves.specs.Changes.{unchanged, Reaches}
 use Rattle.mx_moves.proofs.AlterLemmas.{alters_by, index_made}
 use Rattle.mx_moves.proofs.TableTexts.{lines_indexed, lines_next}
-use Rattle.mx_inserts.proofs.SetLemmas.{on_weaker}
+use Rattle.mx_tables.proofs.InsertsProofs.SetLemmas.{on_weaker}
 use Rattle.mx_moves.proofs.tables.index_lines.Goals as goal
 
 pub returns-clause-alters : goal.returns-clause-alters

@@ -1,0 +1,61 @@
+//! Rows that are added to their table, one at a time.
+ghost use Rattle.std.specs.Prelude.{◌≡◌, ◌⊎◌, List, IsTrue, OnOk, IfErr};
+ghost use Rattle.sqlite.specs.declared.types.Value.{Value};
+ghost use Rattle.sqlite.specs.Table.{Table};
+ghost use Rattle.sqlite.specs.Values.{bound};
+ghost use Rattle.sqlite.specs.State.{HasCleanDisk};
+ghost use Rattle.sqlite.specs.Held.{state};
+ghost use Rattle.mx_layout.specs.Crash.{StaysIn};
+ghost use Rattle.mx_layout.specs.Writing.{Gains};
+ghost use Rattle.mx_tables.specs.inserts.Calls.{AddsRow, InsertsRow};
+
+use crate::Stored;
+use mx_layout::TableFault;
+use mx_layout::fault::fault_of;
+use sqlite::types::ValueRef;
+use sqlite::{Alter, Transaction};
+
+/// Rows that can be added to their table.
+pub trait Insert: Stored {
+    /// Adds the row. `Memory` for want of memory, and `Store` for an error of the store, a value that is taken
+    /// among them.
+    fn insert<S: Alter>(&self, tx: &mut Transaction<'_, S>) -> Result<(), TableFault>
+        ensures same_reference { tx.new.conn.ghost_name ≡ tx.old.conn.ghost_name }
+        ensures inserts { InsertsRow Self.kept self.now
+            (state S.Store tx.old.conn.now) (state S.Store tx.new.conn.now) result }
+        ensures fits { Self.kept.Fits self.now };
+}
+
+// Adds a row by a text that takes its values in the order of the columns.
+fn insert_row<S: Alter>(
+    tx: &mut Transaction<'_, S>,
+    sql: &str,
+    params: &[ValueRef<'_>],
+) -> Result<(), TableFault>
+    ensures stays { StaysIn S.Store (OnOk result) tx.old tx.new }
+    ensures adds { let old = state S.Store tx.old.conn.now in
+        let new = state S.Store tx.new.conn.now in
+        (table : Table) (row : List Value) → AddsRow sql.now table row old new
+        → bound params.now ≡ row → HasCleanDisk new
+        → IsTrue old.in_transaction → OnOk result (Gains table row old.now new.now) }
+    ensures cause { IfErr result (λ e. (e ≡ TableFault.Memory) ⊎ (e ≡ TableFault.Store)) }
+{
+    match tx.execute(sql, params) {
+        Ok(_) => Ok(()),
+        Err(error) => Err(fault_of(error)),
+    }
+}
+
+/// Adds a row, whose values are these in the order of the columns.
+pub(crate) fn insert_values<S: Alter, R: Stored>(
+    tx: &mut Transaction<'_, S>,
+    row: &R,
+    values: &[ValueRef<'_>],
+) -> Result<(), TableFault>
+    requires { bound values.now ≡ R.kept.as_cells row.now }
+    ensures same_reference { tx.new.conn.ghost_name ≡ tx.old.conn.ghost_name }
+    ensures inserts { InsertsRow R.kept row.now
+        (state S.Store tx.old.conn.now) (state S.Store tx.new.conn.now) result }
+{
+    insert_row(tx, R::texts().insert, values)
+}

@@ -1,0 +1,13 @@
+//! What the file of each table names.
+
+pub(crate) use crate::inserts::insert::{Insert, insert_values};
+pub(crate) use crate::inserts::values::{
+    days_of_category, moment_if_any, number_if_any, number_of_category, text_if_any, text_of,
+};
+pub(crate) use mx_base::rows::{
+    AircraftRow, BaseRow, ComponentRow, DeferralRow, EntryKind, EntryRow, ExtensionRow, FittingRow,
+    OpeningRow, PlaceRow, ProgrammeRow, ReleaseLineRow, ReleaseRow, RemovalRow, Sector2Row,
+    SectorRow, SpanRow, TaskRow, TotalRow,
+};
+pub(crate) use mx_layout::TableFault;
+pub(crate) use sqlite::{Alter, Transaction, params};
