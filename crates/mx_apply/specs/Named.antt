@@ -6,7 +6,7 @@ use Rattle.mx_book.specs.commands.Act.{Act, Removed}
 use Rattle.mx_base.specs.declared.rows.rows.BaseRow.{BaseRow}
 use Rattle.mx_layout.specs.TableName.{TableName}
 use Rattle.mx_layout.specs.declared.fault.Table.TheVariants as table
-use Rattle.mx_chosen.specs.Choices.{has_value}
+use Rattle.mx_table_rows.specs.chosen.Choices.{has_value}
 use Rattle.mx_row_rules.specs.changes.Made.{Findings, bases_made}
 use Rattle.mx_made.specs.Found.{numbers_given}
 use Rattle.mx_writing.specs.Written.{is_same_base}

@@ -20,7 +20,7 @@ use Rattle.mx_layout.specs.declared.fault.Table.TheVariants as table
 use Rattle.mx_layout.specs.declared.fault.TableFault.{TableFault}
 use Rattle.mx_layout.specs.declared.fault.TableFault.TheVariants as fault
 use Rattle.mx_layout.specs.kept.Cells.{kept_entry}
-use Rattle.mx_chosen.specs.Calls.{ReadsBy}
+use Rattle.mx_table_rows.specs.chosen.Calls.{ReadsBy}
 use Rattle.mx_row_rules.specs.found.Stated.{stated}
 use Rattle.mx_row_rules.proofs.FoundProofs.EntryLemmas.{entry_is_at, shape_at}
 use Rattle.mx_row_rules.proofs.FoundProofs.StatedLemmas.{doc_numbered, entry_stated, kind_numbered}

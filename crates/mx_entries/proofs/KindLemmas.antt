@@ -19,7 +19,7 @@ use Rattle.mx_base.specs.declared.rows.rows.SectorRow.{SectorRow}
 use Rattle.mx_base.specs.declared.rows.rows.SpanRow.{SpanRow}
 use Rattle.mx_registers.specs.kept.Spans.{fitting_in, removal_in}
 use Rattle.mx_layout.specs.kept.Cells.{kept_crs, kept_defect, kept_extension, kept_opening, kept_sector2_rows, kept_span2}
-use Rattle.mx_chosen.specs.Choices.{has_value}
+use Rattle.mx_table_rows.specs.chosen.Choices.{has_value}
 use Rattle.mx_row_rules.specs.found.Given as register
 use Rattle.mx_row_rules.specs.found.Stated.{lines_stated}
 use Rattle.mx_numbers.specs.Given.{SerialOfNumber, TailOfNumber}

@@ -6,7 +6,7 @@ use Rattle.sqlite.specs.Tree.{Trees}
 use Rattle.mx_book.specs.declared.commands.item.Item.{Item}
 use Rattle.mx_book.specs.declared.commands.item.Item.TheVariants.{Airframe, Component}
 use Rattle.mx_layout.specs.kept.Cells.{kept_entry}
-use Rattle.mx_chosen.specs.Choices.{has_value}
+use Rattle.mx_table_rows.specs.chosen.Choices.{has_value}
 use Rattle.mx_row_rules.specs.found.Names.{deferred_doc}
 use Rattle.mx_numbers.specs.AnyRows.{Gives}
 use Rattle.mx_numbers.specs.Given.{SerialOfNumber, TailOfNumber}

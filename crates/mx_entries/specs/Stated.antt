@@ -12,7 +12,7 @@ use Rattle.mx_base.specs.declared.rows.rows.TaskRow.{TaskRow}
 use Rattle.mx_registers.specs.kept.Spans.{fitting_in, removal_in}
 use Rattle.mx_layout.specs.kept.Cells.{kept_aircraft, kept_component, kept_defect, kept_extension, kept_opening, kept_place, kept_programme, kept_sector2_rows, kept_span2, kept_task}
 use Rattle.mx_layout.specs.kept.Kept.{Kept}
-use Rattle.mx_chosen.specs.Choices.{has_value}
+use Rattle.mx_table_rows.specs.chosen.Choices.{has_value}
 use Rattle.mx_row_rules.specs.found.Stated.{aircraft_stated, component_stated, programme_stated}
 use Rattle.mx_numbers.specs.AnyRows.{AreChosen, Gives}
 use Rattle.mx_numbers.specs.Given.{SerialOfNumber, TailOfNumber}

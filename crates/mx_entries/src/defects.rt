@@ -11,10 +11,10 @@ ghost use Rattle.mx_entries.specs.Stated.{DeferralStated, ExtensionStated};
 
 use crate::names::doc_of_defect;
 use mx_book::commands::Body;
-use mx_chosen::defects::{defect_by_seq, extension_by_seq};
 use mx_layout::TableFault;
 use mx_numbers::items::tail_of_number;
 use mx_registers::plain::said::{body_of_deferral, body_of_extension};
+use mx_table_rows::chosen::defects::{defect_by_seq, extension_by_seq};
 use sqlite::{Alter, Transaction};
 use std::alloc::Global;
 

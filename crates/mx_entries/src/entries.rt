@@ -8,9 +8,9 @@ ghost use Rattle.mx_entries.specs.Damage.{IsSkipped, IsUnstated, ReadsOr};
 
 use crate::stated::{body_stated, command_said};
 use mx_book::commands::Command;
-use mx_chosen::entries::entry_by_seq;
 use mx_layout::{Table, TableFault};
 use mx_numbers::entries::entry_count;
+use mx_table_rows::chosen::entries::entry_by_seq;
 use sqlite::{Alter, Transaction};
 use std::alloc::Global;
 

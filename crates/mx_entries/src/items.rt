@@ -10,11 +10,11 @@ ghost use Rattle.mx_numbers.specs.Reads.{Reads};
 ghost use Rattle.mx_entries.specs.Stated.{AircraftStated, ComponentStated, ProgrammeStated};
 
 use mx_book::commands::Body;
-use mx_chosen::items::{aircraft_by_seq, component_by_seq, place_by_seq};
-use mx_chosen::programmes::{programme_by_seq, task_by_seq};
 use mx_layout::TableFault;
 use mx_registers::plain::said::{body_of_aircraft, body_of_component, body_of_programme};
 use mx_row_rules::found::stated::{positions_said, tasks_said};
+use mx_table_rows::chosen::items::{aircraft_by_seq, component_by_seq, place_by_seq};
+use mx_table_rows::chosen::programmes::{programme_by_seq, task_by_seq};
 use sqlite::{Alter, Transaction};
 use std::alloc::Global;
 

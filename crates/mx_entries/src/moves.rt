@@ -14,15 +14,15 @@ use crate::names::{item_of_number, serial_of_number};
 use mx_base::rows::FittingRow;
 use mx_base::{Serial, Tail};
 use mx_book::commands::Body;
-use mx_chosen::kept::{span2_by_fit_seq, span2_by_remove_seq};
-use mx_chosen::sectors::sector2_by_seq;
-use mx_chosen::works::opening_by_seq;
 use mx_layout::TableFault;
 use mx_numbers::items::tail_of_number;
 use mx_registers::plain::said::{
     body_of_fitting, body_of_opening, body_of_removal, body_of_sector,
 };
 use mx_row_rules::found::stated::{first_fitting, first_removal};
+use mx_table_rows::chosen::kept::{span2_by_fit_seq, span2_by_remove_seq};
+use mx_table_rows::chosen::sectors::sector2_by_seq;
+use mx_table_rows::chosen::works::opening_by_seq;
 use sqlite::{Alter, Transaction};
 use std::alloc::Global;
 

@@ -9,12 +9,12 @@ ghost use Rattle.mx_entries.specs.Names.{DocOfDefect, ItemOfNumber};
 
 use mx_base::{Doc, Serial};
 use mx_book::commands::Item;
-use mx_chosen::entries::entry_by_seq;
-use mx_chosen::items::component_by_seq;
 use mx_layout::TableFault;
 use mx_numbers::items::tail_of_number;
 use mx_row_rules::found::components::serial_in;
 use mx_row_rules::found::entries::deferred_doc;
+use mx_table_rows::chosen::entries::entry_by_seq;
+use mx_table_rows::chosen::items::component_by_seq;
 use sqlite::{Alter, Transaction};
 use std::alloc::Global;
 

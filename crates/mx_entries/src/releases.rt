@@ -13,10 +13,10 @@ ghost use Rattle.mx_entries.specs.Releases.{LineNamed, LinesStated, PlaceStated,
 use crate::names::{doc_of_defect, item_of_number};
 use mx_base::rows::ReleaseRow;
 use mx_book::commands::{Body, Line, Place};
-use mx_chosen::works::{crs_by_seq, crs_line_by_seq};
 use mx_layout::TableFault;
 use mx_registers::plain::said::{body_of_release, place_of};
 use mx_row_rules::found::stated::{Certified, certified_in};
+use mx_table_rows::chosen::works::{crs_by_seq, crs_line_by_seq};
 use sqlite::{Alter, Transaction};
 use std::alloc::Global;
 

@@ -7,10 +7,10 @@ use mx_base::{Day, Moment, TaskId, Use};
 use mx_cases::{Unmade, append_joined, or_none};
 use mx_fault_texts::{append_table_fault, room};
 use mx_layout::TableFault;
-use mx_totals::bases::{base_row, set_base};
-use mx_totals::lives::Total;
-use mx_totals::spans::{FittedComponent, end_span2, fitted};
-use mx_totals::totals::{credit, new_total, set_clock, total};
+use mx_table_rows::totals::bases::{base_row, set_base};
+use mx_table_rows::totals::lives::Total;
+use mx_table_rows::totals::spans::{FittedComponent, end_span2, fitted};
+use mx_table_rows::totals::totals::{credit, new_total, set_clock, total};
 use sqlite::{Alter, Connection, Transaction};
 use std::alloc::{AllocError, Global};
 

@@ -11,8 +11,8 @@ use Rattle.mx_base.specs.declared.rows.rows.ReleaseLineRow.{ReleaseLineRow}
 use Rattle.mx_layout.specs.Crash.{IsWithin}
 use Rattle.mx_layout.specs.kept.Cells.{kept_crs_line}
 use Rattle.mx_layout.specs.kept.Kept.{Kept}
-use Rattle.mx_chosen.specs.Calls.{ReadsFirst}
-use Rattle.mx_chosen.specs.Choices.{has_value}
+use Rattle.mx_table_rows.specs.chosen.Calls.{ReadsFirst}
+use Rattle.mx_table_rows.specs.chosen.Choices.{has_value}
 use Rattle.mx_numbers.specs.AnyRows.{AreChosen, ReadsAny}
 use Rattle.mx_known.specs.Known.{AreLines, AreRows, ByNumber, InBoth, LineRow, LineRows}
 use Rattle.mx_numbers.specs.Reads.{Reads}

@@ -20,7 +20,7 @@ use Rattle.mx_base.specs.declared.rows.rows.ReleaseLineRow.{ReleaseLineRow}
 use Rattle.mx_registers.specs.kept.Changes.{entry_of}
 use Rattle.mx_layout.specs.kept.Cells.{kept_aircraft, kept_component, kept_crs, kept_crs_line, kept_defect, kept_entry, kept_extension, kept_opening, kept_place, kept_programme, kept_sector2, kept_span2, kept_task}
 use Rattle.mx_layout.specs.kept.Kept.{Kept}
-use Rattle.mx_chosen.specs.Choices.{has_value}
+use Rattle.mx_table_rows.specs.chosen.Choices.{has_value}
 use Rattle.mx_row_rules.specs.found.Given.{Register, found, line_row}
 use Rattle.mx_row_rules.specs.found.Names.{entry_number}
 use Rattle.mx_row_rules.specs.found.Spans.{begins_with, ends_with}

@@ -10,12 +10,12 @@ ghost use Rattle.mx_numbers.specs.Told.{TellsDamage};
 
 use mx_base::rows::Sector2Row;
 use mx_book::commands::{Fitting, Removal, Sector};
-use mx_chosen::kept::{span2_by_fit_seq, span2_by_remove_seq};
-use mx_chosen::sectors::sector2_by_seq;
 use mx_layout::TableFault;
 use mx_numbers::items::{aircraft_number, component_number};
 use mx_registers::{SectorRow, or_zero, sector_row};
 use mx_row_rules::found::known::{begins_in, ends_in};
+use mx_table_rows::chosen::kept::{span2_by_fit_seq, span2_by_remove_seq};
+use mx_table_rows::chosen::sectors::sector2_by_seq;
 use sqlite::{Alter, Transaction};
 use std::alloc::Global;
 

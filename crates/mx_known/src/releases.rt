@@ -17,13 +17,13 @@ ghost use Rattle.mx_numbers.specs.Reads.{Reads};
 ghost use Rattle.mx_numbers.specs.Told.{Either, ItemDamage, TellsDamage};
 
 use mx_book::commands::{Line, Place, Release};
-use mx_chosen::works::{crs_by_seq, crs_line_by_seq};
 use mx_layout::TableFault;
 use mx_numbers::entries::defect_number;
 use mx_numbers::items::{aircraft_number, component_number, item_number};
 use mx_registers::{ReleaseLineRow, or_zero, release_row};
 use mx_row_rules::found::known::release_line_row;
 use mx_row_rules::found::same::{are_same_release_lines, are_same_releases};
+use mx_table_rows::chosen::works::{crs_by_seq, crs_line_by_seq};
 use sqlite::{Alter, Transaction};
 use std::alloc::Global;
 use std::slice;

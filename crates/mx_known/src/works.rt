@@ -14,9 +14,6 @@ ghost use Rattle.mx_numbers.specs.Told.{TellsDamage};
 
 use crate::lines::task_rows;
 use mx_book::commands::{Deferral, Extension, Opening, Programme, Task};
-use mx_chosen::defects::{defect_by_seq, extension_by_seq};
-use mx_chosen::programmes::{programme_by_seq, task_by_seq};
-use mx_chosen::works::opening_by_seq;
 use mx_layout::TableFault;
 use mx_numbers::entries::defect_number;
 use mx_numbers::items::{aircraft_number, item_number};
@@ -24,6 +21,9 @@ use mx_registers::{deferral_row, extension_row, opening_row, or_zero, programme_
 use mx_row_rules::found::same::{
     are_same_deferrals, are_same_extensions, are_same_openings, are_same_programmes, are_same_tasks,
 };
+use mx_table_rows::chosen::defects::{defect_by_seq, extension_by_seq};
+use mx_table_rows::chosen::programmes::{programme_by_seq, task_by_seq};
+use mx_table_rows::chosen::works::opening_by_seq;
 use sqlite::{Alter, Transaction};
 use std::alloc::Global;
 use std::slice;

@@ -25,8 +25,8 @@ use Rattle.mx_layout.specs.declared.fault.Table.TheVariants as table
 use Rattle.mx_layout.specs.declared.fault.TableFault.{TableFault}
 use Rattle.mx_layout.specs.kept.Cells.{kept_base2}
 use Rattle.mx_layout.proofs.KeptProofs.MovedLawful.{base2_lawful}
-use Rattle.mx_chosen.specs.Calls.{ReadsFirst}
-use Rattle.mx_chosen.specs.Choices.{AreFirst}
+use Rattle.mx_table_rows.specs.chosen.Calls.{ReadsFirst}
+use Rattle.mx_table_rows.specs.chosen.Choices.{AreFirst}
 use Rattle.mx_stands.specs.Schemas.{schema_at}
 use Rattle.mx_stands.specs.Stands.{HasRowsAt}
 use Rattle.mx_stands.proofs.FamilyLemmas.{facts}

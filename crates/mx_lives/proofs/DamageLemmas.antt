@@ -21,7 +21,7 @@ use Rattle.mx_base.specs.declared.rows.rows.TaskRow.{TaskRow}
 use Rattle.mx_base.specs.declared.rows.rows.TotalRow.{TotalRow}
 use Rattle.mx_layout.specs.declared.fault.Table.TheVariants as table
 use Rattle.mx_layout.specs.kept.Cells.{kept_aircraft, kept_base2, kept_component, kept_programme, kept_task, kept_total2}
-use Rattle.mx_chosen.specs.Choices.{has_value}
+use Rattle.mx_table_rows.specs.chosen.Choices.{has_value}
 use Rattle.mx_row_rules.specs.found.Lives.{base_found, life_in_base}
 use Rattle.mx_row_rules.specs.found.Programmes.{revision_after}
 use Rattle.mx_numbers.specs.AnyRows.{Gives}

@@ -11,10 +11,10 @@ ghost use Rattle.mx_numbers.specs.Told.{TotalDamage, TellsDamage};
 
 use mx_base::{Moment, Tail, Use};
 use mx_book::commands::Item;
-use mx_chosen::kept::total2_by_item;
 use mx_layout::{Table, TableFault};
 use mx_numbers::items::item_number;
 use mx_row_rules::found::lives::{clock_in, life_in};
+use mx_table_rows::chosen::kept::total2_by_item;
 use sqlite::{Alter, Transaction};
 use std::alloc::Global;
 

@@ -19,12 +19,12 @@ use crate::lives::life;
 use mx_base::rows::TaskRow;
 use mx_base::{Day, Kind, Part, TaskId};
 use mx_book::commands::{Item, Task};
-use mx_chosen::programmes::{programme_by_kind, task_by_seq};
 use mx_layout::{Table, TableFault};
 use mx_numbers::items::{aircraft, component};
 use mx_row_rules::found::programmes::{
     have_task_shapes, is_retired_in, programme_number, revision_after, task_in, tasks_said,
 };
+use mx_table_rows::chosen::programmes::{programme_by_kind, task_by_seq};
 use sqlite::{Alter, Transaction};
 use std::alloc::Global;
 

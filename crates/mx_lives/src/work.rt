@@ -11,10 +11,10 @@ ghost use Rattle.mx_numbers.specs.Told.{BaseDamage, DoneDamage, TellsDamage};
 
 use mx_base::{Base, TaskId};
 use mx_book::commands::Item;
-use mx_chosen::kept::base2_by_item_and_task;
 use mx_layout::{Table, TableFault};
 use mx_numbers::items::item_number;
 use mx_row_rules::found::lives::{base_found, is_of_life};
+use mx_table_rows::chosen::kept::base2_by_item_and_task;
 use sqlite::{Alter, Transaction};
 use std::alloc::Global;
 

@@ -16,7 +16,7 @@ use Rattle.mx_base.specs.declared.rows.rows.EntryRow.{EntryRow}
 use Rattle.mx_base.specs.declared.rows.rows.SpanRow.{SpanRow}
 use Rattle.mx_layout.specs.declared.fault.Table.TheVariants as table
 use Rattle.mx_layout.specs.kept.Cells.{kept_aircraft, kept_component, kept_defect, kept_entry, kept_span2}
-use Rattle.mx_chosen.specs.Choices.{has_value, is_open}
+use Rattle.mx_table_rows.specs.chosen.Choices.{has_value, is_open}
 use Rattle.mx_row_rules.specs.found.Defects.{deferral_aircraft, defect_in}
 use Rattle.mx_row_rules.specs.found.Names.{is_deferral, tail_in}
 use Rattle.mx_row_rules.specs.found.Spans.{span_aircraft}

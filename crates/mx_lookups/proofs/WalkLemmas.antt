@@ -14,7 +14,7 @@ use Rattle.mx_layout.specs.Crash.{IsWithin}
 use Rattle.mx_layout.specs.declared.fault.TableFault.{TableFault}
 use Rattle.mx_layout.specs.declared.fault.TableFault.TheVariants as fault
 use Rattle.mx_layout.specs.kept.Kept.{Kept}
-use Rattle.mx_chosen.specs.Calls.{ReadsFirst}
+use Rattle.mx_table_rows.specs.chosen.Calls.{ReadsFirst}
 use Rattle.mx_numbers.specs.AnyRows.{AreChosen, AreSaid, GivesEach, ReadsAny}
 use Rattle.mx_numbers.specs.Damage.{IsDamaged, IsKept}
 use Rattle.mx_numbers.specs.Reads.{Reads}

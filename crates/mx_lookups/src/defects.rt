@@ -10,12 +10,12 @@ ghost use Rattle.mx_numbers.specs.Told.{DefectDamage, ExtensionDamage, Rectified
 use mx_base::Doc;
 use mx_book::Defect;
 use mx_book::commands::Extension;
-use mx_chosen::defects::{defect_by_seq, extension_by_defect};
-use mx_chosen::items::aircraft_by_seq;
-use mx_chosen::works::crs_line_by_defect;
 use mx_layout::{Table, TableFault};
 use mx_numbers::entries::defect_number;
 use mx_row_rules::found::defects::{defect_in, deferral_aircraft, extension_in, is_rectified_in};
+use mx_table_rows::chosen::defects::{defect_by_seq, extension_by_defect};
+use mx_table_rows::chosen::items::aircraft_by_seq;
+use mx_table_rows::chosen::works::crs_line_by_defect;
 use sqlite::{Alter, Transaction};
 use std::alloc::Global;
 

@@ -18,16 +18,16 @@ ghost use Rattle.mx_numbers.specs.Told.{DefectsDamage, DocDamage, DocIfOpenDamag
 
 use mx_base::{Category, Doc, Position, Serial, Tail};
 use mx_book::Defect;
-use mx_chosen::defects::defect_by_aircraft;
-use mx_chosen::entries::entry_by_seq;
-use mx_chosen::items::component_by_seq;
-use mx_chosen::kept::open_spans_by_aircraft;
-use mx_chosen::works::crs_line_by_defect;
 use mx_layout::{Table, TableFault};
 use mx_numbers::items::aircraft_number;
 use mx_row_rules::found::components::serial_in;
 use mx_row_rules::found::defects::{defect_said, is_rectified_in};
 use mx_row_rules::found::entries::doc_in;
+use mx_table_rows::chosen::defects::defect_by_aircraft;
+use mx_table_rows::chosen::entries::entry_by_seq;
+use mx_table_rows::chosen::items::component_by_seq;
+use mx_table_rows::chosen::kept::open_spans_by_aircraft;
+use mx_table_rows::chosen::works::crs_line_by_defect;
 use sqlite::{Alter, Transaction};
 use std::alloc::Global;
 

@@ -11,8 +11,8 @@ ghost use Rattle.mx_numbers.specs.Reads.{Reads};
 ghost use Rattle.mx_numbers.specs.Told.{CountDamage, TellsDamage};
 
 use mx_book::limits::{MOST_AIRCRAFT, MOST_COMPONENTS};
-use mx_chosen::counts::{count_aircraft, count_component};
 use mx_layout::TableFault;
+use mx_table_rows::chosen::counts::{count_aircraft, count_component};
 use sqlite::{Alter, Transaction};
 
 /// Whether there is room for one more aircraft.

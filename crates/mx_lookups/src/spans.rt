@@ -9,10 +9,10 @@ ghost use Rattle.mx_numbers.specs.Reads.{Reads};
 ghost use Rattle.mx_numbers.specs.Told.{NumberFittedDamage, TailFittedDamage, TakenDamage, TellsDamage};
 
 use mx_base::{Position, Serial, Tail};
-use mx_chosen::kept::{open_spans_by_aircraft, open_spans_by_component};
 use mx_layout::{Table, TableFault};
 use mx_numbers::items::{aircraft_number, component_number, tail_of_number};
 use mx_row_rules::found::spans::{is_taken_in, span_aircraft};
+use mx_table_rows::chosen::kept::{open_spans_by_aircraft, open_spans_by_component};
 use sqlite::{Alter, Transaction};
 use std::alloc::Global;
 

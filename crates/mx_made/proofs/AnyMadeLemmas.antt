@@ -22,7 +22,7 @@ use Rattle.mx_numbers.specs.Given.{ItemNumber, TaskOf}
 use Rattle.mx_numbers.specs.Reads.{Reads}
 use Rattle.mx_numbers.proofs.AnyLemmas.{any_later, any_so}
 use Rattle.mx_numbers.proofs.TableLemmas.{IsTable}
-use Rattle.mx_chosen.specs.Calls.{ReadsFirst}
+use Rattle.mx_table_rows.specs.chosen.Calls.{ReadsFirst}
 use Rattle.mx_book.specs.due.Due.{due_after}
 use Rattle.mx_book.specs.Judge.{item_at}
 use Rattle.mx_book.specs.Register.{birth_in}

@@ -26,7 +26,7 @@ use Rattle.mx_layout.specs.declared.fault.Table.TheVariants as table
 use Rattle.mx_layout.specs.declared.fault.TableFault.{TableFault}
 use Rattle.mx_layout.specs.declared.fault.TableFault.TheVariants.{Memory}
 use Rattle.mx_layout.specs.kept.Cells.{kept_total2}
-use Rattle.mx_chosen.specs.Choices.{has_value}
+use Rattle.mx_table_rows.specs.chosen.Choices.{has_value}
 use Rattle.mx_row_rules.specs.found.Lives.{life_in}
 use Rattle.mx_numbers.specs.AnyRows.{Gives}
 use Rattle.mx_numbers.specs.Damage.{HasRow, IsDamaged}

@@ -14,8 +14,8 @@ use Rattle.mx_registers.proofs.KeptProofs.CreditLemmas.{filter_on}
 use Rattle.mx_registers.proofs.KeptProofs.SpanRegisters.{and_swap}
 use Rattle.mx_layout.specs.declared.fault.TableFault.{TableFault}
 use Rattle.mx_layout.specs.kept.Cells.{kept_span2}
-use Rattle.mx_chosen.specs.Calls.{ReadsBy}
-use Rattle.mx_chosen.specs.Choices.{has_value}
+use Rattle.mx_table_rows.specs.chosen.Calls.{ReadsBy}
+use Rattle.mx_table_rows.specs.chosen.Choices.{has_value}
 use Rattle.mx_row_rules.specs.found.Spans.{is_open_of as is_left_of}
 use Rattle.mx_row_rules.proofs.FoundProofs.OpenLemmas.{ends_alike}
 use Rattle.mx_numbers.specs.Reads.{Reads}

@@ -12,9 +12,9 @@ use crate::numbers::{number_of_aircraft, number_of_component};
 use crate::totals::totals_of;
 use mx_base::rows::{EntryRow, SpanRow};
 use mx_book::commands::{Fitting, Removal};
-use mx_chosen::kept::open_spans_by_component;
 use mx_layout::TableFault;
 use mx_row_rules::changes::{CommandRows, fitting_rows, removal_rows};
+use mx_table_rows::chosen::kept::open_spans_by_component;
 use sqlite::{Alter, Transaction};
 use std::alloc::{AllocError, Global};
 

@@ -14,9 +14,9 @@ use crate::numbers::number_of_aircraft;
 use crate::totals::totals_of;
 use mx_base::rows::{EntryRow, SpanRow};
 use mx_book::commands::Sector;
-use mx_chosen::kept::span2_by_aircraft;
 use mx_layout::TableFault;
 use mx_row_rules::changes::{CommandRows, sector_rows};
+use mx_table_rows::chosen::kept::span2_by_aircraft;
 use sqlite::{Alter, Transaction};
 use std::alloc::{AllocError, Global};
 

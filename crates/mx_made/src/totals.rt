@@ -13,12 +13,12 @@ ghost use Rattle.mx_made.specs.Totals.{HasItem, TotalOf};
 
 use mx_base::rows::TotalRow;
 use mx_base::{Base, Use};
-use mx_chosen::items::{aircraft_by_seq, component_by_seq};
-use mx_chosen::kept::total2_by_item;
 use mx_layout::{Table, TableFault};
 use mx_row_rules::found::aircraft::aircraft_number;
 use mx_row_rules::found::components::component_number;
 use mx_row_rules::found::lives::is_of_life;
+use mx_table_rows::chosen::items::{aircraft_by_seq, component_by_seq};
+use mx_table_rows::chosen::kept::total2_by_item;
 use sqlite::{Alter, Transaction};
 use std::alloc::Global;
 

@@ -19,8 +19,8 @@ use Rattle.mx_layout.specs.Names.{table_named}
 use Rattle.mx_layout.proofs.CrashLemmas.{stays_then, within_then}
 use Rattle.mx_layout.specs.kept.Kept.{Kept}
 use Rattle.mx_layout.specs.kept.Family.{IsReadableAs}
-use Rattle.mx_chosen.specs.Calls.{ReadsFirst}
-use Rattle.mx_chosen.specs.Choices.{is_any}
+use Rattle.mx_table_rows.specs.chosen.Calls.{ReadsFirst}
+use Rattle.mx_table_rows.specs.chosen.Choices.{is_any}
 use Rattle.mx_stands.specs.Schemas.{schema_at}
 use Rattle.mx_stands.specs.Stands.{LiesAt}
 use Rattle.mx_tables.specs.Calls.{OnRead, ReadsRows}

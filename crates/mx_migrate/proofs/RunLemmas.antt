@@ -25,8 +25,8 @@ use Rattle.mx_layout.proofs.CrashLemmas.{stays_then, within_then}
 use Rattle.mx_layout.specs.kept.Cells.{kept_sector1}
 use Rattle.mx_layout.specs.kept.Family.{IsReadableAs}
 use Rattle.mx_layout.specs.kept.Schemas.{HasOwn1}
-use Rattle.mx_chosen.specs.Calls.{ReadsFirst}
-use Rattle.mx_chosen.specs.Choices.{is_any, is_up_to}
+use Rattle.mx_table_rows.specs.chosen.Calls.{ReadsFirst}
+use Rattle.mx_table_rows.specs.chosen.Choices.{is_any, is_up_to}
 use Rattle.mx_stands.specs.Schemas.{schema_at}
 use Rattle.mx_stands.specs.Stands.{LiesAt}
 use Rattle.mx_moves.specs.Changes.{Alters, AllRise, Reaches, WasOpen}

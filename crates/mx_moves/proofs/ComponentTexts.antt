@@ -9,10 +9,10 @@ use Rattle.mx_layout.specs.Tables.{fit1, removal1}
 use Rattle.mx_layout.specs.kept.Cells.{kept_fit1, kept_removal1}
 use Rattle.mx_layout.specs.kept.Kept.{over}
 use Rattle.mx_layout.specs.kept.Schemas.{HasBehind, HasOwn1, own_1, own_moving, permanent}
-use Rattle.mx_chosen.specs.Lookups.{Deletes, Finds}
-use Rattle.mx_chosen.specs.Texts.{by_value}
-use Rattle.mx_chosen.proofs.EqualLemmas.{one_equal}
-use Rattle.mx_chosen.proofs.LookupLemmas.{Chooses, Drops, deleted, either_deletes, either_finds, first_found, given_at}
+use Rattle.mx_table_rows.specs.chosen.Lookups.{Deletes, Finds}
+use Rattle.mx_table_rows.specs.chosen.Texts.{by_value}
+use Rattle.mx_table_rows.proofs.ChosenProofs.EqualLemmas.{one_equal}
+use Rattle.mx_table_rows.proofs.ChosenProofs.LookupLemmas.{Chooses, Drops, deleted, either_deletes, either_finds, first_found, given_at}
 use Rattle.mx_moves.specs.Texts.{fit1_by_component, removal1_by_component, removal1_gone}
 use Rattle.std.specs.Prelude.{None}
 

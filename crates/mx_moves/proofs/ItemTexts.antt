@@ -6,10 +6,10 @@ use Rattle.sqlite_sql.specs.declared.ops.CompareOp.TheVariants.{Gt}
 use Rattle.sqlite_tied.specs.Compute.{everything}
 use Rattle.mx_layout.specs.Tables.{component}
 use Rattle.mx_layout.specs.kept.Cells.{kept_component}
-use Rattle.mx_chosen.specs.Lookups.{FindsFirst}
-use Rattle.mx_chosen.specs.Texts.{above}
-use Rattle.mx_chosen.proofs.EqualLemmas.{one_equal}
-use Rattle.mx_chosen.proofs.LookupLemmas.{first_page, given_at}
+use Rattle.mx_table_rows.specs.chosen.Lookups.{FindsFirst}
+use Rattle.mx_table_rows.specs.chosen.Texts.{above}
+use Rattle.mx_table_rows.proofs.ChosenProofs.EqualLemmas.{one_equal}
+use Rattle.mx_table_rows.proofs.ChosenProofs.LookupLemmas.{first_page, given_at}
 
 abbrev pub next_component : List ℕ
 next_component = codes "SELECT seq, serial, part, birth, minutes, cycles, as_of FROM component WHERE seq > ?1 ORDER BY seq LIMIT 1"

@@ -21,10 +21,10 @@ use Rattle.mx_layout.proofs.RowLemmas.{cast_int, cast_null}
 use Rattle.mx_layout.specs.Plans.{added}
 use Rattle.mx_layout.specs.kept.Meanings.{MeansAdded}
 use Rattle.mx_layout.specs.kept.Schemas.{HasPermanent, permanent}
-use Rattle.mx_chosen.specs.Lookups.{Deletes}
-use Rattle.mx_chosen.specs.Texts.{by_value}
-use Rattle.mx_chosen.proofs.EqualLemmas.{one_equal}
-use Rattle.mx_chosen.proofs.LookupLemmas.{Drops, deleted, given_at}
+use Rattle.mx_table_rows.specs.chosen.Lookups.{Deletes}
+use Rattle.mx_table_rows.specs.chosen.Texts.{by_value}
+use Rattle.mx_table_rows.proofs.ChosenProofs.EqualLemmas.{one_equal}
+use Rattle.mx_table_rows.proofs.ChosenProofs.LookupLemmas.{Drops, deleted, given_at}
 use Rattle.mx_moves.specs.Keeping.{kept_point}
 use Rattle.mx_moves.specs.Texts.{point_gone}
 

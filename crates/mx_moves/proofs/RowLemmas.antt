@@ -28,8 +28,8 @@ use Rattle.mx_layout.proofs.KeptProofs.OntoLemmas.{on_top_keeps}
 use Rattle.mx_tables.specs.inserts.Calls.{InsertsRow}
 use Rattle.mx_tables.specs.inserts.Sets.{GainsRows, WritesTables}
 use Rattle.mx_tables.proofs.InsertsProofs.SetLemmas.{gains_none, gains_one, gains_then, on_weaker}
-use Rattle.mx_chosen.specs.Calls.{DeletesRows}
-use Rattle.mx_chosen.specs.Choices.{Loses}
+use Rattle.mx_table_rows.specs.chosen.Calls.{DeletesRows}
+use Rattle.mx_table_rows.specs.chosen.Choices.{Loses}
 use Rattle.mx_moves.specs.Changes.{less, in_place, emptied, AllRise, Reaches, WritesRows, Alters}
 use Rattle.mx_moves.specs.Schemas.{IsFree}
 

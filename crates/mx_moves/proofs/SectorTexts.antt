@@ -4,9 +4,9 @@ use Rattle.sqlite.specs.Listing.{understood}
 use Rattle.sqlite_tied.specs.Compute.{everything}
 use Rattle.mx_layout.specs.kept.Cells.{kept_sector1}
 use Rattle.mx_layout.specs.kept.Schemas.{own_1}
-use Rattle.mx_chosen.specs.Lookups.{FindsFirst}
-use Rattle.mx_chosen.specs.Texts.{any_row}
-use Rattle.mx_chosen.proofs.LookupLemmas.{first_page}
+use Rattle.mx_table_rows.specs.chosen.Lookups.{FindsFirst}
+use Rattle.mx_table_rows.specs.chosen.Texts.{any_row}
+use Rattle.mx_table_rows.proofs.ChosenProofs.LookupLemmas.{first_page}
 use Rattle.mx_moves.specs.Texts.{first_sectors}
 
 pub first_sectors_finds : FindsFirst kept_sector1 first_sectors (Some 64) kept_sector1.order any_row

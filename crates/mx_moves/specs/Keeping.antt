@@ -8,7 +8,7 @@ use Rattle.mx_layout.specs.declared.fault.Table.TheVariants as table
 use Rattle.mx_layout.specs.Point.{point_cells, FitsPoint}
 use Rattle.mx_layout.specs.kept.Kept.{Kept, numbered}
 use Rattle.mx_layout.specs.kept.Schemas.{HasPermanent}
-use Rattle.mx_chosen.specs.Choices.{has_value}
+use Rattle.mx_table_rows.specs.chosen.Choices.{has_value}
 use Rattle.mx_moves.specs.Changes.{in_place}
 
 -- points, as rows of `office`

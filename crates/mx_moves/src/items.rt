@@ -3,12 +3,12 @@ ghost use Rattle.std.specs.Prelude.{◌≡◌, pos, Some};
 ghost use Rattle.sqlite.specs.declared.types.Value.TheVariants.{Int};
 ghost use Rattle.sqlite.specs.Held.{state};
 ghost use Rattle.mx_layout.specs.kept.Cells.{kept_component};
-ghost use Rattle.mx_chosen.specs.Calls.{ReadsFirst};
-ghost use Rattle.mx_chosen.specs.Choices.{is_above};
+ghost use Rattle.mx_table_rows.specs.chosen.Calls.{ReadsFirst};
+ghost use Rattle.mx_table_rows.specs.chosen.Choices.{is_above};
 
 use crate::prelude::*;
 use mx_base::rows::ComponentRow;
-use mx_chosen::chosen::rows_chosen;
+use mx_table_rows::chosen::chosen::rows_chosen;
 use sqlite::params;
 use std::alloc::Global;
 

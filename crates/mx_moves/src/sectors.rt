@@ -4,15 +4,15 @@ ghost use Rattle.sqlite.specs.declared.types.Value.TheVariants.{Int};
 ghost use Rattle.sqlite.specs.Held.{state};
 ghost use Rattle.mx_layout.specs.kept.Cells.{kept_sector1, kept_sector2_rows};
 ghost use Rattle.mx_layout.specs.kept.Family.{on_top};
-ghost use Rattle.mx_chosen.specs.Calls.{ReadsFirst};
-ghost use Rattle.mx_chosen.specs.Choices.{is_any, is_up_to};
+ghost use Rattle.mx_table_rows.specs.chosen.Calls.{ReadsFirst};
+ghost use Rattle.mx_table_rows.specs.chosen.Choices.{is_any, is_up_to};
 ghost use Rattle.mx_moves.specs.Changes.{WritesRows, less};
 ghost use Rattle.mx_moves.specs.Schemas.{IsFree};
 
 use crate::prelude::*;
 use mx_base::rows::{Sector2Row, SectorRow};
-use mx_chosen::changes::delete_sector1;
-use mx_chosen::chosen::rows_chosen;
+use mx_table_rows::chosen::changes::delete_sector1;
+use mx_table_rows::chosen::chosen::rows_chosen;
 use mx_tables::inserts::Tables;
 use std::alloc::Global;
 

@@ -17,8 +17,8 @@ use Rattle.mx_layout.specs.declared.fault.TableFault.{TableFault}
 use Rattle.mx_layout.specs.kept.Cells.{kept_entry, kept_aircraft, kept_place, kept_component, kept_programme, kept_task, kept_opening, kept_crs, kept_crs_line, kept_defect, kept_extension, kept_span2, kept_total2}
 use Rattle.mx_layout.specs.kept.Kept.{Kept}
 use Rattle.mx_layout.specs.kept.Values.{number_or_null}
-use Rattle.mx_chosen.specs.Choices.{has_value, is_open}
-use Rattle.mx_chosen.specs.Calls.{ReadsBy, ReadsFirst}
+use Rattle.mx_table_rows.specs.chosen.Choices.{has_value, is_open}
+use Rattle.mx_table_rows.specs.chosen.Calls.{ReadsBy, ReadsFirst}
 use Rattle.mx_row_rules.specs.found.Defects.{rectifies}
 use Rattle.mx_row_rules.specs.found.Spans.{is_open_at, is_open_of, is_removed_by}
 use Rattle.mx_numbers.specs.Reads.{Reads}

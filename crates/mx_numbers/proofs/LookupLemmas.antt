@@ -26,11 +26,11 @@ use Rattle.mx_layout.specs.kept.Cells.{kept_entry, kept_span2}
 use Rattle.mx_layout.specs.kept.Kept.{Kept}
 use Rattle.mx_layout.specs.kept.Family.{IsReadable, IsReadableAs}
 use Rattle.mx_layout.specs.kept.Meanings.{IsLawful}
-use Rattle.mx_chosen.specs.Choices.{AreFirst, backward, is_any, is_missing, is_open}
-use Rattle.mx_chosen.specs.Calls.{ReadsFirst}
-use Rattle.mx_chosen.specs.Counts.{AreNumbered, last_number as counted}
-use Rattle.mx_chosen.proofs.LastLemmas.{last_tells}
-use Rattle.mx_chosen.proofs.EqualLemmas.{equal_numbers, equal_texts}
+use Rattle.mx_table_rows.specs.chosen.Choices.{AreFirst, backward, is_any, is_missing, is_open}
+use Rattle.mx_table_rows.specs.chosen.Calls.{ReadsFirst}
+use Rattle.mx_table_rows.specs.chosen.Counts.{AreNumbered, last_number as counted}
+use Rattle.mx_table_rows.proofs.ChosenProofs.LastLemmas.{last_tells}
+use Rattle.mx_table_rows.proofs.ChosenProofs.EqualLemmas.{equal_numbers, equal_texts}
 use Rattle.mx_stands.specs.Schemas.{schema_at}
 use Rattle.mx_stands.specs.Stands.{HasRowsAt}
 use Rattle.mx_row_rules.specs.found.Names.{last_number}

@@ -12,8 +12,8 @@ use Rattle.mx_layout.specs.declared.fault.TableFault.{TableFault}
 use Rattle.mx_base.specs.declared.rows.rows.Sector2Row.{Sector2Row}
 use Rattle.mx_layout.specs.kept.Kept.{Kept, held}
 use Rattle.mx_layout.specs.kept.Cells.{kept_sector2, kept_sector2_rows}
-use Rattle.mx_chosen.specs.Calls.{ReadsBy, ReadsFirst}
-use Rattle.mx_chosen.specs.Choices.{AreFirst, has_value}
+use Rattle.mx_table_rows.specs.chosen.Calls.{ReadsBy, ReadsFirst}
+use Rattle.mx_table_rows.specs.chosen.Choices.{AreFirst, has_value}
 use Rattle.mx_row_rules.specs.found.Given as given
 use Rattle.mx_row_rules.specs.found.Given.{found, rows_of}
 use Rattle.mx_numbers.specs.Reads.{Reads}

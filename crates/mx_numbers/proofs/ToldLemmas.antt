@@ -20,8 +20,8 @@ use Rattle.mx_layout.specs.declared.fault.TableFault.{TableFault}
 use Rattle.mx_layout.specs.declared.fault.TableFault.TheVariants.{Damaged}
 use Rattle.mx_layout.specs.kept.Cells.{kept_task}
 use Rattle.mx_layout.specs.kept.Kept.{Kept}
-use Rattle.mx_chosen.specs.Calls.{ReadsFirst}
-use Rattle.mx_chosen.specs.Counts.{CountsRows}
+use Rattle.mx_table_rows.specs.chosen.Calls.{ReadsFirst}
+use Rattle.mx_table_rows.specs.chosen.Counts.{CountsRows}
 use Rattle.mx_stands.specs.Schemas.{schema_at}
 use Rattle.mx_numbers.specs.AnyRows.{AreChosen, Gives, ReadsAny}
 use Rattle.mx_numbers.specs.Reads.{Reads, rows_point}

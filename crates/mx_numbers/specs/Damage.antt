@@ -16,7 +16,7 @@ use Rattle.mx_layout.specs.Reading.{HasOther}
 use Rattle.mx_layout.specs.kept.Cells.{kept_base2, kept_programme, kept_task, kept_total2}
 use Rattle.mx_layout.specs.kept.Family.{IsReadable}
 use Rattle.mx_layout.specs.kept.Kept.{Kept}
-use Rattle.mx_chosen.specs.Choices.{has_value, is_any}
+use Rattle.mx_table_rows.specs.chosen.Choices.{has_value, is_any}
 
 -- ── what a row needs in another table ──
 

@@ -20,7 +20,7 @@ use Rattle.mx_layout.specs.TableName.{TableName}
 use Rattle.mx_layout.specs.Contents.{rows_in}
 use Rattle.mx_layout.specs.Names.{table_named}
 use Rattle.mx_layout.specs.kept.Cells.{kept_aircraft, kept_base2, kept_component, kept_crs_line, kept_defect, kept_entry, kept_extension, kept_place, kept_programme, kept_span2, kept_task, kept_total2}
-use Rattle.mx_chosen.specs.Choices.{has_value, is_open}
+use Rattle.mx_table_rows.specs.chosen.Choices.{has_value, is_open}
 use Rattle.mx_row_rules.specs.found.Defects.{deferral_aircraft, defect_in, defect_said, extension_in, is_rectified_in}
 use Rattle.mx_row_rules.specs.found.Lives.{base_found, clock_in, life_in}
 use Rattle.mx_row_rules.specs.found.Names.{aircraft_number, component_number, deferral_number, doc_in, serial_in, tail_in}

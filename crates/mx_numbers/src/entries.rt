@@ -7,7 +7,7 @@ ghost use Rattle.mx_book.specs.commands.Act.{Entry};
 ghost use Rattle.mx_book.specs.Judge.{known_from};
 ghost use Rattle.mx_registers.specs.Names.{seq_of_defect};
 ghost use Rattle.mx_layout.specs.kept.Cells.{kept_entry};
-ghost use Rattle.mx_chosen.specs.Choices.{backward, has_value, is_any};
+ghost use Rattle.mx_table_rows.specs.chosen.Choices.{backward, has_value, is_any};
 ghost use Rattle.mx_row_rules.specs.found.Names.{entry_number, last_number};
 ghost use Rattle.mx_numbers.specs.AnyRows.{Gives, GivesFirst, ReadsAny};
 ghost use Rattle.mx_numbers.specs.Given.{DefectNumber};
@@ -15,9 +15,9 @@ ghost use Rattle.mx_numbers.specs.Reads.{Reads};
 ghost use Rattle.mx_numbers.specs.Told.{EntryDamage, LastDamage, TellsDamage};
 
 use mx_base::Doc;
-use mx_chosen::entries::{entry_by_doc, last_entry};
 use mx_layout::TableFault;
 use mx_row_rules::found::entries::{deferral_number, entry_number, last_number};
+use mx_table_rows::chosen::entries::{entry_by_doc, last_entry};
 use sqlite::{Alter, Transaction};
 use std::alloc::Global;
 

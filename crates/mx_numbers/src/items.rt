@@ -5,7 +5,7 @@ ghost use Rattle.sqlite.specs.Held.{state};
 ghost use Rattle.mx_book.specs.Register.{aircraft, component, part_at};
 ghost use Rattle.mx_registers.specs.Names.{seq_of_item, seq_of_serial, seq_of_tail, tail_at};
 ghost use Rattle.mx_layout.specs.kept.Cells.{kept_aircraft, kept_component};
-ghost use Rattle.mx_chosen.specs.Choices.{has_value};
+ghost use Rattle.mx_table_rows.specs.chosen.Choices.{has_value};
 ghost use Rattle.mx_row_rules.specs.found.Said.{aircraft_in, component_in};
 ghost use Rattle.mx_numbers.specs.AnyRows.{Gives, ReadsAny};
 ghost use Rattle.mx_numbers.specs.Given.{AircraftNumber, ComponentNumber, ItemNumber, PartAt, TailOfNumber};
@@ -14,12 +14,14 @@ ghost use Rattle.mx_numbers.specs.Told.{AircraftDamage, ComponentDamage, ItemDam
 
 use mx_base::{Part, Position, Serial, Tail};
 use mx_book::commands::{Aircraft, Component, Item};
-use mx_chosen::items::{aircraft_by_seq, aircraft_by_tail, component_by_serial, place_by_seq};
 use mx_layout::TableFault;
 use mx_row_rules::found::aircraft::{
     aircraft_in, aircraft_number as number_of_aircraft, part_in, tail_in,
 };
 use mx_row_rules::found::components::{component_in, component_number as number_of_component};
+use mx_table_rows::chosen::items::{
+    aircraft_by_seq, aircraft_by_tail, component_by_serial, place_by_seq,
+};
 use sqlite::{Alter, Transaction};
 use std::alloc::Global;
 

@@ -16,7 +16,7 @@ use Rattle.mx_registers.specs.Names.{seq_of_defect, seq_of_item, seq_of_serial, 
 use Rattle.mx_registers.specs.Registers.{aircraft_rows, component_rows, entry_rows}
 use Rattle.mx_layout.specs.kept.Cells.{kept_aircraft, kept_component, kept_entry}
 use Rattle.mx_layout.specs.kept.Kept.{Kept}
-use Rattle.mx_chosen.specs.Choices.{has_value}
+use Rattle.mx_table_rows.specs.chosen.Choices.{has_value}
 use Rattle.mx_stands.specs.Stands.{HasRowsAt}
 use Rattle.mx_row_rules.specs.found.Names.{aircraft_number, component_number, deferral_number}
 use Rattle.mx_row_rules.proofs.FoundProofs.FoundLemmas.{defect_is, serial_is, tail_is}

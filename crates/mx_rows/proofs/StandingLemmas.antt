@@ -30,9 +30,9 @@ use Rattle.mx_registers.specs.kept.Spans.{span_rows}
 use Rattle.mx_registers.specs.kept.Totals.{total_rows}
 use Rattle.mx_layout.specs.kept.Cells.{kept_aircraft, kept_base2, kept_component, kept_crs_line, kept_defect, kept_entry, kept_extension, kept_place, kept_programme, kept_span2, kept_task, kept_total2}
 use Rattle.mx_layout.specs.kept.Kept.{Kept}
-use Rattle.mx_chosen.specs.Choices.{backward, has_value, is_any, is_open}
-use Rattle.mx_chosen.specs.Counts.{AreNumbered, last_number as last_chosen}
-use Rattle.mx_chosen.proofs.LastLemmas.{last_tells}
+use Rattle.mx_table_rows.specs.chosen.Choices.{backward, has_value, is_any, is_open}
+use Rattle.mx_table_rows.specs.chosen.Counts.{AreNumbered, last_number as last_chosen}
+use Rattle.mx_table_rows.proofs.ChosenProofs.LastLemmas.{last_tells}
 use Rattle.mx_stands.specs.Stands.{HasRowsAt}
 use Rattle.mx_row_rules.specs.found.Defects.{deferral_aircraft, defect_in, extension_in, is_rectified_in, rectifies, is_rectified_at}
 use Rattle.mx_row_rules.specs.found.Lives.{base_found, clock_in, life_in}

@@ -44,7 +44,7 @@ use Rattle.mx_layout.specs.kept.Cells.{kept_component, kept_sector1}
 use Rattle.mx_layout.specs.kept.Family.{IsReadable}
 use Rattle.mx_layout.specs.kept.Schemas.{HasOwn1, HasPermanent}
 use Rattle.mx_layout.proofs.KeptProofs.Lawful.{component_lawful}
-use Rattle.mx_chosen.specs.Choices.{AreFirst, is_above}
+use Rattle.mx_table_rows.specs.chosen.Choices.{AreFirst, is_above}
 use Rattle.mx_stands.specs.Schemas.{IsOfFile, schema_at}
 use Rattle.mx_stands.specs.Stands.{StandsAt}
 use Rattle.mx_stands.proofs.RowLemmas.{readable_stored}

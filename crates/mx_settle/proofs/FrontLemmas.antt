@@ -34,8 +34,8 @@ use Rattle.mx_layout.specs.kept.Cells.{kept_sector1}
 use Rattle.mx_layout.specs.kept.Family.{IsReadable, IsReadableAs}
 use Rattle.mx_layout.specs.kept.Kept.{Kept}
 use Rattle.mx_layout.specs.kept.Meanings.{IsLawful}
-use Rattle.mx_chosen.specs.Calls.{ReadsFirst}
-use Rattle.mx_chosen.specs.Choices.{AreFirst, is_above, is_any}
+use Rattle.mx_table_rows.specs.chosen.Calls.{ReadsFirst}
+use Rattle.mx_table_rows.specs.chosen.Choices.{AreFirst, is_above, is_any}
 use Rattle.mx_stands.proofs.RowLemmas.{cells_once}
 use Rattle.mx_steps.proofs.PageLemmas.{among, page_damaged, permutation_none, rises_left}
 use Rattle.mx_settle.specs.Choices.{FindsLeft, FindsNext, next_checked}

@@ -23,7 +23,7 @@ use Rattle.mx_layout.specs.Point.{IsStop}
 use Rattle.mx_layout.specs.Tables.{sector1}
 use Rattle.mx_layout.specs.kept.Cells.{kept_component, kept_sector1}
 use Rattle.mx_layout.specs.kept.Kept.{Kept}
-use Rattle.mx_chosen.specs.Choices.{AreFirst, is_above}
+use Rattle.mx_table_rows.specs.chosen.Choices.{AreFirst, is_above}
 use Rattle.mx_stands.specs.Schemas.{IsOfFile, schema_at}
 use Rattle.mx_stands.specs.Stands.{LiesAt, StandsAt}
 use Rattle.mx_tables.specs.Calls.{OnRead}

@@ -28,7 +28,7 @@ use Rattle.mx_layout.specs.kept.Cells.{kept_fit1, kept_removal1, kept_span2}
 use Rattle.mx_layout.specs.kept.Family.{IsReadable}
 use Rattle.mx_layout.proofs.KeptProofs.Lawful.{fit1_lawful, removal1_lawful}
 use Rattle.mx_layout.proofs.KeptProofs.OntoLemmas.{on_top_keeps}
-use Rattle.mx_chosen.proofs.EqualLemmas.{equal_numbers}
+use Rattle.mx_table_rows.proofs.ChosenProofs.EqualLemmas.{equal_numbers}
 use Rattle.mx_stands.specs.Family.{rows_of, rows_given, is_at, Fit}
 use Rattle.mx_stands.specs.Stands.{StandsAt}
 use Rattle.mx_stands.proofs.RowLemmas.{readable_stored}

@@ -25,7 +25,7 @@ use Rattle.mx_registers.specs.points.Moves.{last_moved}
 use Rattle.mx_registers.proofs.PointsProofs.OneBook.{all_there}
 use Rattle.mx_layout.specs.Contents.{cells, rows_in, Rises}
 use Rattle.mx_layout.specs.Reading.{by_first}
-use Rattle.mx_chosen.specs.Choices.{AreFirst, is_any, is_up_to}
+use Rattle.mx_table_rows.specs.chosen.Choices.{AreFirst, is_any, is_up_to}
 
 -- ── numbers ──
 

@@ -20,7 +20,7 @@ use Rattle.mx_layout.specs.Names.{table_named}
 use Rattle.mx_layout.specs.Reading.{HasOther, IsRowOf}
 use Rattle.mx_layout.specs.kept.Kept.{Kept}
 use Rattle.mx_layout.specs.kept.Meanings.{IsLawful}
-use Rattle.mx_chosen.specs.Choices.{AreFirst, is_any}
+use Rattle.mx_table_rows.specs.chosen.Choices.{AreFirst, is_any}
 use Rattle.mx_stands.proofs.RowLemmas.{cells_once}
 
 -- ── lists that rise ──

@@ -37,8 +37,8 @@ use Rattle.mx_layout.specs.kept.Cells.{kept_sector1, kept_sector2}
 use Rattle.mx_layout.specs.kept.Family.{IsReadable}
 use Rattle.mx_layout.proofs.KeptProofs.Lawful.{sector1_lawful}
 use Rattle.mx_layout.proofs.KeptProofs.OntoLemmas.{on_top_keeps}
-use Rattle.mx_chosen.specs.Choices.{is_up_to}
-use Rattle.mx_chosen.proofs.EqualLemmas.{equal_numbers}
+use Rattle.mx_table_rows.specs.chosen.Choices.{is_up_to}
+use Rattle.mx_table_rows.proofs.ChosenProofs.EqualLemmas.{equal_numbers}
 use Rattle.mx_stands.specs.Family.{rows_of, rows_given, is_at, Fit}
 use Rattle.mx_stands.specs.Stands.{StandsAt}
 use Rattle.mx_stands.proofs.RowLemmas.{readable_stored}

@@ -17,7 +17,7 @@ use Rattle.mx_layout.specs.declared.fault.Table.TheVariants as table
 use Rattle.mx_layout.specs.Tables.{fit1, removal1}
 use Rattle.mx_layout.specs.kept.Cells.{kept_fit1, kept_removal1, kept_span2}
 use Rattle.mx_layout.specs.kept.Family.{on_top}
-use Rattle.mx_chosen.specs.Choices.{AreFirst, has_value}
+use Rattle.mx_table_rows.specs.chosen.Choices.{AreFirst, has_value}
 use Rattle.mx_tables.specs.inserts.Sets.{IsDamaged}
 use Rattle.mx_moves.specs.Changes.{less}
 use Rattle.mx_moves.specs.Keeping.{point_set}

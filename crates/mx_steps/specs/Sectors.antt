@@ -16,7 +16,7 @@ use Rattle.mx_layout.specs.Contents.{rows_in}
 use Rattle.mx_layout.specs.Tables.{sector1}
 use Rattle.mx_layout.specs.kept.Cells.{kept_sector1, kept_sector2}
 use Rattle.mx_layout.specs.kept.Family.{on_top}
-use Rattle.mx_chosen.specs.Choices.{AreFirst, is_any, is_up_to}
+use Rattle.mx_table_rows.specs.chosen.Choices.{AreFirst, is_any, is_up_to}
 use Rattle.mx_tables.specs.inserts.Sets.{IsDamaged}
 use Rattle.mx_moves.specs.Changes.{less}
 use Rattle.mx_moves.specs.Keeping.{point_set}

@@ -1,5 +1,5 @@
 //! The tables as sets of typed rows, which are read. SQL for all rows of a table, and for one that is added, is in this
-//! crate, that for chosen rows in `mx_chosen`, and for the rows in whose place others come in `mx_totals`. Above these a
+//! crate, that for chosen rows in `mx_table_rows::chosen`, and for the rows in whose place others come in `mx_table_rows::totals`. Above these a
 //! table is what `rows` gives for its type, in the order of its key, and `insert` of `mx_tables::inserts` adds one row to it. Each
 //! call is made inside a `Transaction`, which the caller commits or drops.
 //!

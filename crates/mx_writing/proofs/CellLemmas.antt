@@ -14,7 +14,7 @@ use Rattle.mx_layout.specs.TableName.{TableName}
 use Rattle.mx_layout.specs.Names.{table_named}
 use Rattle.mx_layout.specs.kept.Kept.{Kept}
 use Rattle.mx_layout.specs.kept.Cells.{kept_base2}
-use Rattle.mx_chosen.proofs.EqualLemmas.{equal_numbers, equal_texts}
+use Rattle.mx_table_rows.proofs.ChosenProofs.EqualLemmas.{equal_numbers, equal_texts}
 use Rattle.mx_writing.specs.Changes.{all_in_place}
 use Rattle.mx_writing.specs.Written.{is_same_base}
 

@@ -33,7 +33,7 @@ use Rattle.mx_layout.specs.kept.Cells.{kept_entry, kept_aircraft, kept_place, ke
 use Rattle.mx_stands.specs.Family.{added, first_rows, given, is_at, is_register, is_there, rows_given, rows_of}
 use Rattle.mx_stands.proofs.FamilyLemmas.{AreFacts, facts, never}
 use Rattle.mx_stands.proofs.ChangeLemmas.{brings}
-use Rattle.mx_chosen.proofs.EqualLemmas.{equal_numbers}
+use Rattle.mx_table_rows.proofs.ChosenProofs.EqualLemmas.{equal_numbers}
 use Rattle.mx_writing.specs.Changes.{all_in_place}
 use Rattle.mx_writing.specs.Written.{written_point, is_same_base, is_same_span, is_same_total, with_changed, with_rows}
 use Rattle.mx_writing.proofs.CellLemmas.{base_agrees, bases_put_are, is_of_same_task, other_table, own_table}

@@ -29,7 +29,7 @@ use Rattle.mx_layout.proofs.KeptProofs.OntoLemmas.{on_top_keeps}
 use Rattle.mx_tables.specs.inserts.Calls.{InsertsRow}
 use Rattle.mx_tables.specs.inserts.Sets.{GainsRows, WritesTables}
 use Rattle.mx_tables.proofs.InsertsProofs.SetLemmas.{gains_none, gains_one, gains_then, on_weaker, stays_open}
-use Rattle.mx_totals.specs.InPlace.{Replaces, ReplacesRows}
+use Rattle.mx_table_rows.specs.totals.InPlace.{Replaces, ReplacesRows}
 use Rattle.mx_writing.specs.Changes.{AllRise, WritesRows, all_in_place, in_place}
 
 -- what is made of rows does not depend on their order

@@ -3,14 +3,14 @@ ghost use Rattle.std.specs.Prelude.{◌≡◌, Bool};
 ghost use Rattle.sqlite.specs.Order.{Row};
 ghost use Rattle.sqlite.specs.Held.{state};
 ghost use Rattle.mx_layout.specs.Contents.{HasNoReferences};
-ghost use Rattle.mx_totals.specs.InPlace.{ReplacesRows};
+ghost use Rattle.mx_table_rows.specs.totals.InPlace.{ReplacesRows};
 ghost use Rattle.mx_writing.specs.Changes.{WritesRows, all_in_place};
 
 use mx_base::rows::{BaseRow, SpanRow, TotalRow};
 use mx_layout::TableFault;
+use mx_table_rows::totals::bases::set_base;
+use mx_table_rows::totals::in_place::{set_span2, set_total};
 use mx_tables::Stored;
-use mx_totals::bases::set_base;
-use mx_totals::in_place::{set_span2, set_total};
 use sqlite::{Alter, Transaction};
 
 /// Rows that come in place of others of their table.

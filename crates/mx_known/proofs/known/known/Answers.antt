@@ -1,7 +1,7 @@
 use Rattle.std.proofs.Common.{refl, subst, inl}
 use Rattle.sqlite.specs.declared.types.Value.TheVariants.{Text}
 use Rattle.mx_layout.specs.kept.Cells.{kept_entry}
-use Rattle.mx_chosen.specs.Choices.{has_value}
+use Rattle.mx_table_rows.specs.chosen.Choices.{has_value}
 use Rattle.mx_row_rules.specs.found.Names.{entry_number}
 use Rattle.mx_numbers.specs.AnyRows.{Gives}
 use Rattle.mx_numbers.proofs.AnyLemmas.{any_so, by_none, by_number}

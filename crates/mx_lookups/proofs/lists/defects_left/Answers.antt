@@ -10,7 +10,7 @@ use Rattle.mx_row_rules.specs.found.Names.{doc_at}
 use Rattle.mx_row_rules.proofs.FoundProofs.OpenDefectLemmas.{entries_there}
 use Rattle.mx_layout.specs.declared.fault.Table.TheVariants as table
 use Rattle.mx_layout.specs.kept.Cells.{kept_defect}
-use Rattle.mx_chosen.specs.Choices.{has_value}
+use Rattle.mx_table_rows.specs.chosen.Choices.{has_value}
 use Rattle.mx_numbers.specs.Given.{DocIfOpen, OpenSaid}
 use Rattle.mx_numbers.proofs.BookRows.{deferrals_of_aircraft}
 use Rattle.mx_lookups.proofs.DamageLemmas.{entry_unmet}

@@ -5,7 +5,7 @@ use Rattle.sqlite.specs.Held.{state}
 use Rattle.mx_registers.specs.Registers.{deferral_rows}
 use Rattle.mx_base.specs.declared.rows.rows.DeferralRow.{DeferralRow}
 use Rattle.mx_layout.specs.kept.Cells.{kept_defect}
-use Rattle.mx_chosen.specs.Choices.{has_value}
+use Rattle.mx_table_rows.specs.chosen.Choices.{has_value}
 use Rattle.mx_row_rules.specs.found.Defects.{open_said}
 use Rattle.mx_row_rules.specs.found.Names.{doc_at}
 use Rattle.mx_numbers.specs.Given.{OpenSaid}

@@ -9,7 +9,7 @@ use Rattle.mx_row_rules.specs.found.Spans.{is_open_at, place_said}
 use Rattle.mx_row_rules.proofs.FoundProofs.FittedLemmas.{components_there}
 use Rattle.mx_layout.specs.declared.fault.Table.TheVariants as table
 use Rattle.mx_layout.specs.kept.Cells.{kept_span2}
-use Rattle.mx_chosen.specs.Choices.{is_open}
+use Rattle.mx_table_rows.specs.chosen.Choices.{is_open}
 use Rattle.mx_numbers.specs.Given.{PlaceSaid, SerialOfNumber}
 use Rattle.mx_numbers.proofs.BookRows.{open_spans_at}
 use Rattle.mx_lookups.proofs.DamageLemmas.{component_unmet}

@@ -11,7 +11,7 @@ use Rattle.mx_made.specs.Found.{AreTotalsOf, numbers_removed}
 use Rattle.mx_made.proofs.AnyMadeLemmas.{any_then, chosen_read}
 use Rattle.sqlite.specs.declared.types.Value.TheVariants.{Int}
 use Rattle.mx_layout.specs.kept.Cells.{kept_span2}
-use Rattle.mx_chosen.specs.Choices.{is_open}
+use Rattle.mx_table_rows.specs.chosen.Choices.{is_open}
 use Rattle.mx_numbers.specs.AnyRows.{AreChosen}
 use Rattle.mx_numbers.proofs.TableLemmas.{spans}
 use Rattle.mx_made.proofs.moves.rows_of_removal.Goals as goal

@@ -3,7 +3,7 @@ use Rattle.sqlite.specs.declared.types.Value.TheVariants.{Int}
 use Rattle.sqlite.specs.Held.{state}
 use Rattle.mx_layout.specs.kept.Cells.{kept_fit1}
 use Rattle.mx_layout.proofs.KeptProofs.Lawful.{fit1_lawful}
-use Rattle.mx_chosen.specs.Choices.{has_value}
+use Rattle.mx_table_rows.specs.chosen.Choices.{has_value}
 use Rattle.mx_moves.proofs.RowLemmas.{deletes_write}
 use Rattle.mx_moves.proofs.components.delete_fittings.Goals as goal
 

@@ -1,6 +1,6 @@
 use Rattle.std.proofs.Common.{rules, [], ◌∷◌, pos}
 use Rattle.sqlite.specs.declared.types.Value.TheVariants.{Int}
-use Rattle.mx_chosen.specs.Texts.{by_value}
+use Rattle.mx_table_rows.specs.chosen.Texts.{by_value}
 use Rattle.mx_moves.proofs.ComponentTexts.{removals_gone}
 use Rattle.mx_moves.proofs.components.delete_removal1.Goals as goal
 

@@ -1,7 +1,7 @@
 use Rattle.std.proofs.Common.{None, rules, [], ◌∷◌, pos}
 use Rattle.sqlite.specs.declared.types.Value.TheVariants.{Int}
 use Rattle.mx_layout.specs.kept.Cells.{kept_fit1}
-use Rattle.mx_chosen.specs.Texts.{by_value}
+use Rattle.mx_table_rows.specs.chosen.Texts.{by_value}
 use Rattle.mx_moves.proofs.ComponentTexts.{fittings_find}
 use Rattle.mx_moves.proofs.components.fittings_of.Goals as goal
 

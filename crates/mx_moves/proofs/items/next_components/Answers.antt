@@ -1,7 +1,7 @@
 use Rattle.std.proofs.Common.{Some, rules, [], ◌∷◌, pos}
 use Rattle.sqlite.specs.declared.types.Value.TheVariants.{Int}
 use Rattle.mx_layout.specs.kept.Cells.{kept_component}
-use Rattle.mx_chosen.specs.Texts.{above}
+use Rattle.mx_table_rows.specs.chosen.Texts.{above}
 use Rattle.mx_moves.proofs.ItemTexts.{next_component_finds}
 use Rattle.mx_moves.proofs.items.next_components.Goals as goal
 

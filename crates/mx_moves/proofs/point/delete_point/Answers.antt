@@ -4,8 +4,8 @@ use Rattle.sqlite.specs.Held.{state}
 use Rattle.sqlite.specs.Order.{Row}
 use Rattle.sqlite.specs.State.{ExecutesInside}
 use Rattle.mx_layout.specs.Tables.{office}
-use Rattle.mx_chosen.specs.Texts.{by_value}
-use Rattle.mx_chosen.proofs.DeleteLemmas.{deletes_those}
+use Rattle.mx_table_rows.specs.chosen.Texts.{by_value}
+use Rattle.mx_table_rows.proofs.ChosenProofs.DeleteLemmas.{deletes_those}
 use Rattle.mx_tables.proofs.InsertsProofs.SetLemmas.{on_weaker}
 use Rattle.mx_moves.specs.Keeping.{kept_point, is_point_row}
 use Rattle.mx_moves.specs.Texts.{point_gone}

@@ -1,6 +1,6 @@
 use Rattle.std.proofs.Common.{Some, rules, []}
 use Rattle.mx_layout.specs.kept.Cells.{kept_sector1}
-use Rattle.mx_chosen.specs.Texts.{any_row}
+use Rattle.mx_table_rows.specs.chosen.Texts.{any_row}
 use Rattle.mx_moves.proofs.SectorTexts.{first_sectors_finds}
 use Rattle.mx_moves.proofs.sectors.first_sectors.Goals as goal
 

@@ -1,7 +1,7 @@
 use Rattle.std.proofs.Common.{◌≡◌, refl}
 use Rattle.std.specs.Prelude.{Some, length}
 use Rattle.mx_layout.specs.kept.Cells.{kept_entry}
-use Rattle.mx_chosen.specs.Choices.{backward, is_any}
+use Rattle.mx_table_rows.specs.chosen.Choices.{backward, is_any}
 use Rattle.mx_row_rules.specs.found.Names.{last_number}
 use Rattle.mx_numbers.specs.AnyRows.{GivesFirst}
 use Rattle.mx_numbers.proofs.AnyLemmas.{silent}

@@ -1,9 +1,0 @@
-use Rattle.std.proofs.Common.{None, rules, [], ◌∷◌, pos}
-use Rattle.sqlite.specs.declared.types.Value.TheVariants.{Int}
-use Rattle.mx_layout.specs.kept.Cells.{kept_defect}
-use Rattle.mx_chosen.specs.Texts.{by_value}
-use Rattle.mx_chosen.proofs.Understood.{defect_by_seq_finds}
-use Rattle.mx_chosen.proofs.defects.defect_by_seq.Goals as goal
-
-pub returns-clause-reads : goal.returns-clause-reads
-returns-clause-reads g c = c.rows_chosen.ensures.reads None kept_defect.order (by_value 0) (Int (pos c.args.seq) ∷ []) defect_by_seq_finds (search rules)

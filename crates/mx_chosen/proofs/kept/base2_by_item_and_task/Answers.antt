@@ -1,9 +1,0 @@
-use Rattle.std.proofs.Common.{None, rules, [], ◌∷◌, pos}
-use Rattle.sqlite.specs.declared.types.Value.TheVariants.{Int, Text}
-use Rattle.mx_layout.specs.kept.Cells.{kept_base2}
-use Rattle.mx_chosen.specs.Texts.{by_values}
-use Rattle.mx_chosen.proofs.Understood.{base2_by_item_and_task_finds}
-use Rattle.mx_chosen.proofs.kept.base2_by_item_and_task.Goals as goal
-
-pub returns-clause-reads : goal.returns-clause-reads
-returns-clause-reads g c = c.rows_chosen.ensures.reads None kept_base2.order (by_values 0 1) (Int (pos c.args.item) ∷ Text c.args.task.now ∷ []) base2_by_item_and_task_finds (search rules)

@@ -1,9 +1,0 @@
-use Rattle.std.proofs.Common.{None, rules, [], ◌∷◌, pos}
-use Rattle.sqlite.specs.declared.types.Value.TheVariants.{Int}
-use Rattle.mx_layout.specs.kept.Cells.{kept_span2}
-use Rattle.mx_chosen.specs.Texts.{by_value}
-use Rattle.mx_chosen.proofs.Understood.{span2_by_remove_seq_finds}
-use Rattle.mx_chosen.proofs.kept.span2_by_remove_seq.Goals as goal
-
-pub returns-clause-reads : goal.returns-clause-reads
-returns-clause-reads g c = c.rows_chosen.ensures.reads None kept_span2.order (by_value 5) (Int (pos c.args.remove_seq) ∷ []) span2_by_remove_seq_finds (search rules)

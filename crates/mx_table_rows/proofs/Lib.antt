@@ -1,0 +1,2 @@
+pub mod ChosenProofs
+pub mod TotalsProofs

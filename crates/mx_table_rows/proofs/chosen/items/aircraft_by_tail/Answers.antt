@@ -1,0 +1,9 @@
+use Rattle.std.proofs.Common.{None, rules, [], ◌∷◌}
+use Rattle.sqlite.specs.declared.types.Value.TheVariants.{Text}
+use Rattle.mx_layout.specs.kept.Cells.{kept_aircraft}
+use Rattle.mx_table_rows.specs.chosen.Texts.{by_value}
+use Rattle.mx_table_rows.proofs.ChosenProofs.Understood.{aircraft_by_tail_finds}
+use Rattle.mx_table_rows.proofs.chosen.items.aircraft_by_tail.Goals as goal
+
+pub returns-clause-reads : goal.returns-clause-reads
+returns-clause-reads g c = c.rows_chosen.ensures.reads None kept_aircraft.order (by_value 1) (Text c.args.tail.now ∷ []) aircraft_by_tail_finds (search rules)

@@ -1,0 +1,9 @@
+use Rattle.std.proofs.Common.{None, rules, [], ◌∷◌, pos}
+use Rattle.sqlite.specs.declared.types.Value.TheVariants.{Int}
+use Rattle.mx_layout.specs.kept.Cells.{kept_span2}
+use Rattle.mx_table_rows.specs.chosen.Texts.{open_by}
+use Rattle.mx_table_rows.proofs.ChosenProofs.Understood.{open_spans_by_aircraft_finds}
+use Rattle.mx_table_rows.proofs.chosen.kept.open_spans_by_aircraft.Goals as goal
+
+pub returns-clause-reads : goal.returns-clause-reads
+returns-clause-reads g c = c.rows_chosen.ensures.reads None kept_span2.order (open_by 2) (Int (pos c.args.aircraft) ∷ []) open_spans_by_aircraft_finds (search rules)

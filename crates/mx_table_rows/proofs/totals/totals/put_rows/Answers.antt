@@ -1,0 +1,41 @@
+use Rattle.std.proofs.Common.{refl, ◌∙◌, ◌≡◌, ◌+◌, ◌<◌, ℕ, suc, get_or, length, ◌++◌, [], ◌∷◌, take, Ok, sym, subst, ap, arith}
+use Rattle.std.proofs.lemmas.List.{take_all}
+use Rattle.std.proofs.Math.Seq.{take-suc}
+use Rattle.sqlite.specs.Held.{state}
+use Rattle.mx_table_rows.specs.totals.Steps.{PutsTotals}
+use Rattle.mx_table_rows.proofs.TotalsProofs.StepLemmas.{none_put, one_put, put_stops}
+use Rattle.mx_table_rows.proofs.totals.totals.put_rows.Goals as goal
+
+pub rows-init : goal.rows-init
+rows-init g c = record { same_reference = refl; puts = none_put _ }
+
+pub rows-preserved : goal.rows-preserved
+rows-preserved g c =
+    let first = state g.S.Store c.args.tx.now.conn.now in
+    let old = state g.S.Store c.rows.tx.conn.now in
+    let new = state g.S.Store c.set_total.new.tx.conn.now in
+    let items = c.args.rows.now in
+    let x = c.row-item.result in
+    let i = c.rows.row-index in
+    let low : i < length items = c.rows-test.true in
+    let here : get_or items i x ≡ x = sym c.row-item.is in
+    let one : suc i ≡ i + 1 = omega arith in
+    let more : take i items ++ x ∷ [] ≡ take (i + 1) items = sym (subst (λ n. take n items ≡ take i items ++ get_or items i x ∷ []) one (take-suc items i x low) ∙ ap (λ y. take i items ++ y ∷ []) here) in
+    record {
+      same_reference = c.set_total.ensures.same_reference ∙ c.rows.invariant.same_reference;
+      puts = subst (λ xs. PutsTotals {V = ℕ} xs first new (Ok 0)) more (one_put (take i items) x first old new c.rows.invariant.puts _ c.in_ok-set_total.ensures.replaces);
+    }
+
+pub returns-in_err-set_total-clause-same_reference : goal.returns-in_err-set_total-clause-same_reference
+returns-in_err-set_total-clause-same_reference g c = c.set_total.ensures.same_reference ∙ c.rows.invariant.same_reference
+
+pub returns-in_err-set_total-clause-puts : goal.returns-in_err-set_total-clause-puts
+returns-in_err-set_total-clause-puts g c =
+    put_stops (take c.rows.row-index c.args.rows.now) c.row-item.result (state g.S.Store c.args.tx.now.conn.now) (state g.S.Store c.rows.tx.conn.now) (state g.S.Store c.set_total.new.tx.conn.now) c.rows.invariant.puts
+    c.args.rows.now c.in_err-set_total.field-0.0 c.from_residual.result c.from_residual.ensures.1 c.in_err-set_total.ensures.replaces
+
+pub returns-clause-puts : goal.returns-clause-puts
+returns-clause-puts g c =
+    let all = take_all c.rows.row-index c.args.rows.now c.rows-test.false in
+    let p = subst (λ xs. PutsTotals {V = ℕ} xs (state g.S.Store c.args.tx.now.conn.now) (state g.S.Store c.rows.tx.conn.now) (Ok 0)) all c.rows.invariant.puts in
+    record { becomes = p.becomes; cause = p.cause; mode = p.mode; inside = p.inside; within = p.within }

@@ -1,0 +1,2 @@
+pub mod chosen
+pub mod totals

@@ -1,7 +1,0 @@
-use Rattle.sqlite.specs.Held.{state}
-use Rattle.mx_totals.proofs.FittedLemmas.{fitted_unread}
-use Rattle.mx_totals.proofs.spans.fitted.Goals as goal
-
-pub returns-in_err-spans-clause-reads : goal.returns-in_err-spans-clause-reads
-returns-in_err-spans-clause-reads g c =
-    fitted_unread c.args.aircraft (state g.S.Store c.args.tx.now.conn.now) (state g.S.Store c.open_spans_by_aircraft.new.tx.conn.now) c.in_err-spans.field-0.0 c.from_residual.result c.from_residual.ensures.1 c.in_err-spans.ensures.reads
