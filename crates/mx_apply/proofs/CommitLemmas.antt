@@ -19,10 +19,10 @@ use Rattle.mx_layout.specs.declared.fault.TableFault.TheVariants as fault
 use Rattle.mx_layout.specs.Crash.{ChangesNothing, Leaves, StaysInside}
 use Rattle.mx_layout.specs.Names.{table_named}
 use Rattle.mx_layout.proofs.CrashLemmas.{IsSettled as StoreSettles, commits_either, commits_ok, dropped}
-use Rattle.mx_stands.specs.Family.{is_at}
-use Rattle.mx_stands.specs.Schemas.{schema_at}
-use Rattle.mx_stands.specs.Stands.{IsEither, RestsAt, StandsAt}
-use Rattle.mx_stands.proofs.SchemaLemmas.{has_tables}
+use Rattle.mx_book_tables.specs.stands.Family.{is_at}
+use Rattle.mx_book_tables.specs.stands.Schemas.{schema_at}
+use Rattle.mx_book_tables.specs.stands.Stands.{IsEither, RestsAt, StandsAt}
+use Rattle.mx_book_tables.proofs.StandsProofs.SchemaLemmas.{has_tables}
 use Rattle.mx_tables.specs.Calls.{OnDamaged, OnRead}
 use Rattle.mx_tables.specs.inserts.Sets.{GainsRows}
 use Rattle.mx_writing.specs.Written.{IsSettled, with_rows, written_point}

@@ -9,7 +9,7 @@ use Rattle.mx_book.specs.Book.{IsBook}
 use Rattle.mx_layout.specs.TableName.{TableName}
 use Rattle.mx_layout.specs.declared.fault.TableFault.{TableFault}
 use Rattle.mx_layout.specs.declared.fault.TableFault.TheVariants.{Damaged}
-use Rattle.mx_stands.specs.Schemas.{schema_at}
+use Rattle.mx_book_tables.specs.stands.Schemas.{schema_at}
 use Rattle.mx_numbers.specs.Reads.{Reads, rows_point}
 use Rattle.mx_numbers.proofs.ReadLemmas.{reads_then, stopped, told}
 use Rattle.mx_entries.specs.Damage.{ReadsOr}

@@ -13,7 +13,7 @@ use Rattle.mx_layout.specs.declared.fault.TableFault.{TableFault}
 use Rattle.mx_layout.specs.declared.fault.TableFault.TheVariants.{Memory}
 use Rattle.mx_layout.specs.kept.Cells.{kept_crs_line}
 use Rattle.mx_row_rules.specs.found.Given.{found, release_lines}
-use Rattle.mx_stands.specs.Schemas.{schema_at}
+use Rattle.mx_book_tables.specs.stands.Schemas.{schema_at}
 use Rattle.mx_row_rules.specs.declared.found.stated.Certified.{Certified}
 use Rattle.mx_row_rules.specs.found.Stated.{certified_in, certified_said, lines_stated}
 use Rattle.mx_row_rules.proofs.FoundProofs.StatedLemmas.{line_certified}

@@ -14,7 +14,7 @@ use Rattle.mx_layout.specs.declared.fault.TableFault.{TableFault}
 use Rattle.mx_layout.specs.declared.fault.TableFault.TheVariants.{Memory}
 use Rattle.mx_layout.specs.kept.Kept.{Kept}
 use Rattle.mx_table_rows.specs.chosen.Calls.{ReadsFirst}
-use Rattle.mx_stands.specs.Schemas.{schema_at}
+use Rattle.mx_book_tables.specs.stands.Schemas.{schema_at}
 use Rattle.mx_numbers.specs.AnyRows.{AreChosen, Gives, ReadsAny}
 use Rattle.mx_numbers.specs.Reads.{Reads, rows_point}
 use Rattle.mx_numbers.proofs.AnyLemmas.{any_later, given_in}

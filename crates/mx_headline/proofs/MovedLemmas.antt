@@ -8,8 +8,8 @@ use Rattle.mx_power.proofs.FoundLemmas.{rests_found}
 use Rattle.mx_base.specs.declared.point.Point.{Point}
 use Rattle.mx_registers.specs.points.Commits.{point_behind}
 use Rattle.mx_registers.specs.points.Points.{next_point}
-use Rattle.mx_stands.specs.Schemas.{schema_at}
-use Rattle.mx_stands.specs.Stands.{RestsAt, StandsAt}
+use Rattle.mx_book_tables.specs.stands.Schemas.{schema_at}
+use Rattle.mx_book_tables.specs.stands.Stands.{RestsAt, StandsAt}
 use Rattle.mx_office.specs.Opening.{HasReason, MovesOn, StandsBehind}
 use Rattle.mx_office.specs.Stands.{Rests}
 use Rattle.mx_faults.specs.declared.fault.OpenFault.{OpenFault}

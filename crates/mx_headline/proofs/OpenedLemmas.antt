@@ -20,8 +20,8 @@ use Rattle.mx_power.specs.Found.{IsEndOf, IsFound}
 use Rattle.mx_layout.proofs.CrashLemmas.{rests_kept}
 use Rattle.mx_power.proofs.FoundLemmas.{rests_found}
 use Rattle.mx_settle.specs.Place.{IsPlacedAt, SaysAt}
-use Rattle.mx_stands.specs.Schemas.{IsOfFile, schema_at}
-use Rattle.mx_stands.specs.Stands.{RestsAt, StandsAt}
+use Rattle.mx_book_tables.specs.stands.Schemas.{IsOfFile, schema_at}
+use Rattle.mx_book_tables.specs.stands.Stands.{RestsAt, StandsAt}
 use Rattle.mx_faults.specs.declared.fault.OpenFault.{OpenFault}
 use Rattle.mx_faults.specs.declared.fault.OpenFault.TheVariants as opening
 use Rattle.mx_office.specs.declared.fault.Outcomes.{Outcomes}

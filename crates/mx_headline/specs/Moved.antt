@@ -9,8 +9,8 @@ use Rattle.mx_book.specs.commands.Act.{Entry}
 use Rattle.mx_layout.specs.Crash.{Leaves}
 use Rattle.mx_base.specs.declared.point.Point.{Point}
 use Rattle.mx_registers.specs.points.Commits.{point_behind}
-use Rattle.mx_stands.specs.Schemas.{IsOfFile}
-use Rattle.mx_stands.specs.Stands.{RestsAt}
+use Rattle.mx_book_tables.specs.stands.Schemas.{IsOfFile}
+use Rattle.mx_book_tables.specs.stands.Stands.{RestsAt}
 use Rattle.mx_faults.specs.declared.fault.OpenFault.{OpenFault}
 use Rattle.mx_faults.specs.declared.fault.OpenFault.TheVariants as opening
 use Rattle.mx_office.specs.declared.office.Office.{Office as TheOffice}

@@ -11,8 +11,8 @@ use Rattle.mx_book.specs.commands.Act.{Entry}
 use Rattle.mx_base.specs.declared.point.Point.{Point}
 use Rattle.mx_layout.specs.Crash.{Leaves, RestsAs}
 use Rattle.mx_settle.specs.Place.{IsPlacedAt, SaysAt}
-use Rattle.mx_stands.specs.Schemas.{IsOfFile}
-use Rattle.mx_stands.specs.Stands.{RestsAt, StandsAt}
+use Rattle.mx_book_tables.specs.stands.Schemas.{IsOfFile}
+use Rattle.mx_book_tables.specs.stands.Stands.{RestsAt, StandsAt}
 use Rattle.mx_office.specs.Calls.{IsRun}
 use Rattle.mx_office.specs.Opening.{AreMovedOn, MovesOn}
 use Rattle.mx_office.specs.declared.office.Office.{Office as TheOffice}

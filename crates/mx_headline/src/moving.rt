@@ -6,7 +6,7 @@ ghost use Rattle.sqlite.specs.Held.{state};
 ghost use Rattle.mx_book.specs.commands.Act.{Entry};
 ghost use Rattle.mx_layout.specs.Crash.{Leaves};
 ghost use Rattle.mx_base.specs.declared.point.Point.{Point};
-ghost use Rattle.mx_stands.specs.Stands.{RestsAt};
+ghost use Rattle.mx_book_tables.specs.stands.Stands.{RestsAt};
 ghost use Rattle.mx_office.specs.Office.{IsReady};
 ghost use Rattle.mx_office.specs.Opening.{StandsBehind};
 ghost use Rattle.mx_headline.specs.Moved.{FindsBook, KeepsMoving};

@@ -25,13 +25,13 @@ use Rattle.mx_layout.specs.Making.{IsEmptyIn}
 use Rattle.mx_layout.specs.Names.{table_named}
 use Rattle.mx_layout.specs.Steps.{IsLayout, schema_of}
 use Rattle.mx_layout.proofs.CrashLemmas.{stays_then, within_itself, within_then}
-use Rattle.mx_stands.specs.Family.{Rows, of, none, rows_of, rows_given, is_at, is_register, is_there, added, Fit, FitBrought}
-use Rattle.mx_stands.specs.Schemas.{schema_at}
-use Rattle.mx_stands.specs.Stands.{StandsAt}
-use Rattle.mx_stands.proofs.ChangeLemmas.{brings}
-use Rattle.mx_stands.proofs.EmptyLemmas.{empty_stands}
-use Rattle.mx_stands.proofs.FamilyLemmas.{Facts, RegisterFacts, facts, never, register_facts}
-use Rattle.mx_stands.proofs.SchemaLemmas.{has_tables, settled_schema}
+use Rattle.mx_book_tables.specs.stands.Family.{Rows, of, none, rows_of, rows_given, is_at, is_register, is_there, added, Fit, FitBrought}
+use Rattle.mx_book_tables.specs.stands.Schemas.{schema_at}
+use Rattle.mx_book_tables.specs.stands.Stands.{StandsAt}
+use Rattle.mx_book_tables.proofs.StandsProofs.ChangeLemmas.{brings}
+use Rattle.mx_book_tables.proofs.StandsProofs.EmptyLemmas.{empty_stands}
+use Rattle.mx_book_tables.proofs.StandsProofs.FamilyLemmas.{Facts, RegisterFacts, facts, never, register_facts}
+use Rattle.mx_book_tables.proofs.StandsProofs.SchemaLemmas.{has_tables, settled_schema}
 use Rattle.mx_tables.specs.inserts.Sets.{GainsRows}
 use Rattle.mx_tables.proofs.InsertsProofs.SetLemmas.{stays_open}
 use Rattle.mx_install.specs.Entries.{AddsEntries, FitsNext, first_point, with_command}

@@ -18,8 +18,8 @@ use Rattle.mx_layout.specs.kept.Kept.{Kept}
 use Rattle.mx_layout.specs.kept.Family.{on_top}
 use Rattle.mx_layout.proofs.KeptProofs.OntoLemmas.{on_top_keeps}
 use Rattle.mx_layout.specs.kept.Cells.{kept_entry, kept_aircraft, kept_place, kept_component, kept_programme, kept_task, kept_opening, kept_crs, kept_crs_line, kept_defect, kept_extension, kept_sector1, kept_fit1, kept_removal1}
-use Rattle.mx_stands.specs.Schemas.{HasTablesAt, IsOfFile, indexes_at, schema_at}
-use Rattle.mx_stands.proofs.FamilyLemmas.{AreFacts, facts}
+use Rattle.mx_book_tables.specs.stands.Schemas.{HasTablesAt, IsOfFile, indexes_at, schema_at}
+use Rattle.mx_book_tables.proofs.StandsProofs.FamilyLemmas.{AreFacts, facts}
 use Rattle.mx_tables.specs.inserts.Sets.{GainsRows}
 use Rattle.mx_install.specs.Entries.{first_point, with_command}
 

@@ -8,9 +8,9 @@ use Rattle.mx_base.specs.Settled.{settled}
 use Rattle.mx_layout.specs.TableName.{TableName}
 use Rattle.mx_layout.specs.declared.fault.TableFault.{TableFault}
 use Rattle.mx_layout.specs.Crash.{StaysInside, IsWithin}
-use Rattle.mx_stands.specs.Family.{FitBrought, added, rows_of}
-use Rattle.mx_stands.specs.Schemas.{schema_at}
-use Rattle.mx_stands.specs.Stands.{StandsAt}
+use Rattle.mx_book_tables.specs.stands.Family.{FitBrought, added, rows_of}
+use Rattle.mx_book_tables.specs.stands.Schemas.{schema_at}
+use Rattle.mx_book_tables.specs.stands.Stands.{StandsAt}
 use Rattle.mx_tables.specs.inserts.Sets.{IsInside}
 
 -- the point of the files that are made: settled at layout 1

@@ -7,7 +7,7 @@ ghost use Rattle.mx_book.specs.Judge.{judge};
 ghost use Rattle.mx_registers.specs.Added.{AreAddedRows};
 ghost use Rattle.mx_layout.specs.Crash.{StaysIn};
 ghost use Rattle.mx_layout.specs.Point.{IsStop};
-ghost use Rattle.mx_stands.specs.Schemas.{schema_at};
+ghost use Rattle.mx_book_tables.specs.stands.Schemas.{schema_at};
 ghost use Rattle.mx_tables.specs.inserts.Sets.{GainsRows};
 ghost use Rattle.mx_install.specs.Entries.{AddsEntries, FitsNext, first_point, with_command};
 

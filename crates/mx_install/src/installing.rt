@@ -9,8 +9,8 @@ ghost use Rattle.mx_layout.specs.Listed.{IsRefusal};
 ghost use Rattle.mx_layout.specs.Making.{IsBlank};
 ghost use Rattle.mx_layout.specs.Point.{IsStop};
 ghost use Rattle.mx_layout.specs.Tables.{no_schema};
-ghost use Rattle.mx_stands.specs.Schemas.{schema_at};
-ghost use Rattle.mx_stands.specs.Stands.{RestsAt, StandsAt};
+ghost use Rattle.mx_book_tables.specs.stands.Schemas.{schema_at};
+ghost use Rattle.mx_book_tables.specs.stands.Stands.{RestsAt, StandsAt};
 ghost use Rattle.mx_install.specs.Entries.{first_point};
 
 use crate::adding::add_all;

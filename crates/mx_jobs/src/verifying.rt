@@ -3,7 +3,7 @@ ghost use Rattle.std.specs.Prelude.{◌≡◌, IfOk, IfErr, OnErr};
 ghost use Rattle.sqlite.specs.State.{HasCleanDisk};
 ghost use Rattle.mx_office.specs.Layout.{office_point};
 ghost use Rattle.mx_office.specs.Office.{office_state, IsReady};
-ghost use Rattle.mx_stands.specs.Schemas.{HasTablesAt};
+ghost use Rattle.mx_book_tables.specs.stands.Schemas.{HasTablesAt};
 ghost use Rattle.mx_endings.specs.Status.{Shows, stop_status};
 ghost use Rattle.mx_jobs.specs.Verified.{AsksVerified, TellsVerified};
 ghost use Rattle.mx_printed.specs.Verified.{IsVerifiedLine, PrintsVerified};

@@ -19,8 +19,8 @@ use Rattle.mx_layout.specs.declared.fault.TableFault.TheVariants as fault
 use Rattle.mx_layout.specs.kept.Cells.{kept_aircraft, kept_component}
 use Rattle.mx_layout.specs.kept.Kept.{Kept}
 use Rattle.mx_table_rows.specs.chosen.Counts.{CountsRows}
-use Rattle.mx_stands.specs.Schemas.{schema_at}
-use Rattle.mx_stands.specs.Stands.{HasRowsAt}
+use Rattle.mx_book_tables.specs.stands.Schemas.{schema_at}
+use Rattle.mx_book_tables.specs.stands.Stands.{HasRowsAt}
 use Rattle.mx_numbers.specs.Damage.{IsDamaged, IsUncounted}
 use Rattle.mx_numbers.specs.Reads.{Reads, rows_point}
 use Rattle.mx_numbers.proofs.LookupLemmas.{damage_of, stop_of}

@@ -34,7 +34,7 @@ use Rattle.mx_layout.specs.Names.{table_named}
 use Rattle.mx_layout.specs.kept.Cells.{kept_aircraft, kept_component, kept_total2}
 use Rattle.mx_layout.specs.kept.Kept.{Kept}
 use Rattle.mx_table_rows.specs.chosen.Choices.{has_value, is_any}
-use Rattle.mx_stands.specs.Schemas.{schema_at}
+use Rattle.mx_book_tables.specs.stands.Schemas.{schema_at}
 use Rattle.mx_row_rules.specs.found.Names.{aircraft_number, component_number}
 use Rattle.mx_row_rules.proofs.FoundProofs.FoundLemmas.{serial_numbered, tail_numbered}
 use Rattle.mx_row_rules.proofs.FoundProofs.ListLemmas.{all_left, first_left}

@@ -14,8 +14,8 @@ use Rattle.mx_layout.specs.declared.fault.TableFault.{TableFault}
 use Rattle.mx_layout.specs.declared.fault.TableFault.TheVariants as fault
 use Rattle.mx_layout.specs.Crash.{Leaves, RestsAs, StaysInside, IsWithin, ChangesNothing}
 use Rattle.mx_layout.proofs.CrashLemmas.{IsSettled, commits_either, commits_ok, dropped}
-use Rattle.mx_stands.specs.Schemas.{schema_at}
-use Rattle.mx_stands.specs.Stands.{LiesAt, StandsAt, RestsAt}
+use Rattle.mx_book_tables.specs.stands.Schemas.{schema_at}
+use Rattle.mx_book_tables.specs.stands.Stands.{LiesAt, StandsAt, RestsAt}
 use Rattle.mx_tables.specs.Calls.{OnDamaged}
 use Rattle.mx_faults.specs.declared.moving.MoveFault.TheVariants as stop
 use Rattle.mx_faults.specs.Moving.{fault_from}

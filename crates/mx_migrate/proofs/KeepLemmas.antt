@@ -13,8 +13,8 @@ use Rattle.mx_layout.proofs.DropLemmas.{none_refer}
 use Rattle.mx_layout.specs.kept.Cells.{kept_base2, kept_total2}
 use Rattle.mx_layout.specs.kept.Family.{on_top}
 use Rattle.mx_layout.proofs.KeptProofs.OntoLemmas.{on_top_keeps}
-use Rattle.mx_stands.specs.Schemas.{schema_at}
-use Rattle.mx_stands.proofs.SchemaLemmas.{file_schema}
+use Rattle.mx_book_tables.specs.stands.Schemas.{schema_at}
+use Rattle.mx_book_tables.proofs.StandsProofs.SchemaLemmas.{file_schema}
 use Rattle.mx_moves.specs.Changes.{Alters, WritesRows, emptied, unchanged}
 use Rattle.mx_moves.specs.Keeping.{kept_point, point_set}
 use Rattle.mx_moves.specs.Schemas.{IsFree}

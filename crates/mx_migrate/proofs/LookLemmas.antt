@@ -21,8 +21,8 @@ use Rattle.mx_layout.specs.kept.Kept.{Kept}
 use Rattle.mx_layout.specs.kept.Family.{IsReadableAs}
 use Rattle.mx_table_rows.specs.chosen.Calls.{ReadsFirst}
 use Rattle.mx_table_rows.specs.chosen.Choices.{is_any}
-use Rattle.mx_stands.specs.Schemas.{schema_at}
-use Rattle.mx_stands.specs.Stands.{LiesAt}
+use Rattle.mx_book_tables.specs.stands.Schemas.{schema_at}
+use Rattle.mx_book_tables.specs.stands.Stands.{LiesAt}
 use Rattle.mx_tables.specs.Calls.{OnRead, ReadsRows}
 use Rattle.mx_tables.proofs.InsertsProofs.SetLemmas.{on_weaker}
 use Rattle.mx_moves.specs.Changes.{Alters, AllRise, Reaches}

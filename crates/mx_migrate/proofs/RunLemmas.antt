@@ -27,8 +27,8 @@ use Rattle.mx_layout.specs.kept.Family.{IsReadableAs}
 use Rattle.mx_layout.specs.kept.Schemas.{HasOwn1}
 use Rattle.mx_table_rows.specs.chosen.Calls.{ReadsFirst}
 use Rattle.mx_table_rows.specs.chosen.Choices.{is_any, is_up_to}
-use Rattle.mx_stands.specs.Schemas.{schema_at}
-use Rattle.mx_stands.specs.Stands.{LiesAt}
+use Rattle.mx_book_tables.specs.stands.Schemas.{schema_at}
+use Rattle.mx_book_tables.specs.stands.Stands.{LiesAt}
 use Rattle.mx_moves.specs.Changes.{Alters, AllRise, Reaches, WasOpen}
 use Rattle.mx_steps.specs.Sectors.{is_next_from, sectors_moved, MovesSectors, IsOldOff}
 use Rattle.mx_migrate.specs.Steps.{Runs}

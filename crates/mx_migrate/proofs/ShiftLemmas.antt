@@ -19,8 +19,8 @@ use Rattle.mx_layout.specs.kept.Family.{IsReadableAs}
 use Rattle.mx_layout.specs.kept.Schemas.{HasFittings}
 use Rattle.mx_table_rows.specs.chosen.Calls.{ReadsFirst}
 use Rattle.mx_table_rows.specs.chosen.Choices.{AreFirst}
-use Rattle.mx_stands.specs.Schemas.{schema_at}
-use Rattle.mx_stands.specs.Stands.{LiesAt}
+use Rattle.mx_book_tables.specs.stands.Schemas.{schema_at}
+use Rattle.mx_book_tables.specs.stands.Stands.{LiesAt}
 use Rattle.mx_tables.specs.Calls.{OnDamaged}
 use Rattle.mx_moves.specs.Changes.{Alters, AllRise, Reaches}
 use Rattle.mx_steps.specs.Components.{AreFittings, AreRemovals, IsComponentOff, MovesComponent, component_moved, is_of_component}

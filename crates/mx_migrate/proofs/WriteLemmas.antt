@@ -19,8 +19,8 @@ use Rattle.mx_layout.proofs.DropLemmas.{none_refer}
 use Rattle.mx_layout.specs.kept.Cells.{kept_fit1, kept_removal1, kept_sector1, kept_sector2, kept_sector2_rows, kept_span2}
 use Rattle.mx_layout.specs.kept.Family.{on_top}
 use Rattle.mx_table_rows.specs.chosen.Choices.{is_up_to}
-use Rattle.mx_stands.specs.Schemas.{schema_at}
-use Rattle.mx_stands.proofs.SchemaLemmas.{file_schema}
+use Rattle.mx_book_tables.specs.stands.Schemas.{schema_at}
+use Rattle.mx_book_tables.proofs.StandsProofs.SchemaLemmas.{file_schema}
 use Rattle.mx_moves.specs.Changes.{Alters, WritesRows, emptied, less, unchanged}
 use Rattle.mx_moves.specs.Keeping.{kept_point, point_set}
 use Rattle.mx_moves.specs.Schemas.{IsFree}

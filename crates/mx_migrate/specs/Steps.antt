@@ -10,8 +10,8 @@ use Rattle.mx_layout.specs.TableName.{TableName}
 use Rattle.mx_layout.specs.declared.fault.TableFault.{TableFault}
 use Rattle.mx_layout.specs.declared.fault.TableFault.TheVariants.{Memory, Store, Damaged}
 use Rattle.mx_layout.specs.Crash.{Leaves, RestsAs, StaysInside, IsWithin, ChangesNothing}
-use Rattle.mx_stands.specs.Schemas.{schema_at}
-use Rattle.mx_stands.specs.Stands.{LiesAt, StandsAt, RestsAt}
+use Rattle.mx_book_tables.specs.stands.Schemas.{schema_at}
+use Rattle.mx_book_tables.specs.stands.Stands.{LiesAt, StandsAt, RestsAt}
 use Rattle.mx_tables.specs.Calls.{OnRead}
 use Rattle.mx_tables.specs.inserts.Sets.{IsInside}
 use Rattle.mx_faults.specs.declared.moving.MoveFault.{MoveFault}

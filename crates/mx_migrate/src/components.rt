@@ -3,7 +3,7 @@ ghost use Rattle.std.specs.Prelude.{◌≡◌, ◌⊎◌, drop, Ok, Err, IfOk, I
 ghost use Rattle.sqlite.specs.Held.{state};
 ghost use Rattle.mx_layout.specs.TableName.{TableName};
 ghost use Rattle.mx_registers.specs.points.Points.{moving};
-ghost use Rattle.mx_stands.specs.Schemas.{schema_at};
+ghost use Rattle.mx_book_tables.specs.stands.Schemas.{schema_at};
 ghost use Rattle.mx_moves.specs.Changes.{Alters};
 ghost use Rattle.mx_steps.specs.Components.{component_moved};
 ghost use Rattle.mx_steps.specs.Pairing.{are_fittings_numbered, are_removals_numbered, is_before};

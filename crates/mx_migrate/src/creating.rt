@@ -3,7 +3,7 @@ ghost use Rattle.std.specs.Prelude.{◌≡◌};
 ghost use Rattle.sqlite.specs.Held.{state};
 ghost use Rattle.mx_base.specs.Settled.{settled};
 ghost use Rattle.mx_registers.specs.points.Points.{moving};
-ghost use Rattle.mx_stands.specs.Schemas.{schema_at};
+ghost use Rattle.mx_book_tables.specs.stands.Schemas.{schema_at};
 ghost use Rattle.mx_moves.specs.Changes.{Alters, WasOpen};
 ghost use Rattle.mx_steps.specs.Tables.{table_made};
 

@@ -4,7 +4,7 @@ ghost use Rattle.std.specs.List.{list_all};
 ghost use Rattle.sqlite.specs.Held.{state};
 ghost use Rattle.mx_registers.specs.points.Moves.{last_moved};
 ghost use Rattle.mx_registers.specs.points.Points.{moving};
-ghost use Rattle.mx_stands.specs.Schemas.{schema_at};
+ghost use Rattle.mx_book_tables.specs.stands.Schemas.{schema_at};
 ghost use Rattle.mx_moves.specs.Changes.{Alters};
 ghost use Rattle.mx_steps.specs.Sectors.{is_next_from, sectors_moved};
 

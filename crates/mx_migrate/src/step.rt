@@ -6,7 +6,7 @@ ghost use Rattle.mx_book.specs.commands.Act.{Entry};
 ghost use Rattle.mx_base.specs.declared.point.Point.{Point};
 ghost use Rattle.mx_registers.specs.points.Points.{next_point};
 ghost use Rattle.mx_layout.specs.TableName.{TableName};
-ghost use Rattle.mx_stands.specs.Stands.{StandsAt};
+ghost use Rattle.mx_book_tables.specs.stands.Stands.{StandsAt};
 ghost use Rattle.mx_migrate.specs.Steps.{Runs, CommitsStep, LeavesOneBook};
 
 use mx_base::Point;

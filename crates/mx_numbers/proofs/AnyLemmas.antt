@@ -23,7 +23,7 @@ use Rattle.mx_layout.specs.Names.{table_named}
 use Rattle.mx_layout.specs.kept.Kept.{Kept}
 use Rattle.mx_table_rows.specs.chosen.Choices.{has_value, is_any}
 use Rattle.mx_table_rows.specs.chosen.Calls.{ReadsFirst}
-use Rattle.mx_stands.specs.Schemas.{schema_at}
+use Rattle.mx_book_tables.specs.stands.Schemas.{schema_at}
 use Rattle.mx_numbers.specs.Damage.{HasRow, IsKept, IsUnmet}
 use Rattle.mx_numbers.specs.AnyRows.{AreChosen, ReadsAny, Gives, GivesFirst, GivesBy}
 use Rattle.mx_numbers.specs.Reads.{Reads, rows_point}

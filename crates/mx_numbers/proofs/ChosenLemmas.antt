@@ -19,7 +19,7 @@ use Rattle.mx_layout.specs.kept.Kept.{Kept}
 use Rattle.mx_layout.specs.kept.Family.{IsReadableAs}
 use Rattle.mx_layout.specs.kept.Meanings.{IsLawful}
 use Rattle.mx_table_rows.specs.chosen.Choices.{AreFirst}
-use Rattle.mx_stands.proofs.RowLemmas.{cells_once, good_rows}
+use Rattle.mx_book_tables.proofs.StandsProofs.RowLemmas.{cells_once, good_rows}
 use Rattle.mx_numbers.specs.Keeping.{KeepsRows}
 
 -- a list that rises rises from less on too

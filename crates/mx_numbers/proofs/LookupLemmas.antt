@@ -31,8 +31,8 @@ use Rattle.mx_table_rows.specs.chosen.Calls.{ReadsFirst}
 use Rattle.mx_table_rows.specs.chosen.Counts.{AreNumbered, last_number as counted}
 use Rattle.mx_table_rows.proofs.ChosenProofs.LastLemmas.{last_tells}
 use Rattle.mx_table_rows.proofs.ChosenProofs.EqualLemmas.{equal_numbers, equal_texts}
-use Rattle.mx_stands.specs.Schemas.{schema_at}
-use Rattle.mx_stands.specs.Stands.{HasRowsAt}
+use Rattle.mx_book_tables.specs.stands.Schemas.{schema_at}
+use Rattle.mx_book_tables.specs.stands.Stands.{HasRowsAt}
 use Rattle.mx_row_rules.specs.found.Names.{last_number}
 use Rattle.mx_row_rules.specs.found.Spans.{is_open_at, is_open_of}
 use Rattle.mx_row_rules.proofs.FoundProofs.FoundLemmas.{entries_counted, entries_numbered}

@@ -11,8 +11,8 @@ use Rattle.mx_layout.specs.declared.fault.TableFault.TheVariants as fault
 use Rattle.mx_layout.specs.Crash.{StaysInside}
 use Rattle.mx_layout.proofs.CrashLemmas.{stays_then, within_then}
 use Rattle.mx_tables.specs.Calls.{OnRead}
-use Rattle.mx_stands.specs.Schemas.{schema_at}
-use Rattle.mx_stands.specs.Stands.{HasRowsAt}
+use Rattle.mx_book_tables.specs.stands.Schemas.{schema_at}
+use Rattle.mx_book_tables.specs.stands.Stands.{HasRowsAt}
 use Rattle.mx_numbers.specs.Damage.{IsDamaged}
 use Rattle.mx_numbers.specs.Reads.{Reads, StandsFor, rows_point}
 

@@ -19,9 +19,9 @@ use Rattle.mx_layout.specs.kept.Family.{IsReadable, IsReadableAs}
 use Rattle.mx_layout.specs.kept.Kept.{Kept}
 use Rattle.mx_layout.specs.kept.Cells.{kept_entry, kept_aircraft, kept_place, kept_component, kept_programme, kept_task, kept_opening, kept_crs, kept_crs_line, kept_defect, kept_extension, kept_sector2, kept_span2, kept_total2}
 use Rattle.mx_layout.specs.kept.Meanings.{IsLawful}
-use Rattle.mx_stands.specs.Schemas.{schema_at}
-use Rattle.mx_stands.specs.Stands.{HasRowsAt}
-use Rattle.mx_stands.proofs.FamilyLemmas.{AreFacts, Rise, facts, register_facts}
+use Rattle.mx_book_tables.specs.stands.Schemas.{schema_at}
+use Rattle.mx_book_tables.specs.stands.Stands.{HasRowsAt}
+use Rattle.mx_book_tables.proofs.StandsProofs.FamilyLemmas.{AreFacts, Rise, facts, register_facts}
 use Rattle.mx_numbers.specs.Keeping.{KeepsRows}
 use Rattle.mx_numbers.specs.Reads.{rows_point}
 

@@ -22,7 +22,7 @@ use Rattle.mx_layout.specs.kept.Cells.{kept_task}
 use Rattle.mx_layout.specs.kept.Kept.{Kept}
 use Rattle.mx_table_rows.specs.chosen.Calls.{ReadsFirst}
 use Rattle.mx_table_rows.specs.chosen.Counts.{CountsRows}
-use Rattle.mx_stands.specs.Schemas.{schema_at}
+use Rattle.mx_book_tables.specs.stands.Schemas.{schema_at}
 use Rattle.mx_numbers.specs.AnyRows.{AreChosen, Gives, ReadsAny}
 use Rattle.mx_numbers.specs.Reads.{Reads, rows_point}
 use Rattle.mx_numbers.specs.Told.{CountDamage, Damage, DamageBy, HasNone, IsChosen, TellsDamage, UnreadFirst}

@@ -24,7 +24,7 @@ use Rattle.mx_layout.specs.kept.Cells.{kept_aircraft, kept_base2, kept_component
 use Rattle.mx_layout.specs.kept.Family.{IsReadableAs}
 use Rattle.mx_layout.specs.kept.Kept.{Kept}
 use Rattle.mx_table_rows.specs.chosen.Choices.{AreFirst, backward, has_value, is_any, is_open}
-use Rattle.mx_stands.specs.Schemas.{schema_at}
+use Rattle.mx_book_tables.specs.stands.Schemas.{schema_at}
 use Rattle.mx_row_rules.specs.found.Defects.{deferral_aircraft}
 use Rattle.mx_row_rules.specs.found.Lives.{base_found, life_in_base}
 use Rattle.mx_numbers.specs.AnyRows.{AreChosen, Gives}

@@ -15,8 +15,8 @@ use Rattle.mx_registers.specs.points.Points.{is_on_way}
 use Rattle.mx_layout.specs.Crash.{ChangesNothing, Leaves}
 use Rattle.mx_layout.specs.Point.{FitsPoint, HoldsPoint}
 use Rattle.mx_layout.specs.declared.fault.Table.TheVariants.{Office}
-use Rattle.mx_stands.specs.Schemas.{IsOfFile, schema_at}
-use Rattle.mx_stands.specs.Stands.{RestsAt}
+use Rattle.mx_book_tables.specs.stands.Schemas.{IsOfFile, schema_at}
+use Rattle.mx_book_tables.specs.stands.Stands.{RestsAt}
 use Rattle.mx_settle.specs.Advances.{AreMoved}
 use Rattle.mx_settle.specs.Place.{IsPlacedAt, SaysAt}
 use Rattle.mx_settle.specs.Settles.{Settles}

@@ -5,7 +5,7 @@ use Rattle.sqlite.specs.State.{State, HasCleanDisk}
 use Rattle.mx_book.specs.commands.Act.{Entry}
 use Rattle.mx_layout.specs.Point.{IsStop}
 use Rattle.mx_layout.specs.declared.fault.TableFault.{TableFault}
-use Rattle.mx_stands.specs.Schemas.{HasTablesAt, indexes_at}
+use Rattle.mx_book_tables.specs.stands.Schemas.{HasTablesAt, indexes_at}
 use Rattle.mx_verify.specs.Verifies.{IsVerified, Tells}
 use Rattle.mx_office.specs.Faults.{call_answer, fault_from}
 use Rattle.mx_office.specs.Layout.{office_point, office_schema}

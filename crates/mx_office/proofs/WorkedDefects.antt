@@ -11,7 +11,7 @@ use Rattle.mx_book.specs.declared.commands.release.Place.TheVariants as place
 use Rattle.mx_book.proofs.Worked.{at, abcd, logged}
 use Rattle.mx_book.proofs.WorkedFittings.{first_aircraft}
 use Rattle.mx_layout.specs.declared.fault.Table.TheVariants.{Entry as Entries, Defect, Extension, Crs, CrsLine}
-use Rattle.mx_stands.specs.Family.{rows_given}
+use Rattle.mx_book_tables.specs.stands.Family.{rows_given}
 use Rattle.mx_office.specs.Layout.{office_point}
 
 abbrev number : ℕ → Value

@@ -2,7 +2,7 @@
 use Rattle.sqlite.specs.Schema.{Schema}
 use Rattle.mx_base.specs.declared.point.Point.{Point}
 use Rattle.mx_base.specs.Settled.{settled}
-use Rattle.mx_stands.specs.Schemas.{schema_at}
+use Rattle.mx_book_tables.specs.stands.Schemas.{schema_at}
 use Rattle.mx_settle.specs.declared.place.TheConstants.{NEWEST_LAYOUT}
 
 -- the point of each file of the office

@@ -10,7 +10,7 @@ use Rattle.mx_row_rules.specs.declared.changes.rows.CommandRows.{CommandRows}
 use Rattle.mx_layout.specs.TableName.{TableName}
 use Rattle.mx_layout.specs.Contents.{rows_in}
 use Rattle.mx_layout.specs.Names.{table_named}
-use Rattle.mx_stands.specs.Family.{is_at}
+use Rattle.mx_book_tables.specs.stands.Family.{is_at}
 use Rattle.mx_tables.specs.inserts.Sets.{GainsRows}
 use Rattle.mx_numbers.specs.Damage.{IsDamaged}
 use Rattle.mx_writing.specs.Changes.{AllRise}

@@ -15,8 +15,8 @@ use Rattle.mx_layout.specs.Crash.{ChangesNothing, Leaves}
 use Rattle.mx_layout.specs.Listed.{LacksOffice}
 use Rattle.mx_layout.specs.Point.{point_cells, FitsPoint, HoldsPoint, TellsPoint}
 use Rattle.mx_layout.specs.Tables.{office, HasOffice}
-use Rattle.mx_stands.specs.Schemas.{IsOfFile}
-use Rattle.mx_stands.specs.Stands.{RestsAt, StandsAt}
+use Rattle.mx_book_tables.specs.stands.Schemas.{IsOfFile}
+use Rattle.mx_book_tables.specs.stands.Stands.{RestsAt, StandsAt}
 use Rattle.mx_settle.specs.Advances.{LeadsTo}
 use Rattle.mx_settle.specs.Place.{IsPlacedAt}
 use Rattle.mx_faults.specs.declared.fault.OpenFault.{OpenFault}

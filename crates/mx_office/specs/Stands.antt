@@ -5,7 +5,7 @@ use Rattle.sqlite.specs.State.{State}
 use Rattle.mx_book.specs.commands.Act.{Entry}
 use Rattle.mx_book.specs.declared.verdict.Reply.{Reply}
 use Rattle.mx_book.specs.declared.verdict.Reply.TheVariants.{Accepted}
-use Rattle.mx_stands.specs.Stands.{RestsAt, StandsAt, IsEither as IsEitherAt}
+use Rattle.mx_book_tables.specs.stands.Stands.{RestsAt, StandsAt, IsEither as IsEitherAt}
 use Rattle.mx_office.specs.Layout.{office_point}
 
 -- the trees are the tables of the office, and stand for this book

@@ -16,7 +16,7 @@ use Rattle.mx_registers.specs.Registers.{component_rows, deferral_rows, entry_ro
 use Rattle.mx_registers.specs.kept.Spans.{span_rows}
 use Rattle.mx_layout.specs.kept.Cells.{kept_component, kept_defect, kept_entry, kept_span2}
 use Rattle.mx_table_rows.specs.chosen.Choices.{is_open}
-use Rattle.mx_stands.specs.Stands.{HasRowsAt}
+use Rattle.mx_book_tables.specs.stands.Stands.{HasRowsAt}
 use Rattle.mx_row_rules.specs.found.Defects.{defect_said as deferral_said, open_said}
 use Rattle.mx_row_rules.specs.found.Lives.{base_found}
 use Rattle.mx_row_rules.specs.found.Names.{serial_in, doc_in, doc_at}

@@ -2,7 +2,7 @@
 ghost use Rattle.std.specs.Prelude.{List};
 ghost use Rattle.sqlite.specs.Tree.{Trees};
 ghost use Rattle.mx_book.specs.commands.Act.{Entry};
-ghost use Rattle.mx_stands.specs.Stands.{HasRowsAt};
+ghost use Rattle.mx_book_tables.specs.stands.Stands.{HasRowsAt};
 ghost use Rattle.mx_numbers.specs.Reads.{rows_point};
 ghost use Rattle.mx_rows.specs.Answering.{AnswerListsAs};
 

@@ -22,9 +22,9 @@ use Rattle.mx_layout.specs.declared.fault.Table.TheVariants as table
 use Rattle.mx_layout.specs.kept.Cells.{kept_base2}
 use Rattle.mx_layout.proofs.KeptProofs.MovedLawful.{base2_lawful}
 use Rattle.mx_table_rows.specs.chosen.Choices.{AreFirst}
-use Rattle.mx_stands.specs.Stands.{HasRowsAt}
-use Rattle.mx_stands.proofs.FamilyLemmas.{facts}
-use Rattle.mx_stands.proofs.RowLemmas.{rows_once}
+use Rattle.mx_book_tables.specs.stands.Stands.{HasRowsAt}
+use Rattle.mx_book_tables.proofs.StandsProofs.FamilyLemmas.{facts}
+use Rattle.mx_book_tables.proofs.StandsProofs.RowLemmas.{rows_once}
 use Rattle.mx_numbers.specs.Given.{is_of}
 use Rattle.mx_numbers.specs.Reads.{rows_point}
 use Rattle.mx_numbers.proofs.AnyLemmas.{empty_is}

@@ -17,7 +17,7 @@ use Rattle.mx_registers.specs.Registers.{aircraft_rows, component_rows, entry_ro
 use Rattle.mx_layout.specs.kept.Cells.{kept_aircraft, kept_component, kept_entry}
 use Rattle.mx_layout.specs.kept.Kept.{Kept}
 use Rattle.mx_table_rows.specs.chosen.Choices.{has_value}
-use Rattle.mx_stands.specs.Stands.{HasRowsAt}
+use Rattle.mx_book_tables.specs.stands.Stands.{HasRowsAt}
 use Rattle.mx_row_rules.specs.found.Names.{aircraft_number, component_number, deferral_number}
 use Rattle.mx_row_rules.proofs.FoundProofs.FoundLemmas.{defect_is, serial_is, tail_is}
 use Rattle.mx_numbers.specs.AnyRows.{Gives, GivesBy}

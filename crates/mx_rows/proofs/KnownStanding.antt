@@ -21,7 +21,7 @@ use Rattle.mx_registers.specs.kept.Spans.{span_rows}
 use Rattle.mx_layout.specs.kept.Cells.{kept_aircraft, kept_component, kept_crs, kept_crs_line, kept_defect, kept_entry, kept_extension, kept_opening, kept_place, kept_programme, kept_sector2, kept_span2, kept_task}
 use Rattle.mx_layout.specs.kept.Kept.{Kept}
 use Rattle.mx_table_rows.specs.chosen.Choices.{has_value}
-use Rattle.mx_stands.specs.Stands.{HasRowsAt}
+use Rattle.mx_book_tables.specs.stands.Stands.{HasRowsAt}
 use Rattle.mx_row_rules.specs.found.Given.{AreSame, line_row, seq_of_line}
 use Rattle.mx_row_rules.specs.found.Names.{entry_number}
 use Rattle.mx_row_rules.specs.found.Spans.{begins_with, ends_with, is_removed_by}

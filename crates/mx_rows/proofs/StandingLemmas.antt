@@ -33,7 +33,7 @@ use Rattle.mx_layout.specs.kept.Kept.{Kept}
 use Rattle.mx_table_rows.specs.chosen.Choices.{backward, has_value, is_any, is_open}
 use Rattle.mx_table_rows.specs.chosen.Counts.{AreNumbered, last_number as last_chosen}
 use Rattle.mx_table_rows.proofs.ChosenProofs.LastLemmas.{last_tells}
-use Rattle.mx_stands.specs.Stands.{HasRowsAt}
+use Rattle.mx_book_tables.specs.stands.Stands.{HasRowsAt}
 use Rattle.mx_row_rules.specs.found.Defects.{deferral_aircraft, defect_in, extension_in, is_rectified_in, rectifies, is_rectified_at}
 use Rattle.mx_row_rules.specs.found.Lives.{base_found, clock_in, life_in}
 use Rattle.mx_row_rules.specs.found.Names.{last_number, tail_in}

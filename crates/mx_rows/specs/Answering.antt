@@ -21,7 +21,7 @@ use Rattle.mx_layout.specs.declared.fault.Table.TheVariants as table
 use Rattle.mx_lists.specs.Fitted.{fitted_on}
 use Rattle.mx_layout.specs.kept.Cells.{kept_aircraft, kept_component, kept_entry}
 use Rattle.mx_table_rows.specs.chosen.Choices.{backward, has_value, is_any}
-use Rattle.mx_stands.specs.Schemas.{schema_at}
+use Rattle.mx_book_tables.specs.stands.Schemas.{schema_at}
 use Rattle.mx_row_rules.specs.found.Names.{last_number}
 use Rattle.mx_row_rules.specs.found.Said.{aircraft_in, component_in}
 use Rattle.mx_numbers.specs.AnyRows.{Gives, GivesFirst}

@@ -15,8 +15,8 @@ use Rattle.mx_layout.specs.declared.fault.TableFault.{TableFault}
 use Rattle.mx_layout.specs.declared.fault.TableFault.TheVariants as fault
 use Rattle.mx_layout.specs.Crash.{ChangesNothing, RestsAs}
 use Rattle.mx_layout.proofs.CrashLemmas.{rests_kept, rests_same}
-use Rattle.mx_stands.specs.Schemas.{IsOfFile, schema_at}
-use Rattle.mx_stands.specs.Stands.{LiesAt, RestsAt, StandsAt}
+use Rattle.mx_book_tables.specs.stands.Schemas.{IsOfFile, schema_at}
+use Rattle.mx_book_tables.specs.stands.Stands.{LiesAt, RestsAt, StandsAt}
 use Rattle.mx_faults.specs.Moving.{fault_from}
 use Rattle.mx_migrate.specs.Steps.{CommitsStep, LeavesOneBook}
 use Rattle.mx_faults.specs.declared.moving.MoveFault.{MoveFault}

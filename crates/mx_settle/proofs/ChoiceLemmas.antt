@@ -45,9 +45,9 @@ use Rattle.mx_layout.specs.kept.Family.{IsReadable}
 use Rattle.mx_layout.specs.kept.Schemas.{HasOwn1, HasPermanent}
 use Rattle.mx_layout.proofs.KeptProofs.Lawful.{component_lawful}
 use Rattle.mx_table_rows.specs.chosen.Choices.{AreFirst, is_above}
-use Rattle.mx_stands.specs.Schemas.{IsOfFile, schema_at}
-use Rattle.mx_stands.specs.Stands.{StandsAt}
-use Rattle.mx_stands.proofs.RowLemmas.{readable_stored}
+use Rattle.mx_book_tables.specs.stands.Schemas.{IsOfFile, schema_at}
+use Rattle.mx_book_tables.specs.stands.Stands.{StandsAt}
+use Rattle.mx_book_tables.proofs.StandsProofs.RowLemmas.{readable_stored}
 use Rattle.mx_tables.specs.Calls.{OnDamaged}
 use Rattle.mx_tables.specs.inserts.Sets.{IsDamaged}
 use Rattle.mx_migrate.specs.declared.components.MoveComponent.{MoveComponent}

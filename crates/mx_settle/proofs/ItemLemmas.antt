@@ -21,7 +21,7 @@ use Rattle.mx_base.specs.Settled.{settled}
 use Rattle.mx_registers.specs.points.Moves.{totals_next}
 use Rattle.mx_registers.specs.points.Points.{is_on_way, moving}
 use Rattle.mx_registers.proofs.PointsProofs.StepLemmas.{step_on_way}
-use Rattle.mx_stands.specs.Schemas.{IsOfFile}
+use Rattle.mx_book_tables.specs.stands.Schemas.{IsOfFile}
 use Rattle.mx_steps.specs.Written.{bases_of}
 use Rattle.mx_steps.proofs.WrittenLemmas.{next_item, no_item}
 use Rattle.mx_derived.specs.declared.kept.KeptRows.{KeptRows}

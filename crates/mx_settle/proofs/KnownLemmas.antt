@@ -17,10 +17,10 @@ use Rattle.mx_layout.specs.Crash.{StaysInside}
 use Rattle.mx_layout.specs.Names.{table_named}
 use Rattle.mx_layout.specs.Point.{IsStop}
 use Rattle.mx_layout.specs.kept.Family.{IsReadable}
-use Rattle.mx_stands.specs.Schemas.{schema_at}
-use Rattle.mx_stands.specs.Stands.{StandsAt}
-use Rattle.mx_stands.proofs.RowLemmas.{readable_stored}
-use Rattle.mx_stands.proofs.SchemaLemmas.{has_tables}
+use Rattle.mx_book_tables.specs.stands.Schemas.{schema_at}
+use Rattle.mx_book_tables.specs.stands.Stands.{StandsAt}
+use Rattle.mx_book_tables.proofs.StandsProofs.RowLemmas.{readable_stored}
+use Rattle.mx_book_tables.proofs.StandsProofs.SchemaLemmas.{has_tables}
 use Rattle.mx_tables.specs.Calls.{OnDamaged}
 use Rattle.mx_tables.specs.inserts.Sets.{IsDamaged, ReadsTables}
 use Rattle.mx_derived.specs.Kept.{AreKeptOf}
@@ -29,9 +29,9 @@ use Rattle.mx_derived.specs.declared.kept.KeptRows.{KeptRows}
 use Rattle.mx_derived.specs.declared.kept.Unkept.{Unkept}
 use Rattle.mx_derived.specs.declared.kept.Unkept.TheVariants as why
 use Rattle.mx_registers.specs.declared.file.file_rows.FileRows.{FileRows}
-use Rattle.mx_reading.specs.Damage.{table_of}
-use Rattle.mx_reading.specs.Stored.{AreRegisters, HasRegisters}
-use Rattle.mx_reading.proofs.RegisterLemmas.{moved_at_bases, moved_at_totals, registers_of, schema_at_bases, schema_at_totals}
+use Rattle.mx_book_tables.specs.reading.Damage.{table_of}
+use Rattle.mx_book_tables.specs.reading.Stored.{AreRegisters, HasRegisters}
+use Rattle.mx_book_tables.proofs.ReadingProofs.RegisterLemmas.{moved_at_bases, moved_at_totals, registers_of, schema_at_bases, schema_at_totals}
 use Rattle.mx_settle.specs.Choices.{FindsKept, IsKeeping, IsOfEntries, StandsIn, fault_by}
 use Rattle.mx_settle.specs.Items.{Knows}
 use Rattle.mx_settle.specs.Numbers.{late_table}

@@ -19,9 +19,9 @@ use Rattle.mx_layout.proofs.CrashLemmas.{rests_same}
 use Rattle.mx_layout.specs.Listed.{LacksOffice}
 use Rattle.mx_layout.specs.Point.{point_cells, FitsPoint, HoldsPoint, IsStop, ReadsExactly, ReadsNone}
 use Rattle.mx_layout.specs.Tables.{office}
-use Rattle.mx_stands.specs.Schemas.{IsOfFile, schema_at}
-use Rattle.mx_stands.specs.Stands.{RestsAt, StandsAt}
-use Rattle.mx_stands.proofs.PointLemmas.{and_left, and_right}
+use Rattle.mx_book_tables.specs.stands.Schemas.{IsOfFile, schema_at}
+use Rattle.mx_book_tables.specs.stands.Stands.{RestsAt, StandsAt}
+use Rattle.mx_book_tables.proofs.StandsProofs.PointLemmas.{and_left, and_right}
 use Rattle.mx_faults.specs.Moving.{fault_from}
 use Rattle.mx_faults.specs.declared.moving.MoveFault.{MoveFault}
 use Rattle.mx_faults.specs.declared.moving.MoveFault.TheVariants as stop

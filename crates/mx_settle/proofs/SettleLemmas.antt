@@ -14,8 +14,8 @@ use Rattle.mx_registers.specs.points.Points.{is_on_way, next_point}
 use Rattle.mx_registers.proofs.PointsProofs.ReachLemmas.{from_first, reach}
 use Rattle.mx_book.specs.Book.{IsBook}
 use Rattle.mx_layout.specs.Crash.{Leaves}
-use Rattle.mx_stands.specs.Schemas.{IsOfFile, schema_at}
-use Rattle.mx_stands.specs.Stands.{RestsAt, StandsAt}
+use Rattle.mx_book_tables.specs.stands.Schemas.{IsOfFile, schema_at}
+use Rattle.mx_book_tables.specs.stands.Stands.{RestsAt, StandsAt}
 use Rattle.mx_faults.specs.declared.moving.MoveFault.{MoveFault}
 use Rattle.mx_derived.specs.declared.kept.KeptRows.{KeptRows}
 use Rattle.mx_settle.specs.Advances.{Advances, AdvancesBook, AreMoved, IsStepOf, LeadsTo}

@@ -11,8 +11,8 @@ use Rattle.mx_layout.specs.TableName.{TableName}
 use Rattle.mx_layout.specs.Crash.{Leaves, ChangesNothing}
 use Rattle.mx_layout.specs.Listed.{LacksOffice}
 use Rattle.mx_layout.specs.Point.{FitsPoint, HoldsPoint}
-use Rattle.mx_stands.specs.Schemas.{IsOfFile}
-use Rattle.mx_stands.specs.Stands.{StandsAt, RestsAt}
+use Rattle.mx_book_tables.specs.stands.Schemas.{IsOfFile}
+use Rattle.mx_book_tables.specs.stands.Stands.{StandsAt, RestsAt}
 use Rattle.mx_faults.specs.declared.moving.MoveFault.{MoveFault}
 use Rattle.mx_faults.specs.declared.moving.MoveFault.TheVariants.{Store, NotOurs, Damaged}
 use Rattle.mx_settle.specs.Choices.{IsUnfit}

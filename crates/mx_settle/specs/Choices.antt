@@ -24,8 +24,8 @@ use Rattle.mx_layout.specs.Tables.{sector1}
 use Rattle.mx_layout.specs.kept.Cells.{kept_component, kept_sector1}
 use Rattle.mx_layout.specs.kept.Kept.{Kept}
 use Rattle.mx_table_rows.specs.chosen.Choices.{AreFirst, is_above}
-use Rattle.mx_stands.specs.Schemas.{IsOfFile, schema_at}
-use Rattle.mx_stands.specs.Stands.{LiesAt, StandsAt}
+use Rattle.mx_book_tables.specs.stands.Schemas.{IsOfFile, schema_at}
+use Rattle.mx_book_tables.specs.stands.Stands.{LiesAt, StandsAt}
 use Rattle.mx_tables.specs.Calls.{OnRead}
 use Rattle.mx_tables.specs.inserts.Sets.{IsDamaged}
 use Rattle.mx_registers.specs.file.Tables.{AreRegistersIn}
@@ -33,8 +33,8 @@ use Rattle.mx_derived.specs.declared.kept.KeptRows.{KeptRows}
 use Rattle.mx_derived.specs.declared.kept.Unkept.{Unkept}
 use Rattle.mx_derived.specs.declared.kept.Unkept.TheVariants as why
 use Rattle.mx_registers.specs.declared.file.file_rows.FileRows.{FileRows}
-use Rattle.mx_reading.specs.Damage.{table_of}
-use Rattle.mx_reading.specs.Stored.{AreRegisters}
+use Rattle.mx_book_tables.specs.reading.Damage.{table_of}
+use Rattle.mx_book_tables.specs.reading.Stored.{AreRegisters}
 use Rattle.mx_settle.specs.Due.{IsDueAt, IsFor, MakesBy}
 use Rattle.mx_settle.specs.Items.{AreItemsOf, Knows, is_next}
 use Rattle.mx_settle.specs.Numbers.{late_table}

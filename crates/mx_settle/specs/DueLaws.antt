@@ -5,7 +5,7 @@ use Rattle.mx_book.specs.commands.Act.{Entry}
 use Rattle.mx_base.specs.declared.point.Point.{Point}
 use Rattle.mx_registers.specs.points.Points.{next_point}
 use Rattle.mx_layout.specs.TableName.{TableName}
-use Rattle.mx_stands.specs.Stands.{StandsAt}
+use Rattle.mx_book_tables.specs.stands.Stands.{StandsAt}
 use Rattle.mx_steps.proofs.ComponentLemmas.{component_stands, component_whole}
 use Rattle.mx_steps.proofs.EndedLemmas.{bases_stand, finished_stands, totals_stand, totals_whole}
 use Rattle.mx_steps.proofs.MadeLemmas.{changed_stands, changed_whole, made_stands}

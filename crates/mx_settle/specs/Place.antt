@@ -10,8 +10,8 @@ use Rattle.mx_layout.specs.Crash.{ChangesNothing, RestsAs}
 use Rattle.mx_layout.specs.Listed.{LacksOffice}
 use Rattle.mx_layout.specs.Point.{point_cells, FitsPoint, HoldsPoint}
 use Rattle.mx_layout.specs.Tables.{office}
-use Rattle.mx_stands.specs.Schemas.{IsOfFile, schema_at}
-use Rattle.mx_stands.specs.Stands.{LiesAt}
+use Rattle.mx_book_tables.specs.stands.Schemas.{IsOfFile, schema_at}
+use Rattle.mx_book_tables.specs.stands.Stands.{LiesAt}
 use Rattle.mx_faults.specs.declared.moving.MoveFault.{MoveFault}
 use Rattle.mx_faults.specs.declared.moving.MoveFault.TheVariants.{Memory, Store, NotOurs, NewerLayout, Damaged}
 use Rattle.mx_settle.specs.declared.place.TheConstants.{NEWEST_LAYOUT}

@@ -7,8 +7,8 @@ use Rattle.mx_base.specs.declared.point.Point.{Point}
 use Rattle.mx_base.specs.Settled.{settled}
 use Rattle.mx_registers.specs.points.Commits.{point_behind}
 use Rattle.mx_layout.specs.Crash.{Leaves}
-use Rattle.mx_stands.specs.Schemas.{IsOfFile}
-use Rattle.mx_stands.specs.Stands.{StandsAt, RestsAt}
+use Rattle.mx_book_tables.specs.stands.Schemas.{IsOfFile}
+use Rattle.mx_book_tables.specs.stands.Stands.{StandsAt, RestsAt}
 use Rattle.mx_faults.specs.declared.moving.MoveFault.{MoveFault}
 use Rattle.mx_faults.specs.declared.moving.MoveFault.TheVariants.{Store}
 use Rattle.mx_settle.specs.Advances.{AreMoved}

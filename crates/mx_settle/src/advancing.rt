@@ -4,7 +4,7 @@ ghost use Rattle.sqlite.specs.Held.{state};
 ghost use Rattle.sqlite.specs.State.{HasCleanDisk};
 ghost use Rattle.mx_book.specs.commands.Act.{Entry};
 ghost use Rattle.mx_base.specs.declared.point.Point.{Point};
-ghost use Rattle.mx_stands.specs.Stands.{RestsAt};
+ghost use Rattle.mx_book_tables.specs.stands.Stands.{RestsAt};
 ghost use Rattle.mx_settle.specs.Advances.{Advances, AdvancesBook};
 ghost use Rattle.mx_settle.specs.Items.{Knows};
 

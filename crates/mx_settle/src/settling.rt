@@ -7,7 +7,7 @@ ghost use Rattle.mx_book.specs.Book.{IsBook};
 ghost use Rattle.mx_base.specs.Settled.{settled};
 ghost use Rattle.mx_registers.specs.points.Commits.{commits_of_move};
 ghost use Rattle.mx_registers.specs.points.Points.{is_on_way};
-ghost use Rattle.mx_stands.specs.Stands.{RestsAt};
+ghost use Rattle.mx_book_tables.specs.stands.Stands.{RestsAt};
 ghost use Rattle.mx_settle.specs.Settles.{Settles};
 
 use crate::advancing::advance_knowing;

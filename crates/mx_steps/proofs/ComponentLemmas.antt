@@ -29,9 +29,9 @@ use Rattle.mx_layout.specs.kept.Family.{IsReadable}
 use Rattle.mx_layout.proofs.KeptProofs.Lawful.{fit1_lawful, removal1_lawful}
 use Rattle.mx_layout.proofs.KeptProofs.OntoLemmas.{on_top_keeps}
 use Rattle.mx_table_rows.proofs.ChosenProofs.EqualLemmas.{equal_numbers}
-use Rattle.mx_stands.specs.Family.{rows_of, rows_given, is_at, Fit}
-use Rattle.mx_stands.specs.Stands.{StandsAt}
-use Rattle.mx_stands.proofs.RowLemmas.{readable_stored}
+use Rattle.mx_book_tables.specs.stands.Family.{rows_of, rows_given, is_at, Fit}
+use Rattle.mx_book_tables.specs.stands.Stands.{StandsAt}
+use Rattle.mx_book_tables.proofs.StandsProofs.RowLemmas.{readable_stored}
 use Rattle.mx_moves.proofs.RowLemmas.{Keeps, less_keeps}
 use Rattle.mx_steps.specs.Components.{AreFittings, AreRemovals, IsComponentOff, MovesComponent, component_moved, fittings_by, is_of_component, removals_by, spans_by}
 use Rattle.mx_steps.specs.Pairing.{spans_made}

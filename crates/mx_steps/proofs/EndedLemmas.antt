@@ -19,8 +19,8 @@ use Rattle.mx_layout.specs.Contents.{rows_in}
 use Rattle.mx_layout.specs.Names.{table_named}
 use Rattle.mx_layout.specs.Tables.{fit1, removal1}
 use Rattle.mx_layout.specs.kept.Cells.{kept_base2, kept_fit1, kept_removal1, kept_span2, kept_total2}
-use Rattle.mx_stands.specs.Family.{rows_of, rows_given, is_at, Fit}
-use Rattle.mx_stands.specs.Stands.{StandsAt}
+use Rattle.mx_book_tables.specs.stands.Family.{rows_of, rows_given, is_at, Fit}
+use Rattle.mx_book_tables.specs.stands.Stands.{StandsAt}
 use Rattle.mx_moves.specs.Keeping.{point_set}
 use Rattle.mx_moves.proofs.RowLemmas.{Keeps, Forgets}
 use Rattle.mx_steps.specs.Rows.{MakesRows}

@@ -23,8 +23,8 @@ use Rattle.mx_layout.specs.declared.fault.Table.TheVariants as table
 use Rattle.mx_layout.specs.Contents.{rows_in}
 use Rattle.mx_layout.specs.Tables.{sector1}
 use Rattle.mx_layout.specs.kept.Cells.{kept_sector1, kept_sector2, kept_span2, kept_fit1, kept_removal1}
-use Rattle.mx_stands.specs.Family.{rows_of, rows_given, is_at, Fit}
-use Rattle.mx_stands.specs.Stands.{StandsAt}
+use Rattle.mx_book_tables.specs.stands.Family.{rows_of, rows_given, is_at, Fit}
+use Rattle.mx_book_tables.specs.stands.Stands.{StandsAt}
 use Rattle.mx_moves.proofs.RowLemmas.{Keeps, Forgets, emptied_keeps}
 use Rattle.mx_steps.specs.Rows.{MakesRows}
 use Rattle.mx_steps.specs.Tables.{table_made, MakesSectors, ChangesToSpans, IsLeftOver}

@@ -21,7 +21,7 @@ use Rattle.mx_layout.specs.Reading.{HasOther, IsRowOf}
 use Rattle.mx_layout.specs.kept.Kept.{Kept}
 use Rattle.mx_layout.specs.kept.Meanings.{IsLawful}
 use Rattle.mx_table_rows.specs.chosen.Choices.{AreFirst, is_any}
-use Rattle.mx_stands.proofs.RowLemmas.{cells_once}
+use Rattle.mx_book_tables.proofs.StandsProofs.RowLemmas.{cells_once}
 
 -- ── lists that rise ──
 

@@ -39,9 +39,9 @@ use Rattle.mx_layout.proofs.KeptProofs.Lawful.{sector1_lawful}
 use Rattle.mx_layout.proofs.KeptProofs.OntoLemmas.{on_top_keeps}
 use Rattle.mx_table_rows.specs.chosen.Choices.{is_up_to}
 use Rattle.mx_table_rows.proofs.ChosenProofs.EqualLemmas.{equal_numbers}
-use Rattle.mx_stands.specs.Family.{rows_of, rows_given, is_at, Fit}
-use Rattle.mx_stands.specs.Stands.{StandsAt}
-use Rattle.mx_stands.proofs.RowLemmas.{readable_stored}
+use Rattle.mx_book_tables.specs.stands.Family.{rows_of, rows_given, is_at, Fit}
+use Rattle.mx_book_tables.specs.stands.Stands.{StandsAt}
+use Rattle.mx_book_tables.proofs.StandsProofs.RowLemmas.{readable_stored}
 use Rattle.mx_moves.specs.Keeping.{kept_point, is_point_row, point_set}
 use Rattle.mx_moves.proofs.RowLemmas.{Keeps, in_place_keeps, less_keeps}
 use Rattle.mx_steps.specs.Sectors.{is_next_from, sectors_moved, MovesSectors, IsOldOff}

@@ -12,10 +12,10 @@ use Rattle.mx_layout.specs.TableName.{TableName}
 use Rattle.mx_layout.specs.Contents.{rows_in}
 use Rattle.mx_layout.specs.Names.{table_named}
 use Rattle.mx_layout.specs.Point.{FitsPoint}
-use Rattle.mx_stands.specs.Family.{rows_of, rows_given, is_at, Fit}
-use Rattle.mx_stands.specs.Schemas.{schema_at}
-use Rattle.mx_stands.specs.Stands.{LiesAt, StandsAt}
-use Rattle.mx_stands.proofs.SchemaLemmas.{has_tables}
+use Rattle.mx_book_tables.specs.stands.Family.{rows_of, rows_given, is_at, Fit}
+use Rattle.mx_book_tables.specs.stands.Schemas.{schema_at}
+use Rattle.mx_book_tables.specs.stands.Stands.{LiesAt, StandsAt}
+use Rattle.mx_book_tables.proofs.StandsProofs.SchemaLemmas.{has_tables}
 use Rattle.mx_moves.specs.Changes.{AllRise, Reaches}
 use Rattle.mx_moves.proofs.RowLemmas.{Keeps, Forgets}
 use Rattle.mx_steps.specs.Rows.{MakesRows}

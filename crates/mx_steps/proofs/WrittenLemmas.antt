@@ -34,8 +34,8 @@ use Rattle.mx_layout.specs.TableName.{TableName}
 use Rattle.mx_layout.specs.declared.fault.Table.TheVariants as table
 use Rattle.mx_layout.specs.kept.Cells.{kept_base2, kept_total2}
 use Rattle.mx_layout.proofs.KeptProofs.OntoLemmas.{on_top_keeps}
-use Rattle.mx_stands.specs.Family.{rows_of, rows_given, is_at, Fit}
-use Rattle.mx_stands.specs.Stands.{StandsAt}
+use Rattle.mx_book_tables.specs.stands.Family.{rows_of, rows_given, is_at, Fit}
+use Rattle.mx_book_tables.specs.stands.Stands.{StandsAt}
 use Rattle.mx_moves.proofs.RowLemmas.{Keeps}
 use Rattle.mx_steps.specs.Rows.{MakesRows}
 use Rattle.mx_steps.specs.Written.{WritesBases, WritesTotal, bases_of, bases_written, total_written}

@@ -6,8 +6,8 @@ use Rattle.mx_base.specs.declared.point.Point.{Point}
 use Rattle.mx_layout.specs.TableName.{TableName}
 use Rattle.mx_layout.specs.Contents.{rows_in}
 use Rattle.mx_layout.specs.Names.{table_named}
-use Rattle.mx_stands.specs.Family.{is_at}
-use Rattle.mx_stands.specs.Stands.{LiesAt}
+use Rattle.mx_book_tables.specs.stands.Family.{is_at}
+use Rattle.mx_book_tables.specs.stands.Stands.{LiesAt}
 
 -- the trees are the tables of a file at this point, and each has what is made of the rows that the table of its name had before
 pub record MakesRows (onto : TableName → List Row → List Row) (to : Point) (old new : Trees) : Type 0 where

@@ -7,7 +7,7 @@ ghost use Rattle.mx_base.specs.declared.point.Point.{Point};
 ghost use Rattle.mx_registers.specs.points.Moves.{totals_next};
 ghost use Rattle.mx_registers.specs.points.Points.{is_on_way, moving, next_mark, next_point};
 ghost use Rattle.mx_layout.specs.TableName.{TableName};
-ghost use Rattle.mx_stands.specs.Stands.{StandsAt};
+ghost use Rattle.mx_book_tables.specs.stands.Stands.{StandsAt};
 ghost use Rattle.mx_steps.specs.Components.{IsComponentOff, MovesComponent};
 ghost use Rattle.mx_steps.specs.Sectors.{IsOldOff, MovesSectors};
 ghost use Rattle.mx_steps.specs.Tables.{ChangesToSpans, ChangesToTotals, Finishes, IsLeftOver, IsUnmoved, MakesBases, MakesSectors};

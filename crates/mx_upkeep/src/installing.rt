@@ -9,7 +9,7 @@ ghost use Rattle.mx_layout.specs.Crash.{ChangesNothing, Leaves, RestsAs};
 ghost use Rattle.mx_layout.specs.Listed.{IsRefusal};
 ghost use Rattle.mx_layout.specs.Point.{IsStop};
 ghost use Rattle.mx_layout.specs.Tables.{no_schema};
-ghost use Rattle.mx_stands.specs.Stands.{RestsAt, StandsAt};
+ghost use Rattle.mx_book_tables.specs.stands.Stands.{RestsAt, StandsAt};
 ghost use Rattle.mx_reports.specs.Replies.{lines_of};
 ghost use Rattle.mx_upkeep.specs.Installed.{AreAccepted};
 ghost use Rattle.mx_endings.specs.Status.{run_ending, stop_status};

@@ -10,10 +10,10 @@ use Rattle.mx_layout.specs.Listed.{has_table}
 use Rattle.mx_layout.specs.Names.{table_name}
 use Rattle.mx_layout.specs.TableName.{TableName}
 use Rattle.mx_layout.specs.declared.fault.Table.TheVariants as table
-use Rattle.mx_stands.specs.Family.{is_at}
-use Rattle.mx_stands.specs.Schemas.{schema_at}
-use Rattle.mx_stands.proofs.FamilyLemmas.{never}
-use Rattle.mx_reading.specs.Layout.{HasTables, verified_point}
+use Rattle.mx_book_tables.specs.stands.Family.{is_at}
+use Rattle.mx_book_tables.specs.stands.Schemas.{schema_at}
+use Rattle.mx_book_tables.proofs.StandsProofs.FamilyLemmas.{never}
+use Rattle.mx_book_tables.specs.reading.Layout.{HasTables, verified_point}
 use Rattle.mx_verify.specs.Listed.{lacks, lacks_any, verified_names}
 
 -- ── no others ──

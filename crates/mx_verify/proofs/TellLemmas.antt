@@ -13,22 +13,22 @@ use Rattle.mx_layout.specs.TableName.{TableName}
 use Rattle.mx_layout.specs.declared.fault.TableFault.{TableFault}
 use Rattle.mx_layout.specs.declared.fault.TableFault.TheVariants as fault
 use Rattle.mx_layout.specs.Point.{IsStop}
-use Rattle.mx_stands.specs.Family.{is_at}
-use Rattle.mx_stands.specs.Stands.{HasRowsAt}
+use Rattle.mx_book_tables.specs.stands.Family.{is_at}
+use Rattle.mx_book_tables.specs.stands.Stands.{HasRowsAt}
 use Rattle.mx_merged.specs.Merging.{merging}
 use Rattle.mx_registers.specs.file.Tables.{AreFilePut, AreTablesOf}
 use Rattle.mx_merged.specs.declared.merged.NoBook.TheVariants as no_book
 use Rattle.mx_registers.specs.declared.file.file_rows.FileRows.{FileRows}
 use Rattle.mx_verified.specs.declared.verified.Unverified.{Unverified}
 use Rattle.mx_verified.specs.declared.verified.Unverified.TheVariants as why
-use Rattle.mx_reading.specs.Layout.{verified_point}
-use Rattle.mx_reading.specs.Damage.{HasBadRow, IsCause, table_of}
+use Rattle.mx_book_tables.specs.reading.Layout.{verified_point}
+use Rattle.mx_book_tables.specs.reading.Damage.{HasBadRow, IsCause, table_of}
 use Rattle.mx_verify.specs.Damage.{IsDamaged, IsUndamaged}
-use Rattle.mx_reading.specs.Stored.{AreStored}
+use Rattle.mx_book_tables.specs.reading.Stored.{AreStored}
 use Rattle.mx_verify.specs.Verifies.{HasBook, Tells, Verifies, told_file, told_rows}
-use Rattle.mx_reading.specs.Looks.{Looks, TellsPoint}
-use Rattle.mx_reading.proofs.LookLemmas.{on_read}
-use Rattle.mx_reading.proofs.StoredLemmas.{none_bad, point_given, tables_given, tables_read}
+use Rattle.mx_book_tables.specs.reading.Looks.{Looks, TellsPoint}
+use Rattle.mx_book_tables.proofs.ReadingProofs.LookLemmas.{on_read}
+use Rattle.mx_book_tables.proofs.ReadingProofs.StoredLemmas.{none_bad, point_given, tables_given, tables_read}
 
 -- ── what stopped ──
 

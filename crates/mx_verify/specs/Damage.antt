@@ -9,8 +9,8 @@ use Rattle.mx_merged.specs.Merging.{merging}
 use Rattle.mx_registers.specs.file.Tables.{AreFilePut}
 use Rattle.mx_merged.specs.declared.merged.NoBook.TheVariants as no_book
 use Rattle.mx_registers.specs.declared.file.file_rows.FileRows.{FileRows}
-use Rattle.mx_reading.specs.Damage.{HasBadRow, IsOfficeRead, table_of}
-use Rattle.mx_reading.specs.Stored.{AreStored}
+use Rattle.mx_book_tables.specs.reading.Damage.{HasBadRow, IsOfficeRead, table_of}
+use Rattle.mx_book_tables.specs.reading.Stored.{AreStored}
 
 -- ── rows of entries ──
 

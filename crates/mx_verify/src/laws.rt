@@ -2,9 +2,9 @@
 ghost use Rattle.std.specs.Prelude.{◌≡◌, List};
 ghost use Rattle.sqlite.specs.Effect.{Database};
 ghost use Rattle.mx_book.specs.commands.Act.{Entry};
-ghost use Rattle.mx_stands.specs.Schemas.{schema_at};
-ghost use Rattle.mx_stands.specs.Stands.{StandsAt};
-ghost use Rattle.mx_reading.specs.Layout.{HasTables, verified_point};
+ghost use Rattle.mx_book_tables.specs.stands.Schemas.{schema_at};
+ghost use Rattle.mx_book_tables.specs.stands.Stands.{StandsAt};
+ghost use Rattle.mx_book_tables.specs.reading.Layout.{HasTables, verified_point};
 ghost use Rattle.mx_verify.specs.Verifies.{IsVerified};
 
 /// Tables that stand for a book at the newest layout are verified: what is verified is a part of what tables stand for.

@@ -3,8 +3,8 @@ ghost use Rattle.std.specs.Prelude.{◌≡◌, List, map, not};
 ghost use Rattle.std.specs.List.{list_any};
 ghost use Rattle.std.specs.Bool.{Decides};
 ghost use Rattle.sqlite.specs.Held.{state};
-ghost use Rattle.mx_stands.specs.Schemas.{schema_at};
-ghost use Rattle.mx_reading.specs.Layout.{HasTables, verified_point};
+ghost use Rattle.mx_book_tables.specs.stands.Schemas.{schema_at};
+ghost use Rattle.mx_book_tables.specs.reading.Layout.{HasTables, verified_point};
 ghost use Rattle.mx_verify.specs.Listed.{lacks, lacks_any};
 
 use mx_layout::Table;

@@ -2,8 +2,8 @@
 ghost use Rattle.std.specs.Prelude.{◌≡◌};
 ghost use Rattle.mx_verify.specs.Verifies.{fault_by, told_file, told_rows};
 
+use mx_book_tables::reading::table_of;
 use mx_layout::TableFault;
-use mx_reading::table_of;
 use mx_verified::Unverified;
 
 // Why it was not found out, as the fault of a table.

@@ -30,9 +30,9 @@ use Rattle.mx_layout.specs.declared.fault.Table.TheVariants as table
 use Rattle.mx_layout.specs.Steps.{IsLayout}
 use Rattle.mx_layout.specs.kept.Kept.{Kept}
 use Rattle.mx_layout.specs.kept.Cells.{kept_entry, kept_aircraft, kept_place, kept_component, kept_programme, kept_task, kept_opening, kept_crs, kept_crs_line, kept_defect, kept_extension, kept_sector2, kept_sector2_rows, kept_span2, kept_total2, kept_base2}
-use Rattle.mx_stands.specs.Family.{added, first_rows, given, is_at, is_register, is_there, rows_given, rows_of}
-use Rattle.mx_stands.proofs.FamilyLemmas.{AreFacts, facts, never}
-use Rattle.mx_stands.proofs.ChangeLemmas.{brings}
+use Rattle.mx_book_tables.specs.stands.Family.{added, first_rows, given, is_at, is_register, is_there, rows_given, rows_of}
+use Rattle.mx_book_tables.proofs.StandsProofs.FamilyLemmas.{AreFacts, facts, never}
+use Rattle.mx_book_tables.proofs.StandsProofs.ChangeLemmas.{brings}
 use Rattle.mx_table_rows.proofs.ChosenProofs.EqualLemmas.{equal_numbers}
 use Rattle.mx_writing.specs.Changes.{all_in_place}
 use Rattle.mx_writing.specs.Written.{written_point, is_same_base, is_same_span, is_same_total, with_changed, with_rows}

@@ -36,11 +36,11 @@ use Rattle.mx_layout.specs.declared.fault.Table.TheVariants as table
 use Rattle.mx_layout.specs.Names.{table_named}
 use Rattle.mx_layout.specs.kept.Cells.{kept_entry, kept_aircraft, kept_place, kept_component, kept_programme, kept_task, kept_opening, kept_crs, kept_crs_line, kept_defect, kept_extension, kept_sector2_rows, kept_span2, kept_total2, kept_base2}
 use Rattle.mx_layout.proofs.KeptProofs.OntoLemmas.{on_top_keeps}
-use Rattle.mx_stands.specs.Family.{Fit, FitBrought, Rows, is_at, is_register, is_there, none, of, rows_of}
-use Rattle.mx_stands.specs.Schemas.{schema_at}
-use Rattle.mx_stands.specs.Stands.{StandsAt}
-use Rattle.mx_stands.proofs.FamilyLemmas.{Facts, RegisterFacts, facts, never, register_facts}
-use Rattle.mx_stands.proofs.SchemaLemmas.{has_tables}
+use Rattle.mx_book_tables.specs.stands.Family.{Fit, FitBrought, Rows, is_at, is_register, is_there, none, of, rows_of}
+use Rattle.mx_book_tables.specs.stands.Schemas.{schema_at}
+use Rattle.mx_book_tables.specs.stands.Stands.{StandsAt}
+use Rattle.mx_book_tables.proofs.StandsProofs.FamilyLemmas.{Facts, RegisterFacts, facts, never, register_facts}
+use Rattle.mx_book_tables.proofs.StandsProofs.SchemaLemmas.{has_tables}
 use Rattle.mx_tables.specs.inserts.Sets.{GainsRows}
 use Rattle.mx_writing.specs.Written.{written_point, is_same_base, is_same_span, is_same_total, with_added, with_changed, with_rows}
 use Rattle.mx_writing.proofs.CellLemmas.{bases_put_are, is_of_same_task}

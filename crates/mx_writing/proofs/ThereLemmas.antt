@@ -7,8 +7,8 @@ use Rattle.mx_layout.specs.Contents.{HasNoReferences}
 use Rattle.mx_layout.specs.declared.fault.Table.TheVariants as table
 use Rattle.mx_layout.specs.kept.Kept.{Kept}
 use Rattle.mx_layout.specs.kept.Cells.{kept_entry, kept_aircraft, kept_place, kept_component, kept_programme, kept_task, kept_opening, kept_crs, kept_crs_line, kept_defect, kept_extension, kept_sector2_rows, kept_span2, kept_total2, kept_base2}
-use Rattle.mx_stands.specs.Schemas.{HasTablesAt, IsOfFile, indexes_at, schema_at}
-use Rattle.mx_stands.proofs.FamilyLemmas.{AreFacts, facts}
+use Rattle.mx_book_tables.specs.stands.Schemas.{HasTablesAt, IsOfFile, indexes_at, schema_at}
+use Rattle.mx_book_tables.proofs.StandsProofs.FamilyLemmas.{AreFacts, facts}
 use Rattle.mx_writing.specs.Written.{IsSettled, written_point}
 
 of_file : IsOfFile written_point

@@ -9,7 +9,7 @@ ghost use Rattle.mx_book.specs.declared.verdict.Verdict.TheVariants.{New};
 ghost use Rattle.mx_row_rules.specs.changes.Rows.{AreCommandRows};
 ghost use Rattle.mx_row_rules.specs.declared.changes.rows.CommandRows.{CommandRows};
 ghost use Rattle.mx_layout.specs.TableName.{TableName};
-ghost use Rattle.mx_stands.specs.Family.{is_at, rows_given};
+ghost use Rattle.mx_book_tables.specs.stands.Family.{is_at, rows_given};
 ghost use Rattle.mx_writing.specs.Written.{written_point, with_rows};
 
 /// What the rows of a new command make of the rows that a book gives each table is what the book with the command gives it,

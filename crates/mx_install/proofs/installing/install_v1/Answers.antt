@@ -5,8 +5,8 @@ use Rattle.mx_layout.specs.Crash.{Leaves, RestsAs}
 use Rattle.mx_layout.specs.Tables.{no_schema}
 use Rattle.mx_layout.proofs.CrashLemmas.{commits_either, commits_ok}
 use Rattle.mx_layout.proofs.FillLemmas.{bare_blank}
-use Rattle.mx_stands.specs.Schemas.{schema_at}
-use Rattle.mx_stands.specs.Stands.{StandsAt}
+use Rattle.mx_book_tables.specs.stands.Schemas.{schema_at}
+use Rattle.mx_book_tables.specs.stands.Stands.{StandsAt}
 use Rattle.mx_install.specs.Entries.{first_point}
 use Rattle.mx_install.proofs.installing.install_v1.Goals as goal
 

@@ -1,7 +1,7 @@
 use Rattle.std.proofs.Common.{[], ap}
 use Rattle.sqlite.specs.Schema.{Schema}
-use Rattle.mx_stands.specs.Schemas.{indexes_at}
-use Rattle.mx_reading.specs.Layout.{verified_point}
+use Rattle.mx_book_tables.specs.stands.Schemas.{indexes_at}
+use Rattle.mx_book_tables.specs.reading.Layout.{verified_point}
 use Rattle.mx_verify.proofs.laws.standing_tables_are_verified.Goals as goal
 
 pub returns : goal.returns

@@ -1,9 +1,9 @@
 use Rattle.std.proofs.Common.{◌≡◌, true, ◌∙◌, ap, subst, sym}
 use Rattle.std.specs.Prelude.{IfErr}
 use Rattle.sqlite.specs.Held.{state}
-use Rattle.mx_stands.specs.Schemas.{schema_at}
-use Rattle.mx_reading.specs.Damage.{IsCause}
-use Rattle.mx_reading.specs.Layout.{verified_point}
+use Rattle.mx_book_tables.specs.stands.Schemas.{schema_at}
+use Rattle.mx_book_tables.specs.reading.Damage.{IsCause}
+use Rattle.mx_book_tables.specs.reading.Layout.{verified_point}
 use Rattle.mx_verify.specs.Verifies.{HasBook, IsVerified, Tells, told_file}
 use Rattle.mx_verify.proofs.ListedLemmas.{missing}
 use Rattle.mx_verify.proofs.TellLemmas.{cause_beside, tells_beside}

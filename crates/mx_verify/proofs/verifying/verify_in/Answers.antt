@@ -1,8 +1,8 @@
 use Rattle.std.proofs.Common.{Err, Ok}
 use Rattle.sqlite.specs.Held.{state}
-use Rattle.mx_reading.specs.Stored.{AreStored}
-use Rattle.mx_reading.specs.Looks.{TellsPoint}
-use Rattle.mx_reading.proofs.LookLemmas.{looks_then}
+use Rattle.mx_book_tables.specs.reading.Stored.{AreStored}
+use Rattle.mx_book_tables.specs.reading.Looks.{TellsPoint}
+use Rattle.mx_book_tables.proofs.ReadingProofs.LookLemmas.{looks_then}
 use Rattle.mx_verify.proofs.TellLemmas.{Finds, verify_stops, verify_told}
 use Rattle.mx_verify.proofs.verifying.verify_in.Goals as goal
 

@@ -8,7 +8,7 @@ use Rattle.mx_base.specs.declared.rows.rows.SectorRow.{SectorRow}
 use Rattle.mx_base.specs.declared.point.Point.{Point}
 use Rattle.mx_registers.specs.points.Moves.{last_moved}
 use Rattle.mx_registers.specs.points.Points.{moving}
-use Rattle.mx_stands.specs.Schemas.{schema_at}
+use Rattle.mx_book_tables.specs.stands.Schemas.{schema_at}
 use Rattle.mx_moves.specs.Changes.{Alters}
 use Rattle.mx_steps.specs.Sectors.{is_next_from, sectors_moved}
 use Rattle.mx_steps.proofs.SectorLemmas.{seq_of}

@@ -1,0 +1,2 @@
+pub mod ReadingProofs
+pub mod StandsProofs

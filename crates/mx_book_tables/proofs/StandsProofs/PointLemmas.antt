@@ -1,0 +1,39 @@
+-- The points that a file can be at, case by case.
+use Rattle.std.proofs.Common.{◌≡◌, inl, inr, ℕ, suc, zero, ◌<◌, Bool, true, false, nat_eq, nat_le, ◌&&◌, refl, subst, sym, arith}
+use Rattle.std.proofs.lemmas.Bool.Decides.{Decides-eqb, leb_tells}
+use Rattle.mx_book.specs.declared.limits.TheConstants.{MOST_ENTRIES}
+use Rattle.mx_base.specs.declared.point.Point.{Point}
+use Rattle.mx_base.specs.Settled.{settled}
+use Rattle.mx_registers.specs.points.Points.{is_on_way, moving}
+use Rattle.mx_book_tables.specs.stands.Schemas.{IsOfFile}
+
+pub and_left : (a b : Bool) → a && b ≡ true → a ≡ true
+and_left true b h = refl
+and_left false b h = (cc)
+
+pub and_right : (a b : Bool) → a && b ≡ true → b ≡ true
+and_right true b h = h
+and_right false b h = (cc)
+
+low_enough : {A : Type 0} (a b : ℕ) → b < a → nat_le a b ≡ true → A
+low_enough a b above h = elim (leb_tells a b) [ inl t ↦ absurd (omega arith) | inr t ↦ absurd cc ]
+
+-- what holds settled at layout 1, in each step of the move from there at any mark, and settled at layout 2, holds wherever a file can be
+module _ (P : Point → Type 0) (first : P (settled 1)) (sectors : (mark : ℕ) → P (moving 1 mark)) (components : (mark : ℕ) → P (moving 2 mark)) (totals : (mark : ℕ) → P (moving 3 mark)) (bases : (mark : ℕ) → P (moving 4 mark)) (second : P (settled 2)) where
+  by_step : (step mark : ℕ) → is_on_way (moving step mark) ≡ true → P (moving step mark)
+  by_step zero mark h = subst (λ m. P (moving 0 m)) (sym ((Decides-eqb mark 0).0 (and_right (nat_le mark MOST_ENTRIES) (nat_eq mark 0) h))) first
+  by_step (suc zero) mark h = sectors mark
+  by_step (suc (suc zero)) mark h = components mark
+  by_step (suc (suc (suc zero))) mark h = totals mark
+  by_step (suc (suc (suc (suc zero)))) mark h = bases mark
+  by_step (suc (suc (suc (suc (suc step))))) mark h = low_enough (suc (suc (suc (suc (suc step))))) 4 (omega arith) (and_left _ _ h)
+
+  on_way : (at : Point) → is_on_way at ≡ true → P at
+  on_way at h =
+      let is = (Decides-eqb at.layout 1).0 (and_left _ _ (and_left _ _ h)) in
+      subst (λ (layout : ℕ). P (record { layout = layout; step = at.step; mark = at.mark })) (sym is)
+      (by_step at.step at.mark (subst (λ (layout : ℕ). is_on_way (record { layout = layout; step = at.step; mark = at.mark }) ≡ true) is h))
+
+  pub by_point : (at : Point) → IsOfFile at → P at
+  by_point at (inl h) = on_way at h
+  by_point at (inr is) = subst P (sym is) second

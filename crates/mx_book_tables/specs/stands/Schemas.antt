@@ -1,0 +1,51 @@
+-- The schema of a file at a point, by the tables that stand there; and how many statements have made it.
+use Rattle.std.specs.Prelude.{◌≡◌, ◌⊎◌, ℕ, nat_eq, true, ◌||◌, List, [], ◌∷◌, map, filter, codes, if◌then◌else◌}
+use Rattle.sqlite.specs.Table.{Table}
+use Rattle.sqlite.specs.Schema.{Schema}
+use Rattle.sqlite_schema.specs.declared.schema.Index.{Index}
+use Rattle.mx_base.specs.declared.point.Point.{Point}
+use Rattle.mx_base.specs.Settled.{settled}
+use Rattle.mx_registers.specs.points.Points.{Step, step_of, is_past, is_within_step, is_on_way}
+use Rattle.mx_layout.specs.Names.{table_named}
+use Rattle.mx_layout.specs.Tables.{unique, span2_by_component, span2_by_aircraft, span2_by_remove_seq, crs_line_by_defect, extension_by_defect, defect_by_aircraft}
+use Rattle.mx_layout.specs.kept.Schemas.{permanent, HasBehind}
+use Rattle.mx_book_tables.specs.stands.Family.{is_at, own_names}
+
+-- the tables behind the permanent ones that a file at this point has
+abbrev pub own_at : Point → List Table
+own_at at = map table_named (filter (is_at at) own_names)
+
+-- an index behind those of the permanent tables, and the step from which on a file has it
+pub record IndexLine : Type 0 where
+  pub index : Index
+  pub since : Step
+
+-- these indexes, in the order in which they are made; the last ones stand from layout 2 on
+abbrev pub own_indexes : List IndexLine
+own_indexes = record { index = span2_by_component; since = step_of 1 2 }
+    ∷ record { index = span2_by_aircraft; since = step_of 1 2 }
+    ∷ record { index = span2_by_remove_seq; since = step_of 1 2 }
+    ∷ record { index = unique (codes "sqlite_autoindex_base2_1") 28 27 (1 ∷ 2 ∷ []); since = step_of 1 4 }
+    ∷ record { index = crs_line_by_defect; since = step_of 2 0 }
+    ∷ record { index = extension_by_defect; since = step_of 2 0 }
+    ∷ record { index = defect_by_aircraft; since = step_of 2 0 } ∷ []
+
+-- those of them that a file at this point has
+abbrev pub indexes_at : Point → List Index
+indexes_at at = map (λ line. line.index) (filter (λ line. is_past at line.since || is_within_step at line.since) own_indexes)
+
+-- the schema of a file at this point
+abbrev pub schema_at : Point → Schema
+schema_at at = permanent (own_at at) (indexes_at at)
+
+-- the schema has the tables of a file at this point, and then any others
+abbrev pub HasTablesAt : Point → Schema → Type 0
+HasTablesAt at = HasBehind (own_at at)
+
+-- a file can be at this point: on the way to the newest layout, or settled there
+abbrev pub IsOfFile : Point → Type 0
+IsOfFile at = (is_on_way at ≡ true) ⊎ (at ≡ settled 2)
+
+-- how many statements have made the tables of a file at this point, those of the first layout and those of the moves
+abbrev pub statements_at : Point → ℕ
+statements_at at = if nat_eq at.layout 1 then (if nat_eq at.step 0 then 15 else if nat_eq at.step 1 then 16 else if nat_eq at.step 2 then 21 else if nat_eq at.step 3 then 24 else 25) else 28

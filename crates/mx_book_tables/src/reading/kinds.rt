@@ -1,0 +1,23 @@
+//! The table of the rows of an entry, by its kind.
+ghost use Rattle.std.specs.Prelude.{◌≡◌};
+ghost use Rattle.mx_book_tables.specs.reading.Damage.{table_of};
+
+use mx_base::rows::EntryKind;
+use mx_layout::Table;
+
+/// The table of the rows that entries of a kind have.
+pub fn table_of(kind: EntryKind) -> Table
+    ensures { result ≡ table_of kind }
+{
+    match kind {
+        EntryKind::AddAircraft => Table::Aircraft,
+        EntryKind::AddComponent => Table::Component,
+        EntryKind::LoadProgramme => Table::Programme,
+        EntryKind::Opening => Table::Opening,
+        EntryKind::Sector => Table::Sector2,
+        EntryKind::Fit | EntryKind::Remove => Table::Span2,
+        EntryKind::Release => Table::Crs,
+        EntryKind::Defer => Table::Defect,
+        EntryKind::Extend => Table::Extension,
+    }
+}

@@ -1,0 +1,134 @@
+//! The rows of the tables of layout 2 but `office`, as the types of these tables: those of the registers alone, and all.
+ghost use Rattle.std.specs.Prelude.{◌≡◌, IfOk, map};
+ghost use Rattle.sqlite.specs.Held.{state};
+ghost use Rattle.mx_tables.specs.inserts.Sets.{ReadsTables};
+ghost use Rattle.mx_book_tables.specs.reading.Stored.{AreInPairs, AreRegisters, AreStored, HasRegisters};
+ghost use Rattle.mx_book_tables.specs.reading.Looks.{Looks};
+
+use mx_base::rows::{
+    AircraftRow, BaseRow, ComponentRow, DeferralRow, EntryRow, ExtensionRow, OpeningRow, PlaceRow,
+    ProgrammeRow, RegisterRows, ReleaseLineRow, ReleaseRow, Sector2Row, SectorRow, SpanRow,
+    TaskRow, TotalRow,
+};
+use mx_layout::TableFault;
+use mx_registers::file::FileRows;
+use mx_registers::merge::Registers;
+use mx_tables::inserts::Tables;
+use sqlite::{Alter, Transaction};
+use std::alloc::{AllocError, Global};
+
+/// The last of the pairs of the registers: what was flown, and where components are fitted.
+type FlownPairs = (Vec<Sector2Row>, Vec<SpanRow>);
+
+/// Those from the deferrals on.
+type DeferredPairs = (Vec<DeferralRow>, (Vec<ExtensionRow>, FlownPairs));
+
+/// Those from the releases on.
+type ReleasedPairs = (Vec<ReleaseRow>, (Vec<ReleaseLineRow>, DeferredPairs));
+
+/// Those from the programmes on.
+type MaintainedPairs = (
+    Vec<ProgrammeRow>,
+    (Vec<TaskRow>, (Vec<OpeningRow>, ReleasedPairs)),
+);
+
+/// Those from the aircraft on.
+type ItemPairs = (
+    Vec<AircraftRow>,
+    (Vec<PlaceRow>, (Vec<ComponentRow>, MaintainedPairs)),
+);
+
+/// The registers as a set of tables is read: the rows of one, and behind them those of the others.
+type RegisterPairs = (Vec<EntryRow>, ItemPairs);
+
+/// What is kept of items beside them: their totals and last bases.
+type KeptPairs = (Vec<TotalRow>, Vec<BaseRow>);
+
+// The sectors that rows hold.
+fn sectors_in(alloc: Global, rows: &[Sector2Row]) -> Result<Vec<SectorRow>, AllocError>
+    ensures { IfOk result (λ sectors. sectors.items ≡ map (λ row. row.sector) rows.now) }
+{
+    rows.iter().map(|row| row.sector).collect(alloc)
+}
+
+// The rows that stand in pairs.
+fn rows_in_pairs(alloc: Global, pairs: RegisterPairs) -> Result<FileRows, AllocError>
+    ensures { IfOk result (AreInPairs pairs) }
+{
+    let (entries, (aircraft, (places, (components, maintained)))) = pairs;
+    let (programmes, (tasks, (openings, released))) = maintained;
+    let (releases, (release_lines, deferred)) = released;
+    let (deferrals, (extensions, flown)) = deferred;
+    let (held, spans) = flown;
+    let sectors = sectors_in(alloc, held.as_slice())?;
+    let rows = RegisterRows {
+        aircraft,
+        places,
+        components,
+        programmes,
+        tasks,
+        openings,
+        releases,
+        release_lines,
+        deferrals,
+        extensions,
+        sectors,
+        fittings: Vec::new(alloc),
+        removals: Vec::new(alloc),
+    };
+    Ok(FileRows {
+        registers: Registers { entries, rows },
+        spans,
+        totals: Vec::new(alloc),
+        bases: Vec::new(alloc),
+    })
+}
+
+// The rows of the registers, and with them those that are kept of items.
+fn with_kept(rows: FileRows, kept: KeptPairs) -> FileRows
+    ensures registers { result.registers ≡ rows.registers }
+    ensures spans { result.spans ≡ rows.spans }
+    ensures totals { result.totals ≡ kept.0 }
+    ensures bases { result.bases ≡ kept.1 }
+{
+    let (totals, bases) = kept;
+    FileRows {
+        registers: rows.registers,
+        spans: rows.spans,
+        totals,
+        bases,
+    }
+}
+
+/// The rows of the registers of a file, read inside a transaction: its sectors from `sector2`, and the spans in place of its
+/// fittings and removals; no kept row of an item is among them. So it serves over any schema that has these tables, also where
+/// a move has yet to make the totals and the last bases.
+///
+/// # Errors
+/// `Damaged` with its table where a row is none of its type; else `Memory` or `Store`.
+pub fn register_rows<S: Alter>(
+    alloc: Global,
+    tx: &mut Transaction<'_, S>,
+) -> Result<FileRows, TableFault>
+    ensures same_reference { tx.new.conn.ghost_name ≡ tx.old.conn.ghost_name }
+    ensures reads { ReadsTables HasRegisters AreRegisters
+        (state S.Store tx.old.conn.now) (state S.Store tx.new.conn.now) result }
+{
+    let pairs: RegisterPairs = Tables::read(alloc, tx)?;
+    let rows = rows_in_pairs(alloc, pairs)?;
+    Ok(rows)
+}
+
+/// The rows of every table but `office`, read inside a transaction. `Damaged` with the table where a row is none of its type.
+pub fn read_rows<S: Alter>(
+    alloc: Global,
+    tx: &mut Transaction<'_, S>,
+) -> Result<FileRows, TableFault>
+    ensures same_reference { tx.new.conn.ghost_name ≡ tx.old.conn.ghost_name }
+    ensures looks { Looks AreStored
+        (state S.Store tx.old.conn.now) (state S.Store tx.new.conn.now) result }
+{
+    let registers = register_rows(alloc, tx)?;
+    let kept: KeptPairs = Tables::read(alloc, tx)?;
+    Ok(with_kept(registers, kept))
+}

@@ -1,5 +1,0 @@
-use Rattle.mx_stands.proofs.RowLemmas.{readable_stored}
-use Rattle.mx_stands.proofs.laws.rows_are_readable.Goals as goal
-
-pub returns : goal.returns
-returns c at trees book name has there = readable_stored at trees book has name there

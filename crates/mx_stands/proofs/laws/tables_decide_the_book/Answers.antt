@@ -1,8 +1,0 @@
-use Rattle.mx_stands.proofs.RowLemmas.{one_book, one_point}
-use Rattle.mx_stands.proofs.laws.tables_decide_the_book.Goals as goal
-
-pub returns-clause-book : goal.returns-clause-book
-returns-clause-book c = one_book
-
-pub returns-clause-point : goal.returns-clause-point
-returns-clause-point c = one_point
