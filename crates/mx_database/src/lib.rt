@@ -4,6 +4,7 @@
 #![tactic(auto)]
 
 mod opening;
+pub mod power;
 pub mod working;
 
 pub use opening::Unopened;

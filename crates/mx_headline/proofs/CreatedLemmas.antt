@@ -6,12 +6,12 @@ use Rattle.sqlite_catalog.specs.Listing.{IsSound}
 use Rattle.mx_layout.specs.declared.fault.TableFault.{TableFault}
 use Rattle.mx_layout.specs.declared.fault.TableFault.TheVariants.{Memory, Store, NotOurs, Exists, Damaged}
 use Rattle.mx_layout.specs.Crash.{Leaves, RestsAs, ChangesNothing}
-use Rattle.mx_power.specs.Found.{IsFound, Finds}
+use Rattle.mx_database.specs.power.Found.{IsFound, Finds}
 use Rattle.mx_layout.specs.Making.{IsEmptyIn}
 use Rattle.mx_layout.specs.Steps.{schema_of}
 use Rattle.mx_layout.specs.Tables.{no_schema}
 use Rattle.mx_layout.proofs.CrashLemmas.{rests_kept}
-use Rattle.mx_power.proofs.FoundLemmas.{rests_found, found_before}
+use Rattle.mx_database.proofs.PowerProofs.FoundLemmas.{rests_found, found_before}
 use Rattle.mx_office.specs.Layout.{office_point}
 use Rattle.mx_office.specs.Stands.{Rests}
 use Rattle.mx_office.proofs.StandsLemmas.{empty_stands}

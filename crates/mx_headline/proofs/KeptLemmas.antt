@@ -14,8 +14,8 @@ use Rattle.mx_book.specs.Run.{book_run, replies}
 use Rattle.mx_book.proofs.GrowthLemmas.{book_run-append}
 use Rattle.mx_book.proofs.AcceptedLemmas.{run_accepts, run_prefix, replies_count, one_more, run_has}
 use Rattle.mx_layout.specs.Crash.{ChangesNothing, Leaves}
-use Rattle.mx_power.specs.Found.{IsFound}
-use Rattle.mx_power.proofs.FoundLemmas.{rests_found}
+use Rattle.mx_database.specs.power.Found.{IsFound}
+use Rattle.mx_database.proofs.PowerProofs.FoundLemmas.{rests_found}
 use Rattle.mx_layout.specs.declared.fault.Table.{Table}
 use Rattle.mx_faults.specs.declared.fault.Fault.{Fault}
 use Rattle.mx_faults.specs.declared.fault.Fault.TheVariants.{Memory, Store, NeedsReopen, Damaged}

@@ -3,8 +3,8 @@ use Rattle.std.proofs.Common.{◌≡◌, ℕ, zero, suc, List, None, Some, refl,
 use Rattle.sqlite.specs.State.{State}
 use Rattle.sqlite.specs.Tree.{Trees}
 use Rattle.mx_book.specs.commands.Act.{Entry}
-use Rattle.mx_power.specs.Found.{IsFound}
-use Rattle.mx_power.proofs.FoundLemmas.{rests_found}
+use Rattle.mx_database.specs.power.Found.{IsFound}
+use Rattle.mx_database.proofs.PowerProofs.FoundLemmas.{rests_found}
 use Rattle.mx_base.specs.declared.point.Point.{Point}
 use Rattle.mx_registers.specs.points.Commits.{point_behind}
 use Rattle.mx_registers.specs.points.Points.{next_point}

@@ -16,9 +16,9 @@ use Rattle.mx_registers.specs.points.Commits.{point_behind}
 use Rattle.mx_registers.specs.points.Points.{next_point}
 use Rattle.mx_registers.proofs.PointsProofs.CommitLemmas.{commit_counts}
 use Rattle.mx_layout.specs.Crash.{Leaves, RestsAs}
-use Rattle.mx_power.specs.Found.{IsEndOf, IsFound}
+use Rattle.mx_database.specs.power.Found.{IsEndOf, IsFound}
 use Rattle.mx_layout.proofs.CrashLemmas.{rests_kept}
-use Rattle.mx_power.proofs.FoundLemmas.{rests_found}
+use Rattle.mx_database.proofs.PowerProofs.FoundLemmas.{rests_found}
 use Rattle.mx_settle.specs.Place.{IsPlacedAt, SaysAt}
 use Rattle.mx_book_tables.specs.stands.Schemas.{IsOfFile, schema_at}
 use Rattle.mx_book_tables.specs.stands.Stands.{RestsAt, StandsAt}

@@ -13,7 +13,7 @@ use Rattle.mx_book.specs.Accepted.{accepted, HasAcknowledged}
 use Rattle.mx_book.specs.Run.{book_run}
 use Rattle.mx_book.proofs.AcceptedLemmas.{acknowledged_stays}
 use Rattle.mx_layout.specs.Crash.{Leaves}
-use Rattle.mx_power.specs.Found.{IsEndOf}
+use Rattle.mx_database.specs.power.Found.{IsEndOf}
 use Rattle.mx_settle.specs.Place.{SaysAt}
 use Rattle.mx_settle.proofs.PlaceLemmas.{stands_says}
 use Rattle.mx_office.specs.Layout.{office_point}

@@ -6,7 +6,7 @@ use Rattle.sqlite.specs.Files.{file_state}
 use Rattle.sqlite.specs.Held.{Held}
 use Rattle.mx_book.specs.commands.Act.{Entry}
 use Rattle.mx_layout.specs.Crash.{Leaves}
-use Rattle.mx_power.specs.Found.{IsEndOf}
+use Rattle.mx_database.specs.power.Found.{IsEndOf}
 use Rattle.mx_office.specs.Stands.{Stands}
 use Rattle.mx_headline.specs.Kept.{IsBookKept}
 use Rattle.mx_headline.specs.Opened.{StandsSomewhere}

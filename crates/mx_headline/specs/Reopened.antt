@@ -9,7 +9,7 @@ use Rattle.mx_book.specs.commands.Act.{Entry}
 use Rattle.mx_book.specs.declared.verdict.Refusal.TheVariants.{UnknownAircraft}
 use Rattle.mx_book.specs.Accepted.{HasAcknowledged}
 use Rattle.mx_lists.specs.DueList.{due_list}
-use Rattle.mx_power.specs.Found.{IsFound}
+use Rattle.mx_database.specs.power.Found.{IsFound}
 use Rattle.mx_faults.specs.declared.fault.Ask.{Ask}
 use Rattle.mx_faults.specs.declared.fault.Ask.TheVariants.{Refused, Failed}
 use Rattle.mx_faults.specs.declared.fault.Fault.TheVariants.{Memory, Store}

@@ -2,15 +2,15 @@
 ghost use Rattle.std.specs.Prelude.{◌≡◌, ◌≢◌, ◌⊎◌, false, IsErr, IsTrue, IfOk, IfErr};
 ghost use Rattle.sqlite.specs.State.{HasCleanDisk};
 ghost use Rattle.sqlite.specs.Files.{file_state};
-ghost use Rattle.mx_power.specs.Found.{Finds};
+ghost use Rattle.mx_database.specs.power.Found.{Finds};
 ghost use Rattle.mx_layout.specs.Listed.{IsRefusal};
 ghost use Rattle.mx_layout.specs.Point.{IsStop};
 ghost use Rattle.mx_layout.specs.Tables.{no_schema};
 ghost use Rattle.mx_office.specs.Layout.{office_point};
 ghost use Rattle.mx_headline.specs.Created.{FindsMade, IsBare};
 
+use mx_database::power::reopen;
 use mx_layout::{Layout, TableFault, create};
-use mx_power::reopen;
 use sqlite::{Alter, Connection, Error, FileStore, Options};
 use sqlite_disk::Crash;
 use std::alloc::Global;

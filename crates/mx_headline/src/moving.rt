@@ -12,8 +12,8 @@ ghost use Rattle.mx_office.specs.Opening.{StandsBehind};
 ghost use Rattle.mx_headline.specs.Moved.{FindsBook, KeepsMoving};
 
 use crate::running::Unopened;
+use mx_database::power::reopen;
 use mx_office::{Office, open_office};
-use mx_power::reopen;
 use sqlite::{Alter, Connection, FileStore, Options};
 use sqlite_disk::Crash;
 use std::alloc::Global;

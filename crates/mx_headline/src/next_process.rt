@@ -7,7 +7,7 @@ ghost use Rattle.sqlite_trees.specs.View.{IsClean};
 ghost use Rattle.sqlite_wal.specs.Files.{image_at};
 ghost use Rattle.mx_book.specs.commands.Act.{Entry};
 ghost use Rattle.mx_base.specs.declared.point.Point.{Point};
-ghost use Rattle.mx_power.specs.Found.{WasLeft};
+ghost use Rattle.mx_database.specs.power.Found.{WasLeft};
 ghost use Rattle.mx_book_tables.specs.stands.Schemas.{IsOfFile};
 ghost use Rattle.mx_book_tables.specs.stands.Stands.{RestsAt};
 ghost use Rattle.mx_office.specs.Calls.{IsRun};
@@ -19,8 +19,8 @@ ghost use Rattle.mx_headline.specs.Reopened.{GoesOn, IsStopOf, KeepsUnopened, Re
 use crate::running::{Reopened, Stopped, Unopened, print_due};
 use mx_base::{Day, Tail};
 use mx_book::commands::Command;
+use mx_database::power::{end_process, reopen_file};
 use mx_office::{Fault, Office, OpenFault, Outcomes, open_office};
-use mx_power::{end_process, reopen_file};
 use sqlite::{Connection, FileFrom, FileStore};
 use sqlite_disk::{Disk, Start};
 use std::alloc::Global;

@@ -3,7 +3,7 @@
 ghost use Rattle.std.specs.Prelude.{◌≡◌, ◌≢◌, IfOk, IfErr};
 ghost use Rattle.sqlite.specs.State.{HasCleanDisk};
 ghost use Rattle.mx_layout.specs.Crash.{ChangesNothing, Leaves};
-ghost use Rattle.mx_power.specs.Found.{Finds};
+ghost use Rattle.mx_database.specs.power.Found.{Finds};
 ghost use Rattle.mx_settle.specs.Place.{SaysAt};
 ghost use Rattle.mx_office.specs.Calls.{IsRun};
 ghost use Rattle.mx_office.specs.Layout.{office_point};
@@ -12,8 +12,8 @@ ghost use Rattle.mx_headline.specs.Reopened.{FindsUnopened, GoesOn, IsPrintOf, K
 
 use mx_base::{Day, Tail};
 use mx_book::commands::Command;
+use mx_database::power::reopen;
 use mx_office::{Ask, Fault, Office, OpenFault, Outcomes, open_office};
-use mx_power::reopen;
 use mx_reports::due_text;
 use sqlite::{Alter, Connection, Error, FileStore, Options};
 use sqlite_disk::Crash;

@@ -3,8 +3,8 @@ use Rattle.std.proofs.Math.Logic.{∥∥₁_map}
 use Rattle.sqlite.specs.State.{HasCleanDisk}
 use Rattle.sqlite.specs.Files.{file_state}
 use Rattle.mx_layout.specs.Crash.{Leaves}
-use Rattle.mx_power.specs.Found.{IsFound}
-use Rattle.mx_power.proofs.FoundLemmas.{found_kept}
+use Rattle.mx_database.specs.power.Found.{IsFound}
+use Rattle.mx_database.proofs.PowerProofs.FoundLemmas.{found_kept}
 use Rattle.mx_settle.specs.Place.{SaysAt}
 use Rattle.mx_office.specs.Layout.{office_point}
 use Rattle.mx_headline.specs.Reopened.{IsUnopened}

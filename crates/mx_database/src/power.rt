@@ -1,5 +1,4 @@
 //! A database opened again after a stop: after a loss of power, and in the next process.
-#![tactic(auto)]
 
 pub mod power;
 

@@ -19,7 +19,7 @@ use Rattle.sqlite.specs.Start.{FindsIn}
 use Rattle.sqlite.proofs.Theorems.{next_run}
 use Rattle.mx_layout.specs.Crash.{Leaves, RestsAs, ChangesNothing}
 use Rattle.mx_layout.proofs.CrashLemmas.{rests_kept}
-use Rattle.mx_power.specs.Found.{IsFound}
+use Rattle.mx_database.specs.power.Found.{IsFound}
 
 module _ {D' : Type 0} {g' : Ghosts D'} (stays : SeenMayStay g') (again : Held (FileStore D' g')) (opened : IsOpened again) where
   -- `left` is what the files hold as they are opened again, by whatever disk

@@ -1,8 +1,8 @@
 use Rattle.std.proofs.Common.{inl, refl}
 use Rattle.sqlite.specs.Files.{file_state}
 use Rattle.sqlite_wal.specs.Files.{image_at}
-use Rattle.mx_power.proofs.FoundLemmas.{finds}
-use Rattle.mx_power.proofs.power.reopen_file.Goals as goal
+use Rattle.mx_database.proofs.PowerProofs.FoundLemmas.{finds}
+use Rattle.mx_database.proofs.power.power.reopen_file.Goals as goal
 
 pub returns-in-Ok-clause-found : goal.returns-in-Ok-clause-found
 returns-in-Ok-clause-found g c conn end was clean =

@@ -4,7 +4,7 @@ ghost use Rattle.std.specs.Prelude.{◌≡◌, false, IfOk};
 ghost use Rattle.sqlite.specs.State.{HasCleanDisk};
 ghost use Rattle.sqlite.specs.Files.{file_state};
 ghost use Rattle.sqlite_wal.specs.Files.{image_at};
-ghost use Rattle.mx_power.specs.Found.{Finds, IsEndOf, WasLeft};
+ghost use Rattle.mx_database.specs.power.Found.{Finds, IsEndOf, WasLeft};
 
 use sqlite::{Connection, Error, FileFrom, FileStore, Options};
 use sqlite_disk::{Crash, Disk, Start};

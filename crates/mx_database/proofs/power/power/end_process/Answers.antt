@@ -1,5 +1,5 @@
 use Rattle.std.proofs.Common.{arith}
-use Rattle.mx_power.proofs.power.end_process.Goals as goal
+use Rattle.mx_database.proofs.power.power.end_process.Goals as goal
 
 pub returns : goal.returns
 returns g c =

@@ -8,8 +8,8 @@ use Rattle.sqlite_trees.proofs.Doubt.{no_doubt}
 use Rattle.sqlite_trees.specs.View.{IsClean}
 use Rattle.sqlite_store.specs.FileStore.{view}
 use Rattle.sqlite.specs.Files.{file_state}
-use Rattle.mx_power.proofs.FoundLemmas.{finds}
-use Rattle.mx_power.proofs.power.reopen.Goals as goal
+use Rattle.mx_database.proofs.PowerProofs.FoundLemmas.{finds}
+use Rattle.mx_database.proofs.power.power.reopen.Goals as goal
 
 pub returns-in-Ok-clause-clean : goal.returns-in-Ok-clause-clean
 returns-in-Ok-clause-clean g c clean =
