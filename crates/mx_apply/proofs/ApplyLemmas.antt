@@ -23,8 +23,8 @@ use Rattle.mx_book_tables.specs.stands.Stands.{StandsAt}
 use Rattle.mx_book_tables.proofs.StandsProofs.SchemaLemmas.{has_tables}
 use Rattle.mx_tables.specs.Calls.{OnRead}
 use Rattle.mx_tables.specs.inserts.Sets.{GainsRows, IsInside}
-use Rattle.mx_numbers.specs.AnyRows.{ReadsAny}
-use Rattle.mx_numbers.specs.Reads.{IsStop, Reads, StandsFor}
+use Rattle.mx_lookups.specs.numbers.AnyRows.{ReadsAny}
+use Rattle.mx_lookups.specs.numbers.Reads.{IsStop, Reads, StandsFor}
 use Rattle.mx_writing.specs.Changes.{AllRise, WritesRows}
 use Rattle.mx_writing.specs.Written.{IsSettled, with_rows, written_point}
 use Rattle.mx_writing.proofs.StandLemmas.{stand}

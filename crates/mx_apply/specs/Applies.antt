@@ -19,8 +19,8 @@ use Rattle.mx_book_tables.specs.stands.Schemas.{schema_at}
 use Rattle.mx_book_tables.specs.stands.Stands.{IsEither, RestsAt, StandsAt}
 use Rattle.mx_tables.specs.Calls.{OnRead}
 use Rattle.mx_tables.specs.inserts.Sets.{GainsRows}
-use Rattle.mx_numbers.specs.Damage.{IsDamaged}
-use Rattle.mx_numbers.specs.Reads.{IsStop}
+use Rattle.mx_lookups.specs.numbers.Damage.{IsDamaged}
+use Rattle.mx_lookups.specs.numbers.Reads.{IsStop}
 use Rattle.mx_made.specs.Found.{AreRowsFor}
 use Rattle.mx_rows.specs.Answering.{AnswerAs}
 use Rattle.mx_writing.specs.Changes.{AllRise}

@@ -1,8 +1,8 @@
 //! What the rows that a transaction shows say of a command.
 ghost use Rattle.std.specs.Prelude.{◌≡◌};
 ghost use Rattle.sqlite.specs.Held.{state};
-ghost use Rattle.mx_numbers.specs.AnyRows.{ReadsAny};
-ghost use Rattle.mx_numbers.specs.Reads.{Reads};
+ghost use Rattle.mx_lookups.specs.numbers.AnyRows.{ReadsAny};
+ghost use Rattle.mx_lookups.specs.numbers.Reads.{Reads};
 ghost use Rattle.mx_apply.specs.Judged.{IsJudged, JudgedOf};
 
 use mx_book::commands::Command;

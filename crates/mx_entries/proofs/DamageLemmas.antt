@@ -10,8 +10,8 @@ use Rattle.mx_layout.specs.TableName.{TableName}
 use Rattle.mx_layout.specs.declared.fault.TableFault.{TableFault}
 use Rattle.mx_layout.specs.declared.fault.TableFault.TheVariants.{Damaged}
 use Rattle.mx_book_tables.specs.stands.Schemas.{schema_at}
-use Rattle.mx_numbers.specs.Reads.{Reads, rows_point}
-use Rattle.mx_numbers.proofs.ReadLemmas.{reads_then, stopped, told}
+use Rattle.mx_lookups.specs.numbers.Reads.{Reads, rows_point}
+use Rattle.mx_lookups.proofs.NumbersProofs.ReadLemmas.{reads_then, stopped, told}
 use Rattle.mx_entries.specs.Damage.{ReadsOr}
 
 -- what was looked up is so of no book, and this is the reason

@@ -24,12 +24,12 @@ use Rattle.mx_table_rows.specs.chosen.Calls.{ReadsBy}
 use Rattle.mx_row_rules.specs.found.Stated.{stated}
 use Rattle.mx_row_rules.proofs.FoundProofs.EntryLemmas.{entry_is_at, shape_at}
 use Rattle.mx_row_rules.proofs.FoundProofs.StatedLemmas.{doc_numbered, entry_stated, kind_numbered}
-use Rattle.mx_numbers.specs.AnyRows.{ReadsAny}
-use Rattle.mx_numbers.specs.Reads.{Reads}
-use Rattle.mx_numbers.proofs.AnyLemmas.{any_later, gives}
-use Rattle.mx_numbers.proofs.BookRows.{entries_of_number}
-use Rattle.mx_numbers.proofs.ReadLemmas.{no_memory, reads_then, stopped, told}
-use Rattle.mx_numbers.proofs.TableLemmas.{entries}
+use Rattle.mx_lookups.specs.numbers.AnyRows.{ReadsAny}
+use Rattle.mx_lookups.specs.numbers.Reads.{Reads}
+use Rattle.mx_lookups.proofs.NumbersProofs.AnyLemmas.{any_later, gives}
+use Rattle.mx_lookups.proofs.NumbersProofs.BookRows.{entries_of_number}
+use Rattle.mx_lookups.proofs.NumbersProofs.ReadLemmas.{no_memory, reads_then, stopped, told}
+use Rattle.mx_lookups.proofs.NumbersProofs.TableLemmas.{entries}
 use Rattle.mx_entries.specs.Damage.{IsSkipped, IsUnstated, ReadsOr}
 use Rattle.mx_entries.specs.Entries.{AreEntries, InTurn, IsEntry, IsLast, KindStated, command_said, table_of}
 use Rattle.mx_entries.specs.Stated.{FirstOf}

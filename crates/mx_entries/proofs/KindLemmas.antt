@@ -22,11 +22,11 @@ use Rattle.mx_layout.specs.kept.Cells.{kept_crs, kept_defect, kept_extension, ke
 use Rattle.mx_table_rows.specs.chosen.Choices.{has_value}
 use Rattle.mx_row_rules.specs.found.Given as register
 use Rattle.mx_row_rules.specs.found.Stated.{lines_stated}
-use Rattle.mx_numbers.specs.Given.{SerialOfNumber, TailOfNumber}
-use Rattle.mx_numbers.proofs.BookRows.{deferrals_of_number, extensions_of_number, openings_of_number, releases_of_number, spans_of_fitting, spans_of_removal}
-use Rattle.mx_numbers.proofs.ReadLemmas.{follows}
-use Rattle.mx_numbers.proofs.SectorRows.{sectors_read}
-use Rattle.mx_numbers.proofs.TableLemmas.{deferrals, extensions, openings, releases, sectors, spans}
+use Rattle.mx_lookups.specs.numbers.Given.{SerialOfNumber, TailOfNumber}
+use Rattle.mx_lookups.proofs.NumbersProofs.BookRows.{deferrals_of_number, extensions_of_number, openings_of_number, releases_of_number, spans_of_fitting, spans_of_removal}
+use Rattle.mx_lookups.proofs.NumbersProofs.ReadLemmas.{follows}
+use Rattle.mx_lookups.proofs.NumbersProofs.SectorRows.{sectors_read}
+use Rattle.mx_lookups.proofs.NumbersProofs.TableLemmas.{deferrals, extensions, openings, releases, sectors, spans}
 use Rattle.mx_entries.specs.Names.{DocOfDefect, ItemOfNumber, WithName}
 use Rattle.mx_entries.specs.Releases.{LinesStated, PlaceStated}
 use Rattle.mx_entries.proofs.MoveLemmas.{first_map, fittings_found, removal_found}

@@ -17,10 +17,10 @@ use Rattle.mx_book_tables.specs.stands.Schemas.{schema_at}
 use Rattle.mx_row_rules.specs.declared.found.stated.Certified.{Certified}
 use Rattle.mx_row_rules.specs.found.Stated.{certified_in, certified_said, lines_stated}
 use Rattle.mx_row_rules.proofs.FoundProofs.StatedLemmas.{line_certified}
-use Rattle.mx_numbers.specs.AnyRows.{ReadsAny}
-use Rattle.mx_numbers.specs.Reads.{Reads, rows_point}
-use Rattle.mx_numbers.proofs.AnyLemmas.{any_later}
-use Rattle.mx_numbers.proofs.ReadLemmas.{reads_then, told}
+use Rattle.mx_lookups.specs.numbers.AnyRows.{ReadsAny}
+use Rattle.mx_lookups.specs.numbers.Reads.{Reads, rows_point}
+use Rattle.mx_lookups.proofs.NumbersProofs.AnyLemmas.{any_later}
+use Rattle.mx_lookups.proofs.NumbersProofs.ReadLemmas.{reads_then, told}
 use Rattle.mx_entries.specs.Releases.{LineCertified, LineNamed, LineStated, LinesSaid, LinesStated}
 use Rattle.mx_entries.specs.Stated.{AllOf}
 use Rattle.mx_entries.proofs.StatedLemmas.{starved}

@@ -20,7 +20,7 @@ use Rattle.mx_row_rules.specs.found.Given.{fittings, found, removals}
 use Rattle.mx_row_rules.specs.found.Spans.{is_removed_by}
 use Rattle.mx_row_rules.proofs.FoundProofs.EntryLemmas.{rows_at}
 use Rattle.mx_row_rules.proofs.FoundProofs.RowLemmas.{removals_law}
-use Rattle.mx_numbers.proofs.AnyLemmas.{empty_is}
+use Rattle.mx_lookups.proofs.NumbersProofs.AnyLemmas.{empty_is}
 
 -- the first of things that are seen otherwise
 pub first_map : {X Y : Type 0} (f : X → Y) (xs : List X) → slice_get (map f xs) 0 ≡ option_map f (slice_get xs 0)

@@ -15,10 +15,10 @@ use Rattle.mx_layout.specs.declared.fault.TableFault.TheVariants.{Memory}
 use Rattle.mx_layout.specs.kept.Kept.{Kept}
 use Rattle.mx_table_rows.specs.chosen.Calls.{ReadsFirst}
 use Rattle.mx_book_tables.specs.stands.Schemas.{schema_at}
-use Rattle.mx_numbers.specs.AnyRows.{AreChosen, Gives, ReadsAny}
-use Rattle.mx_numbers.specs.Reads.{Reads, rows_point}
-use Rattle.mx_numbers.proofs.AnyLemmas.{any_later, given_in}
-use Rattle.mx_numbers.proofs.ReadLemmas.{no_memory, reads_then, stopped, told}
+use Rattle.mx_lookups.specs.numbers.AnyRows.{AreChosen, Gives, ReadsAny}
+use Rattle.mx_lookups.specs.numbers.Reads.{Reads, rows_point}
+use Rattle.mx_lookups.proofs.NumbersProofs.AnyLemmas.{any_later, given_in}
+use Rattle.mx_lookups.proofs.NumbersProofs.ReadLemmas.{no_memory, reads_then, stopped, told}
 use Rattle.mx_entries.specs.Names.{ByRow, WithName}
 
 -- memory ran out behind what was answered

@@ -10,7 +10,7 @@ use Rattle.mx_layout.specs.declared.fault.TableFault.{TableFault}
 use Rattle.mx_layout.specs.declared.fault.TableFault.TheVariants.{Damaged}
 use Rattle.mx_layout.specs.kept.Cells.{kept_entry}
 use Rattle.mx_book_tables.specs.stands.Schemas.{schema_at}
-use Rattle.mx_numbers.specs.Reads.{Reads, rows_point}
+use Rattle.mx_lookups.specs.numbers.Reads.{Reads, rows_point}
 use Rattle.mx_entries.specs.Entries.{IsLast, KindStated, command_said, table_of}
 use Rattle.mx_entries.specs.Stated.{FirstOf}
 

@@ -12,7 +12,7 @@ use Rattle.mx_layout.specs.declared.fault.Table.TheVariants as table
 use Rattle.mx_layout.specs.kept.Cells.{kept_entry}
 use Rattle.mx_table_rows.specs.chosen.Choices.{backward, is_any}
 use Rattle.mx_row_rules.specs.found.Names.{last_number}
-use Rattle.mx_numbers.specs.AnyRows.{GivesFirst}
+use Rattle.mx_lookups.specs.numbers.AnyRows.{GivesFirst}
 use Rattle.mx_entries.specs.Names.{ByRow}
 use Rattle.mx_entries.specs.Releases.{ReleaseStated}
 use Rattle.mx_entries.specs.Stated.{AircraftStated, ComponentStated, DeferralStated, ExtensionStated, FirstOf, FittingStated, OpeningStated, ProgrammeStated, RemovalStated, SectorStated}

@@ -8,8 +8,8 @@ use Rattle.mx_book.specs.declared.commands.item.Item.TheVariants.{Airframe, Comp
 use Rattle.mx_layout.specs.kept.Cells.{kept_entry}
 use Rattle.mx_table_rows.specs.chosen.Choices.{has_value}
 use Rattle.mx_row_rules.specs.found.Names.{deferred_doc}
-use Rattle.mx_numbers.specs.AnyRows.{Gives}
-use Rattle.mx_numbers.specs.Given.{SerialOfNumber, TailOfNumber}
+use Rattle.mx_lookups.specs.numbers.AnyRows.{Gives}
+use Rattle.mx_lookups.specs.numbers.Given.{SerialOfNumber, TailOfNumber}
 
 -- the item with this number: the aircraft, or where there is none the component
 abbrev pub ItemOfNumber : ℕ → Trees → Option Item → Type 0

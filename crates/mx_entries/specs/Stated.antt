@@ -14,8 +14,8 @@ use Rattle.mx_layout.specs.kept.Cells.{kept_aircraft, kept_component, kept_defec
 use Rattle.mx_layout.specs.kept.Kept.{Kept}
 use Rattle.mx_table_rows.specs.chosen.Choices.{has_value}
 use Rattle.mx_row_rules.specs.found.Stated.{aircraft_stated, component_stated, programme_stated}
-use Rattle.mx_numbers.specs.AnyRows.{AreChosen, Gives}
-use Rattle.mx_numbers.specs.Given.{SerialOfNumber, TailOfNumber}
+use Rattle.mx_lookups.specs.numbers.AnyRows.{AreChosen, Gives}
+use Rattle.mx_lookups.specs.numbers.Given.{SerialOfNumber, TailOfNumber}
 use Rattle.mx_entries.specs.Names.{ByRow, DocOfDefect, ItemOfNumber, WithName}
 
 -- the first of the rows with this number

@@ -5,14 +5,14 @@ ghost use Rattle.sqlite.specs.Held.{state};
 ghost use Rattle.mx_book.specs.commands.Act.{act_of};
 ghost use Rattle.mx_row_rules.specs.found.Given.{deferrals, extensions, found};
 ghost use Rattle.mx_row_rules.specs.found.Stated.{deferral_stated, extension_stated};
-ghost use Rattle.mx_numbers.specs.AnyRows.{ReadsAny};
-ghost use Rattle.mx_numbers.specs.Reads.{Reads};
+ghost use Rattle.mx_lookups.specs.numbers.AnyRows.{ReadsAny};
+ghost use Rattle.mx_lookups.specs.numbers.Reads.{Reads};
 ghost use Rattle.mx_entries.specs.Stated.{DeferralStated, ExtensionStated};
 
 use crate::names::doc_of_defect;
 use mx_book::commands::Body;
 use mx_layout::TableFault;
-use mx_numbers::items::tail_of_number;
+use mx_lookups::numbers::items::tail_of_number;
 use mx_registers::plain::said::{body_of_deferral, body_of_extension};
 use mx_table_rows::chosen::defects::{defect_by_seq, extension_by_seq};
 use sqlite::{Alter, Transaction};

@@ -2,14 +2,14 @@
 ghost use Rattle.std.specs.Prelude.{◌≡◌};
 ghost use Rattle.sqlite.specs.Held.{state};
 ghost use Rattle.mx_book.specs.Book.{entries_from, entry_at};
-ghost use Rattle.mx_numbers.specs.AnyRows.{ReadsAny};
+ghost use Rattle.mx_lookups.specs.numbers.AnyRows.{ReadsAny};
 ghost use Rattle.mx_entries.specs.Entries.{AreEntries, IsEntry};
 ghost use Rattle.mx_entries.specs.Damage.{IsSkipped, IsUnstated, ReadsOr};
 
 use crate::stated::{body_stated, command_said};
 use mx_book::commands::Command;
 use mx_layout::{Table, TableFault};
-use mx_numbers::entries::entry_count;
+use mx_lookups::numbers::entries::entry_count;
 use mx_table_rows::chosen::entries::entry_by_seq;
 use sqlite::{Alter, Transaction};
 use std::alloc::Global;

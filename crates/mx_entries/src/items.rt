@@ -5,8 +5,8 @@ ghost use Rattle.sqlite.specs.Held.{state};
 ghost use Rattle.mx_book.specs.commands.Act.{act_of};
 ghost use Rattle.mx_row_rules.specs.found.Given.{aircraft, components, found, places, programmes, tasks};
 ghost use Rattle.mx_row_rules.specs.found.Stated.{aircraft_stated, component_stated, programme_stated};
-ghost use Rattle.mx_numbers.specs.AnyRows.{ReadsAny};
-ghost use Rattle.mx_numbers.specs.Reads.{Reads};
+ghost use Rattle.mx_lookups.specs.numbers.AnyRows.{ReadsAny};
+ghost use Rattle.mx_lookups.specs.numbers.Reads.{Reads};
 ghost use Rattle.mx_entries.specs.Stated.{AircraftStated, ComponentStated, ProgrammeStated};
 
 use mx_book::commands::Body;

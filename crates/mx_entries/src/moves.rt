@@ -6,8 +6,8 @@ ghost use Rattle.mx_book.specs.commands.Act.{act_of};
 ghost use Rattle.mx_registers.specs.Merge.{fitting_said};
 ghost use Rattle.mx_row_rules.specs.found.Given.{fittings, found, openings, removals, sectors};
 ghost use Rattle.mx_row_rules.specs.found.Stated.{fitting_stated, opening_stated, removal_stated, sector_stated};
-ghost use Rattle.mx_numbers.specs.AnyRows.{ReadsAny};
-ghost use Rattle.mx_numbers.specs.Reads.{Reads};
+ghost use Rattle.mx_lookups.specs.numbers.AnyRows.{ReadsAny};
+ghost use Rattle.mx_lookups.specs.numbers.Reads.{Reads};
 ghost use Rattle.mx_entries.specs.Stated.{FittingStated, OpeningStated, RemovalStated, SectorStated};
 
 use crate::names::{item_of_number, serial_of_number};
@@ -15,7 +15,7 @@ use mx_base::rows::FittingRow;
 use mx_base::{Serial, Tail};
 use mx_book::commands::Body;
 use mx_layout::TableFault;
-use mx_numbers::items::tail_of_number;
+use mx_lookups::numbers::items::tail_of_number;
 use mx_registers::plain::said::{
     body_of_fitting, body_of_opening, body_of_removal, body_of_sector,
 };

@@ -2,15 +2,15 @@
 ghost use Rattle.std.specs.Prelude.{◌≡◌};
 ghost use Rattle.sqlite.specs.Held.{state};
 ghost use Rattle.mx_registers.specs.Names.{defect_at, item_at, serial_at};
-ghost use Rattle.mx_numbers.specs.AnyRows.{ReadsAny};
-ghost use Rattle.mx_numbers.specs.Given.{SerialOfNumber};
-ghost use Rattle.mx_numbers.specs.Reads.{Reads};
+ghost use Rattle.mx_lookups.specs.numbers.AnyRows.{ReadsAny};
+ghost use Rattle.mx_lookups.specs.numbers.Given.{SerialOfNumber};
+ghost use Rattle.mx_lookups.specs.numbers.Reads.{Reads};
 ghost use Rattle.mx_entries.specs.Names.{DocOfDefect, ItemOfNumber};
 
 use mx_base::{Doc, Serial};
 use mx_book::commands::Item;
 use mx_layout::TableFault;
-use mx_numbers::items::tail_of_number;
+use mx_lookups::numbers::items::tail_of_number;
 use mx_row_rules::found::components::serial_in;
 use mx_row_rules::found::entries::deferred_doc;
 use mx_table_rows::chosen::entries::entry_by_seq;

@@ -6,8 +6,8 @@ ghost use Rattle.mx_book.specs.commands.Act.{act_of};
 ghost use Rattle.mx_registers.specs.Merge.{place_said, release_said};
 ghost use Rattle.mx_row_rules.specs.found.Given.{found, release_lines, releases};
 ghost use Rattle.mx_row_rules.specs.found.Stated.{certified_said, lines_stated, release_stated};
-ghost use Rattle.mx_numbers.specs.AnyRows.{ReadsAny};
-ghost use Rattle.mx_numbers.specs.Reads.{Reads};
+ghost use Rattle.mx_lookups.specs.numbers.AnyRows.{ReadsAny};
+ghost use Rattle.mx_lookups.specs.numbers.Reads.{Reads};
 ghost use Rattle.mx_entries.specs.Releases.{LineNamed, LinesStated, PlaceStated, ReleaseStated};
 
 use crate::names::{doc_of_defect, item_of_number};

@@ -13,11 +13,11 @@ use Rattle.mx_layout.specs.kept.Cells.{kept_crs_line}
 use Rattle.mx_layout.specs.kept.Kept.{Kept}
 use Rattle.mx_table_rows.specs.chosen.Calls.{ReadsFirst}
 use Rattle.mx_table_rows.specs.chosen.Choices.{has_value}
-use Rattle.mx_numbers.specs.AnyRows.{AreChosen, ReadsAny}
+use Rattle.mx_lookups.specs.numbers.AnyRows.{AreChosen, ReadsAny}
 use Rattle.mx_known.specs.Known.{AreLines, AreRows, ByNumber, InBoth, LineRow, LineRows}
-use Rattle.mx_numbers.specs.Reads.{Reads}
-use Rattle.mx_numbers.proofs.AnyLemmas.{any_later, gives}
-use Rattle.mx_numbers.proofs.TableLemmas.{IsTable, release_lines}
+use Rattle.mx_lookups.specs.numbers.Reads.{Reads}
+use Rattle.mx_lookups.proofs.NumbersProofs.AnyLemmas.{any_later, gives}
+use Rattle.mx_lookups.proofs.NumbersProofs.TableLemmas.{IsTable, release_lines}
 
 -- rows that were chosen by a number, and compared
 pub rows_same : {X V : Type 0} {k : Kept X} {book_rows : List Entry → List X} (it : IsTable k book_rows) (n : ℕ) {items : V → List X} {old new : State} {v : V} (read given wanted : List X) (same : Bool) → IsTrue same ↔ (read ≡ given) → read ≡ items v → given ≡ wanted

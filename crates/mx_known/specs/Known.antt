@@ -24,9 +24,9 @@ use Rattle.mx_table_rows.specs.chosen.Choices.{has_value}
 use Rattle.mx_row_rules.specs.found.Given.{Register, found, line_row}
 use Rattle.mx_row_rules.specs.found.Names.{entry_number}
 use Rattle.mx_row_rules.specs.found.Spans.{begins_with, ends_with}
-use Rattle.mx_numbers.specs.AnyRows.{AreChosen, Gives, GivesBy}
-use Rattle.mx_numbers.specs.Given.{AircraftNumber, ComponentNumber, DefectNumber, ItemNumber}
-use Rattle.mx_numbers.specs.Told.{AircraftDamage, ComponentDamage, Damage, DamageBy, Either, EntryDamage, ItemDamage, Unread}
+use Rattle.mx_lookups.specs.numbers.AnyRows.{AreChosen, Gives, GivesBy}
+use Rattle.mx_lookups.specs.numbers.Given.{AircraftNumber, ComponentNumber, DefectNumber, ItemNumber}
+use Rattle.mx_lookups.specs.numbers.Told.{AircraftDamage, ComponentDamage, Damage, DamageBy, Either, EntryDamage, ItemDamage, Unread}
 
 -- ── of a book ──
 

@@ -7,10 +7,10 @@ ghost use Rattle.mx_registers.specs.Lines.{lines_from};
 ghost use Rattle.mx_registers.specs.Registers.{aircraft_row, place_row};
 ghost use Rattle.mx_layout.specs.kept.Cells.{kept_aircraft, kept_place};
 ghost use Rattle.mx_row_rules.specs.found.Given as registers;
-ghost use Rattle.mx_numbers.specs.AnyRows.{ReadsAny};
+ghost use Rattle.mx_lookups.specs.numbers.AnyRows.{ReadsAny};
 ghost use Rattle.mx_known.specs.Known.{AreRows, RowsDamage, Says, SaysDamage, Tells, TellsRows};
-ghost use Rattle.mx_numbers.specs.Reads.{Reads};
-ghost use Rattle.mx_numbers.specs.Told.{TellsDamage};
+ghost use Rattle.mx_lookups.specs.numbers.Reads.{Reads};
+ghost use Rattle.mx_lookups.specs.numbers.Told.{TellsDamage};
 
 use crate::lines::place_rows;
 use mx_base::{Part, Position};

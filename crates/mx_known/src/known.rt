@@ -4,10 +4,10 @@ ghost use Rattle.std.specs.Option.{option_map};
 ghost use Rattle.sqlite.specs.Held.{state};
 ghost use Rattle.mx_book.specs.Asking.{known_same};
 ghost use Rattle.mx_book.specs.Judge.{known_from};
-ghost use Rattle.mx_numbers.specs.AnyRows.{ReadsAny};
+ghost use Rattle.mx_lookups.specs.numbers.AnyRows.{ReadsAny};
 ghost use Rattle.mx_known.specs.Known.{KnownAs, KnownDamage, Says, SaysDamage, Tells};
-ghost use Rattle.mx_numbers.specs.Reads.{Reads};
-ghost use Rattle.mx_numbers.specs.Told.{TellsDamage};
+ghost use Rattle.mx_lookups.specs.numbers.Reads.{Reads};
+ghost use Rattle.mx_lookups.specs.numbers.Told.{TellsDamage};
 
 use crate::items::{is_aircraft, is_component};
 use crate::moves::{is_fitting, is_removal, is_sector};
@@ -15,7 +15,7 @@ use crate::releases::is_release;
 use crate::works::{is_deferral, is_extension, is_opening, is_programme};
 use mx_book::commands::{Command, Said};
 use mx_layout::TableFault;
-use mx_numbers::entries::entry_of_doc;
+use mx_lookups::numbers::entries::entry_of_doc;
 use sqlite::{Alter, Transaction};
 use std::alloc::Global;
 

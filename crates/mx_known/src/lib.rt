@@ -1,5 +1,5 @@
 //! Whether a command is known: the entry that has its document, and whether the rows of that entry say the same. Each question is
-//! asked inside a `Transaction`, as the look-ups of `mx_numbers` are, changes no row, and ends by their faults.
+//! asked inside a `Transaction`, as the look-ups of `mx_lookups::numbers` are, changes no row, and ends by their faults.
 #![tactic(auto)]
 
 mod items;

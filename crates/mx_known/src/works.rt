@@ -7,16 +7,16 @@ ghost use Rattle.mx_registers.specs.Lines.{lines_from};
 ghost use Rattle.mx_registers.specs.Registers.{programme_row, task_row};
 ghost use Rattle.mx_layout.specs.kept.Cells.{kept_programme, kept_task};
 ghost use Rattle.mx_row_rules.specs.found.Given as registers;
-ghost use Rattle.mx_numbers.specs.AnyRows.{ReadsAny};
+ghost use Rattle.mx_lookups.specs.numbers.AnyRows.{ReadsAny};
 ghost use Rattle.mx_known.specs.Known.{AreRows, RowsDamage, Says, SaysDamage, Tells, TellsRows};
-ghost use Rattle.mx_numbers.specs.Reads.{Reads};
-ghost use Rattle.mx_numbers.specs.Told.{TellsDamage};
+ghost use Rattle.mx_lookups.specs.numbers.Reads.{Reads};
+ghost use Rattle.mx_lookups.specs.numbers.Told.{TellsDamage};
 
 use crate::lines::task_rows;
 use mx_book::commands::{Deferral, Extension, Opening, Programme, Task};
 use mx_layout::TableFault;
-use mx_numbers::entries::defect_number;
-use mx_numbers::items::{aircraft_number, item_number};
+use mx_lookups::numbers::entries::defect_number;
+use mx_lookups::numbers::items::{aircraft_number, item_number};
 use mx_registers::{deferral_row, extension_row, opening_row, or_zero, programme_row};
 use mx_row_rules::found::same::{
     are_same_deferrals, are_same_extensions, are_same_openings, are_same_programmes, are_same_tasks,

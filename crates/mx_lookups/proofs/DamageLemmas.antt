@@ -20,11 +20,11 @@ use Rattle.mx_table_rows.specs.chosen.Choices.{has_value, is_open}
 use Rattle.mx_row_rules.specs.found.Defects.{deferral_aircraft, defect_in}
 use Rattle.mx_row_rules.specs.found.Names.{is_deferral, tail_in}
 use Rattle.mx_row_rules.specs.found.Spans.{span_aircraft}
-use Rattle.mx_numbers.specs.AnyRows.{Gives}
-use Rattle.mx_numbers.specs.Damage.{IsDamaged, IsKept}
-use Rattle.mx_numbers.specs.Given.{DefectNumber, DocOfNumber, NumberFitted, SerialOfNumber, TailOfNumber}
-use Rattle.mx_numbers.proofs.AnyLemmas.{chosen_kept, kept_unmet, unmet}
-use Rattle.mx_numbers.proofs.LookupLemmas.{number_is}
+use Rattle.mx_lookups.specs.numbers.AnyRows.{Gives}
+use Rattle.mx_lookups.specs.numbers.Damage.{IsDamaged, IsKept}
+use Rattle.mx_lookups.specs.numbers.Given.{DefectNumber, DocOfNumber, NumberFitted, SerialOfNumber, TailOfNumber}
+use Rattle.mx_lookups.proofs.NumbersProofs.AnyLemmas.{chosen_kept, kept_unmet, unmet}
+use Rattle.mx_lookups.proofs.NumbersProofs.LookupLemmas.{number_is}
 
 -- the open span that has the number of an aircraft
 span_of : (trees : Trees) (n : ℕ) (number : Option ℕ) → MatchOption number (Some n ≡ None) (λ m. Gives kept_span2 (is_open 1 (Int (pos m))) span_aircraft trees (Some n))

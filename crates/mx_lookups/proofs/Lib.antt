@@ -2,3 +2,5 @@ pub mod DamageLemmas
 pub mod RoomLookups
 pub mod DefectLemmas
 pub mod WalkLemmas
+pub mod LivesProofs
+pub mod NumbersProofs

@@ -21,11 +21,11 @@ use Rattle.mx_layout.specs.kept.Kept.{Kept}
 use Rattle.mx_table_rows.specs.chosen.Counts.{CountsRows}
 use Rattle.mx_book_tables.specs.stands.Schemas.{schema_at}
 use Rattle.mx_book_tables.specs.stands.Stands.{HasRowsAt}
-use Rattle.mx_numbers.specs.Damage.{IsDamaged, IsUncounted}
-use Rattle.mx_numbers.specs.Reads.{Reads, rows_point}
-use Rattle.mx_numbers.proofs.LookupLemmas.{damage_of, stop_of}
-use Rattle.mx_numbers.proofs.ReadLemmas.{map_ok, map_read}
-use Rattle.mx_numbers.proofs.TableLemmas.{IsTable, aircraft, components}
+use Rattle.mx_lookups.specs.numbers.Damage.{IsDamaged, IsUncounted}
+use Rattle.mx_lookups.specs.numbers.Reads.{Reads, rows_point}
+use Rattle.mx_lookups.proofs.NumbersProofs.LookupLemmas.{damage_of, stop_of}
+use Rattle.mx_lookups.proofs.NumbersProofs.ReadLemmas.{map_ok, map_read}
+use Rattle.mx_lookups.proofs.NumbersProofs.TableLemmas.{IsTable, aircraft, components}
 
 -- a list that rises has no more than the numbers from the one bound to the other
 rising_few : {X : Type 0} (key : X → ℕ) (low high : ℕ) (xs : List X) → IsRising key low xs high → low + length xs ≤ high

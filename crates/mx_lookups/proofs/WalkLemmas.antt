@@ -15,14 +15,14 @@ use Rattle.mx_layout.specs.declared.fault.TableFault.{TableFault}
 use Rattle.mx_layout.specs.declared.fault.TableFault.TheVariants as fault
 use Rattle.mx_layout.specs.kept.Kept.{Kept}
 use Rattle.mx_table_rows.specs.chosen.Calls.{ReadsFirst}
-use Rattle.mx_numbers.specs.AnyRows.{AreChosen, AreSaid, GivesEach, ReadsAny}
-use Rattle.mx_numbers.specs.Damage.{IsDamaged, IsKept}
-use Rattle.mx_numbers.specs.Reads.{Reads}
-use Rattle.mx_numbers.specs.Told.{Damage, DamageEach, IsChosen, TellsDamage}
-use Rattle.mx_numbers.proofs.AnyLemmas.{any_later, empty_is, chosen_kept, gives}
-use Rattle.mx_numbers.proofs.ReadLemmas.{no_memory, reads_then, refused, stopped, told}
-use Rattle.mx_numbers.proofs.TableLemmas.{IsTable}
-use Rattle.mx_numbers.proofs.ToldLemmas.{told_later}
+use Rattle.mx_lookups.specs.numbers.AnyRows.{AreChosen, AreSaid, GivesEach, ReadsAny}
+use Rattle.mx_lookups.specs.numbers.Damage.{IsDamaged, IsKept}
+use Rattle.mx_lookups.specs.numbers.Reads.{Reads}
+use Rattle.mx_lookups.specs.numbers.Told.{Damage, DamageEach, IsChosen, TellsDamage}
+use Rattle.mx_lookups.proofs.NumbersProofs.AnyLemmas.{any_later, empty_is, chosen_kept, gives}
+use Rattle.mx_lookups.proofs.NumbersProofs.ReadLemmas.{no_memory, reads_then, refused, stopped, told}
+use Rattle.mx_lookups.proofs.NumbersProofs.TableLemmas.{IsTable}
+use Rattle.mx_lookups.proofs.NumbersProofs.ToldLemmas.{told_later}
 
 -- what each row of a book says, where it says anything, and what is there for each; the rows that are gone through, and what each says over any rows
 module _ {R X : Type 0} (k : Kept R) (rows : List Entry → List R) (said : List Entry → R → Option X) (There : List Entry → R → Type 0) (chosen : Row → Bool) (Says : Trees → R → Option X → Type 0) where

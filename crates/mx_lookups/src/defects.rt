@@ -2,16 +2,16 @@
 ghost use Rattle.std.specs.Prelude.{◌≡◌};
 ghost use Rattle.sqlite.specs.Held.{state};
 ghost use Rattle.mx_book.specs.Defect.{defect, extension, is_rectified};
-ghost use Rattle.mx_numbers.specs.AnyRows.{ReadsAny};
-ghost use Rattle.mx_numbers.specs.Given.{DefectOf, IsRectified, ExtensionOf};
-ghost use Rattle.mx_numbers.specs.Reads.{Reads};
-ghost use Rattle.mx_numbers.specs.Told.{DefectDamage, ExtensionDamage, RectifiedDamage, TellsDamage};
+ghost use Rattle.mx_lookups.specs.numbers.AnyRows.{ReadsAny};
+ghost use Rattle.mx_lookups.specs.numbers.Given.{DefectOf, IsRectified, ExtensionOf};
+ghost use Rattle.mx_lookups.specs.numbers.Reads.{Reads};
+ghost use Rattle.mx_lookups.specs.numbers.Told.{DefectDamage, ExtensionDamage, RectifiedDamage, TellsDamage};
 
+use crate::numbers::entries::defect_number;
 use mx_base::Doc;
 use mx_book::Defect;
 use mx_book::commands::Extension;
 use mx_layout::{Table, TableFault};
-use mx_numbers::entries::defect_number;
 use mx_row_rules::found::defects::{defect_in, deferral_aircraft, extension_in, is_rectified_in};
 use mx_table_rows::chosen::defects::{defect_by_seq, extension_by_defect};
 use mx_table_rows::chosen::items::aircraft_by_seq;

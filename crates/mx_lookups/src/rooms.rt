@@ -5,10 +5,10 @@ ghost use Rattle.sqlite.specs.Held.{state};
 ghost use Rattle.mx_book.specs.Register.{has_room_for_aircraft, has_room_for_component};
 ghost use Rattle.mx_book.specs.declared.limits.TheConstants.{MOST_AIRCRAFT, MOST_COMPONENTS};
 ghost use Rattle.mx_layout.specs.declared.fault.Table.TheVariants as table;
-ghost use Rattle.mx_numbers.specs.AnyRows.{ReadsAny};
-ghost use Rattle.mx_numbers.specs.Given.{HasRoom};
-ghost use Rattle.mx_numbers.specs.Reads.{Reads};
-ghost use Rattle.mx_numbers.specs.Told.{CountDamage, TellsDamage};
+ghost use Rattle.mx_lookups.specs.numbers.AnyRows.{ReadsAny};
+ghost use Rattle.mx_lookups.specs.numbers.Given.{HasRoom};
+ghost use Rattle.mx_lookups.specs.numbers.Reads.{Reads};
+ghost use Rattle.mx_lookups.specs.numbers.Told.{CountDamage, TellsDamage};
 
 use mx_book::limits::{MOST_AIRCRAFT, MOST_COMPONENTS};
 use mx_layout::TableFault;

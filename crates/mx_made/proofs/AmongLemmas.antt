@@ -14,8 +14,8 @@ use Rattle.mx_base.specs.rows.Rising.{IsRising}
 use Rattle.mx_base.specs.declared.rows.rows.TotalRow.{TotalRow}
 use Rattle.mx_registers.specs.kept.Totals.{is_among, total_in, total_rows}
 use Rattle.mx_registers.proofs.KeptProofs.ItemOrder.{total_rows-rising}
-use Rattle.mx_numbers.specs.Reads.{Reads}
-use Rattle.mx_numbers.proofs.ReadLemmas.{reads_then, told}
+use Rattle.mx_lookups.specs.numbers.Reads.{Reads}
+use Rattle.mx_lookups.proofs.NumbersProofs.ReadLemmas.{reads_then, told}
 
 abbrev item : TotalRow → ℕ
 item row = row.item

@@ -17,11 +17,11 @@ use Rattle.mx_base.specs.declared.rows.rows.EntryRow.{EntryRow}
 use Rattle.mx_layout.specs.declared.fault.TableFault.{TableFault}
 use Rattle.mx_layout.specs.Crash.{IsWithin}
 use Rattle.mx_layout.specs.kept.Kept.{Kept}
-use Rattle.mx_numbers.specs.AnyRows.{AreChosen, ReadsAny}
-use Rattle.mx_numbers.specs.Given.{ItemNumber, TaskOf}
-use Rattle.mx_numbers.specs.Reads.{Reads}
-use Rattle.mx_numbers.proofs.AnyLemmas.{any_later, any_so}
-use Rattle.mx_numbers.proofs.TableLemmas.{IsTable}
+use Rattle.mx_lookups.specs.numbers.AnyRows.{AreChosen, ReadsAny}
+use Rattle.mx_lookups.specs.numbers.Given.{ItemNumber, TaskOf}
+use Rattle.mx_lookups.specs.numbers.Reads.{Reads}
+use Rattle.mx_lookups.proofs.NumbersProofs.AnyLemmas.{any_later, any_so}
+use Rattle.mx_lookups.proofs.NumbersProofs.TableLemmas.{IsTable}
 use Rattle.mx_table_rows.specs.chosen.Calls.{ReadsFirst}
 use Rattle.mx_book.specs.due.Due.{due_after}
 use Rattle.mx_book.specs.Judge.{item_at}

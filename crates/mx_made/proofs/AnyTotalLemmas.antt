@@ -12,7 +12,7 @@ use Rattle.sqlite.specs.declared.types.Value.TheVariants.{Int}
 use Rattle.mx_base.specs.declared.rows.rows.TotalRow.{TotalRow}
 use Rattle.mx_layout.specs.kept.Cells.{kept_total2}
 use Rattle.mx_table_rows.specs.chosen.Choices.{has_value}
-use Rattle.mx_numbers.specs.AnyRows.{AreChosen, Gives}
+use Rattle.mx_lookups.specs.numbers.AnyRows.{AreChosen, Gives}
 use Rattle.mx_made.specs.Found.{AppendsTotal, AreTotalsOf}
 use Rattle.mx_made.specs.Totals.{TotalOf}
 use Rattle.mx_made.proofs.TotalLemmas.{chosen_has}

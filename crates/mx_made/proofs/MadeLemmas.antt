@@ -12,8 +12,8 @@ use Rattle.mx_row_rules.specs.declared.changes.rows.CommandRows.{CommandRows}
 use Rattle.mx_layout.specs.declared.fault.TableFault.{TableFault}
 use Rattle.mx_layout.specs.declared.fault.TableFault.TheVariants.{Memory}
 use Rattle.mx_layout.proofs.CrashLemmas.{within_itself}
-use Rattle.mx_numbers.specs.Reads.{Reads}
-use Rattle.mx_numbers.proofs.ReadLemmas.{follows, no_memory, reads_then, stopped, told}
+use Rattle.mx_lookups.specs.numbers.Reads.{Reads}
+use Rattle.mx_lookups.proofs.NumbersProofs.ReadLemmas.{follows, no_memory, reads_then, stopped, told}
 use Rattle.mx_made.specs.Made.{AreRowsOf}
 
 -- memory ran out behind what was answered

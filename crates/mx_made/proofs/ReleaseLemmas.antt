@@ -28,12 +28,12 @@ use Rattle.mx_layout.specs.declared.fault.TableFault.TheVariants.{Memory}
 use Rattle.mx_layout.specs.kept.Cells.{kept_total2}
 use Rattle.mx_table_rows.specs.chosen.Choices.{has_value}
 use Rattle.mx_row_rules.specs.found.Lives.{life_in}
-use Rattle.mx_numbers.specs.AnyRows.{Gives}
-use Rattle.mx_numbers.specs.Damage.{HasRow, IsDamaged}
-use Rattle.mx_numbers.specs.Given.{LifeOf}
-use Rattle.mx_numbers.specs.Reads.{Reads}
-use Rattle.mx_numbers.proofs.AnyLemmas.{first_kept}
-use Rattle.mx_numbers.proofs.ReadLemmas.{reads_then, stopped, told}
+use Rattle.mx_lookups.specs.numbers.AnyRows.{Gives}
+use Rattle.mx_lookups.specs.numbers.Damage.{HasRow, IsDamaged}
+use Rattle.mx_lookups.specs.numbers.Given.{LifeOf}
+use Rattle.mx_lookups.specs.numbers.Reads.{Reads}
+use Rattle.mx_lookups.proofs.NumbersProofs.AnyLemmas.{first_kept}
+use Rattle.mx_lookups.proofs.NumbersProofs.ReadLemmas.{reads_then, stopped, told}
 use Rattle.mx_made.specs.Releases.{due_by_kind}
 use Rattle.mx_made.proofs.MadeLemmas.{starved}
 

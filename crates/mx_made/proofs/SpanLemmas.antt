@@ -18,9 +18,9 @@ use Rattle.mx_table_rows.specs.chosen.Calls.{ReadsBy}
 use Rattle.mx_table_rows.specs.chosen.Choices.{has_value}
 use Rattle.mx_row_rules.specs.found.Spans.{is_open_of as is_left_of}
 use Rattle.mx_row_rules.proofs.FoundProofs.OpenLemmas.{ends_alike}
-use Rattle.mx_numbers.specs.Reads.{Reads}
-use Rattle.mx_numbers.proofs.LookupLemmas.{number_is, rows_read}
-use Rattle.mx_numbers.proofs.TableLemmas.{spans}
+use Rattle.mx_lookups.specs.numbers.Reads.{Reads}
+use Rattle.mx_lookups.proofs.NumbersProofs.LookupLemmas.{number_is, rows_read}
+use Rattle.mx_lookups.proofs.NumbersProofs.TableLemmas.{spans}
 
 -- ── open spans ──
 

@@ -39,11 +39,11 @@ use Rattle.mx_row_rules.specs.found.Names.{aircraft_number, component_number}
 use Rattle.mx_row_rules.proofs.FoundProofs.FoundLemmas.{serial_numbered, tail_numbered}
 use Rattle.mx_row_rules.proofs.FoundProofs.ListLemmas.{all_left, first_left}
 use Rattle.mx_row_rules.proofs.FoundProofs.StatedLemmas.{airframe_numbered, component_numbered, no_item_numbered}
-use Rattle.mx_numbers.specs.AnyRows.{AreChosen, Gives, ReadsAny}
-use Rattle.mx_numbers.specs.Damage.{HasRow, IsDamaged}
-use Rattle.mx_numbers.specs.Reads.{Reads, rows_point}
-use Rattle.mx_numbers.proofs.AnyLemmas.{any_later, empty_is, first_kept, kept_unmet}
-use Rattle.mx_numbers.proofs.LookupLemmas.{number_is}
+use Rattle.mx_lookups.specs.numbers.AnyRows.{AreChosen, Gives, ReadsAny}
+use Rattle.mx_lookups.specs.numbers.Damage.{HasRow, IsDamaged}
+use Rattle.mx_lookups.specs.numbers.Reads.{Reads, rows_point}
+use Rattle.mx_lookups.proofs.NumbersProofs.AnyLemmas.{any_later, empty_is, first_kept, kept_unmet}
+use Rattle.mx_lookups.proofs.NumbersProofs.LookupLemmas.{number_is}
 use Rattle.mx_made.specs.Totals.{HasItem, TotalOf}
 
 -- ── rows with a number ──

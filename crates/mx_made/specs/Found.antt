@@ -32,8 +32,8 @@ use Rattle.mx_layout.specs.kept.Cells.{kept_aircraft, kept_component, kept_entry
 use Rattle.mx_table_rows.specs.chosen.Choices.{backward, has_value, is_any, is_open}
 use Rattle.mx_row_rules.specs.found.Names.{last_number}
 use Rattle.mx_row_rules.specs.found.Said.{aircraft_in, component_in}
-use Rattle.mx_numbers.specs.AnyRows.{AreChosen, Gives, GivesFirst}
-use Rattle.mx_numbers.specs.Given.{AircraftNumber, BaseOf, ComponentNumber, DefectNumber, ItemNumber, LifeOf, TaskOf}
+use Rattle.mx_lookups.specs.numbers.AnyRows.{AreChosen, Gives, GivesFirst}
+use Rattle.mx_lookups.specs.numbers.Given.{AircraftNumber, BaseOf, ComponentNumber, DefectNumber, ItemNumber, LifeOf, TaskOf}
 use Rattle.mx_row_rules.specs.changes.Made.{AreMadeOf, Findings}
 use Rattle.mx_row_rules.specs.declared.changes.releases.Certified.{Certified}
 use Rattle.mx_row_rules.specs.declared.changes.releases.Certified.TheVariants.{Done, Rectified}

@@ -5,8 +5,8 @@ use Rattle.sqlite.specs.Tree.{Trees}
 use Rattle.mx_base.specs.declared.rows.rows.TotalRow.{TotalRow}
 use Rattle.mx_layout.specs.kept.Cells.{kept_aircraft, kept_component, kept_total2}
 use Rattle.mx_table_rows.specs.chosen.Choices.{has_value}
-use Rattle.mx_numbers.specs.AnyRows.{Gives}
-use Rattle.mx_numbers.specs.Damage.{HasRow}
+use Rattle.mx_lookups.specs.numbers.AnyRows.{Gives}
+use Rattle.mx_lookups.specs.numbers.Damage.{HasRow}
 
 -- an aircraft or a component has the number
 abbrev pub HasItem : ℕ → Trees → Type 0

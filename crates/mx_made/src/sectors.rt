@@ -5,8 +5,8 @@ ghost use Rattle.mx_book.specs.commands.Act.{Flown};
 ghost use Rattle.mx_book.specs.commands.Shape.{sector_shape};
 ghost use Rattle.mx_registers.specs.kept.Totals.{has_between};
 ghost use Rattle.mx_base.specs.rows.Rows.{FitsEntry};
-ghost use Rattle.mx_numbers.specs.AnyRows.{ReadsAny};
-ghost use Rattle.mx_numbers.specs.Reads.{Reads};
+ghost use Rattle.mx_lookups.specs.numbers.AnyRows.{ReadsAny};
+ghost use Rattle.mx_lookups.specs.numbers.Reads.{Reads};
 ghost use Rattle.mx_made.specs.Found.{AreRowsBy, numbers_flown};
 ghost use Rattle.mx_made.specs.Made.{AreRowsOf};
 

@@ -6,8 +6,8 @@ ghost use Rattle.mx_book.specs.due.Due.{IsLife};
 ghost use Rattle.mx_registers.specs.Names.{item_at};
 ghost use Rattle.mx_registers.specs.kept.Totals.{is_among, total_in, total_rows};
 ghost use Rattle.mx_row_rules.specs.changes.Kept.{HasLife};
-ghost use Rattle.mx_numbers.specs.AnyRows.{ReadsAny};
-ghost use Rattle.mx_numbers.specs.Reads.{Reads};
+ghost use Rattle.mx_lookups.specs.numbers.AnyRows.{ReadsAny};
+ghost use Rattle.mx_lookups.specs.numbers.Reads.{Reads};
 ghost use Rattle.mx_made.specs.Found.{AppendsTotal, AreTotalsOf};
 ghost use Rattle.mx_made.specs.Totals.{HasItem, TotalOf};
 

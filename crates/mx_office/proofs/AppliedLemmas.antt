@@ -9,7 +9,7 @@ use Rattle.mx_layout.specs.TableName.{TableName}
 use Rattle.mx_layout.specs.declared.fault.TableFault.{TableFault}
 use Rattle.mx_layout.specs.declared.fault.TableFault.TheVariants.{Damaged}
 use Rattle.mx_tables.specs.Calls.{OnRead}
-use Rattle.mx_numbers.specs.Damage.{IsDamaged}
+use Rattle.mx_lookups.specs.numbers.Damage.{IsDamaged}
 use Rattle.mx_apply.specs.Applies.{Applies, HasOneCommit}
 use Rattle.mx_office.specs.Faults.{call_answer}
 use Rattle.mx_office.specs.Layout.{office_schema}

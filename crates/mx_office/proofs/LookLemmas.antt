@@ -17,9 +17,9 @@ use Rattle.mx_layout.specs.Crash.{ChangesNothing, IsWithin, StaysInside}
 use Rattle.mx_layout.specs.declared.fault.TableFault.{TableFault}
 use Rattle.mx_layout.specs.declared.fault.TableFault.TheVariants as table
 use Rattle.mx_tables.specs.Calls.{OnDamaged, OnRead}
-use Rattle.mx_numbers.specs.AnyRows.{ReadsAny}
-use Rattle.mx_numbers.specs.Damage.{IsDamaged}
-use Rattle.mx_numbers.specs.Reads.{IsStop, Reads, StandsFor}
+use Rattle.mx_lookups.specs.numbers.AnyRows.{ReadsAny}
+use Rattle.mx_lookups.specs.numbers.Damage.{IsDamaged}
+use Rattle.mx_lookups.specs.numbers.Reads.{IsStop, Reads, StandsFor}
 use Rattle.mx_entries.specs.Damage.{ReadsOr, Refuses}
 use Rattle.mx_row_lists.specs.Answering.{AnswerListsAs}
 use Rattle.mx_row_lists.specs.Listing.{unknown, LifeAnswered}

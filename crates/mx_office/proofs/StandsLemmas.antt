@@ -16,7 +16,7 @@ use Rattle.mx_layout.specs.Steps.{IsLayout}
 use Rattle.mx_layout.specs.Tables.{office}
 use Rattle.mx_book_tables.proofs.StandsProofs.EmptyLemmas.{empty_stands as new_tables_stand}
 use Rattle.mx_book_tables.proofs.StandsProofs.RowLemmas.{one_book}
-use Rattle.mx_numbers.specs.Reads.{StandsFor}
+use Rattle.mx_lookups.specs.numbers.Reads.{StandsFor}
 use Rattle.mx_office.specs.Layout.{office_point}
 use Rattle.mx_office.specs.Stands.{Stands, Rests}
 

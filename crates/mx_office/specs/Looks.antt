@@ -9,8 +9,8 @@ use Rattle.mx_layout.specs.declared.fault.TableFault.{TableFault}
 use Rattle.mx_layout.specs.declared.fault.TableFault.TheVariants.{Damaged}
 use Rattle.mx_layout.specs.Crash.{ChangesNothing}
 use Rattle.mx_tables.specs.Calls.{OnRead}
-use Rattle.mx_numbers.specs.Damage.{IsDamaged}
-use Rattle.mx_numbers.specs.Reads.{IsStop}
+use Rattle.mx_lookups.specs.numbers.Damage.{IsDamaged}
+use Rattle.mx_lookups.specs.numbers.Reads.{IsStop}
 use Rattle.mx_row_lists.specs.Answering.{AnswerListsAs}
 use Rattle.mx_apply.specs.Applies.{IsNoDamage}
 use Rattle.mx_office.specs.Layout.{office_schema}

@@ -12,7 +12,7 @@ use Rattle.mx_layout.specs.Contents.{rows_in}
 use Rattle.mx_layout.specs.Names.{table_named}
 use Rattle.mx_book_tables.specs.stands.Family.{is_at}
 use Rattle.mx_tables.specs.inserts.Sets.{GainsRows}
-use Rattle.mx_numbers.specs.Damage.{IsDamaged}
+use Rattle.mx_lookups.specs.numbers.Damage.{IsDamaged}
 use Rattle.mx_writing.specs.Changes.{AllRise}
 use Rattle.mx_writing.specs.Commits.{IsWritten}
 use Rattle.mx_writing.specs.Written.{with_rows}

@@ -4,7 +4,7 @@ use Rattle.sqlite.specs.Store.{Ghosts}
 use Rattle.sqlite.specs.State.{HasCleanDisk}
 use Rattle.mx_book.specs.commands.Act.{Entry}
 use Rattle.mx_layout.specs.TableName.{TableName}
-use Rattle.mx_numbers.specs.Damage.{IsDamaged}
+use Rattle.mx_lookups.specs.numbers.Damage.{IsDamaged}
 use Rattle.mx_row_lists.specs.Answering.{AnswerListsAs}
 use Rattle.mx_faults.specs.declared.fault.Ask.{Ask}
 use Rattle.mx_faults.specs.declared.fault.Ask.TheVariants.{Failed}

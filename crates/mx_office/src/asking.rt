@@ -9,7 +9,7 @@ ghost use Rattle.mx_lists.specs.DueList.{due_list};
 ghost use Rattle.mx_lists.specs.Forecast.{forecast};
 ghost use Rattle.mx_lists.specs.LimitList.{limits};
 ghost use Rattle.mx_lists.specs.Lists.{life_list};
-ghost use Rattle.mx_numbers.specs.Damage.{IsDamaged};
+ghost use Rattle.mx_lookups.specs.numbers.Damage.{IsDamaged};
 ghost use Rattle.mx_row_lists.specs.Listing.{unknown, LifeAnswered};
 ghost use Rattle.mx_office.specs.Looks.{Finds, IsFound, LooksUp};
 

@@ -12,9 +12,9 @@ use Rattle.mx_layout.proofs.CrashLemmas.{within_itself}
 use Rattle.mx_lists.specs.Memory.{with_memory}
 use Rattle.mx_lists.specs.declared.stop.Stop.{Stop}
 use Rattle.mx_lists.specs.declared.stop.Stop.TheVariants.{NoMemory, Fault}
-use Rattle.mx_numbers.specs.Reads.{Reads}
-use Rattle.mx_numbers.specs.Told.{Damage}
-use Rattle.mx_numbers.proofs.ReadLemmas.{no_memory, told}
+use Rattle.mx_lookups.specs.numbers.Reads.{Reads}
+use Rattle.mx_lookups.specs.numbers.Told.{Damage}
+use Rattle.mx_lookups.proofs.NumbersProofs.ReadLemmas.{no_memory, told}
 use Rattle.mx_row_lists.specs.Listing.{answered}
 use Rattle.mx_rows.specs.View.{Asks, AskedOn, IsAny, SharesWith, StoppedOn, held, rows_reading}
 use Rattle.mx_rows.specs.declared.view.Rows.{Rows}

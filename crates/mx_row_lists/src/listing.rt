@@ -7,9 +7,9 @@ ghost use Rattle.mx_lists.specs.DueList.{due_list};
 ghost use Rattle.mx_lists.specs.Forecast.{forecast};
 ghost use Rattle.mx_lists.specs.LimitList.{limits};
 ghost use Rattle.mx_lists.specs.Lists.{life_list};
-ghost use Rattle.mx_numbers.specs.AnyRows.{ReadsAny};
-ghost use Rattle.mx_numbers.specs.Reads.{Reads};
-ghost use Rattle.mx_numbers.specs.Told.{TellsDamage, TotalDamage};
+ghost use Rattle.mx_lookups.specs.numbers.AnyRows.{ReadsAny};
+ghost use Rattle.mx_lookups.specs.numbers.Reads.{Reads};
+ghost use Rattle.mx_lookups.specs.numbers.Told.{TellsDamage, TotalDamage};
 ghost use Rattle.mx_rows.specs.Answering.{AnswerListsAs};
 ghost use Rattle.mx_rows.specs.Damage.{ListDamage};
 ghost use Rattle.mx_rows.specs.View.{Asks};
@@ -23,8 +23,8 @@ use mx_lists::{
     DueList, ForecastList, LifeList, LimitList, Stop, list_dues, list_forecast, list_limits,
     list_lives,
 };
-use mx_lives::lives;
-use mx_numbers::items::aircraft_number;
+use mx_lookups::lives::lives;
+use mx_lookups::numbers::items::aircraft_number;
 use mx_rows::questions::ListQuestions;
 use mx_rows::view::Rows;
 use sqlite::{Alter, Transaction};

@@ -25,10 +25,10 @@ use Rattle.mx_table_rows.specs.chosen.Choices.{AreFirst}
 use Rattle.mx_book_tables.specs.stands.Stands.{HasRowsAt}
 use Rattle.mx_book_tables.proofs.StandsProofs.FamilyLemmas.{facts}
 use Rattle.mx_book_tables.proofs.StandsProofs.RowLemmas.{rows_once}
-use Rattle.mx_numbers.specs.Given.{is_of}
-use Rattle.mx_numbers.specs.Reads.{rows_point}
-use Rattle.mx_numbers.proofs.AnyLemmas.{empty_is}
-use Rattle.mx_numbers.proofs.LookupLemmas.{number_is, text_is}
+use Rattle.mx_lookups.specs.numbers.Given.{is_of}
+use Rattle.mx_lookups.specs.numbers.Reads.{rows_point}
+use Rattle.mx_lookups.proofs.NumbersProofs.AnyLemmas.{empty_is}
+use Rattle.mx_lookups.proofs.NumbersProofs.LookupLemmas.{number_is, text_is}
 
 -- ── at most one row ──
 

@@ -20,12 +20,12 @@ use Rattle.mx_table_rows.specs.chosen.Choices.{has_value}
 use Rattle.mx_book_tables.specs.stands.Stands.{HasRowsAt}
 use Rattle.mx_row_rules.specs.found.Names.{aircraft_number, component_number, deferral_number}
 use Rattle.mx_row_rules.proofs.FoundProofs.FoundLemmas.{defect_is, serial_is, tail_is}
-use Rattle.mx_numbers.specs.AnyRows.{Gives, GivesBy}
-use Rattle.mx_numbers.specs.Given.{AircraftNumber, ComponentNumber, DefectNumber, ItemNumber}
-use Rattle.mx_numbers.specs.Reads.{rows_point}
-use Rattle.mx_numbers.proofs.ChosenLemmas.{chosen_is}
-use Rattle.mx_numbers.proofs.LookupLemmas.{number_is, text_is}
-use Rattle.mx_numbers.proofs.TableLemmas.{IsTable, aircraft as aircraft_table, components, entries}
+use Rattle.mx_lookups.specs.numbers.AnyRows.{Gives, GivesBy}
+use Rattle.mx_lookups.specs.numbers.Given.{AircraftNumber, ComponentNumber, DefectNumber, ItemNumber}
+use Rattle.mx_lookups.specs.numbers.Reads.{rows_point}
+use Rattle.mx_lookups.proofs.NumbersProofs.ChosenLemmas.{chosen_is}
+use Rattle.mx_lookups.proofs.NumbersProofs.LookupLemmas.{number_is, text_is}
+use Rattle.mx_lookups.proofs.NumbersProofs.TableLemmas.{IsTable, aircraft as aircraft_table, components, entries}
 use Rattle.std.specs.Option.{option_eq}
 use Rattle.sqlite_sql.specs.Ops.{binary}
 use Rattle.mx_layout.specs.kept.Values.{number_or_null}

@@ -29,8 +29,8 @@ use Rattle.mx_row_rules.proofs.FoundProofs.AnswerLemmas.{fitting_by_spans, remov
 use Rattle.mx_row_rules.proofs.FoundProofs.FoundLemmas.{entry_is}
 use Rattle.mx_rows.specs.Answering.{Only}
 use Rattle.mx_known.specs.Known.{AreRows, KnownAs, LineNumber, LineRows, Says, Tells}
-use Rattle.mx_numbers.specs.Reads.{rows_point}
-use Rattle.mx_numbers.proofs.TableLemmas.{IsTable, aircraft as aircraft_table, components, deferrals, entries, extensions, openings, places, programmes, release_lines, releases, sectors, spans, tasks}
+use Rattle.mx_lookups.specs.numbers.Reads.{rows_point}
+use Rattle.mx_lookups.proofs.NumbersProofs.TableLemmas.{IsTable, aircraft as aircraft_table, components, deferrals, entries, extensions, openings, places, programmes, release_lines, releases, sectors, spans, tasks}
 use Rattle.mx_known.proofs.TellLemmas.{first_fails, second_tells, tells}
 use Rattle.mx_rows.proofs.GivenLemmas.{by_number, by_text, defect_number, given, item_number, looked, serial_number, some_number, tail_number}
 

@@ -8,11 +8,11 @@ use Rattle.mx_book.specs.Reading.{Answers}
 use Rattle.mx_layout.specs.declared.fault.TableFault.{TableFault}
 use Rattle.mx_lists.specs.Memory.{with_memory}
 use Rattle.mx_lists.specs.declared.stop.Stop.TheVariants.{Fault}
-use Rattle.mx_numbers.specs.AnyRows.{ReadsAny}
-use Rattle.mx_numbers.specs.Reads.{Reads}
-use Rattle.mx_numbers.specs.Told.{Damage, TellsDamage}
-use Rattle.mx_numbers.proofs.ReadLemmas.{stops, told}
-use Rattle.mx_numbers.proofs.ToldLemmas.{handed}
+use Rattle.mx_lookups.specs.numbers.AnyRows.{ReadsAny}
+use Rattle.mx_lookups.specs.numbers.Reads.{Reads}
+use Rattle.mx_lookups.specs.numbers.Told.{Damage, TellsDamage}
+use Rattle.mx_lookups.proofs.NumbersProofs.ReadLemmas.{stops, told}
+use Rattle.mx_lookups.proofs.NumbersProofs.ToldLemmas.{handed}
 use Rattle.mx_rows.specs.Answering.{Only}
 use Rattle.mx_rows.specs.View.{SharesWith, held, rows_reading}
 use Rattle.mx_rows.specs.declared.view.Rows.{Rows}

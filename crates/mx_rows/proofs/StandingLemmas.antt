@@ -48,16 +48,16 @@ use Rattle.mx_row_rules.proofs.FoundProofs.PlaceLemmas.{part_found, part_missed,
 use Rattle.mx_row_rules.proofs.FoundProofs.ProgrammeLemmas.{revision_is}
 use Rattle.mx_row_rules.proofs.FoundProofs.ThereLemmas.{serial_there, tail_there}
 use Rattle.mx_rows.specs.Answering.{AnswerAs, Only}
-use Rattle.mx_numbers.specs.AnyRows.{Gives, GivesFirst}
+use Rattle.mx_lookups.specs.numbers.AnyRows.{Gives, GivesFirst}
 use Rattle.mx_lookups.specs.Fitted.{IsNumberFitted}
-use Rattle.mx_numbers.specs.Given.{BornOf, ClockOf, DefectOf, ExtensionOf, HasRoom, IsAccomplished, IsRectified, IsRetired, IsTaken, LifeOf, NumberFitted, PartAt, RowsInForce, TailFitted, TailOfNumber, is_of, IsRectifiedAt}
-use Rattle.mx_numbers.specs.InForce.{born_as, rows_in_force}
-use Rattle.mx_numbers.specs.Reads.{rows_point}
+use Rattle.mx_lookups.specs.numbers.Given.{BornOf, ClockOf, DefectOf, ExtensionOf, HasRoom, IsAccomplished, IsRectified, IsRetired, IsTaken, LifeOf, NumberFitted, PartAt, RowsInForce, TailFitted, TailOfNumber, is_of, IsRectifiedAt}
+use Rattle.mx_lookups.specs.numbers.InForce.{born_as, rows_in_force}
+use Rattle.mx_lookups.specs.numbers.Reads.{rows_point}
 use Rattle.mx_rows.proofs.BaseLemmas.{keyed_is}
 use Rattle.mx_lookups.proofs.DefectLemmas.{defect_said}
-use Rattle.mx_lives.proofs.InForceLemmas.{retired_is, task_found}
-use Rattle.mx_numbers.proofs.LookupLemmas.{is_open_at-cells, is_open_of-cells}
-use Rattle.mx_numbers.proofs.TableLemmas.{IsTable, aircraft as aircraft_table, components, deferrals, entries, extensions, places, programmes, release_lines, spans, tasks, totals}
+use Rattle.mx_lookups.proofs.LivesProofs.InForceLemmas.{retired_is, task_found}
+use Rattle.mx_lookups.proofs.NumbersProofs.LookupLemmas.{is_open_at-cells, is_open_of-cells}
+use Rattle.mx_lookups.proofs.NumbersProofs.TableLemmas.{IsTable, aircraft as aircraft_table, components, deferrals, entries, extensions, places, programmes, release_lines, spans, tasks, totals}
 use Rattle.mx_rows.proofs.GivenLemmas.{by_number, by_text, defect_number, given, item_number, looked, serial_number, some_number, tail_number}
 use Rattle.mx_rows.proofs.KnownStanding.{known_as}
 use Rattle.mx_book.specs.declared.found.Found.TheVariants as founds

@@ -12,15 +12,15 @@ use Rattle.mx_book.specs.Reading.{Answers}
 use Rattle.mx_layout.specs.Crash.{IsWithin}
 use Rattle.mx_layout.specs.declared.fault.TableFault.{TableFault}
 use Rattle.mx_book_tables.specs.stands.Stands.{HasRowsAt}
-use Rattle.mx_numbers.specs.AnyRows.{ReadsAny}
-use Rattle.mx_numbers.specs.Reads.{Reads, rows_point}
-use Rattle.mx_numbers.specs.Told.{Damage, TellsDamage}
+use Rattle.mx_lookups.specs.numbers.AnyRows.{ReadsAny}
+use Rattle.mx_lookups.specs.numbers.Reads.{Reads, rows_point}
+use Rattle.mx_lookups.specs.numbers.Told.{Damage, TellsDamage}
 use Rattle.mx_rows.specs.Answering.{Only, SpeaksFor}
 use Rattle.mx_rows.specs.View.{Asks, AskedOn, IsAny, SharesWith, StoppedOn, held, rows_reading}
 use Rattle.mx_rows.specs.declared.view.Rows.{Rows}
-use Rattle.mx_numbers.proofs.AnyLemmas.{any_later}
-use Rattle.mx_numbers.proofs.ReadLemmas.{follows, map_ok, reads_then, stops, told}
-use Rattle.mx_numbers.proofs.ToldLemmas.{handed, told_later}
+use Rattle.mx_lookups.proofs.NumbersProofs.AnyLemmas.{any_later}
+use Rattle.mx_lookups.proofs.NumbersProofs.ReadLemmas.{follows, map_ok, reads_then, stops, told}
+use Rattle.mx_lookups.proofs.NumbersProofs.ToldLemmas.{handed, told_later}
 
 module _ {S V : Type 0} (g : Ghosts S) (Is : List Entry → V → Type 0) (start old new : Held S) where
   -- a look-up behind questions, if any

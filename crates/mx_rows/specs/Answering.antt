@@ -24,9 +24,9 @@ use Rattle.mx_table_rows.specs.chosen.Choices.{backward, has_value, is_any}
 use Rattle.mx_book_tables.specs.stands.Schemas.{schema_at}
 use Rattle.mx_row_rules.specs.found.Names.{last_number}
 use Rattle.mx_row_rules.specs.found.Said.{aircraft_in, component_in}
-use Rattle.mx_numbers.specs.AnyRows.{Gives, GivesFirst}
-use Rattle.mx_numbers.specs.Given.{BaseOf, ClockOf, DefectOf, ExtensionOf, FittedTo, HasRoom, IsAccomplished, IsRectified, IsRetired, IsTaken, LifeOf, NextRevision, OpenDefects, PartAt, TailFitted, TaskOf, TasksInForce}
-use Rattle.mx_numbers.specs.Reads.{rows_point}
+use Rattle.mx_lookups.specs.numbers.AnyRows.{Gives, GivesFirst}
+use Rattle.mx_lookups.specs.numbers.Given.{BaseOf, ClockOf, DefectOf, ExtensionOf, FittedTo, HasRoom, IsAccomplished, IsRectified, IsRetired, IsTaken, LifeOf, NextRevision, OpenDefects, PartAt, TailFitted, TaskOf, TasksInForce}
+use Rattle.mx_lookups.specs.numbers.Reads.{rows_point}
 use Rattle.mx_known.specs.Known.{KnownAs}
 
 -- whatever the rows answer to a question, it is this: they may answer nothing

@@ -5,7 +5,7 @@ use Rattle.mx_book.specs.commands.Act.{Entry}
 use Rattle.mx_book.specs.declared.commands.item.Item.{Item}
 use Rattle.mx_layout.specs.TableName.{TableName}
 use Rattle.mx_layout.specs.declared.fault.Table.TheVariants as table
-use Rattle.mx_numbers.specs.Told.{AircraftDamage, BaseDamage, ComponentDamage, CountDamage, DefectDamage, DoneDamage, ExtensionDamage, FittedDamage, InForceDamage, LastDamage, OpenDamage, PartDamage, RectifiedDamage, RetiredDamage, RevisionDamage, TailFittedDamage, TakenDamage, TotalDamage}
+use Rattle.mx_lookups.specs.numbers.Told.{AircraftDamage, BaseDamage, ComponentDamage, CountDamage, DefectDamage, DoneDamage, ExtensionDamage, FittedDamage, InForceDamage, LastDamage, OpenDamage, PartDamage, RectifiedDamage, RetiredDamage, RevisionDamage, TailFittedDamage, TakenDamage, TotalDamage}
 use Rattle.mx_known.specs.Known.{KnownDamage}
 
 -- one question of the judge tells it, of the rows that its look-up chooses

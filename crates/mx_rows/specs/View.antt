@@ -7,8 +7,8 @@ use Rattle.sqlite.specs.Tree.{Trees}
 use Rattle.mx_book.specs.commands.Act.{Entry}
 use Rattle.mx_book.specs.Reading.{Reading}
 use Rattle.mx_layout.specs.declared.fault.TableFault.{TableFault}
-use Rattle.mx_numbers.specs.Reads.{Reads}
-use Rattle.mx_numbers.specs.Told.{Damage, TellsDamage}
+use Rattle.mx_lookups.specs.numbers.Reads.{Reads}
+use Rattle.mx_lookups.specs.numbers.Told.{Damage, TellsDamage}
 use Rattle.mx_rows.specs.Answering.{SpeaksFor}
 use Rattle.mx_rows.specs.declared.view.Rows.{Rows}
 

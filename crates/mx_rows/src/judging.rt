@@ -2,9 +2,9 @@
 ghost use Rattle.std.specs.Prelude.{◌≡◌};
 ghost use Rattle.sqlite.specs.Held.{state};
 ghost use Rattle.mx_book.specs.Judge.{judge};
-ghost use Rattle.mx_numbers.specs.AnyRows.{ReadsAny};
-ghost use Rattle.mx_numbers.specs.Reads.{Reads};
-ghost use Rattle.mx_numbers.specs.Told.{TellsDamage};
+ghost use Rattle.mx_lookups.specs.numbers.AnyRows.{ReadsAny};
+ghost use Rattle.mx_lookups.specs.numbers.Reads.{Reads};
+ghost use Rattle.mx_lookups.specs.numbers.Told.{TellsDamage};
 ghost use Rattle.mx_rows.specs.Answering.{AnswerAs, VerdictOf};
 ghost use Rattle.mx_rows.specs.Damage.{JudgeDamage};
 ghost use Rattle.mx_rows.specs.View.{Asks};
@@ -15,7 +15,7 @@ use mx_book::Verdict;
 use mx_book::commands::Command;
 use mx_book::judging::verdict_on;
 use mx_layout::TableFault;
-use mx_numbers::entries::entry_count;
+use mx_lookups::numbers::entries::entry_count;
 use sqlite::{Alter, Transaction};
 use std::alloc::Global;
 

@@ -6,10 +6,10 @@ use mx_book::Defect;
 use mx_book::commands::{Item, Task};
 use mx_layout::TableFault;
 use mx_lists::{Lists, Stop};
-use mx_lives::lives::life;
-use mx_lives::programmes::tasks;
-use mx_lives::work::base;
 use mx_lookups::lists::{fitted, open_defects};
+use mx_lookups::lives::lives::life;
+use mx_lookups::lives::programmes::tasks;
+use mx_lookups::lives::work::base;
 use sqlite::Alter;
 use std::alloc::Global;
 

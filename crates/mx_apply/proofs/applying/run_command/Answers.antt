@@ -1,7 +1,7 @@
 use Rattle.std.proofs.Common.{Ok, subst}
 use Rattle.sqlite.specs.Held.{state}
-use Rattle.mx_numbers.specs.AnyRows.{ReadsAny}
-use Rattle.mx_numbers.specs.Reads.{Reads}
+use Rattle.mx_lookups.specs.numbers.AnyRows.{ReadsAny}
+use Rattle.mx_lookups.specs.numbers.Reads.{Reads}
 use Rattle.mx_apply.specs.Judged.{IsJudged, JudgedOf}
 use Rattle.mx_apply.proofs.ApplyLemmas.{already, refused, written}
 use Rattle.mx_apply.proofs.applying.run_command.Goals as goal

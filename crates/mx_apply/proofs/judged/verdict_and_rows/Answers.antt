@@ -1,6 +1,6 @@
 use Rattle.std.proofs.Common.{◌∙◌, sym}
-use Rattle.mx_numbers.proofs.AnyLemmas.{any_so}
-use Rattle.mx_numbers.proofs.ReadLemmas.{reads_then, told}
+use Rattle.mx_lookups.proofs.NumbersProofs.AnyLemmas.{any_so}
+use Rattle.mx_lookups.proofs.NumbersProofs.ReadLemmas.{reads_then, told}
 use Rattle.mx_made.proofs.AnyMadeLemmas.{any_then}
 use Rattle.mx_apply.proofs.judged.verdict_and_rows.Goals as goal
 

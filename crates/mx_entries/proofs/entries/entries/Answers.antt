@@ -1,7 +1,7 @@
 use Rattle.std.proofs.Common.{◌<◌, ◌∙◌, Vec, ap, arith, inl, min, refl, subst}
 use Rattle.std.specs.declared.alloc.Global.{Global}
 use Rattle.mx_book.specs.commands.Act.{Entry}
-use Rattle.mx_numbers.proofs.ReadLemmas.{stopped}
+use Rattle.mx_lookups.proofs.NumbersProofs.ReadLemmas.{stopped}
 use Rattle.mx_entries.proofs.EntryLemmas.{entries_begun, entries_ended, entries_ended-any, entries_missing, entries_more, entries_starved, entries_stopped}
 use Rattle.mx_entries.proofs.entries.entries.Goals as goal
 

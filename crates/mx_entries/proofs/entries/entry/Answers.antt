@@ -1,7 +1,7 @@
 use Rattle.std.proofs.Common.{inl, ap, sym, ◌∙◌}
 use Rattle.std.specs.Prelude.{slice_get}
-use Rattle.mx_numbers.proofs.BookRows.{entries_of_number}
-use Rattle.mx_numbers.proofs.ReadLemmas.{stopped}
+use Rattle.mx_lookups.proofs.NumbersProofs.BookRows.{entries_of_number}
+use Rattle.mx_lookups.proofs.NumbersProofs.ReadLemmas.{stopped}
 use Rattle.mx_entries.proofs.EntryLemmas.{entry_is, entry_is-any, entry_none, entry_none-any, entry_refused, entry_stopped}
 use Rattle.mx_entries.proofs.entries.entry.Goals as goal
 

@@ -3,9 +3,9 @@ use Rattle.std.specs.Prelude.{slice_get}
 use Rattle.std.specs.Option.{option_map}
 use Rattle.mx_registers.specs.Merge.{aircraft_said}
 use Rattle.mx_row_rules.specs.found.Stated.{position_said, aircraft_stated}
-use Rattle.mx_numbers.proofs.BookRows.{places_of, aircraft_of_number}
-use Rattle.mx_numbers.proofs.ReadLemmas.{reads_then, stopped}
-use Rattle.mx_numbers.proofs.TableLemmas.{places, aircraft}
+use Rattle.mx_lookups.proofs.NumbersProofs.BookRows.{places_of, aircraft_of_number}
+use Rattle.mx_lookups.proofs.NumbersProofs.ReadLemmas.{reads_then, stopped}
+use Rattle.mx_lookups.proofs.NumbersProofs.TableLemmas.{places, aircraft}
 use Rattle.mx_entries.proofs.StatedLemmas.{both_said, both_said-any, starved}
 use Rattle.mx_entries.proofs.items.aircraft_stated.Goals as goal
 

@@ -3,10 +3,10 @@ use Rattle.std.specs.Prelude.{slice_get}
 use Rattle.std.specs.Option.{option_map}
 use Rattle.mx_registers.specs.Merge.{component_said}
 use Rattle.mx_row_rules.specs.found.Stated.{component_stated}
-use Rattle.mx_numbers.proofs.AnyLemmas.{gives}
-use Rattle.mx_numbers.proofs.BookRows.{components_of_number}
-use Rattle.mx_numbers.proofs.ReadLemmas.{stopped, told}
-use Rattle.mx_numbers.proofs.TableLemmas.{components}
+use Rattle.mx_lookups.proofs.NumbersProofs.AnyLemmas.{gives}
+use Rattle.mx_lookups.proofs.NumbersProofs.BookRows.{components_of_number}
+use Rattle.mx_lookups.proofs.NumbersProofs.ReadLemmas.{stopped, told}
+use Rattle.mx_lookups.proofs.NumbersProofs.TableLemmas.{components}
 use Rattle.mx_entries.proofs.items.component_stated.Goals as goal
 
 pub returns-in_err-rows-clause-reads : goal.returns-in_err-rows-clause-reads

@@ -3,9 +3,9 @@ use Rattle.std.specs.Prelude.{slice_get}
 use Rattle.std.specs.Option.{option_map}
 use Rattle.mx_registers.specs.Merge.{programme_said, task_said}
 use Rattle.mx_row_rules.specs.found.Stated.{programme_stated}
-use Rattle.mx_numbers.proofs.BookRows.{programmes_of_number, tasks_of}
-use Rattle.mx_numbers.proofs.ReadLemmas.{reads_then, stopped}
-use Rattle.mx_numbers.proofs.TableLemmas.{programmes, tasks}
+use Rattle.mx_lookups.proofs.NumbersProofs.BookRows.{programmes_of_number, tasks_of}
+use Rattle.mx_lookups.proofs.NumbersProofs.ReadLemmas.{reads_then, stopped}
+use Rattle.mx_lookups.proofs.NumbersProofs.TableLemmas.{programmes, tasks}
 use Rattle.mx_entries.proofs.StatedLemmas.{both_said, both_said-any, starved}
 use Rattle.mx_entries.proofs.items.programme_stated.Goals as goal
 

@@ -3,8 +3,8 @@ use Rattle.std.specs.Prelude.{slice_get}
 use Rattle.std.specs.Option.{option_and_then, option_map}
 use Rattle.mx_registers.specs.Merge.{fitting_said}
 use Rattle.mx_registers.specs.kept.Spans.{fitting_in}
-use Rattle.mx_numbers.specs.Given.{SerialOfNumber, TailOfNumber}
-use Rattle.mx_numbers.proofs.ReadLemmas.{reads_then}
+use Rattle.mx_lookups.specs.numbers.Given.{SerialOfNumber, TailOfNumber}
+use Rattle.mx_lookups.proofs.NumbersProofs.ReadLemmas.{reads_then}
 use Rattle.mx_entries.proofs.KindLemmas.{fitting_kind}
 use Rattle.mx_entries.proofs.StatedLemmas.{any_both, it_said, it_said-any, none_said, none_said-any, unnamed, unread}
 use Rattle.mx_entries.proofs.moves.fitting_stated.Goals as goal

@@ -1,7 +1,7 @@
 use Rattle.std.proofs.Common.{subst, sym, ◌∙◌}
 use Rattle.mx_row_rules.proofs.FoundProofs.StatedLemmas.{airframe_numbered, component_numbered, no_item_numbered}
-use Rattle.mx_numbers.specs.Given.{SerialOfNumber, TailOfNumber}
-use Rattle.mx_numbers.proofs.ReadLemmas.{reads_then, stopped, told}
+use Rattle.mx_lookups.specs.numbers.Given.{SerialOfNumber, TailOfNumber}
+use Rattle.mx_lookups.proofs.NumbersProofs.ReadLemmas.{reads_then, stopped, told}
 use Rattle.mx_entries.proofs.StatedLemmas.{any_both}
 use Rattle.mx_entries.proofs.names.item_of_number.Goals as goal
 

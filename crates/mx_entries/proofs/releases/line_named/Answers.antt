@@ -2,7 +2,7 @@ use Rattle.std.proofs.Common.{ap, sym, ◌∙◌}
 use Rattle.std.specs.Option.{option_map}
 use Rattle.mx_book.specs.declared.commands.release.Line.TheVariants as lines
 use Rattle.mx_row_rules.specs.found.Stated.{certified_said}
-use Rattle.mx_numbers.proofs.ReadLemmas.{told}
+use Rattle.mx_lookups.proofs.NumbersProofs.ReadLemmas.{told}
 use Rattle.mx_entries.specs.Names.{DocOfDefect, ItemOfNumber}
 use Rattle.mx_entries.specs.Releases.{LineNamed}
 use Rattle.mx_entries.proofs.StatedLemmas.{any_as, any_named}

@@ -1,8 +1,8 @@
 use Rattle.std.proofs.Common.{◌∙◌, sym}
-use Rattle.mx_numbers.proofs.AnyLemmas.{empty_is}
-use Rattle.mx_numbers.proofs.BookRows.{lines_of}
-use Rattle.mx_numbers.proofs.ReadLemmas.{reads_then, stopped}
-use Rattle.mx_numbers.proofs.TableLemmas.{release_lines}
+use Rattle.mx_lookups.proofs.NumbersProofs.AnyLemmas.{empty_is}
+use Rattle.mx_lookups.proofs.NumbersProofs.BookRows.{lines_of}
+use Rattle.mx_lookups.proofs.NumbersProofs.ReadLemmas.{reads_then, stopped}
+use Rattle.mx_lookups.proofs.NumbersProofs.TableLemmas.{release_lines}
 use Rattle.mx_entries.proofs.LineLemmas.{lines_begun, lines_ended, lines_ended-any, lines_more, lines_none, lines_none-any, lines_starved, nothing_certified, nothing_certified-any}
 use Rattle.mx_entries.proofs.StatedLemmas.{all_chosen}
 use Rattle.mx_entries.proofs.releases.lines_stated.Goals as goal

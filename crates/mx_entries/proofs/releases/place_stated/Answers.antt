@@ -1,7 +1,7 @@
 use Rattle.std.proofs.Common.{ap, sym, ◌∙◌}
 use Rattle.std.specs.Option.{option_and_then}
 use Rattle.mx_registers.specs.Merge.{place_of}
-use Rattle.mx_numbers.proofs.ReadLemmas.{told}
+use Rattle.mx_lookups.proofs.NumbersProofs.ReadLemmas.{told}
 use Rattle.mx_entries.proofs.releases.place_stated.Goals as goal
 
 pub returns-in-Some-clause-reads : goal.returns-in-Some-clause-reads

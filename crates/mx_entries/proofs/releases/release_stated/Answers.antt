@@ -5,7 +5,7 @@ use Rattle.std.specs.declared.alloc.Global.{Global}
 use Rattle.mx_book.specs.declared.commands.release.Line.{Line}
 use Rattle.mx_registers.specs.Merge.{release_said}
 use Rattle.mx_entries.specs.Releases.{LinesStated, PlaceStated}
-use Rattle.mx_numbers.proofs.ReadLemmas.{reads_then}
+use Rattle.mx_lookups.proofs.NumbersProofs.ReadLemmas.{reads_then}
 use Rattle.mx_entries.proofs.KindLemmas.{release_kind}
 use Rattle.mx_entries.proofs.StatedLemmas.{any_both, it_said, it_said-any, none_said, none_said-any, unnamed, unread}
 use Rattle.mx_entries.proofs.releases.release_stated.Goals as goal

@@ -1,12 +1,12 @@
 use Rattle.std.proofs.Common.{[], ◌∷◌, ap, ◌∙◌}
 use Rattle.mx_registers.specs.Registers.{aircraft_row}
 use Rattle.mx_row_rules.specs.found.Given as registers
-use Rattle.mx_numbers.proofs.BookRows.{aircraft_of_number}
-use Rattle.mx_numbers.proofs.ReadLemmas.{stopped, told}
+use Rattle.mx_lookups.proofs.NumbersProofs.BookRows.{aircraft_of_number}
+use Rattle.mx_lookups.proofs.NumbersProofs.ReadLemmas.{stopped, told}
 use Rattle.mx_known.proofs.TellLemmas.{compared}
 use Rattle.mx_known.proofs.KnownLemmas.{rows_same}
-use Rattle.mx_numbers.proofs.TableLemmas.{aircraft}
-use Rattle.mx_numbers.proofs.ToldLemmas.{unread}
+use Rattle.mx_lookups.proofs.NumbersProofs.TableLemmas.{aircraft}
+use Rattle.mx_lookups.proofs.NumbersProofs.ToldLemmas.{unread}
 use Rattle.mx_known.proofs.items.is_aircraft_row.Goals as goal
 
 pub returns-in_err-rows-clause-reads : goal.returns-in_err-rows-clause-reads

@@ -2,12 +2,12 @@ use Rattle.std.proofs.Common.{[], ◌∷◌, ap, ◌∙◌}
 use Rattle.mx_book.specs.commands.Act.{Listed}
 use Rattle.mx_registers.specs.Registers.{component_row}
 use Rattle.mx_row_rules.specs.found.Given.{components}
-use Rattle.mx_numbers.proofs.BookRows.{components_of_number}
-use Rattle.mx_numbers.proofs.ReadLemmas.{stopped, told}
+use Rattle.mx_lookups.proofs.NumbersProofs.BookRows.{components_of_number}
+use Rattle.mx_lookups.proofs.NumbersProofs.ReadLemmas.{stopped, told}
 use Rattle.mx_known.proofs.TellLemmas.{compared, tells}
 use Rattle.mx_known.proofs.KnownLemmas.{rows_same}
-use Rattle.mx_numbers.proofs.TableLemmas.{components as components_table}
-use Rattle.mx_numbers.proofs.ToldLemmas.{unread}
+use Rattle.mx_lookups.proofs.NumbersProofs.TableLemmas.{components as components_table}
+use Rattle.mx_lookups.proofs.NumbersProofs.ToldLemmas.{unread}
 use Rattle.mx_known.proofs.items.is_component.Goals as goal
 
 pub returns-in_err-rows-clause-reads : goal.returns-in_err-rows-clause-reads

@@ -3,10 +3,10 @@ use Rattle.sqlite.specs.declared.types.Value.TheVariants.{Text}
 use Rattle.mx_layout.specs.kept.Cells.{kept_entry}
 use Rattle.mx_table_rows.specs.chosen.Choices.{has_value}
 use Rattle.mx_row_rules.specs.found.Names.{entry_number}
-use Rattle.mx_numbers.specs.AnyRows.{Gives}
-use Rattle.mx_numbers.proofs.AnyLemmas.{any_so, by_none, by_number}
-use Rattle.mx_numbers.proofs.ToldLemmas.{handed, told_by}
-use Rattle.mx_numbers.specs.Told.{EntryDamage}
+use Rattle.mx_lookups.specs.numbers.AnyRows.{Gives}
+use Rattle.mx_lookups.proofs.NumbersProofs.AnyLemmas.{any_so, by_none, by_number}
+use Rattle.mx_lookups.proofs.NumbersProofs.ToldLemmas.{handed, told_by}
+use Rattle.mx_lookups.specs.numbers.Told.{EntryDamage}
 use Rattle.mx_known.proofs.known.known.Goals as goal
 
 pub returns-in_ok-same-in-Some-clause-any_rows : goal.returns-in_ok-same-in-Some-clause-any_rows

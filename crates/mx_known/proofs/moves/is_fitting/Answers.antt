@@ -4,14 +4,14 @@ use Rattle.mx_registers.specs.Names.{or_zero}
 use Rattle.mx_row_rules.specs.found.Spans.{begins_with}
 use Rattle.mx_row_rules.proofs.FoundProofs.AnswerLemmas.{fitting_by_spans}
 use Rattle.mx_row_rules.proofs.FoundProofs.FoundLemmas.{entry_is}
-use Rattle.mx_numbers.proofs.BookRows.{spans_of_fitting}
-use Rattle.mx_numbers.proofs.ReadLemmas.{reads_then, stopped, told}
-use Rattle.mx_numbers.specs.Given.{AircraftNumber}
+use Rattle.mx_lookups.proofs.NumbersProofs.BookRows.{spans_of_fitting}
+use Rattle.mx_lookups.proofs.NumbersProofs.ReadLemmas.{reads_then, stopped, told}
+use Rattle.mx_lookups.specs.numbers.Given.{AircraftNumber}
 use Rattle.mx_known.specs.Known.{Began, ByNumber}
-use Rattle.mx_numbers.proofs.AnyLemmas.{gives}
+use Rattle.mx_lookups.proofs.NumbersProofs.AnyLemmas.{gives}
 use Rattle.mx_known.proofs.KnownLemmas.{numbered}
-use Rattle.mx_numbers.proofs.TableLemmas.{spans}
-use Rattle.mx_numbers.proofs.ToldLemmas.{handed, told_as, told_later, unread}
+use Rattle.mx_lookups.proofs.NumbersProofs.TableLemmas.{spans}
+use Rattle.mx_lookups.proofs.NumbersProofs.ToldLemmas.{handed, told_as, told_later, unread}
 use Rattle.mx_known.proofs.moves.is_fitting.Goals as goal
 
 pub returns-in_err-rows-clause-reads : goal.returns-in_err-rows-clause-reads

@@ -4,13 +4,13 @@ use Rattle.mx_registers.specs.Names.{or_zero}
 use Rattle.mx_row_rules.specs.found.Spans.{ends_with}
 use Rattle.mx_row_rules.proofs.FoundProofs.AnswerLemmas.{removal_by_spans}
 use Rattle.mx_row_rules.proofs.FoundProofs.FoundLemmas.{entry_is}
-use Rattle.mx_numbers.proofs.BookRows.{spans_of_removal}
-use Rattle.mx_numbers.proofs.ReadLemmas.{reads_then, stopped, told}
+use Rattle.mx_lookups.proofs.NumbersProofs.BookRows.{spans_of_removal}
+use Rattle.mx_lookups.proofs.NumbersProofs.ReadLemmas.{reads_then, stopped, told}
 use Rattle.mx_known.specs.Known.{Ended}
-use Rattle.mx_numbers.proofs.AnyLemmas.{gives}
+use Rattle.mx_lookups.proofs.NumbersProofs.AnyLemmas.{gives}
 use Rattle.mx_known.proofs.KnownLemmas.{numbered}
-use Rattle.mx_numbers.proofs.TableLemmas.{spans}
-use Rattle.mx_numbers.proofs.ToldLemmas.{told_as, told_later, unread}
+use Rattle.mx_lookups.proofs.NumbersProofs.TableLemmas.{spans}
+use Rattle.mx_lookups.proofs.NumbersProofs.ToldLemmas.{told_as, told_later, unread}
 use Rattle.mx_known.proofs.moves.is_removal.Goals as goal
 
 pub returns-in_err-rows-clause-reads : goal.returns-in_err-rows-clause-reads

@@ -4,13 +4,13 @@ use Rattle.mx_base.specs.declared.rows.rows.Sector2Row.{Sector2Row}
 use Rattle.mx_registers.specs.Names.{or_zero, seq_of_tail}
 use Rattle.mx_registers.specs.Registers.{sector_row}
 use Rattle.mx_row_rules.specs.found.Given as registers
-use Rattle.mx_numbers.proofs.SectorRows.{sectors_held, sectors_read}
-use Rattle.mx_numbers.proofs.ReadLemmas.{reads_then, stopped, told}
+use Rattle.mx_lookups.proofs.NumbersProofs.SectorRows.{sectors_held, sectors_read}
+use Rattle.mx_lookups.proofs.NumbersProofs.ReadLemmas.{reads_then, stopped, told}
 use Rattle.mx_known.proofs.TellLemmas.{compared, tells}
 use Rattle.mx_known.specs.Known.{IsSector}
 use Rattle.mx_known.proofs.KnownLemmas.{numbered, rows_same}
-use Rattle.mx_numbers.proofs.TableLemmas.{sectors}
-use Rattle.mx_numbers.proofs.ToldLemmas.{told_as, told_later, unread}
+use Rattle.mx_lookups.proofs.NumbersProofs.TableLemmas.{sectors}
+use Rattle.mx_lookups.proofs.NumbersProofs.ToldLemmas.{told_as, told_later, unread}
 use Rattle.mx_known.proofs.moves.is_sector.Goals as goal
 
 pub returns-in_err-rows-clause-reads : goal.returns-in_err-rows-clause-reads

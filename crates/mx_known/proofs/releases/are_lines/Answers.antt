@@ -3,13 +3,13 @@ use Rattle.sqlite_rules.specs.Lists.{Has}
 use Rattle.sqlite_rules.proofs.ListLemmas.{contains_had}
 use Rattle.mx_registers.specs.Lines.{lines_from}
 use Rattle.mx_registers.specs.Registers.{release_line_row}
-use Rattle.mx_numbers.proofs.AnyLemmas.{empty_is}
-use Rattle.mx_numbers.proofs.BookRows.{lines_of}
-use Rattle.mx_numbers.proofs.ReadLemmas.{reads_then, stopped, told}
+use Rattle.mx_lookups.proofs.NumbersProofs.AnyLemmas.{empty_is}
+use Rattle.mx_lookups.proofs.NumbersProofs.BookRows.{lines_of}
+use Rattle.mx_lookups.proofs.NumbersProofs.ReadLemmas.{reads_then, stopped, told}
 use Rattle.mx_known.proofs.TellLemmas.{one_more}
 use Rattle.mx_known.proofs.KnownLemmas.{lined_begun, lined_ended, lined_more}
-use Rattle.mx_numbers.proofs.ToldLemmas.{handed, told_as, told_later, unread}
-use Rattle.mx_numbers.proofs.TableLemmas.{release_lines}
+use Rattle.mx_lookups.proofs.NumbersProofs.ToldLemmas.{handed, told_as, told_later, unread}
+use Rattle.mx_lookups.proofs.NumbersProofs.TableLemmas.{release_lines}
 use Rattle.mx_known.proofs.releases.are_lines.Goals as goal
 
 pub returns-in_err-rows-clause-reads : goal.returns-in_err-rows-clause-reads

@@ -5,8 +5,8 @@ use Rattle.mx_book.specs.declared.commands.release.Line.{Line}
 use Rattle.mx_registers.specs.Lines.{lines_from}
 use Rattle.mx_registers.specs.Registers.{release_line_row}
 use Rattle.mx_row_rules.specs.found.Given.{found, release_lines}
-use Rattle.mx_numbers.specs.AnyRows.{ReadsAny}
-use Rattle.mx_numbers.specs.Reads.{Reads}
+use Rattle.mx_lookups.specs.numbers.AnyRows.{ReadsAny}
+use Rattle.mx_lookups.specs.numbers.Reads.{Reads}
 use Rattle.mx_known.proofs.KnownLemmas.{IsLined}
 use Rattle.mx_known.proofs.releases.are_lines.Given as goal
 

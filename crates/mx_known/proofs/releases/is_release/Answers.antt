@@ -1,9 +1,9 @@
 use Rattle.std.proofs.Common.{◌∙◌, ◌&&◌, ap, sym, inr}
 use Rattle.mx_book.specs.commands.Act.{Released}
-use Rattle.mx_numbers.proofs.ReadLemmas.{reads_then, told}
+use Rattle.mx_lookups.proofs.NumbersProofs.ReadLemmas.{reads_then, told}
 use Rattle.mx_known.proofs.TellLemmas.{first_fails, second_tells, tells}
 use Rattle.mx_known.proofs.KnownLemmas.{both_same}
-use Rattle.mx_numbers.proofs.ToldLemmas.{handed, told_later}
+use Rattle.mx_lookups.proofs.NumbersProofs.ToldLemmas.{handed, told_later}
 use Rattle.mx_known.proofs.releases.is_release.Goals as goal
 
 pub returns-then-same-clause-reads : goal.returns-then-same-clause-reads

@@ -3,14 +3,14 @@ use Rattle.mx_book.specs.Judge.{item_at}
 use Rattle.mx_registers.specs.Names.{or_zero, seq_of_item}
 use Rattle.mx_registers.specs.Registers.{release_row}
 use Rattle.mx_row_rules.specs.found.Given as registers
-use Rattle.mx_numbers.proofs.BookRows.{releases_of_number}
-use Rattle.mx_numbers.proofs.ReadLemmas.{reads_then, stopped, told}
+use Rattle.mx_lookups.proofs.NumbersProofs.BookRows.{releases_of_number}
+use Rattle.mx_lookups.proofs.NumbersProofs.ReadLemmas.{reads_then, stopped, told}
 use Rattle.mx_known.proofs.TellLemmas.{compared}
 use Rattle.mx_layout.specs.kept.Cells.{kept_crs}
 use Rattle.mx_known.specs.Known.{AreRows}
 use Rattle.mx_known.proofs.KnownLemmas.{numbered, rows_same}
-use Rattle.mx_numbers.proofs.TableLemmas.{releases}
-use Rattle.mx_numbers.proofs.ToldLemmas.{told_as, told_later, unread}
+use Rattle.mx_lookups.proofs.NumbersProofs.TableLemmas.{releases}
+use Rattle.mx_lookups.proofs.NumbersProofs.ToldLemmas.{told_as, told_later, unread}
 use Rattle.mx_known.proofs.releases.is_release_row.Goals as goal
 
 pub returns-in_err-rows-clause-reads : goal.returns-in_err-rows-clause-reads

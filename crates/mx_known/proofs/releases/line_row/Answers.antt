@@ -1,6 +1,6 @@
 use Rattle.std.proofs.Common.{◌∙◌, ap}
 use Rattle.mx_row_rules.specs.found.Given.{line_row}
-use Rattle.mx_numbers.proofs.AnyLemmas.{any_so}
+use Rattle.mx_lookups.proofs.NumbersProofs.AnyLemmas.{any_so}
 use Rattle.mx_known.proofs.releases.line_row.Goals as goal
 
 pub returns-clause-any_rows : goal.returns-clause-any_rows

@@ -2,12 +2,12 @@ use Rattle.std.proofs.Common.{◌∙◌}
 use Rattle.mx_registers.specs.Lines.{lines_from}
 use Rattle.mx_registers.specs.Registers.{task_row}
 use Rattle.mx_row_rules.specs.found.Given as registers
-use Rattle.mx_numbers.proofs.BookRows.{tasks_of}
-use Rattle.mx_numbers.proofs.ReadLemmas.{stopped, told}
+use Rattle.mx_lookups.proofs.NumbersProofs.BookRows.{tasks_of}
+use Rattle.mx_lookups.proofs.NumbersProofs.ReadLemmas.{stopped, told}
 use Rattle.mx_known.proofs.TellLemmas.{compared}
 use Rattle.mx_known.proofs.KnownLemmas.{rows_same}
-use Rattle.mx_numbers.proofs.TableLemmas.{tasks}
-use Rattle.mx_numbers.proofs.ToldLemmas.{unread}
+use Rattle.mx_lookups.proofs.NumbersProofs.TableLemmas.{tasks}
+use Rattle.mx_lookups.proofs.NumbersProofs.ToldLemmas.{unread}
 use Rattle.mx_known.proofs.works.are_tasks.Goals as goal
 
 pub returns-in_err-rows-clause-reads : goal.returns-in_err-rows-clause-reads

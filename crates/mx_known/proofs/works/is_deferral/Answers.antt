@@ -3,14 +3,14 @@ use Rattle.mx_book.specs.commands.Act.{Deferred}
 use Rattle.mx_registers.specs.Names.{or_zero, seq_of_tail}
 use Rattle.mx_registers.specs.Registers.{deferral_row}
 use Rattle.mx_row_rules.specs.found.Given as registers
-use Rattle.mx_numbers.proofs.BookRows.{deferrals_of_number}
-use Rattle.mx_numbers.proofs.ReadLemmas.{reads_then, stopped, told}
+use Rattle.mx_lookups.proofs.NumbersProofs.BookRows.{deferrals_of_number}
+use Rattle.mx_lookups.proofs.NumbersProofs.ReadLemmas.{reads_then, stopped, told}
 use Rattle.mx_known.proofs.TellLemmas.{compared, tells}
 use Rattle.mx_layout.specs.kept.Cells.{kept_defect}
 use Rattle.mx_known.specs.Known.{AreRows}
 use Rattle.mx_known.proofs.KnownLemmas.{numbered, rows_same}
-use Rattle.mx_numbers.proofs.TableLemmas.{deferrals}
-use Rattle.mx_numbers.proofs.ToldLemmas.{told_as, told_later, unread}
+use Rattle.mx_lookups.proofs.NumbersProofs.TableLemmas.{deferrals}
+use Rattle.mx_lookups.proofs.NumbersProofs.ToldLemmas.{told_as, told_later, unread}
 use Rattle.mx_known.proofs.works.is_deferral.Goals as goal
 
 pub returns-in_err-rows-clause-reads : goal.returns-in_err-rows-clause-reads

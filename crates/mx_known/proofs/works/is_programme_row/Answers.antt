@@ -1,12 +1,12 @@
 use Rattle.std.proofs.Common.{[], ◌∷◌, ap, ◌∙◌}
 use Rattle.mx_registers.specs.Registers.{programme_row}
 use Rattle.mx_row_rules.specs.found.Given as registers
-use Rattle.mx_numbers.proofs.BookRows.{programmes_of_number}
-use Rattle.mx_numbers.proofs.ReadLemmas.{stopped, told}
+use Rattle.mx_lookups.proofs.NumbersProofs.BookRows.{programmes_of_number}
+use Rattle.mx_lookups.proofs.NumbersProofs.ReadLemmas.{stopped, told}
 use Rattle.mx_known.proofs.TellLemmas.{compared}
 use Rattle.mx_known.proofs.KnownLemmas.{rows_same}
-use Rattle.mx_numbers.proofs.TableLemmas.{programmes}
-use Rattle.mx_numbers.proofs.ToldLemmas.{unread}
+use Rattle.mx_lookups.proofs.NumbersProofs.TableLemmas.{programmes}
+use Rattle.mx_lookups.proofs.NumbersProofs.ToldLemmas.{unread}
 use Rattle.mx_known.proofs.works.is_programme_row.Goals as goal
 
 pub returns-in_err-rows-clause-reads : goal.returns-in_err-rows-clause-reads

@@ -5,14 +5,14 @@ use Rattle.mx_layout.specs.kept.Cells.{kept_defect}
 use Rattle.mx_row_rules.specs.found.Defects.{deferral_aircraft, defect_in}
 use Rattle.mx_row_rules.proofs.FoundProofs.DeferralLemmas.{defect_there, no_defect}
 use Rattle.mx_row_rules.specs.found.Names.{tail_in}
-use Rattle.mx_numbers.specs.Given.{DefectNumber}
-use Rattle.mx_numbers.proofs.AnyLemmas.{any_later, by_none, by_number, found_some, gives}
+use Rattle.mx_lookups.specs.numbers.Given.{DefectNumber}
+use Rattle.mx_lookups.proofs.NumbersProofs.AnyLemmas.{any_later, by_none, by_number, found_some, gives}
 use Rattle.mx_lookups.proofs.DamageLemmas.{aircraft_unmet, deferral_unmet, no_tail}
-use Rattle.mx_numbers.proofs.TableLemmas.{aircraft as aircraft_table, deferrals}
+use Rattle.mx_lookups.proofs.NumbersProofs.TableLemmas.{aircraft as aircraft_table, deferrals}
 use Rattle.mx_lookups.proofs.DefectLemmas.{deferral_there, defect_said}
-use Rattle.mx_numbers.proofs.ReadLemmas.{reads_then, refused, stopped, told}
-use Rattle.mx_numbers.proofs.BookRows.{aircraft_of_number, deferrals_of_number}
-use Rattle.mx_numbers.proofs.ToldLemmas.{has_none, told_as, told_by, told_here, unread}
+use Rattle.mx_lookups.proofs.NumbersProofs.ReadLemmas.{reads_then, refused, stopped, told}
+use Rattle.mx_lookups.proofs.NumbersProofs.BookRows.{aircraft_of_number, deferrals_of_number}
+use Rattle.mx_lookups.proofs.NumbersProofs.ToldLemmas.{has_none, told_as, told_by, told_here, unread}
 use Rattle.mx_lookups.proofs.defects.defect.Goals as goal
 
 pub returns-in_err-rows-in-Some-clause-reads : goal.returns-in_err-rows-in-Some-clause-reads

@@ -1,11 +1,11 @@
 use Rattle.std.proofs.Common.{◌∙◌, ap, sym}
 use Rattle.mx_row_rules.specs.found.Defects.{extension_in}
 use Rattle.mx_row_rules.proofs.FoundProofs.DeferralLemmas.{extension_is, no_extension}
-use Rattle.mx_numbers.proofs.AnyLemmas.{by_number, by_none, gives}
-use Rattle.mx_numbers.proofs.TableLemmas.{extensions}
-use Rattle.mx_numbers.proofs.ReadLemmas.{reads_then, stopped, told}
-use Rattle.mx_numbers.proofs.BookRows.{extensions_of_defect}
-use Rattle.mx_numbers.proofs.ToldLemmas.{told_by, unread}
+use Rattle.mx_lookups.proofs.NumbersProofs.AnyLemmas.{by_number, by_none, gives}
+use Rattle.mx_lookups.proofs.NumbersProofs.TableLemmas.{extensions}
+use Rattle.mx_lookups.proofs.NumbersProofs.ReadLemmas.{reads_then, stopped, told}
+use Rattle.mx_lookups.proofs.NumbersProofs.BookRows.{extensions_of_defect}
+use Rattle.mx_lookups.proofs.NumbersProofs.ToldLemmas.{told_by, unread}
 use Rattle.mx_lookups.proofs.defects.extension.Goals as goal
 
 pub returns-in_err-rows-in-Some-clause-reads : goal.returns-in_err-rows-in-Some-clause-reads

@@ -11,14 +11,14 @@ use Rattle.mx_row_rules.proofs.FoundProofs.OpenDefectLemmas.{entries_there}
 use Rattle.mx_layout.specs.declared.fault.Table.TheVariants as table
 use Rattle.mx_layout.specs.kept.Cells.{kept_defect}
 use Rattle.mx_table_rows.specs.chosen.Choices.{has_value}
-use Rattle.mx_numbers.specs.Given.{DocIfOpen, OpenSaid}
-use Rattle.mx_numbers.proofs.BookRows.{deferrals_of_aircraft}
+use Rattle.mx_lookups.specs.numbers.Given.{DocIfOpen, OpenSaid}
+use Rattle.mx_lookups.proofs.NumbersProofs.BookRows.{deferrals_of_aircraft}
 use Rattle.mx_lookups.proofs.DamageLemmas.{entry_unmet}
-use Rattle.mx_numbers.proofs.TableLemmas.{deferrals}
+use Rattle.mx_lookups.proofs.NumbersProofs.TableLemmas.{deferrals}
 use Rattle.mx_lookups.proofs.WalkLemmas.{missing, said_more, walk_begun, walk_ended, walk_said, walk_starved, walk_stopped, told_each}
-use Rattle.mx_numbers.proofs.ReadLemmas.{stopped}
-use Rattle.mx_numbers.proofs.ToldLemmas.{handed, has_none, told_as, told_here, unread}
-use Rattle.mx_numbers.specs.Told.{DocIfOpenDamage, Either, HasNoEntry, Of}
+use Rattle.mx_lookups.proofs.NumbersProofs.ReadLemmas.{stopped}
+use Rattle.mx_lookups.proofs.NumbersProofs.ToldLemmas.{handed, has_none, told_as, told_here, unread}
+use Rattle.mx_lookups.specs.numbers.Told.{DocIfOpenDamage, Either, HasNoEntry, Of}
 use Rattle.mx_lookups.proofs.lists.defects_left.Goals as goal
 
 abbrev rows_at : ℕ → List Entry → List DeferralRow

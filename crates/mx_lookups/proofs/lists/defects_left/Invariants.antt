@@ -8,7 +8,7 @@ use Rattle.mx_layout.specs.kept.Cells.{kept_defect}
 use Rattle.mx_table_rows.specs.chosen.Choices.{has_value}
 use Rattle.mx_row_rules.specs.found.Defects.{open_said}
 use Rattle.mx_row_rules.specs.found.Names.{doc_at}
-use Rattle.mx_numbers.specs.Given.{OpenSaid}
+use Rattle.mx_lookups.specs.numbers.Given.{OpenSaid}
 use Rattle.mx_lookups.proofs.WalkLemmas.{Walks}
 use Rattle.mx_lookups.proofs.lists.defects_left.Given as goal
 

@@ -1,11 +1,11 @@
 use Rattle.std.proofs.Common.{◌≡◌, ◌∙◌, ap, arith, cond, false, None, Some, sym, true, inl, inr}
 use Rattle.mx_row_rules.specs.found.Defects.{is_rectified_at, is_rectified_in}
 use Rattle.mx_row_rules.specs.found.Names.{doc_at}
-use Rattle.mx_numbers.proofs.BookRows.{lines_of_defect}
-use Rattle.mx_numbers.proofs.AnyLemmas.{any_later, gives}
-use Rattle.mx_numbers.proofs.TableLemmas.{release_lines}
-use Rattle.mx_numbers.proofs.ReadLemmas.{reads_then, stopped, told}
-use Rattle.mx_numbers.proofs.ToldLemmas.{handed, told_as, told_later, unread}
+use Rattle.mx_lookups.proofs.NumbersProofs.BookRows.{lines_of_defect}
+use Rattle.mx_lookups.proofs.NumbersProofs.AnyLemmas.{any_later, gives}
+use Rattle.mx_lookups.proofs.NumbersProofs.TableLemmas.{release_lines}
+use Rattle.mx_lookups.proofs.NumbersProofs.ReadLemmas.{reads_then, stopped, told}
+use Rattle.mx_lookups.proofs.NumbersProofs.ToldLemmas.{handed, told_as, told_later, unread}
 use Rattle.mx_lookups.proofs.lists.doc_if_open.Goals as goal
 
 pub returns-in_err-lines-clause-reads : goal.returns-in_err-lines-clause-reads

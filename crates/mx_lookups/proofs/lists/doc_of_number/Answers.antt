@@ -1,11 +1,11 @@
 use Rattle.std.proofs.Common.{◌∙◌, ap}
 use Rattle.mx_row_rules.specs.found.Names.{doc_in}
 use Rattle.mx_row_rules.proofs.FoundProofs.OpenDefectLemmas.{doc_found}
-use Rattle.mx_numbers.proofs.BookRows.{entries_of_number}
-use Rattle.mx_numbers.proofs.AnyLemmas.{gives}
-use Rattle.mx_numbers.proofs.TableLemmas.{entries}
-use Rattle.mx_numbers.proofs.ReadLemmas.{stopped, told}
-use Rattle.mx_numbers.proofs.ToldLemmas.{unread}
+use Rattle.mx_lookups.proofs.NumbersProofs.BookRows.{entries_of_number}
+use Rattle.mx_lookups.proofs.NumbersProofs.AnyLemmas.{gives}
+use Rattle.mx_lookups.proofs.NumbersProofs.TableLemmas.{entries}
+use Rattle.mx_lookups.proofs.NumbersProofs.ReadLemmas.{stopped, told}
+use Rattle.mx_lookups.proofs.NumbersProofs.ToldLemmas.{unread}
 use Rattle.mx_lookups.proofs.lists.doc_of_number.Goals as goal
 
 pub returns-in_err-rows-clause-reads : goal.returns-in_err-rows-clause-reads

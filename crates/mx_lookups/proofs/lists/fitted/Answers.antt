@@ -1,8 +1,8 @@
 use Rattle.std.proofs.Common.{◌∙◌, ap, map, sym}
 use Rattle.mx_row_rules.proofs.FoundProofs.FittedLemmas.{none_fitted, place_of, places_found}
-use Rattle.mx_numbers.proofs.AnyLemmas.{by_nothing, by_result}
-use Rattle.mx_numbers.proofs.ReadLemmas.{follows, reads_then, told}
-use Rattle.mx_numbers.proofs.ToldLemmas.{told_by}
+use Rattle.mx_lookups.proofs.NumbersProofs.AnyLemmas.{by_nothing, by_result}
+use Rattle.mx_lookups.proofs.NumbersProofs.ReadLemmas.{follows, reads_then, told}
+use Rattle.mx_lookups.proofs.NumbersProofs.ToldLemmas.{told_by}
 use Rattle.mx_lookups.proofs.lists.fitted.Goals as goal
 
 pub returns-in-Some-clause-reads : goal.returns-in-Some-clause-reads

@@ -10,14 +10,14 @@ use Rattle.mx_row_rules.proofs.FoundProofs.FittedLemmas.{components_there}
 use Rattle.mx_layout.specs.declared.fault.Table.TheVariants as table
 use Rattle.mx_layout.specs.kept.Cells.{kept_span2}
 use Rattle.mx_table_rows.specs.chosen.Choices.{is_open}
-use Rattle.mx_numbers.specs.Given.{PlaceSaid, SerialOfNumber}
-use Rattle.mx_numbers.proofs.BookRows.{open_spans_at}
+use Rattle.mx_lookups.specs.numbers.Given.{PlaceSaid, SerialOfNumber}
+use Rattle.mx_lookups.proofs.NumbersProofs.BookRows.{open_spans_at}
 use Rattle.mx_lookups.proofs.DamageLemmas.{component_unmet}
-use Rattle.mx_numbers.proofs.TableLemmas.{spans}
+use Rattle.mx_lookups.proofs.NumbersProofs.TableLemmas.{spans}
 use Rattle.mx_lookups.proofs.WalkLemmas.{missing, said_more, walk_begun, walk_ended, walk_said, walk_starved, walk_stopped, told_each}
-use Rattle.mx_numbers.proofs.ReadLemmas.{stopped}
-use Rattle.mx_numbers.proofs.ToldLemmas.{handed, has_none, told_as, told_here, unread}
-use Rattle.mx_numbers.specs.Told.{PlaceDamage}
+use Rattle.mx_lookups.proofs.NumbersProofs.ReadLemmas.{stopped}
+use Rattle.mx_lookups.proofs.NumbersProofs.ToldLemmas.{handed, has_none, told_as, told_here, unread}
+use Rattle.mx_lookups.specs.numbers.Told.{PlaceDamage}
 use Rattle.mx_lookups.proofs.lists.places_fitted.Goals as goal
 
 abbrev open_rows : ℕ → List Entry → List SpanRow

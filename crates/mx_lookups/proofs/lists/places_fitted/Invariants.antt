@@ -6,7 +6,7 @@ use Rattle.mx_registers.specs.kept.Spans.{span_rows}
 use Rattle.mx_layout.specs.kept.Cells.{kept_span2}
 use Rattle.mx_table_rows.specs.chosen.Choices.{is_open}
 use Rattle.mx_row_rules.specs.found.Spans.{is_open_at, place_said}
-use Rattle.mx_numbers.specs.Given.{PlaceSaid}
+use Rattle.mx_lookups.specs.numbers.Given.{PlaceSaid}
 use Rattle.mx_lookups.proofs.WalkLemmas.{Walks}
 use Rattle.mx_lookups.proofs.lists.places_fitted.Given as goal
 

@@ -1,11 +1,11 @@
 use Rattle.std.proofs.Common.{◌∙◌, ap}
 use Rattle.mx_row_rules.specs.found.Names.{serial_in}
 use Rattle.mx_row_rules.proofs.FoundProofs.FoundLemmas.{serial_numbered}
-use Rattle.mx_numbers.proofs.BookRows.{components_of_number}
-use Rattle.mx_numbers.proofs.AnyLemmas.{gives}
-use Rattle.mx_numbers.proofs.TableLemmas.{components}
-use Rattle.mx_numbers.proofs.ReadLemmas.{stopped, told}
-use Rattle.mx_numbers.proofs.ToldLemmas.{unread}
+use Rattle.mx_lookups.proofs.NumbersProofs.BookRows.{components_of_number}
+use Rattle.mx_lookups.proofs.NumbersProofs.AnyLemmas.{gives}
+use Rattle.mx_lookups.proofs.NumbersProofs.TableLemmas.{components}
+use Rattle.mx_lookups.proofs.NumbersProofs.ReadLemmas.{stopped, told}
+use Rattle.mx_lookups.proofs.NumbersProofs.ToldLemmas.{unread}
 use Rattle.mx_lookups.proofs.lists.serial_of_number.Goals as goal
 
 pub returns-in_err-rows-clause-reads : goal.returns-in_err-rows-clause-reads

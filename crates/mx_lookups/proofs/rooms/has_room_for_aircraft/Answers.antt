@@ -3,10 +3,10 @@ use Rattle.std.specs.Prelude.{nat_lt}
 use Rattle.mx_book.specs.declared.limits.TheConstants.{MOST_AIRCRAFT}
 use Rattle.mx_row_rules.proofs.FoundProofs.PlaceLemmas.{room_for_aircraft}
 use Rattle.mx_layout.specs.kept.Cells.{kept_aircraft}
-use Rattle.mx_numbers.proofs.TableLemmas.{aircraft}
-use Rattle.mx_numbers.proofs.ReadLemmas.{stopped, told}
+use Rattle.mx_lookups.proofs.NumbersProofs.TableLemmas.{aircraft}
+use Rattle.mx_lookups.proofs.NumbersProofs.ReadLemmas.{stopped, told}
 use Rattle.mx_lookups.proofs.RoomLookups.{aircraft_counted}
-use Rattle.mx_numbers.proofs.ToldLemmas.{uncounted}
+use Rattle.mx_lookups.proofs.NumbersProofs.ToldLemmas.{uncounted}
 use Rattle.mx_lookups.proofs.rooms.has_room_for_aircraft.Goals as goal
 
 pub returns-in_err-count-clause-reads : goal.returns-in_err-count-clause-reads

@@ -1,11 +1,11 @@
 use Rattle.std.proofs.Common.{◌∙◌, ap, sym}
 use Rattle.mx_row_rules.specs.found.Spans.{is_taken_in}
 use Rattle.mx_row_rules.proofs.FoundProofs.OpenLemmas.{taken_by_none, taken_is}
-use Rattle.mx_numbers.proofs.BookRows.{open_spans_at}
-use Rattle.mx_numbers.proofs.ReadLemmas.{reads_then, stopped, told}
-use Rattle.mx_numbers.proofs.AnyLemmas.{by_number, by_none, gives}
-use Rattle.mx_numbers.proofs.TableLemmas.{spans}
-use Rattle.mx_numbers.proofs.ToldLemmas.{told_by, unread}
+use Rattle.mx_lookups.proofs.NumbersProofs.BookRows.{open_spans_at}
+use Rattle.mx_lookups.proofs.NumbersProofs.ReadLemmas.{reads_then, stopped, told}
+use Rattle.mx_lookups.proofs.NumbersProofs.AnyLemmas.{by_number, by_none, gives}
+use Rattle.mx_lookups.proofs.NumbersProofs.TableLemmas.{spans}
+use Rattle.mx_lookups.proofs.NumbersProofs.ToldLemmas.{told_by, unread}
 use Rattle.mx_lookups.proofs.spans.is_taken.Goals as goal
 
 pub returns-in_ok-rows-in-Some-clause-reads : goal.returns-in_ok-rows-in-Some-clause-reads

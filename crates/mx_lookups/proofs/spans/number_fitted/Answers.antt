@@ -4,11 +4,11 @@ use Rattle.std.specs.Option.{option_and_then}
 use Rattle.mx_registers.specs.Names.{tail_at}
 use Rattle.mx_row_rules.specs.found.Spans.{span_aircraft}
 use Rattle.mx_row_rules.proofs.FoundProofs.OpenLemmas.{fitted_nowhere, fitted_tail, fitted_there}
-use Rattle.mx_numbers.proofs.BookRows.{open_spans_of}
-use Rattle.mx_numbers.proofs.ReadLemmas.{reads_then, stopped, told}
-use Rattle.mx_numbers.proofs.AnyLemmas.{by_number, by_none, gives}
-use Rattle.mx_numbers.proofs.TableLemmas.{spans}
-use Rattle.mx_numbers.proofs.ToldLemmas.{told_by, unread}
+use Rattle.mx_lookups.proofs.NumbersProofs.BookRows.{open_spans_of}
+use Rattle.mx_lookups.proofs.NumbersProofs.ReadLemmas.{reads_then, stopped, told}
+use Rattle.mx_lookups.proofs.NumbersProofs.AnyLemmas.{by_number, by_none, gives}
+use Rattle.mx_lookups.proofs.NumbersProofs.TableLemmas.{spans}
+use Rattle.mx_lookups.proofs.NumbersProofs.ToldLemmas.{told_by, unread}
 use Rattle.mx_lookups.proofs.spans.number_fitted.Goals as goal
 
 pub returns-in_ok-rows-in-Some-clause-reads : goal.returns-in_ok-rows-in-Some-clause-reads

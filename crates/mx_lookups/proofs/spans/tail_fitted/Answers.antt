@@ -4,11 +4,11 @@ use Rattle.std.specs.Option.{option_and_then}
 use Rattle.mx_book.specs.Span.{tail_fitted}
 use Rattle.mx_registers.specs.Names.{tail_at}
 use Rattle.mx_layout.specs.declared.fault.Table.TheVariants as table
-use Rattle.mx_numbers.specs.Given.{NumberFitted, TailOfNumber}
-use Rattle.mx_numbers.proofs.AnyLemmas.{any_later, found_some}
+use Rattle.mx_lookups.specs.numbers.Given.{NumberFitted, TailOfNumber}
+use Rattle.mx_lookups.proofs.NumbersProofs.AnyLemmas.{any_later, found_some}
 use Rattle.mx_lookups.proofs.DamageLemmas.{fitted_unmet}
-use Rattle.mx_numbers.proofs.ReadLemmas.{reads_then, refused}
-use Rattle.mx_numbers.proofs.ToldLemmas.{handed, has_none, told_as, told_by, told_here}
+use Rattle.mx_lookups.proofs.NumbersProofs.ReadLemmas.{reads_then, refused}
+use Rattle.mx_lookups.proofs.NumbersProofs.ToldLemmas.{handed, has_none, told_as, told_by, told_here}
 use Rattle.mx_lookups.proofs.spans.tail_fitted.Goals as goal
 
 pub returns-in-None-2-clause-reads : goal.returns-in-None-2-clause-reads

@@ -1,6 +1,6 @@
 use Rattle.std.proofs.Common.{[], refl}
-use Rattle.mx_numbers.proofs.ReadLemmas.{told}
-use Rattle.mx_numbers.proofs.AnyLemmas.{any_so}
+use Rattle.mx_lookups.proofs.NumbersProofs.ReadLemmas.{told}
+use Rattle.mx_lookups.proofs.NumbersProofs.AnyLemmas.{any_so}
 use Rattle.mx_made.proofs.AnyTotalLemmas.{none_of}
 use Rattle.mx_row_rules.specs.changes.Made.{nothing_found}
 use Rattle.mx_made.proofs.defects.rows_of_extension.Goals as goal

@@ -1,7 +1,7 @@
 use Rattle.std.proofs.Common.{◌∙◌, [], ◌∷◌, ap₂, subst, sym}
-use Rattle.mx_numbers.proofs.ReadLemmas.{reads_then, told}
+use Rattle.mx_lookups.proofs.NumbersProofs.ReadLemmas.{reads_then, told}
 use Rattle.mx_made.proofs.AmongLemmas.{among}
-use Rattle.mx_numbers.proofs.AnyLemmas.{any_so}
+use Rattle.mx_lookups.proofs.NumbersProofs.AnyLemmas.{any_so}
 use Rattle.mx_row_rules.specs.changes.Made.{nothing_found}
 use Rattle.mx_made.specs.Found.{AreTotalsOf}
 use Rattle.mx_made.proofs.AnyMadeLemmas.{any_then}

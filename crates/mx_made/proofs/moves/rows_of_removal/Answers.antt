@@ -1,19 +1,19 @@
 use Rattle.std.proofs.Common.{◌∙◌, ◌∷◌, map, ap, subst, sym, pos, None}
 use Rattle.mx_base.specs.declared.rows.rows.SpanRow.{SpanRow}
-use Rattle.mx_numbers.proofs.BookRows.{open_spans_of}
-use Rattle.mx_numbers.proofs.ReadLemmas.{reads_then, stopped, told}
+use Rattle.mx_lookups.proofs.NumbersProofs.BookRows.{open_spans_of}
+use Rattle.mx_lookups.proofs.NumbersProofs.ReadLemmas.{reads_then, stopped, told}
 use Rattle.mx_made.proofs.AmongLemmas.{among}
 use Rattle.mx_made.proofs.MadeLemmas.{starved}
 use Rattle.mx_made.proofs.SpanLemmas.{spans_removed_are}
-use Rattle.mx_numbers.proofs.AnyLemmas.{any_so}
+use Rattle.mx_lookups.proofs.NumbersProofs.AnyLemmas.{any_so}
 use Rattle.mx_row_rules.specs.changes.Made.{nothing_found}
 use Rattle.mx_made.specs.Found.{AreTotalsOf, numbers_removed}
 use Rattle.mx_made.proofs.AnyMadeLemmas.{any_then, chosen_read}
 use Rattle.sqlite.specs.declared.types.Value.TheVariants.{Int}
 use Rattle.mx_layout.specs.kept.Cells.{kept_span2}
 use Rattle.mx_table_rows.specs.chosen.Choices.{is_open}
-use Rattle.mx_numbers.specs.AnyRows.{AreChosen}
-use Rattle.mx_numbers.proofs.TableLemmas.{spans}
+use Rattle.mx_lookups.specs.numbers.AnyRows.{AreChosen}
+use Rattle.mx_lookups.proofs.NumbersProofs.TableLemmas.{spans}
 use Rattle.mx_made.proofs.moves.rows_of_removal.Goals as goal
 
 pub returns-in_err-spans-clause-reads : goal.returns-in_err-spans-clause-reads

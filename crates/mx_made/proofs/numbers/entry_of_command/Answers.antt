@@ -1,7 +1,7 @@
 use Rattle.std.proofs.Common.{◌∙◌, ap}
 use Rattle.mx_registers.specs.Registers.{entry_row}
-use Rattle.mx_numbers.proofs.AnyLemmas.{any_so}
-use Rattle.mx_numbers.proofs.ReadLemmas.{told}
+use Rattle.mx_lookups.proofs.NumbersProofs.AnyLemmas.{any_so}
+use Rattle.mx_lookups.proofs.NumbersProofs.ReadLemmas.{told}
 use Rattle.mx_made.proofs.MadeLemmas.{next_number}
 use Rattle.mx_made.proofs.numbers.entry_of_command.Goals as goal
 

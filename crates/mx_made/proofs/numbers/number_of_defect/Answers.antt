@@ -1,7 +1,7 @@
 use Rattle.std.proofs.Common.{◌∙◌, ap}
 use Rattle.mx_registers.specs.Names.{or_zero}
-use Rattle.mx_numbers.proofs.AnyLemmas.{any_so}
-use Rattle.mx_numbers.proofs.ReadLemmas.{told}
+use Rattle.mx_lookups.proofs.NumbersProofs.AnyLemmas.{any_so}
+use Rattle.mx_lookups.proofs.NumbersProofs.ReadLemmas.{told}
 use Rattle.mx_made.proofs.numbers.number_of_defect.Goals as goal
 
 pub returns-clause-reads : goal.returns-clause-reads

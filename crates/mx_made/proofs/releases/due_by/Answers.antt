@@ -3,10 +3,10 @@ use Rattle.std.specs.Option.{option_and_then}
 use Rattle.mx_book.specs.due.Due.{due_after}
 use Rattle.mx_book.specs.Base.{base}
 use Rattle.mx_book.specs.Register.{birth, birth_in}
-use Rattle.mx_numbers.proofs.ReadLemmas.{reads_then, stopped, told}
+use Rattle.mx_lookups.proofs.NumbersProofs.ReadLemmas.{reads_then, stopped, told}
 use Rattle.mx_made.specs.Releases.{due_by_kind}
 use Rattle.mx_made.proofs.ReleaseLemmas.{due_known}
-use Rattle.mx_numbers.proofs.AnyLemmas.{any_so}
+use Rattle.mx_lookups.proofs.NumbersProofs.AnyLemmas.{any_so}
 use Rattle.mx_made.proofs.AnyMadeLemmas.{any_then, due_falls, due_never}
 use Rattle.mx_made.proofs.releases.due_by.Goals as goal
 

@@ -4,9 +4,9 @@ use Rattle.mx_book.specs.due.Due.{IsLife}
 use Rattle.mx_book.specs.Life.{use_or_none}
 use Rattle.mx_book.proofs.LifeLemmas.{life_in_bounds}
 use Rattle.mx_layout.specs.declared.fault.Table.TheVariants as table
-use Rattle.mx_numbers.proofs.ReadLemmas.{refused, told}
+use Rattle.mx_lookups.proofs.NumbersProofs.ReadLemmas.{refused, told}
 use Rattle.mx_made.proofs.ReleaseLemmas.{life_past}
-use Rattle.mx_numbers.proofs.AnyLemmas.{any_so}
+use Rattle.mx_lookups.proofs.NumbersProofs.AnyLemmas.{any_so}
 use Rattle.mx_made.proofs.releases.life_reached.Goals as goal
 
 pub returns-then-is_life-clause-reads : goal.returns-then-is_life-clause-reads

@@ -1,9 +1,9 @@
 use Rattle.std.proofs.Common.{◌∙◌, ap, subst, sym, refl}
 use Rattle.mx_row_rules.specs.changes.Certified.{IsKnownOf}
 use Rattle.mx_row_rules.specs.declared.changes.releases.Certified.TheVariants as certified
-use Rattle.mx_numbers.proofs.ReadLemmas.{reads_then, told}
+use Rattle.mx_lookups.proofs.NumbersProofs.ReadLemmas.{reads_then, told}
 use Rattle.mx_made.specs.Releases.{due_by_kind}
-use Rattle.mx_numbers.proofs.AnyLemmas.{any_so}
+use Rattle.mx_lookups.proofs.NumbersProofs.AnyLemmas.{any_so}
 use Rattle.mx_made.specs.Found.{IsLineFound}
 use Rattle.mx_made.proofs.AnyMadeLemmas.{any_then}
 use Rattle.mx_made.proofs.releases.line_known.Goals as goal

@@ -1,11 +1,11 @@
 use Rattle.std.proofs.Common.{◌∙◌, ap, subst}
 use Rattle.mx_registers.specs.kept.Items.{number_of_item}
 use Rattle.mx_book.specs.Register.{found_of}
-use Rattle.mx_numbers.proofs.ReadLemmas.{reads_then, told}
-use Rattle.mx_numbers.proofs.AnyLemmas.{any_so}
+use Rattle.mx_lookups.proofs.NumbersProofs.ReadLemmas.{reads_then, told}
+use Rattle.mx_lookups.proofs.NumbersProofs.AnyLemmas.{any_so}
 use Rattle.mx_made.specs.Found.{ItemFound, NumberBy}
 use Rattle.mx_made.proofs.AnyMadeLemmas.{any_then}
-use Rattle.mx_numbers.specs.Given.{ItemNumber}
+use Rattle.mx_lookups.specs.numbers.Given.{ItemNumber}
 use Rattle.mx_made.proofs.releases.place_found.Goals as goal
 
 pub returns-clause-reads : goal.returns-clause-reads

@@ -1,7 +1,7 @@
 use Rattle.std.proofs.Common.{◌∙◌, [], ◌∷◌, All, ap, arith, length, length-append, refl, subst, sym}
 use Rattle.std.proofs.lemmas.List.Elements.{All-append, All-cons, All-nil}
 use Rattle.mx_row_rules.specs.changes.Certified.{HasLifeReached}
-use Rattle.mx_numbers.proofs.AnyLemmas.{empty_is}
+use Rattle.mx_lookups.proofs.NumbersProofs.AnyLemmas.{empty_is}
 use Rattle.mx_made.proofs.AnyMadeLemmas.{any_begun, any_ended, any_more}
 use Rattle.mx_made.proofs.ReleaseLemmas.{lines_begun, lines_ended, lines_more, lines_starved, lines_stopped}
 use Rattle.mx_made.proofs.releases.release_known.Goals as goal

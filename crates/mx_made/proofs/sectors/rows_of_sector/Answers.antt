@@ -1,15 +1,15 @@
 use Rattle.std.proofs.Common.{◌∙◌, ap, subst, sym}
 use Rattle.mx_registers.specs.kept.Totals.{numbers_during}
 use Rattle.mx_registers.specs.kept.Spans.{span_rows}
-use Rattle.mx_numbers.proofs.ReadLemmas.{reads_then, stopped, told}
+use Rattle.mx_lookups.proofs.NumbersProofs.ReadLemmas.{reads_then, stopped, told}
 use Rattle.mx_made.proofs.AmongLemmas.{among}
 use Rattle.mx_made.proofs.MadeLemmas.{starved}
 use Rattle.mx_made.proofs.SpanLemmas.{numbers_flown_are, spans_of_aircraft}
-use Rattle.mx_numbers.proofs.AnyLemmas.{any_so}
+use Rattle.mx_lookups.proofs.NumbersProofs.AnyLemmas.{any_so}
 use Rattle.mx_row_rules.specs.changes.Made.{nothing_found}
 use Rattle.mx_made.specs.Found.{AreTotalsOf, numbers_flown}
 use Rattle.mx_made.proofs.AnyMadeLemmas.{any_then, chosen_read}
-use Rattle.mx_numbers.proofs.TableLemmas.{spans}
+use Rattle.mx_lookups.proofs.NumbersProofs.TableLemmas.{spans}
 use Rattle.mx_made.proofs.sectors.rows_of_sector.Goals as goal
 
 pub returns-in_err-spans-clause-reads : goal.returns-in_err-spans-clause-reads

@@ -1,10 +1,10 @@
 use Rattle.std.proofs.Common.{◌∙◌, inl, refl, sym, ap}
 use Rattle.mx_row_rules.specs.found.Names.{aircraft_number, component_number}
 use Rattle.mx_layout.specs.kept.Cells.{kept_aircraft}
-use Rattle.mx_numbers.proofs.AnyLemmas.{any_so, first_kept, gives}
-use Rattle.mx_numbers.proofs.BookRows.{aircraft_of_number, components_of_number}
-use Rattle.mx_numbers.proofs.ReadLemmas.{reads_then, stopped, told}
-use Rattle.mx_numbers.proofs.TableLemmas.{aircraft, components}
+use Rattle.mx_lookups.proofs.NumbersProofs.AnyLemmas.{any_so, first_kept, gives}
+use Rattle.mx_lookups.proofs.NumbersProofs.BookRows.{aircraft_of_number, components_of_number}
+use Rattle.mx_lookups.proofs.NumbersProofs.ReadLemmas.{reads_then, stopped, told}
+use Rattle.mx_lookups.proofs.NumbersProofs.TableLemmas.{aircraft, components}
 use Rattle.mx_made.proofs.TotalLemmas.{aircraft_there, component_there, item_or_none, no_aircraft}
 use Rattle.mx_made.proofs.totals.is_item.Goals as goal
 

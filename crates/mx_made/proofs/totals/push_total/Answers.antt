@@ -3,8 +3,8 @@ use Rattle.std.specs.List.{cons_option}
 use Rattle.std.specs.Prelude.{IfSome}
 use Rattle.std.proofs.lemmas.List.Elements.{All-append, All-cons, All-nil}
 use Rattle.mx_row_rules.specs.changes.Kept.{HasLife}
-use Rattle.mx_numbers.proofs.ReadLemmas.{told}
-use Rattle.mx_numbers.proofs.AnyLemmas.{any_so}
+use Rattle.mx_lookups.proofs.NumbersProofs.ReadLemmas.{told}
+use Rattle.mx_lookups.proofs.NumbersProofs.AnyLemmas.{any_so}
 use Rattle.mx_made.proofs.totals.push_total.Goals as goal
 
 pub returns-in_ok-push-in-Some-clause-reads : goal.returns-in_ok-push-in-Some-clause-reads

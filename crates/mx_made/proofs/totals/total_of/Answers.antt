@@ -3,10 +3,10 @@ use Rattle.std.specs.Prelude.{slice_get}
 use Rattle.mx_base.specs.declared.rows.rows.TotalRow.{TotalRow}
 use Rattle.mx_row_rules.specs.changes.Kept.{HasLife}
 use Rattle.mx_layout.specs.declared.fault.Table.TheVariants as table
-use Rattle.mx_numbers.proofs.AnyLemmas.{any_so, gives}
-use Rattle.mx_numbers.proofs.BookRows.{totals_of}
-use Rattle.mx_numbers.proofs.ReadLemmas.{reads_then, refused, stopped, told}
-use Rattle.mx_numbers.proofs.TableLemmas.{totals}
+use Rattle.mx_lookups.proofs.NumbersProofs.AnyLemmas.{any_so, gives}
+use Rattle.mx_lookups.proofs.NumbersProofs.BookRows.{totals_of}
+use Rattle.mx_lookups.proofs.NumbersProofs.ReadLemmas.{reads_then, refused, stopped, told}
+use Rattle.mx_lookups.proofs.NumbersProofs.TableLemmas.{totals}
 use Rattle.mx_made.proofs.TotalLemmas.{missing_total, no_total, total_first, total_lives, total_past, total_there}
 use Rattle.mx_made.proofs.totals.total_of.Goals as goal
 

@@ -7,13 +7,13 @@ use Rattle.sqlite.specs.declared.transaction.Transaction.{Transaction}
 use Rattle.mx_base.specs.declared.rows.rows.TotalRow.{TotalRow}
 use Rattle.mx_registers.specs.kept.Totals.{is_among, total_rows}
 use Rattle.mx_row_rules.specs.changes.Kept.{HasLife}
-use Rattle.mx_numbers.specs.AnyRows.{ReadsAny}
-use Rattle.mx_numbers.specs.Reads.{Reads}
-use Rattle.mx_numbers.proofs.AnyLemmas.{any_so}
+use Rattle.mx_lookups.specs.numbers.AnyRows.{ReadsAny}
+use Rattle.mx_lookups.specs.numbers.Reads.{Reads}
+use Rattle.mx_lookups.proofs.NumbersProofs.AnyLemmas.{any_so}
 use Rattle.mx_made.specs.Found.{AreTotalsOf}
 use Rattle.mx_made.proofs.AnyMadeLemmas.{any_then}
 use Rattle.mx_made.proofs.AnyTotalLemmas.{again_of, none_of, one_of, there_last}
-use Rattle.mx_numbers.proofs.ReadLemmas.{reads_then, stopped}
+use Rattle.mx_lookups.proofs.NumbersProofs.ReadLemmas.{reads_then, stopped}
 use Rattle.mx_made.proofs.AmongLemmas.{below_next, first_read, none_read, one_read, there_already}
 use Rattle.mx_made.proofs.totals.totals_in_order.Goals.{then-numbers-i+in_ok-push_total-2, else-numbers-i}
 use Rattle.mx_made.proofs.totals.totals_in_order.Goals as goal

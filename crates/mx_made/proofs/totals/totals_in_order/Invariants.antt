@@ -2,8 +2,8 @@ use Rattle.std.proofs.Common.{◌≡◌, ◌≤◌, ℕ, All, Ok, filter, take}
 use Rattle.sqlite.specs.Held.{state}
 use Rattle.mx_registers.specs.kept.Totals.{is_among, total_rows}
 use Rattle.mx_row_rules.specs.changes.Kept.{HasLife}
-use Rattle.mx_numbers.specs.AnyRows.{ReadsAny}
-use Rattle.mx_numbers.specs.Reads.{Reads}
+use Rattle.mx_lookups.specs.numbers.AnyRows.{ReadsAny}
+use Rattle.mx_lookups.specs.numbers.Reads.{Reads}
 use Rattle.mx_made.specs.Found.{AreTotalsOf}
 use Rattle.mx_made.proofs.totals.totals_in_order.Given as goal
 

@@ -1,6 +1,6 @@
 use Rattle.std.proofs.Common.{◌∙◌, ap, subst}
 use Rattle.std.specs.List.Sorted.{IsPermutation}
-use Rattle.mx_numbers.proofs.ReadLemmas.{follows}
+use Rattle.mx_lookups.proofs.NumbersProofs.ReadLemmas.{follows}
 use Rattle.mx_made.proofs.AmongLemmas.{among, in_another_order}
 use Rattle.mx_made.proofs.MadeLemmas.{unasked}
 use Rattle.mx_made.specs.Found.{AreTotalsOf}

@@ -4,7 +4,7 @@ use Rattle.mx_lists.specs.DueList.{due_list}
 use Rattle.mx_rows.specs.Answering.{AnswerListsAs}
 use Rattle.mx_row_lists.proofs.ListStanding.{answer_lists_as}
 use Rattle.mx_rows.proofs.ViewLemmas.{asked_any, asked_then, asked_damage}
-use Rattle.mx_numbers.proofs.ToldLemmas.{handed}
+use Rattle.mx_lookups.proofs.NumbersProofs.ToldLemmas.{handed}
 use Rattle.mx_rows.specs.Damage.{by_aircraft, by_judge, ListDamage}
 use Rattle.mx_row_lists.proofs.listing.due_rows.Goals as goal
 

@@ -1,5 +1,5 @@
 use Rattle.std.proofs.Common.{◌∙◌, ok_or, ap, ap₂}
-use Rattle.mx_numbers.proofs.ReadLemmas.{told}
+use Rattle.mx_lookups.proofs.NumbersProofs.ReadLemmas.{told}
 use Rattle.mx_row_lists.proofs.listing.life.Goals as goal
 
 pub returns-clause-reads : goal.returns-clause-reads

@@ -3,7 +3,7 @@ use Rattle.mx_book.specs.Judge.{judge}
 use Rattle.mx_rows.specs.Answering.{AnswerAs}
 use Rattle.mx_rows.proofs.StandingLemmas.{answer_as}
 use Rattle.mx_rows.proofs.ViewLemmas.{asked_any, asked_then, asked_damage}
-use Rattle.mx_numbers.proofs.ToldLemmas.{handed}
+use Rattle.mx_lookups.proofs.NumbersProofs.ToldLemmas.{handed}
 use Rattle.mx_rows.specs.Damage.{by_entry_count, JudgeDamage}
 use Rattle.mx_rows.proofs.judging.judge_by_rows.Goals as goal
 

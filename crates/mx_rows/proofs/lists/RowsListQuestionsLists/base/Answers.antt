@@ -2,7 +2,7 @@ use Rattle.std.proofs.Common.{refl}
 use Rattle.mx_book.specs.Base.{base}
 use Rattle.mx_rows.specs.Answering.{AnswerListsAs}
 use Rattle.mx_rows.proofs.ViewLemmas.{answers_by}
-use Rattle.mx_numbers.proofs.ToldLemmas.{told_as}
+use Rattle.mx_lookups.proofs.NumbersProofs.ToldLemmas.{told_as}
 use Rattle.mx_rows.specs.Damage.{ListDamage, by_base}
 use Rattle.mx_rows.proofs.lists.RowsListQuestionsLists.base.Goals as goal
 

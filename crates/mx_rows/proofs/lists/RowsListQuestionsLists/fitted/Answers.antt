@@ -3,7 +3,7 @@ use Rattle.std.specs.declared.alloc.Global.{Global}
 use Rattle.mx_lists.specs.Fitted.{fitted_on}
 use Rattle.mx_rows.specs.Answering.{AnswerListsAs}
 use Rattle.mx_rows.proofs.ListLemmas.{gives_list, gives_none}
-use Rattle.mx_numbers.proofs.ToldLemmas.{told_as}
+use Rattle.mx_lookups.proofs.NumbersProofs.ToldLemmas.{told_as}
 use Rattle.mx_rows.specs.Damage.{ListDamage, by_fitted}
 use Rattle.mx_rows.proofs.lists.RowsListQuestionsLists.fitted.Goals as goal
 

@@ -4,7 +4,7 @@ use Rattle.mx_book.specs.declared.defects.Defect.{Defect}
 use Rattle.mx_book.specs.Defect.{open_defects}
 use Rattle.mx_rows.specs.Answering.{AnswerListsAs}
 use Rattle.mx_rows.proofs.ListLemmas.{gives_list, gives_none}
-use Rattle.mx_numbers.proofs.ToldLemmas.{told_as}
+use Rattle.mx_lookups.proofs.NumbersProofs.ToldLemmas.{told_as}
 use Rattle.mx_rows.specs.Damage.{ListDamage, by_open_defects}
 use Rattle.mx_rows.proofs.lists.RowsListQuestionsLists.open_defects.Goals as goal
 

@@ -4,7 +4,7 @@ use Rattle.mx_book.specs.declared.commands.programme.Task.{Task}
 use Rattle.mx_book.specs.Programme.{tasks_or_none}
 use Rattle.mx_rows.specs.Answering.{AnswerListsAs}
 use Rattle.mx_rows.proofs.ListLemmas.{gives_list, gives_none}
-use Rattle.mx_numbers.proofs.ToldLemmas.{told_as}
+use Rattle.mx_lookups.proofs.NumbersProofs.ToldLemmas.{told_as}
 use Rattle.mx_rows.specs.Damage.{ListDamage, by_tasks}
 use Rattle.mx_rows.proofs.lists.RowsListQuestionsLists.tasks.Goals as goal
 

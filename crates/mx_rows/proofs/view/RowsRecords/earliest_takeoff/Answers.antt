@@ -2,7 +2,7 @@ use Rattle.std.proofs.Common.{refl}
 use Rattle.mx_book.specs.declared.commands.item.Item.TheVariants.{Airframe}
 use Rattle.mx_book.specs.Judge.{earliest_takeoff}
 use Rattle.mx_rows.proofs.ViewLemmas.{answers_by}
-use Rattle.mx_numbers.proofs.ToldLemmas.{told_as}
+use Rattle.mx_lookups.proofs.NumbersProofs.ToldLemmas.{told_as}
 use Rattle.mx_rows.specs.Damage.{by_clock}
 use Rattle.mx_rows.proofs.view.RowsRecords.earliest_takeoff.Goals as goal
 

@@ -3,11 +3,11 @@ use Rattle.std.specs.Prelude.{Some, length}
 use Rattle.mx_layout.specs.kept.Cells.{kept_entry}
 use Rattle.mx_table_rows.specs.chosen.Choices.{backward, is_any}
 use Rattle.mx_row_rules.specs.found.Names.{last_number}
-use Rattle.mx_numbers.specs.AnyRows.{GivesFirst}
-use Rattle.mx_numbers.proofs.AnyLemmas.{silent}
-use Rattle.mx_numbers.proofs.ReadLemmas.{stopped}
+use Rattle.mx_lookups.specs.numbers.AnyRows.{GivesFirst}
+use Rattle.mx_lookups.proofs.NumbersProofs.AnyLemmas.{silent}
+use Rattle.mx_lookups.proofs.NumbersProofs.ReadLemmas.{stopped}
 use Rattle.mx_rows.proofs.ViewLemmas.{answers_by}
-use Rattle.mx_numbers.proofs.ToldLemmas.{handed}
+use Rattle.mx_lookups.proofs.NumbersProofs.ToldLemmas.{handed}
 use Rattle.mx_rows.specs.Damage.{by_entry_count}
 use Rattle.mx_rows.proofs.view.RowsRecords.entry_count.Goals as goal
 

@@ -3,7 +3,7 @@ use Rattle.std.specs.Option.{option_map}
 use Rattle.mx_book.specs.Asking.{known_same}
 use Rattle.mx_book.specs.Judge.{known_from}
 use Rattle.mx_rows.proofs.ViewLemmas.{answers_by}
-use Rattle.mx_numbers.proofs.ToldLemmas.{told_as}
+use Rattle.mx_lookups.proofs.NumbersProofs.ToldLemmas.{told_as}
 use Rattle.mx_rows.specs.Damage.{by_known}
 use Rattle.mx_rows.proofs.view.RowsRecords.known.Goals as goal
 

@@ -1,7 +1,7 @@
 use Rattle.std.proofs.Common.{refl}
 use Rattle.mx_book.specs.Register.{part_at}
 use Rattle.mx_rows.proofs.ViewLemmas.{answers_by}
-use Rattle.mx_numbers.proofs.ToldLemmas.{told_as}
+use Rattle.mx_lookups.proofs.NumbersProofs.ToldLemmas.{told_as}
 use Rattle.mx_rows.specs.Damage.{by_part_at}
 use Rattle.mx_rows.proofs.view.RowsRecords.part_at.Goals as goal
 

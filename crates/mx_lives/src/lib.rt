@@ -1,7 +1,0 @@
-//! Lives, last bases and tasks in force by rows: the look-ups that the judge, the lists and the making of rows have in common.
-//! Each promises what the look-ups of `mx_numbers` do, with which it begins, and ends by their faults.
-#![tactic(auto)]
-
-pub mod lives;
-pub mod programmes;
-pub mod work;

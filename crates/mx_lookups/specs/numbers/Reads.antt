@@ -1,0 +1,37 @@
+-- What look-ups inside a transaction answer, and what they leave.
+use Rattle.std.specs.Prelude.{◌≡◌, ◌⊎◌, List, Result, Err, IsTrue, IfOk, IfErr}
+use Rattle.sqlite.specs.State.{State, HasCleanDisk}
+use Rattle.mx_book.specs.commands.Act.{Entry}
+use Rattle.mx_base.specs.declared.point.Point.{Point}
+use Rattle.mx_base.specs.Settled.{settled}
+use Rattle.mx_layout.specs.TableName.{TableName}
+use Rattle.mx_layout.specs.declared.fault.TableFault.{TableFault}
+use Rattle.mx_layout.specs.declared.fault.TableFault.TheVariants.{Memory, Store, Damaged}
+use Rattle.mx_layout.specs.Crash.{StaysInside, IsWithin}
+use Rattle.mx_tables.specs.Calls.{OnRead}
+use Rattle.mx_book_tables.specs.stands.Schemas.{schema_at}
+use Rattle.mx_book_tables.specs.stands.Stands.{HasRowsAt}
+use Rattle.mx_lookups.specs.numbers.Damage.{IsDamaged}
+
+-- the point at which rows are looked up
+abbrev pub rows_point : Point
+rows_point = settled 2
+
+-- a transaction is at that point, and its tables have the rows of the book
+pub record StandsFor (s : State) (book : List Entry) : Type 0 where
+  pub schema : s.now.schema ≡ schema_at rows_point
+  pub rows : HasRowsAt rows_point s.now.trees book
+
+-- want of memory, the store, or a table that is damaged
+abbrev pub IsStop : TableFault → Type 0
+IsStop e = (e ≡ Memory) ⊎ ((e ≡ Store) ⊎ ((name : TableName) × (e ≡ Damaged name)))
+
+-- Rows were looked up inside a transaction, from one state to the next. What is answered is so of the book that the tables stand for, and where they stand for one no table is damaged; over any rows a table is told damaged only where it is; nothing changed; or want of memory or the store stopped the call.
+pub record Reads {V : Type 0} (Is : List Entry → V → Type 0) (old new : State) (result : Result V TableFault) : Type 0 where
+  pub read : HasCleanDisk new → (book : List Entry) → StandsFor old book → IfOk result (Is book)
+  pub cause : IfErr result IsStop
+  pub no_book : HasCleanDisk new → (name : TableName) → result ≡ Err (Damaged name) → (book : List Entry) → StandsFor old book → ⊥
+  pub damaged : HasCleanDisk new → old.now.schema ≡ schema_at rows_point → (name : TableName) → result ≡ Err (Damaged name) → IsDamaged name old.now.trees
+  pub unchanged : HasCleanDisk new → old.now.schema ≡ schema_at rows_point → OnRead result (new.now ≡ old.now)
+  pub inside : HasCleanDisk new → IsTrue old.in_transaction → OnRead result (StaysInside old new)
+  pub within : IsWithin old new
