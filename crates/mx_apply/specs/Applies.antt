@@ -22,7 +22,7 @@ use Rattle.mx_tables.specs.inserts.Sets.{GainsRows}
 use Rattle.mx_lookups.specs.numbers.Damage.{IsDamaged}
 use Rattle.mx_lookups.specs.numbers.Reads.{IsStop}
 use Rattle.mx_made.specs.Found.{AreRowsFor}
-use Rattle.mx_rows.specs.Answering.{AnswerAs}
+use Rattle.mx_row_judge.specs.Answering.{AnswerAs}
 use Rattle.mx_writing.specs.Changes.{AllRise}
 use Rattle.mx_writing.specs.Commits.{IsWritten, MayWrite}
 use Rattle.mx_writing.specs.Written.{IsSettled, with_rows, written_point}

@@ -9,8 +9,8 @@ use mx_book::commands::Command;
 use mx_book::{Refusal, Verdict};
 use mx_layout::TableFault;
 use mx_made::rows_of_command;
+use mx_row_judge::judging::judge_by_rows;
 use mx_row_rules::changes::CommandRows;
-use mx_rows::judging::judge_by_rows;
 use sqlite::{Alter, Transaction};
 use std::alloc::Global;
 

@@ -3,7 +3,7 @@ ghost use Rattle.std.specs.Prelude.{◌≡◌, false};
 
 use crate::fault::fault_text;
 use mx_cases::{Unmade, command_of, verdict_text};
-use mx_rows::judging::judge_by_rows;
+use mx_row_judge::judging::judge_by_rows;
 use sqlite::{Alter, Connection};
 use std::alloc::Global;
 

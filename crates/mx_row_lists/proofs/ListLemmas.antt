@@ -16,9 +16,9 @@ use Rattle.mx_lookups.specs.numbers.Reads.{Reads}
 use Rattle.mx_lookups.specs.numbers.Told.{Damage}
 use Rattle.mx_lookups.proofs.NumbersProofs.ReadLemmas.{no_memory, told}
 use Rattle.mx_row_lists.specs.Listing.{answered}
-use Rattle.mx_rows.specs.View.{Asks, AskedOn, IsAny, SharesWith, StoppedOn, held, rows_reading}
-use Rattle.mx_rows.specs.declared.view.Rows.{Rows}
-use Rattle.mx_rows.proofs.ViewLemmas.{unasked}
+use Rattle.mx_row_judge.specs.View.{Asks, AskedOn, IsAny, SharesWith, StoppedOn, held, rows_reading}
+use Rattle.mx_row_judge.specs.declared.view.Rows.{Rows}
+use Rattle.mx_row_judge.proofs.ViewLemmas.{unasked}
 
 -- memory runs out behind questions, if any
 starved : {S : Type 0} (g : Ghosts S) (Of : Damage) (old new : Held S) → AskedOn g old new → StoppedOn g Of old new Memory

@@ -23,15 +23,15 @@ use Rattle.mx_row_rules.specs.found.Names.{serial_in, doc_in, doc_at}
 use Rattle.mx_row_rules.specs.found.Spans.{is_open_at, place_said}
 use Rattle.mx_row_rules.proofs.FoundProofs.FoundLemmas.{serial_numbered}
 use Rattle.mx_row_rules.proofs.FoundProofs.LifeLemmas.{base_is, no_base}
-use Rattle.mx_rows.specs.Answering.{Only, AnswerListsAs}
+use Rattle.mx_row_judge.specs.Answering.{Only, AnswerListsAs}
 use Rattle.mx_lookups.specs.numbers.AnyRows.{AreSaid}
 use Rattle.mx_lookups.specs.numbers.Given.{BaseOf, DocIfOpen, DocOfNumber, FittedTo, OpenDefects, OpenSaid, PlaceSaid, TasksInForce}
 use Rattle.mx_lookups.specs.numbers.Reads.{rows_point}
 use Rattle.mx_lookups.proofs.LivesProofs.InForceLemmas.{tasks_found}
 use Rattle.mx_lookups.proofs.NumbersProofs.LookupLemmas.{is_open_at-cells}
 use Rattle.mx_lookups.proofs.NumbersProofs.TableLemmas.{components, deferrals, entries, spans}
-use Rattle.mx_rows.proofs.GivenLemmas.{by_number, given, item_number, looked, tail_number}
-use Rattle.mx_rows.proofs.StandingLemmas.{answer_as, based, in_force, lived, rectified_there}
+use Rattle.mx_row_judge.proofs.GivenLemmas.{by_number, given, item_number, looked, tail_number}
+use Rattle.mx_row_judge.proofs.StandingLemmas.{answer_as, based, in_force, lived, rectified_there}
 use Rattle.mx_book.specs.Base.{base}
 use Rattle.mx_lists.specs.Fitted.{fitted_on}
 use Rattle.mx_row_rules.proofs.FoundProofs.FittedLemmas.{none_fitted, place_of, places_found}

@@ -1,2 +1,2 @@
 pub mod Listing
-pub use Rattle.mx_rows.specs.Answering
+pub use Rattle.mx_row_judge.specs.Answering

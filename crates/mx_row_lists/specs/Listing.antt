@@ -12,7 +12,7 @@ use Rattle.mx_layout.specs.declared.fault.TableFault.TheVariants.{Memory}
 use Rattle.mx_lists.specs.declared.stop.Stop.{Stop}
 use Rattle.mx_lists.specs.declared.stop.Stop.TheVariants.{NoMemory, Fault}
 use Rattle.mx_lookups.specs.numbers.Given.{LifeOf}
-use Rattle.mx_rows.specs.Answering.{AnswerListsAs}
+use Rattle.mx_row_judge.specs.Answering.{AnswerListsAs}
 
 -- the list, the refusal of an unknown aircraft where there is none, or what stopped it: want of memory is one of the faults of look-ups
 abbrev pub answered : {X : Type 0} → Result (Option X) (Stop TableFault) → Result (Result X Refusal) TableFault

@@ -4,7 +4,7 @@ ghost use Rattle.sqlite.specs.Tree.{Trees};
 ghost use Rattle.mx_book.specs.commands.Act.{Entry};
 ghost use Rattle.mx_book_tables.specs.stands.Stands.{HasRowsAt};
 ghost use Rattle.mx_lookups.specs.numbers.Reads.{rows_point};
-ghost use Rattle.mx_rows.specs.Answering.{AnswerListsAs};
+ghost use Rattle.mx_row_judge.specs.Answering.{AnswerListsAs};
 
 /// Tables that stand for a book answer each question of the judge and of the lists as it does: what is said of rows that
 /// answer as a book is said of them.

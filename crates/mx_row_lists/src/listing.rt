@@ -10,9 +10,9 @@ ghost use Rattle.mx_lists.specs.Lists.{life_list};
 ghost use Rattle.mx_lookups.specs.numbers.AnyRows.{ReadsAny};
 ghost use Rattle.mx_lookups.specs.numbers.Reads.{Reads};
 ghost use Rattle.mx_lookups.specs.numbers.Told.{TellsDamage, TotalDamage};
-ghost use Rattle.mx_rows.specs.Answering.{AnswerListsAs};
-ghost use Rattle.mx_rows.specs.Damage.{ListDamage};
-ghost use Rattle.mx_rows.specs.View.{Asks};
+ghost use Rattle.mx_row_judge.specs.Answering.{AnswerListsAs};
+ghost use Rattle.mx_row_judge.specs.Damage.{ListDamage};
+ghost use Rattle.mx_row_judge.specs.View.{Asks};
 ghost use Rattle.mx_row_lists.specs.Listing.{answered, unknown, LifeAnswered, ListOf};
 
 use mx_base::{Day, Tail, Use};
@@ -25,8 +25,8 @@ use mx_lists::{
 };
 use mx_lookups::lives::lives;
 use mx_lookups::numbers::items::aircraft_number;
-use mx_rows::questions::ListQuestions;
-use mx_rows::view::Rows;
+use mx_row_judge::questions::ListQuestions;
+use mx_row_judge::view::Rows;
 use sqlite::{Alter, Transaction};
 use std::alloc::Global;
 

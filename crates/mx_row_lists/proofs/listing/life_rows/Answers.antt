@@ -1,11 +1,11 @@
 use Rattle.std.proofs.Common.{◌≡◌, ok_or}
 use Rattle.mx_book.specs.declared.verdict.Refusal.TheVariants.{UnknownAircraft}
 use Rattle.mx_lists.specs.Lists.{life_list}
-use Rattle.mx_rows.specs.Answering.{AnswerListsAs}
+use Rattle.mx_row_judge.specs.Answering.{AnswerListsAs}
 use Rattle.mx_row_lists.proofs.ListStanding.{answer_lists_as}
-use Rattle.mx_rows.proofs.ViewLemmas.{asked_any, asked_then, asked_damage}
+use Rattle.mx_row_judge.proofs.ViewLemmas.{asked_any, asked_then, asked_damage}
 use Rattle.mx_lookups.proofs.NumbersProofs.ToldLemmas.{handed}
-use Rattle.mx_rows.specs.Damage.{by_aircraft, by_judge, ListDamage}
+use Rattle.mx_row_judge.specs.Damage.{by_aircraft, by_judge, ListDamage}
 use Rattle.mx_row_lists.proofs.listing.life_rows.Goals as goal
 
 pub returns-clause-reads : goal.returns-clause-reads

@@ -1,10 +1,10 @@
 use Rattle.std.proofs.Common.{◌≡◌, ok_or, sym, subst}
 use Rattle.mx_book.specs.declared.verdict.Refusal.TheVariants.{UnknownAircraft}
 use Rattle.mx_lists.specs.Lists.{life_list}
-use Rattle.mx_rows.specs.Answering.{AnswerListsAs}
-use Rattle.mx_rows.specs.View.{Asks, held}
+use Rattle.mx_row_judge.specs.Answering.{AnswerListsAs}
+use Rattle.mx_row_judge.specs.View.{Asks, held}
 use Rattle.mx_row_lists.proofs.ListLemmas.{list_asks, list_shares}
-use Rattle.mx_rows.specs.Damage.{ListDamage}
+use Rattle.mx_row_judge.specs.Damage.{ListDamage}
 use Rattle.mx_row_lists.proofs.listing.lives_of_rows.Goals as goal
 
 pub returns-clause-same_tx : goal.returns-clause-same_tx

@@ -1,7 +1,0 @@
-use Rattle.std.proofs.Common.{◌∙◌, ap}
-use Rattle.mx_row_rules.specs.found.Given.{line_row}
-use Rattle.mx_lookups.proofs.NumbersProofs.AnyLemmas.{any_so}
-use Rattle.mx_known.proofs.releases.line_row.Goals as goal
-
-pub returns-clause-any_rows : goal.returns-clause-any_rows
-returns-clause-any_rows g c = any_so _ _ _ _ _ _ (λ trees first. (c.in_ok-number.number, first, c.release_line_row.ensures.row ∙ ap (λ n. line_row c.args.seq c.args.line n c.args.certified.now) c.or_zero.ensures)) c.in_ok-number.ensures.any_rows

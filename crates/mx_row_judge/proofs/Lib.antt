@@ -1,0 +1,7 @@
+pub mod ViewLemmas
+pub mod ListLemmas
+pub mod BaseLemmas
+pub mod GivenLemmas
+pub mod KnownStanding
+pub mod StandingLemmas
+pub mod KnownProofs

@@ -1,0 +1,12 @@
+use Rattle.std.proofs.Common.{refl}
+use Rattle.mx_book.specs.Register.{component}
+use Rattle.mx_row_judge.proofs.ViewLemmas.{answers_by}
+use Rattle.mx_lookups.proofs.NumbersProofs.ToldLemmas.{told_as}
+use Rattle.mx_row_judge.specs.Damage.{by_component}
+use Rattle.mx_row_judge.proofs.view.RowsRecords.component.Goals as goal
+
+pub returns : goal.returns
+returns g c =
+    answers_by g.S.Store g.Q.Questions.answers_as g.Q.Questions.damage (λ book. component book c.args.serial.now) _ _ _ _ (λ trees book answers. (g.Q.Questions.judged_as trees book answers).component c.args.serial.now)
+    (record { tx = refl; conn = c.component.ensures.same_reference }) c.component.ensures.reads c.component.ensures.any_rows
+    (told_as (λ name trees it. g.Q.Questions.told_by_judge name trees (by_component c.args.serial.now it)) c.component.ensures.damage)

@@ -1,0 +1,4 @@
+pub mod Answering
+pub mod Damage
+pub mod View
+pub mod known

@@ -1,0 +1,72 @@
+//! The judge, asked inside a transaction.
+ghost use Rattle.std.specs.Prelude.{◌≡◌};
+ghost use Rattle.sqlite.specs.Held.{state};
+ghost use Rattle.mx_book.specs.Judge.{judge};
+ghost use Rattle.mx_lookups.specs.numbers.AnyRows.{ReadsAny};
+ghost use Rattle.mx_lookups.specs.numbers.Reads.{Reads};
+ghost use Rattle.mx_lookups.specs.numbers.Told.{TellsDamage};
+ghost use Rattle.mx_row_judge.specs.Answering.{AnswerAs, VerdictOf};
+ghost use Rattle.mx_row_judge.specs.Damage.{JudgeDamage};
+ghost use Rattle.mx_row_judge.specs.View.{Asks};
+
+use crate::questions::JudgeQuestions;
+use crate::view::Rows;
+use mx_book::Verdict;
+use mx_book::commands::Command;
+use mx_book::judging::verdict_on;
+use mx_layout::TableFault;
+use mx_lookups::numbers::entries::entry_count;
+use sqlite::{Alter, Transaction};
+use std::alloc::Global;
+
+// The one judge, asked of rows.
+fn verdict_of_rows<S: Alter>(
+    rows: &mut Rows<'_, '_, S, JudgeQuestions>,
+    command: &Command,
+) -> Result<Verdict, TableFault>
+    ensures same_tx { rows.new.tx.ghost_name ≡ rows.old.tx.ghost_name }
+    ensures same_conn { rows.new.tx.now.conn.ghost_name ≡ rows.old.tx.now.conn.ghost_name }
+    ensures asks { Asks S.Store AnswerAs JudgeDamage
+        (λ book verdict. verdict ≡ judge book command.now)
+        rows.old.tx.now.conn.now rows.new.tx.now.conn.now result }
+{
+    verdict_on(rows, command)
+}
+
+// The same, inside a transaction.
+fn verdict_inside<S: Alter>(
+    alloc: Global,
+    tx: &mut Transaction<'_, S>,
+    command: &Command,
+) -> Result<Verdict, TableFault>
+    ensures same_reference { tx.new.conn.ghost_name ≡ tx.old.conn.ghost_name }
+    ensures asks { Asks S.Store AnswerAs JudgeDamage
+        (λ book verdict. verdict ≡ judge book command.now)
+        tx.old.conn.now tx.new.conn.now result }
+{
+    let mut rows = Rows {
+        alloc,
+        tx,
+        questions: JudgeQuestions,
+    };
+    verdict_of_rows(&mut rows, command)
+}
+
+/// The verdict on a command, judged by the rows that a transaction shows. It asks how many entries there are, and then what
+/// judging asks, each by the rows that have what is asked for: a row that no question finds is not looked at.
+pub fn judge_by_rows<S: Alter>(
+    alloc: Global,
+    tx: &mut Transaction<'_, S>,
+    command: &Command,
+) -> Result<Verdict, TableFault>
+    ensures same_reference { tx.new.conn.ghost_name ≡ tx.old.conn.ghost_name }
+    ensures reads { Reads (λ book verdict. verdict ≡ judge book command.now)
+        (state S.Store tx.old.conn.now) (state S.Store tx.new.conn.now) result }
+    ensures any_rows { ReadsAny (VerdictOf command.now)
+        (state S.Store tx.old.conn.now) (state S.Store tx.new.conn.now) result }
+    ensures damage { TellsDamage JudgeDamage
+        (state S.Store tx.old.conn.now) (state S.Store tx.new.conn.now) result }
+{
+    entry_count(alloc, tx)?;
+    verdict_inside(alloc, tx, command)
+}

@@ -1,0 +1,157 @@
+//! Whether the entry with a number loads a programme, states an opening, defers a defect or extends its interval, by its rows.
+ghost use Rattle.std.specs.Prelude.{◌≡◌, ◌≤◌, ◌∷◌, [], length};
+ghost use Rattle.sqlite.specs.Held.{state};
+ghost use Rattle.mx_book.specs.commands.Act.{Deferred, Extended, Loaded, Opened};
+ghost use Rattle.mx_book.specs.declared.commands.programme_shape.TheConstants.{MOST_TASKS};
+ghost use Rattle.mx_registers.specs.Lines.{lines_from};
+ghost use Rattle.mx_registers.specs.Registers.{programme_row, task_row};
+ghost use Rattle.mx_layout.specs.kept.Cells.{kept_programme, kept_task};
+ghost use Rattle.mx_row_rules.specs.found.Given as registers;
+ghost use Rattle.mx_lookups.specs.numbers.AnyRows.{ReadsAny};
+ghost use Rattle.mx_row_judge.specs.known.Known.{AreRows, RowsDamage, Says, SaysDamage, Tells, TellsRows};
+ghost use Rattle.mx_lookups.specs.numbers.Reads.{Reads};
+ghost use Rattle.mx_lookups.specs.numbers.Told.{TellsDamage};
+
+use crate::known::lines::task_rows;
+use mx_book::commands::{Deferral, Extension, Opening, Programme, Task};
+use mx_layout::TableFault;
+use mx_lookups::numbers::entries::defect_number;
+use mx_lookups::numbers::items::{aircraft_number, item_number};
+use mx_registers::{deferral_row, extension_row, opening_row, or_zero, programme_row};
+use mx_row_rules::found::same::{
+    are_same_deferrals, are_same_extensions, are_same_openings, are_same_programmes, are_same_tasks,
+};
+use mx_table_rows::chosen::defects::{defect_by_seq, extension_by_seq};
+use mx_table_rows::chosen::programmes::{programme_by_seq, task_by_seq};
+use mx_table_rows::chosen::works::opening_by_seq;
+use sqlite::{Alter, Transaction};
+use std::alloc::Global;
+use std::slice;
+
+// Whether the row of the programme that the entry with a number loads is that of this one.
+fn is_programme_row<S: Alter>(
+    alloc: Global,
+    tx: &mut Transaction<'_, S>,
+    seq: u32,
+    programme: Programme,
+) -> Result<bool, TableFault>
+    ensures same_reference { tx.new.conn.ghost_name ≡ tx.old.conn.ghost_name }
+    ensures reads { Reads
+        (TellsRows registers.programmes seq (λ book. programme_row seq programme ∷ []))
+        (state S.Store tx.old.conn.now) (state S.Store tx.new.conn.now) result }
+    ensures any_rows { ReadsAny (AreRows kept_programme seq (programme_row seq programme ∷ []))
+        (state S.Store tx.old.conn.now) (state S.Store tx.new.conn.now) result }
+    ensures damage { TellsDamage (RowsDamage kept_programme seq)
+        (state S.Store tx.old.conn.now) (state S.Store tx.new.conn.now) result }
+{
+    let rows = programme_by_seq(alloc, tx, seq)?;
+    let row = programme_row(seq, programme);
+    Ok(are_same_programmes(&rows, slice::from_ref(&row)))
+}
+
+// Whether the rows of the tasks of the entry with a number are those of these.
+fn are_tasks<S: Alter>(
+    alloc: Global,
+    tx: &mut Transaction<'_, S>,
+    seq: u32,
+    tasks: &[Task],
+) -> Result<bool, TableFault>
+    requires { length tasks.now ≤ MOST_TASKS }
+    ensures same_reference { tx.new.conn.ghost_name ≡ tx.old.conn.ghost_name }
+    ensures reads { Reads
+        (TellsRows registers.tasks seq (λ book. lines_from task_row seq 1 tasks.now))
+        (state S.Store tx.old.conn.now) (state S.Store tx.new.conn.now) result }
+    ensures any_rows { ReadsAny (AreRows kept_task seq (lines_from task_row seq 1 tasks.now))
+        (state S.Store tx.old.conn.now) (state S.Store tx.new.conn.now) result }
+    ensures damage { TellsDamage (RowsDamage kept_task seq)
+        (state S.Store tx.old.conn.now) (state S.Store tx.new.conn.now) result }
+{
+    let rows = task_by_seq(alloc, tx, seq)?;
+    let given = task_rows(alloc, seq, tasks)?;
+    Ok(are_same_tasks(&rows, &given))
+}
+
+// Whether the entry with a number loads this programme with these tasks.
+pub(crate) fn is_programme<S: Alter>(
+    alloc: Global,
+    tx: &mut Transaction<'_, S>,
+    seq: u32,
+    programme: Programme,
+    tasks: &[Task],
+) -> Result<bool, TableFault>
+    requires { length tasks.now ≤ MOST_TASKS }
+    ensures same_reference { tx.new.conn.ghost_name ≡ tx.old.conn.ghost_name }
+    ensures reads { Reads (Tells seq (Loaded programme tasks.now))
+        (state S.Store tx.old.conn.now) (state S.Store tx.new.conn.now) result }
+    ensures any_rows { ReadsAny (Says seq (Loaded programme tasks.now))
+        (state S.Store tx.old.conn.now) (state S.Store tx.new.conn.now) result }
+    ensures damage { TellsDamage (SaysDamage seq (Loaded programme tasks.now))
+        (state S.Store tx.old.conn.now) (state S.Store tx.new.conn.now) result }
+{
+    let same = is_programme_row(alloc, tx, seq, programme)?;
+    let on_lines = are_tasks(alloc, tx, seq, tasks)?;
+    Ok(same && on_lines)
+}
+
+// Whether the entry with a number states this opening.
+pub(crate) fn is_opening<S: Alter>(
+    alloc: Global,
+    tx: &mut Transaction<'_, S>,
+    seq: u32,
+    opening: Opening,
+) -> Result<bool, TableFault>
+    ensures same_reference { tx.new.conn.ghost_name ≡ tx.old.conn.ghost_name }
+    ensures reads { Reads (Tells seq (Opened opening))
+        (state S.Store tx.old.conn.now) (state S.Store tx.new.conn.now) result }
+    ensures any_rows { ReadsAny (Says seq (Opened opening))
+        (state S.Store tx.old.conn.now) (state S.Store tx.new.conn.now) result }
+    ensures damage { TellsDamage (SaysDamage seq (Opened opening))
+        (state S.Store tx.old.conn.now) (state S.Store tx.new.conn.now) result }
+{
+    let found = item_number(alloc, tx, &opening.item)?;
+    let rows = opening_by_seq(alloc, tx, seq)?;
+    let row = opening_row(seq, or_zero(found), opening);
+    Ok(are_same_openings(&rows, slice::from_ref(&row)))
+}
+
+// Whether the entry with a number defers this defect.
+pub(crate) fn is_deferral<S: Alter>(
+    alloc: Global,
+    tx: &mut Transaction<'_, S>,
+    seq: u32,
+    deferral: Deferral,
+) -> Result<bool, TableFault>
+    ensures same_reference { tx.new.conn.ghost_name ≡ tx.old.conn.ghost_name }
+    ensures reads { Reads (Tells seq (Deferred deferral))
+        (state S.Store tx.old.conn.now) (state S.Store tx.new.conn.now) result }
+    ensures any_rows { ReadsAny (Says seq (Deferred deferral))
+        (state S.Store tx.old.conn.now) (state S.Store tx.new.conn.now) result }
+    ensures damage { TellsDamage (SaysDamage seq (Deferred deferral))
+        (state S.Store tx.old.conn.now) (state S.Store tx.new.conn.now) result }
+{
+    let found = aircraft_number(alloc, tx, &deferral.tail)?;
+    let rows = defect_by_seq(alloc, tx, seq)?;
+    let row = deferral_row(seq, or_zero(found), deferral);
+    Ok(are_same_deferrals(&rows, slice::from_ref(&row)))
+}
+
+// Whether the entry with a number extends this interval.
+pub(crate) fn is_extension<S: Alter>(
+    alloc: Global,
+    tx: &mut Transaction<'_, S>,
+    seq: u32,
+    extension: Extension,
+) -> Result<bool, TableFault>
+    ensures same_reference { tx.new.conn.ghost_name ≡ tx.old.conn.ghost_name }
+    ensures reads { Reads (Tells seq (Extended extension))
+        (state S.Store tx.old.conn.now) (state S.Store tx.new.conn.now) result }
+    ensures any_rows { ReadsAny (Says seq (Extended extension))
+        (state S.Store tx.old.conn.now) (state S.Store tx.new.conn.now) result }
+    ensures damage { TellsDamage (SaysDamage seq (Extended extension))
+        (state S.Store tx.old.conn.now) (state S.Store tx.new.conn.now) result }
+{
+    let found = defect_number(alloc, tx, &extension.defect)?;
+    let rows = extension_by_seq(alloc, tx, seq)?;
+    let row = extension_row(seq, or_zero(found), extension);
+    Ok(are_same_extensions(&rows, slice::from_ref(&row)))
+}

@@ -1,6 +1,0 @@
-pub mod ViewLemmas
-pub mod ListLemmas
-pub mod BaseLemmas
-pub mod GivenLemmas
-pub mod KnownStanding
-pub mod StandingLemmas

@@ -1,8 +1,0 @@
-//! Judging by rows. `Rows` is a transaction as records of which any question of the judge and of a list is asked, each by one
-//! look-up; `judge_by_rows` is the verdict on a command by them.
-#![tactic(auto)]
-
-pub mod judging;
-pub mod lists;
-pub mod questions;
-pub mod view;
