@@ -20,9 +20,9 @@ use Rattle.mx_tables.specs.Calls.{OnDamaged, OnRead}
 use Rattle.mx_lookups.specs.numbers.AnyRows.{ReadsAny}
 use Rattle.mx_lookups.specs.numbers.Damage.{IsDamaged}
 use Rattle.mx_lookups.specs.numbers.Reads.{IsStop, Reads, StandsFor}
-use Rattle.mx_entries.specs.Damage.{ReadsOr, Refuses}
-use Rattle.mx_row_lists.specs.Answering.{AnswerListsAs}
-use Rattle.mx_row_lists.specs.Listing.{unknown, LifeAnswered}
+use Rattle.mx_row_questions.specs.entries.Damage.{ReadsOr, Refuses}
+use Rattle.mx_row_questions.specs.lists.Answering.{AnswerListsAs}
+use Rattle.mx_row_questions.specs.lists.Listing.{unknown, LifeAnswered}
 use Rattle.mx_apply.specs.Applies.{IsNoDamage}
 use Rattle.mx_office.specs.Faults.{call_answer, fault_from, found_or, question_answer, IsAnswer}
 use Rattle.mx_office.specs.Looks.{LooksUp, IsFound, IsFoundIn}

@@ -11,7 +11,7 @@ use Rattle.mx_layout.specs.declared.fault.TableFault.TheVariants as table
 use Rattle.mx_faults.specs.declared.fault.Ask.TheVariants.{Refused, Failed}
 use Rattle.mx_faults.specs.declared.fault.Fault.TheVariants as fault
 use Rattle.mx_faults.specs.declared.fault.OpenFault.TheVariants as unopened
-use Rattle.mx_row_lists.specs.Listing.{unknown}
+use Rattle.mx_row_questions.specs.lists.Listing.{unknown}
 use Rattle.mx_office.specs.Faults.{call_answer, fault_from, found_or, open_answer, open_fault_from, question_answer}
 use Rattle.mx_book_tables.specs.stands.Family.{rows_given}
 use Rattle.mx_office.specs.Layout.{office_point}

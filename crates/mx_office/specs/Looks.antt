@@ -11,7 +11,7 @@ use Rattle.mx_layout.specs.Crash.{ChangesNothing}
 use Rattle.mx_tables.specs.Calls.{OnRead}
 use Rattle.mx_lookups.specs.numbers.Damage.{IsDamaged}
 use Rattle.mx_lookups.specs.numbers.Reads.{IsStop}
-use Rattle.mx_row_lists.specs.Answering.{AnswerListsAs}
+use Rattle.mx_row_questions.specs.lists.Answering.{AnswerListsAs}
 use Rattle.mx_apply.specs.Applies.{IsNoDamage}
 use Rattle.mx_office.specs.Layout.{office_schema}
 use Rattle.mx_office.specs.Stands.{Rests}

@@ -5,7 +5,7 @@ use Rattle.sqlite.specs.State.{HasCleanDisk}
 use Rattle.mx_book.specs.commands.Act.{Entry}
 use Rattle.mx_layout.specs.TableName.{TableName}
 use Rattle.mx_lookups.specs.numbers.Damage.{IsDamaged}
-use Rattle.mx_row_lists.specs.Answering.{AnswerListsAs}
+use Rattle.mx_row_questions.specs.lists.Answering.{AnswerListsAs}
 use Rattle.mx_faults.specs.declared.fault.Ask.{Ask}
 use Rattle.mx_faults.specs.declared.fault.Ask.TheVariants.{Failed}
 use Rattle.mx_faults.specs.declared.fault.Fault.{Fault}

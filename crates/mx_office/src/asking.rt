@@ -3,23 +3,23 @@ ghost use Rattle.std.specs.Prelude.{◌≡◌, ◌⊎◌, false};
 ghost use Rattle.sqlite.specs.Held.{state};
 ghost use Rattle.mx_book.specs.Book.{entries_from};
 ghost use Rattle.mx_book.specs.Life.{life_now};
-ghost use Rattle.mx_entries.specs.Damage.{IsSkipped};
-ghost use Rattle.mx_entries.specs.Entries.{AreEntries};
+ghost use Rattle.mx_row_questions.specs.entries.Damage.{IsSkipped};
+ghost use Rattle.mx_row_questions.specs.entries.Entries.{AreEntries};
 ghost use Rattle.mx_lists.specs.DueList.{due_list};
 ghost use Rattle.mx_lists.specs.Forecast.{forecast};
 ghost use Rattle.mx_lists.specs.LimitList.{limits};
 ghost use Rattle.mx_lists.specs.Lists.{life_list};
 ghost use Rattle.mx_lookups.specs.numbers.Damage.{IsDamaged};
-ghost use Rattle.mx_row_lists.specs.Listing.{unknown, LifeAnswered};
+ghost use Rattle.mx_row_questions.specs.lists.Listing.{unknown, LifeAnswered};
 ghost use Rattle.mx_office.specs.Looks.{Finds, IsFound, LooksUp};
 
 use mx_base::{Day, Tail, Use};
 use mx_book::Refusal;
 use mx_book::commands::{Command, Item};
-use mx_entries::entries::entries;
 use mx_layout::TableFault;
 use mx_lists::{DueList, ForecastList, LifeList, LimitList};
-use mx_row_lists::listing::{due_rows, forecast_rows, life, life_rows, limits_rows};
+use mx_row_questions::entries::entries::entries;
+use mx_row_questions::lists::listing::{due_rows, forecast_rows, life, life_rows, limits_rows};
 use sqlite::{Alter, Connection};
 use std::alloc::Global;
 

@@ -3,15 +3,15 @@ ghost use Rattle.std.specs.Prelude.{◌≡◌, ◌⊎◌, IfOk, MatchResult, Som
 ghost use Rattle.sqlite.specs.State.{HasCleanDisk};
 ghost use Rattle.mx_book.specs.Book.{entries_from};
 ghost use Rattle.mx_book.specs.Life.{life_now};
-ghost use Rattle.mx_entries.specs.Damage.{IsSkipped};
-ghost use Rattle.mx_entries.specs.Entries.{AreEntries};
+ghost use Rattle.mx_row_questions.specs.entries.Damage.{IsSkipped};
+ghost use Rattle.mx_row_questions.specs.entries.Entries.{AreEntries};
 ghost use Rattle.mx_lists.specs.DueList.{due_list};
 ghost use Rattle.mx_lists.specs.Forecast.{forecast};
 ghost use Rattle.mx_lists.specs.LimitList.{limits};
 ghost use Rattle.mx_lists.specs.Lists.{life_list};
 ghost use Rattle.mx_lookups.specs.numbers.Damage.{IsDamaged};
 ghost use Rattle.mx_lookups.specs.numbers.Given.{LifeOf};
-ghost use Rattle.mx_row_lists.specs.Listing.{unknown};
+ghost use Rattle.mx_row_questions.specs.lists.Listing.{unknown};
 ghost use Rattle.mx_office.specs.Calls.{stop_asking, stop_in, IsAsked};
 ghost use Rattle.mx_office.specs.Faults.{found_or};
 ghost use Rattle.mx_office.specs.Layout.{office_schema};

@@ -7,7 +7,7 @@ use mx_book::Refusal;
 use mx_book::commands::Item;
 use mx_layout::TableFault;
 use mx_lists::{DueList, ForecastList, LifeList, LimitList};
-use mx_row_lists::listing::{due_rows, forecast_rows, life, life_rows, limits_rows};
+use mx_row_questions::lists::listing::{due_rows, forecast_rows, life, life_rows, limits_rows};
 use sqlite::{Alter, Connection};
 use std::alloc::Global;
 

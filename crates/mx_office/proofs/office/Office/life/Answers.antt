@@ -1,5 +1,5 @@
 use Rattle.mx_book.specs.Life.{life_now}
-use Rattle.mx_row_lists.specs.Listing.{unknown}
+use Rattle.mx_row_questions.specs.lists.Listing.{unknown}
 use Rattle.mx_office.specs.Office.{office_state}
 use Rattle.mx_office.proofs.LookLemmas.{life_says, question_answered}
 use Rattle.mx_office.proofs.office.Office.life.Goals as goal

@@ -1,5 +1,0 @@
-use Rattle.mx_row_lists.proofs.ListStanding.{answer_lists_as}
-use Rattle.mx_row_lists.proofs.laws.tables_answer_as_their_book.Goals as goal
-
-pub returns : goal.returns
-returns c = answer_lists_as

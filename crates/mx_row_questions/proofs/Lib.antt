@@ -1,0 +1,2 @@
+pub mod EntriesProofs
+pub mod ListsProofs
