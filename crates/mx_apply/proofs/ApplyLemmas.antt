@@ -25,9 +25,9 @@ use Rattle.mx_tables.specs.Calls.{OnRead}
 use Rattle.mx_tables.specs.inserts.Sets.{GainsRows, IsInside}
 use Rattle.mx_lookups.specs.numbers.AnyRows.{ReadsAny}
 use Rattle.mx_lookups.specs.numbers.Reads.{IsStop, Reads, StandsFor}
-use Rattle.mx_writing.specs.Changes.{AllRise, WritesRows}
-use Rattle.mx_writing.specs.Written.{IsSettled, with_rows, written_point}
-use Rattle.mx_writing.proofs.StandLemmas.{stand}
+use Rattle.mx_apply.specs.writing.Changes.{AllRise, WritesRows}
+use Rattle.mx_apply.specs.writing.Written.{IsSettled, with_rows, written_point}
+use Rattle.mx_apply.proofs.WritingProofs.StandLemmas.{stand}
 use Rattle.mx_apply.specs.Applies.{IsNoDamage, ReplyOf, Runs, Wrote, behind}
 use Rattle.mx_apply.specs.Judged.{IsJudged, JudgedOf}
 use Rattle.mx_apply.specs.declared.judged.Judged.{Judged}

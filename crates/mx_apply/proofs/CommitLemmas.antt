@@ -25,7 +25,7 @@ use Rattle.mx_book_tables.specs.stands.Stands.{IsEither, RestsAt, StandsAt}
 use Rattle.mx_book_tables.proofs.StandsProofs.SchemaLemmas.{has_tables}
 use Rattle.mx_tables.specs.Calls.{OnDamaged, OnRead}
 use Rattle.mx_tables.specs.inserts.Sets.{GainsRows}
-use Rattle.mx_writing.specs.Written.{IsSettled, with_rows, written_point}
+use Rattle.mx_apply.specs.writing.Written.{IsSettled, with_rows, written_point}
 use Rattle.mx_apply.specs.Applies.{Applies, HasOneCommit, IsNoDamage, Runs, behind}
 
 -- the tables of a file that is settled are in its schema

@@ -23,12 +23,12 @@ use Rattle.mx_layout.specs.kept.Cells.{kept_entry, kept_aircraft, kept_place, ke
 use Rattle.mx_layout.specs.kept.Family.{on_top}
 use Rattle.mx_layout.specs.kept.Kept.{Kept}
 use Rattle.mx_table_rows.specs.chosen.Choices.{has_value}
-use Rattle.mx_made.specs.Found.{AreRowsFor, AreTotalsOf, numbers_given}
-use Rattle.mx_made.specs.Totals.{TotalOf}
+use Rattle.mx_apply.specs.made.Found.{AreRowsFor, AreTotalsOf, numbers_given}
+use Rattle.mx_apply.specs.made.Totals.{TotalOf}
 use Rattle.mx_row_rules.proofs.ChangesProofs.TouchLemmas.{raised_item}
-use Rattle.mx_writing.specs.Changes.{all_in_place, in_place}
-use Rattle.mx_writing.specs.Written.{is_same_base, is_same_span, is_same_total, with_added, with_rows}
-use Rattle.mx_writing.proofs.CellLemmas.{other_table}
+use Rattle.mx_apply.specs.writing.Changes.{all_in_place, in_place}
+use Rattle.mx_apply.specs.writing.Written.{is_same_base, is_same_span, is_same_total, with_added, with_rows}
+use Rattle.mx_apply.proofs.WritingProofs.CellLemmas.{other_table}
 use Rattle.mx_apply.specs.Named.{IsNamed, IsNumbered, numbers_ended}
 
 false_of : (b : Bool) → (b ≡ true → ⊥) → b ≡ false

@@ -1,3 +1,5 @@
 pub mod ApplyLemmas
 pub mod CommitLemmas
 pub mod LeftLemmas
+pub mod MadeProofs
+pub mod WritingProofs

@@ -21,11 +21,11 @@ use Rattle.mx_tables.specs.Calls.{OnRead}
 use Rattle.mx_tables.specs.inserts.Sets.{GainsRows}
 use Rattle.mx_lookups.specs.numbers.Damage.{IsDamaged}
 use Rattle.mx_lookups.specs.numbers.Reads.{IsStop}
-use Rattle.mx_made.specs.Found.{AreRowsFor}
+use Rattle.mx_apply.specs.made.Found.{AreRowsFor}
 use Rattle.mx_row_judge.specs.Answering.{AnswerAs}
-use Rattle.mx_writing.specs.Changes.{AllRise}
-use Rattle.mx_writing.specs.Commits.{IsWritten, MayWrite}
-use Rattle.mx_writing.specs.Written.{IsSettled, with_rows, written_point}
+use Rattle.mx_apply.specs.writing.Changes.{AllRise}
+use Rattle.mx_apply.specs.writing.Commits.{IsWritten, MayWrite}
+use Rattle.mx_apply.specs.writing.Written.{IsSettled, with_rows, written_point}
 
 -- the book behind the reply to a command: with it where it was accepted
 abbrev pub behind : List Entry → Entry → Reply → List Entry

@@ -6,7 +6,7 @@ use Rattle.mx_book.specs.Judge.{judge}
 use Rattle.mx_book.specs.declared.verdict.Verdict.TheVariants as verdicts
 use Rattle.mx_row_rules.specs.changes.Rows.{AreCommandRows}
 use Rattle.mx_book.specs.declared.verdict.Verdict.{Verdict}
-use Rattle.mx_made.specs.Found.{AreRowsFor}
+use Rattle.mx_apply.specs.made.Found.{AreRowsFor}
 use Rattle.mx_row_judge.specs.Answering.{AnswerAs}
 use Rattle.mx_apply.specs.declared.judged.Judged.{Judged}
 use Rattle.mx_apply.specs.declared.judged.Judged.TheVariants.{New, Already, Refused}

@@ -1,3 +1,5 @@
 pub mod Judged
 pub mod Applies
 pub mod Named
+pub mod made
+pub mod writing

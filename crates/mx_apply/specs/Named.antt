@@ -8,8 +8,8 @@ use Rattle.mx_layout.specs.TableName.{TableName}
 use Rattle.mx_layout.specs.declared.fault.Table.TheVariants as table
 use Rattle.mx_table_rows.specs.chosen.Choices.{has_value}
 use Rattle.mx_row_rules.specs.changes.Made.{Findings, bases_made}
-use Rattle.mx_made.specs.Found.{numbers_given}
-use Rattle.mx_writing.specs.Written.{is_same_base}
+use Rattle.mx_apply.specs.made.Found.{numbers_given}
+use Rattle.mx_apply.specs.writing.Written.{is_same_base}
 
 -- the first column of the row has one of the numbers
 abbrev pub IsNumbered : List ℕ → Row → Type 0

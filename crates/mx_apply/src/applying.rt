@@ -5,10 +5,10 @@ ghost use Rattle.sqlite.specs.State.{Survives};
 ghost use Rattle.mx_apply.specs.Applies.{Applies, HasOneCommit, Runs};
 
 use crate::judged::{Judged, verdict_and_rows};
+use crate::writing::write_rows;
 use mx_book::Reply;
 use mx_book::commands::Command;
 use mx_layout::TableFault;
-use mx_writing::write_rows;
 use sqlite::{Alter, Connection, Transaction};
 use std::alloc::Global;
 

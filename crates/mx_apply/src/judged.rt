@@ -5,10 +5,10 @@ ghost use Rattle.mx_lookups.specs.numbers.AnyRows.{ReadsAny};
 ghost use Rattle.mx_lookups.specs.numbers.Reads.{Reads};
 ghost use Rattle.mx_apply.specs.Judged.{IsJudged, JudgedOf};
 
+use crate::made::rows_of_command;
 use mx_book::commands::Command;
 use mx_book::{Refusal, Verdict};
 use mx_layout::TableFault;
-use mx_made::rows_of_command;
 use mx_row_judge::judging::judge_by_rows;
 use mx_row_rules::changes::CommandRows;
 use sqlite::{Alter, Transaction};

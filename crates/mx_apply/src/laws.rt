@@ -7,8 +7,8 @@ ghost use Rattle.mx_row_rules.specs.declared.changes.rows.CommandRows.{CommandRo
 ghost use Rattle.mx_layout.specs.Contents.{rows_in};
 ghost use Rattle.mx_layout.specs.Names.{table_named};
 ghost use Rattle.mx_layout.specs.TableName.{TableName};
-ghost use Rattle.mx_made.specs.Found.{AreRowsFor};
-ghost use Rattle.mx_writing.specs.Written.{with_rows};
+ghost use Rattle.mx_apply.specs.made.Found.{AreRowsFor};
+ghost use Rattle.mx_apply.specs.writing.Written.{with_rows};
 ghost use Rattle.mx_apply.specs.Named.{IsNamed};
 
 /// A row of any table that the rules of a command do not name is there behind it as it was, whatever rows there are.

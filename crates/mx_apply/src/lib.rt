@@ -13,5 +13,7 @@
 pub mod applying;
 pub mod judged;
 pub mod laws;
+pub mod made;
+pub mod writing;
 
 pub use applying::apply;

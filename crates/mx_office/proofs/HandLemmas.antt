@@ -17,7 +17,7 @@ use Rattle.mx_layout.specs.Crash.{ChangesNothing}
 use Rattle.mx_layout.specs.declared.fault.TableFault.{TableFault}
 use Rattle.mx_layout.specs.declared.fault.TableFault.TheVariants as table
 use Rattle.mx_tables.specs.Calls.{OnRead}
-use Rattle.mx_writing.specs.Changes.{AllRise}
+use Rattle.mx_apply.specs.writing.Changes.{AllRise}
 use Rattle.mx_apply.specs.Applies.{HasOneCommit, behind}
 use Rattle.mx_office.specs.Calls.{replies_in, stop_in, HandsIn, RunsOver}
 use Rattle.mx_office.specs.Faults.{call_answer, fault_from}

@@ -10,8 +10,8 @@ use Rattle.mx_book.specs.declared.verdict.Reply.TheVariants.{Accepted, Already, 
 use Rattle.mx_layout.specs.TableName.{TableName}
 use Rattle.mx_layout.specs.declared.fault.TableFault.{TableFault}
 use Rattle.mx_layout.specs.declared.fault.TableFault.TheVariants as table
-use Rattle.mx_writing.specs.Changes.{AllRise}
-use Rattle.mx_writing.proofs.RowLemmas.{rise_then}
+use Rattle.mx_apply.specs.writing.Changes.{AllRise}
+use Rattle.mx_apply.proofs.WritingProofs.RowLemmas.{rise_then}
 use Rattle.mx_apply.specs.Applies.{IsIdle, IsNoDamage, ReplyOf}
 use Rattle.mx_office.specs.Faults.{fault_from}
 use Rattle.mx_office.specs.Layout.{office_schema}

@@ -13,10 +13,10 @@ use Rattle.mx_layout.specs.Names.{table_named}
 use Rattle.mx_book_tables.specs.stands.Family.{is_at}
 use Rattle.mx_tables.specs.inserts.Sets.{GainsRows}
 use Rattle.mx_lookups.specs.numbers.Damage.{IsDamaged}
-use Rattle.mx_writing.specs.Changes.{AllRise}
-use Rattle.mx_writing.specs.Commits.{IsWritten}
-use Rattle.mx_writing.specs.Written.{with_rows}
-use Rattle.mx_made.specs.Found.{AreRowsFor}
+use Rattle.mx_apply.specs.writing.Changes.{AllRise}
+use Rattle.mx_apply.specs.writing.Commits.{IsWritten}
+use Rattle.mx_apply.specs.writing.Written.{with_rows}
+use Rattle.mx_apply.specs.made.Found.{AreRowsFor}
 use Rattle.mx_apply.specs.Applies.{AreItsRows, ReplyOf}
 use Rattle.mx_office.specs.Layout.{office_point, office_schema}
 use Rattle.mx_faults.specs.declared.fault.Fault.{Fault}

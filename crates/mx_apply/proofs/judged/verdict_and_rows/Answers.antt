@@ -1,7 +1,7 @@
 use Rattle.std.proofs.Common.{◌∙◌, sym}
 use Rattle.mx_lookups.proofs.NumbersProofs.AnyLemmas.{any_so}
 use Rattle.mx_lookups.proofs.NumbersProofs.ReadLemmas.{reads_then, told}
-use Rattle.mx_made.proofs.AnyMadeLemmas.{any_then}
+use Rattle.mx_apply.proofs.MadeProofs.AnyMadeLemmas.{any_then}
 use Rattle.mx_apply.proofs.judged.verdict_and_rows.Goals as goal
 
 pub returns-in_ok-rows-in-New-clause-reads : goal.returns-in_ok-rows-in-New-clause-reads
