@@ -21,7 +21,7 @@ use Rattle.mx_faults.specs.Moving.{fault_from}
 use Rattle.mx_migrate.specs.Steps.{CommitsStep, LeavesOneBook}
 use Rattle.mx_faults.specs.declared.moving.MoveFault.{MoveFault}
 use Rattle.mx_faults.specs.declared.moving.MoveFault.TheVariants as stop
-use Rattle.mx_derived.specs.declared.kept.KeptRows.{KeptRows}
+use Rattle.mx_verify.specs.declared.derived.kept.KeptRows.{KeptRows}
 use Rattle.mx_settle.specs.Advances.{Advances, AdvancesBook, IsStepOf}
 use Rattle.mx_settle.specs.Choices.{Chooses, GoesOn, IsUnfit, LiesIn, StandsIn}
 use Rattle.mx_settle.specs.Due.{IsDueAt, IsFor, IsOffFor, MakesBy}

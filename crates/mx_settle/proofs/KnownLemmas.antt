@@ -23,11 +23,11 @@ use Rattle.mx_book_tables.proofs.StandsProofs.RowLemmas.{readable_stored}
 use Rattle.mx_book_tables.proofs.StandsProofs.SchemaLemmas.{has_tables}
 use Rattle.mx_tables.specs.Calls.{OnDamaged}
 use Rattle.mx_tables.specs.inserts.Sets.{IsDamaged, ReadsTables}
-use Rattle.mx_derived.specs.Kept.{AreKeptOf}
+use Rattle.mx_verify.specs.derived.Kept.{AreKeptOf}
 use Rattle.mx_registers.specs.file.Tables.{AreRegistersIn}
-use Rattle.mx_derived.specs.declared.kept.KeptRows.{KeptRows}
-use Rattle.mx_derived.specs.declared.kept.Unkept.{Unkept}
-use Rattle.mx_derived.specs.declared.kept.Unkept.TheVariants as why
+use Rattle.mx_verify.specs.declared.derived.kept.KeptRows.{KeptRows}
+use Rattle.mx_verify.specs.declared.derived.kept.Unkept.{Unkept}
+use Rattle.mx_verify.specs.declared.derived.kept.Unkept.TheVariants as why
 use Rattle.mx_registers.specs.declared.file.file_rows.FileRows.{FileRows}
 use Rattle.mx_book_tables.specs.reading.Damage.{table_of}
 use Rattle.mx_book_tables.specs.reading.Stored.{AreRegisters, HasRegisters}

@@ -17,7 +17,7 @@ use Rattle.mx_layout.specs.Crash.{Leaves}
 use Rattle.mx_book_tables.specs.stands.Schemas.{IsOfFile, schema_at}
 use Rattle.mx_book_tables.specs.stands.Stands.{RestsAt, StandsAt}
 use Rattle.mx_faults.specs.declared.moving.MoveFault.{MoveFault}
-use Rattle.mx_derived.specs.declared.kept.KeptRows.{KeptRows}
+use Rattle.mx_verify.specs.declared.derived.kept.KeptRows.{KeptRows}
 use Rattle.mx_settle.specs.Advances.{Advances, AdvancesBook, AreMoved, IsStepOf, LeadsTo}
 use Rattle.mx_settle.specs.Due.{IsFor, MakesBy}
 use Rattle.mx_settle.specs.Items.{Knows}

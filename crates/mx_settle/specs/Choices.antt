@@ -29,9 +29,9 @@ use Rattle.mx_book_tables.specs.stands.Stands.{LiesAt, StandsAt}
 use Rattle.mx_tables.specs.Calls.{OnRead}
 use Rattle.mx_tables.specs.inserts.Sets.{IsDamaged}
 use Rattle.mx_registers.specs.file.Tables.{AreRegistersIn}
-use Rattle.mx_derived.specs.declared.kept.KeptRows.{KeptRows}
-use Rattle.mx_derived.specs.declared.kept.Unkept.{Unkept}
-use Rattle.mx_derived.specs.declared.kept.Unkept.TheVariants as why
+use Rattle.mx_verify.specs.declared.derived.kept.KeptRows.{KeptRows}
+use Rattle.mx_verify.specs.declared.derived.kept.Unkept.{Unkept}
+use Rattle.mx_verify.specs.declared.derived.kept.Unkept.TheVariants as why
 use Rattle.mx_registers.specs.declared.file.file_rows.FileRows.{FileRows}
 use Rattle.mx_book_tables.specs.reading.Damage.{table_of}
 use Rattle.mx_book_tables.specs.reading.Stored.{AreRegisters}

@@ -6,8 +6,8 @@ use Rattle.mx_book.specs.Book.{IsBook}
 use Rattle.mx_book.specs.declared.limits.TheConstants.{MOST_ENTRIES}
 use Rattle.mx_base.specs.declared.rows.rows.BaseRow.{BaseRow}
 use Rattle.mx_base.specs.declared.rows.rows.TotalRow.{TotalRow}
-use Rattle.mx_derived.specs.Kept.{AreKeptOf}
-use Rattle.mx_derived.specs.declared.kept.KeptRows.{KeptRows}
+use Rattle.mx_verify.specs.derived.Kept.{AreKeptOf}
+use Rattle.mx_verify.specs.declared.derived.kept.KeptRows.{KeptRows}
 use Rattle.mx_settle.specs.declared.due.Due.{Due}
 use Rattle.mx_settle.specs.declared.due.Due.TheVariants as due
 

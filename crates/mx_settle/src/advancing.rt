@@ -12,9 +12,9 @@ use crate::choosing::next_due;
 use crate::fault::fault_of;
 use crate::place::place;
 use mx_base::Point;
-use mx_derived::KeptRows;
 use mx_faults::MoveFault;
 use mx_migrate::commit_step;
+use mx_verify::derived::KeptRows;
 use sqlite::{Alter, Connection};
 use std::alloc::Global;
 

@@ -11,9 +11,9 @@ use crate::items::{bases_by, total_by};
 use crate::known::kept_known;
 use crate::place::NEWEST_LAYOUT;
 use mx_base::Point;
-use mx_derived::KeptRows;
 use mx_layout::TableFault;
 use mx_migrate::{ChangeToSpans, ChangeToTotals, CreateSectors, MoveComponent, MoveSectors};
+use mx_verify::derived::KeptRows;
 use sqlite::{Alter, Connection, Transaction};
 use std::alloc::Global;
 

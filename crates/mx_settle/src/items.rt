@@ -4,9 +4,9 @@ ghost use Rattle.mx_settle.specs.Items.{next_total, total_by, IsBasesBy};
 
 use crate::due::Due;
 use mx_base::rows::{BaseRow, TotalRow};
-use mx_derived::KeptRows;
 use mx_migrate::{CreateBases, Finish, WriteBases, WriteTotal};
 use mx_registers::points::LAST_MARK;
+use mx_verify::derived::KeptRows;
 use std::alloc::{AllocError, Global};
 
 // The total of the next item behind a mark, if there is one: no item has a number that no entry can have.

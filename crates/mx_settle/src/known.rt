@@ -6,8 +6,8 @@ ghost use Rattle.mx_settle.specs.Choices.{fault_by, FindsKept};
 
 use crate::numbers::late_table;
 use mx_book_tables::reading::{register_rows, table_of};
-use mx_derived::{KeptRows, Unkept, kept_rows};
 use mx_layout::{Table, TableFault};
+use mx_verify::derived::{KeptRows, Unkept, kept_rows};
 use sqlite::{Alter, Transaction};
 use std::alloc::Global;
 

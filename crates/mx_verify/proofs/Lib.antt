@@ -1,2 +1,5 @@
 pub mod ListedLemmas
 pub mod TellLemmas
+pub mod DerivedProofs
+pub mod MergedProofs
+pub mod VerifiedProofs

@@ -15,12 +15,12 @@ use Rattle.mx_layout.specs.declared.fault.TableFault.TheVariants as fault
 use Rattle.mx_layout.specs.Point.{IsStop}
 use Rattle.mx_book_tables.specs.stands.Family.{is_at}
 use Rattle.mx_book_tables.specs.stands.Stands.{HasRowsAt}
-use Rattle.mx_merged.specs.Merging.{merging}
+use Rattle.mx_verify.specs.merged.Merging.{merging}
 use Rattle.mx_registers.specs.file.Tables.{AreFilePut, AreTablesOf}
-use Rattle.mx_merged.specs.declared.merged.NoBook.TheVariants as no_book
+use Rattle.mx_verify.specs.declared.merged.merged.NoBook.TheVariants as no_book
 use Rattle.mx_registers.specs.declared.file.file_rows.FileRows.{FileRows}
-use Rattle.mx_verified.specs.declared.verified.Unverified.{Unverified}
-use Rattle.mx_verified.specs.declared.verified.Unverified.TheVariants as why
+use Rattle.mx_verify.specs.declared.verified.verified.Unverified.{Unverified}
+use Rattle.mx_verify.specs.declared.verified.verified.Unverified.TheVariants as why
 use Rattle.mx_book_tables.specs.reading.Layout.{verified_point}
 use Rattle.mx_book_tables.specs.reading.Damage.{HasBadRow, IsCause, table_of}
 use Rattle.mx_verify.specs.Damage.{IsDamaged, IsUndamaged}

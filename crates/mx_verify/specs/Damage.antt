@@ -5,9 +5,9 @@ use Rattle.mx_base.specs.declared.rows.rows.EntryKind.{EntryKind}
 use Rattle.mx_registers.specs.Left.{all_rows}
 use Rattle.mx_layout.specs.TableName.{TableName}
 use Rattle.mx_layout.specs.Tables.{office}
-use Rattle.mx_merged.specs.Merging.{merging}
+use Rattle.mx_verify.specs.merged.Merging.{merging}
 use Rattle.mx_registers.specs.file.Tables.{AreFilePut}
-use Rattle.mx_merged.specs.declared.merged.NoBook.TheVariants as no_book
+use Rattle.mx_verify.specs.declared.merged.merged.NoBook.TheVariants as no_book
 use Rattle.mx_registers.specs.declared.file.file_rows.FileRows.{FileRows}
 use Rattle.mx_book_tables.specs.reading.Damage.{HasBadRow, IsOfficeRead, table_of}
 use Rattle.mx_book_tables.specs.reading.Stored.{AreStored}

@@ -13,8 +13,8 @@ use Rattle.mx_layout.specs.Point.{IsStop}
 use Rattle.mx_book_tables.specs.stands.Schemas.{schema_at}
 use Rattle.mx_book_tables.specs.stands.Stands.{HasRowsAt}
 use Rattle.mx_tables.specs.Calls.{OnRead}
-use Rattle.mx_verified.specs.declared.verified.Unverified.{Unverified}
-use Rattle.mx_verified.specs.declared.verified.Unverified.TheVariants as why
+use Rattle.mx_verify.specs.declared.verified.verified.Unverified.{Unverified}
+use Rattle.mx_verify.specs.declared.verified.verified.Unverified.TheVariants as why
 use Rattle.mx_book_tables.specs.reading.Layout.{HasTables, verified_point}
 use Rattle.mx_book_tables.specs.reading.Damage.{IsCause, table_of}
 use Rattle.mx_verify.specs.Damage.{IsDamaged, IsUndamaged}

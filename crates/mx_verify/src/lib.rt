@@ -3,9 +3,12 @@
 //! transaction of its own, and looks at the tables that the file lists as well.
 #![tactic(auto)]
 
+pub mod derived;
 pub mod laws;
 mod listed;
+pub mod merged;
 pub mod told;
+pub mod verified;
 pub mod verifying;
 
 pub use verifying::{verify, verify_in};

@@ -2,9 +2,9 @@
 ghost use Rattle.std.specs.Prelude.{◌≡◌};
 ghost use Rattle.mx_verify.specs.Verifies.{fault_by, told_file, told_rows};
 
+use crate::verified::Unverified;
 use mx_book_tables::reading::table_of;
 use mx_layout::TableFault;
-use mx_verified::Unverified;
 
 // Why it was not found out, as the fault of a table.
 fn fault_by(why: Unverified) -> TableFault

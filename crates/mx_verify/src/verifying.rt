@@ -13,9 +13,9 @@ ghost use Rattle.mx_verify.specs.Verifies.{HasBook, IsVerified, Tells, Verifies}
 
 use crate::listed::{has_no_other, lacks_any};
 use crate::told::{told_file, told_rows};
+use crate::verified::verify_tables;
 use mx_book_tables::reading::{is_at_point, read_rows};
 use mx_layout::TableFault;
-use mx_verified::verify_tables;
 use sqlite::{Alter, Connection, Transaction};
 use std::alloc::Global;
 

@@ -1,0 +1,53 @@
+-- A map of the tasks of items that have rows.
+use Rattle.std.proofs.Common.{refl, sym, ap, ◌∙◌, ◌≡◌, ℕ, List, [], ◌∷◌, ◌++◌, Bool, true, false, cond, ◌&&◌, ◌||◌, Option, Some, None, nat_eq, arith}
+use Rattle.std.specs.Prelude.{nat_lt, unwrap_or}
+use Rattle.std.specs.BTreeMap.{BTreeMap, get, is_at, IsEmpty, Updates}
+use Rattle.std.specs.Map.{lookup}
+use Rattle.std.specs.Ordering.{is_eq, nat_cmp}
+use Rattle.std.specs.declared.cmp.Ordering.TheVariants.{Less, Equal, Greater}
+use Rattle.std.specs.Cmp.Lexicographic.{slice_cmp}
+use Rattle.std.proofs.lemmas.Bool.Decides.{nat_tests}
+use Rattle.std.proofs.lemmas.List.Folds.{list_any-append}
+use Rattle.mx_book.specs.commands.Same.{same_text}
+use Rattle.mx_base.specs.declared.rows.rows.BaseRow.{BaseRow}
+use Rattle.mx_registers.specs.kept.Bases.{is_keyed}
+use Rattle.mx_indexed_book.proofs.MapsProofs.MapLemmas.{tie}
+use Rattle.mx_indexed_book.proofs.MapsProofs.PlaceLemmas.{then_eq}
+use Rattle.mx_verify.specs.merged.Keys.{AreKeys, key_cmp}
+
+-- the order of numbers tells the same number
+pub tie_number : (n m : ℕ) → is_eq (nat_cmp n m) ≡ nat_eq n m
+tie_number n m = at (nat_lt n m) (nat_eq n m) (λ h. grind (arith, nat_tests))
+  where
+    at : (less same : Bool) → (less ≡ true → same ≡ false) → is_eq (cond less Less (cond same Equal Greater)) ≡ same
+    at true same h = sym (h refl)
+    at false true h = refl
+    at false false h = refl
+
+tie_key : (n : ℕ) (task : List ℕ) (m : ℕ) (id : List ℕ) → is_eq (key_cmp (n, task) (m, id)) ≡ nat_eq n m && same_text task id
+tie_key n task m id = then_eq (nat_cmp n m) (slice_cmp nat_cmp task id) ∙ ap (λ c. c && is_eq (slice_cmp nat_cmp task id)) (tie_number n m) ∙ ap (λ c. nat_eq n m && c) (tie task id)
+
+-- a map behind the key of one row more has the keys of the rows with it
+pub keys_more : (rows : List BaseRow) (row : BaseRow) (keys more : BTreeMap (ℕ × List ℕ) Bool) → Updates key_cmp keys more (row.item, row.task) (Some true) → AreKeys rows keys → AreKeys (rows ++ row ∷ []) more
+keys_more rows row keys more updates are = λ number id.
+    ap (λ o. unwrap_or o false) (updates.0 (number, id))
+    ∙ put (is_eq (key_cmp (row.item, row.task) (number, id))) (get key_cmp keys (number, id))
+    ∙ ap (λ c. unwrap_or (get key_cmp keys (number, id)) false || c) (tie_key row.item row.task number id ∙ sym (or_false (is_keyed number id row)))
+    ∙ ap (λ c. c || (is_keyed number id row || false)) (are number id)
+    ∙ sym (list_any-append (is_keyed number id) rows (row ∷ []))
+  where
+    put : (c : Bool) (o : Option Bool) → unwrap_or (cond c (Some true) o) false ≡ unwrap_or o false || c
+    put true None = refl
+    put true (Some true) = refl
+    put true (Some false) = refl
+    put false None = refl
+    put false (Some true) = refl
+    put false (Some false) = refl
+
+    or_false : (c : Bool) → c || false ≡ c
+    or_false true = refl
+    or_false false = refl
+
+-- an empty map has the keys of no rows
+pub keys_of_none : (keys : BTreeMap (ℕ × List ℕ) Bool) → IsEmpty keys → AreKeys [] keys
+keys_of_none keys empty = λ number id. ap (λ entries. unwrap_or (lookup (is_at (key_cmp (number, id))) entries) false) empty

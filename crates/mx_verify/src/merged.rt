@@ -1,0 +1,8 @@
+//! The book that the registers of a file give, beside maps, or why they give none; and beside maps too the totals of a book, and
+//! of which tasks rows of last bases are.
+
+pub mod merged;
+pub mod totals;
+
+pub use merged::{NoBook, merge_beside_maps};
+pub use totals::total_rows;
