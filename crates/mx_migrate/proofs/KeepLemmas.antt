@@ -21,8 +21,8 @@ use Rattle.mx_moves.specs.Schemas.{IsFree}
 use Rattle.mx_moves.proofs.AlterLemmas.{turns_new}
 use Rattle.mx_moves.proofs.RowLemmas.{alters_then, rows_alter, turns_same}
 use Rattle.mx_moves.proofs.TableTexts.{total2_new}
-use Rattle.mx_steps.specs.Tables.{table_made}
-use Rattle.mx_steps.specs.Written.{bases_written, total_written}
+use Rattle.mx_moves.specs.steps.Tables.{table_made}
+use Rattle.mx_moves.specs.steps.Written.{bases_written, total_written}
 use Rattle.mx_migrate.proofs.WriteLemmas.{point_then, spans_is}
 
 -- ── the schemas ──

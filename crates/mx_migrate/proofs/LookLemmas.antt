@@ -26,9 +26,9 @@ use Rattle.mx_book_tables.specs.stands.Stands.{LiesAt}
 use Rattle.mx_tables.specs.Calls.{OnRead, ReadsRows}
 use Rattle.mx_tables.proofs.InsertsProofs.SetLemmas.{on_weaker}
 use Rattle.mx_moves.specs.Changes.{Alters, AllRise, Reaches}
-use Rattle.mx_steps.specs.Rows.{MakesRows}
-use Rattle.mx_steps.proofs.PageLemmas.{among, page_damaged, permutation_none}
-use Rattle.mx_steps.proofs.StandsLemmas.{all_rise, reaches_rows}
+use Rattle.mx_moves.specs.steps.Rows.{MakesRows}
+use Rattle.mx_moves.proofs.StepsProofs.PageLemmas.{among, page_damaged, permutation_none}
+use Rattle.mx_moves.proofs.StepsProofs.StandsLemmas.{all_rise, reaches_rows}
 use Rattle.mx_migrate.specs.Seeing.{SeesNone}
 use Rattle.mx_migrate.specs.Steps.{Runs}
 use Rattle.mx_migrate.proofs.RunLemmas.{store_stops}

@@ -30,13 +30,13 @@ use Rattle.mx_table_rows.specs.chosen.Choices.{is_any, is_up_to}
 use Rattle.mx_book_tables.specs.stands.Schemas.{schema_at}
 use Rattle.mx_book_tables.specs.stands.Stands.{LiesAt}
 use Rattle.mx_moves.specs.Changes.{Alters, AllRise, Reaches, WasOpen}
-use Rattle.mx_steps.specs.Sectors.{is_next_from, sectors_moved, MovesSectors, IsOldOff}
+use Rattle.mx_moves.specs.steps.Sectors.{is_next_from, sectors_moved, MovesSectors, IsOldOff}
 use Rattle.mx_migrate.specs.Steps.{Runs}
-use Rattle.mx_steps.specs.Rows.{MakesRows}
-use Rattle.mx_steps.proofs.FrontLemmas.{front_is}
-use Rattle.mx_steps.proofs.PageLemmas.{among, page_damaged}
-use Rattle.mx_steps.proofs.SectorLemmas.{seq_of}
-use Rattle.mx_steps.proofs.StandsLemmas.{all_rise, reaches_rows}
+use Rattle.mx_moves.specs.steps.Rows.{MakesRows}
+use Rattle.mx_moves.proofs.StepsProofs.FrontLemmas.{front_is}
+use Rattle.mx_moves.proofs.StepsProofs.PageLemmas.{among, page_damaged}
+use Rattle.mx_moves.proofs.StepsProofs.SectorLemmas.{seq_of}
+use Rattle.mx_moves.proofs.StepsProofs.StandsLemmas.{all_rise, reaches_rows}
 
 module _ (IsAt : Point → Type 0) (Makes : Point → Point → Trees → Trees → Type 0) (IsOff : Point → TableName → Trees → Type 0) (old new : State) (within : IsWithin old new) where
   -- the store stopped the statements that write

@@ -23,12 +23,12 @@ use Rattle.mx_book_tables.specs.stands.Schemas.{schema_at}
 use Rattle.mx_book_tables.specs.stands.Stands.{LiesAt}
 use Rattle.mx_tables.specs.Calls.{OnDamaged}
 use Rattle.mx_moves.specs.Changes.{Alters, AllRise, Reaches}
-use Rattle.mx_steps.specs.Components.{AreFittings, AreRemovals, IsComponentOff, MovesComponent, component_moved, is_of_component}
-use Rattle.mx_steps.specs.Pairing.{spans_made}
+use Rattle.mx_moves.specs.steps.Components.{AreFittings, AreRemovals, IsComponentOff, MovesComponent, component_moved, is_of_component}
+use Rattle.mx_moves.specs.steps.Pairing.{spans_made}
 use Rattle.mx_migrate.specs.Steps.{Runs}
-use Rattle.mx_steps.proofs.PageLemmas.{chosen_damaged}
+use Rattle.mx_moves.proofs.StepsProofs.PageLemmas.{chosen_damaged}
 use Rattle.mx_migrate.proofs.RunLemmas.{memory_stops, store_stops}
-use Rattle.mx_steps.proofs.StandsLemmas.{all_rise, reaches_rows}
+use Rattle.mx_moves.proofs.StepsProofs.StandsLemmas.{all_rise, reaches_rows}
 
 abbrev pub Shifts : ℕ → ℕ → State → State → Result Point TableFault → Type 0
 Shifts mark component = Runs (λ at. at ≡ moving 2 mark) (λ at to. MovesComponent component to) (λ at. IsComponentOff component)

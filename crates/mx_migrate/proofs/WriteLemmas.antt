@@ -27,10 +27,10 @@ use Rattle.mx_moves.specs.Schemas.{IsFree}
 use Rattle.mx_moves.proofs.AlterLemmas.{turns_new}
 use Rattle.mx_moves.proofs.RowLemmas.{alters_then, less_keeps, rows_alter, turns_same}
 use Rattle.mx_moves.proofs.TableTexts.{indexes_turn, span2_new}
-use Rattle.mx_steps.specs.Components.{component_moved, is_of_component}
-use Rattle.mx_steps.specs.Sectors.{sectors_moved}
-use Rattle.mx_steps.specs.Tables.{table_made}
-use Rattle.mx_steps.proofs.SectorLemmas.{point_keeps}
+use Rattle.mx_moves.specs.steps.Components.{component_moved, is_of_component}
+use Rattle.mx_moves.specs.steps.Sectors.{sectors_moved}
+use Rattle.mx_moves.specs.steps.Tables.{table_made}
+use Rattle.mx_moves.proofs.StepsProofs.SectorLemmas.{point_keeps}
 
 -- ── the schemas ──
 

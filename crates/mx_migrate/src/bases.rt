@@ -4,8 +4,8 @@ ghost use Rattle.sqlite.specs.Held.{state};
 ghost use Rattle.mx_registers.specs.points.Points.{moving};
 ghost use Rattle.mx_book_tables.specs.stands.Schemas.{schema_at};
 ghost use Rattle.mx_moves.specs.Changes.{Alters, WasOpen};
-ghost use Rattle.mx_steps.specs.Tables.{table_made};
-ghost use Rattle.mx_steps.specs.Written.{bases_written};
+ghost use Rattle.mx_moves.specs.steps.Tables.{table_made};
+ghost use Rattle.mx_moves.specs.steps.Written.{bases_written};
 
 use crate::step::Migrate;
 use mx_base::Point;
@@ -67,8 +67,8 @@ fn write_bases<S: Alter>(
 impl Migrate for CreateBases {
     ghost use Rattle.std.specs.Prelude.{◌≡◌, true, None};
     ghost use Rattle.mx_registers.specs.points.Points.{is_on_way, moving, next_mark};
-    ghost use Rattle.mx_steps.specs.Tables.{MakesBases};
-    ghost use Rattle.mx_steps.proofs.EndedLemmas.{bases_stand};
+    ghost use Rattle.mx_moves.specs.steps.Tables.{MakesBases};
+    ghost use Rattle.mx_moves.proofs.StepsProofs.EndedLemmas.{bases_stand};
 
     ghost IsAt = { λ step at. (at ≡ moving 3 step.mark) × (is_on_way at ≡ true) };
 
@@ -102,8 +102,8 @@ impl Migrate for CreateBases {
 impl Migrate for WriteBases {
     ghost use Rattle.std.specs.Prelude.{◌≡◌, Some, IsPermutation};
     ghost use Rattle.mx_registers.specs.points.Points.{moving, next_mark};
-    ghost use Rattle.mx_steps.specs.Written.{WritesBases, bases_of};
-    ghost use Rattle.mx_steps.proofs.WrittenLemmas.{bases_stand as written_stand};
+    ghost use Rattle.mx_moves.specs.steps.Written.{WritesBases, bases_of};
+    ghost use Rattle.mx_moves.proofs.StepsProofs.WrittenLemmas.{bases_stand as written_stand};
 
     ghost IsAt = { λ step at. at ≡ moving 4 step.mark };
 

@@ -5,9 +5,9 @@ ghost use Rattle.mx_layout.specs.TableName.{TableName};
 ghost use Rattle.mx_registers.specs.points.Points.{moving};
 ghost use Rattle.mx_book_tables.specs.stands.Schemas.{schema_at};
 ghost use Rattle.mx_moves.specs.Changes.{Alters};
-ghost use Rattle.mx_steps.specs.Components.{component_moved};
-ghost use Rattle.mx_steps.specs.Pairing.{are_fittings_numbered, are_removals_numbered, is_before};
-ghost use Rattle.mx_steps.specs.Pairing.{next_span, paired, span_closed, span_open, spans_made};
+ghost use Rattle.mx_moves.specs.steps.Components.{component_moved};
+ghost use Rattle.mx_moves.specs.steps.Pairing.{are_fittings_numbered, are_removals_numbered, is_before};
+ghost use Rattle.mx_moves.specs.steps.Pairing.{next_span, paired, span_closed, span_open, spans_made};
 
 use crate::step::Migrate;
 use mx_base::Point;
@@ -194,8 +194,8 @@ fn write_component<S: Alter>(
 impl Migrate for MoveComponent {
     ghost use Rattle.std.specs.Prelude.{◌≡◌, Some};
     ghost use Rattle.mx_registers.specs.points.Points.{moving, next_mark};
-    ghost use Rattle.mx_steps.specs.Components.{MovesComponent, IsComponentOff};
-    ghost use Rattle.mx_steps.proofs.ComponentLemmas.{component_stands, component_whole};
+    ghost use Rattle.mx_moves.specs.steps.Components.{MovesComponent, IsComponentOff};
+    ghost use Rattle.mx_moves.proofs.StepsProofs.ComponentLemmas.{component_stands, component_whole};
 
     ghost IsAt = { λ step at. at ≡ moving 2 step.mark };
 

@@ -5,7 +5,7 @@ ghost use Rattle.mx_base.specs.Settled.{settled};
 ghost use Rattle.mx_registers.specs.points.Points.{moving};
 ghost use Rattle.mx_book_tables.specs.stands.Schemas.{schema_at};
 ghost use Rattle.mx_moves.specs.Changes.{Alters, WasOpen};
-ghost use Rattle.mx_steps.specs.Tables.{table_made};
+ghost use Rattle.mx_moves.specs.steps.Tables.{table_made};
 
 use crate::step::Migrate;
 use mx_base::Point;
@@ -34,8 +34,8 @@ fn write_made<S: Alter>(tx: &mut Transaction<'_, S>, to: &Point) -> Result<(), T
 impl Migrate for CreateSectors {
     ghost use Rattle.std.specs.Prelude.{⊤, ◌≡◌};
     ghost use Rattle.mx_base.specs.Settled.{settled};
-    ghost use Rattle.mx_steps.specs.Tables.{MakesSectors};
-    ghost use Rattle.mx_steps.proofs.MadeLemmas.{made_stands};
+    ghost use Rattle.mx_moves.specs.steps.Tables.{MakesSectors};
+    ghost use Rattle.mx_moves.proofs.StepsProofs.MadeLemmas.{made_stands};
 
     ghost IsAt = { λ _ at. at ≡ settled 1 };
 

@@ -36,8 +36,8 @@ fn write_finished<S: Alter>(tx: &mut Transaction<'_, S>, to: &Point) -> Result<(
 impl Migrate for Finish {
     ghost use Rattle.std.specs.Prelude.{◌≡◌, true, None};
     ghost use Rattle.mx_registers.specs.points.Points.{is_on_way, moving, next_mark};
-    ghost use Rattle.mx_steps.specs.Tables.{Finishes};
-    ghost use Rattle.mx_steps.proofs.EndedLemmas.{finished_stands};
+    ghost use Rattle.mx_moves.specs.steps.Tables.{Finishes};
+    ghost use Rattle.mx_moves.proofs.StepsProofs.EndedLemmas.{finished_stands};
 
     ghost IsAt = { λ step at. (at ≡ moving 4 step.mark) × (is_on_way at ≡ true) };
 

@@ -6,7 +6,7 @@ ghost use Rattle.mx_registers.specs.points.Moves.{last_moved};
 ghost use Rattle.mx_registers.specs.points.Points.{moving};
 ghost use Rattle.mx_book_tables.specs.stands.Schemas.{schema_at};
 ghost use Rattle.mx_moves.specs.Changes.{Alters};
-ghost use Rattle.mx_steps.specs.Sectors.{is_next_from, sectors_moved};
+ghost use Rattle.mx_moves.specs.steps.Sectors.{is_next_from, sectors_moved};
 
 use crate::step::Migrate;
 use mx_base::Point;
@@ -81,8 +81,8 @@ fn write_moved<S: Alter>(
 impl Migrate for MoveSectors {
     ghost use Rattle.std.specs.Prelude.{◌≡◌, ◌≢◌, None};
     ghost use Rattle.mx_registers.specs.points.Points.{moving, next_mark};
-    ghost use Rattle.mx_steps.specs.Sectors.{MovesSectors, IsOldOff};
-    ghost use Rattle.mx_steps.proofs.SectorLemmas.{sectors_stand, sectors_whole};
+    ghost use Rattle.mx_moves.specs.steps.Sectors.{MovesSectors, IsOldOff};
+    ghost use Rattle.mx_moves.proofs.StepsProofs.SectorLemmas.{sectors_stand, sectors_whole};
 
     ghost IsAt = { λ step at. at ≡ moving 1 step.mark };
 

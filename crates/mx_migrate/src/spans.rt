@@ -5,7 +5,7 @@ ghost use Rattle.mx_registers.specs.points.Points.{moving};
 ghost use Rattle.mx_layout.specs.kept.Cells.{kept_sector1};
 ghost use Rattle.mx_book_tables.specs.stands.Schemas.{schema_at};
 ghost use Rattle.mx_moves.specs.Changes.{Alters};
-ghost use Rattle.mx_steps.specs.Tables.{table_made};
+ghost use Rattle.mx_moves.specs.steps.Tables.{table_made};
 ghost use Rattle.mx_migrate.specs.Seeing.{SeesNone};
 
 use crate::step::Migrate;
@@ -55,8 +55,8 @@ fn write_changed<S: Alter>(tx: &mut Transaction<'_, S>, to: &Point) -> Result<()
 impl Migrate for ChangeToSpans {
     ghost use Rattle.std.specs.Prelude.{◌≡◌, true, None};
     ghost use Rattle.mx_registers.specs.points.Points.{is_on_way, moving, next_mark};
-    ghost use Rattle.mx_steps.specs.Tables.{ChangesToSpans, IsLeftOver};
-    ghost use Rattle.mx_steps.proofs.MadeLemmas.{changed_stands, changed_whole};
+    ghost use Rattle.mx_moves.specs.steps.Tables.{ChangesToSpans, IsLeftOver};
+    ghost use Rattle.mx_moves.proofs.StepsProofs.MadeLemmas.{changed_stands, changed_whole};
 
     ghost IsAt = { λ step at. (at ≡ moving 1 step.mark) × (is_on_way at ≡ true) };
 

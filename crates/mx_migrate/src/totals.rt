@@ -4,8 +4,8 @@ ghost use Rattle.sqlite.specs.Held.{state};
 ghost use Rattle.mx_registers.specs.points.Points.{moving};
 ghost use Rattle.mx_book_tables.specs.stands.Schemas.{schema_at};
 ghost use Rattle.mx_moves.specs.Changes.{Alters, WasOpen};
-ghost use Rattle.mx_steps.specs.Tables.{table_made};
-ghost use Rattle.mx_steps.specs.Written.{total_written};
+ghost use Rattle.mx_moves.specs.steps.Tables.{table_made};
+ghost use Rattle.mx_moves.specs.steps.Written.{total_written};
 
 use crate::looking::none_left;
 use crate::step::Migrate;
@@ -67,8 +67,8 @@ fn write_total<S: Alter>(
 impl Migrate for ChangeToTotals {
     ghost use Rattle.std.specs.Prelude.{◌≡◌, true, None};
     ghost use Rattle.mx_registers.specs.points.Points.{is_on_way, moving, next_mark};
-    ghost use Rattle.mx_steps.specs.Tables.{ChangesToTotals, IsUnmoved};
-    ghost use Rattle.mx_steps.proofs.EndedLemmas.{totals_stand, totals_whole};
+    ghost use Rattle.mx_moves.specs.steps.Tables.{ChangesToTotals, IsUnmoved};
+    ghost use Rattle.mx_moves.proofs.StepsProofs.EndedLemmas.{totals_stand, totals_whole};
 
     ghost IsAt = { λ step at. (at ≡ moving 2 step.mark) × (is_on_way at ≡ true) };
 
@@ -105,8 +105,8 @@ impl Migrate for WriteTotal {
     ghost use Rattle.std.specs.Prelude.{◌≡◌, [], ◌∷◌};
     ghost use Rattle.mx_registers.specs.points.Moves.{totals_next};
     ghost use Rattle.mx_registers.specs.points.Points.{moving};
-    ghost use Rattle.mx_steps.specs.Written.{WritesTotal};
-    ghost use Rattle.mx_steps.proofs.WrittenLemmas.{total_stands};
+    ghost use Rattle.mx_moves.specs.steps.Written.{WritesTotal};
+    ghost use Rattle.mx_moves.proofs.StepsProofs.WrittenLemmas.{total_stands};
 
     ghost IsAt = { λ step at. at ≡ moving 3 step.mark };
 

@@ -5,3 +5,5 @@ pub mod PointTexts
 pub mod SectorTexts
 pub mod ComponentTexts
 pub mod ItemTexts
+pub mod InstallProofs
+pub mod StepsProofs

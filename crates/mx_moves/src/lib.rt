@@ -7,10 +7,12 @@
 #![tactic(auto)]
 
 pub mod components;
+pub mod install;
 pub mod items;
 pub mod kept;
 pub mod point;
 mod prelude;
 pub mod sectors;
 mod statement;
+pub mod steps;
 pub mod tables;

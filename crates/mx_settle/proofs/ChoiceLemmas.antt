@@ -55,8 +55,8 @@ use Rattle.mx_migrate.specs.declared.creating.CreateSectors.{CreateSectors}
 use Rattle.mx_migrate.specs.declared.sectors.MoveSectors.{MoveSectors}
 use Rattle.mx_migrate.specs.declared.spans.ChangeToSpans.{ChangeToSpans}
 use Rattle.mx_migrate.specs.declared.totals.ChangeToTotals.{ChangeToTotals}
-use Rattle.mx_steps.specs.Sectors.{MovesSectors, is_next_from}
-use Rattle.mx_steps.proofs.PageLemmas.{permutation_none}
+use Rattle.mx_moves.specs.steps.Sectors.{MovesSectors, is_next_from}
+use Rattle.mx_moves.proofs.StepsProofs.PageLemmas.{permutation_none}
 use Rattle.mx_verify.specs.declared.derived.kept.KeptRows.{KeptRows}
 use Rattle.mx_settle.specs.declared.due.Due.{Due}
 use Rattle.mx_settle.specs.declared.due.Due.TheVariants as due

@@ -12,12 +12,12 @@ use Rattle.mx_layout.specs.Contents.{rows_in}
 use Rattle.mx_layout.specs.Point.{point_cells, FitsPoint}
 use Rattle.mx_layout.specs.Tables.{office}
 use Rattle.mx_moves.specs.Keeping.{point_set}
-use Rattle.mx_steps.specs.Components.{component_moved}
-use Rattle.mx_steps.specs.Rows.{MakesRows}
-use Rattle.mx_steps.specs.Sectors.{sectors_moved}
-use Rattle.mx_steps.specs.Tables.{table_made}
-use Rattle.mx_steps.specs.Written.{bases_written, total_written}
-use Rattle.mx_steps.proofs.SectorLemmas.{one_point}
+use Rattle.mx_moves.specs.steps.Components.{component_moved}
+use Rattle.mx_moves.specs.steps.Rows.{MakesRows}
+use Rattle.mx_moves.specs.steps.Sectors.{sectors_moved}
+use Rattle.mx_moves.specs.steps.Tables.{table_made}
+use Rattle.mx_moves.specs.steps.Written.{bases_written, total_written}
+use Rattle.mx_moves.proofs.StepsProofs.SectorLemmas.{one_point}
 use Rattle.mx_settle.specs.declared.due.Due.{Due}
 use Rattle.mx_settle.specs.declared.due.Due.TheVariants as due
 use Rattle.mx_settle.specs.Due.{MakesBy}

@@ -37,7 +37,7 @@ use Rattle.mx_layout.specs.kept.Meanings.{IsLawful}
 use Rattle.mx_table_rows.specs.chosen.Calls.{ReadsFirst}
 use Rattle.mx_table_rows.specs.chosen.Choices.{AreFirst, is_above, is_any}
 use Rattle.mx_book_tables.proofs.StandsProofs.RowLemmas.{cells_once}
-use Rattle.mx_steps.proofs.PageLemmas.{among, page_damaged, permutation_none, rises_left}
+use Rattle.mx_moves.proofs.StepsProofs.PageLemmas.{among, page_damaged, permutation_none, rises_left}
 use Rattle.mx_settle.specs.Choices.{FindsLeft, FindsNext, next_checked}
 use Rattle.mx_settle.specs.Items.{is_next}
 

@@ -22,8 +22,8 @@ use Rattle.mx_registers.specs.points.Moves.{totals_next}
 use Rattle.mx_registers.specs.points.Points.{is_on_way, moving}
 use Rattle.mx_registers.proofs.PointsProofs.StepLemmas.{step_on_way}
 use Rattle.mx_book_tables.specs.stands.Schemas.{IsOfFile}
-use Rattle.mx_steps.specs.Written.{bases_of}
-use Rattle.mx_steps.proofs.WrittenLemmas.{next_item, no_item}
+use Rattle.mx_moves.specs.steps.Written.{bases_of}
+use Rattle.mx_moves.proofs.StepsProofs.WrittenLemmas.{next_item, no_item}
 use Rattle.mx_verify.specs.declared.derived.kept.KeptRows.{KeptRows}
 use Rattle.mx_settle.specs.declared.due.Due.{Due}
 use Rattle.mx_settle.specs.Choices.{GoesOn}

@@ -7,10 +7,10 @@ use Rattle.mx_base.specs.Settled.{settled}
 use Rattle.mx_registers.specs.points.Moves.{totals_next}
 use Rattle.mx_registers.specs.points.Points.{is_on_way, moving, next_mark}
 use Rattle.mx_layout.specs.TableName.{TableName}
-use Rattle.mx_steps.specs.Components.{MovesComponent, IsComponentOff}
-use Rattle.mx_steps.specs.Sectors.{MovesSectors, IsOldOff}
-use Rattle.mx_steps.specs.Tables.{MakesSectors, ChangesToSpans, ChangesToTotals, MakesBases, Finishes, IsLeftOver, IsUnmoved}
-use Rattle.mx_steps.specs.Written.{WritesTotal, WritesBases, bases_of}
+use Rattle.mx_moves.specs.steps.Components.{MovesComponent, IsComponentOff}
+use Rattle.mx_moves.specs.steps.Sectors.{MovesSectors, IsOldOff}
+use Rattle.mx_moves.specs.steps.Tables.{MakesSectors, ChangesToSpans, ChangesToTotals, MakesBases, Finishes, IsLeftOver, IsUnmoved}
+use Rattle.mx_moves.specs.steps.Written.{WritesTotal, WritesBases, bases_of}
 use Rattle.mx_settle.specs.declared.due.Due.{Due}
 use Rattle.mx_settle.specs.declared.due.Due.TheVariants as due
 

@@ -6,11 +6,11 @@ use Rattle.mx_base.specs.declared.point.Point.{Point}
 use Rattle.mx_registers.specs.points.Points.{next_point}
 use Rattle.mx_layout.specs.TableName.{TableName}
 use Rattle.mx_book_tables.specs.stands.Stands.{StandsAt}
-use Rattle.mx_steps.proofs.ComponentLemmas.{component_stands, component_whole}
-use Rattle.mx_steps.proofs.EndedLemmas.{bases_stand, finished_stands, totals_stand, totals_whole}
-use Rattle.mx_steps.proofs.MadeLemmas.{changed_stands, changed_whole, made_stands}
-use Rattle.mx_steps.proofs.SectorLemmas.{sectors_stand, sectors_whole}
-use Rattle.mx_steps.proofs.WrittenLemmas.{bases_stand as written_stand, total_stands}
+use Rattle.mx_moves.proofs.StepsProofs.ComponentLemmas.{component_stands, component_whole}
+use Rattle.mx_moves.proofs.StepsProofs.EndedLemmas.{bases_stand, finished_stands, totals_stand, totals_whole}
+use Rattle.mx_moves.proofs.StepsProofs.MadeLemmas.{changed_stands, changed_whole, made_stands}
+use Rattle.mx_moves.proofs.StepsProofs.SectorLemmas.{sectors_stand, sectors_whole}
+use Rattle.mx_moves.proofs.StepsProofs.WrittenLemmas.{bases_stand as written_stand, total_stands}
 use Rattle.mx_settle.specs.declared.due.Due.{Due}
 use Rattle.mx_settle.specs.declared.due.Due.TheVariants as due
 use Rattle.mx_settle.specs.Due.{IsDueAt, IsFor, IsOffFor, MakesBy}

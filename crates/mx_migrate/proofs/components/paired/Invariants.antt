@@ -1,7 +1,7 @@
 use Rattle.std.proofs.Common.{◌≡◌, List, ◌++◌, Result, Ok, Err, length}
 use Rattle.mx_base.specs.declared.rows.rows.SpanRow.{SpanRow}
 use Rattle.mx_layout.specs.TableName.{TableName}
-use Rattle.mx_steps.specs.Pairing.{paired}
+use Rattle.mx_moves.specs.steps.Pairing.{paired}
 use Rattle.mx_migrate.proofs.components.paired.Given as goal
 
 -- spans in front of others, where there are any

@@ -1,7 +1,7 @@
 use Rattle.std.proofs.Common.{◌≡◌, ℕ, ◌-◌, suc, List, [], ◌∷◌, length, slice_get, Some, sym, ap, ◌∙◌, arith}
 use Rattle.mx_base.specs.declared.rows.rows.SectorRow.{SectorRow}
 use Rattle.mx_registers.specs.points.Moves.{last_moved}
-use Rattle.mx_steps.proofs.SectorLemmas.{seq_of}
+use Rattle.mx_moves.proofs.StepsProofs.SectorLemmas.{seq_of}
 use Rattle.mx_migrate.proofs.sectors.last_seq.Goals as goal
 
 last_is : (mark : ℕ) (rows : List SectorRow) (row : SectorRow) → slice_get rows (length rows - 1) ≡ Some row → row.seq ≡ last_moved seq_of mark rows

@@ -2,7 +2,7 @@ use Rattle.std.proofs.Common.{refl}
 use Rattle.sqlite.specs.Held.{state}
 use Rattle.mx_layout.specs.declared.fault.Table.TheVariants as table
 use Rattle.mx_registers.specs.points.Points.{moving}
-use Rattle.mx_steps.specs.Tables.{table_made}
+use Rattle.mx_moves.specs.steps.Tables.{table_made}
 use Rattle.mx_migrate.proofs.RunLemmas.{store_stops, writes_alone}
 use Rattle.mx_migrate.proofs.bases.CreateBasesMigrate.run.Goals as goal
 

@@ -6,7 +6,7 @@ use Rattle.mx_base.specs.declared.rows.rows.RemovalRow.{RemovalRow}
 use Rattle.mx_registers.specs.points.Points.{moving}
 use Rattle.mx_layout.specs.TableName.{TableName}
 use Rattle.mx_layout.specs.declared.fault.TableFault.TheVariants.{Memory, Damaged}
-use Rattle.mx_steps.specs.Pairing.{spans_made}
+use Rattle.mx_moves.specs.steps.Pairing.{spans_made}
 use Rattle.mx_migrate.proofs.RunLemmas.{stopped_by}
 use Rattle.mx_migrate.proofs.ShiftLemmas.{component_moves, fittings_stop, pairs_fail, removals_stop}
 use Rattle.mx_migrate.proofs.components.MoveComponentMigrate.run.Goals as goal

@@ -10,8 +10,8 @@ use Rattle.mx_registers.specs.points.Moves.{last_moved}
 use Rattle.mx_registers.specs.points.Points.{moving}
 use Rattle.mx_book_tables.specs.stands.Schemas.{schema_at}
 use Rattle.mx_moves.specs.Changes.{Alters}
-use Rattle.mx_steps.specs.Sectors.{is_next_from, sectors_moved}
-use Rattle.mx_steps.proofs.SectorLemmas.{seq_of}
+use Rattle.mx_moves.specs.steps.Sectors.{is_next_from, sectors_moved}
+use Rattle.mx_moves.proofs.StepsProofs.SectorLemmas.{seq_of}
 use Rattle.mx_migrate.proofs.RunLemmas.{page_full, page_moves, page_off, page_stops, stopped_by}
 use Rattle.mx_migrate.proofs.sectors.MoveSectorsMigrate.run.Goals as goal
 

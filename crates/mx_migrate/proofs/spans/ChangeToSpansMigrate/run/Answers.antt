@@ -3,7 +3,7 @@ use Rattle.sqlite.specs.Held.{state}
 use Rattle.mx_layout.specs.kept.Cells.{kept_sector1}
 use Rattle.mx_layout.specs.declared.fault.Table.TheVariants as table
 use Rattle.mx_registers.specs.points.Points.{moving}
-use Rattle.mx_steps.specs.Tables.{table_made}
+use Rattle.mx_moves.specs.steps.Tables.{table_made}
 use Rattle.mx_migrate.proofs.LookLemmas.{look_stops, looked_writes}
 use Rattle.mx_migrate.proofs.RunLemmas.{has_sectors, stopped_by}
 use Rattle.mx_migrate.proofs.spans.ChangeToSpansMigrate.run.Goals as goal

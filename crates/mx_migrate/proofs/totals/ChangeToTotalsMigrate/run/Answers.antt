@@ -4,7 +4,7 @@ use Rattle.sqlite.specs.State.{HasCleanDisk}
 use Rattle.mx_layout.specs.kept.Cells.{kept_fit1, kept_removal1}
 use Rattle.mx_layout.specs.declared.fault.Table.TheVariants as table
 use Rattle.mx_registers.specs.points.Points.{moving}
-use Rattle.mx_steps.specs.Tables.{table_made}
+use Rattle.mx_moves.specs.steps.Tables.{table_made}
 use Rattle.mx_migrate.proofs.LookLemmas.{look_stops, looked_writes, sees_then}
 use Rattle.mx_migrate.proofs.RunLemmas.{stopped_by}
 use Rattle.mx_migrate.proofs.ShiftLemmas.{has_fittings}

@@ -1,7 +1,7 @@
 use Rattle.std.proofs.Common.{refl}
 use Rattle.sqlite.specs.Held.{state}
 use Rattle.mx_registers.specs.points.Points.{moving}
-use Rattle.mx_steps.specs.Written.{total_written}
+use Rattle.mx_moves.specs.steps.Written.{total_written}
 use Rattle.mx_migrate.proofs.RunLemmas.{store_stops, writes_alone}
 use Rattle.mx_migrate.proofs.totals.WriteTotalMigrate.run.Goals as goal
 

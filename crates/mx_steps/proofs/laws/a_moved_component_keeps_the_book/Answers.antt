@@ -1,8 +1,0 @@
-use Rattle.mx_steps.proofs.ComponentLemmas.{component_stands, component_whole}
-use Rattle.mx_steps.proofs.laws.a_moved_component_keeps_the_book.Goals as goal
-
-pub returns-clause-stand : goal.returns-clause-stand
-returns-clause-stand c = component_stands
-
-pub returns-clause-whole : goal.returns-clause-whole
-returns-clause-whole c = component_whole

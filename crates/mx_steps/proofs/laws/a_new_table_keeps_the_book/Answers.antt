@@ -1,5 +1,0 @@
-use Rattle.mx_steps.proofs.MadeLemmas.{made_stands}
-use Rattle.mx_steps.proofs.laws.a_new_table_keeps_the_book.Goals as goal
-
-pub returns : goal.returns
-returns c = made_stands

@@ -1,5 +1,0 @@
-use Rattle.mx_steps.proofs.EndedLemmas.{bases_stand}
-use Rattle.mx_steps.proofs.laws.a_table_of_bases_keeps_the_book.Goals as goal
-
-pub returns : goal.returns
-returns c = bases_stand
