@@ -23,7 +23,7 @@ use Rattle.mx_office.specs.declared.fault.Outcomes.{Outcomes}
 use Rattle.mx_office.specs.Layout.{office_point, office_schema}
 use Rattle.mx_office.specs.Opening.{ChangesOnWay}
 use Rattle.mx_office.proofs.MoveLemmas.{nothing_changes, placed_holds}
-use Rattle.mx_settle.specs.Place.{SaysAt}
+use Rattle.mx_migrate.specs.settle.Place.{SaysAt}
 use Rattle.mx_office.specs.Stands.{Stands, Rests, IsEither}
 use Rattle.mx_headline.specs.Kept.{count_accepted, IsKept, IsBookKept}
 

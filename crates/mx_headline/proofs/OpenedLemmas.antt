@@ -19,7 +19,7 @@ use Rattle.mx_layout.specs.Crash.{Leaves, RestsAs}
 use Rattle.mx_database.specs.power.Found.{IsEndOf, IsFound}
 use Rattle.mx_layout.proofs.CrashLemmas.{rests_kept}
 use Rattle.mx_database.proofs.PowerProofs.FoundLemmas.{rests_found}
-use Rattle.mx_settle.specs.Place.{IsPlacedAt, SaysAt}
+use Rattle.mx_migrate.specs.settle.Place.{IsPlacedAt, SaysAt}
 use Rattle.mx_book_tables.specs.stands.Schemas.{IsOfFile, schema_at}
 use Rattle.mx_book_tables.specs.stands.Stands.{RestsAt, StandsAt}
 use Rattle.mx_faults.specs.declared.fault.OpenFault.{OpenFault}

@@ -14,8 +14,8 @@ use Rattle.mx_book.specs.Run.{book_run}
 use Rattle.mx_book.proofs.AcceptedLemmas.{acknowledged_stays}
 use Rattle.mx_layout.specs.Crash.{Leaves}
 use Rattle.mx_database.specs.power.Found.{IsEndOf}
-use Rattle.mx_settle.specs.Place.{SaysAt}
-use Rattle.mx_settle.proofs.PlaceLemmas.{stands_says}
+use Rattle.mx_migrate.specs.settle.Place.{SaysAt}
+use Rattle.mx_migrate.proofs.SettleProofs.PlaceLemmas.{stands_says}
 use Rattle.mx_office.specs.Layout.{office_point}
 use Rattle.mx_faults.specs.declared.fault.OpenFault.{OpenFault}
 use Rattle.mx_office.specs.declared.fault.Outcomes.{Outcomes}

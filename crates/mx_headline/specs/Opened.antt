@@ -10,7 +10,7 @@ use Rattle.sqlite.specs.Files.{file_state, over_files}
 use Rattle.mx_book.specs.commands.Act.{Entry}
 use Rattle.mx_base.specs.declared.point.Point.{Point}
 use Rattle.mx_layout.specs.Crash.{Leaves, RestsAs}
-use Rattle.mx_settle.specs.Place.{IsPlacedAt, SaysAt}
+use Rattle.mx_migrate.specs.settle.Place.{IsPlacedAt, SaysAt}
 use Rattle.mx_book_tables.specs.stands.Schemas.{IsOfFile}
 use Rattle.mx_book_tables.specs.stands.Stands.{RestsAt, StandsAt}
 use Rattle.mx_office.specs.Calls.{IsRun}

@@ -4,7 +4,7 @@ ghost use Rattle.std.specs.Prelude.{◌≡◌, ◌≢◌, IfOk, IfErr};
 ghost use Rattle.sqlite.specs.State.{HasCleanDisk};
 ghost use Rattle.mx_layout.specs.Crash.{ChangesNothing, Leaves};
 ghost use Rattle.mx_database.specs.power.Found.{Finds};
-ghost use Rattle.mx_settle.specs.Place.{SaysAt};
+ghost use Rattle.mx_migrate.specs.settle.Place.{SaysAt};
 ghost use Rattle.mx_office.specs.Calls.{IsRun};
 ghost use Rattle.mx_office.specs.Layout.{office_point};
 ghost use Rattle.mx_office.specs.Office.{office_state, IsInDoubt, IsReady, StandsFor};

@@ -5,3 +5,4 @@ pub mod LookLemmas
 pub mod WriteLemmas
 pub mod KeepLemmas
 pub mod ShiftLemmas
+pub mod SettleProofs

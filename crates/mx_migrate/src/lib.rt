@@ -15,6 +15,7 @@ pub mod creating;
 pub mod finishing;
 mod looking;
 pub mod sectors;
+pub mod settle;
 pub mod spans;
 pub mod step;
 pub mod totals;

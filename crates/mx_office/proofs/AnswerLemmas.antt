@@ -22,8 +22,8 @@ use Rattle.mx_layout.specs.declared.fault.TableFault.TheVariants as table
 use Rattle.mx_layout.specs.declared.fault.Table.TheVariants.{Office}
 use Rattle.mx_book_tables.specs.stands.Schemas.{IsOfFile}
 use Rattle.mx_book_tables.specs.stands.Stands.{RestsAt}
-use Rattle.mx_settle.specs.Place.{IsMoveStop}
-use Rattle.mx_settle.proofs.PlaceLemmas.{Bounds, bounds}
+use Rattle.mx_migrate.specs.settle.Place.{IsMoveStop}
+use Rattle.mx_migrate.proofs.SettleProofs.PlaceLemmas.{Bounds, bounds}
 use Rattle.mx_office.specs.Faults.{is_office_point, moved_fault_from, open_answer, open_fault_from, IsReason, IsStop, IsStopped, IsUnopened, SaysWhy}
 use Rattle.mx_office.specs.Layout.{office_point}
 use Rattle.mx_office.specs.Opening.{HasReason, SaysPoint, WasOurs}

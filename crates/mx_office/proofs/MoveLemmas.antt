@@ -17,12 +17,12 @@ use Rattle.mx_layout.specs.Point.{FitsPoint, HoldsPoint}
 use Rattle.mx_layout.specs.declared.fault.Table.TheVariants.{Office}
 use Rattle.mx_book_tables.specs.stands.Schemas.{IsOfFile, schema_at}
 use Rattle.mx_book_tables.specs.stands.Stands.{RestsAt}
-use Rattle.mx_settle.specs.Advances.{AreMoved}
-use Rattle.mx_settle.specs.Place.{IsPlacedAt, SaysAt}
-use Rattle.mx_settle.specs.Settles.{Settles}
-use Rattle.mx_settle.specs.declared.settling.TheConstants.{ENOUGH_COMMITS}
-use Rattle.mx_settle.proofs.AdvanceLemmas.{placed_point, placed_still, rests_point, same_now, still}
-use Rattle.mx_settle.proofs.PlaceLemmas.{rests_placed}
+use Rattle.mx_migrate.specs.settle.Advances.{AreMoved}
+use Rattle.mx_migrate.specs.settle.Place.{IsPlacedAt, SaysAt}
+use Rattle.mx_migrate.specs.settle.Settles.{Settles}
+use Rattle.mx_migrate.specs.declared.settle.settling.TheConstants.{ENOUGH_COMMITS}
+use Rattle.mx_migrate.proofs.SettleProofs.AdvanceLemmas.{placed_point, placed_still, rests_point, same_now, still}
+use Rattle.mx_migrate.proofs.SettleProofs.PlaceLemmas.{rests_placed}
 use Rattle.mx_office.specs.Faults.{is_office_point, moved_fault_from, open_answer, IsStop}
 use Rattle.mx_office.specs.Layout.{office_point}
 use Rattle.mx_office.specs.Opening.{AreMovedOn, ChangesOnWay, MovesOn}

@@ -17,8 +17,8 @@ use Rattle.mx_layout.specs.Point.{point_cells, FitsPoint, HoldsPoint, TellsPoint
 use Rattle.mx_layout.specs.Tables.{office, HasOffice}
 use Rattle.mx_book_tables.specs.stands.Schemas.{IsOfFile}
 use Rattle.mx_book_tables.specs.stands.Stands.{RestsAt, StandsAt}
-use Rattle.mx_settle.specs.Advances.{LeadsTo}
-use Rattle.mx_settle.specs.Place.{IsPlacedAt}
+use Rattle.mx_migrate.specs.settle.Advances.{LeadsTo}
+use Rattle.mx_migrate.specs.settle.Place.{IsPlacedAt}
 use Rattle.mx_faults.specs.declared.fault.OpenFault.{OpenFault}
 use Rattle.mx_faults.specs.declared.fault.OpenFault.TheVariants as unopened
 use Rattle.mx_office.specs.Faults.{open_answer, open_fault_from, IsReason, IsStop, IsStopped, IsUnopened, SaysWhy}

@@ -15,6 +15,6 @@ mod verifying;
 pub use fault::Outcomes;
 pub use mx_book::Reply;
 pub use mx_faults::{Ask, Fault, OpenFault};
-pub use mx_settle::NEWEST_LAYOUT;
+pub use mx_migrate::settle::NEWEST_LAYOUT;
 pub use office::Office;
 pub use opening::open_office;

@@ -15,8 +15,8 @@ use crate::office::Office;
 use mx_base::Point;
 use mx_faults::OpenFault;
 use mx_layout::{Table, point};
+use mx_migrate::settle::{ENOUGH_COMMITS, NEWEST_LAYOUT, settle};
 use mx_registers::points::is_on_way;
-use mx_settle::{ENOUGH_COMMITS, NEWEST_LAYOUT, settle};
 use sqlite::{Alter, Connection};
 use std::alloc::Global;
 

@@ -6,8 +6,8 @@ ghost use Rattle.mx_upkeep.specs.Moved.{Moves};
 ghost use Rattle.mx_endings.specs.Status.{Shows, stop_status};
 
 use mx_endings::{Ending, Stop};
+use mx_migrate::settle::settle;
 use mx_printed::print_point;
-use mx_settle::settle;
 use sqlite::{Alter, Connection};
 use std::alloc::Global;
 

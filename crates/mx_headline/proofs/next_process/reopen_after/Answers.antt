@@ -2,7 +2,7 @@ use Rattle.std.proofs.Common.{arith, inr, refl}
 use Rattle.std.proofs.Math.Logic.{∥∥₁_map}
 use Rattle.sqlite.specs.State.{HasCleanDisk}
 use Rattle.sqlite.specs.Files.{file_state}
-use Rattle.mx_settle.proofs.PlaceLemmas.{stands_says}
+use Rattle.mx_migrate.proofs.SettleProofs.PlaceLemmas.{stands_says}
 use Rattle.mx_office.specs.Layout.{office_point}
 use Rattle.mx_office.specs.Office.{office_state}
 use Rattle.mx_office.proofs.OfficeLemmas.{rests_still}

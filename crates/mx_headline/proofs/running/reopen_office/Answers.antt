@@ -5,7 +5,7 @@ use Rattle.sqlite.specs.Files.{file_state}
 use Rattle.mx_layout.specs.Crash.{Leaves}
 use Rattle.mx_database.specs.power.Found.{IsFound}
 use Rattle.mx_database.proofs.PowerProofs.FoundLemmas.{found_kept}
-use Rattle.mx_settle.specs.Place.{SaysAt}
+use Rattle.mx_migrate.specs.settle.Place.{SaysAt}
 use Rattle.mx_office.specs.Layout.{office_point}
 use Rattle.mx_headline.specs.Reopened.{IsUnopened}
 use Rattle.mx_headline.proofs.KeptLemmas.{nothing_found, rests_as}

@@ -1,8 +1,8 @@
 use Rattle.std.proofs.Common.{◌≡◌, inl, inr, sym, subst, ◌∙◌, arith}
 use Rattle.sqlite.specs.Held.{state}
 use Rattle.sqlite.specs.State.{HasCleanDisk}
-use Rattle.mx_settle.proofs.AdvanceLemmas.{still}
-use Rattle.mx_settle.proofs.PlaceLemmas.{file_fits, rests_placed}
+use Rattle.mx_migrate.proofs.SettleProofs.AdvanceLemmas.{still}
+use Rattle.mx_migrate.proofs.SettleProofs.PlaceLemmas.{file_fits, rests_placed}
 use Rattle.mx_office.specs.Opening.{HasReason}
 use Rattle.mx_office.proofs.AnswerLemmas.{file_answers, open_absent, open_not_ours, open_reason, open_stops, point_ours, point_reason, point_says, way_reason, way_says}
 use Rattle.mx_office.proofs.MoveLemmas.{answers_there, is_at_book, moves_then, placed_holds, stays_shut}

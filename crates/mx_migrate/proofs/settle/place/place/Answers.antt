@@ -1,0 +1,21 @@
+use Rattle.std.proofs.Common.{Err, sym, subst}
+use Rattle.sqlite.specs.Held.{state}
+use Rattle.mx_migrate.specs.settle.Place.{TellsPlace}
+use Rattle.mx_migrate.proofs.SettleProofs.PlaceLemmas.{told, untold}
+use Rattle.mx_migrate.proofs.settle.place.place.Goals as goal
+
+pub returns-in-Ok-clause-tells : goal.returns-in-Ok-clause-tells
+returns-in-Ok-clause-tells g c =
+    let old = state g.S.Store c.args.conn.now in
+    let new = state g.S.Store c.point.new.conn in
+    let e = c.in-Ok.ensures in
+    subst (TellsPlace old new) (sym c.checked.ensures)
+    (told old new c.point.ensures.unchanged c.in-Ok.at e.open (λ p clean holds fits. e.exact p clean holds fits) (λ clean lacks. e.absent clean lacks))
+
+pub returns-in-Err-clause-tells : goal.returns-in-Err-clause-tells
+returns-in-Err-clause-tells g c =
+    let old = state g.S.Store c.args.conn.now in
+    let new = state g.S.Store c.point.new.conn in
+    let e = c.in-Err.ensures in
+    subst (λ f. TellsPlace old new (Err f)) (sym c.fault_of.ensures)
+    (untold old new c.point.ensures.unchanged c.in-Err.fault (λ p clean holds fits. e.exact p clean holds fits) (λ clean lacks. e.absent clean lacks))
