@@ -7,13 +7,13 @@ use Rattle.mx_book.specs.declared.verdict.Reply.TheVariants as reply
 use Rattle.mx_faults.specs.declared.fault.Ask.TheVariants.{Refused}
 use Rattle.mx_office.specs.Faults.{found_or, IsAnswer}
 use Rattle.mx_reports.specs.ReplyText.{reply_line}
-use Rattle.mx_printed.specs.Listed.{IsListAnswer, Tells, list_answer, list_ending}
-use Rattle.mx_questions.specs.Report.{IsOfKind, report_lines, report_of}
-use Rattle.mx_endings.specs.declared.ending.Ending.{Ending}
-use Rattle.mx_endings.specs.declared.ending.Ending.TheVariants as ending
-use Rattle.mx_endings.specs.declared.ending.Stop.{Stop}
-use Rattle.mx_questions.specs.declared.question.Question.{Question}
-use Rattle.mx_questions.specs.declared.report.Report.{Report}
+use Rattle.mx_output.specs.printed.Listed.{IsListAnswer, Tells, list_answer, list_ending}
+use Rattle.mx_output.specs.questions.Report.{IsOfKind, report_lines, report_of}
+use Rattle.mx_output.specs.declared.endings.ending.Ending.{Ending}
+use Rattle.mx_output.specs.declared.endings.ending.Ending.TheVariants as ending
+use Rattle.mx_output.specs.declared.endings.ending.Stop.{Stop}
+use Rattle.mx_output.specs.declared.questions.question.Question.{Question}
+use Rattle.mx_output.specs.declared.questions.report.Report.{Report}
 
 -- a list of the kind that was asked for was appended
 pub shown_report : (question : Question) (list : Report) (old new : List ℕ) (result : Result Ending Stop) → IsOfKind question list → OnOk result (new ≡ old ++ report_lines list)

@@ -3,14 +3,14 @@ ghost use Rattle.std.specs.Prelude.{◌≡◌, OnErr, IfOk, IfErr};
 ghost use Rattle.sqlite.specs.State.{HasCleanDisk};
 ghost use Rattle.mx_office.specs.Office.{office_state, IsReady, StandsFor};
 ghost use Rattle.mx_answers.specs.Asked.{Asks};
-ghost use Rattle.mx_printed.specs.Listed.{IsListAnswer, PrintsAnswer, Tells};
-ghost use Rattle.mx_endings.specs.Status.{Shows, stop_status};
+ghost use Rattle.mx_output.specs.printed.Listed.{IsListAnswer, PrintsAnswer, Tells};
+ghost use Rattle.mx_output.specs.endings.Status.{Shows, stop_status};
 
 use crate::question::ask;
-use mx_endings::{Ending, Stop};
 use mx_office::{Ask, Office};
-use mx_printed::{append_refusal, append_report};
-use mx_questions::Question;
+use mx_output::endings::{Ending, Stop};
+use mx_output::printed::{append_refusal, append_report};
+use mx_output::questions::Question;
 use sqlite::Alter;
 use std::alloc::Global;
 

@@ -8,14 +8,14 @@ ghost use Rattle.mx_lists.specs.Lists.{life_list};
 ghost use Rattle.mx_office.specs.Faults.{found_or};
 ghost use Rattle.mx_office.specs.Calls.{stop_asking, IsAsked};
 ghost use Rattle.mx_office.specs.Questions.{IsAnsweredBy};
-ghost use Rattle.mx_questions.specs.declared.question.Question.TheVariants as asked;
-ghost use Rattle.mx_questions.specs.Report.{IsOfKind, report_of};
-ghost use Rattle.mx_questions.specs.declared.report.Report.TheVariants as report;
+ghost use Rattle.mx_output.specs.declared.questions.question.Question.TheVariants as asked;
+ghost use Rattle.mx_output.specs.questions.Report.{IsOfKind, report_of};
+ghost use Rattle.mx_output.specs.declared.questions.report.Report.TheVariants as report;
 
 use mx_base::{Day, Tail};
 use mx_book::Refusal;
 use mx_office::{Ask, Office};
-use mx_questions::{Question, Report};
+use mx_output::questions::{Question, Report};
 use sqlite::Alter;
 use std::alloc::Global;
 

@@ -2,11 +2,11 @@
 
 use crate::serving::serve_file;
 use mx_command_line::Words;
-use mx_endings::{Ending, Stop};
 use mx_files::{
     enter_file, import_file, init_file, init_old_file, list_file, migrate_file, programme_file,
     try_out, verify_file,
 };
+use mx_output::endings::{Ending, Stop};
 use mx_words::Perform;
 
 /// The jobs of the program.

@@ -2,13 +2,13 @@
 ghost use Rattle.std.specs.Prelude.{◌≡◌, ◌≤◌, ◌++◌, IfOk, IfErr};
 ghost use Rattle.mx_office.specs.Office.{IsInDoubt, IsReady};
 ghost use Rattle.mx_responses.specs.Serving.{served_line};
-ghost use Rattle.mx_endings.specs.Status.{LeavesUnread, stop_status};
-ghost use Rattle.mx_endings.specs.declared.ending.Ending.TheVariants.{Done};
+ghost use Rattle.mx_output.specs.endings.Status.{LeavesUnread, stop_status};
+ghost use Rattle.mx_output.specs.declared.endings.ending.Ending.TheVariants.{Done};
 
 use mx_desk::serve_on;
-use mx_endings::{Ending, Stop};
 use mx_files::{Asked, answer_file};
 use mx_office::{Fault, Office};
+use mx_output::endings::{Ending, Stop};
 use sqlite::Alter;
 use std::net::{Ipv4Addr, SocketAddr, SocketAddrV4, TcpListener};
 

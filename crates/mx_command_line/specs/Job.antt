@@ -5,8 +5,8 @@ use Rattle.clap.specs.Words.{Row, first_of, found_of, rows_of, subcommand_rows_o
 use Rattle.clap.specs.declared.parser.matches.ArgMatches.{ArgMatches}
 use Rattle.mx_intake.specs.Form.{if_read}
 use Rattle.mx_intake.specs.Vocabulary.{moment_of_text}
-use Rattle.mx_questions.specs.Asking.{doc_of, due_question, forecast_question, life_question, limits_question, tail_of}
-use Rattle.mx_questions.specs.declared.question.Question.{Question}
+use Rattle.mx_output.specs.questions.Asking.{doc_of, due_question, forecast_question, life_question, limits_question, tail_of}
+use Rattle.mx_output.specs.declared.questions.question.Question.{Question}
 use Rattle.mx_command_line.specs.Number.{number_in}
 use Rattle.mx_command_line.specs.declared.trial.Trial.{Trial}
 use Rattle.mx_command_line.specs.declared.words.TheConstants.{MOST_CONNECTIONS, MOST_PORT, MOST_STEPS}

@@ -3,7 +3,7 @@ ghost use Rattle.std.specs.Prelude.{◌≡◌, true, false};
 ghost use Rattle.mx_command_line.specs.Usage.{IsRequest};
 
 use clap::Error as WordsError;
-use mx_endings::{BAD_WORDS, Ending, Printed, STOPPED};
+use mx_output::endings::{BAD_WORDS, Ending, Printed, STOPPED};
 use std::io::Write;
 
 /// Prints `clap`'s text of help to standard output, with status 0, or of a fault to standard error,

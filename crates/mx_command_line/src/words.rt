@@ -15,7 +15,9 @@ use crate::trial::Trial;
 use clap::ArgMatches;
 use mx_base::{Doc, Moment, Tail};
 use mx_intake::{read_identifier, read_moment};
-use mx_questions::{Question, due_question, forecast_question, life_question, limits_question};
+use mx_output::questions::{
+    Question, due_question, forecast_question, life_question, limits_question,
+};
 
 /// The greatest port.
 const MOST_PORT: u32 = 65_535;

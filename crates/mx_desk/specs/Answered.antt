@@ -4,7 +4,7 @@ use Rattle.sqlite.specs.Store.{Ghosts}
 use Rattle.mx_office.specs.Calls.{Runs}
 use Rattle.mx_faults.specs.declared.fault.Fault.TheVariants.{Memory}
 use Rattle.mx_office.specs.declared.office.Office.{Office}
-use Rattle.mx_sector_log.specs.Rows.{good_rows, told}
+use Rattle.mx_output.specs.sector_log.Rows.{good_rows, told}
 use Rattle.mx_answers.specs.Asked.{Asks}
 use Rattle.mx_responses.specs.Answer.{Answer, fault_answer, list_answer, rejection_answer, replies_answer, rows_answer, stop_answer}
 use Rattle.mx_responses.specs.Request.{Request, enters, imports, asks, unread, rejected}

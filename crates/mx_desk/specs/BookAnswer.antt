@@ -7,9 +7,9 @@ use Rattle.mx_office.specs.Faults.{found_or}
 use Rattle.mx_faults.specs.declared.fault.Ask.{Ask}
 use Rattle.mx_faults.specs.declared.fault.Ask.TheVariants.{Failed}
 use Rattle.mx_faults.specs.declared.fault.Fault.{Fault}
-use Rattle.mx_sector_log.specs.Rows.{good_rows, told}
-use Rattle.mx_questions.specs.Report.{report_of}
-use Rattle.mx_questions.specs.declared.report.Report.{Report}
+use Rattle.mx_output.specs.sector_log.Rows.{good_rows, told}
+use Rattle.mx_output.specs.questions.Report.{report_of}
+use Rattle.mx_output.specs.declared.questions.report.Report.{Report}
 use Rattle.mx_responses.specs.Answer.{Answer, fault_answer, list_answer, rejection_answer, replies_answer, rows_answer}
 use Rattle.mx_responses.specs.Request.{Request, enters, imports, asks, unread, rejected}
 

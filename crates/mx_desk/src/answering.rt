@@ -13,7 +13,7 @@ use crate::entering::{enter_listed, import_log, load};
 use crate::listing::ask_list;
 use http::Response;
 use mx_office::Office;
-use mx_questions::{Question, due_question, life_question, limits_question};
+use mx_output::questions::{Question, due_question, life_question, limits_question};
 use mx_request::{Rejection, Route};
 use mx_responses::{DeskFault, forecast_in_digits, rejection_response};
 use sqlite::Alter;

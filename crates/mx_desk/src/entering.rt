@@ -3,7 +3,7 @@ ghost use Rattle.std.specs.Prelude.{◌≡◌, IfOk};
 ghost use Rattle.http.specs.Response.{body_of, head_of};
 ghost use Rattle.mx_intake.specs.Entries.{entries_of_text};
 ghost use Rattle.mx_intake.specs.Sectors.{sector_rows};
-ghost use Rattle.mx_questions.specs.Asking.{doc_of};
+ghost use Rattle.mx_output.specs.questions.Asking.{doc_of};
 ghost use Rattle.mx_responses.specs.Answer.{IsMade, replies_answer};
 ghost use Rattle.mx_office.specs.Calls.{Runs};
 ghost use Rattle.mx_desk.specs.Answered.{AnswersIfRoom};

@@ -7,7 +7,7 @@ ghost use Rattle.mx_responses.specs.Answer.{IsMade, list_answer};
 use http::Response;
 use mx_answers::ask;
 use mx_office::{Ask, Office};
-use mx_questions::Question;
+use mx_output::questions::Question;
 use mx_responses::{DeskFault, refusal_response, report_response, stop_response};
 use sqlite::Alter;
 use std::alloc::Global;

@@ -1,9 +1,9 @@
 -- What is said of a word over a file, whatever the file holds: of what was printed alone.
 use Rattle.std.specs.Prelude.{◌≡◌, ◌≤◌, ◌++◌, ℕ, List, Result, OnErr, IfOk, IfErr, codes}
-use Rattle.mx_endings.specs.Status.{LeavesUnread, Shows, stop_status}
-use Rattle.mx_endings.specs.declared.ending.Ending.{Ending}
-use Rattle.mx_endings.specs.declared.ending.Ending.TheVariants.{Done}
-use Rattle.mx_endings.specs.declared.ending.Stop.{Stop}
+use Rattle.mx_output.specs.endings.Status.{LeavesUnread, Shows, stop_status}
+use Rattle.mx_output.specs.declared.endings.ending.Ending.{Ending}
+use Rattle.mx_output.specs.declared.endings.ending.Ending.TheVariants.{Done}
+use Rattle.mx_output.specs.declared.endings.ending.Stop.{Stop}
 
 -- a text was appended that is right for how the word ended; where it was stopped the status is at least so much, and nothing was appended where the input file gave nothing
 pub record Answers (IsRight : List ℕ → Ending → Type 0) (least : ℕ) (old new : List ℕ) (result : Result Ending Stop) : Type 0 where

@@ -1,14 +1,14 @@
 //! The office in a file is asked.
 ghost use Rattle.std.specs.Prelude.{◌≡◌, ◌≤◌, ℕ, List, Err, IfOk, IfErr};
 ghost use Rattle.mx_files.specs.Answered.{Answers};
-ghost use Rattle.mx_endings.specs.Status.{LeavesUnread, Shows, stop_status};
-ghost use Rattle.mx_endings.specs.declared.ending.Ending.{Ending};
+ghost use Rattle.mx_output.specs.endings.Status.{LeavesUnread, Shows, stop_status};
+ghost use Rattle.mx_output.specs.declared.endings.ending.Ending.{Ending};
 
 use crate::opening::{ended, stop_of};
 use mx_database::{Work, work_in_file};
-use mx_endings::{Ending, Stop};
 use mx_jobs::open;
 use mx_office::Office;
+use mx_output::endings::{Ending, Stop};
 use sqlite::{Alter, Connection};
 
 /// What is asked of the office in a file, whatever its store.

@@ -1,17 +1,17 @@
 //! `init-old` over a file.
 ghost use Rattle.std.specs.Prelude.{◌≡◌, ◌≤◌, ◌++◌, [], IfOk, IfErr, OnErr};
 ghost use Rattle.mx_files.specs.Answered.{TellsNothing};
-ghost use Rattle.mx_printed.specs.Entered.{AreFirstReplies, TellsReplies};
+ghost use Rattle.mx_output.specs.printed.Entered.{AreFirstReplies, TellsReplies};
 ghost use Rattle.mx_upkeep.specs.Installed.{HasAppended};
-ghost use Rattle.mx_endings.specs.Status.{LeavesUnread, Shows, stop_status};
+ghost use Rattle.mx_output.specs.endings.Status.{LeavesUnread, Shows, stop_status};
 
 use crate::inputs::commands_in;
 use crate::opening::stop_of;
 use mx_book::commands::Command;
 use mx_book::entry_list::Book;
 use mx_database::{Work, Worked, work_in_new_file};
-use mx_endings::{Ending, Stop};
 use mx_layout::TableFault;
+use mx_output::endings::{Ending, Stop};
 use mx_upkeep::{Accepted, accept_all, install_book, print_accepted};
 use sqlite::{Alter, Connection};
 

@@ -1,13 +1,13 @@
 //! `init` over a file.
 ghost use Rattle.std.specs.Prelude.{◌≡◌, ◌++◌, codes, OnErr, IfOk, IfErr};
 ghost use Rattle.mx_files.specs.Answered.{TellsMade};
-ghost use Rattle.mx_endings.specs.Status.{stop_status};
+ghost use Rattle.mx_output.specs.endings.Status.{stop_status};
 
 use crate::opening::stop_of;
 use mx_database::{Work, Worked, work_in_new_file};
-use mx_endings::{Ending, Stop};
 use mx_jobs::{CREATED, make_book};
 use mx_layout::TableFault;
+use mx_output::endings::{Ending, Stop};
 use sqlite::{Alter, Connection};
 
 // The tables of an empty book are made, and the database is handed back; where none are made it is let go as it is.

@@ -1,12 +1,12 @@
 //! `migrate` over a file.
 ghost use Rattle.std.specs.Prelude.{◌≡◌, ◌≤◌, IfOk, IfErr};
 ghost use Rattle.mx_files.specs.Answered.{Answers};
-ghost use Rattle.mx_printed.specs.Moved.{IsPointLine};
-ghost use Rattle.mx_endings.specs.Status.{LeavesUnread, Shows, stop_status};
+ghost use Rattle.mx_output.specs.printed.Moved.{IsPointLine};
+ghost use Rattle.mx_output.specs.endings.Status.{LeavesUnread, Shows, stop_status};
 
 use crate::opening::{ended, stop_of};
 use mx_database::{Work, work_in_file};
-use mx_endings::{Ending, Stop};
+use mx_output::endings::{Ending, Stop};
 use mx_upkeep::move_on;
 use sqlite::{Alter, Connection};
 

@@ -1,11 +1,11 @@
 //! What becomes of a word where its file was not opened, or not closed.
 ghost use Rattle.std.specs.Prelude.{◌≡◌, ◌⊎◌, true, false, Err, OnOk, OnErr};
 ghost use Rattle.mx_database.specs.declared.opening.Unopened.{Unopened};
-ghost use Rattle.mx_endings.specs.Status.{stop_status};
+ghost use Rattle.mx_output.specs.endings.Status.{stop_status};
 
 use mx_database::{Unopened, Worked};
-use mx_endings::{Ending, Stop};
 use mx_office::{Fault, OpenFault};
+use mx_output::endings::{Ending, Stop};
 
 /// What stops a word whose file was not opened.
 pub(crate) fn stop_of(why: Unopened) -> Stop

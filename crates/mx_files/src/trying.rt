@@ -6,17 +6,17 @@ ghost use Rattle.sqlite_catalog.specs.Listing.{IsSound};
 ghost use Rattle.mx_layout.specs.Crash.{RestsAs};
 ghost use Rattle.mx_layout.specs.Tables.{no_schema};
 ghost use Rattle.mx_office.specs.Office.{office_state, IsReady, StandsFor};
-ghost use Rattle.mx_endings.specs.Status.{stop_status};
-ghost use Rattle.mx_printed.specs.Tried.{TellsTrial};
+ghost use Rattle.mx_output.specs.endings.Status.{stop_status};
+ghost use Rattle.mx_output.specs.printed.Tried.{TellsTrial};
 
 use mx_answers::print_list;
 use mx_base::Tail;
 use mx_book::commands::Command;
-use mx_endings::{Ending, Stop};
 use mx_jobs::{enter_all, open};
 use mx_layout::{Layout, create};
 use mx_office::{NEWEST_LAYOUT, Office, OpenFault};
-use mx_questions::Question;
+use mx_output::endings::{Ending, Stop};
+use mx_output::questions::Question;
 use sqlite::{Alter, Connection};
 use std::alloc::Global;
 

@@ -1,21 +1,21 @@
 //! The words that ask the office in a file.
 ghost use Rattle.std.specs.Prelude.{◌≤◌, length, IfOk, IfErr};
-ghost use Rattle.mx_printed.specs.Entered.{AreReplyLines, AreSomeReplyLines};
-ghost use Rattle.mx_printed.specs.Imported.{AreRowLines};
-ghost use Rattle.mx_printed.specs.Listed.{IsListAnswer};
-ghost use Rattle.mx_endings.specs.Status.{LeavesUnread, Shows, stop_status};
-ghost use Rattle.mx_printed.specs.Verified.{IsVerifiedLine};
+ghost use Rattle.mx_output.specs.printed.Entered.{AreReplyLines, AreSomeReplyLines};
+ghost use Rattle.mx_output.specs.printed.Imported.{AreRowLines};
+ghost use Rattle.mx_output.specs.printed.Listed.{IsListAnswer};
+ghost use Rattle.mx_output.specs.endings.Status.{LeavesUnread, Shows, stop_status};
+ghost use Rattle.mx_output.specs.printed.Verified.{IsVerifiedLine};
 
 use crate::asking::{Asked, answer_file};
 use crate::inputs::{UNOPENED, commands_in, programme_in};
 use mx_answers::print_list;
 use mx_base::Doc;
 use mx_book::commands::Command;
-use mx_endings::{Ending, Stop};
 use mx_import::import_all;
 use mx_jobs::{enter_all, print_verified};
 use mx_office::Office;
-use mx_questions::Question;
+use mx_output::endings::{Ending, Stop};
+use mx_output::questions::Question;
 use sqlite::Alter;
 use std::{fs, slice};
 

@@ -8,8 +8,8 @@ use Rattle.mx_office.specs.Calls.{IsRun}
 use Rattle.mx_faults.specs.declared.fault.Fault.{Fault}
 use Rattle.mx_office.specs.declared.office.Office.{Office}
 use Rattle.mx_import.specs.Import.{AreRowsOf}
-use Rattle.mx_sector_log.specs.Rows.{good_rows, told}
-use Rattle.mx_sector_log.specs.declared.report.RowReply.{RowReply}
+use Rattle.mx_output.specs.sector_log.Rows.{good_rows, told}
+use Rattle.mx_output.specs.declared.sector_log.report.RowReply.{RowReply}
 
 -- the rows are told so: those of what a reader had left, the good ones handed in one after the other up to this fault, if any
 abbrev pub AreTold : {S : Type 0} {g : Ghosts S} → Option (List ℕ) → Option Fault → List RowReply → Office S g → Office S g → Type 0

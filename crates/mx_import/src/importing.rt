@@ -5,12 +5,12 @@ ghost use Rattle.mx_intake.specs.Sectors.{sector_rows};
 ghost use Rattle.mx_intake.specs.declared.fault.TheConstants.{MEMORY};
 ghost use Rattle.mx_import.specs.Import.{AreRowsOf, IsFaultOf};
 ghost use Rattle.mx_office.specs.Calls.{IsRun};
-ghost use Rattle.mx_sector_log.specs.Rows.{good_rows, told};
+ghost use Rattle.mx_output.specs.sector_log.Rows.{good_rows, told};
 
 use crate::report::ImportReport;
 use mx_intake::{IntakeFault, MOST_BYTES, read_all, sectors_of_csv};
 use mx_office::Office;
-use mx_sector_log::{commands_of_rows, tell_rows};
+use mx_output::sector_log::{commands_of_rows, tell_rows};
 use sqlite::Alter;
 use std::alloc::Global;
 use std::io::Read;

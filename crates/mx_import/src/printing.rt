@@ -1,17 +1,17 @@
 //! What is printed of a sector log that is imported into an open office: a line for each row.
 ghost use Rattle.std.specs.Prelude.{◌≡◌, ◌⊎◌, ◌++◌, Some, None, IfOk, IfErr};
 ghost use Rattle.mx_import.specs.Import.{AreRowsOf, IsFaultOf};
-ghost use Rattle.mx_sector_log.specs.Text.{row_lines};
+ghost use Rattle.mx_output.specs.sector_log.Text.{row_lines};
 ghost use Rattle.mx_import.specs.Told.{AreTold};
-ghost use Rattle.mx_printed.specs.Imported.{import_ending};
-ghost use Rattle.mx_endings.specs.Status.{stop_status};
+ghost use Rattle.mx_output.specs.printed.Imported.{import_ending};
+ghost use Rattle.mx_output.specs.endings.Status.{stop_status};
 
 use crate::importing::import;
 use crate::report::ImportReport;
-use mx_endings::{Ending, Stop};
 use mx_office::Office;
-use mx_printed::ending_of_rows;
-use mx_sector_log::report_text;
+use mx_output::endings::{Ending, Stop};
+use mx_output::printed::ending_of_rows;
+use mx_output::sector_log::report_text;
 use sqlite::Alter;
 use std::alloc::Global;
 use std::io::Read;

@@ -1,7 +1,7 @@
 //! What an import answers.
 
 use mx_office::Fault;
-use mx_sector_log::RowReply;
+use mx_output::sector_log::RowReply;
 
 /// What an import answers.
 #[derive(Debug, Drop)]

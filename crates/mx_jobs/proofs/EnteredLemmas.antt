@@ -10,9 +10,9 @@ use Rattle.mx_office.specs.Calls.{IsRun}
 use Rattle.mx_office.specs.Office.{office_state, StandsFor}
 use Rattle.mx_office.specs.declared.office.Office.{Office}
 use Rattle.mx_reports.specs.Replies.{lines_of}
-use Rattle.mx_printed.specs.Entered.{TellsReplies}
-use Rattle.mx_endings.specs.Status.{run_ending}
-use Rattle.mx_endings.specs.declared.ending.Ending.{Ending}
+use Rattle.mx_output.specs.printed.Entered.{TellsReplies}
+use Rattle.mx_output.specs.endings.Status.{run_ending}
+use Rattle.mx_output.specs.declared.endings.ending.Ending.{Ending}
 
 module _ {S : Type 0} {g : Ghosts S} (book commands : List Entry) (said : List Reply) (old new : Office S g) (run : IsRun commands said None old new) (stands : StandsFor old book) where
   whole : take (length said) commands ≡ commands

@@ -6,9 +6,9 @@ use Rattle.mx_office.specs.Calls.{stop_in, IsAsked}
 use Rattle.mx_office.specs.Verified.{SaysVerified}
 use Rattle.mx_faults.specs.declared.fault.Fault.{Fault}
 use Rattle.mx_office.specs.declared.office.Office.{Office}
-use Rattle.mx_printed.specs.Verified.{PrintsVerified}
-use Rattle.mx_endings.specs.declared.ending.Ending.{Ending}
-use Rattle.mx_endings.specs.declared.ending.Stop.{Stop}
+use Rattle.mx_output.specs.printed.Verified.{PrintsVerified}
+use Rattle.mx_output.specs.declared.endings.ending.Ending.{Ending}
+use Rattle.mx_output.specs.declared.endings.ending.Stop.{Stop}
 
 -- what was appended is that of an answer which is right for the tables, whatever rows they have
 abbrev pub TellsVerified : Database → List ℕ → List ℕ → Result Ending Stop → Type 0

@@ -3,13 +3,13 @@ ghost use Rattle.std.specs.Prelude.{◌≡◌, length, IfOk, IfErr};
 ghost use Rattle.sqlite.specs.State.{HasCleanDisk};
 ghost use Rattle.mx_office.specs.Calls.{Runs};
 ghost use Rattle.mx_office.specs.Office.{office_state, StandsFor};
-ghost use Rattle.mx_printed.specs.Entered.{AreReplyLines, PrintsRun, TellsReplies};
-ghost use Rattle.mx_endings.specs.Status.{Shows, stop_status};
+ghost use Rattle.mx_output.specs.printed.Entered.{AreReplyLines, PrintsRun, TellsReplies};
+ghost use Rattle.mx_output.specs.endings.Status.{Shows, stop_status};
 
 use mx_book::commands::Command;
-use mx_endings::{Ending, Stop};
 use mx_office::Office;
-use mx_printed::{ending_of, print_replies};
+use mx_output::endings::{Ending, Stop};
+use mx_output::printed::{ending_of, print_replies};
 use sqlite::Alter;
 use std::alloc::Global;
 

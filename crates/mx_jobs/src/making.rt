@@ -11,11 +11,11 @@ ghost use Rattle.mx_layout.specs.Point.{IsStop};
 ghost use Rattle.mx_layout.specs.Steps.{schema_of};
 ghost use Rattle.mx_layout.specs.Tables.{no_schema};
 ghost use Rattle.mx_office.specs.Layout.{office_point};
-ghost use Rattle.mx_endings.specs.Status.{stop_status};
+ghost use Rattle.mx_output.specs.endings.Status.{stop_status};
 
-use mx_endings::Stop;
 use mx_layout::{Layout, TableFault, create};
 use mx_office::NEWEST_LAYOUT;
+use mx_output::endings::Stop;
 use sqlite::{Alter, Connection};
 
 /// What is printed where a book was made.

@@ -4,10 +4,10 @@ ghost use Rattle.sqlite.specs.Held.{state};
 ghost use Rattle.sqlite.specs.State.{HasCleanDisk};
 ghost use Rattle.mx_office.specs.Office.{office_state, IsReady};
 ghost use Rattle.mx_office.specs.Opening.{ChangesOnWay, HasReason, MovesOn};
-ghost use Rattle.mx_endings.specs.Status.{stop_status};
+ghost use Rattle.mx_output.specs.endings.Status.{stop_status};
 
-use mx_endings::Stop;
 use mx_office::{Office, open_office};
+use mx_output::endings::Stop;
 use sqlite::{Alter, Connection};
 use std::alloc::Global;
 

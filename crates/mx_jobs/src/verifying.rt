@@ -4,13 +4,13 @@ ghost use Rattle.sqlite.specs.State.{HasCleanDisk};
 ghost use Rattle.mx_office.specs.Layout.{office_point};
 ghost use Rattle.mx_office.specs.Office.{office_state, IsReady};
 ghost use Rattle.mx_book_tables.specs.stands.Schemas.{HasTablesAt};
-ghost use Rattle.mx_endings.specs.Status.{Shows, stop_status};
+ghost use Rattle.mx_output.specs.endings.Status.{Shows, stop_status};
 ghost use Rattle.mx_jobs.specs.Verified.{AsksVerified, TellsVerified};
-ghost use Rattle.mx_printed.specs.Verified.{IsVerifiedLine, PrintsVerified};
+ghost use Rattle.mx_output.specs.printed.Verified.{IsVerifiedLine, PrintsVerified};
 
-use mx_endings::{Ending, Stop};
 use mx_office::Office;
-use mx_printed::print_answer;
+use mx_output::endings::{Ending, Stop};
+use mx_output::printed::print_answer;
 use sqlite::Alter;
 use std::alloc::Global;
 

@@ -13,9 +13,9 @@ use Rattle.mx_faults.specs.declared.fault.Fault.TheVariants as office
 use Rattle.mx_intake.specs.Fault.{fault}
 use Rattle.mx_intake.specs.Number.{number_of_digits}
 use Rattle.mx_intake.proofs.Worked.{intake_on_literals}
-use Rattle.mx_sector_log.specs.declared.report.RowReply.TheVariants as row
-use Rattle.mx_questions.specs.declared.question.Question.TheVariants.{Life, Due, Forecast, Limits}
-use Rattle.mx_questions.specs.declared.report.Report.TheVariants as report
+use Rattle.mx_output.specs.declared.sector_log.report.RowReply.TheVariants as row
+use Rattle.mx_output.specs.declared.questions.question.Question.TheVariants.{Life, Due, Forecast, Limits}
+use Rattle.mx_output.specs.declared.questions.report.Report.TheVariants as report
 use Rattle.mx_request.specs.declared.input.InputFault.TheVariants as input
 use Rattle.mx_request.specs.declared.rejection.Rejection.TheVariants.{BadRequest}
 use Rattle.mx_request.specs.declared.routes.Place.TheVariants as place

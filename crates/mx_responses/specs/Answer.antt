@@ -14,12 +14,12 @@ use Rattle.mx_faults.specs.declared.fault.Fault.{Fault}
 use Rattle.mx_faults.specs.declared.fault.Fault.TheVariants.{Memory}
 use Rattle.mx_reports.specs.Replies.{is_refusal, lines_of}
 use Rattle.mx_reports.specs.ReplyText.{reply_line}
-use Rattle.mx_sector_log.specs.Text.{row_lines}
-use Rattle.mx_sector_log.specs.Told.{is_bad, is_refused_row}
-use Rattle.mx_sector_log.specs.declared.report.RowReply.{RowReply}
-use Rattle.mx_endings.specs.FaultLine.{intake_words, line_of, office_words}
-use Rattle.mx_questions.specs.Report.{report_lines}
-use Rattle.mx_questions.specs.declared.report.Report.{Report}
+use Rattle.mx_output.specs.sector_log.Text.{row_lines}
+use Rattle.mx_output.specs.sector_log.Told.{is_bad, is_refused_row}
+use Rattle.mx_output.specs.declared.sector_log.report.RowReply.{RowReply}
+use Rattle.mx_output.specs.endings.FaultLine.{intake_words, line_of, office_words}
+use Rattle.mx_output.specs.questions.Report.{report_lines}
+use Rattle.mx_output.specs.declared.questions.report.Report.{Report}
 use Rattle.mx_request.specs.Rejected.{rejection_body, rejection_status}
 use Rattle.mx_request.specs.declared.rejection.Rejection.{Rejection}
 use Rattle.mx_responses.specs.declared.fault.DeskFault.{DeskFault}

@@ -7,9 +7,9 @@ use Rattle.mx_intake.specs.Loading.{entry_of_programme}
 use Rattle.mx_intake.specs.Number.{number_of_digits}
 use Rattle.mx_intake.specs.Sectors.{sector_rows}
 use Rattle.mx_intake.specs.declared.fault.IntakeFault.{IntakeFault}
-use Rattle.mx_sector_log.specs.Rows.{good_rows}
-use Rattle.mx_questions.specs.Asking.{doc_of, due_question, forecast_question, life_question, limits_question}
-use Rattle.mx_questions.specs.declared.question.Question.{Question}
+use Rattle.mx_output.specs.sector_log.Rows.{good_rows}
+use Rattle.mx_output.specs.questions.Asking.{doc_of, due_question, forecast_question, life_question, limits_question}
+use Rattle.mx_output.specs.declared.questions.question.Question.{Question}
 use Rattle.mx_request.specs.Routes.{Asked}
 use Rattle.mx_request.specs.declared.rejection.Rejection.{Rejection}
 use Rattle.mx_request.specs.declared.rejection.Rejection.TheVariants.{BadRequest}

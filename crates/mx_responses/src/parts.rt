@@ -1,11 +1,11 @@
 //! The parts of a path: documents, and the numbers of a forecast.
 ghost use Rattle.std.specs.Prelude.{◌≡◌};
-ghost use Rattle.mx_questions.specs.Asking.{doc_of};
+ghost use Rattle.mx_output.specs.questions.Asking.{doc_of};
 ghost use Rattle.mx_responses.specs.Request.{forecast_in_digits};
 
 use mx_base::Doc;
 use mx_intake::{read_identifier, read_number};
-use mx_questions::{Question, forecast_question};
+use mx_output::questions::{Question, forecast_question};
 
 /// The document that a part is.
 pub fn read_doc(text: &str) -> Option<Doc>

@@ -7,9 +7,9 @@ ghost use Rattle.mx_responses.specs.Answer.{IsMade, done_status, fault_answer, l
 use crate::fault::DeskFault;
 use http::response::Parts;
 use http::{Response, StatusCode};
-use mx_endings::{write_fault, write_intake};
 use mx_faults::Fault;
 use mx_intake::{IntakeFault, MEMORY};
+use mx_output::endings::{write_fault, write_intake};
 use mx_request::Rejection;
 use std::alloc::Global;
 

@@ -4,8 +4,8 @@ ghost use Rattle.std.specs.Io.KnownBytes.{Appends};
 ghost use Rattle.mx_responses.specs.Serving.{served_line};
 
 use itoa::Buffer;
-use mx_endings::write_fault;
 use mx_faults::Fault;
+use mx_output::endings::write_fault;
 use std::alloc::AllocError;
 use std::io::{Read, Write};
 use std::net::{OpenStream, TcpStream};

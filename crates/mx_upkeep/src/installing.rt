@@ -12,16 +12,16 @@ ghost use Rattle.mx_layout.specs.Tables.{no_schema};
 ghost use Rattle.mx_book_tables.specs.stands.Stands.{RestsAt, StandsAt};
 ghost use Rattle.mx_reports.specs.Replies.{lines_of};
 ghost use Rattle.mx_upkeep.specs.Installed.{AreAccepted};
-ghost use Rattle.mx_endings.specs.Status.{run_ending, stop_status};
+ghost use Rattle.mx_output.specs.endings.Status.{run_ending, stop_status};
 
 use mx_book::commands::Command;
 use mx_book::entry_list::{Book, NoMemory};
 use mx_book::{Refusal, Reply, Verdict};
-use mx_endings::{Ending, Stop};
 use mx_layout::TableFault;
 use mx_moves::install::install_v1;
+use mx_output::endings::{Ending, Stop};
+use mx_output::printed::{ending_of, print_replies};
 use mx_plain_book::Plain;
-use mx_printed::{ending_of, print_replies};
 use sqlite::{Alter, Connection};
 use std::alloc::Global;
 

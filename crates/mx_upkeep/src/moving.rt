@@ -1,13 +1,13 @@
 //! Moving a file of an older layout on to the newest: the point that it is at.
 ghost use Rattle.std.specs.Prelude.{◌≡◌, ◌≤◌, false, IfOk, IfErr, OnErr};
 ghost use Rattle.sqlite.specs.Held.{state};
-ghost use Rattle.mx_printed.specs.Moved.{IsPointLine, PrintsPoint};
+ghost use Rattle.mx_output.specs.printed.Moved.{IsPointLine, PrintsPoint};
 ghost use Rattle.mx_upkeep.specs.Moved.{Moves};
-ghost use Rattle.mx_endings.specs.Status.{Shows, stop_status};
+ghost use Rattle.mx_output.specs.endings.Status.{Shows, stop_status};
 
-use mx_endings::{Ending, Stop};
 use mx_migrate::settle::settle;
-use mx_printed::print_point;
+use mx_output::endings::{Ending, Stop};
+use mx_output::printed::print_point;
 use sqlite::{Alter, Connection};
 use std::alloc::Global;
 

@@ -4,13 +4,13 @@ use Rattle.std.specs.Io.KnownBytes.{Appends, Keeps}
 use Rattle.std.specs.Prelude.{max}
 use Rattle.mx_faults.specs.declared.moving.MoveFault.{MoveFault}
 use Rattle.mx_faults.specs.declared.moving.MoveFault.TheVariants as moving
-use Rattle.mx_endings.specs.declared.ending.Ending.{Ending}
-use Rattle.mx_endings.specs.declared.ending.Ending.TheVariants.{Done, Refused, Bad, Differs}
-use Rattle.mx_endings.specs.declared.ending.Stop.{Stop}
-use Rattle.mx_endings.specs.declared.ending.Stop.TheVariants.{Words, Shape, Intake, MakeMemory, Create, Move, Open, Office, Net, Print}
+use Rattle.mx_output.specs.declared.endings.ending.Ending.{Ending}
+use Rattle.mx_output.specs.declared.endings.ending.Ending.TheVariants.{Done, Refused, Bad, Differs}
+use Rattle.mx_output.specs.declared.endings.ending.Stop.{Stop}
+use Rattle.mx_output.specs.declared.endings.ending.Stop.TheVariants.{Words, Shape, Intake, MakeMemory, Create, Move, Open, Office, Net, Print}
 use Rattle.mx_words.specs.Done.{IsDone, IsEnded}
 use Rattle.mx_command_line.specs.Job.{Job}
-use Rattle.mx_endings.specs.Status.{LeavesUnread, Shows, done_status, move_status, stop_status}
+use Rattle.mx_output.specs.endings.Status.{LeavesUnread, Shows, done_status, move_status, stop_status}
 
 -- what was printed in part alone has a status of 4 or more
 pub whole_of : (whole : Bool) (status done : ℕ) → (whole ≡ false → status ≡ max done 4) → status < 4 → whole ≡ true

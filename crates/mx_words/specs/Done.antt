@@ -3,18 +3,18 @@ use Rattle.std.specs.Prelude.{◌≡◌, ◌⊎◌, ℕ, List, [], Option, Some,
 use Rattle.std.specs.Io.KnownBytes.{Appends}
 use Rattle.clap.specs.declared.error.Error.{Error}
 use Rattle.clap.specs.declared.parser.matches.ArgMatches.{ArgMatches}
-use Rattle.mx_printed.specs.Entered.{AreFirstReplies, AreReplyLines, AreSomeReplyLines}
-use Rattle.mx_printed.specs.Imported.{AreRowLines}
-use Rattle.mx_printed.specs.Moved.{IsPointLine}
-use Rattle.mx_printed.specs.Listed.{IsListAnswer}
+use Rattle.mx_output.specs.printed.Entered.{AreFirstReplies, AreReplyLines, AreSomeReplyLines}
+use Rattle.mx_output.specs.printed.Imported.{AreRowLines}
+use Rattle.mx_output.specs.printed.Moved.{IsPointLine}
+use Rattle.mx_output.specs.printed.Listed.{IsListAnswer}
 use Rattle.mx_responses.specs.Serving.{served_line}
 use Rattle.mx_command_line.specs.Trial.{is_trial_shaped, trial_commands}
-use Rattle.mx_printed.specs.Tried.{TellsTrial}
-use Rattle.mx_printed.specs.Verified.{IsVerifiedLine}
+use Rattle.mx_output.specs.printed.Tried.{TellsTrial}
+use Rattle.mx_output.specs.printed.Verified.{IsVerifiedLine}
 use Rattle.mx_command_line.specs.Usage.{IsRequest}
 use Rattle.mx_command_line.specs.Job.{Job, said, tries, makes, lists, enters, imports, installs, loads, moves, serves, verifies}
-use Rattle.mx_endings.specs.declared.ending.Ending.{Ending}
-use Rattle.mx_endings.specs.declared.ending.Ending.TheVariants.{Done}
+use Rattle.mx_output.specs.declared.endings.ending.Ending.{Ending}
+use Rattle.mx_output.specs.declared.endings.ending.Ending.TheVariants.{Done}
 
 -- the text and the ending are those of this job
 abbrev pub IsDone : Job → List ℕ → Ending → Type 0

@@ -3,12 +3,12 @@ ghost use Rattle.std.specs.Prelude.{◌≡◌, ◌≢◌, ◌↔◌, ◌⊎◌, 
 ghost use Rattle.std.specs.Io.KnownBytes.{Keeps};
 ghost use Rattle.mx_words.specs.Done.{IsAnswered, IsDone, IsEnded, IsEndedForSome, LacksShape};
 ghost use Rattle.mx_command_line.specs.Job.{job_of, said};
-ghost use Rattle.mx_endings.specs.Status.{LeavesUnread, Shows, stop_status};
+ghost use Rattle.mx_output.specs.endings.Status.{LeavesUnread, Shows, stop_status};
 
 use clap::ArgMatches;
 use clap::error::ErrorKind;
 use mx_command_line::{Words, command, print_usage, words_of};
-use mx_endings::{Ending, Stop, print_done};
+use mx_output::endings::{Ending, Stop, print_done};
 use std::io::Write;
 
 /// What does the jobs that words ask for.

@@ -1,7 +1,7 @@
 use Rattle.std.proofs.Common.{Err}
 use Rattle.mx_book.specs.declared.verdict.Refusal.TheVariants.{UnknownAircraft}
 use Rattle.mx_lists.specs.Forecast.{forecast}
-use Rattle.mx_questions.specs.declared.report.Report.TheVariants.{Forecast}
+use Rattle.mx_output.specs.declared.questions.report.Report.TheVariants.{Forecast}
 use Rattle.mx_answers.proofs.QuestionLemmas.{answered_as}
 use Rattle.mx_answers.proofs.question.forecast_report.Goals as goal
 

@@ -1,7 +1,7 @@
 use Rattle.std.proofs.Common.{Err}
 use Rattle.mx_book.specs.declared.verdict.Refusal.TheVariants.{UnknownAircraft}
 use Rattle.mx_lists.specs.Lists.{life_list}
-use Rattle.mx_questions.specs.declared.report.Report.TheVariants.{Life}
+use Rattle.mx_output.specs.declared.questions.report.Report.TheVariants.{Life}
 use Rattle.mx_answers.proofs.QuestionLemmas.{answered_as}
 use Rattle.mx_answers.proofs.question.life_report.Goals as goal
 

@@ -1,7 +1,7 @@
 use Rattle.std.proofs.Common.{◌≡◌, ◌∙◌, List, ap, subst}
 use Rattle.mx_book.specs.commands.Act.{Entry}
 use Rattle.mx_office.specs.Calls.{IsRun}
-use Rattle.mx_sector_log.specs.Rows.{good_rows, told}
+use Rattle.mx_output.specs.sector_log.Rows.{good_rows, told}
 use Rattle.mx_import.proofs.importing.import_text.Goals as goal
 
 pub returns-clause-imported : goal.returns-clause-imported

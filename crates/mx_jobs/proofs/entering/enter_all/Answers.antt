@@ -3,7 +3,7 @@ use Rattle.mx_book.specs.declared.verdict.Reply.{Reply}
 use Rattle.mx_office.specs.Calls.{IsRun}
 use Rattle.mx_faults.specs.declared.fault.Fault.{Fault}
 use Rattle.mx_reports.specs.Replies.{lines_of}
-use Rattle.mx_endings.specs.Status.{run_ending}
+use Rattle.mx_output.specs.endings.Status.{run_ending}
 use Rattle.mx_jobs.proofs.EnteredLemmas.{told_by_book}
 use Rattle.mx_jobs.proofs.entering.enter_all.Goals as goal
 

@@ -1,7 +1,7 @@
 use Rattle.std.proofs.Common.{arith, ◌∙◌, ap, sym}
 use Rattle.std.proofs.lemmas.Result.{IfErr-weaker}
-use Rattle.mx_endings.specs.Status.{done_status}
-use Rattle.mx_endings.specs.declared.ending.Ending.TheVariants.{Done, Refused}
+use Rattle.mx_output.specs.endings.Status.{done_status}
+use Rattle.mx_output.specs.declared.endings.ending.Ending.TheVariants.{Done, Refused}
 use Rattle.mx_words.proofs.RunLemmas.{all_of, bad_or_unread, ended_so, refusal_of, unprinted_of, whole_of}
 use Rattle.mx_words.proofs.run.answer_words.Goals as goal
 

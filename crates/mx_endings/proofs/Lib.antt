@@ -1,2 +1,0 @@
-mod WorkedFaults
-mod WorkedStatus

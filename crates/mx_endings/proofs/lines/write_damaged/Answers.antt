@@ -1,4 +1,0 @@
-use Rattle.mx_endings.proofs.lines.write_damaged.Goals as goal
-
-pub returns : goal.returns
-returns g c = rw c.name-name.ensures at c.writeln.ensures.bytes

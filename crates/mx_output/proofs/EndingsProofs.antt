@@ -1,0 +1,2 @@
+pub mod WorkedFaults
+pub mod WorkedStatus

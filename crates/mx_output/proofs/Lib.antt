@@ -1,0 +1,4 @@
+pub mod EndingsProofs
+pub mod PrintedProofs
+pub mod QuestionsProofs
+pub mod SectorLogProofs

@@ -1,0 +1,4 @@
+pub mod WorkedEndings
+pub mod WorkedFile
+pub mod WorkedPoints
+pub mod WorkedTrial

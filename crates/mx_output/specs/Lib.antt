@@ -1,0 +1,4 @@
+pub mod endings
+pub mod printed
+pub mod questions
+pub mod sector_log

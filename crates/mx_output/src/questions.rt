@@ -1,0 +1,10 @@
+//! What is asked of an office: a question for a list of an aircraft, and the question that texts ask; and the list that answers it, with
+//! its text.
+
+pub mod asking;
+pub mod question;
+pub mod report;
+
+pub use asking::{due_question, forecast_question, life_question, limits_question};
+pub use question::Question;
+pub use report::{Report, list_text};

@@ -1,4 +1,0 @@
-mod WorkedEndings
-mod WorkedFile
-mod WorkedPoints
-mod WorkedTrial

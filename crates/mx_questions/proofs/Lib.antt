@@ -1,2 +1,0 @@
-mod Worked
-mod WorkedReports
