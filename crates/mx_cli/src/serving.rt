@@ -1,7 +1,7 @@
 //! `serve`: connections at a port of the loopback, with the office in a file.
 ghost use Rattle.std.specs.Prelude.{◌≡◌, ◌≤◌, ◌++◌, IfOk, IfErr};
 ghost use Rattle.mx_office.specs.Office.{IsInDoubt, IsReady};
-ghost use Rattle.mx_responses.specs.Serving.{served_line};
+ghost use Rattle.mx_http.specs.responses.Serving.{served_line};
 ghost use Rattle.mx_output.specs.endings.Status.{LeavesUnread, stop_status};
 ghost use Rattle.mx_output.specs.declared.endings.ending.Ending.TheVariants.{Done};
 

@@ -8,24 +8,24 @@ use Rattle.mx_book.specs.commands.Act.{Entry}
 use Rattle.mx_office.specs.Office.{office_state}
 use Rattle.mx_office.specs.Stands.{Rests}
 use Rattle.mx_office.specs.declared.office.Office.{Office}
-use Rattle.mx_request.specs.Asked.{AsksFor}
-use Rattle.mx_request.specs.Body.{whole_body}
-use Rattle.mx_request.specs.Head.{head_of}
-use Rattle.mx_request.specs.Routes.{Asked}
-use Rattle.mx_request.specs.declared.rejection.Rejection.{Rejection}
-use Rattle.mx_responses.specs.Answer.{Answer, rejection_answer}
+use Rattle.mx_http.specs.request.Asked.{AsksFor}
+use Rattle.mx_http.specs.request.Body.{whole_body}
+use Rattle.mx_http.specs.request.Head.{head_of}
+use Rattle.mx_http.specs.request.Routes.{Asked}
+use Rattle.mx_http.specs.declared.request.rejection.Rejection.{Rejection}
+use Rattle.mx_http.specs.responses.Answer.{Answer, rejection_answer}
 use Rattle.mx_desk.specs.Answered.{AnswersIfRoom}
 use Rattle.mx_output.specs.questions.Asking.{doc_of, due_question, life_question, limits_question}
-use Rattle.mx_responses.specs.Request.{Request, enters, imports, asks, unread, rejected, entering, entering_one, loading, importing, asking, forecast_in_digits, request_of}
+use Rattle.mx_http.specs.responses.Request.{Request, enters, imports, asks, unread, rejected, entering, entering_one, loading, importing, asking, forecast_in_digits, request_of}
 use Rattle.mx_desk.specs.Served.{AnswersBytes, AnswersHead, AnswersInput, IsCut, IsRead, ServesInput, allows, behind_head, by_body, bytes_of}
 use Rattle.mx_intake.specs.Entries.{entries_of_text}
 use Rattle.mx_intake.specs.Loading.{entry_of_programme}
 use Rattle.mx_intake.specs.Sectors.{sector_rows}
 use Rattle.mx_intake.specs.declared.fault.IntakeFault.{IntakeFault}
 use Rattle.mx_output.specs.declared.questions.question.Question.{Question}
-use Rattle.mx_request.specs.Response.{response_bytes}
-use Rattle.mx_request.specs.declared.rejection.Rejection.TheVariants.{BadRequest}
-use Rattle.mx_request.specs.declared.routes.Place.TheVariants as place
+use Rattle.mx_http.specs.request.Response.{response_bytes}
+use Rattle.mx_http.specs.declared.request.rejection.Rejection.TheVariants.{BadRequest}
+use Rattle.mx_http.specs.declared.request.routes.Place.TheVariants as place
 use Rattle.mx_desk.proofs.ServedLemmas.{serves}
 
 no_error : (b : Bool) → b ≡ true → b ≡ false → ⊥

@@ -23,10 +23,10 @@ use Rattle.mx_output.specs.sector_log.Rows.{good_rows, told}
 use Rattle.mx_output.specs.questions.Report.{report_of}
 use Rattle.mx_output.specs.declared.questions.question.Question.{Question}
 use Rattle.mx_output.specs.declared.questions.report.Report.{Report}
-use Rattle.mx_responses.specs.Answer.{Answer, list_answer, replies_answer, rows_answer}
+use Rattle.mx_http.specs.responses.Answer.{Answer, list_answer, replies_answer, rows_answer}
 use Rattle.mx_desk.specs.Answered.{AnswersIfRoom}
 use Rattle.mx_desk.specs.BookAnswer.{answer_of}
-use Rattle.mx_responses.specs.Request.{Request, enters, imports, asks, unread, rejected, commands_of}
+use Rattle.mx_http.specs.responses.Request.{Request, enters, imports, asks, unread, rejected, commands_of}
 use Rattle.mx_desk.specs.Served.{IsServed, LeavesBehind, LeavesSome, Serves}
 
 not_both : (b : Bool) → b ≡ false → b ≡ true → ⊥

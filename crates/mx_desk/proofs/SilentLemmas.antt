@@ -8,8 +8,8 @@ use Rattle.mx_book.specs.commands.Act.{Entry}
 use Rattle.mx_office.specs.Office.{office_state}
 use Rattle.mx_office.specs.Stands.{Rests}
 use Rattle.mx_office.specs.declared.office.Office.{Office}
-use Rattle.mx_responses.specs.declared.fault.DeskFault.{DeskFault}
-use Rattle.mx_responses.specs.declared.fault.DeskFault.TheVariants.{Memory, Read, Write}
+use Rattle.mx_http.specs.declared.responses.fault.DeskFault.{DeskFault}
+use Rattle.mx_http.specs.declared.responses.fault.DeskFault.TheVariants.{Memory, Read, Write}
 use Rattle.mx_desk.specs.Served.{AnswersInput, IsSilent, ServesInput, Writes, bytes_of}
 use Rattle.mx_desk.proofs.ServedLemmas.{serves}
 use Rattle.mx_desk.proofs.ServeLemmas.{an_answer, input_handed, weaker}

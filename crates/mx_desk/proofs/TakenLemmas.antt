@@ -1,12 +1,12 @@
 -- What was taken of an input, from what was taken behind its front.
 use Rattle.std.proofs.Common.{◌≡◌, ◌≢◌, refl, sym, subst, ℕ, List, [], ◌++◌, take, drop, Option, Some, None, Result, Ok, Err, OnOk, arith}
-use Rattle.mx_request.specs.Head.{HasNoHeadBefore, head_of}
-use Rattle.mx_request.specs.Input.{TakesAtMost}
-use Rattle.mx_request.specs.declared.input.TheConstants.{CHUNK}
-use Rattle.mx_request.specs.declared.rejection.Rejection.{Rejection}
+use Rattle.mx_http.specs.request.Head.{HasNoHeadBefore, head_of}
+use Rattle.mx_http.specs.request.Input.{TakesAtMost}
+use Rattle.mx_http.specs.declared.request.input.TheConstants.{CHUNK}
+use Rattle.mx_http.specs.declared.request.rejection.Rejection.{Rejection}
 use Rattle.mx_desk.specs.Taken.{TakesBehind, TakesBody, TakesRequest}
-use Rattle.mx_responses.specs.declared.fault.DeskFault.{DeskFault}
-use Rattle.mx_responses.specs.declared.fault.DeskFault.TheVariants as desk
+use Rattle.mx_http.specs.declared.responses.fault.DeskFault.{DeskFault}
+use Rattle.mx_http.specs.declared.responses.fault.DeskFault.TheVariants as desk
 
 -- nothing was taken
 pub takes_none : (o : Option (List ℕ)) → TakesAtMost o o 0

@@ -7,10 +7,10 @@ use Rattle.mx_faults.specs.declared.fault.Ask.TheVariants.{Refused}
 use Rattle.mx_faults.specs.declared.fault.Fault.TheVariants as office
 use Rattle.mx_intake.specs.Fault.{fault}
 use Rattle.mx_output.specs.declared.questions.question.Question.TheVariants.{Life}
-use Rattle.mx_request.specs.declared.rejection.Rejection.TheVariants.{BadRequest, NotFound, WrongMethod, BodyTooLarge}
-use Rattle.mx_request.specs.declared.routes.Place.TheVariants as place
-use Rattle.mx_responses.specs.Request.{enters, imports, asks, unread, rejected}
-use Rattle.mx_responses.proofs.Worked.{abcd, sector}
+use Rattle.mx_http.specs.declared.request.rejection.Rejection.TheVariants.{BadRequest, NotFound, WrongMethod, BodyTooLarge}
+use Rattle.mx_http.specs.declared.request.routes.Place.TheVariants as place
+use Rattle.mx_http.specs.responses.Request.{enters, imports, asks, unread, rejected}
+use Rattle.mx_http.proofs.ResponsesProofs.Worked.{abcd, sector}
 use Rattle.mx_desk.specs.BookAnswer.{book_list_answer, answer_of}
 use Rattle.mx_desk.specs.Served.{behind_head, bytes_of}
 

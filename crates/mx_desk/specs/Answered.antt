@@ -6,8 +6,8 @@ use Rattle.mx_faults.specs.declared.fault.Fault.TheVariants.{Memory}
 use Rattle.mx_office.specs.declared.office.Office.{Office}
 use Rattle.mx_output.specs.sector_log.Rows.{good_rows, told}
 use Rattle.mx_answers.specs.Asked.{Asks}
-use Rattle.mx_responses.specs.Answer.{Answer, fault_answer, list_answer, rejection_answer, replies_answer, rows_answer, stop_answer}
-use Rattle.mx_responses.specs.Request.{Request, enters, imports, asks, unread, rejected}
+use Rattle.mx_http.specs.responses.Answer.{Answer, fault_answer, list_answer, rejection_answer, replies_answer, rows_answer, stop_answer}
+use Rattle.mx_http.specs.responses.Request.{Request, enters, imports, asks, unread, rejected}
 
 module _ {S : Type 0} {g : Ghosts S} where
   -- an office was asked this, and what it answers has P: a line for each reply or each row, or a list

@@ -10,8 +10,8 @@ use Rattle.mx_faults.specs.declared.fault.Fault.{Fault}
 use Rattle.mx_output.specs.sector_log.Rows.{good_rows, told}
 use Rattle.mx_output.specs.questions.Report.{report_of}
 use Rattle.mx_output.specs.declared.questions.report.Report.{Report}
-use Rattle.mx_responses.specs.Answer.{Answer, fault_answer, list_answer, rejection_answer, replies_answer, rows_answer}
-use Rattle.mx_responses.specs.Request.{Request, enters, imports, asks, unread, rejected}
+use Rattle.mx_http.specs.responses.Answer.{Answer, fault_answer, list_answer, rejection_answer, replies_answer, rows_answer}
+use Rattle.mx_http.specs.responses.Request.{Request, enters, imports, asks, unread, rejected}
 
 -- the answer of a book to a question that this fault stopped, if any did
 abbrev pub book_list_answer : Result Report Ask → Option Fault → Answer

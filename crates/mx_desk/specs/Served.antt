@@ -12,19 +12,19 @@ use Rattle.mx_office.specs.Stands.{IsEither, Rests}
 use Rattle.mx_faults.specs.declared.fault.Fault.{Fault}
 use Rattle.mx_faults.specs.declared.fault.Fault.TheVariants.{Memory, Store, Damaged}
 use Rattle.mx_office.specs.declared.office.Office.{Office}
-use Rattle.mx_request.specs.Asked.{AsksFor}
-use Rattle.mx_request.specs.Body.{whole_body}
-use Rattle.mx_request.specs.Head.{head_of}
-use Rattle.mx_request.specs.Rejected.{rejection_allows}
-use Rattle.mx_request.specs.Response.{response_bytes}
-use Rattle.mx_request.specs.Routes.{Asked}
-use Rattle.mx_request.specs.declared.rejection.Rejection.{Rejection}
-use Rattle.mx_request.specs.declared.rejection.Rejection.TheVariants.{BadRequest}
-use Rattle.mx_responses.specs.declared.fault.DeskFault.{DeskFault}
-use Rattle.mx_responses.specs.declared.fault.DeskFault.TheVariants as desk
-use Rattle.mx_responses.specs.Answer.{Answer, stop_answer}
-use Rattle.mx_responses.specs.Request.{Request, enters, imports, asks, unread, rejected, commands_of, request_of}
-use Rattle.mx_responses.specs.Stopped.{AppendsSome}
+use Rattle.mx_http.specs.request.Asked.{AsksFor}
+use Rattle.mx_http.specs.request.Body.{whole_body}
+use Rattle.mx_http.specs.request.Head.{head_of}
+use Rattle.mx_http.specs.request.Rejected.{rejection_allows}
+use Rattle.mx_http.specs.request.Response.{response_bytes}
+use Rattle.mx_http.specs.request.Routes.{Asked}
+use Rattle.mx_http.specs.declared.request.rejection.Rejection.{Rejection}
+use Rattle.mx_http.specs.declared.request.rejection.Rejection.TheVariants.{BadRequest}
+use Rattle.mx_http.specs.declared.responses.fault.DeskFault.{DeskFault}
+use Rattle.mx_http.specs.declared.responses.fault.DeskFault.TheVariants as desk
+use Rattle.mx_http.specs.responses.Answer.{Answer, stop_answer}
+use Rattle.mx_http.specs.responses.Request.{Request, enters, imports, asks, unread, rejected, commands_of, request_of}
+use Rattle.mx_http.specs.responses.Stopped.{AppendsSome}
 use Rattle.mx_desk.specs.Answered.{AnswersIfRoom}
 use Rattle.mx_desk.specs.BookAnswer.{answer_of}
 

@@ -1,12 +1,12 @@
 -- What is taken of an input by which a request is answered.
 use Rattle.std.specs.Prelude.{◌≡◌, ℕ, List, ◌++◌, take, drop, Option, Some, Result, Ok, Err}
-use Rattle.mx_request.specs.Asked.{AsksFor}
-use Rattle.mx_request.specs.Body.{missing}
-use Rattle.mx_request.specs.Head.{HasNoHeadBefore, head_of}
-use Rattle.mx_request.specs.Input.{TakesAtMost}
-use Rattle.mx_request.specs.Routes.{Asked}
-use Rattle.mx_request.specs.declared.input.TheConstants.{CHUNK}
-use Rattle.mx_request.specs.declared.rejection.Rejection.{Rejection}
+use Rattle.mx_http.specs.request.Asked.{AsksFor}
+use Rattle.mx_http.specs.request.Body.{missing}
+use Rattle.mx_http.specs.request.Head.{HasNoHeadBefore, head_of}
+use Rattle.mx_http.specs.request.Input.{TakesAtMost}
+use Rattle.mx_http.specs.request.Routes.{Asked}
+use Rattle.mx_http.specs.declared.request.input.TheConstants.{CHUNK}
+use Rattle.mx_http.specs.declared.request.rejection.Rejection.{Rejection}
 
 -- how many bytes of the body that a head asks for are not there yet: a request that is rejected needs none
 abbrev pub missing_of : Result (Asked × ℕ) Rejection → List ℕ → ℕ

@@ -3,19 +3,19 @@ ghost use Rattle.std.specs.Prelude.{◌≡◌, ℕ, IfOk};
 ghost use Rattle.http.specs.Response.{body_of, head_of};
 ghost use Rattle.sqlite.specs.State.{HasCleanDisk};
 ghost use Rattle.mx_office.specs.Office.{office_state, StandsFor};
-ghost use Rattle.mx_request.specs.Routes.{asked};
-ghost use Rattle.mx_responses.specs.Answer.{IsMade};
+ghost use Rattle.mx_http.specs.request.Routes.{asked};
+ghost use Rattle.mx_http.specs.responses.Answer.{IsMade};
 ghost use Rattle.mx_desk.specs.Answered.{AnswersIfRoom};
-ghost use Rattle.mx_responses.specs.Request.{asking, request_of};
+ghost use Rattle.mx_http.specs.responses.Request.{asking, request_of};
 ghost use Rattle.mx_desk.specs.Served.{KeepsBook, LeavesBehind, Serves};
 
 use crate::entering::{enter_listed, import_log, load};
 use crate::listing::ask_list;
 use http::Response;
+use mx_http::request::{Rejection, Route};
+use mx_http::responses::{DeskFault, forecast_in_digits, rejection_response};
 use mx_office::Office;
 use mx_output::questions::{Question, due_question, life_question, limits_question};
-use mx_request::{Rejection, Route};
-use mx_responses::{DeskFault, forecast_in_digits, rejection_response};
 use sqlite::Alter;
 use std::alloc::Global;
 

@@ -4,20 +4,20 @@ ghost use Rattle.http.specs.Response.{body_of, head_of};
 ghost use Rattle.mx_intake.specs.Entries.{entries_of_text};
 ghost use Rattle.mx_intake.specs.Sectors.{sector_rows};
 ghost use Rattle.mx_output.specs.questions.Asking.{doc_of};
-ghost use Rattle.mx_responses.specs.Answer.{IsMade, replies_answer};
+ghost use Rattle.mx_http.specs.responses.Answer.{IsMade, replies_answer};
 ghost use Rattle.mx_office.specs.Calls.{Runs};
 ghost use Rattle.mx_desk.specs.Answered.{AnswersIfRoom};
-ghost use Rattle.mx_responses.specs.Request.{entering, importing, loading};
+ghost use Rattle.mx_http.specs.responses.Request.{entering, importing, loading};
 
 use http::Response;
 use mx_book::commands::Command;
+use mx_http::request::Rejection;
+use mx_http::responses::{
+    DeskFault, fault_response, read_doc, rejection_response, replies_response, rows_response,
+};
 use mx_import::import_text;
 use mx_intake::{commands_of_json, programme_of};
 use mx_office::Office;
-use mx_request::Rejection;
-use mx_responses::{
-    DeskFault, fault_response, read_doc, rejection_response, replies_response, rows_response,
-};
 use sqlite::Alter;
 use std::alloc::Global;
 use std::slice;

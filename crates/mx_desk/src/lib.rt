@@ -9,7 +9,7 @@ mod serve;
 mod serving;
 
 pub use answering::route_response;
-pub use mx_request::{NoRoute, Route, route};
-pub use mx_responses::DeskFault;
+pub use mx_http::request::{NoRoute, Route, route};
+pub use mx_http::responses::DeskFault;
 pub use serve::serve_one;
 pub use serving::serve_on;

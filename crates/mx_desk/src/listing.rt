@@ -2,13 +2,13 @@
 ghost use Rattle.std.specs.Prelude.{◌≡◌, IfOk};
 ghost use Rattle.http.specs.Response.{body_of, head_of};
 ghost use Rattle.mx_answers.specs.Asked.{Asks};
-ghost use Rattle.mx_responses.specs.Answer.{IsMade, list_answer};
+ghost use Rattle.mx_http.specs.responses.Answer.{IsMade, list_answer};
 
 use http::Response;
 use mx_answers::ask;
+use mx_http::responses::{DeskFault, refusal_response, report_response, stop_response};
 use mx_office::{Ask, Office};
 use mx_output::questions::Question;
-use mx_responses::{DeskFault, refusal_response, report_response, stop_response};
 use sqlite::Alter;
 use std::alloc::Global;
 

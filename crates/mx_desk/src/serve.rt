@@ -2,17 +2,17 @@
 ghost use Rattle.std.specs.Prelude.{◌≡◌, ◌≢◌, ◌⊎◌, ◌++◌, ⊤, ◌↔◌, [], Some, None, Ok, Err, IfSome, OnOk, OnErr, IfOk, IfErr};
 ghost use Rattle.sqlite.specs.State.{HasCleanDisk};
 ghost use Rattle.mx_office.specs.Office.{office_state, StandsFor};
-ghost use Rattle.mx_request.specs.Body.{whole_body};
-ghost use Rattle.mx_request.specs.Head.{head_of};
-ghost use Rattle.mx_request.specs.Input.{TakesAtMost};
-ghost use Rattle.mx_request.specs.Routes.{asked};
+ghost use Rattle.mx_http.specs.request.Body.{whole_body};
+ghost use Rattle.mx_http.specs.request.Head.{head_of};
+ghost use Rattle.mx_http.specs.request.Input.{TakesAtMost};
+ghost use Rattle.mx_http.specs.request.Routes.{asked};
 ghost use Rattle.mx_desk.specs.Taken.{TakesBehind, TakesBody, TakesRequest, missing_of};
 ghost use Rattle.mx_desk.specs.Served.{AnswersBytes, AnswersHead, AnswersInput, IsSilent, KeepsBook, LeavesBook, ServesInput, Writes, by_body};
 
 use crate::answering::route_response;
+use mx_http::request::{Rejection, Route, asked_of, head_of, read_body, read_head};
+use mx_http::responses::{DeskFault, bytes_of, of_input, reject, write_text};
 use mx_office::Office;
-use mx_request::{Rejection, Route, asked_of, head_of, read_body, read_head};
-use mx_responses::{DeskFault, bytes_of, of_input, reject, write_text};
 use sqlite::Alter;
 use std::alloc::Global;
 use std::io::{Read, Write};

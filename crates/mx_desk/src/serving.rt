@@ -4,11 +4,11 @@ ghost use Rattle.std.specs.Io.KnownBytes.{Appends};
 ghost use Rattle.mx_book.specs.Run.{book_run};
 ghost use Rattle.mx_office.specs.Office.{office_state, IsInDoubt, IsReady, StandsFor};
 ghost use Rattle.mx_desk.specs.Served.{KeepsBook, LeavesBook, LeavesSome};
-ghost use Rattle.mx_responses.specs.Serving.{served_line};
+ghost use Rattle.mx_http.specs.responses.Serving.{served_line};
 
 use crate::serve::serve_one;
+use mx_http::responses::{append_served, print_served, take_the_rest};
 use mx_office::{Fault, Office};
-use mx_responses::{append_served, print_served, take_the_rest};
 use sqlite::Alter;
 use std::alloc::Global;
 use std::io::Write;

@@ -1,7 +1,7 @@
 //! An input that is read in parts, and one of which a read fails or is interrupted.
 use crate::in_parts::InParts;
+use mx_http::request::{InputFault, read_body, read_head};
 use mx_intake::{IntakeFault, READ_FAILED, TOO_LONG, read_all};
-use mx_request::{InputFault, read_body, read_head};
 use std::io::ErrorKind;
 use std::test::Fail;
 

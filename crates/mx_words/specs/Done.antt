@@ -7,7 +7,7 @@ use Rattle.mx_output.specs.printed.Entered.{AreFirstReplies, AreReplyLines, AreS
 use Rattle.mx_output.specs.printed.Imported.{AreRowLines}
 use Rattle.mx_output.specs.printed.Moved.{IsPointLine}
 use Rattle.mx_output.specs.printed.Listed.{IsListAnswer}
-use Rattle.mx_responses.specs.Serving.{served_line}
+use Rattle.mx_http.specs.responses.Serving.{served_line}
 use Rattle.mx_command_line.specs.Trial.{is_trial_shaped, trial_commands}
 use Rattle.mx_output.specs.printed.Tried.{TellsTrial}
 use Rattle.mx_output.specs.printed.Verified.{IsVerifiedLine}

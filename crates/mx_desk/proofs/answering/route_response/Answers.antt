@@ -1,7 +1,7 @@
 use Rattle.http.specs.Response.{body_of, head_of}
-use Rattle.mx_responses.specs.Request.{request_of}
+use Rattle.mx_http.specs.responses.Request.{request_of}
 use Rattle.mx_desk.proofs.ServedLemmas.{leaves, serves_result, stays}
-use Rattle.mx_request.specs.Routes.{asked}
+use Rattle.mx_http.specs.request.Routes.{asked}
 use Rattle.mx_desk.proofs.answering.route_response.Goals as goal
 
 pub returns-clause-served : goal.returns-clause-served

@@ -1,7 +1,7 @@
 use Rattle.std.proofs.Common.{◌≡◌, subst, List, IfOk}
 use Rattle.http.specs.Response.{body_of, head_of}
 use Rattle.mx_book.specs.declared.verdict.Reply.{Reply}
-use Rattle.mx_responses.specs.Answer.{replies_answer}
+use Rattle.mx_http.specs.responses.Answer.{replies_answer}
 use Rattle.mx_desk.proofs.entering.enter_commands.Goals as goal
 
 pub returns-clause-ran : goal.returns-clause-ran

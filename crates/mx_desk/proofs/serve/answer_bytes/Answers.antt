@@ -1,7 +1,7 @@
 use Rattle.std.proofs.Common.{◌∙◌, sym, refl, take, drop, length, ◌-◌}
 use Rattle.sqlite.specs.Held.{state}
 use Rattle.mx_desk.proofs.ServedLemmas.{left_here}
-use Rattle.mx_responses.proofs.WritingLemmas.{all_behind}
+use Rattle.mx_http.proofs.ResponsesProofs.WritingLemmas.{all_behind}
 use Rattle.mx_desk.proofs.ServeLemmas.{bytes_answers, bytes_stopped, rejected_answers}
 use Rattle.mx_desk.proofs.TakenLemmas.{front_asked, front_rejected, on_ok, on_ok_then}
 use Rattle.mx_desk.proofs.serve.answer_bytes.Goals as goal

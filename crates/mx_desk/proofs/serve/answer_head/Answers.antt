@@ -1,9 +1,9 @@
 use Rattle.std.proofs.Common.{subst, ℕ, Result, Ok, Err, ◌++◌}
 use Rattle.sqlite.specs.Held.{state}
-use Rattle.mx_request.specs.Asked.{AsksFor, as_asked}
-use Rattle.mx_request.specs.Routes.{asked}
-use Rattle.mx_request.specs.declared.rejection.Rejection.{Rejection}
-use Rattle.mx_request.specs.declared.routes.Route.{Route}
+use Rattle.mx_http.specs.request.Asked.{AsksFor, as_asked}
+use Rattle.mx_http.specs.request.Routes.{asked}
+use Rattle.mx_http.specs.declared.request.rejection.Rejection.{Rejection}
+use Rattle.mx_http.specs.declared.request.routes.Route.{Route}
 use Rattle.mx_desk.proofs.ServedLemmas.{left_here}
 use Rattle.mx_desk.proofs.TakenLemmas.{on_ok, takes_none}
 use Rattle.mx_desk.proofs.ServeLemmas.{head_answers, head_stopped, on_err}

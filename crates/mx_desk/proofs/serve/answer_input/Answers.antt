@@ -1,6 +1,6 @@
 use Rattle.std.proofs.Common.{◌≡◌, ◌≢◌, ◌∙◌, sym, ap, subst, rules, ◌++◌, List, [], ℕ}
 use Rattle.sqlite.specs.Held.{state}
-use Rattle.mx_request.specs.Head.{head_of}
+use Rattle.mx_http.specs.request.Head.{head_of}
 use Rattle.mx_desk.proofs.ServedLemmas.{left_here}
 use Rattle.mx_desk.specs.Taken.{TakesBehind}
 use Rattle.mx_desk.proofs.SilentLemmas.{begun_told}

@@ -2,9 +2,9 @@ use Rattle.std.proofs.Common.{◌≡◌, ◌∙◌, sym, ap, refl, ◌++◌, IfO
 use Rattle.std.specs.Option.{option_map}
 use Rattle.http.specs.Response.{body_of, head_of}
 use Rattle.sqlite.specs.Held.{state}
-use Rattle.mx_request.specs.Body.{whole_body}
-use Rattle.mx_request.specs.Routes.{asked}
-use Rattle.mx_responses.specs.Request.{request_of}
+use Rattle.mx_http.specs.request.Body.{whole_body}
+use Rattle.mx_http.specs.request.Routes.{asked}
+use Rattle.mx_http.specs.responses.Request.{request_of}
 use Rattle.mx_desk.proofs.ServedLemmas.{left_here}
 use Rattle.mx_desk.proofs.ServeLemmas.{a_body, no_body}
 use Rattle.mx_desk.proofs.serve.answer_route.Goals as goal

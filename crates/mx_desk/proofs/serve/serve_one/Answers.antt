@@ -1,6 +1,6 @@
 use Rattle.std.proofs.Common.{◌≡◌, ap, subst, rules, ℕ, List, Err}
 use Rattle.std.specs.Io.KnownBytes.{Appends}
-use Rattle.mx_responses.specs.Stopped.{AppendsSome}
+use Rattle.mx_http.specs.responses.Stopped.{AppendsSome}
 use Rattle.mx_desk.specs.Served.{AnswersInput, Writes}
 use Rattle.mx_desk.proofs.ServeLemmas.{done_has, failed_has, some_has}
 use Rattle.mx_desk.proofs.SilentLemmas.{answer_told, served_told, some_input, stopped_told}

@@ -1,0 +1,2 @@
+pub mod RequestProofs
+pub mod ResponsesProofs

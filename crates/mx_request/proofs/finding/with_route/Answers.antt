@@ -1,8 +1,0 @@
-use Rattle.matchit.specs.Route.{parse_route}
-use Rattle.mx_request.specs.Routes.{with_route}
-use Rattle.mx_request.proofs.RoutesLemmas.{inserted}
-use Rattle.mx_request.proofs.finding.with_route.Goals as goal
-
-pub returns-in-Ok : goal.returns-in-Ok
-unfolding with_route
-returns-in-Ok c = inserted (parse_route c.args.text.now) c.args.place c.args.router c.insert.new.self c.in-Ok.ensures

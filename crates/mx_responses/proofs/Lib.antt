@@ -1,3 +1,0 @@
-pub mod Worked
-mod WorkedServing
-pub mod WritingLemmas
