@@ -1,0 +1,107 @@
+-- The book that a stop leaves of a run, from what the run answers and what is found.
+use Rattle.std.proofs.Common.{arith, refl, sym, ap, subst, ◌∙◌, ◌≡◌, ◌≢◌, ◌≤◌, ◌<◌, ◌⊎◌, inl, inr, ℕ, ◌+◌, suc, length, take, drop, List, ◌++◌, Option, Some, None, slice_get, count_by, IsSomeAnd}
+use Rattle.std.proofs.lemmas.List.{take-append-drop, take-take}
+use Rattle.std.proofs.lemmas.Option.{slice_get_within}
+use Rattle.sqlite.specs.Tree.{Trees}
+use Rattle.sqlite.specs.Store.{Ghosts}
+use Rattle.sqlite.specs.Held.{Held, state}
+use Rattle.sqlite.specs.State.{State, HasCleanDisk}
+use Rattle.sqlite.proofs.MarkLemmas.{slice_get-take}
+use Rattle.mx_book.specs.commands.Act.{Entry}
+use Rattle.mx_book.specs.Accepted.{accepted, is_accepted, Acknowledges, HasAcknowledged}
+use Rattle.mx_book.specs.Book.{entry_at}
+use Rattle.mx_book.specs.Run.{book_run, replies}
+use Rattle.mx_book.proofs.GrowthLemmas.{book_run-append}
+use Rattle.mx_book.proofs.AcceptedLemmas.{run_accepts, run_prefix, replies_count, one_more, run_has}
+use Rattle.mx_layout.specs.Crash.{ChangesNothing, Leaves}
+use Rattle.mx_database.specs.power.Found.{IsFound}
+use Rattle.mx_database.proofs.PowerProofs.FoundLemmas.{rests_found}
+use Rattle.mx_layout.specs.declared.fault.Table.{Table}
+use Rattle.mx_faults.specs.declared.fault.Fault.{Fault}
+use Rattle.mx_faults.specs.declared.fault.Fault.TheVariants.{Memory, Store, NeedsReopen, Damaged}
+use Rattle.mx_office.specs.declared.fault.Outcomes.{Outcomes}
+use Rattle.mx_office.specs.Layout.{office_point, office_schema}
+use Rattle.mx_office.specs.Opening.{ChangesOnWay}
+use Rattle.mx_office.proofs.MoveLemmas.{nothing_changes, placed_holds}
+use Rattle.mx_migrate.specs.settle.Place.{SaysAt}
+use Rattle.mx_office.specs.Stands.{Stands, Rests, IsEither}
+use Rattle.mx_promise.specs.Kept.{count_accepted, IsKept, IsBookKept}
+
+-- the tables that were found stand for the book, so they rest as it
+pub rests_as : (may_leave : Trees → Type 0) (again : State) (book : List Entry) (found : IsFound may_leave again) → Stands found.tables book → Rests again book
+rests_as may_leave again book found stands = rests_found may_leave again office_schema (λ trees. Stands trees book) found stands.lies.sound stands
+
+-- the tables that were found are at the point of the office, so an opening of it changed nothing
+pub nothing_found : (may_leave : Trees → Type 0) {S : Type 0} (g : Ghosts S) (mid : Held S) (now : State) → HasCleanDisk (state g mid) → HasCleanDisk now → (found : IsFound may_leave (state g mid)) → SaysAt office_point found.tables → ChangesOnWay g mid now → ChangesNothing (state g mid) now
+nothing_found may_leave g mid now early clean found says changes =
+    let placed = rests_found may_leave (state g mid) office_schema (SaysAt office_point) found says.lies.sound says in
+    nothing_changes g mid now changes clean (λ is_open. placed_holds (state g mid) office_point placed early is_open)
+
+is_store : (stopped : Option Fault) → (stopped ≡ Some Store) ⊎ (stopped ≢ Some Store)
+is_store None = inr (λ h. cc)
+is_store (Some Memory) = inr (λ h. cc)
+is_store (Some Store) = inl refl
+is_store (Some NeedsReopen) = inr (λ h. cc)
+is_store (Some (Damaged table)) = inr (λ h. cc)
+
+-- so many commands reached the file: as many as were answered, or one more
+abbrev pub HasReached : Outcomes → ℕ → Type 0
+HasReached outcomes reached = (reached ≡ length outcomes.replies.items) ⊎ ((outcomes.stopped ≡ Some Store) × (reached ≡ length outcomes.replies.items + 1))
+
+-- whatever tables a crash leaves behind a run, they stand for the book after those commands
+pub book_left : (end : State) (before commands : List Entry) (outcomes : Outcomes) → let n = length outcomes.replies.items in (outcomes.stopped ≢ Some Store → Rests end (book_run before (take n commands)))
+    → Leaves end (IsEither (book_run before (take n commands)) (book_run before (take (n + 1) commands))) → HasCleanDisk end → (db : Trees) → end.may_leave db
+    → (reached : ℕ) × HasReached outcomes reached × Stands db (book_run before (take reached commands))
+book_left end before commands outcomes kept crash clean db left =
+    let n = length outcomes.replies.items in
+    elim (is_store outcomes.stopped) [
+      | inl store ↦ elim (crash clean db left) [ inl one ↦ (n, inl refl, one) | inr other ↦ (n + 1, inr (store, refl), other) ]
+      | inr other ↦ (n, inl refl, (kept other).crash clean db left)
+    ]
+
+-- a longer run only adds to the book
+grown : (before commands : List Entry) (n k : ℕ) → n ≤ k → (more : List Entry) × (book_run before (take k commands) ≡ book_run before (take n commands) ++ more)
+grown before commands n k low =
+    let first = book_run before (take n commands) in
+    let rest = drop n (take k commands) in
+    let front : take n (take k commands) ≡ take n commands = take-take n k commands low in
+    let whole : take k commands ≡ take n commands ++ rest = sym (take-append-drop n (take k commands)) ∙ ap (λ l. l ++ rest) front in
+    (accepted first rest, ap (book_run before) whole ∙ book_run-append before (take n commands) rest ∙ run_accepts first rest)
+
+module _ (before commands : List Entry) (outcomes : Outcomes) (reached : ℕ) (reaches : HasReached outcomes reached) (answered : outcomes.replies.items ≡ replies before (take (length outcomes.replies.items) commands)) where
+  at_least : length outcomes.replies.items ≤ reached
+  at_least = elim reaches [ inl same ↦ omega arith | inr more ↦ let one : reached ≡ length outcomes.replies.items + 1 = more.1 in omega arith ]
+
+  acknowledged : HasAcknowledged (book_run before (take reached commands)) outcomes.replies.items commands
+  acknowledged at number says =
+      let n = length outcomes.replies.items in
+      let low : at < n = elim says [ inl h ↦ slice_get_within _ at _ h | inr h ↦ slice_get_within _ at _ h ] in
+      let more = grown before commands n reached at_least in
+      let says' = subst (λ l. Acknowledges (slice_get l at) number) answered says in
+      let there = run_has before (take n commands) more.0 at number says' in
+      subst (λ o. IsSomeAnd o (λ command. entry_at (book_run before (take reached commands)) number ≡ Some command)) (slice_get-take n commands at low)
+      (subst (λ (book : List Entry). IsSomeAnd (slice_get (take n commands) at) (λ command. entry_at book number ≡ Some command)) (sym more.1) there)
+
+  sure : count_accepted outcomes ≡ length (accepted before (take (length outcomes.replies.items) commands))
+  sure = ap (count_by is_accepted) answered ∙ replies_count before (take (length outcomes.replies.items) commands)
+
+  is_kept : IsKept (length (accepted before (take reached commands))) outcomes
+  is_kept =
+      let n = length outcomes.replies.items in
+      elim reaches [
+        | inl same ↦ inl (ap (λ k. length (accepted before (take k commands))) same ∙ sym sure)
+        | inr more ↦
+            let next : reached ≡ suc n = let one : reached ≡ n + 1 = more.1 in omega arith in
+            let at = ap (λ k. length (accepted before (take k commands))) next in
+            elim (one_more before commands n) [ inl none ↦ inl (at ∙ none ∙ sym sure) | inr one ↦ inr (more.0, at ∙ one ∙ ap (λ k. k + 1) (sym sure)) ]
+      ]
+
+  pub is_book_kept : ((table : Table) → outcomes.stopped ≢ Some (Damaged table)) → IsBookKept before commands outcomes (book_run before (take reached commands))
+  is_book_kept undamaged = record {
+    answered = answered;
+    kept = length (accepted before (take reached commands));
+    prefix = run_prefix before commands reached;
+    acknowledged = acknowledged;
+    at_most_one_more = is_kept;
+    undamaged = undamaged;
+  }

@@ -1,0 +1,42 @@
+use Rattle.std.proofs.Common.{refl, subst, ◌≡◌, [], None}
+use Rattle.sqlite.specs.Files.{file_state}
+use Rattle.mx_office.specs.declared.fault.Outcomes.{Outcomes}
+use Rattle.mx_promise.specs.Reopened.{IsStopOf}
+use Rattle.mx_promise.proofs.OpenedLemmas.{ended_somewhere, ended_unrun}
+use Rattle.mx_promise.proofs.next_process.open_run_and_end.Goals as goal
+
+pub returns-in-Ok-clause-ended : goal.returns-in-Ok-clause-ended
+returns-in-Ok-clause-ended g c at before file rests =
+    ended_somewhere before c.args.commands.now c.run_and_end-ended.result (c.run_and_end-ended.ensures.ended before (c.in-Ok.ensures.moves.kept at before rests refl))
+
+pub returns-in-Err-clause-ended : goal.returns-in-Err-clause-ended
+returns-in-Err-clause-ended g c at before file rests =
+    let none : c.new.result.items ≡ [] = cc in
+    let outcomes : Outcomes = record { replies = c.new.result; stopped = None } in
+    ended_unrun at before c.args.commands.now outcomes (file_state c.args.conn) c.in-Err.left c.in-Err.fault c.end_process-store.result file none refl rests c.in-Err.ensures.moves c.end_process-store.ensures
+
+pub returns-in-Ok-clause-whole : goal.returns-in-Ok-clause-whole
+returns-in-Ok-clause-whole g c at before file rests sound fault is = absurd cc
+
+pub returns-in-Err-clause-whole : goal.returns-in-Err-clause-whole
+returns-in-Err-clause-whole g c at before file rests sound fault is =
+    let stop = (c.in-Err.ensures.reason (c.end_process-store.ensures.clean sound)).whole at before file rests in
+    let same : c.in-Err.fault ≡ fault = cc in
+    subst IsStopOf same stop
+
+pub returns-in-Ok-clause-ran : goal.returns-in-Ok-clause-ran
+returns-in-Ok-clause-ran g c _ =
+    let ran = c.run_and_end-ended.ensures.ran in
+    record { office = c.in-Ok.office; after = ran.0; moves = c.in-Ok.ensures.moves; ready = c.in-Ok.ensures.ready; run = ran.1 }
+
+pub returns-in-Err-clause-ran : goal.returns-in-Err-clause-ran
+returns-in-Err-clause-ran g c none = absurd cc
+
+pub returns-in-Ok-clause-usable : goal.returns-in-Ok-clause-usable
+returns-in-Ok-clause-usable g c = c.run_and_end-ended.ensures.ran.1.doubt.usable c.in-Ok.ensures.ready
+
+pub returns-in-Ok-clause-counted : goal.returns-in-Ok-clause-counted
+returns-in-Ok-clause-counted g c = c.run_and_end-ended.ensures.ran.1.counted
+
+pub returns-in-Ok-clause-done : goal.returns-in-Ok-clause-done
+returns-in-Ok-clause-done g c _ none = c.run_and_end-ended.ensures.ran.1.done none

@@ -1,0 +1,125 @@
+-- The headline from the connection on: the office of a file at any point of the move is opened, commands are run, the move or the run is stopped, and the office is opened again.
+use Rattle.std.specs.Prelude.{◌≡◌, ◌≢◌, ℕ, List, ⊤, None, Result, Ok, Err, IsTrue}
+use Rattle.sqlite_disk.specs.declared.Disk as disk
+use Rattle.sqlite_store.specs.declared.store.FileStore.{FileStore}
+use Rattle.sqlite.specs.Store.{Ghosts}
+use Rattle.sqlite.specs.Held.{Held}
+use Rattle.sqlite.specs.State.{State, HasCleanDisk}
+use Rattle.sqlite.specs.Tree.{Trees}
+use Rattle.sqlite.specs.Files.{file_state, over_files}
+use Rattle.mx_book.specs.commands.Act.{Entry}
+use Rattle.mx_base.specs.declared.point.Point.{Point}
+use Rattle.mx_layout.specs.Crash.{Leaves, RestsAs}
+use Rattle.mx_migrate.specs.settle.Place.{IsPlacedAt, SaysAt}
+use Rattle.mx_book_tables.specs.stands.Schemas.{IsOfFile}
+use Rattle.mx_book_tables.specs.stands.Stands.{RestsAt, StandsAt}
+use Rattle.mx_office.specs.Calls.{IsRun}
+use Rattle.mx_office.specs.Opening.{AreMovedOn, MovesOn}
+use Rattle.mx_office.specs.declared.office.Office.{Office as TheOffice}
+use Rattle.mx_faults.specs.declared.fault.OpenFault.{OpenFault}
+use Rattle.mx_faults.specs.declared.fault.OpenFault.TheVariants as opening
+use Rattle.mx_office.specs.declared.fault.Outcomes.{Outcomes}
+use Rattle.mx_office.specs.Layout.{office_point, office_schema}
+use Rattle.mx_office.specs.Office.{office_state, IsReady, StandsFor}
+use Rattle.mx_office.specs.Stands.{Rests}
+use Rattle.mx_promise.specs.Kept.{IsBookKept}
+use Rattle.mx_promise.specs.Reopened.{IsPrintOf, IsStopOf}
+use Rattle.mx_promise.specs.declared.running.Reopened.{Reopened}
+use Rattle.mx_promise.specs.declared.running.Unopened.{Unopened}
+use Rattle.mx_promise.specs.declared.running.Unopened.TheVariants.{Database, Office}
+
+-- ── a book at some point ──
+
+-- the tables stand for the book at a point that a file can be at
+abbrev pub StandsSomewhere : List Entry → Trees → Type 0
+StandsSomewhere book trees = (at : Point) × IsOfFile at × StandsAt at trees book
+
+-- no transaction is open, and the tables, and each state of them that a crash may leave, stand for the book at one point that a file can be at
+abbrev pub RestsSomewhere : List Entry → State → Type 0
+RestsSomewhere book now = (at : Point) × IsOfFile at × RestsAt at now book
+
+-- An office was opened in the file, which moved it first where it was older, and commands were run in that.
+pub record IsOpenedAndRun {D : Type 0} {g : disk.Ghosts D} (commands : List Entry) (outcomes : Outcomes) (was : Held (FileStore D g)) : Type 0 where
+  pub office : TheOffice (FileStore D g) over_files
+  pub after : TheOffice (FileStore D g) over_files
+  pub moves : MovesOn (file_state was) (office_state office) None
+  pub ready : IsReady office
+  pub run : IsRun commands outcomes.replies.items outcomes.stopped office after
+
+-- The connection in which no office was opened for this reason stands for the book at some point; where the store failed in the move, each state that a crash may leave does.
+pub record IsLeftFor (book : List Entry) (fault : OpenFault) (now : State) : Type 0 where
+  pub rests : fault ≢ opening.Store → RestsSomewhere book now
+  pub crash : Leaves now (StandsSomewhere book)
+
+-- ── where no office was opened again ──
+
+-- The tables are those of the one book all the same, at some point of the move, and no office was opened for want of memory or since the store failed.
+pub record IsKeptSomewhere (before commands : List Entry) (outcomes : Outcomes) (fault : OpenFault) (now : State) : Type 0 where
+  pub book : List Entry
+  pub kept : IsBookKept before commands outcomes book
+  pub tables : IsLeftFor book fault now
+  pub reason : IsStopOf fault
+
+-- so it is where the connection is handed back, and the disk returns what was written
+abbrev pub KeepsSomewhere : {D : Type 0} {g : disk.Ghosts D} → List Entry → List Entry → Outcomes → Unopened (FileStore D g) → Type 0
+KeepsSomewhere before commands outcomes (Database error) = ⊤
+KeepsSomewhere before commands outcomes (Office conn fault) = HasCleanDisk (file_state conn) → ∥ IsKeptSomewhere before commands outcomes fault (file_state conn) ∥₁
+
+-- ── an opening behind a loss of power, of any book ──
+
+-- The tables that were found are among those that a crash may have left. Where they stood for a book, at whatever point, those of the office stand for it. Where they were those of a file at some point, whatever rows they have, the office is at its own, and each state that the next crash may leave is what steps of the move make of them; and where that was theirs they are as they were found.
+pub record IsOpenedAgain (before now : State) : Type 0 where
+  pub tables : Trees
+  pub left : before.may_leave tables
+  pub books : (at : Point) (book : List Entry) → StandsAt at tables book → Rests now book
+  pub placed : (at : Point) → SaysAt at tables → IsPlacedAt office_point now
+  pub moved : (at : Point) → SaysAt at tables → Leaves now (AreMovedOn at tables)
+  pub settled : SaysAt office_point tables → RestsAs now office_schema (λ db. db ≡ tables)
+
+-- so it is, where the disk returns what was written
+abbrev pub FindsAgain : State → State → Type 0
+FindsAgain before now = HasCleanDisk now → ∥ IsOpenedAgain before now ∥₁
+
+-- The disk had returned what was written, and the tables that were found are among those that a crash may have left. Where they stood for a book at a point that a file can be at, the connection stands for it still, and no office was opened for want of memory or since the store failed. Where they were those of a file at some point, whatever rows they have: they are what steps of the move made of them, unless the store failed, and so is each state that the next crash may leave.
+pub record IsUnopenedAgain (before : State) (fault : OpenFault) (now : State) : Type 0 where
+  pub clean : HasCleanDisk before
+  pub tables : Trees
+  pub left : before.may_leave tables
+  pub books : (at : Point) (book : List Entry) → IsOfFile at → StandsAt at tables book → IsLeftFor book fault now
+  pub reason : (at : Point) (book : List Entry) → IsOfFile at → StandsAt at tables book → IsStopOf fault
+  pub made : (at : Point) → SaysAt at tables → fault ≢ opening.Store → IsTrue now.is_open → AreMovedOn at tables now.now.trees
+  pub moved : (at : Point) → SaysAt at tables → Leaves now (AreMovedOn at tables)
+
+-- so it is where the connection is handed back, and the disk returns what was written
+abbrev pub MissesAgain : {D : Type 0} {g : disk.Ghosts D} → State → Unopened (FileStore D g) → Type 0
+MissesAgain before (Database error) = ⊤
+MissesAgain before (Office conn fault) = HasCleanDisk (file_state conn) → ∥ IsUnopenedAgain before fault (file_state conn) ∥₁
+
+-- The tables that were found are among those that a crash may have left. Where they stood for a book, at whatever point, the office stands for it, and the due list that is printed is that book's.
+pub record IsPrintedAgain {S : Type 0} {g : Ghosts S} (before : State) (tail : List ℕ) (day : ℕ) (again : Reopened S g) : Type 0 where
+  pub tables : Trees
+  pub left : before.may_leave tables
+  pub books : (at : Point) (book : List Entry) → StandsAt at tables book → StandsFor again.office book
+  pub printed : (at : Point) (book : List Entry) → StandsAt at tables book → IsPrintOf book tail day again.printed
+
+-- so it is, where the disk returns what was written
+abbrev pub PrintsAgain : {S : Type 0} {g : Ghosts S} → State → List ℕ → ℕ → Reopened S g → Type 0
+PrintsAgain before tail day again = HasCleanDisk (office_state again.office) → ∥ IsPrintedAgain before tail day again ∥₁
+
+-- ── what a stop leaves for the next opening ──
+
+-- the connection is handed back, and the disk has returned what was written
+abbrev pub IsLeftClean : {D : Type 0} {g : disk.Ghosts D} → Unopened (FileStore D g) → Type 0
+IsLeftClean (Office conn fault) = HasCleanDisk (file_state conn)
+IsLeftClean (Database error) = ⊥
+
+-- the database is there to be opened again, and the disk has returned what was written
+abbrev pub IsThereClean : {D : Type 0} {g : disk.Ghosts D} → Result (Reopened (FileStore D g) over_files) (Unopened (FileStore D g)) → Type 0
+IsThereClean (Ok again) = HasCleanDisk (office_state again.office)
+IsThereClean (Err why) = IsLeftClean why
+
+-- the office stands for the book; or each state that a crash may leave does, where none was opened
+abbrev pub IsLeftStanding : {D : Type 0} {g : disk.Ghosts D} → List Entry → Result (Reopened (FileStore D g) over_files) (Unopened (FileStore D g)) → Type 0
+IsLeftStanding book (Ok again) = StandsFor again.office book
+IsLeftStanding book (Err (Office conn fault)) = Leaves (file_state conn) (StandsSomewhere book)
+IsLeftStanding book (Err (Database error)) = ⊤

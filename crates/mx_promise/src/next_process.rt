@@ -1,0 +1,156 @@
+//! A run that ends with its process, and the file opened again by the next one: the headline for a real file, whose bytes
+//! no clause speaks of.
+ghost use Rattle.std.specs.Prelude.{◌≡◌, ◌≢◌, ◌≤◌, [], None, Some, false, length, List, IfOk, IfErr};
+ghost use Rattle.sqlite.specs.Files.{file_state};
+ghost use Rattle.sqlite_store.specs.FileStore as files;
+ghost use Rattle.sqlite_trees.specs.View.{IsClean};
+ghost use Rattle.sqlite_wal.specs.Files.{image_at};
+ghost use Rattle.mx_book.specs.commands.Act.{Entry};
+ghost use Rattle.mx_base.specs.declared.point.Point.{Point};
+ghost use Rattle.mx_database.specs.power.Found.{WasLeft};
+ghost use Rattle.mx_book_tables.specs.stands.Schemas.{IsOfFile};
+ghost use Rattle.mx_book_tables.specs.stands.Stands.{RestsAt};
+ghost use Rattle.mx_office.specs.Calls.{IsRun};
+ghost use Rattle.mx_office.specs.Office.{StandsFor};
+ghost use Rattle.mx_promise.specs.Ended.{IsEnded, IsEndedSomewhere};
+ghost use Rattle.mx_promise.specs.Opened.{IsOpenedAndRun, KeepsSomewhere};
+ghost use Rattle.mx_promise.specs.Reopened.{GoesOn, IsStopOf, KeepsUnopened, Reopens};
+
+use crate::running::{Reopened, Stopped, Unopened, print_due};
+use mx_base::{Day, Tail};
+use mx_book::commands::Command;
+use mx_database::power::{end_process, reopen_file};
+use mx_office::{Fault, Office, OpenFault, Outcomes, open_office};
+use sqlite::{Connection, FileFrom, FileStore};
+use sqlite_disk::{Disk, Start};
+use std::alloc::Global;
+
+/// What commands were answered in a process, and the store that it left as it ended.
+pub struct Ended<D: Disk> {
+    /// The replies, and what stopped the run before its end.
+    pub outcomes: Outcomes,
+    /// The store, for `reopen_after`.
+    pub store: FileStore<D>,
+}
+
+/// What came of a database in a process that opened its office for commands, and ended.
+pub struct OpenedAndEnded<D: Disk> {
+    /// Why no office was opened for the commands, if none was: then none of them was run.
+    pub unopened: Option<OpenFault>,
+    /// What the commands were answered, and the store that the process left; no reply and no stop where none was run.
+    pub ended: Ended<D>,
+}
+
+/// Applies commands until they end or something stops them; then the process ends.
+pub fn run_and_end<D: Disk + Drop>(
+    alloc: Global,
+    mut office: Office<FileStore<D>>,
+    commands: &[Command],
+) -> Ended<D>
+    ensures ended { (before : _) → StandsFor office before
+        → IsEnded before commands.now result }
+    ensures ran { (after : _) × IsRun commands.now result.outcomes.replies.items
+        result.outcomes.stopped office after }
+{
+    let outcomes = office.run(alloc, commands);
+    Ended {
+        outcomes,
+        store: end_process(office.close()),
+    }
+}
+
+/// Opens the office of a database, which is moved to the newest layout first where it is older, and applies commands
+/// until they end or something stops them, in the move or behind it; then the process ends.
+pub fn open_run_and_end<D: Disk + Drop>(
+    alloc: Global,
+    conn: Connection<FileStore<D>>,
+    commands: &[Command],
+) -> OpenedAndEnded<D>
+    requires { conn.in_transaction ≡ false }
+    ensures ended { (at : Point) (before : List Entry) → IsOfFile at
+        → RestsAt at (file_state conn) before
+        → IsEndedSomewhere before commands.now result.ended }
+    ensures whole { (at : Point) (before : List Entry) → IsOfFile at
+        → RestsAt at (file_state conn) before → IsClean (files.view result.ended.store)
+        → (fault : OpenFault) → result.unopened ≡ Some fault → IsStopOf fault }
+    ensures ran { result.unopened ≡ None
+        → IsOpenedAndRun commands.now result.ended.outcomes conn }
+    ensures unrun { result.unopened ≢ None → result.ended.outcomes.replies.items ≡ [] }
+    ensures unstopped { result.unopened ≢ None → result.ended.outcomes.stopped ≡ None }
+    ensures usable { result.ended.outcomes.stopped ≢ Some Fault.NeedsReopen }
+    ensures counted { length result.ended.outcomes.replies.items ≤ length commands.now }
+    ensures done { result.unopened ≡ None → result.ended.outcomes.stopped ≡ None
+        → length result.ended.outcomes.replies.items ≡ length commands.now }
+{
+    match open_office(alloc, conn) {
+        Ok(office) => {
+            let ended = run_and_end(alloc, office, commands);
+            OpenedAndEnded {
+                unopened: None,
+                ended,
+            }
+        }
+        Err((left, fault)) => {
+            let store = end_process(left);
+            OpenedAndEnded {
+                unopened: Some(fault),
+                ended: Ended {
+                    outcomes: Outcomes {
+                        replies: Vec::new(alloc),
+                        stopped: None,
+                    },
+                    store,
+                },
+            }
+        }
+    }
+}
+
+/// The next process opens the file, and a due list is printed from it. `ended` is what the first process left; `start`
+/// says what the file and its log hold now, which is supposed to be what the first may have left of them.
+pub fn reopen_after<D: Disk + Drop, S: Start>(
+    rt: &HostRuntime,
+    ended: Ended<D>,
+    path: &str,
+    start: S,
+    tail: &Tail,
+    day: Day,
+) -> Stopped<FileStore<FileFrom<S>>>
+    ensures outcomes { result.outcomes ≡ ended.outcomes }
+    ensures goes_on { IfOk result.again GoesOn }
+    ensures headline { (before commands : _) → IsEnded before commands ended
+        → WasLeft ended.store (image_at S.Start)
+        → IfOk result.again (Reopens before commands tail.now day result.outcomes) }
+    ensures unopened { (before commands : _) → IsEnded before commands ended
+        → WasLeft ended.store (image_at S.Start)
+        → IfErr result.again (KeepsUnopened before commands result.outcomes) }
+
+    // Where the first process opened its office too, and may have ended in its move.
+    ensures moved { (before commands : _) → IsEndedSomewhere before commands ended
+        → WasLeft ended.store (image_at S.Start)
+        → IfOk result.again (Reopens before commands tail.now day result.outcomes) }
+    ensures unmoved { (before commands : _) → IsEndedSomewhere before commands ended
+        → WasLeft ended.store (image_at S.Start)
+        → IfErr result.again (KeepsSomewhere before commands result.outcomes) }
+{
+    let Ended { outcomes, store } = ended;
+    match reopen_file(rt, store, path, start) {
+        Ok(conn) => match open_office(rt.alloc(), conn) {
+            Ok(mut office) => {
+                let printed = print_due(rt.alloc(), &mut office, tail, day);
+                Stopped {
+                    outcomes,
+                    again: Ok(Reopened { office, printed }),
+                }
+            }
+            Err((conn, fault)) => Stopped {
+                outcomes,
+                again: Err(Unopened::Office(conn, fault)),
+            },
+        },
+        Err(error) => Stopped {
+            outcomes,
+            again: Err(Unopened::Database(error)),
+        },
+    }
+}
