@@ -5,7 +5,7 @@ use Rattle.mx_office.specs.Calls.{Runs}
 use Rattle.mx_faults.specs.declared.fault.Fault.TheVariants.{Memory}
 use Rattle.mx_office.specs.declared.office.Office.{Office}
 use Rattle.mx_output.specs.sector_log.Rows.{good_rows, told}
-use Rattle.mx_answers.specs.Asked.{Asks}
+use Rattle.mx_jobs.specs.answers.Asked.{Asks}
 use Rattle.mx_http.specs.responses.Answer.{Answer, fault_answer, list_answer, rejection_answer, replies_answer, rows_answer, stop_answer}
 use Rattle.mx_http.specs.responses.Request.{Request, enters, imports, asks, unread, rejected}
 

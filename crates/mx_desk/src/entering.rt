@@ -15,8 +15,8 @@ use mx_http::request::Rejection;
 use mx_http::responses::{
     DeskFault, fault_response, read_doc, rejection_response, replies_response, rows_response,
 };
-use mx_import::import_text;
 use mx_intake::{commands_of_json, programme_of};
+use mx_jobs::logs::import_text;
 use mx_office::Office;
 use sqlite::Alter;
 use std::alloc::Global;

@@ -1,12 +1,12 @@
 //! The answer to a question: the list of an aircraft.
 ghost use Rattle.std.specs.Prelude.{◌≡◌, IfOk};
 ghost use Rattle.http.specs.Response.{body_of, head_of};
-ghost use Rattle.mx_answers.specs.Asked.{Asks};
+ghost use Rattle.mx_jobs.specs.answers.Asked.{Asks};
 ghost use Rattle.mx_http.specs.responses.Answer.{IsMade, list_answer};
 
 use http::Response;
-use mx_answers::ask;
 use mx_http::responses::{DeskFault, refusal_response, report_response, stop_response};
+use mx_jobs::answers::ask;
 use mx_office::{Ask, Office};
 use mx_output::questions::Question;
 use sqlite::Alter;

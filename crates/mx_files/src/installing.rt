@@ -2,7 +2,7 @@
 ghost use Rattle.std.specs.Prelude.{◌≡◌, ◌≤◌, ◌++◌, [], IfOk, IfErr, OnErr};
 ghost use Rattle.mx_files.specs.Answered.{TellsNothing};
 ghost use Rattle.mx_output.specs.printed.Entered.{AreFirstReplies, TellsReplies};
-ghost use Rattle.mx_upkeep.specs.Installed.{HasAppended};
+ghost use Rattle.mx_jobs.specs.upkeep.Installed.{HasAppended};
 ghost use Rattle.mx_output.specs.endings.Status.{LeavesUnread, Shows, stop_status};
 
 use crate::inputs::commands_in;
@@ -10,9 +10,9 @@ use crate::opening::stop_of;
 use mx_book::commands::Command;
 use mx_book::entry_list::Book;
 use mx_database::{Work, Worked, work_in_new_file};
+use mx_jobs::upkeep::{Accepted, accept_all, install_book, print_accepted};
 use mx_layout::TableFault;
 use mx_output::endings::{Ending, Stop};
-use mx_upkeep::{Accepted, accept_all, install_book, print_accepted};
 use sqlite::{Alter, Connection};
 
 // The tables are made with the rows of a book, and the database is handed back; where none are made it is let go as it is.

@@ -6,8 +6,8 @@ ghost use Rattle.mx_output.specs.endings.Status.{LeavesUnread, Shows, stop_statu
 
 use crate::opening::{ended, stop_of};
 use mx_database::{Work, work_in_file};
+use mx_jobs::upkeep::move_on;
 use mx_output::endings::{Ending, Stop};
-use mx_upkeep::move_on;
 use sqlite::{Alter, Connection};
 
 // A file is moved on by at most so many commits.

@@ -9,9 +9,9 @@ ghost use Rattle.mx_office.specs.Office.{office_state, IsReady, StandsFor};
 ghost use Rattle.mx_output.specs.endings.Status.{stop_status};
 ghost use Rattle.mx_output.specs.printed.Tried.{TellsTrial};
 
-use mx_answers::print_list;
 use mx_base::Tail;
 use mx_book::commands::Command;
+use mx_jobs::answers::print_list;
 use mx_jobs::{enter_all, open};
 use mx_layout::{Layout, create};
 use mx_office::{NEWEST_LAYOUT, Office, OpenFault};

@@ -8,10 +8,10 @@ ghost use Rattle.mx_output.specs.printed.Verified.{IsVerifiedLine};
 
 use crate::asking::{Asked, answer_file};
 use crate::inputs::{UNOPENED, commands_in, programme_in};
-use mx_answers::print_list;
 use mx_base::Doc;
 use mx_book::commands::Command;
-use mx_import::import_all;
+use mx_jobs::answers::print_list;
+use mx_jobs::logs::import_all;
 use mx_jobs::{enter_all, print_verified};
 use mx_office::Office;
 use mx_output::endings::{Ending, Stop};

@@ -1,1 +1,3 @@
 pub mod EnteredLemmas
+pub mod AnswersProofs
+pub mod UpkeepProofs

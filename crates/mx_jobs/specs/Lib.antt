@@ -1,1 +1,4 @@
 pub mod Verified
+pub mod answers
+pub mod logs
+pub mod upkeep
