@@ -1,13 +1,13 @@
 //! What the words ask for: each does its job over a file, at a port or in memory.
 
 use crate::serving::serve_file;
-use mx_command_line::Words;
 use mx_files::{
     enter_file, import_file, init_file, init_old_file, list_file, migrate_file, programme_file,
     try_out, verify_file,
 };
 use mx_output::endings::{Ending, Stop};
 use mx_words::Perform;
+use mx_words::command_line::Words;
 
 /// The jobs of the program.
 #[derive(Clone, Copy)]

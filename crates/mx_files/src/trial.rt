@@ -1,13 +1,13 @@
 //! `try`: an aircraft and one sector, entered into a store in memory.
 ghost use Rattle.std.specs.Prelude.{◌≡◌, ◌≢◌, ◌↔◌, [], true, false, IfOk, IfErr, OnOk};
-ghost use Rattle.mx_command_line.specs.Trial.{is_trial_shaped, trial_commands};
+ghost use Rattle.mx_words.specs.command_line.Trial.{is_trial_shaped, trial_commands};
 ghost use Rattle.mx_output.specs.endings.Status.{stop_status};
 ghost use Rattle.mx_output.specs.printed.Tried.{TellsTrial};
 
 use crate::trying::try_in_memory;
 use mx_book::commands::MakeFault;
-use mx_command_line::{Trial, trial_commands};
 use mx_output::endings::{Ending, Stop};
+use mx_words::command_line::{Trial, trial_commands};
 use std::alloc::Global;
 
 // Why a trial has no commands.

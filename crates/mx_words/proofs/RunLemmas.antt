@@ -9,7 +9,7 @@ use Rattle.mx_output.specs.declared.endings.ending.Ending.TheVariants.{Done, Ref
 use Rattle.mx_output.specs.declared.endings.ending.Stop.{Stop}
 use Rattle.mx_output.specs.declared.endings.ending.Stop.TheVariants.{Words, Shape, Intake, MakeMemory, Create, Move, Open, Office, Net, Print}
 use Rattle.mx_words.specs.Done.{IsDone, IsEnded}
-use Rattle.mx_command_line.specs.Job.{Job}
+use Rattle.mx_words.specs.command_line.Job.{Job}
 use Rattle.mx_output.specs.endings.Status.{LeavesUnread, Shows, done_status, move_status, stop_status}
 
 -- what was printed in part alone has a status of 4 or more

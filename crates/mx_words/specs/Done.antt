@@ -8,11 +8,11 @@ use Rattle.mx_output.specs.printed.Imported.{AreRowLines}
 use Rattle.mx_output.specs.printed.Moved.{IsPointLine}
 use Rattle.mx_output.specs.printed.Listed.{IsListAnswer}
 use Rattle.mx_http.specs.responses.Serving.{served_line}
-use Rattle.mx_command_line.specs.Trial.{is_trial_shaped, trial_commands}
+use Rattle.mx_words.specs.command_line.Trial.{is_trial_shaped, trial_commands}
 use Rattle.mx_output.specs.printed.Tried.{TellsTrial}
 use Rattle.mx_output.specs.printed.Verified.{IsVerifiedLine}
-use Rattle.mx_command_line.specs.Usage.{IsRequest}
-use Rattle.mx_command_line.specs.Job.{Job, said, tries, makes, lists, enters, imports, installs, loads, moves, serves, verifies}
+use Rattle.mx_words.specs.command_line.Usage.{IsRequest}
+use Rattle.mx_words.specs.command_line.Job.{Job, said, tries, makes, lists, enters, imports, installs, loads, moves, serves, verifies}
 use Rattle.mx_output.specs.declared.endings.ending.Ending.{Ending}
 use Rattle.mx_output.specs.declared.endings.ending.Ending.TheVariants.{Done}
 

@@ -2,6 +2,7 @@
 //! and its ending gives the status. What performs it is handed in.
 #![tactic(auto)]
 
+pub mod command_line;
 pub mod run;
 
 pub use run::{Perform, run_words};

@@ -2,12 +2,12 @@
 ghost use Rattle.std.specs.Prelude.{◌≡◌, ◌≢◌, ◌↔◌, ◌⊎◌, ◌≤◌, ◌++◌, None, Some, IfOk, IfErr};
 ghost use Rattle.std.specs.Io.KnownBytes.{Keeps};
 ghost use Rattle.mx_words.specs.Done.{IsAnswered, IsDone, IsEnded, IsEndedForSome, LacksShape};
-ghost use Rattle.mx_command_line.specs.Job.{job_of, said};
+ghost use Rattle.mx_words.specs.command_line.Job.{job_of, said};
 ghost use Rattle.mx_output.specs.endings.Status.{LeavesUnread, Shows, stop_status};
 
+use crate::command_line::{Words, command, print_usage, words_of};
 use clap::ArgMatches;
 use clap::error::ErrorKind;
-use mx_command_line::{Words, command, print_usage, words_of};
 use mx_output::endings::{Ending, Stop, print_done};
 use std::io::Write;
 

@@ -1,6 +1,6 @@
 use Rattle.std.proofs.Common.{◌≡◌, List, [], ◌∙◌, IfOk, subst}
 use Rattle.mx_book.specs.commands.Act.{Entry}
-use Rattle.mx_command_line.specs.Trial.{trial_commands}
+use Rattle.mx_words.specs.command_line.Trial.{trial_commands}
 use Rattle.mx_output.specs.printed.Tried.{TellsTrial}
 use Rattle.mx_files.proofs.trial.try_out.Goals as goal
 

@@ -1,5 +1,0 @@
-pub mod CommandLineLemmas
-pub mod NumberLemmas
-mod WorkedCommandLine
-mod WorkedJob
-mod WorkedTrial

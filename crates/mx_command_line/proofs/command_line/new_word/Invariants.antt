@@ -1,6 +1,0 @@
-use Rattle.std.proofs.Common.{map, take}
-use Rattle.mx_command_line.specs.CommandLine.{IsApp, word}
-use Rattle.mx_command_line.proofs.command_line.new_word.Given as goal
-
-abbrev pub invariant-loop-name : goal.invariant-loop-name
-invariant-loop-name l = IsApp (word l.fn.name (map (λ v. v.0.now) (take l.name-index l.values))) l.word

@@ -1,0 +1,5 @@
+pub mod CommandLineLemmas
+pub mod NumberLemmas
+pub mod WorkedCommandLine
+pub mod WorkedJob
+pub mod WorkedTrial
