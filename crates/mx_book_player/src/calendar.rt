@@ -2,7 +2,9 @@
 
 use crate::shown::day_text;
 use mx_base::{Day, Moment, day_of, plus_days, print_day_number, print_hours, print_moment};
-use mx_cases::{Unmade, append_number, append_word, begin_print, number_text, printed, text_of};
+use mx_test_cases::{
+    Unmade, append_number, append_word, begin_print, number_text, printed, text_of,
+};
 use std::alloc::{AllocError, Global};
 
 // The text of the day with a number, as it is printed.

@@ -1,7 +1,7 @@
 //! Questions on commands that are made and not handed in.
 
 use crate::shown::command_text;
-use mx_cases::{Unmade, append_word, command_of, yes_or_no};
+use mx_test_cases::{Unmade, append_word, command_of, yes_or_no};
 use std::alloc::Global;
 
 // make COMMAND: the document of the command that is made.

@@ -2,9 +2,9 @@
 
 use mx_base::{Day, Tail};
 use mx_book::entry_list::Book;
-use mx_cases::{Unmade, append_joined, listed, or_none};
 use mx_lists::limits_of;
 use mx_plain_book::Plain;
+use mx_test_cases::{Unmade, append_joined, listed, or_none};
 use std::alloc::Global;
 
 // open-defects TAIL: the documents of the open defects, in the order of their entries.

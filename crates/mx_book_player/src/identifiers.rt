@@ -2,7 +2,7 @@
 
 use mx_base::identifiers::{Alphabet, Identifier};
 use mx_base::{BadText, Doc, Kind, MelRef, Part, Position, Serial, Tail, TaskId};
-use mx_cases::{Unmade, text_of, yes_or_no};
+use mx_test_cases::{Unmade, text_of, yes_or_no};
 use std::alloc::Global;
 use std::cmp::Ordering;
 

@@ -14,7 +14,7 @@ mod same;
 mod shown;
 mod tasks;
 
-use mx_cases::run;
+use mx_test_cases::run;
 use player::BookPlayer;
 use std::process::ExitCode;
 

@@ -4,8 +4,8 @@ use crate::{books, calendar, commands, defects, dues, identifiers};
 use mx_book::commands::Command;
 use mx_book::entry_list::Book;
 use mx_book::{Reply, Verdict};
-use mx_cases::{Plays, Unmade, answer_of, command_of, reply_in, room_for_reply, verdict_text};
 use mx_plain_book::Plain;
+use mx_test_cases::{Plays, Unmade, answer_of, command_of, reply_in, room_for_reply, verdict_text};
 use std::alloc::{AllocError, Global};
 
 /// A book in memory.

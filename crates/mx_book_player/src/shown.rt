@@ -6,7 +6,7 @@ use mx_book::commands::{
     Aircraft, Command, Component, Deferral, Extension, Fitting, Item, Line, Opening, Place,
     Programme, Release, Removal, Sector,
 };
-use mx_cases::{append_number, append_word, begin_print, printed};
+use mx_test_cases::{append_number, append_word, begin_print, printed};
 use std::alloc::{AllocError, Global};
 
 /// The text of a day, as it is printed.

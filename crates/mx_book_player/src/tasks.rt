@@ -2,7 +2,7 @@
 
 use mx_base::{Limit, Part, Tolerance};
 use mx_book::commands::{Applies, Task};
-use mx_cases::append_word;
+use mx_test_cases::append_word;
 use std::alloc::AllocError;
 
 fn append_amount(text: &mut String, amount: Option<u32>) -> Result<(), AllocError> {

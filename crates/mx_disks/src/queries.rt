@@ -1,7 +1,7 @@
 //! Rows of a database as text: those that a query gives, and all rows of all tables.
 
 use crate::texts::error_text;
-use mx_cases::{Unmade, append_joined, or_none};
+use mx_test_cases::{Unmade, append_joined, or_none};
 use sqlite::types::ValueRef;
 use sqlite::{Alter, Connection, Error, Row};
 use std::alloc::{AllocError, Global};

@@ -4,13 +4,13 @@ ghost use Rattle.mx_book.specs.commands.Bounds.{are_distinct};
 
 use mx_base::rows::BaseRow;
 use mx_base::{Day, Moment, TaskId, Use};
-use mx_cases::{Unmade, append_joined, or_none};
 use mx_fault_texts::{append_table_fault, room};
 use mx_layout::TableFault;
 use mx_table_rows::totals::bases::{base_row, set_base};
 use mx_table_rows::totals::lives::Total;
 use mx_table_rows::totals::spans::{FittedComponent, end_span2, fitted};
 use mx_table_rows::totals::totals::{credit, new_total, set_clock, total};
+use mx_test_cases::{Unmade, append_joined, or_none};
 use sqlite::{Alter, Connection, Transaction};
 use std::alloc::{AllocError, Global};
 

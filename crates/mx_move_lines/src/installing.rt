@@ -4,11 +4,11 @@ ghost use Rattle.std.specs.Prelude.{◌≡◌, false};
 use mx_book::Verdict;
 use mx_book::commands::Command;
 use mx_book::entry_list::Book;
-use mx_cases::Unmade;
 use mx_fault_texts::{append_table_fault, room};
 use mx_layout::TableFault;
 use mx_moves::install::install_v1;
 use mx_plain_book::Plain;
+use mx_test_cases::Unmade;
 use sqlite::{Alter, Connection};
 use std::alloc::{AllocError, Global};
 

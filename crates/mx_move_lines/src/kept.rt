@@ -4,8 +4,8 @@ ghost use Rattle.std.specs.Prelude.{◌≡◌, false};
 use crate::texts::made;
 use mx_base::rows::{BaseRow, TotalRow};
 use mx_base::{Day, Moment, TaskId, Use};
-use mx_cases::Unmade;
 use mx_migrate::{ChangeToTotals, CreateBases, Finish, WriteBases, WriteTotal};
+use mx_test_cases::Unmade;
 use sqlite::{Alter, Connection};
 use std::alloc::Global;
 

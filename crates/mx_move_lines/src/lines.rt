@@ -3,9 +3,9 @@ ghost use Rattle.std.specs.Prelude.{◌≡◌, false};
 
 use crate::kept::answer_of_kept;
 use crate::texts::{made, step_text};
-use mx_cases::Unmade;
 use mx_migrate::settle::{advance, settle};
 use mx_migrate::{ChangeToSpans, CreateSectors, MoveComponent, MoveSectors};
+use mx_test_cases::Unmade;
 use sqlite::{Alter, Connection};
 use std::alloc::Global;
 

@@ -3,9 +3,9 @@ ghost use Rattle.std.specs.Prelude.{◌≡◌, false};
 
 use mx_apply::apply;
 use mx_book::Reply;
-use mx_cases::{Unmade, command_of, replies_in, reply_in, room_for_reply};
 use mx_fault_texts::append_table_fault;
 use mx_layout::TableFault;
+use mx_test_cases::{Unmade, command_of, replies_in, reply_in, room_for_reply};
 use sqlite::{Alter, Connection};
 use std::alloc::{AllocError, Global};
 

@@ -2,8 +2,8 @@
 ghost use Rattle.std.specs.Prelude.{◌≡◌, false};
 
 use crate::fault::fault_text;
-use mx_cases::{Unmade, command_of, documents, yes_or_no};
 use mx_row_questions::entries::entries::{entries, entry};
+use mx_test_cases::{Unmade, command_of, documents, yes_or_no};
 use sqlite::{Alter, Connection};
 use std::alloc::Global;
 

@@ -1,7 +1,7 @@
 //! What stopped a call, as the answer to a line.
-use mx_cases::Unmade;
 use mx_fault_texts::{append_table_fault, room};
 use mx_layout::TableFault;
+use mx_test_cases::Unmade;
 use std::alloc::Global;
 
 /// The words of a fault of the tables.

@@ -2,8 +2,8 @@
 ghost use Rattle.std.specs.Prelude.{◌≡◌, false};
 
 use crate::fault::fault_text;
-use mx_cases::{Unmade, command_of, verdict_text};
 use mx_row_judge::judging::judge_by_rows;
+use mx_test_cases::{Unmade, command_of, verdict_text};
 use sqlite::{Alter, Connection};
 use std::alloc::Global;
 

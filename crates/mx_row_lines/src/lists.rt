@@ -6,9 +6,9 @@ use crate::fault::fault_text;
 use mx_base::{Day, Tail};
 use mx_book::commands::Item;
 use mx_book::{Refusal, Reply};
-use mx_cases::{Unmade, item_of, listed, reply_in, room_for_reply};
 use mx_layout::TableFault;
 use mx_reports::Text;
+use mx_test_cases::{Unmade, item_of, listed, reply_in, room_for_reply};
 use sqlite::{Alter, Connection};
 use std::alloc::Global;
 

@@ -3,7 +3,7 @@
 
 use crate::player::Player;
 use crate::sweep_lines::{answer_of_sweep, is_sweep};
-use mx_cases::{Disks, Plays, answer_of, append_joined};
+use mx_test_cases::{Disks, Plays, answer_of, append_joined};
 use std::alloc::{AllocError, Global};
 
 /// The player, and whether lines are played once more.

@@ -4,7 +4,7 @@
 use crate::plain::{Plain, is_start};
 use crate::player::Player;
 use crate::sweep::{End, Stops, Wrong, all_entries, must};
-use mx_cases::Disks;
+use mx_test_cases::Disks;
 use std::alloc::Global;
 
 /// The first command of the list, which is to be new, over files of which the log stops, and one end of the program.

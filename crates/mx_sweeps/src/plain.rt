@@ -3,7 +3,7 @@
 use mx_book::commands::Command;
 use mx_book::entry_list::Book;
 use mx_book::{Reply, Verdict};
-use mx_cases::{append_reply, or_none, replies_in};
+use mx_test_cases::{append_reply, or_none, replies_in};
 use std::alloc::{AllocError, Global};
 
 /// What a list of commands gives over a book.

@@ -3,7 +3,7 @@
 use crate::settings::{holding, setting_of};
 use crate::sweep::End;
 use mx_book::commands::Command;
-use mx_cases::{Asked, Disks, Setting, Unmade, command_of};
+use mx_test_cases::{Asked, Disks, Setting, Unmade, command_of};
 use std::alloc::Global;
 use std::mem;
 

@@ -2,7 +2,7 @@
 
 use crate::again::Again;
 use crate::player::Player;
-use mx_cases::Disks;
+use mx_test_cases::Disks;
 use std::env;
 use std::rt::{Env, Files};
 
@@ -18,14 +18,14 @@ fn is_again<R: Env + AllocGlobal>(rt: &R) -> bool {
 }
 
 /// Plays the files of cases that the program's arguments name over these disks, and gives the program's status, as
-/// `mx_cases::run` does. Where the first argument is `--again`, a line that a fault stopped is played once more.
+/// `mx_test_cases::run` does. Where the first argument is `--again`, a line that a fault stopped is played once more.
 pub fn play<R: Files + Env + Print + Eprint + AllocGlobal, D: Disks>(rt: &R, disks: D) -> u8 {
     let mut again = Again {
         alloc: rt.alloc(),
         player: Player::over(rt.alloc(), disks),
         is_again: is_again(rt),
     };
-    let status = mx_cases::run(rt, &mut again);
+    let status = mx_test_cases::run(rt, &mut again);
     let Again {
         alloc: _,
         player,

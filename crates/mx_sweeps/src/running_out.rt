@@ -11,8 +11,8 @@ use crate::sweep::{Wrong, must};
 use mx_base::{Day, Tail};
 use mx_book::commands::Command;
 use mx_book::entry_list::Book;
-use mx_cases::Unmade;
 use mx_lists::Stop;
+use mx_test_cases::Unmade;
 use std::alloc::Global;
 
 // The number of questions by which everything is to be answered.

@@ -1,7 +1,7 @@
 //! How files are opened and stopped, as words write it.
 
 use crate::sweep::End;
-use mx_cases::{Setting, Unmade};
+use mx_test_cases::{Setting, Unmade};
 
 // The setting with one more limit: the calls after which a file fails, or the pages that the log holds.
 fn limited(setting: Setting, limit: &[&str]) -> Result<Setting, Unmade> {

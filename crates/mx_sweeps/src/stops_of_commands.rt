@@ -5,7 +5,7 @@ use crate::plain::{Plain, is_start, plain_run};
 use crate::player::Player;
 use crate::sweep::{End, Stops, Wrong, all_entries, must};
 use mx_book::commands::Command;
-use mx_cases::{Disks, Unmade};
+use mx_test_cases::{Disks, Unmade};
 use std::alloc::{AllocError, Global};
 
 // Lines that an office answers by saying that it has to be opened again.

@@ -4,7 +4,7 @@
 use crate::player::Player;
 use crate::settings::stopping;
 use crate::sweep::{End, Stops, Wrong, must};
-use mx_cases::{Disks, Setting, Unmade};
+use mx_test_cases::{Disks, Setting, Unmade};
 
 // What a line that the store stopped is answered.
 const STOPPED: &str = "fault store";

@@ -2,7 +2,7 @@
 
 use crate::player::Player;
 use crate::sweep::{End, Stops, Wrong, answers, must};
-use mx_cases::Disks;
+use mx_test_cases::Disks;
 use std::alloc::Global;
 
 // What is asked of the files: their point and tables, the making once more, and the entries then.

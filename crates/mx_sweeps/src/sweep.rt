@@ -3,7 +3,7 @@
 
 use crate::player::Player;
 use mx_book::commands::Command;
-use mx_cases::{Disks, Unmade, append_joined};
+use mx_test_cases::{Disks, Unmade, append_joined};
 use std::alloc::{AllocError, Global};
 
 /// The number of calls past which the work is to end.

@@ -8,7 +8,7 @@ use crate::stops_of_commands::{CommandStops, plain_of};
 use crate::stops_of_line::{LineStops, calls_of_opening, seen_around};
 use crate::stops_of_making::MakingStops;
 use crate::sweep::{End, Wrong, swept};
-use mx_cases::{Disks, Unmade};
+use mx_test_cases::{Disks, Unmade};
 use std::alloc::Global;
 
 const BOTH_ENDS: [End; 2] = [End::Process, End::Power];
