@@ -1,5 +1,5 @@
 //! Plays files of cases over an office on disks in memory. The arguments are names of files of cases, whose lines
-//! `mx_sweeps` plays; where the first is `--again`, a line that a fault stopped is played once more.
+//! `mx_test_sweeps` plays; where the first is `--again`, a line that a fault stopped is played once more.
 #![tactic(auto)]
 
 use mx_disks::MemoryDisks;
@@ -7,5 +7,5 @@ use std::process::ExitCode;
 
 fn main(rt: HostRuntime) -> ExitCode {
     let disks = MemoryDisks::new(rt.alloc());
-    ExitCode::from(mx_sweeps::play(&rt, disks))
+    ExitCode::from(mx_test_sweeps::play(&rt, disks))
 }
