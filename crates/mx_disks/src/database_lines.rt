@@ -4,14 +4,14 @@ ghost use Rattle.std.specs.Prelude.{◌≡◌, false};
 use crate::calls::{created, created_old};
 use crate::queries::{asked, tables};
 use crate::texts::append_error;
-use mx_fault_texts::{append_table_fault, room};
-use mx_kept_lines::answer_of_kept_rows;
 use mx_layout::{TableFault, point};
-use mx_move_lines::answer_of_step;
-use mx_row_lines::{
+use mx_test_cases::{Unmade, append_word};
+use mx_test_lines::faults::{append_table_fault, room};
+use mx_test_lines::kept::answer_of_kept_rows;
+use mx_test_lines::moves::answer_of_step;
+use mx_test_lines::rows::{
     answer_by_rows, entered_by_rows, entries_by_rows, is_entry_by_rows, verdict_by_rows, verified,
 };
-use mx_test_cases::{Unmade, append_word};
 use sqlite::{Alter, Connection};
 use std::alloc::{AllocError, Global};
 

@@ -4,9 +4,9 @@ use crate::files::{
     Fused, Held, Pair, asked_in, asked_of_files, copied, empty_files, left_by, lose_power,
 };
 use crate::texts::append_error;
-use mx_fault_texts::room;
 use mx_office::Office;
 use mx_test_cases::{Asked, Disks, Setting, Unmade};
+use mx_test_lines::faults::room;
 use std::alloc::{AllocError, Global};
 
 /// A database file and its log in memory, a copy of them that is kept, and an office that may be open.

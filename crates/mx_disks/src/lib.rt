@@ -5,13 +5,13 @@
 //! - `install`: makes a file of layout 1 with the book of those commands of the list that are new;
 //! - `point`: the layout, step and mark that it is at;
 //! - `ask QUERY`, `tables`, `sql STATEMENT`: the rows of a query; all rows of all tables; a statement that changes the files;
-//! - `step` before a line of `mx_move_lines`, whose head lists them: a step of the move to layout 2;
+//! - `step` before a line of `mx_test_lines::moves`, whose head lists them: a step of the move to layout 2;
 //! - `open`: opens the office, where a file of layout 1 is moved to the newest layout first.
 //!
 //! Lines over a database of layout 2: `enter COMMAND` hands a command in, which is judged by the rows of the tables and whose rows are
 //! written in one commit; `judge COMMAND`, the verdict on a command by these rows; `entries FROM AT_MOST` and `entry NUMBER COMMAND`,
 //! as in an office, by them; `rows` before one of the lines below for a list or for the life of an item, which is answered by them too;
-//! `kept` before a line of `mx_kept_lines`, whose head lists them, over kept rows.
+//! `kept` before a line of `mx_test_lines::kept`, whose head lists them, over kept rows.
 //!
 //! Lines in the open office:
 //! - a command, in the words that `mx_test_cases` reads: hands it in; `run` the commands of a list, and `first` the first;

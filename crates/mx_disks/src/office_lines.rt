@@ -7,12 +7,12 @@ use crate::calls::{
 use crate::texts::{answers_in, append_fault, ask_text};
 use mx_base::{Day, Serial, Tail};
 use mx_book::commands::{Command, Item};
-use mx_fault_texts::room;
 use mx_office::{Ask, Fault, Office};
 use mx_reports::{Text, append_whole};
 use mx_test_cases::{
     Asked, Unmade, command_of, documents, joined_lines, room_for_replies, yes_or_no,
 };
+use mx_test_lines::faults::room;
 use sqlite::Alter;
 use std::alloc::Global;
 use std::slice;

@@ -2,9 +2,9 @@
 //! nothing is done and left without its answer.
 
 use mx_book::Reply;
-use mx_fault_texts::{append_damaged, room};
 use mx_office::{Ask, Fault, OpenFault};
 use mx_test_cases::{Unmade, append_joined, or_none, replies_in, room_for_replies};
+use mx_test_lines::faults::{append_damaged, room};
 use sqlite::{Constraint, Error, ErrorCode};
 use std::alloc::{AllocError, Global};
 

@@ -12,7 +12,6 @@
 //! - `bases MARK ITEM`, and behind it `TASK MINUTES CYCLES DAY` for each base: writes the last bases of an item, the next behind the
 //!   mark;
 //! - `finish MARK`: makes the last indexes, where last bases were written up to the mark.
-#![tactic(auto)]
 
 pub mod installing;
 mod kept;

@@ -1,7 +1,7 @@
 //! Steps that write what layout 2 keeps, by their words.
 ghost use Rattle.std.specs.Prelude.{◌≡◌, false};
 
-use crate::texts::made;
+use crate::moves::texts::made;
 use mx_base::rows::{BaseRow, TotalRow};
 use mx_base::{Day, Moment, TaskId, Use};
 use mx_migrate::{ChangeToTotals, CreateBases, Finish, WriteBases, WriteTotal};

@@ -1,7 +1,7 @@
 //! Whether the tables of a database stand for a book, as the answer to a line.
 ghost use Rattle.std.specs.Prelude.{◌≡◌, false};
 
-use mx_fault_texts::{append_table_fault, room};
+use crate::faults::{append_table_fault, room};
 use mx_verify::verify;
 use sqlite::{Alter, Connection};
 use std::alloc::{AllocError, Global};

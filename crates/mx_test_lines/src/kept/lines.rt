@@ -2,9 +2,9 @@
 ghost use Rattle.std.specs.Prelude.{◌≡◌, false, nat_eq};
 ghost use Rattle.mx_book.specs.commands.Bounds.{are_distinct};
 
+use crate::faults::{append_table_fault, room};
 use mx_base::rows::BaseRow;
 use mx_base::{Day, Moment, TaskId, Use};
-use mx_fault_texts::{append_table_fault, room};
 use mx_layout::TableFault;
 use mx_table_rows::totals::bases::{base_row, set_base};
 use mx_table_rows::totals::lives::Total;

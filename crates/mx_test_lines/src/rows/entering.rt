@@ -1,9 +1,9 @@
 //! Commands that are handed in to a database.
 ghost use Rattle.std.specs.Prelude.{◌≡◌, false};
 
+use crate::faults::append_table_fault;
 use mx_apply::apply;
 use mx_book::Reply;
-use mx_fault_texts::append_table_fault;
 use mx_layout::TableFault;
 use mx_test_cases::{Unmade, command_of, replies_in, reply_in, room_for_reply};
 use sqlite::{Alter, Connection};

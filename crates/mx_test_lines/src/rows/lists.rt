@@ -1,8 +1,8 @@
 //! Lists and the lives of items, by the rows of a database.
 ghost use Rattle.std.specs.Prelude.{◌≡◌, false};
 
-use crate::calls::{dues_of, forecast_of, life_of, limits_of, lives_of};
-use crate::fault::fault_text;
+use crate::rows::calls::{dues_of, forecast_of, life_of, limits_of, lives_of};
+use crate::rows::fault::fault_text;
 use mx_base::{Day, Tail};
 use mx_book::commands::Item;
 use mx_book::{Refusal, Reply};

@@ -1,10 +1,10 @@
 //! A file of layout 1 that has a whole book.
 ghost use Rattle.std.specs.Prelude.{◌≡◌, false};
 
+use crate::faults::{append_table_fault, room};
 use mx_book::Verdict;
 use mx_book::commands::Command;
 use mx_book::entry_list::Book;
-use mx_fault_texts::{append_table_fault, room};
 use mx_layout::TableFault;
 use mx_moves::install::install_v1;
 use mx_plain_book::Plain;

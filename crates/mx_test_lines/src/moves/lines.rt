@@ -1,8 +1,8 @@
 //! Steps of a move, by their words.
 ghost use Rattle.std.specs.Prelude.{◌≡◌, false};
 
-use crate::kept::answer_of_kept;
-use crate::texts::{made, step_text};
+use crate::moves::kept::answer_of_kept;
+use crate::moves::texts::{made, step_text};
 use mx_migrate::settle::{advance, settle};
 use mx_migrate::{ChangeToSpans, CreateSectors, MoveComponent, MoveSectors};
 use mx_test_cases::Unmade;

@@ -5,7 +5,6 @@
 //! - `verify`: `verified` where the tables stand for a book, `differs` where they do not, and else the fault;
 //! - `enter COMMAND`: a command is judged by the rows, and written and committed where it is new. The answer is the reply, or what
 //!   stopped it.
-#![tactic(auto)]
 
 mod calls;
 mod entering;

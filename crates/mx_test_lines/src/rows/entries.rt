@@ -1,7 +1,7 @@
 //! Entries that are listed and compared by the rows of a database.
 ghost use Rattle.std.specs.Prelude.{◌≡◌, false};
 
-use crate::fault::fault_text;
+use crate::rows::fault::fault_text;
 use mx_row_questions::entries::entries::{entries, entry};
 use mx_test_cases::{Unmade, command_of, documents, yes_or_no};
 use sqlite::{Alter, Connection};

@@ -1,7 +1,7 @@
 //! Commands that are judged by the rows of a database.
 ghost use Rattle.std.specs.Prelude.{◌≡◌, false};
 
-use crate::fault::fault_text;
+use crate::rows::fault::fault_text;
 use mx_row_judge::judging::judge_by_rows;
 use mx_test_cases::{Unmade, command_of, verdict_text};
 use sqlite::{Alter, Connection};

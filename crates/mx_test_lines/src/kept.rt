@@ -3,7 +3,6 @@
 //!   to the lives of items; `total ITEM`;
 //! - `done ITEM TASK MINUTES CYCLES DAY`, `base ITEM TASK`: when a task was last done on an item;
 //! - `fitted AIRCRAFT`, `end COMPONENT ENTRY MOMENT`: what is fitted; ends the span of a component.
-#![tactic(auto)]
 
 pub mod lines;
 

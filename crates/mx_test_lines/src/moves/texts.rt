@@ -1,8 +1,8 @@
 //! What a step leads to, or why it was not made.
 ghost use Rattle.std.specs.Prelude.{◌≡◌, false};
 
+use crate::faults::{append_damaged, room};
 use mx_base::Point;
-use mx_fault_texts::{append_damaged, room};
 use mx_faults::MoveFault;
 use mx_migrate::{Migrate, commit_step};
 use sqlite::{Alter, Connection};

@@ -1,5 +1,5 @@
 //! What stopped a call, as the answer to a line.
-use mx_fault_texts::{append_table_fault, room};
+use crate::faults::{append_table_fault, room};
 use mx_layout::TableFault;
 use mx_test_cases::Unmade;
 use std::alloc::Global;

@@ -1,5 +1,4 @@
 //! The faults of tables as text, and room for an answer: what lines over a database answer alike.
-#![tactic(auto)]
 
 pub mod texts;
 
