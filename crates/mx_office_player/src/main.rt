@@ -2,7 +2,7 @@
 //! `mx_test_sweeps` plays; where the first is `--again`, a line that a fault stopped is played once more.
 #![tactic(auto)]
 
-use mx_disks::MemoryDisks;
+use mx_test_disks::MemoryDisks;
 use std::process::ExitCode;
 
 fn main(rt: HostRuntime) -> ExitCode {
