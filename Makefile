@@ -15,12 +15,13 @@ run:
 	echo "not built yet: running unproved (make office builds the proved program)" >&2; \
 	cd crates/mx_cli && $(RT) try -- $(EXAMPLE); fi
 
-# the gate, from nothing; first the pages are held to the tree, and names of one layout to where layouts are data; where it
-# passes, the program that it proved and ran is left as ./office, and the transcripts are compared with what that prints, the page of the file with a file that it makes, the
+# the gate, from nothing; first the pages are held to the tree, crates to their floors, and names of one layout to where
+# layouts are data; where it passes, the program that it proved and ran is left as ./office, and the transcripts are compared with what that prints, the page of the file with a file that it makes, the
 # manual page with its helps, the answers of its desk with what is written, and the work of its words with bounds
 test:
 	@scripts/definitions --check
 	@scripts/docs --check
+	@scripts/floors --check
 	@scripts/layout-names --check
 	@RT_JOBS=$${RT_JOBS:-$(JOBS)} $(RT) ci
 	@install -m 755 crates/mx_cli/out/mx_cli office

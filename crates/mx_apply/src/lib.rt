@@ -1,6 +1,9 @@
 //! A command by rows: in one transaction it is judged by the rows of the tables, its rows are made of them and written, and
 //! all of it is one commit.
 //!
+//! - `made`: the rows of a command, made of what is looked up.
+//! - `writing`: the writing half of a command: its rows inside a transaction.
+//!
 //! # What is promised
 //!
 //! Over any rows: the reply is by the verdict on each book as which the rows answer; whatever is answered, but that the command

@@ -4,8 +4,8 @@
 //! # What is promised
 //!
 //! Over any rows (`with_rows`): each table has its rows from before with those of the command, added or in place of those with
-//! their keys, and every table for which it has none is as it was. The commit is its caller's (`mx_apply`), who says of it in the words of
-//! this crate (`IsWritten`, `MayWrite`) what it makes of the file.
+//! their keys, and every table for which it has none is as it was. The commit is its caller's, who says of it in the words
+//! of this part (`IsWritten`, `MayWrite`) what it makes of the file.
 //!
 //! One law (`commands_enter`) says that the rows of a command make of what a book gives each table what the book with
 //! the command gives it: a line for each table, and one for all that only gain rows.

@@ -1,5 +1,7 @@
 //! The vocabulary of the records office: identifiers, days and moments, the three dimensions of use, the
-//! categories of deferred defects, and the exact texts of days, moments and hours.
+//! categories of deferred defects, the exact texts of days, moments and hours; and the point that a file is at.
+//!
+//! - `rows`: the row of each table as a type, and which rows fit their columns.
 #![tactic(auto)]
 
 pub mod amounts;

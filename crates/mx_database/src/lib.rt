@@ -1,6 +1,8 @@
-//! The database in a file: it is opened, something is done over it, and it is closed. Of the crates of the
-//! program it alone names the store of a file, so that what is done over a database is proved once, for any store. What a file holds
+//! The database in a file: it is opened, something is done over it, and it is closed. Of the crates of the program it
+//! alone names the store of a file, so that what is done over a database is proved once, for any store. What a file holds
 //! no contract can say.
+//!
+//! - `power`: files opened again after a stop, by the headline and by the players.
 #![tactic(auto)]
 
 mod opening;

@@ -1,4 +1,4 @@
-//! What stops an office: a call of it, its opening, a question that it is asked.
+//! What stops a move, a call of the office, its opening, a question that it is asked.
 #![tactic(auto)]
 
 pub mod fault;

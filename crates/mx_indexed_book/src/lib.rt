@@ -1,4 +1,4 @@
-//! A book in memory beside maps, which answer what the judge asks of it without reading the entries.
+//! A book in memory beside maps (`maps`), which answer what the judge asks of it without reading the entries.
 //!
 //! | Question of `Records` | Map |
 //! |---|---|

@@ -7,6 +7,8 @@
 //! From layout 1 to layout 2: `CreateSectors`, then `MoveSectors` until none is left; `ChangeToSpans`, then `MoveComponent` for
 //! each component; `ChangeToTotals`, then `WriteTotal` for each aircraft and component; `CreateBases`, then `WriteBases` for each
 //! of them; and `Finish`. Those that write what layout 2 keeps hold the rows, which the caller makes of the book.
+//!
+//! - `settle`: which step is due at the point of a file, one commit on the way, and as many as are wanted.
 #![tactic(auto)]
 
 pub mod bases;

@@ -1,5 +1,10 @@
 //! The registers of a book: the rows that its entries give to each table, and the book that rows give. The definitions, the
 //! row of each command, and the types that they speak of.
+//!
+//! - `plain`: the rows that a command adds behind the entries of a book in memory, and the command that rows say.
+//! - `kept`: the rows that are computed from the registers and kept beside them, and what a command makes of each.
+//! - `points`: which tables there are at each point of a move, which rows stand in them, and what a commit of it does.
+//! - `file`: the rows of all tables of a file as one value, and when they are those of a book.
 #![tactic(auto)]
 
 pub mod file;

@@ -1,4 +1,7 @@
-//! Questions by rows: the lists of an aircraft, the life of an item, entries.
+//! Questions by rows, each asked inside a transaction.
+//!
+//! - `lists`: the four lists of an aircraft, and the life of an item.
+//! - `entries`: entries by their rows: the command of each, out of the rows of its own kind.
 #![tactic(auto)]
 
 pub mod entries;

@@ -1,4 +1,7 @@
-//! What rows say of a book that were found, and what a command makes of rows.
+//! Rules over rows, which find and write none.
+//!
+//! - `found`: what rows that were found say of a book.
+//! - `changes`: what a command makes of each table of layout 2.
 #![tactic(auto)]
 
 pub mod changes;

@@ -1,4 +1,7 @@
-//! Rows of a table that are chosen by a column: read, deleted, and changed in place.
+//! Rows of a table that are chosen by a column.
+//!
+//! - `chosen`: they are read and deleted.
+//! - `totals`: totals, last bases and what is fitted are read, and changed in place.
 #![tactic(auto)]
 
 pub mod chosen;

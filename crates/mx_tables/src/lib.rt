@@ -1,7 +1,7 @@
-//! The tables as sets of typed rows, which are read. SQL for all rows of a table, and for one that is added, is in this
-//! crate, that for chosen rows in `mx_table_rows::chosen`, and for the rows in whose place others come in `mx_table_rows::totals`. Above these a
-//! table is what `rows` gives for its type, in the order of its key, and `insert` of `mx_tables::inserts` adds one row to it. Each
-//! call is made inside a `Transaction`, which the caller commits or drops.
+//! The tables as sets of typed rows, which are read; in `inserts`, rows that are added. SQL for all rows of a table, and
+//! for one that is added, is in this crate, that for chosen rows in `mx_table_rows::chosen`, and for the rows in whose place
+//! others come in `mx_table_rows::totals`. Above these a table is what `rows` gives for its type, in the order of its key,
+//! and `insert` adds one row to it. Each call is made inside a `Transaction`, which the caller commits or drops.
 //!
 //! # What is promised
 //!
@@ -10,8 +10,8 @@
 //! `Damaged` with its own table, and only where some row of it is none of the type. At every exit: a crash has no new
 //! outcome before the commit, and the last commit stands.
 //!
-//! One reader (`rows`) is proved for every type of rows; what a table adds is its data in `mx_layout::kept`, its impl of `Stored`
-//! here, and that of `Insert` in `mx_tables::inserts`.
+//! One reader (`rows`) is proved for every type of rows; what a table adds is its data in `mx_layout::kept`, its impl of
+//! `Stored` here, and that of `Insert` in `inserts`.
 //!
 //! # To add a table
 //!
@@ -21,28 +21,28 @@
 //! `CreateTexts`; its statement in `steps` and `step_texts`, and what that makes, in `StepLemmas`; `by_tree` of
 //! `TreeLemmas`. Then `mx_layout/specs/kept/Schemas.antt`: which schemas have it.
 //!
-//! 1. `mx_layout/specs/kept/Cells.antt`: how its rows are kept, by `numbered` or, where two columns are its key, `lined`; its
-//!    two texts follow from its columns. Its line of `of_kept` in `specs/Family.antt`.
-//! 2. `mx_layout/proofs/KeptProofs/MovedLawful.antt`: `TABLE_lawful`, by `first_keyed` or `two_keyed` with the place of the table in
-//!    the schema, from 0, what is computed there (`refl`), and how a row is had back from its values. Where the `refl` is
-//!    refused, the place, a kind of column or the text that is computed is another. A table of a layout stands behind
-//!    those that come before it there, at each point of a move where it stands (`span2` at two, `sector2` at three), a
-//!    permanent one behind nothing. Its line of `each_lawful` in `proofs/EachLawful.antt`. Where another table has rows
+//! 1. `mx_layout/specs/kept/Cells.antt`: how its rows are kept, by `numbered` or, where two columns are its key, `lined`;
+//!    its two texts follow from its columns. Its line of `of_kept` in `Family.antt` there.
+//! 2. `mx_layout/proofs/KeptProofs/MovedLawful.antt`: `TABLE_lawful`, by `first_keyed` or `two_keyed` with the place of the
+//!    table in the schema, from 0, what is computed there (`refl`), and how a row is had back from its values. Where the
+//!    `refl` is refused, the place, a kind of column or the text that is computed is another. A table of a layout stands
+//!    behind those that come before it there, at each point of a move where it stands (`span2` at two, `sector2` at three),
+//!    a permanent one behind nothing. Its line of `each_lawful` in `EachLawful.antt` there. Where another table has rows
 //!    of the same type, a type of its own holds them (`held`, `Sector2Row`).
-//! 3. `src/NOUN.rt`, from one that is there, with its line here: `Stored`, whose texts are those of `mx_layout::kept` written
-//!    out, and whose `read` asks for the number of columns and takes each by a function of `column.rt`. Its row type is a
-//!    word of `prelude.rt`. A kind of value that no table has had needs a function in `column.rt`, whose contract says of
-//!    what values it gives `None`.
-//! 4. `mx_tables/src/inserts/NOUN.rt`, from one that is there, with its line in `lib.rt` there: `Insert`, which passes each value
+//! 3. `src/NOUN.rt`, from one that is there, with its line here: `Stored`, whose texts are those of `mx_layout::kept`
+//!    written out, and whose `read` asks for the number of columns and takes each by a function of `column.rt`. Its row
+//!    type is a word of `prelude.rt`. A kind of value that no table has had needs a function in `column.rt`, whose contract
+//!    says of what values it gives `None`.
+//! 4. `src/inserts/NOUN.rt`, from one that is there, with its line in `src/inserts.rt`: `Insert`, which passes each value
 //!    in the order of the columns. Its row type is a word of `prelude.rt` there too. A kind of value that is not passed as
-//!    it stands in the row needs a function in `mx_tables/src/inserts/values.rt`.
-//! 5. Plants here: two columns swapped in either text, two values swapped in `read`, a text with no ORDER BY, the name of
-//!    another table; and in `mx_tables::inserts` two values swapped in `insert`.
+//!    it stands in the row needs a function in `src/inserts/values.rt`.
+//! 5. Plants: two columns swapped in either text, two values swapped in `read`, a text with no ORDER BY, the name of
+//!    another table; and two values swapped in `insert`.
 //!
 //! What it costs stands in docs/RECIPES.md.
 //!
-//! A column that may be NULL is kept by `number_or_null` or `text_or_null` of `mx_layout/specs/kept/Values.antt`, one that
-//! says whether by `flag`, a limit by three numbers, a category by its number and the days that it states. They are
+//! A column that may be NULL is kept by `number_or_null` or `text_or_null` of `mx_layout/specs/kept/Values.antt`, one
+//! that says whether by `flag`, a limit by three numbers, a category by its number and the days that it states. They are
 //! read by the functions of `column.rt` of these names, and what may be missing is passed on by `number_if_any`,
 //! `text_if_any` or `days_of_category` of `values.rt`, which tell what is known of it. In `Lawful` the lemmas of
 //! `ValueLemmas` stand where `task` has them, and `insert` has the answer of `task`, alike for all but its name.

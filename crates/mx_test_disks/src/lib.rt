@@ -14,7 +14,7 @@
 //! `kept` before a line of `mx_test_lines::kept`, whose head lists them, over kept rows.
 //!
 //! Lines in the open office:
-//! - a command, in the words that `mx_test_cases` reads: hands it in; `run` the commands of a list, and `first` the first;
+//! - a command, in the words that `mx_test_cases` reads: hands it in; `run` the commands of a list, `first` the first;
 //! - `life TAIL`, `airframe TAIL`, `component SERIAL`: the life list; the life of one item, in minutes and cycles;
 //! - `due TAIL DAY`, `limits TAIL DAY`, `forecast TAIL DAY DAYS MINUTES CYCLES`: these lists;
 //! - `entries FROM AT_MOST`, `entry NUMBER COMMAND`: documents of entries; whether one is this command;

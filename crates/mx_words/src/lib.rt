@@ -1,5 +1,7 @@
 //! The words of the program `office`: they are read, what they ask for is performed, what that prints goes to the two streams,
 //! and its ending gives the status. What performs it is handed in.
+//!
+//! - `command_line`: the words and the values of each, as `clap` reads and explains them, and what they ask for.
 #![tactic(auto)]
 
 pub mod command_line;
