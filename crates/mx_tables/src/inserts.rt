@@ -10,29 +10,10 @@
 //! One insert is proved for every type of rows; what a table adds is its impl of `Insert`. `Tables` reads and writes
 //! several tables at once, as a pair of a `Vec` and of the other tables, under clauses that do not grow with their number.
 //!
-//! How a table is added stands at the head of `mx_tables/src/lib.rt`.
+//! How a table is added stands at the head of `mx_tables/src/lib.rt`: its impl stands in the file of the table.
 
-mod aircraft;
-mod base;
-mod component;
-mod deferral;
-mod entry;
-mod extension;
-mod fitting;
 pub mod insert;
-mod opening;
-mod place;
-mod prelude;
-mod programme;
-mod release;
-mod release_line;
-mod removal;
-mod sector;
-mod sector2;
 pub mod sets;
-mod span;
-mod task;
-mod total;
 mod values;
 
 pub use insert::Insert;

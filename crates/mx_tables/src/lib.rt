@@ -1,7 +1,8 @@
-//! The tables as sets of typed rows, which are read; in `inserts`, rows that are added. SQL for all rows of a table, and
-//! for one that is added, is in this crate, that for chosen rows in `mx_table_rows::chosen`, and for the rows in whose place
-//! others come in `mx_table_rows::totals`. Above these a table is what `rows` gives for its type, in the order of its key,
-//! and `insert` adds one row to it. Each call is made inside a `Transaction`, which the caller commits or drops.
+//! The tables as sets of typed rows, which are read and to which rows are added, a file a table; in `inserts`, what all
+//! inserts are. SQL for all rows of a table, and for one that is added, is in this crate, that for chosen rows in
+//! `mx_table_rows::chosen`, and for the rows in whose place others come in `mx_table_rows::totals`. Above these a table is
+//! what `rows` gives for its type, in the order of its key, and `insert` adds one row to it. Each call is made inside a
+//! `Transaction`, which the caller commits or drops.
 //!
 //! # What is promised
 //!
@@ -10,8 +11,8 @@
 //! `Damaged` with its own table, and only where some row of it is none of the type. At every exit: a crash has no new
 //! outcome before the commit, and the last commit stands.
 //!
-//! One reader (`rows`) is proved for every type of rows; what a table adds is its data in `mx_layout::kept`, its impl of
-//! `Stored` here, and that of `Insert` in `inserts`.
+//! One reader (`rows`) and one insert are proved for every type of rows; what a table adds is its data in `mx_layout::kept`,
+//! and here its impl of `Stored` and that of `Insert`.
 //!
 //! # To add a table
 //!
@@ -30,14 +31,12 @@
 //!    a permanent one behind nothing. Its line of `each_lawful` in `EachLawful.antt` there. Where another table has rows
 //!    of the same type, a type of its own holds them (`held`, `Sector2Row`).
 //! 3. `src/NOUN.rt`, from one that is there, with its line here: `Stored`, whose texts are those of `mx_layout::kept`
-//!    written out, and whose `read` asks for the number of columns and takes each by a function of `column.rt`. Its row
-//!    type is a word of `prelude.rt`. A kind of value that no table has had needs a function in `column.rt`, whose contract
-//!    says of what values it gives `None`.
-//! 4. `src/inserts/NOUN.rt`, from one that is there, with its line in `src/inserts.rt`: `Insert`, which passes each value
-//!    in the order of the columns. Its row type is a word of `prelude.rt` there too. A kind of value that is not passed as
-//!    it stands in the row needs a function in `src/inserts/values.rt`.
-//! 5. Plants: two columns swapped in either text, two values swapped in `read`, a text with no ORDER BY, the name of
-//!    another table; and two values swapped in `insert`.
+//!    written out, and whose `read` asks for the number of columns and takes each by a function of `column.rt`; and `Insert`,
+//!    which passes each value in the order of the columns. Its row type is a word of `prelude.rt`. A kind of value that no
+//!    table has had needs a function in `column.rt`, whose contract says of what values it gives `None`, and one that is not
+//!    passed as it stands in the row a function in `src/inserts/values.rt`.
+//! 4. Plants: two columns swapped in either text, two values swapped in `read` and in `insert`, a text with no ORDER BY, the
+//!    name of another table.
 //!
 //! What it costs stands in docs/RECIPES.md.
 //!

@@ -26,3 +26,11 @@ impl Stored for RemovalRow {
         })
     }
 }
+
+impl Insert for RemovalRow {
+    fn insert<S: Alter>(&self, tx: &mut Transaction<'_, S>) -> Result<(), TableFault> {
+        let moment = text_of(self.moment);
+        let values = params![self.seq, self.component, moment.as_str()];
+        insert_values(tx, self, values)
+    }
+}

@@ -30,3 +30,15 @@ impl Stored for TotalRow {
         })
     }
 }
+
+impl Insert for TotalRow {
+    fn insert<S: Alter>(&self, tx: &mut Transaction<'_, S>) -> Result<(), TableFault> {
+        let values = params![
+            self.item,
+            self.life.minutes,
+            self.life.cycles,
+            self.clock.number()
+        ];
+        insert_values(tx, self, values)
+    }
+}
