@@ -3,7 +3,6 @@ pub mod ForecastLemmas
 pub mod Gathering
 pub mod InOrder
 pub mod OrderLaws
-pub mod Told
 pub mod WorkedLives
 pub mod WorkedDues
 pub mod WorkedLimits

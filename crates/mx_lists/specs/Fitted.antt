@@ -1,7 +1,7 @@
 -- What is fitted to an aircraft by places, as lists ask it of records, and the parts that they make of the answer.
 use Rattle.std.specs.Prelude.{ℕ, List, map, filter, Option}
 use Rattle.mx_book.specs.commands.Act.{Entry}
-use Rattle.mx_book.specs.Span.{Span, spans, span_begun, is_open_on}
+use Rattle.mx_book.specs.Span.{Span, spans, is_open_on}
 use Rattle.mx_lists.specs.declared.life_list.FittedPart.{FittedPart}
 use Rattle.mx_lists.specs.Lists.{part_in}
 
@@ -16,9 +16,3 @@ fitted_on tail entries = map place_of (filter (is_open_on tail) (spans entries))
 -- the component in a position, with its life
 abbrev pub part_of_place : List Entry → List ℕ × List ℕ → Option FittedPart
 part_of_place book place = part_in book place.0 place.1
-
--- ── how the plain program finds what is fitted: entry by entry ──
-
--- the position and the component that one entry, before later ones, leaves fitted to the aircraft
-abbrev pub fitted_begun : List ℕ → Entry → List Entry → List (List ℕ × List ℕ)
-fitted_begun tail entry later = map place_of (filter (is_open_on tail) (span_begun entry.act later))

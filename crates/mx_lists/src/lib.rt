@@ -1,25 +1,17 @@
-//! The lists that are asked of a book: due list, life list, limits and forecast, made by questions of any records, and the
-//! plain book's answers to these.
+//! The lists that are asked of a book: due list, life list, limits and forecast, made by questions of any records.
 #![tactic(auto)]
 
-mod bases;
-pub mod book_lists;
 pub mod due_lists;
 pub mod due_row;
 pub mod dues;
-mod fitted;
 pub mod forecast;
 pub mod life_list;
 pub mod limit_list;
 mod list_questions;
 pub mod lists;
 pub mod order;
-mod plain_lists;
 pub mod stop;
 
-pub use book_lists::{
-    base_of_item, due_list_of, due_of_item, forecast_of, life_list_of, limits_of,
-};
 pub use due_lists::list_dues;
 pub use due_row::{DueList, DueRow};
 pub use dues::due_of_kind;

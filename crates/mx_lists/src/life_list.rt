@@ -53,7 +53,7 @@ pub struct LifeList {
 }
 
 /// The life, or none at all.
-pub(crate) fn life_or_none(life: Option<Use>) -> Use
+pub fn life_or_none(life: Option<Use>) -> Use
     ensures { result ≡ use_or_none life }
 {
     match life {

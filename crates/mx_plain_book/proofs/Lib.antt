@@ -1,1 +1,2 @@
 pub mod FindLemmas
+pub mod Told

@@ -1,11 +1,18 @@
-//! The plain program: the entries of a book are read anew for each answer.
+//! The plain program: the entries of a book are read anew for each answer, to the judge, to lists, and of the four lists.
 #![tactic(auto)]
 
+mod bases;
+pub mod book_lists;
 pub mod defects;
+mod fitted;
 pub mod lives;
 pub mod plain;
+mod plain_lists;
 pub mod programmes;
 pub mod register;
 pub mod spans;
 
+pub use book_lists::{
+    base_of_item, due_list_of, due_of_item, forecast_of, life_list_of, limits_of,
+};
 pub use plain::Plain;

@@ -3,7 +3,7 @@ use Rattle.std.specs.List.{flat_map}
 use Rattle.mx_book.specs.declared.commands.item.Item.TheVariants.{Airframe}
 use Rattle.mx_book.proofs.Chaining.{first, then, done}
 use Rattle.mx_lists.specs.DueList.{tasks_by_name, rows_of_item, rows_of_part, defect_row}
-use Rattle.mx_lists.proofs.Told.{three}
+use Rattle.mx_lists.proofs.Gathering.{three}
 use Rattle.mx_lists.proofs.due_lists.placed_rows.Goals as goal
 
 pub returns : goal.returns

@@ -1,7 +1,7 @@
 use Rattle.std.proofs.Common.{◌≡◌, ◌+◌, length, IfSome}
 use Rattle.mx_book.specs.due.Due.{IsBase}
 use Rattle.mx_book.specs.Base.{base, base_from, accomplished_from}
-use Rattle.mx_lists.proofs.bases.last_base.Given as goal
+use Rattle.mx_plain_book.proofs.bases.last_base.Given as goal
 
 -- from the base so far, the entries that are left lead to the same as all do
 abbrev pub invariant-loop-entry : goal.invariant-loop-entry

@@ -1,6 +1,6 @@
 use Rattle.mx_lists.specs.Forecast.{forecast}
-use Rattle.mx_lists.proofs.Told.{told}
-use Rattle.mx_lists.proofs.book_lists.forecast_of.Goals as goal
+use Rattle.mx_plain_book.proofs.Told.{told}
+use Rattle.mx_plain_book.proofs.book_lists.forecast_of.Goals as goal
 
 pub returns : goal.returns
 returns c =

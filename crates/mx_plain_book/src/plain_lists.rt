@@ -1,18 +1,17 @@
 //! The plain book as records of which lists are made.
 ghost use Rattle.std.specs.Prelude.{◌≡◌, IfOk};
 
+use crate::Plain;
 use crate::bases::last_base;
+use crate::defects::list_open_defects;
 use crate::fitted::places_fitted;
-use crate::lists::Lists;
-use crate::stop::Stop;
+use crate::lives::life;
+use crate::programmes::tasks_of_kind;
 use mx_base::{Base, Kind, Position, Serial, Tail, TaskId, Use};
 use mx_book::Defect;
 use mx_book::commands::{Item, Task};
 use mx_book::entry_list::NoMemory;
-use mx_plain_book::Plain;
-use mx_plain_book::defects::list_open_defects;
-use mx_plain_book::lives::life;
-use mx_plain_book::programmes::tasks_of_kind;
+use mx_lists::{Lists, Stop};
 use std::alloc::Global;
 use std::convert::Infallible;
 

@@ -1,6 +1,6 @@
 use Rattle.std.proofs.Common.{◌≡◌, ◌++◌, length}
 use Rattle.mx_lists.specs.Fitted.{fitted_on}
-use Rattle.mx_lists.proofs.fitted.places_fitted.Given as goal
+use Rattle.mx_plain_book.proofs.fitted.places_fitted.Given as goal
 
 -- so far, and what is left, give the whole
 abbrev pub invariant-loop-entry : goal.invariant-loop-entry

@@ -11,14 +11,14 @@ ghost use Rattle.mx_book.specs.Life.{life_at, use_or_none};
 ghost use Rattle.mx_book.specs.Base.{DoneIn, accomplished_by, task_then, base_of, base_from, base};
 ghost use Rattle.mx_book.specs.declared.limits.TheConstants.{MOST_ENTRIES};
 
-use crate::life_list::life_or_none;
+use crate::lives::life;
+use crate::programmes::{is_done_by, task_of_kind};
+use crate::register::found_of;
 use mx_base::{Base, Day, Limit, Moment, TaskId, Use, day_of};
 use mx_book::commands::{Body, Command, Item, Line, Release, Task};
 use mx_book::due::{base_done, due_after};
 use mx_book::found::{birth_of, item_of_place, kind_of_place};
-use mx_plain_book::lives::life;
-use mx_plain_book::programmes::{is_done_by, task_of_kind};
-use mx_plain_book::register::found_of;
+use mx_lists::life_list::life_or_none;
 
 // The life of an item up to a moment, or none at all where the item is unknown.
 #[tactic(auto, using(mx_book::proofs::LifeLemmas::life_bounded))]

@@ -2,7 +2,7 @@ use Rattle.std.proofs.Common.{◌≡◌, length, IfSome}
 use Rattle.mx_book.specs.commands.Act.{Released}
 use Rattle.mx_book.specs.due.Due.{IsBase}
 use Rattle.mx_book.specs.Base.{base_from, accomplished_by}
-use Rattle.mx_lists.proofs.bases.base_after_lines.Given as goal
+use Rattle.mx_plain_book.proofs.bases.base_after_lines.Given as goal
 
 -- from the base so far, the lines that are left lead to the same as all do
 abbrev pub invariant-loop-line : goal.invariant-loop-line

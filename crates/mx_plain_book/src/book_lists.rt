@@ -7,18 +7,16 @@ ghost use Rattle.mx_lists.specs.Forecast.{forecast};
 ghost use Rattle.mx_lists.specs.LimitList.{limits};
 ghost use Rattle.mx_lists.specs.Lists.{life_list};
 
+use crate::Plain;
 use crate::bases::last_base;
-use crate::due_lists::list_dues;
-use crate::due_row::DueList;
-use crate::dues::due_of_kind;
-use crate::forecast::{ForecastList, list_forecast};
-use crate::life_list::{LifeList, list_lives};
-use crate::limit_list::{LimitList, list_limits};
 use crate::plain_lists::unless_no_memory;
 use mx_base::{Base, Day, Kind, Limit, Tail, TaskId};
 use mx_book::commands::Item;
 use mx_book::entry_list::{Book, NoMemory};
-use mx_plain_book::Plain;
+use mx_lists::{
+    DueList, ForecastList, LifeList, LimitList, due_of_kind, list_dues, list_forecast, list_limits,
+    list_lives,
+};
 use std::alloc::Global;
 
 /// The point that the next due of a task of an item is counted from: that of its last accomplishment, or `None` without

@@ -1,11 +1,12 @@
 //! What is fitted to an aircraft by the entries of a book, each component behind its position.
 ghost use Rattle.std.specs.Prelude.{◌≡◌, [], IfOk};
 ghost use Rattle.std.specs.List.{cons_option};
-ghost use Rattle.mx_lists.specs.Fitted.{fitted_on, fitted_begun};
+ghost use Rattle.mx_lists.specs.Fitted.{fitted_on};
+ghost use Rattle.mx_plain_book.specs.Fitted.{fitted_begun};
 
+use crate::spans::removed_at;
 use mx_base::{Position, Serial, Tail};
 use mx_book::commands::Command;
-use mx_plain_book::spans::removed_at;
 use std::alloc::{AllocError, Global};
 
 // The position and the component that an entry leaves fitted to an aircraft.
