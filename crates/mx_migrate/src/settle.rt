@@ -8,7 +8,6 @@
 pub mod advancing;
 mod choosing;
 pub mod due;
-mod fault;
 mod front;
 mod items;
 mod known;

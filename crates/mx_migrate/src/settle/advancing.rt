@@ -10,10 +10,9 @@ ghost use Rattle.mx_migrate.specs.settle.Items.{Knows};
 
 use crate::commit_step;
 use crate::settle::choosing::next_due;
-use crate::settle::fault::fault_of;
 use crate::settle::place::place;
 use mx_base::Point;
-use mx_faults::MoveFault;
+use mx_faults::moving::{MoveFault, fault_of};
 use mx_verify::derived::KeptRows;
 use sqlite::{Alter, Connection};
 use std::alloc::Global;

@@ -3,9 +3,8 @@ ghost use Rattle.std.specs.Prelude.{◌≡◌, false};
 ghost use Rattle.sqlite.specs.Held.{state};
 ghost use Rattle.mx_migrate.specs.settle.Place.{checked, is_of_file, TellsPlace};
 
-use crate::settle::fault::fault_of;
 use mx_base::Point;
-use mx_faults::MoveFault;
+use mx_faults::moving::{MoveFault, fault_of};
 use mx_layout::{Table, point};
 use mx_registers::points::is_on_way;
 use sqlite::{Alter, Connection};
