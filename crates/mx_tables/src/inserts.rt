@@ -14,7 +14,7 @@
 
 pub mod insert;
 pub mod sets;
-mod values;
+pub(crate) mod values;
 
 pub use insert::Insert;
 pub use sets::Tables;
