@@ -12,7 +12,4 @@ pub mod programmes;
 pub mod register;
 pub mod spans;
 
-pub use book_lists::{
-    base_of_item, due_list_of, due_of_item, forecast_of, life_list_of, limits_of,
-};
 pub use plain::Plain;

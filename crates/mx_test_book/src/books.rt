@@ -4,7 +4,8 @@ use crate::same::are_same;
 use mx_base::{Moment, Serial, Tail, Use};
 use mx_book::commands::{Command, Item};
 use mx_book::entry_list::Book;
-use mx_plain_book::{Plain, life_list_of};
+use mx_plain_book::Plain;
+use mx_plain_book::book_lists::life_list_of;
 use mx_test_cases::{
     Unmade, append_number, command_of, documents, listed, number_text, verdict_text, yes_or_no,
 };

@@ -2,7 +2,8 @@
 
 use mx_base::{Day, Tail};
 use mx_book::entry_list::Book;
-use mx_plain_book::{Plain, limits_of};
+use mx_plain_book::Plain;
+use mx_plain_book::book_lists::limits_of;
 use mx_test_cases::{Unmade, append_joined, listed, or_none};
 use std::alloc::Global;
 

@@ -4,7 +4,7 @@ use crate::tasks::append_limit;
 use mx_base::{Base, Day, Kind, Limit, Tail, TaskId};
 use mx_book::commands::Item;
 use mx_book::entry_list::Book;
-use mx_plain_book::{base_of_item, due_list_of, due_of_item, forecast_of};
+use mx_plain_book::book_lists::{base_of_item, due_list_of, due_of_item, forecast_of};
 use mx_test_cases::{Unmade, append_number, item_of, listed, number_text};
 use std::alloc::{AllocError, Global};
 
