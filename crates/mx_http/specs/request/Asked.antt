@@ -11,6 +11,7 @@ use Rattle.mx_http.specs.declared.request.routes.Route.{Route}
 use Rattle.mx_http.specs.declared.request.routes.NoRoute.{NoRoute}
 use Rattle.mx_http.specs.declared.request.routes.NoRoute.TheVariants as no_route
 
+-- what is asked for with the length of its body, or why that is rejected
 abbrev pub with_length : Asked → Result ℕ Rejection → Result (Asked × ℕ) Rejection
 with_length asked (Ok n) = Ok (asked, n)
 with_length asked (Err why) = Err why

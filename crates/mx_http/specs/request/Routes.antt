@@ -15,6 +15,7 @@ use Rattle.mx_http.specs.declared.request.routes.Route.TheVariants.{Entries, Pro
 use Rattle.mx_http.specs.declared.request.routes.NoRoute.{NoRoute}
 use Rattle.mx_http.specs.declared.request.routes.NoRoute.TheVariants.{NotFound, WrongMethod}
 
+-- the routes of a router, each with the place that it leads to
 abbrev pub Rows : Type 0
 Rows = RowsOf (RouteOf Place)
 
