@@ -14,7 +14,7 @@
 //! - It answers `Exists` only where a table is named `office`, whatever its columns are, and `NotOurs` only where none
 //!   is and the database is not empty; over an empty one neither: `create`: `faults`, `not_here`.
 //! - The point is that of the one row, or the answer says why there is none; nothing changes: `point`, `point_in`:
-//!   `reads`, `exact`, `unchanged`, `within`.
+//!   `reads`, `exact`, `unchanged`; `point`: `idle`; `point_in`: `stays`.
 //! - Whatever the schema is, `office` with other columns or behind other tables among them, the point is the one row
 //!   that its query showed; `NotOurs` is answered where the text was refused or did not show one row, or no table has
 //!   the name: `point_in`: `answered`; `point`: `told`.

@@ -5,13 +5,13 @@
 //!
 //! - The verdict is the definition's, on any book and any command, and takes no memory; each line of a release is
 //!   judged by the book before it: `Plain::judge`.
-//! - The plain book answers each question, and by its entries: the clauses of `Records`.
+//! - The plain book answers each question, and by its entries: `Plain`, the clauses of `Records`.
 //! - Lives are the definition's, and `None` exactly for an unknown item; at most 1,540,000,000 minutes and 51,000,000
 //!   cycles; a component is credited with the sectors flown while it was fitted: `Plain::life`, `Plain::life_now`:
 //!   `life`, `bounded`.
 //! - The open defects of an aircraft are the definition's: those that were deferred on it and not rectified, in the
 //!   order of their entries: `Plain::open_defects`.
-//! - The plain book answers each question of lists, and by its entries: the clauses of `Lists`.
+//! - The plain book answers each question of lists, and by its entries: `Plain`, the clauses of `Lists`.
 //! - The life list is the definition's, its components by position, and `None` exactly for an unknown registration:
 //!   `life_list_of`.
 //! - The base of a task of an item is the definition's: what an opening states, and of work that was done in each
