@@ -1,6 +1,4 @@
 //! The step that drops the old table of sectors, which all have moved, and makes that of spans.
-//!
-//! The old table is dropped only where no row of it was found, readable or not.
 ghost use Rattle.std.specs.Prelude.{◌≡◌};
 ghost use Rattle.sqlite.specs.Held.{state};
 ghost use Rattle.mx_registers.specs.points.Points.{moving};
