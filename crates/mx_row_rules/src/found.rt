@@ -27,7 +27,7 @@
 //! - `extension`, `is_rectified`: the entry by its document, rows by its number:
 //!   `extensions_and_rectifications_are_found`.
 //!
-//! Of each look-up of `Lists` the rows that it asks for, and the law:
+//! Of each look-up that lists ask, and the judge does not, the rows that it asks for, and the law:
 //!
 //! - `tasks`: programmes of the kind, tasks by the number of the last: `tasks_are_found`.
 //! - `fitted`: the aircraft by its name, open spans by its number, the component of each by number:
