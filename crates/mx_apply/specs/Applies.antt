@@ -1,4 +1,6 @@
 -- What a command that is handed in does to a file, over any rows and over the tables of a book.
+-- What a crash may leave over any rows is a clause of its own beside `Applies`, and no field of it: a goal has the name
+-- of its clause, so that a second commit is refused by what it breaks, and not by the record as a whole.
 use Rattle.std.specs.Prelude.{⊤, ◌≡◌, ◌≢◌, ◌⊎◌, ◌≤◌, ℕ, List, [], ◌∷◌, ◌++◌, Result, Ok, Err, IsTrue, IfOk, IfErr, MatchResult}
 use Rattle.sqlite.specs.State.{State, HasCleanDisk}
 use Rattle.sqlite.specs.Tree.{Trees}

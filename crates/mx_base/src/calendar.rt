@@ -1,4 +1,7 @@
 //! The calendar: dates by their parts, and the day numbers that count them from 1970-01-01.
+//!
+//! The definition counts days by their successor. `jiff` has no number of a day in its public calls, so the code counts
+//! by the plain dates of `jiff_core`, which is listed beside `jiff` for this.
 ghost use Rattle.std.specs.Prelude.{◌≡◌, ◌≢◌, ℕ, ◌+◌, ◌*◌, ◌/◌, ◌%◌, ◌<◌, ◌≤◌, ◌↔◌, ◌++◌, pos, ◌+ℤ◌, length, IfSome, IfNone, IsSome, Some};
 ghost use Rattle.jiff_core.specs.Date.{epoch_day};
 ghost use Rattle.mx_base.specs.Calendar.{date_of, last_day, HasSmallParts, IsDayOf};

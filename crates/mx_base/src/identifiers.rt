@@ -1,5 +1,11 @@
 //! Identifiers: short texts over a fixed alphabet. They are kept in fixed arrays, so they are copied and
 //! never allocated, and they are equal and ordered as their texts are, byte by byte.
+//!
+//! A marker keeps the identifiers of different things apart, so that a serial number can't be handed in for a part.
+//! `Graphic` says the printable characters once, and its label makes a type for each thing: labels are types of their
+//! own, since a marker that is a number or a text is not to be had as a parameter of an alias with a name. A
+//! small-string type of a library was not taken: its spare bytes show in equality, and then two equal texts are not one
+//! value to a proof.
 ghost use Rattle.std.specs.Prelude.{◌≡◌, ℕ, ◌+◌, ◌-◌, ◌<◌, ◌≤◌, ◌↔◌, Bool, List, [], ◌∷◌, ◌++◌, length, take, replicate, IsTrue, IsOk, IfOk, Some, nat_eq, refl};
 ghost use Rattle.std.specs.List.{list_all};
 ghost use Rattle.std.specs.Ordering.{nat_cmp};

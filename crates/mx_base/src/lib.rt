@@ -1,7 +1,23 @@
-//! The vocabulary of the records office: identifiers, days and moments, the three dimensions of use, the
-//! categories of deferred defects, the exact texts of days, moments and hours; and the point that a file is at.
+//! The vocabulary of the records office: identifiers, days and moments, the three dimensions of use, the categories of
+//! deferred defects, the exact texts of days, moments and hours; and the point that a file is at.
 //!
 //! - `rows`: the row of each table as a type, and which rows fit their columns.
+//!
+//! # What is promised
+//!
+//! - An identifier's reader takes exactly its texts, and gives the text: `Identifier::read`: `succeeds`, `value`;
+//!   `as_str`: `value`, `valid`.
+//! - Identifiers are equal where their texts are, and ordered by their bytes: the members `eq` and `cmp` of `PartialEq`
+//!   and `Ord`.
+//! - A day's reader takes exactly the texts of days, and gives the day that prints so: `Day::read`: `ok`, `only`,
+//!   `err`.
+//! - A moment's reader takes exactly the texts of moments, and gives the moment that prints so: `Moment::read`: `ok`,
+//!   `only`, `err`.
+//! - A day's number counts from 1970-01-01, in `jiff`'s calendar: `Day::date`: `value`, `calendar`.
+//! - No day is past 2199-12-31, and no moment past its last minute: `of_number`: `some`, `value`; `number`: `bound`;
+//!   `plus_days`: `some`, `value`.
+//! - A printer appends the stated bytes, or leaves the vector's items as they were: `print_day`, `print_day_number`,
+//!   `print_moment`, `print_hours`: `printed`, `unchanged`.
 #![tactic(auto)]
 
 pub mod amounts;

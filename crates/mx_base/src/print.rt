@@ -1,5 +1,9 @@
 //! Printers: each appends exact bytes to a vector, and leaves its items as they were where memory runs
 //! out.
+//!
+//! `itoa` writes a number into a buffer on the stack, so memory is asked for only where the vector grows. A text of
+//! several parts is appended part by part, and cut off again where memory runs out; room that was reserved by then
+//! stays, and is no part of the promise.
 ghost use Rattle.std.specs.Prelude.{◌≡◌, ◌≤◌, ◌++◌, take, length, IsOk, OnOk, OnErr, vec_len};
 ghost use Rattle.mx_base.specs.Texts.{day_text, day_number_text, moment_text, hours_text};
 

@@ -1,4 +1,9 @@
 //! The row of each table as a type: what its columns hold, and what fits them.
+//!
+//! # What is promised
+//!
+//! - The rows of all registers but the entries, and the pairs in which they are read and written, are the same rows:
+//!   `RegisterRows::from_pairs`, `RegisterRows::into_pairs`.
 
 pub mod register_rows;
 pub mod rows;

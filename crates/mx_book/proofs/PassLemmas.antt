@@ -1,4 +1,6 @@
 -- What a command that is new passes: each refusal, by its name.
+-- What follows of a new command cites a field of `Passes`: places in the list of refusals stand in one lemma here and
+-- nowhere else, so that a further refusal moves nothing.
 use Rattle.std.proofs.Common.{arith, refl, subst, ◌≡◌, ℕ, ◌+◌, ◌≤◌, length, List, ◌∷◌, Bool, true, false, cond, ◌||◌, Option, Some, None}
 use Rattle.std.proofs.lemmas.Bool.Decides.{nat_tests}
 use Rattle.std.specs.Prelude.{nat_le, is_some}

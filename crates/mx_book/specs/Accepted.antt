@@ -1,4 +1,5 @@
 -- What a run accepts, and what it acknowledges.
+-- These are functions of lists of entries, so they stand beside the runs with their law, and the headline cites them.
 use Rattle.std.specs.Prelude.{◌≡◌, ◌⊎◌, ℕ, List, [], ◌∷◌, ◌++◌, slice_get, Bool, true, false, Option, Some, IsSomeAnd, if◌then◌else◌}
 use Rattle.mx_book.specs.commands.Act.{Entry}
 use Rattle.mx_book.specs.declared.verdict.Reply.{Reply}

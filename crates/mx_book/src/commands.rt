@@ -1,5 +1,20 @@
-//! The commands that enter something into the records: what each says, the shape that each has, and when
-//! two are the same.
+//! The commands that enter something into the records: what each says, the shape that each has, and when two are the
+//! same.
+//!
+//! # What is promised
+//!
+//! - A command is made exactly where it has its shape, want of memory aside, with the document and the body handed in:
+//!   `Command::make`: `made`, `shaped`, `bad_shape`.
+//! - Want of memory comes for a sector alone, whose document needs a text: `Command::make`, `Command::sector`:
+//!   `memory`.
+//! - A sector makes its own document: `Command::sector`: `made`, `bad_shape`.
+//! - A command shows what was handed in, and its copy is equal: `doc`, `body`, `copy`, `added_aircraft`, `positions`,
+//!   `added_component`, `loaded_programme`, `tasks`, `stated_opening`, `flown_sector`, `fitting`, `removal`, `release`,
+//!   `lines`, `deferral`, `extension`.
+//! - A programme has a revision of at most 1,000,000, and tasks of their shape; a release has at most 20 lines; a
+//!   category states at most 365 days, and an extension has at most 120: `Command::loaded_programme`: `bounded`;
+//!   `Command::tasks`: `shape`; `Command::lines`: `few`; `Command::deferral`: `shape`; `Command::extension`: `bounded`.
+//! - Two commands are the same exactly where document and contents are equal: `Command::is_same`: `test`, `equal`.
 
 pub mod aircraft;
 pub mod body;

@@ -1,4 +1,9 @@
 //! Judging a command by questions of any records that stand for a book.
+//!
+//! # What is promised
+//!
+//! - By any records that stand for a book, the verdict on a command is the definition's of that book, where the disk
+//!   gave back what was written, or it is the fault of the question that was not answered: `verdict_on` (`Answers`).
 
 mod facts;
 pub mod judging;

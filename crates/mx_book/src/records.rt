@@ -1,4 +1,8 @@
 //! What judging asks of records: of the plain book, or of whatever else stands for a book.
+//!
+//! When an aircraft takes off at the earliest is a look-up of its own, and no question of a clock, so that what holds
+//! for sectors is one definition. Whether there is room for one more aircraft or component is asked, and not how many
+//! there are, since records that are kept as rows need not count them to know.
 ghost use Rattle.std.specs.Prelude.{◌≡◌, true, length, IfOk, IfSome};
 ghost use Rattle.std.specs.Option.{option_map};
 ghost use Rattle.mx_book.specs.commands.Programme.{task_shape};

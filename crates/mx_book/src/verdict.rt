@@ -1,4 +1,7 @@
 //! The verdict on a command, why one is refused, and what is replied.
+//!
+//! `Reply` stands here, since the replies of a run are a definition over the list of entries; the office and the
+//! reports take it from here.
 ghost use Rattle.std.specs.Prelude.{◌≡◌};
 
 use mx_base::{Day, Moment};

@@ -1,6 +1,25 @@
-//! The rows of the tables of a file, read inside a transaction at layout 2, whatever they are: those of the registers alone, for
-//! who makes of them what a layout keeps beside, those of every table but `office`, and whether the row of that is the point's.
-//! And which table has the rows of an entry.
+//! The rows of the tables of a file, read inside a transaction at layout 2, whatever they are: those of the registers
+//! alone, for who makes of them what a layout keeps beside, those of every table but `office`, and whether the row of
+//! that is the point's. And which table has the rows of an entry.
+//!
+//! # What is promised
+//!
+//! Over a database that has the tables of layout 2, then any others, with any indexes beside its own, whatever rows
+//! they have; what is said of `register_rows` asks for the tables that it reads alone. What is said of a file is said
+//! where the disk has returned what was written.
+//!
+//! - The rows of the registers and the spans are read alone, inside a transaction and over any schema that has their
+//!   tables, whatever rows these have and whichever others there are. What is answered is exactly their rows, no total
+//!   and no last base; a table is told damaged only where a row of it is none of its type; nothing is changed:
+//!   `register_rows`: `reads`.
+//! - So are the rows of every table but `office`, with the totals and last bases, over the tables of layout 2:
+//!   `read_rows`: `looks` (`AreStored`).
+//! - Whether the one row of `office` is that of the point is told likewise; `office` is told damaged where its row is
+//!   none of a point: `is_at_point`: `looks` (`TellsPoint`).
+//! - Of a kind of entry the table of its rows is answered, which is the one that is told damaged where the row of such
+//!   an entry is: `table_of`.
+//!
+//! `mx_migrate::settle` reads the registers by it, and `mx_verify` all rows.
 
 pub mod kinds;
 pub mod point;

@@ -1,4 +1,9 @@
 //! Opening the database in a file, whose store is named here.
+//!
+//! A file that is empty, or has one byte, is not opened but by a word that makes one: `sqlite` takes it for a new one
+//! that was cut short, writes its first page and empties the log beside it, which may hold entries that an accident
+//! took from the file. A file is opened that its log shows to have been stopped within its first page, and `sqlite`
+//! then ends that page; that is what `sqlite` states of such files, and is neither proved nor tried here.
 ghost use Rattle.std.specs.Prelude.{◌≡◌, ◌≢◌, ◌↔◌, false, IfOk, IfErr};
 
 use sqlite::{Connection, Error, ErrorCode, FileFrom, FileStore, Wary};

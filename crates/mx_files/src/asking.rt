@@ -1,4 +1,7 @@
 //! The office in a file is asked.
+//!
+//! What is asked meets `Asked`, of which a `Work` is made: so the words stand here, and `serve` in `mx_cli`, above the
+//! desk.
 ghost use Rattle.std.specs.Prelude.{◌≡◌, ◌≤◌, ℕ, List, Err, IfOk, IfErr};
 ghost use Rattle.mx_files.specs.Answered.{Answers};
 ghost use Rattle.mx_output.specs.endings.Status.{LeavesUnread, Shows, stop_status};

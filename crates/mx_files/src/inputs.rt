@@ -1,4 +1,7 @@
 //! What the input files of words give: the commands of one, a maintenance programme, the rows of a log.
+//!
+//! Want of memory while a file is read is a fault of the file (60 of entry 0, with status 3), since no database is open
+//! yet and nothing was entered.
 use mx_base::Doc;
 use mx_book::commands::Command;
 use mx_intake::{IntakeFault, MOST_BYTES, READ_FAILED, commands_of_json, programme_of, read_all};

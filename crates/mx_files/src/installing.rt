@@ -1,4 +1,8 @@
 //! `init-old` over a file.
+//!
+//! The file of commands is taken first, then a new book accepts them and the text of the replies is made, and the
+//! database is opened last. So no file is made of a list with a fault in it, memory can't run out behind the one
+//! commit, and where there is a book already nothing is printed but `fault exists`.
 ghost use Rattle.std.specs.Prelude.{◌≡◌, ◌≤◌, ◌++◌, [], IfOk, IfErr, OnErr};
 ghost use Rattle.mx_files.specs.Answered.{TellsNothing};
 ghost use Rattle.mx_output.specs.printed.Entered.{AreFirstReplies, TellsReplies};

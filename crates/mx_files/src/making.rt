@@ -1,4 +1,8 @@
 //! `init` over a file.
+//!
+//! Room for its line is made once the file is open, so where memory runs out there an empty file may be left, which
+//! counts as none. Where the database can't be closed behind the commit `init` answers `fault store` and prints
+//! nothing; the book is there, and a second `init` says `fault exists`.
 ghost use Rattle.std.specs.Prelude.{◌≡◌, ◌++◌, codes, OnErr, IfOk, IfErr};
 ghost use Rattle.mx_files.specs.Answered.{TellsMade};
 ghost use Rattle.mx_output.specs.endings.Status.{stop_status};

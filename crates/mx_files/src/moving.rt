@@ -1,4 +1,8 @@
 //! `migrate` over a file.
+//!
+//! The database is opened alone, since an office would move the file to the end. So what stops the move is a fault
+//! behind the opening, status 4, but for a file that is none of an office or of a newer layout, which an opening tells
+//! alike, status 5.
 ghost use Rattle.std.specs.Prelude.{◌≡◌, ◌≤◌, IfOk, IfErr};
 ghost use Rattle.mx_files.specs.Answered.{Answers};
 ghost use Rattle.mx_output.specs.printed.Moved.{IsPointLine};

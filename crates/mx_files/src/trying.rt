@@ -1,4 +1,6 @@
 //! `try`: commands that are entered into a store in memory, and the life of an aircraft behind them.
+//!
+//! The book of a trial is made and asked by the calls that a file is kept by.
 ghost use Rattle.std.specs.Prelude.{◌≡◌, ◌≤◌, [], false, IfOk, IfErr};
 ghost use Rattle.sqlite.specs.Held.{state};
 ghost use Rattle.sqlite.specs.State.{HasCleanDisk};

@@ -1,4 +1,9 @@
 //! The words that ask the office in a file.
+//!
+//! A log is opened before the database and read behind it: so the faults of the two come in the order of the words, and
+//! what a log says is told only where there is an office to enter it. The other words that take a file read it first:
+//! their text gives commands or none, and nothing of it is entered in parts. The log is lent as `&File`, which is a
+//! reader too.
 ghost use Rattle.std.specs.Prelude.{◌≤◌, length, IfOk, IfErr};
 ghost use Rattle.mx_output.specs.printed.Entered.{AreReplyLines, AreSomeReplyLines};
 ghost use Rattle.mx_output.specs.printed.Imported.{AreRowLines};

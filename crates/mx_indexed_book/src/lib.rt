@@ -13,6 +13,18 @@
 //! | `is_rectified` | the defects that were |
 //!
 //! Whether there is room for one more aircraft or component is told by two counts. So nothing reads all entries.
+//!
+//! # What is promised
+//!
+//! - A book beside maps is its list of entries; a command is judged by the maps as the definition judges it:
+//!   `indexed::judge`.
+//! - A new command is appended behind the entries, with the next number; without memory the book is as it was, and the
+//!   command comes back: `IndexedBook::enter`: `entered`, `seq`, `unchanged`, `back`.
+//! - Each map has at each key what the definition answers of the book there, before and behind each entry: the
+//!   invariant of `IndexedBook` (`AreIndexes`); `Indexes::new`, `changes`, `make_room`, `put`.
+//!
+//! `mx_verify::merged` stands on it, and with that the word `verify` and the move of older files. What these take
+//! stands in `docs/COST.md`.
 #![tactic(auto)]
 
 pub mod bases;

@@ -1,4 +1,8 @@
 -- Identifiers, days and moments as texts: each text is read where it is the text of one.
+-- The definitions of JSON compute, so they need the day that a text names as a function. It counts the days of jiff's
+-- calendar to the digits in their places, and takes that day where its printed text is the text that was read: the
+-- digits only guess, the printed text decides, and there is one grammar. That every day and every moment is found so is
+-- proved.
 use Rattle.std.specs.Prelude.{ℕ, ◌+◌, ◌-◌, ◌*◌, List, length, slice_index, Bool, ◌&&◌, nat_le, Option, Some, None, option_and_then, if◌then◌else◌, pos, unsigned_abs}
 use Rattle.std.specs.List.{list_all}
 use Rattle.jiff_core.specs.Calendar.{days_from_civil}

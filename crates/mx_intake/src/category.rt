@@ -1,4 +1,8 @@
 //! The category of a deferred defect: `A` with the days that are stated, or `B`, `C` or `D` with days of its own.
+//!
+//! Category A needs `days`, and the others exclude it: beside them it is a bad shape (65) and, as every key that is
+//! there, one that has to be read. Where the category can't be read, or is missing, it is not known which of the two
+//! holds: then `days` is neither missing nor too much.
 ghost use Rattle.std.specs.Prelude.{◌≡◌, map};
 ghost use Rattle.serde_json.specs.View.{view};
 ghost use Rattle.mx_intake.specs.Defects.{names_category, lacks_days, states_other_days, category_of, stated_category};

@@ -1,4 +1,8 @@
 //! Why an input states nothing.
+//!
+//! Want of memory is told of entry 0 also where it runs out at another, since it says nothing of what that entry
+//! states. It may come before any other fault: the positions of an aircraft are gathered before its other keys are
+//! looked at.
 ghost use Rattle.std.specs.Prelude.{◌≡◌};
 ghost use Rattle.mx_intake.specs.Fault.{fault};
 

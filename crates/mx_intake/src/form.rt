@@ -1,4 +1,10 @@
 //! The least fault of an entry by its form, or its command.
+//!
+//! A form is asked which of its keys are missing and whether there are others by one list, which has `do` in it: an
+//! object that came so far has it. A position of an aircraft has no `do`, and one that states it has an unknown key.
+//! Where a form names a thing by one of two keys, neither of which is missing where the other stands, as an opening, a
+//! release and its lines do, or has a key for one category alone, it has a list of the keys that it needs beside that
+//! of all its keys.
 ghost use Rattle.std.specs.Prelude.{◌≡◌, ◌≢◌, Ok, Err, IfOk, IfErr, option_map};
 ghost use Rattle.mx_intake.specs.declared.fault.TheConstants.{MEMORY};
 ghost use Rattle.mx_intake.specs.Form.{entry_by_form, if_keys_agree, entry_of};

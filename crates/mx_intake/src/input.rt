@@ -1,4 +1,7 @@
 //! The whole of an input, up to a limit.
+//!
+//! An interrupted read has failed, and is not done again: the whole input is read before anything is entered, so that
+//! handing it in again does no harm, and a reader that is interrupted for ever can't hold the program.
 ghost use Rattle.std.specs.Prelude.{◌≡◌, ◌≤◌, ◌+◌, ◌⊎◌, length, IfOk, IfErr, vec_len};
 ghost use Rattle.mx_intake.specs.declared.fault.TheConstants.{MEMORY, TOO_LONG, READ_FAILED};
 ghost use Rattle.mx_intake.specs.Input.{TakesAtMost, IfKnownLonger, IfKnownAll};

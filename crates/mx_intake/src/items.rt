@@ -1,4 +1,7 @@
 //! The item that an object names: an airframe at `tail`, or a component at `serial`.
+//!
+//! Keys that exclude each other are read: an object that has both lacks neither, each has to be one that can be read,
+//! and only then is it of a bad shape. So the least number is told here as everywhere.
 ghost use Rattle.std.specs.Prelude.{◌≡◌};
 ghost use Rattle.serde_json.specs.View.{view};
 ghost use Rattle.mx_intake.specs.Items.{airframe_at_key, component_at_key, item_at_keys, lacks_item, names_two_items};

@@ -1,4 +1,7 @@
 //! The commands of a JSON text.
+//!
+//! A number that is too large for `serde_json` to read, as `1e400`, makes the text one without a reading. Of a key that
+//! is written twice the last value counts, and the first is not looked at.
 ghost use Rattle.std.specs.Prelude.{◌≡◌, ◌≢◌, ◌≤◌, Ok, Err, IfOk, IfErr, length};
 ghost use Rattle.serde_json.specs.View.{view, items_view};
 ghost use Rattle.mx_intake.specs.declared.fault.TheConstants.{MEMORY};

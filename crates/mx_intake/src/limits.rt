@@ -1,4 +1,9 @@
 //! The limits of a task, and its tolerance.
+//!
+//! `{}` is a limit that can be read: as `first` or `repeat` it has no shape (65), and as `tolerance` it is the
+//! tolerance that an absent one is. A dimension of 0 is no shape of a limit, and no tolerance in that dimension. Hours
+//! whose minutes are past 4,294,967,295 can't be read (63), as a number past it, and are not told as minutes past the
+//! most of a limit (65).
 ghost use Rattle.std.specs.Prelude.{◌≡◌, option_and_then};
 ghost use Rattle.toml.specs.Data.{get};
 ghost use Rattle.toml.specs.View.{view};

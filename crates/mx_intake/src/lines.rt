@@ -1,4 +1,7 @@
 //! The lines of a release, a list of objects.
+//!
+//! Faults of lines are faults of their entry, as those of positions are: all lines are looked at, and the least number
+//! counts.
 ghost use Rattle.std.specs.Prelude.{◌≡◌, IfOk, option_map};
 ghost use Rattle.serde_json.specs.View.{view, items_view};
 ghost use Rattle.mx_intake.specs.Object.{any_item, has_other_key};

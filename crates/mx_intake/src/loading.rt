@@ -1,4 +1,7 @@
 //! The command that loads the maintenance programme of a TOML text.
+//!
+//! The document is no part of the text, so one of the technical log is told where the shape of the top is: behind the
+//! missing, unread and unknown keys of the top, and before every fault of a task.
 ghost use Rattle.std.specs.Prelude.{◌≡◌, ◌≢◌, Ok, Err, IfOk, IfErr};
 ghost use Rattle.mx_intake.specs.declared.fault.TheConstants.{MEMORY};
 ghost use Rattle.mx_intake.specs.Loading.{entry_if_programme, entry_of_programme, fault_by_document};

@@ -1,4 +1,8 @@
 //! What an object has at its keys.
+//!
+//! `1.0`, `1e0` and `-0` are other kinds of value than a whole number, and so is one past 4,294,967,295. Values of JSON
+//! and of TOML are types of two crates, so `table.rt` reads those of the other by definitions that are alike word for
+//! word.
 ghost use Rattle.std.specs.Prelude.{◌≡◌, map, is_some, option_map};
 ghost use Rattle.serde_json.specs.Find.{get};
 ghost use Rattle.serde_json.specs.View.{view, items_view};

@@ -1,5 +1,8 @@
 //! The place of a release that an object names: an aircraft at `tail`, or a component in a shop at `serial`, by the
 //! programme of the kind at `kind`.
+//!
+//! Keys that exclude each other are read, as those of items are: a release that has `serial` or `kind` beside `tail`
+//! lacks no key that only the shop needs, and what is there is read.
 ghost use Rattle.std.specs.Prelude.{◌≡◌};
 ghost use Rattle.serde_json.specs.View.{view};
 ghost use Rattle.mx_intake.specs.Release.{lacks_place, names_two_places, is_shop_readable, aircraft_at_key, shop_at_keys, place_at_keys};

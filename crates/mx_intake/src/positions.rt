@@ -1,4 +1,8 @@
 //! The positions of an aircraft, a list of objects.
+//!
+//! Faults of positions are faults of their entry. All positions are looked at, and the least number counts: one that
+//! lacks a key comes before one that is no object, wherever they stand. One that is no object can't be read (63); it is
+//! not one that lacks its keys (62).
 ghost use Rattle.std.specs.Prelude.{◌≡◌, IfOk, option_map, option_and_then};
 ghost use Rattle.serde_json.specs.View.{view, items_view};
 ghost use Rattle.mx_intake.specs.Object.{any_item, has_other_key};

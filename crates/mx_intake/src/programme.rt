@@ -1,4 +1,8 @@
 //! The maintenance programme of a TOML text.
+//!
+//! The top of a programme is entry 0, so its faults come before those of any task: a revision out of its bounds, or a
+//! list of too many tasks, is told before a task is looked at. That two tasks have the same name is a fault of none of
+//! them alone, so it is told of entry 0, and only where nothing else is faulty.
 ghost use Rattle.std.specs.Prelude.{◌≡◌, ◌≢◌, ◌≤◌, ◌&&◌, Ok, Err, IfOk, IfErr, IsTrue, length, option_map};
 ghost use Rattle.mx_book.specs.commands.Bounds.{within};
 ghost use Rattle.toml.specs.View.{view, items_view};

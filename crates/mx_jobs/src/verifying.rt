@@ -1,4 +1,7 @@
 //! Whether the tables of an open office are those of a book, as text.
+//!
+//! `differs` is an answer and no fault, so it goes to standard output; its status is 4, since nothing that is asked of
+//! such a file can be relied on.
 ghost use Rattle.std.specs.Prelude.{◌≡◌, IfOk, IfErr, OnErr};
 ghost use Rattle.sqlite.specs.State.{HasCleanDisk};
 ghost use Rattle.mx_office.specs.Layout.{office_point};

@@ -1,4 +1,10 @@
 //! What a database lists before anything is made in it: whether a table is named `office`, and whether it is empty.
+//!
+//! What a database lists is asked of the connection (`Connection::schema`), not by a query: that call has no premise,
+//! so `create` answers `Exists` and `NotOurs` by what there is, whatever the columns of a table are. A text would need
+//! its meaning over every schema, and one that reads `sqlite_schema` has the meaning only where no table has that name.
+//! A view, an index, or a table that `sqlite` keeps without reading it makes a database one that is not empty; a table
+//! `office` of that kind is not found, and so it is `NotOurs`.
 
 ghost use Rattle.std.specs.Prelude.{◌≡◌, ◌↔◌, codes, IsTrue, MatchOption};
 ghost use Rattle.sqlite.specs.Held.{state};

@@ -1,4 +1,10 @@
 //! Reading the point that a file is at.
+//!
+//! The row of `office` is written by `create` and by each step of a move (`set_point` of `mx_moves`), and read here: so
+//! it has no insert and no reader in `mx_tables`. A query can't tell a view `office` from the table, so `point` looks
+//! the table up beside it; `point_in`, inside a transaction, sees no schema, and its `absent` speaks of a database in
+//! which neither a table nor a view has the name. The type `Point` stands in `mx_base`, since the toolchain makes a
+//! file of each name, and a module can't have both `Point` and `point`.
 
 ghost use Rattle.std.specs.Prelude.{◌≡◌, ◌⊎◌, ◌<◌, ◌^◌, [], ◌∷◌, ℕ, pos, false, true, length, IsTrue, OnOk, IfOk, IfErr, IsErrAnd, MatchOption, MatchResult};
 ghost use Rattle.sqlite.specs.declared.types.Value.TheVariants.{Int};

@@ -1,4 +1,13 @@
 //! The lists that are asked of a book: due list, life list, limits and forecast, made by questions of any records.
+//!
+//! # What is promised
+//!
+//! - By any records that stand for a book, when a task is due, and the due list, the life list, the limits and the
+//!   forecast, are the definition's of that book, where the disk gave back what was written, or the fault of the
+//!   question that was not answered, and of a list also want of memory: `due_of_kind`, `list_dues`, `list_lives`,
+//!   `list_limits`, `list_forecast`.
+//! - A list put in order has the same rows, ascending, with ties as they were: `order::sorted`: `order`, `permutation`,
+//!   `ascending`, `stable`.
 #![tactic(auto)]
 
 pub mod due_lists;

@@ -1,4 +1,7 @@
 //! The life list of an aircraft: what is fitted to it, and the lives.
+//!
+//! A part of it is a struct with names (`FittedPart`), as a row of a forecast is, where a tuple would be read by its
+//! places.
 ghost use Rattle.std.specs.Prelude.{◌≡◌};
 ghost use Rattle.std.specs.List.{filter_map};
 ghost use Rattle.mx_book.specs.Life.{use_or_none};

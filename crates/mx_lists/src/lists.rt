@@ -1,4 +1,7 @@
 //! What lists ask of records, beside what judging does.
+//!
+//! An open defect is answered with what was deferred, its document among that: whoever asks for it asks for its last
+//! day next.
 ghost use Rattle.std.specs.Prelude.{◌≡◌, true, IfOk, IfSome};
 ghost use Rattle.std.specs.List.{list_all};
 ghost use Rattle.mx_book.specs.commands.Programme.{task_shape};

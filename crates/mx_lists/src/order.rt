@@ -1,4 +1,9 @@
 //! Rows in order.
+//!
+//! The definition of order puts each row in its turn before the first that it comes before, which computes and leaves
+//! ties as they were. The code sorts with the library's stable sort, and that the two agree is proved once for every
+//! list. `Rows` is a vector that clauses see as the list of its rows, so that an answer can be said to be the
+//! definition's: two plain vectors with the same rows differ in where their memory lies.
 ghost use Rattle.std.specs.Prelude.{◌≡◌, Bool, IfOk};
 ghost use Rattle.std.specs.List.Sorted.{IsPermutation, IsSortedBy, IsStableBy};
 ghost use Rattle.std.specs.Cmp.{IsStrictWeakOrder};

@@ -1,4 +1,7 @@
 //! Why a list of records is not answered.
+//!
+//! A look-up that answers several rows takes memory for them, so it stops with `Stop`, which has want of memory beside
+//! the fault of the records. Those of the judge answer one thing each, and have that fault alone.
 ghost use Rattle.std.specs.Prelude.{◌≡◌};
 ghost use Rattle.mx_lists.specs.declared.stop.Stop.TheVariants.{NoMemory};
 

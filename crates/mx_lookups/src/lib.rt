@@ -1,8 +1,20 @@
-//! What is looked up inside a transaction; at the top defects, what is fitted, room, and what lists ask. Each look-up promises
-//! what those of `numbers` do, with which it begins, and ends by their faults.
+//! What is looked up inside a transaction; at the top defects, what is fitted, room, and what lists ask.
 //!
-//! - `numbers`: entries and items by rows: the numbers with which every other look-up begins, and what a look-up promises.
+//! - `numbers`: entries and items by rows: the numbers with which every other look-up begins, and what a look-up
+//!   promises.
 //! - `lives`: lives, last bases and tasks in force, which judging, lists and the making of rows look up alike.
+//!
+//! # What is promised
+//!
+//! - Each look-up promises what those of `numbers` do, with which it begins, and ends by their faults. What is answered
+//!   at the top is whether a position is taken, where a component is fitted, a defect, its extension and whether it was
+//!   rectified, whether there is room for an aircraft or a component, what is fitted to an aircraft, and its open
+//!   defects: `is_taken`, `tail_fitted`, `defect`, `extension`, `is_rectified`, `has_room_for_aircraft`,
+//!   `has_room_for_component`, `fitted`, `open_defects`: `reads`, `any_rows`, `damage`.
+//! - Over any rows, room is what the count of rows leaves: `has_room_for_aircraft`, `has_room_for_component`:
+//!   `any_rows`.
+//! - Over any rows, what is fitted to an aircraft and its open defects are what each chosen row says, one after
+//!   another: `fitted`, `open_defects`: `any_rows`.
 #![tactic(auto)]
 
 pub mod defects;

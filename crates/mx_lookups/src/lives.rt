@@ -1,5 +1,15 @@
-//! Lives, last bases and tasks in force by rows: the look-ups that the judge, the lists and the making of rows have in common.
-//! Each promises what the look-ups of `mx_lookups::numbers` do, with which it begins, and ends by their faults.
+//! Lives, last bases and tasks in force by rows: the look-ups that the judge, the lists and the making of rows have in
+//! common.
+//!
+//! # What is promised
+//!
+//! - Each promises what the look-ups of `mx_lookups::numbers` do, with which it begins, and ends by their faults. What
+//!   is answered is a clock, the earliest take-off, a life, the next revision of a programme, a task in force, the
+//!   tasks in force, whether an item is retired, whether a task was accomplished, and its last base: `clock`,
+//!   `earliest_takeoff`, `life`, `next_revision`, `task`, `tasks`, `is_retired`, `is_accomplished`, `base`: `reads`,
+//!   `any_rows`, `damage`.
+//! - Each task has its shape, and a base is one that an item may have, whatever the tables hold: `task`, `tasks`:
+//!   `shape`; `base`: `bounded`.
 
 pub mod lives;
 pub mod programmes;

@@ -1,4 +1,7 @@
 //! The steps that make `base2`, and write the last bases of one item there.
+//!
+//! The point is written before the rows: an item may have no base, and then no other statement shows that the
+//! connection is open.
 ghost use Rattle.std.specs.Prelude.{◌≡◌};
 ghost use Rattle.sqlite.specs.Held.{state};
 ghost use Rattle.mx_registers.specs.points.Points.{moving};

@@ -1,4 +1,7 @@
 //! The step that moves the fittings and removals of one component from `fit1` and `removal1` to `span2`.
+//!
+//! Two fittings in a row make `fit1` damaged, a removal without a fitting `removal1`; a row whose number no entry can
+//! have makes its own table so, before anyone's turn is looked at. Nothing is written then.
 ghost use Rattle.std.specs.Prelude.{◌≡◌, ◌⊎◌, drop, Ok, Err, IfOk, IfErr};
 ghost use Rattle.sqlite.specs.Held.{state};
 ghost use Rattle.mx_layout.specs.TableName.{TableName};

@@ -1,4 +1,7 @@
 //! The step that moves sectors from `sector1` to `sector2`, at most 64 a commit.
+//!
+//! Sectors are read from the front of the old table, and not from the mark on: one that is not above the mark would
+//! never be met there, and be lost with the table.
 ghost use Rattle.std.specs.Prelude.{◌≡◌, map, IfOk, IfErr};
 ghost use Rattle.std.specs.List.{list_all};
 ghost use Rattle.sqlite.specs.Held.{state};

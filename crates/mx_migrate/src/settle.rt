@@ -1,9 +1,42 @@
-//! A file on the way to the newest layout: which step of the move is due at its point, one commit that makes it, and as many
-//! commits as are wanted.
+//! A file on the way to the newest layout: which step of the move is due at its point, one commit that makes it, and as
+//! many commits as are wanted.
 //!
-//! `Due` has a variant for each step, and is a step itself, so one commit of any of them is `mx_migrate`'s `commit_step`. The
-//! steps that write the totals and the last bases hold their rows, which the registers give: these are read once, at the first
-//! of such steps, and what they give of all items is kept from one commit to the next.
+//! `Due` has a variant for each step, and is a step itself, so one commit of any of them is `mx_migrate`'s
+//! `commit_step`. The steps that write the totals and the last bases hold their rows, which the registers give: these
+//! are read once, at the first of such steps, and what they give of all items is kept from one commit to the next.
+//!
+//! # What is promised
+//!
+//! The office moves an older file by it as it is opened, and the word `migrate` as far as it is told; lines of
+//! `mx_test_office` do both (`settling.cases`).
+//!
+//! - Of one commit on the way, where the tables stood for a book at a point they stand for the same book at the next
+//!   point, which is answered; at the newest layout the point is answered as it is; where a file can be at the point,
+//!   no table is damaged; and a stop anywhere leaves them to stand for it at the one point or at the next: `advance`:
+//!   `book` (`AdvancesBook`: `moved`, `kept`, `same`, `whole`, `crash`).
+//! - Whatever rows there are, any answer but `Store` that is an error changed nothing, and at the newest layout nothing
+//!   changes: `advance`: `advances` (`Advances`: `untouched`, `ended`).
+//! - Whatever rows there are, below the newest layout the point that is answered is a later one, the file is there and
+//!   says so, and its tables are what a step of the move makes of those from before; each state that a stop may leave
+//!   is one from before, or what a step of the move makes of the tables: `advance`: `advances` (`Advances`: `placed`,
+//!   `later`, `made`, `left`).
+//! - A table is damaged where a row that was looked at is none of its type; where a component, or any register before
+//!   totals and last bases are made of it, has a number that no entry can have, of several the table that is read
+//!   first; where the registers, none of which has such a number, are those of no book; or as a step for the point
+//!   names it: `advance`: `advances` (`Advances`: `damaged`, by `IsUnfit`).
+//! - A newer layout, and a point that no file can be at, are answered as such; `NotOurs` is answered where no table is
+//!   named `office`: `advance`: `advances` (`Advances`: `told`, `absent`).
+//! - Of at most so many commits, where the tables stood for a book they stand for it behind so many, fewer only at the
+//!   newest layout; where a fault other than `Store` stopped them, behind some of them; and a stop anywhere leaves them
+//!   to stand for it behind some of them: `settle`: `settles` (`Settles`: `reached`, `kept`, `same`, `whole`, `crash`).
+//! - Whatever rows a file at a point has, unless the store failed its tables are what so many steps of the move at
+//!   most, one after another, make of those from before; and each state that a crash may leave is one from before, or
+//!   what they make, so that no row goes that a step does not take: `settle`: `settles` (`Settles`: `made`, `left`, by
+//!   `AreMoved`).
+//! - Whatever rows there are, with 8,000,000 commits a file ends at the newest layout, or a fault is answered:
+//!   `settle`: `settles` (`Settles`: `ends`).
+//! - Where the tables of layout 1 stood for a book and no fault is answered, the file is settled at layout 2 with as
+//!   many commits as its move takes, and with fewer it is on the way: `settle`: `enough`, `fewer`.
 
 pub mod advancing;
 mod choosing;

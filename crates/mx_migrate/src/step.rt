@@ -1,4 +1,8 @@
 //! A step of a move, and its commit.
+//!
+//! A step is handed what its caller has read to know that it is due, the mark and the component, and reads again only
+//! what it moves. Whether it is due is a premise, since only a book says so; over the tables of a file that is due for
+//! another step it still loses no row.
 ghost use Rattle.std.specs.Prelude.{◌≡◌, false, List};
 ghost use Rattle.sqlite.specs.Tree.{Trees};
 ghost use Rattle.sqlite.specs.Held.{state};

@@ -1,4 +1,8 @@
 //! The steps that make `total2` in place of `fit1` and `removal1`, and write the total of one item there.
+//!
+//! What there is of a component that the file does not have is met by no move of a component, so `ChangeToTotals` looks
+//! first whether `fit1` and `removal1` have a row left. It reads all of them, since where the move went well there is
+//! none.
 ghost use Rattle.std.specs.Prelude.{◌≡◌};
 ghost use Rattle.sqlite.specs.Held.{state};
 ghost use Rattle.mx_registers.specs.points.Points.{moving};

@@ -1,4 +1,8 @@
 -- What statements make of the rows of each table, as one function of its name.
+-- A statement names the schema before it and the one behind it, as the places of the layouts' own statements have them
+-- (`schema_after`), and what each table has then (`Alters`). Statements that write rows run in any schema that has
+-- their tables (`WritesRows`), and become an `Alters` of one schema to itself. So the statements of a step compose by
+-- one lemma, whether they make tables or rows.
 use Rattle.std.specs.Prelude.{◌≡◌, Bool, not, List, [], ◌∷◌, filter, nat_eq, if◌then◌else◌, Contains, IsPermutation, IsTrue, Result, OnOk}
 use Rattle.sqlite.specs.Order.{Row}
 use Rattle.sqlite.specs.Schema.{Schema}

@@ -1,4 +1,7 @@
 -- What a call that hands commands to an office does to it, and what it promises, whichever call it is.
+-- A run in which no command was looked for is answered by the connection as it was, of which no clause says that all is
+-- committed; where one was looked for and none was accepted no table changes. The run has the one or the other
+-- (`untouched`).
 use Rattle.std.specs.Prelude.{◌≡◌, ◌≢◌, ◌⊎◌, ◌≤◌, ◌<◌, ◌+◌, List, [], ◌∷◌, length, take, IsTrue, Option, Some, None, Result, Ok, Err}
 use Rattle.sqlite.specs.Store.{Ghosts}
 use Rattle.sqlite.specs.Effect.{Database}

@@ -1,4 +1,8 @@
 -- Commands that are handed in to a file of the office, whatever rows its tables have: what their replies go by, and what each adds.
+-- The tables behind commands are a chain: each reply is by the verdict on the tables that its command found, and leads
+-- to those that the next one found, with its rows on top where it was accepted, and else as they were (`AreAnswered`,
+-- `LeadsTo`). What a crash may leave is a chain and the rows of the next command (`MayLeave`). A chain grows at its
+-- end, so that a loop has it as its invariant.
 use Rattle.std.specs.Prelude.{◌≡◌, ◌⊎◌, ◌<◌, ◌+◌, ℕ, List, [], ◌∷◌, ◌++◌, length, take, true, IsTrue, IsPermutation, Option, Some}
 use Rattle.sqlite.specs.Effect.{Database}
 use Rattle.sqlite.specs.State.{State}

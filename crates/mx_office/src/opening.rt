@@ -1,4 +1,9 @@
 //! The opening of the office that a database holds, and the move of an old one to the newest layout before.
+//!
+//! `open_office` reads the point itself, before `settle` does, since what it answers of a database that is at no point
+//! of ours is said of whatever schema there is; at the newest layout it reads nothing else. A fault of the move that
+//! speaks of no file of ours, or of a newer layout, is told as damage of `office`: nobody else writes the file, so its
+//! row is not what was just read.
 ghost use Rattle.std.specs.Prelude.{◌≡◌, ◌≢◌, ◌≤◌, List, None, Some, false, IfOk, IfErr, MatchResult};
 ghost use Rattle.sqlite.specs.Held.{state};
 ghost use Rattle.sqlite.specs.State.{HasCleanDisk};

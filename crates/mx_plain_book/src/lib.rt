@@ -1,4 +1,33 @@
-//! The plain program: the entries of a book are read anew for each answer, to the judge, to lists, and of the four lists.
+//! The plain program: the entries of a book are read anew for each answer, to the judge, to lists, and of the four
+//! lists.
+//!
+//! # What is promised
+//!
+//! - The verdict is the definition's, on any book and any command, and takes no memory; each line of a release is
+//!   judged by the book before it: `Plain::judge`.
+//! - The plain book answers each question, and by its entries: `Plain`, the clauses of `Records`.
+//! - Lives are the definition's, and `None` exactly for an unknown item; at most 1,540,000,000 minutes and 51,000,000
+//!   cycles; a component is credited with the sectors flown while it was fitted: `Plain::life`, `Plain::life_now`:
+//!   `life`, `bounded`.
+//! - The open defects of an aircraft are the definition's: those that were deferred on it and not rectified, in the
+//!   order of their entries: `Plain::open_defects`.
+//! - The plain book answers each question of lists, and by its entries: `Plain`, the clauses of `Lists`.
+//! - The life list is the definition's, its components by position, and `None` exactly for an unknown registration:
+//!   `life_list_of`.
+//! - The base of a task of an item is the definition's: what an opening states, and of work that was done in each
+//!   dimension the lesser of what was reached and what was due, by the programme in force when it was released; `None`
+//!   exactly where the task was never accomplished: `base_of_item`; `laws::accomplished_has_a_base` of `mx_book`.
+//! - When a task is due is the definition's, and no sum overflows; `None` where the item is unknown, no task of that
+//!   name in force for the kind applies to it, or it is due no more: `due_of_item`.
+//! - The due list is the definition's: each task in force for the aircraft's kind that applies to its airframe or to a
+//!   component fitted to it and is due, with what is left and how it stands, the overdue first, and then by place, the
+//!   open defects behind the tasks that stand alike; `None` exactly for an unknown registration: `due_list_of`.
+//! - The forecast is the definition's: each row of the due list with the least number of days after which it is
+//!   reached, where that is within those asked for, the soonest first and then by place; `None` exactly for an unknown
+//!   registration: `forecast_of`.
+//! - The limits are the definition's: of each open defect the last day, which is the day on which it was found, the
+//!   interval of its category and its extension, and the days that are left, the soonest first; `None` exactly for an
+//!   unknown registration: `limits_of`.
 #![tactic(auto)]
 
 mod bases;

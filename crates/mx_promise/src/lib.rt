@@ -1,6 +1,11 @@
 //! The headline: stopped before or within any write, the file opens again to the tables of one book, which is the one
-//! from before followed by a prefix of the commands accepted since, with every acknowledged command in it, and the
-//! due list that is printed from it is that book's.
+//! from before followed by a prefix of the commands accepted since, with every acknowledged command in it, and the due
+//! list that is printed from it is that book's.
+//!
+//! # What is promised
+//!
+//! - The headline, for a file at any point of the move to the newest layout: `open_run_and_reopen`: `headline`. Its
+//!   other clauses, and the other calls that lose the power and open again, are told one by one in `docs/PROMISES.md`.
 #![tactic(auto)]
 
 pub mod creating;

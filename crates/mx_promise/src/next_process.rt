@@ -1,5 +1,10 @@
 //! A run that ends with its process, and the file opened again by the next one: the headline for a real file, whose bytes
 //! no clause speaks of.
+//!
+//! No call spans two processes, so the sentence is cut in two: `run_and_end`, or from the connection on
+//! `open_run_and_end`, says what the process leaves, and `reopen_after` takes that as a value, lets it go, and has the
+//! first one's clause as its premise. That the file holds what the first left of it (`WasLeft`) is its other premise:
+//! nobody can prove it of a device.
 ghost use Rattle.std.specs.Prelude.{◌≡◌, ◌≢◌, ◌≤◌, [], None, Some, false, length, List, IfOk, IfErr};
 ghost use Rattle.sqlite.specs.Files.{file_state};
 ghost use Rattle.sqlite_store.specs.FileStore as files;

@@ -1,5 +1,11 @@
 //! The headline from the connection on, for a file at any point of the move to the newest layout, as the contract of
 //! `open_run_and_reopen`.
+//!
+//! Where the first opening stops, no command is run: the outcomes have no reply and no stop, and why is told beside
+//! them, since a fault of an opening is none of a run. Where the store failed in a commit of the move nobody knows on
+//! which side of that commit the file is: of that one stop each state that a crash may leave is said to stand for the
+//! book, each at a point of its own (`IsLeftFor`). The connection can then be given to nothing but a further opening of
+//! the files, behind which the file is at one point, and the same call takes it again.
 ghost use Rattle.std.specs.Prelude.{◌≡◌, ◌≢◌, ◌≤◌, [], None, Some, false, length, List, IfOk, IfErr};
 ghost use Rattle.sqlite.specs.State.{HasCleanDisk};
 ghost use Rattle.sqlite.specs.Files.{file_state};

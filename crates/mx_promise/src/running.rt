@@ -1,5 +1,9 @@
 //! A run of commands, a loss of power at whatever exit, and the file opened again: the headline, as the contract of
 //! `run_and_reopen`.
+//!
+//! What was answered outlives an opening that fails: the outcomes of the run are handed back beside what was found, not
+//! within it, and where no office is opened again in a database that was, the connection with the reason. A database
+//! that could not be opened hands nothing back, since no clause could say what the next opening finds.
 ghost use Rattle.std.specs.Prelude.{◌≡◌, ◌≢◌, IfOk, IfErr};
 ghost use Rattle.sqlite.specs.State.{HasCleanDisk};
 ghost use Rattle.mx_layout.specs.Crash.{ChangesNothing, Leaves};

@@ -1,4 +1,6 @@
 -- Lists that entries have, a thing on each line from 1: the rows that they give, and the things that rows are taken for.
+-- Positions, tasks and lines of releases have this one form, whose laws are said once over any type of row; each says
+-- only what a row has for its entry, its line and the thing there.
 use Rattle.std.specs.Prelude.{ℕ, ◌+◌, Bool, ◌&&◌, List, [], ◌∷◌, Option, Some, None, nat_eq, if◌then◌else◌}
 
 -- the rows of things of the entry with this number, from this line on

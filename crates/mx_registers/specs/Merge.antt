@@ -1,4 +1,8 @@
 -- The book that registers are those of.
+-- A row of a sector, a fitting or a removal names the entries that added the aircraft and the component, and the
+-- registration and the serial number are taken from there. In a book each is added by one entry alone, so that nothing
+-- else need be compared. Positions are taken as long as their lines count on from 1; a row that is left over means that
+-- the rows are those of no book.
 use Rattle.std.specs.Prelude.{ℕ, ◌+◌, Bool, true, false, ◌&&◌, List, [], ◌∷◌, ◌++◌, length, Option, Some, None, nat_eq, if◌then◌else◌}
 use Rattle.std.specs.Option.{option_and_then, option_map}
 use Rattle.mx_base.specs.declared.amounts.Limit.{Limit}

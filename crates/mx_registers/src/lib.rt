@@ -1,10 +1,17 @@
-//! The registers of a book: the rows that its entries give to each table, and the book that rows give. The definitions, the
-//! row of each command, and the types that they speak of.
+//! The registers of a book: the rows that its entries give to each table, and the book that rows give. The definitions,
+//! the row of each command, and the types that they speak of.
 //!
 //! - `plain`: the rows that a command adds behind the entries of a book in memory, and the command that rows say.
 //! - `kept`: the rows that are computed from the registers and kept beside them, and what a command makes of each.
 //! - `points`: which tables there are at each point of a move, which rows stand in them, and what a commit of it does.
 //! - `file`: the rows of all tables of a file as one value, and when they are those of a book.
+//!
+//! # What is promised
+//!
+//! - The row of a command, of a position and of a task is the definition's, and fits its columns: `entry_row`,
+//!   `aircraft_row`, `place_row`, `component_row`, `programme_row`, `task_row`, `opening_row`, `sector_row`,
+//!   `fitting_row`, `removal_row`, `release_row`, `deferral_row`, `extension_row`: `row`, `fits`.
+//! - Registers are those of at most one book: `laws::registers_decide_the_book`.
 #![tactic(auto)]
 
 pub mod file;

@@ -1,4 +1,7 @@
 //! The words of a deferred defect, appended.
+//!
+//! A row has its last day as a number that could be less than nothing, and its letter as any character. No book gives
+//! such a row, and its bytes are said all the same: the size of the number as a day, and the letter in UTF-8.
 ghost use Rattle.std.specs.Prelude.{◌≡◌, ◌++◌, OnOk, OnErr, encode_utf8, unsigned_abs};
 ghost use Rattle.mx_base.specs.Texts.{day_number_text};
 ghost use Rattle.mx_reports.specs.DefectText.{defect_words, until_line};

@@ -1,5 +1,13 @@
-//! Replies and lists as exact text. Each printer appends exact bytes to a vector, or leaves its items as they
-//! were where memory runs out.
+//! Replies and lists as exact text. Each printer appends exact bytes to a vector, or leaves its items as they were
+//! where memory runs out.
+//!
+//! # What is promised
+//!
+//! - A reply, a life list, a due list, a forecast and limits are appended as their exact bytes, or the vector's items
+//!   are as they were: `reply_text`, `life_text`, `due_text`, `forecast_text`, `limits_text`: `printed`, `unchanged`;
+//!   for each text at once `append_whole`.
+//! - A line for each of some replies is appended, or nothing where memory runs out; and it is told whether one of them
+//!   is a refusal: `replies_text`; `is_refused`, `has_refusal`.
 #![tactic(auto)]
 
 mod defect;

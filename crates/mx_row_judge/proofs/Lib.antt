@@ -1,6 +1,5 @@
 pub mod ViewLemmas
 pub mod ListLemmas
-pub mod BaseLemmas
 pub mod GivenLemmas
 pub mod KnownStanding
 pub mod StandingLemmas

@@ -53,7 +53,7 @@ use Rattle.mx_lookups.specs.Fitted.{IsNumberFitted}
 use Rattle.mx_lookups.specs.numbers.Given.{BornOf, ClockOf, DefectOf, ExtensionOf, HasRoom, IsAccomplished, IsRectified, IsRetired, IsTaken, LifeOf, NumberFitted, PartAt, RowsInForce, TailFitted, TailOfNumber, is_of, IsRectifiedAt}
 use Rattle.mx_lookups.specs.numbers.InForce.{born_as, rows_in_force}
 use Rattle.mx_lookups.specs.numbers.Reads.{rows_point}
-use Rattle.mx_row_judge.proofs.BaseLemmas.{keyed_is}
+use Rattle.mx_lookups.proofs.LivesProofs.BaseLookups.{keyed_is}
 use Rattle.mx_lookups.proofs.DefectLemmas.{defect_said}
 use Rattle.mx_lookups.proofs.LivesProofs.InForceLemmas.{retired_is, task_found}
 use Rattle.mx_lookups.proofs.NumbersProofs.LookupLemmas.{is_open_at-cells, is_open_of-cells}

@@ -1,4 +1,8 @@
 //! The judge, asked inside a transaction.
+//!
+//! That questions were asked of `Rows` says that the connection is as it was, or that one `Reads` of anything leads
+//! from it to what it is now. So the judge, which may ask nothing, needs no law of its own beside that of a look-up.
+//! `judge_by_rows` asks for the number of entries first, which a new command needs anyway, and so has a whole `Reads`.
 ghost use Rattle.std.specs.Prelude.{◌≡◌};
 ghost use Rattle.sqlite.specs.Held.{state};
 ghost use Rattle.mx_book.specs.Judge.{judge};

@@ -1,5 +1,27 @@
 //! Totals, last bases and what is fitted: each is read, and changed in place. Each call is made inside a `Transaction`,
 //! which the caller commits or drops.
+//!
+//! # What is promised
+//!
+//! These hold over any rows: what is not named is not met, and stays. What changes rows has the premises that
+//! `mx_table_rows::chosen` says.
+//!
+//! - A credit adds the use to the minutes and cycles of exactly the items that it names, each once; their clocks, the
+//!   other rows and each other table are as they were: `credit`: `changes` (`ChangesRows`: `becomes`).
+//! - It is told damaged where one of them has no row, more than one or one that can't be read, or a sum past the most
+//!   of a life, and there alone; then nothing changed, for any of them: `credit`: `changes` (`good`, `damaged`,
+//!   `unchanged`).
+//! - A clock is set and the life stays; a total is added; the open span of a component is ended, by its two empty
+//!   columns; and nothing else changes: `set_clock`, `new_total`, `end_span2`: `changes`.
+//! - A row comes in place of those that were chosen, a last base of that which the item had of the task, and nothing
+//!   else changes: `ReplacesRows`: `replaces`, cited by `set_span2`, `set_total` and `set_base`.
+//! - A span is ended only where the component has exactly one that is open and can be read; else it is told damaged,
+//!   and nothing changed: `end_span2`: `changes` (`good`, `damaged`, `unchanged`).
+//! - The total, and the base of a task or that there is none, are those of the one row; what is fitted is the position
+//!   and component of each open span of the aircraft, in the order of their fittings: `total`, `base_row`, `fitted`:
+//!   `reads`.
+//! - Reading changes nothing; a stop within one of these calls leaves nothing but what was committed before:
+//!   `unchanged`, `within` of each.
 
 pub mod bases;
 pub mod in_place;

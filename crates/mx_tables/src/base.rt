@@ -1,4 +1,8 @@
 //! The table `base2`: the last base of each task that was accomplished of an item.
+//!
+//! The row has a life and a `Day`, and no `Base`: that counts days also past the calendar, since limits are added to
+//! it, and a column holds a day of the calendar. So a row that is read has been tested, and one that is written needs
+//! no test.
 
 use crate::prelude::*;
 use mx_base::Use;

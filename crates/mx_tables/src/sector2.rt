@@ -1,4 +1,8 @@
 //! The table `sector2`: every sector, its moments as numbers.
+//!
+//! `Stored` finds the table by the type of the row. `sector2` has the columns of `sector1`, so `Sector2Row` holds a
+//! `SectorRow`, and its law is that of what it holds. With a marker of the table in the trait no second type would be
+//! needed, and every signature that names a type of row would name the marker too.
 
 use crate::prelude::*;
 

@@ -1,4 +1,7 @@
 //! A table as a set of rows of one type: how they are kept, and all of them, which are read.
+//!
+//! A reader answers `Damaged` where a row is none of its type, and its clauses still say that nothing changed. That a
+//! damaged row is never answered over tables that stand for a book is a clause of the office.
 ghost use Rattle.std.specs.Prelude.{◌≡◌, ◌≢◌, ◌⊎◌, List, map, All, IfOk, IfErr, IsErr, MatchOption};
 ghost use Rattle.std.specs.declared.cmp.Ordering.{Ordering};
 ghost use Rattle.sqlite.specs.declared.types.Value.{Value};

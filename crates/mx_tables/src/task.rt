@@ -1,4 +1,7 @@
 //! The table `task`: every task of a programme, its limits in columns that are NULL where there is none.
+//!
+//! A task that is done once has NULL in all three columns of its repeat, which the row has as a limit in no dimension:
+//! that no command states such a limit is the shape's to say, and what it stands for the register's.
 
 use crate::prelude::*;
 use mx_base::Tolerance;

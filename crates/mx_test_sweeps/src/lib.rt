@@ -1,5 +1,5 @@
-//! Plays files of cases over disks, any that stop after so many calls, lose what was not synced, are opened again,
-//! and have rows that no office wrote.
+//! Plays files of cases over disks, any that stop after so many calls, lose what was not synced, are opened again, and
+//! have rows that no office wrote.
 //!
 //! Lines over the files:
 //! - `disk`: begins with files that hold nothing;
@@ -11,15 +11,18 @@
 //! - `keep`, `restore`: keeps a copy of the files, and takes it back;
 //! - `open [log CALLS] [db CALLS] [pages PAGES]`: opens the office; the log holds so many pages before it is copied;
 //! - `list COMMAND`, `list`: puts a command behind those of the list, or empties it;
-//! - `stops-of-making`, `stops-of-commands`, `stops-of-line`, `stops-of-commits`, `doubts`: sweeps, which play such lines over copies
-//!   (`sweep_lines`);
+//! - `stops-of-making`, `stops-of-commands`, `stops-of-line`, `stops-of-commits`, `doubts`: sweeps, which play such
+//!   lines over copies (`sweep_lines`);
 //! - `questions`: a sweep over the questions of the book of that list.
 //!
 //! Lines in the open office: commands, and the questions that the disks answer; `close`, `end` and `power` leave it.
 //!
-//! Beside them stands a book whose questions run out (`failing`), by which commands are judged and lists are made
-//! (`interrupted`): its clauses say that nothing but the plain book's answer or its fault comes of that, and `questions`
-//! shows that both come.
+//! # What is promised
+//!
+//! - By a book whose questions run out (`failing`), a verdict, a due and each list are those of the plain book, or the
+//!   fault that it was given, and of a list also want of memory: `judge_interrupted`, `due_interrupted`,
+//!   `dues_interrupted`, `lives_interrupted`, `limits_interrupted`, `forecast_interrupted`. The line `questions` shows
+//!   that both come.
 #![tactic(auto)]
 
 mod again;

@@ -1,5 +1,8 @@
 //! A line over files, and what each stop of it leaves in their tables: the rows from before, or those behind the line; of a line of
 //! several commits also rows between these, from which the line played again goes on.
+//!
+//! A sweep of one line begins behind the calls that open the file. To open it is to read it, some 250 calls where its
+//! log is long, of which the sweeps of a list of commands stop each; and each costs four openings more.
 
 use crate::player::Player;
 use crate::settings::stopping;

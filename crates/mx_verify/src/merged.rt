@@ -1,5 +1,11 @@
-//! The book that the registers of a file give, beside maps, or why they give none; and beside maps too the totals of a book, and
-//! of which tasks rows of last bases are.
+//! The book that the registers of a file give, beside maps, or why they give none; and beside maps too the totals of a
+//! book, and of which tasks rows of last bases are.
+//!
+//! # What is promised
+//!
+//! - Registers give their book beside its maps, or what the definition says in its place: `merge_beside_maps`: `given`,
+//!   `exact`, `sound`.
+//! - The totals of a book are those that it gives: `total_rows`.
 
 pub mod merged;
 pub mod totals;

@@ -1,4 +1,10 @@
 //! Whether the tables of a file stand for a book.
+//!
+//! What tables stand for has a part on rows and one that rows as sets do not say: which trees there are, and that
+//! rowids rise. The first is answered here, and that there is no table beside those of the layout. A transaction shows
+//! no schema, so the tables that are listed are looked at before it is begun: one that is missing is found by its name
+//! and told as the store's, without a statement that would fail; others are found by their number. So a file that was
+//! copied with other tree numbers is not told apart.
 ghost use Rattle.std.specs.Prelude.{◌≡◌, true, false, Err, IfErr};
 ghost use Rattle.sqlite.specs.State.{HasCleanDisk};
 ghost use Rattle.sqlite.specs.Held.{state};

@@ -1,4 +1,9 @@
 -- Items and their totals by their numbers, over any rows.
+-- The totals of a command are said as a set (`AreTotalsOf`), since each comes in place of its own row: each has one of
+-- the numbers and is what that number has, and each number that has one has it there. A number of which no aircraft and
+-- no component is there has no total, and none is missed: a span that names a component which is not there gives no
+-- hours to anything, and its table is told damaged by the look-ups that ask for the component. Where the item is there
+-- and its total is not, the total is told damaged, since its hours would be lost.
 use Rattle.std.specs.Prelude.{◌≡◌, ◌⊎◌, ℕ, pos, Option, IsSome, slice_get}
 use Rattle.sqlite.specs.declared.types.Value.TheVariants.{Int}
 use Rattle.sqlite.specs.Tree.{Trees}

@@ -1,4 +1,7 @@
 //! The rows of a command, written inside a transaction.
+//!
+//! The row of the entry is written first: a set of tables that has no row at all can't know that the connection is
+//! open.
 ghost use Rattle.std.specs.Prelude.{◌≡◌, IsTrue, IfErr, OnOk};
 ghost use Rattle.sqlite.specs.State.{HasCleanDisk};
 ghost use Rattle.sqlite.specs.Held.{state};

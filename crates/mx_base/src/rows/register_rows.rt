@@ -1,4 +1,9 @@
 //! The rows of every register but that of the entries, and the same rows in pairs.
+//!
+//! What a command adds beside its entry and what is read of all registers are the same thirteen vectors, in the order
+//! in which the tables are read and written. Tables are read and written in pairs, so two functions lead from the one
+//! to the other, and the nesting of the pairs stands here and nowhere else. Were `RegisterRows` a set of tables itself,
+//! its rows would be taken by value where they are written, and the laws of the pairs said again for it.
 ghost use Rattle.std.specs.Prelude.{◌≡◌};
 ghost use Rattle.mx_base.specs.rows.Pairs.{rows_in_pairs};
 

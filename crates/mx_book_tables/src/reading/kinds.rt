@@ -1,4 +1,7 @@
 //! The table of the rows of an entry, by its kind.
+//!
+//! A removal and a fitting are rows of the spans, and told of these; a line of a release is told as its release, a task
+//! as its programme, a position as its aircraft, unless the row itself can't be read.
 ghost use Rattle.std.specs.Prelude.{◌≡◌};
 ghost use Rattle.mx_book_tables.specs.reading.Damage.{table_of};
 

@@ -1,4 +1,7 @@
 //! What the head of a request asks for.
+//!
+//! The grammar of a head is a relation of `httparse`, so what a head asks for is one too (`AsksFor`); that it is one
+//! thing alone is a law. Within the head what `httparse` reads counts, line ends of LF alone too.
 ghost use Rattle.std.specs.Prelude.{◌≡◌, ◌≢◌, ◌≤◌, length, IfOk, IfSome, IfNone};
 ghost use Rattle.httparse.specs.Grammar.{RequestHead};
 ghost use Rattle.httparse.specs.Spans.{IsRequestAt, IsRequestWithin};

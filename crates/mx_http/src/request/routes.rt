@@ -1,4 +1,8 @@
 //! The seven routes: the places that paths name, which method each takes, and the parts of its path.
+//!
+//! The place of a path is what `matchit` says. The parts of the path are what stands between its slashes, since the
+//! parameters of `matchit` are exact only for parts that are cut at the ends of characters, of which it has no lemma.
+//! Nothing is decoded, so a document that has a slash or a question mark can't be sent.
 ghost use Rattle.std.specs.Prelude.{◌≡◌};
 
 /// What a path is about.

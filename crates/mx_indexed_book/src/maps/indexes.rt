@@ -1,4 +1,8 @@
 //! All maps of a book, and what one entry changes of them.
+//!
+//! A new entry first makes room in each map, a row of the key that says what the map said without it; the change itself
+//! then takes no memory. So nothing has to be undone where memory runs out: such a row may stay, and no answer changes
+//! by it.
 ghost use Rattle.std.specs.Prelude.{◌≡◌, ◌+◌, [], ◌∷◌, ◌++◌, List, length, true, IfOk};
 ghost use Rattle.std.specs.Bool.{OnTrue};
 ghost use Rattle.std.specs.List.{AllByRecursion};

@@ -1,4 +1,8 @@
 //! The import of a sector log into an office.
+//!
+//! What each row is told needs the rows, and a run needs a list of commands: so the good ones are copied, which holds a
+//! log's sectors twice while it is imported. Room for what the rows are told is made before the run, so that nothing
+//! that was entered goes without its line but for want of memory for the text itself.
 ghost use Rattle.std.specs.Prelude.{◌≡◌, ◌≢◌, ◌+◌, Ok, Err, IfOk, IfErr, OnErr};
 ghost use Rattle.mx_intake.specs.Input.{TakesAtMost};
 ghost use Rattle.mx_intake.specs.Sectors.{sector_rows};

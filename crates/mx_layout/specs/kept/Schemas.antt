@@ -1,4 +1,7 @@
 -- The schemas that have a table, whatever else they have: every layout, and every point between two.
+-- While components are moved to layout 2, spans stand behind tables that are dropped with the move, and in front of
+-- their place from then on. What a text means names the place of its table, so each text of spans is computed at both
+-- (`HasSpans`), and its law is joined from the two.
 use Rattle.std.specs.Prelude.{◌≡◌, ◌⊎◌, List, [], ◌∷◌, ◌++◌, codes}
 use Rattle.sqlite.specs.Table.{Table}
 use Rattle.sqlite.specs.Schema.{Schema}

@@ -88,7 +88,7 @@ of_is : (n : ℕ) (id : List ℕ) (row : BaseRow) → is_of n id (kept_base2.as_
 of_is n id row = ap₂ ◌&&◌ (number_is row.item n) (text_is row.task id)
 
 -- what was chosen is the row of the task of the item, where there is one
-keyed_is : (n : ℕ) (id : List ℕ) (trees : Trees) (book : List Entry) → HasRowsAt rows_point trees book → (xs : List BaseRow) → AreFirst None kept_base2.order (table_named kept_base2.name) (is_of n id) trees (map kept_base2.as_cells xs) → All kept_base2.Fits xs
+pub keyed_is : (n : ℕ) (id : List ℕ) (trees : Trees) (book : List Entry) → HasRowsAt rows_point trees book → (xs : List BaseRow) → AreFirst None kept_base2.order (table_named kept_base2.name) (is_of n id) trees (map kept_base2.as_cells xs) → All kept_base2.Fits xs
     → xs ≡ filter (is_keyed n id) (base_rows book)
 keyed_is n id trees book has xs are fits =
     let passes = λ (x : BaseRow). is_of n id (kept_base2.as_cells x) in

@@ -1,4 +1,6 @@
 -- Raw look-ups: what the rows that are chosen from each table by a column are of the book that the tables stand for. One of each.
+-- They are lemmas, and no functions: a look-up calls that of `mx_table_rows::chosen` itself. As functions they were
+-- nine of thirteen lines, alike but for names, with as many files of answers.
 use Rattle.std.proofs.Common.{◌≡◌, ℕ, pos, List, Vec, Option, Result, None, Some, filter, refl, ap, ◌∙◌}
 use Rattle.std.specs.Prelude.{nat_eq}
 use Rattle.std.specs.Option.{option_eq}

@@ -1,4 +1,6 @@
 -- For which of the rows that it chose each look-up tells which table damaged.
+-- A look-up says it in a clause beside what it reads, and one that only hands on the fault of another needs no answer
+-- for it. That `IsDamaged` follows from each such relation is proved of none: both are proved of the look-up.
 use Rattle.std.specs.Prelude.{◌≡◌, ◌⊎◌, ◌≤◌, ◌^◌, ℕ, pos, false, true, Bool, List, [], filter, Option, Some, None, Result, Err, Contains}
 use Rattle.std.specs.List.{list_all}
 use Rattle.std.specs.declared.cmp.Ordering.{Ordering}

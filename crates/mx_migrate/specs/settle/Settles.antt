@@ -1,4 +1,8 @@
 -- What some commits of a file do on its way to the newest layout, one after another.
+-- Of rows of no book a move can't be said to keep the book. So it is said by its steps: the tables behind it are what
+-- some of them make of those from before, whether it came to its end or was stopped, and each state that a crash may
+-- leave is one from before or made so too. A step says of every table what it makes of it, so a row that no step takes
+-- can't go. No clause tells how many they were, nor which of them were due.
 use Rattle.std.specs.Prelude.{◌≡◌, ◌≢◌, ◌⊎◌, ◌≤◌, ℕ, List, Result, Err, IsTrue, OnOk, IfOk, IfErr}
 use Rattle.sqlite.specs.State.{State, HasCleanDisk}
 use Rattle.sqlite_trees.specs.View.{doubt}

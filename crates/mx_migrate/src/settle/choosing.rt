@@ -1,4 +1,9 @@
 //! Which step is due at the point of a file.
+//!
+//! The step is looked for before its commit, in a transaction that is dropped. The commit is not told in which state
+//! that was: what was looked at is what the step is made of, since nothing was written between, and a connection that
+//! answers is the one that was open before. One transaction for all would save two beginnings a commit, and needs a
+//! commit of its own for its faults, among which those of tables have no newer layout.
 ghost use Rattle.std.specs.Prelude.{◌≡◌, false, None, IsTrue};
 ghost use Rattle.sqlite.specs.Held.{state};
 ghost use Rattle.mx_layout.specs.Crash.{ChangesNothing, IsWithin};

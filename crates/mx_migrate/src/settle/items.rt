@@ -1,4 +1,7 @@
 //! The step that is due for the next item, by what layout 2 keeps of all of them.
+//!
+//! To look through 5,000 totals for each of 5,000 items is little beside a commit, so they lie in two lists and in no
+//! map.
 ghost use Rattle.std.specs.Prelude.{◌≡◌, IfOk, filter, nat_eq};
 ghost use Rattle.mx_migrate.specs.settle.Items.{next_total, total_by, IsBasesBy};
 

@@ -1,4 +1,8 @@
 //! Tables of the registers that have a row whose number no entry can have.
+//!
+//! Such a row makes its own table damaged, the first in the order in which they are read (`late_table`), where the
+//! totals or the last bases are to be written. It would give no book either; but then `entry` would be told, and its
+//! reader would look in the wrong table.
 ghost use Rattle.std.specs.Prelude.{◌≡◌};
 ghost use Rattle.std.specs.List.{list_any};
 ghost use Rattle.mx_migrate.specs.settle.Numbers.{has_late, is_late, is_late_span, late_item, late_table};

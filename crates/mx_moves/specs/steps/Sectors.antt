@@ -1,4 +1,6 @@
 -- The step that moves sectors, at most 64 a commit.
+-- Sectors are read by their place, the first 64, and deleted by their number, up to that of the last. That these are
+-- the same rows is a fact of its own (`gone`), had of any rows since the rowids of each table rise.
 use Rattle.std.specs.Prelude.{◌≡◌, ◌⊎◌, ◌&&◌, ℕ, pos, nat_lt, nat_le, Bool, true, false, List, Some, map, filter, All, Contains}
 use Rattle.std.specs.List.{list_all}
 use Rattle.sqlite.specs.declared.types.Value.TheVariants.{Int}

@@ -1,4 +1,7 @@
 -- The steps that write what layout 2 keeps of one item: its total, or its last bases.
+-- Over any rows such a step says what it makes all the same: the table has its rows from before and those that the step
+-- holds, and nothing else changes but the point. A row that its key forbids is an error of the store, and nothing is
+-- committed. Last bases may come in any order, since a table has none.
 use Rattle.std.specs.Prelude.{◌≡◌, ℕ, nat_eq, List, [], ◌∷◌, filter}
 use Rattle.sqlite.specs.Order.{Row}
 use Rattle.sqlite.specs.Tree.{Trees}

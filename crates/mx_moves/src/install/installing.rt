@@ -1,4 +1,10 @@
 //! A whole book as the tables of layout 1, made in a database that is empty.
+//!
+//! The rows of each entry are made behind those before it, and added, so that the tables stand for one entry more each
+//! time, by what is said of the rows of one command. They are not all made before the first statement, as those of a
+//! step are: want of memory on the way drops the transaction, which leaves nothing behind, and so it is told as
+//! `Memory`; an error of a statement is `Store`. No entry is judged again: that each is new behind those before it is
+//! what a `Book` is.
 ghost use Rattle.std.specs.Prelude.{◌≡◌, ◌≢◌, ◌⊎◌, ◌≤◌, Some, None, false, IsErr, IsTrue, IfErr, MatchResult, OnOk};
 ghost use Rattle.sqlite.specs.State.{HasCleanDisk};
 ghost use Rattle.sqlite.specs.Held.{state};

@@ -1,5 +1,9 @@
 //! How a word of the program ends: the status, and the line on standard error where something
 //! stopped it.
+//!
+//! A run may be stopped by a fault, and memory may run out for the lines of the replies that were given before it. The
+//! second is then what is told, so that every other fault of a run comes behind the lines of all replies that were
+//! given; no other order lets a clause say that.
 
 ghost use Rattle.std.specs.Prelude.{◌≡◌, ◌≢◌, ◌≤◌, OnOk};
 ghost use Rattle.std.specs.Io.KnownBytes.{Appends};

@@ -1,4 +1,7 @@
 -- The rows of the tables of a file as sets, and those rows in the order of their keys.
+-- What the rows of a file are is said of sets (`AreTablesOf`), so that it does not matter in which order a table was
+-- read. The rows of each table are put in the order of their keys first, and compared as lists then; last bases, whose
+-- key is a number and a name, are compared as a set itself, by a map of their keys.
 use Rattle.std.specs.Prelude.{◌≡◌, List, IsPermutation, map}
 use Rattle.std.specs.List.{filter_map}
 use Rattle.mx_book.specs.commands.Act.{Entry}

@@ -1,4 +1,6 @@
 -- The tables on the way from one layout to the next: which there are at a point, and which rows of a book stand in each.
+-- Which rows stand in a table at a point is one test for all tables: the step that brings its rows has come to the
+-- row's number, and the one that takes them away has not. So a law of one table on the way is one of all.
 use Rattle.std.specs.Prelude.{ℕ, List, filter, Bool, true, false, not, ◌&&◌, ◌||◌, Option, Some, None}
 use Rattle.std.specs.Option.{option_map_or}
 use Rattle.mx_book.specs.commands.Act.{Entry}

@@ -1,4 +1,9 @@
 //! Spans, and the fittings and removals that they stand for.
+//!
+//! The fittings and removals of a file are taken out of its spans, so a span that pairs them wrongly gives the right
+//! registers. A book's spans are each fitting until the first removal of its component behind it (`spans_made`), by the
+//! numbers in the rows alone. A walk from the last fitting to the first finds that removal in a map by components, so
+//! it takes no search.
 ghost use Rattle.std.specs.Prelude.{◌≡◌, ℕ, IfOk, OnOk, map};
 ghost use Rattle.std.specs.List.{filter_map};
 ghost use Rattle.std.specs.Option.{option_copied, option_map};

@@ -1,4 +1,8 @@
 //! What an entry says, by the first rows of its kind.
+//!
+//! The loops over positions, tasks and lines are written out, each a dozen lines. The row of a task says that task only
+//! where a repeat has a dimension, which is its shape; but every row is that of the task that it says, whatever its
+//! columns hold. So the shape is asked where the registers of a book are read back, and nowhere else.
 ghost use Rattle.std.specs.Prelude.{◌≡◌, IfOk, IsSome, OnErr};
 ghost use Rattle.std.specs.Option.{option_map};
 ghost use Rattle.mx_registers.specs.Merge.{take_aircraft, take_by, take_component, take_deferral, take_extension, take_fitting, take_opening, take_places, take_programme, take_release, take_release_lines, take_removal, take_sector, take_tasks};

@@ -1,5 +1,8 @@
 //! Laws of points: what stands for one book, and how many commits a move takes. Each function does nothing; its contract
 //! is the law, and the checker proves it.
+//!
+//! The registers of layout 2 alone do not say what was fitted and removed, so they decide no book: with the spans they
+//! do, at each point (`points_decide_the_book`).
 ghost use Rattle.std.specs.Prelude.{◌≡◌, ◌+◌, ◌<◌, ℕ, true, List};
 ghost use Rattle.mx_book.specs.commands.Act.{Entry};
 ghost use Rattle.mx_book.specs.Book.{IsBook};

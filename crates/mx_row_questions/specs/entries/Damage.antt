@@ -1,4 +1,8 @@
 -- When the rows of entries state no commands, and what calls leave that find it.
+-- That the rows of an entry state no command is no fact of one row, and of which rows it is depends on the kind. So it
+-- stands beside `IsDamaged`: `ReadsOr` is a look-up with all that `Reads` says, or one that was answered with what is
+-- so of no book, and the reason for which a table is told damaged. The table is that of the kind, where the row is
+-- missing or wrong.
 use Rattle.std.specs.Prelude.{◌≡◌, ◌≤◌, ◌⊎◌, ⊤, ℕ, List, Option, Some, None, Result, Ok, Err}
 use Rattle.sqlite.specs.State.{State, HasCleanDisk}
 use Rattle.sqlite.specs.Tree.{Trees}

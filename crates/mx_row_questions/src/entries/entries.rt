@@ -1,4 +1,7 @@
 //! The commands of entries: of one by its number, and of those from a number on.
+//!
+//! In a book no number up to that of the last entry is missing. So one that has no entry is told damaged and not passed
+//! over: a list that passed over it would answer others for those that were asked.
 ghost use Rattle.std.specs.Prelude.{◌≡◌};
 ghost use Rattle.sqlite.specs.Held.{state};
 ghost use Rattle.mx_book.specs.Book.{entries_from, entry_at};

@@ -1,4 +1,8 @@
 //! Rows that come in place of others of their table.
+//!
+//! What becomes of kept rows with a command is computed from rows that were read before the first statement, and each
+//! then comes here in place of the one with its key. `credit`, `set_clock`, `new_total` and `end_span2`, each of which
+//! but one reads its rows anew, are called for no command.
 ghost use Rattle.std.specs.Prelude.{◌≡◌, ◌&&◌, List, Bool, pos};
 ghost use Rattle.sqlite.specs.declared.types.Value.{Value};
 ghost use Rattle.sqlite.specs.declared.types.Value.TheVariants.{Int, Text};

@@ -1,4 +1,9 @@
 //! The total of an item: its life now, and its clock.
+//!
+//! A credit reads all lives before it writes one. So a damaged row, or a life past its most, leaves each of the items
+//! as it was, and no list grows once something is written; credited one by one, a fault in the middle would leave the
+//! first ones changed until the caller gives the transaction up. The items have to be distinct, by a test that
+//! computes: one that stood twice would be read twice and written twice, with the use added once.
 ghost use Rattle.std.specs.Prelude.{◌≡◌, ◌⊎◌, ◌∷◌, ⊤, All, Any, IsTrue, OnOk, IfErr, nat_eq, true};
 ghost use Rattle.mx_book.specs.commands.Bounds.{are_distinct};
 ghost use Rattle.sqlite.specs.State.{HasCleanDisk};

@@ -1,4 +1,6 @@
 -- What reading and writing several tables does to a connection.
+-- A table that is told damaged is one of those that are read (`there` of `ReadsTables`): by the names of all tables of
+-- all layouts a reader of layout 1 could tell one that its file does not have.
 use Rattle.std.specs.Prelude.{◌≡◌, ◌⊎◌, List, map, All, Contains, IsPermutation, Result, OnOk, IfOk, IfErr, IsTrue}
 use Rattle.sqlite.specs.Order.{Row}
 use Rattle.sqlite.specs.Schema.{Schema}

@@ -1,4 +1,8 @@
 //! Rows that are added to their table, one at a time.
+//!
+//! `Stored` has how rows are kept, their texts and their reader, and `Insert` adds one. In one trait the insert gets no
+//! proof: it would pass its own type to a bound on the trait that it is about to meet. And the values of a row can't
+//! come out of a method as a vector of borrowed texts, so each type passes them in its own `insert`.
 ghost use Rattle.std.specs.Prelude.{◌≡◌, ◌⊎◌, List, IsTrue, OnOk, IfErr};
 ghost use Rattle.sqlite.specs.declared.types.Value.{Value};
 ghost use Rattle.sqlite.specs.Table.{Table};

@@ -1,4 +1,10 @@
 //! The last bases of a book, made of its openings and of the lines of its releases.
+//!
+//! Of which tasks there are last bases is what the openings and the lines of the releases name; what each of them is,
+//! the book is asked that the registers give, by its map. So these rows are walked once, a task that was met before is
+//! passed over, and neither the items of the book nor the tasks of each are needed. A task that has no base is passed
+//! over too: in a book none is named without one, and of other registers nothing is made up. No order is promised,
+//! since who writes them picks those of an item by its number.
 ghost use Rattle.std.specs.Prelude.{◌≡◌, ℕ, List, [], ◌∷◌, ◌++◌, IfOk, IsPermutation, OnOk, map};
 ghost use Rattle.std.specs.List.{filter_map};
 ghost use Rattle.mx_book.specs.due.Due.{IsBase};

@@ -1,4 +1,9 @@
 //! The book that registers are those of, beside maps, or why they are those of none.
+//!
+//! A line of a release that names an entry which is not there is not taken, so that the release says less than its
+//! lines: where nothing is left to certify the release is damaged, and else the line is left over, which is a
+//! difference. Rows are compared with the book that they give: a moment of a fitting that nothing else rests on may be
+//! another, and the rows are those of the book that says so.
 ghost use Rattle.std.specs.Prelude.{◌≡◌, List, [], IfOk, Ok};
 ghost use Rattle.mx_book.specs.commands.Act.{Entry};
 ghost use Rattle.mx_book.specs.Book.{IsBook};

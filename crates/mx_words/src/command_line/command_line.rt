@@ -1,4 +1,8 @@
 //! The words that the program takes and the values of each, as `clap` reads and explains them. A value may begin with `-`.
+//!
+//! `clap`'s clauses say what it finds as long as no value may begin with a hyphen, and all may here; so it is proved
+//! which words there are, with their values in their order, and what the values that were found ask for. That `clap`
+//! finds for each name the word that was typed, transcripts show.
 ghost use Rattle.std.specs.Prelude.{◌≡◌, IfOk, codes, false, map};
 ghost use Rattle.clap.specs.Words.{rule_of};
 ghost use Rattle.mx_words.specs.command_line.CommandLine.{IsApp, IsWord, office, office_with_words, value_rule, word};

@@ -1,4 +1,7 @@
 //! What is printed where the words ask for help, or are none that the program takes.
+//!
+//! `--help` is help as the first word alone, or the first behind another, and `--version` the version as the first
+//! alone.
 ghost use Rattle.std.specs.Prelude.{◌≡◌, true, false};
 ghost use Rattle.mx_words.specs.command_line.Usage.{IsRequest};
 

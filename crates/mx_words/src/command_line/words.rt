@@ -1,5 +1,7 @@
 //! What the words of the command line ask for, from what `clap` found. Every value is taken as it is written, and read by the
 //! readers of the office; what can't be read asks for nothing.
+//!
+//! One function makes each word from the list of its values: a chain of calls for each word cost the checker minutes.
 ghost use Rattle.std.specs.Prelude.{◌≡◌};
 ghost use Rattle.std.specs.Char.{is_ascii_digit};
 ghost use Rattle.std.specs.List.{list_all};
