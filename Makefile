@@ -6,7 +6,7 @@ RT      ?= rt
 PREFIX  ?= /usr/local
 EXAMPLE  = try D-ABCD 60000 800 2024-03-01T08:00 2024-03-01T09:30 1
 SOURCES  = crates.txt $(shell find crates -type f -not -path '*/out/*')
-# how many checks the gate runs side by side, each with one job: one a processor, of which each has 5 GB of memory
+# how many checks run side by side, each with one job: one a processor, of which each has 5 GB of memory
 JOBS     = $(shell awk -v n="$$(nproc)" '/^MemAvailable/ { m = int($$2 / 5000000); print m < 1 ? 1 : m < n ? m : n }' /proc/meminfo)
 
 # the example: by the proved program where it is built, else unproved in a few minutes, and it says which
@@ -40,9 +40,9 @@ plants:
 long: office
 	@scripts/long $(if $(MINUTES),--minutes $(MINUTES)) $(if $(SEED),--seed $(SEED))
 
-# the proved program alone
+# the proved program alone: the crates that it stands on are proved side by side, as in the gate
 office: $(SOURCES)
-	cd crates/mx_cli && $(RT) run -- $(EXAMPLE) > /dev/null
+	cd crates/mx_cli && $(RT) all check --jobs $${RT_JOBS:-$(JOBS)} && $(RT) run -- $(EXAMPLE) > /dev/null
 	install -m 755 crates/mx_cli/out/mx_cli $@
 
 # the program and its manual page, under PREFIX
