@@ -22,7 +22,7 @@ use Rattle.mx_intake.specs.Entries.{entries_of_text}
 use Rattle.mx_intake.specs.Loading.{entry_of_programme}
 use Rattle.mx_intake.specs.Sectors.{sector_rows}
 use Rattle.mx_intake.specs.declared.fault.IntakeFault.{IntakeFault}
-use Rattle.mx_output.specs.declared.questions.question.Question.{Question}
+use Rattle.mx_lists.specs.declared.question.Question.{Question}
 use Rattle.mx_http.specs.request.Response.{response_bytes}
 use Rattle.mx_http.specs.declared.request.rejection.Rejection.TheVariants.{BadRequest}
 use Rattle.mx_http.specs.declared.request.routes.Place.TheVariants as place

@@ -20,9 +20,9 @@ use Rattle.mx_faults.specs.declared.fault.Fault.{Fault}
 use Rattle.mx_faults.specs.declared.fault.Fault.TheVariants.{Memory, Store, NeedsReopen, Damaged}
 use Rattle.mx_office.specs.declared.office.Office.{Office}
 use Rattle.mx_output.specs.sector_log.Rows.{good_rows, told}
-use Rattle.mx_output.specs.questions.Report.{report_of}
-use Rattle.mx_output.specs.declared.questions.question.Question.{Question}
-use Rattle.mx_output.specs.declared.questions.report.Report.{Report}
+use Rattle.mx_lists.specs.Report.{report_of}
+use Rattle.mx_lists.specs.declared.question.Question.{Question}
+use Rattle.mx_lists.specs.declared.report.Report.{Report}
 use Rattle.mx_http.specs.responses.Answer.{Answer, list_answer, replies_answer, rows_answer}
 use Rattle.mx_desk.specs.Answered.{AnswersIfRoom}
 use Rattle.mx_desk.specs.BookAnswer.{answer_of}

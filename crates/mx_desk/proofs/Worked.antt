@@ -6,7 +6,7 @@ use Rattle.mx_book.specs.declared.verdict.Refusal.TheVariants.{UnknownAircraft}
 use Rattle.mx_faults.specs.declared.fault.Ask.TheVariants.{Refused}
 use Rattle.mx_faults.specs.declared.fault.Fault.TheVariants as office
 use Rattle.mx_intake.specs.Fault.{fault}
-use Rattle.mx_output.specs.declared.questions.question.Question.TheVariants.{Life}
+use Rattle.mx_lists.specs.declared.question.Question.TheVariants.{Life}
 use Rattle.mx_http.specs.declared.request.rejection.Rejection.TheVariants.{BadRequest, NotFound, WrongMethod, BodyTooLarge}
 use Rattle.mx_http.specs.declared.request.routes.Place.TheVariants as place
 use Rattle.mx_http.specs.responses.Request.{enters, imports, asks, unread, rejected}

@@ -8,8 +8,8 @@ use Rattle.mx_faults.specs.declared.fault.Ask.{Ask}
 use Rattle.mx_faults.specs.declared.fault.Ask.TheVariants.{Failed}
 use Rattle.mx_faults.specs.declared.fault.Fault.{Fault}
 use Rattle.mx_output.specs.sector_log.Rows.{good_rows, told}
-use Rattle.mx_output.specs.questions.Report.{report_of}
-use Rattle.mx_output.specs.declared.questions.report.Report.{Report}
+use Rattle.mx_lists.specs.Report.{report_of}
+use Rattle.mx_lists.specs.declared.report.Report.{Report}
 use Rattle.mx_http.specs.responses.Answer.{Answer, fault_answer, list_answer, rejection_answer, replies_answer, rows_answer}
 use Rattle.mx_http.specs.responses.Request.{Request, enters, imports, asks, unread, rejected}
 

@@ -14,8 +14,9 @@ use crate::listing::ask_list;
 use http::Response;
 use mx_http::request::{Rejection, Route};
 use mx_http::responses::{DeskFault, forecast_in_digits, rejection_response};
+use mx_lists::Question;
 use mx_office::Office;
-use mx_output::questions::{Question, due_question, life_question, limits_question};
+use mx_output::questions::{due_question, life_question, limits_question};
 use sqlite::Alter;
 use std::alloc::Global;
 

@@ -6,9 +6,8 @@ ghost use Rattle.mx_http.specs.responses.Answer.{IsMade, list_answer};
 
 use http::Response;
 use mx_http::responses::{DeskFault, refusal_response, report_response, stop_response};
-use mx_jobs::answers::ask;
+use mx_lists::Question;
 use mx_office::{Ask, Office};
-use mx_output::questions::Question;
 use sqlite::Alter;
 use std::alloc::Global;
 
@@ -22,7 +21,7 @@ pub(crate) fn ask_list<S: Alter>(
         (λ r. ((head_of r).status, (body_of r).items) ≡ list_answer answer)) }
     ensures made { IsMade result }
 {
-    match ask(alloc, office, question) {
+    match office.list(alloc, question) {
         Ok(report) => report_response(alloc, &report),
         Err(Ask::Refused(refusal)) => refusal_response(alloc, refusal),
         Err(Ask::Failed(fault)) => stop_response(alloc, fault),

@@ -16,9 +16,9 @@ use mx_book::commands::Command;
 use mx_jobs::answers::print_list;
 use mx_jobs::{enter_all, open};
 use mx_layout::{Layout, create};
+use mx_lists::Question;
 use mx_office::{NEWEST_LAYOUT, Office, OpenFault};
 use mx_output::endings::{Ending, Stop};
-use mx_output::questions::Question;
 use sqlite::{Alter, Connection};
 use std::alloc::Global;
 

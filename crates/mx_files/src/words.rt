@@ -18,9 +18,9 @@ use mx_book::commands::Command;
 use mx_jobs::answers::print_list;
 use mx_jobs::logs::import_all;
 use mx_jobs::{enter_all, print_verified};
+use mx_lists::Question;
 use mx_office::Office;
 use mx_output::endings::{Ending, Stop};
-use mx_output::questions::Question;
 use sqlite::Alter;
 use std::{fs, slice};
 

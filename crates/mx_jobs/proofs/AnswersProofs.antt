@@ -1,2 +1,1 @@
 pub mod ListLemmas
-pub mod QuestionLemmas

@@ -1,10 +1,7 @@
-//! What an open office answers to a question, whoever asks, and what is printed of it.
+//! What is printed of the answer of an open office to a question.
 //!
 //! # What is promised
 //!
-//! - A question for a list changes no table; its answer is the list, or the refusal, of the book that the tables stand
-//!   for, of the aircraft and the day that was asked for; over any rows it is that of a book that has them: `ask`:
-//!   `asked`, `answered`, `kind`.
 //! - `life`, `due`, `forecast` and `limits` over an open office change no table; what is appended is the list, or the
 //!   refusal, of the book that the tables stand for, of the aircraft, and of the day, that was asked for; over any rows
 //!   it is that of a book that has them; a table that is named damaged has a reason: `print_list`: `asked` (`Asks`,
@@ -13,7 +10,5 @@
 //!   `asked`.
 
 mod listing;
-pub mod question;
 
 pub use listing::print_list;
-pub use question::ask;

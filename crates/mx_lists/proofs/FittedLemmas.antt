@@ -3,7 +3,7 @@ use Rattle.std.proofs.Common.{◌≡◌, refl, ap, List, [], ◌∷◌, map}
 use Rattle.std.specs.List.{cons_option, filter_map}
 use Rattle.mx_book.specs.commands.Act.{Entry}
 use Rattle.mx_book.specs.Span.{Span}
-use Rattle.mx_lists.specs.Lists.{part_of}
+use Rattle.mx_lists.specs.LifeList.{part_of}
 use Rattle.mx_lists.specs.Fitted.{place_of, part_of_place}
 
 -- the parts in the places of some spans are those of the spans

@@ -4,7 +4,7 @@ use Rattle.std.specs.Prelude.{codes}
 use Rattle.mx_book.proofs.Worked.{used, abcd, first_two}
 use Rattle.mx_book.proofs.WorkedFittings.{efgh, engine, propeller, e1, e2, replaced, two_parts, without_engine, on_another}
 use Rattle.mx_lists.specs.Fitted.{fitted_on}
-use Rattle.mx_lists.specs.Lists.{life_list}
+use Rattle.mx_lists.specs.LifeList.{life_list}
 
 -- ── what is fitted, by places ──
 

@@ -19,7 +19,7 @@ use Rattle.mx_lists.specs.declared.due_row.DueRow.{DueRow}
 use Rattle.mx_lists.specs.declared.due_row.DueRow.TheVariants.{Task as TaskRow, Defect as DefectRow}
 use Rattle.mx_lists.specs.declared.due_row.DueList.{DueList}
 use Rattle.mx_lists.specs.declared.life_list.FittedPart.{FittedPart}
-use Rattle.mx_lists.specs.Lists.{parts}
+use Rattle.mx_lists.specs.LifeList.{parts}
 use Rattle.mx_lists.specs.Dues.{due_by}
 use Rattle.mx_lists.specs.LimitList.{days_left}
 use Rattle.mx_lists.specs.DueRow.{row_before}

@@ -3,7 +3,7 @@ use Rattle.std.specs.Prelude.{ℕ, List, map, filter, Option}
 use Rattle.mx_book.specs.commands.Act.{Entry}
 use Rattle.mx_book.specs.Span.{Span, spans, is_open_on}
 use Rattle.mx_lists.specs.declared.life_list.FittedPart.{FittedPart}
-use Rattle.mx_lists.specs.Lists.{part_in}
+use Rattle.mx_lists.specs.LifeList.{part_in}
 
 -- the position and the component of a span
 abbrev pub place_of : Span → List ℕ × List ℕ

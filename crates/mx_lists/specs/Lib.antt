@@ -1,10 +1,11 @@
 pub mod Memory
 pub mod Fitted
 pub mod Order
-pub mod Lists
+pub mod LifeList
 pub mod DueRow
 pub mod Dues
 pub mod LimitList
 pub mod DueList
 pub mod Forecast
 pub mod Ranks
+pub mod Report

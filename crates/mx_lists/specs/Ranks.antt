@@ -14,7 +14,7 @@ use Rattle.mx_lists.specs.DueRow.{status_rank, row_status, row_before}
 use Rattle.mx_lists.specs.DueList.{task_before}
 use Rattle.mx_lists.specs.Forecast.{sooner}
 use Rattle.mx_lists.specs.LimitList.{limit_before}
-use Rattle.mx_lists.specs.Lists.{part_before}
+use Rattle.mx_lists.specs.LifeList.{part_before}
 
 -- the order of parts by their positions is an order
 pub parts_rank : IsStrictWeakOrder part_before

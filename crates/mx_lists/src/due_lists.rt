@@ -13,7 +13,7 @@ use crate::due_row::{DueList, DueRow};
 use crate::dues::due_of_task;
 use crate::life_list::{FittedPart, parts_by_position};
 use crate::list_questions::{aircraft_of, days_of_extension, life_of};
-use crate::lists::Lists;
+use crate::list_records::ListRecords;
 use crate::order::{Placed, Rows, sorted};
 use crate::stop::Stop;
 use mx_base::{Day, Kind, Limit, Position, Serial, Tail, Use};
@@ -34,7 +34,7 @@ impl Placed for Task {
 
 // The tasks of the programme in force of a kind by name, each of its shape.
 #[tactic(auto, using(crate::proofs::InOrder::in_order_all))]
-fn tasks_in_order<R: Lists>(
+fn tasks_in_order<R: ListRecords>(
     records: &mut R,
     alloc: Global,
     kind: &Kind,
@@ -67,7 +67,7 @@ fn row_of_due(
 }
 
 // The row of a task of an item that has this life, where something is due.
-fn row_of_task<R: Lists>(
+fn row_of_task<R: ListRecords>(
     records: &mut R,
     day: Day,
     item: &Item,
@@ -100,7 +100,7 @@ fn push_found<T: Copy>(rows: &mut Vec<T>, found: Option<T>) -> Result<(), AllocE
 }
 
 // Appends the rows of an item that has this life, in the order of these tasks.
-fn append_rows<R: Lists>(
+fn append_rows<R: ListRecords>(
     rows: &mut Vec<DueRow>,
     records: &mut R,
     day: Day,
@@ -124,7 +124,7 @@ fn append_rows<R: Lists>(
 }
 
 // Appends the rows of an item, in the order of these tasks.
-fn append_item<R: Lists>(
+fn append_item<R: ListRecords>(
     rows: &mut Vec<DueRow>,
     records: &mut R,
     day: Day,
@@ -142,7 +142,7 @@ fn append_item<R: Lists>(
 }
 
 // Appends the rows of a component in its position.
-fn append_part<R: Lists>(
+fn append_part<R: ListRecords>(
     rows: &mut Vec<DueRow>,
     records: &mut R,
     day: Day,
@@ -166,7 +166,7 @@ fn append_part<R: Lists>(
 }
 
 // Appends the rows of components in their positions, one after the other.
-fn append_parts<R: Lists>(
+fn append_parts<R: ListRecords>(
     rows: &mut Vec<DueRow>,
     records: &mut R,
     day: Day,
@@ -204,7 +204,7 @@ fn row_of_defect(day: Day, defect: &Defect, days: u32) -> DueRow
 }
 
 // Appends the rows of defects, in their order.
-fn append_defects<R: Lists>(
+fn append_defects<R: ListRecords>(
     rows: &mut Vec<DueRow>,
     records: &mut R,
     day: Day,
@@ -225,7 +225,7 @@ fn append_defects<R: Lists>(
 
 /// The rows of an aircraft by place: those of its airframe by task, then those of its components by position and task,
 /// then those of its open defects.
-pub(crate) fn placed_rows<R: Lists>(
+pub(crate) fn placed_rows<R: ListRecords>(
     records: &mut R,
     alloc: Global,
     tail: &Tail,
@@ -249,7 +249,7 @@ pub(crate) fn placed_rows<R: Lists>(
 
 /// The due list of an aircraft on a day, or `None` where the registration is unknown. Or why it stopped: memory ran out, or
 /// a question was not answered.
-pub fn list_dues<R: Lists>(
+pub fn list_dues<R: ListRecords>(
     records: &mut R,
     alloc: Global,
     tail: &Tail,

@@ -7,7 +7,7 @@ ghost use Rattle.mx_book.specs.Register.{birth_in};
 ghost use Rattle.mx_book.specs.Reading.{Answers};
 ghost use Rattle.mx_lists.specs.Dues.{due_by, due};
 
-use crate::lists::Lists;
+use crate::list_records::ListRecords;
 use mx_base::{Kind, Limit, TaskId};
 use mx_book::Records;
 use mx_book::commands::{Item, Task};
@@ -16,7 +16,7 @@ use mx_book::found::{Found, birth_of, is_task_of};
 use mx_book::judging::judging_items::found_of;
 
 // When a task that applies to an item, of which this was found, is due on it, or `None` where it is due no more.
-fn due_of_applied<R: Lists>(
+fn due_of_applied<R: ListRecords>(
     records: &mut R,
     item: &Item,
     found: &Found,
@@ -31,7 +31,7 @@ fn due_of_applied<R: Lists>(
 }
 
 /// When a task of a programme is due on an item, or `None` where it does not apply to it or is due no more.
-pub(crate) fn due_of_task<R: Lists>(
+pub(crate) fn due_of_task<R: ListRecords>(
     records: &mut R,
     item: &Item,
     task: &Task,
@@ -51,7 +51,7 @@ pub(crate) fn due_of_task<R: Lists>(
 /// When the task with a name in the programme in force of a kind is due on an item: minutes, cycles, and a day by its
 /// number, which may be past the last. `None` where no such task applies to the item, or it is due no more. Or the fault of
 /// the question that was not answered.
-pub fn due_of_kind<R: Lists>(
+pub fn due_of_kind<R: ListRecords>(
     records: &mut R,
     item: &Item,
     kind: &Kind,

@@ -10,7 +10,7 @@ ghost use Rattle.mx_lists.specs.Ranks.{forecast_rank};
 use crate::due_lists::placed_rows;
 use crate::due_row::DueRow;
 use crate::list_questions::aircraft_of;
-use crate::lists::Lists;
+use crate::list_records::ListRecords;
 use crate::order::{Placed, Rows, sorted};
 use crate::stop::Stop;
 use mx_base::{Day, Tail};
@@ -127,7 +127,7 @@ fn rows_within(
 
 /// The forecast of an aircraft from a day on, or `None` where the registration is unknown. Or why it stopped: memory
 /// ran out, or a question was not answered.
-pub fn list_forecast<R: Lists>(
+pub fn list_forecast<R: ListRecords>(
     records: &mut R,
     alloc: Global,
     tail: &Tail,

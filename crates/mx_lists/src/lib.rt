@@ -1,4 +1,5 @@
-//! The lists that are asked of a book: due list, life list, limits and forecast, made by questions of any records.
+//! The lists that are asked of a book: due list, life list, limits and forecast, made by questions of any records, each alone
+//! or as the list that a question asks for.
 //!
 //! # What is promised
 //!
@@ -6,6 +7,7 @@
 //!   forecast, are the definition's of that book, where the disk gave back what was written, or the fault of the
 //!   question that was not answered, and of a list also want of memory: `due_of_kind`, `list_dues`, `list_lives`,
 //!   `list_limits`, `list_forecast`.
+//! - So is the list that a question asks for, whichever it is, and it is of that kind: `list_report`: `answers`, `kind`.
 //! - A list put in order has the same rows, ascending, with ties as they were: `order::sorted`: `order`, `permutation`,
 //!   `ascending`, `stable`.
 #![tactic(auto)]
@@ -17,8 +19,10 @@ pub mod forecast;
 pub mod life_list;
 pub mod limit_list;
 mod list_questions;
-pub mod lists;
+pub mod list_records;
 pub mod order;
+pub mod question;
+pub mod report;
 pub mod stop;
 
 pub use due_lists::list_dues;
@@ -29,6 +33,8 @@ pub use forecast::{
 };
 pub use life_list::{FittedPart, LifeList, list_lives};
 pub use limit_list::{LimitList, LimitRow, list_limits};
-pub use lists::Lists;
+pub use list_records::ListRecords;
 pub use order::{Placed, Rows};
+pub use question::Question;
+pub use report::{Report, list_report};
 pub use stop::Stop;

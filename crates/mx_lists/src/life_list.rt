@@ -7,12 +7,12 @@ ghost use Rattle.std.specs.List.{filter_map};
 ghost use Rattle.mx_book.specs.Life.{use_or_none};
 ghost use Rattle.mx_book.specs.Reading.{Answers};
 ghost use Rattle.mx_lists.specs.Fitted.{part_of_place};
-ghost use Rattle.mx_lists.specs.Lists.{life_list, part_in, part_before, parts};
+ghost use Rattle.mx_lists.specs.LifeList.{life_list, part_in, part_before, parts};
 ghost use Rattle.mx_lists.specs.Memory.{with_memory, seen_as};
 ghost use Rattle.mx_lists.specs.Ranks.{parts_rank};
 
 use crate::list_questions::{aircraft_of, life_of};
-use crate::lists::Lists;
+use crate::list_records::ListRecords;
 use crate::order::{Placed, Rows, sorted};
 use crate::stop::Stop;
 use mx_base::{Kind, Part, Position, Serial, Tail, Use};
@@ -69,7 +69,7 @@ pub fn life_or_none(life: Option<Use>) -> Use
 }
 
 // The component in a position, with its life, where it is known.
-fn part_with_life<R: Lists>(
+fn part_with_life<R: ListRecords>(
     records: &mut R,
     position: &Position,
     serial: &Serial,
@@ -90,7 +90,7 @@ fn part_with_life<R: Lists>(
 }
 
 // The component in a place, with its life, where it is known.
-fn part_in_place<R: Lists>(
+fn part_in_place<R: ListRecords>(
     records: &mut R,
     place: &(Position, Serial),
 ) -> Result<Option<FittedPart>, Stop<R::Fault>>
@@ -104,7 +104,7 @@ fn part_in_place<R: Lists>(
 }
 
 // The components in these places, each with its life.
-fn parts_in_places<R: Lists>(
+fn parts_in_places<R: ListRecords>(
     records: &mut R,
     alloc: Global,
     places: &[(Position, Serial)],
@@ -125,7 +125,7 @@ fn parts_in_places<R: Lists>(
 }
 
 /// The components that are fitted to an aircraft, by position, each with its life.
-pub(crate) fn parts_by_position<R: Lists>(
+pub(crate) fn parts_by_position<R: ListRecords>(
     records: &mut R,
     alloc: Global,
     tail: &Tail,
@@ -141,7 +141,7 @@ pub(crate) fn parts_by_position<R: Lists>(
 
 /// The life list of an aircraft, or `None` where the registration is unknown. Or why it stopped: memory ran out, or a
 /// question was not answered.
-pub fn list_lives<R: Lists>(
+pub fn list_lives<R: ListRecords>(
     records: &mut R,
     alloc: Global,
     tail: &Tail,

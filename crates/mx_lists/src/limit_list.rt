@@ -8,7 +8,7 @@ ghost use Rattle.mx_lists.specs.Memory.{with_memory, seen_as};
 ghost use Rattle.mx_lists.specs.Ranks.{limits_rank};
 
 use crate::list_questions::{aircraft_of, days_of_extension};
-use crate::lists::Lists;
+use crate::list_records::ListRecords;
 use crate::order::{Placed, Rows, sorted};
 use crate::stop::Stop;
 use mx_base::{Day, Doc, MelRef, Status, Tail, day_of};
@@ -78,7 +78,7 @@ fn limit_of_defect(day: Day, defect: &Defect, days: u32) -> LimitRow
 }
 
 // The limits of defects, in their order.
-fn limits_of_defects<R: Lists>(
+fn limits_of_defects<R: ListRecords>(
     records: &mut R,
     alloc: Global,
     day: Day,
@@ -99,7 +99,7 @@ fn limits_of_defects<R: Lists>(
 
 /// The limits of an aircraft on a day, or `None` where the registration is unknown. Or why it stopped: memory ran out, or
 /// a question was not answered.
-pub fn list_limits<R: Lists>(
+pub fn list_limits<R: ListRecords>(
     records: &mut R,
     alloc: Global,
     tail: &Tail,

@@ -6,7 +6,7 @@ ghost use Rattle.mx_book.specs.Reading.{Answers};
 ghost use Rattle.mx_lists.specs.Memory.{with_memory};
 
 use crate::life_list::life_or_none;
-use crate::lists::Lists;
+use crate::list_records::ListRecords;
 use crate::stop::Stop;
 use mx_base::{Doc, Tail, Use};
 use mx_book::Records;
@@ -14,7 +14,7 @@ use mx_book::commands::{Aircraft, Item};
 use mx_book::judging::judging_defects::extension_days;
 
 /// The aircraft with a registration.
-pub(crate) fn aircraft_of<R: Lists>(
+pub(crate) fn aircraft_of<R: ListRecords>(
     records: &mut R,
     tail: &Tail,
 ) -> Result<Option<Aircraft>, Stop<R::Fault>>
@@ -28,7 +28,7 @@ pub(crate) fn aircraft_of<R: Lists>(
 }
 
 /// The life of an item with all of its sectors, or none at all where the item is unknown.
-pub(crate) fn life_of<R: Lists>(records: &mut R, item: &Item) -> Result<Use, Stop<R::Fault>>
+pub(crate) fn life_of<R: ListRecords>(records: &mut R, item: &Item) -> Result<Use, Stop<R::Fault>>
     ensures { Answers (with_memory R.reading) records.old records.new result
         (λ book. use_or_none (life_now book item.now)) }
 {

@@ -4,6 +4,7 @@ pub mod AppliedLemmas
 pub mod ReplyLemmas
 pub mod HandLemmas
 pub mod LookLemmas
+pub mod QuestionLemmas
 pub mod AnswerLemmas
 pub mod MoveLemmas
 pub mod CallLemmas

@@ -5,89 +5,35 @@ ghost use Rattle.mx_book.specs.Book.{entries_from};
 ghost use Rattle.mx_book.specs.Life.{life_now};
 ghost use Rattle.mx_row_questions.specs.entries.Damage.{IsSkipped};
 ghost use Rattle.mx_row_questions.specs.entries.Entries.{AreEntries};
-ghost use Rattle.mx_lists.specs.DueList.{due_list};
-ghost use Rattle.mx_lists.specs.Forecast.{forecast};
-ghost use Rattle.mx_lists.specs.LimitList.{limits};
-ghost use Rattle.mx_lists.specs.Lists.{life_list};
+ghost use Rattle.mx_lists.specs.Report.{report_of};
 ghost use Rattle.mx_lookups.specs.numbers.Damage.{IsDamaged};
-ghost use Rattle.mx_row_questions.specs.lists.Listing.{unknown, LifeAnswered};
+ghost use Rattle.mx_row_questions.specs.lists.Listing.{unknown, HasKind, LifeAnswered};
 ghost use Rattle.mx_office.specs.Looks.{Finds, IsFound, LooksUp};
 
-use mx_base::{Day, Tail, Use};
+use mx_base::Use;
 use mx_book::Refusal;
 use mx_book::commands::{Command, Item};
 use mx_layout::TableFault;
-use mx_lists::{DueList, ForecastList, LifeList, LimitList};
+use mx_lists::{Question, Report};
 use mx_row_questions::entries::entries::entries;
-use mx_row_questions::lists::listing::{due_rows, forecast_rows, life, life_rows, limits_rows};
+use mx_row_questions::lists::listing::{life, list_rows};
 use sqlite::{Alter, Connection};
 use std::alloc::Global;
 
-/// The due list of an aircraft on a day.
-pub(crate) fn dues_found<S: Alter>(
+/// The list of an aircraft that a question asks for.
+pub(crate) fn list_found<S: Alter>(
     alloc: Global,
     conn: &mut Connection<S>,
-    tail: &Tail,
-    day: Day,
-) -> Result<Result<DueList, Refusal>, TableFault>
+    question: &Question,
+) -> Result<Result<Report, Refusal>, TableFault>
     requires { conn.old.in_transaction ≡ false }
     ensures idle { conn.new.in_transaction ≡ false }
-    ensures finds { Finds Refusal.UnknownAircraft (λ book. due_list book tail.now day)
+    ensures finds { Finds Refusal.UnknownAircraft (λ book. report_of book question.now)
         (state S.Store conn.old) (state S.Store conn.new) result }
+    ensures kind { HasKind question.now result }
 {
     let mut tx = conn.transaction();
-    due_rows(alloc, &mut tx, tail, day)
-}
-
-/// The forecast of an aircraft: what is reached within so many days of a day, at these minutes and cycles a day.
-pub(crate) fn forecast_found<S: Alter>(
-    alloc: Global,
-    conn: &mut Connection<S>,
-    tail: &Tail,
-    day: Day,
-    days: u32,
-    minutes: u32,
-    cycles: u32,
-) -> Result<Result<ForecastList, Refusal>, TableFault>
-    requires { conn.old.in_transaction ≡ false }
-    ensures idle { conn.new.in_transaction ≡ false }
-    ensures finds { Finds Refusal.UnknownAircraft
-        (λ book. forecast book tail.now day days minutes cycles)
-        (state S.Store conn.old) (state S.Store conn.new) result }
-{
-    let mut tx = conn.transaction();
-    forecast_rows(alloc, &mut tx, tail, day, days, minutes, cycles)
-}
-
-/// The limits of an aircraft on a day.
-pub(crate) fn limits_found<S: Alter>(
-    alloc: Global,
-    conn: &mut Connection<S>,
-    tail: &Tail,
-    day: Day,
-) -> Result<Result<LimitList, Refusal>, TableFault>
-    requires { conn.old.in_transaction ≡ false }
-    ensures idle { conn.new.in_transaction ≡ false }
-    ensures finds { Finds Refusal.UnknownAircraft (λ book. limits book tail.now day)
-        (state S.Store conn.old) (state S.Store conn.new) result }
-{
-    let mut tx = conn.transaction();
-    limits_rows(alloc, &mut tx, tail, day)
-}
-
-/// The life list of an aircraft.
-pub(crate) fn lives_found<S: Alter>(
-    alloc: Global,
-    conn: &mut Connection<S>,
-    tail: &Tail,
-) -> Result<Result<LifeList, Refusal>, TableFault>
-    requires { conn.old.in_transaction ≡ false }
-    ensures idle { conn.new.in_transaction ≡ false }
-    ensures finds { Finds Refusal.UnknownAircraft (λ book. life_list book tail.now)
-        (state S.Store conn.old) (state S.Store conn.new) result }
-{
-    let mut tx = conn.transaction();
-    life_rows(alloc, &mut tx, tail)
+    list_rows(alloc, &mut tx, question)
 }
 
 /// The life of an item with all of its sectors.

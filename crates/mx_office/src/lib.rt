@@ -10,8 +10,9 @@
 //!
 //! - Over any rows, good or damaged, a command answered `Already`, `Refused`, `Memory` or `Damaged` changes no table:
 //!   `apply`: `untouched`.
-//! - No question changes a table: `due_rows`, `forecast_rows`, `limits_rows`, `life_rows`, `life`, `entries`: `asked`
-//!   (`untouched`).
+//! - No question changes a table: `list`, by which each of `due_rows`, `forecast_rows`, `limits_rows` and `life_rows`
+//!   answers its own list, these four, `life`, `entries`: `asked` (`untouched`).
+//! - The list that a question is answered is of the kind that it asks for: `list`: `kind`.
 //! - Over any rows, good or damaged, a reply is by the verdict of the judge on each book as which the rows answer that
 //!   the command found: `IsRun`: `over_rows` (`told`).
 //! - Over any rows, a command is accepted only where its rows were written, whose entry has the number that is replied,
@@ -24,18 +25,17 @@
 //!   commands on top, as many as have a reply at most, or one more where the store failed: `IsRun`: `over_rows`
 //!   (`crash`).
 //! - Over any rows, a table that is told damaged is damaged in the tables that the command or the question found:
-//!   `IsRun`: `over_rows` (`damaged`); `entries`: `damaged`; `due_rows`, `forecast_rows`, `limits_rows`, `life_rows`,
-//!   `life`: `answered` (`damaged`).
+//!   `IsRun`: `over_rows` (`damaged`); `entries`: `damaged`; `list` and its four, `life`: `answered` (`damaged`).
 //! - Over any rows, what a list or a life is answered is so of each book as which the rows answer; the life is that of
-//!   the total with its number; entries are the commands that their rows state: `due_rows`, `forecast_rows`,
-//!   `limits_rows`, `life_rows`, `life`: `answered` (`sound`); `life`: `found`; `entries`: `sound`.
+//!   the total with its number; entries are the commands that their rows state: `list` and its four, `life`: `answered`
+//!   (`sound`); `life`: `found`; `entries`: `sound`.
 //! - New tables stand for the empty book; the rowids of tables that stand for a book rise, and do so behind each call:
 //!   `laws::new_tables_stand_for_the_empty_book`; `IsRun`: `over_book` (`kept`).
 //! - Why no office was opened follows from the rows of `office`, and a database in which no table has that name is not
 //!   ours: `open_office`: `reason` (`reason`, `absent`).
-//! - Over tables that stand for a book no table is answered damaged: `IsRun`: `over_book` (`whole`); `due_rows`,
-//!   `forecast_rows`, `limits_rows`, `life_rows`, `life`: `answered` (`exact`); `entries`: `exact`; `open_office`,
-//!   where a file can be at the point: `reason` (`whole`).
+//! - Over tables that stand for a book no table is answered damaged: `IsRun`: `over_book` (`whole`); `list` and its
+//!   four, `life`: `answered` (`exact`); `entries`: `exact`; `open_office`, where a file can be at the point: `reason`
+//!   (`whole`).
 //! - An office goes on where a call did not answer `Store`, and answers `NeedsReopen` only after one that did:
 //!   `MarksDoubt`: `goes_on`, `usable`.
 //! - A run stops at the first fault, and has fewer replies than commands then, or memory ran out where there was no

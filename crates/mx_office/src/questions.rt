@@ -8,7 +8,8 @@ ghost use Rattle.mx_row_questions.specs.entries.Entries.{AreEntries};
 ghost use Rattle.mx_lists.specs.DueList.{due_list};
 ghost use Rattle.mx_lists.specs.Forecast.{forecast};
 ghost use Rattle.mx_lists.specs.LimitList.{limits};
-ghost use Rattle.mx_lists.specs.Lists.{life_list};
+ghost use Rattle.mx_lists.specs.LifeList.{life_list};
+ghost use Rattle.mx_lists.specs.Report.{IsOfKind, report_of};
 ghost use Rattle.mx_lookups.specs.numbers.Damage.{IsDamaged};
 ghost use Rattle.mx_lookups.specs.numbers.Given.{LifeOf};
 ghost use Rattle.mx_row_questions.specs.lists.Listing.{unknown};
@@ -18,38 +19,51 @@ ghost use Rattle.mx_office.specs.Layout.{office_schema};
 ghost use Rattle.mx_office.specs.Office.{office_state, IsReady, StandsFor};
 ghost use Rattle.mx_office.specs.Questions.{IsAnsweredBy};
 
-use crate::asking::{
-    dues_found, entries_found, forecast_found, life_found, limits_found, lives_found,
-};
+use crate::asking::{entries_found, life_found, list_found};
 use crate::fault::{call_answer, call_failed, question_answer, question_failed};
 use crate::office::Office;
 use mx_base::{Day, Tail, Use};
 use mx_book::Refusal;
 use mx_book::commands::{Command, Item};
 use mx_faults::{Ask, Fault};
-use mx_lists::{DueList, ForecastList, LifeList, LimitList};
+use mx_lists::{DueList, ForecastList, LifeList, LimitList, Question, Report};
 use sqlite::Alter;
 use std::alloc::Global;
 
 impl<S: Alter> Office<S> {
-    /// The due list of an aircraft on a day. `Refused(UnknownAircraft)` where no aircraft has the registration. No table
-    /// changes.
+    /// The list of an aircraft that a question asks for. `Refused(UnknownAircraft)` where no aircraft has the registration. No
+    /// table changes.
+    pub fn list(&mut self, alloc: Global, question: &Question) -> Result<Report, Ask>
+        ensures asked { IsAsked (stop_asking result) self.old self.new }
+        ensures answered { IsAnsweredBy
+            (λ book. found_or Refusal.UnknownAircraft (report_of book question.now))
+            self.old self.new result }
+        ensures kind { IfOk result (IsOfKind question.now) }
+    {
+        if self.needs_reopen {
+            return Err(Ask::Failed(Fault::NeedsReopen));
+        }
+        let answer = question_answer(list_found(alloc, &mut self.conn, question));
+        self.needs_reopen = question_failed(&answer);
+        answer
+    }
+
+    /// The due list of an aircraft on a day, asked and refused as any list.
     pub fn due_rows(&mut self, alloc: Global, tail: Tail, day: Day) -> Result<DueList, Ask>
         ensures asked { IsAsked (stop_asking result) self.old self.new }
         ensures answered { IsAnsweredBy
             (λ book. found_or Refusal.UnknownAircraft (due_list book tail day))
             self.old self.new result }
     {
-        if self.needs_reopen {
-            return Err(Ask::Failed(Fault::NeedsReopen));
+        match self.list(alloc, &Question::Due(tail, day)) {
+            Ok(Report::Due(list)) => Ok(list),
+            Ok(_) => unreachable!(),
+            Err(why) => Err(why),
         }
-        let answer = question_answer(dues_found(alloc, &mut self.conn, &tail, day));
-        self.needs_reopen = question_failed(&answer);
-        answer
     }
 
-    /// The forecast of an aircraft: what is reached within so many days of a day, at these minutes and cycles a day.
-    /// `Refused(UnknownAircraft)` where no aircraft has the registration. No table changes.
+    /// The forecast of an aircraft: what is reached within so many days of a day, at these minutes and cycles a day. Asked and
+    /// refused as any list.
     pub fn forecast_rows(
         &mut self,
         alloc: Global,
@@ -64,52 +78,48 @@ impl<S: Alter> Office<S> {
             (λ book. found_or Refusal.UnknownAircraft (forecast book tail day days minutes cycles))
             self.old self.new result }
     {
-        if self.needs_reopen {
-            return Err(Ask::Failed(Fault::NeedsReopen));
-        }
-        let answer = question_answer(forecast_found(
+        match self.list(
             alloc,
-            &mut self.conn,
-            &tail,
-            day,
-            days,
-            minutes,
-            cycles,
-        ));
-        self.needs_reopen = question_failed(&answer);
-        answer
+            &Question::Forecast {
+                tail,
+                day,
+                days,
+                minutes,
+                cycles,
+            },
+        ) {
+            Ok(Report::Forecast(list)) => Ok(list),
+            Ok(_) => unreachable!(),
+            Err(why) => Err(why),
+        }
     }
 
-    /// The limits of an aircraft on a day, those of its open defects. `Refused(UnknownAircraft)` where no aircraft has
-    /// the registration. No table changes.
+    /// The limits of an aircraft on a day, those of its open defects, asked and refused as any list.
     pub fn limits_rows(&mut self, alloc: Global, tail: Tail, day: Day) -> Result<LimitList, Ask>
         ensures asked { IsAsked (stop_asking result) self.old self.new }
         ensures answered { IsAnsweredBy
             (λ book. found_or Refusal.UnknownAircraft (limits book tail day))
             self.old self.new result }
     {
-        if self.needs_reopen {
-            return Err(Ask::Failed(Fault::NeedsReopen));
+        match self.list(alloc, &Question::Limits(tail, day)) {
+            Ok(Report::Limits(list)) => Ok(list),
+            Ok(_) => unreachable!(),
+            Err(why) => Err(why),
         }
-        let answer = question_answer(limits_found(alloc, &mut self.conn, &tail, day));
-        self.needs_reopen = question_failed(&answer);
-        answer
     }
 
-    /// The life list of an aircraft. `Refused(UnknownAircraft)` where no aircraft has the registration.
-    /// No table changes.
+    /// The life list of an aircraft, asked and refused as any list.
     pub fn life_rows(&mut self, alloc: Global, tail: Tail) -> Result<LifeList, Ask>
         ensures asked { IsAsked (stop_asking result) self.old self.new }
         ensures answered { IsAnsweredBy
             (λ book. found_or Refusal.UnknownAircraft (life_list book tail))
             self.old self.new result }
     {
-        if self.needs_reopen {
-            return Err(Ask::Failed(Fault::NeedsReopen));
+        match self.list(alloc, &Question::Life(tail)) {
+            Ok(Report::Life(list)) => Ok(list),
+            Ok(_) => unreachable!(),
+            Err(why) => Err(why),
         }
-        let answer = question_answer(lives_found(alloc, &mut self.conn, &tail));
-        self.needs_reopen = question_failed(&answer);
-        answer
     }
 
     /// The life of an item with all of its sectors. `Refused(UnknownAircraft)` or `Refused(UnknownComponent)`

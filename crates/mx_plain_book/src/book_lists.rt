@@ -5,7 +5,7 @@ ghost use Rattle.mx_lists.specs.Dues.{due};
 ghost use Rattle.mx_lists.specs.DueList.{due_list};
 ghost use Rattle.mx_lists.specs.Forecast.{forecast};
 ghost use Rattle.mx_lists.specs.LimitList.{limits};
-ghost use Rattle.mx_lists.specs.Lists.{life_list};
+ghost use Rattle.mx_lists.specs.LifeList.{life_list};
 
 use crate::Plain;
 use crate::bases::last_base;

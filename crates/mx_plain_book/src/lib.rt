@@ -11,7 +11,7 @@
 //!   `life`, `bounded`.
 //! - The open defects of an aircraft are the definition's: those that were deferred on it and not rectified, in the
 //!   order of their entries: `Plain::open_defects`.
-//! - The plain book answers each question of lists, and by its entries: `Plain`, the clauses of `Lists`.
+//! - The plain book answers each question of lists, and by its entries: `Plain`, the clauses of `ListRecords`.
 //! - The life list is the definition's, its components by position, and `None` exactly for an unknown registration:
 //!   `life_list_of`.
 //! - The base of a task of an item is the definition's: what an opening states, and of work that was done in each

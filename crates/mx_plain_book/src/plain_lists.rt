@@ -11,11 +11,11 @@ use mx_base::{Base, Kind, Position, Serial, Tail, TaskId, Use};
 use mx_book::Defect;
 use mx_book::commands::{Item, Task};
 use mx_book::entry_list::NoMemory;
-use mx_lists::{Lists, Stop};
+use mx_lists::{ListRecords, Stop};
 use std::alloc::Global;
 use std::convert::Infallible;
 
-impl<'a> Lists for Plain<'a> {
+impl<'a> ListRecords for Plain<'a> {
     fn life(&mut self, item: &Item) -> Result<Option<Use>, Infallible> {
         Ok(life(self.book.as_slice(), item, None))
     }

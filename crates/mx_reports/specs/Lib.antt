@@ -6,3 +6,4 @@ pub mod LimitText
 pub mod Replies
 pub mod ReplyText
 pub mod Words
+pub mod ReportText

@@ -5,7 +5,7 @@ use mx_base::{Base, Kind, Position, Serial, Tail, TaskId, Use};
 use mx_book::Defect;
 use mx_book::commands::{Item, Task};
 use mx_layout::TableFault;
-use mx_lists::{Lists, Stop};
+use mx_lists::{ListRecords, Stop};
 use mx_lookups::lists::{fitted, open_defects};
 use mx_lookups::lives::lives::life;
 use mx_lookups::lives::programmes::tasks;
@@ -13,7 +13,7 @@ use mx_lookups::lives::work::base;
 use sqlite::Alter;
 use std::alloc::Global;
 
-impl<S: Alter> Lists for Rows<'_, '_, S, ListQuestions> {
+impl<S: Alter> ListRecords for Rows<'_, '_, S, ListQuestions> {
     fn life(&mut self, item: &Item) -> Result<Option<Use>, TableFault> {
         life(self.alloc, self.tx, item)
     }

@@ -8,7 +8,7 @@ use mx_base::{Base, Day, Doc, Kind, Moment, Part, Position, Serial, Tail, TaskId
 use mx_book::commands::{Aircraft, Command, Component, Extension, Item, Task};
 use mx_book::entry_list::Book;
 use mx_book::{Defect, Records};
-use mx_lists::{Lists, Stop};
+use mx_lists::{ListRecords, Stop};
 use mx_plain_book::Plain;
 use std::alloc::Global;
 use std::convert::Infallible;
@@ -184,11 +184,11 @@ impl<'a> Records for Failing<'a> {
     }
 }
 
-impl<'a> Lists for Failing<'a> {
+impl<'a> ListRecords for Failing<'a> {
     fn life(&mut self, item: &Item) -> Result<Option<Use>, Interrupted> {
         self.count()?;
         let mut plain = Plain { book: self.book };
-        Ok(answered(Lists::life(&mut plain, item)))
+        Ok(answered(ListRecords::life(&mut plain, item)))
     }
 
     fn base(&mut self, item: &Item, task: &TaskId) -> Result<Option<Base>, Interrupted> {
@@ -228,7 +228,7 @@ impl<'a> Lists for Failing<'a> {
     ) -> Result<Vec<Defect>, Stop<Interrupted>> {
         self.count_or_stop()?;
         let mut plain = Plain { book: self.book };
-        match Lists::open_defects(&mut plain, alloc, tail) {
+        match ListRecords::open_defects(&mut plain, alloc, tail) {
             Ok(defects) => Ok(defects),
             Err(Stop::NoMemory) => Err(Stop::NoMemory),
             Err(Stop::Fault(never)) => match never {},

@@ -21,8 +21,7 @@
 //!
 //! - By a book whose questions run out (`failing`), a verdict, a due and each list are those of the plain book, or the
 //!   fault that it was given, and of a list also want of memory: `judge_interrupted`, `due_interrupted`,
-//!   `dues_interrupted`, `lives_interrupted`, `limits_interrupted`, `forecast_interrupted`. The line `questions` shows
-//!   that both come.
+//!   `list_interrupted`. The line `questions` shows that both come.
 #![tactic(auto)]
 
 mod again;

@@ -2,30 +2,18 @@
 //! by one, and so on until it is answered: before that each is stopped by the fault in wait.
 
 use crate::failing::Interrupted;
-use crate::interrupted::{
-    dues_interrupted, forecast_interrupted, judge_interrupted, limits_interrupted,
-    lives_interrupted,
-};
+use crate::interrupted::{judge_interrupted, list_interrupted};
 use crate::plain::append_reply_to;
 use crate::sweep::{Wrong, must};
 use mx_base::{Day, Tail};
 use mx_book::commands::Command;
 use mx_book::entry_list::Book;
-use mx_lists::Stop;
+use mx_lists::{Question, Stop};
 use mx_test_cases::Unmade;
 use std::alloc::Global;
 
 // The number of questions by which everything is to be answered.
 const MOST_QUESTIONS: u32 = 10_000;
-
-// The lists of an aircraft.
-#[derive(Clone, Copy)]
-enum List {
-    Life,
-    Dues,
-    Limits,
-    Forecast,
-}
 
 const ALL_STOPPED: &str = "every question stops what is asked";
 
@@ -84,49 +72,29 @@ fn questions_of_commands(
     Ok(questions)
 }
 
-// Whether a list is made by so many questions.
-fn is_listed(
-    alloc: Global,
-    book: &Book,
-    list: List,
-    tail: &Tail,
-    day: Day,
-    questions: u32,
-) -> Result<bool, Wrong> {
-    let n = questions;
-    match list {
-        List::Life => is_answered(lives_interrupted(book, alloc, tail, n, n), n),
-        List::Dues => is_answered(dues_interrupted(book, alloc, tail, day, n, n), n),
-        List::Limits => is_answered(limits_interrupted(book, alloc, tail, day, n, n), n),
-        List::Forecast => {
-            let answer = forecast_interrupted(book, alloc, tail, day, 365, 120, 1, n, n);
-            is_answered(answer, n)
-        }
-    }
-}
-
 // The number of questions by which a list is made.
-fn questions_of_list(
-    alloc: Global,
-    book: &Book,
-    list: List,
-    tail: &Tail,
-    day: Day,
-) -> Result<u32, Wrong> {
-    for questions in 0..MOST_QUESTIONS {
-        if is_listed(alloc, book, list, tail, day, questions)? {
-            return Ok(questions);
+fn questions_of_list(alloc: Global, book: &Book, question: &Question) -> Result<u32, Wrong> {
+    for n in 0..MOST_QUESTIONS {
+        if is_answered(list_interrupted(book, alloc, question, n, n), n)? {
+            return Ok(n);
         }
     }
     Err(Wrong::Found("a list that is never made"))
 }
 
 // Makes each list of an aircraft: the number of questions.
-fn questions_of_lists(alloc: Global, book: &Book, tail: &Tail, day: Day) -> Result<u32, Wrong> {
-    let life = questions_of_list(alloc, book, List::Life, tail, day)?;
-    let dues = questions_of_list(alloc, book, List::Dues, tail, day)?;
-    let limits = questions_of_list(alloc, book, List::Limits, tail, day)?;
-    let forecast = questions_of_list(alloc, book, List::Forecast, tail, day)?;
+fn questions_of_lists(alloc: Global, book: &Book, tail: Tail, day: Day) -> Result<u32, Wrong> {
+    let life = questions_of_list(alloc, book, &Question::Life(tail))?;
+    let dues = questions_of_list(alloc, book, &Question::Due(tail, day))?;
+    let limits = questions_of_list(alloc, book, &Question::Limits(tail, day))?;
+    let ahead = Question::Forecast {
+        tail,
+        day,
+        days: 365,
+        minutes: 120,
+        cycles: 1,
+    };
+    let forecast = questions_of_list(alloc, book, &ahead)?;
     Ok(
         life.saturating_add(dues)
             .saturating_add(limits)
@@ -144,7 +112,7 @@ fn all_asked(
 ) -> Result<(), Wrong> {
     let mut book = Book::new(alloc);
     let judged = questions_of_commands(alloc, &mut book, commands)?;
-    let listed = questions_of_lists(alloc, &book, tail, day)?;
+    let listed = questions_of_lists(alloc, &book, *tail, day)?;
     must(
         judged.saturating_add(listed) >= at_least,
         "fewer questions than that",

@@ -14,8 +14,8 @@ use Rattle.mx_intake.specs.Fault.{fault}
 use Rattle.mx_intake.specs.Number.{number_of_digits}
 use Rattle.mx_intake.proofs.Worked.{intake_on_literals}
 use Rattle.mx_output.specs.declared.sector_log.report.RowReply.TheVariants as row
-use Rattle.mx_output.specs.declared.questions.question.Question.TheVariants.{Life, Due, Forecast, Limits}
-use Rattle.mx_output.specs.declared.questions.report.Report.TheVariants as report
+use Rattle.mx_lists.specs.declared.question.Question.TheVariants.{Life, Due, Forecast, Limits}
+use Rattle.mx_lists.specs.declared.report.Report.TheVariants as report
 use Rattle.mx_http.specs.declared.request.input.InputFault.TheVariants as input
 use Rattle.mx_http.specs.declared.request.rejection.Rejection.TheVariants.{BadRequest}
 use Rattle.mx_http.specs.declared.request.routes.Place.TheVariants as place

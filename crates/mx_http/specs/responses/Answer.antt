@@ -18,8 +18,8 @@ use Rattle.mx_output.specs.sector_log.Text.{row_lines}
 use Rattle.mx_output.specs.sector_log.Told.{is_bad, is_refused_row}
 use Rattle.mx_output.specs.declared.sector_log.report.RowReply.{RowReply}
 use Rattle.mx_output.specs.endings.FaultLine.{intake_words, line_of, office_words}
-use Rattle.mx_output.specs.questions.Report.{report_lines}
-use Rattle.mx_output.specs.declared.questions.report.Report.{Report}
+use Rattle.mx_reports.specs.ReportText.{report_lines}
+use Rattle.mx_lists.specs.declared.report.Report.{Report}
 use Rattle.mx_http.specs.request.Rejected.{rejection_body, rejection_status}
 use Rattle.mx_http.specs.declared.request.rejection.Rejection.{Rejection}
 use Rattle.mx_http.specs.declared.responses.fault.DeskFault.{DeskFault}

@@ -9,7 +9,7 @@ use Rattle.mx_intake.specs.Sectors.{sector_rows}
 use Rattle.mx_intake.specs.declared.fault.IntakeFault.{IntakeFault}
 use Rattle.mx_output.specs.sector_log.Rows.{good_rows}
 use Rattle.mx_output.specs.questions.Asking.{doc_of, due_question, forecast_question, life_question, limits_question}
-use Rattle.mx_output.specs.declared.questions.question.Question.{Question}
+use Rattle.mx_lists.specs.declared.question.Question.{Question}
 use Rattle.mx_http.specs.request.Routes.{Asked}
 use Rattle.mx_http.specs.declared.request.rejection.Rejection.{Rejection}
 use Rattle.mx_http.specs.declared.request.rejection.Rejection.TheVariants.{BadRequest}

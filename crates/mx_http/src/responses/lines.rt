@@ -8,9 +8,9 @@ use crate::responses::respond::{lines_response, response};
 use http::{Response, StatusCode};
 use mx_book::{Refusal, Reply};
 use mx_faults::{Ask, Fault};
-use mx_output::questions::{Report, list_text};
+use mx_lists::Report;
 use mx_output::sector_log::{RowReply, has_bad, has_refused, report_text};
-use mx_reports::{has_refusal, replies_text, reply_text};
+use mx_reports::{has_refusal, list_text, replies_text, reply_text};
 use std::alloc::Global;
 
 /// The response with a list.

@@ -5,7 +5,8 @@ ghost use Rattle.mx_http.specs.responses.Request.{forecast_in_digits};
 
 use mx_base::Doc;
 use mx_intake::{read_identifier, read_number};
-use mx_output::questions::{Question, forecast_question};
+use mx_lists::Question;
+use mx_output::questions::forecast_question;
 
 /// The document that a part is.
 pub fn read_doc(text: &str) -> Option<Doc>

@@ -8,12 +8,13 @@ use Rattle.mx_faults.specs.declared.fault.Ask.TheVariants.{Refused}
 use Rattle.mx_office.specs.Faults.{found_or, IsAnswer}
 use Rattle.mx_reports.specs.ReplyText.{reply_line}
 use Rattle.mx_output.specs.printed.Listed.{IsListAnswer, Tells, list_answer, list_ending}
-use Rattle.mx_output.specs.questions.Report.{IsOfKind, report_lines, report_of}
+use Rattle.mx_lists.specs.Report.{IsOfKind, report_of}
+use Rattle.mx_reports.specs.ReportText.{report_lines}
 use Rattle.mx_output.specs.declared.endings.ending.Ending.{Ending}
 use Rattle.mx_output.specs.declared.endings.ending.Ending.TheVariants as ending
 use Rattle.mx_output.specs.declared.endings.ending.Stop.{Stop}
-use Rattle.mx_output.specs.declared.questions.question.Question.{Question}
-use Rattle.mx_output.specs.declared.questions.report.Report.{Report}
+use Rattle.mx_lists.specs.declared.question.Question.{Question}
+use Rattle.mx_lists.specs.declared.report.Report.{Report}
 
 -- a list of the kind that was asked for was appended
 pub shown_report : (question : Question) (list : Report) (old new : List ℕ) (result : Result Ending Stop) → IsOfKind question list → OnOk result (new ≡ old ++ report_lines list)

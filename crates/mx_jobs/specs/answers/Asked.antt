@@ -7,9 +7,9 @@ use Rattle.mx_office.specs.Faults.{found_or}
 use Rattle.mx_office.specs.Questions.{IsAnsweredBy}
 use Rattle.mx_faults.specs.declared.fault.Ask.{Ask}
 use Rattle.mx_office.specs.declared.office.Office.{Office}
-use Rattle.mx_output.specs.questions.Report.{IsOfKind, report_of}
-use Rattle.mx_output.specs.declared.questions.question.Question.{Question}
-use Rattle.mx_output.specs.declared.questions.report.Report.{Report}
+use Rattle.mx_lists.specs.Report.{IsOfKind, report_of}
+use Rattle.mx_lists.specs.declared.question.Question.{Question}
+use Rattle.mx_lists.specs.declared.report.Report.{Report}
 
 -- a question was asked, no table changed, and P holds of the answer: of the book that the tables stand for, or of whichever book they hold
 abbrev pub Asks : {S : Type 0} {g : Ghosts S} → Question → Office S g → Office S g → (Result Report Ask → Type 0) → Type 0

@@ -6,11 +6,10 @@ ghost use Rattle.mx_jobs.specs.answers.Asked.{Asks};
 ghost use Rattle.mx_output.specs.printed.Listed.{IsListAnswer, PrintsAnswer, Tells};
 ghost use Rattle.mx_output.specs.endings.Status.{Shows, stop_status};
 
-use crate::answers::question::ask;
+use mx_lists::Question;
 use mx_office::{Ask, Office};
 use mx_output::endings::{Ending, Stop};
 use mx_output::printed::{append_refusal, append_report};
-use mx_output::questions::Question;
 use sqlite::Alter;
 use std::alloc::Global;
 
@@ -33,7 +32,7 @@ pub fn print_list<S: Alter>(
     ensures unprinted { OnErr result (out.new.items ≡ out.old.items) }
     ensures status { IfErr result (λ stop. stop_status stop ≡ 4) }
 {
-    match ask(alloc, office, question) {
+    match office.list(alloc, question) {
         Ok(report) => append_report(out, &report),
         Err(Ask::Refused(refusal)) => append_refusal(out, refusal),
         Err(Ask::Failed(fault)) => Err(Stop::Office(fault)),

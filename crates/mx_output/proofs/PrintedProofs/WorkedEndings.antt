@@ -7,7 +7,7 @@ use Rattle.mx_book.specs.declared.verdict.Reply.TheVariants.{Accepted, Already}
 use Rattle.mx_book.specs.declared.verdict.Reply.TheVariants as reply
 use Rattle.mx_output.specs.declared.endings.ending.Ending.TheVariants.{Done, Refused, Bad}
 use Rattle.mx_output.specs.printed.Listed.{list_answer, list_ending}
-use Rattle.mx_output.specs.declared.questions.report.Report.TheVariants as report
+use Rattle.mx_lists.specs.declared.report.Report.TheVariants as report
 use Rattle.mx_base.specs.Calendar.{date_of}
 use Rattle.mx_base.specs.Texts.{day_text}
 use Rattle.mx_output.specs.declared.sector_log.report.RowReply.TheVariants as row

@@ -3,7 +3,7 @@ use Rattle.std.proofs.Common.{refl, ◌≡◌, [], ◌∷◌, true, false, Some,
 use Rattle.std.specs.Prelude.{codes, map, is_some}
 use Rattle.mx_intake.proofs.Worked.{intake_on_literals}
 use Rattle.mx_output.specs.questions.Asking.{doc_of, due_question, forecast_question, is_in_reach, life_question, limits_question, tail_of}
-use Rattle.mx_output.specs.declared.questions.question.Question.TheVariants as asked
+use Rattle.mx_lists.specs.declared.question.Question.TheVariants as asked
 
 -- a registration has up to 8 characters, A to Z, 0 to 9 and the hyphen
 registrations : map tail_of (codes "D-ABCDEF" ∷ codes "D-ABCDEFG" ∷ codes "d-abcd" ∷ codes "" ∷ []) ≡ Some (codes "D-ABCDEF") ∷ None ∷ None ∷ None ∷ []

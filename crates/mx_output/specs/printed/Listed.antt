@@ -7,13 +7,14 @@ use Rattle.mx_book.specs.declared.verdict.Reply.TheVariants as reply
 use Rattle.mx_faults.specs.declared.fault.Ask.{Ask}
 use Rattle.mx_faults.specs.declared.fault.Ask.TheVariants as ask
 use Rattle.mx_reports.specs.ReplyText.{reply_line}
-use Rattle.mx_output.specs.questions.Report.{IsOfKind, report_lines, report_of}
+use Rattle.mx_lists.specs.Report.{IsOfKind, report_of}
+use Rattle.mx_reports.specs.ReportText.{report_lines}
 use Rattle.mx_output.specs.declared.endings.ending.Ending.{Ending}
 use Rattle.mx_output.specs.declared.endings.ending.Ending.TheVariants.{Done, Refused}
 use Rattle.mx_output.specs.declared.endings.ending.Stop.{Stop}
 use Rattle.mx_output.specs.declared.endings.ending.Stop.TheVariants.{Office, Print}
-use Rattle.mx_output.specs.declared.questions.question.Question.{Question}
-use Rattle.mx_output.specs.declared.questions.report.Report.{Report}
+use Rattle.mx_lists.specs.declared.question.Question.{Question}
+use Rattle.mx_lists.specs.declared.report.Report.{Report}
 
 -- the text of a list, or of the refusal where the registration is unknown
 abbrev pub list_answer : Option Report → List ℕ

@@ -2,8 +2,8 @@
 use Rattle.std.specs.Prelude.{◌≡◌, ℕ, List, ◌++◌}
 use Rattle.mx_book.specs.commands.Act.{Entry}
 use Rattle.mx_book.specs.Run.{book_run, replies}
-use Rattle.mx_output.specs.questions.Report.{report_of}
-use Rattle.mx_output.specs.declared.questions.question.Question.TheVariants.{Life}
+use Rattle.mx_lists.specs.Report.{report_of}
+use Rattle.mx_lists.specs.declared.question.Question.TheVariants.{Life}
 use Rattle.mx_output.specs.printed.Entered.{reply_lines}
 use Rattle.mx_output.specs.printed.Listed.{list_answer, list_ending}
 use Rattle.mx_output.specs.endings.Status.{graver, run_ending}

@@ -4,8 +4,8 @@ use Rattle.mx_base.specs.Identifier.{is_graphic, is_tail_character}
 use Rattle.mx_lists.specs.declared.forecast.TheConstants.{MOST_DAYS, MOST_MINUTES, MOST_CYCLES}
 use Rattle.mx_intake.specs.Form.{if_read}
 use Rattle.mx_intake.specs.Vocabulary.{day_of_text, identifier_of}
-use Rattle.mx_output.specs.declared.questions.question.Question.{Question}
-use Rattle.mx_output.specs.declared.questions.question.Question.TheVariants.{Life, Due, Forecast, Limits}
+use Rattle.mx_lists.specs.declared.question.Question.{Question}
+use Rattle.mx_lists.specs.declared.question.Question.TheVariants.{Life, Due, Forecast, Limits}
 
 -- the registration that a text is
 abbrev pub tail_of : List ℕ → Option (List ℕ)

@@ -1,12 +1,12 @@
 //! The text of a list that answers a question, or of the refusal.
 ghost use Rattle.std.specs.Prelude.{◌≡◌, ◌++◌, OnOk, OnErr, IfOk, IfErr};
 ghost use Rattle.mx_reports.specs.ReplyText.{reply_line};
-ghost use Rattle.mx_output.specs.questions.Report.{report_lines};
+ghost use Rattle.mx_reports.specs.ReportText.{report_lines};
 
 use crate::endings::{Ending, Stop};
-use crate::questions::{Report, list_text};
 use mx_book::{Refusal, Reply};
-use mx_reports::reply_text;
+use mx_lists::Report;
+use mx_reports::{list_text, reply_text};
 
 /// Appends a list.
 pub fn append_report(out: &mut Vec<u8>, report: &Report) -> Result<Ending, Stop>

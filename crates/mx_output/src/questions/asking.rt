@@ -2,9 +2,8 @@
 ghost use Rattle.std.specs.Prelude.{◌≡◌};
 ghost use Rattle.mx_output.specs.questions.Asking.{due_question, forecast_question, is_in_reach, life_question, limits_question};
 
-use crate::questions::question::Question;
 use mx_intake::{read_day, read_identifier};
-use mx_lists::{MOST_CYCLES, MOST_DAYS, MOST_MINUTES};
+use mx_lists::{MOST_CYCLES, MOST_DAYS, MOST_MINUTES, Question};
 
 /// The question for the life of an aircraft, or `None` where the text is no registration.
 pub fn life_question(tail: &str) -> Option<Question>

@@ -1,21 +1,26 @@
 -- What is listed of rows, where memory may run out as well.
-use Rattle.std.proofs.Common.{◌≡◌, inl, inr, List, Ok, Err, Option, Result, ok_or, refl, sym, ap, subst}
+use Rattle.std.proofs.Common.{◌≡◌, inl, inr, List, Ok, Err, IfOk, Option, Some, None, Result, ok_or, refl, sym, ap, subst}
+use Rattle.std.specs.Prelude.{IfSome}
 use Rattle.sqlite.specs.Store.{Ghosts}
 use Rattle.sqlite.specs.Tree.{Trees}
 use Rattle.sqlite.specs.Held.{Held, state}
 use Rattle.mx_book.specs.commands.Act.{Entry}
 use Rattle.mx_book.specs.Reading.{Answers}
+use Rattle.mx_book.specs.declared.verdict.Refusal.{Refusal}
 use Rattle.mx_book.specs.declared.verdict.Refusal.TheVariants.{UnknownAircraft}
 use Rattle.mx_layout.specs.declared.fault.TableFault.{TableFault}
 use Rattle.mx_layout.specs.declared.fault.TableFault.TheVariants.{Memory}
 use Rattle.mx_layout.proofs.CrashLemmas.{within_itself}
 use Rattle.mx_lists.specs.Memory.{with_memory}
+use Rattle.mx_lists.specs.Report.{IsOfKind}
+use Rattle.mx_lists.specs.declared.question.Question.{Question}
+use Rattle.mx_lists.specs.declared.report.Report.{Report}
 use Rattle.mx_lists.specs.declared.stop.Stop.{Stop}
 use Rattle.mx_lists.specs.declared.stop.Stop.TheVariants.{NoMemory, Fault}
 use Rattle.mx_lookups.specs.numbers.Reads.{Reads}
 use Rattle.mx_lookups.specs.numbers.Told.{Damage}
 use Rattle.mx_lookups.proofs.NumbersProofs.ReadLemmas.{no_memory, told}
-use Rattle.mx_row_questions.specs.lists.Listing.{answered}
+use Rattle.mx_row_questions.specs.lists.Listing.{answered, HasKind}
 use Rattle.mx_row_judge.specs.View.{Asks, AskedOn, IsAny, SharesWith, StoppedOn, held, rows_reading}
 use Rattle.mx_row_judge.specs.declared.view.Rows.{Rows}
 use Rattle.mx_row_judge.proofs.ViewLemmas.{unasked}
@@ -51,3 +56,13 @@ module _ {S Q A : Type 0} (g : Ghosts S) (AnswersAs : Trees → List Entry → T
   }
   list_asks (Err NoMemory) q = record { asked = starved g Of (held old) (held new) (q.asked old (unasked g AnswersAs Of old)).1; exact = λ clean book speaks. tt }
   list_asks (Err (Fault fault)) q = record { asked = (q.asked old (unasked g AnswersAs Of old)).1; exact = λ clean book speaks. tt }
+
+-- a list that was made of the kind that a question asks for is answered as one of it
+pub list_kind : (question : Question) (list : Result (Option Report) (Stop TableFault)) (answer : Result (Result Report Refusal) TableFault) → answer ≡ answered list → IfOk list (λ o. IfSome o (IsOfKind question)) → HasKind question answer
+list_kind question list answer is kind = subst (HasKind question) (sym is) (of_kind list kind)
+  where
+    of_kind : (list : Result (Option Report) (Stop TableFault)) → IfOk list (λ o. IfSome o (IsOfKind question)) → HasKind question (answered list)
+    of_kind (Ok (Some report)) kind = kind
+    of_kind (Ok None) kind = tt
+    of_kind (Err NoMemory) kind = tt
+    of_kind (Err (Fault fault)) kind = tt

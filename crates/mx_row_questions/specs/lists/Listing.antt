@@ -1,5 +1,5 @@
 -- What is answered to a question for a list or for the life of an item: that, a refusal, or what stopped it.
-use Rattle.std.specs.Prelude.{◌≡◌, List, Option, Result, Ok, Err, ok_or}
+use Rattle.std.specs.Prelude.{◌≡◌, List, Option, Result, Ok, Err, IfOk, ok_or}
 use Rattle.sqlite.specs.Tree.{Trees}
 use Rattle.mx_base.specs.declared.amounts.Use.{Use}
 use Rattle.mx_book.specs.commands.Act.{Entry}
@@ -9,6 +9,9 @@ use Rattle.mx_book.specs.declared.verdict.Refusal.{Refusal}
 use Rattle.mx_book.specs.declared.verdict.Refusal.TheVariants.{UnknownAircraft, UnknownComponent}
 use Rattle.mx_layout.specs.declared.fault.TableFault.{TableFault}
 use Rattle.mx_layout.specs.declared.fault.TableFault.TheVariants.{Memory}
+use Rattle.mx_lists.specs.Report.{IsOfKind}
+use Rattle.mx_lists.specs.declared.question.Question.{Question}
+use Rattle.mx_lists.specs.declared.report.Report.{Report}
 use Rattle.mx_lists.specs.declared.stop.Stop.{Stop}
 use Rattle.mx_lists.specs.declared.stop.Stop.TheVariants.{NoMemory, Fault}
 use Rattle.mx_lookups.specs.numbers.Given.{LifeOf}
@@ -23,6 +26,10 @@ answered (Err (Fault fault)) = Err fault
 -- what is listed of an aircraft, or the refusal of an unknown one, is what is so in each book as which the rows answer
 abbrev pub ListOf : {X : Type 0} → (List Entry → Option X) → Trees → Result X Refusal → Type 0
 ListOf what trees answer = (book : List Entry) → AnswerListsAs trees book → answer ≡ ok_or (what book) UnknownAircraft
+
+-- a list that was answered is of the kind that the question asks for
+abbrev pub HasKind : Question → Result (Result Report Refusal) TableFault → Type 0
+HasKind question answer = IfOk answer (λ found. IfOk found (IsOfKind question))
 
 -- why an item is unknown
 abbrev pub unknown : Item → Refusal

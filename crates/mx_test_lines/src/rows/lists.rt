@@ -1,13 +1,12 @@
 //! Lists and the lives of items, by the rows of a database.
 ghost use Rattle.std.specs.Prelude.{◌≡◌, false};
 
-use crate::rows::calls::{dues_of, forecast_of, life_of, limits_of, lives_of};
+use crate::rows::calls::{life_of, list_of};
 use crate::rows::fault::fault_text;
 use mx_base::{Day, Tail};
 use mx_book::commands::Item;
 use mx_book::{Refusal, Reply};
-use mx_layout::TableFault;
-use mx_reports::Text;
+use mx_lists::Question;
 use mx_test_cases::{Unmade, item_of, listed, reply_in, room_for_reply};
 use sqlite::{Alter, Connection};
 use std::alloc::Global;
@@ -18,78 +17,37 @@ fn refused(alloc: Global, refusal: Refusal) -> Result<String, Unmade> {
     Ok(reply_in(room, alloc, &Reply::Refused(refusal))?)
 }
 
+// The question for a list that words ask, if they ask for one.
+fn question_of(words: &[&str]) -> Result<Option<Question>, Unmade> {
+    let question = match words {
+        ["life", tail] => Question::Life(Tail::read(tail)?),
+        ["due", tail, day] => Question::Due(Tail::read(tail)?, Day::read(day)?),
+        ["forecast", tail, day, days, minutes, cycles] => Question::Forecast {
+            tail: Tail::read(tail)?,
+            day: Day::read(day)?,
+            days: days.parse::<u32>()?,
+            minutes: minutes.parse::<u32>()?,
+            cycles: cycles.parse::<u32>()?,
+        },
+        ["limits", tail, day] => Question::Limits(Tail::read(tail)?, Day::read(day)?),
+        _ => return Ok(None),
+    };
+    Ok(Some(question))
+}
+
 // The lines of a list, or why there is none.
-fn lines_of<T: Text + Drop>(
+fn list<S: Alter>(
     alloc: Global,
-    answer: Result<Result<T, Refusal>, TableFault>,
-) -> Result<String, Unmade> {
-    match answer {
+    conn: &mut Connection<S>,
+    question: &Question,
+) -> Result<String, Unmade>
+    requires { conn.old.in_transaction ≡ false }
+{
+    match list_of(alloc, conn, question) {
         Ok(Ok(list)) => Ok(listed(alloc, Some(list))?),
         Ok(Err(refusal)) => refused(alloc, refusal),
         Err(fault) => fault_text(alloc, fault),
     }
-}
-
-// The due list of the aircraft with this registration on a day.
-fn due_list<S: Alter>(
-    alloc: Global,
-    conn: &mut Connection<S>,
-    registration: &str,
-    day: &str,
-) -> Result<String, Unmade>
-    requires { conn.old.in_transaction ≡ false }
-{
-    let tail = Tail::read(registration)?;
-    let day = Day::read(day)?;
-    lines_of(alloc, dues_of(alloc, conn, &tail, day))
-}
-
-// The forecast of the aircraft with this registration from a day on: for so many days, at so many minutes and cycles a day.
-fn forecast<S: Alter>(
-    alloc: Global,
-    conn: &mut Connection<S>,
-    registration: &str,
-    day: &str,
-    numbers: [&str; 3],
-) -> Result<String, Unmade>
-    requires { conn.old.in_transaction ≡ false }
-{
-    let tail = Tail::read(registration)?;
-    let day = Day::read(day)?;
-    let [days, minutes, cycles] = numbers;
-    let days = days.parse::<u32>()?;
-    let minutes = minutes.parse::<u32>()?;
-    let cycles = cycles.parse::<u32>()?;
-    lines_of(
-        alloc,
-        forecast_of(alloc, conn, &tail, day, days, minutes, cycles),
-    )
-}
-
-// The limits of the aircraft with this registration on a day.
-fn limits<S: Alter>(
-    alloc: Global,
-    conn: &mut Connection<S>,
-    registration: &str,
-    day: &str,
-) -> Result<String, Unmade>
-    requires { conn.old.in_transaction ≡ false }
-{
-    let tail = Tail::read(registration)?;
-    let day = Day::read(day)?;
-    lines_of(alloc, limits_of(alloc, conn, &tail, day))
-}
-
-// The life list of the aircraft with this registration.
-fn life_list<S: Alter>(
-    alloc: Global,
-    conn: &mut Connection<S>,
-    registration: &str,
-) -> Result<String, Unmade>
-    requires { conn.old.in_transaction ≡ false }
-{
-    let tail = Tail::read(registration)?;
-    lines_of(alloc, lives_of(alloc, conn, &tail))
 }
 
 // The life of an item, in minutes and cycles.
@@ -117,13 +75,10 @@ pub fn answer_by_rows<S: Alter>(
 ) -> Result<String, Unmade>
     requires { conn.old.in_transaction ≡ false }
 {
+    if let Some(question) = question_of(words)? {
+        return list(alloc, conn, &question);
+    }
     match words {
-        ["life", tail] => life_list(alloc, conn, tail),
-        ["due", tail, day] => due_list(alloc, conn, tail, day),
-        ["forecast", tail, day, days, minutes, cycles] => {
-            forecast(alloc, conn, tail, day, [days, minutes, cycles])
-        }
-        ["limits", tail, day] => limits(alloc, conn, tail, day),
         [word, name] => life(alloc, conn, &item_of(word, name)?),
         _ => Err(Unmade::NoSuchLine),
     }

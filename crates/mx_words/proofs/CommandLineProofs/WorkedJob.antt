@@ -4,7 +4,7 @@ use Rattle.std.specs.Prelude.{codes}
 use Rattle.clap.specs.Words.{Row}
 use Rattle.clap.specs.declared.builder.value_parser.Reading.TheVariants.{AsWritten}
 use Rattle.mx_intake.proofs.Worked.{intake_on_literals}
-use Rattle.mx_output.specs.declared.questions.question.Question.TheVariants.{Life, Due, Forecast, Limits}
+use Rattle.mx_lists.specs.declared.question.Question.TheVariants.{Life, Due, Forecast, Limits}
 use Rattle.mx_words.specs.command_line.Job.{Job, tries, makes, lists, enters, imports, installs, loads, moves, serves, verifies, job_said, number_within}
 use Rattle.mx_words.specs.declared.command_line.words.TheConstants.{MOST_CONNECTIONS, MOST_PORT, MOST_STEPS}
 

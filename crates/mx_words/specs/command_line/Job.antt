@@ -6,7 +6,7 @@ use Rattle.clap.specs.declared.parser.matches.ArgMatches.{ArgMatches}
 use Rattle.mx_intake.specs.Form.{if_read}
 use Rattle.mx_intake.specs.Vocabulary.{moment_of_text}
 use Rattle.mx_output.specs.questions.Asking.{doc_of, due_question, forecast_question, life_question, limits_question, tail_of}
-use Rattle.mx_output.specs.declared.questions.question.Question.{Question}
+use Rattle.mx_lists.specs.declared.question.Question.{Question}
 use Rattle.mx_words.specs.command_line.Number.{number_in}
 use Rattle.mx_words.specs.declared.command_line.trial.Trial.{Trial}
 use Rattle.mx_words.specs.declared.command_line.words.TheConstants.{MOST_CONNECTIONS, MOST_PORT, MOST_STEPS}

@@ -17,9 +17,8 @@ use crate::command_line::trial::Trial;
 use clap::ArgMatches;
 use mx_base::{Doc, Moment, Tail};
 use mx_intake::{read_identifier, read_moment};
-use mx_output::questions::{
-    Question, due_question, forecast_question, life_question, limits_question,
-};
+use mx_lists::Question;
+use mx_output::questions::{due_question, forecast_question, life_question, limits_question};
 
 /// The greatest port.
 const MOST_PORT: u32 = 65_535;

@@ -4,8 +4,8 @@ use Rattle.mx_book.specs.Run.{book_run}
 use Rattle.mx_office.specs.Calls.{IsRun}
 use Rattle.mx_office.specs.Office.{office_state}
 use Rattle.mx_faults.specs.declared.fault.Fault.{Fault}
-use Rattle.mx_output.specs.questions.Report.{report_of}
-use Rattle.mx_output.specs.declared.questions.question.Question.TheVariants.{Life}
+use Rattle.mx_lists.specs.Report.{report_of}
+use Rattle.mx_lists.specs.declared.question.Question.TheVariants.{Life}
 use Rattle.mx_output.specs.printed.Entered.{reply_lines}
 use Rattle.mx_output.specs.printed.Listed.{list_answer}
 use Rattle.mx_jobs.proofs.EnteredLemmas.{stands_behind}

@@ -3,7 +3,7 @@ use Rattle.std.specs.Prelude.{filter}
 use Rattle.std.specs.List.{filter_map}
 use Rattle.mx_book.specs.Span.{spans, is_open_on}
 use Rattle.mx_book.proofs.Chaining.{first, then, done}
-use Rattle.mx_lists.specs.Lists.{part_before}
+use Rattle.mx_lists.specs.LifeList.{part_before}
 use Rattle.mx_lists.specs.Order.{in_order}
 use Rattle.mx_lists.specs.Fitted.{part_of_place}
 use Rattle.mx_lists.proofs.FittedLemmas.{parts_of_places}

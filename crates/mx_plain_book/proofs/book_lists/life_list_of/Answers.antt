@@ -1,4 +1,4 @@
-use Rattle.mx_lists.specs.Lists.{life_list}
+use Rattle.mx_lists.specs.LifeList.{life_list}
 use Rattle.mx_plain_book.proofs.Told.{told}
 use Rattle.mx_plain_book.proofs.book_lists.life_list_of.Goals as goal
 

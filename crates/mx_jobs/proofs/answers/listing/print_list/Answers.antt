@@ -2,7 +2,7 @@ use Rattle.std.proofs.Common.{subst, Err}
 use Rattle.mx_book.specs.declared.verdict.Refusal.TheVariants.{UnknownAircraft}
 use Rattle.mx_faults.specs.declared.fault.Ask.{Ask}
 use Rattle.mx_office.specs.Faults.{found_or, IsAnswer}
-use Rattle.mx_output.specs.questions.Report.{report_of}
+use Rattle.mx_lists.specs.Report.{report_of}
 use Rattle.mx_jobs.proofs.AnswersProofs.ListLemmas.{shown_report, tells_refusal}
 use Rattle.mx_jobs.proofs.answers.listing.print_list.Goals as goal
 

@@ -1,8 +1,0 @@
-use Rattle.std.proofs.Common.{rules}
-use Rattle.mx_office.proofs.LookLemmas.{looked}
-use Rattle.mx_office.proofs.asking.lives_found.Goals as goal
-
-pub returns-clause-finds : goal.returns-clause-finds
-returns-clause-finds g c =
-    looked g.S.Store c.args.conn.now c.transaction-tx.result.conn.now c.life_rows.new.tx.conn.now c.drop-tx.new.self.0 c.conn-1.given.0 c.transaction-tx.ensures.begun (search rules) c.drop-tx.ensures.survives c.drop-tx.ensures.undone c.life_rows.result
-    c.life_rows.ensures.any_rows c.life_rows.ensures.reads

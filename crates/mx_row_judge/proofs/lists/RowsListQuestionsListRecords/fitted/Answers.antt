@@ -1,0 +1,18 @@
+use Rattle.std.proofs.Common.{ℕ, List, Vec, refl}
+use Rattle.std.specs.declared.alloc.Global.{Global}
+use Rattle.mx_lists.specs.Fitted.{fitted_on}
+use Rattle.mx_row_judge.specs.Answering.{AnswerListsAs}
+use Rattle.mx_row_judge.proofs.ListLemmas.{gives_list, gives_none}
+use Rattle.mx_lookups.proofs.NumbersProofs.ToldLemmas.{told_as}
+use Rattle.mx_row_judge.specs.Damage.{ListDamage, by_fitted}
+use Rattle.mx_row_judge.proofs.lists.RowsListQuestionsListRecords.fitted.Goals as goal
+
+pub returns-in-Ok : goal.returns-in-Ok
+returns-in-Ok g c =
+    gives_list g.S.Store AnswerListsAs ListDamage (λ (it : Vec (List ℕ × List ℕ) Global). it.items) (λ book. fitted_on c.args.tail.now book) _ _ _ (λ trees book answers. answers.fitted c.args.tail.now) (record { tx = refl; conn = c.fitted.ensures.same_reference }) _
+    c.in-Ok.ensures.reads c.in-Ok.ensures.any_rows
+
+pub returns-in-Err : goal.returns-in-Err
+returns-in-Err g c =
+    gives_none g.S.Store AnswerListsAs ListDamage (λ (it : Vec (List ℕ × List ℕ) Global). it.items) (λ book. fitted_on c.args.tail.now book) _ _ _ (λ trees book answers. answers.fitted c.args.tail.now) (record { tx = refl; conn = c.fitted.ensures.same_reference }) _
+    c.in-Err.ensures.reads (told_as (λ name trees it. by_fitted c.args.tail.now it) c.in-Err.ensures.damage)

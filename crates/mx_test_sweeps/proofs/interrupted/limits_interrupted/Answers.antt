@@ -1,8 +1,0 @@
-use Rattle.mx_test_sweeps.specs.declared.failing.Failing.{Failing}
-use Rattle.mx_test_sweeps.proofs.FailingLemmas.{ends}
-use Rattle.mx_test_sweeps.proofs.interrupted.limits_interrupted.Goals as goal
-
-pub returns : goal.returns
-returns c =
-    let start : Failing = record { book = c.args.book; left = c.args.questions; code = c.args.code } in
-    ends start c.list_limits.new.records _ c.list_limits.result c.list_limits.ensures
