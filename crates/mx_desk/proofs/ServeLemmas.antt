@@ -9,7 +9,6 @@ use Rattle.mx_office.specs.Office.{office_state}
 use Rattle.mx_office.specs.Stands.{Rests}
 use Rattle.mx_office.specs.declared.office.Office.{Office}
 use Rattle.mx_http.specs.request.Asked.{AsksFor}
-use Rattle.mx_http.specs.request.Body.{whole_body}
 use Rattle.mx_http.specs.request.Head.{head_of}
 use Rattle.mx_http.specs.request.Routes.{Asked}
 use Rattle.mx_http.specs.declared.request.rejection.Rejection.{Rejection}
@@ -17,7 +16,7 @@ use Rattle.mx_http.specs.responses.Answer.{Answer, rejection_answer}
 use Rattle.mx_desk.specs.Answered.{AnswersIfRoom}
 use Rattle.mx_output.specs.questions.Asking.{doc_of, due_question, life_question, limits_question}
 use Rattle.mx_http.specs.responses.Request.{Request, enters, imports, asks, unread, rejected, entering, entering_one, loading, importing, asking, forecast_in_digits, request_of}
-use Rattle.mx_desk.specs.Served.{AnswersBytes, AnswersHead, AnswersInput, IsCut, IsRead, ServesInput, allows, behind_head, by_body, bytes_of}
+use Rattle.mx_desk.specs.Served.{AnswersBytes, AnswersInput, IsCut, IsRead, ServesInput, allows, behind_head, by_body, bytes_of}
 use Rattle.mx_intake.specs.Entries.{entries_of_text}
 use Rattle.mx_intake.specs.Loading.{entry_of_programme}
 use Rattle.mx_intake.specs.Sectors.{sector_rows}
@@ -119,26 +118,21 @@ module _ {S : Type 0} {g : Ghosts S} (old new : Office S g) where
     a_body found some answers is = subst (λ (f : Option (List ℕ)). AnswersBytes (by_body asked f) old new (λ bytes. IfOk result (λ y. text y ≡ bytes))) (sym some)
         (weaker (request_of asked body) _ _ (told_by response result is) answers)
 
-  module _ {X E : Type 0} (head rest : List ℕ) (asked : Asked) (n : ℕ) (result : Result X E) (shown : X → List ℕ) (asks_for : AsksFor head (Ok (asked, n))) where
-    -- what a route is answered that a head asks for
-    pub head_answers : AnswersBytes (by_body asked (whole_body n rest)) old new (λ bytes. IfOk result (λ x. shown x ≡ bytes))
-        → IfOk result (λ x. AnswersHead head rest old new (λ bytes. shown x ≡ bytes))
-    head_answers given = head_answered result refl given
-      where
-        head_answered : (r : Result X E) → r ≡ result → AnswersBytes (by_body asked (whole_body n rest)) old new (λ bytes. IfOk r (λ x. shown x ≡ bytes))
-            → IfOk r (λ x. AnswersHead head rest old new (λ bytes. shown x ≡ bytes))
-        head_answered (Ok x) same answers = (Ok (asked, n), asks_for, answers)
-        head_answered (Err e) same answers = tt
+  module _ {X E : Type 0} (input front rest begun : List ℕ) (n : ℕ) (said : Result (Asked × ℕ) Rejection) (result : Result X E) (shown : X → List ℕ) (whole : input ≡ front ++ rest) (cut : head_of input ≡ Ok n) (within : n ≤ length front) (is_begun : begun ≡ drop n front) (asks_for : AsksFor (take n front) said) where
+    is_read : IsRead input (behind_head said (begun ++ rest))
+    is_read = subst (λ (behind : List ℕ). IsRead input (behind_head said (behind ++ rest))) (sym is_begun) (read_on input front rest n said whole cut within asks_for)
 
-    pub head_stopped : AnswersBytes (by_body asked (whole_body n rest)) old new (λ bytes. IfOk result (λ x. shown x ≡ bytes))
-        → (new ≡ old) ⊎ AnswersHead head rest old new (λ bytes. ⊤)
-    head_stopped given = inr (Ok (asked, n), asks_for, weaker (by_body asked (whole_body n rest)) _ (λ a. ⊤) (λ a is. tt) given)
+    told_on : (r : Result X E) → AnswersBytes (behind_head said (begun ++ rest)) old new (λ bytes. IfOk r (λ x. shown x ≡ bytes)) → IfOk r (λ x. AnswersInput input old new (λ b. shown x ≡ b))
+    told_on (Ok x) given = (behind_head said (begun ++ rest), is_read, given)
+    told_on (Err e) given = tt
 
-  -- what a head is answered, as the answer to the input that it begins
-  pub input_answers : (input bytes rest : List ℕ) (n : ℕ) (P : List ℕ → Type 0) → input ≡ bytes ++ rest → head_of input ≡ Ok n → n ≤ length bytes
-      → AnswersHead (take n bytes) (drop n bytes ++ rest) old new P → AnswersInput input old new P
-  input_answers input bytes rest n P whole cut within (said, asks_for, answers) =
-      (behind_head said (drop n bytes ++ rest), read_on input bytes rest n said whole cut within asks_for, answers)
+    -- what is answered to an input that begins so, and whose head asks for this
+    pub request_answers : AnswersBytes (behind_head said (begun ++ rest)) old new (λ bytes. IfOk result (λ x. shown x ≡ bytes)) → IfOk result (λ x. AnswersInput input old new (λ b. shown x ≡ b))
+    request_answers given = told_on result given
+
+    -- it was asked, where the answer came to nothing
+    pub request_stopped : AnswersBytes (behind_head said (begun ++ rest)) old new (λ bytes. IfOk result (λ x. shown x ≡ bytes)) → (new ≡ old) ⊎ AnswersInput input old new (λ b. ⊤)
+    request_stopped given = inr (behind_head said (begun ++ rest), is_read, weaker (behind_head said (begun ++ rest)) _ (λ a. ⊤) (λ a is. tt) given)
 
   -- an input without a head is rejected
   pub input_rejected : (input : List ℕ) (why : Rejection) (P : List ℕ → Type 0) → head_of input ≡ Err why → new ≡ old → P (bytes_of (rejected why) (rejection_answer why)) → AnswersInput input old new P
@@ -150,26 +144,6 @@ module _ {S : Type 0} {g : Ghosts S} (old new : Office S g) where
       → IfOk result (λ x. shown x ≡ bytes_of (rejected why) (rejection_answer why)) → IfOk result (λ x. AnswersInput input old new (λ bytes. shown x ≡ bytes))
   rejected_answers input why (Ok x) shown cut same is = input_rejected input why (λ bytes. shown x ≡ bytes) cut same is
   rejected_answers input why (Err e) shown cut same is = tt
-
-  module _ {X E : Type 0} (input bytes rest begun : List ℕ) (n : ℕ) (result : Result X E) (shown : X → List ℕ) (whole : input ≡ bytes ++ rest) (cut : head_of input ≡ Ok n) (within : n ≤ length bytes) (is_begun : begun ≡ drop n bytes) where
-    told_on : (P : List ℕ → Type 0) → AnswersHead (take n bytes) (begun ++ rest) old new P → AnswersInput input old new P
-    told_on P given = input_answers input bytes rest n P whole cut within (subst (λ (behind : List ℕ). AnswersHead (take n bytes) (behind ++ rest) old new P) is_begun given)
-
-    -- what is told of an input that begins with these bytes
-    bytes_told : (r : Result X E) → IfOk r (λ x. AnswersHead (take n bytes) (begun ++ rest) old new (λ b. shown x ≡ b)) → IfOk r (λ x. AnswersInput input old new (λ b. shown x ≡ b))
-    bytes_told (Ok x) given = told_on (λ b. shown x ≡ b) given
-    bytes_told (Err e) given = tt
-
-    pub bytes_answers : IfOk result (λ x. AnswersHead (take n bytes) (begun ++ rest) old new (λ b. shown x ≡ b)) → IfOk result (λ x. AnswersInput input old new (λ b. shown x ≡ b))
-    bytes_answers given = bytes_told result given
-
-    bytes_left : (r : Result X E) → OnErr r ((new ≡ old) ⊎ AnswersHead (take n bytes) (begun ++ rest) old new (λ b. ⊤)) → OnErr r ((new ≡ old) ⊎ AnswersInput input old new (λ b. ⊤))
-    bytes_left (Ok x) given = tt
-    bytes_left (Err e) (inl same) = inl same
-    bytes_left (Err e) (inr given) = inr (told_on (λ b. ⊤) given)
-
-    pub bytes_stopped : OnErr result ((new ≡ old) ⊎ AnswersHead (take n bytes) (begun ++ rest) old new (λ b. ⊤)) → OnErr result ((new ≡ old) ⊎ AnswersInput input old new (λ b. ⊤))
-    bytes_stopped given = bytes_left result given
 
   -- the bytes of the answer were handed on
   pub input_handed : (input text : List ℕ) (P : List ℕ → Type 0) → AnswersInput input old new (λ bytes. text ≡ bytes) → P text → AnswersInput input old new P
@@ -187,10 +161,6 @@ module _ {S : Type 0} {g : Ghosts S} (old new : Office S g) where
 pub on_err : {X E : Type 0} → (result : Result X E) (P : Type 0) → P → OnErr result P
 on_err (Ok x) P is = tt
 on_err (Err e) P is = is
-
--- what holds if there is something holds of what is there
-pub some_has : {X : Type 0} → (o : Option X) (x : X) (P : X → Type 0) → o ≡ Some x → IfSome o P → P x
-some_has {X} o x P is holds = subst (λ (found : Option X). IfSome found P) is holds
 
 -- what was not an error was done
 pub done_has : {X E : Type 0} → (result : Result X E) (b : Bool) (P : Type 0) → b ≡ is_err result → b ≡ false → OnOk result P → P

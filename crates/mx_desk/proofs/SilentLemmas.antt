@@ -1,15 +1,18 @@
 -- An input that is not answered, and one whose answer was handed on.
 use Rattle.std.proofs.Common.{◌≡◌, ◌≢◌, ◌⊎◌, ◌∙◌, refl, sym, subst, inl, inr, ℕ, List, [], ◌∷◌, ◌++◌, Option, Some, None, Result, Err}
 use Rattle.std.specs.Io.KnownBytes.{Keeps}
-use Rattle.std.specs.Prelude.{⊤, ◌↔◌}
+use Rattle.std.specs.Prelude.{⊤}
 use Rattle.sqlite.specs.Store.{Ghosts}
 use Rattle.sqlite.specs.State.{HasCleanDisk}
 use Rattle.mx_book.specs.commands.Act.{Entry}
 use Rattle.mx_office.specs.Office.{office_state}
 use Rattle.mx_office.specs.Stands.{Rests}
 use Rattle.mx_office.specs.declared.office.Office.{Office}
+use Rattle.mx_http.specs.declared.request.input.InputFault.{InputFault}
+use Rattle.mx_http.specs.declared.request.input.InputFault.TheVariants as faults
 use Rattle.mx_http.specs.declared.responses.fault.DeskFault.{DeskFault}
 use Rattle.mx_http.specs.declared.responses.fault.DeskFault.TheVariants.{Memory, Read, Write}
+use Rattle.mx_http.specs.responses.Stopped.{fault_of_input}
 use Rattle.mx_desk.specs.Served.{AnswersInput, IsSilent, ServesInput, Writes, bytes_of}
 use Rattle.mx_desk.proofs.ServedLemmas.{serves}
 use Rattle.mx_desk.proofs.ServeLemmas.{an_answer, input_handed, weaker}
@@ -19,21 +22,18 @@ keeps_all : (o : Option (List ℕ)) → Keeps o o
 keeps_all None = tt
 keeps_all (Some xs) = refl
 
--- what is known of an input that has begun is known of one with a byte
-pub begun_told : {A B : Type 0} → (input bytes rest : List ℕ) → input ≡ bytes ++ rest → bytes ≢ [] → A ⊎ B → A ⊎ ((input ≢ []) × B)
-begun_told input bytes rest whole begun (inl a) = inl a
-begun_told input [] rest whole begun (inr b) = elim (begun refl) [ ]
-begun_told input (x ∷ xs) rest whole begun (inr b) = inr ((λ none. no_byte x (xs ++ rest) (sym whole ∙ none)), b)
+-- an input that has begun has a byte
+pub has_begun : (input bytes rest : List ℕ) → input ≡ bytes ++ rest → bytes ≢ [] → input ≢ []
+has_begun input [] rest whole begun none = begun refl
+has_begun input (x ∷ xs) rest whole begun none = no_byte x (xs ++ rest) (sym whole ∙ none)
   where
     no_byte : (x : ℕ) (xs : List ℕ) → x ∷ xs ≢ []
     no_byte x xs is = (cc)
 
--- an input that an answer was found to has a byte
-pub some_input : {X : Type 0} → (input : List ℕ) (found : Option X) (x : X) → found ≡ Some x → (found ≡ None) ↔ (input ≡ []) → input ≢ []
-some_input input found x some silent none = no_answer found x some (silent.1 none)
-  where
-    no_answer : {X : Type 0} → (found : Option X) (x : X) → found ≡ Some x → found ≡ None → ⊥
-    no_answer found x some none = (cc)
+-- so what is known of it
+pub begun_told : {A B : Type 0} → (input : List ℕ) → input ≢ [] → A ⊎ B → A ⊎ ((input ≢ []) × B)
+begun_told input some (inl a) = inl a
+begun_told input some (inr b) = inr (some, b)
 
 module _ {S : Type 0} {g : Ghosts S} (old new : Office S g) (input : List ℕ) where
   -- what a book serves, as an office answers it
@@ -62,3 +62,8 @@ module _ {S : Type 0} {g : Ghosts S} (old new : Office S g) (input : List ℕ) w
   pub answer_told : {Left : Type 0} → (text : List ℕ) (P : List ℕ → Type 0) → input ≢ [] → AnswersInput input old new (λ bytes. text ≡ bytes) → P text
       → Left ⊎ ((input ≢ []) × AnswersInput input old new P)
   answer_told text P some given is = inr (some, input_handed old new input text P given is)
+
+-- no fault of an input is one of writing
+pub never_written : (fault : InputFault) → fault_of_input fault ≢ Write
+never_written faults.Memory is = absurd cc
+never_written faults.Read is = absurd cc

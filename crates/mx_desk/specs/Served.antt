@@ -7,7 +7,7 @@ use Rattle.mx_book.specs.commands.Act.{Entry}
 use Rattle.mx_book.specs.Run.{book_run}
 use Rattle.mx_layout.specs.TableName.{TableName}
 use Rattle.mx_layout.specs.Crash.{Leaves}
-use Rattle.mx_office.specs.Office.{office_state, IsReady, StandsFor}
+use Rattle.mx_office.specs.Office.{office_state, IsInDoubt, IsReady, StandsFor}
 use Rattle.mx_office.specs.Stands.{IsEither, Rests}
 use Rattle.mx_faults.specs.declared.fault.Fault.{Fault}
 use Rattle.mx_faults.specs.declared.fault.Fault.TheVariants.{Memory, Store, Damaged}
@@ -102,11 +102,6 @@ module _ {S : Type 0} {g : Ghosts S} where
   abbrev pub AnswersInput : List ℕ → Office S g → Office S g → (List ℕ → Type 0) → Type 0
   AnswersInput input old new P = (request : Request) × IsRead input request × AnswersBytes request old new P
 
-  -- the same behind a head whose bytes ask for this
-  abbrev pub AnswersHead : List ℕ → List ℕ → Office S g → Office S g → (List ℕ → Type 0) → Type 0
-  AnswersHead head rest old new P =
-      (said : Result (Asked × ℕ) Rejection) × AsksFor head said × AnswersBytes (behind_head said rest) old new P
-
 -- a book answered what an input asks for, and P holds of the bytes of its answer
 abbrev pub ServesInput : List Entry → List ℕ → State → (List ℕ → Type 0) → Type 0
 ServesInput book input new P =
@@ -129,3 +124,9 @@ pub record IsSilent {X S : Type 0} {g : Ghosts S} (input : List ℕ) (result : R
   pub unasked : new ≡ old
   -- nothing was written
   pub unwritten : Keeps was is
+
+-- ── one connection after the other ──
+
+-- what ends the serving: want of memory for what is appended, or the store, where the office has to be opened again
+abbrev pub StopsServing : {S : Type 0} {g : Ghosts S} → Fault → Office S g → Type 0
+StopsServing fault office = (fault ≡ Memory) ⊎ ((fault ≡ Store) × IsInDoubt office)

@@ -6,35 +6,18 @@ ghost use Rattle.mx_office.specs.Office.{office_state, StandsFor};
 ghost use Rattle.mx_http.specs.request.Routes.{asked};
 ghost use Rattle.mx_http.specs.responses.Answer.{IsMade};
 ghost use Rattle.mx_desk.specs.Answered.{AnswersIfRoom};
-ghost use Rattle.mx_http.specs.responses.Request.{asking, request_of};
+ghost use Rattle.mx_http.specs.responses.Request.{request_of};
 ghost use Rattle.mx_desk.specs.Served.{KeepsBook, LeavesBehind, Serves};
 
 use crate::entering::{enter_listed, import_log, load};
 use crate::listing::ask_list;
 use http::Response;
-use mx_http::request::{Rejection, Route};
-use mx_http::responses::{DeskFault, forecast_in_digits, rejection_response};
-use mx_lists::Question;
+use mx_http::request::Route;
+use mx_http::responses::{DeskFault, forecast_in_digits};
 use mx_office::Office;
 use mx_output::questions::{due_question, life_question, limits_question};
 use sqlite::Alter;
 use std::alloc::Global;
-
-// The answer to a question, if each part of the path can be read.
-fn list_if_read<S: Alter>(
-    alloc: Global,
-    office: &mut Office<S>,
-    question: Option<Question>,
-) -> Result<Response<Vec<u8>>, DeskFault>
-    ensures answered { AnswersIfRoom (asking question) office.old office.new
-        (λ a. IfOk result (λ r. ((head_of r).status, (body_of r).items) ≡ a)) }
-    ensures made { IsMade result }
-{
-    match question {
-        Some(question) => ask_list(alloc, office, &question),
-        None => rejection_response(alloc, Rejection::BadRequest),
-    }
-}
 
 // The answer of an office to a request, whatever its tables hold.
 fn ask_office<S: Alter>(
@@ -51,20 +34,20 @@ fn ask_office<S: Alter>(
         Route::Entries => enter_listed(alloc, office, body),
         Route::Programme { doc } => load(alloc, office, doc, body),
         Route::Sectors => import_log(alloc, office, body),
-        Route::Due { tail, day } => list_if_read(alloc, office, due_question(tail, day)),
-        Route::Limits { tail, day } => list_if_read(alloc, office, limits_question(tail, day)),
+        Route::Due { tail, day } => ask_list(alloc, office, due_question(tail, day)),
+        Route::Limits { tail, day } => ask_list(alloc, office, limits_question(tail, day)),
         Route::Forecast {
             tail,
             day,
             days,
             minutes,
             cycles,
-        } => list_if_read(
+        } => ask_list(
             alloc,
             office,
             forecast_in_digits(tail, day, days, minutes, cycles),
         ),
-        Route::Life { tail } => list_if_read(alloc, office, life_question(tail)),
+        Route::Life { tail } => ask_list(alloc, office, life_question(tail)),
     }
 }
 

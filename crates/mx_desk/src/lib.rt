@@ -33,11 +33,11 @@
 //!
 //! Of one connection after the other:
 //!
-//! - What is printed is the number of connections that there were to serve: `serve_on`: `bound`, `printed`, `quiet`,
-//!   `stopped`. That each is served, `scripts/check-desk` shows.
+//! - What is appended is the number of connections that there were to serve: `serve_on`: `served`, `stops`. That each is
+//!   served, `scripts/check-desk` shows.
 //! - Over a book an office that goes on rests at the book behind some commands, and a crash leaves that behind some
-//!   commands, or behind these the first so many of one more request; once the office has to be opened again the status
-//!   is 4: `serve_connections`: `served`, `stops`, `ready`, `kept`, `crash`; `serve_on`: `kept`, `crash`.
+//!   commands, or behind these the first so many of one more request; once the office has to be opened again it ends
+//!   with `Store`: `serve_on`: `stops`, `ready`, `kept`, `crash`.
 #![tactic(auto)]
 
 mod answering;

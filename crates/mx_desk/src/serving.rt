@@ -1,17 +1,15 @@
-//! An open office at a listener, one connection after the other, and what is printed of that.
-ghost use Rattle.std.specs.Prelude.{◌≡◌, ◌⊎◌, ◌++◌, false, true, IfErr, OnOk};
-ghost use Rattle.std.specs.Io.KnownBytes.{Appends};
+//! An open office at a listener, one connection after the other.
+ghost use Rattle.std.specs.Prelude.{◌≡◌, ◌++◌, IfErr, OnOk};
 ghost use Rattle.mx_book.specs.Run.{book_run};
-ghost use Rattle.mx_office.specs.Office.{office_state, IsInDoubt, IsReady, StandsFor};
-ghost use Rattle.mx_desk.specs.Served.{KeepsBook, LeavesBook, LeavesSome};
+ghost use Rattle.mx_office.specs.Office.{office_state, IsReady, StandsFor};
+ghost use Rattle.mx_desk.specs.Served.{KeepsBook, LeavesBook, LeavesSome, StopsServing};
 ghost use Rattle.mx_http.specs.responses.Serving.{served_line};
 
 use crate::serve::serve_one;
-use mx_http::responses::{append_served, print_served, take_the_rest};
+use mx_http::responses::{append_served, take_the_rest};
 use mx_office::{Fault, Office};
 use sqlite::Alter;
 use std::alloc::Global;
-use std::io::Write;
 use std::net::{OpenListener, TcpListener};
 
 // Takes the next connection and serves it. What fails of it alone is its peer's to see: a connection that can't be taken
@@ -27,9 +25,9 @@ fn serve_next<S: Alter>(alloc: Global, office: &mut Office<S>, listener: &TcpLis
     }
 }
 
-// Serves so many connections, one after the other, and appends how many they were. It ends before that, with `Store`, once
-// the office has to be opened again; `Memory` where memory runs out for what is appended.
-fn serve_connections<S: Alter>(
+/// Serves so many connections at a listener, one after the other, and appends how many they were. It ends before that, with
+/// `Store`, once the office has to be opened again; with `Memory` where memory runs out for what is appended.
+pub fn serve_on<S: Alter>(
     alloc: Global,
     office: &mut Office<S>,
     listener: &TcpListener,
@@ -37,8 +35,7 @@ fn serve_connections<S: Alter>(
     out: &mut Vec<u8>,
 ) -> Result<(), Fault>
     ensures served { OnOk result (out.new.items ≡ out.old.items ++ served_line count) }
-    ensures stops { IfErr result (λ fault. (fault ≡ Fault.Memory)
-        ⊎ ((fault ≡ Fault.Store) × IsInDoubt office.new)) }
+    ensures stops { IfErr result (λ fault. StopsServing fault office.new) }
     ensures ready { IsReady office.old
         → OnOk result (IsReady office.new) }
     ensures kept { KeepsBook office.old office.new }
@@ -55,29 +52,4 @@ fn serve_connections<S: Alter>(
         Ok(()) => Ok(()),
         Err(_) => Err(Fault::Memory),
     }
-}
-
-/// Serves so many connections at a listener, one after the other, and prints `served COUNT`; or `fault store` once the office
-/// has to be opened again. Answers the status that the program ends with: 0, or 4.
-pub fn serve_on<S: Alter, O: Write, E: Write>(
-    rt: &HostRuntime,
-    office: &mut Office<S>,
-    listener: &TcpListener,
-    count: u32,
-    out: &mut O,
-    err: &mut E,
-) -> u8
-    ensures bound { (result ≡ 0) ⊎ (result ≡ 4) }
-    ensures printed { result ≡ 0
-        → Appends (O.contents out.old) (O.contents out.new) (served_line count) }
-    ensures quiet { result ≡ 0 → err.new ≡ err.old }
-    ensures stopped { IsReady office.old → IsInDoubt office.new
-        → result ≡ 4 }
-    ensures kept { KeepsBook office.old office.new }
-    ensures crash { (book : _) → StandsFor office.old book → (commands : _)
-        × LeavesSome (book_run book commands) (office_state office.new) }
-{
-    let mut text = Vec::new(rt.alloc());
-    let served = serve_connections(rt.alloc(), office, listener, count, &mut text);
-    print_served(&text, served, out, err)
 }

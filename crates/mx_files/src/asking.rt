@@ -2,9 +2,8 @@
 //!
 //! What is asked meets `Asked`, of which a `Work` is made: so the words stand here, and `serve` in `mx_cli`, above the
 //! desk.
-ghost use Rattle.std.specs.Prelude.{◌≡◌, ◌≤◌, ℕ, List, Err, IfOk, IfErr};
+ghost use Rattle.std.specs.Prelude.{ℕ, List};
 ghost use Rattle.mx_files.specs.Answered.{Answers};
-ghost use Rattle.mx_output.specs.endings.Status.{LeavesUnread, Shows, stop_status};
 ghost use Rattle.mx_output.specs.declared.endings.ending.Ending.{Ending};
 
 use crate::opening::{ended, stop_of};
@@ -26,9 +25,7 @@ pub trait Asked {
         office: &mut Office<S>,
         out: &mut Vec<u8>,
     ) -> Result<Ending, Stop>
-        ensures shown { IfOk result (Shows (is_answer self.now) out.old.items out.new.items) }
-        ensures unread { IfErr result (LeavesUnread out.old.items out.new.items) }
-        ensures status { IfErr result (λ stop. 3 ≤ stop_status stop) };
+        ensures answers { Answers (is_answer self.now) 3 out.old.items out.new.items result };
 }
 
 // The office in a database is opened and asked, and the database is handed back; where none was opened it is let go as it is.
@@ -65,9 +62,7 @@ pub fn answer_file<A: Asked>(
     asked: &A,
     out: &mut Vec<u8>,
 ) -> Result<Ending, Stop>
-    ensures shown { IfOk result (Shows (A.is_answer asked.now) out.old.items out.new.items) }
-    ensures unread { IfErr result (LeavesUnread out.old.items out.new.items) }
-    ensures status { IfErr result (λ stop. 3 ≤ stop_status stop) }
+    ensures answers { Answers (A.is_answer asked.now) 3 out.old.items out.new.items result }
 {
     match work_in_file(rt, file, &Asking { asked }, out) {
         Ok(worked) => ended(worked),

@@ -4,15 +4,15 @@
 //! # What is promised
 //!
 //! - What is appended without a fault is, of `programme`, the line of one reply; of `import`, a line for each of some
-//!   rows; of `enter`, a line for each of some replies: `programme_file`, `import_file`, `enter_file`: `shown`. That
+//!   rows; of `enter`, a line for each of some replies: `programme_file`, `import_file`, `enter_file`: `answers`. That
 //!   they are as many as the file has commands, `transcripts/` shows.
 //! - Where a word ends with status 3 by a fault of its file, nothing is appended: `enter_file`, `programme_file`,
-//!   `import_file`: `status`, `unread`. That a file which gives no commands, or no programme, ends so, its fault in the
+//!   `import_file`: `answers` (`Answers`: `status`, `unread`). That a file which gives no commands, or no programme, ends so, its fault in the
 //!   line, and that no database is opened then, `transcripts/bad-input.md` and `transcripts/programmes.md` show; a
 //!   sector log that is faulty as a whole ends so behind the opening of the database.
 //! - What `verify` appends without a fault is its line, `migrate` the line of a point, and `init-old` the replies of a
-//!   new book to some commands, and nothing where no file was made: `verify_file`, `migrate_file`, `init_old_file`:
-//!   `shown`, `unread`, `status`; `init_old_file`: `unprinted`. That a file was moved to its end before it was
+//!   new book to some commands, and nothing where no file was made: `verify_file`, `migrate_file`: `answers`;
+//!   `init_old_file`: `shown`, `unread`, `status`, `unprinted`. That a file was moved to its end before it was
 //!   verified, `transcripts/moving.md` shows.
 //! - A word whose database was not opened is told why: want of memory, a fault of the store, or that the file has none,
 //!   which is then not one of an office; the status is 5: `unopened_by` of `mx_database`: `memory`, `opened`;

@@ -3,10 +3,8 @@
 //! The database is opened alone, since an office would move the file to the end. So what stops the move is a fault
 //! behind the opening, status 4, but for a file that is none of an office or of a newer layout, which an opening tells
 //! alike, status 5.
-ghost use Rattle.std.specs.Prelude.{◌≡◌, ◌≤◌, IfOk, IfErr};
 ghost use Rattle.mx_files.specs.Answered.{Answers};
 ghost use Rattle.mx_output.specs.printed.Moved.{IsPointLine};
-ghost use Rattle.mx_output.specs.endings.Status.{LeavesUnread, Shows, stop_status};
 
 use crate::opening::{ended, stop_of};
 use mx_database::{Work, work_in_file};
@@ -45,9 +43,7 @@ pub fn migrate_file(
     steps: u32,
     out: &mut Vec<u8>,
 ) -> Result<Ending, Stop>
-    ensures shown { IfOk result (Shows IsPointLine out.old.items out.new.items) }
-    ensures unread { IfErr result (LeavesUnread out.old.items out.new.items) }
-    ensures status { IfErr result (λ stop. 4 ≤ stop_status stop) }
+    ensures answers { Answers IsPointLine 4 out.old.items out.new.items result }
 {
     match work_in_file(rt, file, &Moving { steps }, out) {
         Ok(worked) => ended(worked),

@@ -4,11 +4,11 @@
 //! what a log says is told only where there is an office to enter it. The other words that take a file read it first:
 //! their text gives commands or none, and nothing of it is entered in parts. The log is lent as `&File`, which is a
 //! reader too.
-ghost use Rattle.std.specs.Prelude.{◌≤◌, length, IfOk, IfErr};
+ghost use Rattle.std.specs.Prelude.{length};
+ghost use Rattle.mx_files.specs.Answered.{Answers};
 ghost use Rattle.mx_output.specs.printed.Entered.{AreReplyLines, AreSomeReplyLines};
 ghost use Rattle.mx_output.specs.printed.Imported.{AreRowLines};
 ghost use Rattle.mx_output.specs.printed.Listed.{IsListAnswer};
-ghost use Rattle.mx_output.specs.endings.Status.{LeavesUnread, Shows, stop_status};
 ghost use Rattle.mx_output.specs.printed.Verified.{IsVerifiedLine};
 
 use crate::asking::{Asked, answer_file};
@@ -92,9 +92,7 @@ impl Asked for Verified {
 /// Appends whether the tables of a file are those of a book. A file of an older layout is moved to the newest first, as for
 /// each word that opens its office.
 pub fn verify_file(rt: &HostRuntime, file: &str, out: &mut Vec<u8>) -> Result<Ending, Stop>
-    ensures shown { IfOk result (Shows IsVerifiedLine out.old.items out.new.items) }
-    ensures unread { IfErr result (LeavesUnread out.old.items out.new.items) }
-    ensures status { IfErr result (λ stop. 3 ≤ stop_status stop) }
+    ensures answers { Answers IsVerifiedLine 3 out.old.items out.new.items result }
 {
     answer_file(rt, file, &Verified, out)
 }
@@ -106,26 +104,9 @@ pub fn list_file(
     question: &Question,
     out: &mut Vec<u8>,
 ) -> Result<Ending, Stop>
-    ensures shown { IfOk result (Shows (IsListAnswer question.now) out.old.items out.new.items) }
-    ensures unread { IfErr result (LeavesUnread out.old.items out.new.items) }
-    ensures status { IfErr result (λ stop. 3 ≤ stop_status stop) }
+    ensures answers { Answers (IsListAnswer question.now) 3 out.old.items out.new.items result }
 {
     answer_file(rt, file, question, out)
-}
-
-// Enters commands into the book in a file, and appends a line for each reply.
-fn enter_all_in(
-    rt: &HostRuntime,
-    file: &str,
-    commands: &[Command],
-    out: &mut Vec<u8>,
-) -> Result<Ending, Stop>
-    ensures shown { IfOk result (Shows (AreReplyLines (length commands.now)) out.old.items
-        out.new.items) }
-    ensures status { IfErr result (λ stop. 3 ≤ stop_status stop) }
-    ensures unread { IfErr result (LeavesUnread out.old.items out.new.items) }
-{
-    answer_file(rt, file, &Entered { commands }, out)
 }
 
 /// Enters the commands of a file, and appends a line for each reply. Nothing is opened where the file
@@ -136,12 +117,13 @@ pub fn enter_file(
     entries: &str,
     out: &mut Vec<u8>,
 ) -> Result<Ending, Stop>
-    ensures shown { IfOk result (Shows AreSomeReplyLines out.old.items out.new.items) }
-    ensures status { IfErr result (λ stop. 3 ≤ stop_status stop) }
-    ensures unread { IfErr result (LeavesUnread out.old.items out.new.items) }
+    ensures answers { Answers AreSomeReplyLines 3 out.old.items out.new.items result }
 {
     match commands_in(rt, entries) {
-        Ok(commands) => enter_all_in(rt, file, &commands, out),
+        Ok(commands) => {
+            let commands = commands.as_slice();
+            answer_file(rt, file, &Entered { commands }, out)
+        }
         Err(fault) => Err(Stop::Intake(fault)),
     }
 }
@@ -155,12 +137,13 @@ pub fn programme_file(
     toml: &str,
     out: &mut Vec<u8>,
 ) -> Result<Ending, Stop>
-    ensures shown { IfOk result (Shows (AreReplyLines 1) out.old.items out.new.items) }
-    ensures status { IfErr result (λ stop. 3 ≤ stop_status stop) }
-    ensures unread { IfErr result (LeavesUnread out.old.items out.new.items) }
+    ensures answers { Answers (AreReplyLines 1) 3 out.old.items out.new.items result }
 {
     match programme_in(rt, doc, toml) {
-        Ok(command) => enter_all_in(rt, file, slice::from_ref(&command), out),
+        Ok(command) => {
+            let commands = slice::from_ref(&command);
+            answer_file(rt, file, &Entered { commands }, out)
+        }
         Err(fault) => Err(Stop::Intake(fault)),
     }
 }
@@ -173,9 +156,7 @@ pub fn import_file(
     csv: &str,
     out: &mut Vec<u8>,
 ) -> Result<Ending, Stop>
-    ensures shown { IfOk result (Shows AreRowLines out.old.items out.new.items) }
-    ensures status { IfErr result (λ stop. 3 ≤ stop_status stop) }
-    ensures unread { IfErr result (LeavesUnread out.old.items out.new.items) }
+    ensures answers { Answers AreRowLines 3 out.old.items out.new.items result }
 {
     match fs::open(rt, csv) {
         Ok(log) => answer_file(rt, file, &log, out),

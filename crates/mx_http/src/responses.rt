@@ -1,5 +1,5 @@
 //! Responses: the status and the bytes that a request over HTTP is answered with, whoever finds the answer, and writing
-//! them; what the parts of its path ask for, and what is printed where connections were served.
+//! them; what the parts of its path ask for, and what is told where connections were served.
 //!
 //! # What is promised
 //!
@@ -13,9 +13,7 @@
 //!   where another was asked for; there are none only where memory ran out: `bytes_of`, `reject`: `bytes`, `memory`.
 //! - A text is written whole; where a write fails a beginning of it was written, and nothing behind it: `write_text`:
 //!   `written`, `cut`.
-//! - The number of connections is appended; what is printed ends with status 0 only where it was all printed and
-//!   nothing stopped the serving, and nothing is on the other stream then: `append_served`; `print_served`: `bound`,
-//!   `printed`, `stopped`, `quiet`.
+//! - The number of connections is appended: `append_served`.
 
 pub mod fault;
 mod lines;
@@ -28,5 +26,5 @@ pub use fault::{DeskFault, of_input};
 pub use lines::{refusal_response, replies_response, report_response, rows_response};
 pub use parts::{forecast_in_digits, read_doc};
 pub use respond::{fault_response, rejection_response, stop_response};
-pub use serving::{append_served, print_served, take_the_rest};
+pub use serving::{append_served, take_the_rest};
 pub use writing::{bytes_of, reject, write_text};

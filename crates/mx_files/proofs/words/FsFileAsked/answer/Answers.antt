@@ -1,9 +1,23 @@
-use Rattle.std.proofs.Common.{Result, Ok, Err, IfOk, refl}
+use Rattle.std.proofs.Common.{arith, ◌≡◌, ◌≤◌, ◌⊎◌, ℕ, inl, inr, Result, Ok, Err, IfOk, IfErr, refl}
 use Rattle.mx_files.proofs.words.FsFileAsked.answer.Goals as goal
 
 weaker : {X E : Type 0} (P Q : X → Type 0) (result : Result X E) → ((x : X) → P x → Q x) → IfOk result P → IfOk result Q
 weaker P Q (Ok x) so is = so x is
 weaker P Q (Err e) so is = tt
 
-pub returns-clause-shown : goal.returns-clause-shown
-returns-clause-shown g c = weaker _ _ c.import_all.result (λ ending it. (_, it.1, (it.0, refl, it.2))) c.import_all.ensures.ended
+weaker_fault : {X E : Type 0} (P Q : E → Type 0) (result : Result X E) → ((e : E) → P e → Q e) → IfErr result P → IfErr result Q
+weaker_fault P Q (Ok x) so is = tt
+weaker_fault P Q (Err e) so is = so e is
+
+at_least : (status : ℕ) → (status ≡ 3) ⊎ (status ≡ 4) → 3 ≤ status
+at_least status (inl is) = omega (arith, is)
+at_least status (inr is) = omega (arith, is)
+
+pub returns : goal.returns
+returns g c = record {
+  answers = record {
+    shown = weaker _ _ c.import_all.result (λ ending it. (_, it.1, (it.0, refl, it.2))) c.import_all.ensures.ended;
+    unread = weaker_fault _ _ c.import_all.result (λ stop it is. (it is).0) c.import_all.ensures.unread;
+    status = weaker_fault _ _ c.import_all.result (λ stop it. at_least _ it) c.import_all.ensures.status;
+  };
+}

@@ -5,7 +5,7 @@ use Rattle.mx_book.specs.Run.{book_run}
 use Rattle.mx_book.proofs.GrowthLemmas.{book_run-append}
 use Rattle.mx_office.specs.Stands.{Rests}
 use Rattle.mx_desk.proofs.ServedLemmas.{left_here}
-use Rattle.mx_desk.proofs.serving.serve_connections.Goals as goal
+use Rattle.mx_desk.proofs.serving.serve_on.Goals as goal
 
 pub returns-then-needs_reopen-clause-crash : goal.returns-then-needs_reopen-clause-crash
 returns-then-needs_reopen-clause-crash g c = λ book rests.
