@@ -3,10 +3,7 @@ use Rattle.std.proofs.Common.{◌≡◌, ◌⊎◌, refl, sym, ap, ◌∙◌, su
 use Rattle.std.proofs.lemmas.List.{take-append-le, drop-append-le}
 use Rattle.std.specs.Prelude.{⊤, is_err}
 use Rattle.sqlite.specs.Store.{Ghosts}
-use Rattle.sqlite.specs.State.{HasCleanDisk}
 use Rattle.mx_book.specs.commands.Act.{Entry}
-use Rattle.mx_office.specs.Office.{office_state}
-use Rattle.mx_office.specs.Stands.{Rests}
 use Rattle.mx_office.specs.declared.office.Office.{Office}
 use Rattle.mx_http.specs.request.Asked.{AsksFor}
 use Rattle.mx_http.specs.request.Head.{head_of}
@@ -16,7 +13,7 @@ use Rattle.mx_http.specs.responses.Answer.{Answer, rejection_answer}
 use Rattle.mx_desk.specs.Answered.{AnswersIfRoom}
 use Rattle.mx_output.specs.questions.Asking.{doc_of, due_question, life_question, limits_question}
 use Rattle.mx_http.specs.responses.Request.{Request, enters, imports, asks, unread, rejected, entering, entering_one, loading, importing, asking, forecast_in_digits, request_of}
-use Rattle.mx_desk.specs.Served.{AnswersBytes, AnswersInput, IsCut, IsRead, ServesInput, allows, behind_head, by_body, bytes_of}
+use Rattle.mx_desk.specs.Served.{AnswersBytes, AnswersInput, IsCut, IsRead, allows, behind_head, by_body, bytes_of}
 use Rattle.mx_intake.specs.Entries.{entries_of_text}
 use Rattle.mx_intake.specs.Loading.{entry_of_programme}
 use Rattle.mx_intake.specs.Sectors.{sector_rows}
@@ -25,7 +22,6 @@ use Rattle.mx_lists.specs.declared.question.Question.{Question}
 use Rattle.mx_http.specs.request.Response.{response_bytes}
 use Rattle.mx_http.specs.declared.request.rejection.Rejection.TheVariants.{BadRequest}
 use Rattle.mx_http.specs.declared.request.routes.Place.TheVariants as place
-use Rattle.mx_desk.proofs.ServedLemmas.{serves}
 
 no_error : (b : Bool) → b ≡ true → b ≡ false → ⊥
 no_error b failed well = (cc)
@@ -149,13 +145,6 @@ module _ {S : Type 0} {g : Ghosts S} (old new : Office S g) where
   pub input_handed : (input text : List ℕ) (P : List ℕ → Type 0) → AnswersInput input old new (λ bytes. text ≡ bytes) → P text → AnswersInput input old new P
   input_handed input text P (request, read, answers) is =
       (request, read, weaker request _ (λ a. P (bytes_of request a)) (λ a same. subst P same is) answers)
-
-  -- what a book serves
-  pub input_served : (book : List Entry) → Rests (office_state old) book → HasCleanDisk (office_state new) → (input text : List ℕ) (P : List ℕ → Type 0)
-      → AnswersInput input old new (λ bytes. text ≡ bytes) → P text → ServesInput book input (office_state new) P
-  input_served book rests clean input text P (request, read, answers) is =
-      let given = an_answer request _ answers in
-      (request, given.0, read, serves book old new rests clean request given.0 given.2, subst P given.1 is)
 
 -- what is there is there where there is an error
 pub on_err : {X E : Type 0} → (result : Result X E) (P : Type 0) → P → OnErr result P

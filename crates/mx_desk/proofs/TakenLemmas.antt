@@ -18,10 +18,6 @@ pub on_ok : {X E : Type 0} → (result : Result X E) (P : Type 0) → P → OnOk
 on_ok (Ok x) P is = is
 on_ok (Err e) P is = tt
 
-pub on_ok_then : {X E : Type 0} → (result : Result X E) (P Q : Type 0) → (P → Q) → OnOk result P → OnOk result Q
-on_ok_then (Ok x) P Q then is = then is
-on_ok_then (Err e) P Q then is = tt
-
 -- behind a front without a head
 pub front_rejected : (front : List ℕ) (why : Rejection) (o : Option (List ℕ)) → Err why ≡ head_of front → TakesBehind (head_of front) front o o
 front_rejected front why o is = subst (λ (cut : Result ℕ Rejection). TakesBehind cut front o o) is refl
