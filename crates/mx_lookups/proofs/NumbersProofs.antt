@@ -6,3 +6,4 @@ pub mod BookRows
 pub mod SectorRows
 pub mod AnyLemmas
 pub mod ToldLemmas
+pub mod Composed

@@ -5,3 +5,4 @@ pub mod AnyRows
 pub mod InForce
 pub mod Given
 pub mod Told
+pub mod LookUp

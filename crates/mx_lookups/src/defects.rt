@@ -1,11 +1,9 @@
 //! Defects by the documents that deferred them, their extensions, and whether they were rectified.
 ghost use Rattle.std.specs.Prelude.{◌≡◌};
-ghost use Rattle.sqlite.specs.Held.{state};
 ghost use Rattle.mx_book.specs.Defect.{defect, extension, is_rectified};
-ghost use Rattle.mx_lookups.specs.numbers.AnyRows.{ReadsAny};
 ghost use Rattle.mx_lookups.specs.numbers.Given.{DefectOf, IsRectified, ExtensionOf};
-ghost use Rattle.mx_lookups.specs.numbers.Reads.{Reads};
-ghost use Rattle.mx_lookups.specs.numbers.Told.{DefectDamage, ExtensionDamage, RectifiedDamage, TellsDamage};
+ghost use Rattle.mx_lookups.specs.numbers.LookUp.{IsLookUp};
+ghost use Rattle.mx_lookups.specs.numbers.Told.{DefectDamage, ExtensionDamage, RectifiedDamage};
 
 use crate::numbers::entries::defect_number;
 use mx_base::Doc;
@@ -26,13 +24,11 @@ pub fn defect<S: Alter>(
     tx: &mut Transaction<'_, S>,
     doc: &Doc,
 ) -> Result<Option<Defect>, TableFault>
-    ensures same_reference { tx.new.conn.ghost_name ≡ tx.old.conn.ghost_name }
-    ensures reads { Reads (λ book found. found ≡ defect book doc.now)
-        (state S.Store tx.old.conn.now) (state S.Store tx.new.conn.now) result }
-    ensures any_rows { ReadsAny (DefectOf doc.now)
-        (state S.Store tx.old.conn.now) (state S.Store tx.new.conn.now) result }
-    ensures damage { TellsDamage (DefectDamage doc.now)
-        (state S.Store tx.old.conn.now) (state S.Store tx.new.conn.now) result }
+    ensures looks_up { IsLookUp S.Store
+        (λ book found. found ≡ defect book doc.now)
+        (DefectOf doc.now)
+        (DefectDamage doc.now)
+        tx.old tx.new result }
 {
     let found = defect_number(alloc, tx, doc)?;
     match found {
@@ -59,13 +55,11 @@ pub fn is_rectified<S: Alter>(
     tx: &mut Transaction<'_, S>,
     doc: &Doc,
 ) -> Result<bool, TableFault>
-    ensures same_reference { tx.new.conn.ghost_name ≡ tx.old.conn.ghost_name }
-    ensures reads { Reads (λ book rectified. rectified ≡ is_rectified book doc.now)
-        (state S.Store tx.old.conn.now) (state S.Store tx.new.conn.now) result }
-    ensures any_rows { ReadsAny (IsRectified doc.now)
-        (state S.Store tx.old.conn.now) (state S.Store tx.new.conn.now) result }
-    ensures damage { TellsDamage (RectifiedDamage doc.now)
-        (state S.Store tx.old.conn.now) (state S.Store tx.new.conn.now) result }
+    ensures looks_up { IsLookUp S.Store
+        (λ book rectified. rectified ≡ is_rectified book doc.now)
+        (IsRectified doc.now)
+        (RectifiedDamage doc.now)
+        tx.old tx.new result }
 {
     let found = defect_number(alloc, tx, doc)?;
     match found {
@@ -83,13 +77,11 @@ pub fn extension<S: Alter>(
     tx: &mut Transaction<'_, S>,
     doc: &Doc,
 ) -> Result<Option<Extension>, TableFault>
-    ensures same_reference { tx.new.conn.ghost_name ≡ tx.old.conn.ghost_name }
-    ensures reads { Reads (λ book found. found ≡ extension book doc.now)
-        (state S.Store tx.old.conn.now) (state S.Store tx.new.conn.now) result }
-    ensures any_rows { ReadsAny (ExtensionOf doc.now)
-        (state S.Store tx.old.conn.now) (state S.Store tx.new.conn.now) result }
-    ensures damage { TellsDamage (ExtensionDamage doc.now)
-        (state S.Store tx.old.conn.now) (state S.Store tx.new.conn.now) result }
+    ensures looks_up { IsLookUp S.Store
+        (λ book found. found ≡ extension book doc.now)
+        (ExtensionOf doc.now)
+        (ExtensionDamage doc.now)
+        tx.old tx.new result }
 {
     let found = defect_number(alloc, tx, doc)?;
     match found {

@@ -10,11 +10,11 @@
 //!   at the top is whether a position is taken, where a component is fitted, a defect, its extension and whether it was
 //!   rectified, whether there is room for an aircraft or a component, what is fitted to an aircraft, and its open
 //!   defects: `is_taken`, `tail_fitted`, `defect`, `extension`, `is_rectified`, `has_room_for_aircraft`,
-//!   `has_room_for_component`, `fitted`, `open_defects`: `reads`, `any_rows`, `damage`.
+//!   `has_room_for_component`, `fitted`, `open_defects`: `looks_up`.
 //! - Over any rows, room is what the count of rows leaves: `has_room_for_aircraft`, `has_room_for_component`:
-//!   `any_rows`.
+//!   `looks_up` (`any_rows`).
 //! - Over any rows, what is fitted to an aircraft and its open defects are what each chosen row says, one after
-//!   another: `fitted`, `open_defects`: `any_rows`.
+//!   another: `fitted`, `open_defects`: `looks_up` (`any_rows`).
 #![tactic(auto)]
 
 pub mod defects;

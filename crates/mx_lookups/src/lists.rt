@@ -1,7 +1,6 @@
 //! The look-ups of lists: what is fitted to an aircraft, and its open defects.
 ghost use Rattle.std.specs.Prelude.{◌≡◌, if◌then◌else◌, filter, map, nat_eq, None, Some};
 ghost use Rattle.std.specs.List.{filter_map};
-ghost use Rattle.sqlite.specs.Held.{state};
 ghost use Rattle.mx_book.specs.Defect.{open_defects};
 ghost use Rattle.mx_book.specs.Span.{is_open_on, spans};
 ghost use Rattle.mx_registers.specs.kept.Spans.{span_rows};
@@ -11,10 +10,9 @@ ghost use Rattle.mx_base.specs.declared.rows.rows.DeferralRow.{DeferralRow};
 ghost use Rattle.mx_row_rules.specs.found.Defects.{is_rectified_at, open_said};
 ghost use Rattle.mx_row_rules.specs.found.Names.{doc_at};
 ghost use Rattle.mx_row_rules.specs.found.Spans.{is_open_at, place_said};
-ghost use Rattle.mx_lookups.specs.numbers.AnyRows.{ReadsAny};
 ghost use Rattle.mx_lookups.specs.numbers.Given.{DefectsAt, DocIfOpen, DocOfNumber, FittedTo, OpenDefects, PlacesAt, SerialOfNumber};
-ghost use Rattle.mx_lookups.specs.numbers.Reads.{Reads};
-ghost use Rattle.mx_lookups.specs.numbers.Told.{DefectsDamage, DocDamage, DocIfOpenDamage, FittedDamage, OpenDamage, PlacesDamage, SerialDamage, TellsDamage};
+ghost use Rattle.mx_lookups.specs.numbers.LookUp.{IsLookUp};
+ghost use Rattle.mx_lookups.specs.numbers.Told.{DefectsDamage, DocDamage, DocIfOpenDamage, FittedDamage, OpenDamage, PlacesDamage, SerialDamage};
 
 use crate::numbers::items::aircraft_number;
 use mx_base::{Category, Doc, Position, Serial, Tail};
@@ -31,19 +29,17 @@ use mx_table_rows::chosen::works::crs_line_by_defect;
 use sqlite::{Alter, Transaction};
 use std::alloc::Global;
 
-// The serial number of the component that the entry with this number added.
-fn serial_of_number<S: Alter>(
+/// The serial number of the component that the entry with this number added.
+pub fn serial_of_number<S: Alter>(
     alloc: Global,
     tx: &mut Transaction<'_, S>,
     number: u32,
 ) -> Result<Option<Serial>, TableFault>
-    ensures same_reference { tx.new.conn.ghost_name ≡ tx.old.conn.ghost_name }
-    ensures reads { Reads (λ book serial. serial ≡ serial_at book number)
-        (state S.Store tx.old.conn.now) (state S.Store tx.new.conn.now) result }
-    ensures any_rows { ReadsAny (SerialOfNumber number)
-        (state S.Store tx.old.conn.now) (state S.Store tx.new.conn.now) result }
-    ensures damage { TellsDamage (SerialDamage number)
-        (state S.Store tx.old.conn.now) (state S.Store tx.new.conn.now) result }
+    ensures looks_up { IsLookUp S.Store
+        (λ book serial. serial ≡ serial_at book number)
+        (SerialOfNumber number)
+        (SerialDamage number)
+        tx.old tx.new result }
 {
     let rows = component_by_seq(alloc, tx, number)?;
     Ok(serial_in(&rows))
@@ -56,14 +52,12 @@ fn places_fitted<S: Alter>(
     tx: &mut Transaction<'_, S>,
     aircraft: u32,
 ) -> Result<Vec<(Position, Serial)>, TableFault>
-    ensures same_reference { tx.new.conn.ghost_name ≡ tx.old.conn.ghost_name }
-    ensures reads { Reads (λ book places. places.items
-        ≡ filter_map (place_said book) (filter (is_open_at aircraft) (span_rows book)))
-        (state S.Store tx.old.conn.now) (state S.Store tx.new.conn.now) result }
-    ensures any_rows { ReadsAny (λ trees places. PlacesAt aircraft trees places.items)
-        (state S.Store tx.old.conn.now) (state S.Store tx.new.conn.now) result }
-    ensures damage { TellsDamage (PlacesDamage aircraft)
-        (state S.Store tx.old.conn.now) (state S.Store tx.new.conn.now) result }
+    ensures looks_up { IsLookUp S.Store
+        (λ book places. places.items ≡ filter_map (place_said book) (filter (is_open_at aircraft)
+        (span_rows book)))
+        (λ trees places. PlacesAt aircraft trees places.items)
+        (PlacesDamage aircraft)
+        tx.old tx.new result }
 {
     let rows = open_spans_by_aircraft(alloc, tx, aircraft)?;
     let mut places = Vec::new(alloc);
@@ -86,14 +80,12 @@ pub fn fitted<S: Alter>(
     tx: &mut Transaction<'_, S>,
     tail: &Tail,
 ) -> Result<Vec<(Position, Serial)>, TableFault>
-    ensures same_reference { tx.new.conn.ghost_name ≡ tx.old.conn.ghost_name }
-    ensures reads { Reads (λ book places. places.items
-        ≡ map (λ s. (s.position, s.serial)) (filter (is_open_on tail.now) (spans book)))
-        (state S.Store tx.old.conn.now) (state S.Store tx.new.conn.now) result }
-    ensures any_rows { ReadsAny (λ trees places. FittedTo tail.now trees places.items)
-        (state S.Store tx.old.conn.now) (state S.Store tx.new.conn.now) result }
-    ensures damage { TellsDamage (FittedDamage tail.now)
-        (state S.Store tx.old.conn.now) (state S.Store tx.new.conn.now) result }
+    ensures looks_up { IsLookUp S.Store
+        (λ book places. places.items ≡ map (λ s. (s.position, s.serial)) (filter (is_open_on
+        tail.now) (spans book)))
+        (λ trees places. FittedTo tail.now trees places.items)
+        (FittedDamage tail.now)
+        tx.old tx.new result }
 {
     let found = aircraft_number(alloc, tx, tail)?;
     match found {
@@ -108,13 +100,11 @@ fn doc_of_number<S: Alter>(
     tx: &mut Transaction<'_, S>,
     number: u32,
 ) -> Result<Option<Doc>, TableFault>
-    ensures same_reference { tx.new.conn.ghost_name ≡ tx.old.conn.ghost_name }
-    ensures reads { Reads (λ book doc. doc ≡ doc_at book number)
-        (state S.Store tx.old.conn.now) (state S.Store tx.new.conn.now) result }
-    ensures any_rows { ReadsAny (DocOfNumber number)
-        (state S.Store tx.old.conn.now) (state S.Store tx.new.conn.now) result }
-    ensures damage { TellsDamage (DocDamage number)
-        (state S.Store tx.old.conn.now) (state S.Store tx.new.conn.now) result }
+    ensures looks_up { IsLookUp S.Store
+        (λ book doc. doc ≡ doc_at book number)
+        (DocOfNumber number)
+        (DocDamage number)
+        tx.old tx.new result }
 {
     let rows = entry_by_seq(alloc, tx, number)?;
     Ok(doc_in(&rows))
@@ -126,14 +116,12 @@ fn doc_if_open<S: Alter>(
     tx: &mut Transaction<'_, S>,
     defect: u32,
 ) -> Result<Option<Option<Doc>>, TableFault>
-    ensures same_reference { tx.new.conn.ghost_name ≡ tx.old.conn.ghost_name }
-    ensures reads { Reads (λ book found. found
-        ≡ (if is_rectified_at book defect then None else Some (doc_at book defect)))
-        (state S.Store tx.old.conn.now) (state S.Store tx.new.conn.now) result }
-    ensures any_rows { ReadsAny (DocIfOpen defect)
-        (state S.Store tx.old.conn.now) (state S.Store tx.new.conn.now) result }
-    ensures damage { TellsDamage (DocIfOpenDamage defect)
-        (state S.Store tx.old.conn.now) (state S.Store tx.new.conn.now) result }
+    ensures looks_up { IsLookUp S.Store
+        (λ book found. found ≡ (if is_rectified_at book defect then None else Some (doc_at book
+        defect)))
+        (DocIfOpen defect)
+        (DocIfOpenDamage defect)
+        tx.old tx.new result }
 {
     let lines = crs_line_by_defect(alloc, tx, defect)?;
     if is_rectified_in(&lines) {
@@ -151,14 +139,12 @@ fn defects_left<S: Alter>(
     tail: &Tail,
     aircraft: u32,
 ) -> Result<Vec<Defect>, TableFault>
-    ensures same_reference { tx.new.conn.ghost_name ≡ tx.old.conn.ghost_name }
-    ensures reads { Reads (λ book defects. defects.items ≡ filter_map (open_said book tail.now)
-        (filter (λ (row : DeferralRow). nat_eq row.aircraft aircraft) (deferral_rows book)))
-        (state S.Store tx.old.conn.now) (state S.Store tx.new.conn.now) result }
-    ensures any_rows { ReadsAny (λ trees defects. DefectsAt tail.now aircraft trees defects.items)
-        (state S.Store tx.old.conn.now) (state S.Store tx.new.conn.now) result }
-    ensures damage { TellsDamage (DefectsDamage aircraft)
-        (state S.Store tx.old.conn.now) (state S.Store tx.new.conn.now) result }
+    ensures looks_up { IsLookUp S.Store
+        (λ book defects. defects.items ≡ filter_map (open_said book tail.now) (filter (λ (row :
+        DeferralRow). nat_eq row.aircraft aircraft) (deferral_rows book)))
+        (λ trees defects. DefectsAt tail.now aircraft trees defects.items)
+        (DefectsDamage aircraft)
+        tx.old tx.new result }
 {
     // The checker proves this loop only where the type of each field of a deferral is named in the function.
     let _: Option<Category> = None;
@@ -186,13 +172,11 @@ pub fn open_defects<S: Alter>(
     tx: &mut Transaction<'_, S>,
     tail: &Tail,
 ) -> Result<Vec<Defect>, TableFault>
-    ensures same_reference { tx.new.conn.ghost_name ≡ tx.old.conn.ghost_name }
-    ensures reads { Reads (λ book defects. defects.items ≡ open_defects book tail.now)
-        (state S.Store tx.old.conn.now) (state S.Store tx.new.conn.now) result }
-    ensures any_rows { ReadsAny (λ trees defects. OpenDefects tail.now trees defects.items)
-        (state S.Store tx.old.conn.now) (state S.Store tx.new.conn.now) result }
-    ensures damage { TellsDamage (OpenDamage tail.now)
-        (state S.Store tx.old.conn.now) (state S.Store tx.new.conn.now) result }
+    ensures looks_up { IsLookUp S.Store
+        (λ book defects. defects.items ≡ open_defects book tail.now)
+        (λ trees defects. OpenDefects tail.now trees defects.items)
+        (OpenDamage tail.now)
+        tx.old tx.new result }
 {
     let found = aircraft_number(alloc, tx, tail)?;
     match found {

@@ -6,8 +6,8 @@
 //! - Each promises what the look-ups of `mx_lookups::numbers` do, with which it begins, and ends by their faults. What
 //!   is answered is a clock, the earliest take-off, a life, the next revision of a programme, a task in force, the
 //!   tasks in force, whether an item is retired, whether a task was accomplished, and its last base: `clock`,
-//!   `earliest_takeoff`, `life`, `next_revision`, `task`, `tasks`, `is_retired`, `is_accomplished`, `base`: `reads`,
-//!   `any_rows`, `damage`.
+//!   `earliest_takeoff`, `life`, `next_revision`, `task`, `tasks`, `is_retired`, `is_accomplished`, `base`:
+//!   `looks_up`.
 //! - Each task has its shape, and a base is one that an item may have, whatever the tables hold: `task`, `tasks`:
 //!   `shape`; `base`: `bounded`.
 

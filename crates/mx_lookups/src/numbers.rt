@@ -5,7 +5,8 @@
 //!
 //! # What is promised
 //!
-//! Of every look-up, here, in `mx_lookups::lives` and at the top of the crate:
+//! Of every look-up, here, in `mx_lookups::lives` and at the top of the crate, by its clause `looks_up` (`IsLookUp`), of
+//! which these are the fields:
 //!
 //! - Where the tables stand for a book, an answer is what the definition says of that book: `reads` (`Reads`: `read`).
 //! - Over any rows, an answer is what the rows give that were chosen by this name or number, or from a second table by
@@ -19,7 +20,7 @@
 //!   past a life, more aircraft or components than 32 bits count): `Reads`: `damaged` (`IsDamaged`).
 //! - The row for which a table is told damaged is one that the look-up chose, by its name or number or by a number that
 //!   a chosen row gave: it is none of its type, it names a row that is not there, or what it says is past what the
-//!   office needs; or no row was chosen where one has to be. A row that was not chosen is not met: `damage` of each
+//!   office needs; or no row was chosen where one has to be. A row that was not chosen is not met: `damage`
 //!   (`TellsDamage`).
 //! - No look-up changes anything, and the transaction goes on: `Reads`: `unchanged`, `inside`.
 //! - A look-up stops only for want of memory, for an error of the store or for a damaged table; a stop within it leaves

@@ -1,14 +1,12 @@
 //! Whether there is room for one more aircraft or component, by how many rows there are: a table has no more of them than
 //! the office allows.
 ghost use Rattle.std.specs.Prelude.{◌≡◌};
-ghost use Rattle.sqlite.specs.Held.{state};
 ghost use Rattle.mx_book.specs.Register.{has_room_for_aircraft, has_room_for_component};
 ghost use Rattle.mx_book.specs.declared.limits.TheConstants.{MOST_AIRCRAFT, MOST_COMPONENTS};
 ghost use Rattle.mx_layout.specs.declared.fault.Table.TheVariants as table;
-ghost use Rattle.mx_lookups.specs.numbers.AnyRows.{ReadsAny};
 ghost use Rattle.mx_lookups.specs.numbers.Given.{HasRoom};
-ghost use Rattle.mx_lookups.specs.numbers.Reads.{Reads};
-ghost use Rattle.mx_lookups.specs.numbers.Told.{CountDamage, TellsDamage};
+ghost use Rattle.mx_lookups.specs.numbers.LookUp.{IsLookUp};
+ghost use Rattle.mx_lookups.specs.numbers.Told.{CountDamage};
 
 use mx_book::limits::{MOST_AIRCRAFT, MOST_COMPONENTS};
 use mx_layout::TableFault;
@@ -17,13 +15,11 @@ use sqlite::{Alter, Transaction};
 
 /// Whether there is room for one more aircraft.
 pub fn has_room_for_aircraft<S: Alter>(tx: &mut Transaction<'_, S>) -> Result<bool, TableFault>
-    ensures same_reference { tx.new.conn.ghost_name ≡ tx.old.conn.ghost_name }
-    ensures reads { Reads (λ book room. room ≡ has_room_for_aircraft book)
-        (state S.Store tx.old.conn.now) (state S.Store tx.new.conn.now) result }
-    ensures any_rows { ReadsAny (HasRoom table.Aircraft MOST_AIRCRAFT)
-        (state S.Store tx.old.conn.now) (state S.Store tx.new.conn.now) result }
-    ensures damage { TellsDamage (CountDamage table.Aircraft)
-        (state S.Store tx.old.conn.now) (state S.Store tx.new.conn.now) result }
+    ensures looks_up { IsLookUp S.Store
+        (λ book room. room ≡ has_room_for_aircraft book)
+        (HasRoom table.Aircraft MOST_AIRCRAFT)
+        (CountDamage table.Aircraft)
+        tx.old tx.new result }
 {
     let count = count_aircraft(tx)?;
     Ok((count as usize) < MOST_AIRCRAFT)
@@ -31,13 +27,11 @@ pub fn has_room_for_aircraft<S: Alter>(tx: &mut Transaction<'_, S>) -> Result<bo
 
 /// Whether there is room for one more component.
 pub fn has_room_for_component<S: Alter>(tx: &mut Transaction<'_, S>) -> Result<bool, TableFault>
-    ensures same_reference { tx.new.conn.ghost_name ≡ tx.old.conn.ghost_name }
-    ensures reads { Reads (λ book room. room ≡ has_room_for_component book)
-        (state S.Store tx.old.conn.now) (state S.Store tx.new.conn.now) result }
-    ensures any_rows { ReadsAny (HasRoom table.Component MOST_COMPONENTS)
-        (state S.Store tx.old.conn.now) (state S.Store tx.new.conn.now) result }
-    ensures damage { TellsDamage (CountDamage table.Component)
-        (state S.Store tx.old.conn.now) (state S.Store tx.new.conn.now) result }
+    ensures looks_up { IsLookUp S.Store
+        (λ book room. room ≡ has_room_for_component book)
+        (HasRoom table.Component MOST_COMPONENTS)
+        (CountDamage table.Component)
+        tx.old tx.new result }
 {
     let count = count_component(tx)?;
     Ok((count as usize) < MOST_COMPONENTS)

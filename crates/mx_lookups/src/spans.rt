@@ -1,12 +1,10 @@
 //! What is fitted where, by spans that nothing ended.
 ghost use Rattle.std.specs.Prelude.{◌≡◌};
-ghost use Rattle.sqlite.specs.Held.{state};
 ghost use Rattle.mx_book.specs.Span.{is_taken, tail_fitted};
 ghost use Rattle.mx_lookups.specs.Fitted.{IsNumberFitted};
-ghost use Rattle.mx_lookups.specs.numbers.AnyRows.{ReadsAny};
 ghost use Rattle.mx_lookups.specs.numbers.Given.{IsTaken, NumberFitted, TailFitted};
-ghost use Rattle.mx_lookups.specs.numbers.Reads.{Reads};
-ghost use Rattle.mx_lookups.specs.numbers.Told.{NumberFittedDamage, TailFittedDamage, TakenDamage, TellsDamage};
+ghost use Rattle.mx_lookups.specs.numbers.LookUp.{IsLookUp};
+ghost use Rattle.mx_lookups.specs.numbers.Told.{NumberFittedDamage, TailFittedDamage, TakenDamage};
 
 use crate::numbers::items::{aircraft_number, component_number, tail_of_number};
 use mx_base::{Position, Serial, Tail};
@@ -24,13 +22,11 @@ pub fn is_taken<S: Alter>(
     tail: &Tail,
     position: &Position,
 ) -> Result<bool, TableFault>
-    ensures same_reference { tx.new.conn.ghost_name ≡ tx.old.conn.ghost_name }
-    ensures reads { Reads (λ book taken. taken ≡ is_taken book tail.now position.now)
-        (state S.Store tx.old.conn.now) (state S.Store tx.new.conn.now) result }
-    ensures any_rows { ReadsAny (IsTaken tail.now position.now)
-        (state S.Store tx.old.conn.now) (state S.Store tx.new.conn.now) result }
-    ensures damage { TellsDamage (TakenDamage tail.now)
-        (state S.Store tx.old.conn.now) (state S.Store tx.new.conn.now) result }
+    ensures looks_up { IsLookUp S.Store
+        (λ book taken. taken ≡ is_taken book tail.now position.now)
+        (IsTaken tail.now position.now)
+        (TakenDamage tail.now)
+        tx.old tx.new result }
 {
     let found = aircraft_number(alloc, tx, tail)?;
     match found {
@@ -48,13 +44,11 @@ fn number_fitted<S: Alter>(
     tx: &mut Transaction<'_, S>,
     serial: &Serial,
 ) -> Result<Option<u32>, TableFault>
-    ensures same_reference { tx.new.conn.ghost_name ≡ tx.old.conn.ghost_name }
-    ensures reads { Reads (IsNumberFitted serial.now)
-        (state S.Store tx.old.conn.now) (state S.Store tx.new.conn.now) result }
-    ensures any_rows { ReadsAny (NumberFitted serial.now)
-        (state S.Store tx.old.conn.now) (state S.Store tx.new.conn.now) result }
-    ensures damage { TellsDamage (NumberFittedDamage serial.now)
-        (state S.Store tx.old.conn.now) (state S.Store tx.new.conn.now) result }
+    ensures looks_up { IsLookUp S.Store
+        (IsNumberFitted serial.now)
+        (NumberFitted serial.now)
+        (NumberFittedDamage serial.now)
+        tx.old tx.new result }
 {
     let found = component_number(alloc, tx, serial)?;
     match found {
@@ -74,13 +68,11 @@ pub fn tail_fitted<S: Alter>(
     tx: &mut Transaction<'_, S>,
     serial: &Serial,
 ) -> Result<Option<Tail>, TableFault>
-    ensures same_reference { tx.new.conn.ghost_name ≡ tx.old.conn.ghost_name }
-    ensures reads { Reads (λ book tail. tail ≡ tail_fitted book serial.now)
-        (state S.Store tx.old.conn.now) (state S.Store tx.new.conn.now) result }
-    ensures any_rows { ReadsAny (TailFitted serial.now)
-        (state S.Store tx.old.conn.now) (state S.Store tx.new.conn.now) result }
-    ensures damage { TellsDamage (TailFittedDamage serial.now)
-        (state S.Store tx.old.conn.now) (state S.Store tx.new.conn.now) result }
+    ensures looks_up { IsLookUp S.Store
+        (λ book tail. tail ≡ tail_fitted book serial.now)
+        (TailFitted serial.now)
+        (TailFittedDamage serial.now)
+        tx.old tx.new result }
 {
     let found = number_fitted(alloc, tx, serial)?;
     match found {

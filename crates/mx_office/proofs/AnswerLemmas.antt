@@ -79,9 +79,6 @@ stopped_is why (inl (inl memory)) = (λ layout same. cc, λ same. cc)
 stopped_is why (inl (inr store)) = (λ layout same. cc, λ same. cc)
 stopped_is why (inr damaged) = let is : why ≡ unopened.Damaged damaged.0 = damaged.1 in (λ layout same. cc, λ same. cc)
 
-pub stopped_not_older : (why : OpenFault) → IsStopped why → (layout : ℕ) → why ≢ unopened.OlderLayout layout
-stopped_not_older why stopped = (stopped_is why stopped).0
-
 -- ── the point was read ──
 
 abbrev answers : Bool → Bool → Point → Option OpenFault
@@ -136,9 +133,6 @@ answer_is : (newer file : Bool) (p : Point) (why : OpenFault) → answers newer 
 answer_is true file p why is = (λ layout same. cc, λ same. cc)
 answer_is false true p why is = absurd cc
 answer_is false false p why is = (λ layout same. cc, λ same. cc)
-
-pub answer_not_older : (p : Point) (layout : ℕ) → open_answer p ≢ Some (unopened.OlderLayout layout)
-answer_not_older p layout is = (answer_is (nat_lt office_point.layout p.layout) (is_office_point p || is_on_way p) p (unopened.OlderLayout layout) is).0 layout refl
 
 module _ (was : State) (p : Point) (reads : (IsTrue was.is_open → HasOffice was.now.schema) → rows_in office was.now.trees ≡ point_cells p ∷ []) (exact : (q : Point) → (IsTrue was.is_open → HoldsPoint q was.now) → FitsPoint q → p ≡ q)
     (absent : (IsTrue was.is_open → LacksOffice was.now.schema) → ⊥) where

@@ -31,13 +31,8 @@ use Rattle.mx_row_judge.specs.Answering.{Only}
 use Rattle.mx_row_judge.specs.known.Known.{AreRows, KnownAs, LineNumber, LineRows, Says, Tells}
 use Rattle.mx_lookups.specs.numbers.Reads.{rows_point}
 use Rattle.mx_lookups.proofs.NumbersProofs.TableLemmas.{IsTable, aircraft as aircraft_table, components, deferrals, entries, extensions, openings, places, programmes, release_lines, releases, sectors, spans, tasks}
-use Rattle.mx_row_judge.proofs.KnownProofs.TellLemmas.{first_fails, second_tells, tells}
+use Rattle.mx_row_judge.proofs.KnownProofs.TellLemmas.{both_told, tells}
 use Rattle.mx_row_judge.proofs.GivenLemmas.{by_number, by_text, defect_number, given, item_number, looked, serial_number, some_number, tail_number}
-
--- two answers tell both
-both_tell : (P Q : Type 0) (one two : Bool) → IsTrue one ↔ P → IsTrue two ↔ Q → IsTrue (one && two) ↔ (P × Q)
-both_tell P Q true two first second = second_tells P Q true two refl first second
-both_tell P Q false two first second = first_fails P Q false refl first
 
 module _ (trees : Trees) (book : List Entry) (has : HasRowsAt rows_point trees book) where
   b : IsBook book
@@ -67,12 +62,12 @@ module _ (trees : Trees) (book : List Entry) (has : HasRowsAt rows_point trees b
   said n (Added a positions) same gave =
       let one = are_rows kept_aircraft aircraft_rows aircraft_table (λ row. row.seq) (λ row. refl) n (aircraft_row n a ∷ []) gave.0 gave.2 in
       let two = are_rows kept_place place_rows places (λ row. row.seq) (λ row. refl) n (lines_from place_row n 1 positions) gave.1 gave.3 in
-      tells n (Added a positions) book same b (subst (λ s. IsTrue s ↔ AreSame book n (Added a positions)) (sym gave.4) (both_tell _ _ gave.0 gave.1 one two))
+      tells n (Added a positions) book same b (both_told _ _ gave.0 gave.1 gave.4 one two)
   said n (Listed c) same gave = tells n (Listed c) book same b (are_rows kept_component component_rows components (λ row. row.seq) (λ row. refl) n (component_row n c ∷ []) same gave)
   said n (Loaded p of) same gave =
       let one = are_rows kept_programme programme_rows programmes (λ row. row.seq) (λ row. refl) n (programme_row n p ∷ []) gave.0 gave.2 in
       let two = are_rows kept_task task_rows tasks (λ row. row.seq) (λ row. refl) n (lines_from task_row n 1 of) gave.1 gave.3 in
-      tells n (Loaded p of) book same b (subst (λ s. IsTrue s ↔ AreSame book n (Loaded p of)) (sym gave.4) (both_tell _ _ gave.0 gave.1 one two))
+      tells n (Loaded p of) book same b (both_told _ _ gave.0 gave.1 gave.4 one two)
   said n (Opened o) same gave =
       tells n (Opened o) book same b (subst (λ i. IsTrue same ↔ (filter (λ row. nat_eq row.seq n) (opening_rows book) ≡ opening_row n (or_zero i) o ∷ [])) (item_number trees book has o.item gave.0 gave.1)
       (are_rows kept_opening opening_rows openings (λ row. row.seq) (λ row. refl) n (opening_row n (or_zero gave.0) o ∷ []) same gave.2))
@@ -96,7 +91,7 @@ module _ (trees : Trees) (book : List Entry) (has : HasRowsAt rows_point trees b
       (are_rows kept_crs release_rows releases (λ row. row.seq) (λ row. refl) n (release_row n (or_zero named.0) r ∷ []) gave.0 named.2) in
       let on = gave.3 in
       let two = subst (λ rows. IsTrue gave.1 ↔ (filter (λ row. nat_eq row.seq n) (release_line_rows book) ≡ rows)) (lines n 1 of on.0 on.1) (are_rows kept_crs_line release_line_rows release_lines (λ row. row.seq) (λ row. refl) n on.0 gave.1 on.2) in
-      tells n (Released r of) book same b (subst (λ s. IsTrue s ↔ AreSame book n (Released r of)) (sym gave.4) (both_tell _ _ gave.0 gave.1 one two))
+      tells n (Released r of) book same b (both_told _ _ gave.0 gave.1 gave.4 one two)
   said n (Deferred d) same gave =
       tells n (Deferred d) book same b (subst (λ i. IsTrue same ↔ (filter (λ row. nat_eq row.seq n) (deferral_rows book) ≡ deferral_row n (or_zero i) d ∷ [])) (tail_number trees book has d.tail gave.0 gave.1)
       (are_rows kept_defect deferral_rows deferrals (λ row. row.seq) (λ row. refl) n (deferral_row n (or_zero gave.0) d ∷ []) same gave.2))

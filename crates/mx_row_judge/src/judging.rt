@@ -4,11 +4,9 @@
 //! from it to what it is now. So the judge, which may ask nothing, needs no law of its own beside that of a look-up.
 //! `judge_by_rows` asks for the number of entries first, which a new command needs anyway, and so has a whole `Reads`.
 ghost use Rattle.std.specs.Prelude.{◌≡◌};
-ghost use Rattle.sqlite.specs.Held.{state};
 ghost use Rattle.mx_book.specs.Judge.{judge};
-ghost use Rattle.mx_lookups.specs.numbers.AnyRows.{ReadsAny};
+ghost use Rattle.mx_lookups.specs.numbers.LookUp.{IsLookUp};
 ghost use Rattle.mx_lookups.specs.numbers.Reads.{Reads};
-ghost use Rattle.mx_lookups.specs.numbers.Told.{TellsDamage};
 ghost use Rattle.mx_row_judge.specs.Answering.{AnswerAs, VerdictOf};
 ghost use Rattle.mx_row_judge.specs.Damage.{JudgeDamage};
 ghost use Rattle.mx_row_judge.specs.View.{Asks};
@@ -37,25 +35,6 @@ fn verdict_of_rows<S: Alter>(
     verdict_on(rows, command)
 }
 
-// The same, inside a transaction.
-fn verdict_inside<S: Alter>(
-    alloc: Global,
-    tx: &mut Transaction<'_, S>,
-    command: &Command,
-) -> Result<Verdict, TableFault>
-    ensures same_reference { tx.new.conn.ghost_name ≡ tx.old.conn.ghost_name }
-    ensures asks { Asks S.Store AnswerAs JudgeDamage
-        (λ book verdict. verdict ≡ judge book command.now)
-        tx.old.conn.now tx.new.conn.now result }
-{
-    let mut rows = Rows {
-        alloc,
-        tx,
-        questions: JudgeQuestions,
-    };
-    verdict_of_rows(&mut rows, command)
-}
-
 /// The verdict on a command, judged by the rows that a transaction shows. It asks how many entries there are, and then what
 /// judging asks, each by the rows that have what is asked for: a row that no question finds is not looked at.
 pub fn judge_by_rows<S: Alter>(
@@ -63,14 +42,17 @@ pub fn judge_by_rows<S: Alter>(
     tx: &mut Transaction<'_, S>,
     command: &Command,
 ) -> Result<Verdict, TableFault>
-    ensures same_reference { tx.new.conn.ghost_name ≡ tx.old.conn.ghost_name }
-    ensures reads { Reads (λ book verdict. verdict ≡ judge book command.now)
-        (state S.Store tx.old.conn.now) (state S.Store tx.new.conn.now) result }
-    ensures any_rows { ReadsAny (VerdictOf command.now)
-        (state S.Store tx.old.conn.now) (state S.Store tx.new.conn.now) result }
-    ensures damage { TellsDamage JudgeDamage
-        (state S.Store tx.old.conn.now) (state S.Store tx.new.conn.now) result }
+    ensures looks_up { IsLookUp S.Store
+        (λ book verdict. verdict ≡ judge book command.now)
+        (VerdictOf command.now)
+        JudgeDamage
+        tx.old tx.new result }
 {
     entry_count(alloc, tx)?;
-    verdict_inside(alloc, tx, command)
+    let mut rows = Rows {
+        alloc,
+        tx,
+        questions: JudgeQuestions,
+    };
+    verdict_of_rows(&mut rows, command)
 }

@@ -42,8 +42,8 @@ bases_in schema is = (there (facts table.Base2) refl schema is, subst HasNoRefer
 
 -- the tables to which a command adds rows beside its entry, in pairs
 abbrev pub AreAddedIn : Schema → Type 0
-AreAddedIn schema = kept_aircraft.IsIn schema × (kept_place.IsIn schema × (kept_component.IsIn schema × (kept_programme.IsIn schema × (kept_task.IsIn schema × (kept_opening.IsIn schema × (kept_crs.IsIn schema × (kept_crs_line.IsIn schema × (kept_defect.IsIn schema × (kept_extension.IsIn schema × (kept_sector2_rows.IsIn schema × (kept_span2.IsIn schema × kept_total2.IsIn schema)))))))))))
+AreAddedIn schema = (((kept_aircraft.IsIn schema × kept_place.IsIn schema) × kept_component.IsIn schema) × ((kept_programme.IsIn schema × kept_task.IsIn schema) × kept_opening.IsIn schema)) × (((kept_crs.IsIn schema × kept_crs_line.IsIn schema) × (kept_defect.IsIn schema × kept_extension.IsIn schema)) × (kept_sector2_rows.IsIn schema × (kept_span2.IsIn schema × kept_total2.IsIn schema)))
 
 pub added_in : (schema : Schema) → IsSettled schema → AreAddedIn schema
 added_in schema is =
-    (there (facts table.Aircraft) refl schema is, (there (facts table.Place) refl schema is, (there (facts table.Component) refl schema is, (there (facts table.Programme) refl schema is, (there (facts table.Task) refl schema is, (there (facts table.Opening) refl schema is, (there (facts table.Crs) refl schema is, (there (facts table.CrsLine) refl schema is, (there (facts table.Defect) refl schema is, (there (facts table.Extension) refl schema is, (there (facts table.Sector2) refl schema is, (there (facts table.Span2) refl schema is, there (facts table.Total2) refl schema is))))))))))))
+    ((((there (facts table.Aircraft) refl schema is, there (facts table.Place) refl schema is), there (facts table.Component) refl schema is), ((there (facts table.Programme) refl schema is, there (facts table.Task) refl schema is), there (facts table.Opening) refl schema is)), (((there (facts table.Crs) refl schema is, there (facts table.CrsLine) refl schema is), (there (facts table.Defect) refl schema is, there (facts table.Extension) refl schema is)), (there (facts table.Sector2) refl schema is, (there (facts table.Span2) refl schema is, there (facts table.Total2) refl schema is))))

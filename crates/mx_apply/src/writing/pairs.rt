@@ -1,4 +1,4 @@
-//! The rows that a command adds, as a set of tables is written: those of one table, and behind them those of the others.
+//! The rows that a command adds, as a set of tables is written: those of some tables, and behind them those of the others.
 ghost use Rattle.std.specs.Prelude.{◌≡◌};
 ghost use Rattle.mx_apply.specs.writing.Pairs.{added_in_pairs};
 
@@ -8,26 +8,23 @@ use mx_base::rows::{
 };
 use mx_row_rules::changes::AddedRows;
 
-/// The last of the pairs: what was flown, the spans and the totals.
+/// The rows of aircraft and of components.
+pub(crate) type ItemPairs = ((Vec<AircraftRow>, Vec<PlaceRow>), Vec<ComponentRow>);
+
+/// Those of programmes and of work before the records begin.
+pub(crate) type TaskPairs = ((Vec<ProgrammeRow>, Vec<TaskRow>), Vec<OpeningRow>);
+
+/// Those of releases and of defects.
+pub(crate) type ReleasePairs = (
+    (Vec<ReleaseRow>, Vec<ReleaseLineRow>),
+    (Vec<DeferralRow>, Vec<ExtensionRow>),
+);
+
+/// What was flown, the spans and the totals.
 pub(crate) type FlownPairs = (Vec<Sector2Row>, (Vec<SpanRow>, Vec<TotalRow>));
 
-/// Those from the deferrals on.
-pub(crate) type DeferredPairs = (Vec<DeferralRow>, (Vec<ExtensionRow>, FlownPairs));
-
-/// Those from the releases on.
-pub(crate) type ReleasedPairs = (Vec<ReleaseRow>, (Vec<ReleaseLineRow>, DeferredPairs));
-
-/// Those from the programmes on.
-pub(crate) type MaintainedPairs = (
-    Vec<ProgrammeRow>,
-    (Vec<TaskRow>, (Vec<OpeningRow>, ReleasedPairs)),
-);
-
-/// The rows in pairs.
-pub(crate) type AddedPairs = (
-    Vec<AircraftRow>,
-    (Vec<PlaceRow>, (Vec<ComponentRow>, MaintainedPairs)),
-);
+/// The rows in pairs, few deep, so that a row is written by few calls.
+pub(crate) type AddedPairs = ((ItemPairs, TaskPairs), (ReleasePairs, FlownPairs));
 
 /// The rows in pairs.
 pub(crate) fn in_pairs(rows: AddedRows) -> AddedPairs
@@ -48,9 +45,9 @@ pub(crate) fn in_pairs(rows: AddedRows) -> AddedPairs
         spans,
         totals,
     } = rows;
+    let items = ((aircraft, places), components);
+    let maintained = ((programmes, tasks), openings);
+    let released = ((releases, release_lines), (deferrals, extensions));
     let flown = (sectors, (spans, totals));
-    let deferred = (deferrals, (extensions, flown));
-    let released = (releases, (release_lines, deferred));
-    let maintained = (programmes, (tasks, (openings, released)));
-    (aircraft, (places, (components, maintained)))
+    ((items, maintained), (released, flown))
 }

@@ -1,13 +1,11 @@
 //! Clocks and lives, by totals.
 ghost use Rattle.std.specs.Prelude.{◌≡◌};
-ghost use Rattle.sqlite.specs.Held.{state};
 ghost use Rattle.mx_book.specs.declared.commands.item.Item.TheVariants.{Airframe};
 ghost use Rattle.mx_book.specs.Judge.{earliest_takeoff};
 ghost use Rattle.mx_book.specs.Life.{clock, life_now};
-ghost use Rattle.mx_lookups.specs.numbers.AnyRows.{ReadsAny};
 ghost use Rattle.mx_lookups.specs.numbers.Given.{ClockOf, LifeOf};
-ghost use Rattle.mx_lookups.specs.numbers.Reads.{Reads};
-ghost use Rattle.mx_lookups.specs.numbers.Told.{TotalDamage, TellsDamage};
+ghost use Rattle.mx_lookups.specs.numbers.LookUp.{IsLookUp};
+ghost use Rattle.mx_lookups.specs.numbers.Told.{TotalDamage};
 
 use crate::numbers::items::item_number;
 use mx_base::{Moment, Tail, Use};
@@ -25,13 +23,11 @@ pub fn clock<S: Alter>(
     tx: &mut Transaction<'_, S>,
     item: &Item,
 ) -> Result<Moment, TableFault>
-    ensures same_reference { tx.new.conn.ghost_name ≡ tx.old.conn.ghost_name }
-    ensures reads { Reads (λ book moment. moment ≡ clock book item.now)
-        (state S.Store tx.old.conn.now) (state S.Store tx.new.conn.now) result }
-    ensures any_rows { ReadsAny (ClockOf item.now)
-        (state S.Store tx.old.conn.now) (state S.Store tx.new.conn.now) result }
-    ensures damage { TellsDamage (TotalDamage item.now)
-        (state S.Store tx.old.conn.now) (state S.Store tx.new.conn.now) result }
+    ensures looks_up { IsLookUp S.Store
+        (λ book moment. moment ≡ clock book item.now)
+        (ClockOf item.now)
+        (TotalDamage item.now)
+        tx.old tx.new result }
 {
     let found = item_number(alloc, tx, item)?;
     match found {
@@ -53,13 +49,11 @@ pub fn life<S: Alter>(
     tx: &mut Transaction<'_, S>,
     item: &Item,
 ) -> Result<Option<Use>, TableFault>
-    ensures same_reference { tx.new.conn.ghost_name ≡ tx.old.conn.ghost_name }
-    ensures reads { Reads (λ book found. found ≡ life_now book item.now)
-        (state S.Store tx.old.conn.now) (state S.Store tx.new.conn.now) result }
-    ensures any_rows { ReadsAny (LifeOf item.now)
-        (state S.Store tx.old.conn.now) (state S.Store tx.new.conn.now) result }
-    ensures damage { TellsDamage (TotalDamage item.now)
-        (state S.Store tx.old.conn.now) (state S.Store tx.new.conn.now) result }
+    ensures looks_up { IsLookUp S.Store
+        (λ book found. found ≡ life_now book item.now)
+        (LifeOf item.now)
+        (TotalDamage item.now)
+        tx.old tx.new result }
 {
     let found = item_number(alloc, tx, item)?;
     match found {
@@ -80,13 +74,11 @@ pub fn earliest_takeoff<S: Alter>(
     tx: &mut Transaction<'_, S>,
     tail: &Tail,
 ) -> Result<Moment, TableFault>
-    ensures same_reference { tx.new.conn.ghost_name ≡ tx.old.conn.ghost_name }
-    ensures reads { Reads (λ book moment. moment ≡ earliest_takeoff book tail.now)
-        (state S.Store tx.old.conn.now) (state S.Store tx.new.conn.now) result }
-    ensures any_rows { ReadsAny (ClockOf (Airframe tail.now))
-        (state S.Store tx.old.conn.now) (state S.Store tx.new.conn.now) result }
-    ensures damage { TellsDamage (TotalDamage (Airframe tail.now))
-        (state S.Store tx.old.conn.now) (state S.Store tx.new.conn.now) result }
+    ensures looks_up { IsLookUp S.Store
+        (λ book moment. moment ≡ earliest_takeoff book tail.now)
+        (ClockOf (Airframe tail.now))
+        (TotalDamage (Airframe tail.now))
+        tx.old tx.new result }
 {
     clock(alloc, tx, &Item::Airframe(*tail))
 }

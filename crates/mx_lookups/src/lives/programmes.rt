@@ -2,7 +2,6 @@
 ghost use Rattle.std.specs.Prelude.{◌≡◌, true, IfOk, IfSome};
 ghost use Rattle.std.specs.List.{list_all};
 ghost use Rattle.std.specs.Option.{option_map};
-ghost use Rattle.sqlite.specs.Held.{state};
 ghost use Rattle.mx_book.specs.commands.Programme.{task_shape};
 ghost use Rattle.mx_book.specs.Asking.{task_of};
 ghost use Rattle.mx_book.specs.Programme.{life_ended, next_revision, tasks_or_none};
@@ -10,10 +9,9 @@ ghost use Rattle.mx_book.specs.Register.{found_of};
 ghost use Rattle.mx_registers.specs.Merge.{task_said};
 ghost use Rattle.mx_base.specs.declared.rows.rows.TaskRow.{TaskRow};
 ghost use Rattle.mx_lookups.specs.numbers.InForce.{born_as, rows_in_force};
-ghost use Rattle.mx_lookups.specs.numbers.AnyRows.{ReadsAny};
 ghost use Rattle.mx_lookups.specs.numbers.Given.{BornOf, IsRetired, NextRevision, RowsInForce, TaskOf, TasksInForce};
-ghost use Rattle.mx_lookups.specs.numbers.Reads.{Reads};
-ghost use Rattle.mx_lookups.specs.numbers.Told.{InForceDamage, ItemDamage, RetiredDamage, RevisionDamage, TellsDamage};
+ghost use Rattle.mx_lookups.specs.numbers.LookUp.{IsLookUp};
+ghost use Rattle.mx_lookups.specs.numbers.Told.{InForceDamage, ItemDamage, RetiredDamage, RevisionDamage};
 
 use crate::lives::lives::life;
 use crate::numbers::items::{aircraft, component};
@@ -35,13 +33,11 @@ pub fn next_revision<S: Alter>(
     tx: &mut Transaction<'_, S>,
     kind: &Kind,
 ) -> Result<u32, TableFault>
-    ensures same_reference { tx.new.conn.ghost_name ≡ tx.old.conn.ghost_name }
-    ensures reads { Reads (λ book revision. revision ≡ next_revision book kind.now)
-        (state S.Store tx.old.conn.now) (state S.Store tx.new.conn.now) result }
-    ensures any_rows { ReadsAny (NextRevision kind.now)
-        (state S.Store tx.old.conn.now) (state S.Store tx.new.conn.now) result }
-    ensures damage { TellsDamage (RevisionDamage kind.now)
-        (state S.Store tx.old.conn.now) (state S.Store tx.new.conn.now) result }
+    ensures looks_up { IsLookUp S.Store
+        (λ book revision. revision ≡ next_revision book kind.now)
+        (NextRevision kind.now)
+        (RevisionDamage kind.now)
+        tx.old tx.new result }
 {
     let rows = programme_by_kind(alloc, tx, kind)?;
     match revision_after(&rows) {
@@ -57,15 +53,11 @@ fn rows_in_force<S: Alter>(
     tx: &mut Transaction<'_, S>,
     kind: &Kind,
 ) -> Result<Option<Vec<TaskRow>>, TableFault>
-    ensures same_reference { tx.new.conn.ghost_name ≡ tx.old.conn.ghost_name }
-    ensures reads { Reads (λ book found. option_map (λ rows. rows.items) found
-        ≡ rows_in_force kind.now book)
-        (state S.Store tx.old.conn.now) (state S.Store tx.new.conn.now) result }
-    ensures any_rows { ReadsAny (λ trees found.
-        RowsInForce kind.now trees (option_map (λ rows. rows.items) found))
-        (state S.Store tx.old.conn.now) (state S.Store tx.new.conn.now) result }
-    ensures damage { TellsDamage (InForceDamage kind.now)
-        (state S.Store tx.old.conn.now) (state S.Store tx.new.conn.now) result }
+    ensures looks_up { IsLookUp S.Store
+        (λ book found. option_map (λ rows. rows.items) found ≡ rows_in_force kind.now book)
+        (λ trees found. RowsInForce kind.now trees (option_map (λ rows. rows.items) found))
+        (InForceDamage kind.now)
+        tx.old tx.new result }
     ensures shape { IfOk result (λ found. IfSome found (λ rows.
         list_all (λ (row : TaskRow). task_shape (task_said row)) rows.items ≡ true)) }
 {
@@ -90,13 +82,11 @@ pub fn tasks<S: Alter>(
     tx: &mut Transaction<'_, S>,
     kind: &Kind,
 ) -> Result<Vec<Task>, TableFault>
-    ensures same_reference { tx.new.conn.ghost_name ≡ tx.old.conn.ghost_name }
-    ensures reads { Reads (λ book tasks. tasks.items ≡ tasks_or_none book kind.now)
-        (state S.Store tx.old.conn.now) (state S.Store tx.new.conn.now) result }
-    ensures any_rows { ReadsAny (λ trees tasks. TasksInForce kind.now trees tasks.items)
-        (state S.Store tx.old.conn.now) (state S.Store tx.new.conn.now) result }
-    ensures damage { TellsDamage (InForceDamage kind.now)
-        (state S.Store tx.old.conn.now) (state S.Store tx.new.conn.now) result }
+    ensures looks_up { IsLookUp S.Store
+        (λ book tasks. tasks.items ≡ tasks_or_none book kind.now)
+        (λ trees tasks. TasksInForce kind.now trees tasks.items)
+        (InForceDamage kind.now)
+        tx.old tx.new result }
     ensures shape { IfOk result (λ tasks. list_all task_shape tasks.items ≡ true) }
 {
     let found = rows_in_force(alloc, tx, kind)?;
@@ -114,13 +104,11 @@ pub fn task<S: Alter>(
     kind: &Kind,
     id: &TaskId,
 ) -> Result<Option<Option<Task>>, TableFault>
-    ensures same_reference { tx.new.conn.ghost_name ≡ tx.old.conn.ghost_name }
-    ensures reads { Reads (λ book found. found ≡ task_of book kind.now id.now)
-        (state S.Store tx.old.conn.now) (state S.Store tx.new.conn.now) result }
-    ensures any_rows { ReadsAny (TaskOf kind.now id.now)
-        (state S.Store tx.old.conn.now) (state S.Store tx.new.conn.now) result }
-    ensures damage { TellsDamage (InForceDamage kind.now)
-        (state S.Store tx.old.conn.now) (state S.Store tx.new.conn.now) result }
+    ensures looks_up { IsLookUp S.Store
+        (λ book found. found ≡ task_of book kind.now id.now)
+        (TaskOf kind.now id.now)
+        (InForceDamage kind.now)
+        tx.old tx.new result }
     ensures shape { IfOk result
         (λ found. IfSome found (λ task. IfSome task (λ t. task_shape t ≡ true))) }
 {
@@ -137,13 +125,11 @@ fn born<S: Alter>(
     tx: &mut Transaction<'_, S>,
     item: &Item,
 ) -> Result<Option<(Option<Part>, Day)>, TableFault>
-    ensures same_reference { tx.new.conn.ghost_name ≡ tx.old.conn.ghost_name }
-    ensures reads { Reads (λ book born. born ≡ born_as (found_of book item.now))
-        (state S.Store tx.old.conn.now) (state S.Store tx.new.conn.now) result }
-    ensures any_rows { ReadsAny (BornOf item.now)
-        (state S.Store tx.old.conn.now) (state S.Store tx.new.conn.now) result }
-    ensures damage { TellsDamage (ItemDamage item.now)
-        (state S.Store tx.old.conn.now) (state S.Store tx.new.conn.now) result }
+    ensures looks_up { IsLookUp S.Store
+        (λ book born. born ≡ born_as (found_of book item.now))
+        (BornOf item.now)
+        (ItemDamage item.now)
+        tx.old tx.new result }
 {
     match item {
         Item::Airframe(tail) => match aircraft(alloc, tx, tail)? {
@@ -166,13 +152,11 @@ pub fn is_retired<S: Alter>(
     item: &Item,
     day: Day,
 ) -> Result<bool, TableFault>
-    ensures same_reference { tx.new.conn.ghost_name ≡ tx.old.conn.ghost_name }
-    ensures reads { Reads (λ book ended. ended ≡ life_ended book kind.now item.now day)
-        (state S.Store tx.old.conn.now) (state S.Store tx.new.conn.now) result }
-    ensures any_rows { ReadsAny (IsRetired kind.now item.now day)
-        (state S.Store tx.old.conn.now) (state S.Store tx.new.conn.now) result }
-    ensures damage { TellsDamage (RetiredDamage kind.now item.now)
-        (state S.Store tx.old.conn.now) (state S.Store tx.new.conn.now) result }
+    ensures looks_up { IsLookUp S.Store
+        (λ book ended. ended ≡ life_ended book kind.now item.now day)
+        (IsRetired kind.now item.now day)
+        (RetiredDamage kind.now item.now)
+        tx.old tx.new result }
 {
     let known = born(alloc, tx, item)?;
     match known {

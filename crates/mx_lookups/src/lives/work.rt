@@ -1,13 +1,11 @@
 //! What was accomplished on items, by last bases.
 ghost use Rattle.std.specs.Prelude.{◌≡◌, IfOk, IfSome};
-ghost use Rattle.sqlite.specs.Held.{state};
 ghost use Rattle.mx_book.specs.due.Due.{IsBase};
 ghost use Rattle.mx_book.specs.Base.{base};
 ghost use Rattle.mx_book.specs.Programme.{is_accomplished};
-ghost use Rattle.mx_lookups.specs.numbers.AnyRows.{ReadsAny};
 ghost use Rattle.mx_lookups.specs.numbers.Given.{IsAccomplished, BaseOf};
-ghost use Rattle.mx_lookups.specs.numbers.Reads.{Reads};
-ghost use Rattle.mx_lookups.specs.numbers.Told.{BaseDamage, DoneDamage, TellsDamage};
+ghost use Rattle.mx_lookups.specs.numbers.LookUp.{IsLookUp};
+ghost use Rattle.mx_lookups.specs.numbers.Told.{BaseDamage, DoneDamage};
 
 use crate::numbers::items::item_number;
 use mx_base::{Base, TaskId};
@@ -25,13 +23,11 @@ pub fn is_accomplished<S: Alter>(
     item: &Item,
     id: &TaskId,
 ) -> Result<bool, TableFault>
-    ensures same_reference { tx.new.conn.ghost_name ≡ tx.old.conn.ghost_name }
-    ensures reads { Reads (λ book done. done ≡ is_accomplished book item.now id.now)
-        (state S.Store tx.old.conn.now) (state S.Store tx.new.conn.now) result }
-    ensures any_rows { ReadsAny (IsAccomplished item.now id.now)
-        (state S.Store tx.old.conn.now) (state S.Store tx.new.conn.now) result }
-    ensures damage { TellsDamage (DoneDamage item.now id.now)
-        (state S.Store tx.old.conn.now) (state S.Store tx.new.conn.now) result }
+    ensures looks_up { IsLookUp S.Store
+        (λ book done. done ≡ is_accomplished book item.now id.now)
+        (IsAccomplished item.now id.now)
+        (DoneDamage item.now id.now)
+        tx.old tx.new result }
 {
     let found = item_number(alloc, tx, item)?;
     match found {
@@ -51,13 +47,11 @@ pub fn base<S: Alter>(
     item: &Item,
     id: &TaskId,
 ) -> Result<Option<Base>, TableFault>
-    ensures same_reference { tx.new.conn.ghost_name ≡ tx.old.conn.ghost_name }
-    ensures reads { Reads (λ book found. found ≡ base book item.now id.now)
-        (state S.Store tx.old.conn.now) (state S.Store tx.new.conn.now) result }
-    ensures any_rows { ReadsAny (BaseOf item.now id.now)
-        (state S.Store tx.old.conn.now) (state S.Store tx.new.conn.now) result }
-    ensures damage { TellsDamage (BaseDamage item.now id.now)
-        (state S.Store tx.old.conn.now) (state S.Store tx.new.conn.now) result }
+    ensures looks_up { IsLookUp S.Store
+        (λ book found. found ≡ base book item.now id.now)
+        (BaseOf item.now id.now)
+        (BaseDamage item.now id.now)
+        tx.old tx.new result }
     ensures bounded { IfOk result (λ base. IfSome base IsBase) }
 {
     let found = item_number(alloc, tx, item)?;

@@ -1,16 +1,15 @@
 //! Aircraft and components by their names, and by the numbers of the entries that added them.
 ghost use Rattle.std.specs.Prelude.{◌≡◌};
 ghost use Rattle.sqlite.specs.declared.types.Value.TheVariants.{Text};
-ghost use Rattle.sqlite.specs.Held.{state};
 ghost use Rattle.mx_book.specs.Register.{aircraft, component, part_at};
 ghost use Rattle.mx_registers.specs.Names.{seq_of_item, seq_of_serial, seq_of_tail, tail_at};
 ghost use Rattle.mx_layout.specs.kept.Cells.{kept_aircraft, kept_component};
 ghost use Rattle.mx_table_rows.specs.chosen.Choices.{has_value};
 ghost use Rattle.mx_row_rules.specs.found.Said.{aircraft_in, component_in};
-ghost use Rattle.mx_lookups.specs.numbers.AnyRows.{Gives, ReadsAny};
+ghost use Rattle.mx_lookups.specs.numbers.AnyRows.{Gives};
 ghost use Rattle.mx_lookups.specs.numbers.Given.{AircraftNumber, ComponentNumber, ItemNumber, PartAt, TailOfNumber};
-ghost use Rattle.mx_lookups.specs.numbers.Reads.{Reads};
-ghost use Rattle.mx_lookups.specs.numbers.Told.{AircraftDamage, ComponentDamage, ItemDamage, PartDamage, TailDamage, TellsDamage};
+ghost use Rattle.mx_lookups.specs.numbers.LookUp.{IsLookUp};
+ghost use Rattle.mx_lookups.specs.numbers.Told.{AircraftDamage, ComponentDamage, ItemDamage, PartDamage, TailDamage};
 
 use mx_base::{Part, Position, Serial, Tail};
 use mx_book::commands::{Aircraft, Component, Item};
@@ -31,13 +30,11 @@ pub fn aircraft<S: Alter>(
     tx: &mut Transaction<'_, S>,
     tail: &Tail,
 ) -> Result<Option<Aircraft>, TableFault>
-    ensures same_reference { tx.new.conn.ghost_name ≡ tx.old.conn.ghost_name }
-    ensures reads { Reads (λ book found. found ≡ aircraft book tail.now)
-        (state S.Store tx.old.conn.now) (state S.Store tx.new.conn.now) result }
-    ensures any_rows { ReadsAny (Gives kept_aircraft (has_value 1 (Text tail.now)) aircraft_in)
-        (state S.Store tx.old.conn.now) (state S.Store tx.new.conn.now) result }
-    ensures damage { TellsDamage (AircraftDamage tail.now)
-        (state S.Store tx.old.conn.now) (state S.Store tx.new.conn.now) result }
+    ensures looks_up { IsLookUp S.Store
+        (λ book found. found ≡ aircraft book tail.now)
+        (Gives kept_aircraft (has_value 1 (Text tail.now)) aircraft_in)
+        (AircraftDamage tail.now)
+        tx.old tx.new result }
 {
     let rows = aircraft_by_tail(alloc, tx, tail)?;
     Ok(aircraft_in(&rows))
@@ -49,13 +46,11 @@ pub fn component<S: Alter>(
     tx: &mut Transaction<'_, S>,
     serial: &Serial,
 ) -> Result<Option<Component>, TableFault>
-    ensures same_reference { tx.new.conn.ghost_name ≡ tx.old.conn.ghost_name }
-    ensures reads { Reads (λ book found. found ≡ component book serial.now)
-        (state S.Store tx.old.conn.now) (state S.Store tx.new.conn.now) result }
-    ensures any_rows { ReadsAny (Gives kept_component (has_value 1 (Text serial.now)) component_in)
-        (state S.Store tx.old.conn.now) (state S.Store tx.new.conn.now) result }
-    ensures damage { TellsDamage (ComponentDamage serial.now)
-        (state S.Store tx.old.conn.now) (state S.Store tx.new.conn.now) result }
+    ensures looks_up { IsLookUp S.Store
+        (λ book found. found ≡ component book serial.now)
+        (Gives kept_component (has_value 1 (Text serial.now)) component_in)
+        (ComponentDamage serial.now)
+        tx.old tx.new result }
 {
     let rows = component_by_serial(alloc, tx, serial)?;
     Ok(component_in(&rows))
@@ -68,13 +63,11 @@ pub fn aircraft_number<S: Alter>(
     tx: &mut Transaction<'_, S>,
     tail: &Tail,
 ) -> Result<Option<u32>, TableFault>
-    ensures same_reference { tx.new.conn.ghost_name ≡ tx.old.conn.ghost_name }
-    ensures reads { Reads (λ book number. number ≡ seq_of_tail book tail.now)
-        (state S.Store tx.old.conn.now) (state S.Store tx.new.conn.now) result }
-    ensures any_rows { ReadsAny (AircraftNumber tail.now)
-        (state S.Store tx.old.conn.now) (state S.Store tx.new.conn.now) result }
-    ensures damage { TellsDamage (AircraftDamage tail.now)
-        (state S.Store tx.old.conn.now) (state S.Store tx.new.conn.now) result }
+    ensures looks_up { IsLookUp S.Store
+        (λ book number. number ≡ seq_of_tail book tail.now)
+        (AircraftNumber tail.now)
+        (AircraftDamage tail.now)
+        tx.old tx.new result }
 {
     let rows = aircraft_by_tail(alloc, tx, tail)?;
     Ok(number_of_aircraft(&rows))
@@ -87,13 +80,11 @@ pub fn component_number<S: Alter>(
     tx: &mut Transaction<'_, S>,
     serial: &Serial,
 ) -> Result<Option<u32>, TableFault>
-    ensures same_reference { tx.new.conn.ghost_name ≡ tx.old.conn.ghost_name }
-    ensures reads { Reads (λ book number. number ≡ seq_of_serial book serial.now)
-        (state S.Store tx.old.conn.now) (state S.Store tx.new.conn.now) result }
-    ensures any_rows { ReadsAny (ComponentNumber serial.now)
-        (state S.Store tx.old.conn.now) (state S.Store tx.new.conn.now) result }
-    ensures damage { TellsDamage (ComponentDamage serial.now)
-        (state S.Store tx.old.conn.now) (state S.Store tx.new.conn.now) result }
+    ensures looks_up { IsLookUp S.Store
+        (λ book number. number ≡ seq_of_serial book serial.now)
+        (ComponentNumber serial.now)
+        (ComponentDamage serial.now)
+        tx.old tx.new result }
 {
     let rows = component_by_serial(alloc, tx, serial)?;
     Ok(number_of_component(&rows))
@@ -106,13 +97,11 @@ pub fn item_number<S: Alter>(
     tx: &mut Transaction<'_, S>,
     item: &Item,
 ) -> Result<Option<u32>, TableFault>
-    ensures same_reference { tx.new.conn.ghost_name ≡ tx.old.conn.ghost_name }
-    ensures reads { Reads (λ book number. number ≡ seq_of_item book item.now)
-        (state S.Store tx.old.conn.now) (state S.Store tx.new.conn.now) result }
-    ensures any_rows { ReadsAny (ItemNumber item.now)
-        (state S.Store tx.old.conn.now) (state S.Store tx.new.conn.now) result }
-    ensures damage { TellsDamage (ItemDamage item.now)
-        (state S.Store tx.old.conn.now) (state S.Store tx.new.conn.now) result }
+    ensures looks_up { IsLookUp S.Store
+        (λ book number. number ≡ seq_of_item book item.now)
+        (ItemNumber item.now)
+        (ItemDamage item.now)
+        tx.old tx.new result }
 {
     match item {
         Item::Airframe(tail) => aircraft_number(alloc, tx, tail),
@@ -127,13 +116,11 @@ pub fn tail_of_number<S: Alter>(
     tx: &mut Transaction<'_, S>,
     number: u32,
 ) -> Result<Option<Tail>, TableFault>
-    ensures same_reference { tx.new.conn.ghost_name ≡ tx.old.conn.ghost_name }
-    ensures reads { Reads (λ book tail. tail ≡ tail_at book number)
-        (state S.Store tx.old.conn.now) (state S.Store tx.new.conn.now) result }
-    ensures any_rows { ReadsAny (TailOfNumber number)
-        (state S.Store tx.old.conn.now) (state S.Store tx.new.conn.now) result }
-    ensures damage { TellsDamage (TailDamage number)
-        (state S.Store tx.old.conn.now) (state S.Store tx.new.conn.now) result }
+    ensures looks_up { IsLookUp S.Store
+        (λ book tail. tail ≡ tail_at book number)
+        (TailOfNumber number)
+        (TailDamage number)
+        tx.old tx.new result }
 {
     let rows = aircraft_by_seq(alloc, tx, number)?;
     Ok(tail_in(&rows))
@@ -147,13 +134,11 @@ pub fn part_at<S: Alter>(
     tail: &Tail,
     position: &Position,
 ) -> Result<Option<Part>, TableFault>
-    ensures same_reference { tx.new.conn.ghost_name ≡ tx.old.conn.ghost_name }
-    ensures reads { Reads (λ book found. found ≡ part_at book tail.now position.now)
-        (state S.Store tx.old.conn.now) (state S.Store tx.new.conn.now) result }
-    ensures any_rows { ReadsAny (PartAt tail.now position.now)
-        (state S.Store tx.old.conn.now) (state S.Store tx.new.conn.now) result }
-    ensures damage { TellsDamage (PartDamage tail.now)
-        (state S.Store tx.old.conn.now) (state S.Store tx.new.conn.now) result }
+    ensures looks_up { IsLookUp S.Store
+        (λ book found. found ≡ part_at book tail.now position.now)
+        (PartAt tail.now position.now)
+        (PartDamage tail.now)
+        tx.old tx.new result }
 {
     let found = aircraft_number(alloc, tx, tail)?;
     match found {

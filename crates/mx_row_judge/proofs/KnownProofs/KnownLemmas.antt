@@ -1,10 +1,10 @@
 -- What the rows of an entry say of a command, whatever rows there are.
-use Rattle.std.proofs.Common.{◌≡◌, ◌↔◌, ℕ, pos, Bool, ◌&&◌, List, [], ◌∷◌, ◌++◌, IsTrue, Option, None, Ok, refl, sym, ap, subst, ◌∙◌, arith, append_assoc, append-nil}
+use Rattle.std.proofs.Common.{◌≡◌, ◌↔◌, ◌&&◌, ℕ, pos, Bool, List, [], ◌∷◌, ◌++◌, IsTrue, Option, None, Ok, refl, sym, ap, subst, ◌∙◌, arith, append_assoc, append-nil}
 use Rattle.std.specs.Prelude.{◌+◌}
 use Rattle.sqlite.specs.declared.types.Value.TheVariants.{Int}
 use Rattle.sqlite.specs.State.{State}
 use Rattle.sqlite.specs.Tree.{Trees}
-use Rattle.mx_book.specs.commands.Act.{Entry}
+use Rattle.mx_book.specs.commands.Act.{Act, Entry}
 use Rattle.mx_book.specs.declared.commands.release.Line.{Line}
 use Rattle.mx_registers.specs.Names.{or_zero}
 use Rattle.mx_base.specs.declared.rows.rows.ReleaseLineRow.{ReleaseLineRow}
@@ -14,32 +14,53 @@ use Rattle.mx_layout.specs.kept.Kept.{Kept}
 use Rattle.mx_table_rows.specs.chosen.Calls.{ReadsFirst}
 use Rattle.mx_table_rows.specs.chosen.Choices.{has_value}
 use Rattle.mx_lookups.specs.numbers.AnyRows.{AreChosen, ReadsAny}
-use Rattle.mx_row_judge.specs.known.Known.{AreLines, AreRows, ByNumber, InBoth, LineRow, LineRows}
+use Rattle.mx_row_judge.specs.known.Known.{AreLines, AreRows, ByNumber, InBoth, LineRow, LineRows, Tells, TellsRows}
 use Rattle.mx_lookups.specs.numbers.Reads.{Reads}
 use Rattle.mx_lookups.proofs.NumbersProofs.AnyLemmas.{any_later, gives}
 use Rattle.mx_lookups.proofs.NumbersProofs.TableLemmas.{IsTable, release_lines}
+use Rattle.sqlite.specs.Held.{state}
+use Rattle.sqlite.specs.Store.{Ghosts}
+use Rattle.sqlite.specs.declared.transaction.Transaction.{Transaction}
+use Rattle.mx_row_rules.specs.found.Given.{AreSame, Register, found}
+use Rattle.mx_lookups.specs.numbers.LookUp.{IsLookUp}
+use Rattle.mx_lookups.specs.numbers.Told.{Damage}
+use Rattle.mx_lookups.proofs.NumbersProofs.Composed.{answers, behind, chosen}
+use Rattle.mx_row_judge.proofs.KnownProofs.TellLemmas.{both_told, compared, tells}
 
 -- rows that were chosen by a number, and compared
-pub rows_same : {X V : Type 0} {k : Kept X} {book_rows : List Entry → List X} (it : IsTable k book_rows) (n : ℕ) {items : V → List X} {old new : State} {v : V} (read given wanted : List X) (same : Bool) → IsTrue same ↔ (read ≡ given) → read ≡ items v → given ≡ wanted
-    → ReadsFirst k None k.order (has_value 0 (Int (pos n))) items old new (Ok v) → ReadsAny (AreRows k n wanted) old new (Ok same)
-rows_same it n read given wanted same is of_entry of_command raw = record {
-  found = λ clean has.
-      let gave = (gives it (λ rows. rows) refl raw).found clean has in
-      (gave.0, gave.1, subst (λ rows. IsTrue same ↔ (rows ≡ wanted)) (of_entry ∙ gave.2) (subst (λ rows. IsTrue same ↔ (read ≡ rows)) of_command is));
-}
+pub are_rows : {X : Type 0} (n : ℕ) {k : Kept X} {trees : Trees} {rows read given wanted : List X} {same : Bool} → read ≡ rows → given ≡ wanted → IsTrue same ↔ (read ≡ given) → AreChosen k None k.order (has_value 0 (Int (pos n))) trees rows → AreRows k n wanted trees same
+are_rows n {rows = rows} {read = read} {wanted = wanted} {same = same} of_entry of_command is are =
+    (rows, are, subst (λ those. IsTrue same ↔ (those ≡ wanted)) of_entry (subst (λ those. IsTrue same ↔ (read ≡ those)) of_command is))
 
 -- what is so by the number of what is named
-pub numbered : (P : List Entry → Option ℕ → Type 0) (Number : Trees → Option ℕ → Type 0) (Is : ℕ → Trees → Bool → Type 0) (a b c : State) (found : Option ℕ) (number : ℕ) (same : Bool) → number ≡ or_zero found → Reads P a b (Ok found) → ReadsAny Number a b (Ok found) → IsWithin b c
-    → ReadsAny (Is number) b c (Ok same) → ReadsAny (ByNumber Number Is) a c (Ok same)
-numbered P Number Is a b c found number same is one first within later = record {
-  found = λ clean has. (found, first.found (omega (arith, clean, within.survives.clean)) has, subst (λ n. Is n a.now.trees same) is ((any_later P (Is number) a b c found same one within later).found clean has));
-}
+pub named : (Number : Trees → Option ℕ → Type 0) (Is : ℕ → Trees → Bool → Type 0) {trees : Trees} {found : Option ℕ} {number : ℕ} {same : Bool} → number ≡ or_zero found → Number trees found → Is number trees same → ByNumber Number Is trees same
+named Number Is {trees = trees} {found = found} {same = same} is first then = (found, first, subst (λ n. Is n trees same) is then)
 
--- what is so in one table, and in another
-pub both_same : (P : List Entry → Bool → Type 0) (One Two : Trees → Bool → Type 0) (a b c : State) (one two same : Bool) → same ≡ (one && two) → Reads P a b (Ok one) → ReadsAny One a b (Ok one) → IsWithin b c → ReadsAny Two b c (Ok two) → ReadsAny (InBoth One Two) a c (Ok same)
-both_same P One Two a b c one two same is read first within later = record {
-  found = λ clean has. (one, two, first.found (omega (arith, clean, within.survives.clean)) has, (any_later P Two a b c one two read within later).found clean has, is);
-}
+-- rows that were chosen by a number, and compared with some that are made without a book
+pub rows_tell : {S X V : Type 0} {g : Ghosts S} {k : Kept X} {book_rows : List Entry → List X} (it : IsTable k book_rows) (register : Register X) (n : ℕ) {items : V → List X} {Why : Damage} {old new : Transaction S} {v : V} {read given wanted : List X} {same : Bool}
+    → new.conn.ghost_name ≡ old.conn.ghost_name → Reads (λ book w. items w ≡ found register book n) (state g old.conn.now) (state g new.conn.now) (Ok v) → ReadsFirst k None k.order (has_value 0 (Int (pos n))) items (state g old.conn.now) (state g new.conn.now) (Ok v)
+    → read ≡ items v → given ≡ wanted → IsTrue same ↔ (read ≡ given) → IsLookUp g (TellsRows register n (λ _. wanted)) (AreRows k n wanted) Why old new (Ok same)
+rows_tell it register n {wanted = wanted} reference reads raw of_entry of_command is =
+    answers (chosen it reference reads raw) (λ book b those. compared register n (λ _. wanted) book _ _ _ is (of_entry ∙ those) of_command) (λ _ are. are_rows n of_entry of_command is are)
+
+-- so, where they are made by the number of what is named
+pub rows_tell_by : {S X V : Type 0} {g : Ghosts S} {k : Kept X} {book_rows : List Entry → List X} (it : IsTable k book_rows) (register : Register X) (n : ℕ) (Number : Trees → Option ℕ → Type 0) (rows : ℕ → List X)
+    {seq : List Entry → Option ℕ} {items : V → List X} {Why Other : Damage} {old mid new : Transaction S} {number : Option ℕ} {v : V} {read given : List X} {zero : ℕ} {same : Bool} → IsLookUp g (λ book named. named ≡ seq book) Number Why old mid (Ok number)
+    → new.conn.ghost_name ≡ mid.conn.ghost_name → Reads (λ book w. items w ≡ found register book n) (state g mid.conn.now) (state g new.conn.now) (Ok v) → ReadsFirst k None k.order (has_value 0 (Int (pos n))) items (state g mid.conn.now) (state g new.conn.now) (Ok v)
+    → read ≡ items v → zero ≡ or_zero number → given ≡ rows zero → IsTrue same ↔ (read ≡ given) → IsLookUp g (TellsRows register n (λ book. rows (or_zero (seq book)))) (ByNumber Number (λ i. AreRows k n (rows i))) Other old new (Ok same)
+rows_tell_by {k = k} it register n Number rows {seq = seq} first reference reads raw of_entry is_zero made is =
+    answers (behind first (chosen it reference reads raw))
+    (λ book b both. compared register n (λ around. rows (or_zero (seq around))) book _ _ _ is (of_entry ∙ both.1) (made ∙ ap rows (is_zero ∙ ap or_zero both.0)))
+    (λ _ both. named Number (λ i. AreRows k n (rows i)) is_zero both.0 (are_rows n of_entry made is both.1))
+
+-- rows in two tables
+pub both_tell : {S : Type 0} {g : Ghosts S} {P Q : List Entry → Type 0} {A B : Trees → Bool → Type 0} {Why Or Other : Damage} {old mid new : Transaction S} {one two same : Bool} → IsLookUp g (λ book told. IsTrue told ↔ P book) A Why old mid (Ok one) → IsLookUp g (λ book told. IsTrue told ↔ Q book) B Or mid new (Ok two)
+    → same ≡ (one && two) → IsLookUp g (λ book told. IsTrue told ↔ (P book × Q book)) (InBoth A B) Other old new (Ok same)
+both_tell {one = one} {two = two} first second is = answers (behind first second) (λ book b both. both_told _ _ one two is both.0 both.1) (λ _ both. (one, two, both.0, both.1, is))
+
+-- what the rows of each table of its kind tell is whether the entry says it
+pub said : {S : Type 0} {g : Ghosts S} (n : ℕ) (act : Act) {A : Trees → Bool → Type 0} {Why : Damage} {old new : Transaction S} {same : Bool} → IsLookUp g (λ book told. IsTrue told ↔ AreSame book n act) A Why old new (Ok same) → IsLookUp g (Tells n act) A Why old new (Ok same)
+said n act l = answers l (λ book b is. tells n act book _ b is) (λ _ are. are)
 
 -- ── the lines of a release ──
 

@@ -1,5 +1,5 @@
 -- What the rows of an entry say of a command, from how they compare with those that the command would have.
-use Rattle.std.proofs.Common.{◌≡◌, ◌↔◌, ℕ, ◌+◌, Bool, false, List, [], ◌∷◌, ◌++◌, IsTrue, sym, subst, ap, ◌∙◌}
+use Rattle.std.proofs.Common.{◌≡◌, ◌↔◌, ◌&&◌, ℕ, ◌+◌, Bool, true, false, refl, List, [], ◌∷◌, ◌++◌, IsTrue, sym, subst, ap, ◌∙◌}
 use Rattle.std.proofs.lemmas.List.{append_assoc}
 use Rattle.mx_book.specs.commands.Act.{Act, Entry}
 use Rattle.mx_book.specs.Book.{IsBook}
@@ -18,12 +18,10 @@ compared register n wanted book same read given is of_entry of_command = subst (
 pub tells : (n : ℕ) (act : Act) (book : List Entry) (same : Bool) → IsBook book → IsTrue same ↔ AreSame book n act → Tells n act book same
 tells n act book same b is doc shape number = known_by_rows book (entry_of doc act) n same b shape (entry_is book doc ∙ number) is
 
--- rows in two tables of its kind: where the first has them, the second tells, and where it does not, that tells
-pub second_tells : (P Q : Type 0) (one two : Bool) → IsTrue one → IsTrue one ↔ P → IsTrue two ↔ Q → IsTrue two ↔ (P × Q)
-second_tells P Q one two is first second = (λ t. (first.0 is, second.0 t), λ have. second.1 have.1)
-
-pub first_fails : (P Q : Type 0) (one : Bool) → one ≡ false → IsTrue one ↔ P → IsTrue one ↔ (P × Q)
-first_fails P Q one is first = (λ t. absurd cc, λ have. first.1 have.0)
+-- whether two are so, by whether each is
+pub both_told : (P Q : Type 0) (one two : Bool) {same : Bool} → same ≡ (one && two) → IsTrue one ↔ P → IsTrue two ↔ Q → IsTrue same ↔ (P × Q)
+both_told P Q true two is first second = subst (λ same. IsTrue same ↔ (P × Q)) (sym is) (λ t. (first.0 refl, second.0 t), λ have. second.1 have.1)
+both_told P Q false two is first second = subst (λ same. IsTrue same ↔ (P × Q)) (sym is) (λ t. absurd cc, λ have. first.1 have.0)
 
 -- one line more has its row
 pub one_more : {X Row : Type 0} (row_of : ℕ → ℕ → X → Row) (n line : ℕ) (all given more : List Row) (x : X) (rest later : List X) (row : Row) → all ≡ given ++ lines_from row_of n line rest → rest ≡ x ∷ later → row ≡ row_of n line x → more ≡ given ++ row ∷ []

@@ -1,16 +1,13 @@
 //! Whether the entry with a number adds an aircraft or a component, by its rows.
-ghost use Rattle.std.specs.Prelude.{◌≡◌, ◌≤◌, ◌∷◌, [], length};
-ghost use Rattle.sqlite.specs.Held.{state};
+ghost use Rattle.std.specs.Prelude.{◌≤◌, ◌∷◌, [], length};
 ghost use Rattle.mx_book.specs.commands.Act.{Added, Listed};
 ghost use Rattle.mx_book.specs.declared.commands.shape.TheConstants.{MOST_POSITIONS};
 ghost use Rattle.mx_registers.specs.Lines.{lines_from};
 ghost use Rattle.mx_registers.specs.Registers.{aircraft_row, place_row};
 ghost use Rattle.mx_layout.specs.kept.Cells.{kept_aircraft, kept_place};
 ghost use Rattle.mx_row_rules.specs.found.Given as registers;
-ghost use Rattle.mx_lookups.specs.numbers.AnyRows.{ReadsAny};
+ghost use Rattle.mx_lookups.specs.numbers.LookUp.{IsLookUp};
 ghost use Rattle.mx_row_judge.specs.known.Known.{AreRows, RowsDamage, Says, SaysDamage, Tells, TellsRows};
-ghost use Rattle.mx_lookups.specs.numbers.Reads.{Reads};
-ghost use Rattle.mx_lookups.specs.numbers.Told.{TellsDamage};
 
 use crate::known::lines::place_rows;
 use mx_base::{Part, Position};
@@ -30,14 +27,11 @@ fn is_aircraft_row<S: Alter>(
     seq: u32,
     aircraft: Aircraft,
 ) -> Result<bool, TableFault>
-    ensures same_reference { tx.new.conn.ghost_name ≡ tx.old.conn.ghost_name }
-    ensures reads { Reads
+    ensures looks_up { IsLookUp S.Store
         (TellsRows registers.aircraft seq (λ book. aircraft_row seq aircraft ∷ []))
-        (state S.Store tx.old.conn.now) (state S.Store tx.new.conn.now) result }
-    ensures any_rows { ReadsAny (AreRows kept_aircraft seq (aircraft_row seq aircraft ∷ []))
-        (state S.Store tx.old.conn.now) (state S.Store tx.new.conn.now) result }
-    ensures damage { TellsDamage (RowsDamage kept_aircraft seq)
-        (state S.Store tx.old.conn.now) (state S.Store tx.new.conn.now) result }
+        (AreRows kept_aircraft seq (aircraft_row seq aircraft ∷ []))
+        (RowsDamage kept_aircraft seq)
+        tx.old tx.new result }
 {
     let rows = aircraft_by_seq(alloc, tx, seq)?;
     let row = aircraft_row(seq, aircraft);
@@ -52,14 +46,11 @@ fn are_positions<S: Alter>(
     positions: &[(Position, Part)],
 ) -> Result<bool, TableFault>
     requires { length positions.now ≤ MOST_POSITIONS }
-    ensures same_reference { tx.new.conn.ghost_name ≡ tx.old.conn.ghost_name }
-    ensures reads { Reads
+    ensures looks_up { IsLookUp S.Store
         (TellsRows registers.places seq (λ book. lines_from place_row seq 1 positions.now))
-        (state S.Store tx.old.conn.now) (state S.Store tx.new.conn.now) result }
-    ensures any_rows { ReadsAny (AreRows kept_place seq (lines_from place_row seq 1 positions.now))
-        (state S.Store tx.old.conn.now) (state S.Store tx.new.conn.now) result }
-    ensures damage { TellsDamage (RowsDamage kept_place seq)
-        (state S.Store tx.old.conn.now) (state S.Store tx.new.conn.now) result }
+        (AreRows kept_place seq (lines_from place_row seq 1 positions.now))
+        (RowsDamage kept_place seq)
+        tx.old tx.new result }
 {
     let rows = place_by_seq(alloc, tx, seq)?;
     let given = place_rows(alloc, seq, positions)?;
@@ -75,13 +66,11 @@ pub(crate) fn is_aircraft<S: Alter>(
     positions: &[(Position, Part)],
 ) -> Result<bool, TableFault>
     requires { length positions.now ≤ MOST_POSITIONS }
-    ensures same_reference { tx.new.conn.ghost_name ≡ tx.old.conn.ghost_name }
-    ensures reads { Reads (Tells seq (Added aircraft positions.now))
-        (state S.Store tx.old.conn.now) (state S.Store tx.new.conn.now) result }
-    ensures any_rows { ReadsAny (Says seq (Added aircraft positions.now))
-        (state S.Store tx.old.conn.now) (state S.Store tx.new.conn.now) result }
-    ensures damage { TellsDamage (SaysDamage seq (Added aircraft positions.now))
-        (state S.Store tx.old.conn.now) (state S.Store tx.new.conn.now) result }
+    ensures looks_up { IsLookUp S.Store
+        (Tells seq (Added aircraft positions.now))
+        (Says seq (Added aircraft positions.now))
+        (SaysDamage seq (Added aircraft positions.now))
+        tx.old tx.new result }
 {
     let same = is_aircraft_row(alloc, tx, seq, aircraft)?;
     let on_lines = are_positions(alloc, tx, seq, positions)?;
@@ -95,13 +84,11 @@ pub(crate) fn is_component<S: Alter>(
     seq: u32,
     component: Component,
 ) -> Result<bool, TableFault>
-    ensures same_reference { tx.new.conn.ghost_name ≡ tx.old.conn.ghost_name }
-    ensures reads { Reads (Tells seq (Listed component))
-        (state S.Store tx.old.conn.now) (state S.Store tx.new.conn.now) result }
-    ensures any_rows { ReadsAny (Says seq (Listed component))
-        (state S.Store tx.old.conn.now) (state S.Store tx.new.conn.now) result }
-    ensures damage { TellsDamage (SaysDamage seq (Listed component))
-        (state S.Store tx.old.conn.now) (state S.Store tx.new.conn.now) result }
+    ensures looks_up { IsLookUp S.Store
+        (Tells seq (Listed component))
+        (Says seq (Listed component))
+        (SaysDamage seq (Listed component))
+        tx.old tx.new result }
 {
     let rows = component_by_seq(alloc, tx, seq)?;
     let row = component_row(seq, component);

@@ -1,13 +1,10 @@
 //! The entry with the document of a command, and whether it is the same command, by the rows of that entry.
 ghost use Rattle.std.specs.Prelude.{◌≡◌};
 ghost use Rattle.std.specs.Option.{option_map};
-ghost use Rattle.sqlite.specs.Held.{state};
 ghost use Rattle.mx_book.specs.Asking.{known_same};
 ghost use Rattle.mx_book.specs.Judge.{known_from};
-ghost use Rattle.mx_lookups.specs.numbers.AnyRows.{ReadsAny};
+ghost use Rattle.mx_lookups.specs.numbers.LookUp.{IsLookUp};
 ghost use Rattle.mx_row_judge.specs.known.Known.{KnownAs, KnownDamage, Says, SaysDamage, Tells};
-ghost use Rattle.mx_lookups.specs.numbers.Reads.{Reads};
-ghost use Rattle.mx_lookups.specs.numbers.Told.{TellsDamage};
 
 use crate::known::items::{is_aircraft, is_component};
 use crate::known::moves::{is_fitting, is_removal, is_sector};
@@ -26,13 +23,11 @@ fn is_same<S: Alter>(
     seq: u32,
     command: &Command,
 ) -> Result<bool, TableFault>
-    ensures same_reference { tx.new.conn.ghost_name ≡ tx.old.conn.ghost_name }
-    ensures reads { Reads (Tells seq command.now.act)
-        (state S.Store tx.old.conn.now) (state S.Store tx.new.conn.now) result }
-    ensures any_rows { ReadsAny (Says seq command.now.act)
-        (state S.Store tx.old.conn.now) (state S.Store tx.new.conn.now) result }
-    ensures damage { TellsDamage (SaysDamage seq command.now.act)
-        (state S.Store tx.old.conn.now) (state S.Store tx.new.conn.now) result }
+    ensures looks_up { IsLookUp S.Store
+        (Tells seq command.now.act)
+        (Says seq command.now.act)
+        (SaysDamage seq command.now.act)
+        tx.old tx.new result }
 {
     // A command of its shape has few positions, tasks and lines.
     let _ = command.doc();
@@ -57,14 +52,12 @@ pub fn known<S: Alter>(
     tx: &mut Transaction<'_, S>,
     command: &Command,
 ) -> Result<Option<(u32, bool)>, TableFault>
-    ensures same_reference { tx.new.conn.ghost_name ≡ tx.old.conn.ghost_name }
-    ensures reads { Reads (λ book found. found
-        ≡ option_map (known_same command.now) (known_from command.now.doc 1 book))
-        (state S.Store tx.old.conn.now) (state S.Store tx.new.conn.now) result }
-    ensures any_rows { ReadsAny (KnownAs command.now)
-        (state S.Store tx.old.conn.now) (state S.Store tx.new.conn.now) result }
-    ensures damage { TellsDamage (KnownDamage command.now)
-        (state S.Store tx.old.conn.now) (state S.Store tx.new.conn.now) result }
+    ensures looks_up { IsLookUp S.Store
+        (λ book found. found ≡ option_map (known_same command.now) (known_from command.now.doc 1
+        book))
+        (KnownAs command.now)
+        (KnownDamage command.now)
+        tx.old tx.new result }
 {
     let doc = command.doc();
     let found = entry_of_doc(alloc, tx, &doc)?;

@@ -1,12 +1,9 @@
 //! Whether the entry with a number is a sector, a fitting or a removal, by its rows.
-ghost use Rattle.sqlite.specs.Held.{state};
 ghost use Rattle.mx_book.specs.commands.Act.{Fitted, Flown, Removed};
 ghost use Rattle.std.specs.Prelude.{◌≡◌, ◌↔◌, ◌∷◌, [], IsTrue, map};
 ghost use Rattle.mx_base.specs.declared.rows.rows.Sector2Row.{Sector2Row};
-ghost use Rattle.mx_lookups.specs.numbers.AnyRows.{ReadsAny};
+ghost use Rattle.mx_lookups.specs.numbers.LookUp.{IsLookUp};
 ghost use Rattle.mx_row_judge.specs.known.Known.{Says, SaysDamage, Tells};
-ghost use Rattle.mx_lookups.specs.numbers.Reads.{Reads};
-ghost use Rattle.mx_lookups.specs.numbers.Told.{TellsDamage};
 
 use mx_base::rows::Sector2Row;
 use mx_book::commands::{Fitting, Removal, Sector};
@@ -37,13 +34,11 @@ pub(crate) fn is_sector<S: Alter>(
     seq: u32,
     sector: Sector,
 ) -> Result<bool, TableFault>
-    ensures same_reference { tx.new.conn.ghost_name ≡ tx.old.conn.ghost_name }
-    ensures reads { Reads (Tells seq (Flown sector))
-        (state S.Store tx.old.conn.now) (state S.Store tx.new.conn.now) result }
-    ensures any_rows { ReadsAny (Says seq (Flown sector))
-        (state S.Store tx.old.conn.now) (state S.Store tx.new.conn.now) result }
-    ensures damage { TellsDamage (SaysDamage seq (Flown sector))
-        (state S.Store tx.old.conn.now) (state S.Store tx.new.conn.now) result }
+    ensures looks_up { IsLookUp S.Store
+        (Tells seq (Flown sector))
+        (Says seq (Flown sector))
+        (SaysDamage seq (Flown sector))
+        tx.old tx.new result }
 {
     let aircraft = aircraft_number(alloc, tx, &sector.tail)?;
     let rows = sector2_by_seq(alloc, tx, seq)?;
@@ -58,13 +53,11 @@ pub(crate) fn is_fitting<S: Alter>(
     seq: u32,
     fitting: Fitting,
 ) -> Result<bool, TableFault>
-    ensures same_reference { tx.new.conn.ghost_name ≡ tx.old.conn.ghost_name }
-    ensures reads { Reads (Tells seq (Fitted fitting))
-        (state S.Store tx.old.conn.now) (state S.Store tx.new.conn.now) result }
-    ensures any_rows { ReadsAny (Says seq (Fitted fitting))
-        (state S.Store tx.old.conn.now) (state S.Store tx.new.conn.now) result }
-    ensures damage { TellsDamage (SaysDamage seq (Fitted fitting))
-        (state S.Store tx.old.conn.now) (state S.Store tx.new.conn.now) result }
+    ensures looks_up { IsLookUp S.Store
+        (Tells seq (Fitted fitting))
+        (Says seq (Fitted fitting))
+        (SaysDamage seq (Fitted fitting))
+        tx.old tx.new result }
 {
     let component = component_number(alloc, tx, &fitting.serial)?;
     let aircraft = aircraft_number(alloc, tx, &fitting.tail)?;
@@ -79,13 +72,11 @@ pub(crate) fn is_removal<S: Alter>(
     seq: u32,
     removal: Removal,
 ) -> Result<bool, TableFault>
-    ensures same_reference { tx.new.conn.ghost_name ≡ tx.old.conn.ghost_name }
-    ensures reads { Reads (Tells seq (Removed removal))
-        (state S.Store tx.old.conn.now) (state S.Store tx.new.conn.now) result }
-    ensures any_rows { ReadsAny (Says seq (Removed removal))
-        (state S.Store tx.old.conn.now) (state S.Store tx.new.conn.now) result }
-    ensures damage { TellsDamage (SaysDamage seq (Removed removal))
-        (state S.Store tx.old.conn.now) (state S.Store tx.new.conn.now) result }
+    ensures looks_up { IsLookUp S.Store
+        (Tells seq (Removed removal))
+        (Says seq (Removed removal))
+        (SaysDamage seq (Removed removal))
+        tx.old tx.new result }
 {
     let component = component_number(alloc, tx, &removal.serial)?;
     let rows = span2_by_remove_seq(alloc, tx, seq)?;

@@ -1,6 +1,5 @@
 //! Whether the entry with a number is a release, by its rows.
 ghost use Rattle.std.specs.Prelude.{◌≡◌, ◌≤◌, ◌∷◌, [], length};
-ghost use Rattle.sqlite.specs.Held.{state};
 ghost use Rattle.mx_book.specs.commands.Act.{Released};
 ghost use Rattle.mx_book.specs.declared.commands.shape.TheConstants.{MOST_LINES};
 ghost use Rattle.mx_book.specs.Judge.{item_at};
@@ -10,11 +9,10 @@ ghost use Rattle.mx_registers.specs.Registers.{release_line_row, release_row};
 ghost use Rattle.mx_layout.specs.kept.Cells.{kept_crs, kept_crs_line};
 ghost use Rattle.mx_row_rules.specs.found.Given as registers;
 ghost use Rattle.mx_row_rules.specs.found.Given.{seq_of_line};
-ghost use Rattle.mx_lookups.specs.numbers.AnyRows.{ReadsAny};
 ghost use Rattle.mx_lookups.specs.numbers.Given.{ItemNumber};
+ghost use Rattle.mx_lookups.specs.numbers.LookUp.{IsLookUp};
 ghost use Rattle.mx_row_judge.specs.known.Known.{AreLines, AreRows, ByNumber, LineDamage, LineNumber, LineRow, LinesDamage, RowsDamage, Says, SaysDamage, Tells, TellsRows};
-ghost use Rattle.mx_lookups.specs.numbers.Reads.{Reads};
-ghost use Rattle.mx_lookups.specs.numbers.Told.{Either, ItemDamage, TellsDamage};
+ghost use Rattle.mx_lookups.specs.numbers.Told.{Either, ItemDamage};
 
 use mx_book::commands::{Line, Place, Release};
 use mx_layout::TableFault;
@@ -34,13 +32,11 @@ fn place_number<S: Alter>(
     tx: &mut Transaction<'_, S>,
     place: &Place,
 ) -> Result<Option<u32>, TableFault>
-    ensures same_reference { tx.new.conn.ghost_name ≡ tx.old.conn.ghost_name }
-    ensures reads { Reads (λ book number. number ≡ seq_of_item book (item_at place.now))
-        (state S.Store tx.old.conn.now) (state S.Store tx.new.conn.now) result }
-    ensures any_rows { ReadsAny (ItemNumber (item_at place.now))
-        (state S.Store tx.old.conn.now) (state S.Store tx.new.conn.now) result }
-    ensures damage { TellsDamage (ItemDamage (item_at place.now))
-        (state S.Store tx.old.conn.now) (state S.Store tx.new.conn.now) result }
+    ensures looks_up { IsLookUp S.Store
+        (λ book number. number ≡ seq_of_item book (item_at place.now))
+        (ItemNumber (item_at place.now))
+        (ItemDamage (item_at place.now))
+        tx.old tx.new result }
 {
     match place {
         Place::Aircraft(tail) => aircraft_number(alloc, tx, tail),
@@ -54,13 +50,11 @@ fn line_number<S: Alter>(
     tx: &mut Transaction<'_, S>,
     certified: &Line,
 ) -> Result<Option<u32>, TableFault>
-    ensures same_reference { tx.new.conn.ghost_name ≡ tx.old.conn.ghost_name }
-    ensures reads { Reads (λ book number. number ≡ seq_of_line book certified.now)
-        (state S.Store tx.old.conn.now) (state S.Store tx.new.conn.now) result }
-    ensures any_rows { ReadsAny (LineNumber certified.now)
-        (state S.Store tx.old.conn.now) (state S.Store tx.new.conn.now) result }
-    ensures damage { TellsDamage (LineDamage certified.now)
-        (state S.Store tx.old.conn.now) (state S.Store tx.new.conn.now) result }
+    ensures looks_up { IsLookUp S.Store
+        (λ book number. number ≡ seq_of_line book certified.now)
+        (LineNumber certified.now)
+        (LineDamage certified.now)
+        tx.old tx.new result }
 {
     match certified {
         Line::Done(item, _) => item_number(alloc, tx, item),
@@ -76,13 +70,11 @@ fn line_row<S: Alter>(
     line: u32,
     certified: &Line,
 ) -> Result<ReleaseLineRow, TableFault>
-    ensures same_reference { tx.new.conn.ghost_name ≡ tx.old.conn.ghost_name }
-    ensures reads { Reads (λ book row. row ≡ release_line_row book seq line certified.now)
-        (state S.Store tx.old.conn.now) (state S.Store tx.new.conn.now) result }
-    ensures any_rows { ReadsAny (LineRow seq line certified.now)
-        (state S.Store tx.old.conn.now) (state S.Store tx.new.conn.now) result }
-    ensures damage { TellsDamage (LineDamage certified.now)
-        (state S.Store tx.old.conn.now) (state S.Store tx.new.conn.now) result }
+    ensures looks_up { IsLookUp S.Store
+        (λ book row. row ≡ release_line_row book seq line certified.now)
+        (LineRow seq line certified.now)
+        (LineDamage certified.now)
+        tx.old tx.new result }
 {
     let number = line_number(alloc, tx, certified)?;
     Ok(release_line_row(seq, line, or_zero(number), certified))
@@ -95,16 +87,13 @@ fn is_release_row<S: Alter>(
     seq: u32,
     release: Release,
 ) -> Result<bool, TableFault>
-    ensures same_reference { tx.new.conn.ghost_name ≡ tx.old.conn.ghost_name }
-    ensures reads { Reads (TellsRows registers.releases seq (λ book.
-        release_row seq (or_zero (seq_of_item book (item_at release.place))) release ∷ []))
-        (state S.Store tx.old.conn.now) (state S.Store tx.new.conn.now) result }
-    ensures any_rows { ReadsAny (ByNumber (ItemNumber (item_at release.place)) (λ item.
-        AreRows kept_crs seq (release_row seq item release ∷ [])))
-        (state S.Store tx.old.conn.now) (state S.Store tx.new.conn.now) result }
-    ensures damage { TellsDamage
+    ensures looks_up { IsLookUp S.Store
+        (TellsRows registers.releases seq (λ book. release_row seq (or_zero (seq_of_item book
+        (item_at release.place))) release ∷ []))
+        (ByNumber (ItemNumber (item_at release.place)) (λ item. AreRows kept_crs seq (release_row
+        seq item release ∷ [])))
         (Either (ItemDamage (item_at release.place)) (RowsDamage kept_crs seq))
-        (state S.Store tx.old.conn.now) (state S.Store tx.new.conn.now) result }
+        tx.old tx.new result }
 {
     let found = place_number(alloc, tx, &release.place)?;
     let rows = crs_by_seq(alloc, tx, seq)?;
@@ -120,14 +109,12 @@ fn are_lines<S: Alter>(
     lines: &[Line],
 ) -> Result<bool, TableFault>
     requires { length lines.now ≤ MOST_LINES }
-    ensures same_reference { tx.new.conn.ghost_name ≡ tx.old.conn.ghost_name }
-    ensures reads { Reads (TellsRows registers.release_lines seq
-        (λ book. lines_from (release_line_row book) seq 1 lines.now))
-        (state S.Store tx.old.conn.now) (state S.Store tx.new.conn.now) result }
-    ensures any_rows { ReadsAny (AreLines seq lines.now)
-        (state S.Store tx.old.conn.now) (state S.Store tx.new.conn.now) result }
-    ensures damage { TellsDamage (Either (RowsDamage kept_crs_line seq) (LinesDamage lines.now))
-        (state S.Store tx.old.conn.now) (state S.Store tx.new.conn.now) result }
+    ensures looks_up { IsLookUp S.Store
+        (TellsRows registers.release_lines seq (λ book. lines_from (release_line_row book) seq 1
+        lines.now))
+        (AreLines seq lines.now)
+        (Either (RowsDamage kept_crs_line seq) (LinesDamage lines.now))
+        tx.old tx.new result }
 {
     let rows = crs_line_by_seq(alloc, tx, seq)?;
     let mut given = Vec::new(alloc);
@@ -151,13 +138,11 @@ pub(crate) fn is_release<S: Alter>(
     lines: &[Line],
 ) -> Result<bool, TableFault>
     requires { length lines.now ≤ MOST_LINES }
-    ensures same_reference { tx.new.conn.ghost_name ≡ tx.old.conn.ghost_name }
-    ensures reads { Reads (Tells seq (Released release lines.now))
-        (state S.Store tx.old.conn.now) (state S.Store tx.new.conn.now) result }
-    ensures any_rows { ReadsAny (Says seq (Released release lines.now))
-        (state S.Store tx.old.conn.now) (state S.Store tx.new.conn.now) result }
-    ensures damage { TellsDamage (SaysDamage seq (Released release lines.now))
-        (state S.Store tx.old.conn.now) (state S.Store tx.new.conn.now) result }
+    ensures looks_up { IsLookUp S.Store
+        (Tells seq (Released release lines.now))
+        (Says seq (Released release lines.now))
+        (SaysDamage seq (Released release lines.now))
+        tx.old tx.new result }
 {
     let same = is_release_row(alloc, tx, seq, release)?;
     let on_lines = are_lines(alloc, tx, seq, lines)?;

@@ -1,16 +1,13 @@
 //! Whether the entry with a number loads a programme, states an opening, defers a defect or extends its interval, by its rows.
-ghost use Rattle.std.specs.Prelude.{◌≡◌, ◌≤◌, ◌∷◌, [], length};
-ghost use Rattle.sqlite.specs.Held.{state};
+ghost use Rattle.std.specs.Prelude.{◌≤◌, ◌∷◌, [], length};
 ghost use Rattle.mx_book.specs.commands.Act.{Deferred, Extended, Loaded, Opened};
 ghost use Rattle.mx_book.specs.declared.commands.programme_shape.TheConstants.{MOST_TASKS};
 ghost use Rattle.mx_registers.specs.Lines.{lines_from};
 ghost use Rattle.mx_registers.specs.Registers.{programme_row, task_row};
 ghost use Rattle.mx_layout.specs.kept.Cells.{kept_programme, kept_task};
 ghost use Rattle.mx_row_rules.specs.found.Given as registers;
-ghost use Rattle.mx_lookups.specs.numbers.AnyRows.{ReadsAny};
+ghost use Rattle.mx_lookups.specs.numbers.LookUp.{IsLookUp};
 ghost use Rattle.mx_row_judge.specs.known.Known.{AreRows, RowsDamage, Says, SaysDamage, Tells, TellsRows};
-ghost use Rattle.mx_lookups.specs.numbers.Reads.{Reads};
-ghost use Rattle.mx_lookups.specs.numbers.Told.{TellsDamage};
 
 use crate::known::lines::task_rows;
 use mx_book::commands::{Deferral, Extension, Opening, Programme, Task};
@@ -35,14 +32,11 @@ fn is_programme_row<S: Alter>(
     seq: u32,
     programme: Programme,
 ) -> Result<bool, TableFault>
-    ensures same_reference { tx.new.conn.ghost_name ≡ tx.old.conn.ghost_name }
-    ensures reads { Reads
+    ensures looks_up { IsLookUp S.Store
         (TellsRows registers.programmes seq (λ book. programme_row seq programme ∷ []))
-        (state S.Store tx.old.conn.now) (state S.Store tx.new.conn.now) result }
-    ensures any_rows { ReadsAny (AreRows kept_programme seq (programme_row seq programme ∷ []))
-        (state S.Store tx.old.conn.now) (state S.Store tx.new.conn.now) result }
-    ensures damage { TellsDamage (RowsDamage kept_programme seq)
-        (state S.Store tx.old.conn.now) (state S.Store tx.new.conn.now) result }
+        (AreRows kept_programme seq (programme_row seq programme ∷ []))
+        (RowsDamage kept_programme seq)
+        tx.old tx.new result }
 {
     let rows = programme_by_seq(alloc, tx, seq)?;
     let row = programme_row(seq, programme);
@@ -57,14 +51,11 @@ fn are_tasks<S: Alter>(
     tasks: &[Task],
 ) -> Result<bool, TableFault>
     requires { length tasks.now ≤ MOST_TASKS }
-    ensures same_reference { tx.new.conn.ghost_name ≡ tx.old.conn.ghost_name }
-    ensures reads { Reads
+    ensures looks_up { IsLookUp S.Store
         (TellsRows registers.tasks seq (λ book. lines_from task_row seq 1 tasks.now))
-        (state S.Store tx.old.conn.now) (state S.Store tx.new.conn.now) result }
-    ensures any_rows { ReadsAny (AreRows kept_task seq (lines_from task_row seq 1 tasks.now))
-        (state S.Store tx.old.conn.now) (state S.Store tx.new.conn.now) result }
-    ensures damage { TellsDamage (RowsDamage kept_task seq)
-        (state S.Store tx.old.conn.now) (state S.Store tx.new.conn.now) result }
+        (AreRows kept_task seq (lines_from task_row seq 1 tasks.now))
+        (RowsDamage kept_task seq)
+        tx.old tx.new result }
 {
     let rows = task_by_seq(alloc, tx, seq)?;
     let given = task_rows(alloc, seq, tasks)?;
@@ -80,13 +71,11 @@ pub(crate) fn is_programme<S: Alter>(
     tasks: &[Task],
 ) -> Result<bool, TableFault>
     requires { length tasks.now ≤ MOST_TASKS }
-    ensures same_reference { tx.new.conn.ghost_name ≡ tx.old.conn.ghost_name }
-    ensures reads { Reads (Tells seq (Loaded programme tasks.now))
-        (state S.Store tx.old.conn.now) (state S.Store tx.new.conn.now) result }
-    ensures any_rows { ReadsAny (Says seq (Loaded programme tasks.now))
-        (state S.Store tx.old.conn.now) (state S.Store tx.new.conn.now) result }
-    ensures damage { TellsDamage (SaysDamage seq (Loaded programme tasks.now))
-        (state S.Store tx.old.conn.now) (state S.Store tx.new.conn.now) result }
+    ensures looks_up { IsLookUp S.Store
+        (Tells seq (Loaded programme tasks.now))
+        (Says seq (Loaded programme tasks.now))
+        (SaysDamage seq (Loaded programme tasks.now))
+        tx.old tx.new result }
 {
     let same = is_programme_row(alloc, tx, seq, programme)?;
     let on_lines = are_tasks(alloc, tx, seq, tasks)?;
@@ -100,13 +89,11 @@ pub(crate) fn is_opening<S: Alter>(
     seq: u32,
     opening: Opening,
 ) -> Result<bool, TableFault>
-    ensures same_reference { tx.new.conn.ghost_name ≡ tx.old.conn.ghost_name }
-    ensures reads { Reads (Tells seq (Opened opening))
-        (state S.Store tx.old.conn.now) (state S.Store tx.new.conn.now) result }
-    ensures any_rows { ReadsAny (Says seq (Opened opening))
-        (state S.Store tx.old.conn.now) (state S.Store tx.new.conn.now) result }
-    ensures damage { TellsDamage (SaysDamage seq (Opened opening))
-        (state S.Store tx.old.conn.now) (state S.Store tx.new.conn.now) result }
+    ensures looks_up { IsLookUp S.Store
+        (Tells seq (Opened opening))
+        (Says seq (Opened opening))
+        (SaysDamage seq (Opened opening))
+        tx.old tx.new result }
 {
     let found = item_number(alloc, tx, &opening.item)?;
     let rows = opening_by_seq(alloc, tx, seq)?;
@@ -121,13 +108,11 @@ pub(crate) fn is_deferral<S: Alter>(
     seq: u32,
     deferral: Deferral,
 ) -> Result<bool, TableFault>
-    ensures same_reference { tx.new.conn.ghost_name ≡ tx.old.conn.ghost_name }
-    ensures reads { Reads (Tells seq (Deferred deferral))
-        (state S.Store tx.old.conn.now) (state S.Store tx.new.conn.now) result }
-    ensures any_rows { ReadsAny (Says seq (Deferred deferral))
-        (state S.Store tx.old.conn.now) (state S.Store tx.new.conn.now) result }
-    ensures damage { TellsDamage (SaysDamage seq (Deferred deferral))
-        (state S.Store tx.old.conn.now) (state S.Store tx.new.conn.now) result }
+    ensures looks_up { IsLookUp S.Store
+        (Tells seq (Deferred deferral))
+        (Says seq (Deferred deferral))
+        (SaysDamage seq (Deferred deferral))
+        tx.old tx.new result }
 {
     let found = aircraft_number(alloc, tx, &deferral.tail)?;
     let rows = defect_by_seq(alloc, tx, seq)?;
@@ -142,13 +127,11 @@ pub(crate) fn is_extension<S: Alter>(
     seq: u32,
     extension: Extension,
 ) -> Result<bool, TableFault>
-    ensures same_reference { tx.new.conn.ghost_name ≡ tx.old.conn.ghost_name }
-    ensures reads { Reads (Tells seq (Extended extension))
-        (state S.Store tx.old.conn.now) (state S.Store tx.new.conn.now) result }
-    ensures any_rows { ReadsAny (Says seq (Extended extension))
-        (state S.Store tx.old.conn.now) (state S.Store tx.new.conn.now) result }
-    ensures damage { TellsDamage (SaysDamage seq (Extended extension))
-        (state S.Store tx.old.conn.now) (state S.Store tx.new.conn.now) result }
+    ensures looks_up { IsLookUp S.Store
+        (Tells seq (Extended extension))
+        (Says seq (Extended extension))
+        (SaysDamage seq (Extended extension))
+        tx.old tx.new result }
 {
     let found = defect_number(alloc, tx, &extension.defect)?;
     let rows = extension_by_seq(alloc, tx, seq)?;

@@ -10,11 +10,12 @@ ghost use Rattle.mx_lookups.specs.numbers.AnyRows.{ReadsAny};
 ghost use Rattle.mx_lookups.specs.numbers.Reads.{Reads};
 ghost use Rattle.mx_row_questions.specs.entries.Stated.{FittingStated, OpeningStated, RemovalStated, SectorStated};
 
-use crate::entries::names::{item_of_number, serial_of_number};
+use crate::entries::names::item_of_number;
 use mx_base::rows::FittingRow;
 use mx_base::{Serial, Tail};
 use mx_book::commands::Body;
 use mx_layout::TableFault;
+use mx_lookups::lists::serial_of_number;
 use mx_lookups::numbers::items::tail_of_number;
 use mx_registers::plain::said::{
     body_of_fitting, body_of_opening, body_of_removal, body_of_sector,

@@ -1,38 +1,20 @@
 //! The names of things by the numbers of the entries that added them.
 ghost use Rattle.std.specs.Prelude.{◌≡◌};
 ghost use Rattle.sqlite.specs.Held.{state};
-ghost use Rattle.mx_registers.specs.Names.{defect_at, item_at, serial_at};
+ghost use Rattle.mx_registers.specs.Names.{defect_at, item_at};
 ghost use Rattle.mx_lookups.specs.numbers.AnyRows.{ReadsAny};
-ghost use Rattle.mx_lookups.specs.numbers.Given.{SerialOfNumber};
 ghost use Rattle.mx_lookups.specs.numbers.Reads.{Reads};
 ghost use Rattle.mx_row_questions.specs.entries.Names.{DocOfDefect, ItemOfNumber};
 
-use mx_base::{Doc, Serial};
+use mx_base::Doc;
 use mx_book::commands::Item;
 use mx_layout::TableFault;
+use mx_lookups::lists::serial_of_number;
 use mx_lookups::numbers::items::tail_of_number;
-use mx_row_rules::found::components::serial_in;
 use mx_row_rules::found::entries::deferred_doc;
 use mx_table_rows::chosen::entries::entry_by_seq;
-use mx_table_rows::chosen::items::component_by_seq;
 use sqlite::{Alter, Transaction};
 use std::alloc::Global;
-
-// The serial number of the component that the entry with this number added.
-pub(crate) fn serial_of_number<S: Alter>(
-    alloc: Global,
-    tx: &mut Transaction<'_, S>,
-    number: u32,
-) -> Result<Option<Serial>, TableFault>
-    ensures same_reference { tx.new.conn.ghost_name ≡ tx.old.conn.ghost_name }
-    ensures reads { Reads (λ book serial. serial ≡ serial_at book number)
-        (state S.Store tx.old.conn.now) (state S.Store tx.new.conn.now) result }
-    ensures any_rows { ReadsAny (SerialOfNumber number)
-        (state S.Store tx.old.conn.now) (state S.Store tx.new.conn.now) result }
-{
-    let rows = component_by_seq(alloc, tx, number)?;
-    Ok(serial_in(&rows))
-}
 
 // The item that the entry with this number added.
 pub(crate) fn item_of_number<S: Alter>(

@@ -1,12 +1,10 @@
 //! The list of an aircraft that a question asks for, and the life of an item, asked inside a transaction.
 ghost use Rattle.std.specs.Prelude.{◌≡◌, ok_or};
-ghost use Rattle.sqlite.specs.Held.{state};
 ghost use Rattle.mx_book.specs.Life.{life_now};
 ghost use Rattle.mx_book.specs.declared.verdict.Refusal.TheVariants.{UnknownAircraft};
 ghost use Rattle.mx_lists.specs.Report.{report_of};
-ghost use Rattle.mx_lookups.specs.numbers.AnyRows.{ReadsAny};
-ghost use Rattle.mx_lookups.specs.numbers.Reads.{Reads};
-ghost use Rattle.mx_lookups.specs.numbers.Told.{TellsDamage, TotalDamage};
+ghost use Rattle.mx_lookups.specs.numbers.LookUp.{IsLookUp};
+ghost use Rattle.mx_lookups.specs.numbers.Told.{TotalDamage};
 ghost use Rattle.mx_row_judge.specs.Answering.{AnswerListsAs};
 ghost use Rattle.mx_row_judge.specs.Damage.{ListDamage};
 ghost use Rattle.mx_row_judge.specs.View.{Asks};
@@ -55,26 +53,6 @@ fn list_of_rows<S: Alter>(
     answered(list_report(rows, alloc, question))
 }
 
-// The same, inside a transaction.
-fn list_inside<S: Alter>(
-    alloc: Global,
-    tx: &mut Transaction<'_, S>,
-    question: &Question,
-) -> Result<Result<Report, Refusal>, TableFault>
-    ensures same_reference { tx.new.conn.ghost_name ≡ tx.old.conn.ghost_name }
-    ensures asks { Asks S.Store AnswerListsAs ListDamage (λ book answer. answer
-        ≡ ok_or (report_of book question.now) UnknownAircraft)
-        tx.old.conn.now tx.new.conn.now result }
-    ensures kind { HasKind question.now result }
-{
-    let mut rows = Rows {
-        alloc,
-        tx,
-        questions: ListQuestions,
-    };
-    list_of_rows(&mut rows, question)
-}
-
 /// The list of an aircraft that a question asks for, by the rows that a transaction shows: `Err(UnknownAircraft)` where no
 /// aircraft has the registration. It asks for the aircraft, and then what the list asks, each by the rows that have what is
 /// asked for: a row that no question finds is not looked at.
@@ -83,18 +61,20 @@ pub fn list_rows<S: Alter>(
     tx: &mut Transaction<'_, S>,
     question: &Question,
 ) -> Result<Result<Report, Refusal>, TableFault>
-    ensures same_reference { tx.new.conn.ghost_name ≡ tx.old.conn.ghost_name }
-    ensures reads { Reads (λ book answer. answer
-        ≡ ok_or (report_of book question.now) UnknownAircraft)
-        (state S.Store tx.old.conn.now) (state S.Store tx.new.conn.now) result }
-    ensures any_rows { ReadsAny (ListOf (λ book. report_of book question.now))
-        (state S.Store tx.old.conn.now) (state S.Store tx.new.conn.now) result }
-    ensures damage { TellsDamage ListDamage
-        (state S.Store tx.old.conn.now) (state S.Store tx.new.conn.now) result }
+    ensures looks_up { IsLookUp S.Store
+        (λ book answer. answer ≡ ok_or (report_of book question.now) UnknownAircraft)
+        (ListOf (λ book. report_of book question.now))
+        ListDamage
+        tx.old tx.new result }
     ensures kind { HasKind question.now result }
 {
     aircraft_number(alloc, tx, question.tail())?;
-    list_inside(alloc, tx, question)
+    let mut rows = Rows {
+        alloc,
+        tx,
+        questions: ListQuestions,
+    };
+    list_of_rows(&mut rows, question)
 }
 
 // Why an item is unknown.
@@ -113,14 +93,11 @@ pub fn life<S: Alter>(
     tx: &mut Transaction<'_, S>,
     item: &Item,
 ) -> Result<Result<Use, Refusal>, TableFault>
-    ensures same_reference { tx.new.conn.ghost_name ≡ tx.old.conn.ghost_name }
-    ensures reads { Reads (λ book answer. answer
-        ≡ ok_or (life_now book item.now) (unknown item.now))
-        (state S.Store tx.old.conn.now) (state S.Store tx.new.conn.now) result }
-    ensures any_rows { ReadsAny (LifeAnswered item.now)
-        (state S.Store tx.old.conn.now) (state S.Store tx.new.conn.now) result }
-    ensures damage { TellsDamage (TotalDamage item.now)
-        (state S.Store tx.old.conn.now) (state S.Store tx.new.conn.now) result }
+    ensures looks_up { IsLookUp S.Store
+        (λ book answer. answer ≡ ok_or (life_now book item.now) (unknown item.now))
+        (LifeAnswered item.now)
+        (TotalDamage item.now)
+        tx.old tx.new result }
 {
     let life = lives::life(alloc, tx, item)?;
     Ok(life.ok_or(unknown_of(item)))

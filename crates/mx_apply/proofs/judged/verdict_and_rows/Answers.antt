@@ -6,15 +6,15 @@ use Rattle.mx_apply.proofs.judged.verdict_and_rows.Goals as goal
 
 pub returns-in_ok-rows-in-New-clause-reads : goal.returns-in_ok-rows-in-New-clause-reads
 returns-in_ok-rows-in-New-clause-reads g c =
-    told _ _ _ _ _ _ (λ book b both. (sym both.0 ∙ c.in-New.is, both.1)) (reads_then _ _ _ _ _ _ _ c.in_ok-verdict.ensures.reads c.in_ok-rows-in-New.ensures.reads)
+    told _ _ _ _ _ _ (λ book b both. (sym both.0 ∙ c.in-New.is, both.1)) (reads_then _ _ _ _ _ _ _ c.in_ok-verdict.ensures.looks_up.reads c.in_ok-rows-in-New.ensures.reads)
 
 pub returns-in_ok-rows-in-New-clause-any_rows : goal.returns-in_ok-rows-in-New-clause-any_rows
 returns-in_ok-rows-in-New-clause-any_rows g c =
     any_so _ _ _ _ _ _ (λ trees both. record { by = λ book answers. sym (both.0 book answers) ∙ c.in-New.is; rows = both.1 })
-    (any_then _ _ _ _ _ _ _ _ c.in_ok-verdict.ensures.reads c.in_ok-verdict.ensures.any_rows c.in_ok-rows-in-New.ensures.reads.within c.in_ok-rows-in-New.ensures.any_rows)
+    (any_then _ _ _ _ _ _ _ _ c.in_ok-verdict.ensures.looks_up.reads c.in_ok-verdict.ensures.looks_up.any_rows c.in_ok-rows-in-New.ensures.reads.within c.in_ok-rows-in-New.ensures.any_rows)
 
 pub returns-in-Already-clause-any_rows : goal.returns-in-Already-clause-any_rows
-returns-in-Already-clause-any_rows g c = any_so _ _ _ _ _ _ (λ trees of. record { by = λ book answers. sym (of book answers) ∙ c.in-Already.is; rows = tt }) c.in_ok-verdict.ensures.any_rows
+returns-in-Already-clause-any_rows g c = any_so _ _ _ _ _ _ (λ trees of. record { by = λ book answers. sym (of book answers) ∙ c.in-Already.is; rows = tt }) c.in_ok-verdict.ensures.looks_up.any_rows
 
 pub returns-in-Refused-clause-any_rows : goal.returns-in-Refused-clause-any_rows
-returns-in-Refused-clause-any_rows g c = any_so _ _ _ _ _ _ (λ trees of. record { by = λ book answers. sym (of book answers) ∙ c.in-Refused.is; rows = tt }) c.in_ok-verdict.ensures.any_rows
+returns-in-Refused-clause-any_rows g c = any_so _ _ _ _ _ _ (λ trees of. record { by = λ book answers. sym (of book answers) ∙ c.in-Refused.is; rows = tt }) c.in_ok-verdict.ensures.looks_up.any_rows

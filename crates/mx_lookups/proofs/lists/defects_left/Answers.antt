@@ -1,4 +1,4 @@
-use Rattle.std.proofs.Common.{◌≡◌, ◌∙◌, ℕ, pos, Bool, false, true, cond, List, Option, None, Some, ap, filter, nat_eq, refl, subst, sym, inl, inr}
+use Rattle.std.proofs.Common.{◌≡◌, ◌∙◌, ℕ, pos, Bool, false, true, cond, List, Option, None, Some, ap, filter, nat_eq, refl, subst, sym, inl, inr, rules}
 use Rattle.std.specs.Prelude.{is_some}
 use Rattle.std.specs.Option.{option_map}
 use Rattle.sqlite.specs.declared.types.Value.TheVariants.{Int}
@@ -27,9 +27,6 @@ rows_at n book = filter (λ (row : DeferralRow). nat_eq row.aircraft n) (deferra
 abbrev HasEntry : List Entry → DeferralRow → Type 0
 HasEntry book row = is_some (doc_at book row.seq) ≡ true
 
-pub returns-in_err-rows-clause-reads : goal.returns-in_err-rows-clause-reads
-returns-in_err-rows-clause-reads g c = stopped _ _ _ _ _ _ c.from_residual.ensures.1 (deferrals_of_aircraft c.args.aircraft c.in_err-rows.ensures.reads)
-
 pub loop-row-init : goal.loop-row-init
 loop-row-init g c = record {
   same_reference = c.in_ok-rows.ensures.same_reference;
@@ -49,55 +46,77 @@ loop-row-preserved-in_ok-push-in-Some-known g c =
     let name = c.in-Some-known.doc in
     let known : ◌≡◌ {A = Option (Option (List ℕ))} c.in_ok-found.found (Some (Some name)) = c.in-Some-found.is ∙ ap Some c.in-Some-known.is in
     record {
-      same_reference = c.in_ok-found.ensures.same_reference ∙ c.loop-row.invariant.same_reference;
+      same_reference = c.in_ok-found.ensures.looks_up.same_reference ∙ c.loop-row.invariant.same_reference;
       walks = said_more kept_defect (rows_at c.args.aircraft) (λ book r. open_said book tail r) HasEntry (has_value 1 (Int (pos c.args.aircraft))) (OpenSaid c.args.tail.now) _ _ _ _ _ c.in-Some.later.now row c.loop-row.invariant.walks c.in-Some.ensures.cases.0 _ (DocIfOpen row.seq) c.in_ok-found.found c.defect_said.result _
           c.in_ok-push-in-Some-known.ensures.items
           (λ book found. left_open (λ doc. defect_said doc tail row) (is_rectified_at book row.seq) (doc_at book row.seq) name (sym known ∙ found) ∙ ap Some (sym c.defect_said.ensures))
-          (λ trees any. (Some name, subst (DocIfOpen row.seq trees) known any, ap Some c.defect_said.ensures)) c.in_ok-found.ensures.reads c.in_ok-found.ensures.any_rows;
+          (λ trees any. (Some name, subst (DocIfOpen row.seq trees) known any, ap Some c.defect_said.ensures)) c.in_ok-found.ensures.looks_up.reads c.in_ok-found.ensures.looks_up.any_rows;
     }
-
-pub returns-in_err-found-clause-reads : goal.returns-in_err-found-clause-reads
-returns-in_err-found-clause-reads g c =
-    walk_stopped kept_defect (rows_at c.args.aircraft) (λ book r. open_said book c.args.tail.now r) HasEntry (has_value 1 (Int (pos c.args.aircraft))) (OpenSaid c.args.tail.now) _ _ _ _ _ c.loop-row.invariant.walks _ _ _ _ c.from_residual-in_err-found.ensures.1 c.in_err-found.ensures.reads
 
 -- the entry of a defect that was not rectified is there
 no_entry : {X : Type 0} (rectified : Bool) (doc : Option X) → is_some doc ≡ true → ◌≡◌ {A = Option (Option X)} (Some None) (cond rectified None (Some doc)) → ⊥
 no_entry true doc there h = absurd cc
 no_entry false doc there h = (let e : doc ≡ None = cc in let f = ap is_some (sym e) ∙ there in absurd cc)
 
-pub returns-in-None-known-clause-reads : goal.returns-in-None-known-clause-reads
-returns-in-None-known-clause-reads g c =
-    let row = c.in-Some.row.now in
-    let found = c.in_ok-found.ensures in
-    let none : ◌≡◌ {A = Option (Option (List ℕ))} c.in_ok-found.found (Some None) = c.in-Some-found.is ∙ ap Some c.in-None-known.is in
-    missing kept_defect (rows_at c.args.aircraft) (λ book r. open_said book c.args.tail.now r) HasEntry (has_value 1 (Int (pos c.args.aircraft))) (OpenSaid c.args.tail.now) _ _ _ _ _ c.in-Some.later.now row c.loop-row.invariant.walks c.in-Some.ensures.cases.0 _ _ (DocIfOpen row.seq) c.in_ok-found.found table.Defect
-    (λ book there said. no_entry (is_rectified_at book row.seq) (doc_at book row.seq) there (sym none ∙ said))
-    (λ trees kept any. entry_unmet trees row kept (subst (DocIfOpen row.seq trees) none any).1) found.reads found.any_rows
+pub returns-in_err-rows : goal.returns-in_err-rows
+returns-in_err-rows g c = record {
+  looks_up = record {
+    same_reference = search rules;
+    reads = stopped _ _ _ _ _ _ c.from_residual.ensures.1 (deferrals_of_aircraft c.args.aircraft c.in_err-rows.ensures.reads);
+    any_rows = search rules;
+    damage = told_as (λ _ _. inl) (unread deferrals c.from_residual.ensures.1 c.in_err-rows.ensures.reads);
+  };
+}
 
-pub returns-clause-reads : goal.returns-clause-reads
-returns-clause-reads g c =
-    walk_ended kept_defect (rows_at c.args.aircraft) (λ book r. open_said book c.args.tail.now r) HasEntry (has_value 1 (Int (pos c.args.aircraft))) (OpenSaid c.args.tail.now) (λ v. v.items) _ _ _ _ c.in_default.ensures.cases c.loop-row.invariant.walks
+pub returns-in_err-found : goal.returns-in_err-found
+returns-in_err-found g c = record {
+  looks_up = record {
+    same_reference = search rules;
+    reads = walk_stopped kept_defect (rows_at c.args.aircraft) (λ book r. open_said book c.args.tail.now r) HasEntry (has_value 1 (Int (pos c.args.aircraft))) (OpenSaid c.args.tail.now) _ _ _ _ _ c.loop-row.invariant.walks _ _ _ _ c.from_residual-in_err-found.ensures.1 c.in_err-found.ensures.looks_up.reads;
+    any_rows = search rules;
+    damage =
+        let found = c.in_err-found.ensures.looks_up in
+        told_each kept_defect (rows_at c.args.aircraft) (λ book r. open_said book c.args.tail.now r) HasEntry (has_value 1 (Int (pos c.args.aircraft))) (OpenSaid c.args.tail.now) _ _ _ _ _ c.in-Some.later.now c.in-Some.row.now c.loop-row.invariant.walks c.in-Some.ensures.cases.0 (λ row. Either (DocIfOpenDamage row.seq) (Of table.Defect (HasNoEntry row.seq))) _ found.reads.within (handed (λ _ _. inl) c.from_residual-in_err-found.ensures.1 found.damage);
+  };
+}
 
-pub returns-in_err-push-in-Some-known-clause-reads : goal.returns-in_err-push-in-Some-known-clause-reads
-returns-in_err-push-in-Some-known-clause-reads g c =
-    walk_starved kept_defect (rows_at c.args.aircraft) (λ book r. open_said book c.args.tail.now r) HasEntry (has_value 1 (Int (pos c.args.aircraft))) (OpenSaid c.args.tail.now) _ _ _ _ _ c.in-Some.later.now c.in-Some.row.now c.loop-row.invariant.walks c.in-Some.ensures.cases.0 _ _ c.in_ok-found.found _ c.from_residual-in_err-push-in-Some-known.ensures.1 c.in_ok-found.ensures.reads
+pub returns-in-None-known : goal.returns-in-None-known
+returns-in-None-known g c = record {
+  looks_up = record {
+    same_reference = search rules;
+    reads =
+        let row = c.in-Some.row.now in
+        let found = c.in_ok-found.ensures.looks_up in
+        let none : ◌≡◌ {A = Option (Option (List ℕ))} c.in_ok-found.found (Some None) = c.in-Some-found.is ∙ ap Some c.in-None-known.is in
+        missing kept_defect (rows_at c.args.aircraft) (λ book r. open_said book c.args.tail.now r) HasEntry (has_value 1 (Int (pos c.args.aircraft))) (OpenSaid c.args.tail.now) _ _ _ _ _ c.in-Some.later.now row c.loop-row.invariant.walks c.in-Some.ensures.cases.0 _ _ (DocIfOpen row.seq) c.in_ok-found.found table.Defect
+        (λ book there said. no_entry (is_rectified_at book row.seq) (doc_at book row.seq) there (sym none ∙ said))
+        (λ trees kept any. entry_unmet trees row kept (subst (DocIfOpen row.seq trees) none any).1) found.reads found.any_rows;
+    any_rows = search rules;
+    damage =
+        let row = c.in-Some.row.now in
+        let found = c.in_ok-found.ensures.looks_up in
+        let none : ◌≡◌ {A = Option (Option (List ℕ))} c.in_ok-found.found (Some None) = c.in-Some-found.is ∙ ap Some c.in-None-known.is in
+        told_each kept_defect (rows_at c.args.aircraft) (λ book r. open_said book c.args.tail.now r) HasEntry (has_value 1 (Int (pos c.args.aircraft))) (OpenSaid c.args.tail.now) _ _ _ _ _ c.in-Some.later.now row c.loop-row.invariant.walks c.in-Some.ensures.cases.0 (λ row. Either (DocIfOpenDamage row.seq) (Of table.Defect (HasNoEntry row.seq))) _ found.reads.within
+        (told_here table.Defect (λ clean has. (let gone = subst (DocIfOpen row.seq _) none (found.any_rows.found clean has) in inr (refl, (gone.0, has_none (λ r. r.doc) gone.1)))));
+  };
+}
 
-pub returns-clause-any_rows : goal.returns-clause-any_rows
-returns-clause-any_rows g c =
-    walk_said kept_defect (rows_at c.args.aircraft) (λ book r. open_said book c.args.tail.now r) HasEntry (has_value 1 (Int (pos c.args.aircraft))) (OpenSaid c.args.tail.now) (λ v. v.items) _ _ _ _ c.in_default.ensures.cases c.loop-row.invariant.walks
+pub returns : goal.returns
+returns g c = record {
+  looks_up = record {
+    same_reference = search rules;
+    reads = walk_ended kept_defect (rows_at c.args.aircraft) (λ book r. open_said book c.args.tail.now r) HasEntry (has_value 1 (Int (pos c.args.aircraft))) (OpenSaid c.args.tail.now) (λ v. v.items) _ _ _ _ c.in_default.ensures.cases c.loop-row.invariant.walks;
+    any_rows = walk_said kept_defect (rows_at c.args.aircraft) (λ book r. open_said book c.args.tail.now r) HasEntry (has_value 1 (Int (pos c.args.aircraft))) (OpenSaid c.args.tail.now) (λ v. v.items) _ _ _ _ c.in_default.ensures.cases c.loop-row.invariant.walks;
+    damage = search rules;
+  };
+}
 
-pub returns-in_err-rows-clause-damage : goal.returns-in_err-rows-clause-damage
-returns-in_err-rows-clause-damage g c = told_as (λ _ _. inl) (unread deferrals c.from_residual.ensures.1 c.in_err-rows.ensures.reads)
-
-pub returns-in_err-found-clause-damage : goal.returns-in_err-found-clause-damage
-returns-in_err-found-clause-damage g c =
-    let found = c.in_err-found.ensures in
-    told_each kept_defect (rows_at c.args.aircraft) (λ book r. open_said book c.args.tail.now r) HasEntry (has_value 1 (Int (pos c.args.aircraft))) (OpenSaid c.args.tail.now) _ _ _ _ _ c.in-Some.later.now c.in-Some.row.now c.loop-row.invariant.walks c.in-Some.ensures.cases.0 (λ row. Either (DocIfOpenDamage row.seq) (Of table.Defect (HasNoEntry row.seq))) _ found.reads.within (handed (λ _ _. inl) c.from_residual-in_err-found.ensures.1 found.damage)
-
-pub returns-in-None-known-clause-damage : goal.returns-in-None-known-clause-damage
-returns-in-None-known-clause-damage g c =
-    let row = c.in-Some.row.now in
-    let found = c.in_ok-found.ensures in
-    let none : ◌≡◌ {A = Option (Option (List ℕ))} c.in_ok-found.found (Some None) = c.in-Some-found.is ∙ ap Some c.in-None-known.is in
-    told_each kept_defect (rows_at c.args.aircraft) (λ book r. open_said book c.args.tail.now r) HasEntry (has_value 1 (Int (pos c.args.aircraft))) (OpenSaid c.args.tail.now) _ _ _ _ _ c.in-Some.later.now row c.loop-row.invariant.walks c.in-Some.ensures.cases.0 (λ row. Either (DocIfOpenDamage row.seq) (Of table.Defect (HasNoEntry row.seq))) _ found.reads.within
-    (told_here table.Defect (λ clean has. (let gone = subst (DocIfOpen row.seq _) none (found.any_rows.found clean has) in inr (refl, (gone.0, has_none (λ r. r.doc) gone.1)))))
+pub returns-in_err-push-in-Some-known : goal.returns-in_err-push-in-Some-known
+returns-in_err-push-in-Some-known g c = record {
+  looks_up = record {
+    same_reference = search rules;
+    reads = walk_starved kept_defect (rows_at c.args.aircraft) (λ book r. open_said book c.args.tail.now r) HasEntry (has_value 1 (Int (pos c.args.aircraft))) (OpenSaid c.args.tail.now) _ _ _ _ _ c.in-Some.later.now c.in-Some.row.now c.loop-row.invariant.walks c.in-Some.ensures.cases.0 _ _ c.in_ok-found.found _ c.from_residual-in_err-push-in-Some-known.ensures.1 c.in_ok-found.ensures.looks_up.reads;
+    any_rows = search rules;
+    damage = search rules;
+  };
+}

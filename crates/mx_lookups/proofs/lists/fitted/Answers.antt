@@ -1,23 +1,18 @@
-use Rattle.std.proofs.Common.{◌∙◌, ap, map, sym}
+use Rattle.std.proofs.Common.{◌∙◌, ap, map, sym, inr}
 use Rattle.mx_row_rules.proofs.FoundProofs.FittedLemmas.{none_fitted, place_of, places_found}
-use Rattle.mx_lookups.proofs.NumbersProofs.AnyLemmas.{by_nothing, by_result}
-use Rattle.mx_lookups.proofs.NumbersProofs.ReadLemmas.{follows, reads_then, told}
-use Rattle.mx_lookups.proofs.NumbersProofs.ToldLemmas.{told_by}
+use Rattle.mx_lookups.proofs.NumbersProofs.Composed.{answers, behind, by_first, implies, none_given, some_given}
+use Rattle.mx_lookups.specs.numbers.Given.{AircraftNumber}
 use Rattle.mx_lookups.proofs.lists.fitted.Goals as goal
 
-pub returns-in-Some-clause-reads : goal.returns-in-Some-clause-reads
-returns-in-Some-clause-reads g c =
-    follows _ _ _ _ c.places_fitted.result (λ book v b both. both.1 ∙ places_found book c.args.tail.now c.in-Some.number b (sym both.0 ∙ c.in-Some.is))
-    (reads_then _ _ _ _ _ _ _ c.in_ok-found.ensures.reads c.places_fitted.ensures.reads)
+pub returns-in-Some : goal.returns-in-Some
+returns-in-Some g c = record {
+  looks_up =
+      implies c.places_fitted.result
+      (λ book v b both. both.1 ∙ places_found book c.args.tail.now c.in-Some.number b (sym both.0 ∙ c.in-Some.is))
+      (λ _ v both. some_given c.in-Some.is both.0 both.1)
+      (λ _ _ it. inr (_, by_first (AircraftNumber _) c.in-Some.is it.0, it.1))
+      (behind c.in_ok-found.ensures.looks_up c.places_fitted.ensures.looks_up);
+}
 
-pub returns-in-None-clause-reads : goal.returns-in-None-clause-reads
-returns-in-None-clause-reads g c = told _ _ _ _ _ _ (λ book b found. c.new.ensures.items ∙ sym (ap (map place_of) (none_fitted book c.args.tail.now b (sym found ∙ c.in-None.is)))) c.in_ok-found.ensures.reads
-
-pub returns-in-Some-clause-any_rows : goal.returns-in-Some-clause-any_rows
-returns-in-Some-clause-any_rows g c = by_result _ _ _ _ (λ places. places.items) _ _ _ _ _ c.places_fitted.result c.in-Some.is c.in_ok-found.ensures.reads c.in_ok-found.ensures.any_rows c.places_fitted.ensures.reads.within c.places_fitted.ensures.any_rows
-
-pub returns-in-None-clause-any_rows : goal.returns-in-None-clause-any_rows
-returns-in-None-clause-any_rows g c = by_nothing _ _ _ (λ places. places.items) _ _ _ _ c.in-None.is c.new.ensures.items c.in_ok-found.ensures.any_rows
-
-pub returns-in-Some-clause-damage : goal.returns-in-Some-clause-damage
-returns-in-Some-clause-damage g c = told_by c.in-Some.is c.in_ok-found.ensures.reads c.in_ok-found.ensures.any_rows c.places_fitted.ensures.reads.within c.places_fitted.ensures.damage
+pub returns-in-None : goal.returns-in-None
+returns-in-None g c = record { looks_up = answers c.in_ok-found.ensures.looks_up (λ book b found. c.new.ensures.items ∙ sym (ap (map place_of) (none_fitted book c.args.tail.now b (sym found ∙ c.in-None.is)))) (λ _ found. none_given c.in-None.is found c.new.ensures.items) }

@@ -1,4 +1,4 @@
-use Rattle.std.proofs.Common.{◌∙◌, ap, subst, sym}
+use Rattle.std.proofs.Common.{◌∙◌, ap, subst, sym, rules}
 use Rattle.std.specs.Prelude.{nat_lt}
 use Rattle.mx_book.specs.declared.limits.TheConstants.{MOST_AIRCRAFT}
 use Rattle.mx_row_rules.proofs.FoundProofs.PlaceLemmas.{room_for_aircraft}
@@ -9,14 +9,22 @@ use Rattle.mx_lookups.proofs.RoomLookups.{aircraft_counted}
 use Rattle.mx_lookups.proofs.NumbersProofs.ToldLemmas.{uncounted}
 use Rattle.mx_lookups.proofs.rooms.has_room_for_aircraft.Goals as goal
 
-pub returns-in_err-count-clause-reads : goal.returns-in_err-count-clause-reads
-returns-in_err-count-clause-reads g c = stopped _ _ _ _ _ _ c.from_residual.ensures.1 (aircraft_counted _ _ _ c.in_err-count.ensures.counts)
+pub returns-in_err-count : goal.returns-in_err-count
+returns-in_err-count g c = record {
+  looks_up = record {
+    same_reference = search rules;
+    reads = stopped _ _ _ _ _ _ c.from_residual.ensures.1 (aircraft_counted _ _ _ c.in_err-count.ensures.counts);
+    any_rows = search rules;
+    damage = uncounted aircraft c.from_residual.ensures.1 c.in_err-count.ensures.counts;
+  };
+}
 
-pub returns-clause-reads : goal.returns-clause-reads
-returns-clause-reads g c = told _ _ _ _ _ _ (λ book b count. ap (λ n. nat_lt n MOST_AIRCRAFT) count ∙ room_for_aircraft book) (aircraft_counted _ _ _ c.in_ok-count.ensures.counts)
-
-pub returns-clause-any_rows : goal.returns-clause-any_rows
-returns-clause-any_rows g c = record { found = λ clean has. ap (λ n. nat_lt n MOST_AIRCRAFT) (c.in_ok-count.ensures.counts.rows clean (subst kept_aircraft.IsIn (sym has) aircraft.is_in)) }
-
-pub returns-in_err-count-clause-damage : goal.returns-in_err-count-clause-damage
-returns-in_err-count-clause-damage g c = uncounted aircraft c.from_residual.ensures.1 c.in_err-count.ensures.counts
+pub returns : goal.returns
+returns g c = record {
+  looks_up = record {
+    same_reference = search rules;
+    reads = told _ _ _ _ _ _ (λ book b count. ap (λ n. nat_lt n MOST_AIRCRAFT) count ∙ room_for_aircraft book) (aircraft_counted _ _ _ c.in_ok-count.ensures.counts);
+    any_rows = record { found = λ clean has. ap (λ n. nat_lt n MOST_AIRCRAFT) (c.in_ok-count.ensures.counts.rows clean (subst kept_aircraft.IsIn (sym has) aircraft.is_in)) };
+    damage = search rules;
+  };
+}

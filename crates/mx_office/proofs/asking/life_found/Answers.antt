@@ -5,4 +5,4 @@ use Rattle.mx_office.proofs.asking.life_found.Goals as goal
 pub returns-clause-looks : goal.returns-clause-looks
 returns-clause-looks g c =
     looked g.S.Store c.args.conn.now c.transaction-tx.result.conn.now c.life.new.tx.conn.now c.drop-tx.new.self.0 c.conn-1.given.0 c.transaction-tx.ensures.begun (search rules) c.drop-tx.ensures.survives c.drop-tx.ensures.undone c.life.result
-    c.life.ensures.any_rows c.life.ensures.reads
+    c.life.ensures.looks_up.any_rows c.life.ensures.looks_up.reads

@@ -5,4 +5,4 @@ use Rattle.mx_office.proofs.asking.list_found.Goals as goal
 pub returns-clause-finds : goal.returns-clause-finds
 returns-clause-finds g c =
     looked g.S.Store c.args.conn.now c.transaction-tx.result.conn.now c.list_rows.new.tx.conn.now c.drop-tx.new.self.0 c.conn-1.given.0 c.transaction-tx.ensures.begun (search rules) c.drop-tx.ensures.survives c.drop-tx.ensures.undone c.list_rows.result
-    c.list_rows.ensures.any_rows c.list_rows.ensures.reads
+    c.list_rows.ensures.looks_up.any_rows c.list_rows.ensures.looks_up.reads

@@ -1,23 +1,40 @@
-use Rattle.std.proofs.Common.{◌≡◌}
+use Rattle.std.proofs.Common.{◌≡◌, rules, subst}
+use Rattle.sqlite.specs.Held.{state}
 use Rattle.mx_book.specs.Judge.{judge}
-use Rattle.mx_row_judge.specs.Answering.{AnswerAs}
+use Rattle.mx_lookups.specs.numbers.AnyRows.{ReadsAny}
+use Rattle.mx_lookups.specs.numbers.Reads.{Reads}
+use Rattle.mx_lookups.specs.numbers.Told.{TellsDamage}
+use Rattle.mx_row_judge.specs.Answering.{AnswerAs, VerdictOf}
 use Rattle.mx_row_judge.proofs.StandingLemmas.{answer_as}
 use Rattle.mx_row_judge.proofs.ViewLemmas.{asked_any, asked_then, asked_damage}
 use Rattle.mx_lookups.proofs.NumbersProofs.ToldLemmas.{handed}
 use Rattle.mx_row_judge.specs.Damage.{by_entry_count, JudgeDamage}
 use Rattle.mx_row_judge.proofs.judging.judge_by_rows.Goals as goal
 
-pub returns-clause-reads : goal.returns-clause-reads
-returns-clause-reads g c =
-    asked_then g.S.Store AnswerAs JudgeDamage _ (λ book verdict. verdict ≡ judge book c.args.command.now) c.args.tx.now.conn.now c.entry_count.new.tx.conn.now c.verdict_inside.new.tx.conn.now _ c.in_ok-entry_count.ensures.reads answer_as c.verdict_inside.result c.verdict_inside.ensures.asks
+pub returns : goal.returns
+returns g c =
+    let old = c.args.tx.now.conn.now in
+    let verdict = c.verdict_of_rows.result in
+    let last = c.verdict_of_rows.new.rows.tx.now.conn.now in
+    let given : last ≡ c.tx-1.given.0.conn.now = search rules in
+    record {
+      looks_up = record {
+        same_reference = search rules;
+        reads = subst (λ end. Reads (λ book verdict. verdict ≡ judge book c.args.command.now) (state g.S.Store old) (state g.S.Store end) verdict) given
+            (asked_then g.S.Store AnswerAs JudgeDamage _ (λ book verdict. verdict ≡ judge book c.args.command.now) old c.entry_count.new.tx.conn.now last _ c.in_ok-entry_count.ensures.looks_up.reads answer_as verdict c.verdict_of_rows.ensures.asks);
+        any_rows = subst (λ end. ReadsAny (VerdictOf c.args.command.now) (state g.S.Store old) (state g.S.Store end) verdict) given
+            (asked_any g.S.Store AnswerAs JudgeDamage _ (λ book verdict. verdict ≡ judge book c.args.command.now) old c.entry_count.new.tx.conn.now last _ c.in_ok-entry_count.ensures.looks_up.reads verdict c.verdict_of_rows.ensures.asks);
+        damage = subst (λ end. TellsDamage JudgeDamage (state g.S.Store old) (state g.S.Store end) verdict) given
+            (asked_damage g.S.Store AnswerAs JudgeDamage _ (λ book verdict. verdict ≡ judge book c.args.command.now) old c.entry_count.new.tx.conn.now last _ c.in_ok-entry_count.ensures.looks_up.reads verdict c.verdict_of_rows.ensures.asks);
+      };
+    }
 
-pub returns-clause-any_rows : goal.returns-clause-any_rows
-returns-clause-any_rows g c =
-    asked_any g.S.Store AnswerAs JudgeDamage _ (λ book verdict. verdict ≡ judge book c.args.command.now) c.args.tx.now.conn.now c.entry_count.new.tx.conn.now c.verdict_inside.new.tx.conn.now _ c.in_ok-entry_count.ensures.reads c.verdict_inside.result c.verdict_inside.ensures.asks
-
-pub returns-in_err-entry_count-clause-damage : goal.returns-in_err-entry_count-clause-damage
-returns-in_err-entry_count-clause-damage g c = handed (λ name trees it. by_entry_count it) c.from_residual.ensures.1 c.in_err-entry_count.ensures.damage
-
-pub returns-clause-damage : goal.returns-clause-damage
-returns-clause-damage g c =
-    asked_damage g.S.Store AnswerAs JudgeDamage _ (λ book verdict. verdict ≡ judge book c.args.command.now) c.args.tx.now.conn.now c.entry_count.new.tx.conn.now c.verdict_inside.new.tx.conn.now _ c.in_ok-entry_count.ensures.reads c.verdict_inside.result c.verdict_inside.ensures.asks
+pub returns-in_err-entry_count : goal.returns-in_err-entry_count
+returns-in_err-entry_count g c = record {
+  looks_up = record {
+    same_reference = search rules;
+    reads = search rules;
+    any_rows = search rules;
+    damage = handed (λ name trees it. by_entry_count it) c.from_residual.ensures.1 c.in_err-entry_count.ensures.looks_up.damage;
+  };
+}

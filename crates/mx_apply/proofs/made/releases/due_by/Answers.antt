@@ -20,7 +20,7 @@ returns-in-Some-named-clause-reads g c =
     c.due_after.ensures ∙ ap₂ (λ last born. due_after last born task) all.1.0 (c.birth_of.ensures ∙ ap birth_in all.0)
     ∙ sym (due_known book c.args.kind.now c.in-Some.kind item id _ c.in-Some.is all.1.1
     ∙ ap (λ o. option_and_then (due_after (base book item id) (birth book item)) (option_and_then (λ t. t) o)) (c.in-Some-known.is ∙ ap Some c.in-Some-named.is)))
-    (reads_then _ _ _ _ _ _ _ c.in_ok-found.ensures.reads (reads_then _ _ _ _ _ _ _ c.in_ok-last.ensures.reads c.in_ok-known-in-Some.ensures.reads))
+    (reads_then _ _ _ _ _ _ _ c.in_ok-found.ensures.reads (reads_then _ _ _ _ _ _ _ c.in_ok-last.ensures.looks_up.reads c.in_ok-known-in-Some.ensures.looks_up.reads))
 
 pub returns-in-None-named-clause-reads : goal.returns-in-None-named-clause-reads
 returns-in-None-named-clause-reads g c =
@@ -30,7 +30,7 @@ returns-in-None-named-clause-reads g c =
     (λ book b all.
     sym (due_known book c.args.kind.now c.in-Some.kind item id _ c.in-Some.is all.1.1
     ∙ ap (λ o. option_and_then (due_after (base book item id) (birth book item)) (option_and_then (λ t. t) o)) (c.in-Some-known.is ∙ ap Some c.in-None-named.is)))
-    (reads_then _ _ _ _ _ _ _ c.in_ok-found.ensures.reads (reads_then _ _ _ _ _ _ _ c.in_ok-last.ensures.reads c.in_ok-known-in-Some.ensures.reads))
+    (reads_then _ _ _ _ _ _ _ c.in_ok-found.ensures.reads (reads_then _ _ _ _ _ _ _ c.in_ok-last.ensures.looks_up.reads c.in_ok-known-in-Some.ensures.looks_up.reads))
 
 pub returns-in-None-known-clause-reads : goal.returns-in-None-known-clause-reads
 returns-in-None-known-clause-reads g c =
@@ -40,23 +40,23 @@ returns-in-None-known-clause-reads g c =
     (λ book b all.
     sym (due_known book c.args.kind.now c.in-Some.kind item id _ c.in-Some.is all.1.1
     ∙ ap (λ o. option_and_then (due_after (base book item id) (birth book item)) (option_and_then (λ t. t) o)) c.in-None-known.is))
-    (reads_then _ _ _ _ _ _ _ c.in_ok-found.ensures.reads (reads_then _ _ _ _ _ _ _ c.in_ok-last.ensures.reads c.in_ok-known-in-Some.ensures.reads))
+    (reads_then _ _ _ _ _ _ _ c.in_ok-found.ensures.reads (reads_then _ _ _ _ _ _ _ c.in_ok-last.ensures.looks_up.reads c.in_ok-known-in-Some.ensures.looks_up.reads))
 
 pub returns-in-None-clause-reads : goal.returns-in-None-clause-reads
 returns-in-None-clause-reads g c =
     told _ _ _ _ _ _ (λ book b all. sym (ap (λ o. due_by_kind book o c.args.item.now c.args.id.now) c.in-None.is))
-    (reads_then _ _ _ _ _ _ _ c.in_ok-found.ensures.reads c.in_ok-last.ensures.reads)
+    (reads_then _ _ _ _ _ _ _ c.in_ok-found.ensures.reads c.in_ok-last.ensures.looks_up.reads)
 
 pub returns-in_err-known-in-Some-clause-reads : goal.returns-in_err-known-in-Some-clause-reads
 returns-in_err-known-in-Some-clause-reads g c =
     stopped _ _ _ _ _ _ c.from_residual-in_err-known-in-Some.ensures.1
-    (reads_then _ _ _ _ _ _ _ c.in_ok-found.ensures.reads (reads_then _ _ _ _ _ _ _ c.in_ok-last.ensures.reads c.in_err-known-in-Some.ensures.reads))
+    (reads_then _ _ _ _ _ _ _ c.in_ok-found.ensures.reads (reads_then _ _ _ _ _ _ _ c.in_ok-last.ensures.looks_up.reads c.in_err-known-in-Some.ensures.looks_up.reads))
 
 pub returns-in-Some-named-clause-any_rows : goal.returns-in-Some-named-clause-any_rows
 returns-in-Some-named-clause-any_rows g c =
     let found = c.in_ok-found.found in
     let last = c.in_ok-last.last in
-    let later = reads_then _ _ _ _ _ _ _ c.in_ok-last.ensures.reads c.in_ok-known-in-Some.ensures.reads in
+    let later = reads_then _ _ _ _ _ _ _ c.in_ok-last.ensures.looks_up.reads c.in_ok-known-in-Some.ensures.looks_up.reads in
     any_so _ _ _ _ _ _
     (λ trees all. record {
       found = found;
@@ -66,13 +66,13 @@ returns-in-Some-named-clause-any_rows g c =
       falls = due_falls trees c.args.kind.now c.in-Some.kind c.args.id.now last found _ c.in_ok-known-in-Some.known c.in-Some.is all.1.1 (c.due_after.ensures ∙ ap (λ born. due_after last born c.in-Some-named.task) c.birth_of.ensures ∙ sym (ap (λ o. option_and_then (due_after last (birth_in found)) (option_and_then (λ t. t) o)) (c.in-Some-known.is ∙ ap Some c.in-Some-named.is)));
     })
     (any_then _ _ _ _ _ _ _ _ c.in_ok-found.ensures.reads c.in_ok-found.ensures.any_rows later.within
-    (any_then _ _ _ _ _ _ _ _ c.in_ok-last.ensures.reads c.in_ok-last.ensures.any_rows c.in_ok-known-in-Some.ensures.reads.within c.in_ok-known-in-Some.ensures.any_rows))
+    (any_then _ _ _ _ _ _ _ _ c.in_ok-last.ensures.looks_up.reads c.in_ok-last.ensures.looks_up.any_rows c.in_ok-known-in-Some.ensures.looks_up.reads.within c.in_ok-known-in-Some.ensures.looks_up.any_rows))
 
 pub returns-in-None-named-clause-any_rows : goal.returns-in-None-named-clause-any_rows
 returns-in-None-named-clause-any_rows g c =
     let found = c.in_ok-found.found in
     let last = c.in_ok-last.last in
-    let later = reads_then _ _ _ _ _ _ _ c.in_ok-last.ensures.reads c.in_ok-known-in-Some.ensures.reads in
+    let later = reads_then _ _ _ _ _ _ _ c.in_ok-last.ensures.looks_up.reads c.in_ok-known-in-Some.ensures.looks_up.reads in
     any_so _ _ _ _ _ _
     (λ trees all. record {
       found = found;
@@ -82,13 +82,13 @@ returns-in-None-named-clause-any_rows g c =
       falls = due_falls trees c.args.kind.now c.in-Some.kind c.args.id.now last found _ c.in_ok-known-in-Some.known c.in-Some.is all.1.1 (sym (ap (λ o. option_and_then (due_after last (birth_in found)) (option_and_then (λ t. t) o)) (c.in-Some-known.is ∙ ap Some c.in-None-named.is)));
     })
     (any_then _ _ _ _ _ _ _ _ c.in_ok-found.ensures.reads c.in_ok-found.ensures.any_rows later.within
-    (any_then _ _ _ _ _ _ _ _ c.in_ok-last.ensures.reads c.in_ok-last.ensures.any_rows c.in_ok-known-in-Some.ensures.reads.within c.in_ok-known-in-Some.ensures.any_rows))
+    (any_then _ _ _ _ _ _ _ _ c.in_ok-last.ensures.looks_up.reads c.in_ok-last.ensures.looks_up.any_rows c.in_ok-known-in-Some.ensures.looks_up.reads.within c.in_ok-known-in-Some.ensures.looks_up.any_rows))
 
 pub returns-in-None-known-clause-any_rows : goal.returns-in-None-known-clause-any_rows
 returns-in-None-known-clause-any_rows g c =
     let found = c.in_ok-found.found in
     let last = c.in_ok-last.last in
-    let later = reads_then _ _ _ _ _ _ _ c.in_ok-last.ensures.reads c.in_ok-known-in-Some.ensures.reads in
+    let later = reads_then _ _ _ _ _ _ _ c.in_ok-last.ensures.looks_up.reads c.in_ok-known-in-Some.ensures.looks_up.reads in
     any_so _ _ _ _ _ _
     (λ trees all. record {
       found = found;
@@ -98,9 +98,9 @@ returns-in-None-known-clause-any_rows g c =
       falls = due_falls trees c.args.kind.now c.in-Some.kind c.args.id.now last found _ c.in_ok-known-in-Some.known c.in-Some.is all.1.1 (sym (ap (λ o. option_and_then (due_after last (birth_in found)) (option_and_then (λ t. t) o)) (c.in-None-known.is)));
     })
     (any_then _ _ _ _ _ _ _ _ c.in_ok-found.ensures.reads c.in_ok-found.ensures.any_rows later.within
-    (any_then _ _ _ _ _ _ _ _ c.in_ok-last.ensures.reads c.in_ok-last.ensures.any_rows c.in_ok-known-in-Some.ensures.reads.within c.in_ok-known-in-Some.ensures.any_rows))
+    (any_then _ _ _ _ _ _ _ _ c.in_ok-last.ensures.looks_up.reads c.in_ok-last.ensures.looks_up.any_rows c.in_ok-known-in-Some.ensures.looks_up.reads.within c.in_ok-known-in-Some.ensures.looks_up.any_rows))
 
 pub returns-in-None-clause-any_rows : goal.returns-in-None-clause-any_rows
 returns-in-None-clause-any_rows g c =
     any_so _ _ _ _ _ _ (λ trees both. record { found = c.in_ok-found.found; built = both.0; last = c.in_ok-last.last; done = both.1; falls = due_never trees c.args.kind.now c.args.id.now c.in_ok-last.last c.in_ok-found.found _ c.in-None.is refl })
-    (any_then _ _ _ _ _ _ _ _ c.in_ok-found.ensures.reads c.in_ok-found.ensures.any_rows c.in_ok-last.ensures.reads.within c.in_ok-last.ensures.any_rows)
+    (any_then _ _ _ _ _ _ _ _ c.in_ok-found.ensures.reads c.in_ok-found.ensures.any_rows c.in_ok-last.ensures.looks_up.reads.within c.in_ok-last.ensures.looks_up.any_rows)

@@ -1,21 +1,13 @@
 use Rattle.std.proofs.Common.{◌∙◌, ap}
-use Rattle.mx_row_rules.specs.found.Names.{deferral_number}
 use Rattle.mx_row_rules.proofs.FoundProofs.FoundLemmas.{defect_is}
+use Rattle.mx_row_rules.specs.found.Names.{deferral_number}
 use Rattle.mx_lookups.proofs.NumbersProofs.BookRows.{entries_of_doc}
-use Rattle.mx_lookups.proofs.NumbersProofs.ReadLemmas.{stopped, told}
-use Rattle.mx_lookups.proofs.NumbersProofs.AnyLemmas.{gives}
+use Rattle.mx_lookups.proofs.NumbersProofs.Composed.{chosen, hands, rows_give}
 use Rattle.mx_lookups.proofs.NumbersProofs.TableLemmas.{entries}
-use Rattle.mx_lookups.proofs.NumbersProofs.ToldLemmas.{unread}
 use Rattle.mx_lookups.proofs.numbers.entries.defect_number.Goals as goal
 
-pub returns-clause-reads : goal.returns-clause-reads
-returns-clause-reads g c = told _ _ _ _ _ _ (λ book b found. c.deferral_number.ensures ∙ ap deferral_number (c.deref.ensures.value ∙ found) ∙ defect_is book c.args.doc.now) (entries_of_doc c.args.doc.now c.in_ok-rows.ensures.reads)
+pub returns : goal.returns
+returns g c = record { looks_up = rows_give entries deferral_number c.in_ok-rows.ensures.same_reference (entries_of_doc _ c.in_ok-rows.ensures.reads) c.in_ok-rows.ensures.reads (c.deferral_number.ensures ∙ ap deferral_number c.deref.ensures.value) (λ book b found. ap deferral_number found ∙ defect_is book c.args.doc.now) }
 
-pub returns-in_err-rows-clause-reads : goal.returns-in_err-rows-clause-reads
-returns-in_err-rows-clause-reads g c = stopped _ _ _ _ c.in_err-rows.field-0.0 c.from_residual.result c.from_residual.ensures.1 (entries_of_doc c.args.doc.now c.in_err-rows.ensures.reads)
-
-pub returns-clause-any_rows : goal.returns-clause-any_rows
-returns-clause-any_rows g c = gives entries deferral_number (c.deferral_number.ensures ∙ ap deferral_number c.deref.ensures.value) c.in_ok-rows.ensures.reads
-
-pub returns-in_err-rows-clause-damage : goal.returns-in_err-rows-clause-damage
-returns-in_err-rows-clause-damage g c = unread entries c.from_residual.ensures.1 c.in_err-rows.ensures.reads
+pub returns-in_err-rows : goal.returns-in_err-rows
+returns-in_err-rows g c = record { looks_up = hands c.from_residual.ensures.1 (λ _ _ it. it) (chosen entries c.in_err-rows.ensures.same_reference (entries_of_doc _ c.in_err-rows.ensures.reads) c.in_err-rows.ensures.reads) }

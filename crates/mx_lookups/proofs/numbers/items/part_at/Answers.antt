@@ -1,35 +1,23 @@
-use Rattle.std.proofs.Common.{◌∙◌, ap, sym}
-use Rattle.mx_row_rules.specs.found.Said.{part_in}
+use Rattle.std.proofs.Common.{◌∙◌, ap, refl, sym, inr}
 use Rattle.mx_row_rules.proofs.FoundProofs.PlaceLemmas.{part_found, part_missed}
+use Rattle.mx_row_rules.specs.found.Said.{part_in}
 use Rattle.mx_lookups.proofs.NumbersProofs.BookRows.{places_of}
-use Rattle.mx_lookups.proofs.NumbersProofs.ReadLemmas.{reads_then, stopped, told}
-use Rattle.mx_lookups.proofs.NumbersProofs.AnyLemmas.{by_number, by_none, gives}
+use Rattle.mx_lookups.proofs.NumbersProofs.Composed.{answers, behind, chosen, by_first, hands, none_given, some_given}
 use Rattle.mx_lookups.proofs.NumbersProofs.TableLemmas.{places}
-use Rattle.mx_lookups.proofs.NumbersProofs.ToldLemmas.{told_by, unread}
+use Rattle.mx_lookups.specs.numbers.Given.{AircraftNumber}
 use Rattle.mx_lookups.proofs.numbers.items.part_at.Goals as goal
 
-pub returns-in_ok-rows-in-Some-clause-reads : goal.returns-in_ok-rows-in-Some-clause-reads
-returns-in_ok-rows-in-Some-clause-reads g c =
-    told _ _ _ _ _ _ (λ book b both.
-    c.part_in.ensures ∙ ap (λ rows. part_in rows c.args.position.now) (c.deref.ensures.value ∙ both.1) ∙ part_found c.args.tail.now book c.args.position.now c.in-Some.number b (sym both.0 ∙ c.in-Some.is))
-    (reads_then _ _ _ _ _ _ _ c.in_ok-found.ensures.reads (places_of c.in-Some.number c.in_ok-rows-in-Some.ensures.reads))
+pub returns-in_ok-rows-in-Some : goal.returns-in_ok-rows-in-Some
+returns-in_ok-rows-in-Some g c = record {
+  looks_up =
+      let made = c.part_in.ensures ∙ ap (λ rows. part_in rows c.args.position.now) c.deref.ensures.value in
+      answers (behind c.in_ok-found.ensures.looks_up (chosen places c.in_ok-rows-in-Some.ensures.same_reference (places_of _ c.in_ok-rows-in-Some.ensures.reads) c.in_ok-rows-in-Some.ensures.reads))
+      (λ book b both. made ∙ ap (λ rows. part_in rows c.args.position.now) both.1 ∙ part_found c.args.tail.now book c.args.position.now c.in-Some.number b (sym both.0 ∙ c.in-Some.is))
+      (λ _ both. some_given c.in-Some.is both.0 (_, both.1, made));
+}
 
-pub returns-in-None-clause-reads : goal.returns-in-None-clause-reads
-returns-in-None-clause-reads g c = told _ _ _ _ _ _ (λ book b found. sym (part_missed c.args.tail.now book c.args.position.now (sym found ∙ c.in-None.is))) c.in_ok-found.ensures.reads
+pub returns-in-None : goal.returns-in-None
+returns-in-None g c = record { looks_up = answers c.in_ok-found.ensures.looks_up (λ book b found. sym (part_missed c.args.tail.now book c.args.position.now (sym found ∙ c.in-None.is))) (λ _ found. none_given c.in-None.is found refl) }
 
-pub returns-in_err-rows-in-Some-clause-reads : goal.returns-in_err-rows-in-Some-clause-reads
-returns-in_err-rows-in-Some-clause-reads g c =
-    stopped _ _ _ _ c.in_err-rows-in-Some.field-0.0 c.from_residual-in_err-rows-in-Some.result c.from_residual-in_err-rows-in-Some.ensures.1
-    (reads_then _ _ _ _ _ _ _ c.in_ok-found.ensures.reads (places_of c.in-Some.number c.in_err-rows-in-Some.ensures.reads))
-
-pub returns-in_ok-rows-in-Some-clause-any_rows : goal.returns-in_ok-rows-in-Some-clause-any_rows
-returns-in_ok-rows-in-Some-clause-any_rows g c =
-    by_number _ _ _ _ _ _ _ _ _ _ c.in-Some.is c.in_ok-found.ensures.reads c.in_ok-found.ensures.any_rows c.in_ok-rows-in-Some.ensures.reads.within
-    (gives places (λ rows. part_in rows c.args.position.now) (c.part_in.ensures ∙ ap (λ rows. part_in rows c.args.position.now) c.deref.ensures.value) c.in_ok-rows-in-Some.ensures.reads)
-
-pub returns-in-None-clause-any_rows : goal.returns-in-None-clause-any_rows
-returns-in-None-clause-any_rows g c = by_none _ _ _ _ _ _ c.in-None.is c.in_ok-found.ensures.any_rows
-
-pub returns-in_err-rows-in-Some-clause-damage : goal.returns-in_err-rows-in-Some-clause-damage
-returns-in_err-rows-in-Some-clause-damage g c =
-    told_by c.in-Some.is c.in_ok-found.ensures.reads c.in_ok-found.ensures.any_rows c.in_err-rows-in-Some.ensures.reads.within (unread places c.from_residual-in_err-rows-in-Some.ensures.1 c.in_err-rows-in-Some.ensures.reads)
+pub returns-in_err-rows-in-Some : goal.returns-in_err-rows-in-Some
+returns-in_err-rows-in-Some g c = record { looks_up = hands c.from_residual-in_err-rows-in-Some.ensures.1 (λ _ _ it. inr (_, by_first (AircraftNumber _) c.in-Some.is it.0, it.1)) (behind c.in_ok-found.ensures.looks_up (chosen places c.in_err-rows-in-Some.ensures.same_reference (places_of _ c.in_err-rows-in-Some.ensures.reads) c.in_err-rows-in-Some.ensures.reads)) }

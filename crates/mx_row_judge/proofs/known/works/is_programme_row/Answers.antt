@@ -1,28 +1,13 @@
-use Rattle.std.proofs.Common.{[], ◌∷◌, ap, ◌∙◌}
-use Rattle.mx_registers.specs.Registers.{programme_row}
+use Rattle.std.proofs.Common.{◌∙◌, ◌∷◌, [], ap}
 use Rattle.mx_row_rules.specs.found.Given as registers
 use Rattle.mx_lookups.proofs.NumbersProofs.BookRows.{programmes_of_number}
-use Rattle.mx_lookups.proofs.NumbersProofs.ReadLemmas.{stopped, told}
-use Rattle.mx_row_judge.proofs.KnownProofs.TellLemmas.{compared}
-use Rattle.mx_row_judge.proofs.KnownProofs.KnownLemmas.{rows_same}
+use Rattle.mx_lookups.proofs.NumbersProofs.Composed.{chosen, hands}
 use Rattle.mx_lookups.proofs.NumbersProofs.TableLemmas.{programmes}
-use Rattle.mx_lookups.proofs.NumbersProofs.ToldLemmas.{unread}
+use Rattle.mx_row_judge.proofs.KnownProofs.KnownLemmas.{rows_tell}
 use Rattle.mx_row_judge.proofs.known.works.is_programme_row.Goals as goal
 
-pub returns-in_err-rows-clause-reads : goal.returns-in_err-rows-clause-reads
-returns-in_err-rows-clause-reads g c = stopped _ _ _ _ _ _ c.from_residual.ensures.1 (programmes_of_number c.args.seq c.in_err-rows.ensures.reads)
+pub returns-in_err-rows : goal.returns-in_err-rows
+returns-in_err-rows g c = record { looks_up = hands c.from_residual.ensures.1 (λ _ _ it. it) (chosen programmes c.in_err-rows.ensures.same_reference (programmes_of_number _ c.in_err-rows.ensures.reads) c.in_err-rows.ensures.reads) }
 
-pub returns-clause-reads : goal.returns-clause-reads
-returns-clause-reads g c =
-    let n = c.args.seq in
-    let x = c.args.programme in
-    told _ _ _ _ _ _
-    (λ book b read. compared registers.programmes n (λ _. programme_row n x ∷ []) book _ _ _ c.are_same_programmes.ensures (c.deref.ensures.value ∙ read) (c.from_ref.ensures.value ∙ ap (λ row. row ∷ []) c.programme_row-row.ensures.row))
-    (programmes_of_number n c.in_ok-rows.ensures.reads)
-
-pub returns-clause-any_rows : goal.returns-clause-any_rows
-returns-clause-any_rows g c =
-    rows_same programmes c.args.seq _ _ _ _ c.are_same_programmes.ensures c.deref.ensures.value (c.from_ref.ensures.value ∙ ap (λ row. row ∷ []) c.programme_row-row.ensures.row) c.in_ok-rows.ensures.reads
-
-pub returns-in_err-rows-clause-damage : goal.returns-in_err-rows-clause-damage
-returns-in_err-rows-clause-damage g c = unread programmes c.from_residual.ensures.1 c.in_err-rows.ensures.reads
+pub returns : goal.returns
+returns g c = record { looks_up = rows_tell programmes registers.programmes c.args.seq c.in_ok-rows.ensures.same_reference (programmes_of_number _ c.in_ok-rows.ensures.reads) c.in_ok-rows.ensures.reads c.deref.ensures.value (c.from_ref.ensures.value ∙ ap (λ row. row ∷ []) c.programme_row-row.ensures.row) c.are_same_programmes.ensures }

@@ -9,10 +9,10 @@ use Rattle.mx_row_judge.proofs.lists.RowsListQuestionsListRecords.fitted.Goals a
 
 pub returns-in-Ok : goal.returns-in-Ok
 returns-in-Ok g c =
-    gives_list g.S.Store AnswerListsAs ListDamage (λ (it : Vec (List ℕ × List ℕ) Global). it.items) (λ book. fitted_on c.args.tail.now book) _ _ _ (λ trees book answers. answers.fitted c.args.tail.now) (record { tx = refl; conn = c.fitted.ensures.same_reference }) _
-    c.in-Ok.ensures.reads c.in-Ok.ensures.any_rows
+    gives_list g.S.Store AnswerListsAs ListDamage (λ (it : Vec (List ℕ × List ℕ) Global). it.items) (λ book. fitted_on c.args.tail.now book) _ _ _ (λ trees book answers. answers.fitted c.args.tail.now) (record { tx = refl; conn = c.fitted.ensures.looks_up.same_reference }) _
+    c.in-Ok.ensures.looks_up.reads c.in-Ok.ensures.looks_up.any_rows
 
 pub returns-in-Err : goal.returns-in-Err
 returns-in-Err g c =
-    gives_none g.S.Store AnswerListsAs ListDamage (λ (it : Vec (List ℕ × List ℕ) Global). it.items) (λ book. fitted_on c.args.tail.now book) _ _ _ (λ trees book answers. answers.fitted c.args.tail.now) (record { tx = refl; conn = c.fitted.ensures.same_reference }) _
-    c.in-Err.ensures.reads (told_as (λ name trees it. by_fitted c.args.tail.now it) c.in-Err.ensures.damage)
+    gives_none g.S.Store AnswerListsAs ListDamage (λ (it : Vec (List ℕ × List ℕ) Global). it.items) (λ book. fitted_on c.args.tail.now book) _ _ _ (λ trees book answers. answers.fitted c.args.tail.now) (record { tx = refl; conn = c.fitted.ensures.looks_up.same_reference }) _
+    c.in-Err.ensures.looks_up.reads (told_as (λ name trees it. by_fitted c.args.tail.now it) c.in-Err.ensures.looks_up.damage)

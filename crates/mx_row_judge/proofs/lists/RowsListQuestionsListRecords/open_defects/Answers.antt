@@ -10,10 +10,10 @@ use Rattle.mx_row_judge.proofs.lists.RowsListQuestionsListRecords.open_defects.G
 
 pub returns-in-Ok : goal.returns-in-Ok
 returns-in-Ok g c =
-    gives_list g.S.Store AnswerListsAs ListDamage (λ (it : Vec Defect Global). it.items) (λ book. open_defects book c.args.tail.now) _ _ _ (λ trees book answers. answers.open_defects c.args.tail.now) (record { tx = refl; conn = c.open_defects.ensures.same_reference }) _
-    c.in-Ok.ensures.reads c.in-Ok.ensures.any_rows
+    gives_list g.S.Store AnswerListsAs ListDamage (λ (it : Vec Defect Global). it.items) (λ book. open_defects book c.args.tail.now) _ _ _ (λ trees book answers. answers.open_defects c.args.tail.now) (record { tx = refl; conn = c.open_defects.ensures.looks_up.same_reference }) _
+    c.in-Ok.ensures.looks_up.reads c.in-Ok.ensures.looks_up.any_rows
 
 pub returns-in-Err : goal.returns-in-Err
 returns-in-Err g c =
-    gives_none g.S.Store AnswerListsAs ListDamage (λ (it : Vec Defect Global). it.items) (λ book. open_defects book c.args.tail.now) _ _ _ (λ trees book answers. answers.open_defects c.args.tail.now) (record { tx = refl; conn = c.open_defects.ensures.same_reference }) _
-    c.in-Err.ensures.reads (told_as (λ name trees it. by_open_defects c.args.tail.now it) c.in-Err.ensures.damage)
+    gives_none g.S.Store AnswerListsAs ListDamage (λ (it : Vec Defect Global). it.items) (λ book. open_defects book c.args.tail.now) _ _ _ (λ trees book answers. answers.open_defects c.args.tail.now) (record { tx = refl; conn = c.open_defects.ensures.looks_up.same_reference }) _
+    c.in-Err.ensures.looks_up.reads (told_as (λ name trees it. by_open_defects c.args.tail.now it) c.in-Err.ensures.looks_up.damage)

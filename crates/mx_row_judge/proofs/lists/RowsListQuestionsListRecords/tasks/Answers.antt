@@ -10,10 +10,10 @@ use Rattle.mx_row_judge.proofs.lists.RowsListQuestionsListRecords.tasks.Goals as
 
 pub returns-in-Ok-clause-answers : goal.returns-in-Ok-clause-answers
 returns-in-Ok-clause-answers g c =
-    gives_list g.S.Store AnswerListsAs ListDamage (λ (it : Vec Task Global). it.items) (λ book. tasks_or_none book c.args.kind.now) _ _ _ (λ trees book answers. answers.tasks c.args.kind.now) (record { tx = refl; conn = c.tasks.ensures.same_reference }) _
-    c.in-Ok.ensures.reads c.in-Ok.ensures.any_rows
+    gives_list g.S.Store AnswerListsAs ListDamage (λ (it : Vec Task Global). it.items) (λ book. tasks_or_none book c.args.kind.now) _ _ _ (λ trees book answers. answers.tasks c.args.kind.now) (record { tx = refl; conn = c.tasks.ensures.looks_up.same_reference }) _
+    c.in-Ok.ensures.looks_up.reads c.in-Ok.ensures.looks_up.any_rows
 
 pub returns-in-Err-clause-answers : goal.returns-in-Err-clause-answers
 returns-in-Err-clause-answers g c =
-    gives_none g.S.Store AnswerListsAs ListDamage (λ (it : Vec Task Global). it.items) (λ book. tasks_or_none book c.args.kind.now) _ _ _ (λ trees book answers. answers.tasks c.args.kind.now) (record { tx = refl; conn = c.tasks.ensures.same_reference }) _
-    c.in-Err.ensures.reads (told_as (λ name trees it. by_tasks c.args.kind.now it) c.in-Err.ensures.damage)
+    gives_none g.S.Store AnswerListsAs ListDamage (λ (it : Vec Task Global). it.items) (λ book. tasks_or_none book c.args.kind.now) _ _ _ (λ trees book answers. answers.tasks c.args.kind.now) (record { tx = refl; conn = c.tasks.ensures.looks_up.same_reference }) _
+    c.in-Err.ensures.looks_up.reads (told_as (λ name trees it. by_tasks c.args.kind.now it) c.in-Err.ensures.looks_up.damage)

@@ -8,5 +8,5 @@ use Rattle.mx_row_judge.proofs.view.RowsRecords.aircraft.Goals as goal
 pub returns : goal.returns
 returns g c =
     answers_by g.S.Store g.Q.Questions.answers_as g.Q.Questions.damage (λ book. aircraft book c.args.tail.now) _ _ _ _ (λ trees book answers. (g.Q.Questions.judged_as trees book answers).aircraft c.args.tail.now)
-    (record { tx = refl; conn = c.aircraft.ensures.same_reference }) c.aircraft.ensures.reads c.aircraft.ensures.any_rows
-    (told_as (λ name trees it. g.Q.Questions.told_by_judge name trees (by_aircraft c.args.tail.now it)) c.aircraft.ensures.damage)
+    (record { tx = refl; conn = c.aircraft.ensures.looks_up.same_reference }) c.aircraft.ensures.looks_up.reads c.aircraft.ensures.looks_up.any_rows
+    (told_as (λ name trees it. g.Q.Questions.told_by_judge name trees (by_aircraft c.args.tail.now it)) c.aircraft.ensures.looks_up.damage)

@@ -8,5 +8,5 @@ use Rattle.mx_row_judge.proofs.view.RowsRecords.component.Goals as goal
 pub returns : goal.returns
 returns g c =
     answers_by g.S.Store g.Q.Questions.answers_as g.Q.Questions.damage (λ book. component book c.args.serial.now) _ _ _ _ (λ trees book answers. (g.Q.Questions.judged_as trees book answers).component c.args.serial.now)
-    (record { tx = refl; conn = c.component.ensures.same_reference }) c.component.ensures.reads c.component.ensures.any_rows
-    (told_as (λ name trees it. g.Q.Questions.told_by_judge name trees (by_component c.args.serial.now it)) c.component.ensures.damage)
+    (record { tx = refl; conn = c.component.ensures.looks_up.same_reference }) c.component.ensures.looks_up.reads c.component.ensures.looks_up.any_rows
+    (told_as (λ name trees it. g.Q.Questions.told_by_judge name trees (by_component c.args.serial.now it)) c.component.ensures.looks_up.damage)

@@ -9,5 +9,5 @@ use Rattle.mx_row_judge.proofs.view.RowsRecords.earliest_takeoff.Goals as goal
 pub returns : goal.returns
 returns g c =
     answers_by g.S.Store g.Q.Questions.answers_as g.Q.Questions.damage (λ book. earliest_takeoff book c.args.tail.now) _ _ _ _ (λ trees book answers. (g.Q.Questions.judged_as trees book answers).clock (Airframe c.args.tail.now))
-    (record { tx = refl; conn = c.earliest_takeoff.ensures.same_reference }) c.earliest_takeoff.ensures.reads c.earliest_takeoff.ensures.any_rows
-    (told_as (λ name trees it. g.Q.Questions.told_by_judge name trees (by_clock (Airframe c.args.tail.now) it)) c.earliest_takeoff.ensures.damage)
+    (record { tx = refl; conn = c.earliest_takeoff.ensures.looks_up.same_reference }) c.earliest_takeoff.ensures.looks_up.reads c.earliest_takeoff.ensures.looks_up.any_rows
+    (told_as (λ name trees it. g.Q.Questions.told_by_judge name trees (by_clock (Airframe c.args.tail.now) it)) c.earliest_takeoff.ensures.looks_up.damage)

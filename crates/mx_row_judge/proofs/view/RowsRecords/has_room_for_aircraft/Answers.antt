@@ -8,5 +8,5 @@ use Rattle.mx_row_judge.proofs.view.RowsRecords.has_room_for_aircraft.Goals as g
 pub returns : goal.returns
 returns g c =
     answers_by g.S.Store g.Q.Questions.answers_as g.Q.Questions.damage (λ book. has_room_for_aircraft book) _ _ _ _ (λ trees book answers. (g.Q.Questions.judged_as trees book answers).room_for_aircraft)
-    (record { tx = refl; conn = c.has_room_for_aircraft.ensures.same_reference }) c.has_room_for_aircraft.ensures.reads c.has_room_for_aircraft.ensures.any_rows
-    (told_as (λ name trees it. g.Q.Questions.told_by_judge name trees (by_room_for_aircraft it)) c.has_room_for_aircraft.ensures.damage)
+    (record { tx = refl; conn = c.has_room_for_aircraft.ensures.looks_up.same_reference }) c.has_room_for_aircraft.ensures.looks_up.reads c.has_room_for_aircraft.ensures.looks_up.any_rows
+    (told_as (λ name trees it. g.Q.Questions.told_by_judge name trees (by_room_for_aircraft it)) c.has_room_for_aircraft.ensures.looks_up.damage)

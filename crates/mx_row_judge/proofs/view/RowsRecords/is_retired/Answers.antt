@@ -8,5 +8,5 @@ use Rattle.mx_row_judge.proofs.view.RowsRecords.is_retired.Goals as goal
 pub returns : goal.returns
 returns g c =
     answers_by g.S.Store g.Q.Questions.answers_as g.Q.Questions.damage (λ book. life_ended book c.args.kind.now c.args.item.now c.args.day) _ _ _ _ (λ trees book answers. (g.Q.Questions.judged_as trees book answers).is_retired c.args.kind.now c.args.item.now c.args.day)
-    (record { tx = refl; conn = c.is_retired.ensures.same_reference }) c.is_retired.ensures.reads c.is_retired.ensures.any_rows
-    (told_as (λ name trees it. g.Q.Questions.told_by_judge name trees (by_is_retired c.args.kind.now c.args.item.now it)) c.is_retired.ensures.damage)
+    (record { tx = refl; conn = c.is_retired.ensures.looks_up.same_reference }) c.is_retired.ensures.looks_up.reads c.is_retired.ensures.looks_up.any_rows
+    (told_as (λ name trees it. g.Q.Questions.told_by_judge name trees (by_is_retired c.args.kind.now c.args.item.now it)) c.is_retired.ensures.looks_up.damage)

@@ -10,5 +10,5 @@ use Rattle.mx_row_judge.proofs.view.RowsRecords.known.Goals as goal
 pub returns : goal.returns
 returns g c =
     answers_by g.S.Store g.Q.Questions.answers_as g.Q.Questions.damage (λ book. option_map (known_same c.args.command.now) (known_from c.args.command.now.doc 1 book)) _ _ _ _ (λ trees book answers. (g.Q.Questions.judged_as trees book answers).known c.args.command.now c.doc.ensures.shape)
-    (record { tx = refl; conn = c.known.ensures.same_reference }) c.known.ensures.reads c.known.ensures.any_rows
-    (told_as (λ name trees it. g.Q.Questions.told_by_judge name trees (by_known c.args.command.now it)) c.known.ensures.damage)
+    (record { tx = refl; conn = c.known.ensures.looks_up.same_reference }) c.known.ensures.looks_up.reads c.known.ensures.looks_up.any_rows
+    (told_as (λ name trees it. g.Q.Questions.told_by_judge name trees (by_known c.args.command.now it)) c.known.ensures.looks_up.damage)

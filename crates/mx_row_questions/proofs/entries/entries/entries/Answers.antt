@@ -6,15 +6,15 @@ use Rattle.mx_row_questions.proofs.EntriesProofs.EntryLemmas.{entries_begun, ent
 use Rattle.mx_row_questions.proofs.entries.entries.entries.Goals as goal
 
 pub returns-in_err-last-clause-reads : goal.returns-in_err-last-clause-reads
-returns-in_err-last-clause-reads g c = inl (stopped _ _ _ _ _ _ c.from_residual.ensures.1 c.in_err-last.ensures.reads)
+returns-in_err-last-clause-reads g c = inl (stopped _ _ _ _ _ _ c.from_residual.ensures.1 c.in_err-last.ensures.looks_up.reads)
 
 pub loop-asked-init : goal.loop-asked-init
 loop-asked-init g c = record {
-  same_reference = c.in_ok-last.ensures.same_reference;
+  same_reference = c.in_ok-last.ensures.looks_up.same_reference;
   few = omega arith;
   begins = c.saturating_sub-before.ensures;
   wants = c.min-wanted.ensures ∙ ap (λ n. min n c.args.at_most) c.saturating_sub.ensures;
-  walk = entries_begun c.saturating_sub-before.result c.in_ok-last.last _ _ _ c.new-found.ensures.items c.in_ok-last.ensures.reads c.in_ok-last.ensures.any_rows;
+  walk = entries_begun c.saturating_sub-before.result c.in_ok-last.last _ _ _ c.new-found.ensures.items c.in_ok-last.ensures.looks_up.reads c.in_ok-last.ensures.looks_up.any_rows;
 }
 
 pub loop-asked-preserved : goal.loop-asked-preserved
