@@ -4,8 +4,6 @@
 //!
 //! - Each word does its own job, and what is printed of it is that job's; where memory, a file or the store stops it,
 //!   it is what `Perform` says: `perform` of `Jobs`: `done`, `shape`, `words`, `unprinted`, `unread`.
-//! - What `serve` appends without a fault is the number of connections that the words say: `serve_file`:
-//!   `answers`.
 //!
 //! `scripts/check-desk` shows that the port is the one of the words, at the loopback alone, and that each connection is
 //! handed to `serve_one`.

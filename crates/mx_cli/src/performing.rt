@@ -1,9 +1,9 @@
 //! What the words ask for: each does its job over a file, at a port or in memory.
 
-use crate::serving::serve_file;
+use crate::serving::Served;
 use mx_files::{
-    enter_file, import_file, init_file, init_old_file, list_file, migrate_file, programme_file,
-    try_out, verify_file,
+    answer_file, enter_file, import_file, init_file, init_old_file, list_file, migrate_file,
+    programme_file, try_out, verify_file,
 };
 use mx_output::endings::{Ending, Stop};
 use mx_words::Perform;
@@ -27,7 +27,10 @@ impl Perform for Jobs {
             Words::Enter { file, entries } => enter_file(rt, file, entries, out),
             Words::Import { file, csv } => import_file(rt, file, csv, out),
             Words::Programme { file, doc, toml } => programme_file(rt, file, *doc, toml, out),
-            Words::Serve { file, port, count } => serve_file(rt, file, *port, *count, out),
+            Words::Serve { file, port, count } => {
+                let (port, count) = (*port, *count);
+                answer_file(rt, file, &Served { port, count }, out)
+            }
             Words::Verify { file } => verify_file(rt, file, out),
             Words::Migrate { file, steps } => migrate_file(rt, file, *steps, out),
             Words::InitOld { file, entries } => init_old_file(rt, file, entries, out),

@@ -4,10 +4,9 @@ ghost use Rattle.mx_desk.specs.Served.{StopsServing};
 ghost use Rattle.mx_http.specs.responses.Serving.{served_line};
 ghost use Rattle.mx_output.specs.endings.Status.{stop_status};
 ghost use Rattle.mx_output.specs.declared.endings.ending.Ending.TheVariants.{Done};
-ghost use Rattle.mx_files.specs.Answered.{Answers};
 
 use mx_desk::serve_on;
-use mx_files::{Asked, answer_file};
+use mx_files::Asked;
 use mx_office::Office;
 use mx_output::endings::{Ending, Stop};
 use sqlite::Alter;
@@ -37,11 +36,11 @@ fn serve_at<S: Alter>(
     }
 }
 
-// Answers to so many connections at a port of the loopback are asked for.
+/// Answers to so many connections at a port of the loopback are asked for.
 #[derive(Clone, Copy)]
-struct Served {
-    port: u16,
-    count: u32,
+pub(crate) struct Served {
+    pub(crate) port: u16,
+    pub(crate) count: u32,
 }
 
 impl Asked for Served {
@@ -55,18 +54,4 @@ impl Asked for Served {
     ) -> Result<Ending, Stop> {
         serve_at(rt, office, self.port, self.count, out)
     }
-}
-
-/// Serves connections at a port of the loopback with the office in a file, and appends how many they were.
-pub(crate) fn serve_file(
-    rt: &HostRuntime,
-    file: &str,
-    port: u16,
-    count: u32,
-    out: &mut Vec<u8>,
-) -> Result<Ending, Stop>
-    ensures answers { Answers (λ text ending. (text ≡ served_line count) × (ending ≡ Done)) 3
-        out.old.items out.new.items result }
-{
-    answer_file(rt, file, &Served { port, count }, out)
 }

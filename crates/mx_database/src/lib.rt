@@ -7,13 +7,13 @@
 //! # What is promised
 //!
 //! - What is done over the database in a file says what is appended and what comes of it, whatever the store; where no
-//!   database is opened nothing is appended: `work_in_file`, `work_in_new_file`: `given`, `unopened`.
-//! - Of a file that is made where it isn't there it is never told that there is none: `work_in_new_file`: `opened`.
+//!   database is opened nothing is appended: `work_in_file`: `given`, `unopened`.
+//! - Of a file that is made where it isn't there it is never told that there is none: `work_in_file`: `opened`.
 #![tactic(auto)]
 
 mod opening;
 pub mod power;
 pub mod working;
 
-pub use opening::Unopened;
-pub use working::{Work, Worked, work_in_file, work_in_new_file};
+pub use opening::{Opening, Unopened};
+pub use working::{Work, Worked, work_in_file};

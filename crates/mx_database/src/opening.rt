@@ -36,17 +36,6 @@ fn unopened_by(error: Error) -> Unopened
     }
 }
 
-/// Opens the database in a file, which is made where it isn't there.
-pub(crate) fn open_or_make(rt: &HostRuntime, file: &str) -> Result<Connection<File>, Unopened>
-    ensures idle { IfOk result (λ conn. conn.in_transaction ≡ false) }
-    ensures opened { IfErr result (λ why. why ≢ Unopened.Nothing) }
-{
-    match Connection::open_from(rt, file, false, Wary) {
-        Ok(conn) => Ok(conn),
-        Err((error, _)) => Err(unopened_by(error)),
-    }
-}
-
 // Whether there is nothing to be opened: no file of that name, or an empty one.
 fn is_nothing(rt: &HostRuntime, file: &str) -> bool {
     match fs::metadata(rt, file) {
@@ -55,13 +44,31 @@ fn is_nothing(rt: &HostRuntime, file: &str) -> bool {
     }
 }
 
-/// Opens the database in a file that holds one. A file that isn't there, is empty or has one byte is none, and is left as it is:
-/// opening it would make a database of it.
-pub(crate) fn open_there(rt: &HostRuntime, file: &str) -> Result<Connection<File>, Unopened>
-    ensures { IfOk result (λ conn. conn.in_transaction ≡ false) }
+/// Which file a database is opened in.
+#[derive(Clone, Copy)]
+pub enum Opening {
+    /// One that holds one. A file that isn't there, is empty or has one byte is none, and is left as it is: opening it would make
+    /// a database of it.
+    There,
+    /// One that is made where it isn't there.
+    OrMade,
+}
+
+/// Opens the database in a file.
+pub(crate) fn open_file(
+    rt: &HostRuntime,
+    file: &str,
+    opening: Opening,
+) -> Result<Connection<File>, Unopened>
+    ensures idle { IfOk result (λ conn. conn.in_transaction ≡ false) }
+    ensures opened { opening ≡ Opening.OrMade → IfErr result (λ why. why ≢ Unopened.Nothing) }
 {
-    if is_nothing(rt, file) {
-        return Err(Unopened::Nothing);
+    match opening {
+        Opening::There if is_nothing(rt, file) => return Err(Unopened::Nothing),
+        _ => {}
     }
-    open_or_make(rt, file)
+    match Connection::open_from(rt, file, false, Wary) {
+        Ok(conn) => Ok(conn),
+        Err((error, _)) => Err(unopened_by(error)),
+    }
 }

@@ -1,7 +1,7 @@
 //! What is done over the database in a file.
 ghost use Rattle.std.specs.Prelude.{◌≡◌, ◌≢◌, ℕ, List, false, IfOk, IfErr, OnErr};
 
-use crate::opening::{File, Unopened, open_or_make, open_there};
+use crate::opening::{Opening, Unopened, open_file};
 use sqlite::{Alter, Connection};
 
 /// What is done over an open database, whatever its store.
@@ -33,51 +33,24 @@ pub struct Worked<T> {
     pub is_closed: bool,
 }
 
-// Works on the database of a file, and closes it where it is handed back.
-fn work_on<W: Work>(
+/// Works on the database in a file, and closes it where it is handed back. Where none was opened nothing is appended.
+pub fn work_in_file<W: Work>(
     rt: &HostRuntime,
-    conn: Connection<File>,
+    file: &str,
+    opening: Opening,
     work: &W,
     out: &mut Vec<u8>,
-) -> Worked<W::Done>
-    requires { conn.in_transaction ≡ false }
-    ensures { W.gives work.now out.old.items out.new.items result.done }
+) -> Result<Worked<W::Done>, Unopened>
+    ensures given { IfOk result
+        (λ worked. W.gives work.now out.old.items out.new.items worked.done) }
+    ensures opened { opening ≡ Opening.OrMade → IfErr result (λ why. why ≢ Unopened.Nothing) }
+    ensures unopened { OnErr result (out.new ≡ out.old) }
 {
+    let conn = open_file(rt, file, opening)?;
     let (left, done) = work.work(rt, conn, out);
     let is_closed = match left {
         Some(conn) => conn.close().is_ok(),
         None => true,
     };
-    Worked { done, is_closed }
-}
-
-/// Works on the database in a file that is there. Where none was opened nothing is appended.
-pub fn work_in_file<W: Work>(
-    rt: &HostRuntime,
-    file: &str,
-    work: &W,
-    out: &mut Vec<u8>,
-) -> Result<Worked<W::Done>, Unopened>
-    ensures given { IfOk result
-        (λ worked. W.gives work.now out.old.items out.new.items worked.done) }
-    ensures unopened { OnErr result (out.new ≡ out.old) }
-{
-    let conn = open_there(rt, file)?;
-    Ok(work_on(rt, conn, work, out))
-}
-
-/// Works on the database in a file, which is made where it isn't there. Where none was opened nothing is appended.
-pub fn work_in_new_file<W: Work>(
-    rt: &HostRuntime,
-    file: &str,
-    work: &W,
-    out: &mut Vec<u8>,
-) -> Result<Worked<W::Done>, Unopened>
-    ensures given { IfOk result
-        (λ worked. W.gives work.now out.old.items out.new.items worked.done) }
-    ensures opened { IfErr result (λ why. why ≢ Unopened.Nothing) }
-    ensures unopened { OnErr result (out.new ≡ out.old) }
-{
-    let conn = open_or_make(rt, file)?;
-    Ok(work_on(rt, conn, work, out))
+    Ok(Worked { done, is_closed })
 }

@@ -7,7 +7,7 @@ ghost use Rattle.mx_files.specs.Answered.{Answers};
 ghost use Rattle.mx_output.specs.declared.endings.ending.Ending.{Ending};
 
 use crate::opening::{ended, stop_of};
-use mx_database::{Work, work_in_file};
+use mx_database::{Opening, Work, work_in_file};
 use mx_jobs::open;
 use mx_office::Office;
 use mx_output::endings::{Ending, Stop};
@@ -64,7 +64,7 @@ pub fn answer_file<A: Asked>(
 ) -> Result<Ending, Stop>
     ensures answers { Answers (A.is_answer asked.now) 3 out.old.items out.new.items result }
 {
-    match work_in_file(rt, file, &Asking { asked }, out) {
+    match work_in_file(rt, file, Opening::There, &Asking { asked }, out) {
         Ok(worked) => ended(worked),
         Err(why) => Err(stop_of(why)),
     }

@@ -13,7 +13,7 @@ use crate::inputs::commands_in;
 use crate::opening::stop_of;
 use mx_book::commands::Command;
 use mx_book::entry_list::Book;
-use mx_database::{Work, Worked, work_in_new_file};
+use mx_database::{Opening, Work, Worked, work_in_file};
 use mx_jobs::upkeep::{Accepted, accept_all, install_book, print_accepted};
 use mx_layout::TableFault;
 use mx_output::endings::{Ending, Stop};
@@ -57,7 +57,7 @@ fn install_file(
     ensures status { IfErr result (λ stop. stop_status stop ≡ 5) }
 {
     let book = &accepted.book;
-    match work_in_new_file(rt, file, &Installing { book }, appended) {
+    match work_in_file(rt, file, Opening::OrMade, &Installing { book }, appended) {
         Ok(
             Worked {
                 done: Ok(()),

@@ -8,7 +8,7 @@ ghost use Rattle.mx_files.specs.Answered.{TellsMade};
 ghost use Rattle.mx_output.specs.endings.Status.{stop_status};
 
 use crate::opening::stop_of;
-use mx_database::{Work, Worked, work_in_new_file};
+use mx_database::{Opening, Work, Worked, work_in_file};
 use mx_jobs::{CREATED, make_book};
 use mx_layout::TableFault;
 use mx_output::endings::{Ending, Stop};
@@ -48,7 +48,7 @@ pub fn init_file(rt: &HostRuntime, file: &str, out: &mut Vec<u8>) -> Result<Endi
     ensures status { IfErr result (λ stop. stop_status stop ≡ 5) }
 {
     let before = out.len();
-    match work_in_new_file(rt, file, &Making, out) {
+    match work_in_file(rt, file, Opening::OrMade, &Making, out) {
         Ok(
             Worked {
                 done: Ok(_),

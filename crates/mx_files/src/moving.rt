@@ -7,7 +7,7 @@ ghost use Rattle.mx_files.specs.Answered.{Answers};
 ghost use Rattle.mx_output.specs.printed.Moved.{IsPointLine};
 
 use crate::opening::{ended, stop_of};
-use mx_database::{Work, work_in_file};
+use mx_database::{Opening, Work, work_in_file};
 use mx_jobs::upkeep::move_on;
 use mx_output::endings::{Ending, Stop};
 use sqlite::{Alter, Connection};
@@ -45,7 +45,7 @@ pub fn migrate_file(
 ) -> Result<Ending, Stop>
     ensures answers { Answers IsPointLine 4 out.old.items out.new.items result }
 {
-    match work_in_file(rt, file, &Moving { steps }, out) {
+    match work_in_file(rt, file, Opening::There, &Moving { steps }, out) {
         Ok(worked) => ended(worked),
         Err(why) => Err(stop_of(why)),
     }

@@ -5,7 +5,7 @@ ghost use Rattle.mx_book.specs.commands.Act.{Entry};
 ghost use Rattle.mx_book.specs.commands.Programme.{task_shape};
 ghost use Rattle.mx_book.specs.Defect.{days_extended};
 ghost use Rattle.mx_book.specs.Reading.{Answers};
-ghost use Rattle.mx_lists.specs.DueList.{row_by_due, task_before, tasks_by_name, row_with, rows_with, rows_of_item, rows_of_part, defect_row, rows_by_place, due_list};
+ghost use Rattle.mx_lists.specs.DueList.{row_by_due, task_before, tasks_by_name, row_with, rows_of_item, rows_of_part, defect_row, rows_by_place, due_list};
 ghost use Rattle.mx_lists.specs.Memory.{with_memory, seen_as};
 ghost use Rattle.mx_lists.specs.Ranks.{tasks_rank};
 
@@ -99,30 +99,6 @@ fn push_found<T: Copy>(rows: &mut Vec<T>, found: Option<T>) -> Result<(), AllocE
     }
 }
 
-// Appends the rows of an item that has this life, in the order of these tasks.
-fn append_rows<R: ListRecords>(
-    rows: &mut Vec<DueRow>,
-    records: &mut R,
-    day: Day,
-    item: &Item,
-    life: &Use,
-    place: &Option<(Position, Serial)>,
-    tasks: &[Task],
-) -> Result<(), Stop<R::Fault>>
-    requires { list_all task_shape tasks.now ≡ true }
-    ensures { Answers (with_memory R.reading) records.old records.new
-        (seen_as (λ _. rows.new.items) result)
-        (λ book. rows.old.items ++ rows_with book day item.now life.now place.now tasks.now) }
-{
-    let mut rest = tasks;
-    while let Some((task, later)) = rest.split_first() {
-        let found = row_of_task(records, day, item, life, *place, task)?;
-        push_found(rows, found)?;
-        rest = later;
-    }
-    Ok(())
-}
-
 // Appends the rows of an item, in the order of these tasks.
 fn append_item<R: ListRecords>(
     rows: &mut Vec<DueRow>,
@@ -138,7 +114,13 @@ fn append_item<R: ListRecords>(
         (λ book. rows.old.items ++ rows_of_item book day tasks.now item.now place.now) }
 {
     let life = life_of(records, item)?;
-    append_rows(rows, records, day, item, &life, place, tasks)
+    let mut rest = tasks;
+    while let Some((task, later)) = rest.split_first() {
+        let found = row_of_task(records, day, item, &life, *place, task)?;
+        push_found(rows, found)?;
+        rest = later;
+    }
+    Ok(())
 }
 
 // Appends the rows of a component in its position.

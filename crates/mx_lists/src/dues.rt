@@ -1,9 +1,6 @@
 //! When a task is due on an item: counted from the base of its last accomplishment, or from the item's birth.
 ghost use Rattle.std.specs.Prelude.{◌≡◌, true};
 ghost use Rattle.mx_book.specs.commands.Programme.{task_shape};
-ghost use Rattle.mx_book.specs.due.Due.{due_after};
-ghost use Rattle.mx_book.specs.Base.{base};
-ghost use Rattle.mx_book.specs.Register.{birth_in};
 ghost use Rattle.mx_book.specs.Reading.{Answers};
 ghost use Rattle.mx_lists.specs.Dues.{due_by, due};
 
@@ -12,23 +9,8 @@ use mx_base::{Kind, Limit, TaskId};
 use mx_book::Records;
 use mx_book::commands::{Item, Task};
 use mx_book::due::due_after;
-use mx_book::found::{Found, birth_of, is_task_of};
+use mx_book::found::{birth_of, is_task_of};
 use mx_book::judging::judging_items::found_of;
-
-// When a task that applies to an item, of which this was found, is due on it, or `None` where it is due no more.
-fn due_of_applied<R: ListRecords>(
-    records: &mut R,
-    item: &Item,
-    found: &Found,
-    task: &Task,
-) -> Result<Option<Limit>, R::Fault>
-    requires { task_shape task.now ≡ true }
-    ensures { Answers R.reading records.old records.new result
-        (λ book. due_after (base book item.now task.now.id) (birth_in found.now) task.now) }
-{
-    let base = records.base(item, &task.id)?;
-    Ok(due_after(base, birth_of(found), task))
-}
 
 /// When a task of a programme is due on an item, or `None` where it does not apply to it or is due no more.
 pub(crate) fn due_of_task<R: ListRecords>(
@@ -42,7 +24,8 @@ pub(crate) fn due_of_task<R: ListRecords>(
 {
     let found = found_of(records, item)?;
     if is_task_of(&found, task) {
-        due_of_applied(records, item, &found, task)
+        let base = records.base(item, &task.id)?;
+        Ok(due_after(base, birth_of(&found), task))
     } else {
         Ok(None)
     }

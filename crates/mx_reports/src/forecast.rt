@@ -7,7 +7,7 @@ ghost use Rattle.mx_reports.specs.Words.{spaced, StartsWith};
 
 use crate::defect::append_day_number;
 use crate::due::append_place;
-use crate::text::{Text, append_rows, append_whole};
+use crate::text::{Text, append_rows};
 use crate::words::{append_day, append_end, append_number, append_signed, append_word};
 use mx_lists::{DueRow, ForecastList, ForecastRow};
 use std::alloc::AllocError;
@@ -73,6 +73,9 @@ fn append_head(out: &mut Vec<u8>, list: &ForecastList) -> Result<(), AllocError>
     out.extend_from_slice(b"\n")
 }
 
+// A forecast: `forecast TAIL DAY DAYS MINUTES CYCLES`; a line for each row, with the number of days after which it is
+// reached, the day, `later` where that is past the calendar, and what is reached: the place (`airframe`, or `part` with
+// the position and the serial number) and the task, or `defect` and its document; and `end` with the number of rows.
 impl Text for ForecastList {
     ghost text = { forecast_lines };
 
@@ -83,15 +86,4 @@ impl Text for ForecastList {
         append_rows(out, rows)?;
         append_end(out, rows.len())
     }
-}
-
-/// Appends a forecast: `forecast TAIL DAY DAYS MINUTES CYCLES`; a line for each row, with the number of days after which
-/// it is reached, the day, `later` where that is past the calendar, and what is reached: the place (`airframe`, or `part`
-/// with the position and the serial number) and the task, or `defect` and its document; and `end` with the number of
-/// rows.
-pub fn forecast_text(out: &mut Vec<u8>, list: &ForecastList) -> Result<(), AllocError>
-    ensures printed { OnOk result (out.new.items ≡ out.old.items ++ forecast_lines list.now) }
-    ensures unchanged { OnErr result (out.new.items ≡ out.old.items) }
-{
-    append_whole(out, list)
 }

@@ -3,18 +3,17 @@
 //!
 //! # What is promised
 //!
-//! - A reply, a life list, a due list, a forecast and limits are appended as their exact bytes, or the vector's items
-//!   are as they were: `reply_text`, `life_text`, `due_text`, `forecast_text`, `limits_text`, and `list_text` of
-//!   whichever list: `printed`, `unchanged`; for each text at once `append_whole`.
+//! - A reply, a due list, and whichever list is reported are appended as their exact bytes, or the vector's items are
+//!   as they were: `reply_text`, `due_text`, `list_text`: `printed`, `unchanged`; for each text at once `append_whole`.
 //! - A line for each of some replies is appended, or nothing where memory runs out; and it is told whether one of them
 //!   is a refusal: `replies_text`; `is_refused`, `has_refusal`.
 #![tactic(auto)]
 
 mod defect;
 pub mod due;
-pub mod forecast;
-pub mod life;
-pub mod limits;
+mod forecast;
+mod life;
+mod limits;
 pub mod replies;
 pub mod reply;
 pub mod report;
@@ -22,9 +21,6 @@ pub mod text;
 mod words;
 
 pub use due::due_text;
-pub use forecast::forecast_text;
-pub use life::life_text;
-pub use limits::limits_text;
 pub use replies::{has_refusal, is_refused, replies_text};
 pub use reply::reply_text;
 pub use report::list_text;

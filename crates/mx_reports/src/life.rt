@@ -3,7 +3,7 @@ ghost use Rattle.std.specs.Prelude.{◌≡◌, ◌++◌, [], ◌∷◌, codes, O
 ghost use Rattle.mx_reports.specs.Words.{StartsWith};
 ghost use Rattle.mx_reports.specs.LifeText.{head_lines, part_line, life_lines};
 
-use crate::text::{Text, append_rows, append_whole};
+use crate::text::{Text, append_rows};
 use crate::words::{append_end, append_use, append_word};
 use mx_lists::{FittedPart, LifeList};
 use std::alloc::AllocError;
@@ -35,6 +35,9 @@ impl Text for FittedPart {
     }
 }
 
+// A life list: `life TAIL`; the airframe's line with its kind, hours and cycles; a line for each component by position,
+// with its position, serial number, part, hours and cycles; and `end` with the number of lines between the first and
+// the last.
 impl Text for LifeList {
     ghost text = { life_lines };
 
@@ -45,14 +48,4 @@ impl Text for LifeList {
         append_rows(out, parts)?;
         append_end(out, parts.len() + 1)
     }
-}
-
-/// Appends a life list: `life TAIL`; the airframe's line with its kind, hours and cycles; a line for each
-/// component by position, with its position, serial number, part, hours and cycles; and `end` with the number
-/// of lines between the first and the last.
-pub fn life_text(out: &mut Vec<u8>, list: &LifeList) -> Result<(), AllocError>
-    ensures printed { OnOk result (out.new.items ≡ out.old.items ++ life_lines list.now) }
-    ensures unchanged { OnErr result (out.new.items ≡ out.old.items) }
-{
-    append_whole(out, list)
 }

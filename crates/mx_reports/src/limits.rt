@@ -5,7 +5,7 @@ ghost use Rattle.mx_reports.specs.LimitText.{found_words, limit_line, limits_hea
 ghost use Rattle.mx_reports.specs.Words.{status_word, StartsWith};
 
 use crate::defect::{append_defect, append_until};
-use crate::text::{Text, append_rows, append_whole};
+use crate::text::{Text, append_rows};
 use crate::words::{append_day, append_end, append_signed, append_status, append_word};
 use mx_base::{Day, print_day};
 use mx_lists::{LimitList, LimitRow};
@@ -70,6 +70,10 @@ fn append_head(out: &mut Vec<u8>, list: &LimitList) -> Result<(), AllocError>
     out.extend_from_slice(b"\n")
 }
 
+// The limits of an aircraft: `limits TAIL DAY`; a line for each open defect, with its status (`OVERDUE`, `DUE` or
+// `OK`), its document, the letter of its category, the item of the minimum equipment list, the day on which it was
+// found, the days by which its interval was extended, its last day, `later` where that is past the calendar, and the
+// days that are left; and `end` with the number of rows.
 impl Text for LimitList {
     ghost text = { limit_lines };
 
@@ -80,15 +84,4 @@ impl Text for LimitList {
         append_rows(out, rows)?;
         append_end(out, rows.len())
     }
-}
-
-/// Appends the limits of an aircraft: `limits TAIL DAY`; a line for each open defect, with its status (`OVERDUE`, `DUE`
-/// or `OK`), its document, the letter of its category, the item of the minimum equipment list, the day on which it was
-/// found, the days by which its interval was extended, its last day, `later` where that is past the calendar, and the
-/// days that are left; and `end` with the number of rows.
-pub fn limits_text(out: &mut Vec<u8>, list: &LimitList) -> Result<(), AllocError>
-    ensures printed { OnOk result (out.new.items ≡ out.old.items ++ limit_lines list.now) }
-    ensures unchanged { OnErr result (out.new.items ≡ out.old.items) }
-{
-    append_whole(out, list)
 }

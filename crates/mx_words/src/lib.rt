@@ -13,8 +13,8 @@
 //!   a refusal was printed; with 0 or 1 nothing is on standard error; with 2 nothing is on standard output, and with 3
 //!   nothing, or the lines of a sector log with a bad row: `run_words`: `bound`, `done`, `refused`, `quiet`,
 //!   `unprinted`, `unread`.
-//! - What is done is what the words ask for; where they can't be read nothing is done, and the status is 2 or more:
-//!   `perform_all`: `done`, `words`, `shape`; `answer_words`: `done`, `refused`, `unasked`, `unread`.
+//! - What is done is what the words ask for; where they can't be read nothing is done, the status is 2 or more, and with 2
+//!   the line that says so was printed: `answer_words`: `done`, `refused`, `unasked`, `unread_words`, `unread`.
 #![tactic(auto)]
 
 pub mod command_line;

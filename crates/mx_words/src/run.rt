@@ -1,8 +1,9 @@
 //! The program on its words.
-ghost use Rattle.std.specs.Prelude.{◌≡◌, ◌≢◌, ◌↔◌, ◌⊎◌, ◌≤◌, ◌++◌, None, Some, IfOk, IfErr};
-ghost use Rattle.std.specs.Io.KnownBytes.{Keeps};
+ghost use Rattle.std.specs.Prelude.{◌≡◌, ◌≢◌, ◌⊎◌, ◌≤◌, None, IfOk, IfErr};
+ghost use Rattle.std.specs.Io.KnownBytes.{Appends, Keeps};
 ghost use Rattle.mx_words.specs.Done.{IsAnswered, IsDone, IsEnded, IsEndedForSome, LacksShape};
 ghost use Rattle.mx_words.specs.command_line.Job.{job_of, said};
+ghost use Rattle.mx_output.specs.endings.FaultLine.{fault_line};
 ghost use Rattle.mx_output.specs.endings.Status.{LeavesUnread, Shows, stop_status};
 
 use crate::command_line::{Words, command, print_usage, words_of};
@@ -28,28 +29,7 @@ pub trait Perform {
         ensures unread { IfErr result (LeavesUnread out.old.items out.new.items) };
 }
 
-// Does what the words ask for, if they can be read, and appends what that prints.
-fn perform_all<P: Perform>(
-    rt: &HostRuntime,
-    performer: &P,
-    matches: &ArgMatches<'_>,
-    out: &mut Vec<u8>,
-) -> Result<Ending, Stop>
-    ensures done { IfOk result (λ ending. (job : _) × (said matches.now ≡ Some job)
-        × Shows (IsDone job) out.old.items out.new.items ending) }
-    ensures words { (result ≡ Err Stop.Words) ↔ (said matches.now ≡ None) }
-    ensures shape { result ≡ Err Stop.Shape
-        → (job : _) × (said matches.now ≡ Some job) × LacksShape job }
-    ensures unprinted { IfErr result (λ stop. stop_status stop ≡ 2 → out.new ≡ out.old) }
-    ensures unread { IfErr result (LeavesUnread out.old.items out.new.items) }
-{
-    match words_of(matches) {
-        Some(words) => performer.perform(rt, &words, out),
-        None => Err(Stop::Words),
-    }
-}
-
-// Does what the words ask for, prints it, and answers the status.
+// Does what the words ask for, if they can be read, prints it, and answers the status.
 fn answer_words<P: Perform, O: Write, E: Write>(
     rt: &HostRuntime,
     performer: &P,
@@ -63,13 +43,18 @@ fn answer_words<P: Perform, O: Write, E: Write>(
     ensures refused { result ≡ 1
         → IsEnded (said matches.now) Ending.Refused (O.contents out.old) (O.contents out.new) }
     ensures unasked { said matches.now ≡ None → 2 ≤ result }
+    ensures unread_words { said matches.now ≡ None → result ≡ 2
+        → Appends (E.contents err.old) (E.contents err.new) (fault_line Stop.Words) }
     ensures quiet { result ≤ 1 → err.new ≡ err.old }
     ensures unprinted { result ≡ 2 → Keeps (O.contents out.old) (O.contents out.new) }
     ensures unread { result ≡ 3 → Keeps (O.contents out.old) (O.contents out.new)
         ⊎ IsEnded (said matches.now) Ending.Bad (O.contents out.old) (O.contents out.new) }
 {
+    let Some(words) = words_of(matches) else {
+        return print_done(&[], Err(Stop::Words), out, err).status;
+    };
     let mut text = Vec::new(rt.alloc());
-    let done = perform_all(rt, performer, matches, &mut text);
+    let done = performer.perform(rt, &words, &mut text);
     print_done(&text, done, out, err).status
 }
 
