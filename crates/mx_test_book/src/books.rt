@@ -7,30 +7,31 @@ use mx_book::entry_list::Book;
 use mx_plain_book::Plain;
 use mx_plain_book::book_lists::life_list_of;
 use mx_test_cases::{
-    Unmade, append_number, command_of, documents, listed, number_text, verdict_text, yes_or_no,
+    AnswerText, Unmade, append_number, command_of, documents, listed, number_text, verdict_text,
+    yes_or_no,
 };
 use std::alloc::Global;
 
 // judge COMMAND: the verdict on it, where nothing is entered.
-fn judge(alloc: Global, book: &Book, words: &[&str]) -> Result<String, Unmade> {
+fn judge(alloc: Global, book: &Book, words: &[&str]) -> AnswerText {
     let command = command_of(alloc, words)?;
     Ok(verdict_text(alloc, &Plain { book }.judge(&command))?)
 }
 
 // copied judge COMMAND: the verdict of a copy of the book.
-fn judge_by_copy(alloc: Global, book: &Book, words: &[&str]) -> Result<String, Unmade> {
+fn judge_by_copy(alloc: Global, book: &Book, words: &[&str]) -> AnswerText {
     let copy = book.copy(alloc)?;
     judge(alloc, &copy, words)
 }
 
 // copied: whether a copy of the book has the same entries.
-fn copied(alloc: Global, book: &Book) -> Result<String, Unmade> {
+fn copied(alloc: Global, book: &Book) -> AnswerText {
     let copy = book.copy(alloc)?;
     Ok(yes_or_no(alloc, are_same(copy.as_slice(), book.as_slice()))?)
 }
 
 // length: how many entries there are.
-fn length(alloc: Global, book: &Book) -> Result<String, Unmade> {
+fn length(alloc: Global, book: &Book) -> AnswerText {
     let len = book.len();
     if book.is_empty() != (len == 0) {
         return Ok(String::from_str(alloc, "is_empty has it otherwise")?);
@@ -39,7 +40,7 @@ fn length(alloc: Global, book: &Book) -> Result<String, Unmade> {
 }
 
 // entry N: the document of the entry with that number.
-fn entry(alloc: Global, book: &Book, seq: &str) -> Result<String, Unmade> {
+fn entry(alloc: Global, book: &Book, seq: &str) -> AnswerText {
     match book.entry(seq.parse::<u32>()?) {
         Some(command) => Ok(String::from_str(alloc, command.doc().as_str())?),
         None => Ok(String::from_str(alloc, "none")?),
@@ -47,14 +48,14 @@ fn entry(alloc: Global, book: &Book, seq: &str) -> Result<String, Unmade> {
 }
 
 // entries FROM AT_MOST: the documents of the entries from a number on, at most so many.
-fn entries(alloc: Global, book: &Book, from: &str, at_most: &str) -> Result<String, Unmade> {
+fn entries(alloc: Global, book: &Book, from: &str, at_most: &str) -> AnswerText {
     let from = from.parse::<u32>()?;
     let entries = book.entries(alloc, from, at_most.parse::<u32>()?)?;
     Ok(documents(alloc, entries.as_slice())?)
 }
 
 // A life as MINUTES CYCLES, or `unknown`.
-fn life_of(alloc: Global, life: Option<Use>) -> Result<String, Unmade> {
+fn life_of(alloc: Global, life: Option<Use>) -> AnswerText {
     match life {
         Some(life) => {
             let mut text = number_text(alloc, life.minutes)?;
@@ -66,7 +67,7 @@ fn life_of(alloc: Global, life: Option<Use>) -> Result<String, Unmade> {
 }
 
 // life TAIL [MOMENT], component-life SERIAL [MOMENT]: the life of an item, now or up to a moment.
-fn life(alloc: Global, book: &Book, item: &Item, until: &[&str]) -> Result<String, Unmade> {
+fn life(alloc: Global, book: &Book, item: &Item, until: &[&str]) -> AnswerText {
     match until {
         [] => life_of(alloc, Plain { book }.life_now(item)),
         [moment] => life_of(alloc, Plain { book }.life(item, Moment::read(moment)?)),
@@ -75,7 +76,7 @@ fn life(alloc: Global, book: &Book, item: &Item, until: &[&str]) -> Result<Strin
 }
 
 // list TAIL: the lines of the life list.
-fn list(alloc: Global, book: &Book, tail: &str) -> Result<String, Unmade> {
+fn list(alloc: Global, book: &Book, tail: &str) -> AnswerText {
     Ok(listed(alloc, life_list_of(book, alloc, &Tail::read(tail)?)?)?)
 }
 

@@ -3,7 +3,7 @@
 use crate::shown::day_text;
 use mx_base::{Day, Moment, day_of, plus_days, print_day_number, print_hours, print_moment};
 use mx_test_cases::{
-    Unmade, append_number, append_word, begin_print, number_text, printed, text_of,
+    AnswerText, Unmade, append_number, append_word, begin_print, number_text, printed, text_of,
 };
 use std::alloc::{AllocError, Global};
 
@@ -27,7 +27,7 @@ fn hours_text(alloc: Global, minutes: i64) -> Result<String, AllocError> {
 }
 
 // day TEXT: the number of the day that a text names.
-fn day(alloc: Global, word: &str) -> Result<String, Unmade> {
+fn day(alloc: Global, word: &str) -> AnswerText {
     let text = text_of(alloc, word)?;
     let Ok(day) = Day::read(text.as_str()) else {
         return Ok(String::from_str(alloc, "no day")?);
@@ -44,7 +44,7 @@ fn day(alloc: Global, word: &str) -> Result<String, Unmade> {
 }
 
 // day-number N: the day with that number as it is printed.
-fn day_number(alloc: Global, word: &str) -> Result<String, Unmade> {
+fn day_number(alloc: Global, word: &str) -> AnswerText {
     let number = word.parse::<u32>()?;
     let text = text_of_number(alloc, number)?;
     let is_later = text.as_str() == "later";
@@ -55,7 +55,7 @@ fn day_number(alloc: Global, word: &str) -> Result<String, Unmade> {
 }
 
 // date TEXT: the year, month and day of a day.
-fn date(alloc: Global, word: &str) -> Result<String, Unmade> {
+fn date(alloc: Global, word: &str) -> AnswerText {
     let date = Day::read(word)?.date();
     let mut text = number_text(alloc, u32::from(date.year))?;
     append_number(&mut text, u32::from(date.month))?;
@@ -64,7 +64,7 @@ fn date(alloc: Global, word: &str) -> Result<String, Unmade> {
 }
 
 // plus TEXT DAYS: the day that many days later.
-fn plus(alloc: Global, word: &str, days: &str) -> Result<String, Unmade> {
+fn plus(alloc: Global, word: &str, days: &str) -> AnswerText {
     let day = Day::read(word)?;
     match plus_days(day, days.parse::<u32>()?) {
         Some(later) => Ok(day_text(alloc, later)?),
@@ -73,7 +73,7 @@ fn plus(alloc: Global, word: &str, days: &str) -> Result<String, Unmade> {
 }
 
 // moment TEXT: the number of the moment that a text names.
-fn moment(alloc: Global, word: &str) -> Result<String, Unmade> {
+fn moment(alloc: Global, word: &str) -> AnswerText {
     let text = text_of(alloc, word)?;
     let Ok(moment) = Moment::read(text.as_str()) else {
         return Ok(String::from_str(alloc, "no moment")?);
@@ -94,7 +94,7 @@ fn moment(alloc: Global, word: &str) -> Result<String, Unmade> {
 }
 
 // moment-number N: the moment with that number.
-fn moment_number(alloc: Global, word: &str) -> Result<String, Unmade> {
+fn moment_number(alloc: Global, word: &str) -> AnswerText {
     match Moment::of_number(word.parse::<u32>()?) {
         Some(moment) => Ok(moment_text(alloc, moment)?),
         None => Ok(String::from_str(alloc, "none")?),
@@ -102,7 +102,7 @@ fn moment_number(alloc: Global, word: &str) -> Result<String, Unmade> {
 }
 
 // hours MINUTES: an amount of minutes as hours.
-fn hours(alloc: Global, word: &str) -> Result<String, Unmade> {
+fn hours(alloc: Global, word: &str) -> AnswerText {
     Ok(hours_text(alloc, word.parse::<i64>()?)?)
 }
 

@@ -1,11 +1,11 @@
 //! Questions on commands that are made and not handed in.
 
 use crate::shown::command_text;
-use mx_test_cases::{Unmade, append_word, command_of, yes_or_no};
+use mx_test_cases::{AnswerText, Unmade, append_word, command_of, yes_or_no};
 use std::alloc::Global;
 
 // make COMMAND: the document of the command that is made.
-fn make(alloc: Global, words: &[&str]) -> Result<String, Unmade> {
+fn make(alloc: Global, words: &[&str]) -> AnswerText {
     let doc = command_of(alloc, words)?.doc();
     let mut text = String::from_str(alloc, "made")?;
     append_word(&mut text, doc.as_str())?;
@@ -13,20 +13,20 @@ fn make(alloc: Global, words: &[&str]) -> Result<String, Unmade> {
 }
 
 // shows COMMAND: what its accessors show.
-fn shows(alloc: Global, words: &[&str]) -> Result<String, Unmade> {
+fn shows(alloc: Global, words: &[&str]) -> AnswerText {
     let command = command_of(alloc, words)?;
     Ok(command_text(alloc, &command)?)
 }
 
 // copy COMMAND: whether its copy is the same.
-fn copy(alloc: Global, words: &[&str]) -> Result<String, Unmade> {
+fn copy(alloc: Global, words: &[&str]) -> AnswerText {
     let command = command_of(alloc, words)?;
     let copy = command.copy(alloc)?;
     Ok(yes_or_no(alloc, copy.is_same(&command) && command.is_same(&copy))?)
 }
 
 // same COMMAND | COMMAND: whether two commands are the same.
-fn same(alloc: Global, words: &[&str]) -> Result<String, Unmade> {
+fn same(alloc: Global, words: &[&str]) -> AnswerText {
     let Some(bar) = words.iter().position(|word| *word == "|") else {
         return Err(Unmade::NoSuchLine);
     };

@@ -4,11 +4,11 @@ use mx_base::{Day, Tail};
 use mx_book::entry_list::Book;
 use mx_plain_book::Plain;
 use mx_plain_book::book_lists::limits_of;
-use mx_test_cases::{Unmade, append_joined, listed, or_none};
+use mx_test_cases::{AnswerText, Unmade, append_joined, listed, or_none};
 use std::alloc::Global;
 
 // open-defects TAIL: the documents of the open defects, in the order of their entries.
-fn open_defects(alloc: Global, book: &Book, tail: &str) -> Result<String, Unmade> {
+fn open_defects(alloc: Global, book: &Book, tail: &str) -> AnswerText {
     let mut text = String::new(alloc);
     let tail = Tail::read(tail)?;
     let defects = Plain { book }.open_defects(alloc, &tail)?;
@@ -19,7 +19,7 @@ fn open_defects(alloc: Global, book: &Book, tail: &str) -> Result<String, Unmade
 }
 
 // limits TAIL DAY: the lines of the limits.
-fn limits(alloc: Global, book: &Book, tail: &str, day: &str) -> Result<String, Unmade> {
+fn limits(alloc: Global, book: &Book, tail: &str, day: &str) -> AnswerText {
     let tail = Tail::read(tail)?;
     Ok(listed(alloc, limits_of(book, alloc, &tail, Day::read(day)?)?)?)
 }

@@ -5,7 +5,7 @@ use mx_base::{Base, Day, Kind, Limit, Tail, TaskId};
 use mx_book::commands::Item;
 use mx_book::entry_list::Book;
 use mx_plain_book::book_lists::{base_of_item, due_list_of, due_of_item, forecast_of};
-use mx_test_cases::{Unmade, append_number, item_of, listed, number_text};
+use mx_test_cases::{AnswerText, Unmade, append_number, item_of, listed, number_text};
 use std::alloc::{AllocError, Global};
 
 // MINUTES CYCLES DAY, the day by its number; `none` where nothing was accomplished.
@@ -20,7 +20,7 @@ fn base_text(alloc: Global, base: Option<Base>) -> Result<String, AllocError> {
 }
 
 // base ITEM NAME TASK: the base of the last accomplishment.
-fn base(alloc: Global, book: &Book, item: &Item, task: &str) -> Result<String, Unmade> {
+fn base(alloc: Global, book: &Book, item: &Item, task: &str) -> AnswerText {
     let task = TaskId::read(task)?;
     Ok(base_text(alloc, base_of_item(book, item, &task))?)
 }
@@ -36,26 +36,20 @@ fn limit_text(alloc: Global, due: Option<Limit>) -> Result<String, AllocError> {
 }
 
 // due-at ITEM NAME KIND TASK: when a task of a kind is due on an item.
-fn due(alloc: Global, book: &Book, item: &Item, kind: &str, task: &str) -> Result<String, Unmade> {
+fn due(alloc: Global, book: &Book, item: &Item, kind: &str, task: &str) -> AnswerText {
     let kind = Kind::read(kind)?;
     let task = TaskId::read(task)?;
     Ok(limit_text(alloc, due_of_item(book, item, &kind, &task))?)
 }
 
 // due TAIL DAY: the lines of the due list.
-fn due_list(alloc: Global, book: &Book, tail: &str, day: &str) -> Result<String, Unmade> {
+fn due_list(alloc: Global, book: &Book, tail: &str, day: &str) -> AnswerText {
     let tail = Tail::read(tail)?;
     Ok(listed(alloc, due_list_of(book, alloc, &tail, Day::read(day)?)?)?)
 }
 
 // forecast TAIL DAY DAYS MINUTES CYCLES: the lines of the forecast.
-fn forecast(
-    alloc: Global,
-    book: &Book,
-    tail: &str,
-    day: &str,
-    numbers: [&str; 3],
-) -> Result<String, Unmade> {
+fn forecast(alloc: Global, book: &Book, tail: &str, day: &str, numbers: [&str; 3]) -> AnswerText {
     let tail = Tail::read(tail)?;
     let day = Day::read(day)?;
     let [days, minutes, cycles] = numbers;

@@ -2,7 +2,7 @@
 
 use mx_base::identifiers::{Alphabet, Identifier};
 use mx_base::{BadText, Doc, Kind, MelRef, Part, Position, Serial, Tail, TaskId};
-use mx_test_cases::{Unmade, text_of, yes_or_no};
+use mx_test_cases::{AnswerText, Unmade, text_of, yes_or_no};
 use std::alloc::Global;
 use std::cmp::Ordering;
 
@@ -33,7 +33,7 @@ fn is_identifier(name: &str, text: &str) -> Option<bool> {
 }
 
 // order A B: how two part numbers are ordered, where `==` and `<` must agree with it.
-fn order(alloc: Global, one: &str, other: &str) -> Result<String, Unmade> {
+fn order(alloc: Global, one: &str, other: &str) -> AnswerText {
     let one = Part::read(one)?;
     let other = Part::read(other)?;
     let sign = match one.cmp(&other) {

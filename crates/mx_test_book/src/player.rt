@@ -5,7 +5,9 @@ use mx_book::commands::Command;
 use mx_book::entry_list::Book;
 use mx_book::{Reply, Verdict};
 use mx_plain_book::Plain;
-use mx_test_cases::{Plays, Unmade, answer_of, command_of, reply_in, room_for_reply, verdict_text};
+use mx_test_cases::{
+    AnswerText, Plays, Unmade, answer_of, command_of, reply_in, room_for_reply, verdict_text,
+};
 use std::alloc::{AllocError, Global};
 
 /// A book in memory.
@@ -25,14 +27,14 @@ impl BookPlayer {
     }
 
     // Begins an empty book.
-    fn begin(&mut self) -> Result<String, Unmade> {
+    fn begin(&mut self) -> AnswerText {
         let answer = String::from_str(self.alloc, "ok")?;
         self.book = Book::new(self.alloc);
         Ok(answer)
     }
 
     // Judges a command, and enters it where it is new.
-    fn hand_in(&mut self, command: Command) -> Result<String, Unmade> {
+    fn hand_in(&mut self, command: Command) -> AnswerText {
         let room = room_for_reply(self.alloc)?;
         let verdict = Plain { book: &self.book }.judge(&command);
         match verdict {
@@ -65,7 +67,7 @@ impl BookPlayer {
     }
 
     // The answer to a question, or the reply to a command.
-    fn answer(&mut self, words: &[&str]) -> Result<String, Unmade> {
+    fn answer(&mut self, words: &[&str]) -> AnswerText {
         if let ["new"] = words {
             return self.begin();
         }

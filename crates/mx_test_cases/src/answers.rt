@@ -1,6 +1,6 @@
 //! Answers as text, each one line.
 
-use crate::commands::Unmade;
+use crate::commands::{AnswerText, Unmade};
 use mx_book::commands::Command;
 use mx_book::{Reply, Verdict};
 use mx_reports::{Text, append_whole, reply_text};
@@ -8,7 +8,7 @@ use std::alloc::{AllocError, Global};
 use std::{slice, str};
 
 /// What a question was answered, where a question that can't be asked is answered by why.
-pub fn answer_of(alloc: Global, answer: Result<String, Unmade>) -> Result<String, AllocError> {
+pub fn answer_of(alloc: Global, answer: AnswerText) -> Result<String, AllocError> {
     match answer {
         Ok(text) => Ok(text),
         Err(Unmade::NoSuchLine) => String::from_str(alloc, "no such line"),

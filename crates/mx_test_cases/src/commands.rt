@@ -23,6 +23,9 @@ pub enum Unmade {
     Memory,
 }
 
+/// What a line of a player is answered: its text, or why there is none.
+pub type AnswerText = Result<String, Unmade>;
+
 impl From<AllocError> for Unmade {
     fn from(_error: AllocError) -> Unmade {
         Unmade::Memory

@@ -1,6 +1,6 @@
 //! What disks are: files that stop, lose power and are opened again, and an office over them, asked in lines.
 
-use crate::commands::Unmade;
+use crate::commands::AnswerText;
 use mx_book::commands::Command;
 use std::alloc::{AllocError, Global};
 
@@ -69,9 +69,9 @@ pub trait Disks: Sized {
     /// What the open office answers to a line. Where none is open, what the database in the files answers, which is
     /// opened with this setting: they change where it makes a book, opens its office or runs a statement. `NoSuchLine`
     /// where it is no line of what is asked.
-    fn ask(&mut self, setting: Setting, asked: Asked<'_>) -> Result<String, Unmade>;
+    fn ask(&mut self, setting: Setting, asked: Asked<'_>) -> AnswerText;
 
     /// Closes the open office as the program does, so that the log is copied into the database file: `ok`, or what
     /// stopped that. `NoSuchLine` where none is open.
-    fn close(&mut self) -> Result<String, Unmade>;
+    fn close(&mut self) -> AnswerText;
 }

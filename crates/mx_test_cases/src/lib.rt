@@ -18,7 +18,7 @@ pub use answers::{
     joined_lines, listed, number_text, or_none, printed, replies_in, reply_in, room_for_replies,
     room_for_reply, verdict_text, yes_or_no,
 };
-pub use commands::{Unmade, body_of, command_of, item_of};
+pub use commands::{AnswerText, Unmade, body_of, command_of, item_of};
 pub use disks::{Asked, Disks, Setting};
 pub use files::{Played, play_file};
 pub use playing::{Plays, answered};

@@ -5,14 +5,14 @@ use crate::database_lines::answer_of_database;
 use crate::office_lines::answer_of_office;
 use crate::texts::append_open_fault;
 use mx_office::{Office, OpenFault, open_office};
-use mx_test_cases::{Asked, Unmade};
+use mx_test_cases::{AnswerText, Asked, Unmade};
 use mx_test_lines::faults::room;
 use mx_test_lines::moves::answer_of_install;
 use sqlite::{Alter, Connection};
 use std::alloc::Global;
 
 // The answer to an opening, in room that was taken for it.
-fn opening_text(space: String, fault: Option<OpenFault>) -> Result<String, Unmade> {
+fn opening_text(space: String, fault: Option<OpenFault>) -> AnswerText {
     let mut text = space;
     match fault {
         None => text.push_str("opened")?,
@@ -25,7 +25,7 @@ fn opening_text(space: String, fault: Option<OpenFault>) -> Result<String, Unmad
 fn open<S: Alter>(
     alloc: Global,
     conn: Connection<S>,
-) -> (Result<String, Unmade>, Result<Office<S>, Connection<S>>)
+) -> (AnswerText, Result<Office<S>, Connection<S>>)
     requires { conn.in_transaction ≡ false }
 {
     let Ok(space) = room(alloc) else {
@@ -41,7 +41,7 @@ fn open<S: Alter>(
 fn ask_database<S: Alter>(
     mut conn: Connection<S>,
     asked: Asked<'_>,
-) -> (Result<String, Unmade>, Result<Office<S>, Connection<S>>)
+) -> (AnswerText, Result<Office<S>, Connection<S>>)
     requires { conn.in_transaction ≡ false }
 {
     let alloc = asked.alloc;
@@ -62,7 +62,7 @@ fn ask_database<S: Alter>(
 pub(crate) fn ask<S: Alter>(
     place: Result<Office<S>, Connection<S>>,
     asked: Asked<'_>,
-) -> (Result<String, Unmade>, Result<Office<S>, Connection<S>>)
+) -> (AnswerText, Result<Office<S>, Connection<S>>)
     requires { IfErr place (λ conn. conn.in_transaction ≡ false) }
 {
     match place {

@@ -5,7 +5,7 @@ use crate::calls::{created, created_old};
 use crate::queries::{asked, tables};
 use crate::texts::append_error;
 use mx_layout::{TableFault, point};
-use mx_test_cases::{Unmade, append_word};
+use mx_test_cases::{AnswerText, Unmade, append_word};
 use mx_test_lines::faults::{append_table_fault, room};
 use mx_test_lines::kept::answer_of_kept_rows;
 use mx_test_lines::moves::answer_of_step;
@@ -88,7 +88,7 @@ pub(crate) fn answer_of_database<S: Alter>(
     alloc: Global,
     conn: &mut Connection<S>,
     words: &[&str],
-) -> Result<String, Unmade>
+) -> AnswerText
     requires { conn.old.in_transaction ≡ false }
 {
     match words {

@@ -5,7 +5,7 @@ use crate::files::{
 };
 use crate::texts::append_error;
 use mx_office::Office;
-use mx_test_cases::{Asked, Disks, Setting, Unmade};
+use mx_test_cases::{AnswerText, Asked, Disks, Setting, Unmade};
 use mx_test_lines::faults::room;
 use std::alloc::{AllocError, Global};
 
@@ -21,7 +21,7 @@ pub struct MemoryDisks {
 
 // Whether files that answered so are taken: where they were answered a line that may change them. One that a fault stopped
 // leaves them as the fault did.
-fn is_taken(words: &[&str], answer: &Result<String, Unmade>) -> bool {
+fn is_taken(words: &[&str], answer: &AnswerText) -> bool {
     answer.is_ok()
         && matches!(
             words,
@@ -57,7 +57,7 @@ impl MemoryDisks {
     }
 
     // Asks the database in a copy of the files, which is taken where it was changed.
-    fn ask_files(&mut self, setting: Setting, asked: Asked<'_>) -> Result<String, Unmade> {
+    fn ask_files(&mut self, setting: Setting, asked: Asked<'_>) -> AnswerText {
         let words = asked.words;
         let (answer, held) = asked_of_files(&self.files, setting, asked)?;
         self.hold(held, is_taken(words, &answer));
@@ -118,7 +118,7 @@ impl Disks for MemoryDisks {
         Ok(())
     }
 
-    fn ask(&mut self, setting: Setting, asked: Asked<'_>) -> Result<String, Unmade> {
+    fn ask(&mut self, setting: Setting, asked: Asked<'_>) -> AnswerText {
         match self.office.take() {
             Some(office) => {
                 let (answer, held) = asked_in(Ok(office), asked);
@@ -129,7 +129,7 @@ impl Disks for MemoryDisks {
         }
     }
 
-    fn close(&mut self) -> Result<String, Unmade> {
+    fn close(&mut self) -> AnswerText {
         let mut text = room(self.alloc)?;
         let Some(office) = self.office.take() else {
             return Err(Unmade::NoSuchLine);

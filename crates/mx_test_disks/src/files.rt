@@ -9,7 +9,7 @@ use crate::asking::ask;
 use crate::texts::error_text;
 use mx_database::power::end_process;
 use mx_office::Office;
-use mx_test_cases::{Asked, Setting, Unmade};
+use mx_test_cases::{AnswerText, Asked, Setting};
 use sqlite::{Connection, Error, FileStore, Files, Options};
 use sqlite_disk::{Crash, Disk, Fuse, Memory};
 use std::alloc::{AllocError, Global};
@@ -84,7 +84,7 @@ fn files_left(conn: Connection<Fused>) -> Pair {
 pub(crate) fn asked_in(
     place: Result<Office<Fused>, Connection<Fused>>,
     asked: Asked<'_>,
-) -> (Result<String, Unmade>, Held)
+) -> (AnswerText, Held)
     requires { IfErr place (λ conn. conn.in_transaction ≡ false) }
 {
     match ask(place, asked) {
@@ -99,7 +99,7 @@ pub(crate) fn asked_of_files(
     files: &Pair,
     setting: Setting,
     asked: Asked<'_>,
-) -> Result<(Result<String, Unmade>, Held), AllocError> {
+) -> Result<(AnswerText, Held), AllocError> {
     let alloc = asked.alloc;
     match opened(alloc, files, setting)? {
         Ok(conn) => Ok(asked_in(Err(conn), asked)),

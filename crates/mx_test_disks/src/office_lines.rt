@@ -10,7 +10,7 @@ use mx_book::commands::{Command, Item};
 use mx_office::{Ask, Fault, Office};
 use mx_reports::{Text, append_whole};
 use mx_test_cases::{
-    Asked, Unmade, command_of, documents, joined_lines, room_for_replies, yes_or_no,
+    AnswerText, Asked, Unmade, command_of, documents, joined_lines, room_for_replies, yes_or_no,
 };
 use mx_test_lines::faults::room;
 use sqlite::Alter;
@@ -18,18 +18,14 @@ use std::alloc::Global;
 use std::slice;
 
 // Why the office was stopped.
-fn fault_text(alloc: Global, fault: Fault) -> Result<String, Unmade> {
+fn fault_text(alloc: Global, fault: Fault) -> AnswerText {
     let mut text = room(alloc)?;
     append_fault(&mut text, fault)?;
     Ok(text)
 }
 
 // Hands in a command.
-fn apply<S: Alter>(
-    alloc: Global,
-    office: &mut Office<S>,
-    command: &Command,
-) -> Result<String, Unmade> {
+fn apply<S: Alter>(alloc: Global, office: &mut Office<S>, command: &Command) -> AnswerText {
     let space = room_for_replies(alloc, 1)?;
     match applied(alloc, office, command) {
         Ok(reply) => Ok(answers_in(alloc, space, slice::from_ref(&reply), None)?),
@@ -38,18 +34,14 @@ fn apply<S: Alter>(
 }
 
 // Hands in the list of commands.
-fn run<S: Alter>(
-    alloc: Global,
-    office: &mut Office<S>,
-    list: &[Command],
-) -> Result<String, Unmade> {
+fn run<S: Alter>(alloc: Global, office: &mut Office<S>, list: &[Command]) -> AnswerText {
     let space = room_for_replies(alloc, list.len())?;
     let outcomes = ran(alloc, office, list);
     Ok(answers_in(alloc, space, &outcomes.replies, outcomes.stopped)?)
 }
 
 // The lines of a list, or why there is none.
-fn lines_of<T: Text + Drop>(alloc: Global, answer: Result<T, Ask>) -> Result<String, Unmade> {
+fn lines_of<T: Text + Drop>(alloc: Global, answer: Result<T, Ask>) -> AnswerText {
     match answer {
         Ok(list) => {
             let mut lines = Vec::new(alloc);
@@ -61,11 +53,7 @@ fn lines_of<T: Text + Drop>(alloc: Global, answer: Result<T, Ask>) -> Result<Str
 }
 
 // The life list of the aircraft with this registration.
-fn life_list<S: Alter>(
-    alloc: Global,
-    office: &mut Office<S>,
-    registration: &str,
-) -> Result<String, Unmade> {
+fn life_list<S: Alter>(alloc: Global, office: &mut Office<S>, registration: &str) -> AnswerText {
     let tail = Tail::read(registration)?;
     lines_of(alloc, list_of(alloc, office, &tail))
 }
@@ -76,7 +64,7 @@ fn due_list<S: Alter>(
     office: &mut Office<S>,
     registration: &str,
     day: &str,
-) -> Result<String, Unmade> {
+) -> AnswerText {
     let tail = Tail::read(registration)?;
     let day = Day::read(day)?;
     lines_of(alloc, dues_of(alloc, office, &tail, day))
@@ -90,7 +78,7 @@ fn forecast<S: Alter>(
     registration: &str,
     day: &str,
     numbers: [&str; 3],
-) -> Result<String, Unmade> {
+) -> AnswerText {
     let tail = Tail::read(registration)?;
     let day = Day::read(day)?;
     let [days, minutes, cycles] = numbers;
@@ -109,14 +97,14 @@ fn limits<S: Alter>(
     office: &mut Office<S>,
     registration: &str,
     day: &str,
-) -> Result<String, Unmade> {
+) -> AnswerText {
     let tail = Tail::read(registration)?;
     let day = Day::read(day)?;
     lines_of(alloc, limits_of(alloc, office, &tail, day))
 }
 
 // The life of an item, in minutes and cycles.
-fn life<S: Alter>(alloc: Global, office: &mut Office<S>, item: &Item) -> Result<String, Unmade> {
+fn life<S: Alter>(alloc: Global, office: &mut Office<S>, item: &Item) -> AnswerText {
     match life_of(alloc, office, item) {
         Ok(life) => {
             let minutes = life.minutes;
@@ -133,7 +121,7 @@ fn entries<S: Alter>(
     asked: Asked<'_>,
     from: &str,
     at_most: &str,
-) -> Result<String, Unmade> {
+) -> AnswerText {
     let from = from.parse::<u32>()?;
     let at_most = at_most.parse::<u32>()?;
     match entries_of(asked.alloc, office, from, at_most) {
@@ -152,7 +140,7 @@ fn is_entry<S: Alter>(
     office: &mut Office<S>,
     seq: &str,
     words: &[&str],
-) -> Result<String, Unmade> {
+) -> AnswerText {
     let seq = seq.parse::<u32>()?;
     let wanted = command_of(alloc, words)?;
     match entries_of(alloc, office, seq, 1) {
@@ -162,7 +150,7 @@ fn is_entry<S: Alter>(
 }
 
 // Whether the tables stand for a book.
-fn verify<S: Alter>(alloc: Global, office: &mut Office<S>) -> Result<String, Unmade> {
+fn verify<S: Alter>(alloc: Global, office: &mut Office<S>) -> AnswerText {
     match verified_in(alloc, office) {
         Ok(true) => Ok(String::from_str(alloc, "verified")?),
         Ok(false) => Ok(String::from_str(alloc, "differs")?),
@@ -171,11 +159,7 @@ fn verify<S: Alter>(alloc: Global, office: &mut Office<S>) -> Result<String, Unm
 }
 
 // Hands in the first command of the list.
-fn apply_first<S: Alter>(
-    alloc: Global,
-    office: &mut Office<S>,
-    list: &[Command],
-) -> Result<String, Unmade> {
+fn apply_first<S: Alter>(alloc: Global, office: &mut Office<S>, list: &[Command]) -> AnswerText {
     match list.first() {
         Some(command) => apply(alloc, office, command),
         None => Err(Unmade::NoSuchLine),
@@ -183,10 +167,7 @@ fn apply_first<S: Alter>(
 }
 
 /// What an open office answers.
-pub(crate) fn answer_of_office<S: Alter>(
-    office: &mut Office<S>,
-    asked: Asked<'_>,
-) -> Result<String, Unmade> {
+pub(crate) fn answer_of_office<S: Alter>(office: &mut Office<S>, asked: Asked<'_>) -> AnswerText {
     let alloc = asked.alloc;
     match asked.words {
         ["run"] => run(alloc, office, asked.list),

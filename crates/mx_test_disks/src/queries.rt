@@ -1,7 +1,7 @@
 //! Rows of a database as text: those that a query gives, and all rows of all tables.
 
 use crate::texts::error_text;
-use mx_test_cases::{Unmade, append_joined, or_none};
+use mx_test_cases::{AnswerText, append_joined, or_none};
 use sqlite::types::ValueRef;
 use sqlite::{Alter, Connection, Error, Row};
 use std::alloc::{AllocError, Global};
@@ -42,11 +42,7 @@ fn rows_text(alloc: Global, rows: &[Row]) -> Result<String, AllocError> {
 }
 
 /// The rows that a query gives, joined by ` / `, each with its values.
-pub(crate) fn asked<S: Alter>(
-    alloc: Global,
-    conn: &mut Connection<S>,
-    sql: &str,
-) -> Result<String, Unmade> {
+pub(crate) fn asked<S: Alter>(alloc: Global, conn: &mut Connection<S>, sql: &str) -> AnswerText {
     match conn.query_all(sql, &[]) {
         Ok(rows) => Ok(rows_text(alloc, &rows)?),
         Err(error) => error_text(alloc, error),
@@ -87,11 +83,7 @@ fn rows_of<S: Alter>(
 }
 
 // The tables with these names, each with its rows, or why the rows of one were not read.
-fn named_tables<S: Alter>(
-    alloc: Global,
-    conn: &mut Connection<S>,
-    names: &[Row],
-) -> Result<String, Unmade> {
+fn named_tables<S: Alter>(alloc: Global, conn: &mut Connection<S>, names: &[Row]) -> AnswerText {
     let mut text = String::new(alloc);
     for row in names {
         let name = name_in(alloc, row)?;
@@ -104,7 +96,7 @@ fn named_tables<S: Alter>(
 }
 
 /// All rows of all tables: `NAME: ROW / ROW ..` or `NAME: none` for each table, in the order of their names, joined by ` // `.
-pub(crate) fn tables<S: Alter>(alloc: Global, conn: &mut Connection<S>) -> Result<String, Unmade> {
+pub(crate) fn tables<S: Alter>(alloc: Global, conn: &mut Connection<S>) -> AnswerText {
     match conn.query_all(NAMES, &[]) {
         Ok(names) => named_tables(alloc, conn, &names),
         Err(error) => error_text(alloc, error),

@@ -3,7 +3,7 @@
 
 use mx_book::Reply;
 use mx_office::{Ask, Fault, OpenFault};
-use mx_test_cases::{Unmade, append_joined, or_none, replies_in, room_for_replies};
+use mx_test_cases::{AnswerText, append_joined, or_none, replies_in, room_for_replies};
 use mx_test_lines::faults::{append_damaged, room};
 use sqlite::{Constraint, Error, ErrorCode};
 use std::alloc::{AllocError, Global};
@@ -56,7 +56,7 @@ pub(crate) fn append_error(out: &mut String, error: Error) -> Result<(), AllocEr
 }
 
 /// Why a statement was not run, or a database not opened.
-pub(crate) fn error_text(alloc: Global, error: Error) -> Result<String, Unmade> {
+pub(crate) fn error_text(alloc: Global, error: Error) -> AnswerText {
     let mut text = room(alloc)?;
     append_error(&mut text, error)?;
     Ok(text)

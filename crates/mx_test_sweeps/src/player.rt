@@ -3,7 +3,7 @@
 use crate::settings::{holding, setting_of};
 use crate::sweep::End;
 use mx_book::commands::Command;
-use mx_test_cases::{Asked, Disks, Setting, Unmade, command_of};
+use mx_test_cases::{AnswerText, Asked, Disks, Setting, Unmade, command_of};
 use std::alloc::Global;
 use std::mem;
 
@@ -64,7 +64,7 @@ impl<D: Disks> Player<D> {
     }
 
     /// The program ends, if an office is open, and the power is lost or not.
-    pub(crate) fn stop(&mut self, end: End) -> Result<String, Unmade> {
+    pub(crate) fn stop(&mut self, end: End) -> AnswerText {
         let text = String::from_str(self.alloc, "ok")?;
         match end {
             End::Process => self.disks.end(),
@@ -74,7 +74,7 @@ impl<D: Disks> Player<D> {
     }
 
     // Begins anew, with files that hold nothing.
-    fn begin(&mut self) -> Result<String, Unmade> {
+    fn begin(&mut self) -> AnswerText {
         let text = String::from_str(self.alloc, "ok")?;
         self.disks.begin();
         self.list.clear();
@@ -82,7 +82,7 @@ impl<D: Disks> Player<D> {
     }
 
     // Puts a command behind those of the list; no words empty the list.
-    fn lengthen(&mut self, words: &[&str]) -> Result<String, Unmade> {
+    fn lengthen(&mut self, words: &[&str]) -> AnswerText {
         let text = String::from_str(self.alloc, "ok")?;
         if words.is_empty() {
             self.list.clear();
@@ -93,21 +93,21 @@ impl<D: Disks> Player<D> {
     }
 
     // Keeps a copy of the files.
-    fn keep(&mut self) -> Result<String, Unmade> {
+    fn keep(&mut self) -> AnswerText {
         let text = String::from_str(self.alloc, "ok")?;
         self.disks.keep()?;
         Ok(text)
     }
 
     // Takes the files back of which a copy was kept.
-    fn restore(&mut self) -> Result<String, Unmade> {
+    fn restore(&mut self) -> AnswerText {
         let text = String::from_str(self.alloc, "ok")?;
         self.disks.restore()?;
         Ok(text)
     }
 
     /// Asks the open office, or the database in the files, which are opened with this setting.
-    pub(crate) fn ask(&mut self, setting: Setting, words: &[&str]) -> Result<String, Unmade> {
+    pub(crate) fn ask(&mut self, setting: Setting, words: &[&str]) -> AnswerText {
         let asked = Asked {
             alloc: self.alloc,
             words,
@@ -127,7 +127,7 @@ impl<D: Disks> Player<D> {
     }
 
     // A line over the files.
-    fn over_files(&mut self, words: &[&str]) -> Result<String, Unmade> {
+    fn over_files(&mut self, words: &[&str]) -> AnswerText {
         match words {
             ["keep"] => self.keep(),
             ["restore"] => self.restore(),
@@ -141,7 +141,7 @@ impl<D: Disks> Player<D> {
     }
 
     // A line in the open office.
-    fn in_office(&mut self, words: &[&str]) -> Result<String, Unmade> {
+    fn in_office(&mut self, words: &[&str]) -> AnswerText {
         match words {
             ["close"] => self.disks.close(),
             ["end"] => self.stop(End::Process),
@@ -156,7 +156,7 @@ impl<D: Disks> Player<D> {
     }
 
     /// The answer to a line that is no sweep.
-    pub(crate) fn answer(&mut self, words: &[&str]) -> Result<String, Unmade> {
+    pub(crate) fn answer(&mut self, words: &[&str]) -> AnswerText {
         match words {
             ["disk"] => self.begin(),
             ["list", command @ ..] => self.lengthen(command),
@@ -171,7 +171,7 @@ impl<D: Disks> Player<D> {
     }
 
     /// The answer to a line as it is written.
-    pub(crate) fn line(&mut self, line: &str) -> Result<String, Unmade> {
+    pub(crate) fn line(&mut self, line: &str) -> AnswerText {
         let words: Vec<&str> = line.split_whitespace().collect(self.alloc)?;
         self.answer(&words)
     }

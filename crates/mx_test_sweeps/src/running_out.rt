@@ -9,7 +9,7 @@ use mx_base::{Day, Tail};
 use mx_book::commands::Command;
 use mx_book::entry_list::Book;
 use mx_lists::{Question, Stop};
-use mx_test_cases::Unmade;
+use mx_test_cases::{AnswerText, Unmade};
 use std::alloc::Global;
 
 // The number of questions by which everything is to be answered.
@@ -125,7 +125,7 @@ pub(crate) fn stops_of_questions(
     alloc: Global,
     commands: &[Command],
     (tail, day, at_least): (&str, &str, &str),
-) -> Result<String, Unmade> {
+) -> AnswerText {
     let tail = Tail::read(tail)?;
     let day = Day::read(day)?;
     let at_least = at_least.parse::<u32>()?;

@@ -3,7 +3,7 @@
 
 use crate::player::Player;
 use mx_book::commands::Command;
-use mx_test_cases::{Disks, Unmade, append_joined};
+use mx_test_cases::{AnswerText, Disks, Unmade, append_joined};
 use std::alloc::{AllocError, Global};
 
 /// The number of calls past which the work is to end.
@@ -53,7 +53,7 @@ pub(crate) fn answers<D: Disks>(
     alloc: Global,
     player: &mut Player<D>,
     lines: &[&str],
-) -> Result<String, Unmade> {
+) -> AnswerText {
     let mut text = String::new(alloc);
     for line in lines {
         append_joined(&mut text, player.line(line)?.as_str())?;
@@ -87,7 +87,7 @@ pub(crate) trait Stops {
 }
 
 // What is wrong with a stop.
-fn amiss_text(alloc: Global, calls: u64, end: End, wrong: Wrong) -> Result<String, Unmade> {
+fn amiss_text(alloc: Global, calls: u64, end: End, wrong: Wrong) -> AnswerText {
     let when = match end {
         End::Process => "after the process ended",
         End::Power => "after the power was lost",
@@ -101,12 +101,7 @@ fn amiss_text(alloc: Global, calls: u64, end: End, wrong: Wrong) -> Result<Strin
 }
 
 // What all stops show.
-fn ended_text<W: Stops>(
-    alloc: Global,
-    work: &W,
-    stops: u64,
-    at_least: u64,
-) -> Result<String, Unmade> {
+fn ended_text<W: Stops>(alloc: Global, work: &W, stops: u64, at_least: u64) -> AnswerText {
     if stops < at_least {
         return Ok(format!(in alloc; "fewer than {at_least} stops")?);
     }
@@ -125,7 +120,7 @@ pub(crate) fn swept<W: Stops, D: Disks>(
     work: &mut W,
     ends: &[End],
     at_least: u64,
-) -> Result<String, Unmade> {
+) -> AnswerText {
     for calls in 0..MOST_CALLS {
         let mut is_stopped = false;
         for end in ends {

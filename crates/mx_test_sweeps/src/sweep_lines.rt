@@ -8,13 +8,13 @@ use crate::stops_of_commands::{CommandStops, plain_of};
 use crate::stops_of_line::{LineStops, calls_of_opening, seen_around};
 use crate::stops_of_making::MakingStops;
 use crate::sweep::{End, Wrong, swept};
-use mx_test_cases::{Disks, Unmade};
+use mx_test_cases::{AnswerText, Disks, Unmade};
 use std::alloc::Global;
 
 const BOTH_ENDS: [End; 2] = [End::Process, End::Power];
 
 // What is wrong before a sweep begins.
-fn unbegun(alloc: Global, wrong: Wrong) -> Result<String, Unmade> {
+fn unbegun(alloc: Global, wrong: Wrong) -> AnswerText {
     match wrong {
         Wrong::Unmade(error) => Err(error),
         Wrong::Found(what) => Ok(String::from_str(alloc, what)?),
@@ -26,7 +26,7 @@ fn stops_of_making<D: Disks>(
     player: &mut Player<D>,
     file: &str,
     at_least: &str,
-) -> Result<String, Unmade> {
+) -> AnswerText {
     let at_least = at_least.parse::<u64>()?;
     let mut stops = MakingStops { alloc, file };
     swept(alloc, player, &mut stops, &BOTH_ENDS, at_least)
@@ -36,7 +36,7 @@ fn stops_of_commands<D: Disks>(
     alloc: Global,
     player: &mut Player<D>,
     (file, pages, at_least): (&str, &str, &str),
-) -> Result<String, Unmade> {
+) -> AnswerText {
     let at_least = at_least.parse::<u64>()?;
     match plain_of(alloc, player) {
         Ok(plain) => {
@@ -58,7 +58,7 @@ fn stops_of_line<D: Disks>(
     (file, pages, at_least): (&str, &str, &str),
     is_one_commit: bool,
     words: &[&str],
-) -> Result<String, Unmade> {
+) -> AnswerText {
     let at_least = at_least.parse::<u64>()?;
     let opening = calls_of_opening(player, file, pages)?;
     let whole = seen_around(player, words)?;
@@ -81,7 +81,7 @@ fn doubts<D: Disks>(
     player: &mut Player<D>,
     end: &str,
     at_least: &str,
-) -> Result<String, Unmade> {
+) -> AnswerText {
     let end = end_of(end)?;
     let at_least = at_least.parse::<u64>()?;
     match plain_of(alloc, player) {
@@ -100,11 +100,7 @@ fn doubts<D: Disks>(
 }
 
 // Plays a sweep over files and a list that it may change.
-fn played<D: Disks>(
-    alloc: Global,
-    player: &mut Player<D>,
-    words: &[&str],
-) -> Result<String, Unmade> {
+fn played<D: Disks>(alloc: Global, player: &mut Player<D>, words: &[&str]) -> AnswerText {
     match words {
         ["stops-of-making", file, at_least] => stops_of_making(alloc, player, file, at_least),
         ["stops-of-commands", file, "pages", pages, at_least] => stops_of_commands(
@@ -160,7 +156,7 @@ pub(crate) fn answer_of_sweep<D: Disks>(
     alloc: Global,
     player: &Player<D>,
     words: &[&str],
-) -> Result<String, Unmade> {
+) -> AnswerText {
     let mut trial = player.trial()?;
     let answer = played(alloc, &mut trial, words);
     trial.let_go();

@@ -10,7 +10,7 @@ use mx_table_rows::totals::bases::{base_row, set_base};
 use mx_table_rows::totals::lives::Total;
 use mx_table_rows::totals::spans::{FittedComponent, end_span2, fitted};
 use mx_table_rows::totals::totals::{credit, new_total, set_clock, total};
-use mx_test_cases::{Unmade, append_joined, or_none};
+use mx_test_cases::{AnswerText, Unmade, append_joined, or_none};
 use sqlite::{Alter, Connection, Transaction};
 use std::alloc::{AllocError, Global};
 
@@ -26,7 +26,7 @@ fn committed<S: Alter>(
     alloc: Global,
     tx: Transaction<'_, S>,
     done: Result<(), TableFault>,
-) -> Result<String, Unmade> {
+) -> AnswerText {
     let mut text = room(alloc)?;
     if let Err(fault) = done {
         append_table_fault(&mut text, fault)?;
@@ -40,19 +40,14 @@ fn committed<S: Alter>(
 }
 
 // Why nothing was read.
-fn unread(alloc: Global, fault: TableFault) -> Result<String, Unmade> {
+fn unread(alloc: Global, fault: TableFault) -> AnswerText {
     let mut text = room(alloc)?;
     append_table_fault(&mut text, fault)?;
     Ok(text)
 }
 
 // Adds the total of an item: `new ITEM MINUTES CYCLES MOMENT`.
-fn add<S: Alter>(
-    alloc: Global,
-    conn: &mut Connection<S>,
-    item: &str,
-    total: Total,
-) -> Result<String, Unmade>
+fn add<S: Alter>(alloc: Global, conn: &mut Connection<S>, item: &str, total: Total) -> AnswerText
     requires { conn.old.in_transaction ≡ false }
 {
     let item = item.parse::<u32>()?;
@@ -62,11 +57,7 @@ fn add<S: Alter>(
 }
 
 // The total of an item: `total ITEM`.
-fn total_text<S: Alter>(
-    alloc: Global,
-    conn: &mut Connection<S>,
-    item: &str,
-) -> Result<String, Unmade>
+fn total_text<S: Alter>(alloc: Global, conn: &mut Connection<S>, item: &str) -> AnswerText
     requires { conn.old.in_transaction ≡ false }
 {
     let item = item.parse::<u32>()?;
@@ -84,12 +75,7 @@ fn total_text<S: Alter>(
 }
 
 // Sets the clock of an item: `clock ITEM MOMENT`.
-fn clock<S: Alter>(
-    alloc: Global,
-    conn: &mut Connection<S>,
-    item: &str,
-    clock: &str,
-) -> Result<String, Unmade>
+fn clock<S: Alter>(alloc: Global, conn: &mut Connection<S>, item: &str, clock: &str) -> AnswerText
     requires { conn.old.in_transaction ≡ false }
 {
     let item = item.parse::<u32>()?;
@@ -119,7 +105,7 @@ fn credit_all<S: Alter>(
     conn: &mut Connection<S>,
     added: Use,
     words: &[&str],
-) -> Result<String, Unmade>
+) -> AnswerText
     requires { conn.old.in_transaction ≡ false }
 {
     let mut items = Vec::new(alloc);
@@ -136,7 +122,7 @@ fn credit_all<S: Alter>(
 }
 
 // Writes when a task was last done on an item: `done ITEM TASK MINUTES CYCLES DAY`.
-fn done<S: Alter>(alloc: Global, conn: &mut Connection<S>, row: &BaseRow) -> Result<String, Unmade>
+fn done<S: Alter>(alloc: Global, conn: &mut Connection<S>, row: &BaseRow) -> AnswerText
     requires { conn.old.in_transaction ≡ false }
 {
     let mut tx = conn.transaction();
@@ -150,7 +136,7 @@ fn base_text<S: Alter>(
     conn: &mut Connection<S>,
     item: &str,
     task: &str,
-) -> Result<String, Unmade>
+) -> AnswerText
     requires { conn.old.in_transaction ≡ false }
 {
     let item = item.parse::<u32>()?;
@@ -179,11 +165,7 @@ fn components_text(alloc: Global, found: &[FittedComponent]) -> Result<String, A
 }
 
 // What is fitted to an aircraft, each position with its component: `fitted AIRCRAFT`.
-fn fitted_text<S: Alter>(
-    alloc: Global,
-    conn: &mut Connection<S>,
-    aircraft: &str,
-) -> Result<String, Unmade>
+fn fitted_text<S: Alter>(alloc: Global, conn: &mut Connection<S>, aircraft: &str) -> AnswerText
     requires { conn.old.in_transaction ≡ false }
 {
     let aircraft = aircraft.parse::<u32>()?;
@@ -201,7 +183,7 @@ fn end<S: Alter>(
     component: &str,
     entry: &str,
     to: &str,
-) -> Result<String, Unmade>
+) -> AnswerText
     requires { conn.old.in_transaction ≡ false }
 {
     let component = component.parse::<u32>()?;
@@ -217,7 +199,7 @@ pub fn answer_of_kept_rows<S: Alter>(
     alloc: Global,
     conn: &mut Connection<S>,
     words: &[&str],
-) -> Result<String, Unmade>
+) -> AnswerText
     requires { conn.old.in_transaction ≡ false }
 {
     match words {

@@ -8,7 +8,7 @@ use mx_book::entry_list::Book;
 use mx_layout::TableFault;
 use mx_moves::install::install_v1;
 use mx_plain_book::Plain;
-use mx_test_cases::Unmade;
+use mx_test_cases::AnswerText;
 use sqlite::{Alter, Connection};
 use std::alloc::{AllocError, Global};
 
@@ -51,7 +51,7 @@ pub fn answer_of_install<S: Alter>(
     alloc: Global,
     conn: &mut Connection<S>,
     commands: &[Command],
-) -> Result<String, Unmade>
+) -> AnswerText
     requires { conn.old.in_transaction ≡ false }
 {
     let book = book_of(alloc, commands)?;

@@ -5,7 +5,7 @@ use crate::moves::texts::made;
 use mx_base::rows::{BaseRow, TotalRow};
 use mx_base::{Day, Moment, TaskId, Use};
 use mx_migrate::{ChangeToTotals, CreateBases, Finish, WriteBases, WriteTotal};
-use mx_test_cases::Unmade;
+use mx_test_cases::{AnswerText, Unmade};
 use sqlite::{Alter, Connection};
 use std::alloc::Global;
 
@@ -62,7 +62,7 @@ fn write_total<S: Alter>(
     conn: &mut Connection<S>,
     mark: &str,
     words: &[&str],
-) -> Result<String, Unmade>
+) -> AnswerText
     requires { conn.old.in_transaction ≡ false }
 {
     let mark = mark.parse::<u32>()?;
@@ -77,7 +77,7 @@ fn write_bases<S: Alter>(
     mark: &str,
     item: &str,
     bases: &[&str],
-) -> Result<String, Unmade>
+) -> AnswerText
     requires { conn.old.in_transaction ≡ false }
 {
     let mark = mark.parse::<u32>()?;
@@ -91,7 +91,7 @@ pub(crate) fn answer_of_kept<S: Alter>(
     alloc: Global,
     conn: &mut Connection<S>,
     words: &[&str],
-) -> Result<String, Unmade>
+) -> AnswerText
     requires { conn.old.in_transaction ≡ false }
 {
     match words {

@@ -5,7 +5,7 @@ use crate::moves::kept::answer_of_kept;
 use crate::moves::texts::{made, step_text};
 use mx_migrate::settle::{advance, settle};
 use mx_migrate::{ChangeToSpans, CreateSectors, MoveComponent, MoveSectors};
-use mx_test_cases::Unmade;
+use mx_test_cases::AnswerText;
 use sqlite::{Alter, Connection};
 use std::alloc::Global;
 
@@ -15,7 +15,7 @@ fn move_component<S: Alter>(
     conn: &mut Connection<S>,
     mark: &str,
     component: &str,
-) -> Result<String, Unmade>
+) -> AnswerText
     requires { conn.old.in_transaction ≡ false }
 {
     let mark = mark.parse::<u32>()?;
@@ -24,11 +24,7 @@ fn move_component<S: Alter>(
 }
 
 // Goes on by at most so many commits.
-fn settled<S: Alter>(
-    alloc: Global,
-    conn: &mut Connection<S>,
-    at_most: &str,
-) -> Result<String, Unmade>
+fn settled<S: Alter>(alloc: Global, conn: &mut Connection<S>, at_most: &str) -> AnswerText
     requires { conn.old.in_transaction ≡ false }
 {
     let at_most = at_most.parse::<u32>()?;
@@ -42,7 +38,7 @@ pub fn answer_of_step<S: Alter>(
     alloc: Global,
     conn: &mut Connection<S>,
     words: &[&str],
-) -> Result<String, Unmade>
+) -> AnswerText
     requires { conn.old.in_transaction ≡ false }
 {
     match words {

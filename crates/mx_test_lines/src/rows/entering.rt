@@ -5,7 +5,7 @@ use crate::faults::append_table_fault;
 use mx_apply::apply;
 use mx_book::Reply;
 use mx_layout::TableFault;
-use mx_test_cases::{Unmade, command_of, replies_in, reply_in, room_for_reply};
+use mx_test_cases::{AnswerText, command_of, replies_in, reply_in, room_for_reply};
 use sqlite::{Alter, Connection};
 use std::alloc::{AllocError, Global};
 
@@ -31,7 +31,7 @@ pub fn entered_by_rows<S: Alter>(
     alloc: Global,
     conn: &mut Connection<S>,
     words: &[&str],
-) -> Result<String, Unmade>
+) -> AnswerText
     requires { conn.old.in_transaction ≡ false }
 {
     let command = command_of(alloc, words)?;

@@ -3,7 +3,7 @@ ghost use Rattle.std.specs.Prelude.{◌≡◌, false};
 
 use crate::rows::fault::fault_text;
 use mx_row_questions::entries::entries::{entries, entry};
-use mx_test_cases::{Unmade, command_of, documents, yes_or_no};
+use mx_test_cases::{AnswerText, command_of, documents, yes_or_no};
 use sqlite::{Alter, Connection};
 use std::alloc::Global;
 
@@ -14,7 +14,7 @@ pub fn entries_by_rows<S: Alter>(
     conn: &mut Connection<S>,
     from: &str,
     at_most: &str,
-) -> Result<String, Unmade>
+) -> AnswerText
     requires { conn.old.in_transaction ≡ false }
 {
     let from = from.parse::<u32>()?;
@@ -33,7 +33,7 @@ pub fn is_entry_by_rows<S: Alter>(
     conn: &mut Connection<S>,
     seq: &str,
     words: &[&str],
-) -> Result<String, Unmade>
+) -> AnswerText
     requires { conn.old.in_transaction ≡ false }
 {
     let seq = seq.parse::<u32>()?;

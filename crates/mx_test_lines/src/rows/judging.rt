@@ -3,7 +3,7 @@ ghost use Rattle.std.specs.Prelude.{◌≡◌, false};
 
 use crate::rows::fault::fault_text;
 use mx_row_judge::judging::judge_by_rows;
-use mx_test_cases::{Unmade, command_of, verdict_text};
+use mx_test_cases::{AnswerText, command_of, verdict_text};
 use sqlite::{Alter, Connection};
 use std::alloc::Global;
 
@@ -12,7 +12,7 @@ pub fn verdict_by_rows<S: Alter>(
     alloc: Global,
     conn: &mut Connection<S>,
     words: &[&str],
-) -> Result<String, Unmade>
+) -> AnswerText
     requires { conn.old.in_transaction ≡ false }
 {
     let command = command_of(alloc, words)?;

@@ -7,12 +7,12 @@ use mx_base::{Day, Tail};
 use mx_book::commands::Item;
 use mx_book::{Refusal, Reply};
 use mx_lists::Question;
-use mx_test_cases::{Unmade, item_of, listed, reply_in, room_for_reply};
+use mx_test_cases::{AnswerText, Unmade, item_of, listed, reply_in, room_for_reply};
 use sqlite::{Alter, Connection};
 use std::alloc::Global;
 
 // Why a question was refused.
-fn refused(alloc: Global, refusal: Refusal) -> Result<String, Unmade> {
+fn refused(alloc: Global, refusal: Refusal) -> AnswerText {
     let room = room_for_reply(alloc)?;
     Ok(reply_in(room, alloc, &Reply::Refused(refusal))?)
 }
@@ -36,11 +36,7 @@ fn question_of(words: &[&str]) -> Result<Option<Question>, Unmade> {
 }
 
 // The lines of a list, or why there is none.
-fn list<S: Alter>(
-    alloc: Global,
-    conn: &mut Connection<S>,
-    question: &Question,
-) -> Result<String, Unmade>
+fn list<S: Alter>(alloc: Global, conn: &mut Connection<S>, question: &Question) -> AnswerText
     requires { conn.old.in_transaction ≡ false }
 {
     match list_of(alloc, conn, question) {
@@ -51,7 +47,7 @@ fn list<S: Alter>(
 }
 
 // The life of an item, in minutes and cycles.
-fn life<S: Alter>(alloc: Global, conn: &mut Connection<S>, item: &Item) -> Result<String, Unmade>
+fn life<S: Alter>(alloc: Global, conn: &mut Connection<S>, item: &Item) -> AnswerText
     requires { conn.old.in_transaction ≡ false }
 {
     match life_of(alloc, conn, item) {
@@ -72,7 +68,7 @@ pub fn answer_by_rows<S: Alter>(
     alloc: Global,
     conn: &mut Connection<S>,
     words: &[&str],
-) -> Result<String, Unmade>
+) -> AnswerText
     requires { conn.old.in_transaction ≡ false }
 {
     if let Some(question) = question_of(words)? {
