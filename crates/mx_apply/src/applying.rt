@@ -59,7 +59,6 @@ pub fn apply<S: Alter>(
             Ok(_) => Ok(Reply::Accepted(seq)),
             Err(_) => Err(TableFault::Store),
         },
-        Reply::Already(seq) => Ok(Reply::Already(seq)),
-        Reply::Refused(refusal) => Ok(Reply::Refused(refusal)),
+        told => Ok(told),
     }
 }

@@ -41,12 +41,8 @@
 //! commands in (`applied.cases`) would differ.
 
 pub mod commands;
-pub mod defects;
-pub mod moves;
 pub mod numbers;
-pub mod openings;
 pub mod releases;
-pub mod sectors;
 pub mod totals;
 
 pub use commands::rows_of_command;

@@ -10,8 +10,8 @@
 //!
 //! - Over any rows, good or damaged, a command answered `Already`, `Refused`, `Memory` or `Damaged` changes no table:
 //!   `apply`: `untouched`.
-//! - No question changes a table: `list`, by which each of `due_rows`, `forecast_rows`, `limits_rows` and `life_rows`
-//!   answers its own list, these four, `life`, `entries`: `asked` (`untouched`).
+//! - No question changes a table: `list`, by which `due_rows` answers the due list, `due_rows`, `life`, `entries`: `asked`
+//!   (`untouched`).
 //! - The list that a question is answered is of the kind that it asks for: `list`: `kind`.
 //! - Over any rows, good or damaged, a reply is by the verdict of the judge on each book as which the rows answer that
 //!   the command found: `IsRun`: `over_rows` (`told`).

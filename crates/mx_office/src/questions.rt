@@ -6,9 +6,6 @@ ghost use Rattle.mx_book.specs.Life.{life_now};
 ghost use Rattle.mx_row_questions.specs.entries.Damage.{IsSkipped};
 ghost use Rattle.mx_row_questions.specs.entries.Entries.{AreEntries};
 ghost use Rattle.mx_lists.specs.DueList.{due_list};
-ghost use Rattle.mx_lists.specs.Forecast.{forecast};
-ghost use Rattle.mx_lists.specs.LimitList.{limits};
-ghost use Rattle.mx_lists.specs.LifeList.{life_list};
 ghost use Rattle.mx_lists.specs.Report.{IsOfKind, report_of};
 ghost use Rattle.mx_lookups.specs.numbers.Damage.{IsDamaged};
 ghost use Rattle.mx_lookups.specs.numbers.Given.{LifeOf};
@@ -26,7 +23,7 @@ use mx_base::{Day, Tail, Use};
 use mx_book::Refusal;
 use mx_book::commands::{Command, Item};
 use mx_faults::{Ask, Fault};
-use mx_lists::{DueList, ForecastList, LifeList, LimitList, Question, Report};
+use mx_lists::{DueList, Question, Report};
 use sqlite::Alter;
 use std::alloc::Global;
 
@@ -57,66 +54,6 @@ impl<S: Alter> Office<S> {
     {
         match self.list(alloc, &Question::Due(tail, day)) {
             Ok(Report::Due(list)) => Ok(list),
-            Ok(_) => unreachable!(),
-            Err(why) => Err(why),
-        }
-    }
-
-    /// The forecast of an aircraft: what is reached within so many days of a day, at these minutes and cycles a day. Asked and
-    /// refused as any list.
-    pub fn forecast_rows(
-        &mut self,
-        alloc: Global,
-        tail: Tail,
-        day: Day,
-        days: u32,
-        minutes: u32,
-        cycles: u32,
-    ) -> Result<ForecastList, Ask>
-        ensures asked { IsAsked (stop_asking result) self.old self.new }
-        ensures answered { IsAnsweredBy
-            (λ book. found_or Refusal.UnknownAircraft (forecast book tail day days minutes cycles))
-            self.old self.new result }
-    {
-        match self.list(
-            alloc,
-            &Question::Forecast {
-                tail,
-                day,
-                days,
-                minutes,
-                cycles,
-            },
-        ) {
-            Ok(Report::Forecast(list)) => Ok(list),
-            Ok(_) => unreachable!(),
-            Err(why) => Err(why),
-        }
-    }
-
-    /// The limits of an aircraft on a day, those of its open defects, asked and refused as any list.
-    pub fn limits_rows(&mut self, alloc: Global, tail: Tail, day: Day) -> Result<LimitList, Ask>
-        ensures asked { IsAsked (stop_asking result) self.old self.new }
-        ensures answered { IsAnsweredBy
-            (λ book. found_or Refusal.UnknownAircraft (limits book tail day))
-            self.old self.new result }
-    {
-        match self.list(alloc, &Question::Limits(tail, day)) {
-            Ok(Report::Limits(list)) => Ok(list),
-            Ok(_) => unreachable!(),
-            Err(why) => Err(why),
-        }
-    }
-
-    /// The life list of an aircraft, asked and refused as any list.
-    pub fn life_rows(&mut self, alloc: Global, tail: Tail) -> Result<LifeList, Ask>
-        ensures asked { IsAsked (stop_asking result) self.old self.new }
-        ensures answered { IsAnsweredBy
-            (λ book. found_or Refusal.UnknownAircraft (life_list book tail))
-            self.old self.new result }
-    {
-        match self.list(alloc, &Question::Life(tail)) {
-            Ok(Report::Life(list)) => Ok(list),
             Ok(_) => unreachable!(),
             Err(why) => Err(why),
         }

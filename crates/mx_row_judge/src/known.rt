@@ -14,9 +14,6 @@
 //!   a table of the command's kind, or the name of what the command names: `known`: `looks_up` (`damage`:
 //!   `KnownDamage`).
 
-mod items;
+mod kinds;
 pub mod known;
-mod lines;
-mod moves;
 mod releases;
-mod works;

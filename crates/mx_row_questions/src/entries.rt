@@ -18,10 +18,8 @@
 //! - Nothing changes, and the transaction goes on; a stop within leaves nothing but what was committed before: `Reads`:
 //!   `unchanged`, `inside`, `within`.
 
-mod defects;
 pub mod entries;
-mod items;
-mod moves;
+mod kinds;
 mod names;
 mod releases;
 mod stated;

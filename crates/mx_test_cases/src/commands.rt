@@ -65,8 +65,8 @@ impl From<MakeFault> for Unmade {
     }
 }
 
-// A use of so many minutes and cycles.
-fn use_of(minutes: &str, cycles: &str) -> Result<Use, Unmade> {
+/// A use of so many minutes and cycles.
+pub fn use_of(minutes: &str, cycles: &str) -> Result<Use, Unmade> {
     let minutes = minutes.parse::<u32>()?;
     let cycles = cycles.parse::<u32>()?;
     Ok(Use { minutes, cycles })

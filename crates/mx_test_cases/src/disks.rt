@@ -40,6 +40,13 @@ pub struct Asked<'a> {
     pub entries: &'a mut Vec<Command>,
 }
 
+/// The bytes that a database file and its log hold.
+#[derive(PartialEq, Eq, Drop)]
+pub struct Held {
+    pub log: Vec<u8>,
+    pub db: Vec<u8>,
+}
+
 /// A database file and its log, a copy of them that is kept, and an office that may be open.
 pub trait Disks: Sized {
     /// Disks with copies of the files, which they also keep, and no office.
@@ -65,6 +72,16 @@ pub trait Disks: Sized {
 
     /// Takes the files back of which a copy was kept. Where memory runs out, the files stay as they are.
     fn restore(&mut self) -> Result<(), AllocError>;
+
+    /// The bytes that the files hold.
+    fn held(&self) -> Result<Held, AllocError>;
+
+    /// Sets the files aside, and goes on with copies that have the same bytes, all of them synced. Where memory runs out,
+    /// the files stay as they are.
+    fn set_aside(&mut self) -> Result<(), AllocError>;
+
+    /// Takes back the files that were set aside, if any were.
+    fn take_back(&mut self);
 
     /// What the open office answers to a line. Where none is open, what the database in the files answers, which is
     /// opened with this setting: they change where it makes a book, opens its office or runs a statement. `NoSuchLine`

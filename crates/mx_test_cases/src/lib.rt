@@ -10,6 +10,7 @@ pub mod files;
 pub mod playing;
 pub mod program;
 mod programmes;
+pub mod questions;
 pub mod quoted;
 mod releases;
 
@@ -18,9 +19,10 @@ pub use answers::{
     joined_lines, listed, number_text, or_none, printed, replies_in, reply_in, room_for_replies,
     room_for_reply, verdict_text, yes_or_no,
 };
-pub use commands::{AnswerText, Unmade, body_of, command_of, item_of};
-pub use disks::{Asked, Disks, Setting};
+pub use commands::{AnswerText, Unmade, body_of, command_of, item_of, use_of};
+pub use disks::{Asked, Disks, Held, Setting};
 pub use files::{Played, play_file};
 pub use playing::{Plays, answered};
 pub use program::run;
+pub use questions::question_of;
 pub use quoted::text_of;

@@ -2,11 +2,11 @@
 //! carry none of what the office promises of them.
 ghost use Rattle.std.specs.Prelude.{◌≡◌, false};
 
-use mx_base::{Day, Tail, Use};
+use mx_base::Use;
 use mx_book::Reply;
 use mx_book::commands::{Command, Item};
 use mx_layout::{Layout, TableFault, create};
-use mx_lists::{DueList, ForecastList, LifeList, LimitList};
+use mx_lists::{Question, Report};
 use mx_office::{Ask, Fault, Office, Outcomes};
 use sqlite::{Alter, Connection};
 use std::alloc::Global;
@@ -62,46 +62,13 @@ pub(crate) fn life_of<S: Alter>(
     office.life(alloc, item)
 }
 
-/// The life list of an aircraft.
+/// The list of an aircraft that a question asks for.
 pub(crate) fn list_of<S: Alter>(
     alloc: Global,
     office: &mut Office<S>,
-    tail: &Tail,
-) -> Result<LifeList, Ask> {
-    office.life_rows(alloc, *tail)
-}
-
-/// The due list of an aircraft on a day.
-pub(crate) fn dues_of<S: Alter>(
-    alloc: Global,
-    office: &mut Office<S>,
-    tail: &Tail,
-    day: Day,
-) -> Result<DueList, Ask> {
-    office.due_rows(alloc, *tail, day)
-}
-
-/// The forecast of an aircraft: for so many days of a day, at so many minutes and cycles a day.
-pub(crate) fn forecast_of<S: Alter>(
-    alloc: Global,
-    office: &mut Office<S>,
-    tail: &Tail,
-    day: Day,
-    days: u32,
-    minutes: u32,
-    cycles: u32,
-) -> Result<ForecastList, Ask> {
-    office.forecast_rows(alloc, *tail, day, days, minutes, cycles)
-}
-
-/// The limits of an aircraft on a day.
-pub(crate) fn limits_of<S: Alter>(
-    alloc: Global,
-    office: &mut Office<S>,
-    tail: &Tail,
-    day: Day,
-) -> Result<LimitList, Ask> {
-    office.limits_rows(alloc, *tail, day)
+    question: &Question,
+) -> Result<Report, Ask> {
+    office.list(alloc, question)
 }
 
 /// Whether the tables of the office stand for a book.

@@ -4,9 +4,9 @@ ghost use Rattle.std.specs.Prelude.{◌≡◌, false};
 use crate::calls::{created, created_old};
 use crate::queries::{asked, tables};
 use crate::texts::append_error;
-use mx_layout::{TableFault, point};
+use mx_layout::point;
 use mx_test_cases::{AnswerText, Unmade, append_word};
-use mx_test_lines::faults::{append_table_fault, room};
+use mx_test_lines::faults::{append_done, append_table_fault, room};
 use mx_test_lines::kept::answer_of_kept_rows;
 use mx_test_lines::moves::answer_of_step;
 use mx_test_lines::rows::{
@@ -46,20 +46,12 @@ fn point_text<S: Alter>(alloc: Global, conn: &mut Connection<S>) -> Result<Strin
     Ok(text)
 }
 
-// Whether an empty book was made: `ok`, or why it was not.
-fn made(out: &mut String, made: Result<(), TableFault>) -> Result<(), AllocError> {
-    match made {
-        Ok(()) => out.push_str("ok"),
-        Err(fault) => append_table_fault(out, fault),
-    }
-}
-
 // Makes an empty book of the newest layout.
 fn make<S: Alter>(alloc: Global, conn: &mut Connection<S>) -> Result<String, AllocError>
     requires { conn.old.in_transaction ≡ false }
 {
     let mut text = room(alloc)?;
-    made(&mut text, created(conn))?;
+    append_done(&mut text, created(conn))?;
     Ok(text)
 }
 
@@ -68,7 +60,7 @@ fn make_old<S: Alter>(alloc: Global, conn: &mut Connection<S>) -> Result<String,
     requires { conn.old.in_transaction ≡ false }
 {
     let mut text = room(alloc)?;
-    made(&mut text, created_old(conn))?;
+    append_done(&mut text, created_old(conn))?;
     Ok(text)
 }
 

@@ -1,13 +1,14 @@
 //! The disks whose files are in memory, and an office that may be open over a copy of them.
 
 use crate::files::{
-    Fused, Held, Pair, asked_in, asked_of_files, copied, empty_files, left_by, lose_power,
+    Fused, Left, Pair, asked_in, asked_of_files, copied, empty_files, held_in, left_by, lose_power,
 };
 use crate::texts::append_error;
 use mx_office::Office;
-use mx_test_cases::{AnswerText, Asked, Disks, Setting, Unmade};
+use mx_test_cases::{AnswerText, Asked, Disks, Held, Setting, Unmade};
 use mx_test_lines::faults::room;
 use std::alloc::{AllocError, Global};
+use std::mem;
 
 /// A database file and its log in memory, a copy of them that is kept, and an office that may be open.
 pub struct MemoryDisks {
@@ -16,6 +17,8 @@ pub struct MemoryDisks {
     files: Pair,
     // The files that `restore` takes back.
     kept: Pair,
+    // Files that were set aside.
+    aside: Option<Pair>,
     office: Option<Office<Fused>>,
 }
 
@@ -36,19 +39,20 @@ impl MemoryDisks {
             alloc,
             files: empty_files(alloc),
             kept: empty_files(alloc),
+            aside: None,
             office: None,
         }
     }
 
     // Holds what a line left: the office that is open, or the files, where they are taken.
-    fn hold(&mut self, held: Held, are_taken: bool) {
-        match held {
-            Held::Office(office) => {
+    fn hold(&mut self, left: Left, are_taken: bool) {
+        match left {
+            Left::Office(office) => {
                 if let Some(before) = self.office.replace(office) {
                     let (_files, _) = left_by(before, false);
                 }
             }
-            Held::Files(files) => {
+            Left::Files(files) => {
                 if are_taken {
                     self.files = files;
                 }
@@ -59,8 +63,8 @@ impl MemoryDisks {
     // Asks the database in a copy of the files, which is taken where it was changed.
     fn ask_files(&mut self, setting: Setting, asked: Asked<'_>) -> AnswerText {
         let words = asked.words;
-        let (answer, held) = asked_of_files(&self.files, setting, asked)?;
-        self.hold(held, is_taken(words, &answer));
+        let (answer, left) = asked_of_files(&self.files, setting, asked)?;
+        self.hold(left, is_taken(words, &answer));
         answer
     }
 }
@@ -71,6 +75,7 @@ impl Disks for MemoryDisks {
             alloc: self.alloc,
             files: copied(self.alloc, &self.files, Setting::WHOLE)?,
             kept: copied(self.alloc, &self.files, Setting::WHOLE)?,
+            aside: None,
             office: None,
         })
     }
@@ -80,6 +85,7 @@ impl Disks for MemoryDisks {
             alloc: _,
             files: _,
             kept: _,
+            aside: _,
             office,
         } = self;
         if let Some(office) = office {
@@ -118,11 +124,27 @@ impl Disks for MemoryDisks {
         Ok(())
     }
 
+    fn held(&self) -> Result<Held, AllocError> {
+        held_in(self.alloc, &self.files)
+    }
+
+    fn set_aside(&mut self) -> Result<(), AllocError> {
+        let copies = copied(self.alloc, &self.files, Setting::WHOLE)?;
+        self.aside = Some(mem::replace(&mut self.files, copies));
+        Ok(())
+    }
+
+    fn take_back(&mut self) {
+        if let Some(files) = self.aside.take() {
+            self.files = files;
+        }
+    }
+
     fn ask(&mut self, setting: Setting, asked: Asked<'_>) -> AnswerText {
         match self.office.take() {
             Some(office) => {
-                let (answer, held) = asked_in(Ok(office), asked);
-                self.hold(held, true);
+                let (answer, left) = asked_in(Ok(office), asked);
+                self.hold(left, true);
                 answer
             }
             None => self.ask_files(setting, asked),

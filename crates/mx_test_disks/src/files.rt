@@ -9,7 +9,7 @@ use crate::asking::ask;
 use crate::texts::error_text;
 use mx_database::power::end_process;
 use mx_office::Office;
-use mx_test_cases::{AnswerText, Asked, Setting};
+use mx_test_cases::{AnswerText, Asked, Held, Setting};
 use sqlite::{Connection, Error, FileStore, Files, Options};
 use sqlite_disk::{Crash, Disk, Fuse, Memory};
 use std::alloc::{AllocError, Global};
@@ -20,7 +20,7 @@ pub(crate) type Fused = FileStore<Fuse<Memory>>;
 pub(crate) type Pair = Files<Fuse<Memory>>;
 
 /// What files leave that were asked a line: files, or an office that is open over them.
-pub(crate) enum Held {
+pub(crate) enum Left {
     Files(Pair),
     Office(Office<Fused>),
 }
@@ -43,6 +43,14 @@ pub(crate) fn copied(alloc: Global, files: &Pair, setting: Setting) -> Result<Pa
     let log = file(alloc, files.log.inner().bytes(), setting.log)?;
     let db = file(alloc, files.db.inner().bytes(), setting.db)?;
     Ok(Files { log, db })
+}
+
+/// The bytes that files hold.
+pub(crate) fn held_in(alloc: Global, files: &Pair) -> Result<Held, AllocError> {
+    Ok(Held {
+        log: files.log.inner().bytes().to_vec(alloc)?,
+        db: files.db.inner().bytes().to_vec(alloc)?,
+    })
 }
 
 /// Files that hold nothing.
@@ -84,12 +92,12 @@ fn files_left(conn: Connection<Fused>) -> Pair {
 pub(crate) fn asked_in(
     place: Result<Office<Fused>, Connection<Fused>>,
     asked: Asked<'_>,
-) -> (AnswerText, Held)
+) -> (AnswerText, Left)
     requires { IfErr place (λ conn. conn.in_transaction ≡ false) }
 {
     match ask(place, asked) {
-        (answer, Ok(office)) => (answer, Held::Office(office)),
-        (answer, Err(conn)) => (answer, Held::Files(files_left(conn))),
+        (answer, Ok(office)) => (answer, Left::Office(office)),
+        (answer, Err(conn)) => (answer, Left::Files(files_left(conn))),
     }
 }
 
@@ -99,11 +107,11 @@ pub(crate) fn asked_of_files(
     files: &Pair,
     setting: Setting,
     asked: Asked<'_>,
-) -> Result<(AnswerText, Held), AllocError> {
+) -> Result<(AnswerText, Left), AllocError> {
     let alloc = asked.alloc;
     match opened(alloc, files, setting)? {
         Ok(conn) => Ok(asked_in(Err(conn), asked)),
-        Err((error, left)) => Ok((error_text(alloc, error), Held::Files(left))),
+        Err((error, left)) => Ok((error_text(alloc, error), Left::Files(left))),
     }
 }
 

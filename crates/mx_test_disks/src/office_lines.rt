@@ -1,16 +1,14 @@
 //! What is asked of an open office.
 
-use crate::calls::{
-    applied, dues_of, entries_of, forecast_of, is_in_doubt, life_of, limits_of, list_of, ran,
-    verified_in,
-};
+use crate::calls::{applied, entries_of, is_in_doubt, life_of, list_of, ran, verified_in};
 use crate::texts::{answers_in, append_fault, ask_text};
-use mx_base::{Day, Serial, Tail};
 use mx_book::commands::{Command, Item};
-use mx_office::{Ask, Fault, Office};
-use mx_reports::{Text, append_whole};
+use mx_lists::Question;
+use mx_office::{Fault, Office};
+use mx_reports::append_whole;
 use mx_test_cases::{
-    AnswerText, Asked, Unmade, command_of, documents, joined_lines, room_for_replies, yes_or_no,
+    AnswerText, Asked, Unmade, command_of, documents, item_of, joined_lines, question_of,
+    room_for_replies, yes_or_no,
 };
 use mx_test_lines::faults::room;
 use sqlite::Alter;
@@ -41,8 +39,8 @@ fn run<S: Alter>(alloc: Global, office: &mut Office<S>, list: &[Command]) -> Ans
 }
 
 // The lines of a list, or why there is none.
-fn lines_of<T: Text + Drop>(alloc: Global, answer: Result<T, Ask>) -> AnswerText {
-    match answer {
+fn list<S: Alter>(alloc: Global, office: &mut Office<S>, question: &Question) -> AnswerText {
+    match list_of(alloc, office, question) {
         Ok(list) => {
             let mut lines = Vec::new(alloc);
             append_whole(&mut lines, &list)?;
@@ -50,57 +48,6 @@ fn lines_of<T: Text + Drop>(alloc: Global, answer: Result<T, Ask>) -> AnswerText
         }
         Err(ask) => Ok(ask_text(alloc, ask)?),
     }
-}
-
-// The life list of the aircraft with this registration.
-fn life_list<S: Alter>(alloc: Global, office: &mut Office<S>, registration: &str) -> AnswerText {
-    let tail = Tail::read(registration)?;
-    lines_of(alloc, list_of(alloc, office, &tail))
-}
-
-// The due list of the aircraft with this registration on a day.
-fn due_list<S: Alter>(
-    alloc: Global,
-    office: &mut Office<S>,
-    registration: &str,
-    day: &str,
-) -> AnswerText {
-    let tail = Tail::read(registration)?;
-    let day = Day::read(day)?;
-    lines_of(alloc, dues_of(alloc, office, &tail, day))
-}
-
-// The forecast of the aircraft with this registration from a day on: for so many days, at so many minutes and cycles
-// a day.
-fn forecast<S: Alter>(
-    alloc: Global,
-    office: &mut Office<S>,
-    registration: &str,
-    day: &str,
-    numbers: [&str; 3],
-) -> AnswerText {
-    let tail = Tail::read(registration)?;
-    let day = Day::read(day)?;
-    let [days, minutes, cycles] = numbers;
-    let days = days.parse::<u32>()?;
-    let minutes = minutes.parse::<u32>()?;
-    let cycles = cycles.parse::<u32>()?;
-    lines_of(
-        alloc,
-        forecast_of(alloc, office, &tail, day, days, minutes, cycles),
-    )
-}
-
-// The limits of the aircraft with this registration on a day.
-fn limits<S: Alter>(
-    alloc: Global,
-    office: &mut Office<S>,
-    registration: &str,
-    day: &str,
-) -> AnswerText {
-    let tail = Tail::read(registration)?;
-    let day = Day::read(day)?;
-    lines_of(alloc, limits_of(alloc, office, &tail, day))
 }
 
 // The life of an item, in minutes and cycles.
@@ -169,17 +116,13 @@ fn apply_first<S: Alter>(alloc: Global, office: &mut Office<S>, list: &[Command]
 /// What an open office answers.
 pub(crate) fn answer_of_office<S: Alter>(office: &mut Office<S>, asked: Asked<'_>) -> AnswerText {
     let alloc = asked.alloc;
+    if let Some(question) = question_of(asked.words)? {
+        return list(alloc, office, &question);
+    }
     match asked.words {
         ["run"] => run(alloc, office, asked.list),
         ["first"] => apply_first(alloc, office, asked.list),
-        ["life", tail] => life_list(alloc, office, tail),
-        ["due", tail, day] => due_list(alloc, office, tail, day),
-        ["forecast", tail, day, days, minutes, cycles] => {
-            forecast(alloc, office, tail, day, [days, minutes, cycles])
-        }
-        ["limits", tail, day] => limits(alloc, office, tail, day),
-        ["airframe", tail] => life(alloc, office, &Item::Airframe(Tail::read(tail)?)),
-        ["component", serial] => life(alloc, office, &Item::Component(Serial::read(serial)?)),
+        [word @ ("airframe" | "component"), name] => life(alloc, office, &item_of(word, name)?),
         ["entries", from, at_most] => entries(office, asked, from, at_most),
         ["entry", seq, command @ ..] => is_entry(alloc, office, seq, command),
         ["verify"] => verify(alloc, office),

@@ -7,6 +7,17 @@ use crate::sweep::{End, Stops, Wrong, all_entries, must};
 use mx_test_cases::Disks;
 use std::alloc::Global;
 
+/// What is known of a command that was handed in where the log stops.
+#[derive(Clone, Copy, PartialEq, Eq)]
+pub(crate) enum Handed {
+    /// The office was not opened.
+    NotOpened,
+    /// The commit is in doubt: the store failed, and whether the office takes no further command.
+    InDoubt { needs_reopen: bool },
+    /// The command was accepted.
+    Accepted,
+}
+
 /// The first command of the list, which is to be new, over files of which the log stops, and one end of the program.
 #[derive(Drop)]
 pub(crate) struct Doubts {
@@ -14,9 +25,9 @@ pub(crate) struct Doubts {
     /// What the plain book gives.
     pub plain: Plain,
     pub end: End,
-    /// How many commits in doubt were not kept.
+    /// How many commits in doubt were looked at that were not kept.
     pub lost: u64,
-    /// How many commits in doubt were kept.
+    /// How many that were kept.
     pub kept: u64,
 }
 
@@ -81,46 +92,54 @@ impl Doubts {
         Ok(is_kept)
     }
 
-    // Counts a commit in doubt, after which the office takes no command.
-    fn count(&mut self, is_kept: bool, next: &str) -> Result<(), Wrong> {
+    // Counts a commit in doubt.
+    fn count(&mut self, is_kept: bool) {
         if is_kept {
             self.kept = self.kept.saturating_add(1);
         } else {
             self.lost = self.lost.saturating_add(1);
         }
-        must(
-            next == "fault reopen",
-            "a command that is taken where the office has to be opened again",
-        )
     }
 }
 
 impl Stops for Doubts {
-    fn stop<D: Disks>(
-        &mut self,
-        player: &mut Player<D>,
-        calls: u64,
-        end: End,
-    ) -> Result<bool, Wrong> {
+    type Known = Handed;
+
+    fn work<D: Disks>(&mut self, player: &mut Player<D>, calls: u64) -> Result<Handed, Wrong> {
         let opening = format!(in self.alloc; "open log {calls}")?;
         player.line("restore")?;
         if !player.says(opening.as_str(), "opened")? {
-            return Ok(true);
+            return Ok(Handed::NotOpened);
         }
         let answered = player.line("first")?;
-        let next = player.line("first")?;
-        player.stop(end)?;
-        let is_kept = self.is_kept(player)?;
         if answered.as_str() == "fault store" {
-            self.count(is_kept, next.as_str())?;
-            return Ok(true);
+            let needs_reopen = player.says("first", "fault reopen")?;
+            return Ok(Handed::InDoubt { needs_reopen });
         }
         must(
             answered.as_str() == self.accepted(),
             "a command that is neither accepted nor in doubt",
         )?;
-        must(is_kept, "a command that was accepted and is not kept")?;
-        Ok(false)
+        Ok(Handed::Accepted)
+    }
+
+    fn is_stopped(&self, handed: Handed) -> bool {
+        handed != Handed::Accepted
+    }
+
+    fn look<D: Disks>(&mut self, player: &mut Player<D>, handed: Handed) -> Result<(), Wrong> {
+        if handed == Handed::NotOpened {
+            return Ok(());
+        }
+        let is_kept = self.is_kept(player)?;
+        if let Handed::InDoubt { needs_reopen } = handed {
+            self.count(is_kept);
+            return must(
+                needs_reopen,
+                "a command that is taken where the office has to be opened again",
+            );
+        }
+        must(is_kept, "a command that was accepted and is not kept")
     }
 
     // A commit that was synced is kept by both ends, and one that was written and not synced by the process's.

@@ -3,7 +3,7 @@
 use crate::settings::{holding, setting_of};
 use crate::sweep::End;
 use mx_book::commands::Command;
-use mx_test_cases::{AnswerText, Asked, Disks, Setting, Unmade, command_of};
+use mx_test_cases::{AnswerText, Asked, Disks, Held, Setting, Unmade, command_of};
 use std::alloc::Global;
 use std::mem;
 
@@ -71,6 +71,21 @@ impl<D: Disks> Player<D> {
             End::Power => self.disks.lose_power(),
         }
         Ok(text)
+    }
+
+    /// What the files hold.
+    pub(crate) fn held(&self) -> Result<Held, Unmade> {
+        Ok(self.disks.held()?)
+    }
+
+    /// Sets the files aside, and goes on with copies of them.
+    pub(crate) fn set_aside(&mut self) -> Result<(), Unmade> {
+        Ok(self.disks.set_aside()?)
+    }
+
+    /// Takes back the files that were set aside.
+    pub(crate) fn take_back(&mut self) {
+        self.disks.take_back();
     }
 
     // Begins anew, with files that hold nothing.

@@ -29,8 +29,8 @@ pub(crate) fn plain_of<D: Disks>(alloc: Global, player: &mut Player<D>) -> Resul
 }
 
 // How many entries there are with the commands that were answered, and with the one in doubt, where there is one.
-#[derive(Clone, Copy)]
-struct Known {
+#[derive(Clone, Copy, PartialEq, Eq)]
+pub(crate) struct Known {
     is_stopped: bool,
     answered: usize,
     in_doubt: usize,
@@ -228,17 +228,19 @@ impl<'a> CommandStops<'a> {
 }
 
 impl<'a> Stops for CommandStops<'a> {
-    fn stop<D: Disks>(
-        &mut self,
-        player: &mut Player<D>,
-        calls: u64,
-        end: End,
-    ) -> Result<bool, Wrong> {
+    type Known = Known;
+
+    fn work<D: Disks>(&mut self, player: &mut Player<D>, calls: u64) -> Result<Known, Wrong> {
         player.line("restore")?;
-        let known = self.run_stopped(player, calls)?;
-        player.stop(end)?;
-        self.leaves_a_prefix(player, known)?;
-        Ok(known.is_stopped)
+        self.run_stopped(player, calls)
+    }
+
+    fn is_stopped(&self, known: Known) -> bool {
+        known.is_stopped
+    }
+
+    fn look<D: Disks>(&mut self, player: &mut Player<D>, known: Known) -> Result<(), Wrong> {
+        self.leaves_a_prefix(player, known)
     }
 
     fn verdict(&self) -> Result<&'static str, Wrong> {

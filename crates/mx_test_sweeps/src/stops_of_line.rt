@@ -6,7 +6,7 @@
 
 use crate::player::Player;
 use crate::settings::stopping;
-use crate::sweep::{End, Stops, Wrong, must};
+use crate::sweep::{Stops, Wrong, must};
 use mx_test_cases::{Disks, Setting, Unmade};
 
 // What a line that the store stopped is answered.
@@ -84,11 +84,11 @@ pub(crate) struct LineStops<'a> {
     pub whole: Around,
     /// Whether the line makes one commit at most.
     pub is_one_commit: bool,
-    /// How many stops left the rows from before.
+    /// How many stops were looked at that left the rows from before.
     pub undone: u64,
-    /// How many stops left rows between these and those behind the line.
+    /// How many that left rows between these and those behind the line.
     pub between: u64,
-    /// How many stops left the rows behind the line.
+    /// How many that left the rows behind the line.
     pub done: u64,
 }
 
@@ -130,7 +130,7 @@ impl<'a> LineStops<'a> {
     }
 
     // What a stop left is looked at, and then the line is played again where that is not all that is behind the line.
-    fn looks<D: Disks>(&mut self, player: &mut Player<D>) -> Result<(), Wrong> {
+    fn leaves_rows<D: Disks>(&mut self, player: &mut Player<D>) -> Result<(), Wrong> {
         let found = player.line(ALL_ROWS)?;
         self.count(found.as_str())?;
         if found.as_str() != self.whole.after.as_str() {
@@ -141,26 +141,31 @@ impl<'a> LineStops<'a> {
 }
 
 impl<'a> Stops for LineStops<'a> {
-    fn stop<D: Disks>(
-        &mut self,
-        player: &mut Player<D>,
-        calls: u64,
-        end: End,
-    ) -> Result<bool, Wrong> {
+    // Whether the store stopped the line.
+    type Known = bool;
+
+    fn work<D: Disks>(&mut self, player: &mut Player<D>, calls: u64) -> Result<bool, Wrong> {
         let setting = stopping(self.file, self.opening.saturating_add(calls), self.pages)?;
         player.line("restore")?;
         let answer = player.ask(setting, self.words)?;
-        player.stop(end)?;
-        if answer.as_str() == STOPPED {
-            self.looks(player)?;
-            return Ok(true);
-        }
+        let is_stopped = answer.as_str() == STOPPED;
         must(
-            answer.as_str() == self.whole.answer.as_str(),
+            is_stopped || answer.as_str() == self.whole.answer.as_str(),
             "another answer than where nothing stopped, and no fault of the store",
         )?;
-        self.has_all(player, "rows that are lost of a line that was done")?;
-        Ok(false)
+        Ok(is_stopped)
+    }
+
+    fn is_stopped(&self, is_stopped: bool) -> bool {
+        is_stopped
+    }
+
+    fn look<D: Disks>(&mut self, player: &mut Player<D>, is_stopped: bool) -> Result<(), Wrong> {
+        if is_stopped {
+            self.leaves_rows(player)
+        } else {
+            self.has_all(player, "rows that are lost of a line that was done")
+        }
     }
 
     fn verdict(&self) -> Result<&'static str, Wrong> {

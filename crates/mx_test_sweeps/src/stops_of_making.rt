@@ -1,7 +1,7 @@
 //! The making of an empty book, and what each stop of it leaves in the files: nothing, or the whole of it.
 
 use crate::player::Player;
-use crate::sweep::{End, Stops, Wrong, answers, must};
+use crate::sweep::{Stops, Wrong, answers, must};
 use mx_test_cases::Disks;
 use std::alloc::Global;
 
@@ -30,22 +30,27 @@ pub(crate) struct MakingStops<'a> {
 }
 
 impl<'a> Stops for MakingStops<'a> {
-    fn stop<D: Disks>(
-        &mut self,
-        player: &mut Player<D>,
-        calls: u64,
-        end: End,
-    ) -> Result<bool, Wrong> {
+    // Whether the book was made.
+    type Known = bool;
+
+    fn work<D: Disks>(&mut self, player: &mut Player<D>, calls: u64) -> Result<bool, Wrong> {
         let file = self.file;
         let making = format!(in self.alloc; "make {file} {calls}")?;
         player.line("disk")?;
         let made = player.line(making.as_str())?;
-        player.stop(end)?;
         let is_made = made.as_str() == "ok";
         must(
             is_made || made.as_str() == "fault store",
             "a fault of a making that is not the store's",
         )?;
+        Ok(is_made)
+    }
+
+    fn is_stopped(&self, is_made: bool) -> bool {
+        !is_made
+    }
+
+    fn look<D: Disks>(&mut self, player: &mut Player<D>, is_made: bool) -> Result<(), Wrong> {
         let found = answers(self.alloc, player, &LOOKS)?;
         let is_whole = found.as_str() == WHOLE_BOOK;
         must(
@@ -55,8 +60,7 @@ impl<'a> Stops for MakingStops<'a> {
         must(
             is_whole || !is_made,
             "no tables where the making was not stopped",
-        )?;
-        Ok(!is_made)
+        )
     }
 
     fn verdict(&self) -> Result<&'static str, Wrong> {

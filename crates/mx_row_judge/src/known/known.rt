@@ -6,10 +6,11 @@ ghost use Rattle.mx_book.specs.Judge.{known_from};
 ghost use Rattle.mx_lookups.specs.numbers.LookUp.{IsLookUp};
 ghost use Rattle.mx_row_judge.specs.known.Known.{KnownAs, KnownDamage, Says, SaysDamage, Tells};
 
-use crate::known::items::{is_aircraft, is_component};
-use crate::known::moves::{is_fitting, is_removal, is_sector};
+use crate::known::kinds::{
+    is_aircraft, is_component, is_deferral, is_extension, is_fitting, is_opening, is_programme,
+    is_removal, is_sector,
+};
 use crate::known::releases::is_release;
-use crate::known::works::{is_deferral, is_extension, is_opening, is_programme};
 use mx_book::commands::{Command, Said};
 use mx_layout::TableFault;
 use mx_lookups::numbers::entries::entry_of_doc;

@@ -8,9 +8,10 @@ ghost use Rattle.mx_lookups.specs.numbers.AnyRows.{ReadsAny};
 ghost use Rattle.mx_lookups.specs.numbers.Reads.{Reads};
 ghost use Rattle.mx_row_questions.specs.entries.Entries.{KindStated, command_said, table_of};
 
-use crate::entries::defects::{deferral_stated, extension_stated};
-use crate::entries::items::{aircraft_stated, component_stated, programme_stated};
-use crate::entries::moves::{fitting_stated, opening_stated, removal_stated, sector_stated};
+use crate::entries::kinds::{
+    aircraft_stated, component_stated, deferral_stated, extension_stated, fitting_stated,
+    opening_stated, programme_stated, removal_stated, sector_stated,
+};
 use crate::entries::releases::release_stated;
 use mx_base::rows::{EntryKind, EntryRow};
 use mx_book::commands::{Body, Command, MakeFault};

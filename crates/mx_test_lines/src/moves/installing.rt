@@ -1,7 +1,7 @@
 //! A file of layout 1 that has a whole book.
 ghost use Rattle.std.specs.Prelude.{◌≡◌, false};
 
-use crate::faults::{append_table_fault, room};
+use crate::faults::{append_done, room};
 use mx_book::Verdict;
 use mx_book::commands::Command;
 use mx_book::entry_list::Book;
@@ -56,9 +56,6 @@ pub fn answer_of_install<S: Alter>(
 {
     let book = book_of(alloc, commands)?;
     let mut text = room(alloc)?;
-    match installed(alloc, conn, &book) {
-        Ok(()) => text.push_str("ok")?,
-        Err(fault) => append_table_fault(&mut text, fault)?,
-    }
+    append_done(&mut text, installed(alloc, conn, &book))?;
     Ok(text)
 }

@@ -1,6 +1,5 @@
-use Rattle.std.proofs.Common.{refl, ◌∙◌, ◌≡◌, ◌+◌, ◌<◌, ℕ, suc, get_or, length, ◌++◌, [], ◌∷◌, take, Ok, sym, subst, ap, arith}
-use Rattle.std.proofs.lemmas.List.{take_all}
-use Rattle.std.proofs.Math.Seq.{take-suc}
+use Rattle.std.proofs.Common.{refl, ◌∙◌, ◌≡◌, ℕ, ◌++◌, [], ◌∷◌, take, Ok, sym, subst, ap}
+use Rattle.std.proofs.lemmas.List.{take_all, take_more}
 use Rattle.sqlite.specs.Held.{state}
 use Rattle.sqlite.specs.Schema.{Schema}
 use Rattle.mx_layout.specs.Contents.{HasNoReferences}
@@ -24,10 +23,7 @@ rows-preserved g c =
     let items = c.args.rows.now in
     let x = c.row-item.result in
     let i = c.rows.row-index in
-    let low : i < length items = c.rows-test.true in
-    let here : get_or items i x ≡ x = sym c.row-item.is in
-    let one : suc i ≡ i + 1 = omega arith in
-    let more : take i items ++ x ∷ [] ≡ take (i + 1) items = sym (subst (λ n. take n items ≡ take i items ++ get_or items i x ∷ []) one (take-suc items i x low) ∙ ap (λ y. take i items ++ y ∷ []) here) in
+    let more = sym (take_more items i x c.rows-test.true ∙ ap (λ y. take i items ++ y ∷ []) (sym c.row-item.is)) in
     record {
       same_reference = c.replace.ensures.same_reference ∙ so_far.same_reference;
       writes = subst (λ xs. WritesRows {V = ℕ} IsIn (all_in_place k replaced xs) first new (Ok 0)) more

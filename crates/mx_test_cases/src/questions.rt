@@ -1,0 +1,24 @@
+//! The questions for a list of an aircraft that the words of a case ask.
+
+use crate::commands::Unmade;
+use mx_base::{Day, Tail};
+use mx_lists::Question;
+
+/// The question for a list that words ask, if they ask for one: `life TAIL`, `due TAIL DAY`, `limits TAIL DAY` or
+/// `forecast TAIL DAY DAYS MINUTES CYCLES`.
+pub fn question_of(words: &[&str]) -> Result<Option<Question>, Unmade> {
+    let question = match words {
+        ["life", tail] => Question::Life(Tail::read(tail)?),
+        ["due", tail, day] => Question::Due(Tail::read(tail)?, Day::read(day)?),
+        ["forecast", tail, day, days, minutes, cycles] => Question::Forecast {
+            tail: Tail::read(tail)?,
+            day: Day::read(day)?,
+            days: days.parse::<u32>()?,
+            minutes: minutes.parse::<u32>()?,
+            cycles: cycles.parse::<u32>()?,
+        },
+        ["limits", tail, day] => Question::Limits(Tail::read(tail)?, Day::read(day)?),
+        _ => return Ok(None),
+    };
+    Ok(Some(question))
+}
