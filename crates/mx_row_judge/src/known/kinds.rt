@@ -5,7 +5,7 @@ ghost use Rattle.mx_book.specs.declared.commands.shape.TheConstants.{MOST_POSITI
 ghost use Rattle.mx_registers.specs.Lines.{lines_from};
 ghost use Rattle.mx_registers.specs.Registers.{aircraft_row, place_row, programme_row, task_row};
 ghost use Rattle.mx_layout.specs.kept.Cells.{kept_aircraft, kept_place, kept_programme, kept_task};
-ghost use Rattle.mx_row_rules.specs.found.Given as registers.{};
+ghost use Rattle.mx_row_rules.specs.found.Given as registers;
 ghost use Rattle.mx_lookups.specs.numbers.LookUp.{IsLookUp};
 ghost use Rattle.mx_row_judge.specs.known.Known.{AreRows, RowsDamage, Says, SaysDamage, Tells, TellsRows};
 ghost use Rattle.mx_book.specs.declared.commands.programme_shape.TheConstants.{MOST_TASKS};
