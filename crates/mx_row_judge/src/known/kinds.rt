@@ -13,14 +13,22 @@ ghost use Rattle.mx_base.specs.declared.rows.rows.Sector2Row.{Sector2Row};
 
 use mx_base::rows::Sector2Row;
 use mx_base::{Part, Position};
-use mx_book::commands::{Aircraft, Component, Deferral, Extension, Fitting, Opening, Programme, Removal, Sector, Task};
+use mx_book::commands::{
+    Aircraft, Component, Deferral, Extension, Fitting, Opening, Programme, Removal, Sector, Task,
+};
 use mx_layout::TableFault;
 use mx_lookups::numbers::entries::defect_number;
 use mx_lookups::numbers::items::{aircraft_number, component_number, item_number};
-use mx_registers::{SectorRow, aircraft_row, component_row, deferral_row, extension_row, opening_row, or_zero, programme_row, sector_row};
+use mx_registers::{
+    SectorRow, aircraft_row, component_row, deferral_row, extension_row, opening_row, or_zero,
+    programme_row, sector_row,
+};
 use mx_row_rules::changes::{place_rows, task_rows};
 use mx_row_rules::found::known::{begins_in, ends_in};
-use mx_row_rules::found::same::{are_same_aircraft, are_same_components, are_same_deferrals, are_same_extensions, are_same_openings, are_same_places, are_same_programmes, are_same_tasks};
+use mx_row_rules::found::same::{
+    are_same_aircraft, are_same_components, are_same_deferrals, are_same_extensions,
+    are_same_openings, are_same_places, are_same_programmes, are_same_tasks,
+};
 use mx_table_rows::chosen::defects::{defect_by_seq, extension_by_seq};
 use mx_table_rows::chosen::items::{aircraft_by_seq, component_by_seq, place_by_seq};
 use mx_table_rows::chosen::kept::{span2_by_fit_seq, span2_by_remove_seq};
