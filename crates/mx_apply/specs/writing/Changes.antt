@@ -1,5 +1,5 @@
 -- What statements make of the rows of each table, as one function of its name.
-use Rattle.std.specs.Prelude.{◌≡◌, Bool, not, List, [], ◌∷◌, filter, nat_eq, if◌then◌else◌, Contains, IsTrue, Result, OnOk}
+use Rattle.std.specs.Prelude.{Bool, not, List, [], ◌∷◌, filter, nat_eq, if◌then◌else◌, Contains, IsTrue, Result, OnOk}
 use Rattle.sqlite.specs.Order.{Row}
 use Rattle.sqlite.specs.Schema.{Schema}
 use Rattle.sqlite.specs.Effect.{Database}
