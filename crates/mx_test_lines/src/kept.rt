@@ -6,7 +6,7 @@
 ghost use Rattle.std.specs.Prelude.{◌≡◌, false, nat_eq};
 ghost use Rattle.mx_book.specs.commands.Bounds.{are_distinct};
 
-use crate::faults::{append_done, fault_text, room};
+use crate::faults::{append_done, append_table_fault, fault_text, room};
 use mx_base::rows::BaseRow;
 use mx_base::{Day, Moment, TaskId, Use};
 use mx_layout::TableFault;
@@ -25,11 +25,12 @@ fn committed<S: Alter>(
     done: Result<(), TableFault>,
 ) -> AnswerText {
     let mut text = room(alloc)?;
-    let done = match done {
-        Ok(()) => tx.commit().map_err(|_| TableFault::Store),
-        Err(fault) => Err(fault),
-    };
-    append_done(&mut text, done)?;
+    if let Err(fault) = done {
+        append_table_fault(&mut text, fault)?;
+        return Ok(text);
+    }
+    let committed = tx.commit().map_err(|_| TableFault::Store);
+    append_done(&mut text, committed)?;
     Ok(text)
 }
 
