@@ -18,30 +18,18 @@ impl Stored for AircraftRow {
     }
 
     fn read(row: &Row) -> Option<AircraftRow> {
-        has_columns(row, 7)?;
-        Some(AircraftRow {
-            seq: number_at(row, 0)?,
-            tail: tail_at(row, 1)?,
-            kind: graphic_at(row, 2)?,
-            birth: day_at(row, 3)?,
-            minutes: number_at(row, 4)?,
-            cycles: number_at(row, 5)?,
-            as_of: moment_at(row, 6)?,
+        read_columns!(row, 7: AircraftRow {
+            seq: number_at(0), tail: tail_at(1), kind: graphic_at(2), birth: day_at(3),
+            minutes: number_at(4), cycles: number_at(5), as_of: moment_at(6),
         })
     }
 }
 
 impl Insert for AircraftRow {
     fn insert<S: Alter>(&self, tx: &mut Transaction<'_, S>) -> Result<(), TableFault> {
-        let values = params![
-            self.seq,
-            self.tail.as_str(),
-            self.kind.as_str(),
-            self.birth.number(),
-            self.minutes,
-            self.cycles,
-            self.as_of.number()
-        ];
-        insert_values(tx, self, values)
+        insert_columns!(self, tx:
+            self.seq, self.tail.as_str(), self.kind.as_str(), self.birth.number(), self.minutes,
+            self.cycles, self.as_of.number()
+        )
     }
 }

@@ -23,28 +23,17 @@ impl Stored for BaseRow {
     }
 
     fn read(row: &Row) -> Option<BaseRow> {
-        has_columns(row, 5)?;
-        Some(BaseRow {
-            item: number_at(row, 0)?,
-            task: graphic_at(row, 1)?,
-            life: Use {
-                minutes: number_at(row, 2)?,
-                cycles: number_at(row, 3)?,
-            },
-            day: day_at(row, 4)?,
+        read_columns!(row, 5: BaseRow {
+            item: number_at(0), task: graphic_at(1),
+            life: Use { minutes: number_at(2), cycles: number_at(3) }, day: day_at(4),
         })
     }
 }
 
 impl Insert for BaseRow {
     fn insert<S: Alter>(&self, tx: &mut Transaction<'_, S>) -> Result<(), TableFault> {
-        let values = params![
-            self.item,
-            self.task.as_str(),
-            self.life.minutes,
-            self.life.cycles,
-            self.day.number()
-        ];
-        insert_values(tx, self, values)
+        insert_columns!(self, tx:
+            self.item, self.task.as_str(), self.life.minutes, self.life.cycles, self.day.number()
+        )
     }
 }

@@ -18,30 +18,18 @@ impl Stored for ComponentRow {
     }
 
     fn read(row: &Row) -> Option<ComponentRow> {
-        has_columns(row, 7)?;
-        Some(ComponentRow {
-            seq: number_at(row, 0)?,
-            serial: graphic_at(row, 1)?,
-            part: graphic_at(row, 2)?,
-            birth: day_at(row, 3)?,
-            minutes: number_at(row, 4)?,
-            cycles: number_at(row, 5)?,
-            as_of: moment_at(row, 6)?,
+        read_columns!(row, 7: ComponentRow {
+            seq: number_at(0), serial: graphic_at(1), part: graphic_at(2), birth: day_at(3),
+            minutes: number_at(4), cycles: number_at(5), as_of: moment_at(6),
         })
     }
 }
 
 impl Insert for ComponentRow {
     fn insert<S: Alter>(&self, tx: &mut Transaction<'_, S>) -> Result<(), TableFault> {
-        let values = params![
-            self.seq,
-            self.serial.as_str(),
-            self.part.as_str(),
-            self.birth.number(),
-            self.minutes,
-            self.cycles,
-            self.as_of.number()
-        ];
-        insert_values(tx, self, values)
+        insert_columns!(self, tx:
+            self.seq, self.serial.as_str(), self.part.as_str(), self.birth.number(), self.minutes,
+            self.cycles, self.as_of.number()
+        )
     }
 }

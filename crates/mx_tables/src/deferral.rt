@@ -19,27 +19,18 @@ impl Stored for DeferralRow {
     }
 
     fn read(row: &Row) -> Option<DeferralRow> {
-        has_columns(row, 6)?;
-        Some(DeferralRow {
-            seq: number_at(row, 0)?,
-            aircraft: number_at(row, 1)?,
-            moment: moment_at(row, 2)?,
-            reference: graphic_at(row, 3)?,
-            category: category_at(row, 4)?,
+        read_columns!(row, 6: DeferralRow {
+            seq: number_at(0), aircraft: number_at(1), moment: moment_at(2),
+            reference: graphic_at(3), category: category_at(4),
         })
     }
 }
 
 impl Insert for DeferralRow {
     fn insert<S: Alter>(&self, tx: &mut Transaction<'_, S>) -> Result<(), TableFault> {
-        let values = params![
-            self.seq,
-            self.aircraft,
-            self.moment.number(),
-            self.reference.as_str(),
-            number_of_category(self.category),
-            days_of_category(self.category)
-        ];
-        insert_values(tx, self, values)
+        insert_columns!(self, tx:
+            self.seq, self.aircraft, self.moment.number(), self.reference.as_str(),
+            number_of_category(self.category), days_of_category(self.category)
+        )
     }
 }

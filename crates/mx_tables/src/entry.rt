@@ -44,11 +44,8 @@ impl Stored for EntryRow {
     }
 
     fn read(row: &Row) -> Option<EntryRow> {
-        has_columns(row, 3)?;
-        Some(EntryRow {
-            seq: number_at(row, 0)?,
-            doc: graphic_at(row, 1)?,
-            kind: kind_at(row, 2)?,
+        read_columns!(row, 3: EntryRow {
+            seq: number_at(0), doc: graphic_at(1), kind: kind_at(2),
         })
     }
 }
@@ -73,7 +70,6 @@ fn number_of(kind: EntryKind) -> u32
 
 impl Insert for EntryRow {
     fn insert<S: Alter>(&self, tx: &mut Transaction<'_, S>) -> Result<(), TableFault> {
-        let values = params![self.seq, self.doc.as_str(), number_of(self.kind)];
-        insert_values(tx, self, values)
+        insert_columns!(self, tx: self.seq, self.doc.as_str(), number_of(self.kind))
     }
 }

@@ -18,19 +18,14 @@ impl Stored for ExtensionRow {
     }
 
     fn read(row: &Row) -> Option<ExtensionRow> {
-        has_columns(row, 4)?;
-        Some(ExtensionRow {
-            seq: number_at(row, 0)?,
-            defect: number_at(row, 1)?,
-            day: day_at(row, 2)?,
-            days: number_at(row, 3)?,
+        read_columns!(row, 4: ExtensionRow {
+            seq: number_at(0), defect: number_at(1), day: day_at(2), days: number_at(3),
         })
     }
 }
 
 impl Insert for ExtensionRow {
     fn insert<S: Alter>(&self, tx: &mut Transaction<'_, S>) -> Result<(), TableFault> {
-        let values = params![self.seq, self.defect, self.day.number(), self.days];
-        insert_values(tx, self, values)
+        insert_columns!(self, tx: self.seq, self.defect, self.day.number(), self.days)
     }
 }

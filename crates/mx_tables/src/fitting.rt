@@ -18,13 +18,9 @@ impl Stored for FittingRow {
     }
 
     fn read(row: &Row) -> Option<FittingRow> {
-        has_columns(row, 5)?;
-        Some(FittingRow {
-            seq: number_at(row, 0)?,
-            component: number_at(row, 1)?,
-            aircraft: number_at(row, 2)?,
-            position: graphic_at(row, 3)?,
-            moment: written_moment_at(row, 4)?,
+        read_columns!(row, 5: FittingRow {
+            seq: number_at(0), component: number_at(1), aircraft: number_at(2),
+            position: graphic_at(3), moment: written_moment_at(4),
         })
     }
 }
@@ -32,13 +28,8 @@ impl Stored for FittingRow {
 impl Insert for FittingRow {
     fn insert<S: Alter>(&self, tx: &mut Transaction<'_, S>) -> Result<(), TableFault> {
         let moment = text_of(self.moment);
-        let values = params![
-            self.seq,
-            self.component,
-            self.aircraft,
-            self.position.as_str(),
-            moment.as_str()
-        ];
-        insert_values(tx, self, values)
+        insert_columns!(self, tx:
+            self.seq, self.component, self.aircraft, self.position.as_str(), moment.as_str()
+        )
     }
 }

@@ -18,30 +18,18 @@ impl Stored for OpeningRow {
     }
 
     fn read(row: &Row) -> Option<OpeningRow> {
-        has_columns(row, 7)?;
-        Some(OpeningRow {
-            seq: number_at(row, 0)?,
-            item: number_at(row, 1)?,
-            kind: graphic_at(row, 2)?,
-            task: graphic_at(row, 3)?,
-            minutes: number_at(row, 4)?,
-            cycles: number_at(row, 5)?,
-            day: day_at(row, 6)?,
+        read_columns!(row, 7: OpeningRow {
+            seq: number_at(0), item: number_at(1), kind: graphic_at(2), task: graphic_at(3),
+            minutes: number_at(4), cycles: number_at(5), day: day_at(6),
         })
     }
 }
 
 impl Insert for OpeningRow {
     fn insert<S: Alter>(&self, tx: &mut Transaction<'_, S>) -> Result<(), TableFault> {
-        let values = params![
-            self.seq,
-            self.item,
-            self.kind.as_str(),
-            self.task.as_str(),
-            self.minutes,
-            self.cycles,
+        insert_columns!(self, tx:
+            self.seq, self.item, self.kind.as_str(), self.task.as_str(), self.minutes, self.cycles,
             self.day.number()
-        ];
-        insert_values(tx, self, values)
+        )
     }
 }

@@ -18,24 +18,14 @@ impl Stored for PlaceRow {
     }
 
     fn read(row: &Row) -> Option<PlaceRow> {
-        has_columns(row, 4)?;
-        Some(PlaceRow {
-            seq: number_at(row, 0)?,
-            line: number_at(row, 1)?,
-            position: graphic_at(row, 2)?,
-            part: graphic_at(row, 3)?,
+        read_columns!(row, 4: PlaceRow {
+            seq: number_at(0), line: number_at(1), position: graphic_at(2), part: graphic_at(3),
         })
     }
 }
 
 impl Insert for PlaceRow {
     fn insert<S: Alter>(&self, tx: &mut Transaction<'_, S>) -> Result<(), TableFault> {
-        let values = params![
-            self.seq,
-            self.line,
-            self.position.as_str(),
-            self.part.as_str()
-        ];
-        insert_values(tx, self, values)
+        insert_columns!(self, tx: self.seq, self.line, self.position.as_str(), self.part.as_str())
     }
 }

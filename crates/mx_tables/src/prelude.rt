@@ -2,9 +2,9 @@
 
 pub(crate) use crate::column::{
     category_at, day_at, flag_at, graphic_at, graphic_or_null_at, has_columns, limit_at, moment_at,
-    moment_or_null_at, number_at, number_or_null_at, tail_at, written_moment_at,
+    moment_or_null_at, number_at, number_or_null_at, read_columns, tail_at, written_moment_at,
 };
-pub(crate) use crate::inserts::insert::{Insert, insert_values};
+pub(crate) use crate::inserts::insert::{Insert, insert_columns, insert_values};
 pub(crate) use crate::inserts::values::{
     days_of_category, moment_if_any, number_if_any, number_of_category, text_if_any, text_of,
 };

@@ -18,18 +18,14 @@ impl Stored for ProgrammeRow {
     }
 
     fn read(row: &Row) -> Option<ProgrammeRow> {
-        has_columns(row, 3)?;
-        Some(ProgrammeRow {
-            seq: number_at(row, 0)?,
-            kind: graphic_at(row, 1)?,
-            revision: number_at(row, 2)?,
+        read_columns!(row, 3: ProgrammeRow {
+            seq: number_at(0), kind: graphic_at(1), revision: number_at(2),
         })
     }
 }
 
 impl Insert for ProgrammeRow {
     fn insert<S: Alter>(&self, tx: &mut Transaction<'_, S>) -> Result<(), TableFault> {
-        let values = params![self.seq, self.kind.as_str(), self.revision];
-        insert_values(tx, self, values)
+        insert_columns!(self, tx: self.seq, self.kind.as_str(), self.revision)
     }
 }

@@ -18,24 +18,17 @@ impl Stored for ReleaseRow {
     }
 
     fn read(row: &Row) -> Option<ReleaseRow> {
-        has_columns(row, 4)?;
-        Some(ReleaseRow {
-            seq: number_at(row, 0)?,
-            item: number_at(row, 1)?,
-            kind: graphic_or_null_at(row, 2)?,
-            moment: moment_at(row, 3)?,
+        read_columns!(row, 4: ReleaseRow {
+            seq: number_at(0), item: number_at(1), kind: graphic_or_null_at(2),
+            moment: moment_at(3),
         })
     }
 }
 
 impl Insert for ReleaseRow {
     fn insert<S: Alter>(&self, tx: &mut Transaction<'_, S>) -> Result<(), TableFault> {
-        let values = params![
-            self.seq,
-            self.item,
-            text_if_any(&self.kind),
-            self.moment.number()
-        ];
-        insert_values(tx, self, values)
+        insert_columns!(self, tx:
+            self.seq, self.item, text_if_any(&self.kind), self.moment.number()
+        )
     }
 }

@@ -19,26 +19,18 @@ impl Stored for ReleaseLineRow {
     }
 
     fn read(row: &Row) -> Option<ReleaseLineRow> {
-        has_columns(row, 5)?;
-        Some(ReleaseLineRow {
-            seq: number_at(row, 0)?,
-            line: number_at(row, 1)?,
-            item: number_or_null_at(row, 2)?,
-            task: graphic_or_null_at(row, 3)?,
-            defect: number_or_null_at(row, 4)?,
+        read_columns!(row, 5: ReleaseLineRow {
+            seq: number_at(0), line: number_at(1), item: number_or_null_at(2),
+            task: graphic_or_null_at(3), defect: number_or_null_at(4),
         })
     }
 }
 
 impl Insert for ReleaseLineRow {
     fn insert<S: Alter>(&self, tx: &mut Transaction<'_, S>) -> Result<(), TableFault> {
-        let values = params![
-            self.seq,
-            self.line,
-            number_if_any(self.item),
-            text_if_any(&self.task),
+        insert_columns!(self, tx:
+            self.seq, self.line, number_if_any(self.item), text_if_any(&self.task),
             number_if_any(self.defect)
-        ];
-        insert_values(tx, self, values)
+        )
     }
 }

@@ -18,11 +18,8 @@ impl Stored for RemovalRow {
     }
 
     fn read(row: &Row) -> Option<RemovalRow> {
-        has_columns(row, 3)?;
-        Some(RemovalRow {
-            seq: number_at(row, 0)?,
-            component: number_at(row, 1)?,
-            moment: written_moment_at(row, 2)?,
+        read_columns!(row, 3: RemovalRow {
+            seq: number_at(0), component: number_at(1), moment: written_moment_at(2),
         })
     }
 }
@@ -30,7 +27,6 @@ impl Stored for RemovalRow {
 impl Insert for RemovalRow {
     fn insert<S: Alter>(&self, tx: &mut Transaction<'_, S>) -> Result<(), TableFault> {
         let moment = text_of(self.moment);
-        let values = params![self.seq, self.component, moment.as_str()];
-        insert_values(tx, self, values)
+        insert_columns!(self, tx: self.seq, self.component, moment.as_str())
     }
 }

@@ -18,15 +18,9 @@ impl Stored for SectorRow {
     }
 
     fn read(row: &Row) -> Option<SectorRow> {
-        has_columns(row, 7)?;
-        Some(SectorRow {
-            seq: number_at(row, 0)?,
-            aircraft: number_at(row, 1)?,
-            page: number_at(row, 2)?,
-            line: number_at(row, 3)?,
-            took_off: written_moment_at(row, 4)?,
-            landed: written_moment_at(row, 5)?,
-            cycles: number_at(row, 6)?,
+        read_columns!(row, 7: SectorRow {
+            seq: number_at(0), aircraft: number_at(1), page: number_at(2), line: number_at(3),
+            took_off: written_moment_at(4), landed: written_moment_at(5), cycles: number_at(6),
         })
     }
 }
@@ -35,15 +29,9 @@ impl Insert for SectorRow {
     fn insert<S: Alter>(&self, tx: &mut Transaction<'_, S>) -> Result<(), TableFault> {
         let took_off = text_of(self.took_off);
         let landed = text_of(self.landed);
-        let values = params![
-            self.seq,
-            self.aircraft,
-            self.page,
-            self.line,
-            took_off.as_str(),
-            landed.as_str(),
+        insert_columns!(self, tx:
+            self.seq, self.aircraft, self.page, self.line, took_off.as_str(), landed.as_str(),
             self.cycles
-        ];
-        insert_values(tx, self, values)
+        )
     }
 }

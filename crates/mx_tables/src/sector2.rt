@@ -22,31 +22,20 @@ impl Stored for Sector2Row {
     }
 
     fn read(row: &Row) -> Option<Sector2Row> {
-        has_columns(row, 7)?;
-        let sector = SectorRow {
-            seq: number_at(row, 0)?,
-            aircraft: number_at(row, 1)?,
-            page: number_at(row, 2)?,
-            line: number_at(row, 3)?,
-            took_off: moment_at(row, 4)?,
-            landed: moment_at(row, 5)?,
-            cycles: number_at(row, 6)?,
-        };
-        Some(Sector2Row { sector })
+        read_columns!(row, 7: Sector2Row {
+            sector: SectorRow {
+                seq: number_at(0), aircraft: number_at(1), page: number_at(2), line: number_at(3),
+                took_off: moment_at(4), landed: moment_at(5), cycles: number_at(6),
+            },
+        })
     }
 }
 
 impl Insert for Sector2Row {
     fn insert<S: Alter>(&self, tx: &mut Transaction<'_, S>) -> Result<(), TableFault> {
-        let values = params![
-            self.sector.seq,
-            self.sector.aircraft,
-            self.sector.page,
-            self.sector.line,
-            self.sector.took_off.number(),
-            self.sector.landed.number(),
-            self.sector.cycles
-        ];
-        insert_values(tx, self, values)
+        insert_columns!(self, tx:
+            self.sector.seq, self.sector.aircraft, self.sector.page, self.sector.line,
+            self.sector.took_off.number(), self.sector.landed.number(), self.sector.cycles
+        )
     }
 }

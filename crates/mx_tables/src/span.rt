@@ -18,30 +18,19 @@ impl Stored for SpanRow {
     }
 
     fn read(row: &Row) -> Option<SpanRow> {
-        has_columns(row, 7)?;
-        Some(SpanRow {
-            fit_seq: number_at(row, 0)?,
-            component: number_at(row, 1)?,
-            aircraft: number_at(row, 2)?,
-            position: graphic_at(row, 3)?,
-            from: moment_at(row, 4)?,
-            remove_seq: number_or_null_at(row, 5)?,
-            to: moment_or_null_at(row, 6)?,
+        read_columns!(row, 7: SpanRow {
+            fit_seq: number_at(0), component: number_at(1), aircraft: number_at(2),
+            position: graphic_at(3), from: moment_at(4), remove_seq: number_or_null_at(5),
+            to: moment_or_null_at(6),
         })
     }
 }
 
 impl Insert for SpanRow {
     fn insert<S: Alter>(&self, tx: &mut Transaction<'_, S>) -> Result<(), TableFault> {
-        let values = params![
-            self.fit_seq,
-            self.component,
-            self.aircraft,
-            self.position.as_str(),
-            self.from.number(),
-            number_if_any(self.remove_seq),
-            moment_if_any(self.to)
-        ];
-        insert_values(tx, self, values)
+        insert_columns!(self, tx:
+            self.fit_seq, self.component, self.aircraft, self.position.as_str(), self.from.number(),
+            number_if_any(self.remove_seq), moment_if_any(self.to)
+        )
     }
 }

@@ -22,42 +22,22 @@ impl Stored for TaskRow {
     }
 
     fn read(row: &Row) -> Option<TaskRow> {
-        has_columns(row, 14)?;
-        Some(TaskRow {
-            seq: number_at(row, 0)?,
-            line: number_at(row, 1)?,
-            id: graphic_at(row, 2)?,
-            part: graphic_or_null_at(row, 3)?,
-            retire: flag_at(row, 4)?,
-            first: limit_at(row, 5)?,
-            repeat: limit_at(row, 8)?,
-            tolerance: Tolerance {
-                minutes: number_at(row, 11)?,
-                cycles: number_at(row, 12)?,
-                days: number_at(row, 13)?,
-            },
+        read_columns!(row, 14: TaskRow {
+            seq: number_at(0), line: number_at(1), id: graphic_at(2), part: graphic_or_null_at(3),
+            retire: flag_at(4), first: limit_at(5), repeat: limit_at(8),
+            tolerance: Tolerance { minutes: number_at(11), cycles: number_at(12), days: number_at(13) },
         })
     }
 }
 
 impl Insert for TaskRow {
     fn insert<S: Alter>(&self, tx: &mut Transaction<'_, S>) -> Result<(), TableFault> {
-        let values = params![
-            self.seq,
-            self.line,
-            self.id.as_str(),
-            text_if_any(&self.part),
-            self.retire,
-            number_if_any(self.first.minutes),
-            number_if_any(self.first.cycles),
-            number_if_any(self.first.days),
-            number_if_any(self.repeat.minutes),
-            number_if_any(self.repeat.cycles),
-            number_if_any(self.repeat.days),
-            self.tolerance.minutes,
-            self.tolerance.cycles,
-            self.tolerance.days
-        ];
-        insert_values(tx, self, values)
+        insert_columns!(self, tx:
+            self.seq, self.line, self.id.as_str(), text_if_any(&self.part), self.retire,
+            number_if_any(self.first.minutes), number_if_any(self.first.cycles),
+            number_if_any(self.first.days), number_if_any(self.repeat.minutes),
+            number_if_any(self.repeat.cycles), number_if_any(self.repeat.days),
+            self.tolerance.minutes, self.tolerance.cycles, self.tolerance.days
+        )
     }
 }

@@ -19,26 +19,17 @@ impl Stored for TotalRow {
     }
 
     fn read(row: &Row) -> Option<TotalRow> {
-        has_columns(row, 4)?;
-        Some(TotalRow {
-            item: number_at(row, 0)?,
-            life: Use {
-                minutes: number_at(row, 1)?,
-                cycles: number_at(row, 2)?,
-            },
-            clock: moment_at(row, 3)?,
+        read_columns!(row, 4: TotalRow {
+            item: number_at(0), life: Use { minutes: number_at(1), cycles: number_at(2) },
+            clock: moment_at(3),
         })
     }
 }
 
 impl Insert for TotalRow {
     fn insert<S: Alter>(&self, tx: &mut Transaction<'_, S>) -> Result<(), TableFault> {
-        let values = params![
-            self.item,
-            self.life.minutes,
-            self.life.cycles,
-            self.clock.number()
-        ];
-        insert_values(tx, self, values)
+        insert_columns!(self, tx:
+            self.item, self.life.minutes, self.life.cycles, self.clock.number()
+        )
     }
 }

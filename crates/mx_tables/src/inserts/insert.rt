@@ -63,3 +63,13 @@ pub(crate) fn insert_values<S: Alter, R: Stored>(
 {
     insert_row(tx, R::texts().insert, values)
 }
+
+/// Adds a row, whose values are these in the order of the columns.
+macro_rules! insert_columns {
+    ($row:ident, $tx:ident: $($value:expr),+) => {{
+        let values = params![$($value),+];
+        insert_values($tx, $row, values)
+    }};
+}
+
+pub(crate) use insert_columns;
