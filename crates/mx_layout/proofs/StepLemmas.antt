@@ -1,5 +1,5 @@
 -- What each statement of the layouts makes of tables without a row, one after another.
-use Rattle.std.proofs.Common.{◌≡◌, ◌⊎◌, inl, inr, ℕ, zero, suc, ◌+◌, List, [], ◌∷◌, take, slice_get, false, Some, Result, OnOk, refl, sym, ap, subst, ◌∙◌, arith}
+use Rattle.std.proofs.Common.{◌≡◌, ◌⊎◌, inl, inr, ℕ, zero, suc, ◌+◌, List, [], ◌∷◌, slice_get, Some, Result, OnOk, refl, sym, subst, arith}
 use Rattle.std.specs.Prelude.{⊤}
 use Rattle.sqlite.specs.Table.{Table}
 use Rattle.sqlite.specs.Schema.{Schema}
@@ -205,6 +205,6 @@ pub leads : (n : ℕ) (text : List ℕ) → slice_get step_texts n ≡ Some text
     → OnOk r (IsBlank (schema_at (n + 1)) new.now)
 leads n text is old new blank r h = let here : 0 + n ≡ n = omega arith in elim (subst (λ m. Advances m text) here (advance_from 0 n step_texts text all_advance is)) [
   | inl it ↦ subst (λ s. OnOk r (IsBlank s new.now)) it.next (creates_blank (schema_at n) text it.table it.defines old new blank r h)
-  | inr (inl it) ↦ subst (λ s. OnOk r (IsBlank s new.now)) it.next (removes_blank (schema_at n) text it.table it.means old new blank it.free r h)
+  | inr (inl it) ↦ subst (λ s. OnOk r (IsBlank s new.now)) it.next (removes_blank (schema_at n) text it.table it.means it.free old new blank r h)
   | inr (inr it) ↦ subst (λ s. OnOk r (IsBlank s new.now)) it.next (indexes_blank (schema_at n) text it.table it.index it.means old new blank r h)
 ]
