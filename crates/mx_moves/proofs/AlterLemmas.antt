@@ -1,5 +1,5 @@
 -- What statements that make a table or an index, or drop a table, leave of every table, whatever rows there are.
-use Rattle.std.proofs.Common.{◌≡◌, ◌⊎◌, inl, inr, ℕ, Bool, true, false, cond, List, [], ◌∷◌, ◌++◌, map, None, Ok, Result, OnOk, IsTrue, ◌==◌, refl, sym, ap, subst, not, filter, ◌∙◌}
+use Rattle.std.proofs.Common.{◌≡◌, ◌⊎◌, inl, inr, ℕ, Bool, true, false, cond, List, [], ◌∷◌, ◌+◌, ◌++◌, map, None, Ok, Result, OnOk, IsTrue, ◌==◌, refl, sym, ap, subst, not, filter, ◌∙◌}
 use Rattle.std.specs.Prelude.{Contains}
 use Rattle.std.specs.List.{AllByRecursion}
 use Rattle.std.specs.List.Sorted.{IsPermutation}
@@ -27,6 +27,8 @@ use Rattle.mx_layout.specs.Names.{table_named}
 use Rattle.mx_layout.proofs.CreateLemmas.{Defines, lacks_none}
 use Rattle.mx_layout.proofs.DropLemmas.{MeansRemoved, removes}
 use Rattle.mx_layout.proofs.IndexLemmas.{MeansIndexed, indexes}
+use Rattle.mx_layout.proofs.StepLemmas.{Dropping, Indexing, Making, schema_at}
+use Rattle.mx_layout.specs.Steps.{schema_after}
 use Rattle.mx_layout.proofs.TreeLemmas.{same_tree}
 use Rattle.mx_layout.proofs.WriteLemmas.{went, same_value}
 use Rattle.mx_tables.proofs.InsertsProofs.SetLemmas.{on_weaker}
@@ -166,13 +168,25 @@ module _ (from : Schema) (text : List ℕ) (table : Table) (m : MeansRemoved fro
 -- ── calls ──
 
 -- the one statement of a call
-pub alters_by : {V : Type 0} (from to : Schema) (onto : TableName → List Row → List Row) (text : List ℕ) (old new : State) (r : Result V TableFault)
-    → ((count : ℕ) → old.now.schema ≡ from → Executes text [] old new (Ok count) → Reaches to onto old.now new.now)
-    → (HasCleanDisk new → IsTrue old.in_transaction → OnOk r ((count : ℕ) × ExecutesInside 0 text [] old new (Ok count)))
-    → (HasCleanDisk new → IsTrue old.in_transaction → OnOk r (StaysInside old new)) → IsWithin old new → Alters from to onto old new r
-alters_by from to onto text old new r does runs inside within = record {
-  reaches = λ clean entered has rises. on_weaker r (λ ran. does ran.0 has ran.1.0) (runs clean entered.0);
-  mode = λ clean begun. on_weaker r (λ stays. stays.mode) (inside clean begun);
-  inside = λ clean entered. inside clean entered.0;
-  within = within;
-}
+module _ {V : Type 0} (text : List ℕ) (old new : State) (r : Result V TableFault) (runs : HasCleanDisk new → IsTrue old.in_transaction → OnOk r ((count : ℕ) × ExecutesInside 0 text [] old new (Ok count)))
+    (inside : HasCleanDisk new → IsTrue old.in_transaction → OnOk r (StaysInside old new)) (within : IsWithin old new) where
+  alters_by : (from to : Schema) (onto : TableName → List Row → List Row) → ((count : ℕ) → old.now.schema ≡ from → Executes text [] old new (Ok count) → Reaches to onto old.now new.now) → Alters from to onto old new r
+  alters_by from to onto does = record {
+    reaches = λ clean entered has rises. on_weaker r (λ ran. does ran.0 has ran.1.0) (runs clean entered.0);
+    mode = λ clean begun. on_weaker r (λ stays. stays.mode) (inside clean begun);
+    inside = λ clean entered. inside clean entered.0;
+    within = within;
+  }
+
+  -- the statement at a place of those of all layouts makes a table, drops one, or makes an index
+  pub makes_table : (n : ℕ) (made : TableName) → Making n text (table_named made) → HasNew (schema_after n) (schema_after (n + 1)) made → Alters (schema_after n) (schema_after (n + 1)) (emptied made) old new r
+  unfolding schema_at
+  makes_table n made it room = alters_by (schema_after n) (schema_after (n + 1)) (emptied made) (λ count has h. table_made (schema_after n) (schema_after (n + 1)) text made it.defines room old new has count h)
+
+  pub drops_table : (n : ℕ) (table : Table) → Dropping n text table → Alters (schema_after n) (schema_after (n + 1)) unchanged old new r
+  unfolding schema_at
+  drops_table n table it = alters_by (schema_after n) (schema_after (n + 1)) unchanged (λ count has h. subst (λ s. Reaches s unchanged old.now new.now) it.next (table_gone (schema_after n) text table it.means it.free old new has count h))
+
+  pub makes_index : (n : ℕ) (table : Table) (index : Index) → Indexing n text table index → Alters (schema_after n) (schema_after (n + 1)) unchanged old new r
+  unfolding schema_at
+  makes_index n table index it = alters_by (schema_after n) (schema_after (n + 1)) unchanged (λ count has h. subst (λ s. Reaches s unchanged old.now new.now) it.next (index_made (schema_after n) text table index it.means old new has count h))

@@ -37,6 +37,5 @@ pub mod kept;
 pub mod point;
 mod prelude;
 pub mod sectors;
-mod statement;
 pub mod steps;
 pub mod tables;

@@ -16,7 +16,7 @@ ghost use Rattle.mx_table_rows.specs.chosen.Lookups.{FindsFirst, Deletes};
 ghost use Rattle.mx_table_rows.specs.chosen.Calls.{ShowsFirst, DeletesThose, ReadsFirst, DeletesRows};
 
 use mx_layout::TableFault;
-use mx_layout::fault::fault_of;
+use mx_layout::statement::execute;
 use mx_tables::stored::{Stored, answered};
 use sqlite::types::ValueRef;
 use sqlite::{Alter, Transaction};
@@ -84,10 +84,7 @@ fn delete_chosen<S: Alter>(
     ensures cause { IfErr result (λ e. (e ≡ TableFault.Memory) ⊎ (e ≡ TableFault.Store)) }
     ensures within { IsWithin (state S.Store tx.old.conn.now) (state S.Store tx.new.conn.now) }
 {
-    match tx.execute(sql, values) {
-        Ok(_) => Ok(()),
-        Err(error) => Err(fault_of(error)),
-    }
+    execute(tx, sql, values)
 }
 
 /// The rows of a table that are chosen by these values, in the order of the text. `Memory` for want of memory, `Store`

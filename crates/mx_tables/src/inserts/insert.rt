@@ -15,7 +15,7 @@ ghost use Rattle.mx_tables.specs.inserts.Calls.{AddsRow, InsertsRow};
 
 use crate::Stored;
 use mx_layout::TableFault;
-use mx_layout::fault::fault_of;
+use mx_layout::statement::execute;
 use sqlite::types::ValueRef;
 use sqlite::{Alter, Transaction};
 
@@ -44,10 +44,7 @@ fn insert_row<S: Alter>(
         → IsTrue old.in_transaction → OnOk result (Gains table row old.now new.now) }
     ensures cause { IfErr result (λ e. (e ≡ TableFault.Memory) ⊎ (e ≡ TableFault.Store)) }
 {
-    match tx.execute(sql, params) {
-        Ok(_) => Ok(()),
-        Err(error) => Err(fault_of(error)),
-    }
+    execute(tx, sql, params)
 }
 
 /// Adds a row, whose values are these in the order of the columns.

@@ -5,12 +5,15 @@ ghost use Rattle.sqlite.specs.State.{HasCleanDisk, ExecutesInside};
 ghost use Rattle.sqlite.specs.Values.{bound};
 ghost use Rattle.mx_layout.specs.Crash.{StaysIn};
 
-use crate::prelude::*;
-use mx_layout::fault::fault_of;
+use crate::fault::{TableFault, fault_of};
 use sqlite::types::ValueRef;
+use sqlite::{Alter, Transaction};
 
-/// Runs a statement. `Memory` for want of memory, and `Store` for another error of the store.
-pub(crate) fn execute<S: Alter>(
+/// Runs a statement in the open transaction.
+///
+/// # Errors
+/// `Memory` for want of memory, and `Store` for another error of the store.
+pub fn execute<S: Alter>(
     tx: &mut Transaction<'_, S>,
     sql: &str,
     values: &[ValueRef<'_>],

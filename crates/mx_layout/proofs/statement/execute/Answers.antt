@@ -1,6 +1,6 @@
 use Rattle.std.proofs.Common.{rules, Ok}
 use Rattle.mx_layout.proofs.InsideLemmas.{stays_inside, keeps_commit}
-use Rattle.mx_moves.proofs.statement.execute.Goals as goal
+use Rattle.mx_layout.proofs.statement.execute.Goals as goal
 
 pub returns-in-Ok-clause-stays : goal.returns-in-Ok-clause-stays
 returns-in-Ok-clause-stays g c = record {
