@@ -1,5 +1,5 @@
 -- Looks at tables that are about to be dropped, and the statements that write behind them.
-use Rattle.std.proofs.Common.{◌≡◌, ◌⊎◌, inl, inr, ℕ, suc, List, [], ◌∷◌, map, take, Some, Ok, Err, Result, refl, sym, ap, subst, ◌∙◌, arith}
+use Rattle.std.proofs.Common.{◌≡◌, inr, ℕ, suc, List, [], ◌∷◌, map, take, Some, Ok, Err, Result, refl, sym, ap, subst, ◌∙◌, arith}
 use Rattle.std.specs.Prelude.{◌≢◌, Contains, IsErrAnd}
 use Rattle.std.specs.List.Sorted.{IsPermutation}
 use Rattle.std.proofs.lemmas.List.Sorted.{Contains-permutation, IsPermutation-sym}
@@ -13,7 +13,7 @@ use Rattle.mx_base.specs.declared.point.Point.{Point}
 use Rattle.mx_registers.proofs.PointsProofs.OneBook.{all_there}
 use Rattle.mx_layout.specs.TableName.{TableName}
 use Rattle.mx_layout.specs.declared.fault.TableFault.{TableFault}
-use Rattle.mx_layout.specs.declared.fault.TableFault.TheVariants.{Memory, Store, NotOurs, Exists, Damaged}
+use Rattle.mx_layout.specs.declared.fault.TableFault.TheVariants.{Damaged}
 use Rattle.mx_layout.specs.Contents.{rows_in}
 use Rattle.mx_layout.specs.Names.{table_named}
 use Rattle.mx_layout.proofs.CrashLemmas.{stays_then, within_then}
@@ -22,16 +22,14 @@ use Rattle.mx_layout.specs.kept.Family.{IsReadableAs}
 use Rattle.mx_table_rows.specs.chosen.Calls.{ReadsFirst}
 use Rattle.mx_table_rows.specs.chosen.Choices.{is_any}
 use Rattle.mx_book_tables.specs.stands.Schemas.{schema_at}
-use Rattle.mx_book_tables.specs.stands.Stands.{LiesAt}
-use Rattle.mx_tables.specs.Calls.{OnRead, ReadsRows}
-use Rattle.mx_tables.proofs.InsertsProofs.SetLemmas.{on_weaker}
-use Rattle.mx_moves.specs.Changes.{Alters, AllRise, Reaches}
+use Rattle.mx_tables.specs.Calls.{ReadsRows}
+use Rattle.mx_tables.proofs.InsertsProofs.SetLemmas.{on_read_weaker, on_weaker}
+use Rattle.mx_moves.specs.Changes.{Alters}
 use Rattle.mx_moves.specs.steps.Rows.{MakesRows}
 use Rattle.mx_moves.proofs.StepsProofs.PageLemmas.{among, page_damaged, permutation_none}
-use Rattle.mx_moves.proofs.StepsProofs.StandsLemmas.{all_rise, reaches_rows}
 use Rattle.mx_migrate.specs.Seeing.{SeesNone}
 use Rattle.mx_migrate.specs.Steps.{Runs}
-use Rattle.mx_migrate.proofs.RunLemmas.{store_stops}
+use Rattle.mx_migrate.proofs.RunLemmas.{Reaching, read_stops, writes_behind}
 
 has_none : {row : Row} → Contains [] row → ⊥
 has_none h = absurd (omega (arith, h.1))
@@ -129,14 +127,6 @@ module _ {X V W : Type 0} (k : Kept X) (most : ℕ) (items : V → List X) (old 
 
 -- ── one look behind another ──
 
-on_read : {T P Q : Type 0} (r : Result T TableFault) → (P → Q) → OnRead r P → OnRead r Q
-on_read (Ok v) f h = f h
-on_read (Err Memory) f h = tt
-on_read (Err Store) f h = tt
-on_read (Err NotOurs) f h = tt
-on_read (Err Exists) f h = tt
-on_read (Err (Damaged name)) f h = f h
-
 -- the first saw no row, and changed nothing: the second sees what was there before both
 pub sees_then : {X Y V W : Type 0} (k : Kept X) (m : Kept Y) → ((schema : Schema) → m.IsIn schema → k.IsIn schema) → (old mid new : State) (v : V) (r : Result W TableFault) → SeesNone k old mid (Ok v) → SeesNone m mid new r → SeesNone m old new r
 sees_then k m both old mid new v r a b =
@@ -147,8 +137,8 @@ sees_then k m both old mid new v r a b =
       empty = λ clean has. on_weaker r (λ none. subst (λ (d : Database). rows_in (table_named m.name) d.trees ≡ []) (was clean has).0.now_is none) (b.empty clean (still clean has));
       cause = b.cause;
       damaged = λ clean has is. subst (λ (d : Database). rows_in (table_named m.name) d.trees ≢ []) (was clean has).0.now_is (b.damaged clean (still clean has) is);
-      unchanged = λ clean has. on_read r (unchanged_then old mid new (was clean has)) (b.unchanged clean (still clean has));
-      inside = λ clean begun. (let stays = a.inside (early clean) begun in on_read r (stays_then old mid new stays) (b.inside clean stays.mode));
+      unchanged = λ clean has. on_read_weaker r (unchanged_then old mid new (was clean has)) (b.unchanged clean (still clean has));
+      inside = λ clean begun. (let stays = a.inside (early clean) begun in on_read_weaker r (stays_then old mid new stays) (b.inside clean stays.mode));
       within = within_then old mid new a.within (λ clean begun. (a.inside clean begun).mode) b.within;
     }
 
@@ -161,43 +151,12 @@ module _ {X : Type 0} (k : Kept X) (IsAt : Point → Type 0) (Makes : Point → 
 
   -- a row is left, or the table was not read
   pub look_stops : {V : Type 0} (new : State) (e : TableFault) → ((at : Point) → rows_in (table_named k.name) old.now.trees ≢ [] → IsOff at k.name old.now.trees) → SeesNone {V = V} k old new (Err e) → Runs IsAt Makes IsOff old new (Err e)
-  look_stops new e off r = record {
-    made = λ _ _ _ _ _ _. tt;
-    cause = elim r.cause [ inl memory ↦ inl memory | inr other ↦ elim other [ inl store ↦ inr (inl store) | inr damaged ↦ inr (inr (k.name, damaged)) ] ];
-    damaged = λ clean at is has name same. by r.cause clean at is has name same;
-    inside = r.inside;
-    within = r.within;
-  }
-    where
-      by : (e ≡ Memory) ⊎ ((e ≡ Store) ⊎ (e ≡ Damaged k.name)) → HasCleanDisk new → (at : Point) → IsAt at → old.now.schema ≡ schema_at at → (name : TableName) → ◌≡◌ {A = Result Point TableFault} (Err e) (Err (Damaged name)) → IsOff at name old.now.trees
-      by (inl memory) clean at is has name same = absurd cc
-      by (inr (inl store)) clean at is has name same = absurd cc
-      by (inr (inr damaged)) clean at is has name same =
-          let named : k.name ≡ name = cc in
-          subst (λ n. IsOff at n old.now.trees) named (off at (r.damaged clean (own at is has) (ap Err damaged)))
+  look_stops new e off r = read_stops IsAt Makes IsOff k.name old new e r.cause (λ clean at is has damaged. off at (r.damaged clean (own at is has) (ap Err damaged))) r.inside r.within
 
   module _ {V : Type 0} (mid new : State) (v : V) (r : SeesNone k old mid (Ok v)) (to : Point) (onto : TableName → List Row → List Row) where
     -- no row is left, and what the statements behind the look make of any rows is what the step makes of them
-    pub looked_writes : {U : Type 0} (u : U) → (HasCleanDisk mid → k.IsIn old.now.schema → (at : Point) → rows_in (table_named k.name) old.now.trees ≡ [] → MakesRows onto to old.now.trees new.now.trees → Makes at to old.now.trees new.now.trees)
-        → Alters (schema_at here) (schema_at to) onto mid new (Ok u) → Runs IsAt Makes IsOff old new (Ok to)
-    looked_writes u makes w =
-        let early : HasCleanDisk new → HasCleanDisk mid = λ clean. omega (arith, w.within.survives.clean) in
-        record {
-          made = λ clean entered at is has lies.
-              let there = own at is has in
-              let has_now : old.now.schema ≡ schema_at here = has ∙ ap schema_at (at_here at is) in
-              let same : mid.now ≡ old.now = (r.unchanged (early clean) there).0.now_is in
-              let stays = r.inside (early clean) entered.0 in
-              let lies_now = subst (λ q. LiesAt q old.now.trees) (at_here at is) lies in
-              let rise : AllRise (schema_at here) mid.now.trees = subst (λ (d : Database). AllRise (schema_at here) d.trees) (sym same) (all_rise here old.now.trees lies_now) in
-              let reached = w.reaches clean (stays.mode, stays.is_open) (ap (λ (d : Database). d.schema) same ∙ has_now) rise in
-              let it = reaches_rows here to onto old.now new.now has_now lies_now (subst (λ d. Reaches (schema_at to) onto d new.now) same reached) in
-              (it.0, makes (early clean) there at (r.empty (early clean) there) it.1);
-          cause = tt;
-          damaged = λ _ _ _ _ name never. absurd cc;
-          inside = λ clean begun. (let stays = r.inside (early clean) begun in stays_then old mid new stays (w.inside clean (stays.mode, stays.is_open)));
-          within = within_then old mid new r.within (λ clean begun. (r.inside clean begun).mode) w.within;
-        }
-
-    pub looked_fails : {W : Type 0} (result : Result W TableFault) → Alters (schema_at here) (schema_at to) onto mid new result → Runs IsAt Makes IsOff old new (Err Store)
-    looked_fails result w = store_stops IsAt Makes IsOff old new (within_then old mid new r.within (λ clean begun. (r.inside clean begun).mode) w.within)
+    pub looked_writes : {U : Type 0} (ran : Result U TableFault) (result : Result Point TableFault) → Reaching to ran result
+        → (HasCleanDisk mid → k.IsIn old.now.schema → (at : Point) → rows_in (table_named k.name) old.now.trees ≡ [] → MakesRows onto to old.now.trees new.now.trees → Makes at to old.now.trees new.now.trees)
+        → Alters (schema_at here) (schema_at to) onto mid new ran → Runs IsAt Makes IsOff old new result
+    looked_writes ran result answered makes w = writes_behind IsAt Makes IsOff here to at_here onto old mid (λ clean at is has. (r.unchanged clean (own at is has)).0.now_is) r.inside r.within new
+        (λ clean at is has lies made. (let there = own at is has in makes clean there at (r.empty clean there) made)) ran result answered w

@@ -11,7 +11,7 @@ ghost use Rattle.mx_book_tables.specs.stands.Schemas.{schema_at};
 ghost use Rattle.mx_moves.specs.Changes.{Alters};
 ghost use Rattle.mx_moves.specs.steps.Sectors.{is_next_from, sectors_moved};
 
-use crate::step::Migrate;
+use crate::step::{Migrate, reached};
 use mx_base::Point;
 use mx_base::rows::{Sector2Row, SectorRow};
 use mx_layout::{Table, TableFault};
@@ -114,9 +114,6 @@ impl Migrate for MoveSectors {
             step: 1,
             mark: last_seq(self.mark, &rows),
         };
-        match write_moved(tx, &numbered, &to) {
-            Ok(()) => Ok(to),
-            Err(_) => Err(TableFault::Store),
-        }
+        reached(write_moved(tx, &numbered, &to), to)
     }
 }

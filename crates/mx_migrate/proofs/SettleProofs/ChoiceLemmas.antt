@@ -51,10 +51,10 @@ use Rattle.mx_book_tables.proofs.StandsProofs.RowLemmas.{readable_stored}
 use Rattle.mx_tables.specs.Calls.{OnDamaged}
 use Rattle.mx_tables.specs.inserts.Sets.{IsDamaged}
 use Rattle.mx_migrate.specs.declared.components.MoveComponent.{MoveComponent}
-use Rattle.mx_migrate.specs.declared.creating.CreateSectors.{CreateSectors}
+use Rattle.mx_migrate.specs.declared.tables.CreateSectors.{CreateSectors}
 use Rattle.mx_migrate.specs.declared.sectors.MoveSectors.{MoveSectors}
-use Rattle.mx_migrate.specs.declared.spans.ChangeToSpans.{ChangeToSpans}
-use Rattle.mx_migrate.specs.declared.totals.ChangeToTotals.{ChangeToTotals}
+use Rattle.mx_migrate.specs.declared.tables.ChangeToSpans.{ChangeToSpans}
+use Rattle.mx_migrate.specs.declared.tables.ChangeToTotals.{ChangeToTotals}
 use Rattle.mx_moves.specs.steps.Sectors.{MovesSectors, is_next_from}
 use Rattle.mx_moves.proofs.StepsProofs.PageLemmas.{permutation_none}
 use Rattle.mx_verify.specs.declared.derived.kept.KeptRows.{KeptRows}
