@@ -1,5 +1,5 @@
 -- Looks at tables that are about to be dropped, and the statements that write behind them.
-use Rattle.std.proofs.Common.{◌≡◌, inr, ℕ, suc, List, [], ◌∷◌, map, take, Some, Ok, Err, Result, refl, sym, ap, subst, ◌∙◌, arith}
+use Rattle.std.proofs.Common.{◌≡◌, ◌⊎◌, inr, ℕ, suc, List, [], ◌∷◌, map, take, Some, Ok, Err, Result, IsTrue, refl, sym, ap, subst, ◌∙◌, arith}
 use Rattle.std.specs.Prelude.{◌≢◌, Contains, IsErrAnd}
 use Rattle.std.specs.List.Sorted.{IsPermutation}
 use Rattle.std.proofs.lemmas.List.Sorted.{Contains-permutation, IsPermutation-sym}
@@ -7,14 +7,15 @@ use Rattle.sqlite.specs.Order.{Row}
 use Rattle.sqlite.specs.Schema.{Schema}
 use Rattle.sqlite.specs.Tree.{Trees}
 use Rattle.sqlite.specs.Effect.{Database}
-use Rattle.sqlite.specs.State.{State, HasCleanDisk}
+use Rattle.sqlite.specs.State.{State, HasCleanDisk, IsUnchanged}
 use Rattle.sqlite.proofs.Callers.{unchanged_then}
 use Rattle.mx_base.specs.declared.point.Point.{Point}
 use Rattle.mx_registers.proofs.PointsProofs.OneBook.{all_there}
 use Rattle.mx_layout.specs.TableName.{TableName}
 use Rattle.mx_layout.specs.declared.fault.TableFault.{TableFault}
-use Rattle.mx_layout.specs.declared.fault.TableFault.TheVariants.{Damaged}
+use Rattle.mx_layout.specs.declared.fault.TableFault.TheVariants.{Memory, Store, Damaged}
 use Rattle.mx_layout.specs.Contents.{rows_in}
+use Rattle.mx_layout.specs.Crash.{IsWithin, StaysInside}
 use Rattle.mx_layout.specs.Names.{table_named}
 use Rattle.mx_layout.proofs.CrashLemmas.{stays_then, within_then}
 use Rattle.mx_layout.specs.kept.Kept.{Kept}
@@ -22,7 +23,7 @@ use Rattle.mx_layout.specs.kept.Family.{IsReadableAs}
 use Rattle.mx_table_rows.specs.chosen.Calls.{ReadsFirst}
 use Rattle.mx_table_rows.specs.chosen.Choices.{is_any}
 use Rattle.mx_book_tables.specs.stands.Schemas.{schema_at}
-use Rattle.mx_tables.specs.Calls.{ReadsRows}
+use Rattle.mx_tables.specs.Calls.{OnDamaged, ReadsRows}
 use Rattle.mx_tables.proofs.InsertsProofs.SetLemmas.{on_read_weaker, on_weaker}
 use Rattle.mx_moves.specs.Changes.{Alters}
 use Rattle.mx_moves.specs.steps.Rows.{MakesRows}
@@ -37,45 +38,57 @@ has_none h = absurd (omega (arith, h.1))
 first_in : {X : Type 0} (as_cells : X → Row) (x : X) (more : List X) → Contains (map as_cells (x ∷ more)) (as_cells x)
 first_in as_cells x more = (0, omega arith, refl)
 
+-- ── a table was read ──
+
+abbrev stored : {X : Type 0} → Kept X → State → List Row
+stored k old = rows_in (table_named k.name) old.now.trees
+
+module _ {X W : Type 0} (k : Kept X) (old new : State) where
+  -- it was not: where it is damaged there is a row
+  read_not : (e : TableFault) (result : Result W TableFault) → IsErrAnd result (λ f. f ≡ e) → (e ≡ Memory) ⊎ ((e ≡ Store) ⊎ (e ≡ Damaged k.name)) → (HasCleanDisk new → k.IsIn old.now.schema → e ≡ Damaged k.name → (row : Row) × Contains (stored k old) row)
+      → (HasCleanDisk new → k.IsIn old.now.schema → OnDamaged e (IsUnchanged old new)) → (HasCleanDisk new → IsTrue old.in_transaction → OnDamaged e (StaysInside old new)) → IsWithin old new → SeesNone k old new result
+  read_not e (Ok w) is why row unchanged inside within = absurd is
+  read_not e (Err f) is why row unchanged inside within = subst (λ x. SeesNone {V = W} k old new (Err x)) (sym is) (record {
+    empty = λ _ _. tt;
+    cause = why;
+    damaged = λ clean has same none.
+        let damage : e ≡ Damaged k.name = cc in
+        let one = row clean has damage in
+        has_none (subst (λ l. Contains l one.0) none one.1);
+    unchanged = unchanged;
+    inside = inside;
+    within = within;
+  })
+
+  module _ (unchanged : HasCleanDisk new → k.IsIn old.now.schema → IsUnchanged old new) (inside : HasCleanDisk new → IsTrue old.in_transaction → StaysInside old new) (within : IsWithin old new) where
+    -- there is a row
+    read_some : (row : Row) → (HasCleanDisk new → k.IsIn old.now.schema → Contains (stored k old) row) → SeesNone {V = W} k old new (Err (Damaged k.name))
+    read_some row there = record {
+      empty = λ _ _. tt;
+      cause = inr (inr refl);
+      damaged = λ clean has same none. has_none (subst (λ l. Contains l row) none (there clean has));
+      unchanged = unchanged;
+      inside = inside;
+      within = within;
+    }
+
+    -- there is none
+    read_none : (w : W) → (HasCleanDisk new → k.IsIn old.now.schema → stored k old ≡ []) → SeesNone k old new (Ok w)
+    read_none w none = record { empty = none; cause = tt; damaged = λ _ _ never. absurd cc; unchanged = unchanged; inside = inside; within = within }
+
 -- ── a table whose rows are all read ──
 
 module _ {X V W : Type 0} (k : Kept X) (items : V → List X) (old new : State) where
   pub rows_stop : (e : TableFault) (result : Result W TableFault) → IsErrAnd result (λ f. f ≡ e) → ReadsRows k items old new (Err e) → SeesNone k old new result
-  rows_stop e (Ok w) is r = absurd is
-  rows_stop e (Err f) is r = subst (λ x. SeesNone {V = W} k old new (Err x)) (sym is) (record {
-    empty = λ _ _. tt;
-    cause = r.cause;
-    damaged = λ clean has same none.
-        let damage : e ≡ Damaged k.name = cc in
-        let other = r.damaged clean has (ap Err damage) in
-        has_none (subst (λ l. Contains l other.0) none other.1);
-    unchanged = r.unchanged;
-    inside = r.inside;
-    within = r.within;
-  })
+  rows_stop e result is r = read_not k old new e result is r.cause (λ clean has damage. (let other = r.damaged clean has (ap Err damage) in (other.0, other.1))) r.unchanged r.inside r.within
 
   pub rows_left : (v : V) (x : X) (more : List X) → items v ≡ x ∷ more → ReadsRows k items old new (Ok v) → SeesNone {V = W} k old new (Err (Damaged k.name))
-  rows_left v x more some r = record {
-    empty = λ _ _. tt;
-    cause = inr (inr refl);
-    damaged = λ clean has same none.
-        let stored = rows_in (table_named k.name) old.now.trees in
-        let shown = subst (λ l. IsPermutation stored (map k.as_cells l)) some (r.rows clean has).all in
-        has_none (subst (λ l. Contains l (k.as_cells x)) none (Contains-permutation (map k.as_cells (x ∷ more)) stored (k.as_cells x) (IsPermutation-sym _ _ shown) (first_in k.as_cells x more)));
-    unchanged = r.unchanged;
-    inside = r.inside;
-    within = r.within;
-  }
+  rows_left v x more some r = read_some k old new r.unchanged r.inside r.within (k.as_cells x) (λ clean has.
+      let shown = subst (λ l. IsPermutation (stored k old) (map k.as_cells l)) some (r.rows clean has).all in
+      Contains-permutation (map k.as_cells (x ∷ more)) (stored k old) (k.as_cells x) (IsPermutation-sym _ _ shown) (first_in k.as_cells x more))
 
   pub no_rows : (v : V) (w : W) → items v ≡ [] → ReadsRows k items old new (Ok v) → SeesNone k old new (Ok w)
-  no_rows v w none r = record {
-    empty = λ clean has. (let stored = rows_in (table_named k.name) old.now.trees in permutation_none stored (IsPermutation-sym _ _ (subst (λ l. IsPermutation stored (map k.as_cells l)) none (r.rows clean has).all)));
-    cause = tt;
-    damaged = λ _ _ never. absurd cc;
-    unchanged = r.unchanged;
-    inside = r.inside;
-    within = r.within;
-  }
+  no_rows v w none r = read_none k old new r.unchanged r.inside r.within w (λ clean has. permutation_none (stored k old) (IsPermutation-sym _ _ (subst (λ l. IsPermutation (stored k old) (map k.as_cells l)) none (r.rows clean has).all)))
 
 -- ── a table whose first rows are read ──
 
@@ -85,45 +98,19 @@ taken_none most (x ∷ xs) e = absurd cc
 
 module _ {X V W : Type 0} (k : Kept X) (most : ℕ) (items : V → List X) (old new : State) where
   pub sees_stops : (e : TableFault) (result : Result W TableFault) → IsErrAnd result (λ f. f ≡ e) → ReadsFirst k (Some (suc most)) k.order is_any items old new (Err e) → SeesNone k old new result
-  sees_stops e (Ok w) is r = absurd is
-  sees_stops e (Err f) is r = subst (λ x. SeesNone {V = W} k old new (Err x)) (sym is) (record {
-    empty = λ _ _. tt;
-    cause = r.cause;
-    damaged = λ clean has same none.
-        let damage : e ≡ Damaged k.name = cc in
-        let other = page_damaged (suc most) k.order (table_named k.name) old.now.trees (IsReadableAs k) (r.damaged clean has (ap Err damage)) in
-        has_none (subst (λ l. Contains l other.0) none other.1);
-    unchanged = r.unchanged;
-    inside = r.inside;
-    within = r.within;
-  })
+  sees_stops e result is r = read_not k old new e result is r.cause
+      (λ clean has damage. (let other = page_damaged (suc most) k.order (table_named k.name) old.now.trees (IsReadableAs k) (r.damaged clean has (ap Err damage)) in (other.0, other.1))) r.unchanged r.inside r.within
 
   pub sees_some : (v : V) (x : X) (more : List X) → items v ≡ x ∷ more → ReadsFirst k (Some (suc most)) k.order is_any items old new (Ok v) → SeesNone {V = W} k old new (Err (Damaged k.name))
-  sees_some v x more some r = record {
-    empty = λ _ _. tt;
-    cause = inr (inr refl);
-    damaged = λ clean has same none.
-        let there = among (suc most) k.order (table_named k.name) old.now.trees (map k.as_cells (items v)) (r.rows clean has) (k.as_cells x) (subst (λ l. Contains (map k.as_cells l) (k.as_cells x)) (sym some) (first_in k.as_cells x more)) in
-        has_none (subst (λ l. Contains l (k.as_cells x)) none there);
-    unchanged = r.unchanged;
-    inside = r.inside;
-    within = r.within;
-  }
+  sees_some v x more some r = read_some k old new r.unchanged r.inside r.within (k.as_cells x) (λ clean has.
+      among (suc most) k.order (table_named k.name) old.now.trees (map k.as_cells (items v)) (r.rows clean has) (k.as_cells x) (subst (λ l. Contains (map k.as_cells l) (k.as_cells x)) (sym some) (first_in k.as_cells x more)))
 
   pub sees_none : (v : V) (w : W) → items v ≡ [] → ReadsFirst k (Some (suc most)) k.order is_any items old new (Ok v) → SeesNone k old new (Ok w)
-  sees_none v w none r = record {
-    empty = λ clean has.
-        let stored = rows_in (table_named k.name) old.now.trees in
-        let first = r.rows clean has in
-        let those : first.those ≡ [] = taken_none most first.those (sym first.first ∙ ap (map k.as_cells) none) in
-        let same = subst (λ l. IsPermutation stored l) those (subst (λ l. IsPermutation l first.those) (all_there stored) first.are.all) in
-        permutation_none stored (IsPermutation-sym _ _ same);
-    cause = tt;
-    damaged = λ _ _ never. absurd cc;
-    unchanged = r.unchanged;
-    inside = r.inside;
-    within = r.within;
-  }
+  sees_none v w none r = read_none k old new r.unchanged r.inside r.within w (λ clean has.
+      let first = r.rows clean has in
+      let those : first.those ≡ [] = taken_none most first.those (sym first.first ∙ ap (map k.as_cells) none) in
+      let same = subst (λ l. IsPermutation (stored k old) l) those (subst (λ l. IsPermutation l first.those) (all_there (stored k old)) first.are.all) in
+      permutation_none (stored k old) (IsPermutation-sym _ _ same))
 
 -- ── one look behind another ──
 

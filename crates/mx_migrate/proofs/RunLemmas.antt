@@ -173,7 +173,7 @@ module _ {V : Type 0} (mark : ℕ) (items : V → List SectorRow) (old mid : Sta
       → Alters (schema_at (moving 1 0)) (schema_at (moving 1 0)) (sectors_moved (items v) to) mid new ran → Moves mark old new result
   page_moves {U} new to ran result answered next is w = writes_behind _ _ _ (moving 1 mark) to (λ at here. here) (sectors_moved (items v) to) old mid (λ clean at here has. (r.unchanged clean (has_own mark at old here has)).0.now_is) r.inside r.within new
       (λ clean at here has lies made.
-          let first = r.rows clean (has_own mark at old here has) in
-          let gone = ap (λ (q : Point). filter (is_up_to 0 (Int (pos q.mark))) (rows_in sector1 old.now.trees)) is ∙ front_is seq_of kept_sector1.as_cells (λ _. refl) sector1 (λ _. refl) 63 mark old.now.trees (items v) (lies.rises table.Sector1 refl) first in
-          record { rows = items v; first = first; fit = r.fits; next = next; point = is; gone = gone; made = made })
+      let first = r.rows clean (has_own mark at old here has) in
+      let gone = ap (λ (q : Point). filter (is_up_to 0 (Int (pos q.mark))) (rows_in sector1 old.now.trees)) is ∙ front_is seq_of kept_sector1.as_cells (λ _. refl) sector1 (λ _. refl) 63 mark old.now.trees (items v) (lies.rises table.Sector1 refl) first in
+      record { rows = items v; first = first; fit = r.fits; next = next; point = is; gone = gone; made = made })
       ran result answered (subst (λ q. Alters {V = U} (schema_at (moving 1 0)) (schema_at q) (sectors_moved (items v) to) mid new ran) (sym is) w)

@@ -69,10 +69,10 @@ module _ {V : Type 0} (mark component : ℕ) (fittings : V → List FittingRow) 
         let early : HasCleanDisk two → HasCleanDisk one = λ clean. omega (arith, q.within.survives.clean) in
         read_stops _ _ _ table.Removal1 old two e q.cause
         (λ clean at here has damaged.
-            let there = has_both mark at old here has in
-            let now = same_one (early clean) there in
-            let other = q.damaged clean (subst (λ (d : Database). HasFittings d.schema) (sym now) there) (ap Err damaged) in
-            inl (inr refl, chosen_damaged kept_removal1.order removal1 (is_of_component component) old.now.trees (IsReadableAs kept_removal1) (other.0, subst (λ (d : Database). AreFirst None kept_removal1.order removal1 (is_of_component component) d.trees other.0) now other.1, other.2)))
+        let there = has_both mark at old here has in
+        let now = same_one (early clean) there in
+        let other = q.damaged clean (subst (λ (d : Database). HasFittings d.schema) (sym now) there) (ap Err damaged) in
+        inl (inr refl, chosen_damaged kept_removal1.order removal1 (is_of_component component) old.now.trees (IsReadableAs kept_removal1) (other.0, subst (λ (d : Database). AreFirst None kept_removal1.order removal1 (is_of_component component) d.trees other.0) now other.1, other.2)))
         (λ clean begun. (let stays = r.inside (early clean) begun in on_read_weaker {T = W} (Err e) (stays_then old one two stays) (q.inside clean stays.mode))) (within_then old one two r.within begun_one q.within)
 
     module _ (w : W) (q : ReadsRemovals component removals one two (Ok w)) where
@@ -118,11 +118,11 @@ module _ {V : Type 0} (mark component : ℕ) (fittings : V → List FittingRow) 
           → Alters (schema_at (moving 2 0)) (schema_at (moving 2 0)) (component_moved spans to) two new ran → Shifts mark component old new result
       component_moves {U} new to spans ran result answered pairs is a = writes_behind _ _ _ (moving 2 mark) to (λ at here. here) (component_moved spans to) old two
           (λ clean at here has.
-              let there = has_both mark at old here has in
-              let first = same_one (early_two clean) there in
-              (q.unchanged clean (subst (λ (d : Database). HasFittings d.schema) (sym first) there)).0.now_is ∙ first)
+          let there = has_both mark at old here has in
+          let first = same_one (early_two clean) there in
+          (q.unchanged clean (subst (λ (d : Database). HasFittings d.schema) (sym first) there)).0.now_is ∙ first)
           inside_two within_two new
           (λ clean at here has lies made.
-              let there = has_both mark at old here has in
-              record { fittings = fittings v; removals = removals w; spans = spans; fitted = fitted (early_two clean) there; removed = removed clean there; made_of = pairs; point = is; made = made })
+          let there = has_both mark at old here has in
+          record { fittings = fittings v; removals = removals w; spans = spans; fitted = fitted (early_two clean) there; removed = removed clean there; made_of = pairs; point = is; made = made })
           ran result answered (subst (λ p. Alters {V = U} (schema_at (moving 2 0)) (schema_at p) (component_moved spans to) two new ran) (sym is) a)

@@ -16,10 +16,8 @@ use crate::step::{Migrate, reached};
 use mx_base::Point;
 use mx_base::rows::{FittingRow, RemovalRow, SpanRow};
 use mx_layout::{Table, TableFault};
-use mx_moves::components::{
-    delete_fittings, delete_removals, fittings_of, insert_spans, removals_of,
-};
 use mx_moves::point::set_point;
+use mx_moves::rows::{delete_fittings, delete_removals, fittings_of, insert_spans, removals_of};
 use mx_registers::points::LAST_MARK;
 use sqlite::{Alter, Transaction};
 use std::alloc::Global;

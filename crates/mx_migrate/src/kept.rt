@@ -13,8 +13,8 @@ use crate::step::{Migrate, reached};
 use mx_base::Point;
 use mx_base::rows::{BaseRow, TotalRow};
 use mx_layout::TableFault;
-use mx_moves::kept::{insert_bases, insert_total};
 use mx_moves::point::set_point;
+use mx_moves::rows::{insert_bases, insert_total};
 use sqlite::{Alter, Transaction};
 use std::alloc::Global;
 

@@ -16,7 +16,7 @@ use mx_base::Point;
 use mx_base::rows::{Sector2Row, SectorRow};
 use mx_layout::{Table, TableFault};
 use mx_moves::point::set_point;
-use mx_moves::sectors::{delete_sectors, first_sectors, insert_sectors};
+use mx_moves::rows::{delete_sectors, first_sectors, insert_sectors};
 use mx_registers::points::LAST_MARK;
 use sqlite::{Alter, Transaction};
 use std::alloc::Global;

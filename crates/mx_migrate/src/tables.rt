@@ -20,7 +20,7 @@ use mx_base::Point;
 use mx_base::rows::{FittingRow, RemovalRow};
 use mx_layout::{Table, TableFault};
 use mx_moves::point::set_point;
-use mx_moves::sectors::first_sectors;
+use mx_moves::rows::first_sectors;
 use mx_moves::tables::{
     create_base2, create_sector2, create_span2, create_total2, drop_fittings, drop_sector1,
     index_registers, index_span2,

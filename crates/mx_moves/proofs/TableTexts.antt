@@ -1,11 +1,13 @@
 -- What the statements that make tables and indexes find, each in the schema that it is given: computed.
-use Rattle.std.proofs.Common.{refl}
+use Rattle.std.proofs.Common.{ℕ, ◌+◌, Ok, Result, refl}
+use Rattle.sqlite.specs.State.{State}
 use Rattle.sqlite_tied.specs.Compute.{everything}
 use Rattle.mx_layout.specs.Steps.{schema_after}
 use Rattle.mx_layout.specs.declared.fault.Table.TheVariants as table
+use Rattle.mx_layout.specs.declared.fault.TableFault.{TableFault}
 use Rattle.mx_moves.proofs.AlterLemmas.{HasNew}
-use Rattle.mx_moves.specs.Changes.{unchanged}
-use Rattle.mx_moves.proofs.RowLemmas.{Turns, turns_same}
+use Rattle.mx_moves.specs.Changes.{Alters, unchanged}
+use Rattle.mx_moves.proofs.RowLemmas.{Turns, alters_then, turns_same}
 
 -- ── tables that are made ──
 
@@ -41,3 +43,10 @@ lines_turn = turns_same (schema_after 26) (schema_after 28) unchanged refl (λ n
 
 pub extensions_turn : Turns (schema_after 27) (schema_after 28) unchanged
 extensions_turn = turns_same (schema_after 27) (schema_after 28) unchanged refl (λ name xs ys same. same)
+
+-- three indexes, one after another
+pub indexes_then : {T U V : Type 0} (n : ℕ) → Turns (schema_after (n + 1)) (schema_after (n + 3)) unchanged → Turns (schema_after (n + 2)) (schema_after (n + 3)) unchanged → (s0 s1 s2 s3 : State) (t : T) (u : U) (r : Result V TableFault)
+    → Alters {V = T} (schema_after n) (schema_after (n + 1)) unchanged s0 s1 (Ok t) → Alters {V = U} (schema_after (n + 1)) (schema_after (n + 2)) unchanged s1 s2 (Ok u) → Alters (schema_after (n + 2)) (schema_after (n + 3)) unchanged s2 s3 r
+    → Alters (schema_after n) (schema_after (n + 3)) unchanged s0 s3 r
+indexes_then n both last s0 s1 s2 s3 t u r a b c =
+    alters_then (schema_after n) (schema_after (n + 1)) (schema_after (n + 3)) unchanged unchanged both s0 s1 s3 t r a (alters_then (schema_after (n + 1)) (schema_after (n + 2)) (schema_after (n + 3)) unchanged unchanged last s1 s2 s3 u r b c)

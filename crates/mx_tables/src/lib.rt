@@ -1,8 +1,8 @@
-//! The tables as sets of typed rows, which are read and to which rows are added: those of every layout in `permanent`
-//! and `entry`, those of one in `moved`; in `inserts`, what all inserts are. SQL for all rows of a table, and for one
-//! that is added, is in this crate, that for chosen rows in `mx_table_rows::chosen`, and for the rows in whose place
-//! others come in `mx_table_rows::totals`. Above these a table is what `rows` gives for its type, in the order of its
-//! key, and `insert` adds one row to it. Each call is made inside a `Transaction`, which the caller commits or drops.
+//! The tables as sets of typed rows, which are read and to which rows are added: those of every layout in `permanent`,
+//! those of one in `moved`; in `inserts`, what all inserts are. SQL for all rows of a table, and for one that is added,
+//! is in this crate, that for chosen rows in `mx_table_rows::chosen`, and for the rows in whose place others come in
+//! `mx_table_rows::totals`. Above these a table is what `rows` gives for its type, in the order of its key, and `insert`
+//! adds one row to it. Each call is made inside a `Transaction`, which the caller commits or drops.
 //!
 //! # What is promised
 //!
@@ -55,7 +55,6 @@
 #![tactic(auto)]
 
 mod column;
-mod entry;
 pub mod inserts;
 mod moved;
 mod permanent;

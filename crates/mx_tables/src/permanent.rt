@@ -1,7 +1,36 @@
-//! The tables that every layout has, but for that of entries: items and programmes, openings, releases and deferrals.
+//! The tables that every layout has: entries, items and programmes, openings, releases and deferrals.
 
 use crate::prelude::*;
 use mx_base::Tolerance;
+
+// The table `entry`: every entry, its document and its kind.
+impl Stored for EntryRow {
+    ghost use Rattle.mx_layout.{specs.kept.Cells.kept_entry, proofs.KeptProofs.Lawful.entry_lawful};
+
+    ghost kept = { kept_entry };
+
+    ghost lawful = { entry_lawful };
+
+    fn texts() -> Texts {
+        Texts {
+            table: Table::Entry,
+            select: "SELECT seq, doc, kind FROM entry ORDER BY seq",
+            insert: "INSERT INTO entry (seq, doc, kind) VALUES (?1, ?2, ?3)",
+        }
+    }
+
+    fn read(row: &Row) -> Option<EntryRow> {
+        read_columns!(row, 3: EntryRow {
+            seq: number_at(0), doc: graphic_at(1), kind: kind_at(2),
+        })
+    }
+}
+
+impl Insert for EntryRow {
+    fn insert<S: Alter>(&self, tx: &mut Transaction<'_, S>) -> Result<(), TableFault> {
+        insert_columns!(self, tx: self.seq, self.doc.as_str(), number_of_kind(self.kind))
+    }
+}
 
 // The table `aircraft`: every aircraft, and the use that its airframe brought with it.
 impl Stored for AircraftRow {

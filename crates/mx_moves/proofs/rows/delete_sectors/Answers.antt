@@ -5,7 +5,7 @@ use Rattle.mx_layout.specs.kept.Cells.{kept_sector1}
 use Rattle.mx_layout.proofs.KeptProofs.Lawful.{sector1_lawful}
 use Rattle.mx_table_rows.specs.chosen.Choices.{is_up_to}
 use Rattle.mx_moves.proofs.RowLemmas.{deletes_write}
-use Rattle.mx_moves.proofs.sectors.delete_sectors.Goals as goal
+use Rattle.mx_moves.proofs.rows.delete_sectors.Goals as goal
 
 pub returns-clause-writes : goal.returns-clause-writes
 returns-clause-writes g c =

@@ -2,7 +2,7 @@ use Rattle.sqlite.specs.Held.{state}
 use Rattle.mx_layout.specs.kept.Cells.{kept_base2}
 use Rattle.mx_layout.specs.kept.Family.{on_top}
 use Rattle.mx_moves.proofs.RowLemmas.{tables_write}
-use Rattle.mx_moves.proofs.kept.insert_bases.Goals as goal
+use Rattle.mx_moves.proofs.rows.insert_bases.Goals as goal
 
 pub returns-clause-writes : goal.returns-clause-writes
 returns-clause-writes g c =

@@ -2,7 +2,7 @@ use Rattle.sqlite.specs.Held.{state}
 use Rattle.mx_layout.specs.kept.Cells.{kept_sector2_rows}
 use Rattle.mx_layout.specs.kept.Family.{on_top}
 use Rattle.mx_moves.proofs.RowLemmas.{tables_write}
-use Rattle.mx_moves.proofs.sectors.insert_sectors.Goals as goal
+use Rattle.mx_moves.proofs.rows.insert_sectors.Goals as goal
 
 pub returns-clause-writes : goal.returns-clause-writes
 returns-clause-writes g c =

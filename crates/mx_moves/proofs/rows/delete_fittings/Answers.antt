@@ -5,7 +5,7 @@ use Rattle.mx_layout.specs.kept.Cells.{kept_fit1}
 use Rattle.mx_layout.proofs.KeptProofs.Lawful.{fit1_lawful}
 use Rattle.mx_table_rows.specs.chosen.Choices.{has_value}
 use Rattle.mx_moves.proofs.RowLemmas.{deletes_write}
-use Rattle.mx_moves.proofs.components.delete_fittings.Goals as goal
+use Rattle.mx_moves.proofs.rows.delete_fittings.Goals as goal
 
 pub returns-clause-writes : goal.returns-clause-writes
 returns-clause-writes g c =

@@ -1,7 +1,7 @@
 use Rattle.sqlite.specs.Held.{state}
 use Rattle.mx_layout.specs.kept.Cells.{kept_total2}
 use Rattle.mx_moves.proofs.RowLemmas.{inserts_write}
-use Rattle.mx_moves.proofs.kept.insert_total.Goals as goal
+use Rattle.mx_moves.proofs.rows.insert_total.Goals as goal
 
 pub returns-clause-writes : goal.returns-clause-writes
 returns-clause-writes g c =
