@@ -53,7 +53,7 @@ uncounted_same task plain db next h =
     same_value none
 
 -- what a drop leaves
-record Left (schema : Schema) (tree : ℕ) (old : Trees) (new : Database) : Type 0 where
+pub record Left (schema : Schema) (tree : ℕ) (old : Trees) (new : Database) : Type 0 where
   pub schema_is : new.schema ≡ without_table schema tree
   pub others : KeepsRows (without_table schema tree).tables old new.trees
 
@@ -80,25 +80,22 @@ pub none_refer : (tables : List Table) → flat_map (λ (t : Table). t.reference
 none_refer [] h = tt
 none_refer (t ∷ tables) h = let parts = empty_parts t.references (flat_map (λ (s : Table). s.references) tables) h in (parts.0, none_refer tables parts.1)
 
-module _ (schema : Schema) (text : List ℕ) (table : Table) (m : MeansRemoved schema text table) (old new : State) (blank : IsBlank schema old.now) (free : HasNoReferences schema) where
-  abbrev next : Schema
-  next = without_table schema table.tree
-
-  removed_blank : (count : ℕ) → Executes text [] old new (Ok count) → IsBlank next new.now
-  removed_blank count h =
-      let has = blank.schema_is in
+module _ (schema : Schema) (text : List ℕ) (table : Table) (m : MeansRemoved schema text table) (free : HasNoReferences schema) (old new : State) where
+  pub removes : old.now.schema ≡ schema → (count : ℕ) → Executes text [] old new (Ok count) → Left schema table.tree old.now.trees new.now × IsSound new.now.schema new.now.trees
+  removes has count h =
       let w = runs_as text [] old new schema has (DropTable m.at) m.is m.plain count h in
       let does = subst (λ s. Does old.step_limit (mode_of old) [] (record old.now { schema = s }) (statement_of text (understood schema text)) None (DropTable m.at) (Ok (w.tally, new.now))) has w.changed in
       let task = λ (t : Table). (let it : Task = record { limit = old.step_limit; keys = Enforced; schema = schema; table = t; params = [] } in it) in
       let done = subst (λ o. AtPlace (λ t. Drops (task t) (mode_of old) old.now.trees) o (Ok (w.tally, new.now))) m.there does in
-      let left = on_drop (task table) free m.uncounted (mode_of old) old.now.trees w.tally new.now done in
-      record {
-        schema_is = left.schema_is;
-        empty = kept_empty old.now.trees new.now.trees next.tables left.others (all-filter (λ t. old.now.trees t.tree ≡ []) (λ t. not (t.tree == table.tree)) schema.tables blank.empty);
-        uncounted = all-filter (λ t. t.is_counted ≡ false) (λ t. not (t.tree == table.tree)) schema.tables blank.uncounted;
-        sound = subst (λ s. IsSound s new.now.trees) left.schema_is w.sound;
-      }
+      (on_drop (task table) free m.uncounted (mode_of old) old.now.trees w.tally new.now done, w.sound)
 
-  pub removes_blank : (r : Result ℕ Error) → ExecutesInside 0 text [] old new r → OnOk r (IsBlank next new.now)
-  removes_blank (Ok count) h = removed_blank count h.0
-  removes_blank (Err e) h = tt
+  pub removes_blank : IsBlank schema old.now → (r : Result ℕ Error) → ExecutesInside 0 text [] old new r → OnOk r (IsBlank (without_table schema table.tree) new.now)
+  removes_blank blank (Ok count) h =
+      let left = removes blank.schema_is count h.0 in
+      record {
+        schema_is = left.0.schema_is;
+        empty = kept_empty old.now.trees new.now.trees (without_table schema table.tree).tables left.0.others (all-filter (λ t. old.now.trees t.tree ≡ []) (λ t. not (t.tree == table.tree)) schema.tables blank.empty);
+        uncounted = all-filter (λ t. t.is_counted ≡ false) (λ t. not (t.tree == table.tree)) schema.tables blank.uncounted;
+        sound = subst (λ s. IsSound s new.now.trees) left.0.schema_is left.1;
+      }
+  removes_blank blank (Err e) h = tt

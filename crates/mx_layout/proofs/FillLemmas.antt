@@ -1,5 +1,5 @@
 -- The row of the point, and what the tables of a new book are.
-use Rattle.std.proofs.Common.{◌≡◌, ◌≢◌, inl, inr, ℕ, zero, suc, pos, List, [], ◌∷◌, map, Result, OnOk, refl, sym, ap, subst, ◌∙◌, arith}
+use Rattle.std.proofs.Common.{◌≡◌, ◌≢◌, ◌⊎◌, inl, inr, false, true, ℕ, zero, suc, pos, List, [], ◌∷◌, map, Result, OnOk, refl, sym, ap, subst, ◌∙◌, arith}
 use Rattle.std.specs.Prelude.{Contains, IsTrue}
 use Rattle.std.specs.List.{AllByRecursion}
 use Rattle.std.specs.List.Sorted.{IsPermutation}
@@ -16,12 +16,15 @@ use Rattle.sqlite.specs.Tree.{Trees, rowid, IsTable}
 use Rattle.sqlite.specs.Effect.{Database}
 use Rattle.sqlite.specs.Listing.{understood}
 use Rattle.sqlite.specs.declared.error.Error.{Error}
-use Rattle.sqlite.specs.State.{State, ExecutesInside}
+use Rattle.sqlite.specs.Store.{Ghosts}
+use Rattle.sqlite.specs.Held.{Held, state}
+use Rattle.sqlite.specs.State.{State, ExecutesInside, HasCleanDisk, Shows, Survives}
 use Rattle.sqlite.proofs.Callers.{IsPlain, command_of, one_permutation}
 use Rattle.sqlite_tied.specs.Compute.{everything}
 use Rattle.sqlite_catalog.specs.Listing.{IsSound}
 use Rattle.mx_base.specs.declared.point.Point.{Point}
 use Rattle.mx_layout.specs.Contents.{cells, rows_in, Adds, Rises}
+use Rattle.mx_layout.specs.Crash.{Leaves, RestsAs, StaysInside, IsWithin}
 use Rattle.mx_layout.specs.Making.{IsBlank, IsEmptyAt, IsEmptyIn}
 use Rattle.mx_base.specs.Settled.{settled}
 use Rattle.mx_layout.specs.Names.{table_named}
@@ -31,6 +34,7 @@ use Rattle.mx_layout.specs.TableName.{TableName}
 use Rattle.mx_layout.specs.declared.fault.Table.TheVariants as table
 use Rattle.mx_layout.specs.Tables.{no_schema, layout_1, layout_2, office}
 use Rattle.mx_layout.specs.Writing.{Gains}
+use Rattle.mx_layout.proofs.CrashLemmas.{IsSettled, commits_either, commits_ok}
 use Rattle.mx_layout.proofs.InsideLemmas.{gains}
 use Rattle.mx_layout.proofs.RowLemmas.{cast_int, cast_null}
 use Rattle.mx_layout.proofs.TreeLemmas.{same_tree}
@@ -120,6 +124,22 @@ empty_at schema there p old new blank gained =
         rises = all_rise schema old new blank (adds.rises (record { up = before.0; numbers = before.1 })) adds.others;
       },
     )
+
+-- ── a database with no table that was filled in a transaction, which was committed ──
+
+module _ {S : Type 0} (g : Ghosts S) (to : Schema) (Q : Trees → Type 0) (old tx last : Held S) (begun : tx ≡ record old { in_transaction = true }) (bare : RestsAs (state g old) no_schema (IsSound no_schema)) (run : IsWithin (state g tx) (state g last))
+    (inside : HasCleanDisk (state g last) → IsTrue (state g tx).in_transaction → StaysInside (state g tx) (state g last))
+    (fills : HasCleanDisk (state g last) → IsTrue (state g tx).in_transaction → IsBlank no_schema (state g tx).now → ((state g last).now.schema ≡ to) × Q (state g last).now.trees)
+    (end final : Held S) (same : end ≡ final) (commit : Survives (state g last) (state g end) (λ db. db ≡ (state g last).now.trees)) where
+  -- whatever the commit answers
+  pub filled_either : Leaves (state g final) (λ db. IsSound no_schema db ⊎ Q db)
+  filled_either = subst (λ h. Leaves (state g h) (λ db. IsSound no_schema db ⊎ Q db)) same
+      (commits_either g no_schema to (IsSound no_schema) Q old tx last begun bare run inside (λ clean within has sound. fills clean within (bare_blank (state g tx).now has sound)) end commit)
+
+  -- where it answers Ok
+  pub filled_ok : IsSettled g → (HasCleanDisk (state g end) → Shows (state g last) (state g end) (state g last).now (state g last).now false) → RestsAs (state g final) to Q
+  filled_ok settled shown = subst (λ h. RestsAs (state g h) to Q) same
+      (commits_ok g no_schema to (IsSound no_schema) Q old tx last begun bare run inside (λ clean within has sound. fills clean within (bare_blank (state g tx).now has sound)) end commit settled shown)
 
 -- each layout has the table of the point
 has_office : (layout : ℕ) → IsLayout layout → Contains (schema_of layout).tables office

@@ -1,5 +1,5 @@
 -- What SELECT .. FROM table ORDER BY its first column, or its first two, answers, whatever the schema is.
-use Rattle.std.proofs.Common.{◌≡◌, inl, inr, ℕ, ◌+◌, ◌<◌, pos, negsuc, List, [], ◌∷◌, map, length, slice_index_or, false, None, Ok, Err, Result, OnOk, OnErr, refl, sym, ap, ap₂, subst, ◌∙◌, All, arith}
+use Rattle.std.proofs.Common.{◌≡◌, inl, inr, ℕ, ◌+◌, ◌<◌, List, [], ◌∷◌, map, length, slice_index_or, false, Ok, Err, Result, OnOk, refl, sym, ap, ap₂, subst, ◌∙◌, All, arith}
 use Rattle.std.specs.declared.cmp.Ordering.{Ordering}
 use Rattle.std.specs.declared.cmp.Ordering.TheVariants.{Less, Equal, Greater}
 use Rattle.std.specs.Ordering.{is_lt, ordering_then}
@@ -9,11 +9,11 @@ use Rattle.std.proofs.lemmas.List.Concat.{flat_map_single}
 use Rattle.std.proofs.lemmas.List.{get_or-map, length-map}
 use Rattle.std.proofs.lemmas.Simd.{map-map}
 use Rattle.std.proofs.lemmas.List.Elements.{All-map}
-use Rattle.sqlite.specs.declared.types.Value.TheVariants.{Null, Int}
+use Rattle.sqlite.specs.declared.types.Value.TheVariants.{Null}
 use Rattle.sqlite.specs.Order.{Row, column, value_cmp}
 use Rattle.sqlite.specs.Collation.TheVariants.{Binary}
-use Rattle.sqlite.specs.Term.{Term, lit, col, eval_all}
-use Rattle.sqlite.specs.Query.{Query, inner, end, IsAnswer, output, output_cmp, Output}
+use Rattle.sqlite.specs.Term.{Term, col, eval_all}
+use Rattle.sqlite.specs.Query.{Query, IsAnswer, output, output_cmp, Output}
 use Rattle.sqlite.specs.Tree.{Trees}
 use Rattle.sqlite.specs.Table.{Table}
 use Rattle.sqlite_value.specs.Keys.{ascending}
@@ -22,9 +22,8 @@ use Rattle.mx_layout.specs.Contents.{cells, rows_in}
 use Rattle.mx_layout.specs.Reading.{AreAllBy, by_first, by_two, HasOther}
 use Rattle.sqlite.specs.Listing.{understood}
 use Rattle.sqlite.specs.Clock.{timed}
-use Rattle.sqlite.specs.declared.error.Error.{Error}
-use Rattle.sqlite.specs.State.{State, Shown, ShowsRows, IsUnchanged, FailsToQuery, FailsToShow, IsNotRun, Survives, CommitsShowing}
-use Rattle.sqlite.proofs.Callers.{IsPlain, never_commits, command_of, reads_as}
+use Rattle.sqlite.specs.State.{State, Shown, ShowsRows, IsUnchanged, FailsToQuery, FailsToShow, IsNotRun}
+use Rattle.sqlite.proofs.Callers.{IsPlain, command_of, reads_as}
 use Rattle.sqlite.specs.Program.{overlay}
 use Rattle.sqlite.specs.Schema.{Schema}
 use Rattle.sqlite.specs.Listing.{reads_listing}
@@ -36,9 +35,7 @@ use Rattle.sqlite_resolve.specs.declared.error.CompileError.{CompileError}
 use Rattle.sqlite_trees.specs.declared.error.StoreError.{StoreError}
 use Rattle.sqlite_trees.specs.declared.error.StoreError.TheVariants as failure
 use Rattle.sqlite.specs.State.{store_error}
-use Rattle.sqlite.proofs.StateLemmas.{survives_weaker}
 use Rattle.mx_layout.specs.Plans.{scan_by, Sorts}
-use Rattle.mx_layout.specs.Writing.{Stops}
 
 -- the key of a table whose first column is the rowid
 abbrev pub first_key : List (Term × Key)
@@ -63,6 +60,16 @@ sorts_by_first project first x y = ap is_lt (or_equal _ ∙ ap₂ value_cmp (fir
 pub sorts_by_two : (project : List Term) → ((r : Row) → column r 1 ≡ column (eval_all project ([] ∷ r ∷ [])) 0) → ((r : Row) → column r 2 ≡ column (eval_all project ([] ∷ r ∷ [])) 1) → Sorts two_keys project by_two
 sorts_by_two project first second x y = ap is_lt (ap₂ ordering_then (ap₂ value_cmp (first x) (first y)) (or_equal _ ∙ ap₂ value_cmp (second x) (second y)))
 
+-- outputs that are sorted give rows that are, where what sorts them sorts the rows
+pub rows_sorted : (order : Row → Row → Ordering) (q : Query) (IsOut : Output → Type 0) → ((x y : Output) → IsOut x → IsOut y → is_lt (output_cmp q x y) ≡ false → is_lt (order x.1 y.1) ≡ false)
+    → (outs : List Output) → All IsOut outs → IsSorted (output_cmp q) outs → IsSorted order (map (λ (o : Output). o.1) outs)
+rows_sorted order q IsOut step outs are sorted k d low high =
+    let e : Output = ([], []) in
+    let within : k + 1 < length outs = omega (arith, high, length-map outs (λ (o : Output). o.1)) in
+    let one = get_or-map (λ (o : Output). o.1) outs k e d (omega arith) in
+    let two = get_or-map (λ (o : Output). o.1) outs (k + 1) e d within in
+    rw (one, two) (step (slice_index_or outs (k + 1) e) (slice_index_or outs k e) (are (k + 1) e within) (are k e (omega arith)) (sorted k e low within))
+
 module _ (keys : List (Term × Key)) (order : Row → Row → Ordering) (table : Table) (project : List Term)
     (shows : (λ (r : Row). eval_all project ([] ∷ r ∷ [])) ≡ cells table) (sorts : Sorts keys project order) where
   abbrev q : Query
@@ -85,12 +92,7 @@ module _ (keys : List (Term × Key)) (order : Row → Row → Ordering) (table :
       ap (map (λ (o : Output). o.1)) kept ∙ map-map (λ (o : Output). o.1) out (db table.tree) ∙ ap (λ (f : Row → Row). map f (db table.tree)) shows in
       let outs : All IsOut a.ordered = All-permutation IsOut a.kept a.ordered a.same (subst (All IsOut) (sym kept) (All-map IsOut out (db table.tree) (λ i d low. (_, refl)))) in
       let xs = map (λ (o : Output). o.1) a.ordered in
-      let sorted : IsSorted order xs = (λ k d low high.
-      let e : Output = ([], []) in
-      let within : k + 1 < length a.ordered = omega (arith, high, length-map a.ordered (λ (o : Output). o.1)) in
-      let one = get_or-map (λ (o : Output). o.1) a.ordered k e d (omega arith) in
-      let two = get_or-map (λ (o : Output). o.1) a.ordered (k + 1) e d within in
-      rw (one, two) (step (slice_index_or a.ordered (k + 1) e) (slice_index_or a.ordered k e) (outs (k + 1) e within) (outs k e (omega arith)) (a.sorted k e low within))) in
+      let sorted = rows_sorted order q IsOut step a.ordered outs a.sorted in
       let all : IsPermutation (rows_in table db) xs = subst (λ ys. IsPermutation ys xs) seen (IsPermutation-map (λ (o : Output). o.1) a.kept a.ordered a.same) in
       let given : xs ≡ rows = sym a.shown in
       subst (AreAllBy order table db) given (record { all = all; sorted = sorted })

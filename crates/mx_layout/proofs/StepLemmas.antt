@@ -1,5 +1,5 @@
 -- What each statement of the layouts makes of tables without a row, one after another.
-use Rattle.std.proofs.Common.{◌≡◌, ◌⊎◌, inl, inr, ℕ, zero, suc, ◌+◌, List, [], ◌∷◌, take, slice_get, false, Some, Result, OnOk, refl, sym, ap, subst, ◌∙◌, arith}
+use Rattle.std.proofs.Common.{◌≡◌, ◌⊎◌, inl, inr, ℕ, zero, suc, ◌+◌, List, [], ◌∷◌, slice_get, Some, Result, OnOk, refl, sym, subst, arith}
 use Rattle.std.specs.Prelude.{⊤}
 use Rattle.sqlite.specs.Table.{Table}
 use Rattle.sqlite.specs.Schema.{Schema}
@@ -46,149 +46,154 @@ meet = record { first = refl; second = refl }
 -- ── each statement ──
 
 -- the text at a place makes a table, and the schema of the next place with it
-pub record Making (n : ℕ) (text : List ℕ) : Type 0 where
-  pub table : Table
+pub record Making (n : ℕ) (text : List ℕ) (table : Table) : Type 0 where
   pub defines : Defines (schema_at n) text table
   pub next : created (schema_at n) table ≡ schema_at (n + 1)
 
 -- the text at a place drops a table, and leaves the schema of the next place
-pub record Dropping (n : ℕ) (text : List ℕ) : Type 0 where
-  pub table : Table
+pub record Dropping (n : ℕ) (text : List ℕ) (table : Table) : Type 0 where
   pub means : MeansRemoved (schema_at n) text table
   pub free : HasNoReferences (schema_at n)
   pub next : without_table (schema_at n) table.tree ≡ schema_at (n + 1)
 
 -- the text at a place makes an index of a table, and the schema of the next place with it
-pub record Indexing (n : ℕ) (text : List ℕ) : Type 0 where
-  pub table : Table
-  pub index : Index
+pub record Indexing (n : ℕ) (text : List ℕ) (table : Table) (index : Index) : Type 0 where
   pub means : MeansIndexed (schema_at n) text table index
   pub next : with_index (schema_at n) index ≡ schema_at (n + 1)
 
 -- the text at a place leads to the schema of the next place
-abbrev pub Advances : ℕ → List ℕ → Type 0
-Advances n text = Making n text ⊎ (Dropping n text ⊎ Indexing n text)
+abbrev Advances : ℕ → List ℕ → Type 0
+Advances n text = ((table : Table) × Making n text table) ⊎ (((table : Table) × Dropping n text table) ⊎ ((table : Table) × (index : Index) × Indexing n text table index))
 
-office_made : Making 0 office_text
+office_made : Making 0 office_text office
 unfolding schema_at understood everything
-office_made = record { table = office; defines = record { command = refl; whole = refl; plain = (refl, refl); defined = refl; uncounted = refl }; next = refl }
+office_made = record { defines = record { command = refl; whole = refl; plain = (refl, refl); defined = refl; uncounted = refl }; next = refl }
 
-entry_made : Making 1 entry_text
+entry_made : Making 1 entry_text entry
 unfolding schema_at understood everything
-entry_made = record { table = entry; defines = record { command = refl; whole = refl; plain = (refl, refl); defined = refl; uncounted = refl }; next = refl }
+entry_made = record { defines = record { command = refl; whole = refl; plain = (refl, refl); defined = refl; uncounted = refl }; next = refl }
 
-aircraft_made : Making 2 aircraft_text
+aircraft_made : Making 2 aircraft_text aircraft
 unfolding schema_at understood everything
-aircraft_made = record { table = aircraft; defines = record { command = refl; whole = refl; plain = (refl, refl); defined = refl; uncounted = refl }; next = refl }
+aircraft_made = record { defines = record { command = refl; whole = refl; plain = (refl, refl); defined = refl; uncounted = refl }; next = refl }
 
-place_made : Making 3 place_text
+place_made : Making 3 place_text place
 unfolding schema_at understood everything
-place_made = record { table = place; defines = record { command = refl; whole = refl; plain = (refl, refl); defined = refl; uncounted = refl }; next = refl }
+place_made = record { defines = record { command = refl; whole = refl; plain = (refl, refl); defined = refl; uncounted = refl }; next = refl }
 
-component_made : Making 4 component_text
+component_made : Making 4 component_text component
 unfolding schema_at understood everything
-component_made = record { table = component; defines = record { command = refl; whole = refl; plain = (refl, refl); defined = refl; uncounted = refl }; next = refl }
+component_made = record { defines = record { command = refl; whole = refl; plain = (refl, refl); defined = refl; uncounted = refl }; next = refl }
 
-programme_made : Making 5 programme_text
+programme_made : Making 5 programme_text programme
 unfolding schema_at understood everything
-programme_made = record { table = programme; defines = record { command = refl; whole = refl; plain = (refl, refl); defined = refl; uncounted = refl }; next = refl }
+programme_made = record { defines = record { command = refl; whole = refl; plain = (refl, refl); defined = refl; uncounted = refl }; next = refl }
 
-task_made : Making 6 task_text
+task_made : Making 6 task_text task
 unfolding schema_at understood everything
-task_made = record { table = task; defines = record { command = refl; whole = refl; plain = (refl, refl); defined = refl; uncounted = refl }; next = refl }
+task_made = record { defines = record { command = refl; whole = refl; plain = (refl, refl); defined = refl; uncounted = refl }; next = refl }
 
-opening_made : Making 7 opening_text
+opening_made : Making 7 opening_text opening
 unfolding schema_at understood everything
-opening_made = record { table = opening; defines = record { command = refl; whole = refl; plain = (refl, refl); defined = refl; uncounted = refl }; next = refl }
+opening_made = record { defines = record { command = refl; whole = refl; plain = (refl, refl); defined = refl; uncounted = refl }; next = refl }
 
-crs_made : Making 8 crs_text
+crs_made : Making 8 crs_text crs
 unfolding schema_at understood everything
-crs_made = record { table = crs; defines = record { command = refl; whole = refl; plain = (refl, refl); defined = refl; uncounted = refl }; next = refl }
+crs_made = record { defines = record { command = refl; whole = refl; plain = (refl, refl); defined = refl; uncounted = refl }; next = refl }
 
-crs_line_made : Making 9 crs_line_text
+crs_line_made : Making 9 crs_line_text crs_line
 unfolding schema_at understood everything
-crs_line_made = record { table = crs_line; defines = record { command = refl; whole = refl; plain = (refl, refl); defined = refl; uncounted = refl }; next = refl }
+crs_line_made = record { defines = record { command = refl; whole = refl; plain = (refl, refl); defined = refl; uncounted = refl }; next = refl }
 
-extension_made : Making 10 extension_text
+extension_made : Making 10 extension_text extension
 unfolding schema_at understood everything
-extension_made = record { table = extension; defines = record { command = refl; whole = refl; plain = (refl, refl); defined = refl; uncounted = refl }; next = refl }
+extension_made = record { defines = record { command = refl; whole = refl; plain = (refl, refl); defined = refl; uncounted = refl }; next = refl }
 
-defect_made : Making 11 defect_text
+defect_made : Making 11 defect_text defect
 unfolding schema_at understood everything
-defect_made = record { table = defect; defines = record { command = refl; whole = refl; plain = (refl, refl); defined = refl; uncounted = refl }; next = refl }
+defect_made = record { defines = record { command = refl; whole = refl; plain = (refl, refl); defined = refl; uncounted = refl }; next = refl }
 
-sector1_made : Making 12 sector1_text
+sector1_made : Making 12 sector1_text sector1
 unfolding schema_at understood everything
-sector1_made = record { table = sector1; defines = record { command = refl; whole = refl; plain = (refl, refl); defined = refl; uncounted = refl }; next = refl }
+sector1_made = record { defines = record { command = refl; whole = refl; plain = (refl, refl); defined = refl; uncounted = refl }; next = refl }
 
-fit1_made : Making 13 fit1_text
+fit1_made : Making 13 fit1_text fit1
 unfolding schema_at understood everything
-fit1_made = record { table = fit1; defines = record { command = refl; whole = refl; plain = (refl, refl); defined = refl; uncounted = refl }; next = refl }
+fit1_made = record { defines = record { command = refl; whole = refl; plain = (refl, refl); defined = refl; uncounted = refl }; next = refl }
 
-removal1_made : Making 14 removal1_text
+removal1_made : Making 14 removal1_text removal1
 unfolding schema_at understood everything
-removal1_made = record { table = removal1; defines = record { command = refl; whole = refl; plain = (refl, refl); defined = refl; uncounted = refl }; next = refl }
+removal1_made = record { defines = record { command = refl; whole = refl; plain = (refl, refl); defined = refl; uncounted = refl }; next = refl }
 
-sector2_made : Making 15 sector2_text
+pub sector2_made : Making 15 sector2_text sector2
 unfolding schema_at understood everything
-sector2_made = record { table = sector2; defines = record { command = refl; whole = refl; plain = (refl, refl); defined = refl; uncounted = refl }; next = refl }
+sector2_made = record { defines = record { command = refl; whole = refl; plain = (refl, refl); defined = refl; uncounted = refl }; next = refl }
 
-sector1_gone : Dropping 16 sector1_dropped
+pub sector1_gone : Dropping 16 sector1_dropped sector1
 unfolding schema_at understood everything
-sector1_gone = record { table = sector1; means = record { at = 12; there = refl; is = refl; plain = (refl, refl); uncounted = refl }; free = none_refer (schema_at 16).tables refl; next = refl }
+sector1_gone = record { means = record { at = 12; there = refl; is = refl; plain = (refl, refl); uncounted = refl }; free = none_refer (schema_at 16).tables refl; next = refl }
 
-span2_made : Making 17 span2_text
+pub span2_made : Making 17 span2_text span2
 unfolding schema_at understood everything
-span2_made = record { table = span2; defines = record { command = refl; whole = refl; plain = (refl, refl); defined = refl; uncounted = refl }; next = refl }
+span2_made = record { defines = record { command = refl; whole = refl; plain = (refl, refl); defined = refl; uncounted = refl }; next = refl }
 
-span2_by_component_made : Indexing 18 span2_by_component_text
+pub span2_by_component_made : Indexing 18 span2_by_component_text span2 span2_by_component
 unfolding schema_at understood everything
-span2_by_component_made = record { table = span2; index = span2_by_component; means = record { at = 15; there = refl; is = refl; whole = refl; plain = (refl, refl); defined = refl; tree = refl }; next = refl }
+span2_by_component_made = record { means = record { at = 15; there = refl; is = refl; whole = refl; plain = (refl, refl); defined = refl; tree = refl }; next = refl }
 
-span2_by_aircraft_made : Indexing 19 span2_by_aircraft_text
+pub span2_by_aircraft_made : Indexing 19 span2_by_aircraft_text span2 span2_by_aircraft
 unfolding schema_at understood everything
-span2_by_aircraft_made = record { table = span2; index = span2_by_aircraft; means = record { at = 15; there = refl; is = refl; whole = refl; plain = (refl, refl); defined = refl; tree = refl }; next = refl }
+span2_by_aircraft_made = record { means = record { at = 15; there = refl; is = refl; whole = refl; plain = (refl, refl); defined = refl; tree = refl }; next = refl }
 
-span2_by_remove_seq_made : Indexing 20 span2_by_remove_seq_text
+pub span2_by_remove_seq_made : Indexing 20 span2_by_remove_seq_text span2 span2_by_remove_seq
 unfolding schema_at understood everything
-span2_by_remove_seq_made = record { table = span2; index = span2_by_remove_seq; means = record { at = 15; there = refl; is = refl; whole = refl; plain = (refl, refl); defined = refl; tree = refl }; next = refl }
+span2_by_remove_seq_made = record { means = record { at = 15; there = refl; is = refl; whole = refl; plain = (refl, refl); defined = refl; tree = refl }; next = refl }
 
-fit1_gone : Dropping 21 fit1_dropped
+pub fit1_gone : Dropping 21 fit1_dropped fit1
 unfolding schema_at understood everything
-fit1_gone = record { table = fit1; means = record { at = 12; there = refl; is = refl; plain = (refl, refl); uncounted = refl }; free = none_refer (schema_at 21).tables refl; next = refl }
+fit1_gone = record { means = record { at = 12; there = refl; is = refl; plain = (refl, refl); uncounted = refl }; free = none_refer (schema_at 21).tables refl; next = refl }
 
-removal1_gone : Dropping 22 removal1_dropped
+pub removal1_gone : Dropping 22 removal1_dropped removal1
 unfolding schema_at understood everything
-removal1_gone = record { table = removal1; means = record { at = 12; there = refl; is = refl; plain = (refl, refl); uncounted = refl }; free = none_refer (schema_at 22).tables refl; next = refl }
+removal1_gone = record { means = record { at = 12; there = refl; is = refl; plain = (refl, refl); uncounted = refl }; free = none_refer (schema_at 22).tables refl; next = refl }
 
-total2_made : Making 23 total2_text
+pub total2_made : Making 23 total2_text total2
 unfolding schema_at understood everything
-total2_made = record { table = total2; defines = record { command = refl; whole = refl; plain = (refl, refl); defined = refl; uncounted = refl }; next = refl }
+total2_made = record { defines = record { command = refl; whole = refl; plain = (refl, refl); defined = refl; uncounted = refl }; next = refl }
 
-base2_made : Making 24 base2_text
+pub base2_made : Making 24 base2_text base2
 unfolding schema_at understood everything
-base2_made = record { table = base2; defines = record { command = refl; whole = refl; plain = (refl, refl); defined = refl; uncounted = refl }; next = refl }
+base2_made = record { defines = record { command = refl; whole = refl; plain = (refl, refl); defined = refl; uncounted = refl }; next = refl }
 
-crs_line_by_defect_made : Indexing 25 crs_line_by_defect_text
+pub crs_line_by_defect_made : Indexing 25 crs_line_by_defect_text crs_line crs_line_by_defect
 unfolding schema_at understood everything
-crs_line_by_defect_made = record { table = crs_line; index = crs_line_by_defect; means = record { at = 9; there = refl; is = refl; whole = refl; plain = (refl, refl); defined = refl; tree = refl }; next = refl }
+crs_line_by_defect_made = record { means = record { at = 9; there = refl; is = refl; whole = refl; plain = (refl, refl); defined = refl; tree = refl }; next = refl }
 
-extension_by_defect_made : Indexing 26 extension_by_defect_text
+pub extension_by_defect_made : Indexing 26 extension_by_defect_text extension extension_by_defect
 unfolding schema_at understood everything
-extension_by_defect_made = record { table = extension; index = extension_by_defect; means = record { at = 10; there = refl; is = refl; whole = refl; plain = (refl, refl); defined = refl; tree = refl }; next = refl }
+extension_by_defect_made = record { means = record { at = 10; there = refl; is = refl; whole = refl; plain = (refl, refl); defined = refl; tree = refl }; next = refl }
 
-defect_by_aircraft_made : Indexing 27 defect_by_aircraft_text
+pub defect_by_aircraft_made : Indexing 27 defect_by_aircraft_text defect defect_by_aircraft
 unfolding schema_at understood everything
-defect_by_aircraft_made = record { table = defect; index = defect_by_aircraft; means = record { at = 11; there = refl; is = refl; whole = refl; plain = (refl, refl); defined = refl; tree = refl }; next = refl }
+defect_by_aircraft_made = record { means = record { at = 11; there = refl; is = refl; whole = refl; plain = (refl, refl); defined = refl; tree = refl }; next = refl }
 
 -- texts, each of which leads on from the place before it
 abbrev AllAdvance : ℕ → List (List ℕ) → Type 0
 AllAdvance n [] = ⊤
 AllAdvance n (text ∷ texts) = Advances n text × AllAdvance (n + 1) texts
 
+makes : {n : ℕ} {text : List ℕ} {table : Table} → Making n text table → Advances n text
+makes it = inl (_, it)
+
+drops : {n : ℕ} {text : List ℕ} {table : Table} → Dropping n text table → Advances n text
+drops it = inr (inl (_, it))
+
+indexes : {n : ℕ} {text : List ℕ} {table : Table} {index : Index} → Indexing n text table index → Advances n text
+indexes it = inr (inr (_, _, it))
+
 all_advance : AllAdvance 0 step_texts
 all_advance =
-    (inl office_made, (inl entry_made, (inl aircraft_made, (inl place_made, (inl component_made, (inl programme_made, (inl task_made, (inl opening_made, (inl crs_made, (inl crs_line_made, (inl extension_made, (inl defect_made, (inl sector1_made, (inl fit1_made, (inl removal1_made, (inl sector2_made, (inr (inl sector1_gone), (inl span2_made, (inr (inr span2_by_component_made), (inr (inr span2_by_aircraft_made), (inr (inr span2_by_remove_seq_made), (inr (inl fit1_gone), (inr (inl removal1_gone), (inl total2_made, (inl base2_made, (inr (inr crs_line_by_defect_made), (inr (inr extension_by_defect_made), (inr (inr defect_by_aircraft_made), tt))))))))))))))))))))))))))))
+    (makes office_made, (makes entry_made, (makes aircraft_made, (makes place_made, (makes component_made, (makes programme_made, (makes task_made, (makes opening_made, (makes crs_made, (makes crs_line_made, (makes extension_made, (makes defect_made, (makes sector1_made, (makes fit1_made, (makes removal1_made, (makes sector2_made, (drops sector1_gone, (makes span2_made, (indexes span2_by_component_made, (indexes span2_by_aircraft_made, (indexes span2_by_remove_seq_made, (drops fit1_gone, (drops removal1_gone, (makes total2_made, (makes base2_made, (indexes crs_line_by_defect_made, (indexes extension_by_defect_made, (indexes defect_by_aircraft_made, tt))))))))))))))))))))))))))))
 
 advance_from : (n k : ℕ) (texts : List (List ℕ)) (text : List ℕ) → AllAdvance n texts → slice_get texts k ≡ Some text → Advances (n + k) text
 advance_from n k [] text all is = absurd cc
@@ -204,7 +209,7 @@ advance_from n (suc k) (first ∷ texts) text all is =
 pub leads : (n : ℕ) (text : List ℕ) → slice_get step_texts n ≡ Some text → (old new : State) → IsBlank (schema_at n) old.now → (r : Result ℕ Error) → ExecutesInside 0 text [] old new r
     → OnOk r (IsBlank (schema_at (n + 1)) new.now)
 leads n text is old new blank r h = let here : 0 + n ≡ n = omega arith in elim (subst (λ m. Advances m text) here (advance_from 0 n step_texts text all_advance is)) [
-  | inl it ↦ subst (λ s. OnOk r (IsBlank s new.now)) it.next (creates_blank (schema_at n) text it.table it.defines old new blank r h)
-  | inr (inl it) ↦ subst (λ s. OnOk r (IsBlank s new.now)) it.next (removes_blank (schema_at n) text it.table it.means old new blank it.free r h)
-  | inr (inr it) ↦ subst (λ s. OnOk r (IsBlank s new.now)) it.next (indexes_blank (schema_at n) text it.table it.index it.means old new blank r h)
+  | inl it ↦ subst (λ s. OnOk r (IsBlank s new.now)) it.1.next (creates_blank (schema_at n) text it.0 it.1.defines old new blank r h)
+  | inr (inl it) ↦ subst (λ s. OnOk r (IsBlank s new.now)) it.1.next (removes_blank (schema_at n) text it.0 it.1.means it.1.free old new blank r h)
+  | inr (inr it) ↦ subst (λ s. OnOk r (IsBlank s new.now)) it.2.next (indexes_blank (schema_at n) text it.0 it.1 it.2.means old new blank r h)
 ]

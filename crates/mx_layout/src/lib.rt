@@ -20,6 +20,8 @@
 //!   the name: `point_in`: `answered`; `point`: `told`.
 //! - The point of a database in which no table is named `office` is `NotOurs`, whatever else it holds, or the call
 //!   stopped; inside a transaction, of one in which no view is named so either: `point`, `point_in`: `absent`.
+//! - A statement that answers `Ok` ran in the open transaction, and whatever it answers, the last commit stands:
+//!   `statement::execute`: `runs`, `stays`.
 //! - An error is named want of memory exactly where it was: `fault_of`: `stop`, `memory`; `point_found`, `answered`:
 //!   `stopped`.
 #![tactic(auto)]
@@ -30,6 +32,7 @@ pub mod layout;
 pub mod listed;
 pub mod making;
 pub mod reading;
+pub mod statement;
 
 pub use fault::{Table, TableFault};
 pub use layout::Layout;

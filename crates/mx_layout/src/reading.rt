@@ -30,10 +30,7 @@ fn number_at(row: &Row, at: usize) -> Option<u32>
         (λ n. (column row.now at ≡ Int (pos n)) × (n < 2 ^ 32)) }
 {
     match row.get_ref(at) {
-        Ok(ValueRef::Int(number)) => match u32::try_from(number) {
-            Ok(number) => Some(number),
-            Err(_) => None,
-        },
+        Ok(ValueRef::Int(number)) => u32::try_from(number).ok(),
         _ => None,
     }
 }
@@ -44,13 +41,7 @@ fn byte_at(row: &Row, at: usize) -> Option<u8>
     ensures { MatchOption result (¬ HoldsBelow (2 ^ 8) (column row.now at))
         (λ n. (column row.now at ≡ Int (pos n)) × (n < 2 ^ 8)) }
 {
-    match row.get_ref(at) {
-        Ok(ValueRef::Int(number)) => match u8::try_from(number) {
-            Ok(number) => Some(number),
-            Err(_) => None,
-        },
-        _ => None,
-    }
+    u8::try_from(number_at(row, at)?).ok()
 }
 
 /// The point that the values of a row are.

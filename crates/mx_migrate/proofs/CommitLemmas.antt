@@ -1,5 +1,5 @@
 -- From the law of a step to its commit, whatever the step is.
-use Rattle.std.proofs.Common.{◌≡◌, ◌⊎◌, inl, inr, true, false, IsTrue, List, Ok, Err, refl, sym, ap, subst, ◌∙◌, arith}
+use Rattle.std.proofs.Common.{◌≡◌, ◌⊎◌, inl, inr, true, false, IsTrue, List, Ok, Err, Result, refl, sym, ap, subst, ◌∙◌, arith}
 use Rattle.sqlite.specs.Store.{Ghosts}
 use Rattle.sqlite.specs.Tree.{Trees}
 use Rattle.sqlite.specs.State.{HasCleanDisk, Shows, Survives, IsRolledBack}
@@ -17,12 +17,13 @@ use Rattle.mx_layout.proofs.CrashLemmas.{IsSettled, commits_either, commits_ok, 
 use Rattle.mx_book_tables.specs.stands.Schemas.{schema_at}
 use Rattle.mx_book_tables.specs.stands.Stands.{LiesAt, StandsAt, RestsAt}
 use Rattle.mx_tables.specs.Calls.{OnDamaged}
+use Rattle.mx_faults.specs.declared.moving.MoveFault.{MoveFault}
 use Rattle.mx_faults.specs.declared.moving.MoveFault.TheVariants as stop
 use Rattle.mx_faults.specs.Moving.{fault_from}
 use Rattle.mx_migrate.specs.Steps.{Runs, CommitsStep, LeavesOneBook}
 
 -- a fault of a move that is damage is that of the tables
-damage_from : (e : TableFault) (name : TableName) → fault_from e ≡ stop.Damaged name → e ≡ fault.Damaged name
+pub damage_from : (e : TableFault) (name : TableName) → fault_from e ≡ stop.Damaged name → e ≡ fault.Damaged name
 damage_from fault.Memory name is = absurd cc
 damage_from fault.Store name is = absurd cc
 damage_from fault.NotOurs name is = absurd cc
@@ -83,7 +84,7 @@ module _ {S : Type 0} (g : Ghosts S) (old last : Held S) where
         ]
       ]
 
-      pub stops : CommitsStep IsAt IsDue Makes IsOff (state g old) (state g end) (Err (fault_from e))
+      stops : CommitsStep IsAt IsDue Makes IsOff (state g old) (state g end) (Err (fault_from e))
       stops = record {
         clean = omega (arith, drop.clean, runs.within.survives.clean);
         cause = why;
@@ -101,7 +102,7 @@ module _ {S : Type 0} (g : Ghosts S) (old last : Held S) where
         whole = not_off;
       }
 
-      pub stops_whole : LeavesOneBook IsAt IsDue (state g old) (state g end)
+      stops_whole : LeavesOneBook IsAt IsDue (state g old) (state g end)
       stops_whole at book rests due clean db may = inl ((rest at book rests).crash clean db may)
 
     -- ── the step answered the point ──
@@ -128,7 +129,7 @@ module _ {S : Type 0} (g : Ghosts S) (old last : Held S) where
         opened : HasCleanDisk (state g end) → IsTrue (state g old).is_open
         opened clean = (runs.inside (late clean) refl).was_open
 
-        pub commits_whole : LeavesOneBook IsAt IsDue (state g old) (state g end)
+        commits_whole : LeavesOneBook IsAt IsDue (state g old) (state g end)
         commits_whole at book rests due =
             commits_either g (schema_at at) (schema_at (next_point at book)) (λ trees. StandsAt at trees book) (λ trees. StandsAt (next_point at book) trees book) old begun last refl rests runs.within runs.inside
             (λ clean within has stands. (let it = stood clean at book due has stands in (it.1, it.2))) end commit
@@ -140,7 +141,7 @@ module _ {S : Type 0} (g : Ghosts S) (old last : Held S) where
         ]
 
         -- whether it was kept is not known
-        pub commits_in_doubt : CommitsStep IsAt IsDue Makes IsOff (state g old) (state g end) (Err stop.Store)
+        commits_in_doubt : CommitsStep IsAt IsDue Makes IsOff (state g old) (state g end) (Err stop.Store)
         commits_in_doubt = record {
           clean = omega (arith, commit.clean, runs.within.survives.clean);
           cause = inr (inl refl);
@@ -155,7 +156,7 @@ module _ {S : Type 0} (g : Ghosts S) (old last : Held S) where
           whole = λ _ _ _ _ _. inr refl;
         }
 
-        pub commits : IsSettled g → (HasCleanDisk (state g end) → Shows (state g last) (state g end) (state g last).now (state g last).now false) → CommitsStep IsAt IsDue Makes IsOff (state g old) (state g end) (Ok p)
+        commits : IsSettled g → (HasCleanDisk (state g end) → Shows (state g last) (state g end) (state g last).now (state g last).now false) → CommitsStep IsAt IsDue Makes IsOff (state g old) (state g end) (Ok p)
         commits settled shown = record {
           clean = omega (arith, commit.clean, runs.within.survives.clean);
           cause = tt;
@@ -173,3 +174,35 @@ module _ {S : Type 0} (g : Ghosts S) (old last : Held S) where
           same = λ _ _ _. tt;
           whole = λ _ _ _ _ _. tt;
         }
+
+-- ── the same of a transaction that began so, and of the connection as it is had back ──
+
+module _ {S : Type 0} (g : Ghosts S) (old tx last end final : Held S) (began : tx ≡ record old { in_transaction = true }) (back : end ≡ final)
+    (IsAt : Point → Type 0) (IsDue : Point → List Entry → Type 0) (Makes : Point → Point → Trees → Trees → Type 0) (IsOff : Point → TableName → Trees → Type 0)
+    (moves : (at to : Point) (book : List Entry) (before after : Trees) → IsAt at → IsDue at book → StandsAt at before book → Makes at to before after → (to ≡ next_point at book) × StandsAt to after book)
+    (whole : (at : Point) (book : List Entry) (name : TableName) (trees : Trees) → IsAt at → IsDue at book → StandsAt at trees book → IsOff at name trees → ⊥) where
+  abbrev Commits : Held S → Result Point MoveFault → Type 0
+  Commits h result = CommitsStep IsAt IsDue Makes IsOff (state g old) (state g h) result
+
+  abbrev LeavesIt : Held S → Type 0
+  LeavesIt h = LeavesOneBook IsAt IsDue (state g old) (state g h)
+
+  started : (result : Result Point TableFault) → Runs IsAt Makes IsOff (state g tx) (state g last) result → Runs IsAt Makes IsOff (state g (begun g old last)) (state g last) result
+  started result runs = subst (λ h. Runs IsAt Makes IsOff (state g h) (state g last) result) began runs
+
+  module _ (e : TableFault) (f : MoveFault) (told : f ≡ fault_from e) (runs : Runs IsAt Makes IsOff (state g tx) (state g last) (Err e)) (drop : Survives (state g last) (state g end) (λ _. ⊥)) (undone : HasCleanDisk (state g end) → IsRolledBack (state g last) (state g end)) where
+    pub step_stops : Commits final (Err f)
+    step_stops = subst (λ h. Commits h (Err f)) back (subst (λ x. Commits end (Err x)) (sym told) (stops g old last IsAt IsDue Makes IsOff moves whole e (started (Err e) runs) end drop undone))
+
+    pub step_stops_whole : LeavesIt final
+    step_stops_whole = subst LeavesIt back (stops_whole g old last IsAt IsDue Makes IsOff moves whole e (started (Err e) runs) end drop undone)
+
+  module _ (p : Point) (runs : Runs IsAt Makes IsOff (state g tx) (state g last) (Ok p)) (commit : Survives (state g last) (state g end) (λ db. db ≡ (state g last).now.trees)) where
+    pub step_commits : IsSettled g → (HasCleanDisk (state g end) → Shows (state g last) (state g end) (state g last).now (state g last).now false) → Commits final (Ok p)
+    step_commits settled shown = subst (λ h. Commits h (Ok p)) back (commits g old last IsAt IsDue Makes IsOff moves whole p (started (Ok p) runs) end commit settled shown)
+
+    pub step_in_doubt : Commits final (Err stop.Store)
+    step_in_doubt = subst (λ h. Commits h (Err stop.Store)) back (commits_in_doubt g old last IsAt IsDue Makes IsOff moves whole p (started (Ok p) runs) end commit)
+
+    pub step_commits_whole : LeavesIt final
+    step_commits_whole = subst LeavesIt back (commits_whole g old last IsAt IsDue Makes IsOff moves whole p (started (Ok p) runs) end commit)

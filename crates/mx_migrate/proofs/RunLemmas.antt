@@ -1,6 +1,6 @@
 -- What the statements of a step do, from what each call does.
 use Rattle.std.proofs.Common.{◌≡◌, ◌⊎◌, inl, inr, ℕ, Bool, true, false, ◌&&◌, List, [], ◌∷◌, map, filter, pos, Some, Ok, Err, Result, IsTrue, refl, sym, ap, subst, ◌∙◌, ◌<◌, arith}
-use Rattle.std.specs.Prelude.{Contains, IsErrAnd}
+use Rattle.std.specs.Prelude.{Contains, IsErrAnd, MatchResult}
 use Rattle.std.specs.List.{list_all}
 use Rattle.std.proofs.lemmas.List.{length-map}
 use lib.ListN.{get_or-map}
@@ -19,7 +19,8 @@ use Rattle.mx_layout.specs.declared.fault.Table.TheVariants as table
 use Rattle.mx_layout.specs.declared.fault.TableFault.{TableFault}
 use Rattle.mx_layout.specs.declared.fault.TableFault.TheVariants.{Memory, Store, Damaged}
 use Rattle.mx_layout.specs.Contents.{rows_in}
-use Rattle.mx_layout.specs.Crash.{IsWithin}
+use Rattle.mx_layout.specs.Crash.{IsWithin, StaysInside}
+use Rattle.mx_tables.specs.Calls.{OnDamaged}
 use Rattle.mx_layout.specs.Tables.{sector1}
 use Rattle.mx_layout.proofs.CrashLemmas.{stays_then, within_then}
 use Rattle.mx_layout.specs.kept.Cells.{kept_sector1}
@@ -52,23 +53,71 @@ pub stopped_by : (IsAt : Point → Type 0) (Makes : Point → Point → Trees �
 stopped_by IsAt Makes IsOff old new e (Ok p) is runs = absurd is
 stopped_by IsAt Makes IsOff old new e (Err f) is runs = subst (λ x. Runs IsAt Makes IsOff old new (Err x)) (sym is) runs
 
--- ── statements that write, and none before them ──
-
--- they lead from the one point to the other, and what they make of any rows is what the step makes of them
-pub writes_alone : {U : Type 0} (IsAt : Point → Type 0) (Makes : Point → Point → Trees → Trees → Type 0) (IsOff : Point → TableName → Trees → Type 0) (here to : Point) (onto : TableName → List Row → List Row)
-    → ((at : Point) → IsAt at → at ≡ here) → ((at : Point) (before after : Trees) → MakesRows onto to before after → Makes at to before after)
-    → (old new : State) (u : U) → WasOpen old new (Ok u) → Alters (schema_at here) (schema_at to) onto old new (Ok u) → Runs IsAt Makes IsOff old new (Ok to)
-writes_alone IsAt Makes IsOff here to onto at_here makes old new u opened w = record {
-  made = λ clean entered at is has lies.
-      let has_now = has ∙ ap schema_at (at_here at is) in
-      let lies_now = subst (λ q. LiesAt q old.now.trees) (at_here at is) lies in
-      let it = reaches_rows here to onto old.now new.now has_now lies_now (w.reaches clean entered has_now (all_rise here old.now.trees lies_now)) in
-      (it.0, makes at old.now.trees new.now.trees it.1);
-  cause = tt;
-  damaged = λ _ _ _ _ name never. absurd cc;
-  inside = λ clean begun. w.inside clean (begun, opened clean begun);
-  within = w.within;
+-- a table that was to be read was not: for want of memory, for the store, or because the table with this name is damaged
+pub read_stops : (IsAt : Point → Type 0) (Makes : Point → Point → Trees → Trees → Type 0) (IsOff : Point → TableName → Trees → Type 0) (name : TableName) (old new : State) (e : TableFault)
+    → (e ≡ Memory) ⊎ ((e ≡ Store) ⊎ (e ≡ Damaged name)) → (HasCleanDisk new → (at : Point) → IsAt at → old.now.schema ≡ schema_at at → e ≡ Damaged name → IsOff at name old.now.trees)
+    → (HasCleanDisk new → IsTrue old.in_transaction → OnDamaged e (StaysInside old new)) → IsWithin old new → Runs IsAt Makes IsOff old new (Err e)
+read_stops IsAt Makes IsOff name old new e why off inside within = record {
+  made = λ _ _ _ _ _ _. tt;
+  cause = elim why [ inl memory ↦ inl memory | inr other ↦ elim other [ inl store ↦ inr (inl store) | inr damaged ↦ inr (inr (name, damaged)) ] ];
+  damaged = λ clean at is has other same. by why clean at is has other same;
+  inside = inside;
+  within = within;
 }
+  where
+    by : (e ≡ Memory) ⊎ ((e ≡ Store) ⊎ (e ≡ Damaged name)) → HasCleanDisk new → (at : Point) → IsAt at → old.now.schema ≡ schema_at at → (other : TableName) → ◌≡◌ {A = Result Point TableFault} (Err e) (Err (Damaged other)) → IsOff at other old.now.trees
+    by (inl memory) clean at is has other same = absurd cc
+    by (inr (inl store)) clean at is has other same = absurd cc
+    by (inr (inr damaged)) clean at is has other same = let named : name ≡ other = cc in subst (λ n. IsOff at n old.now.trees) named (off clean at is has damaged)
+
+-- ── statements that write ──
+
+-- the point that they lead to is answered where all ran, and else the store
+abbrev pub Reaching : {U : Type 0} → Point → Result U TableFault → Result Point TableFault → Type 0
+Reaching to ran result = MatchResult ran (λ _. result ≡ Ok to) (λ _. result ≡ Err Store)
+
+module _ (IsAt : Point → Type 0) (Makes : Point → Point → Trees → Trees → Type 0) (IsOff : Point → TableName → Trees → Type 0) (here to : Point) (at_here : (at : Point) → IsAt at → at ≡ here) (onto : TableName → List Row → List Row) where
+  abbrev Ran : State → State → Result Point TableFault → Type 0
+  Ran old new result = Runs IsAt Makes IsOff old new result
+
+  -- none before them: they lead from the one point to the other, and what they make of any rows is what the step makes of them
+  pub writes_alone : {U : Type 0} → ((at : Point) (before after : Trees) → MakesRows onto to before after → Makes at to before after) → (old new : State) (ran : Result U TableFault) (result : Result Point TableFault)
+      → Reaching to ran result → WasOpen old new ran → Alters (schema_at here) (schema_at to) onto old new ran → Ran old new result
+  writes_alone makes old new (Ok u) result answered opened w = subst (λ a. Ran old new a) (sym answered) (record {
+    made = λ clean entered at is has lies.
+        let has_now = has ∙ ap schema_at (at_here at is) in
+        let lies_now = subst (λ q. LiesAt q old.now.trees) (at_here at is) lies in
+        let it = reaches_rows here to onto old.now new.now has_now lies_now (w.reaches clean entered has_now (all_rise here old.now.trees lies_now)) in
+        (it.0, makes at old.now.trees new.now.trees it.1);
+    cause = tt;
+    damaged = λ _ _ _ _ name never. absurd cc;
+    inside = λ clean begun. w.inside clean (begun, opened clean begun);
+    within = w.within;
+  })
+  writes_alone makes old new (Err e) result answered opened w = subst (λ a. Ran old new a) (sym answered) (store_stops IsAt Makes IsOff old new w.within)
+
+  -- behind what was read, and changed nothing
+  module _ (old mid : State) (unchanged : HasCleanDisk mid → (at : Point) → IsAt at → old.now.schema ≡ schema_at at → mid.now ≡ old.now) (stays : HasCleanDisk mid → IsTrue old.in_transaction → StaysInside old mid) (within : IsWithin old mid) where
+    pub writes_behind : {U : Type 0} (new : State) → (HasCleanDisk mid → (at : Point) → IsAt at → old.now.schema ≡ schema_at at → LiesAt here old.now.trees → MakesRows onto to old.now.trees new.now.trees → Makes at to old.now.trees new.now.trees)
+        → (ran : Result U TableFault) (result : Result Point TableFault) → Reaching to ran result → Alters (schema_at here) (schema_at to) onto mid new ran → Ran old new result
+    writes_behind new makes (Ok u) result answered w =
+        let early : HasCleanDisk new → HasCleanDisk mid = λ clean. omega (arith, w.within.survives.clean) in
+        subst (λ a. Ran old new a) (sym answered) (record {
+          made = λ clean entered at is has lies.
+              let has_now : old.now.schema ≡ schema_at here = has ∙ ap schema_at (at_here at is) in
+              let same : mid.now ≡ old.now = unchanged (early clean) at is has in
+              let open_mid = stays (early clean) entered.0 in
+              let lies_now = subst (λ q. LiesAt q old.now.trees) (at_here at is) lies in
+              let rise : AllRise (schema_at here) mid.now.trees = subst (λ (d : Database). AllRise (schema_at here) d.trees) (sym same) (all_rise here old.now.trees lies_now) in
+              let reached = w.reaches clean (open_mid.mode, open_mid.is_open) (ap (λ (d : Database). d.schema) same ∙ has_now) rise in
+              let it = reaches_rows here to onto old.now new.now has_now lies_now (subst (λ d. Reaches (schema_at to) onto d new.now) same reached) in
+              (it.0, makes (early clean) at is has lies_now it.1);
+          cause = tt;
+          damaged = λ _ _ _ _ name never. absurd cc;
+          inside = λ clean begun. (let open_mid = stays (early clean) begun in stays_then old mid new open_mid (w.inside clean (open_mid.mode, open_mid.is_open)));
+          within = within_then old mid new within (λ clean begun. (stays clean begun).mode) w.within;
+        })
+    writes_behind new makes (Err e) result answered w = subst (λ a. Ran old new a) (sym answered) (store_stops IsAt Makes IsOff old new (within_then old mid new within (λ clean begun. (stays clean begun).mode) w.within))
 
 -- ── sectors that move ──
 
@@ -87,20 +136,8 @@ has_own mark at old here has = subst HasOwn1 (sym (has ∙ ap schema_at here)) (
 
 -- they were not read
 pub page_stops : {V : Type 0} (mark : ℕ) (items : V → List SectorRow) (old new : State) (e : TableFault) → ReadsPage items old new (Err e) → Moves mark old new (Err e)
-page_stops mark items old new e r = record {
-  made = λ _ _ _ _ _ _. tt;
-  cause = elim r.cause [ inl memory ↦ inl memory | inr other ↦ elim other [ inl store ↦ inr (inl store) | inr damaged ↦ inr (inr (table.Sector1, damaged)) ] ];
-  damaged = λ clean at here has name is. by r.cause clean at here has name is;
-  inside = r.inside;
-  within = r.within;
-}
-  where
-    by : (e ≡ Memory) ⊎ ((e ≡ Store) ⊎ (e ≡ Damaged table.Sector1)) → HasCleanDisk new → (at : Point) → at ≡ moving 1 mark → old.now.schema ≡ schema_at at → (name : TableName) → ◌≡◌ {A = Result Point TableFault} (Err e) (Err (Damaged name)) → IsOldOff mark name old.now.trees
-    by (inl memory) clean at here has name is = absurd cc
-    by (inr (inl store)) clean at here has name is = absurd cc
-    by (inr (inr damaged)) clean at here has name is =
-        let same : name ≡ table.Sector1 = cc in
-        (same, inl (page_damaged 64 kept_sector1.order sector1 old.now.trees (IsReadableAs kept_sector1) (r.damaged clean (has_own mark at old here has) (ap Err damaged))))
+page_stops mark items old new e r = read_stops _ _ _ table.Sector1 old new e r.cause
+    (λ clean at here has damaged. (refl, inl (page_damaged 64 kept_sector1.order sector1 old.now.trees (IsReadableAs kept_sector1) (r.damaged clean (has_own mark at old here has) (ap Err damaged))))) r.inside r.within
 
 -- one of them fails the test
 some_fails : {X : Type 0} (p : X → Bool) (xs : List X) → list_all p xs ≡ false → (x : X) × Contains xs x × (p x ≡ false)
@@ -128,36 +165,15 @@ module _ {V : Type 0} (mark : ℕ) (items : V → List SectorRow) (old mid : Sta
     within = r.within;
   }
 
-  begun_too : HasCleanDisk mid → IsTrue old.in_transaction → IsTrue mid.in_transaction
-  begun_too clean begun = (r.inside clean begun).mode
-
   pub page_full : Moves mark old mid (Err Memory)
   page_full = memory_stops _ _ _ old mid r.within
 
   -- they were moved
-  module _ (new : State) (to : Point) where
-    pub page_moves : {U : Type 0} (u : U) → list_all (is_next_from mark) (items v) ≡ true → to ≡ moving 1 (last_moved (λ (row : SectorRow). row.seq) mark (items v)) → Alters (schema_at (moving 1 0)) (schema_at (moving 1 0)) (sectors_moved (items v) to) mid new (Ok u) → Moves mark old new (Ok to)
-    page_moves u next is w =
-        let early : HasCleanDisk new → HasCleanDisk mid = λ clean. omega (arith, w.within.survives.clean) in
-        record {
-          made = λ clean entered at here has lies.
-              let own = has_own mark at old here has in
-              let has_now : old.now.schema ≡ schema_at (moving 1 mark) = has ∙ ap schema_at here in
-              let same : mid.now ≡ old.now = (r.unchanged (early clean) own).0.now_is in
-              let stays = r.inside (early clean) entered.0 in
-              let lies_now = subst (λ q. LiesAt q old.now.trees) here lies in
-              let rise : AllRise (schema_at (moving 1 0)) mid.now.trees = subst (λ (d : Database). AllRise (schema_at (moving 1 0)) d.trees) (sym same) (all_rise (moving 1 mark) old.now.trees lies_now) in
-              let reached = w.reaches clean (stays.mode, stays.is_open) (ap (λ (d : Database). d.schema) same ∙ has_now) rise in
-              let from_old : Reaches (schema_at to) (sectors_moved (items v) to) old.now new.now = subst (λ q. Reaches (schema_at q) (sectors_moved (items v) to) old.now new.now) (sym is) (subst (λ d. Reaches (schema_at (moving 1 0)) (sectors_moved (items v) to) d new.now) same reached) in
-              let it = reaches_rows (moving 1 mark) to (sectors_moved (items v) to) old.now new.now has_now lies_now from_old in
-              let first = r.rows (early clean) own in
-              let gone = ap (λ (q : Point). filter (is_up_to 0 (Int (pos q.mark))) (rows_in sector1 old.now.trees)) is ∙ front_is seq_of kept_sector1.as_cells (λ _. refl) sector1 (λ _. refl) 63 mark old.now.trees (items v) (lies_now.rises table.Sector1 refl) first in
-              (it.0, record { rows = items v; first = first; fit = r.fits; next = next; point = is; gone = gone; made = it.1 });
-          cause = tt;
-          damaged = λ _ _ _ _ name never. absurd cc;
-          inside = λ clean begun. (let stays = r.inside (early clean) begun in stays_then old mid new stays (w.inside clean (stays.mode, stays.is_open)));
-          within = within_then old mid new r.within begun_too w.within;
-        }
-
-    pub page_fails : {W : Type 0} (result : Result W TableFault) → Alters (schema_at (moving 1 0)) (schema_at (moving 1 0)) (sectors_moved (items v) to) mid new result → Moves mark old new (Err Store)
-    page_fails result w = store_stops _ _ _ old new (within_then old mid new r.within begun_too w.within)
+  pub page_moves : {U : Type 0} (new : State) (to : Point) (ran : Result U TableFault) (result : Result Point TableFault) → Reaching to ran result → list_all (is_next_from mark) (items v) ≡ true → to ≡ moving 1 (last_moved (λ (row : SectorRow). row.seq) mark (items v))
+      → Alters (schema_at (moving 1 0)) (schema_at (moving 1 0)) (sectors_moved (items v) to) mid new ran → Moves mark old new result
+  page_moves {U} new to ran result answered next is w = writes_behind _ _ _ (moving 1 mark) to (λ at here. here) (sectors_moved (items v) to) old mid (λ clean at here has. (r.unchanged clean (has_own mark at old here has)).0.now_is) r.inside r.within new
+      (λ clean at here has lies made.
+      let first = r.rows clean (has_own mark at old here has) in
+      let gone = ap (λ (q : Point). filter (is_up_to 0 (Int (pos q.mark))) (rows_in sector1 old.now.trees)) is ∙ front_is seq_of kept_sector1.as_cells (λ _. refl) sector1 (λ _. refl) 63 mark old.now.trees (items v) (lies.rises table.Sector1 refl) first in
+      record { rows = items v; first = first; fit = r.fits; next = next; point = is; gone = gone; made = made })
+      ran result answered (subst (λ q. Alters {V = U} (schema_at (moving 1 0)) (schema_at q) (sectors_moved (items v) to) mid new ran) (sym is) w)

@@ -12,14 +12,12 @@ ghost use Rattle.mx_moves.specs.steps.Components.{component_moved};
 ghost use Rattle.mx_moves.specs.steps.Pairing.{are_fittings_numbered, are_removals_numbered, is_before};
 ghost use Rattle.mx_moves.specs.steps.Pairing.{next_span, paired, span_closed, span_open, spans_made};
 
-use crate::step::Migrate;
+use crate::step::{Migrate, reached};
 use mx_base::Point;
 use mx_base::rows::{FittingRow, RemovalRow, SpanRow};
 use mx_layout::{Table, TableFault};
-use mx_moves::components::{
-    delete_fittings, delete_removals, fittings_of, insert_spans, removals_of,
-};
 use mx_moves::point::set_point;
+use mx_moves::rows::{delete_fittings, delete_removals, fittings_of, insert_spans, removals_of};
 use mx_registers::points::LAST_MARK;
 use sqlite::{Alter, Transaction};
 use std::alloc::Global;
@@ -225,9 +223,6 @@ impl Migrate for MoveComponent {
             step: 2,
             mark: self.component,
         };
-        match write_component(tx, &spans, &to) {
-            Ok(()) => Ok(to),
-            Err(_) => Err(TableFault::Store),
-        }
+        reached(write_component(tx, &spans, &to), to)
     }
 }

@@ -45,22 +45,16 @@
 //! - So does the one that makes the last indexes and settles the file at layout 2: `Finish`: `Migrate`.
 #![tactic(auto)]
 
-pub mod bases;
 pub mod components;
-pub mod creating;
-pub mod finishing;
+pub mod kept;
 mod looking;
 pub mod sectors;
 pub mod settle;
-pub mod spans;
 pub mod step;
-pub mod totals;
+pub mod tables;
 
-pub use bases::{CreateBases, WriteBases};
 pub use components::MoveComponent;
-pub use creating::CreateSectors;
-pub use finishing::Finish;
+pub use kept::{WriteBases, WriteTotal};
 pub use sectors::MoveSectors;
-pub use spans::ChangeToSpans;
 pub use step::{Migrate, commit_step};
-pub use totals::{ChangeToTotals, WriteTotal};
+pub use tables::{ChangeToSpans, ChangeToTotals, CreateBases, CreateSectors, Finish};

@@ -11,12 +11,12 @@ ghost use Rattle.mx_book_tables.specs.stands.Schemas.{schema_at};
 ghost use Rattle.mx_moves.specs.Changes.{Alters};
 ghost use Rattle.mx_moves.specs.steps.Sectors.{is_next_from, sectors_moved};
 
-use crate::step::Migrate;
+use crate::step::{Migrate, reached};
 use mx_base::Point;
 use mx_base::rows::{Sector2Row, SectorRow};
 use mx_layout::{Table, TableFault};
 use mx_moves::point::set_point;
-use mx_moves::sectors::{delete_sectors, first_sectors, insert_sectors};
+use mx_moves::rows::{delete_sectors, first_sectors, insert_sectors};
 use mx_registers::points::LAST_MARK;
 use sqlite::{Alter, Transaction};
 use std::alloc::Global;
@@ -114,9 +114,6 @@ impl Migrate for MoveSectors {
             step: 1,
             mark: last_seq(self.mark, &rows),
         };
-        match write_moved(tx, &numbered, &to) {
-            Ok(()) => Ok(to),
-            Err(_) => Err(TableFault::Store),
-        }
+        reached(write_moved(tx, &numbered, &to), to)
     }
 }

@@ -3,7 +3,7 @@
 //! A step is handed what its caller has read to know that it is due, the mark and the component, and reads again only
 //! what it moves. Whether it is due is a premise, since only a book says so; over the tables of a file that is due for
 //! another step it still loses no row.
-ghost use Rattle.std.specs.Prelude.{◌≡◌, false, List};
+ghost use Rattle.std.specs.Prelude.{◌≡◌, false, List, MatchResult};
 ghost use Rattle.sqlite.specs.Tree.{Trees};
 ghost use Rattle.sqlite.specs.Held.{state};
 ghost use Rattle.mx_book.specs.commands.Act.{Entry};
@@ -53,6 +53,17 @@ pub trait Migrate {
     ghost whole: { (step : Self) (at : Point) (book : List Entry) (name : TableName) (trees : Trees)
         → IsAt step at → IsDue step at book → StandsAt at trees book
         → IsOff step at name trees → ⊥ };
+}
+
+// The point that the statements of a step lead to, where all ran. Else `Store`: want of memory among them may come behind
+// one that ran.
+pub(crate) fn reached(ran: Result<(), TableFault>, to: Point) -> Result<Point, TableFault>
+    ensures { MatchResult ran (λ _. result ≡ Ok to) (λ _. result ≡ Err TableFault.Store) }
+{
+    match ran {
+        Ok(()) => Ok(to),
+        Err(_) => Err(TableFault::Store),
+    }
 }
 
 /// Makes a step, in a transaction of its own, and commits it. Whatever the answer is, a crash leaves the file at the

@@ -1,8 +1,7 @@
 -- What statements that make a table or an index, or drop a table, leave of every table, whatever rows there are.
-use Rattle.std.proofs.Common.{◌≡◌, ◌⊎◌, inl, inr, ℕ, Bool, true, false, cond, List, [], ◌∷◌, ◌++◌, map, None, Ok, Result, OnOk, IsTrue, ◌==◌, refl, sym, ap, subst, subst₂, not, ◌&&◌, is_some, filter, ◌∙◌}
+use Rattle.std.proofs.Common.{◌≡◌, ◌⊎◌, inl, inr, ℕ, Bool, true, false, cond, List, [], ◌∷◌, ◌+◌, ◌++◌, map, None, Ok, Result, OnOk, IsTrue, ◌==◌, refl, sym, ap, subst, not, filter, ◌∙◌}
 use Rattle.std.specs.Prelude.{Contains}
-use Rattle.std.specs.List.{AllByRecursion, list_any}
-use Rattle.std.specs.Bool.{MatchBool}
+use Rattle.std.specs.List.{AllByRecursion}
 use Rattle.std.specs.List.Sorted.{IsPermutation}
 use Rattle.std.proofs.lemmas.Bool.{eqb-true}
 use Rattle.std.proofs.lemmas.List.Elements.{All-contains, All-from_recursion, Contains-append_cases}
@@ -13,31 +12,23 @@ use Rattle.sqlite.specs.Table.{Table}
 use Rattle.sqlite.specs.Schema.{Schema}
 use Rattle.sqlite.specs.Tree.{Trees, IsTable, rowid}
 use Rattle.sqlite.specs.View.{is_int}
-use Rattle.sqlite.specs.Command.TheVariants.{CreateTable, CreateIndex, DropTable}
-use Rattle.sqlite.specs.Change.{created, next_tree, without_table, with_index, indexed, KeepsRows}
-use Rattle.sqlite.specs.Does.{Tally, Does, AtPlace, Defines as MakesAt, MakesIndex, Drops, Empties, UncountsIn, Uncounts, lacks_sequence}
+use Rattle.sqlite.specs.Command.TheVariants.{CreateTable}
+use Rattle.sqlite.specs.Change.{created, next_tree, without_table, with_index, KeepsRows}
+use Rattle.sqlite.specs.Does.{Tally, lacks_sequence}
 use Rattle.sqlite.specs.Effect.{Database, IsDatabase}
-use Rattle.sqlite.specs.Edit.{edit_of}
-use Rattle.sqlite.specs.Rowids.TheVariants.{Given}
-use Rattle.sqlite.specs.Rows.{Task, Edited, Gives, sequence}
-use Rattle.sqlite.specs.declared.run.Mode.{Mode}
-use Rattle.sqlite_schema.specs.declared.schema.Keys.{Keys}
-use Rattle.sqlite_schema.specs.Names.{same_name}
-use Rattle.sqlite_rules.specs.Action.{deed_for}
-use Rattle.sqlite_rules.specs.Calls.{ids_of}
-use Rattle.sqlite.specs.Listing.{understood}
-use Rattle.sqlite.specs.State.{State, HasCleanDisk, mode_of, Executes, ExecutesInside, Writes}
-use Rattle.sqlite.proofs.Callers.{statement_of, runs_as}
+use Rattle.sqlite.specs.State.{State, HasCleanDisk, Executes, ExecutesInside, Writes}
+use Rattle.sqlite.proofs.Callers.{runs_as}
 use Rattle.sqlite_schema.specs.declared.schema.Index.{Index}
-use Rattle.sqlite_schema.specs.declared.schema.Keys.TheVariants.{Enforced}
 use Rattle.mx_layout.specs.TableName.{TableName}
 use Rattle.mx_layout.specs.declared.fault.TableFault.{TableFault}
 use Rattle.mx_layout.specs.Contents.{cells, rows_in, HasNoReferences, Rises}
 use Rattle.mx_layout.specs.Crash.{StaysInside, IsWithin}
 use Rattle.mx_layout.specs.Names.{table_named}
 use Rattle.mx_layout.proofs.CreateLemmas.{Defines, lacks_none}
-use Rattle.mx_layout.proofs.DropLemmas.{MeansRemoved}
-use Rattle.mx_layout.proofs.IndexLemmas.{MeansIndexed}
+use Rattle.mx_layout.proofs.DropLemmas.{MeansRemoved, removes}
+use Rattle.mx_layout.proofs.IndexLemmas.{MeansIndexed, indexes}
+use Rattle.mx_layout.proofs.StepLemmas.{Dropping, Indexing, Making, schema_at}
+use Rattle.mx_layout.specs.Steps.{schema_after}
 use Rattle.mx_layout.proofs.TreeLemmas.{same_tree}
 use Rattle.mx_layout.proofs.WriteLemmas.{went, same_value}
 use Rattle.mx_tables.proofs.InsertsProofs.SetLemmas.{on_weaker}
@@ -153,53 +144,10 @@ module _ (from to : Schema) (text : List ℕ) (new : TableName) (defines : Defin
 module _ (from : Schema) (text : List ℕ) (table : Table) (index : Index) (m : MeansIndexed from text table index) (old new : State) (has : old.now.schema ≡ from) where
   pub index_made : (count : ℕ) → Executes text [] old new (Ok count) → Reaches (with_index from index) unchanged old.now new.now
   index_made count h =
-      let w = runs_as text [] old new from has (CreateIndex m.at) m.is m.plain count h in
-      let db : Database = record old.now { schema = from } in
-      let does = subst (λ s. Does old.step_limit (mode_of old) [] (record old.now { schema = s }) (statement_of text (understood from text)) None (CreateIndex m.at) (Ok (w.tally, new.now))) has w.changed in
-      let there = subst (λ o. AtPlace (λ (t : Table). MakesAt (mode_of old) (MakesIndex (statement_of text (understood from text)) db t)) o (Ok (w.tally, new.now))) m.there does in
-      let all = went (subst (λ t. MakesAt (mode_of old) (MakesIndex t db table) (Ok (w.tally, new.now))) m.whole there) in
-      let made = all.1 in
-      let now : new.now ≡ all.0 = ap (λ (p : Tally × Database). p.1) (same_value all.2) in
-      let same : made.index ≡ record index { tree = 0 } = same_value (sym made.defined ∙ m.defined) in
-      let schema_is : new.now.schema ≡ with_index from index = ap (λ (d : Database). d.schema) now ∙ made.is ∙ ap (indexed from table) same ∙ m.tree in
-      let kept : KeepsRows from.tables old.now.trees new.now.trees = subst (λ (d : Database). KeepsRows from.tables old.now.trees d.trees) (sym now) made.rows in
-      all_stay from (with_index from index) old.now new.now has schema_is w.sound (λ t at. at) kept
+      let is = indexes from text table index m old new has count h in
+      all_stay from (with_index from index) old.now new.now has is.schema_is is.sound (λ t at. at) is.others
 
 -- ── a table that is dropped ──
-
-no_child : (keys : Keys) (table : Table) (tables : List Table) → AllByRecursion (λ t. t.references ≡ []) tables
-    → list_any (λ t. list_any (λ ref. same_name table.name ref.parent && is_some (deed_for keys true ref)) t.references) tables ≡ false
-no_child keys table [] h = refl
-no_child keys table (t ∷ tables) h = rw h.0 (no_child keys table tables h.1)
-
-emptied_same : (task : Task) → HasNoReferences task.schema → (db next : Trees) → Empties task db (Ok next) → next ≡ db
-emptied_same task free db next h =
-    let none = subst (λ b. MatchBool b (Edited task.schema task.keys db (edit_of db task.table (ids_of (db task.table.tree)) Given 0 []) (Ok next)) (Gives db (Ok next))) (no_child task.keys task.table task.schema.tables free) h in
-    same_value none
-
-uncounted_same : (task : Task) → task.table.is_counted ≡ false → (db next : Trees) → Uncounts task db (Ok next) → next ≡ db
-uncounted_same task plain db next h =
-    let none = subst (λ b. UncountsIn task db (cond b (sequence task.schema) None) (Ok next)) plain h in
-    same_value none
-
--- what a drop leaves
-record Left (schema : Schema) (tree : ℕ) (old : Trees) (new : Database) : Type 0 where
-  pub schema_is : new.schema ≡ without_table schema tree
-  pub others : KeepsRows (without_table schema tree).tables old new.trees
-
-on_drop : (task : Task) → HasNoReferences task.schema → task.table.is_counted ≡ false → (mode : Mode) (db : Trees) (tally : Tally) (after : Database) → Drops task mode db (Ok (tally, after))
-    → Left task.schema task.table.tree db after
-on_drop task free plain mode db tally after h =
-    let emptied = went h in
-    let counted = went emptied.2 in
-    let tested = went counted.2 in
-    let left = went tested.2 in
-    let now : after ≡ left.0 = ap (λ (p : Tally × Database). p.1) (same_value left.2) in
-    let same : counted.0 ≡ db = uncounted_same task plain emptied.0 counted.0 counted.1 ∙ emptied_same task free db emptied.0 emptied.1 in
-    record {
-      schema_is = ap (λ (d : Database). d.schema) now ∙ left.1.0;
-      others = subst₂ (λ (was : Trees) (d : Database). KeepsRows (without_table task.schema task.table.tree).tables was d.trees) same (sym now) left.1.1;
-    }
 
 was_among : (p : Table → Bool) (tables : List Table) (t : Table) → Contains (filter p tables) t → Contains tables t
 was_among p tables t there = contains_had tables t (has_filtered p tables t (has_contained (filter p tables) t there)).0
@@ -214,24 +162,31 @@ turns_gone from to tree left name there = inl (
 module _ (from : Schema) (text : List ℕ) (table : Table) (m : MeansRemoved from text table) (free : HasNoReferences from) (old new : State) (has : old.now.schema ≡ from) where
   pub table_gone : (count : ℕ) → Executes text [] old new (Ok count) → Reaches (without_table from table.tree) unchanged old.now new.now
   table_gone count h =
-      let to = without_table from table.tree in
-      let w = runs_as text [] old new from has (DropTable m.at) m.is m.plain count h in
-      let does = subst (λ s. Does old.step_limit (mode_of old) [] (record old.now { schema = s }) (statement_of text (understood from text)) None (DropTable m.at) (Ok (w.tally, new.now))) has w.changed in
-      let task = λ (t : Table). (let it : Task = record { limit = old.step_limit; keys = Enforced; schema = from; table = t; params = [] } in it) in
-      let done = subst (λ o. AtPlace (λ t. Drops (task t) (mode_of old) old.now.trees) o (Ok (w.tally, new.now))) m.there does in
-      let left = on_drop (task table) free m.uncounted (mode_of old) old.now.trees w.tally new.now done in
-      all_stay from to old.now new.now has left.schema_is w.sound (was_among (λ t. not (t.tree == table.tree)) from.tables) left.others
+      let left = removes from text table m free old new has count h in
+      all_stay from (without_table from table.tree) old.now new.now has left.0.schema_is left.1 (was_among (λ t. not (t.tree == table.tree)) from.tables) left.0.others
 
 -- ── calls ──
 
 -- the one statement of a call
-pub alters_by : {V : Type 0} (from to : Schema) (onto : TableName → List Row → List Row) (text : List ℕ) (old new : State) (r : Result V TableFault)
-    → ((count : ℕ) → old.now.schema ≡ from → Executes text [] old new (Ok count) → Reaches to onto old.now new.now)
-    → (HasCleanDisk new → IsTrue old.in_transaction → OnOk r ((count : ℕ) × ExecutesInside 0 text [] old new (Ok count)))
-    → (HasCleanDisk new → IsTrue old.in_transaction → OnOk r (StaysInside old new)) → IsWithin old new → Alters from to onto old new r
-alters_by from to onto text old new r does runs inside within = record {
-  reaches = λ clean entered has rises. on_weaker r (λ ran. does ran.0 has ran.1.0) (runs clean entered.0);
-  mode = λ clean begun. on_weaker r (λ stays. stays.mode) (inside clean begun);
-  inside = λ clean entered. inside clean entered.0;
-  within = within;
-}
+module _ {V : Type 0} (text : List ℕ) (old new : State) (r : Result V TableFault) (runs : HasCleanDisk new → IsTrue old.in_transaction → OnOk r ((count : ℕ) × ExecutesInside 0 text [] old new (Ok count)))
+    (inside : HasCleanDisk new → IsTrue old.in_transaction → OnOk r (StaysInside old new)) (within : IsWithin old new) where
+  alters_by : (from to : Schema) (onto : TableName → List Row → List Row) → ((count : ℕ) → old.now.schema ≡ from → Executes text [] old new (Ok count) → Reaches to onto old.now new.now) → Alters from to onto old new r
+  alters_by from to onto does = record {
+    reaches = λ clean entered has rises. on_weaker r (λ ran. does ran.0 has ran.1.0) (runs clean entered.0);
+    mode = λ clean begun. on_weaker r (λ stays. stays.mode) (inside clean begun);
+    inside = λ clean entered. inside clean entered.0;
+    within = within;
+  }
+
+  -- the statement at a place of those of all layouts makes a table, drops one, or makes an index
+  pub makes_table : (n : ℕ) (made : TableName) → Making n text (table_named made) → HasNew (schema_after n) (schema_after (n + 1)) made → Alters (schema_after n) (schema_after (n + 1)) (emptied made) old new r
+  unfolding schema_at
+  makes_table n made it room = alters_by (schema_after n) (schema_after (n + 1)) (emptied made) (λ count has h. table_made (schema_after n) (schema_after (n + 1)) text made it.defines room old new has count h)
+
+  pub drops_table : (n : ℕ) (table : Table) → Dropping n text table → Alters (schema_after n) (schema_after (n + 1)) unchanged old new r
+  unfolding schema_at
+  drops_table n table it = alters_by (schema_after n) (schema_after (n + 1)) unchanged (λ count has h. subst (λ s. Reaches s unchanged old.now new.now) it.next (table_gone (schema_after n) text table it.means it.free old new has count h))
+
+  pub makes_index : (n : ℕ) (table : Table) (index : Index) → Indexing n text table index → Alters (schema_after n) (schema_after (n + 1)) unchanged old new r
+  unfolding schema_at
+  makes_index n table index it = alters_by (schema_after n) (schema_after (n + 1)) unchanged (λ count has h. subst (λ s. Reaches s unchanged old.now new.now) it.next (index_made (schema_after n) text table index it.means old new has count h))

@@ -30,13 +30,9 @@
 //!   `index_registers`: `alters`.
 #![tactic(auto)]
 
-pub mod components;
 pub mod install;
-pub mod items;
-pub mod kept;
 pub mod point;
 mod prelude;
-pub mod sectors;
-mod statement;
+pub mod rows;
 pub mod steps;
 pub mod tables;

@@ -7,8 +7,8 @@ ghost use Rattle.mx_moves.specs.Keeping.{kept_point, is_point_row, point_set};
 ghost use Rattle.mx_moves.specs.Schemas.{IsFree};
 
 use crate::prelude::*;
-use crate::statement::execute;
 use mx_base::Point;
+use mx_layout::statement::execute;
 use sqlite::params;
 
 // Deletes the row of the point.

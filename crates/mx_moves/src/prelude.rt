@@ -1,4 +1,4 @@
-//! What the file of each table names.
+//! What each file of statements names.
 
 pub(crate) use mx_layout::TableFault;
 pub(crate) use sqlite::{Alter, Transaction};

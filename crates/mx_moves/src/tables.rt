@@ -5,8 +5,8 @@ ghost use Rattle.mx_layout.specs.Steps.{schema_after};
 ghost use Rattle.mx_moves.specs.Changes.{Alters, WasOpen, emptied, unchanged};
 
 use crate::prelude::*;
-use crate::statement::execute;
 use mx_layout::Table;
+use mx_layout::statement::execute;
 
 /// Makes the table `sector2`, in a file that has the tables of layout 1.
 ///

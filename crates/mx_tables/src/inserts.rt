@@ -12,7 +12,7 @@
 //!   `Tables::read`: `reads` (`damaged`, `there`); `Tables::write`: `writes`.
 //!
 //! One insert is proved for every type of rows; what a table adds is its impl of `Insert`. How a table is added stands
-//! at the head of `mx_tables/src/lib.rt`: its impl stands in the file of the table.
+//! at the head of `mx_tables/src/lib.rt`: its impl stands beside that of `Stored`.
 
 pub mod insert;
 pub mod sets;

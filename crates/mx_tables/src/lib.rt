@@ -1,8 +1,8 @@
-//! The tables as sets of typed rows, which are read and to which rows are added, a file a table; in `inserts`, what all
-//! inserts are. SQL for all rows of a table, and for one that is added, is in this crate, that for chosen rows in
-//! `mx_table_rows::chosen`, and for the rows in whose place others come in `mx_table_rows::totals`. Above these a table
-//! is what `rows` gives for its type, in the order of its key, and `insert` adds one row to it. Each call is made
-//! inside a `Transaction`, which the caller commits or drops.
+//! The tables as sets of typed rows, which are read and to which rows are added: those of every layout in `permanent`,
+//! those of one in `moved`; in `inserts`, what all inserts are. SQL for all rows of a table, and for one that is added,
+//! is in this crate, that for chosen rows in `mx_table_rows::chosen`, and for the rows in whose place others come in
+//! `mx_table_rows::totals`. Above these a table is what `rows` gives for its type, in the order of its key, and `insert`
+//! adds one row to it. Each call is made inside a `Transaction`, which the caller commits or drops.
 //!
 //! # What is promised
 //!
@@ -36,11 +36,12 @@
 //!    layout stands behind those that come before it there, at each point of a move where it stands (`span2` at two,
 //!    `sector2` at three), a permanent one behind nothing. Its line of `each_lawful` in `EachLawful.antt` there. Where
 //!    another table has rows of the same type, a type of its own holds them (`held`, `Sector2Row`).
-//! 3. `src/NOUN.rt`, from one that is there, with its line here: `Stored`, whose texts are those of `mx_layout::kept`
-//!    written out, and whose `read` asks for the number of columns and takes each by a function of `column.rt`; and
-//!    `Insert`, which passes each value in the order of the columns. Its row type is a word of `prelude.rt`. A kind of
-//!    value that no table has had needs a function in `column.rt`, whose contract says of what values it gives `None`,
-//!    and one that is not passed as it stands in the row a function in `src/inserts/values.rt`.
+//! 3. `src/permanent.rt`, or `src/moved.rt` where one layout has it, from a table that is there: `Stored`, whose texts
+//!    are those of `mx_layout::kept` written out, and whose `read` says by `read_columns!` how many columns there are
+//!    and by which function of `column.rt` each is taken; and `Insert`, which passes each value in the order of the
+//!    columns to `insert_columns!`. Its row type is a word of `prelude.rt`. A kind of value that no table has had needs
+//!    a function in `column.rt`, whose contract says of what values it gives `None`, and one that is not passed as it
+//!    stands in the row a function in `src/inserts/values.rt`.
 //! 4. Plants: two columns swapped in either text, two values swapped in `read` and in `insert`, a text with no ORDER
 //!    BY, the name of another table.
 //!
@@ -53,28 +54,12 @@
 //! `ValueLemmas` stand where `task` has them, and `insert` has the answer of `task`, alike for all but its name.
 #![tactic(auto)]
 
-mod aircraft;
-mod base;
 mod column;
-mod component;
-mod deferral;
-mod entry;
-mod extension;
-mod fitting;
 pub mod inserts;
-mod opening;
-mod place;
+mod moved;
+mod permanent;
 mod prelude;
-mod programme;
-mod release;
-mod release_line;
-mod removal;
-mod sector;
-mod sector2;
-mod span;
 pub mod stored;
-mod task;
-mod total;
 
 pub use mx_layout::{Layout, Table, TableFault, create, point};
 pub use stored::{Stored, rows};

@@ -27,7 +27,7 @@ use Rattle.mx_verify.specs.Damage.{IsDamaged, IsUndamaged}
 use Rattle.mx_book_tables.specs.reading.Stored.{AreStored}
 use Rattle.mx_verify.specs.Verifies.{HasBook, Tells, Verifies, told_file, told_rows}
 use Rattle.mx_book_tables.specs.reading.Looks.{Looks, TellsPoint}
-use Rattle.mx_book_tables.proofs.ReadingProofs.LookLemmas.{on_read}
+use Rattle.mx_tables.proofs.AnswerLemmas.{on_read}
 use Rattle.mx_book_tables.proofs.ReadingProofs.StoredLemmas.{none_bad, point_given, tables_given, tables_read}
 
 -- ── what stopped ──
@@ -78,15 +78,7 @@ true_both false b is also = absurd cc
 -- the table of a kind is one of the layout
 kind_there : (bad : EntryKind) → is_at verified_point (table_of bad) ≡ true
 kind_there kind.AddAircraft = refl
-kind_there kind.AddComponent = refl
-kind_there kind.LoadProgramme = refl
-kind_there kind.Opening = refl
-kind_there kind.Sector = refl
-kind_there kind.Fit = refl
-kind_there kind.Remove = refl
-kind_there kind.Release = refl
-kind_there kind.Defer = refl
-kind_there kind.Extend = refl
+kind_there _ = refl
 
 module _ (trees : Trees) (at_point : Bool) (rows : FileRows) (told : TellsPoint trees at_point) (stored : AreStored trees rows) where
   exact_by : (found : Result Bool Unverified) → Finds rows found → IfOk (told_rows at_point found) (λ same. Decides same (HasBook trees))

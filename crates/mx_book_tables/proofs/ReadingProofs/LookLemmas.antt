@@ -1,39 +1,18 @@
 -- What is looked at inside a transaction, one thing after another.
 use Rattle.std.proofs.Common.{◌≡◌, inl, Ok, Err, Result, refl, sym, ap, subst, arith}
 use Rattle.std.specs.Prelude.{IsErrAnd, IfOk}
+use Rattle.std.proofs.lemmas.Result.{IfOk-weaker}
 use Rattle.sqlite.specs.Effect.{Database}
 use Rattle.sqlite.specs.State.{State, HasCleanDisk, IsUnchanged}
 use Rattle.sqlite.specs.Tree.{Trees}
 use Rattle.sqlite.proofs.Callers.{unchanged_then}
 use Rattle.mx_layout.specs.declared.fault.TableFault.{TableFault}
 use Rattle.mx_layout.specs.declared.fault.TableFault.TheVariants as fault
-use Rattle.mx_layout.specs.Crash.{StaysInside}
 use Rattle.mx_layout.proofs.CrashLemmas.{stays_then, within_then}
-use Rattle.mx_tables.specs.Calls.{OnRead}
+use Rattle.mx_tables.proofs.InsertsProofs.SetLemmas.{on_read_weaker}
 use Rattle.mx_book_tables.specs.reading.Layout.{HasTables}
 use Rattle.mx_book_tables.specs.reading.Damage.{HasBadRow}
 use Rattle.mx_book_tables.specs.reading.Looks.{Looks}
-
--- what holds anyway holds where a reader answered
-pub on_read : {V : Type 0} {P : Type 0} (r : Result V TableFault) → P → OnRead r P
-on_read (Ok v) p = p
-on_read (Err (fault.Damaged t)) p = p
-on_read (Err fault.Memory) p = tt
-on_read (Err fault.Store) p = tt
-on_read (Err fault.NotOurs) p = tt
-on_read (Err fault.Exists) p = tt
-
-map_read : {V : Type 0} (P Q : Type 0) (r : Result V TableFault) → (P → Q) → OnRead r P → OnRead r Q
-map_read P Q (Ok v) f h = f h
-map_read P Q (Err (fault.Damaged t)) f h = f h
-map_read P Q (Err fault.Memory) f h = tt
-map_read P Q (Err fault.Store) f h = tt
-map_read P Q (Err fault.NotOurs) f h = tt
-map_read P Q (Err fault.Exists) f h = tt
-
-map_ok : {V : Type 0} (P Q : V → Type 0) (r : Result V TableFault) → ((v : V) → P v → Q v) → IfOk r P → IfOk r Q
-map_ok P Q (Ok v) f h = f v h
-map_ok P Q (Err e) f h = tt
 
 -- what was not answered is not answered to anything
 stops : {V W : Type 0} (P : Trees → V → Type 0) (Q : Trees → W → Type 0) (old new : State) (e : TableFault) → Looks P old new (Err e) → Looks Q old new (Err e)
@@ -83,10 +62,10 @@ looks_then P Q a b c v result one two =
     let same : HasCleanDisk c → HasTables a.now.schema → IsUnchanged a b = λ clean has. one.unchanged (early clean) has in
     let has_too : HasCleanDisk c → HasTables a.now.schema → HasTables b.now.schema = λ clean has. subst (λ (d : Database). HasTables d.schema) (sym (same clean has).0.now_is) has in
     record {
-      found = λ clean has. map_ok (Q a.now.trees) _ result (λ w q. (one.found (early clean) has, q)) (subst (λ (d : Database). IfOk result (Q d.trees)) (same clean has).0.now_is (two.found clean (has_too clean has)));
+      found = λ clean has. IfOk-weaker result (Q a.now.trees) _ (λ w q. (one.found (early clean) has, q)) (subst (λ (d : Database). IfOk result (Q d.trees)) (same clean has).0.now_is (two.found clean (has_too clean has)));
       cause = two.cause;
       damaged = λ clean has name is. subst (λ (d : Database). HasBadRow d.trees name) (same clean has).0.now_is (two.damaged clean (has_too clean has) name is);
-      unchanged = λ clean has. map_read (IsUnchanged b c) (IsUnchanged a c) result (unchanged_then a b c (same clean has)) (two.unchanged clean (has_too clean has));
-      inside = λ clean begun. (let stays = one.inside (early clean) begun in map_read (StaysInside b c) (StaysInside a c) result (stays_then a b c stays) (two.inside clean stays.mode));
+      unchanged = λ clean has. on_read_weaker result (unchanged_then a b c (same clean has)) (two.unchanged clean (has_too clean has));
+      inside = λ clean begun. (let stays = one.inside (early clean) begun in on_read_weaker result (stays_then a b c stays) (two.inside clean stays.mode));
       within = within_then a b c one.within (λ clean begun. (one.inside clean begun).mode) two.within;
     }

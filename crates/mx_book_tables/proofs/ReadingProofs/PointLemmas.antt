@@ -21,7 +21,7 @@ use Rattle.mx_tables.specs.Calls.{OnRead}
 use Rattle.mx_book_tables.specs.reading.Layout.{HasTables, verified_point}
 use Rattle.mx_book_tables.specs.reading.Damage.{HasBadRow, IsCause}
 use Rattle.mx_book_tables.specs.reading.Looks.{Looks, TellsPoint, is_verified_point, told_point}
-use Rattle.mx_book_tables.proofs.ReadingProofs.LookLemmas.{on_read}
+use Rattle.mx_tables.proofs.AnswerLemmas.{on_read}
 
 -- ── the point ──
 

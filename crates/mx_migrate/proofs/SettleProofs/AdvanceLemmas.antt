@@ -12,7 +12,6 @@ use Rattle.mx_base.specs.Settled.{settled}
 use Rattle.mx_registers.specs.points.Points.{next_point}
 use Rattle.mx_layout.specs.TableName.{TableName}
 use Rattle.mx_layout.specs.declared.fault.TableFault.{TableFault}
-use Rattle.mx_layout.specs.declared.fault.TableFault.TheVariants as fault
 use Rattle.mx_layout.specs.Crash.{ChangesNothing, RestsAs}
 use Rattle.mx_layout.proofs.CrashLemmas.{rests_kept, rests_same}
 use Rattle.mx_book_tables.specs.stands.Schemas.{IsOfFile, schema_at}
@@ -28,6 +27,7 @@ use Rattle.mx_migrate.specs.settle.Due.{IsDueAt, IsFor, IsOffFor, MakesBy}
 use Rattle.mx_migrate.specs.settle.Items.{Knows}
 use Rattle.mx_migrate.specs.settle.Place.{AnswersAs, IsBehind, IsMoveStop, IsPlacedAt, SaysAt, TellsPlace, checked}
 use Rattle.mx_migrate.specs.declared.settle.due.Due.{Due}
+use Rattle.mx_migrate.proofs.CommitLemmas.{damage_from}
 use Rattle.mx_migrate.proofs.SettleProofs.DueLemmas.{due_says}
 use Rattle.mx_migrate.proofs.SettleProofs.PlaceLemmas.{bounds, file_fits, move_stop, place_is, place_stops, rests_placed}
 
@@ -128,13 +128,6 @@ as_none (Err f) p result (inr stops) = (let is = stops.1 in absurd cc)
 none_ours : (f : MoveFault) (p : Point) (result : Result Point MoveFault) → AnswersAs (Err f) (Ok p) → AnswersAs (Err f) result
 none_ours f p result (inl is) = absurd cc
 none_ours f p result (inr stops) = (let is = stops.1 in absurd cc)
-
-damage_from : (e : TableFault) (name : TableName) → fault_from e ≡ stop.Damaged name → e ≡ fault.Damaged name
-damage_from fault.Memory name is = absurd cc
-damage_from fault.Store name is = absurd cc
-damage_from fault.NotOurs name is = absurd cc
-damage_from fault.Exists name is = absurd cc
-damage_from (fault.Damaged other) name is = let same : other ≡ name = cc in ap fault.Damaged same
 
 module _ (old mid ready : State) (from : Point) (tells : TellsPlace old mid (Ok from)) (nothing : ChangesNothing mid ready) (known after : Option KeptRows) where
   mid_old : HasCleanDisk mid → HasCleanDisk old

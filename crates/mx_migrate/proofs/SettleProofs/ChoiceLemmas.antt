@@ -51,10 +51,10 @@ use Rattle.mx_book_tables.proofs.StandsProofs.RowLemmas.{readable_stored}
 use Rattle.mx_tables.specs.Calls.{OnDamaged}
 use Rattle.mx_tables.specs.inserts.Sets.{IsDamaged}
 use Rattle.mx_migrate.specs.declared.components.MoveComponent.{MoveComponent}
-use Rattle.mx_migrate.specs.declared.creating.CreateSectors.{CreateSectors}
+use Rattle.mx_migrate.specs.declared.tables.CreateSectors.{CreateSectors}
 use Rattle.mx_migrate.specs.declared.sectors.MoveSectors.{MoveSectors}
-use Rattle.mx_migrate.specs.declared.spans.ChangeToSpans.{ChangeToSpans}
-use Rattle.mx_migrate.specs.declared.totals.ChangeToTotals.{ChangeToTotals}
+use Rattle.mx_migrate.specs.declared.tables.ChangeToSpans.{ChangeToSpans}
+use Rattle.mx_migrate.specs.declared.tables.ChangeToTotals.{ChangeToTotals}
 use Rattle.mx_moves.specs.steps.Sectors.{MovesSectors, is_next_from}
 use Rattle.mx_moves.proofs.StepsProofs.PageLemmas.{permutation_none}
 use Rattle.mx_verify.specs.declared.derived.kept.KeptRows.{KeptRows}
@@ -195,6 +195,14 @@ chooses_damage at old new name Reason opened off unfit whole = record {
   damaged = λ _ clean lies other is. (let same : name ≡ other = cc in (opened clean, subst (λ n. IsUnfit n old.now.trees) same (unfit (off clean (lies (opened clean))))));
 }
 
+-- the table with this name was not read: for want of memory, for the store, or for a reason in it
+chooses_unread : (at : Point) (old new : State) → IsTrue old.in_transaction → (name : TableName) (Reason : Type 0) (e : TableFault) → (e ≡ Memory) ⊎ ((e ≡ Store) ⊎ (e ≡ Damaged name)) → (HasCleanDisk new → IsTrue old.in_transaction → OnDamaged e (StaysInside old new))
+    → (HasCleanDisk new → LiesIn at old.now → e ≡ Damaged name → Reason) → (Reason → IsUnfit name old.now.trees) → ((book : List Entry) → StandsAt at old.now.trees book → Reason → ⊥) → Chooses at None None old new (Err e)
+chooses_unread at old new begun name Reason e (inl memory) inside off unfit excluded = chooses_stop at old new e (inl memory)
+chooses_unread at old new begun name Reason e (inr (inl store)) inside off unfit excluded = chooses_stop at old new e (inr store)
+chooses_unread at old new begun name Reason e (inr (inr damaged)) inside off unfit excluded = subst (λ f. Chooses at None None old new (Err f)) (sym damaged)
+    (chooses_damage at old new name Reason (λ clean. (subst (λ f. OnDamaged f (StaysInside old new)) damaged (inside clean begun)).was_open) (λ clean lies. off clean lies damaged) unfit excluded)
+
 -- a step that is due
 chooses_step : (at : Point) (old new : State) (step : Due) → (IsOfFile at → IsFor step at) → ((book : List Entry) → IsOfFile at → HasCleanDisk new → (IsTrue old.is_open → StandsIn at book old.now) → IsDueAt step at book)
     → (IsOfFile at → HasCleanDisk new → (IsTrue old.is_open → LiesIn at old.now) → GoesOn step at old.now.trees) → Chooses at None None old new (Ok (Some step))
@@ -264,14 +272,8 @@ module _ (mark : ℕ) (old new : State) (begun : IsTrue old.in_transaction) wher
   no_damage book stands damaged = damaged.2 (All-contains (IsReadable table.Sector1) (rows_in (table_named table.Sector1) old.now.trees) damaged.0 (readable_stored (moving 1 mark) old.now.trees book stands.rows table.Sector1 refl) damaged.1)
 
   pub sectors_unread : (e : TableFault) → FindsLeft old new (Err e) → Chooses (moving 1 mark) None None old new (Err e)
-  sectors_unread e r = by r.cause
-    where
-      by : (e ≡ Memory) ⊎ ((e ≡ Store) ⊎ (e ≡ Damaged table.Sector1)) → Chooses (moving 1 mark) None None old new (Err e)
-      by (inl memory) = chooses_stop (moving 1 mark) old new e (inl memory)
-      by (inr (inl store)) = chooses_stop (moving 1 mark) old new e (inr store)
-      by (inr (inr damaged)) = subst (λ f. Chooses (moving 1 mark) None None old new (Err f)) (sym damaged)
-          (chooses_damage (moving 1 mark) old new table.Sector1 (IsDamaged old.now.trees table.Sector1) (λ clean. (subst (λ f. OnDamaged f (StaysInside old new)) damaged (r.inside clean begun)).was_open)
-          (λ clean lies. r.damaged clean (has_own lies.0) (ap Err damaged)) (λ reason. inl reason) no_damage)
+  sectors_unread e r =
+      chooses_unread (moving 1 mark) old new begun table.Sector1 (IsDamaged old.now.trees table.Sector1) e r.cause r.inside (λ clean lies damaged. r.damaged clean (has_own lies.0) (ap Err damaged)) (λ reason. inl reason) no_damage
 
   -- of sectors that are left the next move on to a later mark
   moves_on : (to : Point) (before after : Trees) → rows_in sector1 before ≢ [] → MovesSectors mark to before after → IsOfFile to × IsBehind (moving 1 mark) to
@@ -323,14 +325,7 @@ module _ (mark : ℕ) (old new : State) (begun : IsTrue old.in_transaction) wher
   as_unfit (inr late) = inr (inl (refl, late))
 
   pub component_unread : (e : TableFault) → FindsNext kept_component mark old new (Err e) → Chooses (moving 2 mark) None None old new (Err e)
-  component_unread e r = by r.cause
-    where
-      by : (e ≡ Memory) ⊎ ((e ≡ Store) ⊎ (e ≡ Damaged table.Component)) → Chooses (moving 2 mark) None None old new (Err e)
-      by (inl memory) = chooses_stop (moving 2 mark) old new e (inl memory)
-      by (inr (inl store)) = chooses_stop (moving 2 mark) old new e (inr store)
-      by (inr (inr damaged)) = subst (λ f. Chooses (moving 2 mark) None None old new (Err f)) (sym damaged)
-          (chooses_damage (moving 2 mark) old new table.Component IsOff (λ clean. (subst (λ f. OnDamaged f (StaysInside old new)) damaged (r.inside clean begun)).was_open)
-          (λ clean lies. r.damaged clean (has_all lies.0) (ap Err damaged)) as_unfit no_unfit)
+  component_unread e r = chooses_unread (moving 2 mark) old new begun table.Component IsOff e r.cause r.inside (λ clean lies damaged. r.damaged clean (has_all lies.0) (ap Err damaged)) as_unfit no_unfit
 
   pub component_chosen : (n : ℕ) (step : MoveComponent) → step.mark ≡ mark → step.component ≡ n → FindsNext kept_component mark old new (Ok (Some n)) → Chooses (moving 2 mark) None None old new (Ok (Some (due.Component step)))
   component_chosen n step is number r =

@@ -1,6 +1,6 @@
 -- What is found at the front of a step, over whatever rows, and in tables that stand for a book.
 use Rattle.std.proofs.Common.{◌≡◌, ◌≢◌, inl, inr, ℕ, ◌<◌, pos, Bool, true, false, not, cond, ◌==◌, length, List, [], ◌∷◌, map, filter, take, All, nat_le, slice_get, Option, None, Some, Ok, Err, Result, refl, sym, ap, ap₂, subst, ◌∙◌, arith}
-use Rattle.std.specs.Prelude.{Contains, IsErrAnd}
+use Rattle.std.specs.Prelude.{Contains, IsErrAnd, IfSome}
 use Rattle.std.specs.Option.{option_map}
 use Rattle.std.specs.List.{AllByRecursion}
 use Rattle.std.specs.List.Sorted.{IsPermutation, IsSorted}
@@ -115,26 +115,22 @@ module _ {X V : Type 0} (k : Kept X) (mark : ℕ) (numbered : (x : X) → is_abo
     first_in [] n e is = absurd cc
     first_in (x ∷ rows) n e is = (x, subst (λ l. Contains (map k.as_cells l) (k.as_cells x)) (sym e) (0, omega arith, refl), (cc))
 
-    read_next : (next : Option ℕ) → option_map k.key (slice_get (items v) 0) ≡ next → FindsNext k mark old new (next_checked k.name mark next)
-    read_next None e = record {
+    read_ok : (next : Option ℕ) → option_map k.key (slice_get (items v) 0) ≡ next → IfSome next (λ n. is_next mark n ≡ true) → FindsNext k mark old new (Ok next)
+    read_ok next e is = record {
       rows = λ clean has. (items v, r.rows clean has, r.fits, sym e);
-      next = tt;
+      next = is;
       cause = tt;
       damaged = λ _ _ never. absurd cc;
       inside = r.inside;
       within = r.within;
     }
+
+    read_next : (next : Option ℕ) → option_map k.key (slice_get (items v) 0) ≡ next → FindsNext k mark old new (next_checked k.name mark next)
+    read_next None e = read_ok None e tt
     read_next (Some n) e = by (is_next mark n) refl
       where
         by : (b : Bool) → is_next mark n ≡ b → FindsNext k mark old new (cond b (Ok (Some n)) (Err (Damaged k.name)))
-        by true next = record {
-          rows = λ clean has. (items v, r.rows clean has, r.fits, sym e);
-          next = next;
-          cause = tt;
-          damaged = λ _ _ never. absurd cc;
-          inside = r.inside;
-          within = r.within;
-        }
+        by true next = read_ok (Some n) e next
         by false off = record {
           rows = λ _ _. tt;
           next = tt;

@@ -7,8 +7,7 @@ ghost use Rattle.mx_migrate.specs.settle.Choices.{next_checked, FindsLeft, Finds
 
 use mx_base::rows::ComponentRow;
 use mx_layout::{Table, TableFault};
-use mx_moves::items::next_components;
-use mx_moves::sectors::first_sectors;
+use mx_moves::rows::{first_sectors, next_components};
 use mx_registers::points::LAST_MARK;
 use sqlite::{Alter, Transaction};
 use std::alloc::Global;

@@ -1,7 +1,8 @@
 -- The tables of layout 1 after one command more, and after all of a book.
 use Rattle.std.proofs.Common.{◌≡◌, ◌<◌, ◌+◌, inl, ℕ, suc, true, List, [], ◌∷◌, ◌++◌, All, Ok, Err, Result, IsTrue, Some, None, length, get_or, take, drop, refl, sym, ap, subst, ◌∙◌, arith}
 use Rattle.std.specs.Prelude.{Contains, IsErr}
-use Rattle.std.proofs.Math.Seq.{drop-cons, take-suc}
+use Rattle.std.proofs.lemmas.List.{take_more}
+use Rattle.std.proofs.Math.Seq.{drop-cons}
 use Rattle.std.specs.List.Sorted.{IsPermutation}
 use Rattle.std.proofs.lemmas.List.Elements.{All-append}
 use Rattle.std.proofs.lemmas.List.Sorted.{IsPermutation-trans, IsPermutation-append_comm, IsPermutation-append_right}
@@ -154,6 +155,4 @@ next_new before entries i x low here judged =
 
 -- those so far with the next
 pub next_taken : (entries : List Entry) (i : ℕ) (x : Entry) → i < length entries → get_or entries i x ≡ x → take i entries ++ x ∷ [] ≡ take (i + 1) entries
-next_taken entries i x low here =
-    let one : suc i ≡ i + 1 = omega arith in
-    sym (subst (λ n. take n entries ≡ take i entries ++ get_or entries i x ∷ []) one (take-suc entries i x low) ∙ ap (λ y. take i entries ++ y ∷ []) here)
+next_taken entries i x low here = sym (take_more entries i x low ∙ ap (λ y. take i entries ++ y ∷ []) here)

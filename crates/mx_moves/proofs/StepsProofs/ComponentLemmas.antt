@@ -26,6 +26,7 @@ use Rattle.mx_layout.specs.Contents.{rows_in}
 use Rattle.mx_layout.specs.Names.{table_named}
 use Rattle.mx_layout.specs.kept.Cells.{kept_fit1, kept_removal1, kept_span2}
 use Rattle.mx_layout.specs.kept.Family.{IsReadable}
+use Rattle.mx_layout.specs.kept.Kept.{Kept}
 use Rattle.mx_layout.proofs.KeptProofs.Lawful.{fit1_lawful, removal1_lawful}
 use Rattle.mx_layout.proofs.KeptProofs.OntoLemmas.{on_top_keeps}
 use Rattle.mx_table_rows.proofs.ChosenProofs.EqualLemmas.{equal_numbers}
@@ -45,6 +46,20 @@ use Rattle.mx_moves.proofs.StepsProofs.ThingLemmas.{next_is, point_fits}
 above_too : (mark component n : ℕ) → mark < component → nat_eq n component ≡ true → not (nat_le n mark) ≡ true
 above_too mark component n h e = grind (arith, nat_tests)
 
+-- rows of a table that names a component in each
+module _ {X : Type 0} (k : Kept X) (component_of : X → ℕ) (mark component : ℕ) (is_of : (row : X) → is_of_component component (k.as_cells row) ≡ nat_eq (component_of row) component) where
+  -- those that a deletion leaves, where the book leaves these
+  others_become : (had left : List X) → left ≡ filter (λ row. not (nat_eq (component_of row) component)) had → IsPermutation (filter (λ row. not (is_of_component component row)) (map k.as_cells had)) (map k.as_cells left)
+  others_become had left is = IsPermutation-same _ _
+      (filter-map (λ row. not (is_of_component component row)) k.as_cells had
+      ∙ ap (map k.as_cells) (filter_same (λ row. not (is_of_component component (k.as_cells row))) (λ row. not (nat_eq (component_of row) component)) (λ row. ap not (is_of row)) had ∙ sym is))
+
+  -- those of the component, where those up to the mark have moved, are all that the book has of it
+  those_are : mark < component → (all rows : List X) → rows ≡ filter (λ row. is_of_component component (k.as_cells row)) (filter (λ row. not (nat_le (component_of row) mark)) all) → rows ≡ filter (λ row. nat_eq (component_of row) component) all
+  those_are low all rows is =
+      is ∙ filter_same (λ row. is_of_component component (k.as_cells row)) (λ row. nat_eq (component_of row) component) is_of (filter (λ row. not (nat_le (component_of row) mark)) all)
+      ∙ filter-filter (λ row. nat_eq (component_of row) component) (λ row. not (nat_le (component_of row) mark)) (λ row e. above_too mark component (component_of row) low e) all
+
 module _ (mark component : ℕ) (book : List Entry) (b : IsBook book) (due : next_mark (moving 2 mark) book ≡ Some component) where
   above_mark : mark < component
   above_mark = (fittings_next book mark component b due).0
@@ -52,18 +67,10 @@ module _ (mark component : ℕ) (book : List Entry) (b : IsBook book) (due : nex
   -- ── what the rows become ──
 
   fittings_become : IsPermutation (filter (λ row. not (is_of_component component row)) (map kept_fit1.as_cells (rows_at fittings_1 (moving 2 mark) book))) (map kept_fit1.as_cells (rows_at fittings_1 (moving 2 component) book))
-  fittings_become = IsPermutation-same _ _
-      (filter-map (λ row. not (is_of_component component row)) kept_fit1.as_cells (rows_at fittings_1 (moving 2 mark) book)
-      ∙ ap (map kept_fit1.as_cells)
-      (filter_same (λ (row : FittingRow). not (is_of_component component (kept_fit1.as_cells row))) (λ (row : FittingRow). not (nat_eq row.component component)) (λ row. ap not (equal_numbers row.component component)) (rows_at fittings_1 (moving 2 mark) book)
-      ∙ sym (fittings_left book mark component (fittings_next book mark component b due))))
+  fittings_become = others_become kept_fit1 (λ (row : FittingRow). row.component) mark component (λ row. equal_numbers row.component component) _ _ (fittings_left book mark component (fittings_next book mark component b due))
 
   removals_become : IsPermutation (filter (λ row. not (is_of_component component row)) (map kept_removal1.as_cells (rows_at removals_1 (moving 2 mark) book))) (map kept_removal1.as_cells (rows_at removals_1 (moving 2 component) book))
-  removals_become = IsPermutation-same _ _
-      (filter-map (λ row. not (is_of_component component row)) kept_removal1.as_cells (rows_at removals_1 (moving 2 mark) book)
-      ∙ ap (map kept_removal1.as_cells)
-      (filter_same (λ (row : RemovalRow). not (is_of_component component (kept_removal1.as_cells row))) (λ (row : RemovalRow). not (nat_eq row.component component)) (λ row. ap not (equal_numbers row.component component)) (rows_at removals_1 (moving 2 mark) book)
-      ∙ sym (removals_left book mark component (removals_next book mark component b due))))
+  removals_become = others_become kept_removal1 (λ (row : RemovalRow). row.component) mark component (λ row. equal_numbers row.component component) _ _ (removals_left book mark component (removals_next book mark component b due))
 
   brought : IsPermutation (rows_at spans_2 (moving 2 component) book) (rows_at spans_2 (moving 2 mark) book ++ spans_by book component)
   brought = spans_moved book mark component (spans_next book mark component b due)
@@ -92,22 +99,14 @@ module _ (mark component : ℕ) (book : List Entry) (b : IsBook book) (due : nex
     -- ── what was read ──
 
     fittings_are : (rows : List FittingRow) → AreFittings component trees rows → rows ≡ fittings_by book component
-    fittings_are rows read =
-        let above = λ (row : FittingRow). not (nat_le row.component mark) in
-        let is = λ (row : FittingRow). nat_eq row.component component in
-        let all = rows_at fittings_1 (moving 2 mark) book in
-        chosen_are kept_fit1 fit1_lawful 1 (length book + 1) (is_of_component component) trees all rows read.all (stands.rows.tables table.Fit1 refl) (rises_left (λ (row : FittingRow). row.seq) above 1 (length book + 1) (fitting_rows book) (fitting_rows-rising book b.shaped)) (stands.rows.fit table.Fit1 refl) read.fit
-        ∙ filter_same (λ (row : FittingRow). is_of_component component (kept_fit1.as_cells row)) is (λ row. equal_numbers row.component component) all
-        ∙ filter-filter is above (λ row e. above_too mark component row.component above_mark e) (fitting_rows book)
+    fittings_are rows read = those_are kept_fit1 (λ (row : FittingRow). row.component) mark component (λ row. equal_numbers row.component component) above_mark (fitting_rows book) rows
+        (chosen_are kept_fit1 fit1_lawful 1 (length book + 1) (is_of_component component) trees (rows_at fittings_1 (moving 2 mark) book) rows read.all (stands.rows.tables table.Fit1 refl)
+        (rises_left (λ (row : FittingRow). row.seq) (λ (row : FittingRow). not (nat_le row.component mark)) 1 (length book + 1) (fitting_rows book) (fitting_rows-rising book b.shaped)) (stands.rows.fit table.Fit1 refl) read.fit)
 
     removals_are : (rows : List RemovalRow) → AreRemovals component trees rows → rows ≡ removals_by book component
-    removals_are rows read =
-        let above = λ (row : RemovalRow). not (nat_le row.component mark) in
-        let is = λ (row : RemovalRow). nat_eq row.component component in
-        let all = rows_at removals_1 (moving 2 mark) book in
-        chosen_are kept_removal1 removal1_lawful 1 (length book + 1) (is_of_component component) trees all rows read.all (stands.rows.tables table.Removal1 refl) (rises_left (λ (row : RemovalRow). row.seq) above 1 (length book + 1) (removal_rows book) (removal_rows-rising book b.shaped)) (stands.rows.fit table.Removal1 refl) read.fit
-        ∙ filter_same (λ (row : RemovalRow). is_of_component component (kept_removal1.as_cells row)) is (λ row. equal_numbers row.component component) all
-        ∙ filter-filter is above (λ row e. above_too mark component row.component above_mark e) (removal_rows book)
+    removals_are rows read = those_are kept_removal1 (λ (row : RemovalRow). row.component) mark component (λ row. equal_numbers row.component component) above_mark (removal_rows book) rows
+        (chosen_are kept_removal1 removal1_lawful 1 (length book + 1) (is_of_component component) trees (rows_at removals_1 (moving 2 mark) book) rows read.all (stands.rows.tables table.Removal1 refl)
+        (rises_left (λ (row : RemovalRow). row.seq) (λ (row : RemovalRow). not (nat_le row.component mark)) 1 (length book + 1) (removal_rows book) (removal_rows-rising book b.shaped)) (stands.rows.fit table.Removal1 refl) read.fit)
 
     pairs_are : (fittings : List FittingRow) (removals : List RemovalRow) → AreFittings component trees fittings → AreRemovals component trees removals → spans_made fittings removals ≡ Ok (spans_by book component)
     pairs_are fittings removals fitted removed = ap₂ spans_made (fittings_are fittings fitted) (removals_are removals removed) ∙ made_of_book component book b

@@ -23,12 +23,10 @@ use Rattle.mx_book_tables.specs.stands.Family.{rows_of, rows_given, is_at, Fit}
 use Rattle.mx_book_tables.specs.stands.Stands.{StandsAt}
 use Rattle.mx_moves.specs.Keeping.{point_set}
 use Rattle.mx_moves.proofs.RowLemmas.{Keeps, Forgets}
-use Rattle.mx_moves.specs.steps.Rows.{MakesRows}
 use Rattle.mx_moves.specs.steps.Tables.{table_made, ChangesToTotals, Finishes, IsUnmoved, MakesBases}
-use Rattle.mx_moves.proofs.StepsProofs.MadeLemmas.{next_of_none, stay_where_none, table_keeps}
+use Rattle.mx_moves.proofs.StepsProofs.MadeLemmas.{ended_stands, ended_stay, table_keeps}
 use Rattle.mx_moves.proofs.StepsProofs.PageLemmas.{permutation_none}
 use Rattle.mx_moves.proofs.StepsProofs.SectorLemmas.{one_point, point_keeps}
-use Rattle.mx_moves.proofs.StepsProofs.StandsLemmas.{stands_next}
 
 -- ── the table of totals in place of those of fittings and removals ──
 
@@ -65,22 +63,13 @@ totals_turn mark name there = inl (there, table_keeps table.Total2 (moving 3 0) 
 
 pub totals_stand : (mark : ℕ) (at to : Point) (book : List Entry) (old new : Trees) → (at ≡ moving 2 mark) × (is_on_way at ≡ true) → next_mark at book ≡ None → StandsAt at old book → ChangesToTotals to old new → (to ≡ next_point at book) × StandsAt to new book
 totals_stand mark at to book old new here due stood it =
-    let stands = subst (λ q. StandsAt q old book) here.0 stood in
-    let b = stands.rows.is_book in
-    let way : is_on_way (moving 2 mark) ≡ true = subst (λ q. is_on_way q ≡ true) here.0 here.1 in
-    let none : next_mark (moving 2 mark) book ≡ None = subst (λ q. next_mark q book ≡ None) here.0 due in
-    let stay = stay_where_none 2 mark (omega arith) (omega arith) book b way none in
-    let made = subst (λ q. MakesRows (table_made table.Total2 q) q old new) it.point it.made in
-    let done = stands_next (moving 2 mark) (moving 3 0) book (table_made table.Total2 (moving 3 0)) old new (omega arith, omega arith, omega arith) (totals_fit mark book stay old stands) (totals_turn mark) (totals_become mark book stay) stands made in
-    (it.point ∙ sym (next_of_none 2 mark (omega arith) (omega arith) book b way none) ∙ ap (λ q. next_point q book) (sym here.0), subst (λ q. StandsAt q new book) (sym it.point) done)
+    ended_stands 2 mark (omega arith) (omega arith) (moving 3 0) refl (omega arith, omega arith, omega arith) (table_made table.Total2) (totals_fit mark) (totals_turn mark) (totals_become mark) at to book old new here due stood it.point it.made
 
 -- of tables that stand for a book whose components have all moved, no row is left in the old ones
 pub totals_whole : (mark : ℕ) (at : Point) (book : List Entry) (name : TableName) (trees : Trees) → (at ≡ moving 2 mark) × (is_on_way at ≡ true) → next_mark at book ≡ None → StandsAt at trees book → IsUnmoved name trees → ⊥
 totals_whole mark at book name trees here due stood off =
     let stands = subst (λ q. StandsAt q trees book) here.0 stood in
-    let way : is_on_way (moving 2 mark) ≡ true = subst (λ q. is_on_way q ≡ true) here.0 here.1 in
-    let none : next_mark (moving 2 mark) book ≡ None = subst (λ q. next_mark q book ≡ None) here.0 due in
-    let stay = stay_where_none 2 mark (omega arith) (omega arith) book stands.rows.is_book way none in
+    let stay = ended_stay 2 mark (omega arith) (omega arith) (moving 3 0) refl at book here due stands.rows.is_book in
     let fittings = permutation_none (rows_in fit1 trees) (subst (λ rows. IsPermutation (map kept_fit1.as_cells rows) (rows_in fit1 trees)) (no_fitting mark book stay) (stands.rows.tables table.Fit1 refl)) in
     let removals = permutation_none (rows_in removal1 trees) (subst (λ rows. IsPermutation (map kept_removal1.as_cells rows) (rows_in removal1 trees)) (no_removal mark book stay) (stands.rows.tables table.Removal1 refl)) in
     off.1 (elim off.0 [
@@ -111,14 +100,7 @@ bases_turn mark name there = inl (there, table_keeps table.Base2 (moving 4 0) na
 
 pub bases_stand : (mark : ℕ) (at to : Point) (book : List Entry) (old new : Trees) → (at ≡ moving 3 mark) × (is_on_way at ≡ true) → next_mark at book ≡ None → StandsAt at old book → MakesBases to old new → (to ≡ next_point at book) × StandsAt to new book
 bases_stand mark at to book old new here due stood it =
-    let stands = subst (λ q. StandsAt q old book) here.0 stood in
-    let b = stands.rows.is_book in
-    let way : is_on_way (moving 3 mark) ≡ true = subst (λ q. is_on_way q ≡ true) here.0 here.1 in
-    let none : next_mark (moving 3 mark) book ≡ None = subst (λ q. next_mark q book ≡ None) here.0 due in
-    let stay = stay_where_none 3 mark (omega arith) (omega arith) book b way none in
-    let made = subst (λ q. MakesRows (table_made table.Base2 q) q old new) it.point it.made in
-    let done = stands_next (moving 3 mark) (moving 4 0) book (table_made table.Base2 (moving 4 0)) old new (omega arith, omega arith, omega arith) (bases_fit mark book stay old stands) (bases_turn mark) (bases_become mark book stay) stands made in
-    (it.point ∙ sym (next_of_none 3 mark (omega arith) (omega arith) book b way none) ∙ ap (λ q. next_point q book) (sym here.0), subst (λ q. StandsAt q new book) (sym it.point) done)
+    ended_stands 3 mark (omega arith) (omega arith) (moving 4 0) refl (omega arith, omega arith, omega arith) (table_made table.Base2) (bases_fit mark) (bases_turn mark) (bases_become mark) at to book old new here due stood it.point it.made
 
 -- ── the newest layout ──
 
@@ -138,12 +120,4 @@ same_tables mark name there = there
 
 pub finished_stands : (mark : ℕ) (at to : Point) (book : List Entry) (old new : Trees) → (at ≡ moving 4 mark) × (is_on_way at ≡ true) → next_mark at book ≡ None → StandsAt at old book → Finishes to old new → (to ≡ next_point at book) × StandsAt to new book
 finished_stands mark at to book old new here due stood it =
-    let stands = subst (λ q. StandsAt q old book) here.0 stood in
-    let b = stands.rows.is_book in
-    let way : is_on_way (moving 4 mark) ≡ true = subst (λ q. is_on_way q ≡ true) here.0 here.1 in
-    let none : next_mark (moving 4 mark) book ≡ None = subst (λ q. next_mark q book ≡ None) here.0 due in
-    let stay = stay_where_none 4 mark (omega arith) (omega arith) book b way none in
-    let made = subst (λ q. MakesRows (point_set q) q old new) it.point it.made in
-    let done = stands_next (moving 4 mark) (settled 2) book (point_set (settled 2)) old new (omega arith, omega arith, omega arith) (all_fit mark book stay old stands)
-    (λ name there. inl (same_tables mark name there, point_keeps (settled 2) name)) (all_become mark book stay) stands made in
-    (it.point ∙ sym (next_of_none 4 mark (omega arith) (omega arith) book b way none) ∙ ap (λ q. next_point q book) (sym here.0), subst (λ q. StandsAt q new book) (sym it.point) done)
+    ended_stands 4 mark (omega arith) (omega arith) (settled 2) refl (omega arith, omega arith, omega arith) point_set (all_fit mark) (λ name there. inl (same_tables mark name there, point_keeps (settled 2) name)) (all_become mark) at to book old new here due stood it.point it.made

@@ -20,7 +20,9 @@ use Rattle.mx_registers.proofs.PointsProofs.StandingLemmas.{empty_where_absent}
 use Rattle.mx_registers.proofs.PointsProofs.StepLemmas.{step_after}
 use Rattle.mx_layout.specs.TableName.{TableName}
 use Rattle.mx_layout.specs.declared.fault.Table.TheVariants as table
+use Rattle.sqlite.specs.Order.{Row}
 use Rattle.mx_layout.specs.Contents.{rows_in}
+use Rattle.mx_layout.specs.Point.{FitsPoint}
 use Rattle.mx_layout.specs.Tables.{sector1}
 use Rattle.mx_layout.specs.kept.Cells.{kept_sector1, kept_sector2, kept_span2, kept_fit1, kept_removal1}
 use Rattle.mx_book_tables.specs.stands.Family.{rows_of, rows_given, is_at, Fit}
@@ -68,12 +70,39 @@ made_stands at to book old new here due stood it =
 
 module _ (step mark : ℕ) (some : 0 < step) (last : step ≤ 4) (book : List Entry) (b : IsBook book) (way : is_on_way (moving step mark) ≡ true) (none : next_mark (moving step mark) book ≡ None) where
   -- the next point is that of the next step, or of the next layout
-  pub next_of_none : next_point (moving step mark) book ≡ on_to (moving step mark) None
+  next_of_none : next_point (moving step mark) book ≡ on_to (moving step mark) None
   next_of_none = step_after step mark (next_mark (moving step mark) book) some last (way_parts book b (moving step mark) way).2 ∙ ap (on_to (moving step mark)) none
 
   -- all tables stay
-  pub stay_where_none : AllStay (moving step mark) (on_to (moving step mark) None) book
+  stay_where_none : AllStay (moving step mark) (on_to (moving step mark) None) book
   stay_where_none = subst (λ q. AllStay (moving step mark) q book) next_of_none (tables_stay book b (moving step mark) (λ _. none))
+
+module _ (step mark : ℕ) (some : 0 < step) (last : step ≤ 4) (next : Point) (leads : on_to (moving step mark) None ≡ next) where
+  -- the same of a file that is at a point of the step, on its way
+  module _ (at : Point) (book : List Entry) (here : (at ≡ moving step mark) × (is_on_way at ≡ true)) (due : next_mark at book ≡ None) (b : IsBook book) where
+    way : is_on_way (moving step mark) ≡ true
+    way = subst (λ q. is_on_way q ≡ true) here.0 here.1
+
+    none : next_mark (moving step mark) book ≡ None
+    none = subst (λ q. next_mark q book ≡ None) here.0 due
+
+    pub ended_next : next_point at book ≡ next
+    ended_next = ap (λ q. next_point q book) here.0 ∙ next_of_none step mark some last book b way none ∙ leads
+
+    pub ended_stay : AllStay (moving step mark) next book
+    ended_stay = subst (λ q. AllStay (moving step mark) q book) leads (stay_where_none step mark some last book b way none)
+
+  -- what ends the step makes of each table what the book gives at the next point: the tables stand for it there
+  pub ended_stands : FitsPoint next → (onto : Point → TableName → List Row → List Row)
+      → ((book : List Entry) → AllStay (moving step mark) next book → (old : Trees) → StandsAt (moving step mark) old book → (name : TableName) → is_at next name ≡ true → Fit (rows_of name) next book)
+      → ((name : TableName) → is_at next name ≡ true → ((is_at (moving step mark) name ≡ true) × Keeps (onto next) name) ⊎ Forgets (onto next) name)
+      → ((book : List Entry) → AllStay (moving step mark) next book → (name : TableName) → is_at next name ≡ true → IsPermutation (onto next name (rows_given (moving step mark) book name)) (rows_given next book name))
+      → (at to : Point) (book : List Entry) (old new : Trees) → (at ≡ moving step mark) × (is_on_way at ≡ true) → next_mark at book ≡ None → StandsAt at old book → to ≡ next → MakesRows (onto to) to old new → (to ≡ next_point at book) × StandsAt to new book
+  ended_stands fits onto fit turns become at to book old new here due stood point makes =
+      let stands = subst (λ q. StandsAt q old book) here.0 stood in
+      let stay = ended_stay at book here due stands.rows.is_book in
+      let done = stands_next (moving step mark) next book (onto next) old new fits (fit book stay old stands) turns (become book stay) stands (subst (λ q. MakesRows (onto q) q old new) point makes) in
+      (point ∙ sym (ended_next at book here due stands.rows.is_book), subst (λ q. StandsAt q new book) (sym point) done)
 
 -- ── the table of spans in place of the old one of sectors ──
 
@@ -108,19 +137,11 @@ spans_turn mark name there = inl (there, table_keeps table.Span2 (moving 2 0) na
 
 pub changed_stands : (mark : ℕ) (at to : Point) (book : List Entry) (old new : Trees) → (at ≡ moving 1 mark) × (is_on_way at ≡ true) → next_mark at book ≡ None → StandsAt at old book → ChangesToSpans to old new → (to ≡ next_point at book) × StandsAt to new book
 changed_stands mark at to book old new here due stood it =
-    let stands = subst (λ q. StandsAt q old book) here.0 stood in
-    let way : is_on_way (moving 1 mark) ≡ true = subst (λ q. is_on_way q ≡ true) here.0 here.1 in
-    let none : next_mark (moving 1 mark) book ≡ None = subst (λ q. next_mark q book ≡ None) here.0 due in
-    let stay = stay_where_none 1 mark (omega arith) (omega arith) book stands.rows.is_book way none in
-    let made = subst (λ q. MakesRows (table_made table.Span2 q) q old new) it.point it.made in
-    let done = stands_next (moving 1 mark) (moving 2 0) book (table_made table.Span2 (moving 2 0)) old new (omega arith, omega arith, omega arith) (spans_fit mark book stay old stands) (spans_turn mark) (spans_become mark book stay) stands made in
-    (it.point ∙ sym (next_of_none 1 mark (omega arith) (omega arith) book stands.rows.is_book way none) ∙ ap (λ q. next_point q book) (sym here.0), subst (λ q. StandsAt q new book) (sym it.point) done)
+    ended_stands 1 mark (omega arith) (omega arith) (moving 2 0) refl (omega arith, omega arith, omega arith) (table_made table.Span2) (spans_fit mark) (spans_turn mark) (spans_become mark) at to book old new here due stood it.point it.made
 
 -- of tables that stand for a book whose sectors have all moved, none is left over
 pub changed_whole : (mark : ℕ) (at : Point) (book : List Entry) (name : TableName) (trees : Trees) → (at ≡ moving 1 mark) × (is_on_way at ≡ true) → next_mark at book ≡ None → StandsAt at trees book → IsLeftOver name trees → ⊥
 changed_whole mark at book name trees here due stood off =
     let stands = subst (λ q. StandsAt q trees book) here.0 stood in
-    let way : is_on_way (moving 1 mark) ≡ true = subst (λ q. is_on_way q ≡ true) here.0 here.1 in
-    let none : next_mark (moving 1 mark) book ≡ None = subst (λ q. next_mark q book ≡ None) here.0 due in
-    let stay = stay_where_none 1 mark (omega arith) (omega arith) book stands.rows.is_book way none in
+    let stay = ended_stay 1 mark (omega arith) (omega arith) (moving 2 0) refl at book here due stands.rows.is_book in
     off.1 (permutation_none (rows_in sector1 trees) (subst (λ rows. IsPermutation (map kept_sector1.as_cells rows) (rows_in sector1 trees)) (no_old mark book stay) (stands.rows.tables table.Sector1 refl)))

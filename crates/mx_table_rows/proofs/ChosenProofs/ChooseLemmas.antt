@@ -1,12 +1,11 @@
 -- What SELECT .. FROM table WHERE .. ORDER BY .. LIMIT answers, whatever the schema is.
-use Rattle.std.proofs.Common.{◌≡◌, ℕ, ◌+◌, ◌<◌, Bool, true, false, cond, List, [], ◌∷◌, ◌++◌, map, filter, flat_map, length, slice_index_or, Option, Some, None, refl, sym, ap, ap₂, subst, ◌∙◌, All, arith}
+use Rattle.std.proofs.Common.{◌≡◌, ℕ, ◌+◌, Bool, true, false, cond, List, [], ◌∷◌, ◌++◌, map, filter, flat_map, Option, Some, None, refl, sym, ap, ap₂, subst, ◌∙◌, All}
 use Rattle.std.specs.List.{list_all}
 use Rattle.std.specs.declared.cmp.Ordering.{Ordering}
 use Rattle.std.specs.declared.cmp.Ordering.TheVariants.{Less, Equal, Greater}
 use Rattle.std.specs.Ordering.{is_lt, ordering_then}
-use Rattle.std.specs.List.Sorted.{IsPermutation, IsSorted}
+use Rattle.std.specs.List.Sorted.{IsPermutation}
 use Rattle.std.proofs.lemmas.List.Sorted.{IsPermutation-map, All-permutation}
-use Rattle.std.proofs.lemmas.List.{get_or-map, length-map}
 use Rattle.std.proofs.lemmas.List.Elements.{All-map}
 use Rattle.sqlite_keyed.proofs.ListLemmas.{map-map, filter-map, filter_same}
 use Rattle.sqlite.specs.declared.types.Value.TheVariants.{Null}
@@ -25,7 +24,7 @@ use Rattle.sqlite.proofs.Callers.{IsPlain, reads_as}
 use Rattle.sqlite_value.specs.declared.keys.Key.{Key}
 use Rattle.mx_layout.specs.Contents.{cells, rows_in}
 use Rattle.mx_layout.specs.Reading.{by_first, by_two}
-use Rattle.mx_layout.proofs.ReadLemmas.{first_key, two_keys, shown_unchanged}
+use Rattle.mx_layout.proofs.ReadLemmas.{first_key, two_keys, shown_unchanged, rows_sorted}
 use Rattle.mx_table_rows.specs.chosen.Choices.{AreFirst, at_most, backward}
 use Rattle.mx_table_rows.specs.chosen.Lookups.{choose, SortsAt, MeansThose}
 use Rattle.mx_table_rows.specs.chosen.Calls.{ShowsFirst}
@@ -90,12 +89,7 @@ module _ (keys : List (Term × Key)) (tests : List Term) (order : Row → Row �
       ap (map (λ (o : Output). o.1)) kept ∙ map-map (λ (o : Output). o.1) out (filter passes (db table.tree)) ∙ ap (λ (f : Row → Row). map f (filter passes (db table.tree))) shows ∙ passing db in
       let outs : All IsOut a.ordered = All-permutation IsOut a.kept a.ordered a.same (subst (All IsOut) (sym kept) (All-map IsOut out (filter passes (db table.tree)) (λ i d low. (_, refl)))) in
       let xs = map (λ (o : Output). o.1) a.ordered in
-      let sorted : IsSorted order xs = (λ k d low high.
-      let e : Output = ([], []) in
-      let within : k + 1 < length a.ordered = omega (arith, high, length-map a.ordered (λ (o : Output). o.1)) in
-      let one = get_or-map (λ (o : Output). o.1) a.ordered k e d (omega arith) in
-      let two = get_or-map (λ (o : Output). o.1) a.ordered (k + 1) e d within in
-      rw (one, two) (step (slice_index_or a.ordered (k + 1) e) (slice_index_or a.ordered k e) (outs (k + 1) e within) (outs k e (omega arith)) (a.sorted k e low within))) in
+      let sorted = rows_sorted order q IsOut step a.ordered outs a.sorted in
       let all : IsPermutation (filter chosen (rows_in table db)) xs = subst (λ ys. IsPermutation ys xs) seen (IsPermutation-map (λ (o : Output). o.1) a.kept a.ordered a.same) in
       record { those = xs; are = record { all = all; sorted = sorted }; first = a.shown ∙ ap (λ o. limited o xs) counts ∙ limited_is most xs }
 

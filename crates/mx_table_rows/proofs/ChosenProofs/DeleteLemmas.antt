@@ -61,16 +61,17 @@ without_is : (ids : List ℤ) (xs : List Row) → without_all xs ids ≡ filter 
 without_is [] xs = sym (none_out xs)
 without_is (id ∷ ids) xs = without_is ids (without_rowid id xs) ∙ both_out (has_rowid id) (λ r. list_any (λ i. has_rowid i r) ids) xs
 
-filter_has : (p q : Row → Bool) (xs : List Row) → ((x : Row) → Has xs x → p x ≡ q x) → filter p xs ≡ filter q xs
+-- tests that are the same of each element leave the same
+pub filter_has : {X : Type 0} (p q : X → Bool) (xs : List X) → ((x : X) → Has xs x → p x ≡ q x) → filter p xs ≡ filter q xs
 filter_has p q [] h = refl
 filter_has p q (x ∷ xs) h = ap₂ (λ b l. cond b (x ∷ l) l) (h x (inl refl)) (filter_has p q xs (λ y k. h y (inr k)))
 
-same_test : (a b : Bool) → (a ≡ true → b ≡ true) → (b ≡ true → a ≡ true) → a ≡ b
+pub same_test : (a b : Bool) → (a ≡ true → b ≡ true) → (b ≡ true → a ≡ true) → a ≡ b
 same_test true b f g = sym (f refl)
 same_test false true f g = g refl
 same_test false false f g = refl
 
-map_had : {X Y : Type 0} (f : X → Y) (xs : List X) (y : Y) → Has (map f xs) y → (x : X) × Has xs x × (y ≡ f x)
+pub map_had : {X Y : Type 0} (f : X → Y) (xs : List X) (y : Y) → Has (map f xs) y → (x : X) × Has xs x × (y ≡ f x)
 map_had f [] y h = absurd h
 map_had f (x ∷ xs) y (inl same) = (x, inl refl, same)
 map_had f (x ∷ xs) y (inr later) = let it = map_had f xs y later in (it.0, inr it.1, it.2)

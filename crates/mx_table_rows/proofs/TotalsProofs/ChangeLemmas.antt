@@ -19,7 +19,9 @@ use Rattle.mx_table_rows.specs.totals.Calls.{change_where, Becomes, ReadsFrom, C
 use Rattle.mx_table_rows.specs.totals.Single.{IsOnly, HasOne}
 use Rattle.mx_table_rows.proofs.TotalsProofs.RowLemmas.{where_one}
 use Rattle.mx_table_rows.proofs.TotalsProofs.ReadLemmas.{stopped_is}
-use Rattle.mx_table_rows.proofs.TotalsProofs.KeepLemmas.{Stopped, on_ok, on_ok_weaker, on_read, not_damaged, caused, at_damage, read_weaker}
+use Rattle.mx_layout.proofs.ReadLemmas.{on_ok}
+use Rattle.mx_tables.proofs.InsertsProofs.SetLemmas.{on_weaker, on_read_weaker}
+use Rattle.mx_table_rows.proofs.TotalsProofs.KeepLemmas.{Stopped, on_read, not_damaged, caused, at_damage}
 
 -- the one row that passes a test is replaced, by way of another test that leaves the same rows
 pub replaced_where : (table : Table) (test by : Row → Bool) (change : Row → Row) (row new_row : Row) (old new : Database) → filter test (rows_in table old.trees) ≡ row ∷ [] → new_row ≡ change row
@@ -48,14 +50,14 @@ read_then_replaced {X} {V} k test by change x y old mid new result one two made 
           let stays = one.inside (early clean) begun in
           let only = one.value (early clean) has in
           let replaces = two.replaces clean stays.mode (subst (λ (d : Database). k.IsIn d.schema) (sym same) has) (subst (λ (d : Database). HasNoReferences d.schema) (sym same) free) (subst (λ (d : Database). Rises table d.trees) (sym same) rises) in
-          on_ok_weaker result (replaced_where table test by change (k.as_cells x) (k.as_cells y) old.now new.now only.only made (left rises only))
+          on_weaker result (replaced_where table test by change (k.as_cells x) (k.as_cells y) old.now new.now only.only made (left rises only))
           (subst (λ (d : Database). OnOk result (Replaces table by (k.as_cells y) d new.now)) same replaces));
       good = λ clean has. on_ok result (x, one.value (early clean) has);
       cause = caused result k.name two.cause;
       damaged = λ _ _ is. absurd (not_damaged result k.name two.cause is);
       unchanged = λ _ _ is. absurd (not_damaged result k.name two.cause is);
-      mode = λ clean begun. on_read _ result two.cause (on_ok_weaker result (λ stays. stays.mode) (two.inside clean (one.inside (early clean) begun).mode));
-      inside = λ clean begun. (let first = one.inside (early clean) begun.0 in on_read _ result two.cause (on_ok_weaker result (stays_then old mid new first) (two.inside clean first.mode)));
+      mode = λ clean begun. on_read _ result two.cause (on_weaker result (λ stays. stays.mode) (two.inside clean (one.inside (early clean) begun).mode));
+      inside = λ clean begun. (let first = one.inside (early clean) begun.0 in on_read _ result two.cause (on_weaker result (stays_then old mid new first) (two.inside clean first.mode)));
       within = within_then old mid new one.within (λ clean begun. (one.inside clean begun).mode) two.within;
     }
 
@@ -70,7 +72,7 @@ stops_changing {X} {V} {W} k made Is AreGood AreBad old new e result is r =
       cause = r.cause;
       damaged = λ clean has same. r.damaged clean has (cc);
       unchanged = λ clean has same. at_damage {T = V} (Err e) k.name (cc) (r.unchanged clean has);
-      mode = λ clean begun. read_weaker {T = W} (Err e) (λ stays. stays.mode) (r.inside clean begun);
+      mode = λ clean begun. on_read_weaker {T = W} (Err e) (λ stays. stays.mode) (r.inside clean begun);
       inside = λ clean begun. r.inside clean begun.0;
       within = r.within;
     })
@@ -78,12 +80,12 @@ stops_changing {X} {V} {W} k made Is AreGood AreBad old new e result is r =
 -- a row is added
 pub inserts_is : {X V : Type 0} (k : Kept X) (x : X) (old new : State) (result : Result V TableFault) → InsertsRow k x old new result → ChangesRows k (λ rows. k.as_cells x ∷ rows) (λ _. ⊤) (λ _. ⊥) old new result
 inserts_is k x old new result r = record {
-  becomes = λ clean begun has free rises. on_ok_weaker result (λ gains. record { schema = gains.schema; rows = gains.adds.gained; others = gains.adds.others; rises = gains.adds.rises rises; sound = λ _. gains.sound }) (r.gains clean begun has);
+  becomes = λ clean begun has free rises. on_weaker result (λ gains. record { schema = gains.schema; rows = gains.adds.gained; others = gains.adds.others; rises = gains.adds.rises rises; sound = λ _. gains.sound }) (r.gains clean begun has);
   good = λ _ _. on_ok result tt;
   cause = caused result k.name r.cause;
   damaged = λ _ _ is. not_damaged result k.name r.cause is;
   unchanged = λ _ _ is. absurd (not_damaged result k.name r.cause is);
-  mode = λ clean begun. on_read _ result r.cause (on_ok_weaker result (λ stays. stays.mode) (r.inside clean begun));
+  mode = λ clean begun. on_read _ result r.cause (on_weaker result (λ stays. stays.mode) (r.inside clean begun));
   inside = λ clean begun. on_read _ result r.cause (r.inside clean begun.0);
   within = r.within;
 }
@@ -99,4 +101,4 @@ opens_then k Is AreBad old mid new v result one within why clean begun =
 pub opens_stopped : {X V W : Type 0} (k : Kept X) (Is : List Row → V → Type 0) (AreBad : List Row → Type 0) (old new : State) (e : TableFault) (result : Result W TableFault) → IsErrAnd result (λ f. f ≡ e) → ReadsFrom k Is AreBad old new (Err e)
     → HasCleanDisk new → IsTrue old.in_transaction → OnRead result (IsTrue old.is_open)
 opens_stopped {X} {V} {W} k Is AreBad old new e result is r clean begun =
-    subst (λ (s : Result W TableFault). OnRead s (IsTrue old.is_open)) (sym (stopped_is e result is)) (read_weaker {T = W} (Err e) (λ stays. stays.was_open) (r.inside clean begun))
+    subst (λ (s : Result W TableFault). OnRead s (IsTrue old.is_open)) (sym (stopped_is e result is)) (on_read_weaker {T = W} (Err e) (λ stays. stays.was_open) (r.inside clean begun))

@@ -3,10 +3,8 @@ use Rattle.std.proofs.Common.{◌≡◌, ◌⊎◌, inl, inr, Ok, Err, Result, O
 use Rattle.sqlite.specs.State.{State, IsUnchanged}
 use Rattle.mx_layout.specs.TableName.{TableName}
 use Rattle.mx_layout.specs.declared.fault.TableFault.{TableFault}
-use Rattle.mx_layout.specs.declared.fault.TableFault.TheVariants.{Memory, Store, NotOurs, Exists, Damaged}
-use Rattle.mx_layout.specs.Crash.{StaysInside}
+use Rattle.mx_layout.specs.declared.fault.TableFault.TheVariants.{Memory, Store, Damaged}
 use Rattle.mx_tables.specs.Calls.{OnRead, OnDamaged}
-use Rattle.mx_tables.specs.inserts.Sets.{IsInside}
 use Rattle.mx_table_rows.specs.totals.Steps.{Keeps}
 
 pub keeps_itself : (s : State) → Keeps s s
@@ -29,18 +27,7 @@ unchanged_after a b c one two = (
   two.2 ∙ one.marks,
 )
 
-pub stays_itself : (s : State) → IsInside s → StaysInside s s
-stays_itself s inside = record { was_open = inside.1; is_open = inside.1; now_is = refl; committed_is = refl; mode = inside.0 }
-
 -- ── what a call answered ──
-
-pub on_ok : {T E P : Type 0} (r : Result T E) → P → OnOk r P
-on_ok (Ok v) h = h
-on_ok (Err e) h = tt
-
-pub on_ok_weaker : {T E P Q : Type 0} (r : Result T E) → (P → Q) → OnOk r P → OnOk r Q
-on_ok_weaker (Ok v) f h = f h
-on_ok_weaker (Err e) f h = tt
 
 abbrev pub Stopped : {T : Type 0} → Result T TableFault → Type 0
 Stopped r = IfErr r (λ e. (e ≡ Memory) ⊎ (e ≡ Store))
@@ -60,14 +47,6 @@ pub caused : {T : Type 0} (r : Result T TableFault) (name : TableName) → Stopp
 caused (Ok v) name why = tt
 caused (Err e) name (inl memory) = inl memory
 caused (Err e) name (inr store) = inr (inl store)
-
-pub read_weaker : {T P Q : Type 0} (r : Result T TableFault) → (P → Q) → OnRead r P → OnRead r Q
-read_weaker (Ok v) f h = f h
-read_weaker (Err Memory) f h = tt
-read_weaker (Err Store) f h = tt
-read_weaker (Err NotOurs) f h = tt
-read_weaker (Err Exists) f h = tt
-read_weaker (Err (Damaged table)) f h = f h
 
 -- what holds where a call found damage
 pub at_damage : {T P : Type 0} (r : Result T TableFault) (name : TableName) → r ≡ Err (Damaged name) → OnRead r P → P

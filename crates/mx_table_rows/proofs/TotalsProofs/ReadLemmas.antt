@@ -53,6 +53,18 @@ module _ {X : Type 0} (k : Kept X) (test : Row → Bool) (old new : State) where
     reads_bad : {V : Type 0} (Is : List Row → V → Type 0) (AreBad : List Row → Type 0) → (HasCleanDisk new → k.IsIn old.now.schema → AreBad stored) → ReadsFrom {V = V} k Is AreBad old new (Err (Damaged k.name))
     reads_bad Is AreBad bad = record { value = λ _ _. tt; cause = inr (inr refl); damaged = λ clean has _. bad clean has; unchanged = same; inside = inside; within = within }
 
+  -- nothing was read
+  reads_none : {V W : Type 0} {items : V → List X} (Is : List Row → W → Type 0) (AreBad : List Row → Type 0) (e : TableFault) → ((rows : List Row) → AreFirst None k.order (table_named k.name) test old.now.trees rows → HasOther (IsReadableAs k) rows → AreBad stored)
+      → ReadsFirst k None k.order test items old new (Err e) → ReadsFrom k Is AreBad old new (Err e)
+  reads_none Is AreBad e bad r = record {
+    value = λ _ _. tt;
+    cause = r.cause;
+    damaged = λ clean has is. (let other = r.damaged clean has (cc) in bad other.0 other.1 other.2);
+    unchanged = r.unchanged;
+    inside = r.inside;
+    within = r.within;
+  }
+
   reads_one_in : (xs : List X) → (HasCleanDisk new → k.IsIn old.now.schema → AreFirst None k.order (table_named k.name) test old.now.trees (map k.as_cells xs)) → All k.Fits xs → (HasCleanDisk new → k.IsIn old.now.schema → IsUnchanged old new)
       → (HasCleanDisk new → IsTrue old.in_transaction → StaysInside old new) → IsWithin old new → ReadsFrom k (IsOnly k test) (λ rows. ¬ HasOne k test rows) old new (one_in k.name xs)
   reads_one_in [] all fits same inside within = reads_bad [] all fits same inside within (IsOnly k test) (λ rows. ¬ HasOne k test rows) (λ clean has one. (let none = other_count [] (k.as_cells one.0) (all clean has) one.1.only in absurd (cc none)))
@@ -65,14 +77,7 @@ module _ {X : Type 0} (k : Kept X) (test : Row → Bool) (old new : State) where
   pub reads_only : {A : Type 0} (read : Result (Vec X A) TableFault) → ReadsFirst k None k.order test (λ rows. rows.items) old new read
       → ReadsFrom k (IsOnly k test) (λ rows. ¬ HasOne k test rows) old new (only_of k.name read)
   reads_only (Ok rows) r = reads_one_in rows.items r.rows r.fits r.unchanged r.inside r.within
-  reads_only (Err e) r = record {
-    value = λ _ _. tt;
-    cause = r.cause;
-    damaged = λ clean has is. (let bad = r.damaged clean has (cc) in not_one bad.0 bad.1 bad.2);
-    unchanged = r.unchanged;
-    inside = r.inside;
-    within = r.within;
-  }
+  reads_only (Err e) r = reads_none (IsOnly k test) (λ rows. ¬ HasOne k test rows) e not_one r
 
   not_some : (rows : List Row) → AreFirst None k.order (table_named k.name) test old.now.trees rows → HasOther (IsReadableAs k) rows → ¬ HasOneOrNone k test stored
   not_some rows are other (None, found) =
@@ -97,14 +102,7 @@ module _ {X : Type 0} (k : Kept X) (test : Row → Bool) (old new : State) where
   pub reads_one_or_none : {A : Type 0} (read : Result (Vec X A) TableFault) → ReadsFirst k None k.order test (λ rows. rows.items) old new read
       → ReadsFrom k (IsOneOrNone k test) (λ rows. ¬ HasOneOrNone k test rows) old new (one_or_none_of k.name read)
   reads_one_or_none (Ok rows) r = reads_some_in rows.items r.rows r.fits r.unchanged r.inside r.within
-  reads_one_or_none (Err e) r = record {
-    value = λ _ _. tt;
-    cause = r.cause;
-    damaged = λ clean has is. (let bad = r.damaged clean has (cc) in not_some bad.0 bad.1 bad.2);
-    unchanged = r.unchanged;
-    inside = r.inside;
-    within = r.within;
-  }
+  reads_one_or_none (Err e) r = reads_none (IsOneOrNone k test) (λ rows. ¬ HasOneOrNone k test rows) e not_some r
 
 -- something else is made of what was read
 pub reads_as : {X V W : Type 0} (k : Kept X) (Is : List Row → V → Type 0) (As : List Row → W → Type 0) (AreBad AreWorse : List Row → Type 0) (old new : State) (v : V) (w : W)

@@ -1,5 +1,5 @@
 -- Rows that are chosen, changed and put in another order.
-use Rattle.std.proofs.Common.{◌≡◌, inl, inr, ℕ, pos, Bool, true, false, not, cond, List, [], ◌∷◌, ◌++◌, map, filter, refl, sym, ap, subst, ◌∙◌, arith}
+use Rattle.std.proofs.Common.{◌≡◌, inl, inr, ℕ, pos, Bool, true, false, not, List, [], ◌∷◌, ◌++◌, map, filter, refl, sym, ap, subst, ◌∙◌, arith}
 use Rattle.std.specs.Prelude.{if◌then◌else◌}
 use Rattle.std.specs.List.Sorted.{IsPermutation}
 use Rattle.std.proofs.lemmas.Bool.{cases_Bool, eqb-true}
@@ -55,13 +55,6 @@ module _ {X : Type 0} where
   pub map_same : (xs : List X) → map (λ x. x) xs ≡ xs
   map_same [] = refl
   map_same (x ∷ xs) = ap (λ l. x ∷ l) (map_same xs)
-
-  -- tests that are the same of each element leave the same
-  pub filter_has : (p q : X → Bool) (xs : List X) → ((x : X) → Has xs x → p x ≡ q x) → filter p xs ≡ filter q xs
-  filter_has p q [] same = refl
-  filter_has p q (x ∷ xs) same =
-      let rest = filter_has p q xs (λ y here. same y (inr here)) in
-      subst (λ b. cond (p x) (x ∷ filter p xs) (filter p xs) ≡ cond b (x ∷ filter q xs) (filter q xs)) (same x (inl refl)) (ap (λ l. cond (p x) (x ∷ l) l) rest)
 
 -- the rows that pass, where that is one, are changed
 pub where_one : (test : Row → Bool) (change : Row → Row) (rows : List Row) (row : Row) → filter test rows ≡ row ∷ [] → IsPermutation (change_where test change rows) (change row ∷ filter (λ r. not (test r)) rows)

@@ -1,5 +1,5 @@
 -- The open span of a component, by the entry that began it: no two rows of the table have one number of that entry.
-use Rattle.std.proofs.Common.{◌≡◌, inl, inr, ℕ, ℤ, pos, Bool, true, false, not, List, [], ◌∷◌, map, filter, IsTrue, refl, sym, ap, subst, ◌∙◌, arith}
+use Rattle.std.proofs.Common.{◌≡◌, inl, inr, ℕ, ℤ, pos, Bool, true, false, not, List, filter, IsTrue, refl, sym, ap, subst, ◌∙◌, arith}
 use Rattle.std.proofs.lemmas.Int.{ints}
 use Rattle.std.proofs.lemmas.Bool.Decides.{nat_tests}
 use Rattle.std.proofs.lemmas.Cmp.{tied_itself}
@@ -22,9 +22,10 @@ use Rattle.mx_layout.specs.Contents.{cells, rows_in, Rises}
 use Rattle.mx_layout.specs.Tables.{span2}
 use Rattle.mx_layout.specs.kept.Cells.{kept_span2}
 use Rattle.mx_table_rows.specs.chosen.Choices.{has_value, is_open}
+use Rattle.mx_table_rows.proofs.ChosenProofs.DeleteLemmas.{filter_has, map_had, same_test}
 use Rattle.mx_table_rows.proofs.ChosenProofs.EqualLemmas.{equal_numbers}
 use Rattle.mx_table_rows.specs.totals.Single.{IsOnly}
-use Rattle.mx_table_rows.proofs.TotalsProofs.RowLemmas.{passes_only, filter_has}
+use Rattle.mx_table_rows.proofs.TotalsProofs.RowLemmas.{passes_only}
 
 same_integer : (a b : ℤ) → equal Binary (Int a) (Int b) ≡ true → a ≡ b
 same_integer a b same = let test : int_test Eq a b ≡ true = sym (at_ints false Eq a b) ∙ same in grind (arith, ints)
@@ -35,16 +36,6 @@ integer_is (Int m) n whole same = ap Int (same_integer m n same)
 integer_is (Real x) n whole same = absurd cc
 integer_is (Text t) n whole same = absurd cc
 integer_is (Blob b) n whole same = absurd cc
-
-same_test : (a b : Bool) → (a ≡ true → b ≡ true) → (b ≡ true → a ≡ true) → a ≡ b
-same_test true b f g = sym (f refl)
-same_test false true f g = g refl
-same_test false false f g = refl
-
-map_had : {X Y : Type 0} (f : X → Y) (xs : List X) (y : Y) → Has (map f xs) y → (x : X) × Has xs x × (y ≡ f x)
-map_had f [] y here = absurd here
-map_had f (x ∷ xs) y (inl same) = (x, inl refl, same)
-map_had f (x ∷ xs) y (inr later) = let it = map_had f xs y later in (it.0, inr it.1, it.2)
 
 module _ (component : ℕ) (trees : Trees) (x : SpanRow) (rises : Rises span2 trees) (only : IsOnly kept_span2 (is_open 1 (Int (pos component))) (rows_in span2 trees) x) where
   abbrev test : Row → Bool

@@ -26,7 +26,9 @@ use Rattle.mx_table_rows.specs.totals.Calls.{change_where, Becomes, ReadsFrom, C
 use Rattle.mx_table_rows.specs.totals.Totals.{is_of_item, is_of_any, credited, CanCredit, IsCredited, AreCredited, totals_put}
 use Rattle.mx_table_rows.specs.totals.Steps.{ReadsTotals, PutsTotals}
 use Rattle.mx_table_rows.proofs.TotalsProofs.ReadLemmas.{stopped_is}
-use Rattle.mx_table_rows.proofs.TotalsProofs.KeepLemmas.{keeps_itself, keeps_then, unchanged_after, stays_itself, on_ok, on_ok_weaker, on_read, not_damaged, caused, read_weaker, at_damage}
+use Rattle.mx_layout.proofs.ReadLemmas.{on_ok}
+use Rattle.mx_tables.proofs.InsertsProofs.SetLemmas.{on_weaker, on_read_weaker, stays_open}
+use Rattle.mx_table_rows.proofs.TotalsProofs.KeepLemmas.{keeps_itself, keeps_then, unchanged_after, on_read, not_damaged, caused, at_damage}
 use Rattle.mx_table_rows.proofs.TotalsProofs.CreditLemmas.{credited_put, credited_more, put_more}
 
 -- ── read ──
@@ -40,7 +42,7 @@ module _ (added : Use) where
     unchanged = λ _ _ is. (absurd cc);
     keeps = λ _ _. keeps_itself s;
     mode = λ _ begun. begun;
-    inside = λ _ begun. stays_itself s begun;
+    inside = λ _ begun. stays_open s begun;
     within = within_itself s;
   }
 
@@ -77,8 +79,8 @@ module _ (added : Use) where
           damaged = λ clean has same. (i, item, low, here, subst (λ (d : Database). ¬ CanCredit added (rows_in total2 d.trees) item) (kept clean has).now_is (one.damaged clean (there clean has) (cc)));
           unchanged = λ clean has same. unchanged_after first old new (kept clean has) (at_damage {T = V} (Err e) Total2 (cc) (one.unchanged clean (there clean has)));
           keeps = λ _ _. tt;
-          mode = λ clean begun. read_weaker {T = W} (Err e) (λ stays. stays.mode) (one.inside clean (so_far.mode (early clean) begun));
-          inside = λ clean begun. read_weaker {T = W} (Err e) (stays_then first old new (so_far.inside (early clean) begun)) (one.inside clean (so_far.mode (early clean) begun.0));
+          mode = λ clean begun. on_read_weaker {T = W} (Err e) (λ stays. stays.mode) (one.inside clean (so_far.mode (early clean) begun));
+          inside = λ clean begun. on_read_weaker {T = W} (Err e) (stays_then first old new (so_far.inside (early clean) begun)) (one.inside clean (so_far.mode (early clean) begun.0));
           within = within_then first old new so_far.within so_far.mode one.within;
         })
 
@@ -104,7 +106,7 @@ none_put s = record {
   becomes = λ _ _ _ _ rises. record { schema = refl; rows = IsPermutation-refl (rows_in total2 s.now.trees); others = others_same total2 s.now.trees s.now.schema.tables; rises = rises; sound = λ sound. sound };
   cause = tt;
   mode = λ _ begun. begun;
-  inside = λ _ begun. stays_itself s begun;
+  inside = λ _ begun. stays_open s begun;
   within = within_itself s;
 }
 
@@ -157,13 +159,13 @@ read_then_put {V} {W} added items rows_of v old mid new result distinct one two 
       becomes = λ clean begun has free rises. (let same = (one.keeps (early clean) has).now_is in
           let puts = two.becomes clean (one.mode (early clean) begun) (subst (λ (d : Database). kept_total2.IsIn d.schema) (sym same) has) (subst (λ (d : Database). HasNoReferences d.schema) (sym same) free) (subst (λ (d : Database). Rises total2 d.trees) (sym same) rises) in
           let before : OnOk result (Becomes total2 (totals_put (rows_of v)) old.now new.now) = subst (λ (d : Database). OnOk result (Becomes total2 (totals_put (rows_of v)) d new.now)) same puts in
-          on_ok_weaker result (λ b. record { schema = b.schema; rows = IsPermutation-trans _ _ _ (credited_put added items (rows_of v) (rows_in total2 old.now.trees) distinct (one.rows (early clean) has)) b.rows; others = b.others; rises = b.rises; sound = b.sound }) before);
+          on_weaker result (λ b. record { schema = b.schema; rows = IsPermutation-trans _ _ _ (credited_put added items (rows_of v) (rows_in total2 old.now.trees) distinct (one.rows (early clean) has)) b.rows; others = b.others; rises = b.rises; sound = b.sound }) before);
       good = λ clean has. on_ok result (all_can added (rows_in total2 old.now.trees) items (rows_of v) (one.rows (early clean) has));
       cause = caused result Total2 two.cause;
       damaged = λ _ _ is. absurd (not_damaged result Total2 two.cause is);
       unchanged = λ _ _ is. absurd (not_damaged result Total2 two.cause is);
       mode = λ clean begun. on_read _ result two.cause (two.mode clean (one.mode (early clean) begun));
-      inside = λ clean begun. (let stays = one.inside (early clean) begun in on_read _ result two.cause (on_ok_weaker result (stays_then old mid new stays) (two.inside clean (stays.mode, stays.is_open))));
+      inside = λ clean begun. (let stays = one.inside (early clean) begun in on_read _ result two.cause (on_weaker result (stays_then old mid new stays) (two.inside clean (stays.mode, stays.is_open))));
       within = within_then old mid new one.within one.mode two.within;
     }
 

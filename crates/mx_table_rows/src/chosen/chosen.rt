@@ -1,5 +1,5 @@
 //! Chosen rows of a table, whatever the table is.
-ghost use Rattle.std.specs.Prelude.{◌≡◌, ◌⊎◌, ℕ, Bool, List, Option, map, All, IsTrue, OnOk, IfOk, IfErr};
+ghost use Rattle.std.specs.Prelude.{◌≡◌, ◌⊎◌, ℕ, Bool, List, Option, map, All, IsTrue, IfOk, IfErr};
 ghost use Rattle.std.specs.declared.cmp.Ordering.{Ordering};
 ghost use Rattle.sqlite.specs.declared.types.Value.{Value};
 ghost use Rattle.sqlite.specs.Table.{Table};
@@ -10,13 +10,12 @@ ghost use Rattle.mx_layout.specs.Crash.{StaysInside, IsWithin};
 ghost use Rattle.mx_layout.specs.Reading.{HasOther};
 ghost use Rattle.mx_layout.specs.kept.Family.{IsReadableAs};
 ghost use Rattle.mx_tables.specs.Calls.{OnRead};
-ghost use Rattle.mx_layout.specs.Contents.{HasNoReferences, Rises};
-ghost use Rattle.mx_table_rows.specs.chosen.Choices.{AreFirst, Loses};
+ghost use Rattle.mx_table_rows.specs.chosen.Choices.{AreFirst};
 ghost use Rattle.mx_table_rows.specs.chosen.Lookups.{FindsFirst, Deletes};
-ghost use Rattle.mx_table_rows.specs.chosen.Calls.{ShowsFirst, DeletesThose, ReadsFirst, DeletesRows};
+ghost use Rattle.mx_table_rows.specs.chosen.Calls.{ShowsFirst, ReadsFirst, DeletesRows};
 
 use mx_layout::TableFault;
-use mx_layout::fault::fault_of;
+use mx_layout::statement::execute;
 use mx_tables::stored::{Stored, answered};
 use sqlite::types::ValueRef;
 use sqlite::{Alter, Transaction};
@@ -64,32 +63,6 @@ fn read_chosen<S: Alter, R: Stored + Drop>(
     answered(alloc, table, answer)
 }
 
-// Deletes the chosen rows of a table, by a text that says which.
-fn delete_chosen<S: Alter>(
-    tx: &mut Transaction<'_, S>,
-    sql: &str,
-    values: &[ValueRef<'_>],
-) -> Result<(), TableFault>
-    ensures same_reference { tx.new.conn.ghost_name ≡ tx.old.conn.ghost_name }
-    ensures inside { let old = state S.Store tx.old.conn.now in
-        let new = state S.Store tx.new.conn.now in
-        HasCleanDisk new → IsTrue old.in_transaction → OnOk result (StaysInside old new) }
-    ensures loses { let old = state S.Store tx.old.conn.now in
-        let new = state S.Store tx.new.conn.now in
-        (table : Table) (chosen : List Value → Bool)
-        → DeletesThose sql.now (bound values.now) table chosen old new
-        → HasCleanDisk new → IsTrue old.in_transaction
-        → HasNoReferences old.now.schema → Rises table old.now.trees
-        → OnOk result (Loses table chosen old.now new.now) }
-    ensures cause { IfErr result (λ e. (e ≡ TableFault.Memory) ⊎ (e ≡ TableFault.Store)) }
-    ensures within { IsWithin (state S.Store tx.old.conn.now) (state S.Store tx.new.conn.now) }
-{
-    match tx.execute(sql, values) {
-        Ok(_) => Ok(()),
-        Err(error) => Err(fault_of(error)),
-    }
-}
-
 /// The rows of a table that are chosen by these values, in the order of the text. `Memory` for want of memory, `Store`
 /// for an error of the store, and `Damaged` with the table where one of these rows is none of the type.
 pub fn rows_chosen<S: Alter, R: Stored + Drop>(
@@ -120,5 +93,5 @@ pub fn delete_rows<S: Alter, R: Stored>(
         → DeletesRows R.kept (chosen given)
         (state S.Store tx.old.conn.now) (state S.Store tx.new.conn.now) result }
 {
-    delete_chosen(tx, sql, values)
+    execute(tx, sql, values)
 }

@@ -198,7 +198,7 @@ one_then k x Two two keeps old mid new t second a b =
       within = within_then old mid new a.within (λ clean begun. (a.inside clean begun).mode) b.within;
     }
 
-on_read_weaker : {T P Q : Type 0} (r : Result T TableFault) → (P → Q) → OnRead r P → OnRead r Q
+pub on_read_weaker : {T P Q : Type 0} (r : Result T TableFault) → (P → Q) → OnRead r P → OnRead r Q
 on_read_weaker (Ok v) f h = f h
 on_read_weaker (Err Memory) f h = tt
 on_read_weaker (Err Store) f h = tt

@@ -3,19 +3,14 @@
 //! `Stored` has how rows are kept, their texts and their reader, and `Insert` adds one. In one trait the insert gets no
 //! proof: it would pass its own type to a bound on the trait that it is about to meet. And the values of a row can't
 //! come out of a method as a vector of borrowed texts, so each type passes them in its own `insert`.
-ghost use Rattle.std.specs.Prelude.{◌≡◌, ◌⊎◌, List, IsTrue, OnOk, IfErr};
-ghost use Rattle.sqlite.specs.declared.types.Value.{Value};
-ghost use Rattle.sqlite.specs.Table.{Table};
+ghost use Rattle.std.specs.Prelude.{◌≡◌};
 ghost use Rattle.sqlite.specs.Values.{bound};
-ghost use Rattle.sqlite.specs.State.{HasCleanDisk};
 ghost use Rattle.sqlite.specs.Held.{state};
-ghost use Rattle.mx_layout.specs.Crash.{StaysIn};
-ghost use Rattle.mx_layout.specs.Writing.{Gains};
-ghost use Rattle.mx_tables.specs.inserts.Calls.{AddsRow, InsertsRow};
+ghost use Rattle.mx_tables.specs.inserts.Calls.{InsertsRow};
 
 use crate::Stored;
 use mx_layout::TableFault;
-use mx_layout::fault::fault_of;
+use mx_layout::statement::execute;
 use sqlite::types::ValueRef;
 use sqlite::{Alter, Transaction};
 
@@ -30,26 +25,6 @@ pub trait Insert: Stored {
         ensures fits { Self.kept.Fits self.now };
 }
 
-// Adds a row by a text that takes its values in the order of the columns.
-fn insert_row<S: Alter>(
-    tx: &mut Transaction<'_, S>,
-    sql: &str,
-    params: &[ValueRef<'_>],
-) -> Result<(), TableFault>
-    ensures stays { StaysIn S.Store (OnOk result) tx.old tx.new }
-    ensures adds { let old = state S.Store tx.old.conn.now in
-        let new = state S.Store tx.new.conn.now in
-        (table : Table) (row : List Value) → AddsRow sql.now table row old new
-        → bound params.now ≡ row → HasCleanDisk new
-        → IsTrue old.in_transaction → OnOk result (Gains table row old.now new.now) }
-    ensures cause { IfErr result (λ e. (e ≡ TableFault.Memory) ⊎ (e ≡ TableFault.Store)) }
-{
-    match tx.execute(sql, params) {
-        Ok(_) => Ok(()),
-        Err(error) => Err(fault_of(error)),
-    }
-}
-
 /// Adds a row, whose values are these in the order of the columns.
 pub(crate) fn insert_values<S: Alter, R: Stored>(
     tx: &mut Transaction<'_, S>,
@@ -61,5 +36,15 @@ pub(crate) fn insert_values<S: Alter, R: Stored>(
     ensures inserts { InsertsRow R.kept row.now
         (state S.Store tx.old.conn.now) (state S.Store tx.new.conn.now) result }
 {
-    insert_row(tx, R::texts().insert, values)
+    execute(tx, R::texts().insert, values)
 }
+
+/// Adds a row, whose values are these in the order of the columns.
+macro_rules! insert_columns {
+    ($row:ident, $tx:ident: $($value:expr),+) => {{
+        let values = params![$($value),+];
+        insert_values($tx, $row, values)
+    }};
+}
+
+pub(crate) use insert_columns;

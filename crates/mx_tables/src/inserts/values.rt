@@ -1,16 +1,17 @@
-//! What is written in a column: for a moment, for a category, for a number or a moment that may be missing, and for a
-//! text that may be.
+//! What is written in a column: for a moment, for a kind of entry, for a category, for a number or a moment that may be
+//! missing, and for a text that may be.
 ghost use Rattle.std.specs.Prelude.{◌≡◌, ◌<◌, ◌≤◌, ◌^◌, IfSome};
 ghost use Rattle.sqlite.specs.declared.types.Value.TheVariants.{Text};
 ghost use Rattle.sqlite.specs.Values.{or_null};
 ghost use Rattle.mx_base.specs.Calendar.{last_moment};
 ghost use Rattle.mx_base.specs.Identifier.{IsIdentifier, is_graphic};
 ghost use Rattle.mx_base.specs.Texts.{moment_text};
-ghost use Rattle.mx_base.specs.rows.Rows.{category_number, days_stated, FitsCategory};
+ghost use Rattle.mx_base.specs.rows.Rows.{category_number, days_stated, kind_number, FitsCategory};
 ghost use Rattle.mx_layout.specs.kept.Values.{text_or_null};
 
 use mx_base::identifiers::{Graphic, Identifier};
 use mx_base::moments::MomentText;
+use mx_base::rows::EntryKind;
 use mx_base::{Category, Moment};
 
 /// The text of a moment, `YYYY-MM-DDTHH:MM`. Its number is asked too, since that tells its bound.
@@ -20,6 +21,24 @@ pub(crate) fn text_of(moment: Moment) -> MomentText
 {
     let _number = moment.number();
     moment.text()
+}
+
+/// The number that stands for a kind in its column.
+pub(crate) fn number_of_kind(kind: EntryKind) -> u32
+    ensures { result ≡ kind_number kind }
+{
+    match kind {
+        EntryKind::AddAircraft => 1,
+        EntryKind::AddComponent => 2,
+        EntryKind::LoadProgramme => 3,
+        EntryKind::Opening => 4,
+        EntryKind::Sector => 5,
+        EntryKind::Fit => 6,
+        EntryKind::Remove => 7,
+        EntryKind::Release => 8,
+        EntryKind::Defer => 9,
+        EntryKind::Extend => 10,
+    }
 }
 
 /// The number of a category.

@@ -65,34 +65,24 @@ fn key_certified(row: &ReleaseLineRow) -> Option<(u32, TaskId)>
 fn keys_stated(alloc: Global, openings: &[OpeningRow]) -> Result<Vec<(u32, TaskId)>, NoMemory>
     ensures { IfOk result (λ keys. keys.items ≡ map key_stated openings.now) }
 {
-    let mut keys = Vec::new(alloc);
-    let mut rest = openings;
-    while let Some((row, later)) = rest.split_first() {
-        match keys.push((row.item, row.task)) {
-            Ok(()) => {}
-            Err(_) => return Err(NoMemory),
-        }
-        rest = later;
+    match openings
+        .iter()
+        .map(|row| (row.item, row.task))
+        .collect(alloc)
+    {
+        Ok(keys) => Ok(keys),
+        Err(_) => Err(NoMemory),
     }
-    Ok(keys)
 }
 
 // The tasks that lines certify, with the numbers of their items.
 fn keys_certified(alloc: Global, lines: &[ReleaseLineRow]) -> Result<Vec<(u32, TaskId)>, NoMemory>
     ensures { IfOk result (λ keys. keys.items ≡ filter_map key_certified lines.now) }
 {
-    let mut keys = Vec::new(alloc);
-    let mut rest = lines;
-    while let Some((row, later)) = rest.split_first() {
-        if let Some(key) = key_certified(row) {
-            match keys.push(key) {
-                Ok(()) => {}
-                Err(_) => return Err(NoMemory),
-            }
-        }
-        rest = later;
+    match lines.iter().filter_map(key_certified).collect(alloc) {
+        Ok(keys) => Ok(keys),
+        Err(_) => Err(NoMemory),
     }
-    Ok(keys)
 }
 
 // Adds the last base of a task to rows, where it has one and they have none of it yet; the map has of which tasks they are.

@@ -1,39 +1,20 @@
-use Rattle.std.proofs.Common.{rules, ◌≡◌, ◌⊎◌, subst}
-use Rattle.sqlite.specs.Held.{state}
-use Rattle.sqlite_catalog.specs.Listing.{IsSound}
-use Rattle.mx_layout.specs.Crash.{Leaves, RestsAs}
+use Rattle.std.proofs.Common.{rules}
 use Rattle.mx_layout.specs.Making.{IsEmptyIn}
 use Rattle.mx_layout.specs.Steps.{schema_of}
-use Rattle.mx_layout.specs.Tables.{no_schema}
-use Rattle.mx_layout.proofs.CrashLemmas.{commits_either, commits_ok}
-use Rattle.mx_layout.proofs.FillLemmas.{bare_blank}
+use Rattle.mx_layout.proofs.FillLemmas.{filled_either, filled_ok}
 use Rattle.mx_layout.proofs.making.create.Goals as goal
 
 pub returns-in-Ok-clause-made : goal.returns-in-Ok-clause-made
 returns-in-Ok-clause-made g c bare =
-    let last = state g.S.Store c.fill_new.new.tx.conn.now in
-    let tx = state g.S.Store c.transaction-tx.result.conn.now in
-    let end = c.commit.new.self.0 in
-    let same : end ≡ c.conn-2-1.given.0 = search rules in
-    subst (λ h. RestsAs (state g.S.Store h) (schema_of c.args.layout.0) (IsEmptyIn c.args.layout.0)) same
-    (commits_ok g.S.Store no_schema (schema_of c.args.layout.0) (IsSound no_schema) (IsEmptyIn c.args.layout.0) c.args.conn.now c.transaction-tx.result.conn.now c.fill_new.new.tx.conn.now c.transaction-tx.ensures.begun bare
-    c.fill_new.ensures.stays.within c.in_default.ensures.stays.inside (λ clean within schema sound. c.in_default.ensures.makes clean within (bare_blank tx.now schema sound)) end c.commit.ensures.survives
-    g.met.S.Store.settled (λ clean. (c.in-Ok.ensures.ok clean).1))
+    filled_ok g.S.Store (schema_of c.args.layout.0) (IsEmptyIn c.args.layout.0) c.args.conn.now c.transaction-tx.result.conn.now c.fill_new.new.tx.conn.now c.transaction-tx.ensures.begun bare
+    c.fill_new.ensures.stays.within c.in_default.ensures.stays.inside c.in_default.ensures.makes c.commit.new.self.0 c.conn-2-1.given.0 (search rules) c.commit.ensures.survives g.met.S.Store.settled (λ clean. (c.in-Ok.ensures.ok clean).1)
 
 pub returns-in-Ok-clause-crash : goal.returns-in-Ok-clause-crash
 returns-in-Ok-clause-crash g c bare =
-    let tx = state g.S.Store c.transaction-tx.result.conn.now in
-    let end = c.commit.new.self.0 in
-    let same : end ≡ c.conn-2-1.given.0 = search rules in
-    subst (λ h. Leaves (state g.S.Store h) (λ db. IsSound no_schema db ⊎ IsEmptyIn c.args.layout.0 db)) same
-    (commits_either g.S.Store no_schema (schema_of c.args.layout.0) (IsSound no_schema) (IsEmptyIn c.args.layout.0) c.args.conn.now c.transaction-tx.result.conn.now c.fill_new.new.tx.conn.now c.transaction-tx.ensures.begun bare
-    c.fill_new.ensures.stays.within c.in_default.ensures.stays.inside (λ clean within schema sound. c.in_default.ensures.makes clean within (bare_blank tx.now schema sound)) end c.commit.ensures.survives)
+    filled_either g.S.Store (schema_of c.args.layout.0) (IsEmptyIn c.args.layout.0) c.args.conn.now c.transaction-tx.result.conn.now c.fill_new.new.tx.conn.now c.transaction-tx.ensures.begun bare
+    c.fill_new.ensures.stays.within c.in_default.ensures.stays.inside c.in_default.ensures.makes c.commit.new.self.0 c.conn-2-1.given.0 (search rules) c.commit.ensures.survives
 
 pub returns-in-Err-commit-clause-crash : goal.returns-in-Err-commit-clause-crash
 returns-in-Err-commit-clause-crash g c bare =
-    let tx = state g.S.Store c.transaction-tx.result.conn.now in
-    let end = c.commit.new.self.0 in
-    let same : end ≡ c.conn-2-1.given.0 = search rules in
-    subst (λ h. Leaves (state g.S.Store h) (λ db. IsSound no_schema db ⊎ IsEmptyIn c.args.layout.0 db)) same
-    (commits_either g.S.Store no_schema (schema_of c.args.layout.0) (IsSound no_schema) (IsEmptyIn c.args.layout.0) c.args.conn.now c.transaction-tx.result.conn.now c.fill_new.new.tx.conn.now c.transaction-tx.ensures.begun bare
-    c.fill_new.ensures.stays.within c.in_default.ensures.stays.inside (λ clean within schema sound. c.in_default.ensures.makes clean within (bare_blank tx.now schema sound)) end c.commit.ensures.survives)
+    filled_either g.S.Store (schema_of c.args.layout.0) (IsEmptyIn c.args.layout.0) c.args.conn.now c.transaction-tx.result.conn.now c.fill_new.new.tx.conn.now c.transaction-tx.ensures.begun bare
+    c.fill_new.ensures.stays.within c.in_default.ensures.stays.inside c.in_default.ensures.makes c.commit.new.self.0 c.conn-2-1.given.0 (search rules) c.commit.ensures.survives

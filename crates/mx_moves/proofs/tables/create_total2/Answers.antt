@@ -1,15 +1,11 @@
 use Rattle.sqlite.specs.Held.{state}
 use Rattle.mx_layout.specs.CreateTexts.{total2_text}
-use Rattle.mx_layout.specs.Steps.{schema_after}
 use Rattle.mx_layout.specs.declared.fault.Table.TheVariants as table
-use Rattle.mx_moves.specs.Changes.{emptied}
-use Rattle.mx_moves.proofs.AlterLemmas.{alters_by, table_made}
-use Rattle.mx_moves.proofs.TableTexts.{total2_defined, total2_new}
+use Rattle.mx_layout.proofs.StepLemmas.{total2_made}
+use Rattle.mx_moves.proofs.AlterLemmas.{makes_table}
+use Rattle.mx_moves.proofs.TableTexts.{total2_new}
 use Rattle.mx_moves.proofs.tables.create_total2.Goals as goal
 
 pub returns-clause-alters : goal.returns-clause-alters
 returns-clause-alters g c =
-    let old = state g.S.Store c.args.tx.now.conn.now in
-    let new = state g.S.Store c.execute.new.tx.conn.now in
-    alters_by (schema_after 23) (schema_after 24) (emptied table.Total2) total2_text old new c.execute.result
-    (λ count has h. table_made (schema_after 23) (schema_after 24) total2_text table.Total2 total2_defined total2_new old new has count h) c.execute.ensures.runs c.execute.ensures.stays.inside c.execute.ensures.stays.within
+    makes_table total2_text (state g.S.Store c.args.tx.now.conn.now) (state g.S.Store c.execute.new.tx.conn.now) c.execute.result c.execute.ensures.runs c.execute.ensures.stays.inside c.execute.ensures.stays.within 23 table.Total2 total2_made total2_new

@@ -1,16 +1,10 @@
-use Rattle.std.proofs.Common.{subst}
 use Rattle.sqlite.specs.Held.{state}
 use Rattle.mx_layout.specs.CreateTexts.{sector1_dropped}
-use Rattle.mx_layout.specs.Steps.{schema_after}
 use Rattle.mx_layout.specs.Tables.{sector1}
-use Rattle.mx_moves.specs.Changes.{unchanged, Reaches}
-use Rattle.mx_moves.proofs.AlterLemmas.{alters_by, table_gone}
-use Rattle.mx_moves.proofs.TableTexts.{sector1_removed, sector1_free, sector1_left}
+use Rattle.mx_layout.proofs.StepLemmas.{sector1_gone}
+use Rattle.mx_moves.proofs.AlterLemmas.{drops_table}
 use Rattle.mx_moves.proofs.tables.drop_sector1.Goals as goal
 
 pub returns-clause-alters : goal.returns-clause-alters
 returns-clause-alters g c =
-    let old = state g.S.Store c.args.tx.now.conn.now in
-    let new = state g.S.Store c.execute.new.tx.conn.now in
-    alters_by (schema_after 16) (schema_after 17) (unchanged) sector1_dropped old new c.execute.result
-    (λ count has h. subst (λ s. Reaches s unchanged old.now new.now) sector1_left (table_gone (schema_after 16) sector1_dropped sector1 sector1_removed sector1_free old new has count h)) c.execute.ensures.runs c.execute.ensures.stays.inside c.execute.ensures.stays.within
+    drops_table sector1_dropped (state g.S.Store c.args.tx.now.conn.now) (state g.S.Store c.execute.new.tx.conn.now) c.execute.result c.execute.ensures.runs c.execute.ensures.stays.inside c.execute.ensures.stays.within 16 sector1 sector1_gone

@@ -1,16 +1,10 @@
-use Rattle.std.proofs.Common.{subst}
 use Rattle.sqlite.specs.Held.{state}
 use Rattle.mx_layout.specs.CreateTexts.{span2_by_remove_seq_text}
-use Rattle.mx_layout.specs.Steps.{schema_after}
 use Rattle.mx_layout.specs.Tables.{span2, span2_by_remove_seq}
-use Rattle.mx_moves.specs.Changes.{unchanged, Reaches}
-use Rattle.mx_moves.proofs.AlterLemmas.{alters_by, index_made}
-use Rattle.mx_moves.proofs.TableTexts.{by_remove_seq_indexed, by_remove_seq_next}
+use Rattle.mx_layout.proofs.StepLemmas.{span2_by_remove_seq_made}
+use Rattle.mx_moves.proofs.AlterLemmas.{makes_index}
 use Rattle.mx_moves.proofs.tables.index_by_remove_seq.Goals as goal
 
 pub returns-clause-alters : goal.returns-clause-alters
 returns-clause-alters g c =
-    let old = state g.S.Store c.args.tx.now.conn.now in
-    let new = state g.S.Store c.execute.new.tx.conn.now in
-    alters_by (schema_after 20) (schema_after 21) (unchanged) span2_by_remove_seq_text old new c.execute.result
-    (λ count has h. subst (λ s. Reaches s unchanged old.now new.now) by_remove_seq_next (index_made (schema_after 20) span2_by_remove_seq_text span2 span2_by_remove_seq by_remove_seq_indexed old new has count h)) c.execute.ensures.runs c.execute.ensures.stays.inside c.execute.ensures.stays.within
+    makes_index span2_by_remove_seq_text (state g.S.Store c.args.tx.now.conn.now) (state g.S.Store c.execute.new.tx.conn.now) c.execute.result c.execute.ensures.runs c.execute.ensures.stays.inside c.execute.ensures.stays.within 20 span2 span2_by_remove_seq span2_by_remove_seq_made

@@ -34,10 +34,10 @@ returns-in_err-spans-clause-runs g c =
     (pairs_fail c.args.self.now.mark c.args.self.now.component fittings _ _ c.in_ok-fittings.fittings c.in_ok-fittings.ensures.reads removals _ c.in_ok-removals.removals c.in_ok-removals.ensures.reads e
     (subst₂ (λ fs rs. (e ≡ Memory) ⊎ ((name : TableName) × (e ≡ Damaged name) × (spans_made fs rs ≡ Err name))) c.deref.ensures.value c.deref-2.ensures.value c.in_err-spans.ensures.cause))
 
-pub returns-in-Ok-clause-runs : goal.returns-in-Ok-clause-runs
-returns-in-Ok-clause-runs g c =
+pub returns-clause-runs : goal.returns-clause-runs
+returns-clause-runs g c =
     let spans = c.in_ok-spans.spans.items in
     let pairs = subst₂ (λ fs rs. spans_made fs rs ≡ Ok spans) c.deref.ensures.value c.deref-2.ensures.value c.in_ok-spans.ensures.spans in
     component_moves c.args.self.now.mark c.args.self.now.component fittings (state g.S.Store c.args.tx.now.conn.now) (state g.S.Store c.fittings_of.new.tx.conn.now) c.in_ok-fittings.fittings c.in_ok-fittings.ensures.reads
     removals (state g.S.Store c.removals_of.new.tx.conn.now) c.in_ok-removals.removals c.in_ok-removals.ensures.reads (state g.S.Store c.write_component.new.tx.conn.now) (moving 2 c.args.self.now.component) spans
-    c.in-Ok.field-0 pairs refl c.in-Ok.ensures.alters
+    c.write_component.result c.reached.result c.reached.ensures pairs refl c.write_component.ensures.alters

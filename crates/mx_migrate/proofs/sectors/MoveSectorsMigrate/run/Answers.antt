@@ -1,4 +1,4 @@
-use Rattle.std.proofs.Common.{◌≡◌, true, List, Vec, Ok, sym, ap, subst, ◌∙◌}
+use Rattle.std.proofs.Common.{◌≡◌, true, List, Vec, sym, ap, subst, ◌∙◌}
 use Rattle.std.specs.List.{list_all}
 use Rattle.std.specs.Prelude.{IsErrAnd}
 use Rattle.mx_layout.specs.declared.fault.TableFault.TheVariants.{Memory}
@@ -31,8 +31,8 @@ returns-in_err-numbered-clause-runs g c =
     (subst (λ e. IsErrAnd c.from_residual-in_err-numbered.result (λ f. f ≡ e)) c.in_err-numbered.ensures.cause c.from_residual-in_err-numbered.ensures.1)
     (page_full c.args.self.now.mark (λ (v : Vec SectorRow Global). v.items) _ _ c.in_ok-rows.rows c.in_ok-rows.ensures.reads)
 
-pub returns-in-Ok-clause-runs : goal.returns-in-Ok-clause-runs
-returns-in-Ok-clause-runs g c =
+pub returns-clause-runs : goal.returns-clause-runs
+returns-clause-runs g c =
     let old = state g.S.Store c.args.tx.now.conn.now in
     let mid = state g.S.Store c.first_sectors.new.tx.conn.now in
     let new = state g.S.Store c.write_moved.new.tx.conn.now in
@@ -41,5 +41,5 @@ returns-in-Ok-clause-runs g c =
     let to : Point = record { layout = 1; step = 1; mark = c.last_seq.result } in
     let next : list_all (is_next_from mark) rows ≡ true = ap (list_all (is_next_from mark)) (sym c.deref.ensures.value) ∙ sym c.are_next.ensures ∙ c.if-not-are_next.false in
     let last : to ≡ moving 1 (last_moved seq_of mark rows) = ap (moving 1) (c.last_seq.ensures ∙ ap (last_moved seq_of mark) c.deref-3.ensures.value) in
-    let writes = subst (λ (xs : List SectorRow). Alters (schema_at (moving 1 0)) (schema_at (moving 1 0)) (sectors_moved xs to) mid new (Ok c.in-Ok.field-0)) (c.in_ok-numbered.ensures.same ∙ c.deref-2.ensures.value) c.in-Ok.ensures.alters in
-    page_moves mark (λ (v : Vec SectorRow Global). v.items) old mid c.in_ok-rows.rows c.in_ok-rows.ensures.reads new to c.in-Ok.field-0 next last writes
+    let writes = subst (λ (xs : List SectorRow). Alters (schema_at (moving 1 0)) (schema_at (moving 1 0)) (sectors_moved xs to) mid new c.write_moved.result) (c.in_ok-numbered.ensures.same ∙ c.deref-2.ensures.value) c.write_moved.ensures.alters in
+    page_moves mark (λ (v : Vec SectorRow Global). v.items) old mid c.in_ok-rows.rows c.in_ok-rows.ensures.reads new to c.write_moved.result c.reached.result c.reached.ensures next last writes

@@ -10,17 +10,13 @@ returns-then-at-ge-NEWEST_LAYOUT-clause-chooses g c begun =
 
 pub returns-in-1-clause-chooses : goal.returns-in-1-clause-chooses
 returns-in-1-clause-chooses g c begun =
-    let old = state g.S.Store c.args.tx.now.conn.now in
-    let new = state g.S.Store c.sectors_due.new.tx.conn.now in
-    chooses_beside c.args.at c.args.known.now old new c.sectors_due.result
-    (chooses_at c.args.at None None 1 old new c.sectors_due.result (omega (arith, c.if-at-ge-NEWEST_LAYOUT.false)) (λ _. c.in-1.is) (c.sectors_due.ensures.chooses begun))
+    chooses_beside c.args.at c.args.known.now _ _ c.sectors_due.result
+    (chooses_at c.args.at None None 1 _ _ c.sectors_due.result (omega (arith, c.if-at-ge-NEWEST_LAYOUT.false)) (λ _. c.in-1.is) (c.sectors_due.ensures.chooses begun))
 
 pub returns-in-2-clause-chooses : goal.returns-in-2-clause-chooses
 returns-in-2-clause-chooses g c begun =
-    let old = state g.S.Store c.args.tx.now.conn.now in
-    let new = state g.S.Store c.component_due.new.tx.conn.now in
-    chooses_beside c.args.at c.args.known.now old new c.component_due.result
-    (chooses_at c.args.at None None 2 old new c.component_due.result (omega (arith, c.if-at-ge-NEWEST_LAYOUT.false)) (λ _. c.in-2.is) (c.component_due.ensures.chooses begun))
+    chooses_beside c.args.at c.args.known.now _ _ c.component_due.result
+    (chooses_at c.args.at None None 2 _ _ c.component_due.result (omega (arith, c.if-at-ge-NEWEST_LAYOUT.false)) (λ _. c.in-2.is) (c.component_due.ensures.chooses begun))
 
 pub returns-in-3-clause-chooses : goal.returns-in-3-clause-chooses
 returns-in-3-clause-chooses g c begun =

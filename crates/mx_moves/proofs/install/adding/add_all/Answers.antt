@@ -1,4 +1,4 @@
-use Rattle.std.proofs.Common.{◌≡◌, ◌<◌, ◌++◌, [], ◌∷◌, ℕ, true, Ok, length, get_or, refl, sym, ap, subst, ◌∙◌}
+use Rattle.std.proofs.Common.{◌≡◌, ◌++◌, [], ◌∷◌, ℕ, true, Ok, refl, sym, ap, subst, ◌∙◌}
 use Rattle.std.proofs.lemmas.List.{take_all}
 use Rattle.sqlite.specs.Held.{state}
 use Rattle.mx_book.specs.Book.{is_book_from}
@@ -20,21 +20,11 @@ entries-init g c =
 
 pub add_command-requires : goal.add_command-requires
 add_command-requires g c =
-    let entries = c.args.entries.now in
-    let x = c.command-item.result in
-    let i = c.entries.command-index in
-    let low : i < length entries = c.entries-test.true in
-    let here : get_or entries i x ≡ x = sym c.command-item.is in
-    (next_new c.entries.book entries i x low here c.entries.invariant.judged).0
+    (next_new c.entries.book c.args.entries.now c.entries.command-index c.command-item.result c.entries-test.true (sym c.command-item.is) c.entries.invariant.judged).0
 
 pub enter_copy-requires : goal.enter_copy-requires
 enter_copy-requires g c =
-    let entries = c.args.entries.now in
-    let x = c.command-item.result in
-    let i = c.entries.command-index in
-    let low : i < length entries = c.entries-test.true in
-    let here : get_or entries i x ≡ x = sym c.command-item.is in
-    (next_new c.entries.book entries i x low here c.entries.invariant.judged).0
+    (next_new c.entries.book c.args.entries.now c.entries.command-index c.command-item.result c.entries-test.true (sym c.command-item.is) c.entries.invariant.judged).0
 
 pub entries-preserved : goal.entries-preserved
 entries-preserved g c =
@@ -46,13 +36,11 @@ entries-preserved g c =
     let book = c.entries.book in
     let x = c.command-item.result in
     let i = c.entries.command-index in
-    let low : i < length entries = c.entries-test.true in
-    let here : get_or entries i x ≡ x = sym c.command-item.is in
     let entered = c.in_ok-enter_copy.ensures.entered in
-    let next = next_new book entries i x low here so_far.judged in
+    let next = next_new book entries i x c.entries-test.true (sym c.command-item.is) so_far.judged in
     record {
       same_reference = c.add_command.ensures.same_reference ∙ so_far.same_reference;
-      so_far = entered ∙ ap (λ b. b ++ x ∷ []) so_far.so_far ∙ next_taken entries i x low here;
+      so_far = entered ∙ ap (λ b. b ++ x ∷ []) so_far.so_far ∙ next_taken entries i x c.entries-test.true (sym c.command-item.is);
       judged = rw entered next.1;
       adds = subst (λ b. AddsEntries {V = ℕ} [] b first new (Ok 0)) (sym entered) (adds_then [] book (book ++ x ∷ []) first old new 0 _ 0 so_far.adds c.in_ok-add_command.ensures.adds);
     }

@@ -1,6 +1,5 @@
-use Rattle.std.proofs.Common.{refl, ◌∙◌, ◌≡◌, ◌+◌, ◌<◌, ℕ, suc, get_or, length, ◌++◌, [], ◌∷◌, take, Ok, sym, subst, ap, arith}
-use Rattle.std.proofs.lemmas.List.{take_all}
-use Rattle.std.proofs.Math.Seq.{take-suc}
+use Rattle.std.proofs.Common.{refl, ◌∙◌, ◌≡◌, ◌+◌, ℕ, ◌++◌, [], ◌∷◌, take, Ok, sym, subst, ap}
+use Rattle.std.proofs.lemmas.List.{take_all, take_more}
 use Rattle.sqlite.specs.Held.{state}
 use Rattle.mx_table_rows.specs.totals.Steps.{PutsTotals}
 use Rattle.mx_table_rows.proofs.TotalsProofs.StepLemmas.{none_put, one_put, put_stops}
@@ -17,10 +16,7 @@ rows-preserved g c =
     let items = c.args.rows.now in
     let x = c.row-item.result in
     let i = c.rows.row-index in
-    let low : i < length items = c.rows-test.true in
-    let here : get_or items i x ≡ x = sym c.row-item.is in
-    let one : suc i ≡ i + 1 = omega arith in
-    let more : take i items ++ x ∷ [] ≡ take (i + 1) items = sym (subst (λ n. take n items ≡ take i items ++ get_or items i x ∷ []) one (take-suc items i x low) ∙ ap (λ y. take i items ++ y ∷ []) here) in
+    let more : take i items ++ x ∷ [] ≡ take (i + 1) items = sym (take_more items i x c.rows-test.true ∙ ap (λ y. take i items ++ y ∷ []) (sym c.row-item.is)) in
     record {
       same_reference = c.set_total.ensures.same_reference ∙ c.rows.invariant.same_reference;
       puts = subst (λ xs. PutsTotals {V = ℕ} xs first new (Ok 0)) more (one_put (take i items) x first old new c.rows.invariant.puts _ c.in_ok-set_total.ensures.replaces);

@@ -1,6 +1,5 @@
-use Rattle.std.proofs.Common.{◌∙◌, ◌≡◌, ◌+◌, ◌<◌, ℕ, suc, get_or, length, List, ◌++◌, [], ◌∷◌, take, Ok, sym, subst, arith}
-use Rattle.std.proofs.lemmas.List.{get_or_default}
-use Rattle.std.proofs.Math.Seq.{take-suc}
+use Rattle.std.proofs.Common.{◌∙◌, ◌≡◌, ◌+◌, ℕ, get_or, List, ◌++◌, [], ◌∷◌, take, Ok, sym, subst}
+use Rattle.std.proofs.lemmas.List.{get_or_default, take_more}
 use Rattle.sqlite.specs.Held.{state}
 use Rattle.mx_base.specs.declared.rows.rows.TotalRow.{TotalRow}
 use Rattle.mx_table_rows.specs.totals.Steps.{ReadsTotals}
@@ -16,9 +15,7 @@ items-preserved g c =
     let items = c.args.items.now in
     let i = c.items.item-index in
     let item = get_or items i 0 in
-    let low : i < length items = c.items-test.true in
-    let one : suc i ≡ i + 1 = omega arith in
-    let more : take i items ++ item ∷ [] ≡ take (i + 1) items = sym (subst (λ n. take n items ≡ take i items ++ item ∷ []) one (take-suc items i 0 low)) in
+    let more : take i items ++ item ∷ [] ≡ take (i + 1) items = sym (take_more items i 0 c.items-test.true) in
     let so_far = one_read c.args.added (take i items) c.items.rows.items item first old new c.items.invariant.reads c.in_ok-row.row c.in_ok-row.ensures.reads in
     let longer : c.items.rows.items ++ c.in_ok-row.row ∷ [] ≡ c.push.new.self.items = sym c.in_ok-push.ensures.items in
     record {

@@ -1,6 +1,5 @@
-use Rattle.std.proofs.Common.{refl, ◌∙◌, ◌≡◌, ◌+◌, ◌<◌, suc, get_or, length, ◌++◌, [], ◌∷◌, take, sym, subst, ap, arith}
-use Rattle.std.proofs.lemmas.List.{take_all}
-use Rattle.std.proofs.Math.Seq.{take-suc}
+use Rattle.std.proofs.Common.{refl, ◌∙◌, ◌≡◌, ◌+◌, ◌++◌, [], ◌∷◌, take, sym, subst, ap, arith}
+use Rattle.std.proofs.lemmas.List.{take_all, take_more}
 use Rattle.sqlite.specs.Held.{state}
 use Rattle.sqlite.specs.State.{HasCleanDisk}
 use Rattle.mx_layout.proofs.CrashLemmas.{within_itself, within_then, stays_then}
@@ -28,10 +27,7 @@ rows-preserved g c =
     let items = c.deref-row-items.result.now in
     let x = c.row-item.result in
     let i = c.rows.row-index in
-    let low : i < length items = c.rows-test.true in
-    let here : get_or items i x ≡ x = sym c.row-item.is in
-    let one : suc i ≡ i + 1 = omega arith in
-    let more : take i items ++ x ∷ [] ≡ take (i + 1) items = sym (subst (λ n. take n items ≡ take i items ++ get_or items i x ∷ []) one (take-suc items i x low) ∙ ap (λ y. take i items ++ y ∷ []) here) in
+    let more : take i items ++ x ∷ [] ≡ take (i + 1) items = sym (take_more items i x c.rows-test.true ∙ ap (λ y. take i items ++ y ∷ []) (sym c.row-item.is)) in
     let early : HasCleanDisk new → HasCleanDisk old = λ clean. omega (arith, c.insert.ensures.inserts.within.survives.clean) in
     let added = c.in_ok-insert.ensures.inserts in
     record {

@@ -1,9 +1,0 @@
-use Rattle.sqlite.specs.Held.{state}
-use Rattle.mx_layout.specs.kept.Cells.{kept_base2}
-use Rattle.mx_layout.specs.kept.Family.{on_top}
-use Rattle.mx_moves.proofs.RowLemmas.{tables_write}
-use Rattle.mx_moves.proofs.kept.insert_bases.Goals as goal
-
-pub returns-clause-writes : goal.returns-clause-writes
-returns-clause-writes g c =
-    tables_write kept_base2.IsIn (on_top kept_base2 c.args.rows.now.items) (state g.S.Store c.args.tx.now.conn.now) (state g.S.Store c.write.new.tx.conn.now) c.write.result c.write.ensures.writes
