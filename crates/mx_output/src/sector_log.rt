@@ -4,8 +4,8 @@
 //!
 //! - The commands of the good rows are handed on in their order, and each row is told its fault, or else its reply, up
 //!   to the first good row that has none: `commands_of_rows`, `tell_rows`.
-//! - A line for each row is appended, the first of which is row 1, or nothing where memory runs out: `report_text`:
-//!   `printed`, `unchanged`.
+//! - A line for each row is appended, numbered from 1, or nothing where memory runs out: `report_text`: `printed`,
+//!   `unchanged`.
 //! - It is told whether a row is bad, or was refused: `has_bad`, `has_refused`.
 
 pub mod report;

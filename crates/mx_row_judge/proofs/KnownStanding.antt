@@ -1,5 +1,5 @@
 -- Tables that stand for a book answer as it does whether a command is known.
-use Rattle.std.proofs.Common.{◌≡◌, ◌↔◌, ℕ, ◌+◌, pos, Bool, true, false, ◌&&◌, List, [], ◌∷◌, filter, IsTrue, Option, None, Some, refl, sym, ap, ap₂, subst, ◌∙◌}
+use Rattle.std.proofs.Common.{◌≡◌, ◌↔◌, ℕ, ◌+◌, pos, Bool, true, List, [], ◌∷◌, filter, IsTrue, Option, None, Some, refl, sym, ap, ap₂, subst, ◌∙◌}
 use Rattle.std.specs.Prelude.{nat_eq}
 use Rattle.std.specs.List.{list_any}
 use Rattle.std.specs.Option.{option_map}
@@ -22,7 +22,7 @@ use Rattle.mx_layout.specs.kept.Cells.{kept_aircraft, kept_component, kept_crs, 
 use Rattle.mx_layout.specs.kept.Kept.{Kept}
 use Rattle.mx_table_rows.specs.chosen.Choices.{has_value}
 use Rattle.mx_book_tables.specs.stands.Stands.{HasRowsAt}
-use Rattle.mx_row_rules.specs.found.Given.{AreSame, line_row, seq_of_line}
+use Rattle.mx_row_rules.specs.found.Given.{line_row, seq_of_line}
 use Rattle.mx_row_rules.specs.found.Names.{entry_number}
 use Rattle.mx_row_rules.specs.found.Spans.{begins_with, ends_with, is_removed_by}
 use Rattle.mx_row_rules.proofs.FoundProofs.AnswerLemmas.{fitting_by_spans, removal_by_spans}

@@ -14,7 +14,7 @@ use Rattle.mx_book.specs.declared.commands.item.Item.TheVariants.{Airframe, Comp
 use Rattle.mx_book.specs.Book.{IsBook}
 use Rattle.mx_book.specs.Defect.{defect, extension, is_rectified}
 use Rattle.mx_book.specs.Life.{clock, life_now}
-use Rattle.mx_book.specs.Programme.{is_accomplished, is_ended_by, life_ended, next_revision}
+use Rattle.mx_book.specs.Programme.{is_accomplished, is_ended_by, life_ended}
 use Rattle.mx_book.specs.Register.{aircraft, component, found_of, has_room_for_aircraft, has_room_for_component, part_at}
 use Rattle.mx_book.specs.Span.{is_taken, tail_fitted}
 use Rattle.mx_book.specs.declared.defects.Defect.{Defect}

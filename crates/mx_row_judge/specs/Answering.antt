@@ -1,5 +1,5 @@
 -- When rows, whatever they are, answer as a book does, which is any list of entries here.
-use Rattle.std.specs.Prelude.{◌≡◌, ℕ, List, Option, Some, length, true}
+use Rattle.std.specs.Prelude.{◌≡◌, ℕ, List, Some, length, true}
 use Rattle.std.specs.Option.{option_map}
 use Rattle.sqlite.specs.declared.types.Value.TheVariants.{Text}
 use Rattle.sqlite.specs.State.{State}

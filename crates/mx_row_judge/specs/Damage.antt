@@ -1,5 +1,5 @@
 -- Which table is told damaged, and by which question of the judge or of a list.
-use Rattle.std.specs.Prelude.{ℕ, List, true, ◌≡◌}
+use Rattle.std.specs.Prelude.{ℕ, List}
 use Rattle.sqlite.specs.Tree.{Trees}
 use Rattle.mx_book.specs.commands.Act.{Entry}
 use Rattle.mx_book.specs.declared.commands.item.Item.{Item}

@@ -6,10 +6,8 @@
 ghost use Rattle.std.specs.Prelude.{◌≡◌};
 ghost use Rattle.mx_book.specs.Judge.{judge};
 ghost use Rattle.mx_lookups.specs.numbers.LookUp.{IsLookUp};
-ghost use Rattle.mx_lookups.specs.numbers.Reads.{Reads};
-ghost use Rattle.mx_row_judge.specs.Answering.{AnswerAs, VerdictOf};
+ghost use Rattle.mx_row_judge.specs.Answering.{VerdictOf};
 ghost use Rattle.mx_row_judge.specs.Damage.{JudgeDamage};
-ghost use Rattle.mx_row_judge.specs.View.{Asks};
 
 use crate::questions::JudgeQuestions;
 use crate::view::Rows;
@@ -20,20 +18,6 @@ use mx_layout::TableFault;
 use mx_lookups::numbers::entries::entry_count;
 use sqlite::{Alter, Transaction};
 use std::alloc::Global;
-
-// The one judge, asked of rows.
-fn verdict_of_rows<S: Alter>(
-    rows: &mut Rows<'_, '_, S, JudgeQuestions>,
-    command: &Command,
-) -> Result<Verdict, TableFault>
-    ensures same_tx { rows.new.tx.ghost_name ≡ rows.old.tx.ghost_name }
-    ensures same_conn { rows.new.tx.now.conn.ghost_name ≡ rows.old.tx.now.conn.ghost_name }
-    ensures asks { Asks S.Store AnswerAs JudgeDamage
-        (λ book verdict. verdict ≡ judge book command.now)
-        rows.old.tx.now.conn.now rows.new.tx.now.conn.now result }
-{
-    verdict_on(rows, command)
-}
 
 /// The verdict on a command, judged by the rows that a transaction shows. It asks how many entries there are, and then what
 /// judging asks, each by the rows that have what is asked for: a row that no question finds is not looked at.
@@ -54,5 +38,5 @@ pub fn judge_by_rows<S: Alter>(
         tx,
         questions: JudgeQuestions,
     };
-    verdict_of_rows(&mut rows, command)
+    verdict_on(&mut rows, command)
 }

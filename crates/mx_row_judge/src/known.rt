@@ -16,7 +16,6 @@
 
 mod items;
 pub mod known;
-mod lines;
 mod moves;
 mod releases;
 mod works;

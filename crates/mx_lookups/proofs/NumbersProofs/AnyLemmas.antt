@@ -78,19 +78,11 @@ by_number P First none Then a b c found n w is one first within later = record {
 pub by_none : {A V : Type 0} (First : Trees → Option A → Type 0) (none : V) (Then : A → Trees → V → Type 0) (a b : State) (found : Option A) → found ≡ None → ReadsAny First a b (Ok found) → ReadsAny (GivesBy First none Then) a b (Ok none)
 by_none First none Then a b found is first = record { found = λ clean has. record { found = None; first = subst (First a.now.trees) is (first.found clean has); then = refl } }
 
--- nothing was found, and the answer holds none
-pub by_nothing : {A V W : Type 0} (First : Trees → Option A → Type 0) (none : V) (Then : A → Trees → V → Type 0) (of : W → V) (a b : State) (found : Option A) (w : W) → found ≡ None → of w ≡ none → ReadsAny First a b (Ok found) → ReadsAny (λ trees it. GivesBy First none Then trees (of it)) a b (Ok w)
-by_nothing First none Then of a b found w is made first = record { found = λ clean has. record { found = None; first = subst (First a.now.trees) is (first.found clean has); then = made } }
-
 -- what is looked up by what was found, where that is handed on, or is not answered
 pub by_result : {A V W : Type 0} (P : List Entry → Option A → Type 0) (First : Trees → Option A → Type 0) (none : V) (Then : A → Trees → V → Type 0) (of : W → V) (a b c : State) (found : Option A) (n : A) (result : Result W TableFault) → found ≡ Some n
     → Reads P a b (Ok found) → ReadsAny First a b (Ok found) → IsWithin b c → ReadsAny (λ trees w. Then n trees (of w)) b c result → ReadsAny (λ trees w. GivesBy First none Then trees (of w)) a c result
 by_result P First none Then of a b c found n (Ok w) is one first within later = record { found = (by_number P First none Then a b c found n (of w) is one first within (record { found = later.found })).found }
 by_result P First none Then of a b c found n (Err e) is one first within later = record { found = λ clean has. tt }
-
--- nothing is in what was found
-pub by_missing : {A U V : Type 0} (First : Trees → Option A → Type 0) (none : V) (Then : A → Trees → V → Type 0) (of : U → Option A) (a b : State) (u : U) → of u ≡ None → ReadsAny (λ trees o. First trees (of o)) a b (Ok u) → ReadsAny (GivesBy First none Then) a b (Ok none)
-by_missing First none Then of a b u is first = record { found = λ clean has. record { found = None; first = subst (First a.now.trees) is (first.found clean has); then = refl } }
 
 -- what was found gives the answer by itself
 pub by_itself : {A U V : Type 0} (First : Trees → Option A → Type 0) (none : V) (gives : A → V) (of : U → Option A) (a b : State) (u : U) (found : A) (w : V) → of u ≡ Some found → w ≡ gives found → ReadsAny (λ trees o. First trees (of o)) a b (Ok u)

@@ -117,16 +117,6 @@ module _ {S : Type 0} {g : Ghosts S} where
     damage = told_here name (λ clean has. why _ (l.any_rows.found clean has));
   }
 
-  -- memory ran out behind what was answered
-  pub runs_out : {V W : Type 0} {P : List Entry → V → Type 0} {A : Trees → V → Type 0} {Why : Damage} {Q : List Entry → W → Type 0} {B : Trees → W → Type 0} {Other : Damage} {old new : Transaction S} {v : V}
-      → IsLookUp g P A Why old new (Ok v) → IsLookUp {V = W} g Q B Other old new (Err Memory)
-  runs_out l = record {
-    same_reference = l.same_reference;
-    reads = no_memory _ _ _ _ _ l.reads;
-    any_rows = record { found = λ clean has. tt };
-    damage = record { told = λ clean has name is. absurd cc };
-  }
-
   -- what the chosen rows of a table give, as a book says it
   pub rows_give : {X V W : Type 0} {k : Kept X} {book_rows : List Entry → List X} (it : IsTable k book_rows) {most : Option ℕ} {order : Row → Row → Ordering} {picks : Row → Bool} {items : V → List X} {P : List Entry → V → Type 0} {Why : Damage} {what : List Entry → W} {old new : Transaction S} {v : V} {w : W} (of : List X → W)
       → new.conn.ghost_name ≡ old.conn.ghost_name → Reads P (state g old.conn.now) (state g new.conn.now) (Ok v) → ReadsFirst k most order picks items (state g old.conn.now) (state g new.conn.now) (Ok v)

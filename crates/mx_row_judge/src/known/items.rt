@@ -9,11 +9,11 @@ ghost use Rattle.mx_row_rules.specs.found.Given as registers;
 ghost use Rattle.mx_lookups.specs.numbers.LookUp.{IsLookUp};
 ghost use Rattle.mx_row_judge.specs.known.Known.{AreRows, RowsDamage, Says, SaysDamage, Tells, TellsRows};
 
-use crate::known::lines::place_rows;
 use mx_base::{Part, Position};
 use mx_book::commands::{Aircraft, Component};
 use mx_layout::TableFault;
 use mx_registers::{aircraft_row, component_row};
+use mx_row_rules::changes::place_rows;
 use mx_row_rules::found::same::{are_same_aircraft, are_same_components, are_same_places};
 use mx_table_rows::chosen::items::{aircraft_by_seq, component_by_seq, place_by_seq};
 use sqlite::{Alter, Transaction};

@@ -9,12 +9,12 @@ ghost use Rattle.mx_row_rules.specs.found.Given as registers;
 ghost use Rattle.mx_lookups.specs.numbers.LookUp.{IsLookUp};
 ghost use Rattle.mx_row_judge.specs.known.Known.{AreRows, RowsDamage, Says, SaysDamage, Tells, TellsRows};
 
-use crate::known::lines::task_rows;
 use mx_book::commands::{Deferral, Extension, Opening, Programme, Task};
 use mx_layout::TableFault;
 use mx_lookups::numbers::entries::defect_number;
 use mx_lookups::numbers::items::{aircraft_number, item_number};
 use mx_registers::{deferral_row, extension_row, opening_row, or_zero, programme_row};
+use mx_row_rules::changes::task_rows;
 use mx_row_rules::found::same::{
     are_same_deferrals, are_same_extensions, are_same_openings, are_same_programmes, are_same_tasks,
 };

@@ -37,22 +37,6 @@ fn answered(
     }
 }
 
-// The list, asked of rows.
-fn list_of_rows<S: Alter>(
-    rows: &mut Rows<'_, '_, S, ListQuestions>,
-    question: &Question,
-) -> Result<Result<Report, Refusal>, TableFault>
-    ensures same_tx { rows.new.tx.ghost_name ≡ rows.old.tx.ghost_name }
-    ensures same_conn { rows.new.tx.now.conn.ghost_name ≡ rows.old.tx.now.conn.ghost_name }
-    ensures asks { Asks S.Store AnswerListsAs ListDamage (λ book answer. answer
-        ≡ ok_or (report_of book question.now) UnknownAircraft)
-        rows.old.tx.now.conn.now rows.new.tx.now.conn.now result }
-    ensures kind { HasKind question.now result }
-{
-    let alloc = rows.alloc;
-    answered(list_report(rows, alloc, question))
-}
-
 /// The list of an aircraft that a question asks for, by the rows that a transaction shows: `Err(UnknownAircraft)` where no
 /// aircraft has the registration. It asks for the aircraft, and then what the list asks, each by the rows that have what is
 /// asked for: a row that no question finds is not looked at.
@@ -74,7 +58,7 @@ pub fn list_rows<S: Alter>(
         tx,
         questions: ListQuestions,
     };
-    list_of_rows(&mut rows, question)
+    answered(list_report(&mut rows, alloc, question))
 }
 
 // Why an item is unknown.

@@ -8,6 +8,10 @@ use Rattle.mx_registers.specs.Added.{AreAdded}
 pub nothing : {Row : Type 0} (Fits : Row → Type 0) (by : List Entry → Act → List Row) {rows : List Row} (before : List Entry) (command : Entry) → rows ≡ [] → by before command.act ≡ [] → AreAdded Fits by rows before command
 nothing Fits by before command empty adds = (empty ∙ sym adds, subst (All Fits) (sym empty) (All-nil Fits))
 
+-- each of no rows can be kept
+pub none_fit : {Row : Type 0} (Fits : Row → Type 0) {rows : List Row} → rows ≡ [] → All Fits rows
+none_fit Fits empty = subst (All Fits) (sym empty) (All-nil Fits)
+
 -- one row is added to a table to which the command adds that one
 pub one : {Row : Type 0} (Fits : Row → Type 0) (by : List Entry → Act → List Row) {rows old : List Row} {row : Row} (before : List Entry) (command : Entry) → rows ≡ old ++ row ∷ [] → old ≡ [] → row ∷ [] ≡ by before command.act → Fits row → AreAdded Fits by rows before command
 one Fits by {rows = rows} {row = row} before command pushed empty adds fits =

@@ -35,8 +35,8 @@ fn first_total(item: u32, life: Use, clock: Moment) -> TotalRow
     }
 }
 
-// The rows of the positions of the aircraft that the entry with a number adds.
-fn place_rows(
+/// The rows of the positions of the aircraft that the entry with a number adds.
+pub fn place_rows(
     alloc: Global,
     seq: u32,
     positions: &[(Position, Part)],

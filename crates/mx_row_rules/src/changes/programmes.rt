@@ -19,8 +19,8 @@ use mx_book::commands::{Opening, Programme, Task};
 use mx_registers::{opening_row, programme_row, task_row};
 use std::alloc::{AllocError, Global};
 
-// The rows of the tasks of the programme that the entry with a number loads.
-fn task_rows(alloc: Global, seq: u32, tasks: &[Task]) -> Result<Vec<TaskRow>, AllocError>
+/// The rows of the tasks of the programme that the entry with a number loads.
+pub fn task_rows(alloc: Global, seq: u32, tasks: &[Task]) -> Result<Vec<TaskRow>, AllocError>
     requires few { length tasks.now ≤ MOST_TASKS }
     ensures rows { IfOk result (λ rows. rows.items ≡ lines_from task_row seq 1 tasks.now) }
     ensures fits { IfOk result (λ rows. All FitsTask rows.items) }

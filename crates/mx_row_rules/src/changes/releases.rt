@@ -110,16 +110,15 @@ fn base_rows(alloc: Global, day: Day, lines: &[Certified]) -> Result<Vec<BaseRow
     ensures rows { IfOk result (λ rows. rows.items ≡ filter_map (base_made day) lines.now) }
     ensures fits { IfOk result (λ rows. All FitsBase rows.items) }
 {
-    let mut rows = Vec::new(alloc);
-    'lines: for certified in lines {
-        match certified {
+    lines
+        .iter()
+        .filter_map(|certified| match certified {
             Certified::Done(item, task, reached, due) => {
-                rows.push(base_row(day, *item, task, reached, *due))?;
+                Some(base_row(day, *item, task, reached, *due))
             }
-            Certified::Rectified(_) => {}
-        }
-    }
-    Ok(rows)
+            Certified::Rectified(_) => None,
+        })
+        .collect(alloc)
 }
 
 /// The rows of a release, by the number of its place, by what is known of its lines, and by the totals that it touches, as they

@@ -79,11 +79,10 @@ pub(crate) fn clocked_totals(
     ensures rows { IfOk result (λ rows. rows.items ≡ map (total_clocked moment) totals.now) }
     ensures fits { IfOk result (λ rows. All FitsTotal rows.items) }
 {
-    let mut rows = Vec::new(alloc);
-    'totals: for row in totals {
-        rows.push(clocked(*row, moment))?;
-    }
-    Ok(rows)
+    totals
+        .iter()
+        .map(|row| clocked(*row, moment))
+        .collect(alloc)
 }
 
 // The totals of the items that are credited with a sector of the aircraft with a number.
@@ -99,9 +98,8 @@ pub(crate) fn flown_totals(
         rows.items ≡ map (total_flown aircraft sector.now) totals.now) }
     ensures fits { IfOk result (λ rows. All FitsTotal rows.items) }
 {
-    let mut rows = Vec::new(alloc);
-    'totals: for row in totals {
-        rows.push(flown(*row, aircraft, sector))?;
-    }
-    Ok(rows)
+    totals
+        .iter()
+        .map(|row| flown(*row, aircraft, sector))
+        .collect(alloc)
 }

@@ -1,16 +1,13 @@
-use Rattle.std.proofs.Common.{◌≡◌, ℕ, refl, ap, [], ◌∷◌, ◌∙◌, map}
+use Rattle.std.proofs.Common.{rules, ◌≡◌, ℕ, ap, [], ◌∷◌, ◌∙◌}
 use Rattle.mx_book.specs.commands.Act.{Added}
-use Rattle.mx_base.specs.rows.Rows.{FitsAircraft, FitsPlace, FitsComponent, FitsProgramme, FitsTask, FitsOpening, FitsRelease, FitsReleaseLine, FitsDeferral, FitsExtension, FitsSpan, FitsTotal, FitsBase}
+use Rattle.mx_base.specs.rows.Rows.{FitsAircraft, FitsPlace, FitsTotal}
 use Rattle.mx_base.specs.declared.rows.rows.EntryRow.{EntryRow}
-use Rattle.mx_registers.specs.Registers.{aircraft_by, places_by, components_by, programmes_by, tasks_by, openings_by, releases_by, release_lines_by, deferrals_by, extensions_by, next, aircraft_row, place_row}
+use Rattle.mx_registers.specs.Registers.{aircraft_by, places_by, next, aircraft_row, place_row}
 use Rattle.mx_registers.specs.Lines.{lines_from}
-use Rattle.mx_registers.specs.kept.Bases.{bases_by}
 use Rattle.mx_registers.specs.kept.Changes.{entry_of}
 use Rattle.mx_row_rules.specs.changes.Kept.{total_begun}
-use Rattle.mx_registers.specs.kept.Spans.{span_ended, span_rows, spans_opened}
-use Rattle.mx_registers.specs.kept.Totals.{total_by_number, total_rows, totals_opened}
-use Rattle.mx_row_rules.specs.changes.Rows.{FitsHeld, sectors_held_by, spans_touched, totals_touched}
-use Rattle.mx_row_rules.proofs.ChangesProofs.AddedLemmas.{nothing, one, these}
+use Rattle.mx_registers.specs.kept.Totals.{totals_opened}
+use Rattle.mx_row_rules.proofs.ChangesProofs.AddedLemmas.{none_fit, one, these}
 use Rattle.mx_row_rules.proofs.ChangesProofs.TouchLemmas.{none_pass}
 use Rattle.mx_row_rules.proofs.changes.items.aircraft_rows.Goals as goal
 
@@ -20,28 +17,7 @@ returns-clause-of_book c book doc own =
     let e = entry_of doc act in
     let seq : c.args.entry.seq ≡ next book = ap (λ (row : EntryRow). row.seq) own in
     let no = c.none_added-added.ensures in
-    let same = c.none_changed.ensures in
-    record {
-      entry = own;
-      entry_fits = c.requires.fits;
-      added = record {
-        aircraft = one FitsAircraft aircraft_by book e c.in_ok-push.ensures.items no.aircraft (ap (λ row. row ∷ []) (c.aircraft_row-row.ensures.row ∙ ap (λ (n : ℕ). aircraft_row n c.args.aircraft) seq)) c.aircraft_row-row.ensures.fits;
-        places = these FitsPlace places_by book e (c.in_ok-places.ensures.rows ∙ ap (λ (n : ℕ). lines_from place_row n 1 c.args.positions.now) seq) c.in_ok-places.ensures.fits;
-        components = nothing FitsComponent components_by book e no.components refl;
-        programmes = nothing FitsProgramme programmes_by book e no.programmes refl;
-        tasks = nothing FitsTask tasks_by book e no.tasks refl;
-        openings = nothing FitsOpening openings_by book e no.openings refl;
-        releases = nothing FitsRelease releases_by book e no.releases refl;
-        release_lines = nothing FitsReleaseLine release_lines_by book e no.release_lines refl;
-        deferrals = nothing FitsDeferral deferrals_by book e no.deferrals refl;
-        extensions = nothing FitsExtension extensions_by book e no.extensions refl;
-        sectors = nothing FitsHeld sectors_held_by book e no.sectors refl;
-        spans = nothing FitsSpan spans_opened book e no.spans refl;
-        totals = one FitsTotal totals_opened book e c.in_ok-push-2.ensures.items no.totals (ap (λ row. row ∷ []) (c.first_total-total.ensures.row ∙ ap (λ (n : ℕ). total_begun n c.args.aircraft.opening c.args.aircraft.as_of) seq)) c.first_total-total.ensures.fits;
-      };
-      changed = record {
-        spans = nothing FitsSpan spans_touched book e same.spans (ap (map (span_ended book act)) (none_pass (span_rows book)));
-        totals = nothing FitsTotal totals_touched book e same.totals (ap (map (total_by_number book act)) (none_pass (total_rows book)));
-        bases = nothing FitsBase bases_by book e same.bases refl;
-      };
-    }
+    let aircraft = one FitsAircraft aircraft_by book e c.in_ok-push.ensures.items no.aircraft (ap (λ row. row ∷ []) (c.aircraft_row-row.ensures.row ∙ ap (λ (n : ℕ). aircraft_row n c.args.aircraft) seq)) c.aircraft_row-row.ensures.fits in
+    let places = these FitsPlace places_by book e (c.in_ok-places.ensures.rows ∙ ap (λ (n : ℕ). lines_from place_row n 1 c.args.positions.now) seq) c.in_ok-places.ensures.fits in
+    let totals = one FitsTotal totals_opened book e c.in_ok-push-2.ensures.items no.totals (ap (λ row. row ∷ []) (c.first_total-total.ensures.row ∙ ap (λ (n : ℕ). total_begun n c.args.aircraft.opening c.args.aircraft.as_of) seq)) c.first_total-total.ensures.fits in
+    search (rules, none_fit, none_pass)
