@@ -55,13 +55,9 @@
 //! it, each with a line where the word at `do` chooses the form (`forms.rt`, `entry_by_word`).
 #![tactic(auto)]
 
-mod aircraft;
 mod category;
-mod component;
-mod deferral;
-mod extension;
+mod commands;
 mod fault;
-mod fitting;
 mod form;
 mod forms;
 mod input;
@@ -74,13 +70,10 @@ mod lines;
 mod loading;
 mod number;
 mod object;
-mod opening;
 mod places;
 mod positions;
 mod programme;
 mod records;
-mod release;
-mod removal;
 mod sector;
 mod sector_row;
 mod sector_rows;
