@@ -11,7 +11,7 @@ after_one first a (Ok more) = ap Ok (sym (append_assoc first (a ∷ []) more))
 after_one first a (Err f) = refl
 
 -- the values from place i on: the one that stands there, and those behind it
-front : {V : Type 0} (vs : List V) (i : ℕ) (v : V) → i < length vs → v ≡ get_or vs i v → drop i vs ≡ v ∷ drop (i + 1) vs
+pub front : {V : Type 0} (vs : List V) (i : ℕ) (v : V) → i < length vs → v ≡ get_or vs i v → drop i vs ≡ v ∷ drop (i + 1) vs
 front vs i v h is = drop_more vs i v h ∙ ap (λ x. x ∷ drop (i + 1) vs) (sym is)
 
 -- F gives what the values from a place on give, each of which gives what g says

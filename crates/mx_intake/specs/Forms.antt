@@ -1,7 +1,7 @@
 -- The form of each command, those of releases and of defects aside: its keys, and how their values are read; and the form that a word chooses.
 use Rattle.std.specs.Prelude.{ℕ, List, [], ◌∷◌, codes, Bool, ◌&&◌, ◌||◌, Option, Some, None, is_some, option_map, option_and_then, Result, Err, if◌then◌else◌}
 use Rattle.std.specs.Str.{bytes_eq}
-use Rattle.serde_json.specs.Data.{Data, Items, no_items, item}
+use Rattle.serde_json.specs.Data.{Data, Items}
 use Rattle.serde_json.specs.Find.{get, as_str, as_object}
 use Rattle.mx_base.specs.declared.amounts.Use.{Use}
 use Rattle.mx_book.specs.commands.Act.{Entry, Added, Listed, Opened, Flown, Fitted, Removed}
@@ -11,7 +11,7 @@ use Rattle.mx_intake.specs.declared.fault.TheConstants.{MISSING, BAD_VALUE}
 use Rattle.mx_intake.specs.Defects.{deferral_form, extension_form}
 use Rattle.mx_intake.specs.Form.{if_read, if_keys_agree, entry_by_form}
 use Rattle.mx_intake.specs.Items.{item_at_keys, lacks_item, names_two_items}
-use Rattle.mx_intake.specs.Object.{lacks_key, has_other_key, number_at_key, list_at_key, any_at_key}
+use Rattle.mx_intake.specs.Object.{lacks_key, has_other_key, number_at_key, list_at_key, any_at_key, stated_all}
 use Rattle.mx_intake.specs.Release.{release_form}
 use Rattle.mx_intake.specs.Vocabulary.{tail_at_key, name_at_key, document_at_key, day_at_key, moment_at_key}
 
@@ -44,8 +44,7 @@ stated_position d =
 
 -- the positions, where each can be read
 abbrev pub stated_positions : Items → Option (List (List ℕ × List ℕ))
-stated_positions no_items = Some []
-stated_positions (item d ds) = if_read (stated_position d) (λ position. option_map (λ more. position ∷ more) (stated_positions ds))
+stated_positions = stated_all stated_position
 
 -- the use that an opening states
 abbrev pub stated_use : Data → Option Use

@@ -12,10 +12,9 @@ use crate::category::{category_at, lacks_days, states_other_days};
 use crate::fault::MEMORY;
 use crate::form::{command_by_form, command_by_keys, command_if_keys_agree};
 use crate::items::{item_at, lacks_item, names_two_items};
-use crate::lines::lines_at;
+use crate::listed::all_at;
 use crate::object::{has_other, lacks, number_at};
 use crate::places::{lacks_place, names_two_places, place_at};
-use crate::positions::positions_at;
 use crate::vocabulary::{day_at, identifier_at, moment_at};
 use crate::{lines, positions};
 use mx_base::{Doc, Part, Position, Use};
@@ -53,7 +52,7 @@ fn aircraft_with(object: &Value, positions: Vec<(Position, Part)>) -> Option<(Do
 fn aircraft_of(alloc: Global, object: &Value) -> Result<Option<(Doc, Body)>, AllocError>
     ensures { IfOk result (λ s. option_map entry_of s ≡ stated_aircraft (view object.now)) }
 {
-    match positions_at(alloc, object)? {
+    match all_at(alloc, object, "positions")? {
         Some(positions) => Ok(aircraft_with(object, positions)),
         None => Ok(None),
     }
@@ -274,7 +273,7 @@ fn release_with(object: &Value, lines: Vec<Line>) -> Option<(Doc, Body)>
 fn release_of(alloc: Global, object: &Value) -> Result<Option<(Doc, Body)>, AllocError>
     ensures { IfOk result (λ s. option_map entry_of s ≡ stated_release (view object.now)) }
 {
-    match lines_at(alloc, object)? {
+    match all_at(alloc, object, "lines")? {
         Some(lines) => Ok(release_with(object, lines)),
         None => Ok(None),
     }

@@ -7,7 +7,7 @@ ghost use Rattle.std.specs.Prelude.{◌≡◌, map, is_some, option_map};
 ghost use Rattle.serde_json.specs.Find.{get};
 ghost use Rattle.serde_json.specs.View.{view, items_view};
 ghost use Rattle.mx_intake.specs.Keys.{if_there};
-ghost use Rattle.mx_intake.specs.Object.{lacks_key, has_other_key, number_of, number_at_key, text_at_key, list_at_key, any_item};
+ghost use Rattle.mx_intake.specs.Object.{lacks_key, has_other_key, number_of, number_at_key, text_at_key, list_at_key};
 
 use crate::keys::is_one_of;
 use serde_json::Value;
@@ -46,19 +46,6 @@ pub(crate) fn has_other(object: &Value, keys: &[&str]) -> bool
     false
 }
 
-/// Whether one of the values has a key that is none of these.
-pub(crate) fn one_has_other(values: &[Value], keys: &[&str]) -> bool
-    ensures { result ≡ any_item (has_other_key (map (λ k. k.now) keys.now))
-        (items_view values.now) }
-{
-    for value in values {
-        if has_other(value, keys) {
-            return true;
-        }
-    }
-    false
-}
-
 /// The whole number that a value is, up to 4,294,967,295.
 fn number_of(value: &Value) -> Option<u32>
     ensures { result ≡ number_of (view value.now) }
@@ -78,10 +65,8 @@ pub(crate) fn number_at(object: &Value, key: &str) -> Option<u32>
 pub(crate) fn number_if_there(object: &Value, key: &str) -> Option<Option<u32>>
     ensures { result ≡ if_there number_of (get key.now (view object.now)) }
 {
-    match object.get(key) {
-        Some(value) => Some(Some(number_of(value)?)),
-        None => Some(None),
-    }
+    let value = object.get(key);
+    value.map_or(Some(None), |value| number_of(value).map(Some))
 }
 
 /// The text at a key.

@@ -64,20 +64,16 @@ pub(crate) fn number_at(table: &Value, key: &str) -> Option<u32>
 pub(crate) fn number_if_there(table: &Value, key: &str) -> Option<Option<u32>>
     ensures { result ≡ if_there number_of (get key.now (view table.now)) }
 {
-    match table.get(key) {
-        Some(value) => Some(Some(number_of(value)?)),
-        None => Some(None),
-    }
+    let value = table.get(key);
+    value.map_or(Some(None), |value| number_of(value).map(Some))
 }
 
 /// Whether it is true or false at a key that may be absent.
 pub(crate) fn flag_if_there(table: &Value, key: &str) -> Option<Option<bool>>
     ensures { result ≡ if_there as_bool (get key.now (view table.now)) }
 {
-    match table.get(key) {
-        Some(value) => Some(Some(value.as_bool()?)),
-        None => Some(None),
-    }
+    let value = table.get(key);
+    value.map_or(Some(None), |value| value.as_bool().map(Some))
 }
 
 /// The text at a key.
@@ -95,8 +91,7 @@ pub(crate) fn identifier_at<A: Alphabet, const N: usize>(
     ensures { result ≡ option_and_then (identifier_of A.allows N)
         (text_at_key key.now (view table.now)) }
 {
-    let text = text_at(table, key)?;
-    read_identifier(text)
+    read_identifier(text_at(table, key)?)
 }
 
 /// The values of the list at a key.

@@ -51,19 +51,13 @@ fn applies_at(table: &Value, key: &str) -> Option<Applies>
 fn stated(table: &Value) -> Option<Task>
     ensures { result ≡ stated_task (view table.now) }
 {
-    let id = identifier_at(table, "id")?;
-    let applies = applies_at(table, "applies")?;
-    let first = limit_at(table, "first")?;
-    let repeat = limit_if_there(table, "repeat")?;
-    let tolerance = limit_if_there(table, "tolerance")?;
-    let retire = flag_if_there(table, "retire")?;
     Some(Task {
-        id,
-        applies,
-        first,
-        repeat,
-        tolerance: tolerance_of(tolerance),
-        retire: retire.unwrap_or(false),
+        id: identifier_at(table, "id")?,
+        applies: applies_at(table, "applies")?,
+        first: limit_at(table, "first")?,
+        repeat: limit_if_there(table, "repeat")?,
+        tolerance: tolerance_of(limit_if_there(table, "tolerance")?),
+        retire: flag_if_there(table, "retire")?.unwrap_or(false),
     })
 }
 
