@@ -61,19 +61,12 @@ pub(crate) fn append_moment(out: &mut Vec<u8>, moment: Moment) -> Result<(), All
     print_moment(out, moment)
 }
 
-fn append_hours(out: &mut Vec<u8>, minutes: i64) -> Result<(), AllocError>
-    ensures words { OnOk result (out.new.items ≡ out.old.items ++ spaced (hours_text minutes)) }
-    ensures kept { OnErr result (StartsWith out.old.items out.new.items) }
-{
-    out.push(b' ')?;
-    print_hours(out, minutes)
-}
-
 pub(crate) fn append_use(out: &mut Vec<u8>, life: &Use) -> Result<(), AllocError>
     ensures words { OnOk result (out.new.items ≡ out.old.items ++ use_words life.now) }
     ensures kept { OnErr result (StartsWith out.old.items out.new.items) }
 {
-    append_hours(out, i64::from(life.minutes))?;
+    out.push(b' ')?;
+    print_hours(out, i64::from(life.minutes))?;
     append_number(out, life.cycles as usize)
 }
 
