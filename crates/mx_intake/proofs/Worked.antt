@@ -1,6 +1,6 @@
 -- Worked texts: the commands that they state, or their faults, computed from the definitions.
 use Rattle.std.proofs.Common.{refl, ◌≡◌, ℕ, List, [], ◌∷◌, Some, None, Ok, Err, length, replicate, arith}
-use Rattle.std.specs.Prelude.{codes, ⊤}
+use Rattle.std.specs.Prelude.{map, codes, ⊤}
 use Rattle.std.specs.Str.{is_utf8, chars}
 use Rattle.jiff_core.specs.Calendar.{days_from_civil, day_count, days_of_years, days_of_months}
 use Rattle.serde_json.proofs.OnLiterals.{serde_json_on_literals}
@@ -49,13 +49,15 @@ a_day_of_2024 = refl
 
 -- ── whole texts ──
 
-no_text : entries_of_text [] ≡ Err (fault 61 0)
+-- no bytes, and bytes that are not UTF-8
+no_text :
+    map entries_of_text (
+    []
+    ∷ (91 ∷ 255 ∷ 93 ∷ []) ∷ []
+    )
+    ≡ replicate 2 (Err (fault 61 0))
 unfolding intake_on_literals
 no_text = refl
-
-not_utf8 : entries_of_text (91 ∷ 255 ∷ 93 ∷ []) ≡ Err (fault 61 0)
-unfolding intake_on_literals
-not_utf8 = refl
 
 no_commands : entries_of_text (codes "[]") ≡ Ok []
 unfolding intake_on_literals

@@ -1,6 +1,6 @@
 -- Worked deferrals and extensions, computed from the definitions.
-use Rattle.std.proofs.Common.{refl, ◌≡◌, ℕ, List, [], ◌∷◌, ◌++◌, Ok, Err}
-use Rattle.std.specs.Prelude.{codes, Result}
+use Rattle.std.proofs.Common.{refl, replicate, ◌≡◌, ℕ, List, [], ◌∷◌, ◌++◌, Ok, Err}
+use Rattle.std.specs.Prelude.{map, codes, Result}
 use Rattle.mx_book.specs.commands.Act.{Entry, Deferred, Extended}
 use Rattle.mx_base.specs.declared.category.Category.{Category}
 use Rattle.mx_base.specs.declared.category.Category.TheVariants.{A, B, C, D}
@@ -47,146 +47,115 @@ a_year_of_category_a : deferral_with_category (codes "\"category\":\"A\",\"days\
 unfolding intake_on_literals
 a_year_of_category_a = refl
 
-no_day_of_category_a : deferral_with_category (codes "\"category\":\"A\",\"days\":0,") ≡ Err (fault 65 1)
+-- no day, one more than a year, and the last of the numbers
+days_of_category_a_out_of_shape :
+    map deferral_with_category (
+    codes "\"category\":\"A\",\"days\":0,"
+    ∷ codes "\"category\":\"A\",\"days\":366,"
+    ∷ codes "\"category\":\"A\",\"days\":4294967295," ∷ []
+    )
+    ≡ replicate 3 (Err (fault 65 1))
 unfolding intake_on_literals
-no_day_of_category_a = refl
+days_of_category_a_out_of_shape = refl
 
-a_leap_year_of_category_a : deferral_with_category (codes "\"category\":\"A\",\"days\":366,") ≡ Err (fault 65 1)
+-- past the numbers, with a fraction, and as a text
+unread_days_of_category_a :
+    map deferral_with_category (
+    codes "\"category\":\"A\",\"days\":4294967296,"
+    ∷ codes "\"category\":\"A\",\"days\":5.0,"
+    ∷ codes "\"category\":\"A\",\"days\":\"5\"," ∷ []
+    )
+    ≡ replicate 3 (Err (fault 63 1))
 unfolding intake_on_literals
-a_leap_year_of_category_a = refl
-
-last_of_the_numbers : deferral_with_category (codes "\"category\":\"A\",\"days\":4294967295,") ≡ Err (fault 65 1)
-unfolding intake_on_literals
-last_of_the_numbers = refl
-
-days_past_the_numbers : deferral_with_category (codes "\"category\":\"A\",\"days\":4294967296,") ≡ Err (fault 63 1)
-unfolding intake_on_literals
-days_past_the_numbers = refl
-
-days_with_a_fraction : deferral_with_category (codes "\"category\":\"A\",\"days\":5.0,") ≡ Err (fault 63 1)
-unfolding intake_on_literals
-days_with_a_fraction = refl
-
-days_as_text : deferral_with_category (codes "\"category\":\"A\",\"days\":\"5\",") ≡ Err (fault 63 1)
-unfolding intake_on_literals
-days_as_text = refl
+unread_days_of_category_a = refl
 
 -- only category A wants days
-category_a_without_days : deferral_with_category (codes "\"category\":\"A\",") ≡ Err (fault 62 1)
+category_a_without_days :
+    map deferral_with_category (
+    codes "\"category\":\"A\","
+    ∷ codes "\"category\":\"A\",\"note\":5," ∷ []
+    )
+    ≡ replicate 2 (Err (fault 62 1))
 unfolding intake_on_literals
 category_a_without_days = refl
 
-category_a_with_a_note_for_the_days : deferral_with_category (codes "\"category\":\"A\",\"note\":5,") ≡ Err (fault 62 1)
-unfolding intake_on_literals
-category_a_with_a_note_for_the_days = refl
-
 -- days may not stand beside another category, which has days of its own
-days_beside_category_b : deferral_with_category (codes "\"category\":\"B\",\"days\":3,") ≡ Err (fault 65 1)
+days_beside_other_categories :
+    map deferral_with_category (
+    codes "\"category\":\"B\",\"days\":3,"
+    ∷ codes "\"category\":\"C\",\"days\":10,"
+    ∷ codes "\"category\":\"D\",\"days\":120,"
+    ∷ codes "\"category\":\"B\",\"days\":0," ∷ []
+    )
+    ≡ replicate 4 (Err (fault 65 1))
 unfolding intake_on_literals
-days_beside_category_b = refl
-
-days_beside_category_c : deferral_with_category (codes "\"category\":\"C\",\"days\":10,") ≡ Err (fault 65 1)
-unfolding intake_on_literals
-days_beside_category_c = refl
-
-days_beside_category_d : deferral_with_category (codes "\"category\":\"D\",\"days\":120,") ≡ Err (fault 65 1)
-unfolding intake_on_literals
-days_beside_category_d = refl
-
-no_day_beside_category_b : deferral_with_category (codes "\"category\":\"B\",\"days\":0,") ≡ Err (fault 65 1)
-unfolding intake_on_literals
-no_day_beside_category_b = refl
+days_beside_other_categories = refl
 
 days_and_a_note_beside_category_b : deferral_with_category (codes "\"category\":\"B\",\"days\":3,\"note\":1,") ≡ Err (fault 64 1)
 unfolding intake_on_literals
 days_and_a_note_beside_category_b = refl
 
-unread_days_beside_category_b : deferral_with_category (codes "\"category\":\"B\",\"days\":\"x\",") ≡ Err (fault 63 1)
+unread_days_beside_category_b :
+    map deferral_with_category (
+    codes "\"category\":\"B\",\"days\":\"x\","
+    ∷ codes "\"category\":\"B\",\"days\":null," ∷ []
+    )
+    ≡ replicate 2 (Err (fault 63 1))
 unfolding intake_on_literals
 unread_days_beside_category_b = refl
 
-null_days_beside_category_b : deferral_with_category (codes "\"category\":\"B\",\"days\":null,") ≡ Err (fault 63 1)
-unfolding intake_on_literals
-null_days_beside_category_b = refl
-
 -- a category that is missing or can't be read neither wants days nor excludes them
-no_category : deferral_with_category [] ≡ Err (fault 62 1)
+no_category :
+    map deferral_with_category (
+    []
+    ∷ codes "\"days\":5,"
+    ∷ codes "\"days\":\"x\"," ∷ []
+    )
+    ≡ replicate 3 (Err (fault 62 1))
 unfolding intake_on_literals
 no_category = refl
 
-days_without_category : deferral_with_category (codes "\"days\":5,") ≡ Err (fault 62 1)
+-- another letter, whatever stands at `days`, a small letter, two letters and none, a number and a list
+unread_categories :
+    map deferral_with_category (
+    codes "\"category\":\"E\","
+    ∷ codes "\"category\":\"E\",\"days\":5,"
+    ∷ codes "\"category\":\"E\",\"days\":\"x\","
+    ∷ codes "\"category\":\"a\",\"days\":5,"
+    ∷ codes "\"category\":\"BA\","
+    ∷ codes "\"category\":\"\","
+    ∷ codes "\"category\":1,"
+    ∷ codes "\"category\":[\"B\"]," ∷ []
+    )
+    ≡ replicate 8 (Err (fault 63 1))
 unfolding intake_on_literals
-days_without_category = refl
-
-unread_days_without_category : deferral_with_category (codes "\"days\":\"x\",") ≡ Err (fault 62 1)
-unfolding intake_on_literals
-unread_days_without_category = refl
-
-unknown_category : deferral_with_category (codes "\"category\":\"E\",") ≡ Err (fault 63 1)
-unfolding intake_on_literals
-unknown_category = refl
-
-days_beside_an_unknown_category : deferral_with_category (codes "\"category\":\"E\",\"days\":5,") ≡ Err (fault 63 1)
-unfolding intake_on_literals
-days_beside_an_unknown_category = refl
-
-unread_days_beside_an_unknown_category : deferral_with_category (codes "\"category\":\"E\",\"days\":\"x\",") ≡ Err (fault 63 1)
-unfolding intake_on_literals
-unread_days_beside_an_unknown_category = refl
-
-category_in_a_small_letter : deferral_with_category (codes "\"category\":\"a\",\"days\":5,") ≡ Err (fault 63 1)
-unfolding intake_on_literals
-category_in_a_small_letter = refl
-
-category_of_two_letters : deferral_with_category (codes "\"category\":\"BA\",") ≡ Err (fault 63 1)
-unfolding intake_on_literals
-category_of_two_letters = refl
-
-category_of_no_letter : deferral_with_category (codes "\"category\":\"\",") ≡ Err (fault 63 1)
-unfolding intake_on_literals
-category_of_no_letter = refl
-
-category_as_a_number : deferral_with_category (codes "\"category\":1,") ≡ Err (fault 63 1)
-unfolding intake_on_literals
-category_as_a_number = refl
-
-category_as_a_list : deferral_with_category (codes "\"category\":[\"B\"],") ≡ Err (fault 63 1)
-unfolding intake_on_literals
-category_as_a_list = refl
+unread_categories = refl
 
 -- ── the other keys of a deferral ──
 
-deferral_without_document : entries_of_text (codes "[{\"do\":\"defer\",\"tail\":\"D-ABCD\",\"moment\":\"1970-01-02T23:59\",\"reference\":\"21-31-01\",\"category\":\"B\"}]") ≡ Err (fault 62 1)
+-- without document, tail, moment and reference
+deferrals_that_lack_a_key :
+    map entries_of_text (
+    codes "[{\"do\":\"defer\",\"tail\":\"D-ABCD\",\"moment\":\"1970-01-02T23:59\",\"reference\":\"21-31-01\",\"category\":\"B\"}]"
+    ∷ codes "[{\"do\":\"defer\",\"doc\":\"X1\",\"moment\":\"1970-01-02T23:59\",\"reference\":\"21-31-01\",\"category\":\"B\"}]"
+    ∷ codes "[{\"do\":\"defer\",\"doc\":\"X1\",\"tail\":\"D-ABCD\",\"reference\":\"21-31-01\",\"category\":\"B\"}]"
+    ∷ codes "[{\"do\":\"defer\",\"doc\":\"X1\",\"tail\":\"D-ABCD\",\"moment\":\"1970-01-02T23:59\",\"category\":\"B\"}]" ∷ []
+    )
+    ≡ replicate 4 (Err (fault 62 1))
 unfolding intake_on_literals
-deferral_without_document = refl
+deferrals_that_lack_a_key = refl
 
-deferral_without_tail : entries_of_text (codes "[{\"do\":\"defer\",\"doc\":\"X1\",\"moment\":\"1970-01-02T23:59\",\"reference\":\"21-31-01\",\"category\":\"B\"}]") ≡ Err (fault 62 1)
+-- a tail in small letters, a moment without time, a reference with a space, and one past the longest
+unread_keys_of_deferrals :
+    map entries_of_text (
+    codes "[{\"do\":\"defer\",\"doc\":\"X1\",\"tail\":\"d-abcd\",\"moment\":\"1970-01-02T23:59\",\"reference\":\"21-31-01\",\"category\":\"B\"}]"
+    ∷ codes "[{\"do\":\"defer\",\"doc\":\"X1\",\"tail\":\"D-ABCD\",\"moment\":\"1970-01-02\",\"reference\":\"21-31-01\",\"category\":\"B\"}]"
+    ∷ codes "[{\"do\":\"defer\",\"doc\":\"X1\",\"tail\":\"D-ABCD\",\"moment\":\"1970-01-02T23:59\",\"reference\":\"21 31\",\"category\":\"B\"}]"
+    ∷ codes "[{\"do\":\"defer\",\"doc\":\"X1\",\"tail\":\"D-ABCD\",\"moment\":\"1970-01-02T23:59\",\"reference\":\"21-31-01-21-31-01\",\"category\":\"B\"}]" ∷ []
+    )
+    ≡ replicate 4 (Err (fault 63 1))
 unfolding intake_on_literals
-deferral_without_tail = refl
-
-deferral_without_moment : entries_of_text (codes "[{\"do\":\"defer\",\"doc\":\"X1\",\"tail\":\"D-ABCD\",\"reference\":\"21-31-01\",\"category\":\"B\"}]") ≡ Err (fault 62 1)
-unfolding intake_on_literals
-deferral_without_moment = refl
-
-deferral_without_reference : entries_of_text (codes "[{\"do\":\"defer\",\"doc\":\"X1\",\"tail\":\"D-ABCD\",\"moment\":\"1970-01-02T23:59\",\"category\":\"B\"}]") ≡ Err (fault 62 1)
-unfolding intake_on_literals
-deferral_without_reference = refl
-
-tail_in_small_letters : entries_of_text (codes "[{\"do\":\"defer\",\"doc\":\"X1\",\"tail\":\"d-abcd\",\"moment\":\"1970-01-02T23:59\",\"reference\":\"21-31-01\",\"category\":\"B\"}]") ≡ Err (fault 63 1)
-unfolding intake_on_literals
-tail_in_small_letters = refl
-
-moment_without_time : entries_of_text (codes "[{\"do\":\"defer\",\"doc\":\"X1\",\"tail\":\"D-ABCD\",\"moment\":\"1970-01-02\",\"reference\":\"21-31-01\",\"category\":\"B\"}]") ≡ Err (fault 63 1)
-unfolding intake_on_literals
-moment_without_time = refl
-
-reference_with_a_space : entries_of_text (codes "[{\"do\":\"defer\",\"doc\":\"X1\",\"tail\":\"D-ABCD\",\"moment\":\"1970-01-02T23:59\",\"reference\":\"21 31\",\"category\":\"B\"}]") ≡ Err (fault 63 1)
-unfolding intake_on_literals
-reference_with_a_space = refl
-
-reference_past_the_longest : entries_of_text (codes "[{\"do\":\"defer\",\"doc\":\"X1\",\"tail\":\"D-ABCD\",\"moment\":\"1970-01-02T23:59\",\"reference\":\"21-31-01-21-31-01\",\"category\":\"B\"}]") ≡ Err (fault 63 1)
-unfolding intake_on_literals
-reference_past_the_longest = refl
+unread_keys_of_deferrals = refl
 
 deferral_with_a_defect : entries_of_text (codes "[{\"do\":\"defer\",\"doc\":\"X1\",\"tail\":\"D-ABCD\",\"moment\":\"1970-01-02T23:59\",\"reference\":\"21-31-01\",\"category\":\"B\",\"defect\":\"X0\"}]") ≡ Err (fault 64 1)
 unfolding intake_on_literals
@@ -216,49 +185,49 @@ extension_of_the_most_days : extension_with_days (codes "120") ≡ Ok (extension
 unfolding intake_on_literals
 extension_of_the_most_days = refl
 
-extension_of_no_day : extension_with_days (codes "0") ≡ Err (fault 65 1)
+extension_out_of_shape :
+    map extension_with_days (
+    codes "0"
+    ∷ codes "121" ∷ []
+    )
+    ≡ replicate 2 (Err (fault 65 1))
 unfolding intake_on_literals
-extension_of_no_day = refl
+extension_out_of_shape = refl
 
-extension_past_the_most_days : extension_with_days (codes "121") ≡ Err (fault 65 1)
+extension_of_unread_days :
+    map extension_with_days (
+    codes "4294967296"
+    ∷ codes "\"10\"" ∷ []
+    )
+    ≡ replicate 2 (Err (fault 63 1))
 unfolding intake_on_literals
-extension_past_the_most_days = refl
-
-extension_past_the_numbers : extension_with_days (codes "4294967296") ≡ Err (fault 63 1)
-unfolding intake_on_literals
-extension_past_the_numbers = refl
-
-extension_of_days_as_text : extension_with_days (codes "\"10\"") ≡ Err (fault 63 1)
-unfolding intake_on_literals
-extension_of_days_as_text = refl
+extension_of_unread_days = refl
 
 extension_with_a_category : extension_with_days (codes "10,\"category\":\"B\"") ≡ Err (fault 64 1)
 unfolding intake_on_literals
 extension_with_a_category = refl
 
-extension_without_document : entries_of_text (codes "[{\"do\":\"extend\",\"defect\":\"X1\",\"day\":\"1970-01-03\",\"days\":10}]") ≡ Err (fault 62 1)
+-- without document, defect, day and days
+extensions_that_lack_a_key :
+    map entries_of_text (
+    codes "[{\"do\":\"extend\",\"defect\":\"X1\",\"day\":\"1970-01-03\",\"days\":10}]"
+    ∷ codes "[{\"do\":\"extend\",\"doc\":\"Y1\",\"day\":\"1970-01-03\",\"days\":10}]"
+    ∷ codes "[{\"do\":\"extend\",\"doc\":\"Y1\",\"defect\":\"X1\",\"days\":10}]"
+    ∷ codes "[{\"do\":\"extend\",\"doc\":\"Y1\",\"defect\":\"X1\",\"day\":\"1970-01-03\"}]" ∷ []
+    )
+    ≡ replicate 4 (Err (fault 62 1))
 unfolding intake_on_literals
-extension_without_document = refl
+extensions_that_lack_a_key = refl
 
-extension_without_defect : entries_of_text (codes "[{\"do\":\"extend\",\"doc\":\"Y1\",\"day\":\"1970-01-03\",\"days\":10}]") ≡ Err (fault 62 1)
+-- a defect of no letter, and a moment for the day
+unread_keys_of_extensions :
+    map entries_of_text (
+    codes "[{\"do\":\"extend\",\"doc\":\"Y1\",\"defect\":\"\",\"day\":\"1970-01-03\",\"days\":10}]"
+    ∷ codes "[{\"do\":\"extend\",\"doc\":\"Y1\",\"defect\":\"X1\",\"day\":\"1970-01-03T00:00\",\"days\":10}]" ∷ []
+    )
+    ≡ replicate 2 (Err (fault 63 1))
 unfolding intake_on_literals
-extension_without_defect = refl
-
-extension_without_day : entries_of_text (codes "[{\"do\":\"extend\",\"doc\":\"Y1\",\"defect\":\"X1\",\"days\":10}]") ≡ Err (fault 62 1)
-unfolding intake_on_literals
-extension_without_day = refl
-
-extension_without_days : entries_of_text (codes "[{\"do\":\"extend\",\"doc\":\"Y1\",\"defect\":\"X1\",\"day\":\"1970-01-03\"}]") ≡ Err (fault 62 1)
-unfolding intake_on_literals
-extension_without_days = refl
-
-extension_of_no_document : entries_of_text (codes "[{\"do\":\"extend\",\"doc\":\"Y1\",\"defect\":\"\",\"day\":\"1970-01-03\",\"days\":10}]") ≡ Err (fault 63 1)
-unfolding intake_on_literals
-extension_of_no_document = refl
-
-extension_on_a_moment : entries_of_text (codes "[{\"do\":\"extend\",\"doc\":\"Y1\",\"defect\":\"X1\",\"day\":\"1970-01-03T00:00\",\"days\":10}]") ≡ Err (fault 63 1)
-unfolding intake_on_literals
-extension_on_a_moment = refl
+unread_keys_of_extensions = refl
 
 -- none has a document of the technical log; that it extends a page is a book's to refuse
 extension_by_a_page : entries_of_text (codes "[{\"do\":\"extend\",\"doc\":\"TL/D-ABCD/1/1\",\"defect\":\"X1\",\"day\":\"1970-01-03\",\"days\":10}]") ≡ Err (fault 65 1)

@@ -1,6 +1,6 @@
 -- Worked entries of each form, computed from the definitions.
-use Rattle.std.proofs.Common.{refl, ◌≡◌, ℕ, List, [], ◌∷◌, ◌++◌, Ok, Err}
-use Rattle.std.specs.Prelude.{codes, Result}
+use Rattle.std.proofs.Common.{refl, replicate, ◌≡◌, ℕ, List, [], ◌∷◌, ◌++◌, Ok, Err}
+use Rattle.std.specs.Prelude.{map, codes, Result}
 use Rattle.std.specs.Fmt.{digits}
 use Rattle.mx_book.specs.commands.Act.{Entry, Added, Listed, Opened, Flown, Fitted}
 use Rattle.mx_book.specs.declared.commands.item.Item.{Item}
@@ -26,37 +26,32 @@ sector : sector_with_page (codes "12") ≡ Ok (sector_of_page 12 (codes "TL/D-AB
 unfolding intake_on_literals digits
 sector = refl
 
-page_with_a_fraction : sector_with_page (codes "1.0") ≡ Err (fault 63 1)
+-- with a fraction, below none, none with a sign, past the numbers, and past 64 bits
+unread_pages :
+    map sector_with_page (
+    codes "1.0"
+    ∷ codes "-1"
+    ∷ codes "-0"
+    ∷ codes "4294967296"
+    ∷ codes "18446744073709551616" ∷ []
+    )
+    ≡ replicate 5 (Err (fault 63 1))
 unfolding intake_on_literals
-page_with_a_fraction = refl
-
-page_below_none : sector_with_page (codes "-1") ≡ Err (fault 63 1)
-unfolding intake_on_literals
-page_below_none = refl
-
-page_of_no_sign : sector_with_page (codes "-0") ≡ Err (fault 63 1)
-unfolding intake_on_literals
-page_of_no_sign = refl
-
-page_past_the_numbers : sector_with_page (codes "4294967296") ≡ Err (fault 63 1)
-unfolding intake_on_literals
-page_past_the_numbers = refl
-
-page_past_64_bits : sector_with_page (codes "18446744073709551616") ≡ Err (fault 63 1)
-unfolding intake_on_literals
-page_past_64_bits = refl
+unread_pages = refl
 
 page_past_the_floats : sector_with_page (codes "1e400") ≡ Err (fault 61 0)
 unfolding intake_on_literals
 page_past_the_floats = refl
 
-last_of_the_numbers : sector_with_page (codes "4294967295") ≡ Err (fault 65 1)
+-- the last of the numbers, and none
+page_out_of_shape :
+    map sector_with_page (
+    codes "4294967295"
+    ∷ codes "0" ∷ []
+    )
+    ≡ replicate 2 (Err (fault 65 1))
 unfolding intake_on_literals
-last_of_the_numbers = refl
-
-page_none : sector_with_page (codes "0") ≡ Err (fault 65 1)
-unfolding intake_on_literals
-page_none = refl
+page_out_of_shape = refl
 
 page_as_text : sector_with_page (codes "\"12\"") ≡ Err (fault 63 1)
 unfolding intake_on_literals

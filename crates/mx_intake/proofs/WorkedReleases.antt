@@ -1,6 +1,6 @@
 -- Worked releases to service, computed from the definitions.
 use Rattle.std.proofs.Common.{refl, ◌≡◌, ℕ, zero, suc, List, [], ◌∷◌, ◌++◌, Ok, Err, replicate}
-use Rattle.std.specs.Prelude.{codes, Result}
+use Rattle.std.specs.Prelude.{map, codes, Result}
 use Rattle.mx_book.specs.commands.Act.{Entry, Released}
 use Rattle.mx_book.specs.declared.commands.item.Item.TheVariants.{Airframe, Component}
 use Rattle.mx_book.specs.declared.commands.release.Line.{Line}
@@ -33,47 +33,40 @@ release_in_a_shop : release_with_place (codes "\"serial\":\"E1\",\"kind\":\"C172
 unfolding intake_on_literals
 release_in_a_shop = refl
 
-release_nowhere : release_with_place [] ≡ Err (fault 62 1)
+-- nowhere, at a kind alone, and in a shop without kind
+release_of_no_whole_place :
+    map release_with_place (
+    []
+    ∷ codes "\"kind\":\"C172\","
+    ∷ codes "\"serial\":\"E1\"," ∷ []
+    )
+    ≡ replicate 3 (Err (fault 62 1))
 unfolding intake_on_literals
-release_nowhere = refl
-
-release_at_a_kind_alone : release_with_place (codes "\"kind\":\"C172\",") ≡ Err (fault 62 1)
-unfolding intake_on_literals
-release_at_a_kind_alone = refl
-
-release_in_a_shop_without_kind : release_with_place (codes "\"serial\":\"E1\",") ≡ Err (fault 62 1)
-unfolding intake_on_literals
-release_in_a_shop_without_kind = refl
+release_of_no_whole_place = refl
 
 -- beside an aircraft no key of a shop is missing, and none may stand
-component_beside_the_aircraft : release_with_place (codes "\"tail\":\"D-ABCD\",\"serial\":\"E1\",") ≡ Err (fault 65 1)
-unfolding intake_on_literals
-component_beside_the_aircraft = refl
-
-kind_beside_the_aircraft : release_with_place (codes "\"tail\":\"D-ABCD\",\"kind\":\"C172\",") ≡ Err (fault 65 1)
-unfolding intake_on_literals
-kind_beside_the_aircraft = refl
-
-shop_beside_the_aircraft : release_with_place (codes "\"tail\":\"D-ABCD\",\"serial\":\"E1\",\"kind\":\"C172\",") ≡ Err (fault 65 1)
+shop_beside_the_aircraft :
+    map release_with_place (
+    codes "\"tail\":\"D-ABCD\",\"serial\":\"E1\","
+    ∷ codes "\"tail\":\"D-ABCD\",\"kind\":\"C172\","
+    ∷ codes "\"tail\":\"D-ABCD\",\"serial\":\"E1\",\"kind\":\"C172\"," ∷ []
+    )
+    ≡ replicate 3 (Err (fault 65 1))
 unfolding intake_on_literals
 shop_beside_the_aircraft = refl
 
 -- each key of a place is read, and an unknown key is looked for, before there are too many
-tail_in_small_letters : release_with_place (codes "\"tail\":\"d-abcd\",") ≡ Err (fault 63 1)
+-- a tail in small letters, a moment without time, a reference with a space, and one past the longest
+unread_keys_of_deferrals :
+    map release_with_place (
+    codes "\"tail\":\"d-abcd\","
+    ∷ codes "\"serial\":\"E1\",\"kind\":172,"
+    ∷ codes "\"tail\":\"D-ABCD\",\"serial\":\"\","
+    ∷ codes "\"tail\":\"D-ABCD\",\"kind\":172," ∷ []
+    )
+    ≡ replicate 4 (Err (fault 63 1))
 unfolding intake_on_literals
-tail_in_small_letters = refl
-
-number_for_the_kind : release_with_place (codes "\"serial\":\"E1\",\"kind\":172,") ≡ Err (fault 63 1)
-unfolding intake_on_literals
-number_for_the_kind = refl
-
-unread_component_beside_the_aircraft : release_with_place (codes "\"tail\":\"D-ABCD\",\"serial\":\"\",") ≡ Err (fault 63 1)
-unfolding intake_on_literals
-unread_component_beside_the_aircraft = refl
-
-unread_kind_beside_the_aircraft : release_with_place (codes "\"tail\":\"D-ABCD\",\"kind\":172,") ≡ Err (fault 63 1)
-unfolding intake_on_literals
-unread_kind_beside_the_aircraft = refl
+unread_keys_of_deferrals = refl
 
 two_places_and_a_note : release_with_place (codes "\"tail\":\"D-ABCD\",\"kind\":\"C172\",\"note\":1,") ≡ Err (fault 64 1)
 unfolding intake_on_literals
@@ -81,13 +74,14 @@ two_places_and_a_note = refl
 
 -- ── its other keys ──
 
-release_without_moment : entries_of_text (codes "[{\"do\":\"release\",\"doc\":\"WO1\",\"tail\":\"D-ABCD\",\"lines\":[{\"tail\":\"D-ABCD\",\"task\":\"ANNUAL\"}]}]") ≡ Err (fault 62 1)
+release_without_moment_or_lines :
+    map entries_of_text (
+    codes "[{\"do\":\"release\",\"doc\":\"WO1\",\"tail\":\"D-ABCD\",\"lines\":[{\"tail\":\"D-ABCD\",\"task\":\"ANNUAL\"}]}]"
+    ∷ codes "[{\"do\":\"release\",\"doc\":\"WO1\",\"tail\":\"D-ABCD\",\"moment\":\"1970-01-02T23:59\"}]" ∷ []
+    )
+    ≡ replicate 2 (Err (fault 62 1))
 unfolding intake_on_literals
-release_without_moment = refl
-
-release_without_lines : entries_of_text (codes "[{\"do\":\"release\",\"doc\":\"WO1\",\"tail\":\"D-ABCD\",\"moment\":\"1970-01-02T23:59\"}]") ≡ Err (fault 62 1)
-unfolding intake_on_literals
-release_without_lines = refl
+release_without_moment_or_lines = refl
 
 -- a document of the technical log, which no release has
 release_by_a_page : entries_of_text (codes "[{\"do\":\"release\",\"doc\":\"TL/D/1/1\",\"tail\":\"D\",\"moment\":\"1970-01-02T23:59\",\"lines\":[{\"tail\":\"D\",\"task\":\"T\"}]}]") ≡ Err (fault 65 1)
@@ -110,21 +104,23 @@ lines_of_two_items : release_with_lines (codes "[{\"task\":\"OVH\",\"serial\":\"
 unfolding intake_on_literals
 lines_of_two_items = refl
 
-lines_as_an_object : release_with_lines (codes "{}") ≡ Err (fault 63 1)
+lines_that_are_no_objects :
+    map release_with_lines (
+    codes "{}"
+    ∷ codes "[{\"task\":\"OVH\",\"serial\":\"E1\"},1]" ∷ []
+    )
+    ≡ replicate 2 (Err (fault 63 1))
 unfolding intake_on_literals
-lines_as_an_object = refl
+lines_that_are_no_objects = refl
 
-line_that_is_no_object : release_with_lines (codes "[{\"task\":\"OVH\",\"serial\":\"E1\"},1]") ≡ Err (fault 63 1)
+line_without_task_or_item :
+    map release_with_lines (
+    codes "[1,{\"tail\":\"D\"}]"
+    ∷ codes "[1,{\"task\":\"T\"}]" ∷ []
+    )
+    ≡ replicate 2 (Err (fault 62 1))
 unfolding intake_on_literals
-line_that_is_no_object = refl
-
-line_without_task : release_with_lines (codes "[1,{\"tail\":\"D\"}]") ≡ Err (fault 62 1)
-unfolding intake_on_literals
-line_without_task = refl
-
-line_without_item : release_with_lines (codes "[1,{\"task\":\"T\"}]") ≡ Err (fault 62 1)
-unfolding intake_on_literals
-line_without_item = refl
+line_without_task_or_item = refl
 
 line_with_an_unread_task : release_with_lines (codes "[{\"tail\":\"D\",\"task\":\"\",\"note\":1}]") ≡ Err (fault 63 1)
 unfolding intake_on_literals
@@ -157,66 +153,57 @@ unfolding intake_on_literals
 lines_of_both_forms = refl
 
 -- an object of neither form lacks a key
-line_of_nothing : release_with_lines (codes "[{\"defect\":\"X1\"},{}]") ≡ Err (fault 62 1)
+line_of_neither_form :
+    map release_with_lines (
+    codes "[{\"defect\":\"X1\"},{}]"
+    ∷ codes "[{\"note\":1}]" ∷ []
+    )
+    ≡ replicate 2 (Err (fault 62 1))
 unfolding intake_on_literals
-line_of_nothing = refl
+line_of_neither_form = refl
 
-line_of_a_note : release_with_lines (codes "[{\"note\":1}]") ≡ Err (fault 62 1)
+-- of no letter, a number, and null
+line_of_an_unread_defect :
+    map release_with_lines (
+    codes "[{\"defect\":\"\"}]"
+    ∷ codes "[{\"defect\":1}]"
+    ∷ codes "[{\"defect\":null,\"tail\":\"D\",\"task\":\"T\"}]" ∷ []
+    )
+    ≡ replicate 3 (Err (fault 63 1))
 unfolding intake_on_literals
-line_of_a_note = refl
-
-line_of_no_document : release_with_lines (codes "[{\"defect\":\"\"}]") ≡ Err (fault 63 1)
-unfolding intake_on_literals
-line_of_no_document = refl
-
-line_of_a_number : release_with_lines (codes "[{\"defect\":1}]") ≡ Err (fault 63 1)
-unfolding intake_on_literals
-line_of_a_number = refl
-
-line_of_null : release_with_lines (codes "[{\"defect\":null,\"tail\":\"D\",\"task\":\"T\"}]") ≡ Err (fault 63 1)
-unfolding intake_on_literals
-line_of_null = refl
+line_of_an_unread_defect = refl
 
 line_of_a_defect_with_a_note : release_with_lines (codes "[{\"defect\":\"X1\",\"note\":1}]") ≡ Err (fault 64 1)
 unfolding intake_on_literals
 line_of_a_defect_with_a_note = refl
 
 -- beside a defect no key of a task that was done is missing, and none may stand
-defect_beside_a_task_that_was_done : release_with_lines (codes "[{\"tail\":\"D\",\"task\":\"T\"},{\"tail\":\"D\",\"task\":\"T\",\"defect\":\"X1\"}]") ≡ Err (fault 65 1)
+defect_beside_keys_of_a_task :
+    map release_with_lines (
+    codes "[{\"tail\":\"D\",\"task\":\"T\"},{\"tail\":\"D\",\"task\":\"T\",\"defect\":\"X1\"}]"
+    ∷ codes "[{\"defect\":\"X1\",\"task\":\"T\"}]"
+    ∷ codes "[{\"defect\":\"X1\",\"tail\":\"D\"}]"
+    ∷ codes "[{\"defect\":\"X1\",\"serial\":\"E1\"}]"
+    ∷ codes "[{\"defect\":\"X1\",\"tail\":\"D\",\"serial\":\"E1\"}]" ∷ []
+    )
+    ≡ replicate 5 (Err (fault 65 1))
 unfolding intake_on_literals
-defect_beside_a_task_that_was_done = refl
-
-defect_beside_a_task : release_with_lines (codes "[{\"defect\":\"X1\",\"task\":\"T\"}]") ≡ Err (fault 65 1)
-unfolding intake_on_literals
-defect_beside_a_task = refl
-
-defect_beside_an_airframe : release_with_lines (codes "[{\"defect\":\"X1\",\"tail\":\"D\"}]") ≡ Err (fault 65 1)
-unfolding intake_on_literals
-defect_beside_an_airframe = refl
-
-defect_beside_a_component : release_with_lines (codes "[{\"defect\":\"X1\",\"serial\":\"E1\"}]") ≡ Err (fault 65 1)
-unfolding intake_on_literals
-defect_beside_a_component = refl
-
-defect_beside_two_items : release_with_lines (codes "[{\"defect\":\"X1\",\"tail\":\"D\",\"serial\":\"E1\"}]") ≡ Err (fault 65 1)
-unfolding intake_on_literals
-defect_beside_two_items = refl
+defect_beside_keys_of_a_task = refl
 
 defect_beside_a_task_and_a_note : release_with_lines (codes "[{\"defect\":\"X1\",\"task\":\"T\",\"note\":1}]") ≡ Err (fault 64 1)
 unfolding intake_on_literals
 defect_beside_a_task_and_a_note = refl
 
-defect_beside_an_unread_task : release_with_lines (codes "[{\"defect\":\"X1\",\"task\":\"\"}]") ≡ Err (fault 63 1)
+-- an unread task, airframe and component
+defect_beside_an_unread_key :
+    map release_with_lines (
+    codes "[{\"defect\":\"X1\",\"task\":\"\"}]"
+    ∷ codes "[{\"defect\":\"X1\",\"tail\":\"d\"}]"
+    ∷ codes "[{\"defect\":\"X1\",\"tail\":\"D\",\"serial\":\"\"}]" ∷ []
+    )
+    ≡ replicate 3 (Err (fault 63 1))
 unfolding intake_on_literals
-defect_beside_an_unread_task = refl
-
-defect_beside_an_unread_airframe : release_with_lines (codes "[{\"defect\":\"X1\",\"tail\":\"d\"}]") ≡ Err (fault 63 1)
-unfolding intake_on_literals
-defect_beside_an_unread_airframe = refl
-
-defect_beside_an_unread_component : release_with_lines (codes "[{\"defect\":\"X1\",\"tail\":\"D\",\"serial\":\"\"}]") ≡ Err (fault 63 1)
-unfolding intake_on_literals
-defect_beside_an_unread_component = refl
+defect_beside_an_unread_key = refl
 
 -- ── how many lines ──
 

@@ -1,6 +1,6 @@
 -- Worked logs: what their rows give, computed from the definitions.
-use Rattle.std.proofs.Common.{refl, ◌≡◌, ℕ, List, [], ◌∷◌, ◌++◌, Ok, Err, Some, None, length, arith}
-use Rattle.std.specs.Prelude.{codes, ⊤}
+use Rattle.std.proofs.Common.{refl, replicate, ◌≡◌, ℕ, List, [], ◌∷◌, ◌++◌, Ok, Err, Some, None, length, arith}
+use Rattle.std.specs.Prelude.{map, codes, ⊤}
 use Rattle.std.specs.Fmt.{digits}
 use Rattle.csv.proofs.OnLiterals.{csv_on_literals}
 use Rattle.csv.specs.Records.{field_at}
@@ -58,21 +58,17 @@ header_without_an_end : sector_rows (codes "tail,page,line,off,on,cycles") ≡ O
 unfolding sectors_on_literals
 header_without_an_end = refl
 
-no_text : sector_rows [] ≡ Err (fault 66 0)
+-- nothing, a row at the top, a seventh field, and a space before a name
+no_header :
+    map sector_rows (
+    []
+    ∷ codes "D-ABCD,12,1,2024-03-01T08:00,2024-03-01T09:30,1\n"
+    ∷ codes "tail,page,line,off,on,cycles,\n"
+    ∷ codes "tail, page,line,off,on,cycles\n" ∷ []
+    )
+    ≡ replicate 4 (Err (fault 66 0))
 unfolding sectors_on_literals
-no_text = refl
-
-rows_without_a_header : sector_rows (codes "D-ABCD,12,1,2024-03-01T08:00,2024-03-01T09:30,1\n") ≡ Err (fault 66 0)
-unfolding sectors_on_literals
-rows_without_a_header = refl
-
-header_of_seven_fields : sector_rows (codes "tail,page,line,off,on,cycles,\n") ≡ Err (fault 66 0)
-unfolding sectors_on_literals
-header_of_seven_fields = refl
-
-header_with_a_space : sector_rows (codes "tail, page,line,off,on,cycles\n") ≡ Err (fault 66 0)
-unfolding sectors_on_literals
-header_with_a_space = refl
+no_header = refl
 
 -- a byte order mark, quotes, and each end of a line
 mark_quotes_and_ends : sector_rows (239 ∷ 187 ∷ 191 ∷ codes "\"tail\",page,line,off,on,cycles\r\n\r\n\"D-ABCD\",12,1,2024-03-01T08:00,2024-03-01T09:30,1\r\n\n")
@@ -105,13 +101,15 @@ spaces_alone : sector_rows (header ++ codes "  \n") ≡ Ok (Err (fault 68 1) ∷
 unfolding sectors_on_literals
 spaces_alone = refl
 
-tail_that_is_no_text : sector_rows (header ++ 255 ∷ codes ",12,1,2024-03-01T08:00,2024-03-01T09:30,1\n") ≡ Ok (Err (fault 63 1) ∷ [])
+-- a registration that is no text, and a page behind a space
+unread_fields :
+    map sector_rows (
+    (header ++ 255 ∷ codes ",12,1,2024-03-01T08:00,2024-03-01T09:30,1\n")
+    ∷ (header ++ codes "D-ABCD, 12,1,2024-03-01T08:00,2024-03-01T09:30,1\n") ∷ []
+    )
+    ≡ replicate 2 (Ok (Err (fault 63 1) ∷ []))
 unfolding sectors_on_literals
-tail_that_is_no_text = refl
-
-field_in_spaces : sector_rows (header ++ codes "D-ABCD, 12,1,2024-03-01T08:00,2024-03-01T09:30,1\n") ≡ Ok (Err (fault 63 1) ∷ [])
-unfolding sectors_on_literals
-field_in_spaces = refl
+unread_fields = refl
 
 -- a field that can't be read, before the shape
 unread_first : sector_rows (header ++ codes "D-ABCD,0,1,2024-03-01T08:00,2024-03-01T09:30,\n") ≡ Ok (Err (fault 63 1) ∷ [])

@@ -29,20 +29,13 @@ fn minutes_of(value: &Value) -> Option<u32>
     minutes_of_hours(hours)
 }
 
-/// The minutes that are stated in hours at a key that may be absent.
-fn minutes_if_there(table: &Value, key: &str) -> Option<Option<u32>>
-    ensures { result ≡ if_there minutes_of (get key.now (view table.now)) }
-{
-    let value = table.get(key);
-    value.map_or(Some(None), |value| minutes_of(value).map(Some))
-}
-
 /// The limit that a table states.
 fn limit_of_table(table: &Value) -> Option<Limit>
     ensures { result ≡ limit_of_table (view table.now) }
 {
+    let hours = table.get("hours");
     Some(Limit {
-        minutes: minutes_if_there(table, "hours")?,
+        minutes: hours.map_or(Some(None), |hours| minutes_of(hours).map(Some))?,
         cycles: number_if_there(table, "cycles")?,
         days: number_if_there(table, "days")?,
     })

@@ -1,14 +1,11 @@
 //! What a table of TOML has at its keys.
-ghost use Rattle.std.specs.Prelude.{◌≡◌, map, is_some, option_map, option_and_then};
+ghost use Rattle.std.specs.Prelude.{◌≡◌, map, is_some, option_map};
 ghost use Rattle.toml.specs.Data.{get, as_bool};
 ghost use Rattle.toml.specs.View.{view, items_view};
 ghost use Rattle.mx_intake.specs.Keys.{if_there};
 ghost use Rattle.mx_intake.specs.Table.{lacks_key, has_other_key, number_of, number_at_key, text_at_key, list_at_key};
-ghost use Rattle.mx_intake.specs.Vocabulary.{identifier_of};
 
 use crate::keys::is_one_of;
-use crate::vocabulary::read_identifier;
-use mx_base::identifiers::{Alphabet, Identifier};
 use toml::Value;
 
 /// Whether the value is a table that has the key.
@@ -81,17 +78,6 @@ pub(crate) fn text_at<'v>(table: &'v Value, key: &str) -> Option<&'v str>
     ensures { option_map (λ t. t.now) result ≡ text_at_key key.now (view table.now) }
 {
     table.get(key)?.as_str()
-}
-
-/// The identifier at a key.
-pub(crate) fn identifier_at<A: Alphabet, const N: usize>(
-    table: &Value,
-    key: &str,
-) -> Option<Identifier<A, N>>
-    ensures { result ≡ option_and_then (identifier_of A.allows N)
-        (text_at_key key.now (view table.now)) }
-{
-    read_identifier(text_at(table, key)?)
 }
 
 /// The values of the list at a key.
