@@ -1,6 +1,6 @@
 -- Worked texts: the commands that they state, or their faults, computed from the definitions.
 use Rattle.std.proofs.Common.{refl, ◌≡◌, ℕ, List, [], ◌∷◌, Some, None, Ok, Err, length, replicate, arith}
-use Rattle.std.specs.Prelude.{map, codes, ⊤}
+use Rattle.std.specs.Prelude.{codes, map, ⊤}
 use Rattle.std.specs.Str.{is_utf8, chars}
 use Rattle.jiff_core.specs.Calendar.{days_from_civil, day_count, days_of_years, days_of_months}
 use Rattle.serde_json.proofs.OnLiterals.{serde_json_on_literals}
@@ -25,6 +25,10 @@ unfoldable pub intake_on_literals : ⊤
 unfolding value_of_text text_of_bytes is_utf8 chars serde_json_on_literals day_of_text moment_of_text named_moment named_day days_from_civil day_count days_of_years days_of_months moment_text day_text date_of
 intake_on_literals = tt
 
+-- each of these gives what stands beside it
+abbrev pub Gives : {A B : Type 0} → (A → B) → List (A × B) → Type 0
+Gives f rows = map (λ row. f row.0) rows ≡ map (λ row. row.1) rows
+
 -- ── days and moments ──
 
 second_day : moment_of_text (codes "1970-01-02T23:59") ≡ Some 2879
@@ -35,13 +39,11 @@ thirtieth_of_february : day_of_text (codes "1972-02-30") ≡ None
 unfolding intake_on_literals
 thirtieth_of_february = refl
 
-past_the_last_minute : moment_of_text (codes "1970-01-02T24:00") ≡ None
+no_moments : Gives moment_of_text (
+    (codes "1970-01-02T24:00", None)
+    ∷ (codes "1970-01-02T23:59:00", None) ∷ [])
 unfolding intake_on_literals
-past_the_last_minute = refl
-
-seconds_behind : moment_of_text (codes "1970-01-02T23:59:00") ≡ None
-unfolding intake_on_literals
-seconds_behind = refl
+no_moments = refl
 
 a_day_of_2024 : day_of_text (codes "2024-03-01") ≡ Some 19783
 unfolding intake_on_literals
@@ -49,80 +51,41 @@ a_day_of_2024 = refl
 
 -- ── whole texts ──
 
--- no bytes, and bytes that are not UTF-8
-no_text :
-    map entries_of_text (
-    []
-    ∷ (91 ∷ 255 ∷ 93 ∷ []) ∷ []
-    )
-    ≡ replicate 2 (Err (fault 61 0))
+whole_texts : Gives entries_of_text (
+    ([], Err (fault 61 0))
+    ∷ (91 ∷ 255 ∷ 93 ∷ [], Err (fault 61 0))
+    ∷ (codes "[]", Ok [])
+    ∷ (codes "{}", Err (fault 63 0))
+    ∷ (codes "[1]", Err (fault 63 1))
+    ∷ (codes "[{}]", Err (fault 62 1))
+    ∷ (codes "[{\"do\":\"fly\"}]", Err (fault 63 1)) ∷ [])
 unfolding intake_on_literals
-no_text = refl
-
-no_commands : entries_of_text (codes "[]") ≡ Ok []
-unfolding intake_on_literals
-no_commands = refl
-
-no_list : entries_of_text (codes "{}") ≡ Err (fault 63 0)
-unfolding intake_on_literals
-no_list = refl
-
-no_object : entries_of_text (codes "[1]") ≡ Err (fault 63 1)
-unfolding intake_on_literals
-no_object = refl
-
-no_word : entries_of_text (codes "[{}]") ≡ Err (fault 62 1)
-unfolding intake_on_literals
-no_word = refl
-
-unknown_word : entries_of_text (codes "[{\"do\":\"fly\"}]") ≡ Err (fault 63 1)
-unfolding intake_on_literals
-unknown_word = refl
+whole_texts = refl
 
 -- ── removals ──
 
-removal_without_moment : entries_of_text (codes "[{\"do\":\"remove\",\"doc\":\"R9\",\"serial\":\"E9\"}]") ≡ Err (fault 62 1)
+removals : Gives entries_of_text (
+    (codes "[{\"do\":\"remove\",\"doc\":\"R9\",\"serial\":\"E9\"}]", Err (fault 62 1))
+    ∷ (codes "[{\"do\":\"remove\",\"doc\":\"R9\",\"serial\":\"E9\",\"moment\":\"1970-01-02T23:59\"}]", Ok (record { doc = codes "R9"; act = Removed (record { serial = codes "E9"; moment = 2879 }) } ∷ []))
+    ∷ (codes "[{\"do\":\"remove\",\"doc\":\"R9\",\"serial\":\"E9\",\"moment\":\"2024-02-30T00:00\"}]", Err (fault 63 1))
+    -- a document of the technical log, which no removal has
+    ∷ (codes "[{\"do\":\"remove\",\"doc\":\"TL/D/1/1\",\"serial\":\"E9\",\"moment\":\"1970-01-02T23:59\"}]", Err (fault 65 1)) ∷ [])
 unfolding intake_on_literals
-removal_without_moment = refl
-
-removal : entries_of_text (codes "[{\"do\":\"remove\",\"doc\":\"R9\",\"serial\":\"E9\",\"moment\":\"1970-01-02T23:59\"}]")
-    ≡ Ok (record { doc = codes "R9"; act = Removed (record { serial = codes "E9"; moment = 2879 }) } ∷ [])
-unfolding intake_on_literals
-removal = refl
-
-removal_on_no_day : entries_of_text (codes "[{\"do\":\"remove\",\"doc\":\"R9\",\"serial\":\"E9\",\"moment\":\"2024-02-30T00:00\"}]") ≡ Err (fault 63 1)
-unfolding intake_on_literals
-removal_on_no_day = refl
-
--- a document of the technical log, which no removal has
-removal_by_a_page : entries_of_text (codes "[{\"do\":\"remove\",\"doc\":\"TL/D/1/1\",\"serial\":\"E9\",\"moment\":\"1970-01-02T23:59\"}]") ≡ Err (fault 65 1)
-unfolding intake_on_literals
-removal_by_a_page = refl
+removals = refl
 
 -- ── the first faulty entry, and its least fault ──
 
-first_of_two : entries_of_text (codes "[{\"do\":\"fly\"},{}]") ≡ Err (fault 63 1)
+first_faults : Gives entries_of_text (
+    (codes "[{\"do\":\"fly\"},{}]", Err (fault 63 1))
+    ∷ (codes "[{\"do\":\"remove\",\"doc\":\"R9\",\"serial\":\"E9\",\"moment\":\"1970-01-02T23:59\"},{}]", Err (fault 62 2))
+    -- a key that is missing, before a value that can't be read and a key that is unknown
+    ∷ (codes "[{\"do\":\"remove\",\"doc\":\"\",\"serial\":\"E9\",\"note\":1}]", Err (fault 62 1))
+    -- a value that can't be read, before a key that is unknown
+    ∷ (codes "[{\"do\":\"remove\",\"doc\":\"\",\"serial\":\"E9\",\"moment\":\"1970-01-02T23:59\",\"note\":1}]", Err (fault 63 1))
+    -- a key that is unknown, before the shape
+    ∷ (codes "[{\"do\":\"remove\",\"doc\":\"TL/D/1/1\",\"serial\":\"E9\",\"moment\":\"1970-01-02T23:59\",\"note\":1}]", Err (fault 64 1)) ∷ [])
 unfolding intake_on_literals
-first_of_two = refl
-
-second_alone : entries_of_text (codes "[{\"do\":\"remove\",\"doc\":\"R9\",\"serial\":\"E9\",\"moment\":\"1970-01-02T23:59\"},{}]") ≡ Err (fault 62 2)
-unfolding intake_on_literals
-second_alone = refl
-
--- a key that is missing, before a value that can't be read and a key that is unknown
-missing_first : entries_of_text (codes "[{\"do\":\"remove\",\"doc\":\"\",\"serial\":\"E9\",\"note\":1}]") ≡ Err (fault 62 1)
-unfolding intake_on_literals
-missing_first = refl
-
--- a value that can't be read, before a key that is unknown
-unread_first : entries_of_text (codes "[{\"do\":\"remove\",\"doc\":\"\",\"serial\":\"E9\",\"moment\":\"1970-01-02T23:59\",\"note\":1}]") ≡ Err (fault 63 1)
-unfolding intake_on_literals
-unread_first = refl
-
--- a key that is unknown, before the shape
-unknown_first : entries_of_text (codes "[{\"do\":\"remove\",\"doc\":\"TL/D/1/1\",\"serial\":\"E9\",\"moment\":\"1970-01-02T23:59\",\"note\":1}]") ≡ Err (fault 64 1)
-unfolding intake_on_literals
-unknown_first = refl
+first_faults = refl
 
 -- ── limits ──
 

@@ -1,6 +1,6 @@
 -- Worked entries of each form, computed from the definitions.
-use Rattle.std.proofs.Common.{refl, replicate, ◌≡◌, ℕ, List, [], ◌∷◌, ◌++◌, Ok, Err}
-use Rattle.std.specs.Prelude.{map, codes, Result}
+use Rattle.std.proofs.Common.{refl, ◌≡◌, ℕ, List, [], ◌∷◌, ◌++◌, Ok, Err}
+use Rattle.std.specs.Prelude.{codes, Result}
 use Rattle.std.specs.Fmt.{digits}
 use Rattle.mx_book.specs.commands.Act.{Entry, Added, Listed, Opened, Flown, Fitted}
 use Rattle.mx_book.specs.declared.commands.item.Item.{Item}
@@ -8,7 +8,7 @@ use Rattle.mx_book.specs.declared.commands.item.Item.TheVariants.{Airframe, Comp
 use Rattle.mx_intake.specs.declared.fault.IntakeFault.{IntakeFault}
 use Rattle.mx_intake.specs.Fault.{fault}
 use Rattle.mx_intake.specs.Entries.{entries_of_text}
-use Rattle.mx_intake.proofs.Worked.{intake_on_literals}
+use Rattle.mx_intake.proofs.Worked.{Gives, intake_on_literals}
 
 -- ── sectors ──
 
@@ -26,36 +26,18 @@ sector : sector_with_page (codes "12") ≡ Ok (sector_of_page 12 (codes "TL/D-AB
 unfolding intake_on_literals digits
 sector = refl
 
--- with a fraction, below none, none with a sign, past the numbers, and past 64 bits
-unread_pages :
-    map sector_with_page (
-    codes "1.0"
-    ∷ codes "-1"
-    ∷ codes "-0"
-    ∷ codes "4294967296"
-    ∷ codes "18446744073709551616" ∷ []
-    )
-    ≡ replicate 5 (Err (fault 63 1))
+sectors_on_pages : Gives sector_with_page (
+    (codes "1.0", Err (fault 63 1))
+    ∷ (codes "-1", Err (fault 63 1))
+    ∷ (codes "-0", Err (fault 63 1))
+    ∷ (codes "4294967296", Err (fault 63 1))
+    ∷ (codes "18446744073709551616", Err (fault 63 1))
+    ∷ (codes "1e400", Err (fault 61 0))
+    ∷ (codes "4294967295", Err (fault 65 1))
+    ∷ (codes "0", Err (fault 65 1))
+    ∷ (codes "\"12\"", Err (fault 63 1)) ∷ [])
 unfolding intake_on_literals
-unread_pages = refl
-
-page_past_the_floats : sector_with_page (codes "1e400") ≡ Err (fault 61 0)
-unfolding intake_on_literals
-page_past_the_floats = refl
-
--- the last of the numbers, and none
-page_out_of_shape :
-    map sector_with_page (
-    codes "4294967295"
-    ∷ codes "0" ∷ []
-    )
-    ≡ replicate 2 (Err (fault 65 1))
-unfolding intake_on_literals
-page_out_of_shape = refl
-
-page_as_text : sector_with_page (codes "\"12\"") ≡ Err (fault 63 1)
-unfolding intake_on_literals
-page_as_text = refl
+sectors_on_pages = refl
 
 -- a key that is written twice has its last value
 page_twice : sector_with_page (codes "0,\"page\":12") ≡ Ok (sector_of_page 12 (codes "TL/D-ABCD/12/1") ∷ [])
@@ -80,34 +62,16 @@ abbrev aircraft_of_positions : List (List ℕ × List ℕ) → Entry
 aircraft_of_positions positions =
     record { doc = codes "A1"; act = Added (record { tail = codes "D-ABCD"; kind = codes "C172"; birth = 0; opening = record { minutes = 60000; cycles = 800 }; as_of = 1440 }) positions }
 
-no_positions : aircraft_with_positions (codes "[]") ≡ Ok (aircraft_of_positions [] ∷ [])
+aircraft_of_positions_or_none : Gives aircraft_with_positions (
+    (codes "[]", Ok (aircraft_of_positions [] ∷ []))
+    ∷ (codes "[{\"position\":\"ENG\",\"part\":\"IO360\"},{\"part\":\"HC2\",\"position\":\"PROP\"}]", Ok (aircraft_of_positions ((codes "ENG", codes "IO360") ∷ (codes "PROP", codes "HC2") ∷ []) ∷ []))
+    ∷ (codes "{}", Err (fault 63 1))
+    ∷ (codes "[1,{\"position\":\"ENG\"}]", Err (fault 62 1))
+    ∷ (codes "[{\"position\":\"ENG\",\"part\":\"IO360\"},1]", Err (fault 63 1))
+    ∷ (codes "[{\"position\":\"ENG\",\"part\":\"IO360\",\"do\":1}]", Err (fault 64 1))
+    ∷ (codes "[{\"position\":\"ENG\",\"part\":\"IO360\"},{\"position\":\"ENG\",\"part\":\"HC2\"}]", Err (fault 65 1)) ∷ [])
 unfolding intake_on_literals
-no_positions = refl
-
-positions : aircraft_with_positions (codes "[{\"position\":\"ENG\",\"part\":\"IO360\"},{\"part\":\"HC2\",\"position\":\"PROP\"}]")
-    ≡ Ok (aircraft_of_positions ((codes "ENG", codes "IO360") ∷ (codes "PROP", codes "HC2") ∷ []) ∷ [])
-unfolding intake_on_literals
-positions = refl
-
-positions_as_an_object : aircraft_with_positions (codes "{}") ≡ Err (fault 63 1)
-unfolding intake_on_literals
-positions_as_an_object = refl
-
-position_without_part : aircraft_with_positions (codes "[1,{\"position\":\"ENG\"}]") ≡ Err (fault 62 1)
-unfolding intake_on_literals
-position_without_part = refl
-
-position_that_is_no_object : aircraft_with_positions (codes "[{\"position\":\"ENG\",\"part\":\"IO360\"},1]") ≡ Err (fault 63 1)
-unfolding intake_on_literals
-position_that_is_no_object = refl
-
-position_with_a_word : aircraft_with_positions (codes "[{\"position\":\"ENG\",\"part\":\"IO360\",\"do\":1}]") ≡ Err (fault 64 1)
-unfolding intake_on_literals
-position_with_a_word = refl
-
-position_twice : aircraft_with_positions (codes "[{\"position\":\"ENG\",\"part\":\"IO360\"},{\"position\":\"ENG\",\"part\":\"HC2\"}]") ≡ Err (fault 65 1)
-unfolding intake_on_literals
-position_twice = refl
+aircraft_of_positions_or_none = refl
 
 -- ── components ──
 
@@ -129,38 +93,21 @@ abbrev opening_of_item : Item → Entry
 opening_of_item item =
     record { doc = codes "O1"; act = Opened (record { item = item; kind = codes "C172"; task = codes "ANNUAL"; use_then = record { minutes = 59000; cycles = 780 }; day = 1 }) }
 
-opening_of_an_airframe : opening_with_item (codes "\"tail\":\"D-ABCD\",") ≡ Ok (opening_of_item (Airframe (codes "D-ABCD")) ∷ [])
+openings_of_items : Gives opening_with_item (
+    (codes "\"tail\":\"D-ABCD\",", Ok (opening_of_item (Airframe (codes "D-ABCD")) ∷ []))
+    ∷ (codes "\"serial\":\"E1\",", Ok (opening_of_item (Component (codes "E1")) ∷ []))
+    ∷ ([], Err (fault 62 1))
+    ∷ (codes "\"tail\":\"D-ABCD\",\"serial\":\"E1\",", Err (fault 65 1))
+    -- each of two items is read, and an unknown key is looked for, before there are too many
+    ∷ (codes "\"tail\":\"d-abcd\",\"serial\":\"E1\",", Err (fault 63 1))
+    ∷ (codes "\"tail\":\"D-ABCD\",\"serial\":\"E1\",\"note\":1,", Err (fault 64 1)) ∷ [])
 unfolding intake_on_literals
-opening_of_an_airframe = refl
-
-opening_of_a_component : opening_with_item (codes "\"serial\":\"E1\",") ≡ Ok (opening_of_item (Component (codes "E1")) ∷ [])
-unfolding intake_on_literals
-opening_of_a_component = refl
-
-opening_of_nothing : opening_with_item [] ≡ Err (fault 62 1)
-unfolding intake_on_literals
-opening_of_nothing = refl
-
-opening_of_two_items : opening_with_item (codes "\"tail\":\"D-ABCD\",\"serial\":\"E1\",") ≡ Err (fault 65 1)
-unfolding intake_on_literals
-opening_of_two_items = refl
-
--- each of two items is read, and an unknown key is looked for, before there are too many
-opening_of_an_unread_second_item : opening_with_item (codes "\"tail\":\"d-abcd\",\"serial\":\"E1\",") ≡ Err (fault 63 1)
-unfolding intake_on_literals
-opening_of_an_unread_second_item = refl
-
-opening_of_two_items_and_a_note : opening_with_item (codes "\"tail\":\"D-ABCD\",\"serial\":\"E1\",\"note\":1,") ≡ Err (fault 64 1)
-unfolding intake_on_literals
-opening_of_two_items_and_a_note = refl
+openings_of_items = refl
 
 -- ── fittings ──
 
-fitting : entries_of_text (codes "[{\"do\":\"fit\",\"doc\":\"F1\",\"serial\":\"E1\",\"tail\":\"D-ABCD\",\"position\":\"ENG\",\"moment\":\"1970-01-03T00:00\"}]")
-    ≡ Ok (record { doc = codes "F1"; act = Fitted (record { serial = codes "E1"; tail = codes "D-ABCD"; position = codes "ENG"; moment = 2880 }) } ∷ [])
+fittings : Gives entries_of_text (
+    (codes "[{\"do\":\"fit\",\"doc\":\"F1\",\"serial\":\"E1\",\"tail\":\"D-ABCD\",\"position\":\"ENG\",\"moment\":\"1970-01-03T00:00\"}]", Ok (record { doc = codes "F1"; act = Fitted (record { serial = codes "E1"; tail = codes "D-ABCD"; position = codes "ENG"; moment = 2880 }) } ∷ []))
+    ∷ (codes "[{\"do\":\"fit\",\"doc\":\"F1\",\"serial\":\"E1\",\"tail\":\"d-abcd\",\"position\":\"ENG\",\"moment\":\"1970-01-03T00:00\"}]", Err (fault 63 1)) ∷ [])
 unfolding intake_on_literals
-fitting = refl
-
-tail_in_small_letters : entries_of_text (codes "[{\"do\":\"fit\",\"doc\":\"F1\",\"serial\":\"E1\",\"tail\":\"d-abcd\",\"position\":\"ENG\",\"moment\":\"1970-01-03T00:00\"}]") ≡ Err (fault 63 1)
-unfolding intake_on_literals
-tail_in_small_letters = refl
+fittings = refl
