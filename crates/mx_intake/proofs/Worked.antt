@@ -1,12 +1,12 @@
 -- Worked texts: the commands that they state, or their faults, computed from the definitions.
-use Rattle.std.proofs.Common.{refl, ◌≡◌, ℕ, List, [], ◌∷◌, Some, None, Ok, Err, length, replicate, arith}
-use Rattle.std.specs.Prelude.{codes, map, ⊤}
+use Rattle.std.proofs.Common.{refl, ◌≡◌, ℕ, List, [], ◌∷◌, Some, None, Ok, Err, length, replicate, arith, ◌++◌}
+use Rattle.std.specs.Prelude.{codes, map, Result, ⊤}
 use Rattle.std.specs.Str.{is_utf8, chars}
 use Rattle.jiff_core.specs.Calendar.{days_from_civil, day_count, days_of_years, days_of_months}
 use Rattle.serde_json.proofs.OnLiterals.{serde_json_on_literals}
 use Rattle.mx_base.specs.Calendar.{date_of}
 use Rattle.mx_base.specs.Texts.{day_text, moment_text}
-use Rattle.mx_book.specs.commands.Act.{Removed}
+use Rattle.mx_book.specs.commands.Act.{Entry, Removed}
 use Rattle.mx_intake.specs.Fault.{fault}
 use Rattle.mx_intake.specs.Entries.{value_of_text, entries_of_value, entries_from, entries_of_text}
 use Rattle.mx_intake.proofs.EntriesLemmas.{value_of_text-long}
@@ -15,6 +15,7 @@ use Rattle.serde_json.specs.Events.{items_len}
 use Rattle.serde_json.specs.Read.{read}
 use Rattle.mx_intake.specs.Text.{text_of_bytes}
 use Rattle.mx_intake.specs.Vocabulary.{named_day, day_of_text, named_moment, moment_of_text}
+use Rattle.mx_intake.specs.declared.fault.IntakeFault.{IntakeFault}
 use Rattle.mx_intake.specs.declared.fault.TheConstants.{MEMORY, NOT_TEXT, MISSING, BAD_VALUE, UNKNOWN_KEY, BAD_SHAPE, BAD_HEADER, TOO_LONG, BAD_ROW, READ_FAILED}
 use Rattle.mx_intake.specs.declared.json.TheConstants.{MOST_COMMANDS}
 use Rattle.mx_intake.specs.declared.sector_rows.TheConstants.{MOST_ROWS}
@@ -28,6 +29,10 @@ intake_on_literals = tt
 -- each of these gives what stands beside it
 abbrev pub Gives : {A B : Type 0} → (A → B) → List (A × B) → Type 0
 Gives f rows = map (λ row. f row.0) rows ≡ map (λ row. row.1) rows
+
+-- each of these texts, beside a fault of its first entry
+abbrev pub faulty : ℕ → List (List ℕ) → List (List ℕ × Result (List Entry) IntakeFault)
+faulty number texts = map (λ text. (text, Err (fault number 1))) texts
 
 -- ── days and moments ──
 
@@ -52,38 +57,39 @@ a_day_of_2024 = refl
 -- ── whole texts ──
 
 whole_texts : Gives entries_of_text (
-    ([], Err (fault 61 0))
+    (([], Err (fault 61 0))
     ∷ (91 ∷ 255 ∷ 93 ∷ [], Err (fault 61 0))
     ∷ (codes "[]", Ok [])
-    ∷ (codes "{}", Err (fault 63 0))
-    ∷ (codes "[1]", Err (fault 63 1))
-    ∷ (codes "[{}]", Err (fault 62 1))
-    ∷ (codes "[{\"do\":\"fly\"}]", Err (fault 63 1)) ∷ [])
+    ∷ (codes "{}", Err (fault 63 0)) ∷ [])
+    ++ faulty 63 (
+    codes "[1]"
+    ∷ codes "[{\"do\":\"fly\"}]" ∷ [])
+    ++ faulty 62 (codes "[{}]" ∷ []))
 unfolding intake_on_literals
 whole_texts = refl
 
 -- ── removals ──
 
 removals : Gives entries_of_text (
-    (codes "[{\"do\":\"remove\",\"doc\":\"R9\",\"serial\":\"E9\"}]", Err (fault 62 1))
-    ∷ (codes "[{\"do\":\"remove\",\"doc\":\"R9\",\"serial\":\"E9\",\"moment\":\"1970-01-02T23:59\"}]", Ok (record { doc = codes "R9"; act = Removed (record { serial = codes "E9"; moment = 2879 }) } ∷ []))
-    ∷ (codes "[{\"do\":\"remove\",\"doc\":\"R9\",\"serial\":\"E9\",\"moment\":\"2024-02-30T00:00\"}]", Err (fault 63 1))
+    faulty 62 (codes "[{\"do\":\"remove\",\"doc\":\"R9\",\"serial\":\"E9\"}]" ∷ [])
+    ++ ((codes "[{\"do\":\"remove\",\"doc\":\"R9\",\"serial\":\"E9\",\"moment\":\"1970-01-02T23:59\"}]", Ok (record { doc = codes "R9"; act = Removed (record { serial = codes "E9"; moment = 2879 }) } ∷ [])) ∷ [])
+    ++ faulty 63 (codes "[{\"do\":\"remove\",\"doc\":\"R9\",\"serial\":\"E9\",\"moment\":\"2024-02-30T00:00\"}]" ∷ [])
     -- a document of the technical log, which no removal has
-    ∷ (codes "[{\"do\":\"remove\",\"doc\":\"TL/D/1/1\",\"serial\":\"E9\",\"moment\":\"1970-01-02T23:59\"}]", Err (fault 65 1)) ∷ [])
+    ++ faulty 65 (codes "[{\"do\":\"remove\",\"doc\":\"TL/D/1/1\",\"serial\":\"E9\",\"moment\":\"1970-01-02T23:59\"}]" ∷ []))
 unfolding intake_on_literals
 removals = refl
 
 -- ── the first faulty entry, and its least fault ──
 
 first_faults : Gives entries_of_text (
-    (codes "[{\"do\":\"fly\"},{}]", Err (fault 63 1))
-    ∷ (codes "[{\"do\":\"remove\",\"doc\":\"R9\",\"serial\":\"E9\",\"moment\":\"1970-01-02T23:59\"},{}]", Err (fault 62 2))
+    faulty 63 (codes "[{\"do\":\"fly\"},{}]" ∷ [])
+    ++ ((codes "[{\"do\":\"remove\",\"doc\":\"R9\",\"serial\":\"E9\",\"moment\":\"1970-01-02T23:59\"},{}]", Err (fault 62 2)) ∷ [])
     -- a key that is missing, before a value that can't be read and a key that is unknown
-    ∷ (codes "[{\"do\":\"remove\",\"doc\":\"\",\"serial\":\"E9\",\"note\":1}]", Err (fault 62 1))
+    ++ faulty 62 (codes "[{\"do\":\"remove\",\"doc\":\"\",\"serial\":\"E9\",\"note\":1}]" ∷ [])
     -- a value that can't be read, before a key that is unknown
-    ∷ (codes "[{\"do\":\"remove\",\"doc\":\"\",\"serial\":\"E9\",\"moment\":\"1970-01-02T23:59\",\"note\":1}]", Err (fault 63 1))
+    ++ faulty 63 (codes "[{\"do\":\"remove\",\"doc\":\"\",\"serial\":\"E9\",\"moment\":\"1970-01-02T23:59\",\"note\":1}]" ∷ [])
     -- a key that is unknown, before the shape
-    ∷ (codes "[{\"do\":\"remove\",\"doc\":\"TL/D/1/1\",\"serial\":\"E9\",\"moment\":\"1970-01-02T23:59\",\"note\":1}]", Err (fault 64 1)) ∷ [])
+    ++ faulty 64 (codes "[{\"do\":\"remove\",\"doc\":\"TL/D/1/1\",\"serial\":\"E9\",\"moment\":\"1970-01-02T23:59\",\"note\":1}]" ∷ []))
 unfolding intake_on_literals
 first_faults = refl
 

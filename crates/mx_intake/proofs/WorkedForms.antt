@@ -8,7 +8,7 @@ use Rattle.mx_book.specs.declared.commands.item.Item.TheVariants.{Airframe, Comp
 use Rattle.mx_intake.specs.declared.fault.IntakeFault.{IntakeFault}
 use Rattle.mx_intake.specs.Fault.{fault}
 use Rattle.mx_intake.specs.Entries.{entries_of_text}
-use Rattle.mx_intake.proofs.Worked.{Gives, intake_on_literals}
+use Rattle.mx_intake.proofs.Worked.{Gives, faulty, intake_on_literals}
 
 -- ── sectors ──
 
@@ -27,15 +27,17 @@ unfolding intake_on_literals digits
 sector = refl
 
 sectors_on_pages : Gives sector_with_page (
-    (codes "1.0", Err (fault 63 1))
-    ∷ (codes "-1", Err (fault 63 1))
-    ∷ (codes "-0", Err (fault 63 1))
-    ∷ (codes "4294967296", Err (fault 63 1))
-    ∷ (codes "18446744073709551616", Err (fault 63 1))
-    ∷ (codes "1e400", Err (fault 61 0))
-    ∷ (codes "4294967295", Err (fault 65 1))
-    ∷ (codes "0", Err (fault 65 1))
-    ∷ (codes "\"12\"", Err (fault 63 1)) ∷ [])
+    faulty 63 (
+    codes "1.0"
+    ∷ codes "-1"
+    ∷ codes "-0"
+    ∷ codes "4294967296"
+    ∷ codes "18446744073709551616"
+    ∷ codes "\"12\"" ∷ [])
+    ++ ((codes "1e400", Err (fault 61 0)) ∷ [])
+    ++ faulty 65 (
+    codes "4294967295"
+    ∷ codes "0" ∷ []))
 unfolding intake_on_literals
 sectors_on_pages = refl
 
@@ -63,13 +65,14 @@ aircraft_of_positions positions =
     record { doc = codes "A1"; act = Added (record { tail = codes "D-ABCD"; kind = codes "C172"; birth = 0; opening = record { minutes = 60000; cycles = 800 }; as_of = 1440 }) positions }
 
 aircraft_of_positions_or_none : Gives aircraft_with_positions (
-    (codes "[]", Ok (aircraft_of_positions [] ∷ []))
-    ∷ (codes "[{\"position\":\"ENG\",\"part\":\"IO360\"},{\"part\":\"HC2\",\"position\":\"PROP\"}]", Ok (aircraft_of_positions ((codes "ENG", codes "IO360") ∷ (codes "PROP", codes "HC2") ∷ []) ∷ []))
-    ∷ (codes "{}", Err (fault 63 1))
-    ∷ (codes "[1,{\"position\":\"ENG\"}]", Err (fault 62 1))
-    ∷ (codes "[{\"position\":\"ENG\",\"part\":\"IO360\"},1]", Err (fault 63 1))
-    ∷ (codes "[{\"position\":\"ENG\",\"part\":\"IO360\",\"do\":1}]", Err (fault 64 1))
-    ∷ (codes "[{\"position\":\"ENG\",\"part\":\"IO360\"},{\"position\":\"ENG\",\"part\":\"HC2\"}]", Err (fault 65 1)) ∷ [])
+    ((codes "[]", Ok (aircraft_of_positions [] ∷ []))
+    ∷ (codes "[{\"position\":\"ENG\",\"part\":\"IO360\"},{\"part\":\"HC2\",\"position\":\"PROP\"}]", Ok (aircraft_of_positions ((codes "ENG", codes "IO360") ∷ (codes "PROP", codes "HC2") ∷ []) ∷ [])) ∷ [])
+    ++ faulty 63 (
+    codes "{}"
+    ∷ codes "[{\"position\":\"ENG\",\"part\":\"IO360\"},1]" ∷ [])
+    ++ faulty 62 (codes "[1,{\"position\":\"ENG\"}]" ∷ [])
+    ++ faulty 64 (codes "[{\"position\":\"ENG\",\"part\":\"IO360\",\"do\":1}]" ∷ [])
+    ++ faulty 65 (codes "[{\"position\":\"ENG\",\"part\":\"IO360\"},{\"position\":\"ENG\",\"part\":\"HC2\"}]" ∷ []))
 unfolding intake_on_literals
 aircraft_of_positions_or_none = refl
 
@@ -94,20 +97,20 @@ opening_of_item item =
     record { doc = codes "O1"; act = Opened (record { item = item; kind = codes "C172"; task = codes "ANNUAL"; use_then = record { minutes = 59000; cycles = 780 }; day = 1 }) }
 
 openings_of_items : Gives opening_with_item (
-    (codes "\"tail\":\"D-ABCD\",", Ok (opening_of_item (Airframe (codes "D-ABCD")) ∷ []))
-    ∷ (codes "\"serial\":\"E1\",", Ok (opening_of_item (Component (codes "E1")) ∷ []))
-    ∷ ([], Err (fault 62 1))
-    ∷ (codes "\"tail\":\"D-ABCD\",\"serial\":\"E1\",", Err (fault 65 1))
+    ((codes "\"tail\":\"D-ABCD\",", Ok (opening_of_item (Airframe (codes "D-ABCD")) ∷ []))
+    ∷ (codes "\"serial\":\"E1\",", Ok (opening_of_item (Component (codes "E1")) ∷ [])) ∷ [])
+    ++ faulty 62 ([] ∷ [])
+    ++ faulty 65 (codes "\"tail\":\"D-ABCD\",\"serial\":\"E1\"," ∷ [])
     -- each of two items is read, and an unknown key is looked for, before there are too many
-    ∷ (codes "\"tail\":\"d-abcd\",\"serial\":\"E1\",", Err (fault 63 1))
-    ∷ (codes "\"tail\":\"D-ABCD\",\"serial\":\"E1\",\"note\":1,", Err (fault 64 1)) ∷ [])
+    ++ faulty 63 (codes "\"tail\":\"d-abcd\",\"serial\":\"E1\"," ∷ [])
+    ++ faulty 64 (codes "\"tail\":\"D-ABCD\",\"serial\":\"E1\",\"note\":1," ∷ []))
 unfolding intake_on_literals
 openings_of_items = refl
 
 -- ── fittings ──
 
 fittings : Gives entries_of_text (
-    (codes "[{\"do\":\"fit\",\"doc\":\"F1\",\"serial\":\"E1\",\"tail\":\"D-ABCD\",\"position\":\"ENG\",\"moment\":\"1970-01-03T00:00\"}]", Ok (record { doc = codes "F1"; act = Fitted (record { serial = codes "E1"; tail = codes "D-ABCD"; position = codes "ENG"; moment = 2880 }) } ∷ []))
-    ∷ (codes "[{\"do\":\"fit\",\"doc\":\"F1\",\"serial\":\"E1\",\"tail\":\"d-abcd\",\"position\":\"ENG\",\"moment\":\"1970-01-03T00:00\"}]", Err (fault 63 1)) ∷ [])
+    ((codes "[{\"do\":\"fit\",\"doc\":\"F1\",\"serial\":\"E1\",\"tail\":\"D-ABCD\",\"position\":\"ENG\",\"moment\":\"1970-01-03T00:00\"}]", Ok (record { doc = codes "F1"; act = Fitted (record { serial = codes "E1"; tail = codes "D-ABCD"; position = codes "ENG"; moment = 2880 }) } ∷ [])) ∷ [])
+    ++ faulty 63 (codes "[{\"do\":\"fit\",\"doc\":\"F1\",\"serial\":\"E1\",\"tail\":\"d-abcd\",\"position\":\"ENG\",\"moment\":\"1970-01-03T00:00\"}]" ∷ []))
 unfolding intake_on_literals
 fittings = refl

@@ -10,7 +10,7 @@ use Rattle.mx_book.specs.declared.commands.release.Place.TheVariants.{Aircraft, 
 use Rattle.mx_intake.specs.declared.fault.IntakeFault.{IntakeFault}
 use Rattle.mx_intake.specs.Fault.{fault}
 use Rattle.mx_intake.specs.Entries.{entries_of_text}
-use Rattle.mx_intake.proofs.Worked.{Gives, intake_on_literals}
+use Rattle.mx_intake.proofs.Worked.{Gives, faulty, intake_on_literals}
 
 -- ── where the work was done ──
 
@@ -26,31 +26,35 @@ release_of_place place =
     record { doc = codes "WO1"; act = Released (record { place = place; moment = 2879 }) (Done (Airframe (codes "D-ABCD")) (codes "ANNUAL") ∷ []) }
 
 releases_at_places : Gives release_with_place (
-    (codes "\"tail\":\"D-ABCD\",", Ok (release_of_place (Aircraft (codes "D-ABCD")) ∷ []))
-    ∷ (codes "\"serial\":\"E1\",\"kind\":\"C172\",", Ok (release_of_place (Shop (codes "E1") (codes "C172")) ∷ []))
-    ∷ ([], Err (fault 62 1))
-    ∷ (codes "\"kind\":\"C172\",", Err (fault 62 1))
-    ∷ (codes "\"serial\":\"E1\",", Err (fault 62 1))
+    ((codes "\"tail\":\"D-ABCD\",", Ok (release_of_place (Aircraft (codes "D-ABCD")) ∷ []))
+    ∷ (codes "\"serial\":\"E1\",\"kind\":\"C172\",", Ok (release_of_place (Shop (codes "E1") (codes "C172")) ∷ [])) ∷ [])
+    ++ faulty 62 (
+    []
+    ∷ codes "\"kind\":\"C172\","
+    ∷ codes "\"serial\":\"E1\"," ∷ [])
     -- beside an aircraft no key of a shop is missing, and none may stand
-    ∷ (codes "\"tail\":\"D-ABCD\",\"serial\":\"E1\",", Err (fault 65 1))
-    ∷ (codes "\"tail\":\"D-ABCD\",\"kind\":\"C172\",", Err (fault 65 1))
-    ∷ (codes "\"tail\":\"D-ABCD\",\"serial\":\"E1\",\"kind\":\"C172\",", Err (fault 65 1))
+    ++ faulty 65 (
+    codes "\"tail\":\"D-ABCD\",\"serial\":\"E1\","
+    ∷ codes "\"tail\":\"D-ABCD\",\"kind\":\"C172\","
+    ∷ codes "\"tail\":\"D-ABCD\",\"serial\":\"E1\",\"kind\":\"C172\"," ∷ [])
     -- each key of a place is read, and an unknown key is looked for, before there are too many
-    ∷ (codes "\"tail\":\"d-abcd\",", Err (fault 63 1))
-    ∷ (codes "\"serial\":\"E1\",\"kind\":172,", Err (fault 63 1))
-    ∷ (codes "\"tail\":\"D-ABCD\",\"serial\":\"\",", Err (fault 63 1))
-    ∷ (codes "\"tail\":\"D-ABCD\",\"kind\":172,", Err (fault 63 1))
-    ∷ (codes "\"tail\":\"D-ABCD\",\"kind\":\"C172\",\"note\":1,", Err (fault 64 1)) ∷ [])
+    ++ faulty 63 (
+    codes "\"tail\":\"d-abcd\","
+    ∷ codes "\"serial\":\"E1\",\"kind\":172,"
+    ∷ codes "\"tail\":\"D-ABCD\",\"serial\":\"\","
+    ∷ codes "\"tail\":\"D-ABCD\",\"kind\":172," ∷ [])
+    ++ faulty 64 (codes "\"tail\":\"D-ABCD\",\"kind\":\"C172\",\"note\":1," ∷ []))
 unfolding intake_on_literals
 releases_at_places = refl
 
 -- ── its other keys ──
 
 keys_of_releases : Gives entries_of_text (
-    (codes "[{\"do\":\"release\",\"doc\":\"WO1\",\"tail\":\"D-ABCD\",\"lines\":[{\"tail\":\"D-ABCD\",\"task\":\"ANNUAL\"}]}]", Err (fault 62 1))
-    ∷ (codes "[{\"do\":\"release\",\"doc\":\"WO1\",\"tail\":\"D-ABCD\",\"moment\":\"1970-01-02T23:59\"}]", Err (fault 62 1))
+    faulty 62 (
+    codes "[{\"do\":\"release\",\"doc\":\"WO1\",\"tail\":\"D-ABCD\",\"lines\":[{\"tail\":\"D-ABCD\",\"task\":\"ANNUAL\"}]}]"
+    ∷ codes "[{\"do\":\"release\",\"doc\":\"WO1\",\"tail\":\"D-ABCD\",\"moment\":\"1970-01-02T23:59\"}]" ∷ [])
     -- a document of the technical log, which no release has
-    ∷ (codes "[{\"do\":\"release\",\"doc\":\"TL/D/1/1\",\"tail\":\"D\",\"moment\":\"1970-01-02T23:59\",\"lines\":[{\"tail\":\"D\",\"task\":\"T\"}]}]", Err (fault 65 1)) ∷ [])
+    ++ faulty 65 (codes "[{\"do\":\"release\",\"doc\":\"TL/D/1/1\",\"tail\":\"D\",\"moment\":\"1970-01-02T23:59\",\"lines\":[{\"tail\":\"D\",\"task\":\"T\"}]}]" ∷ []))
 unfolding intake_on_literals
 keys_of_releases = refl
 
@@ -66,41 +70,47 @@ abbrev release_of_lines : List Line → Entry
 release_of_lines lines = record { doc = codes "WO1"; act = Released (record { place = Aircraft (codes "D"); moment = 2879 }) lines }
 
 releases_of_lines : Gives release_with_lines (
-    (codes "[{\"task\":\"OVH\",\"serial\":\"E1\"},{\"tail\":\"D\",\"task\":\"100H\"}]", Ok (release_of_lines (Done (Component (codes "E1")) (codes "OVH") ∷ Done (Airframe (codes "D")) (codes "100H") ∷ []) ∷ []))
-    ∷ (codes "{}", Err (fault 63 1))
-    ∷ (codes "[{\"task\":\"OVH\",\"serial\":\"E1\"},1]", Err (fault 63 1))
-    ∷ (codes "[1,{\"tail\":\"D\"}]", Err (fault 62 1))
-    ∷ (codes "[1,{\"task\":\"T\"}]", Err (fault 62 1))
-    ∷ (codes "[{\"tail\":\"D\",\"task\":\"\",\"note\":1}]", Err (fault 63 1))
-    ∷ (codes "[{\"tail\":\"D\",\"task\":\"T\"},{\"tail\":\"D\",\"task\":\"T\",\"note\":1}]", Err (fault 64 1))
-    ∷ (codes "[{\"tail\":\"D\",\"task\":\"T\"},{\"tail\":\"D\",\"serial\":\"E1\",\"task\":\"T\"}]", Err (fault 65 1))
-    ∷ (codes "[{\"tail\":\"D\",\"serial\":\"E1\"}]", Err (fault 62 1))
-    ∷ (codes "[{\"tail\":\"d\",\"serial\":\"E1\",\"task\":\"T\"}]", Err (fault 63 1)) ∷ [])
+    ((codes "[{\"task\":\"OVH\",\"serial\":\"E1\"},{\"tail\":\"D\",\"task\":\"100H\"}]", Ok (release_of_lines (Done (Component (codes "E1")) (codes "OVH") ∷ Done (Airframe (codes "D")) (codes "100H") ∷ []) ∷ [])) ∷ [])
+    ++ faulty 63 (
+    codes "{}"
+    ∷ codes "[{\"task\":\"OVH\",\"serial\":\"E1\"},1]"
+    ∷ codes "[{\"tail\":\"D\",\"task\":\"\",\"note\":1}]"
+    ∷ codes "[{\"tail\":\"d\",\"serial\":\"E1\",\"task\":\"T\"}]" ∷ [])
+    ++ faulty 62 (
+    codes "[1,{\"tail\":\"D\"}]"
+    ∷ codes "[1,{\"task\":\"T\"}]"
+    ∷ codes "[{\"tail\":\"D\",\"serial\":\"E1\"}]" ∷ [])
+    ++ faulty 64 (codes "[{\"tail\":\"D\",\"task\":\"T\"},{\"tail\":\"D\",\"task\":\"T\",\"note\":1}]" ∷ [])
+    ++ faulty 65 (codes "[{\"tail\":\"D\",\"task\":\"T\"},{\"tail\":\"D\",\"serial\":\"E1\",\"task\":\"T\"}]" ∷ []))
 unfolding intake_on_literals
 releases_of_lines = refl
 
 -- ── a line of a defect ──
 
 releases_of_defects : Gives release_with_lines (
-    (codes "[{\"defect\":\"X1\"}]", Ok (release_of_lines (Rectified (codes "X1") ∷ []) ∷ []))
-    ∷ (codes "[{\"defect\":\"X1\"},{\"tail\":\"D\",\"task\":\"T\"},{\"defect\":\"X2\"}]", Ok (release_of_lines (Rectified (codes "X1") ∷ Done (Airframe (codes "D")) (codes "T") ∷ Rectified (codes "X2") ∷ []) ∷ []))
+    ((codes "[{\"defect\":\"X1\"}]", Ok (release_of_lines (Rectified (codes "X1") ∷ []) ∷ []))
+    ∷ (codes "[{\"defect\":\"X1\"},{\"tail\":\"D\",\"task\":\"T\"},{\"defect\":\"X2\"}]", Ok (release_of_lines (Rectified (codes "X1") ∷ Done (Airframe (codes "D")) (codes "T") ∷ Rectified (codes "X2") ∷ []) ∷ [])) ∷ [])
     -- an object of neither form lacks a key
-    ∷ (codes "[{\"defect\":\"X1\"},{}]", Err (fault 62 1))
-    ∷ (codes "[{\"note\":1}]", Err (fault 62 1))
-    ∷ (codes "[{\"defect\":\"\"}]", Err (fault 63 1))
-    ∷ (codes "[{\"defect\":1}]", Err (fault 63 1))
-    ∷ (codes "[{\"defect\":null,\"tail\":\"D\",\"task\":\"T\"}]", Err (fault 63 1))
-    ∷ (codes "[{\"defect\":\"X1\",\"note\":1}]", Err (fault 64 1))
+    ++ faulty 62 (
+    codes "[{\"defect\":\"X1\"},{}]"
+    ∷ codes "[{\"note\":1}]" ∷ [])
+    ++ faulty 63 (
+    codes "[{\"defect\":\"\"}]"
+    ∷ codes "[{\"defect\":1}]"
+    ∷ codes "[{\"defect\":null,\"tail\":\"D\",\"task\":\"T\"}]" ∷ [])
+    ++ faulty 64 (codes "[{\"defect\":\"X1\",\"note\":1}]" ∷ [])
     -- beside a defect no key of a task that was done is missing, and none may stand
-    ∷ (codes "[{\"tail\":\"D\",\"task\":\"T\"},{\"tail\":\"D\",\"task\":\"T\",\"defect\":\"X1\"}]", Err (fault 65 1))
-    ∷ (codes "[{\"defect\":\"X1\",\"task\":\"T\"}]", Err (fault 65 1))
-    ∷ (codes "[{\"defect\":\"X1\",\"tail\":\"D\"}]", Err (fault 65 1))
-    ∷ (codes "[{\"defect\":\"X1\",\"serial\":\"E1\"}]", Err (fault 65 1))
-    ∷ (codes "[{\"defect\":\"X1\",\"tail\":\"D\",\"serial\":\"E1\"}]", Err (fault 65 1))
-    ∷ (codes "[{\"defect\":\"X1\",\"task\":\"T\",\"note\":1}]", Err (fault 64 1))
-    ∷ (codes "[{\"defect\":\"X1\",\"task\":\"\"}]", Err (fault 63 1))
-    ∷ (codes "[{\"defect\":\"X1\",\"tail\":\"d\"}]", Err (fault 63 1))
-    ∷ (codes "[{\"defect\":\"X1\",\"tail\":\"D\",\"serial\":\"\"}]", Err (fault 63 1)) ∷ [])
+    ++ faulty 65 (
+    codes "[{\"tail\":\"D\",\"task\":\"T\"},{\"tail\":\"D\",\"task\":\"T\",\"defect\":\"X1\"}]"
+    ∷ codes "[{\"defect\":\"X1\",\"task\":\"T\"}]"
+    ∷ codes "[{\"defect\":\"X1\",\"tail\":\"D\"}]"
+    ∷ codes "[{\"defect\":\"X1\",\"serial\":\"E1\"}]"
+    ∷ codes "[{\"defect\":\"X1\",\"tail\":\"D\",\"serial\":\"E1\"}]" ∷ [])
+    ++ faulty 64 (codes "[{\"defect\":\"X1\",\"task\":\"T\",\"note\":1}]" ∷ [])
+    ++ faulty 63 (
+    codes "[{\"defect\":\"X1\",\"task\":\"\"}]"
+    ∷ codes "[{\"defect\":\"X1\",\"tail\":\"d\"}]"
+    ∷ codes "[{\"defect\":\"X1\",\"tail\":\"D\",\"serial\":\"\"}]" ∷ []))
 unfolding intake_on_literals
 releases_of_defects = refl
 
@@ -112,8 +122,9 @@ more_lines zero = codes "{\"tail\":\"D\",\"task\":\"T\"}]"
 more_lines (suc n) = codes "{\"tail\":\"D\",\"task\":\"T\"}," ++ more_lines n
 
 releases_of_many_lines : Gives release_with_lines (
-    (codes "[]", Err (fault 65 1))
-    ∷ (codes "[" ++ more_lines 19, Ok (release_of_lines (replicate 20 (Done (Airframe (codes "D")) (codes "T"))) ∷ []))
-    ∷ (codes "[" ++ more_lines 20, Err (fault 65 1)) ∷ [])
+    faulty 65 (
+    codes "[]"
+    ∷ (codes "[" ++ more_lines 20) ∷ [])
+    ++ ((codes "[" ++ more_lines 19, Ok (release_of_lines (replicate 20 (Done (Airframe (codes "D")) (codes "T"))) ∷ [])) ∷ []))
 unfolding intake_on_literals
 releases_of_many_lines = refl

@@ -37,33 +37,33 @@ numbers = refl
 -- ── whole texts ──
 
 logs : Gives sector_rows (
-    (codes "tail,page,line,off,on,cycles\nD-ABCD,12,1,2024-03-01T08:00,2024-03-01T09:30,1\nD-ABCD,12,2,2024-03-01T10:00,2024-03-01T09:50,1\nD-ABCD,13,1,2024-03-02T08:00,2024-03-02T08:45,2\n", Ok (Ok (flight (codes "TL/D-ABCD/12/1") 12 1 28488000 28488090 1) ∷ Err (fault 65 2) ∷ Ok (flight (codes "TL/D-ABCD/13/1") 13 1 28489440 28489485 2) ∷ []))
+    ((codes "tail,page,line,off,on,cycles\nD-ABCD,12,1,2024-03-01T08:00,2024-03-01T09:30,1\nD-ABCD,12,2,2024-03-01T10:00,2024-03-01T09:50,1\nD-ABCD,13,1,2024-03-02T08:00,2024-03-02T08:45,2\n", Ok (Ok (flight (codes "TL/D-ABCD/12/1") 12 1 28488000 28488090 1) ∷ Err (fault 65 2) ∷ Ok (flight (codes "TL/D-ABCD/13/1") 13 1 28489440 28489485 2) ∷ []))
     ∷ (codes "tail,page,line,off,on,cycles\n", Ok [])
     ∷ (codes "tail,page,line,off,on,cycles", Ok [])
     ∷ ([], Err (fault 66 0))
     ∷ (codes "D-ABCD,12,1,2024-03-01T08:00,2024-03-01T09:30,1\n", Err (fault 66 0))
     ∷ (codes "tail,page,line,off,on,cycles,\n", Err (fault 66 0))
-    ∷ (codes "tail, page,line,off,on,cycles\n", Err (fault 66 0))
+    ∷ (codes "tail, page,line,off,on,cycles\n", Err (fault 66 0)) ∷ [])
     -- a byte order mark, quotes, and each end of a line
-    ∷ (239 ∷ 187 ∷ 191 ∷ codes "\"tail\",page,line,off,on,cycles\r\n\r\n\"D-ABCD\",12,1,2024-03-01T08:00,2024-03-01T09:30,1\r\n\n", Ok (Ok (flight (codes "TL/D-ABCD/12/1") 12 1 28488000 28488090 1) ∷ [])) ∷ [])
+    ++ ((239 ∷ 187 ∷ 191 ∷ codes "\"tail\",page,line,off,on,cycles\r\n\r\n\"D-ABCD\",12,1,2024-03-01T08:00,2024-03-01T09:30,1\r\n\n", Ok (Ok (flight (codes "TL/D-ABCD/12/1") 12 1 28488000 28488090 1) ∷ [])) ∷ []))
 unfolding sectors_on_literals
 logs = refl
 
 -- ── one row ──
 
 logs_of_one_row : Gives sector_rows (
-    (header ++ codes "D-ABCD,000012,1,2024-03-01T08:00,2024-03-01T09:30,1\n", Ok (Ok (flight (codes "TL/D-ABCD/12/1") 12 1 28488000 28488090 1) ∷ []))
+    ((header ++ codes "D-ABCD,000012,1,2024-03-01T08:00,2024-03-01T09:30,1\n", Ok (Ok (flight (codes "TL/D-ABCD/12/1") 12 1 28488000 28488090 1) ∷ []))
     ∷ (header ++ codes "D-ABCD,0000012,1,2024-03-01T08:00,2024-03-01T09:30,1\n", Ok (Err (fault 63 1) ∷ []))
-    ∷ (header ++ codes "D-ABCD,12,1,2024-03-01T08:00,2024-03-01T09:30\n", Ok (Err (fault 68 1) ∷ []))
+    ∷ (header ++ codes "D-ABCD,12,1,2024-03-01T08:00,2024-03-01T09:30\n", Ok (Err (fault 68 1) ∷ [])) ∷ [])
     -- seven fields, of which none can be read
-    ∷ (header ++ codes ",,,,,,\n", Ok (Err (fault 68 1) ∷ []))
+    ++ ((header ++ codes ",,,,,,\n", Ok (Err (fault 68 1) ∷ [])) ∷ [])
     -- a line of spaces is a record
-    ∷ (header ++ codes "  \n", Ok (Err (fault 68 1) ∷ []))
+    ++ ((header ++ codes "  \n", Ok (Err (fault 68 1) ∷ []))
     ∷ (header ++ 255 ∷ codes ",12,1,2024-03-01T08:00,2024-03-01T09:30,1\n", Ok (Err (fault 63 1) ∷ []))
-    ∷ (header ++ codes "D-ABCD, 12,1,2024-03-01T08:00,2024-03-01T09:30,1\n", Ok (Err (fault 63 1) ∷ []))
+    ∷ (header ++ codes "D-ABCD, 12,1,2024-03-01T08:00,2024-03-01T09:30,1\n", Ok (Err (fault 63 1) ∷ [])) ∷ [])
     -- a field that can't be read, before the shape
-    ∷ (header ++ codes "D-ABCD,0,1,2024-03-01T08:00,2024-03-01T09:30,\n", Ok (Err (fault 63 1) ∷ []))
-    ∷ (header ++ codes "D-ABCD,0,1,2024-03-01T08:00,2024-03-01T09:30,1\n", Ok (Err (fault 65 1) ∷ [])) ∷ [])
+    ++ ((header ++ codes "D-ABCD,0,1,2024-03-01T08:00,2024-03-01T09:30,\n", Ok (Err (fault 63 1) ∷ []))
+    ∷ (header ++ codes "D-ABCD,0,1,2024-03-01T08:00,2024-03-01T09:30,1\n", Ok (Err (fault 65 1) ∷ [])) ∷ []))
 unfolding sectors_on_literals
 logs_of_one_row = refl
 
