@@ -1,7 +1,7 @@
 //! The body of a request.
 ghost use Rattle.std.specs.Prelude.{◌≡◌, ◌++◌, Some, IfOk, IfSome, option_map, vec_len};
 ghost use Rattle.mx_http.specs.request.Body.{missing, whole_body};
-ghost use Rattle.mx_http.specs.request.Input.{TakesAtMost};
+ghost use Rattle.mx_intake.specs.Input.{TakesAtMost};
 
 use crate::request::input::{InputFault, front_of, read_some};
 use std::alloc::Global;

@@ -1,6 +1,7 @@
 //! Reading some bytes of an input.
 ghost use Rattle.std.specs.Prelude.{◌≡◌, ◌≤◌, take, IfOk};
-ghost use Rattle.mx_http.specs.request.Input.{AddsTaken, TakesAtMost};
+ghost use Rattle.mx_intake.specs.Input.{TakesAtMost};
+ghost use Rattle.mx_http.specs.request.Input.{AddsTaken};
 
 use std::alloc::AllocError;
 use std::io::Read;
