@@ -1,5 +1,5 @@
 -- What a text of JSON reads as, and what the values of a list give.
-use Rattle.std.proofs.Common.{◌≡◌, ◌≤◌, ◌<◌, ◌+◌, ℕ, List, [], ◌∷◌, ◌++◌, length, get_or, drop, true, false, Some, None, Ok, Err, refl, arith, nat_lt}
+use Rattle.std.proofs.Common.{◌≡◌, ◌≤◌, ◌<◌, ℕ, List, length, true, false, Some, None, Ok, Err, arith, nat_lt}
 use Rattle.std.proofs.lemmas.Bool.Decides.{nat_tests}
 use Rattle.std.specs.Prelude.{Vec}
 use Rattle.std.specs.declared.alloc.Global.{Global}
@@ -8,11 +8,8 @@ use Rattle.serde_json.specs.Read.{read}
 use Rattle.serde_json.specs.View.{view, items_view}
 use Rattle.serde_json.specs.declared.value.Value.{Value, Array}
 use Rattle.serde_json.proofs.Views.{view-Array, items_len-items_view}
-use Rattle.mx_book.specs.commands.Act.{Entry}
 use Rattle.mx_intake.specs.Entries.{value_of_text, entries_of_value, entries_from}
 use Rattle.mx_intake.specs.Fault.{fault}
-use Rattle.mx_intake.specs.Forms.{entry_by_json}
-use Rattle.mx_intake.specs.Sequence.{after}
 use Rattle.mx_intake.specs.Text.{text_of_bytes}
 use Rattle.mx_intake.specs.declared.fault.IntakeFault.{IntakeFault}
 use Rattle.mx_intake.proofs.ReadingLemmas.{text_of_bytes-long, reading_of-read, reading_of-refused, reading_of-fault}

@@ -1,6 +1,5 @@
 pub mod EntriesLemmas
 pub mod InputLemmas
-pub mod KeyLemmas
 pub mod NumberLemmas
 pub mod ObjectLemmas
 pub mod ProgrammeLemmas

@@ -1,5 +1,5 @@
 -- What a text of TOML reads as, what the values of its list give, and the shape of what is given.
-use Rattle.std.proofs.Common.{◌≡◌, ◌≤◌, ◌<◌, ◌+◌, ℕ, suc, List, [], ◌∷◌, ◌++◌, length, get_or, drop, Bool, true, false, ◌&&◌, ◌||◌, cond, Option, Some, None, is_some, option_map, Result, Ok, Err, BTreeMap, refl, sym, ap, ◌∙◌, arith}
+use Rattle.std.proofs.Common.{◌≡◌, ◌≤◌, ◌+◌, ℕ, suc, List, [], ◌∷◌, length, Bool, true, false, ◌&&◌, ◌||◌, cond, Option, Some, None, is_some, option_map, Result, Ok, Err, BTreeMap, refl, sym, ap, ◌∙◌, arith}
 use Rattle.std.proofs.lemmas.Bool.{and_parts}
 use Rattle.std.proofs.lemmas.Bool.Decides.{nat_tests}
 use Rattle.std.specs.Prelude.{String}
@@ -17,7 +17,7 @@ use Rattle.mx_book.specs.declared.commands.programme.Task.{Task}
 use Rattle.mx_intake.specs.Fault.{fault}
 use Rattle.mx_intake.specs.Form.{by_form}
 use Rattle.mx_intake.specs.ProgrammeText.{top_shape, tasks_from, if_distinct, table_of_document, table_of_text}
-use Rattle.mx_intake.specs.Sequence.{after, given_before}
+use Rattle.mx_intake.specs.Sequence.{given_before}
 use Rattle.mx_intake.specs.Table.{lacks_key, has_other_key, items_len}
 use Rattle.mx_intake.specs.Tasks.{needed_task_keys, task_keys, has_other_limit_key, stated_task, task_by_toml, task_form}
 use Rattle.mx_intake.specs.Text.{text_of_bytes}

@@ -34,6 +34,10 @@ Gives f rows = map (λ row. f row.0) rows ≡ map (λ row. row.1) rows
 abbrev pub faulty : ℕ → List (List ℕ) → List (List ℕ × Result (List Entry) IntakeFault)
 faulty number texts = map (λ text. (text, Err (fault number 1))) texts
 
+-- what the text gives that has this between what stands before and behind it
+abbrev pub between : List ℕ → List ℕ → List ℕ → Result (List Entry) IntakeFault
+between before behind text = entries_of_text (before ++ text ++ behind)
+
 -- ── days and moments ──
 
 second_day : moment_of_text (codes "1970-01-02T23:59") ≡ Some 2879

@@ -1,28 +1,21 @@
 -- Worked deferrals and extensions, computed from the definitions.
-use Rattle.std.proofs.Common.{refl, ◌≡◌, ℕ, List, [], ◌∷◌, ◌++◌, Ok, Err}
-use Rattle.std.specs.Prelude.{codes, Result}
+use Rattle.std.proofs.Common.{refl, ℕ, [], ◌∷◌, ◌++◌, Ok}
+use Rattle.std.specs.Prelude.{codes}
 use Rattle.mx_book.specs.commands.Act.{Entry, Deferred, Extended}
 use Rattle.mx_base.specs.declared.category.Category.{Category}
 use Rattle.mx_base.specs.declared.category.Category.TheVariants.{A, B, C, D}
-use Rattle.mx_intake.specs.declared.fault.IntakeFault.{IntakeFault}
-use Rattle.mx_intake.specs.Fault.{fault}
 use Rattle.mx_intake.specs.Entries.{entries_of_text}
-use Rattle.mx_intake.proofs.Worked.{Gives, faulty, intake_on_literals}
+use Rattle.mx_intake.proofs.Worked.{Gives, between, faulty, intake_on_literals}
 
 -- ── the category of a defect ──
 
--- what the list of one deferral gives, by the keys that are written for its category
-abbrev deferral_with_category : List ℕ → Result (List Entry) IntakeFault
-deferral_with_category keys =
-    entries_of_text (codes "[{\"do\":\"defer\",\"doc\":\"X1\"," ++ keys
-    ++ codes "\"tail\":\"D-ABCD\",\"moment\":\"1970-01-02T23:59\",\"reference\":\"21-31-01\"}]")
-
--- that deferral
+-- the deferral of a category
 abbrev deferral_of_category : Category → Entry
 deferral_of_category category =
     record { doc = codes "X1"; act = Deferred (record { tail = codes "D-ABCD"; moment = 2879; reference = codes "21-31-01"; category = category }) }
 
-deferrals_of_categories : Gives deferral_with_category (
+-- what the list of one deferral gives, by the keys that are written for its category
+deferrals_of_categories : Gives (between (codes "[{\"do\":\"defer\",\"doc\":\"X1\",") (codes "\"tail\":\"D-ABCD\",\"moment\":\"1970-01-02T23:59\",\"reference\":\"21-31-01\"}]")) (
     ((codes "\"category\":\"A\",\"days\":5,", Ok (deferral_of_category (A 5) ∷ []))
     ∷ (codes "\"category\":\"B\",", Ok (deferral_of_category B ∷ []))
     ∷ (codes "\"category\":\"C\",", Ok (deferral_of_category C ∷ []))
@@ -90,16 +83,12 @@ keys_of_deferrals = refl
 
 -- ── extensions ──
 
--- what the list of one extension gives, by what is written at `days`
-abbrev extension_with_days : List ℕ → Result (List Entry) IntakeFault
-extension_with_days days =
-    entries_of_text (codes "[{\"do\":\"extend\",\"doc\":\"Y1\",\"defect\":\"X1\",\"day\":\"1970-01-03\",\"days\":" ++ days ++ codes "}]")
-
--- that extension
+-- the extension by so many days
 abbrev extension_of_days : ℕ → Entry
 extension_of_days days = record { doc = codes "Y1"; act = Extended (record { defect = codes "X1"; day = 2; days = days }) }
 
-extensions_of_days : Gives extension_with_days (
+-- what the list of one extension gives, by what is written at `days`
+extensions_of_days : Gives (between (codes "[{\"do\":\"extend\",\"doc\":\"Y1\",\"defect\":\"X1\",\"day\":\"1970-01-03\",\"days\":") (codes "}]")) (
     ((codes "1", Ok (extension_of_days 1 ∷ []))
     ∷ (codes "120", Ok (extension_of_days 120 ∷ [])) ∷ [])
     ++ faulty 65 (

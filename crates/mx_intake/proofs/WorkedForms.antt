@@ -8,17 +8,15 @@ use Rattle.mx_book.specs.declared.commands.item.Item.TheVariants.{Airframe, Comp
 use Rattle.mx_intake.specs.declared.fault.IntakeFault.{IntakeFault}
 use Rattle.mx_intake.specs.Fault.{fault}
 use Rattle.mx_intake.specs.Entries.{entries_of_text}
-use Rattle.mx_intake.proofs.Worked.{Gives, faulty, intake_on_literals}
+use Rattle.mx_intake.proofs.Worked.{Gives, between, faulty, intake_on_literals}
 
 -- ── sectors ──
 
 -- what the list of one sector gives, by what is written at `page`
 abbrev sector_with_page : List ℕ → Result (List Entry) IntakeFault
-sector_with_page page =
-    entries_of_text (codes "[{\"do\":\"sector\",\"tail\":\"D-ABCD\",\"page\":" ++ page
-    ++ codes ",\"line\":1,\"off\":\"1970-01-02T08:00\",\"on\":\"1970-01-02T09:30\",\"cycles\":1}]")
+sector_with_page = between (codes "[{\"do\":\"sector\",\"tail\":\"D-ABCD\",\"page\":") (codes ",\"line\":1,\"off\":\"1970-01-02T08:00\",\"on\":\"1970-01-02T09:30\",\"cycles\":1}]")
 
--- that sector
+-- the sector on a page
 abbrev sector_of_page : ℕ → List ℕ → Entry
 sector_of_page page doc = record { doc = doc; act = Flown (record { tail = codes "D-ABCD"; page = page; line = 1; off = 1920; on = 2010; cycles = 1 }) }
 
@@ -53,18 +51,13 @@ document_of_a_sector = refl
 
 -- ── aircraft ──
 
--- what the list of one aircraft gives, by what is written at `positions`
-abbrev aircraft_with_positions : List ℕ → Result (List Entry) IntakeFault
-aircraft_with_positions positions =
-    entries_of_text (codes "[{\"do\":\"add-aircraft\",\"doc\":\"A1\",\"tail\":\"D-ABCD\",\"kind\":\"C172\",\"birth\":\"1970-01-01\",\"minutes\":60000,\"cycles\":800,\"as_of\":\"1970-01-02T00:00\",\"positions\":"
-    ++ positions ++ codes "}]")
-
 -- the aircraft with these positions
 abbrev aircraft_of_positions : List (List ℕ × List ℕ) → Entry
 aircraft_of_positions positions =
     record { doc = codes "A1"; act = Added (record { tail = codes "D-ABCD"; kind = codes "C172"; birth = 0; opening = record { minutes = 60000; cycles = 800 }; as_of = 1440 }) positions }
 
-aircraft_of_positions_or_none : Gives aircraft_with_positions (
+-- what the list of one aircraft gives, by what is written at `positions`
+aircraft_of_positions_or_none : Gives (between (codes "[{\"do\":\"add-aircraft\",\"doc\":\"A1\",\"tail\":\"D-ABCD\",\"kind\":\"C172\",\"birth\":\"1970-01-01\",\"minutes\":60000,\"cycles\":800,\"as_of\":\"1970-01-02T00:00\",\"positions\":") (codes "}]")) (
     ((codes "[]", Ok (aircraft_of_positions [] ∷ []))
     ∷ (codes "[{\"position\":\"ENG\",\"part\":\"IO360\"},{\"part\":\"HC2\",\"position\":\"PROP\"}]", Ok (aircraft_of_positions ((codes "ENG", codes "IO360") ∷ (codes "PROP", codes "HC2") ∷ []) ∷ [])) ∷ [])
     ++ faulty 63 (
@@ -85,18 +78,13 @@ component = refl
 
 -- ── openings ──
 
--- what the list of one opening gives, by the keys that are written for its item
-abbrev opening_with_item : List ℕ → Result (List Entry) IntakeFault
-opening_with_item keys =
-    entries_of_text (codes "[{\"do\":\"opening\",\"doc\":\"O1\"," ++ keys
-    ++ codes "\"kind\":\"C172\",\"task\":\"ANNUAL\",\"minutes\":59000,\"cycles\":780,\"day\":\"1970-01-02\"}]")
-
--- that opening
+-- the opening of an item
 abbrev opening_of_item : Item → Entry
 opening_of_item item =
     record { doc = codes "O1"; act = Opened (record { item = item; kind = codes "C172"; task = codes "ANNUAL"; use_then = record { minutes = 59000; cycles = 780 }; day = 1 }) }
 
-openings_of_items : Gives opening_with_item (
+-- what the list of one opening gives, by the keys that are written for its item
+openings_of_items : Gives (between (codes "[{\"do\":\"opening\",\"doc\":\"O1\",") (codes "\"kind\":\"C172\",\"task\":\"ANNUAL\",\"minutes\":59000,\"cycles\":780,\"day\":\"1970-01-02\"}]")) (
     ((codes "\"tail\":\"D-ABCD\",", Ok (opening_of_item (Airframe (codes "D-ABCD")) ∷ []))
     ∷ (codes "\"serial\":\"E1\",", Ok (opening_of_item (Component (codes "E1")) ∷ [])) ∷ [])
     ++ faulty 62 ([] ∷ [])

@@ -1,31 +1,24 @@
 -- Worked releases to service, computed from the definitions.
-use Rattle.std.proofs.Common.{refl, ◌≡◌, ℕ, zero, suc, List, [], ◌∷◌, ◌++◌, Ok, Err, replicate}
-use Rattle.std.specs.Prelude.{codes, Result}
+use Rattle.std.proofs.Common.{refl, ℕ, zero, suc, List, [], ◌∷◌, ◌++◌, Ok, replicate}
+use Rattle.std.specs.Prelude.{codes}
 use Rattle.mx_book.specs.commands.Act.{Entry, Released}
 use Rattle.mx_book.specs.declared.commands.item.Item.TheVariants.{Airframe, Component}
 use Rattle.mx_book.specs.declared.commands.release.Line.{Line}
 use Rattle.mx_book.specs.declared.commands.release.Line.TheVariants.{Done, Rectified}
 use Rattle.mx_book.specs.declared.commands.release.Place.{Place}
 use Rattle.mx_book.specs.declared.commands.release.Place.TheVariants.{Aircraft, Shop}
-use Rattle.mx_intake.specs.declared.fault.IntakeFault.{IntakeFault}
-use Rattle.mx_intake.specs.Fault.{fault}
 use Rattle.mx_intake.specs.Entries.{entries_of_text}
-use Rattle.mx_intake.proofs.Worked.{Gives, faulty, intake_on_literals}
+use Rattle.mx_intake.proofs.Worked.{Gives, between, faulty, intake_on_literals}
 
 -- ── where the work was done ──
 
--- what the list of one release gives, by the keys that are written for its place
-abbrev release_with_place : List ℕ → Result (List Entry) IntakeFault
-release_with_place keys =
-    entries_of_text (codes "[{\"do\":\"release\",\"doc\":\"WO1\"," ++ keys
-    ++ codes "\"moment\":\"1970-01-02T23:59\",\"lines\":[{\"tail\":\"D-ABCD\",\"task\":\"ANNUAL\"}]}]")
-
--- that release
+-- the release at a place
 abbrev release_of_place : Place → Entry
 release_of_place place =
     record { doc = codes "WO1"; act = Released (record { place = place; moment = 2879 }) (Done (Airframe (codes "D-ABCD")) (codes "ANNUAL") ∷ []) }
 
-releases_at_places : Gives release_with_place (
+-- what the list of one release gives, by the keys that are written for its place
+releases_at_places : Gives (between (codes "[{\"do\":\"release\",\"doc\":\"WO1\",") (codes "\"moment\":\"1970-01-02T23:59\",\"lines\":[{\"tail\":\"D-ABCD\",\"task\":\"ANNUAL\"}]}]")) (
     ((codes "\"tail\":\"D-ABCD\",", Ok (release_of_place (Aircraft (codes "D-ABCD")) ∷ []))
     ∷ (codes "\"serial\":\"E1\",\"kind\":\"C172\",", Ok (release_of_place (Shop (codes "E1") (codes "C172")) ∷ [])) ∷ [])
     ++ faulty 62 (
@@ -60,16 +53,12 @@ keys_of_releases = refl
 
 -- ── its lines ──
 
--- what the list of one release gives, by what is written at `lines`
-abbrev release_with_lines : List ℕ → Result (List Entry) IntakeFault
-release_with_lines lines =
-    entries_of_text (codes "[{\"do\":\"release\",\"doc\":\"WO1\",\"tail\":\"D\",\"moment\":\"1970-01-02T23:59\",\"lines\":" ++ lines ++ codes "}]")
-
--- that release
+-- the release of lines
 abbrev release_of_lines : List Line → Entry
 release_of_lines lines = record { doc = codes "WO1"; act = Released (record { place = Aircraft (codes "D"); moment = 2879 }) lines }
 
-releases_of_lines : Gives release_with_lines (
+-- what the list of one release gives, by what is written at `lines`
+releases_of_lines : Gives (between (codes "[{\"do\":\"release\",\"doc\":\"WO1\",\"tail\":\"D\",\"moment\":\"1970-01-02T23:59\",\"lines\":") (codes "}]")) (
     ((codes "[{\"task\":\"OVH\",\"serial\":\"E1\"},{\"tail\":\"D\",\"task\":\"100H\"}]", Ok (release_of_lines (Done (Component (codes "E1")) (codes "OVH") ∷ Done (Airframe (codes "D")) (codes "100H") ∷ []) ∷ [])) ∷ [])
     ++ faulty 63 (
     codes "{}"
@@ -87,7 +76,8 @@ releases_of_lines = refl
 
 -- ── a line of a defect ──
 
-releases_of_defects : Gives release_with_lines (
+-- the same of lines of defects
+releases_of_defects : Gives (between (codes "[{\"do\":\"release\",\"doc\":\"WO1\",\"tail\":\"D\",\"moment\":\"1970-01-02T23:59\",\"lines\":") (codes "}]")) (
     ((codes "[{\"defect\":\"X1\"}]", Ok (release_of_lines (Rectified (codes "X1") ∷ []) ∷ []))
     ∷ (codes "[{\"defect\":\"X1\"},{\"tail\":\"D\",\"task\":\"T\"},{\"defect\":\"X2\"}]", Ok (release_of_lines (Rectified (codes "X1") ∷ Done (Airframe (codes "D")) (codes "T") ∷ Rectified (codes "X2") ∷ []) ∷ [])) ∷ [])
     -- an object of neither form lacks a key
@@ -121,7 +111,8 @@ abbrev more_lines : ℕ → List ℕ
 more_lines zero = codes "{\"tail\":\"D\",\"task\":\"T\"}]"
 more_lines (suc n) = codes "{\"tail\":\"D\",\"task\":\"T\"}," ++ more_lines n
 
-releases_of_many_lines : Gives release_with_lines (
+-- and of how many lines there are
+releases_of_many_lines : Gives (between (codes "[{\"do\":\"release\",\"doc\":\"WO1\",\"tail\":\"D\",\"moment\":\"1970-01-02T23:59\",\"lines\":") (codes "}]")) (
     faulty 65 (
     codes "[]"
     ∷ (codes "[" ++ more_lines 20) ∷ [])

@@ -2,9 +2,8 @@
 ghost use Rattle.std.specs.Prelude.{◌≡◌, ◌≢◌, Ok, Err, IfOk, IfErr, option_map};
 ghost use Rattle.serde_json.specs.View.{view};
 ghost use Rattle.mx_intake.specs.declared.fault.TheConstants.{MEMORY};
-ghost use Rattle.mx_intake.specs.Defects.{stated_deferral, deferral_form, stated_extension, extension_form};
 ghost use Rattle.mx_intake.specs.Form.{entry_of, entry_by_form};
-ghost use Rattle.mx_intake.specs.Forms.{stated_aircraft, stated_aircraft_with, aircraft_form, stated_component, stated_use, component_form, stated_opening, opening_form, stated_fitting, fitting_form, stated_removal, removal_form};
+ghost use Rattle.mx_intake.specs.Forms.{stated_aircraft, stated_aircraft_with, aircraft_form, stated_component, stated_use, component_form, stated_opening, opening_form, stated_fitting, fitting_form, stated_removal, removal_form, stated_deferral, deferral_form, stated_extension, extension_form};
 ghost use Rattle.mx_intake.specs.Object.{lacks_key, has_other_key};
 ghost use Rattle.mx_intake.specs.Release.{lacks_release_key, has_other_release_key, release_keys_exclude, stated_release, stated_release_with, release_form};
 

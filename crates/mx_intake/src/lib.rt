@@ -51,8 +51,8 @@
 //!
 //! # To add a command
 //!
-//! A further command adds its form in one place: a file of `src/` and a part of `specs/Forms.antt`, or a file beside
-//! it, each with a line where the word at `do` chooses the form (`forms.rt`, `entry_by_word`).
+//! A further command adds its form in one place: a part of `src/commands.rt` and of `specs/Forms.antt`, or a file beside
+//! each, with a line where the word at `do` chooses the form (`forms.rt`, `entry_by_word`).
 #![tactic(auto)]
 
 mod category;

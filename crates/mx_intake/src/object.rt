@@ -9,7 +9,7 @@ ghost use Rattle.serde_json.specs.View.{view, items_view};
 ghost use Rattle.mx_intake.specs.Keys.{if_there};
 ghost use Rattle.mx_intake.specs.Object.{lacks_key, has_other_key, number_of, number_at_key, text_at_key, list_at_key};
 
-use crate::keys::is_one_of;
+use crate::keys::{is_one_of, one_key};
 use serde_json::Value;
 
 /// Whether the value is an object that has the key.
@@ -23,12 +23,7 @@ pub(crate) fn has(object: &Value, key: &str) -> bool
 pub(crate) fn lacks(object: &Value, keys: &[&str]) -> bool
     ensures { result ≡ lacks_key (map (λ k. k.now) keys.now) (view object.now) }
 {
-    for key in keys {
-        if !has(object, key) {
-            return true;
-        }
-    }
-    false
+    one_key(keys, |key| !has(object, key))
 }
 
 /// Whether there is a key that is none of these.

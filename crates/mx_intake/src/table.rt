@@ -5,7 +5,7 @@ ghost use Rattle.toml.specs.View.{view, items_view};
 ghost use Rattle.mx_intake.specs.Keys.{if_there};
 ghost use Rattle.mx_intake.specs.Table.{lacks_key, has_other_key, number_of, number_at_key, text_at_key, list_at_key};
 
-use crate::keys::is_one_of;
+use crate::keys::{is_one_of, one_key};
 use toml::Value;
 
 /// Whether the value is a table that has the key.
@@ -19,12 +19,7 @@ fn has(table: &Value, key: &str) -> bool
 pub(crate) fn lacks(table: &Value, keys: &[&str]) -> bool
     ensures { result ≡ lacks_key (map (λ k. k.now) keys.now) (view table.now) }
 {
-    for key in keys {
-        if !has(table, key) {
-            return true;
-        }
-    }
-    false
+    one_key(keys, |key| !has(table, key))
 }
 
 /// Whether there is a key that is none of these.
