@@ -1,6 +1,7 @@
 -- A text is read as the day or the moment whose text it is.
 use Rattle.std.proofs.Common.{◌≡◌, ℕ, ◌+◌, ◌*◌, ◌/◌, ◌≤◌, List, Bool, true, false, ◌&&◌, cond, Some, None, refl, sym, ap, ◌∙◌, arith, pos, unsigned_abs, nat_le}
-use Rattle.std.specs.Prelude.{◌≢◌}
+use Rattle.std.specs.Prelude.{◌≢◌, Result, Ok, Err, IfOk, OnErr}
+use Rattle.std.specs.Result.{result_ok}
 use Rattle.std.proofs.lemmas.Bool.{and_from, and_parts}
 use Rattle.std.proofs.lemmas.Bool.Decides.{nat_tests}
 use Rattle.jiff_core.specs.Calendar.{days_from_civil}
@@ -63,13 +64,16 @@ not_found named said last text never =
     (λ test. let parts = and_parts (nat_le (named text) last) (same_text (said (named text)) text) test in
     never (named text) (at_most_by (named text) last parts.0) ((text_same (said (named text)) text).0 parts.1))
 
-pub day_of_text-some : (text : List ℕ) (d : ℕ) → d ≤ 84005 → day_text d ≡ text → day_of_text text ≡ Some d
-unfolding day_of_text
-day_of_text-some text d h e = found named_day day_text 84005 text d (named_day-day_text d h) h e
+-- so a reader of texts finds what a text names
+read_by : {E : Type 0} (named : List ℕ → ℕ) (said : ℕ → List ℕ) (last : ℕ) (text : List ℕ) → ((n : ℕ) → n ≤ last → named (said n) ≡ n)
+    → (r : Result ℕ E) → IfOk r (λ n. (n ≤ last) × (said n ≡ text)) → OnErr r ((n : ℕ) → n ≤ last → said n ≢ text)
+    → result_ok r ≡ cond (nat_le (named text) last && same_text (said (named text)) text) (Some (named text)) None
+read_by named said last text back (Ok n) ok err = sym (found named said last text n (back n ok.0) ok.0 ok.1)
+read_by named said last text back (Err e) ok err = sym (not_found named said last text err)
 
-pub day_of_text-none : (text : List ℕ) → ((d : ℕ) → d ≤ 84005 → day_text d ≢ text) → day_of_text text ≡ None
+pub day_of_text-read : {E : Type 0} (text : List ℕ) (r : Result ℕ E) → IfOk r (λ d. (d ≤ 84005) × (day_text d ≡ text)) → OnErr r ((d : ℕ) → d ≤ 84005 → day_text d ≢ text) → result_ok r ≡ day_of_text text
 unfolding day_of_text
-day_of_text-none text never = not_found named_day day_text 84005 text never
+day_of_text-read text r = read_by named_day day_text 84005 text named_day-day_text r
 
 -- the day of a moment's text is the day that stands in front of it
 named_moment-moment_text : (m : ℕ) → m ≤ 120968639 → named_moment (moment_text m) ≡ m
@@ -79,10 +83,6 @@ named_moment-moment_text m h =
     let day : unsigned_abs (days_from_civil (pos (pair_at (date_text t) 0 * 100 + pair_at (date_text t) 2)) (pair_at (date_text t) 5) (pair_at (date_text t) 8)) ≡ m / 1440 = named_day-day_text (m / 1440) (omega arith) in
     omega (arith, day)
 
-pub moment_of_text-some : (text : List ℕ) (m : ℕ) → m ≤ 120968639 → moment_text m ≡ text → moment_of_text text ≡ Some m
+pub moment_of_text-read : {E : Type 0} (text : List ℕ) (r : Result ℕ E) → IfOk r (λ m. (m ≤ 120968639) × (moment_text m ≡ text)) → OnErr r ((m : ℕ) → m ≤ 120968639 → moment_text m ≢ text) → result_ok r ≡ moment_of_text text
 unfolding moment_of_text
-moment_of_text-some text m h e = found named_moment moment_text 120968639 text m (named_moment-moment_text m h) h e
-
-pub moment_of_text-none : (text : List ℕ) → ((m : ℕ) → m ≤ 120968639 → moment_text m ≢ text) → moment_of_text text ≡ None
-unfolding moment_of_text
-moment_of_text-none text never = not_found named_moment moment_text 120968639 text never
+moment_of_text-read text r = read_by named_moment moment_text 120968639 text named_moment-moment_text r

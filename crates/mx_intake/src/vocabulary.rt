@@ -24,10 +24,7 @@ pub fn read_day(text: &str) -> Option<Day>
     ensures some { IfSome result (λ d. (d ≤ last_day) × (day_text d ≡ text.now)) }
     ensures none { IfNone result ((d : ℕ) → d ≤ last_day → day_text d ≢ text.now) }
 {
-    match Day::read(text) {
-        Ok(day) => Some(day),
-        Err(_) => None,
-    }
+    Day::read(text).ok()
 }
 
 /// The moment whose text it is.
@@ -36,10 +33,7 @@ pub fn read_moment(text: &str) -> Option<Moment>
     ensures some { IfSome result (λ m. (m ≤ last_moment) × (moment_text m ≡ text.now)) }
     ensures none { IfNone result ((m : ℕ) → m ≤ last_moment → moment_text m ≢ text.now) }
 {
-    match Moment::read(text) {
-        Ok(moment) => Some(moment),
-        Err(_) => None,
-    }
+    Moment::read(text).ok()
 }
 
 /// The identifier at a key.

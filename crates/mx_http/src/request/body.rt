@@ -22,7 +22,8 @@ pub fn read_body<R: Read>(
     ensures takes { TakesAtMost (R.remaining reader.old) (R.remaining reader.new)
         (missing length begun.now) }
 {
-    let mut body = Vec::from_slice(alloc, front_of(begun, length))?;
+    let front = Vec::from_slice(alloc, front_of(begun, length));
+    let mut body = front.map_err(|_| InputFault::Memory)?;
     while body.len() < length {
         let missing = length - body.len();
         if read_some(reader, &mut body, missing)? == 0 {
