@@ -40,25 +40,18 @@ between before behind text = entries_of_text (before ++ text ++ behind)
 
 -- ── days and moments ──
 
-second_day : moment_of_text (codes "1970-01-02T23:59") ≡ Some 2879
-unfolding intake_on_literals
-second_day = refl
-
-thirtieth_of_february : day_of_text (codes "1972-02-30") ≡ None
-unfolding intake_on_literals
-thirtieth_of_february = refl
-
-no_moments : Gives moment_of_text (
-    (codes "1970-01-02T24:00", None)
+moments : Gives moment_of_text (
+    (codes "1970-01-02T23:59", Some 2879)
+    ∷ (codes "1970-01-02T24:00", None)
     ∷ (codes "1970-01-02T23:59:00", None) ∷ [])
 unfolding intake_on_literals
-no_moments = refl
+moments = refl
 
-a_day_of_2024 : day_of_text (codes "2024-03-01") ≡ Some 19783
+days : Gives day_of_text ((codes "1972-02-30", None) ∷ (codes "2024-03-01", Some 19783) ∷ [])
 unfolding intake_on_literals
-a_day_of_2024 = refl
+days = refl
 
--- ── whole texts ──
+-- ── whole texts, removals, and which fault is told ──
 
 whole_texts : Gives entries_of_text (
     (([], Err (fault 61 0))
@@ -68,25 +61,15 @@ whole_texts : Gives entries_of_text (
     ++ faulty 63 (
     codes "[1]"
     ∷ codes "[{\"do\":\"fly\"}]" ∷ [])
-    ++ faulty 62 (codes "[{}]" ∷ []))
-unfolding intake_on_literals
-whole_texts = refl
-
--- ── removals ──
-
-removals : Gives entries_of_text (
-    faulty 62 (codes "[{\"do\":\"remove\",\"doc\":\"R9\",\"serial\":\"E9\"}]" ∷ [])
+    ++ faulty 62 (codes "[{}]" ∷ [])
+    -- removals
+    ++ faulty 62 (codes "[{\"do\":\"remove\",\"doc\":\"R9\",\"serial\":\"E9\"}]" ∷ [])
     ++ ((codes "[{\"do\":\"remove\",\"doc\":\"R9\",\"serial\":\"E9\",\"moment\":\"1970-01-02T23:59\"}]", Ok (record { doc = codes "R9"; act = Removed (record { serial = codes "E9"; moment = 2879 }) } ∷ [])) ∷ [])
     ++ faulty 63 (codes "[{\"do\":\"remove\",\"doc\":\"R9\",\"serial\":\"E9\",\"moment\":\"2024-02-30T00:00\"}]" ∷ [])
     -- a document of the technical log, which no removal has
-    ++ faulty 65 (codes "[{\"do\":\"remove\",\"doc\":\"TL/D/1/1\",\"serial\":\"E9\",\"moment\":\"1970-01-02T23:59\"}]" ∷ []))
-unfolding intake_on_literals
-removals = refl
-
--- ── the first faulty entry, and its least fault ──
-
-first_faults : Gives entries_of_text (
-    faulty 63 (codes "[{\"do\":\"fly\"},{}]" ∷ [])
+    ++ faulty 65 (codes "[{\"do\":\"remove\",\"doc\":\"TL/D/1/1\",\"serial\":\"E9\",\"moment\":\"1970-01-02T23:59\"}]" ∷ [])
+    -- the first faulty entry, and its least fault
+    ++ faulty 63 (codes "[{\"do\":\"fly\"},{}]" ∷ [])
     ++ ((codes "[{\"do\":\"remove\",\"doc\":\"R9\",\"serial\":\"E9\",\"moment\":\"1970-01-02T23:59\"},{}]", Err (fault 62 2)) ∷ [])
     -- a key that is missing, before a value that can't be read and a key that is unknown
     ++ faulty 62 (codes "[{\"do\":\"remove\",\"doc\":\"\",\"serial\":\"E9\",\"note\":1}]" ∷ [])
@@ -95,7 +78,7 @@ first_faults : Gives entries_of_text (
     -- a key that is unknown, before the shape
     ++ faulty 64 (codes "[{\"do\":\"remove\",\"doc\":\"TL/D/1/1\",\"serial\":\"E9\",\"moment\":\"1970-01-02T23:59\",\"note\":1}]" ∷ []))
 unfolding intake_on_literals
-first_faults = refl
+whole_texts = refl
 
 -- ── limits ──
 

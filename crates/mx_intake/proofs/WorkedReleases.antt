@@ -1,12 +1,13 @@
 -- Worked releases to service, computed from the definitions.
 use Rattle.std.proofs.Common.{refl, ℕ, zero, suc, List, [], ◌∷◌, ◌++◌, Ok, replicate}
-use Rattle.std.specs.Prelude.{codes}
+use Rattle.std.specs.Prelude.{codes, Result}
 use Rattle.mx_book.specs.commands.Act.{Entry, Released}
 use Rattle.mx_book.specs.declared.commands.item.Item.TheVariants.{Airframe, Component}
 use Rattle.mx_book.specs.declared.commands.release.Line.{Line}
 use Rattle.mx_book.specs.declared.commands.release.Line.TheVariants.{Done, Rectified}
 use Rattle.mx_book.specs.declared.commands.release.Place.{Place}
 use Rattle.mx_book.specs.declared.commands.release.Place.TheVariants.{Aircraft, Shop}
+use Rattle.mx_intake.specs.declared.fault.IntakeFault.{IntakeFault}
 use Rattle.mx_intake.specs.Entries.{entries_of_text}
 use Rattle.mx_intake.proofs.Worked.{Gives, between, faulty, intake_on_literals}
 
@@ -53,12 +54,15 @@ keys_of_releases = refl
 
 -- ── its lines ──
 
+-- what the list of one release gives, by what is written at `lines`
+abbrev release_with_lines : List ℕ → Result (List Entry) IntakeFault
+release_with_lines = between (codes "[{\"do\":\"release\",\"doc\":\"WO1\",\"tail\":\"D\",\"moment\":\"1970-01-02T23:59\",\"lines\":") (codes "}]")
+
 -- the release of lines
 abbrev release_of_lines : List Line → Entry
 release_of_lines lines = record { doc = codes "WO1"; act = Released (record { place = Aircraft (codes "D"); moment = 2879 }) lines }
 
--- what the list of one release gives, by what is written at `lines`
-releases_of_lines : Gives (between (codes "[{\"do\":\"release\",\"doc\":\"WO1\",\"tail\":\"D\",\"moment\":\"1970-01-02T23:59\",\"lines\":") (codes "}]")) (
+releases_of_lines : Gives release_with_lines (
     ((codes "[{\"task\":\"OVH\",\"serial\":\"E1\"},{\"tail\":\"D\",\"task\":\"100H\"}]", Ok (release_of_lines (Done (Component (codes "E1")) (codes "OVH") ∷ Done (Airframe (codes "D")) (codes "100H") ∷ []) ∷ [])) ∷ [])
     ++ faulty 63 (
     codes "{}"
@@ -76,8 +80,7 @@ releases_of_lines = refl
 
 -- ── a line of a defect ──
 
--- the same of lines of defects
-releases_of_defects : Gives (between (codes "[{\"do\":\"release\",\"doc\":\"WO1\",\"tail\":\"D\",\"moment\":\"1970-01-02T23:59\",\"lines\":") (codes "}]")) (
+releases_of_defects : Gives release_with_lines (
     ((codes "[{\"defect\":\"X1\"}]", Ok (release_of_lines (Rectified (codes "X1") ∷ []) ∷ []))
     ∷ (codes "[{\"defect\":\"X1\"},{\"tail\":\"D\",\"task\":\"T\"},{\"defect\":\"X2\"}]", Ok (release_of_lines (Rectified (codes "X1") ∷ Done (Airframe (codes "D")) (codes "T") ∷ Rectified (codes "X2") ∷ []) ∷ [])) ∷ [])
     -- an object of neither form lacks a key
@@ -111,8 +114,7 @@ abbrev more_lines : ℕ → List ℕ
 more_lines zero = codes "{\"tail\":\"D\",\"task\":\"T\"}]"
 more_lines (suc n) = codes "{\"tail\":\"D\",\"task\":\"T\"}," ++ more_lines n
 
--- and of how many lines there are
-releases_of_many_lines : Gives (between (codes "[{\"do\":\"release\",\"doc\":\"WO1\",\"tail\":\"D\",\"moment\":\"1970-01-02T23:59\",\"lines\":") (codes "}]")) (
+releases_of_many_lines : Gives release_with_lines (
     faulty 65 (
     codes "[]"
     ∷ (codes "[" ++ more_lines 20) ∷ [])
