@@ -1,7 +1,7 @@
 -- What was taken of an input, from what was taken behind its front.
 use Rattle.std.proofs.Common.{◌≡◌, ◌≢◌, refl, sym, subst, ℕ, List, [], ◌++◌, take, drop, Option, Some, None, Result, Ok, Err, OnOk, arith}
 use Rattle.mx_http.specs.request.Head.{HasNoHeadBefore, head_of}
-use Rattle.mx_http.specs.request.Input.{TakesAtMost}
+use Rattle.mx_intake.specs.Input.{TakesAtMost}
 use Rattle.mx_http.specs.declared.request.input.TheConstants.{CHUNK}
 use Rattle.mx_http.specs.declared.request.rejection.Rejection.{Rejection}
 use Rattle.mx_desk.specs.Taken.{TakesBehind, TakesBody, TakesRequest}

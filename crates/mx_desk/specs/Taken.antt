@@ -3,7 +3,7 @@ use Rattle.std.specs.Prelude.{◌≡◌, ℕ, List, ◌++◌, take, drop, Option
 use Rattle.mx_http.specs.request.Asked.{AsksFor}
 use Rattle.mx_http.specs.request.Body.{missing}
 use Rattle.mx_http.specs.request.Head.{HasNoHeadBefore, head_of}
-use Rattle.mx_http.specs.request.Input.{TakesAtMost}
+use Rattle.mx_intake.specs.Input.{TakesAtMost}
 use Rattle.mx_http.specs.request.Routes.{Asked}
 use Rattle.mx_http.specs.declared.request.input.TheConstants.{CHUNK}
 use Rattle.mx_http.specs.declared.request.rejection.Rejection.{Rejection}

@@ -1,5 +1,5 @@
 -- What a text of JSON reads as, and what the values of a list give.
-use Rattle.std.proofs.Common.{◌≡◌, ◌≤◌, ◌<◌, ◌+◌, ℕ, List, [], ◌∷◌, ◌++◌, length, get_or, drop, true, false, Some, None, Ok, Err, refl, arith, nat_lt}
+use Rattle.std.proofs.Common.{◌≡◌, ◌≤◌, ◌<◌, ℕ, List, length, true, false, Some, None, Ok, Err, arith, nat_lt}
 use Rattle.std.proofs.lemmas.Bool.Decides.{nat_tests}
 use Rattle.std.specs.Prelude.{Vec}
 use Rattle.std.specs.declared.alloc.Global.{Global}
@@ -8,15 +8,11 @@ use Rattle.serde_json.specs.Read.{read}
 use Rattle.serde_json.specs.View.{view, items_view}
 use Rattle.serde_json.specs.declared.value.Value.{Value, Array}
 use Rattle.serde_json.proofs.Views.{view-Array, items_len-items_view}
-use Rattle.mx_book.specs.commands.Act.{Entry}
 use Rattle.mx_intake.specs.Entries.{value_of_text, entries_of_value, entries_from}
 use Rattle.mx_intake.specs.Fault.{fault}
-use Rattle.mx_intake.specs.Forms.{entry_by_json}
-use Rattle.mx_intake.specs.Sequence.{after}
 use Rattle.mx_intake.specs.Text.{text_of_bytes}
 use Rattle.mx_intake.specs.declared.fault.IntakeFault.{IntakeFault}
 use Rattle.mx_intake.proofs.ReadingLemmas.{text_of_bytes-long, reading_of-read, reading_of-refused, reading_of-fault}
-use Rattle.mx_intake.proofs.SequenceLemmas.{given_next, given_faulty}
 
 pub value_of_text-read : (bs text : List ℕ) (d : Data) → text_of_bytes bs ≡ Ok text → read text ≡ Some d → value_of_text bs ≡ Ok d
 unfolding value_of_text
@@ -44,15 +40,3 @@ entries_of_value-long v list e h = rw (e, view-Array list, items_len-items_view 
 
 pub entries_of_value-list : (v : Value) (list : Vec Value Global) (vs : List Value) → v ≡ Array list → vs ≡ list.items → length vs ≤ 10000 → entries_of_value (view v) ≡ entries_from 1 (items_view vs)
 entries_of_value-list v list vs e s h = rw (e, view-Array list, ← s, items_len-items_view vs, not_over (length vs) h)
-
--- one more entry is read
-pub entries_from-next : (vs : List Value) (first : List Entry) (i : ℕ) (v : Value) (e : Entry) → i < length vs → v ≡ get_or vs i v → entry_by_json (view v) ≡ Ok e
-    → entries_from 1 (items_view vs) ≡ after first (entries_from (i + 1) (items_view (drop i vs)))
-    → entries_from 1 (items_view vs) ≡ after (first ++ e ∷ []) (entries_from (i + 1 + 1) (items_view (drop (i + 1) vs)))
-entries_from-next vs first i v e = given_next (λ place vs. entries_from place (items_view vs)) (λ v. entry_by_json (view v)) (λ place v vs. refl) vs first i v e
-
--- the first faulty entry
-pub entries_from-faulty : (vs : List Value) (first : List Entry) (i : ℕ) (v : Value) (which : ℕ) → i < length vs → v ≡ get_or vs i v → entry_by_json (view v) ≡ Err which
-    → entries_from 1 (items_view vs) ≡ after first (entries_from (i + 1) (items_view (drop i vs)))
-    → entries_from 1 (items_view vs) ≡ Err (fault which (i + 1))
-entries_from-faulty vs first i v which = given_faulty (λ place vs. entries_from place (items_view vs)) (λ v. entry_by_json (view v)) (λ place v vs. refl) vs first i v which

@@ -1,6 +1,6 @@
 pub mod EntriesLemmas
 pub mod InputLemmas
-pub mod KeyLemmas
+pub mod MemberLemmas
 pub mod NumberLemmas
 pub mod ObjectLemmas
 pub mod ProgrammeLemmas

@@ -1,5 +1,6 @@
 -- What a text of TOML reads as, what the values of its list give, and the shape of what is given.
-use Rattle.std.proofs.Common.{◌≡◌, ◌≤◌, ◌<◌, ◌+◌, ℕ, suc, List, [], ◌∷◌, ◌++◌, length, get_or, drop, Bool, true, false, ◌&&◌, ◌||◌, cond, Option, Some, None, is_some, option_map, Result, Ok, Err, BTreeMap, refl, sym, ap, ◌∙◌, arith}
+use Rattle.std.proofs.Common.{◌≡◌, ◌≤◌, ◌+◌, ℕ, suc, List, [], ◌∷◌, length, Bool, true, false, ◌&&◌, ◌||◌, cond, Option, Some, None, is_some, option_map, Result, Ok, Err, BTreeMap, refl, sym, ap, ◌∙◌, arith}
+use Rattle.std.proofs.lemmas.Bool.{and_parts}
 use Rattle.std.proofs.lemmas.Bool.Decides.{nat_tests}
 use Rattle.std.specs.Prelude.{String}
 use Rattle.std.specs.List.{list_all}
@@ -16,13 +17,12 @@ use Rattle.mx_book.specs.declared.commands.programme.Task.{Task}
 use Rattle.mx_intake.specs.Fault.{fault}
 use Rattle.mx_intake.specs.Form.{by_form}
 use Rattle.mx_intake.specs.ProgrammeText.{top_shape, tasks_from, if_distinct, table_of_document, table_of_text}
-use Rattle.mx_intake.specs.Sequence.{after, given_before}
+use Rattle.mx_intake.specs.Sequence.{given_before}
 use Rattle.mx_intake.specs.Table.{lacks_key, has_other_key, items_len}
 use Rattle.mx_intake.specs.Tasks.{needed_task_keys, task_keys, has_other_limit_key, stated_task, task_by_toml, task_form}
 use Rattle.mx_intake.specs.Text.{text_of_bytes}
 use Rattle.mx_intake.specs.declared.fault.IntakeFault.{IntakeFault}
 use Rattle.mx_intake.proofs.ReadingLemmas.{reading_of-read, reading_of-refused, reading_of-fault}
-use Rattle.mx_intake.proofs.SequenceLemmas.{given_next, given_faulty}
 use Rattle.mx_intake.proofs.TableLemmas.{items_len-items_view}
 
 -- ── reading ──
@@ -39,20 +39,6 @@ table_of_text-refused bs text e h = reading_of-refused table_of_document (text_o
 pub table_of_text-fault : (bs : List ℕ) (f : IntakeFault) → text_of_bytes bs ≡ Err f → table_of_text bs ≡ Err f
 unfolding table_of_text
 table_of_text-fault bs f e = reading_of-fault table_of_document (text_of_bytes bs) f e
-
--- ── the tasks in their order ──
-
--- one more task is read
-pub tasks_from-next : (vs : List Value) (first : List Task) (i : ℕ) (v : Value) (t : Task) → i < length vs → v ≡ get_or vs i v → task_by_toml (view v) ≡ Ok t
-    → tasks_from 1 (items_view vs) ≡ after first (tasks_from (i + 1) (items_view (drop i vs)))
-    → tasks_from 1 (items_view vs) ≡ after (first ++ t ∷ []) (tasks_from (i + 1 + 1) (items_view (drop (i + 1) vs)))
-tasks_from-next vs first i v t = given_next (λ place vs. tasks_from place (items_view vs)) (λ v. task_by_toml (view v)) (λ place v vs. refl) vs first i v t
-
--- the first faulty task
-pub tasks_from-faulty : (vs : List Value) (first : List Task) (i : ℕ) (v : Value) (which : ℕ) → i < length vs → v ≡ get_or vs i v → task_by_toml (view v) ≡ Err which
-    → tasks_from 1 (items_view vs) ≡ after first (tasks_from (i + 1) (items_view (drop i vs)))
-    → tasks_from 1 (items_view vs) ≡ Err (fault which (i + 1))
-tasks_from-faulty vs first i v which = given_faulty (λ place vs. tasks_from place (items_view vs)) (λ v. task_by_toml (view v)) (λ place v vs. refl) vs first i v which
 
 -- ── the shape of what is given ──
 
@@ -101,11 +87,6 @@ tasks_from-shaped place (item d ds) tasks h =
 
 -- ── the shape of the top ──
 
-both_true : (p q : Bool) → p && q ≡ true → (p ≡ true) × (q ≡ true)
-both_true true true h = (refl, refl)
-both_true true false h = (cc)
-both_true false q h = (cc)
-
 at_most : (n : ℕ) → within 1 500 n ≡ true → n ≤ 500
 at_most n h = grind (arith, nat_tests)
 
@@ -116,12 +97,12 @@ top_shape-items_view p vs = ap (λ n. within 1 1000000 p.revision && within 1 50
 -- a top of its shape has few tasks
 pub few_values : (p : Programme) (vs : List Value) → top_shape (p, items_view vs) ≡ true → length vs ≤ 500
 few_values p vs top =
-    at_most (length vs) (both_true (within 1 1000000 p.revision) (within 1 500 (length vs)) (sym (top_shape-items_view p vs) ∙ top)).1
+    at_most (length vs) (and_parts (within 1 1000000 p.revision) (within 1 500 (length vs)) (sym (top_shape-items_view p vs) ∙ top)).1
 
 -- tasks that are given to a top of its shape make a programme where their names are distinct
 pub shape_is_distinct : (p : Programme) (ds : Items) (tasks : List Task) → top_shape (p, ds) ≡ true → tasks_from 1 ds ≡ Ok tasks → programme_shape p tasks ≡ are_distinct same_name_of_task tasks
 shape_is_distinct p ds tasks top given =
-    let parts = both_true (within 1 1000000 p.revision) (within 1 500 (items_len ds)) top in
+    let parts = and_parts (within 1 1000000 p.revision) (within 1 500 (items_len ds)) top in
     let tasks_are = tasks_from-shaped 1 ds tasks given in
     let few : within 1 500 (length tasks) ≡ true = ap (within 1 500) tasks_are.1 ∙ parts.1 in
     ap (λ b. b && (within 1 500 (length tasks) && (list_all task_shape tasks && are_distinct same_name_of_task tasks))) parts.0

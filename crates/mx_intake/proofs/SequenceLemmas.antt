@@ -1,5 +1,5 @@
 -- What the entries of a list give, one after another.
-use Rattle.std.proofs.Common.{◌≡◌, ◌<◌, ◌+◌, ℕ, List, [], ◌∷◌, ◌++◌, length, get_or, drop, append_assoc, Result, Ok, Err, refl, sym, ap, ◌∙◌}
+use Rattle.std.proofs.Common.{◌≡◌, Bool, ◌||◌, ◌<◌, ◌+◌, ℕ, List, [], ◌∷◌, ◌++◌, length, get_or, drop, append_assoc, Result, Ok, Err, refl, sym, ap, ◌∙◌}
 use Rattle.std.proofs.lemmas.List.{drop_more}
 use Rattle.mx_intake.specs.Fault.{fault}
 use Rattle.mx_intake.specs.Sequence.{after, given_before}
@@ -11,8 +11,15 @@ after_one first a (Ok more) = ap Ok (sym (append_assoc first (a ∷ []) more))
 after_one first a (Err f) = refl
 
 -- the values from place i on: the one that stands there, and those behind it
-front : {V : Type 0} (vs : List V) (i : ℕ) (v : V) → i < length vs → v ≡ get_or vs i v → drop i vs ≡ v ∷ drop (i + 1) vs
+pub front : {V : Type 0} (vs : List V) (i : ℕ) (v : V) → i < length vs → v ≡ get_or vs i v → drop i vs ≡ v ∷ drop (i + 1) vs
 front vs i v h is = drop_more vs i v h ∙ ap (λ x. x ∷ drop (i + 1) vs) (sym is)
+
+-- a test of a list, by the value that stands at place i
+pub any_next : {V : Type 0} (any : List V → Bool) (p : V → Bool) → ((v : V) (vs : List V) → any (v ∷ vs) ≡ (p v || any vs))
+    → (vs : List V) (i : ℕ) (v : V) (b : Bool) → drop i vs ≡ v ∷ drop (i + 1) vs → any vs ≡ any (drop i vs) → b ≡ p v
+    → any vs ≡ (b || any (drop (i + 1) vs))
+any_next any p split vs i v b e so_far is =
+    so_far ∙ ap any e ∙ split v (drop (i + 1) vs) ∙ ap (λ t. t || any (drop (i + 1) vs)) (sym is)
 
 -- F gives what the values from a place on give, each of which gives what g says
 module _ {V A : Type 0} (F : ℕ → List V → Result (List A) IntakeFault) (g : V → Result A ℕ)

@@ -8,23 +8,20 @@ use Rattle.toml.specs.Data.{Data, string, integer, float, boolean, datetime, arr
 use Rattle.toml.specs.View.{members_view, items_view}
 use Rattle.toml.specs.declared.value.Value.{Value}
 use Rattle.mx_intake.specs.Keys.{is_key}
+use Rattle.mx_intake.proofs.MemberLemmas.{any_entry}
 use Rattle.mx_intake.specs.Table.{has_other_member, has_other_key, items_len}
 
--- the members of a map's entries
-has_other_member-members_view : (keys : List (List ℕ)) (es : List (String Global × Value))
-    → has_other_member keys (members_view es) ≡ list_any (λ k. not (is_key keys (string_bytes k))) (map (λ e. e.0) es)
-has_other_member-members_view keys [] = refl
-has_other_member-members_view keys (e ∷ es) = ap (λ b. not (is_key keys (string_bytes e.0)) || b) (has_other_member-members_view keys es)
-
-pub has_other-as_table : (keys : List (List ℕ)) (v : Data) (es : List (String Global × Value)) → Some (members_view es) ≡ as_table v
-    → has_other_key keys v ≡ list_any (λ k. not (is_key keys (string_bytes k))) (map (λ e. e.0) es)
-has_other-as_table keys (table ms) es h = ap (λ m. has_other_member keys m) (sym (same_Some _ _ h)) ∙ has_other_member-members_view keys es
-has_other-as_table keys (string s) es h = absurd (cc)
-has_other-as_table keys (integer z) es h = absurd (cc)
-has_other-as_table keys (float x) es h = absurd (cc)
-has_other-as_table keys (boolean b) es h = absurd (cc)
-has_other-as_table keys (datetime dt) es h = absurd (cc)
-has_other-as_table keys (array ds) es h = absurd (cc)
+pub has_other-as_table : (keys : List (List ℕ)) (v : Data) (es : List (String Global × Value)) (ks : List (String Global)) → Some (members_view es) ≡ as_table v → ks ≡ map (λ e. e.0) es
+    → has_other_key keys v ≡ list_any (λ k. not (is_key keys (string_bytes k))) ks
+has_other-as_table keys (table ms) es ks h is =
+    ap (λ m. has_other_member keys m) (sym (same_Some _ _ h)) ∙ any_entry (λ k. not (is_key keys k)) (λ es. has_other_member keys (members_view es)) refl (λ e es. refl) es
+    ∙ ap (λ l. list_any (λ k. not (is_key keys (string_bytes k))) l) (sym is)
+has_other-as_table keys (string s) es ks h is = absurd (cc)
+has_other-as_table keys (integer z) es ks h is = absurd (cc)
+has_other-as_table keys (float x) es ks h is = absurd (cc)
+has_other-as_table keys (boolean b) es ks h is = absurd (cc)
+has_other-as_table keys (datetime dt) es ks h is = absurd (cc)
+has_other-as_table keys (array ds) es ks h is = absurd (cc)
 
 -- how many values a list has
 pub items_len-items_view : (vs : List Value) → items_len (items_view vs) ≡ length vs

@@ -1,6 +1,8 @@
 -- A text is read as the day or the moment whose text it is.
 use Rattle.std.proofs.Common.{◌≡◌, ℕ, ◌+◌, ◌*◌, ◌/◌, ◌≤◌, List, Bool, true, false, ◌&&◌, cond, Some, None, refl, sym, ap, ◌∙◌, arith, pos, unsigned_abs, nat_le}
-use Rattle.std.specs.Prelude.{◌≢◌}
+use Rattle.std.specs.Prelude.{◌≢◌, Result, Ok, Err, IfOk, OnErr}
+use Rattle.std.specs.Result.{result_ok}
+use Rattle.std.proofs.lemmas.Bool.{and_from, and_parts}
 use Rattle.std.proofs.lemmas.Bool.Decides.{nat_tests}
 use Rattle.jiff_core.specs.Calendar.{days_from_civil}
 use Rattle.mx_base.specs.declared.calendar.CivilDate.{CivilDate}
@@ -40,33 +42,38 @@ refused : {A : Type 0} (b : Bool) (a : A) → (b ≡ true → ⊥) → cond b (S
 refused true a never = absurd (never refl)
 refused false a never = refl
 
-both : (p q : Bool) → p && q ≡ true → (p ≡ true) × (q ≡ true)
-both true true h = (refl, refl)
-both true false h = (cc)
-both false q h = (cc)
-
-and_of : (p q : Bool) → p ≡ true → q ≡ true → p && q ≡ true
-and_of p q h k = ap (λ b. b && q) h ∙ k
-
 at_most : (n most : ℕ) → n ≤ most → nat_le n most ≡ true
 at_most n most h = grind (arith, nat_tests)
 
 at_most_by : (n most : ℕ) → nat_le n most ≡ true → n ≤ most
 at_most_by n most h = grind (arith, nat_tests)
 
-pub day_of_text-some : (text : List ℕ) (d : ℕ) → d ≤ 84005 → day_text d ≡ text → day_of_text text ≡ Some d
-unfolding day_of_text
-day_of_text-some text d h e =
-    let named : named_day text ≡ d = ap named_day (sym e) ∙ named_day-day_text d h in
-    let test : nat_le d 84005 && same_text (day_text d) text ≡ true = and_of (nat_le d 84005) (same_text (day_text d) text) (at_most d 84005 h) ((text_same (day_text d) text).1 e) in
-    ap (λ n. cond (nat_le n 84005 && same_text (day_text n) text) (Some n) None) named ∙ chosen (nat_le d 84005 && same_text (day_text d) text) d test
+-- what a text names is found where it has that text and is not past the last
+found : (named : List ℕ → ℕ) (said : ℕ → List ℕ) (last : ℕ) (text : List ℕ) (n : ℕ) → named (said n) ≡ n → n ≤ last → said n ≡ text
+    → cond (nat_le (named text) last && same_text (said (named text)) text) (Some (named text)) None ≡ Some n
+found named said last text n back h e =
+    let is : named text ≡ n = ap named (sym e) ∙ back in
+    let test : nat_le n last && same_text (said n) text ≡ true = and_from (nat_le n last) (same_text (said n) text) (at_most n last h) ((text_same (said n) text).1 e) in
+    ap (λ m. cond (nat_le m last && same_text (said m) text) (Some m) None) is ∙ chosen (nat_le n last && same_text (said n) text) n test
 
-pub day_of_text-none : (text : List ℕ) → ((d : ℕ) → d ≤ 84005 → day_text d ≢ text) → day_of_text text ≡ None
+-- and nothing is found where nothing has that text
+not_found : (named : List ℕ → ℕ) (said : ℕ → List ℕ) (last : ℕ) (text : List ℕ) → ((n : ℕ) → n ≤ last → said n ≢ text)
+    → cond (nat_le (named text) last && same_text (said (named text)) text) (Some (named text)) None ≡ None
+not_found named said last text never =
+    refused (nat_le (named text) last && same_text (said (named text)) text) (named text)
+    (λ test. let parts = and_parts (nat_le (named text) last) (same_text (said (named text)) text) test in
+    never (named text) (at_most_by (named text) last parts.0) ((text_same (said (named text)) text).0 parts.1))
+
+-- so a reader of texts finds what a text names
+read_by : {E : Type 0} (named : List ℕ → ℕ) (said : ℕ → List ℕ) (last : ℕ) (text : List ℕ) → ((n : ℕ) → n ≤ last → named (said n) ≡ n)
+    → (r : Result ℕ E) → IfOk r (λ n. (n ≤ last) × (said n ≡ text)) → OnErr r ((n : ℕ) → n ≤ last → said n ≢ text)
+    → result_ok r ≡ cond (nat_le (named text) last && same_text (said (named text)) text) (Some (named text)) None
+read_by named said last text back (Ok n) ok err = sym (found named said last text n (back n ok.0) ok.0 ok.1)
+read_by named said last text back (Err e) ok err = sym (not_found named said last text err)
+
+pub day_of_text-read : {E : Type 0} (text : List ℕ) (r : Result ℕ E) → IfOk r (λ d. (d ≤ 84005) × (day_text d ≡ text)) → OnErr r ((d : ℕ) → d ≤ 84005 → day_text d ≢ text) → result_ok r ≡ day_of_text text
 unfolding day_of_text
-day_of_text-none text never =
-    refused (nat_le (named_day text) 84005 && same_text (day_text (named_day text)) text) (named_day text)
-    (λ test. let parts = both (nat_le (named_day text) 84005) (same_text (day_text (named_day text)) text) test in
-    never (named_day text) (at_most_by (named_day text) 84005 parts.0) ((text_same (day_text (named_day text)) text).0 parts.1))
+day_of_text-read text r = read_by named_day day_text 84005 text named_day-day_text r
 
 -- the day of a moment's text is the day that stands in front of it
 named_moment-moment_text : (m : ℕ) → m ≤ 120968639 → named_moment (moment_text m) ≡ m
@@ -76,16 +83,6 @@ named_moment-moment_text m h =
     let day : unsigned_abs (days_from_civil (pos (pair_at (date_text t) 0 * 100 + pair_at (date_text t) 2)) (pair_at (date_text t) 5) (pair_at (date_text t) 8)) ≡ m / 1440 = named_day-day_text (m / 1440) (omega arith) in
     omega (arith, day)
 
-pub moment_of_text-some : (text : List ℕ) (m : ℕ) → m ≤ 120968639 → moment_text m ≡ text → moment_of_text text ≡ Some m
+pub moment_of_text-read : {E : Type 0} (text : List ℕ) (r : Result ℕ E) → IfOk r (λ m. (m ≤ 120968639) × (moment_text m ≡ text)) → OnErr r ((m : ℕ) → m ≤ 120968639 → moment_text m ≢ text) → result_ok r ≡ moment_of_text text
 unfolding moment_of_text
-moment_of_text-some text m h e =
-    let named : named_moment text ≡ m = ap named_moment (sym e) ∙ named_moment-moment_text m h in
-    let test : nat_le m 120968639 && same_text (moment_text m) text ≡ true = and_of (nat_le m 120968639) (same_text (moment_text m) text) (at_most m 120968639 h) ((text_same (moment_text m) text).1 e) in
-    ap (λ n. cond (nat_le n 120968639 && same_text (moment_text n) text) (Some n) None) named ∙ chosen (nat_le m 120968639 && same_text (moment_text m) text) m test
-
-pub moment_of_text-none : (text : List ℕ) → ((m : ℕ) → m ≤ 120968639 → moment_text m ≢ text) → moment_of_text text ≡ None
-unfolding moment_of_text
-moment_of_text-none text never =
-    refused (nat_le (named_moment text) 120968639 && same_text (moment_text (named_moment text)) text) (named_moment text)
-    (λ test. let parts = both (nat_le (named_moment text) 120968639) (same_text (moment_text (named_moment text)) text) test in
-    never (named_moment text) (at_most_by (named_moment text) 120968639 parts.0) ((text_same (moment_text (named_moment text)) text).0 parts.1))
+moment_of_text-read text r = read_by named_moment moment_text 120968639 text named_moment-moment_text r

@@ -1,12 +1,12 @@
 -- Worked texts: the commands that they state, or their faults, computed from the definitions.
-use Rattle.std.proofs.Common.{refl, ◌≡◌, ℕ, List, [], ◌∷◌, Some, None, Ok, Err, length, replicate, arith}
-use Rattle.std.specs.Prelude.{codes, ⊤}
+use Rattle.std.proofs.Common.{refl, ◌≡◌, ℕ, List, [], ◌∷◌, Some, None, Ok, Err, length, replicate, arith, ◌++◌}
+use Rattle.std.specs.Prelude.{codes, map, Result, ⊤}
 use Rattle.std.specs.Str.{is_utf8, chars}
 use Rattle.jiff_core.specs.Calendar.{days_from_civil, day_count, days_of_years, days_of_months}
 use Rattle.serde_json.proofs.OnLiterals.{serde_json_on_literals}
 use Rattle.mx_base.specs.Calendar.{date_of}
 use Rattle.mx_base.specs.Texts.{day_text, moment_text}
-use Rattle.mx_book.specs.commands.Act.{Removed}
+use Rattle.mx_book.specs.commands.Act.{Entry, Removed}
 use Rattle.mx_intake.specs.Fault.{fault}
 use Rattle.mx_intake.specs.Entries.{value_of_text, entries_of_value, entries_from, entries_of_text}
 use Rattle.mx_intake.proofs.EntriesLemmas.{value_of_text-long}
@@ -15,6 +15,7 @@ use Rattle.serde_json.specs.Events.{items_len}
 use Rattle.serde_json.specs.Read.{read}
 use Rattle.mx_intake.specs.Text.{text_of_bytes}
 use Rattle.mx_intake.specs.Vocabulary.{named_day, day_of_text, named_moment, moment_of_text}
+use Rattle.mx_intake.specs.declared.fault.IntakeFault.{IntakeFault}
 use Rattle.mx_intake.specs.declared.fault.TheConstants.{MEMORY, NOT_TEXT, MISSING, BAD_VALUE, UNKNOWN_KEY, BAD_SHAPE, BAD_HEADER, TOO_LONG, BAD_ROW, READ_FAILED}
 use Rattle.mx_intake.specs.declared.json.TheConstants.{MOST_COMMANDS}
 use Rattle.mx_intake.specs.declared.sector_rows.TheConstants.{MOST_ROWS}
@@ -25,102 +26,59 @@ unfoldable pub intake_on_literals : ⊤
 unfolding value_of_text text_of_bytes is_utf8 chars serde_json_on_literals day_of_text moment_of_text named_moment named_day days_from_civil day_count days_of_years days_of_months moment_text day_text date_of
 intake_on_literals = tt
 
+-- each of these gives what stands beside it
+abbrev pub Gives : {A B : Type 0} → (A → B) → List (A × B) → Type 0
+Gives f rows = map (λ row. f row.0) rows ≡ map (λ row. row.1) rows
+
+-- each of these texts, beside a fault of its first entry
+abbrev pub faulty : ℕ → List (List ℕ) → List (List ℕ × Result (List Entry) IntakeFault)
+faulty number texts = map (λ text. (text, Err (fault number 1))) texts
+
+-- what the text gives that has this between what stands before and behind it
+abbrev pub between : List ℕ → List ℕ → List ℕ → Result (List Entry) IntakeFault
+between before behind text = entries_of_text (before ++ text ++ behind)
+
 -- ── days and moments ──
 
-second_day : moment_of_text (codes "1970-01-02T23:59") ≡ Some 2879
+moments : Gives moment_of_text (
+    (codes "1970-01-02T23:59", Some 2879)
+    ∷ (codes "1970-01-02T24:00", None)
+    ∷ (codes "1970-01-02T23:59:00", None) ∷ [])
 unfolding intake_on_literals
-second_day = refl
+moments = refl
 
-thirtieth_of_february : day_of_text (codes "1972-02-30") ≡ None
+days : Gives day_of_text ((codes "1972-02-30", None) ∷ (codes "2024-03-01", Some 19783) ∷ [])
 unfolding intake_on_literals
-thirtieth_of_february = refl
+days = refl
 
-past_the_last_minute : moment_of_text (codes "1970-01-02T24:00") ≡ None
+-- ── whole texts, removals, and which fault is told ──
+
+whole_texts : Gives entries_of_text (
+    (([], Err (fault 61 0))
+    ∷ (91 ∷ 255 ∷ 93 ∷ [], Err (fault 61 0))
+    ∷ (codes "[]", Ok [])
+    ∷ (codes "{}", Err (fault 63 0)) ∷ [])
+    ++ faulty 63 (
+    codes "[1]"
+    ∷ codes "[{\"do\":\"fly\"}]" ∷ [])
+    ++ faulty 62 (codes "[{}]" ∷ [])
+    -- removals
+    ++ faulty 62 (codes "[{\"do\":\"remove\",\"doc\":\"R9\",\"serial\":\"E9\"}]" ∷ [])
+    ++ ((codes "[{\"do\":\"remove\",\"doc\":\"R9\",\"serial\":\"E9\",\"moment\":\"1970-01-02T23:59\"}]", Ok (record { doc = codes "R9"; act = Removed (record { serial = codes "E9"; moment = 2879 }) } ∷ [])) ∷ [])
+    ++ faulty 63 (codes "[{\"do\":\"remove\",\"doc\":\"R9\",\"serial\":\"E9\",\"moment\":\"2024-02-30T00:00\"}]" ∷ [])
+    -- a document of the technical log, which no removal has
+    ++ faulty 65 (codes "[{\"do\":\"remove\",\"doc\":\"TL/D/1/1\",\"serial\":\"E9\",\"moment\":\"1970-01-02T23:59\"}]" ∷ [])
+    -- the first faulty entry, and its least fault
+    ++ faulty 63 (codes "[{\"do\":\"fly\"},{}]" ∷ [])
+    ++ ((codes "[{\"do\":\"remove\",\"doc\":\"R9\",\"serial\":\"E9\",\"moment\":\"1970-01-02T23:59\"},{}]", Err (fault 62 2)) ∷ [])
+    -- a key that is missing, before a value that can't be read and a key that is unknown
+    ++ faulty 62 (codes "[{\"do\":\"remove\",\"doc\":\"\",\"serial\":\"E9\",\"note\":1}]" ∷ [])
+    -- a value that can't be read, before a key that is unknown
+    ++ faulty 63 (codes "[{\"do\":\"remove\",\"doc\":\"\",\"serial\":\"E9\",\"moment\":\"1970-01-02T23:59\",\"note\":1}]" ∷ [])
+    -- a key that is unknown, before the shape
+    ++ faulty 64 (codes "[{\"do\":\"remove\",\"doc\":\"TL/D/1/1\",\"serial\":\"E9\",\"moment\":\"1970-01-02T23:59\",\"note\":1}]" ∷ []))
 unfolding intake_on_literals
-past_the_last_minute = refl
-
-seconds_behind : moment_of_text (codes "1970-01-02T23:59:00") ≡ None
-unfolding intake_on_literals
-seconds_behind = refl
-
-a_day_of_2024 : day_of_text (codes "2024-03-01") ≡ Some 19783
-unfolding intake_on_literals
-a_day_of_2024 = refl
-
--- ── whole texts ──
-
-no_text : entries_of_text [] ≡ Err (fault 61 0)
-unfolding intake_on_literals
-no_text = refl
-
-not_utf8 : entries_of_text (91 ∷ 255 ∷ 93 ∷ []) ≡ Err (fault 61 0)
-unfolding intake_on_literals
-not_utf8 = refl
-
-no_commands : entries_of_text (codes "[]") ≡ Ok []
-unfolding intake_on_literals
-no_commands = refl
-
-no_list : entries_of_text (codes "{}") ≡ Err (fault 63 0)
-unfolding intake_on_literals
-no_list = refl
-
-no_object : entries_of_text (codes "[1]") ≡ Err (fault 63 1)
-unfolding intake_on_literals
-no_object = refl
-
-no_word : entries_of_text (codes "[{}]") ≡ Err (fault 62 1)
-unfolding intake_on_literals
-no_word = refl
-
-unknown_word : entries_of_text (codes "[{\"do\":\"fly\"}]") ≡ Err (fault 63 1)
-unfolding intake_on_literals
-unknown_word = refl
-
--- ── removals ──
-
-removal_without_moment : entries_of_text (codes "[{\"do\":\"remove\",\"doc\":\"R9\",\"serial\":\"E9\"}]") ≡ Err (fault 62 1)
-unfolding intake_on_literals
-removal_without_moment = refl
-
-removal : entries_of_text (codes "[{\"do\":\"remove\",\"doc\":\"R9\",\"serial\":\"E9\",\"moment\":\"1970-01-02T23:59\"}]")
-    ≡ Ok (record { doc = codes "R9"; act = Removed (record { serial = codes "E9"; moment = 2879 }) } ∷ [])
-unfolding intake_on_literals
-removal = refl
-
-removal_on_no_day : entries_of_text (codes "[{\"do\":\"remove\",\"doc\":\"R9\",\"serial\":\"E9\",\"moment\":\"2024-02-30T00:00\"}]") ≡ Err (fault 63 1)
-unfolding intake_on_literals
-removal_on_no_day = refl
-
--- a document of the technical log, which no removal has
-removal_by_a_page : entries_of_text (codes "[{\"do\":\"remove\",\"doc\":\"TL/D/1/1\",\"serial\":\"E9\",\"moment\":\"1970-01-02T23:59\"}]") ≡ Err (fault 65 1)
-unfolding intake_on_literals
-removal_by_a_page = refl
-
--- ── the first faulty entry, and its least fault ──
-
-first_of_two : entries_of_text (codes "[{\"do\":\"fly\"},{}]") ≡ Err (fault 63 1)
-unfolding intake_on_literals
-first_of_two = refl
-
-second_alone : entries_of_text (codes "[{\"do\":\"remove\",\"doc\":\"R9\",\"serial\":\"E9\",\"moment\":\"1970-01-02T23:59\"},{}]") ≡ Err (fault 62 2)
-unfolding intake_on_literals
-second_alone = refl
-
--- a key that is missing, before a value that can't be read and a key that is unknown
-missing_first : entries_of_text (codes "[{\"do\":\"remove\",\"doc\":\"\",\"serial\":\"E9\",\"note\":1}]") ≡ Err (fault 62 1)
-unfolding intake_on_literals
-missing_first = refl
-
--- a value that can't be read, before a key that is unknown
-unread_first : entries_of_text (codes "[{\"do\":\"remove\",\"doc\":\"\",\"serial\":\"E9\",\"moment\":\"1970-01-02T23:59\",\"note\":1}]") ≡ Err (fault 63 1)
-unfolding intake_on_literals
-unread_first = refl
-
--- a key that is unknown, before the shape
-unknown_first : entries_of_text (codes "[{\"do\":\"remove\",\"doc\":\"TL/D/1/1\",\"serial\":\"E9\",\"moment\":\"1970-01-02T23:59\",\"note\":1}]") ≡ Err (fault 64 1)
-unfolding intake_on_literals
-unknown_first = refl
+whole_texts = refl
 
 -- ── limits ──
 

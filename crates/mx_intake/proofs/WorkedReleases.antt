@@ -1,5 +1,5 @@
 -- Worked releases to service, computed from the definitions.
-use Rattle.std.proofs.Common.{refl, ◌≡◌, ℕ, zero, suc, List, [], ◌∷◌, ◌++◌, Ok, Err, replicate}
+use Rattle.std.proofs.Common.{refl, ℕ, zero, suc, List, [], ◌∷◌, ◌++◌, Ok, replicate}
 use Rattle.std.specs.Prelude.{codes, Result}
 use Rattle.mx_book.specs.commands.Act.{Entry, Released}
 use Rattle.mx_book.specs.declared.commands.item.Item.TheVariants.{Airframe, Component}
@@ -8,215 +8,104 @@ use Rattle.mx_book.specs.declared.commands.release.Line.TheVariants.{Done, Recti
 use Rattle.mx_book.specs.declared.commands.release.Place.{Place}
 use Rattle.mx_book.specs.declared.commands.release.Place.TheVariants.{Aircraft, Shop}
 use Rattle.mx_intake.specs.declared.fault.IntakeFault.{IntakeFault}
-use Rattle.mx_intake.specs.Fault.{fault}
 use Rattle.mx_intake.specs.Entries.{entries_of_text}
-use Rattle.mx_intake.proofs.Worked.{intake_on_literals}
+use Rattle.mx_intake.proofs.Worked.{Gives, between, faulty, intake_on_literals}
 
 -- ── where the work was done ──
 
--- what the list of one release gives, by the keys that are written for its place
-abbrev release_with_place : List ℕ → Result (List Entry) IntakeFault
-release_with_place keys =
-    entries_of_text (codes "[{\"do\":\"release\",\"doc\":\"WO1\"," ++ keys
-    ++ codes "\"moment\":\"1970-01-02T23:59\",\"lines\":[{\"tail\":\"D-ABCD\",\"task\":\"ANNUAL\"}]}]")
-
--- that release
+-- the release at a place
 abbrev release_of_place : Place → Entry
 release_of_place place =
     record { doc = codes "WO1"; act = Released (record { place = place; moment = 2879 }) (Done (Airframe (codes "D-ABCD")) (codes "ANNUAL") ∷ []) }
 
-release_at_an_aircraft : release_with_place (codes "\"tail\":\"D-ABCD\",") ≡ Ok (release_of_place (Aircraft (codes "D-ABCD")) ∷ [])
+-- what the list of one release gives, by the keys that are written for its place
+releases_at_places : Gives (between (codes "[{\"do\":\"release\",\"doc\":\"WO1\",") (codes "\"moment\":\"1970-01-02T23:59\",\"lines\":[{\"tail\":\"D-ABCD\",\"task\":\"ANNUAL\"}]}]")) (
+    ((codes "\"tail\":\"D-ABCD\",", Ok (release_of_place (Aircraft (codes "D-ABCD")) ∷ []))
+    ∷ (codes "\"serial\":\"E1\",\"kind\":\"C172\",", Ok (release_of_place (Shop (codes "E1") (codes "C172")) ∷ [])) ∷ [])
+    ++ faulty 62 (
+    []
+    ∷ codes "\"kind\":\"C172\","
+    ∷ codes "\"serial\":\"E1\"," ∷ [])
+    -- beside an aircraft no key of a shop is missing, and none may stand
+    ++ faulty 65 (
+    codes "\"tail\":\"D-ABCD\",\"serial\":\"E1\","
+    ∷ codes "\"tail\":\"D-ABCD\",\"kind\":\"C172\","
+    ∷ codes "\"tail\":\"D-ABCD\",\"serial\":\"E1\",\"kind\":\"C172\"," ∷ [])
+    -- each key of a place is read, and an unknown key is looked for, before there are too many
+    ++ faulty 63 (
+    codes "\"tail\":\"d-abcd\","
+    ∷ codes "\"serial\":\"E1\",\"kind\":172,"
+    ∷ codes "\"tail\":\"D-ABCD\",\"serial\":\"\","
+    ∷ codes "\"tail\":\"D-ABCD\",\"kind\":172," ∷ [])
+    ++ faulty 64 (codes "\"tail\":\"D-ABCD\",\"kind\":\"C172\",\"note\":1," ∷ []))
 unfolding intake_on_literals
-release_at_an_aircraft = refl
-
-release_in_a_shop : release_with_place (codes "\"serial\":\"E1\",\"kind\":\"C172\",") ≡ Ok (release_of_place (Shop (codes "E1") (codes "C172")) ∷ [])
-unfolding intake_on_literals
-release_in_a_shop = refl
-
-release_nowhere : release_with_place [] ≡ Err (fault 62 1)
-unfolding intake_on_literals
-release_nowhere = refl
-
-release_at_a_kind_alone : release_with_place (codes "\"kind\":\"C172\",") ≡ Err (fault 62 1)
-unfolding intake_on_literals
-release_at_a_kind_alone = refl
-
-release_in_a_shop_without_kind : release_with_place (codes "\"serial\":\"E1\",") ≡ Err (fault 62 1)
-unfolding intake_on_literals
-release_in_a_shop_without_kind = refl
-
--- beside an aircraft no key of a shop is missing, and none may stand
-component_beside_the_aircraft : release_with_place (codes "\"tail\":\"D-ABCD\",\"serial\":\"E1\",") ≡ Err (fault 65 1)
-unfolding intake_on_literals
-component_beside_the_aircraft = refl
-
-kind_beside_the_aircraft : release_with_place (codes "\"tail\":\"D-ABCD\",\"kind\":\"C172\",") ≡ Err (fault 65 1)
-unfolding intake_on_literals
-kind_beside_the_aircraft = refl
-
-shop_beside_the_aircraft : release_with_place (codes "\"tail\":\"D-ABCD\",\"serial\":\"E1\",\"kind\":\"C172\",") ≡ Err (fault 65 1)
-unfolding intake_on_literals
-shop_beside_the_aircraft = refl
-
--- each key of a place is read, and an unknown key is looked for, before there are too many
-tail_in_small_letters : release_with_place (codes "\"tail\":\"d-abcd\",") ≡ Err (fault 63 1)
-unfolding intake_on_literals
-tail_in_small_letters = refl
-
-number_for_the_kind : release_with_place (codes "\"serial\":\"E1\",\"kind\":172,") ≡ Err (fault 63 1)
-unfolding intake_on_literals
-number_for_the_kind = refl
-
-unread_component_beside_the_aircraft : release_with_place (codes "\"tail\":\"D-ABCD\",\"serial\":\"\",") ≡ Err (fault 63 1)
-unfolding intake_on_literals
-unread_component_beside_the_aircraft = refl
-
-unread_kind_beside_the_aircraft : release_with_place (codes "\"tail\":\"D-ABCD\",\"kind\":172,") ≡ Err (fault 63 1)
-unfolding intake_on_literals
-unread_kind_beside_the_aircraft = refl
-
-two_places_and_a_note : release_with_place (codes "\"tail\":\"D-ABCD\",\"kind\":\"C172\",\"note\":1,") ≡ Err (fault 64 1)
-unfolding intake_on_literals
-two_places_and_a_note = refl
+releases_at_places = refl
 
 -- ── its other keys ──
 
-release_without_moment : entries_of_text (codes "[{\"do\":\"release\",\"doc\":\"WO1\",\"tail\":\"D-ABCD\",\"lines\":[{\"tail\":\"D-ABCD\",\"task\":\"ANNUAL\"}]}]") ≡ Err (fault 62 1)
+keys_of_releases : Gives entries_of_text (
+    faulty 62 (
+    codes "[{\"do\":\"release\",\"doc\":\"WO1\",\"tail\":\"D-ABCD\",\"lines\":[{\"tail\":\"D-ABCD\",\"task\":\"ANNUAL\"}]}]"
+    ∷ codes "[{\"do\":\"release\",\"doc\":\"WO1\",\"tail\":\"D-ABCD\",\"moment\":\"1970-01-02T23:59\"}]" ∷ [])
+    -- a document of the technical log, which no release has
+    ++ faulty 65 (codes "[{\"do\":\"release\",\"doc\":\"TL/D/1/1\",\"tail\":\"D\",\"moment\":\"1970-01-02T23:59\",\"lines\":[{\"tail\":\"D\",\"task\":\"T\"}]}]" ∷ []))
 unfolding intake_on_literals
-release_without_moment = refl
-
-release_without_lines : entries_of_text (codes "[{\"do\":\"release\",\"doc\":\"WO1\",\"tail\":\"D-ABCD\",\"moment\":\"1970-01-02T23:59\"}]") ≡ Err (fault 62 1)
-unfolding intake_on_literals
-release_without_lines = refl
-
--- a document of the technical log, which no release has
-release_by_a_page : entries_of_text (codes "[{\"do\":\"release\",\"doc\":\"TL/D/1/1\",\"tail\":\"D\",\"moment\":\"1970-01-02T23:59\",\"lines\":[{\"tail\":\"D\",\"task\":\"T\"}]}]") ≡ Err (fault 65 1)
-unfolding intake_on_literals
-release_by_a_page = refl
+keys_of_releases = refl
 
 -- ── its lines ──
 
 -- what the list of one release gives, by what is written at `lines`
 abbrev release_with_lines : List ℕ → Result (List Entry) IntakeFault
-release_with_lines lines =
-    entries_of_text (codes "[{\"do\":\"release\",\"doc\":\"WO1\",\"tail\":\"D\",\"moment\":\"1970-01-02T23:59\",\"lines\":" ++ lines ++ codes "}]")
+release_with_lines = between (codes "[{\"do\":\"release\",\"doc\":\"WO1\",\"tail\":\"D\",\"moment\":\"1970-01-02T23:59\",\"lines\":") (codes "}]")
 
--- that release
+-- the release of lines
 abbrev release_of_lines : List Line → Entry
 release_of_lines lines = record { doc = codes "WO1"; act = Released (record { place = Aircraft (codes "D"); moment = 2879 }) lines }
 
-lines_of_two_items : release_with_lines (codes "[{\"task\":\"OVH\",\"serial\":\"E1\"},{\"tail\":\"D\",\"task\":\"100H\"}]")
-    ≡ Ok (release_of_lines (Done (Component (codes "E1")) (codes "OVH") ∷ Done (Airframe (codes "D")) (codes "100H") ∷ []) ∷ [])
+releases_of_lines : Gives release_with_lines (
+    ((codes "[{\"task\":\"OVH\",\"serial\":\"E1\"},{\"tail\":\"D\",\"task\":\"100H\"}]", Ok (release_of_lines (Done (Component (codes "E1")) (codes "OVH") ∷ Done (Airframe (codes "D")) (codes "100H") ∷ []) ∷ [])) ∷ [])
+    ++ faulty 63 (
+    codes "{}"
+    ∷ codes "[{\"task\":\"OVH\",\"serial\":\"E1\"},1]"
+    ∷ codes "[{\"tail\":\"D\",\"task\":\"\",\"note\":1}]"
+    ∷ codes "[{\"tail\":\"d\",\"serial\":\"E1\",\"task\":\"T\"}]" ∷ [])
+    ++ faulty 62 (
+    codes "[1,{\"tail\":\"D\"}]"
+    ∷ codes "[1,{\"task\":\"T\"}]"
+    ∷ codes "[{\"tail\":\"D\",\"serial\":\"E1\"}]" ∷ [])
+    ++ faulty 64 (codes "[{\"tail\":\"D\",\"task\":\"T\"},{\"tail\":\"D\",\"task\":\"T\",\"note\":1}]" ∷ [])
+    ++ faulty 65 (codes "[{\"tail\":\"D\",\"task\":\"T\"},{\"tail\":\"D\",\"serial\":\"E1\",\"task\":\"T\"}]" ∷ []))
 unfolding intake_on_literals
-lines_of_two_items = refl
-
-lines_as_an_object : release_with_lines (codes "{}") ≡ Err (fault 63 1)
-unfolding intake_on_literals
-lines_as_an_object = refl
-
-line_that_is_no_object : release_with_lines (codes "[{\"task\":\"OVH\",\"serial\":\"E1\"},1]") ≡ Err (fault 63 1)
-unfolding intake_on_literals
-line_that_is_no_object = refl
-
-line_without_task : release_with_lines (codes "[1,{\"tail\":\"D\"}]") ≡ Err (fault 62 1)
-unfolding intake_on_literals
-line_without_task = refl
-
-line_without_item : release_with_lines (codes "[1,{\"task\":\"T\"}]") ≡ Err (fault 62 1)
-unfolding intake_on_literals
-line_without_item = refl
-
-line_with_an_unread_task : release_with_lines (codes "[{\"tail\":\"D\",\"task\":\"\",\"note\":1}]") ≡ Err (fault 63 1)
-unfolding intake_on_literals
-line_with_an_unread_task = refl
-
-line_with_a_note : release_with_lines (codes "[{\"tail\":\"D\",\"task\":\"T\"},{\"tail\":\"D\",\"task\":\"T\",\"note\":1}]") ≡ Err (fault 64 1)
-unfolding intake_on_literals
-line_with_a_note = refl
-
-line_of_two_items : release_with_lines (codes "[{\"tail\":\"D\",\"task\":\"T\"},{\"tail\":\"D\",\"serial\":\"E1\",\"task\":\"T\"}]") ≡ Err (fault 65 1)
-unfolding intake_on_literals
-line_of_two_items = refl
-
-line_of_two_items_without_task : release_with_lines (codes "[{\"tail\":\"D\",\"serial\":\"E1\"}]") ≡ Err (fault 62 1)
-unfolding intake_on_literals
-line_of_two_items_without_task = refl
-
-line_of_an_unread_second_item : release_with_lines (codes "[{\"tail\":\"d\",\"serial\":\"E1\",\"task\":\"T\"}]") ≡ Err (fault 63 1)
-unfolding intake_on_literals
-line_of_an_unread_second_item = refl
+releases_of_lines = refl
 
 -- ── a line of a defect ──
 
-line_of_a_defect : release_with_lines (codes "[{\"defect\":\"X1\"}]") ≡ Ok (release_of_lines (Rectified (codes "X1") ∷ []) ∷ [])
+releases_of_defects : Gives release_with_lines (
+    ((codes "[{\"defect\":\"X1\"}]", Ok (release_of_lines (Rectified (codes "X1") ∷ []) ∷ []))
+    ∷ (codes "[{\"defect\":\"X1\"},{\"tail\":\"D\",\"task\":\"T\"},{\"defect\":\"X2\"}]", Ok (release_of_lines (Rectified (codes "X1") ∷ Done (Airframe (codes "D")) (codes "T") ∷ Rectified (codes "X2") ∷ []) ∷ [])) ∷ [])
+    -- an object of neither form lacks a key
+    ++ faulty 62 (
+    codes "[{\"defect\":\"X1\"},{}]"
+    ∷ codes "[{\"note\":1}]" ∷ [])
+    ++ faulty 63 (
+    codes "[{\"defect\":\"\"}]"
+    ∷ codes "[{\"defect\":1}]"
+    ∷ codes "[{\"defect\":null,\"tail\":\"D\",\"task\":\"T\"}]" ∷ [])
+    ++ faulty 64 (codes "[{\"defect\":\"X1\",\"note\":1}]" ∷ [])
+    -- beside a defect no key of a task that was done is missing, and none may stand
+    ++ faulty 65 (
+    codes "[{\"tail\":\"D\",\"task\":\"T\"},{\"tail\":\"D\",\"task\":\"T\",\"defect\":\"X1\"}]"
+    ∷ codes "[{\"defect\":\"X1\",\"task\":\"T\"}]"
+    ∷ codes "[{\"defect\":\"X1\",\"tail\":\"D\"}]"
+    ∷ codes "[{\"defect\":\"X1\",\"serial\":\"E1\"}]"
+    ∷ codes "[{\"defect\":\"X1\",\"tail\":\"D\",\"serial\":\"E1\"}]" ∷ [])
+    ++ faulty 64 (codes "[{\"defect\":\"X1\",\"task\":\"T\",\"note\":1}]" ∷ [])
+    ++ faulty 63 (
+    codes "[{\"defect\":\"X1\",\"task\":\"\"}]"
+    ∷ codes "[{\"defect\":\"X1\",\"tail\":\"d\"}]"
+    ∷ codes "[{\"defect\":\"X1\",\"tail\":\"D\",\"serial\":\"\"}]" ∷ []))
 unfolding intake_on_literals
-line_of_a_defect = refl
-
-lines_of_both_forms : release_with_lines (codes "[{\"defect\":\"X1\"},{\"tail\":\"D\",\"task\":\"T\"},{\"defect\":\"X2\"}]") ≡ Ok (release_of_lines (Rectified (codes "X1") ∷ Done (Airframe (codes "D")) (codes "T") ∷ Rectified (codes "X2") ∷ []) ∷ [])
-unfolding intake_on_literals
-lines_of_both_forms = refl
-
--- an object of neither form lacks a key
-line_of_nothing : release_with_lines (codes "[{\"defect\":\"X1\"},{}]") ≡ Err (fault 62 1)
-unfolding intake_on_literals
-line_of_nothing = refl
-
-line_of_a_note : release_with_lines (codes "[{\"note\":1}]") ≡ Err (fault 62 1)
-unfolding intake_on_literals
-line_of_a_note = refl
-
-line_of_no_document : release_with_lines (codes "[{\"defect\":\"\"}]") ≡ Err (fault 63 1)
-unfolding intake_on_literals
-line_of_no_document = refl
-
-line_of_a_number : release_with_lines (codes "[{\"defect\":1}]") ≡ Err (fault 63 1)
-unfolding intake_on_literals
-line_of_a_number = refl
-
-line_of_null : release_with_lines (codes "[{\"defect\":null,\"tail\":\"D\",\"task\":\"T\"}]") ≡ Err (fault 63 1)
-unfolding intake_on_literals
-line_of_null = refl
-
-line_of_a_defect_with_a_note : release_with_lines (codes "[{\"defect\":\"X1\",\"note\":1}]") ≡ Err (fault 64 1)
-unfolding intake_on_literals
-line_of_a_defect_with_a_note = refl
-
--- beside a defect no key of a task that was done is missing, and none may stand
-defect_beside_a_task_that_was_done : release_with_lines (codes "[{\"tail\":\"D\",\"task\":\"T\"},{\"tail\":\"D\",\"task\":\"T\",\"defect\":\"X1\"}]") ≡ Err (fault 65 1)
-unfolding intake_on_literals
-defect_beside_a_task_that_was_done = refl
-
-defect_beside_a_task : release_with_lines (codes "[{\"defect\":\"X1\",\"task\":\"T\"}]") ≡ Err (fault 65 1)
-unfolding intake_on_literals
-defect_beside_a_task = refl
-
-defect_beside_an_airframe : release_with_lines (codes "[{\"defect\":\"X1\",\"tail\":\"D\"}]") ≡ Err (fault 65 1)
-unfolding intake_on_literals
-defect_beside_an_airframe = refl
-
-defect_beside_a_component : release_with_lines (codes "[{\"defect\":\"X1\",\"serial\":\"E1\"}]") ≡ Err (fault 65 1)
-unfolding intake_on_literals
-defect_beside_a_component = refl
-
-defect_beside_two_items : release_with_lines (codes "[{\"defect\":\"X1\",\"tail\":\"D\",\"serial\":\"E1\"}]") ≡ Err (fault 65 1)
-unfolding intake_on_literals
-defect_beside_two_items = refl
-
-defect_beside_a_task_and_a_note : release_with_lines (codes "[{\"defect\":\"X1\",\"task\":\"T\",\"note\":1}]") ≡ Err (fault 64 1)
-unfolding intake_on_literals
-defect_beside_a_task_and_a_note = refl
-
-defect_beside_an_unread_task : release_with_lines (codes "[{\"defect\":\"X1\",\"task\":\"\"}]") ≡ Err (fault 63 1)
-unfolding intake_on_literals
-defect_beside_an_unread_task = refl
-
-defect_beside_an_unread_airframe : release_with_lines (codes "[{\"defect\":\"X1\",\"tail\":\"d\"}]") ≡ Err (fault 63 1)
-unfolding intake_on_literals
-defect_beside_an_unread_airframe = refl
-
-defect_beside_an_unread_component : release_with_lines (codes "[{\"defect\":\"X1\",\"tail\":\"D\",\"serial\":\"\"}]") ≡ Err (fault 63 1)
-unfolding intake_on_literals
-defect_beside_an_unread_component = refl
+releases_of_defects = refl
 
 -- ── how many lines ──
 
@@ -225,14 +114,10 @@ abbrev more_lines : ℕ → List ℕ
 more_lines zero = codes "{\"tail\":\"D\",\"task\":\"T\"}]"
 more_lines (suc n) = codes "{\"tail\":\"D\",\"task\":\"T\"}," ++ more_lines n
 
-no_lines : release_with_lines (codes "[]") ≡ Err (fault 65 1)
+releases_of_many_lines : Gives release_with_lines (
+    faulty 65 (
+    codes "[]"
+    ∷ (codes "[" ++ more_lines 20) ∷ [])
+    ++ ((codes "[" ++ more_lines 19, Ok (release_of_lines (replicate 20 (Done (Airframe (codes "D")) (codes "T"))) ∷ [])) ∷ []))
 unfolding intake_on_literals
-no_lines = refl
-
-twenty_lines : release_with_lines (codes "[" ++ more_lines 19) ≡ Ok (release_of_lines (replicate 20 (Done (Airframe (codes "D")) (codes "T"))) ∷ [])
-unfolding intake_on_literals
-twenty_lines = refl
-
-twenty_one_lines : release_with_lines (codes "[" ++ more_lines 20) ≡ Err (fault 65 1)
-unfolding intake_on_literals
-twenty_one_lines = refl
+releases_of_many_lines = refl

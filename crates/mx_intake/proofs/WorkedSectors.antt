@@ -9,7 +9,7 @@ use Rattle.mx_intake.specs.Fault.{fault}
 use Rattle.mx_intake.specs.Number.{number_of_digits}
 use Rattle.mx_intake.specs.Sectors.{sector_rows, text_of_field, rows_if_few, rows_from}
 use Rattle.mx_intake.proofs.RowsLemmas.{rows_if_few-many, rows_if_few-few}
-use Rattle.mx_intake.proofs.Worked.{intake_on_literals}
+use Rattle.mx_intake.proofs.Worked.{Gives, intake_on_literals}
 
 -- what is unfolded to compute the rows of a log
 unfoldable pub sectors_on_literals : ⊤
@@ -26,101 +26,46 @@ flight doc page line off on cycles =
 
 -- ── numbers ──
 
-number_with_zeros : number_of_digits (codes "000012") ≡ Some 12
+numbers : Gives number_of_digits (
+    (codes "000012", Some 12)
+    ∷ (codes "0000012", None)
+    ∷ ([], None)
+    ∷ (codes "+12", None) ∷ [])
 unfolding number_of_digits
-number_with_zeros = refl
-
-number_of_seven_digits : number_of_digits (codes "0000012") ≡ None
-unfolding number_of_digits
-number_of_seven_digits = refl
-
-number_of_no_digits : number_of_digits [] ≡ None
-unfolding number_of_digits
-number_of_no_digits = refl
-
-number_with_a_sign : number_of_digits (codes "+12") ≡ None
-unfolding number_of_digits
-number_with_a_sign = refl
+numbers = refl
 
 -- ── whole texts ──
 
-three_rows : sector_rows (codes "tail,page,line,off,on,cycles\nD-ABCD,12,1,2024-03-01T08:00,2024-03-01T09:30,1\nD-ABCD,12,2,2024-03-01T10:00,2024-03-01T09:50,1\nD-ABCD,13,1,2024-03-02T08:00,2024-03-02T08:45,2\n")
-    ≡ Ok (Ok (flight (codes "TL/D-ABCD/12/1") 12 1 28488000 28488090 1) ∷ Err (fault 65 2)
-    ∷ Ok (flight (codes "TL/D-ABCD/13/1") 13 1 28489440 28489485 2) ∷ [])
+logs : Gives sector_rows (
+    ((codes "tail,page,line,off,on,cycles\nD-ABCD,12,1,2024-03-01T08:00,2024-03-01T09:30,1\nD-ABCD,12,2,2024-03-01T10:00,2024-03-01T09:50,1\nD-ABCD,13,1,2024-03-02T08:00,2024-03-02T08:45,2\n", Ok (Ok (flight (codes "TL/D-ABCD/12/1") 12 1 28488000 28488090 1) ∷ Err (fault 65 2) ∷ Ok (flight (codes "TL/D-ABCD/13/1") 13 1 28489440 28489485 2) ∷ []))
+    ∷ (codes "tail,page,line,off,on,cycles\n", Ok [])
+    ∷ (codes "tail,page,line,off,on,cycles", Ok [])
+    ∷ ([], Err (fault 66 0))
+    ∷ (codes "D-ABCD,12,1,2024-03-01T08:00,2024-03-01T09:30,1\n", Err (fault 66 0))
+    ∷ (codes "tail,page,line,off,on,cycles,\n", Err (fault 66 0))
+    ∷ (codes "tail, page,line,off,on,cycles\n", Err (fault 66 0)) ∷ [])
+    -- a byte order mark, quotes, and each end of a line
+    ++ ((239 ∷ 187 ∷ 191 ∷ codes "\"tail\",page,line,off,on,cycles\r\n\r\n\"D-ABCD\",12,1,2024-03-01T08:00,2024-03-01T09:30,1\r\n\n", Ok (Ok (flight (codes "TL/D-ABCD/12/1") 12 1 28488000 28488090 1) ∷ [])) ∷ []))
 unfolding sectors_on_literals
-three_rows = refl
-
-header_alone : sector_rows (codes "tail,page,line,off,on,cycles\n") ≡ Ok []
-unfolding sectors_on_literals
-header_alone = refl
-
-header_without_an_end : sector_rows (codes "tail,page,line,off,on,cycles") ≡ Ok []
-unfolding sectors_on_literals
-header_without_an_end = refl
-
-no_text : sector_rows [] ≡ Err (fault 66 0)
-unfolding sectors_on_literals
-no_text = refl
-
-rows_without_a_header : sector_rows (codes "D-ABCD,12,1,2024-03-01T08:00,2024-03-01T09:30,1\n") ≡ Err (fault 66 0)
-unfolding sectors_on_literals
-rows_without_a_header = refl
-
-header_of_seven_fields : sector_rows (codes "tail,page,line,off,on,cycles,\n") ≡ Err (fault 66 0)
-unfolding sectors_on_literals
-header_of_seven_fields = refl
-
-header_with_a_space : sector_rows (codes "tail, page,line,off,on,cycles\n") ≡ Err (fault 66 0)
-unfolding sectors_on_literals
-header_with_a_space = refl
-
--- a byte order mark, quotes, and each end of a line
-mark_quotes_and_ends : sector_rows (239 ∷ 187 ∷ 191 ∷ codes "\"tail\",page,line,off,on,cycles\r\n\r\n\"D-ABCD\",12,1,2024-03-01T08:00,2024-03-01T09:30,1\r\n\n")
-    ≡ Ok (Ok (flight (codes "TL/D-ABCD/12/1") 12 1 28488000 28488090 1) ∷ [])
-unfolding sectors_on_literals
-mark_quotes_and_ends = refl
+logs = refl
 
 -- ── one row ──
 
-page_with_zeros : sector_rows (header ++ codes "D-ABCD,000012,1,2024-03-01T08:00,2024-03-01T09:30,1\n")
-    ≡ Ok (Ok (flight (codes "TL/D-ABCD/12/1") 12 1 28488000 28488090 1) ∷ [])
+logs_of_one_row : Gives sector_rows (
+    ((header ++ codes "D-ABCD,000012,1,2024-03-01T08:00,2024-03-01T09:30,1\n", Ok (Ok (flight (codes "TL/D-ABCD/12/1") 12 1 28488000 28488090 1) ∷ []))
+    ∷ (header ++ codes "D-ABCD,0000012,1,2024-03-01T08:00,2024-03-01T09:30,1\n", Ok (Err (fault 63 1) ∷ []))
+    ∷ (header ++ codes "D-ABCD,12,1,2024-03-01T08:00,2024-03-01T09:30\n", Ok (Err (fault 68 1) ∷ [])) ∷ [])
+    -- seven fields, of which none can be read
+    ++ ((header ++ codes ",,,,,,\n", Ok (Err (fault 68 1) ∷ [])) ∷ [])
+    -- a line of spaces is a record
+    ++ ((header ++ codes "  \n", Ok (Err (fault 68 1) ∷ []))
+    ∷ (header ++ 255 ∷ codes ",12,1,2024-03-01T08:00,2024-03-01T09:30,1\n", Ok (Err (fault 63 1) ∷ []))
+    ∷ (header ++ codes "D-ABCD, 12,1,2024-03-01T08:00,2024-03-01T09:30,1\n", Ok (Err (fault 63 1) ∷ [])) ∷ [])
+    -- a field that can't be read, before the shape
+    ++ ((header ++ codes "D-ABCD,0,1,2024-03-01T08:00,2024-03-01T09:30,\n", Ok (Err (fault 63 1) ∷ []))
+    ∷ (header ++ codes "D-ABCD,0,1,2024-03-01T08:00,2024-03-01T09:30,1\n", Ok (Err (fault 65 1) ∷ [])) ∷ []))
 unfolding sectors_on_literals
-page_with_zeros = refl
-
-page_of_seven_digits : sector_rows (header ++ codes "D-ABCD,0000012,1,2024-03-01T08:00,2024-03-01T09:30,1\n") ≡ Ok (Err (fault 63 1) ∷ [])
-unfolding sectors_on_literals
-page_of_seven_digits = refl
-
-five_fields : sector_rows (header ++ codes "D-ABCD,12,1,2024-03-01T08:00,2024-03-01T09:30\n") ≡ Ok (Err (fault 68 1) ∷ [])
-unfolding sectors_on_literals
-five_fields = refl
-
--- seven fields, of which none can be read
-seven_fields : sector_rows (header ++ codes ",,,,,,\n") ≡ Ok (Err (fault 68 1) ∷ [])
-unfolding sectors_on_literals
-seven_fields = refl
-
--- a line of spaces is a record
-spaces_alone : sector_rows (header ++ codes "  \n") ≡ Ok (Err (fault 68 1) ∷ [])
-unfolding sectors_on_literals
-spaces_alone = refl
-
-tail_that_is_no_text : sector_rows (header ++ 255 ∷ codes ",12,1,2024-03-01T08:00,2024-03-01T09:30,1\n") ≡ Ok (Err (fault 63 1) ∷ [])
-unfolding sectors_on_literals
-tail_that_is_no_text = refl
-
-field_in_spaces : sector_rows (header ++ codes "D-ABCD, 12,1,2024-03-01T08:00,2024-03-01T09:30,1\n") ≡ Ok (Err (fault 63 1) ∷ [])
-unfolding sectors_on_literals
-field_in_spaces = refl
-
--- a field that can't be read, before the shape
-unread_first : sector_rows (header ++ codes "D-ABCD,0,1,2024-03-01T08:00,2024-03-01T09:30,\n") ≡ Ok (Err (fault 63 1) ∷ [])
-unfolding sectors_on_literals
-unread_first = refl
-
-page_none : sector_rows (header ++ codes "D-ABCD,0,1,2024-03-01T08:00,2024-03-01T09:30,1\n") ≡ Ok (Err (fault 65 1) ∷ [])
-unfolding sectors_on_literals
-page_none = refl
+logs_of_one_row = refl
 
 -- ── limits ──
 

@@ -1,17 +1,17 @@
--- The form of each command, those of releases and of defects aside: its keys, and how their values are read; and the form that a word chooses.
+-- The form of each command, that of releases aside: its keys, and how their values are read; and the form that a word chooses.
 use Rattle.std.specs.Prelude.{ℕ, List, [], ◌∷◌, codes, Bool, ◌&&◌, ◌||◌, Option, Some, None, is_some, option_map, option_and_then, Result, Err, if◌then◌else◌}
 use Rattle.std.specs.Str.{bytes_eq}
-use Rattle.serde_json.specs.Data.{Data, Items, no_items, item}
+use Rattle.serde_json.specs.Data.{Data, Items}
 use Rattle.serde_json.specs.Find.{get, as_str, as_object}
 use Rattle.mx_base.specs.declared.amounts.Use.{Use}
-use Rattle.mx_book.specs.commands.Act.{Entry, Added, Listed, Opened, Flown, Fitted, Removed}
+use Rattle.mx_book.specs.commands.Act.{Entry, Added, Listed, Opened, Flown, Fitted, Removed, Deferred, Extended}
 use Rattle.mx_book.specs.commands.Shape.{sector_doc}
 use Rattle.mx_book.specs.declared.commands.sector.Sector.{Sector}
 use Rattle.mx_intake.specs.declared.fault.TheConstants.{MISSING, BAD_VALUE}
-use Rattle.mx_intake.specs.Defects.{deferral_form, extension_form}
+use Rattle.mx_intake.specs.Category.{lacks_days, states_other_days, stated_category}
 use Rattle.mx_intake.specs.Form.{if_read, if_keys_agree, entry_by_form}
 use Rattle.mx_intake.specs.Items.{item_at_keys, lacks_item, names_two_items}
-use Rattle.mx_intake.specs.Object.{lacks_key, has_other_key, number_at_key, list_at_key, any_at_key}
+use Rattle.mx_intake.specs.Object.{lacks_key, has_other_key, number_at_key, list_at_key, any_at_key, stated_all}
 use Rattle.mx_intake.specs.Release.{release_form}
 use Rattle.mx_intake.specs.Vocabulary.{tail_at_key, name_at_key, document_at_key, day_at_key, moment_at_key}
 
@@ -44,8 +44,7 @@ stated_position d =
 
 -- the positions, where each can be read
 abbrev pub stated_positions : Items → Option (List (List ℕ × List ℕ))
-stated_positions no_items = Some []
-stated_positions (item d ds) = if_read (stated_position d) (λ position. option_map (λ more. position ∷ more) (stated_positions ds))
+stated_positions = stated_all stated_position
 
 -- the use that an opening states
 abbrev pub stated_use : Data → Option Use
@@ -196,6 +195,53 @@ stated_removal d =
 -- the command that an object gives by the form of a removal
 abbrev pub removal_form : Data → Result Entry ℕ
 removal_form d = entry_by_form (lacks_key removal_keys d) (stated_removal d) (has_other_key removal_keys d)
+
+-- ── defer ──
+
+-- the keys that a deferral of any category needs
+abbrev pub needed_deferral_keys : List (List ℕ)
+needed_deferral_keys =
+    codes "do" ∷ codes "doc" ∷ codes "tail" ∷ codes "moment" ∷ codes "reference" ∷ codes "category" ∷ []
+
+-- the keys of a deferral
+abbrev pub deferral_keys : List (List ℕ)
+deferral_keys =
+    codes "do" ∷ codes "doc" ∷ codes "tail" ∷ codes "moment" ∷ codes "reference" ∷ codes "category" ∷ codes "days" ∷ []
+
+-- the deferral that an object states
+abbrev pub stated_deferral : Data → Option Entry
+stated_deferral d =
+    if_read (document_at_key (codes "doc") d) (λ doc.
+    if_read (tail_at_key (codes "tail") d) (λ tail.
+    if_read (moment_at_key (codes "moment") d) (λ moment.
+    if_read (name_at_key (codes "reference") d) (λ reference.
+    if_read (stated_category d) (λ category.
+    Some (record { doc = doc; act = Deferred (record { tail = tail; moment = moment; reference = reference; category = category }) }))))))
+
+-- the command that an object gives by the form of a deferral
+abbrev pub deferral_form : Data → Result Entry ℕ
+deferral_form d =
+    if_keys_agree (states_other_days d)
+    (entry_by_form (lacks_key needed_deferral_keys d || lacks_days d) (stated_deferral d) (has_other_key deferral_keys d))
+
+-- ── extend ──
+
+-- the keys of an extension
+abbrev pub extension_keys : List (List ℕ)
+extension_keys = codes "do" ∷ codes "doc" ∷ codes "defect" ∷ codes "day" ∷ codes "days" ∷ []
+
+-- the extension that an object states
+abbrev pub stated_extension : Data → Option Entry
+stated_extension d =
+    if_read (document_at_key (codes "doc") d) (λ doc.
+    if_read (document_at_key (codes "defect") d) (λ defect.
+    if_read (day_at_key (codes "day") d) (λ day.
+    if_read (number_at_key (codes "days") d) (λ days.
+    Some (record { doc = doc; act = Extended (record { defect = defect; day = day; days = days }) })))))
+
+-- the command that an object gives by the form of an extension
+abbrev pub extension_form : Data → Result Entry ℕ
+extension_form d = entry_by_form (lacks_key extension_keys d) (stated_extension d) (has_other_key extension_keys d)
 
 -- ── each by its word ──
 

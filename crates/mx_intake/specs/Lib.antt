@@ -1,4 +1,4 @@
-pub mod Defects
+pub mod Category
 pub mod Entries
 pub mod Fault
 pub mod Form

@@ -1,5 +1,5 @@
 -- What an object of JSON has at its keys.
-use Rattle.std.specs.Prelude.{ℕ, List, Bool, false, not, ◌||◌, Option, is_some, option_and_then}
+use Rattle.std.specs.Prelude.{ℕ, List, [], ◌∷◌, Bool, false, not, ◌||◌, Option, Some, is_some, option_map, option_and_then}
 use Rattle.std.specs.List.{list_any}
 use Rattle.std.specs.Option.{option_map_or}
 use Rattle.serde_json.specs.Data.{Data, null, boolean, number, string, array, object, Items, no_items, item, Members, no_members, member}
@@ -48,3 +48,8 @@ any_item test (item d ds) = test d || any_item test ds
 -- a value of the list at a key passes the test
 abbrev pub any_at_key : List ℕ → (Data → Bool) → Data → Bool
 any_at_key key test d = option_map_or (any_item test) (list_at_key key d) false
+
+-- what the values of a list state, where each can be read
+abbrev pub stated_all : {A : Type 0} → (Data → Option A) → Items → Option (List A)
+stated_all read no_items = Some []
+stated_all read (item d ds) = option_and_then (λ a. option_map (λ more. a ∷ more) (stated_all read ds)) (read d)

@@ -1,6 +1,6 @@
 -- The form of a release to service: its keys, its place and its lines, and how their values are read.
 use Rattle.std.specs.Prelude.{ℕ, List, [], ◌∷◌, codes, Bool, not, ◌&&◌, ◌||◌, Option, Some, None, is_some, option_map, option_and_then, Result, if◌then◌else◌}
-use Rattle.serde_json.specs.Data.{Data, Items, no_items, item}
+use Rattle.serde_json.specs.Data.{Data, Items}
 use Rattle.serde_json.specs.Find.{get, as_object}
 use Rattle.mx_book.specs.commands.Act.{Entry, Released}
 use Rattle.mx_book.specs.declared.commands.release.Line.{Line}
@@ -9,7 +9,7 @@ use Rattle.mx_book.specs.declared.commands.release.Place.{Place}
 use Rattle.mx_book.specs.declared.commands.release.Place.TheVariants.{Aircraft, Shop}
 use Rattle.mx_intake.specs.Form.{if_read, if_keys_agree, entry_by_form}
 use Rattle.mx_intake.specs.Items.{names_airframe, names_component, lacks_item, names_two_items, item_at_keys}
-use Rattle.mx_intake.specs.Object.{lacks_key, has_other_key, list_at_key, any_at_key}
+use Rattle.mx_intake.specs.Object.{lacks_key, has_other_key, list_at_key, any_at_key, stated_all}
 use Rattle.mx_intake.specs.Vocabulary.{tail_at_key, name_at_key, document_at_key, moment_at_key}
 
 -- ── where the work was done ──
@@ -100,8 +100,7 @@ stated_line d = if names_defect d then defect_at_key d else task_at_keys d
 
 -- the lines, where each can be read
 abbrev pub stated_lines : Items → Option (List Line)
-stated_lines no_items = Some []
-stated_lines (item d ds) = if_read (stated_line d) (λ line. option_map (λ more. line ∷ more) (stated_lines ds))
+stated_lines = stated_all stated_line
 
 -- the lines at their key, where each can be read
 abbrev pub lines_at_key : Data → Option (List Line)

@@ -5,7 +5,7 @@
 //! holds: then `days` is neither missing nor too much.
 ghost use Rattle.std.specs.Prelude.{◌≡◌, map};
 ghost use Rattle.serde_json.specs.View.{view};
-ghost use Rattle.mx_intake.specs.Defects.{names_category, lacks_days, states_other_days, category_of, stated_category};
+ghost use Rattle.mx_intake.specs.Category.{names_category, lacks_days, states_other_days, category_of, stated_category};
 
 use crate::keys::is_one_of;
 use crate::object::{has, number_if_there, text_at};

@@ -28,15 +28,13 @@ pub(crate) fn names_two_items(object: &Value) -> bool
 fn airframe_at(object: &Value) -> Option<Item>
     ensures { result ≡ airframe_at_key (view object.now) }
 {
-    let tail = identifier_at(object, "tail")?;
-    Some(Item::Airframe(tail))
+    Some(Item::Airframe(identifier_at(object, "tail")?))
 }
 
 fn component_at(object: &Value) -> Option<Item>
     ensures { result ≡ component_at_key (view object.now) }
 {
-    let serial = identifier_at(object, "serial")?;
-    Some(Item::Component(serial))
+    Some(Item::Component(identifier_at(object, "serial")?))
 }
 
 /// The item that an object names, where each that it names can be read.

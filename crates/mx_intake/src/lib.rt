@@ -51,17 +51,13 @@
 //!
 //! # To add a command
 //!
-//! A further command adds its form in one place: a file of `src/` and a part of `specs/Forms.antt`, or a file beside
-//! it, each with a line where the word at `do` chooses the form (`forms.rt`, `entry_by_word`).
+//! A further command adds its form in one place: a part of `src/commands.rt` and of `specs/Forms.antt`, or a file beside
+//! each, with a line where the word at `do` chooses the form (`forms.rt`, `entry_by_word`).
 #![tactic(auto)]
 
-mod aircraft;
 mod category;
-mod component;
-mod deferral;
-mod extension;
+mod commands;
 mod fault;
-mod fitting;
 mod form;
 mod forms;
 mod input;
@@ -69,18 +65,15 @@ mod items;
 mod json;
 mod keys;
 mod limits;
-mod line;
 mod lines;
+mod listed;
 mod loading;
 mod number;
 mod object;
-mod opening;
 mod places;
 mod positions;
 mod programme;
 mod records;
-mod release;
-mod removal;
 mod sector;
 mod sector_row;
 mod sector_rows;

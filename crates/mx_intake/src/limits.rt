@@ -29,27 +29,15 @@ fn minutes_of(value: &Value) -> Option<u32>
     minutes_of_hours(hours)
 }
 
-/// The minutes that are stated in hours at a key that may be absent.
-fn minutes_if_there(table: &Value, key: &str) -> Option<Option<u32>>
-    ensures { result ≡ if_there minutes_of (get key.now (view table.now)) }
-{
-    match table.get(key) {
-        Some(value) => Some(Some(minutes_of(value)?)),
-        None => Some(None),
-    }
-}
-
 /// The limit that a table states.
 fn limit_of_table(table: &Value) -> Option<Limit>
     ensures { result ≡ limit_of_table (view table.now) }
 {
-    let minutes = minutes_if_there(table, "hours")?;
-    let cycles = number_if_there(table, "cycles")?;
-    let days = number_if_there(table, "days")?;
+    let hours = table.get("hours");
     Some(Limit {
-        minutes,
-        cycles,
-        days,
+        minutes: hours.map_or(Some(None), |hours| minutes_of(hours).map(Some))?,
+        cycles: number_if_there(table, "cycles")?,
+        days: number_if_there(table, "days")?,
     })
 }
 
@@ -75,10 +63,8 @@ pub(crate) fn limit_at(table: &Value, key: &str) -> Option<Limit>
 pub(crate) fn limit_if_there(table: &Value, key: &str) -> Option<Option<Limit>>
     ensures { result ≡ if_there limit_of (get key.now (view table.now)) }
 {
-    match table.get(key) {
-        Some(value) => Some(Some(limit_of(value)?)),
-        None => Some(None),
-    }
+    let value = table.get(key);
+    value.map_or(Some(None), |value| limit_of(value).map(Some))
 }
 
 /// The tolerance that is stated as a limit, if it is stated.
@@ -103,10 +89,8 @@ pub(crate) fn tolerance_of(limit: Option<Limit>) -> Tolerance
 fn limit_has_other_key(table: &Value, key: &str) -> bool
     ensures { result ≡ limit_has_other_key key.now (view table.now) }
 {
-    match table.get(key) {
-        Some(limit) => has_other(limit, &["hours", "cycles", "days"]),
-        None => false,
-    }
+    let limit = table.get(key);
+    limit.is_some_and(|limit| has_other(limit, &["hours", "cycles", "days"]))
 }
 
 /// Whether one of the limits of a task has another key than those of a limit.

@@ -7,9 +7,9 @@ ghost use Rattle.std.specs.Prelude.{◌≡◌, map, is_some, option_map};
 ghost use Rattle.serde_json.specs.Find.{get};
 ghost use Rattle.serde_json.specs.View.{view, items_view};
 ghost use Rattle.mx_intake.specs.Keys.{if_there};
-ghost use Rattle.mx_intake.specs.Object.{lacks_key, has_other_key, number_of, number_at_key, text_at_key, list_at_key, any_item};
+ghost use Rattle.mx_intake.specs.Object.{lacks_key, has_other_key, number_of, number_at_key, text_at_key, list_at_key};
 
-use crate::keys::is_one_of;
+use crate::keys::{is_one_of, one_key};
 use serde_json::Value;
 
 /// Whether the value is an object that has the key.
@@ -23,12 +23,7 @@ pub(crate) fn has(object: &Value, key: &str) -> bool
 pub(crate) fn lacks(object: &Value, keys: &[&str]) -> bool
     ensures { result ≡ lacks_key (map (λ k. k.now) keys.now) (view object.now) }
 {
-    for key in keys {
-        if !has(object, key) {
-            return true;
-        }
-    }
-    false
+    one_key(keys, |key| !has(object, key))
 }
 
 /// Whether there is a key that is none of these.
@@ -40,19 +35,6 @@ pub(crate) fn has_other(object: &Value, keys: &[&str]) -> bool
     };
     for key in members.keys() {
         if !is_one_of(keys, key.as_str()) {
-            return true;
-        }
-    }
-    false
-}
-
-/// Whether one of the values has a key that is none of these.
-pub(crate) fn one_has_other(values: &[Value], keys: &[&str]) -> bool
-    ensures { result ≡ any_item (has_other_key (map (λ k. k.now) keys.now))
-        (items_view values.now) }
-{
-    for value in values {
-        if has_other(value, keys) {
             return true;
         }
     }
@@ -78,10 +60,8 @@ pub(crate) fn number_at(object: &Value, key: &str) -> Option<u32>
 pub(crate) fn number_if_there(object: &Value, key: &str) -> Option<Option<u32>>
     ensures { result ≡ if_there number_of (get key.now (view object.now)) }
 {
-    match object.get(key) {
-        Some(value) => Some(Some(number_of(value)?)),
-        None => Some(None),
-    }
+    let value = object.get(key);
+    value.map_or(Some(None), |value| number_of(value).map(Some))
 }
 
 /// The text at a key.

@@ -5,7 +5,7 @@
 //! lacks no key that only the shop needs, and what is there is read.
 ghost use Rattle.std.specs.Prelude.{◌≡◌};
 ghost use Rattle.serde_json.specs.View.{view};
-ghost use Rattle.mx_intake.specs.Release.{lacks_place, names_two_places, is_shop_readable, aircraft_at_key, shop_at_keys, place_at_keys};
+ghost use Rattle.mx_intake.specs.Release.{lacks_place, names_two_places, is_shop_readable, place_at_keys};
 
 use crate::object::{has, lacks};
 use crate::vocabulary::identifier_at;
@@ -36,31 +36,18 @@ fn is_shop_readable(object: &Value) -> bool
     (!has(object, "serial") || serial.is_some()) && (!has(object, "kind") || kind.is_some())
 }
 
-fn aircraft_at(object: &Value) -> Option<Place>
-    ensures { result ≡ aircraft_at_key (view object.now) }
-{
-    if !is_shop_readable(object) {
-        return None;
-    }
-    let tail = identifier_at(object, "tail")?;
-    Some(Place::Aircraft(tail))
-}
-
-fn shop_at(object: &Value) -> Option<Place>
-    ensures { result ≡ shop_at_keys (view object.now) }
-{
-    let serial = identifier_at(object, "serial")?;
-    let kind = identifier_at(object, "kind")?;
-    Some(Place::Shop(serial, kind))
-}
-
 /// The place that an object names, where every key that names it can be read.
 pub(crate) fn place_at(object: &Value) -> Option<Place>
     ensures { result ≡ place_at_keys (view object.now) }
 {
-    if has(object, "tail") {
-        aircraft_at(object)
-    } else {
-        shop_at(object)
+    if !has(object, "tail") {
+        return Some(Place::Shop(
+            identifier_at(object, "serial")?,
+            identifier_at(object, "kind")?,
+        ));
     }
+    if !is_shop_readable(object) {
+        return None;
+    }
+    Some(Place::Aircraft(identifier_at(object, "tail")?))
 }

@@ -13,9 +13,10 @@ ghost use Rattle.mx_intake.specs.Tasks.{task_by_toml};
 use crate::fault::{
     BAD_SHAPE, BAD_VALUE, IntakeFault, MEMORY, MISSING, NOT_TEXT, UNKNOWN_KEY, of_whole,
 };
-use crate::table::{has_other, identifier_at, lacks, list_at, number_at};
+use crate::table::{has_other, lacks, list_at, number_at, text_at};
 use crate::task::task_of;
 use crate::text::text_of;
+use crate::vocabulary::read_identifier;
 use mx_book::commands::programme_shape::{LAST_REVISION, MOST_TASKS};
 use mx_book::commands::{Applies, Programme, Task};
 use std::alloc::{AllocError, Global};
@@ -26,10 +27,11 @@ fn stated(table: &Value) -> Option<(Programme, &[Value])>
     ensures { option_map (λ top. (top.0, items_view top.1.now)) result
         ≡ stated_programme (view table.now) }
 {
-    let kind = identifier_at(table, "kind")?;
-    let revision = number_at(table, "revision")?;
-    let tasks = list_at(table, "task")?;
-    Some((Programme { kind, revision }, tasks))
+    let programme = Programme {
+        kind: read_identifier(text_at(table, "kind")?)?,
+        revision: number_at(table, "revision")?,
+    };
+    Some((programme, list_at(table, "task")?))
 }
 
 /// Whether a programme may have this revision, and so many tasks.

@@ -1,13 +1,13 @@
-//! The form of a sector.
-ghost use Rattle.std.specs.Prelude.{◌≡◌, ◌≢◌, Ok, Err, IfOk, IfErr, option_map};
+//! The form of a sector, which makes its own document.
+ghost use Rattle.std.specs.Prelude.{◌≡◌, ◌≢◌, Ok, Err, IfOk, IfErr};
 ghost use Rattle.serde_json.specs.View.{view};
 ghost use Rattle.mx_book.specs.commands.Act.{act_of, Flown};
 ghost use Rattle.mx_intake.specs.declared.fault.TheConstants.{MEMORY};
-ghost use Rattle.mx_intake.specs.Form.{entry_by_form};
 ghost use Rattle.mx_intake.specs.Forms.{stated_sector, logged, sector_form};
 
-use crate::fault::{BAD_SHAPE, BAD_VALUE, MEMORY, MISSING, UNKNOWN_KEY};
-use crate::object::{has_other, lacks, number_at};
+use crate::fault::{BAD_SHAPE, MEMORY};
+use crate::form::{Stated, command_by_keys};
+use crate::object::number_at;
 use crate::vocabulary::{identifier_at, moment_at};
 use mx_book::commands::{Body, Command, MakeFault, Sector};
 use serde_json::Value;
@@ -17,19 +17,13 @@ use std::alloc::Global;
 fn stated(object: &Value) -> Option<Sector>
     ensures { result ≡ stated_sector (view object.now) }
 {
-    let tail = identifier_at(object, "tail")?;
-    let page = number_at(object, "page")?;
-    let line = number_at(object, "line")?;
-    let off = moment_at(object, "off")?;
-    let on = moment_at(object, "on")?;
-    let cycles = number_at(object, "cycles")?;
     Some(Sector {
-        tail,
-        page,
-        line,
-        off,
-        on,
-        cycles,
+        tail: identifier_at(object, "tail")?,
+        page: number_at(object, "page")?,
+        line: number_at(object, "line")?,
+        off: moment_at(object, "off")?,
+        on: moment_at(object, "on")?,
+        cycles: number_at(object, "cycles")?,
     })
 }
 
@@ -46,31 +40,15 @@ fn body_of_sector(sector: Sector) -> Body
     }
 }
 
-/// The command of a sector, which makes its own document: as `command_by_form`.
-pub(crate) fn sector_by_form(
-    alloc: Global,
-    lacks: bool,
-    stated: Option<Sector>,
-    has_other: bool,
-) -> Result<Command, u8>
-    ensures ok { IfOk result (λ c.
-        entry_by_form lacks (option_map logged stated) has_other ≡ Ok c) }
-    ensures err { IfErr result (λ n. n ≢ MEMORY
-        → entry_by_form lacks (option_map logged stated) has_other ≡ Err n) }
-{
-    if lacks {
-        return Err(MISSING);
-    }
-    let Some(sector) = stated else {
-        return Err(BAD_VALUE);
-    };
-    if has_other {
-        return Err(UNKNOWN_KEY);
-    }
-    match Command::sector(alloc, body_of_sector(sector)) {
-        Ok(command) => Ok(command),
-        Err(MakeFault::BadShape) => Err(BAD_SHAPE),
-        Err(MakeFault::Memory) => Err(MEMORY),
+impl Stated for Sector {
+    ghost entry = { logged };
+
+    fn command(self, alloc: Global) -> Result<Command, u8> {
+        match Command::sector(alloc, body_of_sector(self)) {
+            Ok(command) => Ok(command),
+            Err(MakeFault::BadShape) => Err(BAD_SHAPE),
+            Err(MakeFault::Memory) => Err(MEMORY),
+        }
     }
 }
 
@@ -80,10 +58,5 @@ pub(crate) fn command_of(alloc: Global, object: &Value) -> Result<Command, u8>
     ensures err { IfErr result (λ n. n ≢ MEMORY → sector_form (view object.now) ≡ Err n) }
 {
     let keys = ["do", "tail", "page", "line", "off", "on", "cycles"];
-    sector_by_form(
-        alloc,
-        lacks(object, &keys),
-        stated(object),
-        has_other(object, &keys),
-    )
+    command_by_keys(alloc, object, &keys, stated(object))
 }

@@ -6,8 +6,8 @@ ghost use Rattle.mx_intake.specs.Fault.{fault};
 ghost use Rattle.mx_intake.specs.Sectors.{text_in_field, tail_in_field, moment_in_field, number_in_field, sector_of_fields, entry_of_fields, row_of};
 
 use crate::fault::{BAD_ROW, IntakeFault, MEMORY, of_whole};
+use crate::form::command_by_form;
 use crate::number::read_number;
-use crate::sector::sector_by_form;
 use crate::vocabulary::{read_identifier, read_moment};
 use csv::ByteRecord;
 use mx_base::{Moment, Tail};
@@ -53,19 +53,13 @@ fn number_in(row: &ByteRecord, place: usize) -> Option<u32>
 fn sector_in(row: &ByteRecord) -> Option<Sector>
     ensures { result ≡ sector_of_fields (fields_of row.now) }
 {
-    let tail = tail_in(row, 0)?;
-    let page = number_in(row, 1)?;
-    let line = number_in(row, 2)?;
-    let off = moment_in(row, 3)?;
-    let on = moment_in(row, 4)?;
-    let cycles = number_in(row, 5)?;
     Some(Sector {
-        tail,
-        page,
-        line,
-        off,
-        on,
-        cycles,
+        tail: tail_in(row, 0)?,
+        page: number_in(row, 1)?,
+        line: number_in(row, 2)?,
+        off: moment_in(row, 3)?,
+        on: moment_in(row, 4)?,
+        cycles: number_in(row, 5)?,
     })
 }
 
@@ -77,7 +71,7 @@ fn command_in(alloc: Global, row: &ByteRecord) -> Result<Command, u8>
     if row.len() != FIELDS {
         return Err(BAD_ROW);
     }
-    sector_by_form(alloc, false, sector_in(row), false)
+    command_by_form(alloc, false, sector_in(row), false)
 }
 
 /// What row `number` gives. Want of memory is no fault of the row.

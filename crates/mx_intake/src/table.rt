@@ -1,14 +1,11 @@
 //! What a table of TOML has at its keys.
-ghost use Rattle.std.specs.Prelude.{◌≡◌, map, is_some, option_map, option_and_then};
+ghost use Rattle.std.specs.Prelude.{◌≡◌, map, is_some, option_map};
 ghost use Rattle.toml.specs.Data.{get, as_bool};
 ghost use Rattle.toml.specs.View.{view, items_view};
 ghost use Rattle.mx_intake.specs.Keys.{if_there};
 ghost use Rattle.mx_intake.specs.Table.{lacks_key, has_other_key, number_of, number_at_key, text_at_key, list_at_key};
-ghost use Rattle.mx_intake.specs.Vocabulary.{identifier_of};
 
-use crate::keys::is_one_of;
-use crate::vocabulary::read_identifier;
-use mx_base::identifiers::{Alphabet, Identifier};
+use crate::keys::{is_one_of, one_key};
 use toml::Value;
 
 /// Whether the value is a table that has the key.
@@ -22,12 +19,7 @@ fn has(table: &Value, key: &str) -> bool
 pub(crate) fn lacks(table: &Value, keys: &[&str]) -> bool
     ensures { result ≡ lacks_key (map (λ k. k.now) keys.now) (view table.now) }
 {
-    for key in keys {
-        if !has(table, key) {
-            return true;
-        }
-    }
-    false
+    one_key(keys, |key| !has(table, key))
 }
 
 /// Whether there is a key that is none of these.
@@ -64,20 +56,16 @@ pub(crate) fn number_at(table: &Value, key: &str) -> Option<u32>
 pub(crate) fn number_if_there(table: &Value, key: &str) -> Option<Option<u32>>
     ensures { result ≡ if_there number_of (get key.now (view table.now)) }
 {
-    match table.get(key) {
-        Some(value) => Some(Some(number_of(value)?)),
-        None => Some(None),
-    }
+    let value = table.get(key);
+    value.map_or(Some(None), |value| number_of(value).map(Some))
 }
 
 /// Whether it is true or false at a key that may be absent.
 pub(crate) fn flag_if_there(table: &Value, key: &str) -> Option<Option<bool>>
     ensures { result ≡ if_there as_bool (get key.now (view table.now)) }
 {
-    match table.get(key) {
-        Some(value) => Some(Some(value.as_bool()?)),
-        None => Some(None),
-    }
+    let value = table.get(key);
+    value.map_or(Some(None), |value| value.as_bool().map(Some))
 }
 
 /// The text at a key.
@@ -85,18 +73,6 @@ pub(crate) fn text_at<'v>(table: &'v Value, key: &str) -> Option<&'v str>
     ensures { option_map (λ t. t.now) result ≡ text_at_key key.now (view table.now) }
 {
     table.get(key)?.as_str()
-}
-
-/// The identifier at a key.
-pub(crate) fn identifier_at<A: Alphabet, const N: usize>(
-    table: &Value,
-    key: &str,
-) -> Option<Identifier<A, N>>
-    ensures { result ≡ option_and_then (identifier_of A.allows N)
-        (text_at_key key.now (view table.now)) }
-{
-    let text = text_at(table, key)?;
-    read_identifier(text)
 }
 
 /// The values of the list at a key.

@@ -1,15 +1,12 @@
 //! The form of a task of a maintenance programme.
-ghost use Rattle.std.specs.Prelude.{◌≡◌, ◌≢◌, IfErr, option_map, option_and_then};
-ghost use Rattle.mx_book.specs.commands.Programme.{task_shape};
+ghost use Rattle.std.specs.Prelude.{◌≡◌, ◌≢◌, IfErr, option_map};
 ghost use Rattle.toml.specs.View.{view};
 ghost use Rattle.mx_intake.specs.declared.fault.TheConstants.{MEMORY};
-ghost use Rattle.mx_intake.specs.Form.{by_form};
-ghost use Rattle.mx_intake.specs.Table.{text_at_key};
 ghost use Rattle.mx_intake.specs.Tasks.{behind, part_of_text, applies_of_text, stated_task, task_form, task_by_toml};
 
 use crate::fault::{BAD_SHAPE, BAD_VALUE, MISSING, UNKNOWN_KEY};
 use crate::limits::{have_other_key, limit_at, limit_if_there, tolerance_of};
-use crate::table::{flag_if_there, has_other, identifier_at, lacks, text_at};
+use crate::table::{flag_if_there, has_other, lacks, text_at};
 use crate::vocabulary::read_identifier;
 use mx_book::commands::{Applies, Task};
 use toml::Value;
@@ -40,53 +37,18 @@ fn read_applies(text: &str) -> Option<Applies>
     }
 }
 
-/// What the task is done on, as the text at a key says.
-fn applies_at(table: &Value, key: &str) -> Option<Applies>
-    ensures { result ≡ option_and_then applies_of_text (text_at_key key.now (view table.now)) }
-{
-    read_applies(text_at(table, key)?)
-}
-
 /// The task that a table states, where every value can be read.
 fn stated(table: &Value) -> Option<Task>
     ensures { result ≡ stated_task (view table.now) }
 {
-    let id = identifier_at(table, "id")?;
-    let applies = applies_at(table, "applies")?;
-    let first = limit_at(table, "first")?;
-    let repeat = limit_if_there(table, "repeat")?;
-    let tolerance = limit_if_there(table, "tolerance")?;
-    let retire = flag_if_there(table, "retire")?;
     Some(Task {
-        id,
-        applies,
-        first,
-        repeat,
-        tolerance: tolerance_of(tolerance),
-        retire: retire.unwrap_or(false),
+        id: read_identifier(text_at(table, "id")?)?,
+        applies: read_applies(text_at(table, "applies")?)?,
+        first: limit_at(table, "first")?,
+        repeat: limit_if_there(table, "repeat")?,
+        tolerance: tolerance_of(limit_if_there(table, "tolerance")?),
+        retire: flag_if_there(table, "retire")?.unwrap_or(false),
     })
-}
-
-/// The task of a form: from whether a key is missing, the task where every value can be read, and whether there is
-/// another key; or the number of its least fault.
-fn task_by_form(lacks: bool, stated: Option<Task>, has_other: bool) -> Result<Task, u8>
-    ensures task { result ≡ by_form task_shape lacks stated has_other }
-    ensures number { IfErr result (λ n. n ≢ MEMORY) }
-{
-    if lacks {
-        return Err(MISSING);
-    }
-    let Some(task) = stated else {
-        return Err(BAD_VALUE);
-    };
-    if has_other {
-        return Err(UNKNOWN_KEY);
-    }
-    if task.has_shape() {
-        Ok(task)
-    } else {
-        Err(BAD_SHAPE)
-    }
 }
 
 /// The task that a table gives by its form, or the number of its least fault.
@@ -95,9 +57,20 @@ fn task_of_table(table: &Value) -> Result<Task, u8>
     ensures number { IfErr result (λ n. n ≢ MEMORY) }
 {
     let keys = ["id", "applies", "first", "repeat", "tolerance", "retire"];
-    let lacks = lacks(table, &["id", "applies", "first"]);
-    let has_other = has_other(table, &keys) || have_other_key(table);
-    task_by_form(lacks, stated(table), has_other)
+    if lacks(table, &["id", "applies", "first"]) {
+        return Err(MISSING);
+    }
+    let Some(task) = stated(table) else {
+        return Err(BAD_VALUE);
+    };
+    if has_other(table, &keys) || have_other_key(table) {
+        return Err(UNKNOWN_KEY);
+    }
+    if task.has_shape() {
+        Ok(task)
+    } else {
+        Err(BAD_SHAPE)
+    }
 }
 
 /// The task that a value states, or the number of its least fault.

@@ -15,10 +15,7 @@ use serde_json::Value;
 pub fn read_identifier<A: Alphabet, const N: usize>(text: &str) -> Option<Identifier<A, N>>
     ensures { result ≡ identifier_of A.allows N text.now }
 {
-    match Identifier::read(text) {
-        Ok(identifier) => Some(identifier),
-        Err(_) => None,
-    }
+    Identifier::read(text).ok()
 }
 
 /// The day whose text it is.
@@ -27,10 +24,7 @@ pub fn read_day(text: &str) -> Option<Day>
     ensures some { IfSome result (λ d. (d ≤ last_day) × (day_text d ≡ text.now)) }
     ensures none { IfNone result ((d : ℕ) → d ≤ last_day → day_text d ≢ text.now) }
 {
-    match Day::read(text) {
-        Ok(day) => Some(day),
-        Err(_) => None,
-    }
+    Day::read(text).ok()
 }
 
 /// The moment whose text it is.
@@ -39,10 +33,7 @@ pub fn read_moment(text: &str) -> Option<Moment>
     ensures some { IfSome result (λ m. (m ≤ last_moment) × (moment_text m ≡ text.now)) }
     ensures none { IfNone result ((m : ℕ) → m ≤ last_moment → moment_text m ≢ text.now) }
 {
-    match Moment::read(text) {
-        Ok(moment) => Some(moment),
-        Err(_) => None,
-    }
+    Moment::read(text).ok()
 }
 
 /// The identifier at a key.
@@ -53,22 +44,19 @@ pub(crate) fn identifier_at<A: Alphabet, const N: usize>(
     ensures { result ≡ option_and_then (identifier_of A.allows N)
         (text_at_key key.now (view object.now)) }
 {
-    let text = text_at(object, key)?;
-    read_identifier(text)
+    read_identifier(text_at(object, key)?)
 }
 
 /// The day at a key.
 pub(crate) fn day_at(object: &Value, key: &str) -> Option<Day>
     ensures { result ≡ day_at_key key.now (view object.now) }
 {
-    let text = text_at(object, key)?;
-    read_day(text)
+    read_day(text_at(object, key)?)
 }
 
 /// The moment at a key.
 pub(crate) fn moment_at(object: &Value, key: &str) -> Option<Moment>
     ensures { result ≡ moment_at_key key.now (view object.now) }
 {
-    let text = text_at(object, key)?;
-    read_moment(text)
+    read_moment(text_at(object, key)?)
 }

@@ -3,4 +3,4 @@ pub mod Worked
 mod WorkedDues
 mod WorkedLimits
 mod WorkedForecasts
-mod WorkedReports
+pub mod WorkedReports

@@ -1,5 +1,5 @@
 -- Worked texts, computed from the definitions.
-use Rattle.std.proofs.Common.{refl, ◌≡◌, [], ◌∷◌, true, false}
+use Rattle.std.proofs.Common.{refl, ◌≡◌, List, [], ◌∷◌, true, false}
 use Rattle.std.specs.Prelude.{codes, map}
 use Rattle.std.specs.Fmt.{digits}
 use Rattle.std.specs.List.{flat_map}
@@ -7,40 +7,31 @@ use Rattle.mx_base.specs.Calendar.{date_of}
 use Rattle.mx_base.specs.Texts.{day_text, moment_text}
 use Rattle.mx_book.specs.declared.verdict.Refusal.TheVariants.{Conflict, Full, UnknownAircraft, UnknownComponent, UnknownPosition, UnknownProgramme, UnknownTask, UnknownDefect, AircraftExists, ComponentExists, PositionTaken, AlreadyFitted, NotFitted, WrongPart, ItemElsewhere, TaskClosed, LifeLimit, DefectClosed, OutOfOrder, NotExtendable, AlreadyExtended, ExtensionTooLong, IntervalEnded, WrongRevision, OtherAircraft, OpeningTooLate, OpeningTooLarge, RepeatedLine}
 use Rattle.mx_book.specs.declared.verdict.Reply.TheVariants.{Accepted, Already, Refused}
+use Rattle.mx_base.specs.declared.amounts.Use.{Use}
+use Rattle.mx_lists.specs.declared.life_list.FittedPart.{FittedPart}
+use Rattle.mx_lists.specs.declared.life_list.LifeList.{LifeList}
 use Rattle.mx_reports.specs.LifeText.{life_lines}
 use Rattle.mx_reports.specs.Replies.{is_refusal, lines_of}
 use Rattle.mx_reports.specs.ReplyText.{reply_line}
 use Rattle.mx_reports.specs.Words.{StartsWith}
 
--- a list without parts, and one with a part
-airframe_alone : life_lines (record { tail = codes "D-ABCD"; kind = codes "C172"; life = record { minutes = 60090; cycles = 801 }; parts = [] })
-    ≡ codes "life D-ABCD\nairframe C172 1001:30 801\nend 1\n"
-unfolding digits
-airframe_alone = refl
+-- the life list of an airframe with these hours, cycles and parts
+abbrev life_of : Use → List FittedPart → LifeList
+life_of life parts = record { tail = codes "D-ABCD"; kind = codes "C172"; life = life; parts = parts }
 
-with_part : life_lines (record {
-  tail = codes "D-ABCD";
-  kind = codes "C172";
-  life = record { minutes = 60090; cycles = 801 };
-  parts =
-      record { position = codes "ENG"; serial = codes "E2"; part = codes "IO360"; life = record { minutes = 1000; cycles = 100 } } ∷ [];
-})
-    ≡ codes "life D-ABCD\nairframe C172 1001:30 801\npart ENG E2 IO360 16:40 100\nend 2\n"
-unfolding digits
-with_part = refl
-
--- parts stand in the order of the list, and two of them are counted
-with_two_parts : life_lines (record {
-  tail = codes "D-ABCD";
-  kind = codes "C172";
-  life = record { minutes = 59; cycles = 0 };
-  parts =
+-- a list without parts, one with a part, and one of two parts, which stand in the order of the list and are counted
+lives : map life_lines (
+    life_of (record { minutes = 60090; cycles = 801 }) []
+    ∷ life_of (record { minutes = 60090; cycles = 801 }) (record { position = codes "ENG"; serial = codes "E2"; part = codes "IO360"; life = record { minutes = 1000; cycles = 100 } } ∷ [])
+    ∷ life_of (record { minutes = 59; cycles = 0 }) (
       record { position = codes "ENG"; serial = codes "E2"; part = codes "IO360"; life = record { minutes = 60; cycles = 1 } }
-      ∷ record { position = codes "PROP"; serial = codes "P1"; part = codes "HC2"; life = record { minutes = 0; cycles = 2 } } ∷ [];
-})
-    ≡ codes "life D-ABCD\nairframe C172 0:59 0\npart ENG E2 IO360 1:00 1\npart PROP P1 HC2 0:00 2\nend 3\n"
+      ∷ record { position = codes "PROP"; serial = codes "P1"; part = codes "HC2"; life = record { minutes = 0; cycles = 2 } } ∷ [])
+    ∷ [])
+    ≡ codes "life D-ABCD\nairframe C172 1001:30 801\nend 1\n"
+    ∷ codes "life D-ABCD\nairframe C172 1001:30 801\npart ENG E2 IO360 16:40 100\nend 2\n"
+    ∷ codes "life D-ABCD\nairframe C172 0:59 0\npart ENG E2 IO360 1:00 1\npart PROP P1 HC2 0:00 2\nend 3\n" ∷ []
 unfolding digits
-with_two_parts = refl
+lives = refl
 
 -- commands that were entered, now or before
 entered : flat_map reply_line (Accepted 1 ∷ Accepted 1000000 ∷ Already 12 ∷ []) ≡ codes "accepted 1\naccepted 1000000\nalready 12\n"

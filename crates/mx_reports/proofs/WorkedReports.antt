@@ -1,5 +1,5 @@
 -- Worked lists of a book, and their texts, computed from the definitions.
-use Rattle.std.proofs.Common.{refl, ◌≡◌, List, [], ◌∷◌, Some, None}
+use Rattle.std.proofs.Common.{refl, ◌≡◌, ℕ, List, [], ◌∷◌, Some, None}
 use Rattle.std.specs.Prelude.{codes, map}
 use Rattle.std.specs.Fmt.{digits}
 use Rattle.mx_base.specs.Calendar.{date_of}
@@ -10,15 +10,19 @@ use Rattle.mx_lists.specs.declared.report.Report.TheVariants as report
 use Rattle.mx_lists.specs.Report.{report_of, tail_asked}
 use Rattle.mx_reports.specs.ReportText.{report_lines}
 
--- D-ABCD, built on 2000-01-01, with 60,000 minutes and 800 cycles as of 2024-01-01T00:00, and its sector of 90 minutes and one cycle
-abbrev flown : List Entry
-flown =
+-- D-ABCD of a kind, built on a day, with 60,000 minutes and 800 cycles as of a moment, and on 2024-03-01 a sector of 90 minutes and one cycle, the first of a page
+abbrev pub flown_once : List ℕ → ℕ → ℕ → ℕ → List ℕ → List Entry
+flown_once kind birth as_of page doc =
     record {
       doc = codes "A1";
-      act = Added (record { tail = codes "D-ABCD"; kind = codes "C172"; birth = 10957; opening = record { minutes = 60000; cycles = 800 }; as_of = 28401120 }) [];
+      act = Added (record { tail = codes "D-ABCD"; kind = kind; birth = birth; opening = record { minutes = 60000; cycles = 800 }; as_of = as_of }) [];
     }
-    ∷ record { doc = codes "TL/D-ABCD/12/1"; act = Flown (record { tail = codes "D-ABCD"; page = 12; line = 1; off = 28488000; on = 28488090; cycles = 1 }) }
+    ∷ record { doc = doc; act = Flown (record { tail = codes "D-ABCD"; page = page; line = 1; off = 28488000; on = 28488090; cycles = 1 }) }
     ∷ []
+
+-- built on 2000-01-01, and as of 2024-01-01T00:00
+abbrev flown : List Entry
+flown = flown_once (codes "C172") 10957 28401120 12 (codes "TL/D-ABCD/12/1")
 
 -- ── each question is of its aircraft, and has its list ──
 

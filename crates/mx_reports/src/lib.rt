@@ -7,20 +7,17 @@
 //!   as they were: `reply_text`, `due_text`, `list_text`: `printed`, `unchanged`; for each text at once `append_whole`.
 //! - A line for each of some replies is appended, or nothing where memory runs out; and it is told whether one of them
 //!   is a refusal: `replies_text`; `is_refused`, `has_refusal`.
-#![tactic(auto)]
+#![tactic(auto, using(crate::proofs::StartsLemmas::starts_further))]
 
 mod defect;
-pub mod due;
-mod forecast;
-mod life;
-mod limits;
+pub mod lists;
 pub mod replies;
 pub mod reply;
 pub mod report;
 pub mod text;
 mod words;
 
-pub use due::due_text;
+pub use lists::due_text;
 pub use replies::{has_refusal, is_refused, replies_text};
 pub use reply::reply_text;
 pub use report::list_text;

@@ -46,7 +46,6 @@ fn append_carried(out: &mut Vec<u8>, refusal: &Refusal) -> Result<(), AllocError
     }
 }
 
-#[tactic(auto, using(crate::proofs::StartsLemmas::starts_further))]
 fn append_refusal(out: &mut Vec<u8>, refusal: &Refusal) -> Result<(), AllocError>
     ensures words { OnOk result (out.new.items
         ≡ out.old.items ++ (codes "refused" ++ refusal_words refusal.now)) }
@@ -57,7 +56,6 @@ fn append_refusal(out: &mut Vec<u8>, refusal: &Refusal) -> Result<(), AllocError
     append_carried(out, refusal)
 }
 
-#[tactic(auto, using(crate::proofs::StartsLemmas::starts_further))]
 fn append_entered(out: &mut Vec<u8>, word: &[u8], seq: u32) -> Result<(), AllocError>
     ensures words { OnOk result (out.new.items
         ≡ out.old.items ++ (word.now ++ spaced (decimal seq))) }
@@ -70,7 +68,6 @@ fn append_entered(out: &mut Vec<u8>, word: &[u8], seq: u32) -> Result<(), AllocE
 impl Text for Reply {
     ghost text = { reply_line };
 
-    #[tactic(auto, using(crate::proofs::StartsLemmas::starts_further))]
     fn append(&self, out: &mut Vec<u8>) -> Result<(), AllocError> {
         match self {
             Reply::Accepted(seq) => append_entered(out, b"accepted", *seq)?,

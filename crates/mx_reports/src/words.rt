@@ -45,7 +45,6 @@ pub(crate) fn append_signed(out: &mut Vec<u8>, number: i64) -> Result<(), AllocE
     out.extend_from_slice(buffer.format(number).as_bytes())
 }
 
-#[tactic(auto, using(crate::proofs::StartsLemmas::starts_further))]
 pub(crate) fn append_day(out: &mut Vec<u8>, day: Day) -> Result<(), AllocError>
     ensures words { OnOk result (out.new.items ≡ out.old.items ++ spaced (day_text day)) }
     ensures kept { OnErr result (StartsWith out.old.items out.new.items) }
@@ -54,7 +53,6 @@ pub(crate) fn append_day(out: &mut Vec<u8>, day: Day) -> Result<(), AllocError>
     print_day(out, day)
 }
 
-#[tactic(auto, using(crate::proofs::StartsLemmas::starts_further))]
 pub(crate) fn append_moment(out: &mut Vec<u8>, moment: Moment) -> Result<(), AllocError>
     ensures words { OnOk result (out.new.items ≡ out.old.items ++ spaced (moment_text moment)) }
     ensures kept { OnErr result (StartsWith out.old.items out.new.items) }
@@ -63,25 +61,15 @@ pub(crate) fn append_moment(out: &mut Vec<u8>, moment: Moment) -> Result<(), All
     print_moment(out, moment)
 }
 
-#[tactic(auto, using(crate::proofs::StartsLemmas::starts_further))]
-fn append_hours(out: &mut Vec<u8>, minutes: i64) -> Result<(), AllocError>
-    ensures words { OnOk result (out.new.items ≡ out.old.items ++ spaced (hours_text minutes)) }
-    ensures kept { OnErr result (StartsWith out.old.items out.new.items) }
-{
-    out.push(b' ')?;
-    print_hours(out, minutes)
-}
-
-#[tactic(auto, using(crate::proofs::StartsLemmas::starts_further))]
 pub(crate) fn append_use(out: &mut Vec<u8>, life: &Use) -> Result<(), AllocError>
     ensures words { OnOk result (out.new.items ≡ out.old.items ++ use_words life.now) }
     ensures kept { OnErr result (StartsWith out.old.items out.new.items) }
 {
-    append_hours(out, i64::from(life.minutes))?;
+    out.push(b' ')?;
+    print_hours(out, i64::from(life.minutes))?;
     append_number(out, life.cycles as usize)
 }
 
-#[tactic(auto, using(crate::proofs::StartsLemmas::starts_further))]
 pub(crate) fn append_end(out: &mut Vec<u8>, rows: usize) -> Result<(), AllocError>
     ensures words { OnOk result (out.new.items ≡ out.old.items ++ end_line rows) }
     ensures kept { OnErr result (StartsWith out.old.items out.new.items) }

@@ -42,22 +42,11 @@ fn wanted(is_so: bool, what: &'static str) -> Result<(), Fail> {
 #[test]
 fn failed_and_interrupted_reads_are_told(rt: HostRuntime) -> Result<(), Fail> {
     for answered in 0..4u32 {
-        wanted(
-            is_told(&rt, answered, ErrorKind::Other),
-            "a read that fails",
-        )?;
-        wanted(
-            is_told(&rt, answered, ErrorKind::Interrupted),
-            "a read that is interrupted",
-        )?;
-        wanted(
-            is_head_told(&rt, answered, ErrorKind::Interrupted),
-            "a head",
-        )?;
-        wanted(
-            is_body_told(&rt, answered, ErrorKind::Interrupted),
-            "a body",
-        )?;
+        for kind in [ErrorKind::Other, ErrorKind::Interrupted] {
+            wanted(is_told(&rt, answered, kind), "a read of all")?;
+            wanted(is_head_told(&rt, answered, kind), "a head")?;
+            wanted(is_body_told(&rt, answered, kind), "a body")?;
+        }
     }
     Ok(())
 }

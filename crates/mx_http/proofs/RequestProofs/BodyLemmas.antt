@@ -5,8 +5,10 @@ use Rattle.std.proofs.lemmas.List.{take-append-le, take_all}
 use Rattle.std.proofs.Math.Seq.{take-append_seam}
 use Rattle.std.specs.Io.KnownBytes.{Consumes, IsAtEnd}
 use Rattle.mx_http.specs.request.Body.{whole_body}
-use Rattle.mx_http.specs.request.Input.{AddsTaken, TakesAtMost}
-use Rattle.mx_http.proofs.RequestProofs.InputLemmas.{consumes_more, takes_on}
+use Rattle.mx_intake.specs.Input.{TakesAtMost}
+use Rattle.mx_intake.proofs.InputLemmas.{consumes_more}
+use Rattle.mx_http.specs.request.Input.{AddsTaken}
+use Rattle.mx_http.proofs.RequestProofs.InputLemmas.{takes_on}
 
 -- a body of so many bytes, as far as it is there: what was begun, cut to its size, and what was taken
 pub record IsBegun (old left : Option (List ℕ)) (begun : List ℕ) (size : ℕ) (body : List ℕ) : Type 0 where

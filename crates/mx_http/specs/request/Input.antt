@@ -2,10 +2,6 @@
 use Rattle.std.specs.Prelude.{◌≡◌, ◌≤◌, ◌<◌, ℕ, List, ◌++◌, length, Option}
 use Rattle.std.specs.Io.KnownBytes.{Consumes, IsAtEnd}
 
--- at most so many bytes were taken
-abbrev pub TakesAtMost : Option (List ℕ) → Option (List ℕ) → ℕ → Type 0
-TakesAtMost old new most = (taken : List ℕ) × Consumes old new taken × (length taken ≤ most)
-
 -- n bytes were taken, at most so many, and stand behind those that were there: none only at the end
 abbrev pub AddsTaken : Option (List ℕ) → Option (List ℕ) → List ℕ → List ℕ → ℕ → ℕ → Type 0
 AddsTaken old new before behind n most =

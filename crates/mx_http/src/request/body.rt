@@ -1,7 +1,7 @@
 //! The body of a request.
 ghost use Rattle.std.specs.Prelude.{◌≡◌, ◌++◌, Some, IfOk, IfSome, option_map, vec_len};
 ghost use Rattle.mx_http.specs.request.Body.{missing, whole_body};
-ghost use Rattle.mx_http.specs.request.Input.{TakesAtMost};
+ghost use Rattle.mx_intake.specs.Input.{TakesAtMost};
 
 use crate::request::input::{InputFault, front_of, read_some};
 use std::alloc::Global;
@@ -22,7 +22,8 @@ pub fn read_body<R: Read>(
     ensures takes { TakesAtMost (R.remaining reader.old) (R.remaining reader.new)
         (missing length begun.now) }
 {
-    let mut body = Vec::from_slice(alloc, front_of(begun, length))?;
+    let front = Vec::from_slice(alloc, front_of(begun, length));
+    let mut body = front.map_err(|_| InputFault::Memory)?;
     while body.len() < length {
         let missing = length - body.len();
         if read_some(reader, &mut body, missing)? == 0 {

@@ -1,7 +1,7 @@
 //! The head of a request: where it ends, and reading as far.
 ghost use Rattle.std.specs.Prelude.{◌≡◌, ◌≤◌, ◌++◌, [], Some, IfOk, IfSome, length, vec_len};
 ghost use Rattle.mx_http.specs.request.Head.{HasNoHeadBefore, head_length, head_of};
-ghost use Rattle.mx_http.specs.request.Input.{TakesAtMost};
+ghost use Rattle.mx_intake.specs.Input.{TakesAtMost};
 ghost use Rattle.mx_http.specs.declared.request.input.TheConstants.{CHUNK};
 
 use crate::request::input::{InputFault, front_of, read_some};

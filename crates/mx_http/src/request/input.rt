@@ -1,8 +1,8 @@
 //! Reading some bytes of an input.
 ghost use Rattle.std.specs.Prelude.{◌≡◌, ◌≤◌, take, IfOk};
-ghost use Rattle.mx_http.specs.request.Input.{AddsTaken, TakesAtMost};
+ghost use Rattle.mx_intake.specs.Input.{TakesAtMost};
+ghost use Rattle.mx_http.specs.request.Input.{AddsTaken};
 
-use std::alloc::AllocError;
 use std::io::Read;
 
 /// How many bytes a read is asked for at most.
@@ -15,17 +15,6 @@ pub enum InputFault {
     Memory,
     /// A read failed, or was interrupted.
     Read,
-}
-
-impl From<AllocError> for InputFault {
-    ghost use Rattle.std.specs.Prelude.{◌≡◌};
-    ghost use Rattle.mx_http.specs.declared.request.input.InputFault.TheVariants.{Memory};
-
-    ghost from_gives = { λ _ f. f ≡ Memory };
-
-    fn from(_error: AllocError) -> InputFault {
-        InputFault::Memory
-    }
 }
 
 /// The first so many bytes, or all where there are fewer.
@@ -51,7 +40,8 @@ pub(crate) fn read_some<R: Read>(
     let room = most.min(CHUNK);
     match reader.read(&mut chunk[..room]) {
         Ok(n) => {
-            bytes.extend_from_slice(&chunk[..n])?;
+            let added = bytes.extend_from_slice(&chunk[..n]);
+            added.map_err(|_| InputFault::Memory)?;
             Ok(n)
         }
         Err(_) => Err(InputFault::Read),

@@ -4,13 +4,13 @@ ghost use Rattle.http.specs.Response.{body_of, head_of};
 ghost use Rattle.mx_http.specs.responses.Answer.{IsMade, list_answer, replies_answer, rows_answer};
 
 use crate::responses::fault::DeskFault;
-use crate::responses::respond::{lines_response, response};
+use crate::responses::respond::{lines_response, text_response};
 use http::{Response, StatusCode};
 use mx_book::{Refusal, Reply};
 use mx_faults::{Ask, Fault};
 use mx_lists::Report;
 use mx_output::sector_log::{RowReply, has_bad, has_refused, report_text};
-use mx_reports::{has_refusal, list_text, replies_text, reply_text};
+use mx_reports::{has_refusal, replies_text};
 use std::alloc::Global;
 
 /// The response with a list.
@@ -19,9 +19,7 @@ pub fn report_response(alloc: Global, report: &Report) -> Result<Response<Vec<u8
         ≡ list_answer (Ok report.now)) }
     ensures made { IsMade result }
 {
-    let mut body = Vec::new(alloc);
-    list_text(&mut body, report)?;
-    Ok(response(alloc, StatusCode::OK, body))
+    text_response(alloc, StatusCode::OK, report)
 }
 
 /// The response with a refusal.
@@ -30,9 +28,7 @@ pub fn refusal_response(alloc: Global, refusal: Refusal) -> Result<Response<Vec<
         ≡ list_answer (Err (Ask.Refused refusal))) }
     ensures made { IsMade result }
 {
-    let mut body = Vec::new(alloc);
-    reply_text(&mut body, &Reply::Refused(refusal))?;
-    Ok(response(alloc, StatusCode::CONFLICT, body))
+    text_response(alloc, StatusCode::CONFLICT, &Reply::Refused(refusal))
 }
 
 /// The response with a line for each reply, and behind them the line of what stopped the office, if anything did.

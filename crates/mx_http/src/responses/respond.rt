@@ -11,6 +11,7 @@ use http::{Response, StatusCode};
 use mx_faults::Fault;
 use mx_intake::{IntakeFault, MEMORY};
 use mx_output::endings::{write_fault, write_intake};
+use mx_reports::{Text, append_whole};
 use std::alloc::Global;
 
 /// A response with this status and body.
@@ -65,15 +66,28 @@ pub(crate) fn lines_response(
     Ok(response(alloc, StatusCode::SERVICE_UNAVAILABLE, lines))
 }
 
+/// The response with a text.
+pub(crate) fn text_response<T: Text>(
+    alloc: Global,
+    status: StatusCode,
+    text: &T,
+) -> Result<Response<Vec<u8>>, DeskFault>
+    ensures status { IfOk result (λ r. (head_of r).status ≡ status) }
+    ensures text { IfOk result (λ r. (body_of r).items ≡ T.text text.now) }
+    ensures made { IsMade result }
+{
+    let mut body = Vec::new(alloc);
+    append_whole(&mut body, text)?;
+    Ok(response(alloc, status, body))
+}
+
 /// The response of an office that something stopped.
 pub fn stop_response(alloc: Global, fault: Fault) -> Result<Response<Vec<u8>>, DeskFault>
     ensures answer { IfOk result (λ r. ((head_of r).status, (body_of r).items)
         ≡ stop_answer fault) }
     ensures made { IsMade result }
 {
-    let mut body = Vec::new(alloc);
-    append_stop(&mut body, fault)?;
-    Ok(response(alloc, StatusCode::SERVICE_UNAVAILABLE, body))
+    lines_response(alloc, false, Vec::new(alloc), Some(fault))
 }
 
 /// The response to a body whose text gives nothing.

@@ -143,19 +143,13 @@ fn doc_at(values: &ArgMatches<'_>) -> Option<Doc>
 fn trial_of(values: &ArgMatches<'_>) -> Option<Trial>
     ensures { result ≡ trying (values_of values.now) }
 {
-    let tail = tail_at(values)?;
-    let minutes = number_at(values, "MINUTES")?;
-    let cycles = number_at(values, "CYCLES")?;
-    let off = moment_at(values, "OFF")?;
-    let on = moment_at(values, "ON")?;
-    let sector_cycles = number_at(values, "SECTOR_CYCLES")?;
     Some(Trial {
-        tail,
-        minutes,
-        cycles,
-        off,
-        on,
-        sector_cycles,
+        tail: tail_at(values)?,
+        minutes: number_at(values, "MINUTES")?,
+        cycles: number_at(values, "CYCLES")?,
+        off: moment_at(values, "OFF")?,
+        on: moment_at(values, "ON")?,
+        sector_cycles: number_at(values, "SECTOR_CYCLES")?,
     })
 }
 

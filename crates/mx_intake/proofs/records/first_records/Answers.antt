@@ -1,4 +1,4 @@
-use Rattle.std.proofs.Common.{Bor, List, ℕ, ◌≡◌, ◌≤◌, ◌<◌, ◌∙◌, sym, refl, rules, arith, inl, inr, true, map, Some, ◌∷◌, [], length}
+use Rattle.std.proofs.Common.{Bor, List, ℕ, ◌≡◌, ◌≤◌, ◌∙◌, sym, refl, rules, arith, inl, inr, true, map, Some, ◌∷◌, [], length}
 use Rattle.std.specs.Result.{is_ok}
 use Rattle.std.proofs.lemmas.List.{length-map, map-append}
 use Rattle.csv.specs.Reading.{Reached, default_config, strip_bom}
