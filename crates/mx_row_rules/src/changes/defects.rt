@@ -8,7 +8,7 @@ ghost use Rattle.mx_registers.specs.kept.Items.{number_of_tail};
 ghost use Rattle.mx_row_rules.specs.changes.Made.{AreMadeOf, nothing_found};
 ghost use Rattle.mx_row_rules.specs.changes.Rows.{AreCommandRows, IsEntryOf, totals_before};
 
-use crate::changes::plain::{none_added, none_changed};
+use crate::changes::plain::entry_alone;
 use crate::changes::rows::CommandRows;
 use crate::changes::totals::clocked_totals;
 use mx_base::Category;
@@ -38,15 +38,10 @@ pub fn deferral_rows(
     let _: Option<Category> = None;
     let behind = clocked_totals(alloc, totals, deferral.moment)?;
     let row = deferral_row(entry.seq, aircraft, deferral);
-    let mut added = none_added(alloc);
-    let mut changed = none_changed(alloc);
-    changed.totals = behind;
-    added.deferrals.push(row)?;
-    Ok(CommandRows {
-        entry,
-        changed,
-        added,
-    })
+    let mut rows = entry_alone(alloc, entry);
+    rows.changed.totals = behind;
+    rows.added.deferrals.push(row)?;
+    Ok(rows)
 }
 
 /// The rows of an extension, by the number of its defect.
@@ -65,11 +60,7 @@ pub fn extension_rows(
         (record nothing_found { number = defect }) rows) }
 {
     let row = extension_row(entry.seq, defect, extension);
-    let mut added = none_added(alloc);
-    added.extensions.push(row)?;
-    Ok(CommandRows {
-        entry,
-        changed: none_changed(alloc),
-        added,
-    })
+    let mut rows = entry_alone(alloc, entry);
+    rows.added.extensions.push(row)?;
+    Ok(rows)
 }

@@ -10,7 +10,7 @@ ghost use Rattle.mx_row_rules.specs.changes.Kept.{total_begun};
 ghost use Rattle.mx_row_rules.specs.changes.Made.{AreMadeOf, nothing_found};
 ghost use Rattle.mx_row_rules.specs.changes.Rows.{AreCommandRows, IsEntryOf};
 
-use crate::changes::plain::{none_added, none_changed};
+use crate::changes::plain::entry_alone;
 use crate::changes::rows::CommandRows;
 use mx_base::rows::{EntryRow, PlaceRow, TotalRow};
 use mx_base::{Moment, Part, Position, Use};
@@ -73,15 +73,11 @@ pub fn aircraft_rows(
     let total = first_total(entry.seq, aircraft.opening, aircraft.as_of);
     let row = aircraft_row(entry.seq, aircraft);
     let places = place_rows(alloc, entry.seq, positions)?;
-    let mut added = none_added(alloc);
-    added.places = places;
-    added.aircraft.push(row)?;
-    added.totals.push(total)?;
-    Ok(CommandRows {
-        entry,
-        changed: none_changed(alloc),
-        added,
-    })
+    let mut rows = entry_alone(alloc, entry);
+    rows.added.places = places;
+    rows.added.aircraft.push(row)?;
+    rows.added.totals.push(total)?;
+    Ok(rows)
 }
 
 /// The rows of a component that an entry adds.
@@ -98,12 +94,8 @@ pub fn component_rows(
 {
     let total = first_total(entry.seq, component.opening, component.as_of);
     let row = component_row(entry.seq, component);
-    let mut added = none_added(alloc);
-    added.components.push(row)?;
-    added.totals.push(total)?;
-    Ok(CommandRows {
-        entry,
-        changed: none_changed(alloc),
-        added,
-    })
+    let mut rows = entry_alone(alloc, entry);
+    rows.added.components.push(row)?;
+    rows.added.totals.push(total)?;
+    Ok(rows)
 }

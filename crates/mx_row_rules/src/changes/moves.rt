@@ -8,7 +8,7 @@ ghost use Rattle.mx_row_rules.specs.changes.Kept.{span_fitted, span_removed};
 ghost use Rattle.mx_row_rules.specs.changes.Made.{AreMadeOf, nothing_found};
 ghost use Rattle.mx_row_rules.specs.changes.Rows.{AreCommandRows, IsEntryOf, spans_open_of, totals_before};
 
-use crate::changes::plain::{none_added, none_changed};
+use crate::changes::plain::entry_alone;
 use crate::changes::rows::CommandRows;
 use crate::changes::totals::clocked_totals;
 use mx_base::Moment;
@@ -79,15 +79,10 @@ pub fn fitting_rows(
     let _: Option<Moment> = None;
     let span = span_begun(entry.seq, component, aircraft, &fitting);
     let behind = clocked_totals(alloc, totals, fitting.moment)?;
-    let mut added = none_added(alloc);
-    let mut changed = none_changed(alloc);
-    changed.totals = behind;
-    added.spans.push(span)?;
-    Ok(CommandRows {
-        entry,
-        changed,
-        added,
-    })
+    let mut rows = entry_alone(alloc, entry);
+    rows.changed.totals = behind;
+    rows.added.spans.push(span)?;
+    Ok(rows)
 }
 
 // Spans, ended by the entry with a number at a moment.
@@ -130,12 +125,8 @@ pub fn removal_rows(
     let _: Option<Moment> = None;
     let ended = spans_ended(alloc, spans, entry.seq, removal.moment)?;
     let behind = clocked_totals(alloc, totals, removal.moment)?;
-    let mut changed = none_changed(alloc);
-    changed.totals = behind;
-    changed.spans = ended;
-    Ok(CommandRows {
-        entry,
-        changed,
-        added: none_added(alloc),
-    })
+    let mut rows = entry_alone(alloc, entry);
+    rows.changed.totals = behind;
+    rows.changed.spans = ended;
+    Ok(rows)
 }

@@ -1,11 +1,14 @@
 //! The rows of a command that adds nothing beside its entry and changes nothing.
+ghost use Rattle.std.specs.Prelude.{◌≡◌};
+ghost use Rattle.mx_base.specs.rows.Rows.{FitsEntry};
 ghost use Rattle.mx_row_rules.specs.changes.Rows.{AreNone, AreUnchanged};
 
-use crate::changes::rows::{AddedRows, ChangedRows};
+use crate::changes::rows::{AddedRows, ChangedRows, CommandRows};
+use mx_base::rows::EntryRow;
 use std::alloc::Global;
 
 // No row beside the entry.
-pub(crate) fn none_added(alloc: Global) -> AddedRows
+fn none_added(alloc: Global) -> AddedRows
     ensures { AreNone result }
 {
     AddedRows {
@@ -26,12 +29,27 @@ pub(crate) fn none_added(alloc: Global) -> AddedRows
 }
 
 // No kept row that changes.
-pub(crate) fn none_changed(alloc: Global) -> ChangedRows
+fn none_changed(alloc: Global) -> ChangedRows
     ensures { AreUnchanged result }
 {
     ChangedRows {
         spans: Vec::new(alloc),
         totals: Vec::new(alloc),
         bases: Vec::new(alloc),
+    }
+}
+
+// The row of an entry, and no other.
+pub(crate) fn entry_alone(alloc: Global, entry: EntryRow) -> CommandRows
+    requires { FitsEntry entry }
+    ensures entry { result.entry ≡ entry }
+    ensures fits { FitsEntry result.entry }
+    ensures added { AreNone result.added }
+    ensures changed { AreUnchanged result.changed }
+{
+    CommandRows {
+        entry,
+        changed: none_changed(alloc),
+        added: none_added(alloc),
     }
 }

@@ -11,7 +11,7 @@ ghost use Rattle.mx_registers.specs.kept.Items.{number_of_item};
 ghost use Rattle.mx_row_rules.specs.changes.Made.{AreMadeOf, nothing_found};
 ghost use Rattle.mx_row_rules.specs.changes.Rows.{AreCommandRows, IsEntryOf};
 
-use crate::changes::plain::{none_added, none_changed};
+use crate::changes::plain::entry_alone;
 use crate::changes::rows::CommandRows;
 use mx_base::rows::{BaseRow, EntryRow, TaskRow};
 use mx_base::{Day, TaskId, Use};
@@ -71,14 +71,10 @@ pub fn programme_rows(
 {
     let row = programme_row(entry.seq, programme);
     let lines = task_rows(alloc, entry.seq, tasks)?;
-    let mut added = none_added(alloc);
-    added.tasks = lines;
-    added.programmes.push(row)?;
-    Ok(CommandRows {
-        entry,
-        changed: none_changed(alloc),
-        added,
-    })
+    let mut rows = entry_alone(alloc, entry);
+    rows.added.tasks = lines;
+    rows.added.programmes.push(row)?;
+    Ok(rows)
 }
 
 /// The rows of an opening of a task of the item with a number.
@@ -98,13 +94,8 @@ pub fn opening_rows(
 {
     let base = stated_row(item, &opening.task, opening.use_then, opening.day);
     let row = opening_row(entry.seq, item, opening);
-    let mut added = none_added(alloc);
-    let mut changed = none_changed(alloc);
-    added.openings.push(row)?;
-    changed.bases.push(base)?;
-    Ok(CommandRows {
-        entry,
-        changed,
-        added,
-    })
+    let mut rows = entry_alone(alloc, entry);
+    rows.added.openings.push(row)?;
+    rows.changed.bases.push(base)?;
+    Ok(rows)
 }

@@ -13,7 +13,7 @@ ghost use Rattle.mx_row_rules.specs.changes.Certified.{AreKnownOf, HasLifeReache
 ghost use Rattle.mx_row_rules.specs.changes.Made.{AreMadeOf, nothing_found};
 ghost use Rattle.mx_row_rules.specs.changes.Rows.{AreCommandRows, IsEntryOf, totals_before};
 
-use crate::changes::plain::{none_added, none_changed};
+use crate::changes::plain::entry_alone;
 use crate::changes::rows::CommandRows;
 use crate::changes::totals::clocked_totals;
 use mx_base::rows::{BaseRow, EntryRow, ReleaseLineRow, TotalRow};
@@ -149,15 +149,10 @@ pub fn release_rows(
     let line_rows = line_rows(alloc, entry.seq, lines)?;
     let bases = base_rows(alloc, day_of(release.moment), lines)?;
     let row = release_row(entry.seq, item, release);
-    let mut added = none_added(alloc);
-    let mut changed = none_changed(alloc);
-    added.release_lines = line_rows;
-    changed.bases = bases;
-    changed.totals = behind;
-    added.releases.push(row)?;
-    Ok(CommandRows {
-        entry,
-        changed,
-        added,
-    })
+    let mut rows = entry_alone(alloc, entry);
+    rows.added.release_lines = line_rows;
+    rows.changed.bases = bases;
+    rows.changed.totals = behind;
+    rows.added.releases.push(row)?;
+    Ok(rows)
 }

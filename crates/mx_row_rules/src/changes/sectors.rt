@@ -10,7 +10,7 @@ ghost use Rattle.mx_row_rules.specs.changes.Made.{AreMadeOf, nothing_found};
 ghost use Rattle.mx_row_rules.specs.changes.Rows.{AreCommandRows, IsEntryOf, totals_before};
 ghost use Rattle.mx_row_rules.specs.changes.Kept.{HasLife};
 
-use crate::changes::plain::{none_added, none_changed};
+use crate::changes::plain::entry_alone;
 use crate::changes::rows::CommandRows;
 use crate::changes::totals::flown_totals;
 use mx_base::rows::{EntryRow, Sector2Row, TotalRow};
@@ -39,15 +39,11 @@ pub fn sector_rows(
         (record nothing_found { number = aircraft; spans = spans; totals = totals.now }) rows) }
 {
     let behind = flown_totals(alloc, totals, aircraft, &sector)?;
-    let mut added = none_added(alloc);
-    let mut changed = none_changed(alloc);
-    changed.totals = behind;
-    added.sectors.push(Sector2Row {
+    let row = Sector2Row {
         sector: sector_row(entry.seq, aircraft, sector),
-    })?;
-    Ok(CommandRows {
-        entry,
-        changed,
-        added,
-    })
+    };
+    let mut rows = entry_alone(alloc, entry);
+    rows.changed.totals = behind;
+    rows.added.sectors.push(row)?;
+    Ok(rows)
 }

@@ -20,49 +20,39 @@ use mx_book::commands::Aircraft;
 pub fn aircraft_number(rows: &[AircraftRow]) -> Option<u32>
     ensures { result ≡ aircraft_number rows.now }
 {
-    match rows.first() {
-        Some(row) => Some(row.seq),
-        None => None,
-    }
+    rows.first().map(|row| row.seq)
 }
 
 /// The registration of the first of these aircraft.
 pub fn tail_in(rows: &[AircraftRow]) -> Option<Tail>
     ensures { result ≡ tail_in rows.now }
 {
-    match rows.first() {
-        Some(row) => Some(row.tail),
-        None => None,
-    }
+    rows.first().map(|row| row.tail)
 }
 
 /// The aircraft that the first of these rows says.
 pub fn aircraft_in(rows: &[AircraftRow]) -> Option<Aircraft>
     ensures { result ≡ aircraft_in rows.now }
 {
-    match rows.first() {
-        Some(row) => Some(Aircraft {
-            tail: row.tail,
-            kind: row.kind,
-            birth: row.birth,
-            opening: Use {
-                minutes: row.minutes,
-                cycles: row.cycles,
-            },
-            as_of: row.as_of,
-        }),
-        None => None,
-    }
+    rows.first().map(|row| Aircraft {
+        tail: row.tail,
+        kind: row.kind,
+        birth: row.birth,
+        opening: Use {
+            minutes: row.minutes,
+            cycles: row.cycles,
+        },
+        as_of: row.as_of,
+    })
 }
 
 /// The part that a position takes, by the rows of the positions of an aircraft.
 pub fn part_in(rows: &[PlaceRow], position: &Position) -> Option<Part>
     ensures { result ≡ part_in rows.now position.now }
 {
-    match rows.iter().find(|row| row.position == *position) {
-        Some(row) => Some(row.part),
-        None => None,
-    }
+    rows.iter()
+        .find(|row| row.position == *position)
+        .map(|row| row.part)
 }
 
 /// The rows of aircraft with a registration say the aircraft and have its number; those with a number, its registration;

@@ -18,39 +18,30 @@ use mx_book::commands::Component;
 pub fn component_number(rows: &[ComponentRow]) -> Option<u32>
     ensures { result ≡ component_number rows.now }
 {
-    match rows.first() {
-        Some(row) => Some(row.seq),
-        None => None,
-    }
+    rows.first().map(|row| row.seq)
 }
 
 /// The serial number of the first of these components.
 pub fn serial_in(rows: &[ComponentRow]) -> Option<Serial>
     ensures { result ≡ serial_in rows.now }
 {
-    match rows.first() {
-        Some(row) => Some(row.serial),
-        None => None,
-    }
+    rows.first().map(|row| row.serial)
 }
 
 /// The component that the first of these rows says.
 pub fn component_in(rows: &[ComponentRow]) -> Option<Component>
     ensures { result ≡ component_in rows.now }
 {
-    match rows.first() {
-        Some(row) => Some(Component {
-            serial: row.serial,
-            part: row.part,
-            birth: row.birth,
-            opening: Use {
-                minutes: row.minutes,
-                cycles: row.cycles,
-            },
-            as_of: row.as_of,
-        }),
-        None => None,
-    }
+    rows.first().map(|row| Component {
+        serial: row.serial,
+        part: row.part,
+        birth: row.birth,
+        opening: Use {
+            minutes: row.minutes,
+            cycles: row.cycles,
+        },
+        as_of: row.as_of,
+    })
 }
 
 /// The rows of components with a serial number say the component and have its number; those with a number, its serial

@@ -22,10 +22,7 @@ use mx_book::commands::{Deferral, Extension};
 pub fn deferral_aircraft(rows: &[DeferralRow]) -> Option<u32>
     ensures { result ≡ deferral_aircraft rows.now }
 {
-    match rows.first() {
-        Some(row) => Some(row.aircraft),
-        None => None,
-    }
+    rows.first().map(|row| row.aircraft)
 }
 
 /// The defect that the row of its deferral says, where this is its document and the registration of its aircraft.
@@ -61,14 +58,11 @@ pub fn defect_in(doc: &Doc, rows: &[DeferralRow], aircraft: &[AircraftRow]) -> O
 pub fn extension_in(doc: &Doc, rows: &[ExtensionRow]) -> Option<Extension>
     ensures { result ≡ extension_in doc.now rows.now }
 {
-    match rows.first() {
-        Some(row) => Some(Extension {
-            defect: *doc,
-            day: row.day,
-            days: row.days,
-        }),
-        None => None,
-    }
+    rows.first().map(|row| Extension {
+        defect: *doc,
+        day: row.day,
+        days: row.days,
+    })
 }
 
 /// Whether there is a line, of those that certify that one defect was rectified.

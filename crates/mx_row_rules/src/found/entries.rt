@@ -26,20 +26,14 @@ pub fn last_number(rows: &[EntryRow]) -> u32
 pub fn entry_number(rows: &[EntryRow]) -> Option<u32>
     ensures { result ≡ entry_number rows.now }
 {
-    match rows.first() {
-        Some(row) => Some(row.seq),
-        None => None,
-    }
+    rows.first().map(|row| row.seq)
 }
 
 /// The document of the first of these entries.
 pub fn doc_in(rows: &[EntryRow]) -> Option<Doc>
     ensures { result ≡ doc_in rows.now }
 {
-    match rows.first() {
-        Some(row) => Some(row.doc),
-        None => None,
-    }
+    rows.first().map(|row| row.doc)
 }
 
 // Whether entries of a kind defer defects.
@@ -53,20 +47,18 @@ fn is_deferral(kind: EntryKind) -> bool
 pub fn deferral_number(rows: &[EntryRow]) -> Option<u32>
     ensures { result ≡ deferral_number rows.now }
 {
-    match rows.iter().find(|row| is_deferral(row.kind)) {
-        Some(row) => Some(row.seq),
-        None => None,
-    }
+    rows.iter()
+        .find(|row| is_deferral(row.kind))
+        .map(|row| row.seq)
 }
 
 /// The document of the first of these entries that defers a defect.
 pub fn deferred_doc(rows: &[EntryRow]) -> Option<Doc>
     ensures { result ≡ deferred_doc rows.now }
 {
-    match rows.iter().find(|row| is_deferral(row.kind)) {
-        Some(row) => Some(row.doc),
-        None => None,
-    }
+    rows.iter()
+        .find(|row| is_deferral(row.kind))
+        .map(|row| row.doc)
 }
 
 /// The entries of a book are numbered from 1, and there are as many as it has.

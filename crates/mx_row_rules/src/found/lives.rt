@@ -27,20 +27,14 @@ const MOST_CYCLES: u32 = 51_000_000;
 pub fn clock_in(rows: &[TotalRow]) -> Option<Moment>
     ensures { result ≡ clock_in rows.now }
 {
-    match rows.first() {
-        Some(row) => Some(row.clock),
-        None => None,
-    }
+    rows.first().map(|row| row.clock)
 }
 
 /// The life in the first of these totals, or `None` without one.
 pub fn life_in(rows: &[TotalRow]) -> Option<Use>
     ensures { result ≡ life_in rows.now }
 {
-    match rows.first() {
-        Some(row) => Some(row.life),
-        None => None,
-    }
+    rows.first().map(|row| row.life)
 }
 
 /// The base in the first of these rows, or `None` without one.
@@ -48,14 +42,11 @@ pub fn base_found(rows: &[BaseRow]) -> Option<Base>
     ensures found { result ≡ base_found rows.now }
     ensures day { IfSome result (λ base. base.day ≤ last_day) }
 {
-    match rows.first() {
-        Some(row) => Some(Base {
-            minutes: row.life.minutes,
-            cycles: row.life.cycles,
-            day: row.day.number(),
-        }),
-        None => None,
-    }
+    rows.first().map(|row| Base {
+        minutes: row.life.minutes,
+        cycles: row.life.cycles,
+        day: row.day.number(),
+    })
 }
 
 /// Whether a base has minutes and cycles that a life can have.

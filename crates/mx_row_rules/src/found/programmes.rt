@@ -29,10 +29,7 @@ use std::alloc::{AllocError, Global};
 pub fn programme_number(rows: &[ProgrammeRow]) -> Option<u32>
     ensures { result ≡ programme_number rows.now }
 {
-    match rows.last() {
-        Some(row) => Some(row.seq),
-        None => None,
-    }
+    rows.last().map(|row| row.seq)
 }
 
 /// One more than the revision of the last of these programmes, or 1 without one; `None` where it has no more 32 bits.
@@ -72,10 +69,9 @@ pub fn task_said(row: &TaskRow) -> Task
 pub fn task_in(rows: &[TaskRow], id: &TaskId) -> Option<Task>
     ensures { result ≡ task_in rows.now id.now }
 {
-    match rows.iter().find(|row| row.id == *id) {
-        Some(row) => Some(task_said(row)),
-        None => None,
-    }
+    rows.iter()
+        .find(|row| row.id == *id)
+        .map(|row| task_said(row))
 }
 
 /// Whether a row says a task of its shape.

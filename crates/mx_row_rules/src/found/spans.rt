@@ -16,10 +16,7 @@ use mx_base::rows::SpanRow;
 pub fn span_aircraft(rows: &[SpanRow]) -> Option<u32>
     ensures { result ≡ span_aircraft rows.now }
 {
-    match rows.first() {
-        Some(row) => Some(row.aircraft),
-        None => None,
-    }
+    rows.first().map(|row| row.aircraft)
 }
 
 /// Whether one of these spans is in a position.

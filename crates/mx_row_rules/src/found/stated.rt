@@ -63,16 +63,13 @@ pub fn tasks_said(alloc: Global, rows: &[TaskRow]) -> Result<Vec<Task>, AllocErr
 pub fn first_fitting(spans: &[SpanRow]) -> Option<FittingRow>
     ensures { result ≡ slice_get (map fitting_in spans.now) 0 }
 {
-    match spans.first() {
-        Some(span) => Some(FittingRow {
-            seq: span.fit_seq,
-            component: span.component,
-            aircraft: span.aircraft,
-            position: span.position,
-            moment: span.from,
-        }),
-        None => None,
-    }
+    spans.first().map(|span| FittingRow {
+        seq: span.fit_seq,
+        component: span.component,
+        aircraft: span.aircraft,
+        position: span.position,
+        moment: span.from,
+    })
 }
 
 // The removal that ends a span.

@@ -1,8 +1,8 @@
-use Rattle.std.proofs.Common.{rules, ◌≡◌, ℕ, ap, [], ◌∷◌, ◌∙◌}
+use Rattle.std.proofs.Common.{rules, ap, [], ◌∷◌, ◌∙◌}
 use Rattle.mx_book.specs.commands.Act.{Listed}
 use Rattle.mx_base.specs.rows.Rows.{FitsComponent, FitsTotal}
 use Rattle.mx_base.specs.declared.rows.rows.EntryRow.{EntryRow}
-use Rattle.mx_registers.specs.Registers.{components_by, next, component_row}
+use Rattle.mx_registers.specs.Registers.{components_by, component_row}
 use Rattle.mx_registers.specs.kept.Changes.{entry_of}
 use Rattle.mx_row_rules.specs.changes.Kept.{total_begun}
 use Rattle.mx_registers.specs.kept.Totals.{totals_opened}
@@ -12,10 +12,7 @@ use Rattle.mx_row_rules.proofs.changes.items.component_rows.Goals as goal
 
 pub returns-clause-of_book : goal.returns-clause-of_book
 returns-clause-of_book c book doc own =
-    let act = Listed c.args.component in
-    let e = entry_of doc act in
-    let seq : c.args.entry.seq ≡ next book = ap (λ (row : EntryRow). row.seq) own in
-    let no = c.none_added-added.ensures in
-    let components = one FitsComponent components_by book e c.in_ok-push.ensures.items no.components (ap (λ row. row ∷ []) (c.component_row-row.ensures.row ∙ ap (λ (n : ℕ). component_row n c.args.component) seq)) c.component_row-row.ensures.fits in
-    let totals = one FitsTotal totals_opened book e c.in_ok-push-2.ensures.items no.totals (ap (λ row. row ∷ []) (c.first_total-total.ensures.row ∙ ap (λ (n : ℕ). total_begun n c.args.component.opening c.args.component.as_of) seq)) c.first_total-total.ensures.fits in
+    let e = entry_of doc (Listed c.args.component) in
+    let components = one FitsComponent components_by book e c.in_ok-push.ensures.items c.entry_alone-rows.ensures.added.components (ap (λ row. row ∷ []) (c.component_row-row.ensures.row ∙ ap (λ (row : EntryRow). component_row row.seq c.args.component) own)) c.component_row-row.ensures.fits in
+    let totals = one FitsTotal totals_opened book e c.in_ok-push-2.ensures.items c.entry_alone-rows.ensures.added.totals (ap (λ row. row ∷ []) (c.first_total-total.ensures.row ∙ ap (λ (row : EntryRow). total_begun row.seq c.args.component.opening c.args.component.as_of) own)) c.first_total-total.ensures.fits in
     search (rules, none_fit, none_pass)

@@ -1,4 +1,4 @@
-use Rattle.std.proofs.Common.{rules, ◌≡◌, ℕ, refl, ap, [], ◌∷◌, ◌∙◌, map}
+use Rattle.std.proofs.Common.{rules, ℕ, refl, ap, [], ◌∷◌, ◌∙◌, map}
 use Rattle.mx_book.specs.commands.Act.{Fitted}
 use Rattle.mx_base.specs.rows.Rows.{FitsSpan, FitsTotal}
 use Rattle.mx_base.specs.declared.rows.rows.EntryRow.{EntryRow}
@@ -14,10 +14,7 @@ use Rattle.mx_row_rules.proofs.changes.moves.fitting_rows.Goals as goal
 
 pub returns-clause-of_book : goal.returns-clause-of_book
 returns-clause-of_book c book doc own component aircraft touched =
-    let act = Fitted c.args.fitting in
-    let e = entry_of doc act in
-    let seq : c.args.entry.seq ≡ next book = ap (λ (row : EntryRow). row.seq) own in
-    let no = c.none_added-added.ensures in
-    let spans = one FitsSpan spans_opened book e c.in_ok-push.ensures.items no.spans (ap (λ row. row ∷ []) (c.span_begun-span.ensures.row ∙ ap (λ (n : ℕ). span_fitted n c.args.component c.args.aircraft c.args.fitting) seq ∙ ap (λ (n : ℕ). span_fitted (next book) n c.args.aircraft c.args.fitting) component ∙ ap (λ (n : ℕ). span_fitted (next book) (number_of_serial book c.args.fitting.serial) n c.args.fitting) aircraft)) c.span_begun-span.ensures.fits in
-    let totals = these FitsTotal totals_touched book e (c.in_ok-behind.ensures.rows ∙ ap (map (total_clocked c.args.fitting.moment)) touched ∙ clocked_are book act c.args.fitting.moment (λ row. refl)) c.in_ok-behind.ensures.fits in
+    let e = entry_of doc (Fitted c.args.fitting) in
+    let spans = one FitsSpan spans_opened book e c.in_ok-push.ensures.items c.entry_alone-rows.ensures.added.spans (ap (λ row. row ∷ []) (c.span_begun-span.ensures.row ∙ ap (λ (row : EntryRow). span_fitted row.seq c.args.component c.args.aircraft c.args.fitting) own ∙ ap (λ (n : ℕ). span_fitted (next book) n c.args.aircraft c.args.fitting) component ∙ ap (λ (n : ℕ). span_fitted (next book) (number_of_serial book c.args.fitting.serial) n c.args.fitting) aircraft)) c.span_begun-span.ensures.fits in
+    let totals = these FitsTotal totals_touched book e (c.in_ok-behind.ensures.rows ∙ ap (map (total_clocked c.args.fitting.moment)) touched ∙ clocked_are book e.act c.args.fitting.moment (λ row. refl)) c.in_ok-behind.ensures.fits in
     search (rules, none_fit, none_pass)

@@ -1,6 +1,5 @@
-use Rattle.std.proofs.Common.{◌∙◌, ◌≡◌, ◌+◌, ◌<◌, suc, get_or, length, ◌++◌, [], ◌∷◌, take, map, All, sym, subst, ap, arith}
-use Rattle.std.proofs.Math.Seq.{take-suc}
-use Rattle.std.proofs.lemmas.List.{map-append}
+use Rattle.std.proofs.Common.{◌∙◌, get_or, length, ◌++◌, [], ◌∷◌, take, map, All, sym, subst, ap}
+use Rattle.std.proofs.lemmas.List.{map-append, take_more}
 use Rattle.std.proofs.lemmas.List.Elements.{All-append, All-cons, All-nil}
 use Rattle.mx_base.specs.rows.Rows.{FitsSpan}
 use Rattle.mx_row_rules.specs.changes.Kept.{span_removed}
@@ -12,15 +11,11 @@ spans-preserved c =
     let items = c.args.spans.now in
     let x = c.span-item.result in
     let i = c.spans.span-index in
-    let low : i < length items = c.spans-test.true in
-    let here : get_or items i x ≡ x = sym c.span-item.is in
-    let one : suc i ≡ i + 1 = omega arith in
-    let more : take i items ++ x ∷ [] ≡ take (i + 1) items = sym (subst (λ n. take n items ≡ take i items ++ get_or items i x ∷ []) one (take-suc items i x low) ∙ ap (λ y. take i items ++ y ∷ []) here) in
     record {
       rows = c.in_ok-push.ensures.items
           ∙ ap (λ l. l ++ c.span_ended.result ∷ []) c.spans.invariant.rows
-          ∙ ap (λ row. map change (take i items) ++ row ∷ []) c.span_ended.ensures.row
-          ∙ sym (map-append change (take i items) (x ∷ []))
-          ∙ ap (map change) more;
+          ∙ ap (λ row. map change (take i items) ++ row ∷ []) (c.span_ended.ensures.row ∙ ap change c.span-item.is)
+          ∙ sym (map-append change (take i items) (get_or items i x ∷ []))
+          ∙ ap (map change) (sym (take_more items i x c.spans-test.true));
       fits = subst (All FitsSpan) (sym c.in_ok-push.ensures.items) (All-append FitsSpan _ (c.span_ended.result ∷ []) c.spans.invariant.fits (All-cons FitsSpan _ [] c.span_ended.ensures.fits (All-nil FitsSpan)));
     }

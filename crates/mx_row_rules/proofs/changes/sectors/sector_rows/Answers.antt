@@ -1,4 +1,4 @@
-use Rattle.std.proofs.Common.{rules, ◌≡◌, ℕ, ap, [], ◌∷◌, ◌∙◌, map}
+use Rattle.std.proofs.Common.{rules, ℕ, ap, [], ◌∷◌, ◌∙◌, map}
 use Rattle.mx_book.specs.commands.Act.{Flown}
 use Rattle.mx_base.specs.rows.Rows.{FitsTotal}
 use Rattle.mx_base.specs.declared.rows.rows.EntryRow.{EntryRow}
@@ -14,10 +14,7 @@ use Rattle.mx_row_rules.proofs.changes.sectors.sector_rows.Goals as goal
 
 pub returns-clause-of_book : goal.returns-clause-of_book
 returns-clause-of_book c book doc own aircraft touched =
-    let act = Flown c.args.sector in
-    let e = entry_of doc act in
-    let seq : c.args.entry.seq ≡ next book = ap (λ (row : EntryRow). row.seq) own in
-    let no = c.none_added-added.ensures in
-    let sectors = one FitsHeld sectors_held_by book e c.in_ok-push.ensures.items no.sectors (ap (λ (row : SectorRow). held row ∷ []) (c.sector_row.ensures.row ∙ ap (λ (n : ℕ). sector_row n c.args.aircraft c.args.sector) seq ∙ ap (λ (n : ℕ). sector_row (next book) n c.args.sector) aircraft)) c.sector_row.ensures.fits in
+    let e = entry_of doc (Flown c.args.sector) in
+    let sectors = one FitsHeld sectors_held_by book e c.in_ok-push.ensures.items c.entry_alone-rows.ensures.added.sectors (ap (λ (row : SectorRow). held row ∷ []) (c.sector_row.ensures.row ∙ ap (λ (row : EntryRow). sector_row row.seq c.args.aircraft c.args.sector) own ∙ ap (λ (n : ℕ). sector_row (next book) n c.args.sector) aircraft)) c.sector_row.ensures.fits in
     let totals = these FitsTotal totals_touched book e (c.in_ok-behind.ensures.rows ∙ ap (λ (n : ℕ). map (total_flown n c.args.sector) c.args.totals.now) aircraft ∙ ap (map (total_flown (number_of_tail book c.args.sector.tail) c.args.sector)) touched ∙ flown_are book c.args.sector) c.in_ok-behind.ensures.fits in
     search (rules, none_fit, none_pass)
