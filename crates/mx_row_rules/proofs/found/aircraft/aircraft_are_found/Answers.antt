@@ -2,14 +2,5 @@ use Rattle.mx_row_rules.proofs.FoundProofs.FoundLemmas.{aircraft_is, tail_is, ta
 use Rattle.mx_row_rules.proofs.FoundProofs.PlaceLemmas.{room_for_aircraft}
 use Rattle.mx_row_rules.proofs.found.aircraft.aircraft_are_found.Goals as goal
 
-pub returns-clause-by_tail : goal.returns-clause-by_tail
-returns-clause-by_tail c = aircraft_is
-
-pub returns-clause-number : goal.returns-clause-number
-returns-clause-number c = tail_is
-
-pub returns-clause-by_number : goal.returns-clause-by_number
-returns-clause-by_number c = tail_numbered
-
-pub returns-clause-room : goal.returns-clause-room
-returns-clause-room c = room_for_aircraft
+pub returns : goal.returns
+returns c = record { by_tail = aircraft_is; number = tail_is; by_number = tail_numbered; room = room_for_aircraft }

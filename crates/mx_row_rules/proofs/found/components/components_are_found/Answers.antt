@@ -2,14 +2,5 @@ use Rattle.mx_row_rules.proofs.FoundProofs.FoundLemmas.{component_is, serial_is,
 use Rattle.mx_row_rules.proofs.FoundProofs.PlaceLemmas.{room_for_components}
 use Rattle.mx_row_rules.proofs.found.components.components_are_found.Goals as goal
 
-pub returns-clause-by_serial : goal.returns-clause-by_serial
-returns-clause-by_serial c = component_is
-
-pub returns-clause-number : goal.returns-clause-number
-returns-clause-number c = serial_is
-
-pub returns-clause-by_number : goal.returns-clause-by_number
-returns-clause-by_number c = serial_numbered
-
-pub returns-clause-room : goal.returns-clause-room
-returns-clause-room c = room_for_components
+pub returns : goal.returns
+returns c = record { by_serial = component_is; number = serial_is; by_number = serial_numbered; room = room_for_components }

@@ -3,14 +3,10 @@ use Rattle.mx_row_rules.proofs.FoundProofs.BoundLemmas.{base_low}
 use Rattle.mx_row_rules.proofs.FoundProofs.LifeLemmas.{base_is, no_base}
 use Rattle.mx_row_rules.proofs.found.lives.bases_are_found.Goals as goal
 
-pub returns-clause-base : goal.returns-clause-base
-returns-clause-base c = base_is
-
-pub returns-clause-accomplished : goal.returns-clause-accomplished
-returns-clause-accomplished c book item id = accomplished-base book item id
-
-pub returns-clause-bounded : goal.returns-clause-bounded
-returns-clause-bounded c book item id b = base_low book b item id
-
-pub returns-clause-no_base : goal.returns-clause-no_base
-returns-clause-no_base c = no_base
+pub returns : goal.returns
+returns c = record {
+  base = base_is;
+  accomplished = λ book item id. accomplished-base book item id;
+  bounded = λ book item id b. base_low book b item id;
+  no_base = no_base;
+}
