@@ -23,10 +23,7 @@ fn kind_at(book: &IndexedBook, place: &Place) -> Option<Kind>
     ensures { result ≡ kind_at book.now place.now }
 {
     match place {
-        Place::Aircraft(tail) => match book.aircraft(tail) {
-            Some(aircraft) => Some(aircraft.kind),
-            None => None,
-        },
+        Place::Aircraft(tail) => book.aircraft(tail).map(|aircraft| aircraft.kind),
         Place::Shop(_, kind) => Some(*kind),
     }
 }

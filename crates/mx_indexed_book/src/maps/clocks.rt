@@ -1,18 +1,15 @@
 //! The clocks of the items in maps.
-ghost use Rattle.std.specs.Prelude.{◌≡◌, [], ◌∷◌, ◌++◌, ℕ, List, max, true};
+ghost use Rattle.std.specs.Prelude.{◌≡◌, [], ℕ, List, max};
 ghost use Rattle.std.specs.Bool.{OnTrue};
 ghost use Rattle.mx_book.specs.commands.Act.{Entry};
-ghost use Rattle.mx_book.specs.commands.Shape.{has_shape};
-ghost use Rattle.mx_book.specs.Book.{IsBook};
-ghost use Rattle.mx_book.specs.Judge.{judge};
 ghost use Rattle.mx_book.specs.Life.{clock};
 ghost use Rattle.mx_indexed_book.specs.maps.Clocks.{AreClocks, ClocksHaveRoom, aircraft_at, airframe_clock, airframe_moment, clocks_changed, component_clock, component_in_shop, component_moment, raised};
+ghost use Rattle.mx_indexed_book.specs.maps.OneMore.{SayOneMore};
 ghost use Rattle.mx_indexed_book.specs.maps.Places.{ArePlaces};
 
 use crate::maps::maps::{held, make_room, put};
 use crate::maps::places::Places;
 use mx_base::{Moment, Serial, Tail};
-use mx_book::Verdict;
 use mx_book::commands::{Body, Command, Item, Place};
 use std::alloc::Global;
 use std::collections::BTreeMap;
@@ -173,9 +170,8 @@ impl Clocks {
     /// Enters what an entry changes, for which there is room.
     pub fn put(&mut self, changes: &ClockChanges)
         requires { ClocksHaveRoom changes.now self.old }
-        ensures { (book : List Entry) (entry : Entry) → IsBook book → has_shape entry ≡ true
-            → judge book entry ≡ Verdict.New → changes.now ≡ clocks_changed book entry
-            → AreClocks book self.old → AreClocks (book ++ entry ∷ []) self.new }
+        ensures { SayOneMore AreClocks (λ book entry. changes.now ≡ clocks_changed book entry)
+            self.old self.new }
     {
         put(&mut self.airframes, &changes.airframe);
         put(&mut self.components, &changes.component);

@@ -3,15 +3,14 @@
 //! A new entry first makes room in each map, a row of the key that says what the map said without it; the change itself
 //! then takes no memory. So nothing has to be undone where memory runs out: such a row may stay, and no answer changes
 //! by it.
-ghost use Rattle.std.specs.Prelude.{◌≡◌, ◌+◌, [], ◌∷◌, ◌++◌, List, length, true, IfOk};
+ghost use Rattle.std.specs.Prelude.{◌≡◌, ◌+◌, [], List, length, IfOk};
 ghost use Rattle.std.specs.Bool.{OnTrue};
 ghost use Rattle.std.specs.List.{AllByRecursion};
 ghost use Rattle.mx_book.specs.commands.Act.{Entry};
-ghost use Rattle.mx_book.specs.commands.Shape.{has_shape};
 ghost use Rattle.mx_book.specs.due.Due.{IsBase};
 ghost use Rattle.mx_book.specs.Book.{IsBook};
-ghost use Rattle.mx_book.specs.Judge.{judge};
 ghost use Rattle.mx_indexed_book.specs.maps.Indexed.{AreChanges, AreIndexes, HaveRoom};
+ghost use Rattle.mx_indexed_book.specs.maps.OneMore.{SayOneMore};
 ghost use Rattle.mx_indexed_book.specs.maps.Work.{bases_set};
 
 use crate::maps::clocks::{ClockChanges, Clocks};
@@ -24,7 +23,6 @@ use crate::maps::programmes::programme_changed;
 use crate::maps::registers::{RegisterChanges, Registers, registers_changed};
 use crate::maps::work::{Work, WorkChanges, work_changed};
 use mx_base::{Base, Kind, Part, Position, Tail, TaskId};
-use mx_book::Verdict;
 use mx_book::commands::{Command, Item};
 use std::alloc::{AllocError, Global};
 use std::collections::BTreeMap;
@@ -125,9 +123,8 @@ impl Indexes {
     /// Enters what an entry changes, for which there is room.
     pub fn put(&mut self, changes: &Changes)
         requires { HaveRoom changes.now self.old }
-        ensures { (book : List Entry) (entry : Entry) → IsBook book → has_shape entry ≡ true
-            → judge book entry ≡ Verdict.New → AreChanges book entry changes.now
-            → AreIndexes book self.old → AreIndexes (book ++ entry ∷ []) self.new }
+        ensures { SayOneMore AreIndexes (λ book entry. AreChanges book entry changes.now)
+            self.old self.new }
     {
         self.registers.put(&changes.registers);
         self.places.put(&changes.places);

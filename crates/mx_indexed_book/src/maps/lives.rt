@@ -1,5 +1,5 @@
 //! The lives of the items in maps.
-ghost use Rattle.std.specs.Prelude.{◌≡◌, ◌<◌, ◌^◌, ℕ, pos, ◌-ℤ◌, [], ◌∷◌, ◌++◌, List, None, true};
+ghost use Rattle.std.specs.Prelude.{◌≡◌, ◌<◌, ◌^◌, ℕ, pos, ◌-ℤ◌, [], ◌∷◌, List, None, true};
 ghost use Rattle.mx_base.specs.declared.amounts.Use.{Use};
 ghost use Rattle.std.specs.Bool.{OnTrue};
 ghost use Rattle.std.specs.Option.{option_map};
@@ -7,15 +7,14 @@ ghost use Rattle.mx_book.specs.commands.Act.{Entry};
 ghost use Rattle.mx_book.specs.commands.Shape.{has_shape, sector_shape};
 ghost use Rattle.mx_book.specs.due.Due.{IsLife};
 ghost use Rattle.mx_book.specs.Book.{IsBook};
-ghost use Rattle.mx_book.specs.Judge.{judge};
 ghost use Rattle.mx_book.specs.Life.{life_now, use_after, use_or_none};
 ghost use Rattle.mx_indexed_book.specs.maps.Lives.{AreLives, LivesHaveRoom, airframe_changed, airframe_life, component_changed, component_life, lead, lead_over, life_where_fitted, lives_changed};
+ghost use Rattle.mx_indexed_book.specs.maps.OneMore.{SayOneMore};
 ghost use Rattle.mx_indexed_book.specs.maps.Places.{ArePlaces};
 
 use crate::maps::maps::{held, make_room, put};
 use crate::maps::places::Places;
 use mx_base::{Serial, Tail, Use};
-use mx_book::Verdict;
 use mx_book::commands::{Body, Command, Item, Sector};
 use std::alloc::Global;
 use std::collections::BTreeMap;
@@ -239,9 +238,8 @@ impl Lives {
     /// Enters what an entry changes, for which there is room.
     pub fn put(&mut self, changes: &LifeChanges)
         requires { LivesHaveRoom changes.now self.old }
-        ensures { (book : List Entry) (entry : Entry) → IsBook book → has_shape entry ≡ true
-            → judge book entry ≡ Verdict.New → changes.now ≡ lives_changed book entry
-            → AreLives book self.old → AreLives (book ++ entry ∷ []) self.new }
+        ensures { SayOneMore AreLives (λ book entry. changes.now ≡ lives_changed book entry)
+            self.old self.new }
     {
         put(&mut self.airframes, &changes.airframe);
         put(&mut self.components, &changes.component);

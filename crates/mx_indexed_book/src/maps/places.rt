@@ -1,16 +1,13 @@
 //! Where components are fitted, in maps.
-ghost use Rattle.std.specs.Prelude.{◌≡◌, [], ◌∷◌, ◌++◌, List, true};
+ghost use Rattle.std.specs.Prelude.{◌≡◌, [], List};
 ghost use Rattle.std.specs.Bool.{OnTrue};
 ghost use Rattle.mx_book.specs.commands.Act.{Entry};
-ghost use Rattle.mx_book.specs.commands.Shape.{has_shape};
-ghost use Rattle.mx_book.specs.Book.{IsBook};
-ghost use Rattle.mx_book.specs.Judge.{judge};
 ghost use Rattle.mx_book.specs.Span.{is_taken, tail_fitted};
+ghost use Rattle.mx_indexed_book.specs.maps.OneMore.{SayOneMore};
 ghost use Rattle.mx_indexed_book.specs.maps.Places.{ArePlaces, PlacesHaveRoom, component_moved, place_changed, place_of, places_changed};
 
 use crate::maps::maps::{held, make_room, put};
 use mx_base::{Position, Serial, Tail};
-use mx_book::Verdict;
 use mx_book::commands::{Body, Command};
 use std::alloc::Global;
 use std::collections::BTreeMap;
@@ -122,9 +119,8 @@ impl Places {
     /// Enters what an entry changes, for which there is room.
     pub fn put(&mut self, changes: &PlaceChanges)
         requires { PlacesHaveRoom changes.now self.old }
-        ensures { (book : List Entry) (entry : Entry) → IsBook book → has_shape entry ≡ true
-            → judge book entry ≡ Verdict.New → changes.now ≡ places_changed book entry
-            → ArePlaces book self.old → ArePlaces (book ++ entry ∷ []) self.new }
+        ensures { SayOneMore ArePlaces (λ book entry. changes.now ≡ places_changed book entry)
+            self.old self.new }
     {
         put(&mut self.fitted, &changes.component);
         put(&mut self.taken, &changes.place);

@@ -1,17 +1,15 @@
 //! The registers in maps: the number of each document, and the row of each aircraft, component, defect and extension.
-ghost use Rattle.std.specs.Prelude.{◌≡◌, ◌+◌, [], ◌∷◌, ◌++◌, List, length, true};
+ghost use Rattle.std.specs.Prelude.{◌≡◌, ◌+◌, [], List, length};
 ghost use Rattle.std.specs.Bool.{OnTrue};
 ghost use Rattle.mx_book.specs.commands.Act.{Entry};
-ghost use Rattle.mx_book.specs.commands.Shape.{has_shape};
-ghost use Rattle.mx_book.specs.Book.{IsBook};
 ghost use Rattle.mx_book.specs.Defect.{deferred_by};
-ghost use Rattle.mx_book.specs.Judge.{judge};
+ghost use Rattle.mx_indexed_book.specs.maps.OneMore.{SayOneMore};
 ghost use Rattle.mx_indexed_book.specs.maps.Registers.{AreRegisters, RegistersHaveRoom, registers_changed};
 
 use crate::maps::maps::{make_room, put};
 use mx_base::{Doc, Serial, Tail};
+use mx_book::Defect;
 use mx_book::commands::{Aircraft, Command, Component, Extension};
-use mx_book::{Defect, Verdict};
 use std::alloc::Global;
 use std::collections::BTreeMap;
 
@@ -104,9 +102,8 @@ impl Registers {
     /// Enters what an entry changes, for which there is room.
     pub fn put(&mut self, changes: &RegisterChanges)
         requires { RegistersHaveRoom changes.now self.old }
-        ensures { (book : List Entry) (entry : Entry) → IsBook book → has_shape entry ≡ true
-            → judge book entry ≡ Verdict.New → changes.now ≡ registers_changed book entry
-            → AreRegisters book self.old → AreRegisters (book ++ entry ∷ []) self.new }
+        ensures { SayOneMore AreRegisters (λ book entry. changes.now ≡ registers_changed book entry)
+            self.old self.new }
     {
         put(&mut self.documents, &changes.document);
         put(&mut self.aircraft, &changes.aircraft);

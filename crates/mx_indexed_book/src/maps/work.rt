@@ -1,19 +1,16 @@
 //! The last bases and what was rectified, in maps.
-ghost use Rattle.std.specs.Prelude.{◌≡◌, [], ◌∷◌, ◌++◌, IfOk, List, true};
+ghost use Rattle.std.specs.Prelude.{◌≡◌, [], IfOk, List};
 ghost use Rattle.std.specs.Bool.{OnTrue};
 ghost use Rattle.std.specs.List.{AllByRecursion, filter_map};
 ghost use Rattle.mx_book.specs.commands.Act.{Entry, lines_of};
-ghost use Rattle.mx_book.specs.commands.Shape.{has_shape};
 ghost use Rattle.mx_book.specs.due.Due.{IsBase};
 ghost use Rattle.mx_book.specs.Base.{base};
-ghost use Rattle.mx_book.specs.Book.{IsBook};
 ghost use Rattle.mx_book.specs.Defect.{is_rectified};
-ghost use Rattle.mx_book.specs.Judge.{judge};
+ghost use Rattle.mx_indexed_book.specs.maps.OneMore.{SayOneMore};
 ghost use Rattle.mx_indexed_book.specs.maps.Work.{IsWork, IsWorkChanged, WorkHasRoom, airframe_task, bases_set, component_task, keyed, line_defect};
 
 use crate::maps::maps::{held, make_room_for_all, put_all};
 use mx_base::{Base, Doc, Serial, Tail, TaskId};
-use mx_book::Verdict;
 use mx_book::commands::{Command, Item, Line};
 use std::alloc::{AllocError, Global};
 use std::collections::BTreeMap;
@@ -63,15 +60,7 @@ fn of_airframes(
 ) -> Result<Vec<((Tail, TaskId), Option<Base>)>, AllocError>
     ensures { IfOk result (λ bases. bases.items ≡ filter_map (keyed airframe_task) set.now) }
 {
-    let mut bases = Vec::new(alloc);
-    let mut rest = set;
-    while let Some((one, later)) = rest.split_first() {
-        if let Some(base) = of_airframe(one) {
-            bases.push(base)?;
-        }
-        rest = later;
-    }
-    Ok(bases)
+    set.iter().filter_map(|one| of_airframe(one)).collect(alloc)
 }
 
 // Of bases that are set those of components.
@@ -81,15 +70,9 @@ fn of_components(
 ) -> Result<Vec<((Serial, TaskId), Option<Base>)>, AllocError>
     ensures { IfOk result (λ bases. bases.items ≡ filter_map (keyed component_task) set.now) }
 {
-    let mut bases = Vec::new(alloc);
-    let mut rest = set;
-    while let Some((one, later)) = rest.split_first() {
-        if let Some(base) = of_component(one) {
-            bases.push(base)?;
-        }
-        rest = later;
-    }
-    Ok(bases)
+    set.iter()
+        .filter_map(|one| of_component(one))
+        .collect(alloc)
 }
 
 // The defect that a line certifies to be rectified.
@@ -107,15 +90,11 @@ fn defects_rectified(alloc: Global, entry: &Command) -> Result<Vec<(Doc, bool)>,
     ensures { IfOk result (λ done. done.items
         ≡ filter_map line_defect (lines_of entry.now.act)) }
 {
-    let mut done = Vec::new(alloc);
-    let mut rest = entry.lines();
-    while let Some((line, later)) = rest.split_first() {
-        if let Some(one) = defect_certified(line) {
-            done.push(one)?;
-        }
-        rest = later;
-    }
-    Ok(done)
+    entry
+        .lines()
+        .iter()
+        .filter_map(|line| defect_certified(line))
+        .collect(alloc)
 }
 
 /// What an entry changes that sets these bases. An error where memory runs out.
@@ -182,9 +161,8 @@ impl Work {
     /// Enters what an entry changes, for which there is room.
     pub fn put(&mut self, changes: &WorkChanges)
         requires { WorkHasRoom changes.now self.old }
-        ensures { (book : List Entry) (entry : Entry) → IsBook book → has_shape entry ≡ true
-            → judge book entry ≡ Verdict.New → IsWorkChanged book entry changes.now
-            → IsWork book self.old → IsWork (book ++ entry ∷ []) self.new }
+        ensures { SayOneMore IsWork (λ book entry. IsWorkChanged book entry changes.now)
+            self.old self.new }
     {
         put_all(&mut self.airframes, &changes.airframes);
         put_all(&mut self.components, &changes.components);

@@ -8,12 +8,7 @@ use Rattle.mx_indexed_book.proofs.MapsProofs.ClockLemmas.{airframe_moves, compon
 use Rattle.mx_indexed_book.proofs.maps.clocks.Clocks.put.Goals as goal
 
 pub returns : goal.returns
-returns c book entry is_book shape new is are =
-    let self = c.args.self.now in
-    let changes = c.args.changes.now in
-    let said = clocks_changed book entry in
-    let more = book ++ entry ∷ [] in
-    record {
-      airframes_are = moves (slice_cmp nat_cmp) 0 (airframe_clock book) (airframe_clock more) self.airframes c.put.new.map changes.airframe said.airframe (c.put.ensures.changed 0) (ap (λ (r : ClockChanges). r.airframe) is) (airframe_moves book entry is_book) are.airframes_are;
-      components_are = moves (slice_cmp nat_cmp) 0 (component_clock book) (component_clock more) self.components c.put-2.new.map changes.component said.component (c.put-2.ensures.changed 0) (ap (λ (r : ClockChanges). r.component) is) (component_moves book entry is_book) are.components_are;
-    }
+returns c book entry is_book shape new is are = record {
+  airframes_are = moves (slice_cmp nat_cmp) 0 _ _ c.args.self.now.airframes c.put.new.map _ _ (c.put.ensures.changed 0) (ap (λ (r : ClockChanges). r.airframe) is) (airframe_moves book entry is_book) are.airframes_are;
+  components_are = moves (slice_cmp nat_cmp) 0 _ _ c.args.self.now.components c.put-2.new.map _ _ (c.put-2.ensures.changed 0) (ap (λ (r : ClockChanges). r.component) is) (component_moves book entry is_book) are.components_are;
+}

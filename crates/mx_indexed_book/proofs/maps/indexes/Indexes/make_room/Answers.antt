@@ -10,14 +10,13 @@ use Rattle.mx_indexed_book.proofs.maps.indexes.Indexes.make_room.Goals as goal
 
 pub returns-clause-same : goal.returns-clause-same
 returns-clause-same c book are =
-    let self = c.args.self.now in
     let exact = exact_pairs (slice_cmp nat_cmp) (slice_cmp nat_cmp) exact_bytes exact_bytes in
     record {
       registers_are = c.make_room-registers.ensures.same book are.registers_are;
       places_are = c.make_room-places.ensures.same book are.places_are;
       clocks_are = c.make_room-clocks.ensures.same book are.clocks_are;
-      parts_are = stays names_cmp None (part_of book) self.parts c.make_room_for_all-parts.new.map (c.make_room_for_all-parts.ensures.same exact) are.parts_are;
-      programmes_are = stays (slice_cmp nat_cmp) None (last_loaded book) self.programmes c.make_room-programmes.new.map (c.make_room-programmes.ensures.same exact_bytes) are.programmes_are;
+      parts_are = stays names_cmp None _ c.args.self.now.parts c.make_room_for_all-parts.new.map (c.make_room_for_all-parts.ensures.same exact) are.parts_are;
+      programmes_are = stays (slice_cmp nat_cmp) None _ c.args.self.now.programmes c.make_room-programmes.new.map (c.make_room-programmes.ensures.same exact_bytes) are.programmes_are;
       work_is = c.make_room-work.ensures.same book are.work_is;
       lives_are = c.make_room-lives.ensures.same book are.lives_are;
       counts_are = are.counts_are;

@@ -11,17 +11,13 @@ use Rattle.mx_indexed_book.proofs.MapsProofs.WorkLemmas.{moves_all}
 use Rattle.mx_indexed_book.proofs.maps.indexes.Indexes.put.Goals as goal
 
 pub returns : goal.returns
-returns c book entry is_book shape new is are =
-    let self = c.args.self.now in
-    let changes = c.args.changes.now in
-    let more = book ++ entry ∷ [] in
-    record {
-      registers_are = c.put.ensures book entry is_book shape new is.registers_are are.registers_are;
-      places_are = c.put-2.ensures book entry is_book shape new is.places_are are.places_are;
-      clocks_are = c.put-3.ensures book entry is_book shape new is.clocks_are are.clocks_are;
-      parts_are = moves_all names_cmp None (part_of book) (part_of more) self.parts c.put_all.new.map changes.parts.items (parts_given entry.act) (c.put_all.ensures None) is.parts_are (part_moves book entry shape new) are.parts_are;
-      programmes_are = moves (slice_cmp nat_cmp) None (last_loaded book) (last_loaded more) self.programmes c.put-4.new.map changes.programme (programme_changed book entry) (c.put-4.ensures.changed None) is.programme_is (programme_moves book entry) are.programmes_are;
-      work_is = c.put-5.ensures book entry is_book shape new is.work_is are.work_is;
-      lives_are = c.put-6.ensures book entry is_book shape new is.lives_are are.lives_are;
-      counts_are = is.counts_are;
-    }
+returns c book entry is_book shape new is are = record {
+  registers_are = c.put.ensures book entry is_book shape new is.registers_are are.registers_are;
+  places_are = c.put-2.ensures book entry is_book shape new is.places_are are.places_are;
+  clocks_are = c.put-3.ensures book entry is_book shape new is.clocks_are are.clocks_are;
+  parts_are = moves_all names_cmp None _ _ c.args.self.now.parts c.put_all.new.map _ _ (c.put_all.ensures None) is.parts_are (part_moves book entry shape new) are.parts_are;
+  programmes_are = moves (slice_cmp nat_cmp) None _ _ c.args.self.now.programmes c.put-4.new.map _ _ (c.put-4.ensures.changed None) is.programme_is (programme_moves book entry) are.programmes_are;
+  work_is = c.put-5.ensures book entry is_book shape new is.work_is are.work_is;
+  lives_are = c.put-6.ensures book entry is_book shape new is.lives_are are.lives_are;
+  counts_are = is.counts_are;
+}

@@ -8,12 +8,7 @@ use Rattle.mx_indexed_book.proofs.MapsProofs.LifeLemmas.{airframe_moves, lead_mo
 use Rattle.mx_indexed_book.proofs.maps.lives.Lives.put.Goals as goal
 
 pub returns : goal.returns
-returns c book entry is_book shape new is are =
-    let self = c.args.self.now in
-    let changes = c.args.changes.now in
-    let said = lives_changed book entry in
-    let more = book ++ entry ∷ [] in
-    record {
-      airframes_are = moves (slice_cmp nat_cmp) None (airframe_life book) (airframe_life more) self.airframes c.put.new.map changes.airframe said.airframe (c.put.ensures.changed None) (ap (λ (r : LifeChanges). r.airframe) is) (airframe_moves book entry is_book shape new) are.airframes_are;
-      components_are = moves (slice_cmp nat_cmp) None (lead book) (lead more) self.components c.put-2.new.map changes.component said.component (c.put-2.ensures.changed None) (ap (λ (r : LifeChanges). r.component) is) (lead_moves book entry is_book shape new) are.components_are;
-    }
+returns c book entry is_book shape new is are = record {
+  airframes_are = moves (slice_cmp nat_cmp) None _ _ c.args.self.now.airframes c.put.new.map _ _ (c.put.ensures.changed None) (ap (λ (r : LifeChanges). r.airframe) is) (airframe_moves book entry is_book shape new) are.airframes_are;
+  components_are = moves (slice_cmp nat_cmp) None _ _ c.args.self.now.components c.put-2.new.map _ _ (c.put-2.ensures.changed None) (ap (λ (r : LifeChanges). r.component) is) (lead_moves book entry is_book shape new) are.components_are;
+}

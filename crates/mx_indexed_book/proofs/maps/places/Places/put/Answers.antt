@@ -8,12 +8,7 @@ use Rattle.mx_indexed_book.proofs.MapsProofs.PlaceLemmas.{component_moves, place
 use Rattle.mx_indexed_book.proofs.maps.places.Places.put.Goals as goal
 
 pub returns : goal.returns
-returns c book entry is_book shape new is are =
-    let self = c.args.self.now in
-    let changes = c.args.changes.now in
-    let said = places_changed book entry in
-    let more = book ++ entry ∷ [] in
-    record {
-      fitted_are = moves (slice_cmp nat_cmp) None (place_of book) (place_of more) self.fitted c.put.new.map changes.component said.component (c.put.ensures.changed None) (ap (λ (r : PlaceChanges). r.component) is) (component_moves book entry new) are.fitted_are;
-      taken_are = moves names_cmp false (has_component book) (has_component more) self.taken c.put-2.new.map changes.place said.place (c.put-2.ensures.changed false) (ap (λ (r : PlaceChanges). r.place) is) (place_moves book entry is_book) are.taken_are;
-    }
+returns c book entry is_book shape new is are = record {
+  fitted_are = moves (slice_cmp nat_cmp) None _ _ c.args.self.now.fitted c.put.new.map _ _ (c.put.ensures.changed None) (ap (λ (r : PlaceChanges). r.component) is) (component_moves book entry new) are.fitted_are;
+  taken_are = moves names_cmp false _ _ c.args.self.now.taken c.put-2.new.map _ _ (c.put-2.ensures.changed false) (ap (λ (r : PlaceChanges). r.place) is) (place_moves book entry is_book) are.taken_are;
+}

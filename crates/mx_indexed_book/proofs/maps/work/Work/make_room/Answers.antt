@@ -10,11 +10,10 @@ use Rattle.mx_indexed_book.proofs.maps.work.Work.make_room.Goals as goal
 
 pub returns-clause-same : goal.returns-clause-same
 returns-clause-same c book are =
-    let self = c.args.self.now in
     let exact = exact_pairs (slice_cmp nat_cmp) (slice_cmp nat_cmp) exact_bytes exact_bytes in
     record {
-      airframes_are = stays names_cmp None (airframe_base book) self.airframes c.make_room_for_all-airframes.new.map (c.make_room_for_all-airframes.ensures.same exact) are.airframes_are;
-      components_are = stays names_cmp None (component_base book) self.components c.make_room_for_all-components.new.map (c.make_room_for_all-components.ensures.same exact) are.components_are;
+      airframes_are = stays names_cmp None _ c.args.self.now.airframes c.make_room_for_all-airframes.new.map (c.make_room_for_all-airframes.ensures.same exact) are.airframes_are;
+      components_are = stays names_cmp None _ c.args.self.now.components c.make_room_for_all-components.new.map (c.make_room_for_all-components.ensures.same exact) are.components_are;
       bounded = are.bounded;
-      rectified_are = stays (slice_cmp nat_cmp) false (is_rectified book) self.rectified c.make_room_for_all-rectified.new.map (c.make_room_for_all-rectified.ensures.same exact_bytes) are.rectified_are;
+      rectified_are = stays (slice_cmp nat_cmp) false _ c.args.self.now.rectified c.make_room_for_all-rectified.new.map (c.make_room_for_all-rectified.ensures.same exact_bytes) are.rectified_are;
     }

@@ -10,13 +10,9 @@ use Rattle.mx_indexed_book.proofs.MapsProofs.WorkLemmas.{airframe_moves, bases_b
 use Rattle.mx_indexed_book.proofs.maps.work.Work.put.Goals as goal
 
 pub returns : goal.returns
-returns c book entry is_book shape new is are =
-    let self = c.args.self.now in
-    let changes = c.args.changes.now in
-    let more = book ++ entry ∷ [] in
-    record {
-      airframes_are = moves_all names_cmp None (airframe_base book) (airframe_base more) self.airframes c.put_all.new.map changes.airframes.items (filter_map (keyed airframe_task) (bases_set book entry.act)) (c.put_all.ensures None) is.airframes_are (airframe_moves book entry is_book shape new) are.airframes_are;
-      components_are = moves_all names_cmp None (component_base book) (component_base more) self.components c.put_all-2.new.map changes.components.items (filter_map (keyed component_task) (bases_set book entry.act)) (c.put_all-2.ensures None) is.components_are (component_moves book entry is_book shape new) are.components_are;
-      bounded = bases_bounded book entry is_book shape new is.bounded are.bounded;
-      rectified_are = moves_all (slice_cmp nat_cmp) false (is_rectified book) (is_rectified more) self.rectified c.put_all-3.new.map changes.rectified.items (filter_map line_defect (lines_of entry.act)) (c.put_all-3.ensures false) is.rectified_are (rectified_moves book entry) are.rectified_are;
-    }
+returns c book entry is_book shape new is are = record {
+  airframes_are = moves_all names_cmp None _ _ c.args.self.now.airframes c.put_all.new.map _ _ (c.put_all.ensures None) is.airframes_are (airframe_moves book entry is_book shape new) are.airframes_are;
+  components_are = moves_all names_cmp None _ _ c.args.self.now.components c.put_all-2.new.map _ _ (c.put_all-2.ensures None) is.components_are (component_moves book entry is_book shape new) are.components_are;
+  bounded = bases_bounded book entry is_book shape new is.bounded are.bounded;
+  rectified_are = moves_all (slice_cmp nat_cmp) false _ _ c.args.self.now.rectified c.put_all-3.new.map _ _ (c.put_all-3.ensures false) is.rectified_are (rectified_moves book entry) are.rectified_are;
+}
