@@ -1,2 +1,3 @@
 pub mod FindLemmas
+pub mod MomentLemmas
 pub mod Told

@@ -1,8 +1,8 @@
 //! Deferred defects: which there are, which were rectified, and which are open.
-ghost use Rattle.std.specs.Prelude.{◌≡◌, [], ◌∷◌, IfOk};
-ghost use Rattle.std.specs.List.{cons_option, list_any};
+ghost use Rattle.std.specs.Prelude.{◌≡◌, IfOk};
+ghost use Rattle.std.specs.List.{list_any};
 ghost use Rattle.mx_book.specs.commands.Act.{lines_of};
-ghost use Rattle.mx_book.specs.Defect.{deferred_by, defect, rectifies, is_rectified, extension, is_open, open_from, open_defects};
+ghost use Rattle.mx_book.specs.Defect.{deferred_by, defect, rectifies, is_rectified, extension, is_open, open_defects};
 
 use mx_base::{Doc, Tail};
 use mx_book::Defect;
@@ -13,13 +13,10 @@ use std::alloc::{AllocError, Global};
 fn deferred_defect(entry: &Command) -> Option<Defect>
     ensures { result ≡ deferred_by entry.now }
 {
-    match entry.deferral() {
-        Some(deferral) => Some(Defect {
-            doc: entry.doc(),
-            deferral,
-        }),
-        None => None,
-    }
+    entry.deferral().map(|deferral| Defect {
+        doc: entry.doc(),
+        deferral,
+    })
 }
 
 /// The defect that was deferred by a document.
@@ -73,22 +70,6 @@ fn is_open_on(entries: &[Command], tail: &Tail, defect: &Defect) -> bool
     defect.deferral.tail == *tail && !was_rectified(entries, &defect.doc)
 }
 
-// The open defect of an aircraft that an entry of the book defers.
-fn open_defect(entries: &[Command], tail: &Tail, entry: &Command) -> Option<Defect>
-    ensures { cons_option result [] ≡ open_from entries.now tail.now (entry.now ∷ []) }
-{
-    match deferred_defect(entry) {
-        None => None,
-        Some(defect) => {
-            if is_open_on(entries, tail, &defect) {
-                Some(defect)
-            } else {
-                None
-            }
-        }
-    }
-}
-
 /// The open defects of an aircraft, in the order of their entries. An error where memory runs out.
 pub fn list_open_defects(
     alloc: Global,
@@ -97,13 +78,9 @@ pub fn list_open_defects(
 ) -> Result<Vec<Defect>, AllocError>
     ensures { IfOk result (λ defects. defects.items ≡ open_defects entries.now tail.now) }
 {
-    let mut found = Vec::new(alloc);
-    let mut rest = entries;
-    while let Some((entry, later)) = rest.split_first() {
-        if let Some(defect) = open_defect(entries, tail, entry) {
-            found.push(defect)?;
-        }
-        rest = later;
-    }
-    Ok(found)
+    entries
+        .iter()
+        .filter_map(|entry| deferred_defect(entry))
+        .filter(|defect| is_open_on(entries, tail, defect))
+        .collect(alloc)
 }

@@ -88,10 +88,8 @@ pub fn life(entries: &[Command], item: &Item, until: Option<u32>) -> Option<Use>
     requires shaped { list_all has_shape entries.now ≡ true }
     ensures { result ≡ life_until entries.now item.now until }
 {
-    match opening_use(&found_of(entries, item)) {
-        None => None,
-        Some(opening) => Some(use_after_sectors(entries, item, until, opening)),
-    }
+    let opening = opening_use(&found_of(entries, item))?;
+    Some(use_after_sectors(entries, item, until, opening))
 }
 
 fn moment_if(is_same: bool, moment: Moment) -> Moment
@@ -155,13 +153,9 @@ fn latest_of_airframe(entries: &[Command], tail: &Tail) -> Moment
     ensures { result
         ≡ latest (flat_map (λ entry. airframe_moments tail.now entry.act) entries.now) }
 {
-    let mut clock = Moment::FIRST;
-    let mut rest = entries;
-    while let Some((entry, later)) = rest.split_first() {
-        clock = clock.max(moment_of_airframe(tail, entry));
-        rest = later;
-    }
-    clock
+    entries.iter().fold(Moment::FIRST, |clock, entry| {
+        clock.max(moment_of_airframe(tail, entry))
+    })
 }
 
 /// The clock of an airframe: the latest moment that the entries have of it.
@@ -199,13 +193,9 @@ fn moment_of_component(serial: &Serial, entry: &Command) -> Moment
 fn clock_of_component(entries: &[Command], serial: &Serial) -> Moment
     ensures { result ≡ clock entries.now (Component serial.now) }
 {
-    let mut clock = Moment::FIRST;
-    let mut rest = entries;
-    while let Some((entry, later)) = rest.split_first() {
-        clock = clock.max(moment_of_component(serial, entry));
-        rest = later;
-    }
-    clock
+    entries.iter().fold(Moment::FIRST, |clock, entry| {
+        clock.max(moment_of_component(serial, entry))
+    })
 }
 
 /// The clock of an item.

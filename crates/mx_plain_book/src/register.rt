@@ -45,15 +45,10 @@ pub(crate) fn aircraft_of_tail(entries: &[Command], tail: &Tail) -> Option<Aircr
 fn aircraft_count(entries: &[Command]) -> usize
     ensures { result ≡ length (register aircraft_of entries.now) }
 {
-    let mut count = 0;
-    let mut rest = entries;
-    while let Some((entry, later)) = rest.split_first() {
-        if entry.added_aircraft().is_some() {
-            count += 1;
-        }
-        rest = later;
-    }
-    count
+    entries
+        .iter()
+        .filter_map(|entry| entry.added_aircraft())
+        .count()
 }
 
 /// Whether there is room for one more aircraft.
@@ -77,15 +72,10 @@ pub(crate) fn component_of_serial(entries: &[Command], serial: &Serial) -> Optio
 fn component_count(entries: &[Command]) -> usize
     ensures { result ≡ length (register component_of entries.now) }
 {
-    let mut count = 0;
-    let mut rest = entries;
-    while let Some((entry, later)) = rest.split_first() {
-        if entry.added_component().is_some() {
-            count += 1;
-        }
-        rest = later;
-    }
-    count
+    entries
+        .iter()
+        .filter_map(|entry| entry.added_component())
+        .count()
 }
 
 /// Whether there is room for one more component.

@@ -25,10 +25,7 @@ fn removal_of_serial(entries: &[Command], serial: &Serial) -> Option<Removal>
 pub fn removed_at(entries: &[Command], serial: &Serial) -> Option<u32>
     ensures { result ≡ first_removal serial.now entries.now }
 {
-    match removal_of_serial(entries, serial) {
-        Some(removal) => Some(removal.moment.number()),
-        None => None,
-    }
+    removal_of_serial(entries, serial).map(|removal| removal.moment.number())
 }
 
 // Whether a sector has landed by the first removal of a component.
