@@ -202,14 +202,9 @@ fn is_retired_by_any(entries: &[Command], item: &Item, life: &Use, day: Day, tas
     requires { list_all task_shape tasks.now ≡ true }
     ensures { result ≡ list_any (is_at_end entries.now item.now life.now day) tasks.now }
 {
-    let mut rest = tasks;
-    while let Some((task, later)) = rest.split_first() {
-        if is_retired_by(entries, item, life, day, task) {
-            return true;
-        }
-        rest = later;
-    }
-    false
+    tasks
+        .iter()
+        .any(|task| is_retired_by(entries, item, life, day, task))
 }
 
 // Whether a task in force of a kind retires an item that has this life by a day.

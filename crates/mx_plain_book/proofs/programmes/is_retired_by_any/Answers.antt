@@ -1,24 +1,18 @@
-use Rattle.std.proofs.Common.{◌≡◌, sym, ap, ◌∙◌, List, ◌∷◌, Bool, true, false, ◌||◌}
-use Rattle.std.specs.List.{list_all, list_any}
+use Rattle.std.proofs.Common.{◌≡◌, ◌<◌, ℕ, List, length, get_or, Bool, true, false, sym, ap, ◌∙◌, rules}
+use Rattle.std.specs.List.{list_all}
+use Rattle.std.proofs.lemmas.Iterator.{YieldsList-from_slice}
+use Rattle.std.proofs.lemmas.Iterator.Adapters.{serves_from_places}
+use Rattle.std.proofs.lemmas.List.Folds.{list_all_at}
 use Rattle.mx_book.specs.commands.Programme.{task_shape}
-use Rattle.mx_book.specs.Programme.{is_at_end}
-use Rattle.mx_book.proofs.JudgeLemmas.{both_true}
 use Rattle.mx_plain_book.proofs.programmes.is_retired_by_any.Goals as goal
 
--- where the first passes no test, the others answer for all
-others_pass : {X : Type 0} (test : X → Bool) (xs later : List X) (x : X) (whole : Bool) → xs ≡ x ∷ later → test x ≡ false → list_any test xs ≡ whole → list_any test later ≡ whole
-others_pass test xs later x whole e missed h =
-    let here : list_any test (x ∷ later) ≡ whole = ap (list_any test) (sym e) ∙ h in
-    ap (λ b. b || list_any test later) (sym missed) ∙ here
+unless_false : (b : Bool) → (b ≡ false → false ≡ true) → b ≡ true
+unless_false true h = λ _. true
+unless_false false h = h (λ _. false)
 
--- where all pass a test, those behind the first do
-later_pass : {X : Type 0} (test : X → Bool) (xs later : List X) (x : X) → xs ≡ x ∷ later → list_all test xs ≡ true → list_all test later ≡ true
-later_pass test xs later x e h = (both_true (test x) (list_all test later) (ap (list_all test) (sym e) ∙ h)).1
+-- where all pass a test, what is at a place of them does
+at_place : {X : Type 0} (test : X → Bool) (xs : List X) → list_all test xs ≡ true → (x : X) (k : ℕ) → k < length xs → x ≡ get_or xs k x → test x ≡ true
+at_place test xs all x k low is = unless_false (test x) (λ no. sym (list_all_at test xs k x low (ap test (sym is) ∙ no)) ∙ all)
 
-pub loop-task-preserved : goal.loop-task-preserved
-loop-task-preserved c = record {
-  left =
-      others_pass (is_at_end c.args.entries.now c.args.item.now c.args.life.now c.args.day) c.loop-task.rest.now c.in-Some.later.now c.in-Some.task.now _
-      c.in-Some.ensures.cases.0 (sym c.is_retired_by.ensures ∙ c.if-is_retired_by.false) c.loop-task.invariant.left;
-  shape = later_pass task_shape c.loop-task.rest.now c.in-Some.later.now c.in-Some.task.now c.in-Some.ensures.cases.0 c.loop-task.invariant.shape;
-}
+pub any-requires-clause-callable : goal.any-requires-clause-callable
+any-requires-clause-callable c = serves_from_places (YieldsList-from_slice c.args.tasks.now cc) (λ x q r. search rules) (λ x k low is. let shaped = at_place task_shape c.args.tasks.now c.requires x.now k low is in search rules)
