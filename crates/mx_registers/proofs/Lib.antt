@@ -5,6 +5,7 @@ pub mod TaskLemmas
 pub mod ReleaseLemmas
 pub mod MergeLemmas
 pub mod RegisterLemmas
+pub mod RowsSoFar
 pub mod Worked
 pub mod WorkedProgrammes
 pub mod WorkedReleases

@@ -16,8 +16,9 @@ use Rattle.mx_base.specs.declared.rows.rows.FittingRow.{FittingRow}
 use Rattle.mx_base.specs.declared.rows.rows.RemovalRow.{RemovalRow}
 use Rattle.mx_base.specs.rows.Rows.{kind_number, place_key}
 use Rattle.mx_registers.specs.Names.{seq_of_tail, seq_of_serial, tail_at, serial_at}
-use Rattle.mx_registers.specs.Registers.{next, entry_rows, aircraft_rows, place_rows, component_rows, sector_rows, fitting_rows, removal_rows}
+use Rattle.mx_registers.specs.Registers.{next, entry_rows, place_rows}
 use Rattle.mx_registers.specs.Merge.{Rest, merged}
+use Rattle.mx_registers.proofs.MergeLemmas.{all_later}
 
 -- ── the rows of a book: two aircraft, two engines, fitted and removed, and three sectors ──
 
@@ -84,25 +85,9 @@ rows = record no_rows {
 entries_listed : entry_rows on_another ≡ entries
 entries_listed = refl
 
-aircraft_listed : aircraft_rows on_another ≡ rows.aircraft
-aircraft_listed = refl
-
--- the positions of each aircraft have their lines from 1
-places_listed : place_rows on_another ≡ rows.places
-places_listed = refl
-
-components_listed : component_rows on_another ≡ rows.components
-components_listed = refl
-
--- each sector has the number of the entry that added its aircraft
-sectors_listed : sector_rows on_another ≡ rows.sectors
-sectors_listed = refl
-
-fittings_listed : fitting_rows on_another ≡ rows.fittings
-fittings_listed = refl
-
-removals_listed : removal_rows on_another ≡ rows.removals
-removals_listed = refl
+-- the positions of each aircraft have their lines from 1, and each sector has the number of the entry that added its aircraft
+registers_listed : all_later [] on_another ≡ rows
+registers_listed = refl
 
 -- ── names and numbers ──
 

@@ -19,8 +19,9 @@ use Rattle.mx_base.specs.declared.rows.rows.DeferralRow.{DeferralRow}
 use Rattle.mx_base.specs.declared.rows.rows.ExtensionRow.{ExtensionRow}
 use Rattle.mx_base.specs.rows.Rows.{category_number, days_stated}
 use Rattle.mx_registers.specs.Names.{seq_of_defect, defect_at}
-use Rattle.mx_registers.specs.Registers.{entry_rows, release_line_rows, deferral_rows, extension_rows}
+use Rattle.mx_registers.specs.Registers.{entry_rows, release_line_rows}
 use Rattle.mx_registers.specs.Merge.{Rest, line_said, merged}
+use Rattle.mx_registers.proofs.MergeLemmas.{all_later}
 use Rattle.mx_registers.proofs.Worked.{entry, first_aircraft_row, place, no_rows}
 use Rattle.mx_registers.proofs.WorkedProgrammes.{hundred_hours, once, loaded, programme, hundred_hours_row, once_row}
 
@@ -98,17 +99,9 @@ rows = record no_rows {
 entries_listed : entry_rows defects ≡ entries
 entries_listed = refl
 
--- each deferral has the number of the entry that added its aircraft, and its category with the days that are stated
-deferrals_listed : deferral_rows defects ≡ rows.deferrals
-deferrals_listed = refl
-
--- the extension has the number of the entry that deferred its defect
-extensions_listed : extension_rows defects ≡ rows.extensions
-extensions_listed = refl
-
--- a line has an item and a task, or the number of the entry that deferred its defect
-release_lines_listed : release_line_rows defects ≡ rows.release_lines
-release_lines_listed = refl
+-- each deferral has the number of the entry that added its aircraft, and its category with the days that are stated; the extension, and a line without an item and a task, that of the entry that deferred its defect
+registers_listed : all_later [] defects ≡ rows
+registers_listed = refl
 
 -- ── documents and numbers ──
 

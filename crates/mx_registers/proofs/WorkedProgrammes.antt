@@ -20,8 +20,9 @@ use Rattle.mx_base.specs.declared.rows.rows.TaskRow.{TaskRow}
 use Rattle.mx_base.specs.declared.rows.rows.OpeningRow.{OpeningRow}
 use Rattle.mx_base.specs.rows.Rows.{task_key}
 use Rattle.mx_registers.specs.Names.{seq_of_item, item_at}
-use Rattle.mx_registers.specs.Registers.{no_limit, entry_rows, programme_rows, task_rows, opening_rows}
+use Rattle.mx_registers.specs.Registers.{no_limit, entry_rows, task_rows}
 use Rattle.mx_registers.specs.Merge.{Rest, task_said, take_tasks, merged}
+use Rattle.mx_registers.proofs.MergeLemmas.{all_later}
 use Rattle.mx_registers.proofs.Worked.{entry, first_aircraft_row, place, component_with, no_rows}
 
 -- ── the rows of a book: an aircraft, an engine, two revisions of a programme, and an opening of each item ──
@@ -103,16 +104,9 @@ rows = record no_rows {
 entries_listed : entry_rows programmes ≡ entries
 entries_listed = refl
 
-programmes_listed : programme_rows programmes ≡ rows.programmes
-programmes_listed = refl
-
--- the tasks of each revision have their lines from 1
-tasks_listed : task_rows programmes ≡ rows.tasks
-tasks_listed = refl
-
--- each opening has the number of the entry that added the aircraft of its airframe, or its component
-openings_listed : opening_rows programmes ≡ rows.openings
-openings_listed = refl
+-- the tasks of each revision have their lines from 1, and each opening has the number of the entry that added the aircraft of its airframe, or its component
+registers_listed : all_later [] programmes ≡ rows
+registers_listed = refl
 
 -- ── items and numbers ──
 

@@ -17,8 +17,9 @@ use Rattle.mx_base.specs.declared.rows.rows.EntryRow.{EntryRow}
 use Rattle.mx_base.specs.declared.rows.rows.ReleaseRow.{ReleaseRow}
 use Rattle.mx_base.specs.declared.rows.rows.ReleaseLineRow.{ReleaseLineRow}
 use Rattle.mx_base.specs.rows.Rows.{release_line_key}
-use Rattle.mx_registers.specs.Registers.{entry_rows, release_rows, release_line_rows}
+use Rattle.mx_registers.specs.Registers.{entry_rows}
 use Rattle.mx_registers.specs.Merge.{Rest, place_said, line_said, take_release_lines, merged}
+use Rattle.mx_registers.proofs.MergeLemmas.{all_later}
 use Rattle.mx_registers.proofs.Worked.{entry, first_aircraft_row, place, component_with, fitted_row, no_rows}
 use Rattle.mx_registers.proofs.WorkedProgrammes.{c172, hundred_hours, once, loaded, programme, hundred_hours_row, once_row}
 
@@ -85,13 +86,9 @@ rows = record no_rows {
 entries_listed : entry_rows releases ≡ entries
 entries_listed = refl
 
--- each release has the number of the entry that added its aircraft, or its component and then a kind
-releases_listed : release_rows releases ≡ rows.releases
-releases_listed = refl
-
--- the lines of each release are numbered from 1, and have the numbers of the entries that added their items
-release_lines_listed : release_line_rows releases ≡ rows.release_lines
-release_lines_listed = refl
+-- each release has the number of the entry that added its aircraft, or its component and then a kind; its lines are numbered from 1, and have the numbers of the entries that added their items
+registers_listed : all_later [] releases ≡ rows
+registers_listed = refl
 
 -- ── what rows say ──
 

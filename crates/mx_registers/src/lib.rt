@@ -10,13 +10,17 @@
 //!
 //! - The row of a command, of a position and of a task is the definition's, and fits its columns: `entry_row`,
 //!   `aircraft_row`, `place_row`, `component_row`, `programme_row`, `task_row`, `opening_row`, `sector_row`,
-//!   `fitting_row`, `removal_row`, `release_row`, `deferral_row`, `extension_row`: `row`, `fits`.
+//!   `fitting_row`, `removal_row`, `release_row`, `deferral_row`, `extension_row`: `row`, `fits`. So is that of a line of
+//!   a release, by what it certifies: `done_row`, `rectified_row`.
+//! - The rows of all positions and of all tasks are the definition's, each on its line: `lines::place_rows`,
+//!   `lines::task_rows`.
 //! - Registers are those of at most one book: `laws::registers_decide_the_book`.
 #![tactic(auto)]
 
 pub mod file;
 pub mod kept;
 pub mod laws;
+pub mod lines;
 pub mod merge;
 pub mod names;
 pub mod plain;
@@ -30,6 +34,7 @@ pub use mx_base::rows::{
 };
 pub use names::{added_item, or_zero};
 pub use registers::{
-    aircraft_row, component_row, deferral_row, entry_row, extension_row, fitting_row, opening_row,
-    place_row, programme_row, release_row, removal_row, sector_row, task_row,
+    aircraft_row, component_row, deferral_row, done_row, entry_row, extension_row, fitting_row,
+    opening_row, place_row, programme_row, rectified_row, release_row, removal_row, sector_row,
+    task_row,
 };

@@ -102,13 +102,17 @@ credited_there book (Component serial) s h lands timely =
 abbrev Counts : Act → Sector → Span → Type 0
 Counts act s span = is_within s (ended_by act span) ≡ is_within s span
 
-pub serial_kept : (act : Act) (x : Span) → (ended_by act x).serial ≡ x.serial
-serial_kept (Removed r) x = at (is_none x.to && same_text x.serial r.serial)
+-- what is read of a span without its end is the same of it ended
+pub kept_by : {X : Type 0} (read : Span → X) → ((x : Span) (to : ℕ) → read (record x { to = Some to }) ≡ read x) → (act : Act) (x : Span) → read (ended_by act x) ≡ read x
+kept_by read same (Removed r) x = at (is_none x.to && same_text x.serial r.serial)
   where
-    at : (b : Bool) → (cond {A = Span} b (record x { to = Some r.moment }) x).serial ≡ x.serial
-    at true = refl
+    at : (b : Bool) → read (cond {A = Span} b (record x { to = Some r.moment }) x) ≡ read x
+    at true = same x r.moment
     at false = refl
-serial_kept _ x = refl
+kept_by read same _ x = refl
+
+pub serial_kept : (act : Act) (x : Span) → (ended_by act x).serial ≡ x.serial
+serial_kept = kept_by (λ (x : Span). x.serial) (λ _ _. refl)
 
 any_counts : (act : Act) (s : Sector) (serial : List ℕ) (xs : List Span) → AllByRecursion (Counts act s) xs
     → list_any (is_within s) (filter (λ (x : Span). same_text x.serial serial) (map (ended_by act) xs)) ≡ list_any (is_within s) (filter (λ (x : Span). same_text x.serial serial) xs)

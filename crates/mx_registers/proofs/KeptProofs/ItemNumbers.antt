@@ -75,27 +75,11 @@ total_rows-changed book doc act b new shape = total_rows-more book doc act b new
 
 tail_by : (act : Act) → (doc : List ℕ) (tail : List ℕ) → item_added act ≡ Some (Airframe tail) → tail_added (record { doc = doc; act = act }) ≡ Some tail
 tail_by (Added a positions) doc tail h = cc
-tail_by (Listed c) doc tail h = (cc)
-tail_by (Loaded p tasks) doc tail h = (cc)
-tail_by (Opened o) doc tail h = (cc)
-tail_by (Flown s) doc tail h = (cc)
-tail_by (Fitted f) doc tail h = (cc)
-tail_by (Removed r) doc tail h = (cc)
-tail_by (Released r lines) doc tail h = (cc)
-tail_by (Deferred d) doc tail h = (cc)
-tail_by (Extended x) doc tail h = (cc)
+tail_by _ doc tail h = (cc)
 
 serial_by : (act : Act) → (doc : List ℕ) (serial : List ℕ) → item_added act ≡ Some (Component serial) → serial_added (record { doc = doc; act = act }) ≡ Some serial
-serial_by (Added a positions) doc serial h = (cc)
 serial_by (Listed c) doc serial h = cc
-serial_by (Loaded p tasks) doc serial h = (cc)
-serial_by (Opened o) doc serial h = (cc)
-serial_by (Flown s) doc serial h = (cc)
-serial_by (Fitted f) doc serial h = (cc)
-serial_by (Removed r) doc serial h = (cc)
-serial_by (Released r lines) doc serial h = (cc)
-serial_by (Deferred d) doc serial h = (cc)
-serial_by (Extended x) doc serial h = (cc)
+serial_by _ doc serial h = (cc)
 
 at_number : {X : Type 0} (pick : Entry → Option X) (x : X) (item : Item) → ((e : Entry) → item_added e.act ≡ Some item → pick e ≡ Some x) → (o : Option Entry) → option_and_then (λ (e : Entry). item_added e.act) o ≡ Some item → option_and_then pick o ≡ Some x
 at_number pick x item h None e = (cc)

@@ -40,7 +40,7 @@ without n id rows = filter (λ row. not (is_keyed n id row)) rows
 abbrev row_of : ℕ → List ℕ → Base → BaseRow
 row_of n id b = base_row_with n id b
 
-some_fewer : (q p : BaseRow → Bool) (xs : List BaseRow) → list_any q xs ≡ false → list_any q (filter p xs) ≡ false
+some_fewer : {X : Type 0} (q p : X → Bool) (xs : List X) → list_any q xs ≡ false → list_any q (filter p xs) ≡ false
 some_fewer q p [] h = refl
 some_fewer q p (x ∷ xs) h = let parts = neither (q x) (list_any q xs) h in at (p x) parts.0 (some_fewer q p xs parts.1)
   where
@@ -150,20 +150,12 @@ abbrev pub AreDistinct : List (List ℕ) → Type 0
 AreDistinct [] = Unit {0}
 AreDistinct (t ∷ ts) = (list_any (λ other. same_text other t) ts ≡ false) × AreDistinct ts
 
-text_fewer : (q p : List ℕ → Bool) (xs : List (List ℕ)) → list_any q xs ≡ false → list_any q (filter p xs) ≡ false
-text_fewer q p [] h = refl
-text_fewer q p (x ∷ xs) h = let parts = neither (q x) (list_any q xs) h in at (p x) parts.0 (text_fewer q p xs parts.1)
-  where
-    at : (b : Bool) → q x ≡ false → list_any q (filter p xs) ≡ false → list_any q (cond b (x ∷ filter p xs) (filter p xs)) ≡ false
-    at true e rest = none_of (q x) (list_any q (filter p xs)) e rest
-    at false e rest = rest
-
 distinct_fewer : (p : List ℕ → Bool) (xs : List (List ℕ)) → AreDistinct xs → AreDistinct (filter p xs)
 distinct_fewer p [] h = tt
 distinct_fewer p (x ∷ xs) h = at (p x) (distinct_fewer p xs h.1)
   where
     at : (b : Bool) → AreDistinct (filter p xs) → AreDistinct (cond b (x ∷ filter p xs) (filter p xs))
-    at true rest = (text_fewer (λ other. same_text other x) p xs h.0, rest)
+    at true rest = (some_fewer (λ other. same_text other x) p xs h.0, rest)
     at false rest = rest
 
 removed : (x : List ℕ) (xs : List (List ℕ)) → list_any (λ other. same_text other x) (filter (λ other. not (same_text other x)) xs) ≡ false

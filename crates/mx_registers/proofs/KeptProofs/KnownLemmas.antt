@@ -21,7 +21,7 @@ use Rattle.mx_book.specs.Life.{is_within, is_credited, credited}
 use Rattle.mx_registers.proofs.NewLemmas.{flown_is_known, fitted_is_known}
 use Rattle.mx_registers.specs.kept.Changes.{ended_by}
 use Rattle.mx_registers.proofs.KeptProofs.SpanGrowth.{spans-more}
-use Rattle.mx_registers.proofs.KeptProofs.CreditLemmas.{all_of, serial_kept}
+use Rattle.mx_registers.proofs.KeptProofs.CreditLemmas.{kept_by, all_of, serial_kept}
 use Rattle.mx_registers.proofs.KeptProofs.Induction.{of_each_book}
 use Rattle.mx_registers.specs.Names.{has_item}
 
@@ -73,12 +73,7 @@ begun_known book doc (Fitted f) new = let h = fitted_is_known book doc f new in 
 begun_known book doc _ new = tt
 
 tail_kept : (act : Act) (x : Span) → (ended_by act x).tail ≡ x.tail
-tail_kept (Removed r) x = at (is_none x.to && same_text x.serial r.serial)
-  where
-    at : (b : Bool) → (cond {A = Span} b (record x { to = Some r.moment }) x).tail ≡ x.tail
-    at true = refl
-    at false = refl
-tail_kept _ x = refl
+tail_kept = kept_by (λ (x : Span). x.tail) (λ _ _. refl)
 
 -- each span of a book is of a component and of an aircraft that it has
 pub spans_named : (book : List Entry) → IsBook book → AllByRecursion (KnowsSpan book) (spans book)

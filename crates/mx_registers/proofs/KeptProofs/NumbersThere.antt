@@ -34,26 +34,15 @@ use Rattle.mx_registers.proofs.KeptProofs.TotalRows.{items_there, total_rows-mor
 use Rattle.mx_registers.proofs.KeptProofs.KnownLemmas.{aircraft_kept, component_kept}
 use Rattle.mx_registers.proofs.KeptProofs.LifeGrowth.{use_after_none}
 use Rattle.mx_registers.proofs.KeptProofs.PlaceLemmas.{open_where_fitted}
-use Rattle.mx_registers.proofs.KeptProofs.SpanRows.{number-append, serial_number_kept, one_number}
+use Rattle.mx_registers.proofs.KeptProofs.SpanRows.{number-append, has_number, or_known, serial_number_kept, one_number}
 use Rattle.mx_registers.proofs.KeptProofs.ItemNumbers.{items_numbered, tail_at_item, serial_at_item, other_number}
 
 -- ── the numbers of aircraft ──
 
-known_number : (book : List Entry) (tail : List ℕ) → is_some (aircraft book tail) ≡ true → is_some (seq_of_tail book tail) ≡ true
-known_number book tail h = at (seq_of_tail book tail) (tail_known book tail h)
-  where
-    at : (o : Option ℕ) → tail_at book (or_zero o) ≡ Some tail → is_some o ≡ true
-    at (Some n) e = refl
-    at None e = (cc)
-
-or_known : (o p : Option ℕ) → is_some o ≡ true → or_zero (option_or o p) ≡ or_zero o
-or_known None p h = (cc)
-or_known (Some n) p h = refl
-
 -- the number of an aircraft stays
 pub tail_number_kept : (book more : List Entry) (tail : List ℕ) → is_some (aircraft book tail) ≡ true → or_zero (seq_of_tail (book ++ more) tail) ≡ or_zero (seq_of_tail book tail)
 tail_number_kept book more tail h =
-    ap or_zero (number-append tail_added tail 1 book more) ∙ or_known (seq_of_tail book tail) (number_from tail_added tail (1 + length book) more) (known_number book tail h)
+    ap or_zero (number-append tail_added tail 1 book more) ∙ or_known (seq_of_tail book tail) (number_from tail_added tail (1 + length book) more) (has_number (tail_at book) tail (seq_of_tail book tail) refl (tail_known book tail h))
 
 -- two aircraft of a book have one number exactly where they have one registration
 pub one_tail_number : (book : List Entry) (a b : List ℕ) → is_some (aircraft book a) ≡ true → is_some (aircraft book b) ≡ true → nat_eq (or_zero (seq_of_tail book a)) (or_zero (seq_of_tail book b)) ≡ same_text a b

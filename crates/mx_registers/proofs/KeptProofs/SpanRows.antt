@@ -39,14 +39,12 @@ number-append name_of name k (x ∷ book) more = at (adds_named name_of name x) 
     at true h = refl
     at false h = h ∙ ap (λ n. option_or (number_from name_of name (k + 1) book) (number_from name_of name n more)) same
 
-known_number : (book : List Entry) (serial : List ℕ) → is_some (component book serial) ≡ true → is_some (seq_of_serial book serial) ≡ true
-known_number book serial h = at (seq_of_serial book serial) (serial_known book serial h)
-  where
-    at : (o : Option ℕ) → serial_at book (or_zero o) ≡ Some serial → is_some o ≡ true
-    at (Some n) e = refl
-    at None e = (cc)
+-- no number is 0
+pub has_number : (named : ℕ → Option (List ℕ)) (name : List ℕ) (o : Option ℕ) → named 0 ≡ None → named (or_zero o) ≡ Some name → is_some o ≡ true
+has_number named name (Some n) none e = refl
+has_number named name None none e = (cc)
 
-or_known : (o p : Option ℕ) → is_some o ≡ true → or_zero (option_or o p) ≡ or_zero o
+pub or_known : (o p : Option ℕ) → is_some o ≡ true → or_zero (option_or o p) ≡ or_zero o
 or_known None p h = (cc)
 or_known (Some n) p h = refl
 
@@ -54,7 +52,7 @@ or_known (Some n) p h = refl
 pub serial_number_kept : (book more : List Entry) (serial : List ℕ) → is_some (component book serial) ≡ true → or_zero (seq_of_serial (book ++ more) serial) ≡ or_zero (seq_of_serial book serial)
 serial_number_kept book more serial h =
     ap or_zero (number-append serial_added serial 1 book more)
-    ∙ or_known (seq_of_serial book serial) (number_from serial_added serial (1 + length book) more) (known_number book serial h)
+    ∙ or_known (seq_of_serial book serial) (number_from serial_added serial (1 + length book) more) (has_number (serial_at book) serial (seq_of_serial book serial) refl (serial_known book serial h))
 
 -- two components of a book have one number exactly where they have one serial number
 pub one_number : (book : List Entry) (a b : List ℕ) → is_some (component book a) ≡ true → is_some (component book b) ≡ true → nat_eq (or_zero (seq_of_serial book a)) (or_zero (seq_of_serial book b)) ≡ same_text a b

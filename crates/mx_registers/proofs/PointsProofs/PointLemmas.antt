@@ -1,6 +1,7 @@
 -- The rows of a table as a step of a move goes on.
 use Rattle.std.proofs.Common.{arith, refl, sym, subst, ap, ◌∙◌, ◌≡◌, ℕ, ◌+◌, ◌≤◌, ◌<◌, zero, suc, length, List, [], ◌∷◌, ◌++◌, Bool, true, false, cond, ◌&&◌, Some, take, drop}
 use Rattle.std.specs.Prelude.{nat_le, filter, fold, map, not}
+use Rattle.std.proofs.Math.Seq.{drop-nil, take-nil}
 use Rattle.std.proofs.lemmas.Bool.Decides.{nat_tests}
 use Rattle.std.proofs.lemmas.List.Elements.{filter_agree}
 use Rattle.mx_book.specs.commands.Act.{Entry}
@@ -26,9 +27,6 @@ module _ {Row : Type 0} (number : Row → ℕ) where
 
   abbrev pub above : ℕ → Row → Bool
   above mark row = not (nat_le (number row) mark)
-
-  abbrev no_rows : List Row
-  no_rows = []
 
   none_below : (mark low high : ℕ) (xs : List Row) → mark < low → IsRising number low xs high → filter (below mark) xs ≡ []
   none_below mark low high [] h up = refl
@@ -77,11 +75,7 @@ module _ {Row : Type 0} (number : Row → ℕ) where
 
   -- the rows up to the last of the next n are those up to the mark, and the next n
   pub moved_more : (mark low high n : ℕ) (xs : List Row) → IsRising number low xs high → filter (below (last_moved number mark (take n (filter (above mark) xs)))) xs ≡ filter (below mark) xs ++ take n (filter (above mark) xs)
-  moved_more mark low high n [] up = at n
-    where
-      at : (n : ℕ) → no_rows ≡ take n no_rows
-      at zero = refl
-      at (suc n) = refl
+  moved_more mark low high n [] up = sym (take-nil n)
   moved_more mark low high n (x ∷ xs) up = at (nat_le (number x) mark) refl (moved_more mark (number x + 1) high n xs up.1)
     where
       at : (b : Bool) → nat_le (number x) mark ≡ b → filter (below (last_moved number mark (take n (filter (above mark) xs)))) xs ≡ filter (below mark) xs ++ take n (filter (above mark) xs)
@@ -101,11 +95,7 @@ module _ {Row : Type 0} (number : Row → ℕ) where
 
   -- the rows above the last of the next n are those above the mark, without the next n
   pub left_less : (mark low high n : ℕ) (xs : List Row) → IsRising number low xs high → filter (above (last_moved number mark (take n (filter (above mark) xs)))) xs ≡ drop n (filter (above mark) xs)
-  left_less mark low high n [] up = at n
-    where
-      at : (n : ℕ) → no_rows ≡ drop n no_rows
-      at zero = refl
-      at (suc n) = refl
+  left_less mark low high n [] up = sym (drop-nil n)
   left_less mark low high n (x ∷ xs) up = at (nat_le (number x) mark) refl (left_less mark (number x + 1) high n xs up.1)
     where
       at : (b : Bool) → nat_le (number x) mark ≡ b → filter (above (last_moved number mark (take n (filter (above mark) xs)))) xs ≡ drop n (filter (above mark) xs)

@@ -18,8 +18,8 @@ use mx_book::entry_list::NoMemory;
 use std::alloc::Global;
 use std::collections::BTreeMap;
 
-// The fitting that begins a span.
-fn fitting_in(span: &SpanRow) -> FittingRow
+/// The fitting that begins a span.
+pub fn fitting_in(span: &SpanRow) -> FittingRow
     ensures { result ≡ fitting_in span.now }
 {
     FittingRow {
@@ -31,36 +31,22 @@ fn fitting_in(span: &SpanRow) -> FittingRow
     }
 }
 
-// The removal that ends a span, where it has ended.
-fn removal_in(span: &SpanRow) -> Option<RemovalRow>
+/// The removal that ends a span, where it has ended.
+pub fn removal_in(span: &SpanRow) -> Option<RemovalRow>
     ensures { result ≡ removal_in span.now }
 {
-    match span.to {
-        None => None,
-        Some(moment) => match span.remove_seq {
-            None => None,
-            Some(seq) => Some(RemovalRow {
-                seq,
-                component: span.component,
-                moment,
-            }),
-        },
-    }
+    Some(RemovalRow {
+        seq: span.remove_seq?,
+        component: span.component,
+        moment: span.to?,
+    })
 }
 
 /// The fittings that begin spans, in the order of the spans.
 pub fn fittings_in(alloc: Global, spans: &[SpanRow]) -> Result<Vec<FittingRow>, NoMemory>
     ensures { IfOk result (λ fittings. fittings.items ≡ map fitting_in spans.now) }
 {
-    let mut fittings = Vec::new(alloc);
-    let mut rest = spans;
-    while let Some((span, later)) = rest.split_first() {
-        match fittings.push(fitting_in(span)) {
-            Ok(()) => {}
-            Err(_) => return Err(NoMemory),
-        }
-        rest = later;
-    }
+    let fittings = spans.iter().map(|span| fitting_in(span)).collect(alloc)?;
     Ok(fittings)
 }
 
@@ -68,17 +54,10 @@ pub fn fittings_in(alloc: Global, spans: &[SpanRow]) -> Result<Vec<FittingRow>, 
 fn removals_of(alloc: Global, spans: &[SpanRow]) -> Result<Vec<RemovalRow>, NoMemory>
     ensures { IfOk result (λ removals. removals.items ≡ filter_map removal_in spans.now) }
 {
-    let mut removals = Vec::new(alloc);
-    let mut rest = spans;
-    while let Some((span, later)) = rest.split_first() {
-        if let Some(removal) = removal_in(span) {
-            match removals.push(removal) {
-                Ok(()) => {}
-                Err(_) => return Err(NoMemory),
-            }
-        }
-        rest = later;
-    }
+    let removals = spans
+        .iter()
+        .filter_map(|span| removal_in(span))
+        .collect(alloc)?;
     Ok(removals)
 }
 

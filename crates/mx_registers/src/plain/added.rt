@@ -6,8 +6,8 @@ ghost use Rattle.mx_registers.specs.Added.{AreAdded, AreAddedRows};
 
 use crate::plain::names::{seq_of_defect, seq_of_item, seq_of_place, seq_of_serial, seq_of_tail};
 use crate::{
-    aircraft_row, component_row, deferral_row, extension_row, fitting_row, opening_row, or_zero,
-    place_row, programme_row, release_row, removal_row, sector_row, task_row,
+    aircraft_row, component_row, deferral_row, done_row, extension_row, fitting_row, lines,
+    opening_row, or_zero, programme_row, rectified_row, release_row, removal_row, sector_row,
 };
 use mx_base::Kind;
 use mx_base::rows::{
@@ -50,18 +50,7 @@ fn place_rows(alloc: Global, book: &Book, command: &Command) -> Result<Vec<Place
 {
     // A command of its shape has few positions.
     let _ = command.doc();
-    let seq = book.len() + 1;
-    let mut rows = Vec::new(alloc);
-    let mut line = 1u32;
-    let mut rest = command.positions();
-    while let Some((place, later)) = rest.split_first() {
-        match rows.push(place_row(seq, line, place)) {
-            Ok(()) => {}
-            Err(_) => return Err(NoMemory),
-        }
-        line += 1;
-        rest = later;
-    }
+    let rows = lines::place_rows(alloc, book.len() + 1, command.positions())?;
     Ok(rows)
 }
 
@@ -101,18 +90,7 @@ fn task_rows(alloc: Global, book: &Book, command: &Command) -> Result<Vec<TaskRo
 {
     // A command of its shape has few tasks.
     let _ = command.doc();
-    let seq = book.len() + 1;
-    let mut rows = Vec::new(alloc);
-    let mut line = 1u32;
-    let mut rest = command.tasks();
-    while let Some((task, later)) = rest.split_first() {
-        match rows.push(task_row(seq, line, task)) {
-            Ok(()) => {}
-            Err(_) => return Err(NoMemory),
-        }
-        line += 1;
-        rest = later;
-    }
+    let rows = lines::task_rows(alloc, book.len() + 1, command.tasks())?;
     Ok(rows)
 }
 
@@ -198,26 +176,12 @@ pub fn release_line_row(book: &Book, seq: u32, line: u32, certified: &Line) -> R
 {
     match certified {
         Line::Done(item, task) => {
-            // The text of an identifier fits its column.
-            let _ = task.as_str();
             let number = or_zero(seq_of_item(book, item));
-            ReleaseLineRow {
-                seq,
-                line,
-                item: Some(number),
-                task: Some(*task),
-                defect: None,
-            }
+            done_row(seq, line, number, task)
         }
         Line::Rectified(doc) => {
             let number = or_zero(seq_of_defect(book, doc));
-            ReleaseLineRow {
-                seq,
-                line,
-                item: None,
-                task: None,
-                defect: Some(number),
-            }
+            rectified_row(seq, line, number)
         }
     }
 }

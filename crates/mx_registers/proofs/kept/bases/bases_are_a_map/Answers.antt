@@ -1,8 +1,5 @@
 use Rattle.mx_registers.proofs.KeptProofs.KeyedLemmas.{base_rows_once, bases_decided}
 use Rattle.mx_registers.proofs.kept.bases.bases_are_a_map.Goals as goal
 
-pub returns-clause-once : goal.returns-clause-once
-returns-clause-once c = base_rows_once
-
-pub returns-clause-decided : goal.returns-clause-decided
-returns-clause-decided c = bases_decided
+pub returns : goal.returns
+returns c = record { once = base_rows_once; decided = bases_decided }

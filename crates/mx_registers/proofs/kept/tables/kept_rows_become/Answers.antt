@@ -4,11 +4,9 @@ use Rattle.mx_registers.proofs.KeptProofs.PutBases.{command_bases}
 use Rattle.mx_registers.proofs.KeptProofs.SpanRows.{span_rows-more}
 use Rattle.mx_registers.proofs.kept.tables.kept_rows_become.Goals as goal
 
-pub returns-clause-spans : goal.returns-clause-spans
-returns-clause-spans c book command b new shape = span_rows-more book command b new
-
-pub returns-clause-totals : goal.returns-clause-totals
-returns-clause-totals c book command b new shape = total_rows-changed book command.doc command.act b new (both_true _ _ shape).0
-
-pub returns-clause-bases : goal.returns-clause-bases
-returns-clause-bases c book command b new shape = command_bases book command.doc command.act b new shape
+pub returns : goal.returns
+returns c = record {
+  spans = λ book command b new shape. span_rows-more book command b new;
+  totals = λ book command b new shape. total_rows-changed book command.doc command.act b new (both_true _ _ shape).0;
+  bases = λ book command b new shape. command_bases book command.doc command.act b new shape;
+}

@@ -1,8 +1,5 @@
 use Rattle.mx_registers.proofs.KeptProofs.SpanFits.{fittings_fit, removals_fit}
 use Rattle.mx_registers.proofs.kept.tables.registers_fit_where_spans_do.Goals as goal
 
-pub returns-clause-fittings : goal.returns-clause-fittings
-returns-clause-fittings c = fittings_fit
-
-pub returns-clause-removals : goal.returns-clause-removals
-returns-clause-removals c = removals_fit
+pub returns : goal.returns
+returns c = record { fittings = fittings_fit; removals = removals_fit }

@@ -1,8 +1,5 @@
 use Rattle.mx_registers.proofs.KeptProofs.TouchedLemmas.{spans_untouched, totals_untouched}
 use Rattle.mx_registers.proofs.kept.totals.other_rows_stay.Goals as goal
 
-pub returns-clause-totals : goal.returns-clause-totals
-returns-clause-totals c book entry = totals_untouched book entry.doc entry.act
-
-pub returns-clause-spans : goal.returns-clause-spans
-returns-clause-spans c = spans_untouched
+pub returns : goal.returns
+returns c = record { totals = λ book entry. totals_untouched book entry.doc entry.act; spans = spans_untouched }

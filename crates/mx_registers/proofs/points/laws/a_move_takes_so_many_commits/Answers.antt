@@ -4,11 +4,9 @@ use Rattle.mx_base.specs.Settled.{settled}
 use Rattle.mx_registers.proofs.PointsProofs.ReachLemmas.{from_first, reach}
 use Rattle.mx_registers.proofs.points.laws.a_move_takes_so_many_commits.Goals as goal
 
-pub returns-clause-reached : goal.returns-clause-reached
-returns-clause-reached c book b = (reach book b (commits_of_move book) (settled 1) refl (from_first book b)).0
-
-pub returns-clause-on_way : goal.returns-clause-on_way
-returns-clause-on_way c book commits b less = (reach book b (commits_of_move book) (settled 1) refl (from_first book b)).1 commits less
-
-pub returns-clause-left : goal.returns-clause-left
-returns-clause-left c book b = from_first book b
+pub returns : goal.returns
+returns c = record {
+  reached = λ book b. (reach book b (commits_of_move book) (settled 1) refl (from_first book b)).0;
+  on_way = λ book commits b less. (reach book b (commits_of_move book) (settled 1) refl (from_first book b)).1 commits less;
+  left = λ book b. from_first book b;
+}

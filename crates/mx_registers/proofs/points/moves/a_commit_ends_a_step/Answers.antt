@@ -3,8 +3,5 @@ use Rattle.mx_base.specs.Settled.{settled}
 use Rattle.mx_registers.proofs.PointsProofs.EndLemmas.{tables_stay}
 use Rattle.mx_registers.proofs.points.moves.a_commit_ends_a_step.Goals as goal
 
-pub returns-clause-begins : goal.returns-clause-begins
-returns-clause-begins c book b = tables_stay book b (settled 1) (λ some. absurd (omega arith))
-
-pub returns-clause-ends : goal.returns-clause-ends
-returns-clause-ends c book at b none = tables_stay book b at (λ some. none)
+pub returns : goal.returns
+returns c = record { begins = λ book b. tables_stay book b (settled 1) (λ some. absurd (omega arith)); ends = λ book at b none. tables_stay book b at (λ some. none) }
