@@ -48,9 +48,10 @@ pub mod sectors;
 pub mod totals;
 
 pub use defects::{deferral_rows, extension_rows};
-pub use items::{aircraft_rows, component_rows, place_rows};
+pub use items::{aircraft_rows, component_rows};
 pub use moves::{fitting_rows, removal_rows};
-pub use programmes::{opening_rows, programme_rows, task_rows};
+pub use mx_registers::lines::{place_rows, task_rows};
+pub use programmes::{opening_rows, programme_rows};
 pub use releases::{Certified, release_rows};
 pub use rows::{AddedRows, ChangedRows, CommandRows};
 pub use sectors::sector_rows;

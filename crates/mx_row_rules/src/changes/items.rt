@@ -1,10 +1,8 @@
 //! The rows of an aircraft and of a component that come into the records.
-ghost use Rattle.std.specs.Prelude.{◌≡◌, ◌≤◌, ℕ, List, All, IfOk, length};
+ghost use Rattle.std.specs.Prelude.{◌≡◌, ◌≤◌, ℕ, List, IfOk, length};
 ghost use Rattle.mx_book.specs.commands.Act.{Added, Entry, Listed};
 ghost use Rattle.mx_book.specs.declared.commands.shape.TheConstants.{MOST_POSITIONS};
-ghost use Rattle.mx_base.specs.rows.Rows.{FitsEntry, FitsPlace, FitsTotal};
-ghost use Rattle.mx_registers.specs.Lines.{lines_from};
-ghost use Rattle.mx_registers.specs.Registers.{place_row};
+ghost use Rattle.mx_base.specs.rows.Rows.{FitsEntry, FitsTotal};
 ghost use Rattle.mx_registers.specs.kept.Changes.{entry_of};
 ghost use Rattle.mx_row_rules.specs.changes.Kept.{total_begun};
 ghost use Rattle.mx_row_rules.specs.changes.Made.{AreMadeOf, nothing_found};
@@ -12,10 +10,11 @@ ghost use Rattle.mx_row_rules.specs.changes.Rows.{AreCommandRows, IsEntryOf};
 
 use crate::changes::plain::entry_alone;
 use crate::changes::rows::CommandRows;
-use mx_base::rows::{EntryRow, PlaceRow, TotalRow};
+use mx_base::rows::{EntryRow, TotalRow};
 use mx_base::{Moment, Part, Position, Use};
 use mx_book::commands::{Aircraft, Component};
-use mx_registers::{aircraft_row, component_row, place_row};
+use mx_registers::lines::place_rows;
+use mx_registers::{aircraft_row, component_row};
 use std::alloc::{AllocError, Global};
 
 // The first total of an item: the use that it brings with it, and the moment up to which that counts.
@@ -33,27 +32,6 @@ fn first_total(item: u32, life: Use, clock: Moment) -> TotalRow
         },
         clock,
     }
-}
-
-/// The rows of the positions of the aircraft that the entry with a number adds.
-pub fn place_rows(
-    alloc: Global,
-    seq: u32,
-    positions: &[(Position, Part)],
-) -> Result<Vec<PlaceRow>, AllocError>
-    requires few { length positions.now ≤ MOST_POSITIONS }
-    ensures rows { IfOk result (λ rows. rows.items ≡ lines_from place_row seq 1 positions.now) }
-    ensures fits { IfOk result (λ rows. All FitsPlace rows.items) }
-{
-    let mut rows = Vec::new(alloc);
-    let mut line = 1u32;
-    let mut rest = positions;
-    while let Some((place, later)) = rest.split_first() {
-        rows.push(place_row(seq, line, place))?;
-        line += 1;
-        rest = later;
-    }
-    Ok(rows)
 }
 
 /// The rows of an aircraft that an entry adds, with its positions.

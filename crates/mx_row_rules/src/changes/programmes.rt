@@ -1,11 +1,9 @@
 //! The rows of a revision of a programme that is loaded, and of an opening.
-ghost use Rattle.std.specs.Prelude.{◌≡◌, ◌≤◌, ℕ, List, All, IfOk, length};
+ghost use Rattle.std.specs.Prelude.{◌≡◌, ◌≤◌, ℕ, List, IfOk, length};
 ghost use Rattle.mx_book.specs.commands.Act.{Entry, Loaded, Opened};
 ghost use Rattle.mx_book.specs.declared.commands.programme_shape.TheConstants.{MOST_TASKS};
 ghost use Rattle.mx_book.specs.Base.{base_at};
-ghost use Rattle.mx_base.specs.rows.Rows.{FitsBase, FitsEntry, FitsTask, base_row_with};
-ghost use Rattle.mx_registers.specs.Lines.{lines_from};
-ghost use Rattle.mx_registers.specs.Registers.{task_row};
+ghost use Rattle.mx_base.specs.rows.Rows.{FitsBase, FitsEntry, base_row_with};
 ghost use Rattle.mx_registers.specs.kept.Changes.{entry_of};
 ghost use Rattle.mx_registers.specs.kept.Items.{number_of_item};
 ghost use Rattle.mx_row_rules.specs.changes.Made.{AreMadeOf, nothing_found};
@@ -13,28 +11,12 @@ ghost use Rattle.mx_row_rules.specs.changes.Rows.{AreCommandRows, IsEntryOf};
 
 use crate::changes::plain::entry_alone;
 use crate::changes::rows::CommandRows;
-use mx_base::rows::{BaseRow, EntryRow, TaskRow};
+use mx_base::rows::{BaseRow, EntryRow};
 use mx_base::{Day, TaskId, Use};
 use mx_book::commands::{Opening, Programme, Task};
-use mx_registers::{opening_row, programme_row, task_row};
+use mx_registers::lines::task_rows;
+use mx_registers::{opening_row, programme_row};
 use std::alloc::{AllocError, Global};
-
-/// The rows of the tasks of the programme that the entry with a number loads.
-pub fn task_rows(alloc: Global, seq: u32, tasks: &[Task]) -> Result<Vec<TaskRow>, AllocError>
-    requires few { length tasks.now ≤ MOST_TASKS }
-    ensures rows { IfOk result (λ rows. rows.items ≡ lines_from task_row seq 1 tasks.now) }
-    ensures fits { IfOk result (λ rows. All FitsTask rows.items) }
-{
-    let mut rows = Vec::new(alloc);
-    let mut line = 1u32;
-    let mut rest = tasks;
-    while let Some((task, later)) = rest.split_first() {
-        rows.push(task_row(seq, line, task))?;
-        line += 1;
-        rest = later;
-    }
-    Ok(rows)
-}
 
 // The last base of a task that an opening states, of the item with a number.
 fn stated_row(item: u32, task: &TaskId, use_then: Use, day: Day) -> BaseRow

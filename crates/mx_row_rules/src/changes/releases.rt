@@ -20,7 +20,7 @@ use mx_base::rows::{BaseRow, EntryRow, ReleaseLineRow, TotalRow};
 use mx_base::{Day, Limit, TaskId, Use, day_of};
 use mx_book::commands::Release;
 use mx_book::due::base_done;
-use mx_registers::release_row;
+use mx_registers::{done_row, rectified_row, release_row};
 use std::alloc::{AllocError, Global};
 
 /// What is known of a line of a release.
@@ -38,28 +38,8 @@ fn line_row(seq: u32, line: u32, certified: &Certified) -> ReleaseLineRow
     ensures fits { FitsReleaseLine result }
 {
     match certified {
-        Certified::Done(item, task, _, _) => {
-            // The text of an identifier fits its column.
-            let _ = task.as_str();
-            let number = *item;
-            ReleaseLineRow {
-                seq,
-                line,
-                item: Some(number),
-                task: Some(*task),
-                defect: None,
-            }
-        }
-        Certified::Rectified(defect) => {
-            let number = *defect;
-            ReleaseLineRow {
-                seq,
-                line,
-                item: None,
-                task: None,
-                defect: Some(number),
-            }
-        }
+        Certified::Done(item, task, _, _) => done_row(seq, line, *item, task),
+        Certified::Rectified(defect) => rectified_row(seq, line, *defect),
     }
 }
 

@@ -21,6 +21,7 @@ ghost use Rattle.mx_row_rules.specs.found.Spans.{begins_with, ends_with, is_remo
 
 use mx_base::rows::{ReleaseLineRow, SpanRow};
 use mx_book::commands::{Fitting, Line, Removal};
+use mx_registers::{done_row, rectified_row};
 
 /// The row that a line of a release would have with a number on a line, where this is the number of what it is of: of the item
 /// that a task was done on, or of the defect that was rectified, or 0 where the book has none.
@@ -30,20 +31,8 @@ pub fn release_line_row(seq: u32, line: u32, number: u32, certified: &Line) -> R
         → result ≡ release_line_row book seq line certified.now }
 {
     match certified {
-        Line::Done(_, task) => ReleaseLineRow {
-            seq,
-            line,
-            item: Some(number),
-            task: Some(*task),
-            defect: None,
-        },
-        Line::Rectified(_) => ReleaseLineRow {
-            seq,
-            line,
-            item: None,
-            task: None,
-            defect: Some(number),
-        },
+        Line::Done(_, task) => done_row(seq, line, number, task),
+        Line::Rectified(_) => rectified_row(seq, line, number),
     }
 }
 

@@ -92,13 +92,7 @@ pub fn have_task_shapes(rows: &[TaskRow]) -> bool
 pub fn tasks_said(alloc: Global, rows: &[TaskRow]) -> Result<Vec<Task>, AllocError>
     ensures { IfOk result (λ tasks. tasks.items ≡ map task_said rows.now) }
 {
-    // The checker proves this loop only where the type of each field of a task is named in the function.
-    let _: Option<Applies> = None;
-    let mut tasks = Vec::new(alloc);
-    for row in rows {
-        tasks.push(task_said(row))?;
-    }
-    Ok(tasks)
+    rows.iter().map(|row| task_said(row)).collect(alloc)
 }
 
 // Whether a task is done on this part, or on airframes where none is named, and nothing is left until it retires the item.

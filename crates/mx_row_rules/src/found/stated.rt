@@ -4,14 +4,13 @@ ghost use Rattle.std.specs.List.{filter_map};
 ghost use Rattle.mx_book.specs.commands.Act.{Entry};
 ghost use Rattle.mx_book.specs.Book.{IsBook, entry_at};
 ghost use Rattle.mx_registers.specs.kept.Spans.{fitting_in, removal_in};
-ghost use Rattle.mx_registers.specs.Merge.{task_said};
 ghost use Rattle.mx_registers.specs.Registers.{kind_of};
 ghost use Rattle.mx_row_rules.specs.found.Stated.{certified_in, position_said, stated};
 
-use crate::found::programmes::task_said;
-use mx_base::rows::{FittingRow, PlaceRow, ReleaseLineRow, RemovalRow, SpanRow, TaskRow};
-use mx_base::{Limit, Part, Position, TaskId};
-use mx_book::commands::{Applies, Task};
+pub use crate::found::programmes::tasks_said;
+use mx_base::rows::{FittingRow, PlaceRow, ReleaseLineRow, RemovalRow, SpanRow};
+use mx_base::{Part, Position, TaskId};
+use mx_registers::file::spans::{fitting_in, removal_in};
 use std::alloc::{AllocError, Global};
 
 /// What a line of a release certifies, by number.
@@ -38,52 +37,16 @@ pub fn certified_in(row: &ReleaseLineRow) -> Option<Certified>
 pub fn positions_said(alloc: Global, rows: &[PlaceRow]) -> Result<Vec<(Position, Part)>, AllocError>
     ensures { IfOk result (λ positions. positions.items ≡ map position_said rows.now) }
 {
-    let mut positions = Vec::with_capacity(alloc, rows.len())?;
-    for row in rows {
-        positions.push((row.position, row.part))?;
-    }
-    Ok(positions)
-}
-
-/// The tasks that their rows say.
-pub fn tasks_said(alloc: Global, rows: &[TaskRow]) -> Result<Vec<Task>, AllocError>
-    ensures { IfOk result (λ tasks. tasks.items ≡ map task_said rows.now) }
-{
-    // The checker proves this loop only where the type of each field of a task is named in the function.
-    let _: Option<Applies> = None;
-    let _: Option<Limit> = None;
-    let mut tasks = Vec::with_capacity(alloc, rows.len())?;
-    for row in rows {
-        tasks.push(task_said(row))?;
-    }
-    Ok(tasks)
+    rows.iter()
+        .map(|row| (row.position, row.part))
+        .collect(alloc)
 }
 
 /// The fitting that begins the first of these spans.
 pub fn first_fitting(spans: &[SpanRow]) -> Option<FittingRow>
     ensures { result ≡ slice_get (map fitting_in spans.now) 0 }
 {
-    spans.first().map(|span| FittingRow {
-        seq: span.fit_seq,
-        component: span.component,
-        aircraft: span.aircraft,
-        position: span.position,
-        moment: span.from,
-    })
-}
-
-// The removal that ends a span.
-fn removal_in(span: &SpanRow) -> Option<RemovalRow>
-    ensures { result ≡ removal_in span.now }
-{
-    match (span.to, span.remove_seq) {
-        (Some(moment), Some(seq)) => Some(RemovalRow {
-            seq,
-            component: span.component,
-            moment,
-        }),
-        _ => None,
-    }
+    spans.first().map(|span| fitting_in(span))
 }
 
 /// The removal that ends the first of these spans that one ends.
