@@ -18,11 +18,11 @@ use Rattle.mx_book.specs.Book.{is_new, IsBook}
 use Rattle.mx_book.specs.Run.{reply, replies, book_after, book_run}
 use Rattle.mx_book.proofs.JudgeLemmas.{both_true, is_new-New, IsBook-entered}
 
-minutes_of-append : (xs ys : List Sector) → minutes_of (xs ++ ys) ≡ minutes_of xs + minutes_of ys
+pub minutes_of-append : (xs ys : List Sector) → minutes_of (xs ++ ys) ≡ minutes_of xs + minutes_of ys
 minutes_of-append [] ys = sym (omega arith)
 minutes_of-append (x ∷ xs) ys = let rest = minutes_of-append xs ys in omega arith
 
-cycles_of-append : (xs ys : List Sector) → cycles_of (xs ++ ys) ≡ cycles_of xs + cycles_of ys
+pub cycles_of-append : (xs ys : List Sector) → cycles_of (xs ++ ys) ≡ cycles_of xs + cycles_of ys
 cycles_of-append [] ys = sym (omega arith)
 cycles_of-append (x ∷ xs) ys = let rest = cycles_of-append xs ys in omega arith
 

@@ -1,5 +1,5 @@
 -- What an answer of records says of the book that they stand for.
-use Rattle.std.specs.Prelude.{◌≡◌, List, Result, IfOk, OnOk, MatchResult}
+use Rattle.std.specs.Prelude.{⊤, ◌≡◌, List, Result, IfOk, OnOk, MatchResult}
 use Rattle.mx_book.specs.commands.Act.{Entry}
 
 -- how records of a type are read: which book they stand for, what questions leave of them, and why one is not answered
@@ -25,3 +25,12 @@ pub record Answers {S F A : Type 0} (r : Reading S F) (old new : S) (result : Re
   pub clean : r.Clean new → OnOk result (r.Clean old)
   -- and the answer is what is so in the book
   pub exact : (start : S) (book : List Entry) → r.StandsFor start book → r.Asked start old → r.Clean new → IfOk result (λ a. a ≡ what book)
+
+-- records that are read in place, and are never disks: each stands for its own entries, no question changes it, and none stops
+abbrev pub in_place : {S F : Type 0} → (S → List Entry) → Reading S F
+in_place entries = record {
+  Clean = λ records. ⊤;
+  StandsFor = λ records book. entries records ≡ book;
+  Asked = λ start records. entries start ≡ entries records;
+  Stopped = λ start records fault. ⊥;
+}

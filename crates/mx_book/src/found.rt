@@ -2,7 +2,7 @@
 ghost use Rattle.std.specs.Prelude.{◌≡◌, List};
 ghost use Rattle.mx_book.specs.commands.Act.{Entry};
 ghost use Rattle.mx_book.specs.Judge.{item_at};
-ghost use Rattle.mx_book.specs.Life.{opening_in};
+ghost use Rattle.mx_book.specs.Life.{opening_in, use_or_none};
 ghost use Rattle.mx_book.specs.Programme.{is_done_in, kind_at};
 ghost use Rattle.mx_book.specs.Register.{found_of, birth_in, as_of_in, is_other_kind_in};
 
@@ -48,6 +48,19 @@ pub fn opening_use(found: &Found) -> Option<Use>
         Found::Airframe(Some(aircraft)) => Some(aircraft.opening),
         Found::Component(Some(component)) => Some(component.opening),
         Found::Airframe(None) | Found::Component(None) => None,
+    }
+}
+
+/// The life, or none at all.
+pub fn life_or_none(life: Option<Use>) -> Use
+    ensures { result ≡ use_or_none life }
+{
+    match life {
+        Some(life) => life,
+        None => Use {
+            minutes: 0,
+            cycles: 0,
+        },
     }
 }
 

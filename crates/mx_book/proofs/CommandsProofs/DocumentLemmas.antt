@@ -37,25 +37,20 @@ digit_is_graphic : (c : ℕ) → is_digit c ≡ true → is_graphic c ≡ true
 unfolding is_digit
 digit_is_graphic c h = grind (arith, nat_tests)
 
-digits_are_graphic : (ds : List ℕ) → list_all is_digit ds ≡ true → list_all is_graphic ds ≡ true
-digits_are_graphic [] h = refl
-digits_are_graphic (d ∷ ds) h =
-    let b = both_true (is_digit d) (list_all is_digit ds) h in
-    and_of (is_graphic d) (list_all is_graphic ds) (digit_is_graphic d b.0) (digits_are_graphic ds b.1)
+-- characters that pass a test which only graphic ones pass are graphic
+all_graphic : (test : ℕ → Bool) → ((c : ℕ) → test c ≡ true → is_graphic c ≡ true) → (cs : List ℕ) → list_all test cs ≡ true → list_all is_graphic cs ≡ true
+all_graphic test each [] h = refl
+all_graphic test each (c ∷ cs) h =
+    let b = both_true (test c) (list_all test cs) h in
+    and_of (is_graphic c) (list_all is_graphic cs) (each c b.0) (all_graphic test each cs b.1)
 
 -- a decimal number is made of graphic characters
 decimal_is_graphic : (n : ℕ) → n < 2 ^ 64 → list_all is_graphic (decimal n) ≡ true
 unfolding AreDigits
-decimal_is_graphic n h = digits_are_graphic (decimal n) (digits_decimal (numerals_by_value AreDigits digits_test) n h)
+decimal_is_graphic n h = all_graphic is_digit digit_is_graphic (decimal n) (digits_decimal (numerals_by_value AreDigits digits_test) n h)
 
 tail_character_is_graphic : (c : ℕ) → is_tail_character c ≡ true → is_graphic c ≡ true
 tail_character_is_graphic c h = grind (arith, nat_tests)
-
-tail_is_graphic : (text : List ℕ) → list_all is_tail_character text ≡ true → list_all is_graphic text ≡ true
-tail_is_graphic [] h = refl
-tail_is_graphic (c ∷ text) h =
-    let b = both_true (is_tail_character c) (list_all is_tail_character text) h in
-    and_of (is_graphic c) (list_all is_graphic text) (tail_character_is_graphic c b.0) (tail_is_graphic text b.1)
 
 graphic_append : (xs ys : List ℕ) → list_all is_graphic xs ≡ true → list_all is_graphic ys ≡ true → list_all is_graphic (xs ++ ys) ≡ true
 graphic_append xs ys h k = list_all-append is_graphic xs ys ∙ and_of (list_all is_graphic xs) (list_all is_graphic ys) h k
@@ -79,5 +74,5 @@ sector_doc-IsIdentifier s tail shape =
     let numbers_size = length-append (decimal s.page) (47 ∷ decimal s.line) in (
       omega arith,
       omega (arith, size, numbers_size, page_text, line_text, tail.1),
-      graphic_append s.tail (47 ∷ (decimal s.page ++ 47 ∷ decimal s.line)) (tail_is_graphic s.tail tail.2) numbers,
+      graphic_append s.tail (47 ∷ (decimal s.page ++ 47 ∷ decimal s.line)) (all_graphic is_tail_character tail_character_is_graphic s.tail tail.2) numbers,
     )

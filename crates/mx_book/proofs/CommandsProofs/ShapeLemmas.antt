@@ -9,11 +9,11 @@ use Rattle.mx_book.specs.commands.Shape.{has_shape, category_shape, doc_shape}
 use Rattle.mx_book.specs.declared.commands.programme.Programme.{Programme}
 use Rattle.mx_book.specs.declared.commands.programme.Task.{Task}
 
-and_first : (p q : Bool) → p && q ≡ true → p ≡ true
+pub and_first : (p q : Bool) → p && q ≡ true → p ≡ true
 and_first true q h = refl
 and_first false q h = (cc)
 
-and_second : (p q : Bool) → p && q ≡ true → q ≡ true
+pub and_second : (p q : Bool) → p && q ≡ true → q ≡ true
 and_second true q h = h
 and_second false q h = (cc)
 

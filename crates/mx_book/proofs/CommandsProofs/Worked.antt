@@ -1,14 +1,20 @@
 -- Worked commands: at the ends of their shapes, with their documents, and what bodies say, computed from the definitions.
-use Rattle.std.proofs.Common.{refl, ◌≡◌, ℕ, suc, zero, ◌+◌, List, [], ◌∷◌, true, false, Some, None}
+use Rattle.std.proofs.Common.{refl, ◌≡◌, ℕ, suc, zero, ◌+◌, List, [], ◌∷◌, true, false, Some, None, Bool}
 use Rattle.std.specs.Prelude.{codes, is_some}
 use Rattle.std.specs.Fmt.{digits}
 use Rattle.std.specs.List.{list_all, list_any}
 use Rattle.mx_base.specs.declared.amounts.Use.{Use}
-use Rattle.mx_book.specs.commands.Act.{Act, Entry, act_of, Added, Listed, Flown, Fitted, Removed, aircraft_of, positions_of, component_of, sector_of, fitting_of, removal_of}
+use Rattle.mx_book.specs.commands.Act.{Act, Entry, act_of, Added, Listed, Flown, Fitted, Removed, aircraft_of, positions_of, component_of, sector_of, fitting_of, removal_of, programme_of, opening_of, release_of, deferral_of, extension_of}
 use Rattle.mx_book.specs.commands.Shape.{opening_shape, sector_shape, positions_shape, act_shape, is_log_doc, sector_doc, has_shape, is_sector_shaped, sector_entry}
 use Rattle.mx_book.specs.declared.commands.body.Body.TheVariants as bodies
 use Rattle.mx_book.specs.declared.commands.sector.Sector.{Sector}
 use Rattle.mx_book.specs.declared.commands.shape.TheConstants.{MOST_OPENING_MINUTES, MOST_OPENING_CYCLES, MOST_POSITIONS, LAST_PAGE, LAST_LINE, MOST_SECTOR_MINUTES, MOST_SECTOR_CYCLES, MOST_LINES, MOST_STATED_DAYS, MOST_EXTENSION_DAYS}
+
+-- what an act says: an aircraft, a component, a programme, an opening, a sector, a fitting, a removal, a release, a deferral, an extension
+abbrev pub kinds_said : Act → List Bool
+kinds_said act =
+    is_some (aircraft_of act) ∷ is_some (component_of act) ∷ is_some (programme_of act) ∷ is_some (opening_of act) ∷ is_some (sector_of act)
+    ∷ is_some (fitting_of act) ∷ is_some (removal_of act) ∷ is_some (release_of act) ∷ is_some (deferral_of act) ∷ is_some (extension_of act) ∷ []
 
 abbrev pub abcd : List ℕ
 abcd = codes "D-ABCD"

@@ -1,15 +1,15 @@
 -- Worked defects: deferrals and extensions at the ends of their shape and past them, what they and the lines of a release show, and when two are the same.
-use Rattle.std.proofs.Common.{refl, ◌≡◌, ℕ, ◌+◌, List, [], ◌∷◌, true, false, Some}
-use Rattle.std.specs.Prelude.{codes, is_some}
+use Rattle.std.proofs.Common.{refl, ◌≡◌, ℕ, ◌+◌, List, [], ◌∷◌, true, false, Some, Bool}
+use Rattle.std.specs.Prelude.{codes, is_some, map}
 use Rattle.std.specs.List.{list_all, list_any, flat_map}
-use Rattle.mx_book.specs.commands.Act.{Act, Deferred, Extended, aircraft_of, positions_of, component_of, programme_of, tasks_of, opening_of, sector_of, fitting_of, removal_of, release_of, lines_of, deferral_of, extension_of}
+use Rattle.mx_book.specs.commands.Act.{Act, Deferred, Extended, positions_of, tasks_of, lines_of, deferral_of, extension_of}
 use Rattle.mx_book.specs.commands.Same.{same_act}
 use Rattle.mx_book.specs.commands.Shape.{has_shape, sector_entry, is_sector_shaped}
 use Rattle.mx_base.specs.declared.category.Category.{Category}
 use Rattle.mx_base.specs.declared.category.Category.TheVariants.{A, B, C, D}
 use Rattle.mx_book.specs.declared.commands.item.Item.TheVariants as items
 use Rattle.mx_book.specs.declared.commands.release.Line.TheVariants.{Done, Rectified}
-use Rattle.mx_book.proofs.CommandsProofs.Worked.{abcd, command}
+use Rattle.mx_book.proofs.CommandsProofs.Worked.{abcd, command, kinds_said}
 use Rattle.mx_book.proofs.CommandsProofs.WorkedReleases.{at_abcd, others}
 
 abbrev x1 : List ℕ
@@ -77,44 +77,20 @@ no_extension : list_any (λ act. is_some (extension_of act)) (deferred B ∷ rel
 no_extension = refl
 
 -- and a deferral or an extension shows nothing else
+abbrev deferral_alone : List Bool
+deferral_alone = false ∷ false ∷ false ∷ false ∷ false ∷ false ∷ false ∷ false ∷ true ∷ false ∷ []
+
+abbrev extension_alone : List Bool
+extension_alone = false ∷ false ∷ false ∷ false ∷ false ∷ false ∷ false ∷ false ∷ false ∷ true ∷ []
+
 abbrev of_defects : List Act
 of_defects = deferred (A 5) ∷ extended 10 ∷ []
 
-no_aircraft : list_any (λ act. is_some (aircraft_of act)) of_defects ≡ false
-no_aircraft = refl
+nothing_else : map kinds_said of_defects ≡ deferral_alone ∷ extension_alone ∷ []
+nothing_else = refl
 
-no_positions : flat_map positions_of of_defects ≡ []
-no_positions = refl
-
-no_component : list_any (λ act. is_some (component_of act)) of_defects ≡ false
-no_component = refl
-
-no_programme : list_any (λ act. is_some (programme_of act)) of_defects ≡ false
-no_programme = refl
-
-no_tasks : flat_map tasks_of of_defects ≡ []
-no_tasks = refl
-
-no_opening : list_any (λ act. is_some (opening_of act)) of_defects ≡ false
-no_opening = refl
-
-no_sector_flown : list_any (λ act. is_some (sector_of act)) of_defects ≡ false
-no_sector_flown = refl
-
-no_fitting : list_any (λ act. is_some (fitting_of act)) of_defects ≡ false
-no_fitting = refl
-
-no_removal : list_any (λ act. is_some (removal_of act)) of_defects ≡ false
-no_removal = refl
-
-no_release : list_any (λ act. is_some (release_of act)) of_defects ≡ false
-no_release = refl
-
-no_lines : flat_map lines_of of_defects ≡ []
-no_lines = refl
-
-no_sector_shaped : list_any is_sector_shaped of_defects ≡ false
-no_sector_shaped = refl
+no_lists : (flat_map positions_of of_defects ≡ []) × (flat_map tasks_of of_defects ≡ []) × (flat_map lines_of of_defects ≡ []) × (list_any is_sector_shaped of_defects ≡ false)
+no_lists = (refl, refl, refl, refl)
 
 -- ── equal contents ──
 

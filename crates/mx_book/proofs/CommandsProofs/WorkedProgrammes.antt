@@ -1,10 +1,10 @@
 -- Worked programmes: at the ends of their shapes and past them, computed from the definitions.
-use Rattle.std.proofs.Common.{refl, ◌≡◌, ℕ, suc, zero, ◌+◌, List, [], ◌∷◌, true, false, Option, Some, None}
-use Rattle.std.specs.Prelude.{codes, is_some}
+use Rattle.std.proofs.Common.{refl, ◌≡◌, ℕ, suc, zero, ◌+◌, List, [], ◌∷◌, true, false, Option, Some, None, Bool}
+use Rattle.std.specs.Prelude.{codes, is_some, map}
 use Rattle.std.specs.List.{list_all, list_any}
 use Rattle.mx_base.specs.declared.amounts.Limit.{Limit}
 use Rattle.mx_base.specs.declared.amounts.Tolerance.{Tolerance}
-use Rattle.mx_book.specs.commands.Act.{Act, act_of, Loaded, Opened, Flown, aircraft_of, component_of, programme_of, tasks_of, opening_of, sector_of, fitting_of, removal_of}
+use Rattle.mx_book.specs.commands.Act.{Act, act_of, Loaded, Opened, Flown, programme_of, tasks_of, opening_of}
 use Rattle.mx_book.specs.commands.Programme.{limit_shape, tolerance_shape, task_shape, programme_shape}
 use Rattle.mx_book.specs.commands.Same.{same_act}
 use Rattle.mx_book.specs.commands.Shape.{has_shape}
@@ -15,7 +15,7 @@ use Rattle.mx_book.specs.declared.commands.opening.Opening.{Opening}
 use Rattle.mx_book.specs.declared.commands.programme.Programme.{Programme}
 use Rattle.mx_book.specs.declared.commands.programme.Task.{Task}
 use Rattle.mx_book.specs.declared.commands.programme.Applies.TheVariants as applies
-use Rattle.mx_book.proofs.CommandsProofs.Worked.{abcd, used, sector, command, aircraft_with, engine_with, fit, remove}
+use Rattle.mx_book.proofs.CommandsProofs.Worked.{abcd, used, sector, command, aircraft_with, engine_with, fit, remove, kinds_said}
 use Rattle.mx_book.specs.declared.commands.programme_shape.TheConstants.{LAST_REVISION, MOST_TASKS, MOST_LIMIT_MINUTES, MOST_LIMIT_CYCLES, MOST_LIMIT_DAYS}
 
 abbrev minutes_alone : ℕ → Limit
@@ -166,23 +166,17 @@ no_tasks = refl
 no_opening : list_any (λ act. is_some (opening_of act)) (load (hundred_hours ∷ []) ∷ others) ≡ false
 no_opening = refl
 
+abbrev programme_alone : List Bool
+programme_alone = false ∷ false ∷ true ∷ false ∷ false ∷ false ∷ false ∷ false ∷ false ∷ false ∷ []
+
+abbrev opening_alone : List Bool
+opening_alone = false ∷ false ∷ false ∷ true ∷ false ∷ false ∷ false ∷ false ∷ false ∷ false ∷ []
+
 abbrev new_acts : List Act
 new_acts = load (hundred_hours ∷ []) ∷ open_task 59000 780 19509 ∷ []
 
-no_aircraft : list_any (λ act. is_some (aircraft_of act)) new_acts ≡ false
-no_aircraft = refl
-
-no_component : list_any (λ act. is_some (component_of act)) new_acts ≡ false
-no_component = refl
-
-no_sector : list_any (λ act. is_some (sector_of act)) new_acts ≡ false
-no_sector = refl
-
-no_fitting : list_any (λ act. is_some (fitting_of act)) new_acts ≡ false
-no_fitting = refl
-
-no_removal : list_any (λ act. is_some (removal_of act)) new_acts ≡ false
-no_removal = refl
+nothing_else : map kinds_said new_acts ≡ programme_alone ∷ opening_alone ∷ []
+nothing_else = refl
 
 body_of_an_opening : act_of (bodies.Opening (items.Airframe abcd) (codes "C172") (codes "ANNUAL") (used 59000 780) 19509) ≡ open_task 59000 780 19509
 body_of_an_opening = refl

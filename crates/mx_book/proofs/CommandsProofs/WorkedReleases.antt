@@ -1,8 +1,8 @@
 -- Worked releases: at the ends of their shape and past them, what they show, and when two are the same.
-use Rattle.std.proofs.Common.{refl, ◌≡◌, ℕ, suc, zero, ◌+◌, List, [], ◌∷◌, true, false, Some, None}
+use Rattle.std.proofs.Common.{refl, ◌≡◌, ℕ, suc, zero, ◌+◌, List, [], ◌∷◌, true, false, Some, None, Bool}
 use Rattle.std.specs.Prelude.{codes, is_some}
 use Rattle.std.specs.List.{list_all, list_any, flat_map}
-use Rattle.mx_book.specs.commands.Act.{Act, Loaded, Opened, Flown, Released, aircraft_of, positions_of, component_of, programme_of, tasks_of, opening_of, sector_of, fitting_of, removal_of, release_of, lines_of}
+use Rattle.mx_book.specs.commands.Act.{Act, Loaded, Opened, Flown, Released, positions_of, tasks_of, release_of, lines_of}
 use Rattle.mx_book.specs.commands.Same.{same_act}
 use Rattle.mx_book.specs.commands.Shape.{has_shape, sector_entry, is_sector_shaped}
 use Rattle.mx_book.specs.declared.commands.item.Item.TheVariants as items
@@ -10,7 +10,7 @@ use Rattle.mx_book.specs.declared.commands.release.Line.{Line}
 use Rattle.mx_book.specs.declared.commands.release.Line.TheVariants.{Done}
 use Rattle.mx_book.specs.declared.commands.release.Place.{Place}
 use Rattle.mx_book.specs.declared.commands.release.Place.TheVariants.{Aircraft, Shop}
-use Rattle.mx_book.proofs.CommandsProofs.Worked.{abcd, used, sector, command, aircraft_with, engine_with, fit, remove}
+use Rattle.mx_book.proofs.CommandsProofs.Worked.{abcd, used, sector, command, aircraft_with, engine_with, fit, remove, kinds_said}
 
 abbrev e1 : List ℕ
 e1 = codes "E1"
@@ -81,38 +81,14 @@ no_lines : flat_map lines_of others ≡ []
 no_lines = refl
 
 -- and a release shows nothing else
+abbrev release_alone : List Bool
+release_alone = false ∷ false ∷ false ∷ false ∷ false ∷ false ∷ false ∷ true ∷ false ∷ false ∷ []
+
 abbrev release : Act
 release = at_abcd (inspected ∷ [])
 
-no_aircraft : aircraft_of release ≡ None
-no_aircraft = refl
-
-no_positions : positions_of release ≡ []
-no_positions = refl
-
-no_component : component_of release ≡ None
-no_component = refl
-
-no_programme : programme_of release ≡ None
-no_programme = refl
-
-no_tasks : tasks_of release ≡ []
-no_tasks = refl
-
-no_opening : opening_of release ≡ None
-no_opening = refl
-
-no_sector_flown : sector_of release ≡ None
-no_sector_flown = refl
-
-no_sector_shaped : is_sector_shaped release ≡ false
-no_sector_shaped = refl
-
-no_fitting : fitting_of release ≡ None
-no_fitting = refl
-
-no_removal : removal_of release ≡ None
-no_removal = refl
+nothing_else : (kinds_said release ≡ release_alone) × (positions_of release ≡ []) × (tasks_of release ≡ []) × (is_sector_shaped release ≡ false)
+nothing_else = (refl, refl, refl, refl)
 
 -- ── equal contents ──
 

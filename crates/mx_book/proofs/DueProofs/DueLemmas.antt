@@ -4,14 +4,7 @@ use Rattle.std.specs.Option.{option_map_or}
 use Rattle.mx_base.specs.declared.amounts.Limit.{Limit}
 use Rattle.mx_book.specs.commands.Programme.{is_limited, has_dimension, limit_shape, tolerance_shape, is_done_once, task_shape}
 use Rattle.mx_book.specs.declared.commands.programme.Task.{Task}
-
-and_first : (p q : Bool) → p && q ≡ true → p ≡ true
-and_first true q h = refl
-and_first false q h = (cc)
-
-and_second : (p q : Bool) → p && q ≡ true → q ≡ true
-and_second true q h = h
-and_second false q h = (cc)
+use Rattle.mx_book.proofs.CommandsProofs.ShapeLemmas.{and_first, and_second}
 
 limited_small : (most : ℕ) (number : Option ℕ) → is_limited most number ≡ true → IfSome number (λ n. n ≤ most)
 limited_small most None h = search rules

@@ -17,7 +17,7 @@ use crate::commands::programme::{Programme, Task};
 use crate::commands::release::{Line, Release};
 use crate::commands::said::Said;
 use crate::commands::sector::Sector;
-use mx_base::{Doc, Part, Position};
+use mx_base::{Doc, Kind, Part, Position};
 use std::alloc::{AllocError, Global};
 use std::marker::Model;
 
@@ -70,7 +70,9 @@ impl Command {
     ghost use Rattle.mx_book.specs.declared.commands.programme_shape.TheConstants.{LAST_REVISION};
     ghost use Rattle.mx_book.specs.declared.commands.shape.TheConstants.{MOST_EXTENSION_DAYS, MOST_LINES};
     ghost use Rattle.mx_book.specs.commands.Shape.{has_shape, sector_shape, category_shape, is_sector_shaped, sector_entry};
+    ghost use Rattle.mx_book.specs.Programme.{tasks_loaded};
     ghost use Rattle.std.specs.List.{list_all};
+    ghost use Rattle.std.specs.Option.{option_copied};
 
     /// The command of a document and a body. `BadShape` exactly where they lack the shape, and `Memory`
     /// only for a sector. The body is used up at every answer.
@@ -194,6 +196,23 @@ impl Command {
         match &self.body {
             Body::LoadProgramme { tasks, .. } => tasks.as_slice(),
             _ => &[],
+        }
+    }
+
+    /// The tasks that it loads for a kind, each of its shape; `None` where it loads none for it.
+    pub fn tasks_loaded(&self, kind: &Kind) -> Option<&[Task]>
+        ensures tasks { option_copied result ≡ tasks_loaded kind.now self.now.act }
+        ensures shape { IfSome (option_copied result) (λ tasks. list_all task_shape tasks ≡ true) }
+    {
+        match self.loaded_programme() {
+            Some(programme) => {
+                if programme.kind == *kind {
+                    Some(self.tasks())
+                } else {
+                    None
+                }
+            }
+            None => None,
         }
     }
 

@@ -15,188 +15,84 @@ use crate::commands::programme::Programme;
 use crate::commands::release::Release;
 use crate::commands::sector::Sector;
 
+// What a body says as a struct, field by field, where it is of this kind.
+macro_rules! said_as {
+    ($body:expr, $kind:ident => $said:ident { $($field:ident),+ }) => {
+        match $body {
+            Body::$kind { $($field,)+ .. } => Some($said { $($field: *$field),+ }),
+            _ => None,
+        }
+    };
+}
+
 impl Body {
     /// The aircraft that it adds.
     pub fn added_aircraft(&self) -> Option<Aircraft>
         ensures { result ≡ aircraft_of (act_of self.now) }
     {
-        match self {
-            Body::AddAircraft {
-                tail,
-                kind,
-                birth,
-                opening,
-                as_of,
-                ..
-            } => Some(Aircraft {
-                tail: *tail,
-                kind: *kind,
-                birth: *birth,
-                opening: *opening,
-                as_of: *as_of,
-            }),
-            _ => None,
-        }
+        said_as!(self, AddAircraft => Aircraft { tail, kind, birth, opening, as_of })
     }
 
     /// The component that it adds.
     pub fn added_component(&self) -> Option<Component>
         ensures { result ≡ component_of (act_of self.now) }
     {
-        match self {
-            Body::AddComponent {
-                serial,
-                part,
-                birth,
-                opening,
-                as_of,
-            } => Some(Component {
-                serial: *serial,
-                part: *part,
-                birth: *birth,
-                opening: *opening,
-                as_of: *as_of,
-            }),
-            _ => None,
-        }
+        said_as!(self, AddComponent => Component { serial, part, birth, opening, as_of })
     }
 
     /// The revision of a programme that it loads.
     pub fn loaded_programme(&self) -> Option<Programme>
         ensures { result ≡ programme_of (act_of self.now) }
     {
-        match self {
-            Body::LoadProgramme { kind, revision, .. } => Some(Programme {
-                kind: *kind,
-                revision: *revision,
-            }),
-            _ => None,
-        }
+        said_as!(self, LoadProgramme => Programme { kind, revision })
     }
 
     /// The opening that it states.
     pub fn stated_opening(&self) -> Option<Opening>
         ensures { result ≡ opening_of (act_of self.now) }
     {
-        match self {
-            Body::Opening {
-                item,
-                kind,
-                task,
-                use_then,
-                day,
-            } => Some(Opening {
-                item: *item,
-                kind: *kind,
-                task: *task,
-                use_then: *use_then,
-                day: *day,
-            }),
-            _ => None,
-        }
+        said_as!(self, Opening => Opening { item, kind, task, use_then, day })
     }
 
     /// The sector that was flown.
     pub fn flown_sector(&self) -> Option<Sector>
         ensures { result ≡ sector_of (act_of self.now) }
     {
-        match self {
-            Body::Sector {
-                tail,
-                page,
-                line,
-                off,
-                on,
-                cycles,
-            } => Some(Sector {
-                tail: *tail,
-                page: *page,
-                line: *line,
-                off: *off,
-                on: *on,
-                cycles: *cycles,
-            }),
-            _ => None,
-        }
+        said_as!(self, Sector => Sector { tail, page, line, off, on, cycles })
     }
 
     /// The fitting of a component.
     pub fn fitting(&self) -> Option<Fitting>
         ensures { result ≡ fitting_of (act_of self.now) }
     {
-        match self {
-            Body::Fit {
-                serial,
-                tail,
-                position,
-                moment,
-            } => Some(Fitting {
-                serial: *serial,
-                tail: *tail,
-                position: *position,
-                moment: *moment,
-            }),
-            _ => None,
-        }
+        said_as!(self, Fit => Fitting { serial, tail, position, moment })
     }
 
     /// The removal of a component.
     pub fn removal(&self) -> Option<Removal>
         ensures { result ≡ removal_of (act_of self.now) }
     {
-        match self {
-            Body::Remove { serial, moment } => Some(Removal {
-                serial: *serial,
-                moment: *moment,
-            }),
-            _ => None,
-        }
+        said_as!(self, Remove => Removal { serial, moment })
     }
 
     /// The release of maintenance, its lines aside.
     pub fn release(&self) -> Option<Release>
         ensures { result ≡ release_of (act_of self.now) }
     {
-        match self {
-            Body::Release { place, moment, .. } => Some(Release {
-                place: *place,
-                moment: *moment,
-            }),
-            _ => None,
-        }
+        said_as!(self, Release => Release { place, moment })
     }
 
     /// The deferral of a defect.
     pub fn deferral(&self) -> Option<Deferral>
         ensures { result ≡ deferral_of (act_of self.now) }
     {
-        match self {
-            Body::Defer {
-                tail,
-                moment,
-                reference,
-                category,
-            } => Some(Deferral {
-                tail: *tail,
-                moment: *moment,
-                reference: *reference,
-                category: *category,
-            }),
-            _ => None,
-        }
+        said_as!(self, Defer => Deferral { tail, moment, reference, category })
     }
 
     /// The extension of the interval of a defect.
     pub fn extension(&self) -> Option<Extension>
         ensures { result ≡ extension_of (act_of self.now) }
     {
-        match self {
-            Body::Extend { defect, day, days } => Some(Extension {
-                defect: *defect,
-                day: *day,
-                days: *days,
-            }),
-            _ => None,
-        }
+        said_as!(self, Extend => Extension { defect, day, days })
     }
 }
