@@ -15,7 +15,7 @@ use crate::indexed_book::IndexedBook;
 use mx_base::{Base, Kind, Limit, TaskId, Use, day_of};
 use mx_book::commands::{Command, Item, Line, Opening, Place, Release, Task};
 use mx_book::due::{base_done, due_after};
-use mx_book::found::birth_of;
+use mx_book::found::{birth_of, life_or_none};
 use std::alloc::{AllocError, Global};
 
 // The kind of aircraft by whose programme the work at a place is done, where it is known.
@@ -52,19 +52,6 @@ fn due_at(book: &IndexedBook, place: &Place, item: &Item, id: &TaskId) -> Option
             due_after(book.base(item, id), birth_of(&found), &task)
         }
         None => None,
-    }
-}
-
-// The life, or none at all where there is none.
-fn life_or_none(life: Option<Use>) -> Use
-    ensures { result ≡ use_or_none life }
-{
-    match life {
-        Some(life) => life,
-        None => Use {
-            minutes: 0,
-            cycles: 0,
-        },
     }
 }
 

@@ -1,6 +1,7 @@
 -- Records that are read where memory may run out.
-use Rattle.std.specs.Prelude.{Result, Ok, Err}
-use Rattle.mx_book.specs.Reading.{Reading}
+use Rattle.std.specs.Prelude.{List, Result, Ok, Err}
+use Rattle.mx_book.specs.commands.Act.{Entry}
+use Rattle.mx_book.specs.Reading.{Answers, Reading}
 use Rattle.mx_lists.specs.declared.stop.Stop.{Stop}
 use Rattle.mx_lists.specs.declared.stop.Stop.TheVariants.{NoMemory, Fault}
 
@@ -12,6 +13,10 @@ StopsBy r start new (Fault fault) = r.Stopped start new fault
 -- the same records, where memory may run out between questions
 abbrev pub with_memory : {S F : Type 0} → Reading S F → Reading S (Stop F)
 with_memory r = record { Clean = r.Clean; StandsFor = r.StandsFor; Asked = r.Asked; Stopped = StopsBy r }
+
+-- what is so in the book that they stand for was gathered, or memory ran out, or a question was not answered
+abbrev pub Gathers : {S F A : Type 0} → Reading S F → S → S → Result A (Stop F) → (List Entry → A) → Type 0
+Gathers r old new result what = Answers (with_memory r) old new result what
 
 -- the answer, seen as another value
 abbrev pub seen_as : {A B F : Type 0} → (A → B) → Result A F → Result B F

@@ -4,9 +4,8 @@ ghost use Rattle.std.specs.List.{cons_option, flat_map, list_all};
 ghost use Rattle.mx_book.specs.commands.Act.{Entry};
 ghost use Rattle.mx_book.specs.commands.Programme.{task_shape};
 ghost use Rattle.mx_book.specs.Defect.{days_extended};
-ghost use Rattle.mx_book.specs.Reading.{Answers};
 ghost use Rattle.mx_lists.specs.DueList.{row_by_due, task_before, tasks_by_name, row_with, rows_of_item, rows_of_part, defect_row, rows_by_place, due_list};
-ghost use Rattle.mx_lists.specs.Memory.{with_memory, seen_as};
+ghost use Rattle.mx_lists.specs.Memory.{Gathers, seen_as};
 ghost use Rattle.mx_lists.specs.Ranks.{tasks_rank};
 
 use crate::due_row::{DueList, DueRow};
@@ -39,7 +38,7 @@ fn tasks_in_order<R: ListRecords>(
     alloc: Global,
     kind: &Kind,
 ) -> Result<Rows<Task>, Stop<R::Fault>>
-    ensures answers { Answers (with_memory R.reading) records.old records.new result
+    ensures answers { Gathers R.reading records.old records.new result
         (λ book. tasks_by_name book kind.now) }
     ensures shape { IfOk result (λ tasks. list_all task_shape tasks ≡ true) }
 {
@@ -76,7 +75,7 @@ fn row_of_task<R: ListRecords>(
     task: &Task,
 ) -> Result<Option<DueRow>, Stop<R::Fault>>
     requires { task_shape task.now ≡ true }
-    ensures { Answers (with_memory R.reading) records.old records.new result
+    ensures { Gathers R.reading records.old records.new result
         (λ book. row_with book day item.now life.now place task.now) }
 {
     match due_of_task(records, item, task) {
@@ -109,8 +108,7 @@ fn append_item<R: ListRecords>(
     place: &Option<(Position, Serial)>,
 ) -> Result<(), Stop<R::Fault>>
     requires { list_all task_shape tasks.now ≡ true }
-    ensures { Answers (with_memory R.reading) records.old records.new
-        (seen_as (λ _. rows.new.items) result)
+    ensures { Gathers R.reading records.old records.new (seen_as (λ _. rows.new.items) result)
         (λ book. rows.old.items ++ rows_of_item book day tasks.now item.now place.now) }
 {
     let life = life_of(records, item)?;
@@ -132,8 +130,7 @@ fn append_part<R: ListRecords>(
     part: &FittedPart,
 ) -> Result<(), Stop<R::Fault>>
     requires { list_all task_shape tasks.now ≡ true }
-    ensures { Answers (with_memory R.reading) records.old records.new
-        (seen_as (λ _. rows.new.items) result)
+    ensures { Gathers R.reading records.old records.new (seen_as (λ _. rows.new.items) result)
         (λ book. rows.old.items ++ rows_of_part book day tasks.now part.now) }
 {
     let item = Item::Component(part.serial);
@@ -156,8 +153,7 @@ fn append_parts<R: ListRecords>(
     parts: &[FittedPart],
 ) -> Result<(), Stop<R::Fault>>
     requires { list_all task_shape tasks.now ≡ true }
-    ensures { Answers (with_memory R.reading) records.old records.new
-        (seen_as (λ _. rows.new.items) result)
+    ensures { Gathers R.reading records.old records.new (seen_as (λ _. rows.new.items) result)
         (λ book. rows.old.items ++ flat_map (rows_of_part book day tasks.now) parts.now) }
 {
     let mut rest = parts;
@@ -192,8 +188,7 @@ fn append_defects<R: ListRecords>(
     day: Day,
     defects: &[Defect],
 ) -> Result<(), Stop<R::Fault>>
-    ensures { Answers (with_memory R.reading) records.old records.new
-        (seen_as (λ _. rows.new.items) result)
+    ensures { Gathers R.reading records.old records.new (seen_as (λ _. rows.new.items) result)
         (λ book. rows.old.items ++ map (defect_row book day) defects.now) }
 {
     let mut rest = defects;
@@ -214,8 +209,7 @@ pub(crate) fn placed_rows<R: ListRecords>(
     kind: &Kind,
     day: Day,
 ) -> Result<Vec<DueRow>, Stop<R::Fault>>
-    ensures { Answers (with_memory R.reading) records.old records.new
-        (seen_as (λ rows. rows.items) result)
+    ensures { Gathers R.reading records.old records.new (seen_as (λ rows. rows.items) result)
         (λ book. rows_by_place book tail.now kind.now day) }
 {
     let tasks = tasks_in_order(records, alloc, kind)?;
@@ -237,7 +231,7 @@ pub fn list_dues<R: ListRecords>(
     tail: &Tail,
     day: Day,
 ) -> Result<Option<DueList>, Stop<R::Fault>>
-    ensures { Answers (with_memory R.reading) records.old records.new result
+    ensures { Gathers R.reading records.old records.new result
         (λ book. due_list book tail.now day) }
 {
     let Some(aircraft) = aircraft_of(records, tail)? else {

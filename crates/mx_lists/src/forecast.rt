@@ -2,9 +2,8 @@
 ghost use Rattle.std.specs.Prelude.{◌≡◌, IfOk};
 ghost use Rattle.std.specs.List.{filter_map};
 ghost use Rattle.mx_book.specs.due.Reach.{IsLeastIfAny};
-ghost use Rattle.mx_book.specs.Reading.{Answers};
 ghost use Rattle.mx_lists.specs.Forecast.{is_reached_after, row_after, forecast_row, sooner, forecast};
-ghost use Rattle.mx_lists.specs.Memory.{with_memory};
+ghost use Rattle.mx_lists.specs.Memory.{Gathers};
 ghost use Rattle.mx_lists.specs.Ranks.{forecast_rank};
 
 use crate::due_lists::placed_rows;
@@ -114,15 +113,9 @@ fn rows_within(
     ensures { IfOk result
         (λ rows. rows.items ≡ filter_map (forecast_row day days minutes cycles) all.now) }
 {
-    let mut rows = Vec::new(alloc);
-    let mut rest = all;
-    while let Some((row, later)) = rest.split_first() {
-        if let Some(reached) = row_within(row, day, days, minutes, cycles) {
-            rows.push(reached)?;
-        }
-        rest = later;
-    }
-    Ok(rows)
+    all.iter()
+        .filter_map(|row| row_within(row, day, days, minutes, cycles))
+        .collect(alloc)
 }
 
 /// The forecast of an aircraft from a day on, or `None` where the registration is unknown. Or why it stopped: memory
@@ -136,7 +129,7 @@ pub fn list_forecast<R: ListRecords>(
     minutes: u32,
     cycles: u32,
 ) -> Result<Option<ForecastList>, Stop<R::Fault>>
-    ensures { Answers (with_memory R.reading) records.old records.new result
+    ensures { Gathers R.reading records.old records.new result
         (λ book. forecast book tail.now day days minutes cycles) }
 {
     let Some(aircraft) = aircraft_of(records, tail)? else {

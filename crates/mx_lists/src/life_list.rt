@@ -2,13 +2,11 @@
 //!
 //! A part of it is a struct with names (`FittedPart`), as a row of a forecast is, where a tuple would be read by its
 //! places.
-ghost use Rattle.std.specs.Prelude.{◌≡◌};
 ghost use Rattle.std.specs.List.{filter_map};
-ghost use Rattle.mx_book.specs.Life.{use_or_none};
 ghost use Rattle.mx_book.specs.Reading.{Answers};
 ghost use Rattle.mx_lists.specs.Fitted.{part_of_place};
 ghost use Rattle.mx_lists.specs.LifeList.{life_list, part_in, part_before, parts};
-ghost use Rattle.mx_lists.specs.Memory.{with_memory, seen_as};
+ghost use Rattle.mx_lists.specs.Memory.{Gathers, seen_as};
 ghost use Rattle.mx_lists.specs.Ranks.{parts_rank};
 
 use crate::list_questions::{aircraft_of, life_of};
@@ -17,6 +15,7 @@ use crate::order::{Placed, Rows, sorted};
 use crate::stop::Stop;
 use mx_base::{Kind, Part, Position, Serial, Tail, Use};
 use mx_book::commands::Item;
+pub use mx_book::found::life_or_none;
 use std::alloc::Global;
 
 /// A component in a position of an aircraft, with its life.
@@ -55,19 +54,6 @@ pub struct LifeList {
     pub parts: Rows<FittedPart>,
 }
 
-/// The life, or none at all.
-pub fn life_or_none(life: Option<Use>) -> Use
-    ensures { result ≡ use_or_none life }
-{
-    match life {
-        Some(life) => life,
-        None => Use {
-            minutes: 0,
-            cycles: 0,
-        },
-    }
-}
-
 // The component in a position, with its life, where it is known.
 fn part_with_life<R: ListRecords>(
     records: &mut R,
@@ -94,7 +80,7 @@ fn part_in_place<R: ListRecords>(
     records: &mut R,
     place: &(Position, Serial),
 ) -> Result<Option<FittedPart>, Stop<R::Fault>>
-    ensures { Answers (with_memory R.reading) records.old records.new result
+    ensures { Gathers R.reading records.old records.new result
         (λ book. part_of_place book place.now) }
 {
     match part_with_life(records, &place.0, &place.1) {
@@ -109,8 +95,7 @@ fn parts_in_places<R: ListRecords>(
     alloc: Global,
     places: &[(Position, Serial)],
 ) -> Result<Vec<FittedPart>, Stop<R::Fault>>
-    ensures { Answers (with_memory R.reading) records.old records.new
-        (seen_as (λ parts. parts.items) result)
+    ensures { Gathers R.reading records.old records.new (seen_as (λ parts. parts.items) result)
         (λ book. filter_map (part_of_place book) places.now) }
 {
     let mut parts = Vec::new(alloc);
@@ -130,8 +115,7 @@ pub(crate) fn parts_by_position<R: ListRecords>(
     alloc: Global,
     tail: &Tail,
 ) -> Result<Rows<FittedPart>, Stop<R::Fault>>
-    ensures { Answers (with_memory R.reading) records.old records.new result
-        (λ book. parts book tail.now) }
+    ensures { Gathers R.reading records.old records.new result (λ book. parts book tail.now) }
 {
     let places = records.fitted(alloc, tail)?;
     let parts = parts_in_places(records, alloc, places.as_slice())?;
@@ -146,8 +130,7 @@ pub fn list_lives<R: ListRecords>(
     alloc: Global,
     tail: &Tail,
 ) -> Result<Option<LifeList>, Stop<R::Fault>>
-    ensures { Answers (with_memory R.reading) records.old records.new result
-        (λ book. life_list book tail.now) }
+    ensures { Gathers R.reading records.old records.new result (λ book. life_list book tail.now) }
 {
     let Some(aircraft) = aircraft_of(records, tail)? else {
         return Ok(None);

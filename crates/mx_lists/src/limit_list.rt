@@ -2,9 +2,8 @@
 ghost use Rattle.std.specs.Prelude.{◌≡◌, map, List};
 ghost use Rattle.mx_book.specs.commands.Act.{Entry};
 ghost use Rattle.mx_book.specs.Defect.{days_extended};
-ghost use Rattle.mx_book.specs.Reading.{Answers};
 ghost use Rattle.mx_lists.specs.LimitList.{limit_before, limit_row, limits};
-ghost use Rattle.mx_lists.specs.Memory.{with_memory, seen_as};
+ghost use Rattle.mx_lists.specs.Memory.{Gathers, seen_as};
 ghost use Rattle.mx_lists.specs.Ranks.{limits_rank};
 
 use crate::list_questions::{aircraft_of, days_of_extension};
@@ -84,7 +83,7 @@ fn limits_of_defects<R: ListRecords>(
     day: Day,
     defects: &[Defect],
 ) -> Result<Vec<LimitRow>, Stop<R::Fault>>
-    ensures { Answers (with_memory R.reading) records.old records.new
+    ensures { Gathers R.reading records.old records.new
         (seen_as (λ rows. rows.items) result) (λ book. map (limit_row book day) defects.now) }
 {
     let mut rows = Vec::new(alloc);
@@ -105,8 +104,7 @@ pub fn list_limits<R: ListRecords>(
     tail: &Tail,
     day: Day,
 ) -> Result<Option<LimitList>, Stop<R::Fault>>
-    ensures { Answers (with_memory R.reading) records.old records.new result
-        (λ book. limits book tail.now day) }
+    ensures { Gathers R.reading records.old records.new result (λ book. limits book tail.now day) }
 {
     if aircraft_of(records, tail)?.is_none() {
         return Ok(None);

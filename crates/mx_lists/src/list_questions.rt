@@ -2,8 +2,7 @@
 ghost use Rattle.mx_book.specs.Defect.{days_extended};
 ghost use Rattle.mx_book.specs.Life.{life_now, use_or_none};
 ghost use Rattle.mx_book.specs.Register.{aircraft};
-ghost use Rattle.mx_book.specs.Reading.{Answers};
-ghost use Rattle.mx_lists.specs.Memory.{with_memory};
+ghost use Rattle.mx_lists.specs.Memory.{Gathers};
 
 use crate::life_list::life_or_none;
 use crate::list_records::ListRecords;
@@ -18,8 +17,7 @@ pub(crate) fn aircraft_of<R: ListRecords>(
     records: &mut R,
     tail: &Tail,
 ) -> Result<Option<Aircraft>, Stop<R::Fault>>
-    ensures { Answers (with_memory R.reading) records.old records.new result
-        (λ book. aircraft book tail.now) }
+    ensures { Gathers R.reading records.old records.new result (λ book. aircraft book tail.now) }
 {
     match records.aircraft(tail) {
         Ok(aircraft) => Ok(aircraft),
@@ -29,7 +27,7 @@ pub(crate) fn aircraft_of<R: ListRecords>(
 
 /// The life of an item with all of its sectors, or none at all where the item is unknown.
 pub(crate) fn life_of<R: ListRecords>(records: &mut R, item: &Item) -> Result<Use, Stop<R::Fault>>
-    ensures { Answers (with_memory R.reading) records.old records.new result
+    ensures { Gathers R.reading records.old records.new result
         (λ book. use_or_none (life_now book item.now)) }
 {
     match records.life(item) {
@@ -43,7 +41,7 @@ pub(crate) fn days_of_extension<R: Records>(
     records: &mut R,
     doc: &Doc,
 ) -> Result<u32, Stop<R::Fault>>
-    ensures { Answers (with_memory R.reading) records.old records.new result
+    ensures { Gathers R.reading records.old records.new result
         (λ book. days_extended book doc.now) }
 {
     match extension_days(records, doc) {

@@ -1,7 +1,6 @@
 //! The list that a question is answered with, whichever it is.
 ghost use Rattle.std.specs.Prelude.{IfOk, IfSome};
-ghost use Rattle.mx_book.specs.Reading.{Answers};
-ghost use Rattle.mx_lists.specs.Memory.{with_memory};
+ghost use Rattle.mx_lists.specs.Memory.{Gathers};
 ghost use Rattle.mx_lists.specs.Report.{IsOfKind, report_of};
 
 use crate::due_lists::list_dues;
@@ -30,7 +29,7 @@ pub fn list_report<R: ListRecords>(
     alloc: Global,
     question: &Question,
 ) -> Result<Option<Report>, Stop<R::Fault>>
-    ensures answers { Answers (with_memory R.reading) records.old records.new result
+    ensures answers { Gathers R.reading records.old records.new result
         (λ book. report_of book question.now) }
     ensures kind { IfOk result (λ list. IfSome list (IsOfKind question.now)) }
 {

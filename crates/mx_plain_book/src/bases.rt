@@ -17,8 +17,7 @@ use crate::register::found_of;
 use mx_base::{Base, Day, Limit, Moment, TaskId, Use, day_of};
 use mx_book::commands::{Body, Command, Item, Line, Release, Task};
 use mx_book::due::{base_done, due_after};
-use mx_book::found::{birth_of, item_of_place, kind_of_place};
-use mx_lists::life_list::life_or_none;
+use mx_book::found::{birth_of, item_of_place, kind_of_place, life_or_none};
 
 // The life of an item up to a moment, or none at all where the item is unknown.
 #[tactic(auto, using(mx_book::proofs::LifeLemmas::life_bounded))]

@@ -5,7 +5,7 @@ ghost use Rattle.std.specs.Option.{option_copied};
 ghost use Rattle.mx_book.specs.commands.Programme.{task_shape};
 ghost use Rattle.mx_book.specs.commands.Same.{same_text};
 ghost use Rattle.mx_book.specs.commands.Shape.{has_shape};
-ghost use Rattle.mx_book.specs.Programme.{tasks_loaded, revision_loaded, tasks_in_force, tasks_or_none, revision_in_force, next_revision, task_in_force, is_done, accomplishes, is_accomplished, is_at_end, is_ended_by, life_ended};
+ghost use Rattle.mx_book.specs.Programme.{revision_loaded, tasks_in_force, tasks_or_none, revision_in_force, next_revision, task_in_force, is_done, accomplishes, is_accomplished, is_at_end, is_ended_by, life_ended};
 ghost use Rattle.mx_book.specs.Asking.{task_of};
 ghost use Rattle.mx_book.specs.declared.limits.TheConstants.{MOST_ENTRIES};
 ghost use Rattle.mx_book.specs.declared.commands.programme_shape.TheConstants.{LAST_REVISION};
@@ -18,23 +18,6 @@ use mx_book::due::{first_due, is_used_up, left_of};
 use mx_book::found::{birth_of, is_task_of};
 use std::alloc::{AllocError, Global};
 
-// The tasks that an entry loads for a kind, each of its shape.
-fn tasks_loaded_by<'a>(entry: &'a Command, kind: &Kind) -> Option<&'a [Task]>
-    ensures tasks { option_copied result ≡ tasks_loaded kind.now entry.now.act }
-    ensures shape { IfSome (option_copied result) (λ tasks. list_all task_shape tasks ≡ true) }
-{
-    match entry.loaded_programme() {
-        Some(programme) => {
-            if programme.kind == *kind {
-                Some(entry.tasks())
-            } else {
-                None
-            }
-        }
-        None => None,
-    }
-}
-
 // The tasks of the programme in force of a kind, each of its shape, or `None` where the kind has no programme.
 fn programme_in_force<'a>(entries: &'a [Command], kind: &Kind) -> Option<&'a [Task]>
     ensures tasks { option_copied result ≡ tasks_in_force entries.now kind.now }
@@ -43,7 +26,7 @@ fn programme_in_force<'a>(entries: &'a [Command], kind: &Kind) -> Option<&'a [Ta
     let mut found = None;
     let mut rest = entries;
     while let Some((entry, later)) = rest.split_first() {
-        if let Some(tasks) = tasks_loaded_by(entry, kind) {
+        if let Some(tasks) = entry.tasks_loaded(kind) {
             found = Some(tasks);
         }
         rest = later;

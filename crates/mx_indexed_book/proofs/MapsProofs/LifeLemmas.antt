@@ -73,14 +73,7 @@ module _ (book : List Entry) (is_book : IsBook book) (doc : List ℕ) where
       life_now-more book doc (Flown s) (Airframe tail) is_book new shape
       ∙ flown book s tail (same_text s.tail tail) refl
       ∙ ap (λ b. cond b (option_map (use_after (s ∷ [])) (airframe_life book s.tail)) (airframe_life book tail)) (sym (tie s.tail tail))
-  airframe_by (Listed c) new shape tail = life_now-more book doc (Listed c) (Airframe tail) is_book new shape ∙ same_life (airframe_life book tail)
-  airframe_by (Loaded p tasks) new shape tail = life_now-more book doc (Loaded p tasks) (Airframe tail) is_book new shape ∙ same_life (airframe_life book tail)
-  airframe_by (Opened o) new shape tail = life_now-more book doc (Opened o) (Airframe tail) is_book new shape ∙ same_life (airframe_life book tail)
-  airframe_by (Fitted f) new shape tail = life_now-more book doc (Fitted f) (Airframe tail) is_book new shape ∙ same_life (airframe_life book tail)
-  airframe_by (Removed r) new shape tail = life_now-more book doc (Removed r) (Airframe tail) is_book new shape ∙ same_life (airframe_life book tail)
-  airframe_by (Released r lines) new shape tail = life_now-more book doc (Released r lines) (Airframe tail) is_book new shape ∙ same_life (airframe_life book tail)
-  airframe_by (Deferred d) new shape tail = life_now-more book doc (Deferred d) (Airframe tail) is_book new shape ∙ same_life (airframe_life book tail)
-  airframe_by (Extended x) new shape tail = life_now-more book doc (Extended x) (Airframe tail) is_book new shape ∙ same_life (airframe_life book tail)
+  airframe_by act new shape tail = life_now-more book doc act (Airframe tail) is_book new shape ∙ same_life (airframe_life book tail)
 
 pub airframe_moves : (book : List Entry) (entry : Entry) → IsBook book → has_shape entry ≡ true → judge book entry ≡ New → (tail : List ℕ)
     → airframe_life (book ++ entry ∷ []) tail ≡ changed (slice_cmp nat_cmp) (airframe_changed book entry.act) tail (airframe_life book tail)

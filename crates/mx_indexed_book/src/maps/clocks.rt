@@ -4,7 +4,7 @@ ghost use Rattle.std.specs.Bool.{OnTrue};
 ghost use Rattle.mx_book.specs.commands.Act.{Entry};
 ghost use Rattle.mx_book.specs.Life.{clock};
 ghost use Rattle.mx_indexed_book.specs.maps.Clocks.{AreClocks, ClocksHaveRoom, aircraft_at, airframe_clock, airframe_moment, clocks_changed, component_clock, component_in_shop, component_moment, raised};
-ghost use Rattle.mx_indexed_book.specs.maps.OneMore.{SayOneMore};
+ghost use Rattle.mx_indexed_book.specs.maps.OneMore.{Equal, SayOneMore};
 ghost use Rattle.mx_indexed_book.specs.maps.Places.{ArePlaces};
 
 use crate::maps::maps::{held, make_room, put};
@@ -170,8 +170,7 @@ impl Clocks {
     /// Enters what an entry changes, for which there is room.
     pub fn put(&mut self, changes: &ClockChanges)
         requires { ClocksHaveRoom changes.now self.old }
-        ensures { SayOneMore AreClocks (λ book entry. changes.now ≡ clocks_changed book entry)
-            self.old self.new }
+        ensures { SayOneMore AreClocks (Equal changes.now clocks_changed) self.old self.new }
     {
         put(&mut self.airframes, &changes.airframe);
         put(&mut self.components, &changes.component);

@@ -9,7 +9,7 @@ ghost use Rattle.mx_book.specs.due.Due.{IsLife};
 ghost use Rattle.mx_book.specs.Book.{IsBook};
 ghost use Rattle.mx_book.specs.Life.{life_now, use_after, use_or_none};
 ghost use Rattle.mx_indexed_book.specs.maps.Lives.{AreLives, LivesHaveRoom, airframe_changed, airframe_life, component_changed, component_life, lead, lead_over, life_where_fitted, lives_changed};
-ghost use Rattle.mx_indexed_book.specs.maps.OneMore.{SayOneMore};
+ghost use Rattle.mx_indexed_book.specs.maps.OneMore.{Equal, SayOneMore};
 ghost use Rattle.mx_indexed_book.specs.maps.Places.{ArePlaces};
 
 use crate::maps::maps::{held, make_room, put};
@@ -238,8 +238,7 @@ impl Lives {
     /// Enters what an entry changes, for which there is room.
     pub fn put(&mut self, changes: &LifeChanges)
         requires { LivesHaveRoom changes.now self.old }
-        ensures { SayOneMore AreLives (λ book entry. changes.now ≡ lives_changed book entry)
-            self.old self.new }
+        ensures { SayOneMore AreLives (Equal changes.now lives_changed) self.old self.new }
     {
         put(&mut self.airframes, &changes.airframe);
         put(&mut self.components, &changes.component);

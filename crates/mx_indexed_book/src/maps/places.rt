@@ -3,7 +3,7 @@ ghost use Rattle.std.specs.Prelude.{◌≡◌, [], List};
 ghost use Rattle.std.specs.Bool.{OnTrue};
 ghost use Rattle.mx_book.specs.commands.Act.{Entry};
 ghost use Rattle.mx_book.specs.Span.{is_taken, tail_fitted};
-ghost use Rattle.mx_indexed_book.specs.maps.OneMore.{SayOneMore};
+ghost use Rattle.mx_indexed_book.specs.maps.OneMore.{Equal, SayOneMore};
 ghost use Rattle.mx_indexed_book.specs.maps.Places.{ArePlaces, PlacesHaveRoom, component_moved, place_changed, place_of, places_changed};
 
 use crate::maps::maps::{held, make_room, put};
@@ -119,8 +119,7 @@ impl Places {
     /// Enters what an entry changes, for which there is room.
     pub fn put(&mut self, changes: &PlaceChanges)
         requires { PlacesHaveRoom changes.now self.old }
-        ensures { SayOneMore ArePlaces (λ book entry. changes.now ≡ places_changed book entry)
-            self.old self.new }
+        ensures { SayOneMore ArePlaces (Equal changes.now places_changed) self.old self.new }
     {
         put(&mut self.fitted, &changes.component);
         put(&mut self.taken, &changes.place);

@@ -20,10 +20,9 @@ pub fn programme_changed(entry: &Command, seq: u32) -> Option<(Kind, Option<u32>
     ensures { (book : List Entry) → seq ≡ length book + 1
         → result ≡ programme_changed book entry.now }
 {
-    match entry.loaded_programme() {
-        Some(programme) => Some((programme.kind, Some(seq))),
-        None => None,
-    }
+    entry
+        .loaded_programme()
+        .map(|programme| (programme.kind, Some(seq)))
 }
 
 /// The tasks that an entry loads for a kind, each of its shape.
@@ -31,16 +30,7 @@ pub fn tasks_loaded<'a>(entry: &'a Command, kind: &Kind) -> Option<&'a [Task]>
     ensures tasks { option_copied result ≡ tasks_loaded kind.now entry.now.act }
     ensures shape { IfSome (option_copied result) (λ tasks. list_all task_shape tasks ≡ true) }
 {
-    match entry.loaded_programme() {
-        Some(programme) => {
-            if programme.kind == *kind {
-                Some(entry.tasks())
-            } else {
-                None
-            }
-        }
-        None => None,
-    }
+    entry.tasks_loaded(kind)
 }
 
 /// The revision that follows the one that an entry loads for a kind, or 1 where it loads none.

@@ -3,7 +3,7 @@ ghost use Rattle.std.specs.Prelude.{◌≡◌, ◌+◌, [], List, length};
 ghost use Rattle.std.specs.Bool.{OnTrue};
 ghost use Rattle.mx_book.specs.commands.Act.{Entry};
 ghost use Rattle.mx_book.specs.Defect.{deferred_by};
-ghost use Rattle.mx_indexed_book.specs.maps.OneMore.{SayOneMore};
+ghost use Rattle.mx_indexed_book.specs.maps.OneMore.{Equal, SayOneMore};
 ghost use Rattle.mx_indexed_book.specs.maps.Registers.{AreRegisters, RegistersHaveRoom, registers_changed};
 
 use crate::maps::maps::{make_room, put};
@@ -102,8 +102,7 @@ impl Registers {
     /// Enters what an entry changes, for which there is room.
     pub fn put(&mut self, changes: &RegisterChanges)
         requires { RegistersHaveRoom changes.now self.old }
-        ensures { SayOneMore AreRegisters (λ book entry. changes.now ≡ registers_changed book entry)
-            self.old self.new }
+        ensures { SayOneMore AreRegisters (Equal changes.now registers_changed) self.old self.new }
     {
         put(&mut self.documents, &changes.document);
         put(&mut self.aircraft, &changes.aircraft);

@@ -16,18 +16,11 @@ use Rattle.mx_book.specs.Register.{aircraft, component}
 use Rattle.mx_book.specs.Book.{IsBook}
 use Rattle.mx_book.specs.Judge.{judge}
 use Rattle.mx_book.specs.Life.{minutes_of, cycles_of, use_after, credited, opening_of, has_landed_by, life_until}
+use Rattle.mx_book.proofs.GrowthLemmas.{minutes_of-append, cycles_of-append}
 use Rattle.mx_registers.specs.kept.Changes.{sectors_given}
 use Rattle.mx_registers.proofs.KeptProofs.KnownLemmas.{aircraft-more, component-more, unknown_uncredited}
 use Rattle.mx_registers.proofs.KeptProofs.CreditLemmas.{credited_by}
 use Rattle.mx_registers.specs.Names.{has_item}
-
-minutes_of-append : (xs ys : List Sector) → minutes_of (xs ++ ys) ≡ minutes_of xs + minutes_of ys
-minutes_of-append [] ys = sym (omega arith)
-minutes_of-append (x ∷ xs) ys = let rest = minutes_of-append xs ys in omega arith
-
-cycles_of-append : (xs ys : List Sector) → cycles_of (xs ++ ys) ≡ cycles_of xs + cycles_of ys
-cycles_of-append [] ys = sym (omega arith)
-cycles_of-append (x ∷ xs) ys = let rest = cycles_of-append xs ys in omega arith
 
 abbrev use_of : ℕ → ℕ → Use
 use_of m c = record { minutes = m; cycles = c }

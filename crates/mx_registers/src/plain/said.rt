@@ -1,12 +1,12 @@
 //! What rows say.
 ghost use Rattle.std.specs.Prelude.{◌≡◌};
 ghost use Rattle.mx_book.specs.commands.Act.{act_of};
-ghost use Rattle.mx_registers.specs.Merge.{aircraft_said, applies_said, component_said, deferral_said, extension_said, fitting_said, limit_said, line_said, opening_said, place_of, place_said, programme_said, release_said, removal_said, sector_said};
+ghost use Rattle.mx_registers.specs.Merge.{aircraft_said, applies_said, component_said, deferral_said, extension_said, fitting_said, limit_said, line_said, opening_said, place_of, place_said, programme_said, release_said, removal_said, sector_said, task_said};
 
 use crate::plain::names::{document_of_defect, item_of_entry};
 use mx_base::rows::{
     AircraftRow, ComponentRow, DeferralRow, ExtensionRow, FittingRow, OpeningRow, ProgrammeRow,
-    ReleaseLineRow, ReleaseRow, RemovalRow, SectorRow,
+    ReleaseLineRow, ReleaseRow, RemovalRow, SectorRow, TaskRow,
 };
 use mx_base::{Doc, Kind, Limit, Part, Position, Serial, Tail, Use};
 use mx_book::commands::{Applies, Body, Item, Line, Place, Task};
@@ -56,8 +56,8 @@ pub fn body_of_programme(row: &ProgrammeRow, tasks: Vec<Task>) -> Body
     }
 }
 
-/// What a task is done on, by the part in its row.
-pub(crate) fn applies_to(part: Option<Part>) -> Applies
+// What a task is done on, by the part in its row.
+fn applies_to(part: Option<Part>) -> Applies
     ensures { result ≡ applies_said part }
 {
     match part {
@@ -66,14 +66,28 @@ pub(crate) fn applies_to(part: Option<Part>) -> Applies
     }
 }
 
-/// The limit, or `None` where it has no dimension.
-pub(crate) fn limit_if_any(limit: Limit) -> Option<Limit>
+// The limit, or `None` where it has no dimension.
+fn limit_if_any(limit: Limit) -> Option<Limit>
     ensures { result ≡ limit_said limit }
 {
     if limit.minutes.is_some() || limit.cycles.is_some() || limit.days.is_some() {
         Some(limit)
     } else {
         None
+    }
+}
+
+/// The task that its row says.
+pub fn task_said(row: &TaskRow) -> Task
+    ensures { result ≡ task_said row.now }
+{
+    Task {
+        id: row.id,
+        applies: applies_to(row.part),
+        first: row.first,
+        repeat: limit_if_any(row.repeat),
+        tolerance: row.tolerance,
+        retire: row.retire,
     }
 }
 

@@ -13,9 +13,9 @@ use crate::plain::names::{
     document_of_defect, item_of_entry, serial_of_component, tail_of_aircraft,
 };
 use crate::plain::said::{
-    applies_to, body_of_aircraft, body_of_component, body_of_deferral, body_of_extension,
-    body_of_fitting, body_of_opening, body_of_programme, body_of_release, body_of_removal,
-    body_of_sector, limit_if_any, line_said, place_said,
+    body_of_aircraft, body_of_component, body_of_deferral, body_of_extension, body_of_fitting,
+    body_of_opening, body_of_programme, body_of_release, body_of_removal, body_of_sector,
+    line_said, place_said, task_said,
 };
 use mx_base::rows::{
     AircraftRow, ComponentRow, DeferralRow, EntryKind, EntryRow, ExtensionRow, FittingRow,
@@ -64,14 +64,7 @@ fn take_tasks(
         if row.seq != seq || row.line as usize != line {
             return Ok((tasks, rest));
         }
-        tasks.push(Task {
-            id: row.id,
-            applies: applies_to(row.part),
-            first: row.first,
-            repeat: limit_if_any(row.repeat),
-            tolerance: row.tolerance,
-            retire: row.retire,
-        })?;
+        tasks.push(task_said(row))?;
         rest = later;
     }
     Ok((tasks, rest))

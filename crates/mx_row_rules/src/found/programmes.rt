@@ -20,8 +20,9 @@ ghost use Rattle.mx_row_rules.specs.found.Programmes.{is_retired_in, programme_n
 
 use mx_base::rows::{ProgrammeRow, TaskRow};
 use mx_base::{Day, Part, TaskId, Use};
-use mx_book::commands::{Applies, Task};
+use mx_book::commands::Task;
 use mx_book::due::{first_due, is_used_up, left_of};
+pub use mx_registers::plain::said::task_said;
 use std::alloc::{AllocError, Global};
 
 /// The number of the last of these programmes.
@@ -40,28 +41,6 @@ pub fn revision_after(rows: &[ProgrammeRow]) -> Option<u32>
     match rows.last() {
         Some(row) => row.revision.checked_add(1),
         None => Some(1),
-    }
-}
-
-/// The task that its row says.
-pub fn task_said(row: &TaskRow) -> Task
-    ensures { result ≡ task_said row.now }
-{
-    let repeat = row.repeat;
-    Task {
-        id: row.id,
-        applies: match row.part {
-            Some(part) => Applies::Part(part),
-            None => Applies::Airframe,
-        },
-        first: row.first,
-        repeat: if repeat.minutes.is_some() || repeat.cycles.is_some() || repeat.days.is_some() {
-            Some(repeat)
-        } else {
-            None
-        },
-        tolerance: row.tolerance,
-        retire: row.retire,
     }
 }
 
@@ -116,14 +95,7 @@ pub fn is_retired_in(
     requires { list_all (λ (row : TaskRow). task_shape (task_said row)) rows.now ≡ true }
     ensures { result ≡ is_retired_in part.now birth life.now day rows.now }
 {
-    let mut rest = rows;
-    while let Some((row, later)) = rest.split_first() {
-        if retires(part, birth, life, day, row) {
-            return true;
-        }
-        rest = later;
-    }
-    false
+    rows.iter().any(|row| retires(part, birth, life, day, row))
 }
 
 /// The last row of a kind has the revision that comes before the next, which has 32 bits.
