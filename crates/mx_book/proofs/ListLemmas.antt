@@ -5,11 +5,7 @@ use Rattle.std.specs.List.{list_all}
 use Rattle.std.proofs.lemmas.List.Folds.{list_all_at}
 use Rattle.mx_book.specs.commands.Programme.{task_shape}
 use Rattle.mx_book.specs.declared.commands.programme.Task.{Task}
-
-both_true : (p q : Bool) → p && q ≡ true → (p ≡ true) × (q ≡ true)
-both_true true true h = (refl, refl)
-both_true true false h = (cc)
-both_true false q h = (cc)
+use Rattle.mx_book.proofs.CommandsProofs.ShapeLemmas.{both_true}
 
 found_at : {X : Type 0} (p test : X → Bool) (x : X) (xs : List X) (b : Bool) → test x ≡ true → IfSome (find p xs) (λ y. test y ≡ true) → IfSome (cond b (Some x) (find p xs)) (λ y. test y ≡ true)
 found_at p test x xs true h k = h

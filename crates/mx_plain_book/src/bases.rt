@@ -15,7 +15,7 @@ use crate::lives::life;
 use crate::programmes::{is_done_by, task_of_kind};
 use crate::register::found_of;
 use mx_base::{Base, Day, Limit, Moment, TaskId, Use, day_of};
-use mx_book::commands::{Body, Command, Item, Line, Release, Task};
+use mx_book::commands::{Command, Item, Line, Release, Task};
 use mx_book::due::{base_done, due_after};
 use mx_book::found::{birth_of, item_of_place, kind_of_place, life_or_none};
 
@@ -151,40 +151,18 @@ fn base_after_entry(
 {
     // an opening has its shape, as each command has
     let _ = entry.doc();
-    match entry.body() {
-        Body::Opening {
-            item: opened,
-            task,
-            use_then,
-            day,
-            ..
-        } => {
-            if *opened == *item && *task == *id {
-                Some(base_stated(use_then, *day))
-            } else {
-                before
-            }
+    if let Some(opening) = entry.stated_opening() {
+        return if opening.item == *item && opening.task == *id {
+            Some(base_stated(&opening.use_then, opening.day))
+        } else {
+            before
+        };
+    }
+    match entry.release() {
+        Some(release) => {
+            base_after_lines(entries, item, id, before, number, &release, entry.lines())
         }
-        Body::Release {
-            place,
-            moment,
-            lines,
-        } => {
-            let release = Release {
-                place: *place,
-                moment: *moment,
-            };
-            base_after_lines(
-                entries,
-                item,
-                id,
-                before,
-                number,
-                &release,
-                lines.as_slice(),
-            )
-        }
-        _ => before,
+        None => before,
     }
 }
 

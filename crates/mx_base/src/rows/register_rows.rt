@@ -83,25 +83,10 @@ impl RegisterRows {
     pub fn into_pairs(self) -> RegisterPairs
         ensures { rows_in_pairs result ≡ self }
     {
-        let RegisterRows {
-            aircraft,
-            places,
-            components,
-            programmes,
-            tasks,
-            openings,
-            releases,
-            release_lines,
-            deferrals,
-            extensions,
-            sectors,
-            fittings,
-            removals,
-        } = self;
-        let flown = (sectors, (fittings, removals));
-        let deferred = (deferrals, (extensions, flown));
-        let released = (releases, (release_lines, deferred));
-        let maintained = (programmes, (tasks, (openings, released)));
-        (aircraft, (places, (components, maintained)))
+        let flown = (self.sectors, (self.fittings, self.removals));
+        let deferred = (self.deferrals, (self.extensions, flown));
+        let released = (self.releases, (self.release_lines, deferred));
+        let maintained = (self.programmes, (self.tasks, (self.openings, released)));
+        (self.aircraft, (self.places, (self.components, maintained)))
     }
 }

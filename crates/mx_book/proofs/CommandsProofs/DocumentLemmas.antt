@@ -10,17 +10,13 @@ use Rattle.std.proofs.lemmas.Str.Parse.{IsDigitsTest, numerals_by_value}
 use Rattle.mx_base.specs.Identifier.{IsIdentifier, is_graphic, is_tail_character}
 use Rattle.mx_book.specs.commands.Shape.{sector_doc, sector_shape}
 use Rattle.mx_book.specs.declared.commands.sector.Sector.{Sector}
+use Rattle.mx_book.proofs.CommandsProofs.ShapeLemmas.{both_true}
 
 is_digit : ℕ → Bool
 is_digit c = nat_le 48 c && nat_le c 57
 
 AreDigits : List ℕ → Type 0
 AreDigits ds = list_all is_digit ds ≡ true
-
-both_true : (p q : Bool) → p && q ≡ true → (p ≡ true) × (q ≡ true)
-both_true true true h = (refl, refl)
-both_true true false h = (cc)
-both_true false q h = (cc)
 
 and_of : (p q : Bool) → p ≡ true → q ≡ true → p && q ≡ true
 and_of p q h k = ap (λ b. b && q) h ∙ k

@@ -17,6 +17,9 @@ pub and_second : (p q : Bool) → p && q ≡ true → q ≡ true
 and_second true q h = h
 and_second false q h = (cc)
 
+pub both_true : (p q : Bool) → p && q ≡ true → (p ≡ true) × (q ≡ true)
+both_true p q h = (and_first p q h, and_second p q h)
+
 -- each task of a programme of its shape has its own
 programme_tasks : (p : Programme) (tasks : List Task) → programme_shape p tasks ≡ true → list_all task_shape tasks ≡ true
 programme_tasks p tasks h =

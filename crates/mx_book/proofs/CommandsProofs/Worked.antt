@@ -1,6 +1,6 @@
 -- Worked commands: at the ends of their shapes, with their documents, and what bodies say, computed from the definitions.
 use Rattle.std.proofs.Common.{refl, ◌≡◌, ℕ, suc, zero, ◌+◌, List, [], ◌∷◌, true, false, Some, None, Bool}
-use Rattle.std.specs.Prelude.{codes, is_some}
+use Rattle.std.specs.Prelude.{codes, filter, is_some, map}
 use Rattle.std.specs.Fmt.{digits}
 use Rattle.std.specs.List.{list_all, list_any}
 use Rattle.mx_base.specs.declared.amounts.Use.{Use}
@@ -10,11 +10,13 @@ use Rattle.mx_book.specs.declared.commands.body.Body.TheVariants as bodies
 use Rattle.mx_book.specs.declared.commands.sector.Sector.{Sector}
 use Rattle.mx_book.specs.declared.commands.shape.TheConstants.{MOST_OPENING_MINUTES, MOST_OPENING_CYCLES, MOST_POSITIONS, LAST_PAGE, LAST_LINE, MOST_SECTOR_MINUTES, MOST_SECTOR_CYCLES, MOST_LINES, MOST_STATED_DAYS, MOST_EXTENSION_DAYS}
 
--- what an act says: an aircraft, a component, a programme, an opening, a sector, a fitting, a removal, a release, a deferral, an extension
-abbrev pub kinds_said : Act → List Bool
+-- the kinds of what an act says
+abbrev pub kinds_said : Act → List (List ℕ)
 kinds_said act =
-    is_some (aircraft_of act) ∷ is_some (component_of act) ∷ is_some (programme_of act) ∷ is_some (opening_of act) ∷ is_some (sector_of act)
-    ∷ is_some (fitting_of act) ∷ is_some (removal_of act) ∷ is_some (release_of act) ∷ is_some (deferral_of act) ∷ is_some (extension_of act) ∷ []
+    map (λ (kind : List ℕ × Bool). kind.0) (filter (λ (kind : List ℕ × Bool). kind.1) ((codes "aircraft", is_some (aircraft_of act)) ∷ (codes "component", is_some (component_of act))
+    ∷ (codes "programme", is_some (programme_of act)) ∷ (codes "opening", is_some (opening_of act)) ∷ (codes "sector", is_some (sector_of act))
+    ∷ (codes "fitting", is_some (fitting_of act)) ∷ (codes "removal", is_some (removal_of act)) ∷ (codes "release", is_some (release_of act))
+    ∷ (codes "deferral", is_some (deferral_of act)) ∷ (codes "extension", is_some (extension_of act)) ∷ []))
 
 abbrev pub abcd : List ℕ
 abcd = codes "D-ABCD"

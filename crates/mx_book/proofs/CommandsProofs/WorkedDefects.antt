@@ -1,5 +1,5 @@
 -- Worked defects: deferrals and extensions at the ends of their shape and past them, what they and the lines of a release show, and when two are the same.
-use Rattle.std.proofs.Common.{refl, ◌≡◌, ℕ, ◌+◌, List, [], ◌∷◌, true, false, Some, Bool}
+use Rattle.std.proofs.Common.{refl, ◌≡◌, ℕ, ◌+◌, List, [], ◌∷◌, true, false, Some}
 use Rattle.std.specs.Prelude.{codes, is_some, map}
 use Rattle.std.specs.List.{list_all, list_any, flat_map}
 use Rattle.mx_book.specs.commands.Act.{Act, Deferred, Extended, positions_of, tasks_of, lines_of, deferral_of, extension_of}
@@ -77,16 +77,10 @@ no_extension : list_any (λ act. is_some (extension_of act)) (deferred B ∷ rel
 no_extension = refl
 
 -- and a deferral or an extension shows nothing else
-abbrev deferral_alone : List Bool
-deferral_alone = false ∷ false ∷ false ∷ false ∷ false ∷ false ∷ false ∷ false ∷ true ∷ false ∷ []
-
-abbrev extension_alone : List Bool
-extension_alone = false ∷ false ∷ false ∷ false ∷ false ∷ false ∷ false ∷ false ∷ false ∷ true ∷ []
-
 abbrev of_defects : List Act
 of_defects = deferred (A 5) ∷ extended 10 ∷ []
 
-nothing_else : map kinds_said of_defects ≡ deferral_alone ∷ extension_alone ∷ []
+nothing_else : map kinds_said of_defects ≡ (codes "deferral" ∷ []) ∷ (codes "extension" ∷ []) ∷ []
 nothing_else = refl
 
 no_lists : (flat_map positions_of of_defects ≡ []) × (flat_map tasks_of of_defects ≡ []) × (flat_map lines_of of_defects ≡ []) × (list_any is_sector_shaped of_defects ≡ false)

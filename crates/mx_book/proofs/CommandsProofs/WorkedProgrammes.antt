@@ -1,5 +1,5 @@
 -- Worked programmes: at the ends of their shapes and past them, computed from the definitions.
-use Rattle.std.proofs.Common.{refl, ◌≡◌, ℕ, suc, zero, ◌+◌, List, [], ◌∷◌, true, false, Option, Some, None, Bool}
+use Rattle.std.proofs.Common.{refl, ◌≡◌, ℕ, suc, zero, ◌+◌, List, [], ◌∷◌, true, false, Option, Some, None}
 use Rattle.std.specs.Prelude.{codes, is_some, map}
 use Rattle.std.specs.List.{list_all, list_any}
 use Rattle.mx_base.specs.declared.amounts.Limit.{Limit}
@@ -166,16 +166,10 @@ no_tasks = refl
 no_opening : list_any (λ act. is_some (opening_of act)) (load (hundred_hours ∷ []) ∷ others) ≡ false
 no_opening = refl
 
-abbrev programme_alone : List Bool
-programme_alone = false ∷ false ∷ true ∷ false ∷ false ∷ false ∷ false ∷ false ∷ false ∷ false ∷ []
-
-abbrev opening_alone : List Bool
-opening_alone = false ∷ false ∷ false ∷ true ∷ false ∷ false ∷ false ∷ false ∷ false ∷ false ∷ []
-
 abbrev new_acts : List Act
 new_acts = load (hundred_hours ∷ []) ∷ open_task 59000 780 19509 ∷ []
 
-nothing_else : map kinds_said new_acts ≡ programme_alone ∷ opening_alone ∷ []
+nothing_else : map kinds_said new_acts ≡ (codes "programme" ∷ []) ∷ (codes "opening" ∷ []) ∷ []
 nothing_else = refl
 
 body_of_an_opening : act_of (bodies.Opening (items.Airframe abcd) (codes "C172") (codes "ANNUAL") (used 59000 780) 19509) ≡ open_task 59000 780 19509

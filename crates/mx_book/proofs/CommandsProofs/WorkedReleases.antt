@@ -1,5 +1,5 @@
 -- Worked releases: at the ends of their shape and past them, what they show, and when two are the same.
-use Rattle.std.proofs.Common.{refl, ◌≡◌, ℕ, suc, zero, ◌+◌, List, [], ◌∷◌, true, false, Some, None, Bool}
+use Rattle.std.proofs.Common.{refl, ◌≡◌, ℕ, suc, zero, ◌+◌, List, [], ◌∷◌, true, false, Some, None}
 use Rattle.std.specs.Prelude.{codes, is_some}
 use Rattle.std.specs.List.{list_all, list_any, flat_map}
 use Rattle.mx_book.specs.commands.Act.{Act, Loaded, Opened, Flown, Released, positions_of, tasks_of, release_of, lines_of}
@@ -81,13 +81,10 @@ no_lines : flat_map lines_of others ≡ []
 no_lines = refl
 
 -- and a release shows nothing else
-abbrev release_alone : List Bool
-release_alone = false ∷ false ∷ false ∷ false ∷ false ∷ false ∷ false ∷ true ∷ false ∷ false ∷ []
-
 abbrev release : Act
 release = at_abcd (inspected ∷ [])
 
-nothing_else : (kinds_said release ≡ release_alone) × (positions_of release ≡ []) × (tasks_of release ≡ []) × (is_sector_shaped release ≡ false)
+nothing_else : (kinds_said release ≡ codes "release" ∷ []) × (positions_of release ≡ []) × (tasks_of release ≡ []) × (is_sector_shaped release ≡ false)
 nothing_else = (refl, refl, refl, refl)
 
 -- ── equal contents ──

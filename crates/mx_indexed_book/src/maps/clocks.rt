@@ -162,9 +162,8 @@ impl Clocks {
         ensures same { (book : List Entry) → AreClocks book self.old → AreClocks book self.new }
         ensures room { OnTrue result (ClocksHaveRoom changes.now self.new) }
     {
-        let airframes = make_room(&mut self.airframes, &changes.airframe, Moment::FIRST);
-        let components = make_room(&mut self.components, &changes.component, Moment::FIRST);
-        airframes & components
+        make_room(&mut self.airframes, &changes.airframe, Moment::FIRST)
+            & make_room(&mut self.components, &changes.component, Moment::FIRST)
     }
 
     /// Enters what an entry changes, for which there is room.

@@ -230,9 +230,8 @@ impl Lives {
         ensures same { (book : List Entry) → AreLives book self.old → AreLives book self.new }
         ensures room { OnTrue result (LivesHaveRoom changes.now self.new) }
     {
-        let airframes = make_room(&mut self.airframes, &changes.airframe, None);
-        let components = make_room(&mut self.components, &changes.component, None);
-        airframes & components
+        make_room(&mut self.airframes, &changes.airframe, None)
+            & make_room(&mut self.components, &changes.component, None)
     }
 
     /// Enters what an entry changes, for which there is room.

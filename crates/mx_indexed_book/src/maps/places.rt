@@ -111,9 +111,8 @@ impl Places {
         ensures same { (book : List Entry) → ArePlaces book self.old → ArePlaces book self.new }
         ensures room { OnTrue result (PlacesHaveRoom changes.now self.new) }
     {
-        let fitted = make_room(&mut self.fitted, &changes.component, None);
-        let taken = make_room(&mut self.taken, &changes.place, false);
-        fitted & taken
+        make_room(&mut self.fitted, &changes.component, None)
+            & make_room(&mut self.taken, &changes.place, false)
     }
 
     /// Enters what an entry changes, for which there is room.

@@ -34,7 +34,7 @@ use Rattle.mx_registers.proofs.KeptProofs.TotalRows.{items_there, total_rows-mor
 use Rattle.mx_registers.proofs.KeptProofs.KnownLemmas.{aircraft_kept, component_kept}
 use Rattle.mx_registers.proofs.KeptProofs.LifeGrowth.{use_after_none}
 use Rattle.mx_registers.proofs.KeptProofs.PlaceLemmas.{open_where_fitted}
-use Rattle.mx_registers.proofs.KeptProofs.SpanRows.{number-append, has_number, or_known, serial_number_kept, one_number}
+use Rattle.mx_registers.proofs.KeptProofs.SpanRows.{number-append, has_number, or_known, serial_number_kept, one_number, one_number_by}
 use Rattle.mx_registers.proofs.KeptProofs.ItemNumbers.{items_numbered, tail_at_item, serial_at_item, other_number}
 
 -- ── the numbers of aircraft ──
@@ -46,13 +46,7 @@ tail_number_kept book more tail h =
 
 -- two aircraft of a book have one number exactly where they have one registration
 pub one_tail_number : (book : List Entry) (a b : List ℕ) → is_some (aircraft book a) ≡ true → is_some (aircraft book b) ≡ true → nat_eq (or_zero (seq_of_tail book a)) (or_zero (seq_of_tail book b)) ≡ same_text a b
-one_tail_number book a b h k =
-    same_from_decides {P = a ≡ b} (nat_eq (or_zero (seq_of_tail book a)) (or_zero (seq_of_tail book b))) (same_text a b) (
-      (λ e. let n = (Decides-eqb (or_zero (seq_of_tail book a)) (or_zero (seq_of_tail book b))).0 e in
-          let p : Some a ≡ Some b = sym (tail_known book a h) ∙ ap (tail_at book) n ∙ tail_known book b k in cc),
-      (λ e. (Decides-eqb (or_zero (seq_of_tail book a)) (or_zero (seq_of_tail book b))).1 (ap (λ (t : List ℕ). or_zero (seq_of_tail book t)) e)),
-    )
-    (text_same a b)
+one_tail_number book a b h k = one_number_by (seq_of_tail book) (tail_at book) a b (tail_known book a h) (tail_known book b k)
 
 pub eq_swap : (n m : ℕ) → nat_eq n m ≡ nat_eq m n
 eq_swap n m = same_from_decides {P = n ≡ m} (nat_eq n m) (nat_eq m n) (Decides-eqb n m) ((λ h. sym ((Decides-eqb m n).0 h)), (λ e. (Decides-eqb m n).1 (sym e)))

@@ -54,15 +54,19 @@ serial_number_kept book more serial h =
     ap or_zero (number-append serial_added serial 1 book more)
     ∙ or_known (seq_of_serial book serial) (number_from serial_added serial (1 + length book) more) (has_number (serial_at book) serial (seq_of_serial book serial) refl (serial_known book serial h))
 
--- two components of a book have one number exactly where they have one serial number
-pub one_number : (book : List Entry) (a b : List ℕ) → is_some (component book a) ≡ true → is_some (component book b) ≡ true → nat_eq (or_zero (seq_of_serial book a)) (or_zero (seq_of_serial book b)) ≡ same_text a b
-one_number book a b h k =
-    same_from_decides {P = a ≡ b} (nat_eq (or_zero (seq_of_serial book a)) (or_zero (seq_of_serial book b))) (same_text a b) (
-      (λ e. let n = (Decides-eqb (or_zero (seq_of_serial book a)) (or_zero (seq_of_serial book b))).0 e in
-          let p : Some a ≡ Some b = sym (serial_known book a h) ∙ ap (serial_at book) n ∙ serial_known book b k in cc),
-      (λ e. (Decides-eqb (or_zero (seq_of_serial book a)) (or_zero (seq_of_serial book b))).1 (ap (λ (t : List ℕ). or_zero (seq_of_serial book t)) e)),
+-- two names whose numbers name them have one number exactly where they are one
+pub one_number_by : (numbers : List ℕ → Option ℕ) (named : ℕ → Option (List ℕ)) (a b : List ℕ) → named (or_zero (numbers a)) ≡ Some a → named (or_zero (numbers b)) ≡ Some b → nat_eq (or_zero (numbers a)) (or_zero (numbers b)) ≡ same_text a b
+one_number_by numbers named a b h k =
+    same_from_decides {P = a ≡ b} (nat_eq (or_zero (numbers a)) (or_zero (numbers b))) (same_text a b) (
+      (λ e. let n = (Decides-eqb (or_zero (numbers a)) (or_zero (numbers b))).0 e in
+          let p : Some a ≡ Some b = sym h ∙ ap named n ∙ k in cc),
+      (λ e. (Decides-eqb (or_zero (numbers a)) (or_zero (numbers b))).1 (ap (λ (t : List ℕ). or_zero (numbers t)) e)),
     )
     (text_same a b)
+
+-- two components of a book have one number exactly where they have one serial number
+pub one_number : (book : List Entry) (a b : List ℕ) → is_some (component book a) ≡ true → is_some (component book b) ≡ true → nat_eq (or_zero (seq_of_serial book a)) (or_zero (seq_of_serial book b)) ≡ same_text a b
+one_number book a b h k = one_number_by (seq_of_serial book) (serial_at book) a b (serial_known book a h) (serial_known book b k)
 
 -- ── the number of a removal ──
 

@@ -43,7 +43,7 @@ ends_alike serial k (e ∷ later) = at e.act (ends_alike serial (k + 1) later)
     at (Removed r) h = end_if (same_text r.serial serial) k r (removal_from serial (k + 1) later) (find (λ (x : Removal). same_text x.serial serial) (register removal_of later)) h
     at _ h = h
 
-rows_ended : (before later : List Entry) → AllByRecursion (λ (row : SpanRow). is_none row.remove_seq ≡ is_none row.to) (span_rows_from before later)
+pub rows_ended : (before later : List Entry) → AllByRecursion (λ (row : SpanRow). is_none row.remove_seq ≡ is_none row.to) (span_rows_from before later)
 rows_ended before [] = tt
 rows_ended before (e ∷ later) = at e.act (rows_ended (before ++ e ∷ []) later)
   where

@@ -7,6 +7,6 @@ use Rattle.mx_indexed_book.proofs.maps.clocks.Clocks.make_room.Goals as goal
 
 pub returns-clause-same : goal.returns-clause-same
 returns-clause-same c book are = record {
-  airframes_are = stays (slice_cmp nat_cmp) 0 _ c.args.self.now.airframes c.make_room-airframes.new.map (c.make_room-airframes.ensures.same exact_bytes) are.airframes_are;
-  components_are = stays (slice_cmp nat_cmp) 0 _ c.args.self.now.components c.make_room-components.new.map (c.make_room-components.ensures.same exact_bytes) are.components_are;
+  airframes_are = stays (slice_cmp nat_cmp) 0 _ c.args.self.now.airframes c.make_room.new.map (c.make_room.ensures.same exact_bytes) are.airframes_are;
+  components_are = stays (slice_cmp nat_cmp) 0 _ c.args.self.now.components c.make_room-2.new.map (c.make_room-2.ensures.same exact_bytes) are.components_are;
 }

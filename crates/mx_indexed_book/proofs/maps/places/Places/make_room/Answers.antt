@@ -10,6 +10,6 @@ pub returns-clause-same : goal.returns-clause-same
 returns-clause-same c book are =
     let exact = exact_pairs (slice_cmp nat_cmp) (slice_cmp nat_cmp) exact_bytes exact_bytes in
     record {
-      fitted_are = stays (slice_cmp nat_cmp) None _ c.args.self.now.fitted c.make_room-fitted.new.map (c.make_room-fitted.ensures.same exact_bytes) are.fitted_are;
-      taken_are = stays names_cmp false _ c.args.self.now.taken c.make_room-taken.new.map (c.make_room-taken.ensures.same exact) are.taken_are;
+      fitted_are = stays (slice_cmp nat_cmp) None _ c.args.self.now.fitted c.make_room.new.map (c.make_room.ensures.same exact_bytes) are.fitted_are;
+      taken_are = stays names_cmp false _ c.args.self.now.taken c.make_room-2.new.map (c.make_room-2.ensures.same exact) are.taken_are;
     }
