@@ -61,21 +61,11 @@ fn rows_in_pairs(alloc: Global, pairs: RegisterPairs) -> Result<FileRows, AllocE
     let (deferrals, (extensions, flown)) = deferred;
     let (held, spans) = flown;
     let sectors = sectors_in(alloc, held.as_slice())?;
-    let rows = RegisterRows {
-        aircraft,
-        places,
-        components,
-        programmes,
-        tasks,
-        openings,
-        releases,
-        release_lines,
-        deferrals,
-        extensions,
-        sectors,
-        fittings: Vec::new(alloc),
-        removals: Vec::new(alloc),
-    };
+    let flown = (sectors, (Vec::new(alloc), Vec::new(alloc)));
+    let deferred = (deferrals, (extensions, flown));
+    let released = (releases, (release_lines, deferred));
+    let maintained = (programmes, (tasks, (openings, released)));
+    let rows = RegisterRows::from_pairs((aircraft, (places, (components, maintained))));
     Ok(FileRows {
         registers: Registers { entries, rows },
         spans,

@@ -31,7 +31,7 @@ use Rattle.mx_tables.specs.Calls.{OnRead, ReadsRows}
 use Rattle.mx_tables.specs.inserts.Calls.{InsertsRow}
 use Rattle.mx_tables.specs.inserts.Sets.{GainsRows, IsDamaged, AreRowsOf, ReadsTables, WritesTables, IsInside}
 use Rattle.mx_layout.specs.Crash.{StaysInside, IsWithin}
-use Rattle.mx_layout.proofs.CrashLemmas.{within_then, stays_then}
+use Rattle.mx_layout.proofs.CrashLemmas.{within_itself, within_then, stays_then}
 use Rattle.mx_layout.proofs.TreeLemmas.{same_tree}
 use Rattle.std.specs.Prelude.{IsErr, IsErrAnd}
 
@@ -175,6 +175,22 @@ stops_writing IsIn onto old new (Err e) is within = record { gains = λ _ _ _. t
 -- a call that wrote no row yet
 pub stays_open : (s : State) → IsInside s → StaysInside s s
 stays_open s inside = record { was_open = inside.1; is_open = inside.1; now_is = refl; committed_is = refl; mode = inside.0 }
+
+-- the rows of one table, one after another
+pub none_written : {X : Type 0} (k : Kept X) (s : State) → WritesTables {V = ℕ} k.IsIn (on_top k []) s s (Ok 0)
+none_written k s = record { gains = λ _ _ _. gains_none k s.now; mode = λ _ begun. begun; inside = λ _ inside. stays_open s inside; within = within_itself s }
+
+pub one_written : {X U : Type 0} (k : Kept X) (xs : List X) (x : X) (first old new : State) (u : U) → WritesTables {V = ℕ} k.IsIn (on_top k xs) first old (Ok 0) → InsertsRow {V = U} k x old new (Ok u) → WritesTables {V = ℕ} k.IsIn (on_top k (xs ++ x ∷ [])) first new (Ok 0)
+one_written k xs x first old new u so_far one =
+    let early : HasCleanDisk new → HasCleanDisk old = λ clean. omega (arith, one.within.survives.clean) in
+    record {
+      gains = λ clean inside has. (let stays = so_far.inside (early clean) inside in
+          let gained = so_far.gains (early clean) inside has in
+          gains_one k xs x first.now old.now new.now gained (one.gains clean stays.mode (subst k.IsIn (sym gained.schema) has)));
+      mode = λ clean begun. (one.inside clean (so_far.mode (early clean) begun)).mode;
+      inside = λ clean inside. (let stays = so_far.inside (early clean) inside in stays_then first old new stays (one.inside clean stays.mode));
+      within = within_then first old new so_far.within so_far.mode one.within;
+    }
 
 pub on_ok : {T E P : Type 0} (r : Result T E) (x : T) → r ≡ Ok x → OnOk r P → P
 on_ok (Ok y) x is p = p

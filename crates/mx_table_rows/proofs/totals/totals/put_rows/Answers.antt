@@ -10,16 +10,13 @@ rows-init g c = record { same_reference = refl; puts = none_put _ }
 
 pub rows-preserved : goal.rows-preserved
 rows-preserved g c =
-    let first = state g.S.Store c.args.tx.now.conn.now in
-    let old = state g.S.Store c.rows.tx.conn.now in
-    let new = state g.S.Store c.set_total.new.tx.conn.now in
     let items = c.args.rows.now in
     let x = c.row-item.result in
     let i = c.rows.row-index in
     let more : take i items ++ x ∷ [] ≡ take (i + 1) items = sym (take_more items i x c.rows-test.true ∙ ap (λ y. take i items ++ y ∷ []) (sym c.row-item.is)) in
     record {
       same_reference = c.set_total.ensures.same_reference ∙ c.rows.invariant.same_reference;
-      puts = subst (λ xs. PutsTotals {V = ℕ} xs first new (Ok 0)) more (one_put (take i items) x first old new c.rows.invariant.puts _ c.in_ok-set_total.ensures.replaces);
+      puts = subst (λ xs. PutsTotals {V = ℕ} xs (state g.S.Store c.args.tx.now.conn.now) (state g.S.Store c.set_total.new.tx.conn.now) (Ok 0)) more (one_put (take i items) x _ _ _ c.rows.invariant.puts _ c.in_ok-set_total.ensures.replaces);
     }
 
 pub returns-in_err-set_total-clause-same_reference : goal.returns-in_err-set_total-clause-same_reference
