@@ -191,18 +191,18 @@ module _ {S : Type 0} (g : Ghosts S) (old tx last end final : Held S) (began : t
   started result runs = subst (λ h. Runs IsAt Makes IsOff (state g h) (state g last) result) began runs
 
   module _ (e : TableFault) (f : MoveFault) (told : f ≡ fault_from e) (runs : Runs IsAt Makes IsOff (state g tx) (state g last) (Err e)) (drop : Survives (state g last) (state g end) (λ _. ⊥)) (undone : HasCleanDisk (state g end) → IsRolledBack (state g last) (state g end)) where
-    pub step_stops : Commits final (Err f)
-    step_stops = subst (λ h. Commits h (Err f)) back (subst (λ x. Commits end (Err x)) (sym told) (stops g old last IsAt IsDue Makes IsOff moves whole e (started (Err e) runs) end drop undone))
-
-    pub step_stops_whole : LeavesIt final
-    step_stops_whole = subst LeavesIt back (stops_whole g old last IsAt IsDue Makes IsOff moves whole e (started (Err e) runs) end drop undone)
+    pub step_stops : Commits final (Err f) × LeavesIt final
+    step_stops = (
+      subst (λ h. Commits h (Err f)) back (subst (λ x. Commits end (Err x)) (sym told) (stops g old last IsAt IsDue Makes IsOff moves whole e (started (Err e) runs) end drop undone)),
+      subst LeavesIt back (stops_whole g old last IsAt IsDue Makes IsOff moves whole e (started (Err e) runs) end drop undone),
+    )
 
   module _ (p : Point) (runs : Runs IsAt Makes IsOff (state g tx) (state g last) (Ok p)) (commit : Survives (state g last) (state g end) (λ db. db ≡ (state g last).now.trees)) where
-    pub step_commits : IsSettled g → (HasCleanDisk (state g end) → Shows (state g last) (state g end) (state g last).now (state g last).now false) → Commits final (Ok p)
-    step_commits settled shown = subst (λ h. Commits h (Ok p)) back (commits g old last IsAt IsDue Makes IsOff moves whole p (started (Ok p) runs) end commit settled shown)
+    leaves : LeavesIt final
+    leaves = subst LeavesIt back (commits_whole g old last IsAt IsDue Makes IsOff moves whole p (started (Ok p) runs) end commit)
 
-    pub step_in_doubt : Commits final (Err stop.Store)
-    step_in_doubt = subst (λ h. Commits h (Err stop.Store)) back (commits_in_doubt g old last IsAt IsDue Makes IsOff moves whole p (started (Ok p) runs) end commit)
+    pub step_commits : IsSettled g → (HasCleanDisk (state g end) → Shows (state g last) (state g end) (state g last).now (state g last).now false) → Commits final (Ok p) × LeavesIt final
+    step_commits settled shown = (subst (λ h. Commits h (Ok p)) back (commits g old last IsAt IsDue Makes IsOff moves whole p (started (Ok p) runs) end commit settled shown), leaves)
 
-    pub step_commits_whole : LeavesIt final
-    step_commits_whole = subst LeavesIt back (commits_whole g old last IsAt IsDue Makes IsOff moves whole p (started (Ok p) runs) end commit)
+    pub step_in_doubt : Commits final (Err stop.Store) × LeavesIt final
+    step_in_doubt = (subst (λ h. Commits h (Err stop.Store)) back (commits_in_doubt g old last IsAt IsDue Makes IsOff moves whole p (started (Ok p) runs) end commit), leaves)

@@ -62,7 +62,7 @@ pub struct Finish {
     pub mark: u32,
 }
 
-// Makes the table, and writes the point.
+// Makes the new table of sectors, and writes the point.
 fn write_sector_table<S: Alter>(tx: &mut Transaction<'_, S>, to: &Point) -> Result<(), TableFault>
     ensures same_reference { tx.new.conn.ghost_name ≡ tx.old.conn.ghost_name }
     ensures open { WasOpen (state S.Store tx.old.conn.now) (state S.Store tx.new.conn.now) result }
@@ -116,7 +116,7 @@ fn no_sector_left<S: Alter>(alloc: Global, tx: &mut Transaction<'_, S>) -> Resul
     }
 }
 
-// Drops the one table, makes the other with its indexes, and writes the point.
+// Drops the old table of sectors, makes that of spans with its indexes, and writes the point.
 fn write_span_table<S: Alter>(tx: &mut Transaction<'_, S>, to: &Point) -> Result<(), TableFault>
     ensures same_reference { tx.new.conn.ghost_name ≡ tx.old.conn.ghost_name }
     ensures alters { Alters (schema_at (moving 1 0)) (schema_at (moving 2 0))
@@ -162,7 +162,7 @@ impl Migrate for ChangeToSpans {
     }
 }
 
-// Drops the two tables, makes the other, and writes the point.
+// Drops the tables of fittings and removals, makes that of totals, and writes the point.
 fn write_total_table<S: Alter>(tx: &mut Transaction<'_, S>, to: &Point) -> Result<(), TableFault>
     ensures same_reference { tx.new.conn.ghost_name ≡ tx.old.conn.ghost_name }
     ensures alters { Alters (schema_at (moving 2 0)) (schema_at (moving 3 0))
@@ -208,7 +208,7 @@ impl Migrate for ChangeToTotals {
     }
 }
 
-// Makes the table, and writes the point.
+// Makes the table of last bases, and writes the point.
 fn write_base_table<S: Alter>(tx: &mut Transaction<'_, S>, to: &Point) -> Result<(), TableFault>
     ensures same_reference { tx.new.conn.ghost_name ≡ tx.old.conn.ghost_name }
     ensures open { WasOpen (state S.Store tx.old.conn.now) (state S.Store tx.new.conn.now) result }
