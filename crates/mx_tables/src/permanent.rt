@@ -150,7 +150,9 @@ impl Stored for TaskRow {
         read_columns!(row, 14: TaskRow {
             seq: number_at(0), line: number_at(1), id: graphic_at(2), part: graphic_or_null_at(3),
             retire: flag_at(4), first: limit_at(5), repeat: limit_at(8),
-            tolerance: Tolerance { minutes: number_at(11), cycles: number_at(12), days: number_at(13) },
+            tolerance: Tolerance {
+                minutes: number_at(11), cycles: number_at(12), days: number_at(13),
+            },
         })
     }
 }
