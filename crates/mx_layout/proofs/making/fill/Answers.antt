@@ -14,17 +14,13 @@ returns-in_err-insert_office-clause-stays g c = record {
 }
 
 pub returns-clause-stays : goal.returns-clause-stays
-returns-clause-stays g c =
-    let first = state g.S.Store c.args.tx.now.conn.now in
-    let old = state g.S.Store c.make_tables.new.tx.conn.now in
-    let new = state g.S.Store c.insert_office.new.tx.conn.now in
-    record {
-      same_reference = search rules;
-      inside = λ clean inside.
-          let early : HasCleanDisk old = omega (arith, c.insert_office.ensures.stays.within.survives.clean) in
-          stays_after first old new (λ now. c.make_tables.ensures.within.kept now inside) early (c.in_ok-insert_office.ensures.stays.inside clean (c.in_ok-make_tables.ensures.mode early inside));
-      within = within_then first old new c.make_tables.ensures.within c.in_ok-make_tables.ensures.mode c.insert_office.ensures.stays.within;
-    }
+returns-clause-stays g c = record {
+  same_reference = search rules;
+  inside = λ clean inside.
+      let early : HasCleanDisk (state g.S.Store c.make_tables.new.tx.conn.now) = omega (arith, c.insert_office.ensures.stays.within.survives.clean) in
+      stays_after _ _ _ (λ now. c.make_tables.ensures.within.kept now inside) early (c.in_ok-insert_office.ensures.stays.inside clean (c.in_ok-make_tables.ensures.mode early inside));
+  within = within_then _ _ _ c.make_tables.ensures.within c.in_ok-make_tables.ensures.mode c.insert_office.ensures.stays.within;
+}
 
 pub returns-clause-makes : goal.returns-clause-makes
 returns-clause-makes g c clean inside blank =

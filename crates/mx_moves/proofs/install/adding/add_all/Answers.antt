@@ -28,9 +28,6 @@ enter_copy-requires g c =
 
 pub entries-preserved : goal.entries-preserved
 entries-preserved g c =
-    let first = state g.S.Store c.args.tx.now.conn.now in
-    let old = state g.S.Store c.entries.tx.conn.now in
-    let new = state g.S.Store c.add_command.new.tx.conn.now in
     let so_far = c.entries.invariant in
     let entries = c.args.entries.now in
     let book = c.entries.book in
@@ -42,7 +39,7 @@ entries-preserved g c =
       same_reference = c.add_command.ensures.same_reference ∙ so_far.same_reference;
       so_far = entered ∙ ap (λ b. b ++ x ∷ []) so_far.so_far ∙ next_taken entries i x c.entries-test.true (sym c.command-item.is);
       judged = rw entered next.1;
-      adds = subst (λ b. AddsEntries {V = ℕ} [] b first new (Ok 0)) (sym entered) (adds_then [] book (book ++ x ∷ []) first old new 0 _ 0 so_far.adds c.in_ok-add_command.ensures.adds);
+      adds = subst (λ b. AddsEntries {V = ℕ} [] b (state g.S.Store c.args.tx.now.conn.now) (state g.S.Store c.add_command.new.tx.conn.now) (Ok 0)) (sym entered) (adds_then [] book (book ++ x ∷ []) _ _ _ 0 _ 0 so_far.adds c.in_ok-add_command.ensures.adds);
     }
 
 pub returns-in_err-add_command-clause-same_reference : goal.returns-in_err-add_command-clause-same_reference
