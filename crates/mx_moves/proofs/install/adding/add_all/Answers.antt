@@ -1,4 +1,4 @@
-use Rattle.std.proofs.Common.{◌≡◌, ◌++◌, [], ◌∷◌, ℕ, true, Ok, refl, sym, ap, subst, ◌∙◌}
+use Rattle.std.proofs.Common.{◌≡◌, ◌++◌, [], ◌∷◌, ℕ, true, Ok, refl, sym, ap, subst, ◌∙◌, rules}
 use Rattle.std.proofs.lemmas.List.{take_all}
 use Rattle.sqlite.specs.Held.{state}
 use Rattle.mx_book.specs.Book.{is_book_from}
@@ -42,21 +42,19 @@ entries-preserved g c =
       adds = subst (λ b. AddsEntries {V = ℕ} [] b (state g.S.Store c.args.tx.now.conn.now) (state g.S.Store c.add_command.new.tx.conn.now) (Ok 0)) (sym entered) (adds_then [] book (book ++ x ∷ []) _ _ _ 0 _ 0 so_far.adds c.in_ok-add_command.ensures.adds);
     }
 
-pub returns-in_err-add_command-clause-same_reference : goal.returns-in_err-add_command-clause-same_reference
-returns-in_err-add_command-clause-same_reference g c = c.add_command.ensures.same_reference ∙ c.entries.invariant.same_reference
+pub returns-in_err-add_command : goal.returns-in_err-add_command
+returns-in_err-add_command g c = record {
+  same_reference = c.add_command.ensures.same_reference ∙ c.entries.invariant.same_reference;
+  adds = adds_stopped _ _ _ _ c.from_residual.result c.from_residual.ensures.0 (within_then _ _ _ c.entries.invariant.adds.within c.entries.invariant.adds.mode c.add_command.ensures.adds.within);
+  cause = search rules;
+}
 
-pub returns-in_err-add_command-clause-adds : goal.returns-in_err-add_command-clause-adds
-returns-in_err-add_command-clause-adds g c =
-    adds_stopped _ _ _ _ c.from_residual.result c.from_residual.ensures.0
-    (within_then _ _ _ c.entries.invariant.adds.within c.entries.invariant.adds.mode c.add_command.ensures.adds.within)
-
-pub returns-in_err-enter_copy-clause-same_reference : goal.returns-in_err-enter_copy-clause-same_reference
-returns-in_err-enter_copy-clause-same_reference g c = c.add_command.ensures.same_reference ∙ c.entries.invariant.same_reference
-
-pub returns-in_err-enter_copy-clause-adds : goal.returns-in_err-enter_copy-clause-adds
-returns-in_err-enter_copy-clause-adds g c =
-    adds_stopped _ _ _ _ c.from_residual-in_err-enter_copy.result c.from_residual-in_err-enter_copy.ensures.0
-    (within_then _ _ _ c.entries.invariant.adds.within c.entries.invariant.adds.mode c.add_command.ensures.adds.within)
+pub returns-in_err-enter_copy : goal.returns-in_err-enter_copy
+returns-in_err-enter_copy g c = record {
+  same_reference = c.add_command.ensures.same_reference ∙ c.entries.invariant.same_reference;
+  adds = adds_stopped _ _ _ _ c.from_residual-in_err-enter_copy.result c.from_residual-in_err-enter_copy.ensures.0 (within_then _ _ _ c.entries.invariant.adds.within c.entries.invariant.adds.mode c.add_command.ensures.adds.within);
+  cause = search rules;
+}
 
 pub returns-clause-adds : goal.returns-clause-adds
 returns-clause-adds g c =

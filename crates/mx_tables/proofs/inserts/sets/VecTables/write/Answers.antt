@@ -18,13 +18,11 @@ rows-preserved g c = record {
       (one_written g.R.Stored.kept (take c.rows.row-index c.deref-row-items.result.now) c.row-item.result _ _ _ _ c.rows.invariant.writes c.in_ok-insert.ensures.inserts);
 }
 
-pub returns-in_err-insert-clause-same_reference : goal.returns-in_err-insert-clause-same_reference
-returns-in_err-insert-clause-same_reference g c = c.insert.ensures.same_reference ∙ c.rows.invariant.same_reference
-
-pub returns-in_err-insert-clause-writes : goal.returns-in_err-insert-clause-writes
-returns-in_err-insert-clause-writes g c =
-    stops_writing _ _ _ _ c.from_residual.result c.from_residual.ensures.0
-    (within_then _ _ _ c.rows.invariant.writes.within c.rows.invariant.writes.mode c.insert.ensures.inserts.within)
+pub returns-in_err-insert : goal.returns-in_err-insert
+returns-in_err-insert g c = record {
+  same_reference = c.insert.ensures.same_reference ∙ c.rows.invariant.same_reference;
+  writes = stops_writing _ _ _ _ c.from_residual.result c.from_residual.ensures.0 (within_then _ _ _ c.rows.invariant.writes.within c.rows.invariant.writes.mode c.insert.ensures.inserts.within);
+}
 
 pub returns-clause-writes : goal.returns-clause-writes
 returns-clause-writes g c =
