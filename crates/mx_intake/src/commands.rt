@@ -2,9 +2,8 @@
 ghost use Rattle.std.specs.Prelude.{◌≡◌, ◌≢◌, Ok, Err, IfOk, IfErr, option_map};
 ghost use Rattle.serde_json.specs.View.{view};
 ghost use Rattle.mx_intake.specs.declared.fault.TheConstants.{MEMORY};
-ghost use Rattle.mx_intake.specs.Form.{entry_of, entry_by_form};
+ghost use Rattle.mx_intake.specs.Form.{entry_of};
 ghost use Rattle.mx_intake.specs.Forms.{stated_aircraft, stated_aircraft_with, aircraft_form, stated_component, stated_use, component_form, stated_opening, opening_form, stated_fitting, fitting_form, stated_removal, removal_form, stated_deferral, deferral_form, stated_extension, extension_form};
-ghost use Rattle.mx_intake.specs.Object.{lacks_key, has_other_key};
 ghost use Rattle.mx_intake.specs.Release.{lacks_release_key, has_other_release_key, release_keys_exclude, stated_release, stated_release_with, release_form};
 
 use crate::category::{category_at, lacks_days, states_other_days};
@@ -81,6 +80,7 @@ pub(crate) fn aircraft(alloc: Global, object: &Value) -> Result<Command, u8>
     command_by_form(alloc, lacks, stated, has_other)
 }
 
+// The component that an object states, where every value can be read.
 fn component_of(object: &Value) -> Option<(Doc, Body)>
     ensures { option_map entry_of result ≡ stated_component (view object.now) }
 {
@@ -106,6 +106,7 @@ pub(crate) fn component(alloc: Global, object: &Value) -> Result<Command, u8>
     command_by_keys(alloc, object, &keys, component_of(object))
 }
 
+// The opening that an object states, where every value can be read.
 fn opening_of(object: &Value) -> Option<(Doc, Body)>
     ensures { option_map entry_of result ≡ stated_opening (view object.now) }
 {
@@ -135,6 +136,7 @@ pub(crate) fn opening(alloc: Global, object: &Value) -> Result<Command, u8>
     command_if_keys_agree(alloc, lacks, opening_of(object), has_other, names_two)
 }
 
+// The fitting that an object states, where every value can be read.
 fn fitting_of(object: &Value) -> Option<(Doc, Body)>
     ensures { option_map entry_of result ≡ stated_fitting (view object.now) }
 {
@@ -157,6 +159,7 @@ pub(crate) fn fitting(alloc: Global, object: &Value) -> Result<Command, u8>
     command_by_keys(alloc, object, &keys, fitting_of(object))
 }
 
+// The removal that an object states, where every value can be read.
 fn removal_of(object: &Value) -> Option<(Doc, Body)>
     ensures { option_map entry_of result ≡ stated_removal (view object.now) }
 {
@@ -177,6 +180,7 @@ pub(crate) fn removal(alloc: Global, object: &Value) -> Result<Command, u8>
     command_by_keys(alloc, object, &keys, removal_of(object))
 }
 
+// The deferral that an object states, where every value can be read.
 fn deferral_of(object: &Value) -> Option<(Doc, Body)>
     ensures { option_map entry_of result ≡ stated_deferral (view object.now) }
 {
@@ -211,6 +215,7 @@ pub(crate) fn deferral(alloc: Global, object: &Value) -> Result<Command, u8>
     command_if_keys_agree(alloc, lacks, deferral_of(object), has_other, exclude)
 }
 
+// The extension that an object states, where every value can be read.
 fn extension_of(object: &Value) -> Option<(Doc, Body)>
     ensures { option_map entry_of result ≡ stated_extension (view object.now) }
 {

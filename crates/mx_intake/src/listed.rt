@@ -37,6 +37,7 @@ pub(crate) trait Listed: Sized + Drop {
         ensures { result ≡ stated (view value.now) };
 }
 
+// What each of some values states, where each can be read.
 fn all_of<T: Listed>(alloc: Global, values: &[Value]) -> Result<Option<Vec<T>>, AllocError>
     ensures { IfOk result (λ r. option_map (λ v. v.items) r
         ≡ stated_all T.stated (items_view values.now)) }

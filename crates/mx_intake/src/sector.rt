@@ -27,6 +27,7 @@ fn stated(object: &Value) -> Option<Sector>
     })
 }
 
+// What a sector says, as the body of a command.
 fn body_of_sector(sector: Sector) -> Body
     ensures { act_of result ≡ Flown sector }
 {

@@ -24,8 +24,8 @@ lives : map life_lines (
     life_of (record { minutes = 60090; cycles = 801 }) []
     ∷ life_of (record { minutes = 60090; cycles = 801 }) (record { position = codes "ENG"; serial = codes "E2"; part = codes "IO360"; life = record { minutes = 1000; cycles = 100 } } ∷ [])
     ∷ life_of (record { minutes = 59; cycles = 0 }) (
-      record { position = codes "ENG"; serial = codes "E2"; part = codes "IO360"; life = record { minutes = 60; cycles = 1 } }
-      ∷ record { position = codes "PROP"; serial = codes "P1"; part = codes "HC2"; life = record { minutes = 0; cycles = 2 } } ∷ [])
+    record { position = codes "ENG"; serial = codes "E2"; part = codes "IO360"; life = record { minutes = 60; cycles = 1 } }
+    ∷ record { position = codes "PROP"; serial = codes "P1"; part = codes "HC2"; life = record { minutes = 0; cycles = 2 } } ∷ [])
     ∷ [])
     ≡ codes "life D-ABCD\nairframe C172 1001:30 801\nend 1\n"
     ∷ codes "life D-ABCD\nairframe C172 1001:30 801\npart ENG E2 IO360 16:40 100\nend 2\n"

@@ -1,6 +1,6 @@
 //! The texts of lists: of a life list, of what is due, of limits, and of a forecast.
 ghost use Rattle.std.specs.Prelude.{◌≡◌, ◌++◌, [], ◌∷◌, codes, OnOk, OnErr, unsigned_abs};
-ghost use Rattle.std.specs.Fmt.{decimal, signed_decimal};
+ghost use Rattle.std.specs.Fmt.{decimal};
 ghost use Rattle.std.specs.List.{flat_map};
 ghost use Rattle.mx_base.specs.Texts.{day_number_text};
 ghost use Rattle.mx_reports.specs.DefectText.{defect_words, until_line};

@@ -2,7 +2,7 @@
 //! behind it.
 ghost use Rattle.std.specs.Prelude.{◌≡◌, ◌++◌, [], ◌∷◌, OnOk, OnErr};
 ghost use Rattle.std.specs.Fmt.{decimal, signed_decimal};
-ghost use Rattle.mx_base.specs.Texts.{day_text, hours_text, moment_text};
+ghost use Rattle.mx_base.specs.Texts.{day_text, moment_text};
 ghost use Rattle.mx_reports.specs.Words.{spaced, status_word, use_words, end_line, StartsWith};
 
 use itoa::Buffer;
