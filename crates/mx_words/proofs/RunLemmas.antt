@@ -1,5 +1,5 @@
 -- What the status that words end with says of how they ended.
-use Rattle.std.proofs.Common.{rules, arith, ◌≡◌, ◌<◌, ◌≤◌, ◌⊎◌, inl, inr, refl, ◌∙◌, ap, subst, ℕ, Bool, true, false, List, [], ◌++◌, Option, Some, None, Result, Ok, Err, IfOk, IfErr}
+use Rattle.std.proofs.Common.{rules, arith, sym, ◌≡◌, ◌<◌, ◌≤◌, ◌⊎◌, inl, inr, refl, ◌∙◌, ap, subst, ℕ, Bool, true, false, List, [], ◌++◌, Option, Some, None, Result, Ok, Err, IfOk, IfErr}
 use Rattle.std.specs.Io.KnownBytes.{Appends, Keeps}
 use Rattle.std.specs.Prelude.{max}
 use Rattle.mx_faults.specs.declared.moving.MoveFault.{MoveFault}
@@ -13,7 +13,7 @@ use Rattle.mx_words.specs.command_line.Job.{Job}
 use Rattle.mx_output.specs.endings.Status.{LeavesUnread, Shows, done_status, move_status, stop_status}
 
 -- what was printed in part alone has a status of 4 or more
-pub whole_of : (whole : Bool) (status done : ℕ) → (whole ≡ false → status ≡ max done 4) → status < 4 → whole ≡ true
+whole_of : (whole : Bool) (status done : ℕ) → (whole ≡ false → status ≡ max done 4) → status < 4 → whole ≡ true
 whole_of true status done h e = refl
 whole_of false status done h e = let m = h refl in absurd (omega (arith, m, e))
 
@@ -39,7 +39,7 @@ stop_is_grave (Office fault) = omega (arith)
 stop_is_grave Print = omega (arith)
 
 -- with status 0 all was done
-pub all_of : (done : Result Ending Stop) → done_status done ≡ 0 → done ≡ Ok Done
+all_of : (done : Result Ending Stop) → done_status done ≡ 0 → done ≡ Ok Done
 all_of (Ok Done) h = refl
 all_of (Ok Refused) h = (cc)
 all_of (Ok Bad) h = (cc)
@@ -47,7 +47,7 @@ all_of (Ok Differs) h = (cc)
 all_of (Err stop) h = let grave = stop_is_grave stop in absurd (omega (arith, grave, h))
 
 -- with status 1 something was refused
-pub refusal_of : (done : Result Ending Stop) → done_status done ≡ 1 → done ≡ Ok Refused
+refusal_of : (done : Result Ending Stop) → done_status done ≡ 1 → done ≡ Ok Refused
 refusal_of (Ok Done) h = (cc)
 refusal_of (Ok Refused) h = refl
 refusal_of (Ok Bad) h = (cc)
@@ -60,7 +60,7 @@ ended_by P ending (Ok found) h e = let same : found ≡ ending = cc in subst P s
 ended_by P ending (Err stop) h e = (cc)
 
 -- what was asked for was done, ending so, and its text printed
-pub ended_so : (asked : Option Job) (ending : Ending) (old new : Option (List ℕ)) (done : Result Ending Stop) (before after shown : List ℕ)
+ended_so : (asked : Option Job) (ending : Ending) (old new : Option (List ℕ)) (done : Result Ending Stop) (before after shown : List ℕ)
     → before ≡ [] → shown ≡ after → Appends old new shown
     → IfOk done (λ ending. (job : Job) × (asked ≡ Some job) × Shows (IsDone job) before after ending)
     → done ≡ Ok ending → IsEnded asked ending old new
@@ -76,7 +76,7 @@ kept (Some xs) None h = h
 kept (Some xs) (Some ys) h = search rules
 
 -- with status 2 nothing was printed
-pub unprinted_of : (old new : Option (List ℕ)) (done : Result Ending Stop) (before after shown : List ℕ)
+unprinted_of : (old new : Option (List ℕ)) (done : Result Ending Stop) (before after shown : List ℕ)
     → before ≡ [] → shown ≡ after → Appends old new shown → IfErr done (λ stop. stop_status stop ≡ 2 → after ≡ before)
     → done_status done ≡ 2 → Keeps old new
 unprinted_of old new (Ok Done) before after shown b s a err two = absurd (cc)
@@ -86,7 +86,7 @@ unprinted_of old new (Ok Differs) before after shown b s a err two = absurd (cc)
 unprinted_of old new (Err stop) before after shown b s a err two = kept old new (subst (λ (x : List ℕ). Appends old new x) (s ∙ err two ∙ b) a)
 
 -- with status 3 the input gave nothing and nothing was printed, or a row was bad and the lines of the rows were
-pub bad_or_unread : (asked : Option Job) (old new : Option (List ℕ)) (done : Result Ending Stop) (before after shown : List ℕ)
+bad_or_unread : (asked : Option Job) (old new : Option (List ℕ)) (done : Result Ending Stop) (before after shown : List ℕ)
     → before ≡ [] → shown ≡ after → Appends old new shown
     → IfOk done (λ ending. (job : Job) × (asked ≡ Some job) × Shows (IsDone job) before after ending)
     → IfErr done (LeavesUnread before after)
@@ -96,3 +96,28 @@ bad_or_unread asked old new (Ok Refused) before after shown b s a ok err three =
 bad_or_unread asked old new (Ok Differs) before after shown b s a ok err three = absurd (cc)
 bad_or_unread asked old new (Ok Bad) before after shown b s a ok err three = inr (ended_so asked Bad old new (Ok Bad) before after shown b s a ok refl)
 bad_or_unread asked old new (Err stop) before after shown b s a ok err three = inl (kept old new (subst (λ (x : List ℕ). Appends old new x) (s ∙ err three ∙ b) a))
+
+-- how a word ended, by its status
+pub record Ends (asked : Option Job) (old new : Option (List ℕ)) (status : ℕ) : Type 0 where
+  pub done : status ≡ 0 → IsEnded asked Done old new
+  pub refused : status ≡ 1 → IsEnded asked Refused old new
+  pub unprinted : status ≡ 2 → Keeps old new
+  pub unread : status ≡ 3 → Keeps old new ⊎ IsEnded asked Bad old new
+
+-- what was done and printed says so
+pub ends : (asked : Option Job) (old new : Option (List ℕ)) (done : Result Ending Stop) (whole : Bool) (status : ℕ) (before after shown : List ℕ)
+    → (whole ≡ true → status ≡ done_status done) → (whole ≡ true → Appends old new shown) → (whole ≡ false → status ≡ max (done_status done) 4)
+    → before ≡ [] → shown ≡ after
+    → IfOk done (λ ending. (job : Job) × (asked ≡ Some job) × Shows (IsDone job) before after ending)
+    → IfErr done (λ stop. stop_status stop ≡ 2 → after ≡ before) → IfErr done (LeavesUnread before after)
+    → Ends asked old new status
+ends asked old new done whole status before after shown told printed cut b s ok err unread =
+    let all : status < 4 → whole ≡ true = whole_of whole status (done_status done) cut in
+    let by : (n : ℕ) → n < 4 → status ≡ n → (done_status done ≡ n) × Appends old new shown =
+    λ n few is. (sym (told (all (omega (arith, few, is)))) ∙ is, printed (all (omega (arith, few, is)))) in
+    record {
+      done = λ is. let p = by 0 (omega arith) is in ended_so asked Done old new done before after shown b s p.1 ok (all_of done p.0);
+      refused = λ is. let p = by 1 (omega arith) is in ended_so asked Refused old new done before after shown b s p.1 ok (refusal_of done p.0);
+      unprinted = λ is. let p = by 2 (omega arith) is in unprinted_of old new done before after shown b s p.1 err p.0;
+      unread = λ is. let p = by 3 (omega arith) is in bad_or_unread asked old new done before after shown b s p.1 ok unread p.0;
+    }
