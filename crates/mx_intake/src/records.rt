@@ -36,13 +36,12 @@ pub(crate) fn first_records(
         .flexible(true)
         .from_reader(alloc, bytes);
     let mut rows = Vec::new(alloc);
-    for row in reader.into_byte_records() {
-        match row {
-            Ok(row) => rows.push(row).map_err(AllocError::from)?,
-            Err(error) => return Err(fault_of(&error)),
-        }
-        if rows.len() == wanted {
-            return Ok(rows);
+    let mut records = reader.into_byte_records();
+    'rows: while rows.len() < wanted {
+        match records.next() {
+            None => return Ok(rows),
+            Some(Err(error)) => return Err(fault_of(&error)),
+            Some(Ok(row)) => rows.push(row).map_err(AllocError::from)?,
         }
     }
     Ok(rows)

@@ -8,16 +8,15 @@ use Rattle.csv.proofs.ReadFacts.{rows-end, rows-more}
 use Rattle.mx_intake.proofs.RecordsLemmas.{are_first_records, were_first}
 use Rattle.mx_intake.proofs.records.first_records.Goals as goal
 
-pub loop-row-init : goal.loop-row-init
+pub rows-init : goal.rows-init
 unfolding Reached
-loop-row-init c =
+rows-init c =
     let fr = c.from_reader-reader.ensures in
     let e = c.has_headers.ensures in
     let f = c.flexible.ensures in
-    let start = c.into_iter-row-iterator.ensures.into_iter_gives in
-    let rdr = c.into_byte_records-row-items.ensures.rdr in
-    let left = c.into_byte_records-row-items.ensures.left in
-    rw (start, rdr, c.new-rows.ensures.items) (
+    let rdr = c.into_byte_records-records.ensures.rdr in
+    let left = c.into_byte_records-records.ensures.left in
+    rw (rdr, c.new-rows.ensures.items) (
       rw (f, e) at fr.trim ∙ c.new.ensures.trim,
       inr (inr (rw (f, e) at fr.has_headers, fr.headers)),
       left,
@@ -29,33 +28,27 @@ loop-row-init c =
       (sym fr.state, refl),
     )
 
-pub loop-row-preserved : goal.loop-row-preserved
-loop-row-preserved c =
-    let inv = c.loop-row.invariant in
-    let all = rw (c.in-Some.is, c.in-Ok.is) at (c.next.ensures.steps inv.2 inv.0) in
+pub rows-preserved : goal.rows-preserved
+rows-preserved c =
+    let inv = c.rows.invariant in
+    let all = rw (c.in-Some-Ok.is, c.in-Some-Ok.field-0-is) at (c.next.ensures.steps inv.2 inv.0) in
     let s = all.0 inv.1 in
     let good : is_ok c.push.result ≡ true = search rules in
     let items = rw good at c.push.ensures.items in
-    let m = rows-more (λ (s : Bor (List ℕ)). Some s.now) c.loop-row.row-iterator.rdr c.next.new.self.rdr (fields_of c.in-Ok.row) default_config st.StartRecord (strip_bom c.args.bytes.now) inv.6 (map fields_of c.loop-row.rows.items) inv.3 inv.7 inv.8 s.0 in
-    (s.0.3 ∙ inv.0, inl s.1, s.2, s.0.2 ∙ inv.3, all.3 ∙ inv.4, search (rules, arith), m.0, m.1, rw (items, map-append fields_of c.loop-row.rows.items (c.in-Ok.row ∷ [])) m.2)
+    let m = rows-more (λ (s : Bor (List ℕ)). Some s.now) c.rows.records.rdr c.next.new.self.rdr (fields_of c.in-Some-Ok.row) default_config st.StartRecord (strip_bom c.args.bytes.now) inv.6 (map fields_of c.rows.rows.items) inv.3 inv.7 inv.8 s.0 in
+    (s.0.3 ∙ inv.0, inl s.1, s.2, s.0.2 ∙ inv.3, all.3 ∙ inv.4, search (rules, arith), m.0, m.1, rw (items, map-append fields_of c.rows.rows.items (c.in-Some-Ok.row ∷ [])) m.2)
 
-pub returns-clause-ok : goal.returns-clause-ok
-returns-clause-ok c =
-    let inv = c.loop-row.invariant in
+pub returns-in-None-clause-ok : goal.returns-in-None-clause-ok
+returns-in-None-clause-ok c =
+    let inv = c.rows.invariant in
     let s = rw c.in-None.is at ((c.next.ensures.steps inv.2 inv.0).0 inv.1) in
-    let few : length (map fields_of c.loop-row.rows.items) ≤ c.args.wanted = omega (arith, inv.5, length-map c.loop-row.rows.items fields_of) in
-    are_first_records default_config (strip_bom c.args.bytes.now) (map fields_of c.loop-row.rows.items) c.args.wanted few
-    (c.loop-row.row-iterator.rdr.state, inv.6, inv.8, rows-end (λ (s : Bor (List ℕ)). Some s.now) c.loop-row.row-iterator.rdr c.next.new.self.rdr [] default_config inv.6 inv.3 inv.7 s)
+    let few : length (map fields_of c.rows.rows.items) ≤ c.args.wanted = omega (arith, inv.5, length-map c.rows.rows.items fields_of) in
+    are_first_records default_config (strip_bom c.args.bytes.now) (map fields_of c.rows.rows.items) c.args.wanted few
+    (c.rows.records.rdr.state, inv.6, inv.8, rows-end (λ (s : Bor (List ℕ)). Some s.now) c.rows.records.rdr c.next.new.self.rdr [] default_config inv.6 inv.3 inv.7 s)
 
 -- as many records were read as are wanted
-pub returns-then-len-wanted-clause-ok : goal.returns-then-len-wanted-clause-ok
-returns-then-len-wanted-clause-ok c =
-    let inv = c.loop-row.invariant in
-    let all = rw (c.in-Some.is, c.in-Ok.is) at (c.next.ensures.steps inv.2 inv.0) in
-    let s = all.0 inv.1 in
-    let good : is_ok c.push.result ≡ true = search rules in
-    let items = rw good at c.push.ensures.items in
-    let m = rows-more (λ (s : Bor (List ℕ)). Some s.now) c.loop-row.row-iterator.rdr c.next.new.self.rdr (fields_of c.in-Ok.row) default_config st.StartRecord (strip_bom c.args.bytes.now) inv.6 (map fields_of c.loop-row.rows.items) inv.3 inv.7 inv.8 s.0 in
-    let reached : Reached default_config st.StartRecord (strip_bom c.args.bytes.now) (map fields_of c.push.new.self.items) c.next.new.self.rdr.state m.0 = rw (items, map-append fields_of c.loop-row.rows.items (c.in-Ok.row ∷ [])) m.2 in
-    let wanted : length (map fields_of c.push.new.self.items) ≡ c.args.wanted = length-map c.push.new.self.items fields_of ∙ search (rules, arith) in
-    were_first default_config (strip_bom c.args.bytes.now) (map fields_of c.push.new.self.items) c.next.new.self.rdr.state m.0 reached ∙ rw wanted refl
+pub returns-clause-ok : goal.returns-clause-ok
+returns-clause-ok c =
+    let inv = c.rows.invariant in
+    let wanted : length (map fields_of c.rows.rows.items) ≡ c.args.wanted = omega (arith, inv.5, length-map c.rows.rows.items fields_of) in
+    were_first default_config (strip_bom c.args.bytes.now) (map fields_of c.rows.rows.items) c.rows.records.rdr.state inv.6 inv.8 ∙ rw wanted refl
