@@ -1,5 +1,5 @@
 -- Tests that all of a list pass: what is found in it.
-use Rattle.std.proofs.Common.{rules, ◌≡◌, ◌∙◌, ◌<◌, ℕ, refl, sym, subst, ap, List, [], ◌∷◌, Bool, true, false, cond, ◌&&◌, Option, Some, IfSome, get_or, length}
+use Rattle.std.proofs.Common.{rules, ◌≡◌, ◌∙◌, ◌<◌, ℕ, sym, subst, ap, List, [], ◌∷◌, Bool, true, false, cond, Option, Some, IfSome, get_or, length}
 use Rattle.std.specs.Prelude.{find}
 use Rattle.std.specs.List.{list_all}
 use Rattle.std.proofs.lemmas.List.Folds.{list_all_at}

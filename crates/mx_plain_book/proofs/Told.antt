@@ -1,5 +1,5 @@
 -- What is told of a book where memory suffices.
-use Rattle.std.proofs.Common.{◌≡◌, ◌∙◌, refl, ap, subst, List, [], ◌++◌, append_assoc}
+use Rattle.std.proofs.Common.{◌≡◌, refl, subst, List}
 use Rattle.std.specs.Prelude.{Result, Ok, Err, IfOk}
 use Rattle.std.specs.declared.convert.Infallible.{Infallible}
 use Rattle.mx_book.specs.commands.Act.{Entry}

@@ -1,5 +1,5 @@
 -- The numbers of a limit are small.
-use Rattle.std.proofs.Common.{rules, ◌≡◌, ◌≤◌, refl, ℕ, Bool, true, false, ◌&&◌, not, ◌||◌, Option, Some, None, IfSome}
+use Rattle.std.proofs.Common.{rules, ◌≡◌, ◌≤◌, ℕ, true, ◌&&◌, not, ◌||◌, Option, Some, None, IfSome}
 use Rattle.std.specs.Option.{option_map_or}
 use Rattle.mx_base.specs.declared.amounts.Limit.{Limit}
 use Rattle.mx_book.specs.commands.Programme.{is_limited, has_dimension, limit_shape, tolerance_shape, is_done_once, task_shape}

@@ -1,11 +1,11 @@
 -- What a book names is in it.
-use Rattle.std.proofs.Common.{refl, sym, subst, ap, ◌∙◌, ◌≡◌, ℕ, List, [], ◌∷◌, ◌++◌, Bool, true, false, cond, ◌&&◌, Option, Some, None}
-use Rattle.std.specs.Prelude.{find, filter, is_none, is_some, map}
+use Rattle.std.proofs.Common.{refl, sym, subst, ap, ◌∙◌, ◌≡◌, ℕ, List, [], ◌∷◌, ◌++◌, Bool, true, false, cond, Option, Some, None}
+use Rattle.std.specs.Prelude.{find, filter, is_some, map}
 use Rattle.std.specs.List.{list_any, cons_option, AllByRecursion}
 use Rattle.std.specs.Option.{option_or}
 use Rattle.std.proofs.lemmas.List.Elements.{filter_map-append}
 use Rattle.std.proofs.lemmas.List.Folds.{find-append}
-use Rattle.mx_book.specs.commands.Act.{Act, Entry, Flown, Fitted, Removed, sector_of, aircraft_of, component_of}
+use Rattle.mx_book.specs.commands.Act.{Act, Entry, Flown, Fitted, sector_of, aircraft_of, component_of}
 use Rattle.mx_book.specs.commands.Same.{same_text}
 use Rattle.mx_book.specs.declared.commands.aircraft.Aircraft.{Aircraft}
 use Rattle.mx_book.specs.declared.commands.component.Component.{Component as ComponentAdded}

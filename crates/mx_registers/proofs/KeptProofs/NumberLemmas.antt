@@ -18,7 +18,6 @@ use Rattle.mx_book.specs.Programme.{is_done}
 use Rattle.mx_registers.specs.Names.{has_item, item_at, or_zero, seq_of_item}
 use Rattle.mx_registers.proofs.NameLemmas.{item_known, item_number}
 use Rattle.mx_registers.proofs.NewLemmas.{opened_is_known}
-use Rattle.mx_base.specs.declared.rows.rows.BaseRow.{BaseRow}
 use Rattle.mx_base.specs.rows.Rows.{base_in_row, base_row_with}
 use Rattle.mx_registers.specs.kept.Bases.{base_in, base_row, base_rows, base_rows_of, is_keyed, tasks_accomplished}
 use Rattle.mx_registers.specs.kept.Items.{items}

@@ -1,8 +1,7 @@
 -- The numbers of what is at an aircraft, by the rows of the spans.
-use Rattle.std.proofs.Common.{arith, refl, sym, subst, ap, ◌∙◌, ◌≡◌, ℕ, ◌+◌, length, List, [], ◌∷◌, ◌++◌, Bool, true, false, cond, nat_eq, ◌&&◌, ◌||◌, Option, Some, None, append_assoc, append-nil}
+use Rattle.std.proofs.Common.{arith, refl, sym, subst, ap, ◌∙◌, ◌≡◌, ℕ, ◌+◌, length, List, [], ◌∷◌, ◌++◌, Bool, true, false, cond, nat_eq, ◌&&◌, ◌||◌, Option, Some, append_assoc, append-nil}
 use Rattle.std.specs.Prelude.{is_none, is_some, map, max, filter}
 use Rattle.std.specs.List.{list_any, AllByRecursion}
-use Rattle.std.specs.Option.{option_or}
 use Rattle.std.proofs.lemmas.Bool.Decides.{same_from_decides, Decides-eqb}
 use Rattle.mx_base.specs.declared.amounts.Use.{Use}
 use Rattle.mx_book.specs.commands.Act.{Act, Entry, Flown, Fitted}
@@ -12,7 +11,6 @@ use Rattle.mx_book.specs.declared.commands.item.Item.{Item}
 use Rattle.mx_book.specs.declared.commands.item.Item.TheVariants.{Airframe, Component}
 use Rattle.mx_book.specs.declared.commands.release.Place.TheVariants as places
 use Rattle.mx_book.specs.declared.commands.sector.Sector.{Sector}
-use Rattle.mx_book.proofs.CommandsProofs.SameLemmas.{text_same}
 use Rattle.mx_book.specs.declared.verdict.Verdict.TheVariants.{New}
 use Rattle.mx_book.specs.Register.{aircraft, component}
 use Rattle.mx_book.specs.Book.{IsBook, is_new, is_book_from}

@@ -9,7 +9,6 @@ use Rattle.mx_book.specs.declared.commands.item.Item.{Item}
 use Rattle.mx_book.specs.declared.commands.item.Item.TheVariants.{Airframe, Component}
 use Rattle.mx_book.specs.declared.commands.sector.Sector.{Sector}
 use Rattle.mx_book.specs.declared.verdict.Verdict.TheVariants.{New}
-use Rattle.mx_book.specs.Register.{aircraft}
 use Rattle.mx_book.specs.Book.{IsBook, is_new}
 use Rattle.mx_book.specs.Judge.{judge}
 use Rattle.mx_book.specs.Life.{clock, latest}

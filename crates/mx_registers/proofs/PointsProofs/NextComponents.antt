@@ -20,7 +20,6 @@ use Rattle.mx_base.specs.declared.rows.rows.ComponentRow.{ComponentRow}
 use Rattle.mx_base.specs.declared.rows.rows.FittingRow.{FittingRow}
 use Rattle.mx_base.specs.declared.rows.rows.RemovalRow.{RemovalRow}
 use Rattle.mx_registers.specs.Names.{seq_of_serial, or_zero}
-use Rattle.mx_base.specs.rows.Rising.{IsRising}
 use Rattle.mx_registers.specs.Registers.{gives_by, next, components_by, removals_by, component_rows, fitting_rows, removal_rows}
 use Rattle.mx_registers.proofs.NameLemmas.{serial_number}
 use Rattle.mx_registers.proofs.NewLemmas.{fitted_is_known, removed_is_known}
@@ -32,7 +31,7 @@ use Rattle.mx_registers.specs.points.Points.{next_mark, moving}
 use Rattle.mx_registers.proofs.KeptProofs.Induction.{of_each_book}
 use Rattle.mx_registers.proofs.KeptProofs.ItemNumbers.{item_at_last, serial_at_item}
 use Rattle.mx_registers.proofs.KeptProofs.KnownLemmas.{component-more, component_kept}
-use Rattle.mx_registers.proofs.PointsProofs.NextLemmas.{Apart, self, next_is_least, numbers_rise}
+use Rattle.mx_registers.proofs.PointsProofs.NextLemmas.{Apart, next_is_least, numbers_rise}
 use Rattle.mx_registers.proofs.KeptProofs.SpanRegisters.{fittings_in_spans}
 use Rattle.mx_registers.proofs.KeptProofs.SpanRows.{serial_number_kept}
 

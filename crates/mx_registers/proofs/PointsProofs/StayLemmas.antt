@@ -1,6 +1,6 @@
 -- Tables that stay: at a commit of a step those that it does not move, and all where a step begins or ends.
-use Rattle.std.proofs.Common.{arith, refl, sym, subst, ap, ◌∙◌, ◌≡◌, ℕ, ◌+◌, ◌≤◌, ◌<◌, zero, suc, length, List, [], ◌∷◌, Bool, true, false, cond, ◌&&◌, ◌||◌, Option, Some, None, take}
-use Rattle.std.specs.Prelude.{nat_le, filter, fold, map, not, is_some}
+use Rattle.std.proofs.Common.{arith, refl, sym, subst, ap, ◌∙◌, ◌≡◌, ℕ, ◌+◌, ◌≤◌, ◌<◌, suc, length, List, [], ◌∷◌, Bool, true, false, cond, ◌&&◌, ◌||◌, Option, Some, None, take}
+use Rattle.std.specs.Prelude.{nat_le, filter, map, not, is_some}
 use Rattle.std.specs.List.{AllByRecursion}
 use Rattle.std.specs.Option.{option_map_or}
 use Rattle.std.proofs.lemmas.Bool.Decides.{nat_tests}
@@ -23,17 +23,15 @@ use Rattle.mx_registers.specs.kept.Totals.{total_row, total_rows}
 use Rattle.mx_base.specs.declared.rows.rows.BaseRow.{BaseRow}
 use Rattle.mx_base.specs.declared.rows.rows.SpanRow.{SpanRow}
 use Rattle.mx_base.specs.declared.rows.rows.TotalRow.{TotalRow}
-use Rattle.mx_registers.proofs.KeptProofs.CreditLemmas.{filter_on}
 use Rattle.mx_registers.proofs.KeptProofs.DoneLemmas.{neither}
 use Rattle.mx_registers.proofs.KeptProofs.SpanRegisters.{fittings_in_spans}
 use Rattle.mx_base.specs.declared.point.Point.{Point}
-use Rattle.mx_registers.specs.points.Points.{Step, has_moved, is_on_way, is_past, is_within_step, moving, next_mark, next_point, numbers_left, numbers_of, on_to, point_after, size_of}
-use Rattle.mx_base.specs.Settled.{settled}
-use Rattle.mx_registers.specs.points.Tables.{Line, bases_2, fittings_1, is_moved_at, removals_1, rows_at, sectors_1, sectors_2, spans_2, stands_there, totals_2}
-use Rattle.mx_registers.specs.points.Moves.{AllStay, OthersStay, Stays}
+use Rattle.mx_registers.specs.points.Points.{Step, has_moved, is_past, is_within_step, next_mark, numbers_left, numbers_of, size_of}
+use Rattle.mx_registers.specs.points.Tables.{Line, bases_2, fittings_1, is_moved_at, removals_1, sectors_1, sectors_2, spans_2, stands_there, totals_2}
+use Rattle.mx_registers.specs.points.Moves.{OthersStay, Stays}
 use Rattle.mx_registers.proofs.PointsProofs.NextLemmas.{rows_of_all, self}
 use Rattle.mx_registers.proofs.PointsProofs.NextComponents.{component_has_row, fittings_of, of_number, removals_from, spans_from}
-use Rattle.mx_registers.proofs.PointsProofs.PointLemmas.{above, le_false, le_true}
+use Rattle.mx_registers.proofs.PointsProofs.PointLemmas.{above}
 use Rattle.mx_registers.proofs.PointsProofs.CommitLemmas.{last_self, numbers_rising}
 
 -- ── at a commit of a step ──

@@ -1,7 +1,7 @@
 -- The last bases of a book as rows, and what one command makes of them.
 -- A last base is of one task of one item, so its key is the number and the text, and no number alone (`base_key`). Rows
 -- of distinct keys that say the same of each key are the same rows, in whatever order (`bases_are_a_map`).
-use Rattle.std.specs.Prelude.{⊤, ◌≡◌, Bool, false, ℕ, ◌/◌, List, [], ◌∷◌, Option, Some, None, not, nat_eq, ◌&&◌, filter, find, if◌then◌else◌}
+use Rattle.std.specs.Prelude.{⊤, ◌≡◌, Bool, false, ℕ, ◌/◌, List, [], ◌∷◌, Option, Some, None, not, filter, find, if◌then◌else◌}
 use Rattle.std.specs.List.{list_any, filter_map, flat_map}
 use Rattle.std.specs.Option.{option_map}
 use Rattle.mx_base.specs.declared.amounts.Base.{Base}

@@ -1,6 +1,5 @@
 -- The points on the way from one layout to the next: how far a move has come, which tables there are, and which point comes next.
-use Rattle.std.specs.Prelude.{ℕ, ◌+◌, nat_lt, nat_le, nat_eq, List, map, filter, take, Bool, true, not, ◌&&◌, ◌||◌, Option, Some, None, if◌then◌else◌}
-use Rattle.std.specs.Option.{option_map_or}
+use Rattle.std.specs.Prelude.{ℕ, ◌+◌, nat_lt, nat_le, nat_eq, List, map, filter, take, Bool, not, ◌&&◌, ◌||◌, Option, Some, None, if◌then◌else◌}
 use Rattle.mx_book.specs.commands.Act.{Entry}
 use Rattle.mx_book.specs.Programme.{last_of}
 use Rattle.mx_book.specs.declared.limits.TheConstants.{MOST_ENTRIES}

@@ -1,4 +1,4 @@
-use Rattle.std.proofs.Common.{◌∙◌, get_or, length, ◌++◌, [], ◌∷◌, take, map, All, sym, subst, ap}
+use Rattle.std.proofs.Common.{◌∙◌, get_or, ◌++◌, [], ◌∷◌, take, map, All, sym, subst, ap}
 use Rattle.std.proofs.lemmas.List.{map-append, take_more}
 use Rattle.std.proofs.lemmas.List.Elements.{All-append, All-cons, All-nil}
 use Rattle.mx_base.specs.rows.Rows.{FitsSpan}

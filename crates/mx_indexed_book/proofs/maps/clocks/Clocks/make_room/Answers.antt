@@ -1,7 +1,6 @@
 use Rattle.std.specs.Ordering.{nat_cmp}
 use Rattle.std.specs.Cmp.Lexicographic.{slice_cmp}
 use Rattle.std.proofs.lemmas.Map.Lookups.{exact_bytes}
-use Rattle.mx_indexed_book.specs.maps.Clocks.{airframe_clock, component_clock}
 use Rattle.mx_indexed_book.proofs.MapsProofs.MapLemmas.{stays}
 use Rattle.mx_indexed_book.proofs.maps.clocks.Clocks.make_room.Goals as goal
 

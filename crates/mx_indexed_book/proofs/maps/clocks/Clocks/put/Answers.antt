@@ -1,7 +1,6 @@
-use Rattle.std.proofs.Common.{ap, [], ◌∷◌, ◌++◌}
+use Rattle.std.proofs.Common.{ap}
 use Rattle.std.specs.Ordering.{nat_cmp}
 use Rattle.std.specs.Cmp.Lexicographic.{slice_cmp}
-use Rattle.mx_indexed_book.specs.maps.Clocks.{airframe_clock, clocks_changed, component_clock}
 use Rattle.mx_indexed_book.specs.declared.maps.clocks.ClockChanges.{ClockChanges}
 use Rattle.mx_indexed_book.proofs.MapsProofs.MapLemmas.{moves}
 use Rattle.mx_indexed_book.proofs.MapsProofs.ClockLemmas.{airframe_moves, component_moves}

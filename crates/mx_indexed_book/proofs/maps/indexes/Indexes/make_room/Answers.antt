@@ -3,8 +3,6 @@ use Rattle.std.specs.Ordering.{nat_cmp}
 use Rattle.std.specs.Cmp.Lexicographic.{slice_cmp}
 use Rattle.std.proofs.lemmas.Map.Lookups.{exact_bytes, exact_pairs}
 use Rattle.mx_indexed_book.specs.maps.Places.{names_cmp}
-use Rattle.mx_indexed_book.specs.maps.Positions.{part_of}
-use Rattle.mx_indexed_book.specs.maps.Programmes.{last_loaded}
 use Rattle.mx_indexed_book.proofs.MapsProofs.MapLemmas.{stays}
 use Rattle.mx_indexed_book.proofs.maps.indexes.Indexes.make_room.Goals as goal
 

@@ -1,9 +1,7 @@
-use Rattle.std.proofs.Common.{[], ◌∷◌, ◌++◌, None}
+use Rattle.std.proofs.Common.{None}
 use Rattle.std.specs.Ordering.{nat_cmp}
 use Rattle.std.specs.Cmp.Lexicographic.{slice_cmp}
 use Rattle.mx_indexed_book.specs.maps.Places.{names_cmp}
-use Rattle.mx_indexed_book.specs.maps.Positions.{part_of, parts_given}
-use Rattle.mx_indexed_book.specs.maps.Programmes.{last_loaded, programme_changed}
 use Rattle.mx_indexed_book.proofs.MapsProofs.MapLemmas.{moves}
 use Rattle.mx_indexed_book.proofs.MapsProofs.PositionLemmas.{part_moves}
 use Rattle.mx_indexed_book.proofs.MapsProofs.ProgrammeLemmas.{programme_moves}

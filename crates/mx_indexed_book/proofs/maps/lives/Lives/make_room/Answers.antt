@@ -2,7 +2,6 @@ use Rattle.std.proofs.Common.{None}
 use Rattle.std.specs.Ordering.{nat_cmp}
 use Rattle.std.specs.Cmp.Lexicographic.{slice_cmp}
 use Rattle.std.proofs.lemmas.Map.Lookups.{exact_bytes}
-use Rattle.mx_indexed_book.specs.maps.Lives.{airframe_life, lead}
 use Rattle.mx_indexed_book.proofs.MapsProofs.MapLemmas.{stays}
 use Rattle.mx_indexed_book.proofs.maps.lives.Lives.make_room.Goals as goal
 

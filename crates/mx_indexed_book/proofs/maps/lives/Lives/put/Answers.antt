@@ -1,7 +1,6 @@
-use Rattle.std.proofs.Common.{ap, [], ◌∷◌, ◌++◌, None}
+use Rattle.std.proofs.Common.{ap, None}
 use Rattle.std.specs.Ordering.{nat_cmp}
 use Rattle.std.specs.Cmp.Lexicographic.{slice_cmp}
-use Rattle.mx_indexed_book.specs.maps.Lives.{airframe_life, lead, lives_changed}
 use Rattle.mx_indexed_book.specs.declared.maps.lives.LifeChanges.{LifeChanges}
 use Rattle.mx_indexed_book.proofs.MapsProofs.MapLemmas.{moves}
 use Rattle.mx_indexed_book.proofs.MapsProofs.LifeLemmas.{airframe_moves, lead_moves}

@@ -2,7 +2,7 @@ use Rattle.std.proofs.Common.{false, None}
 use Rattle.std.specs.Ordering.{nat_cmp}
 use Rattle.std.specs.Cmp.Lexicographic.{slice_cmp}
 use Rattle.std.proofs.lemmas.Map.Lookups.{exact_bytes, exact_pairs}
-use Rattle.mx_indexed_book.specs.maps.Places.{has_component, names_cmp, place_of}
+use Rattle.mx_indexed_book.specs.maps.Places.{names_cmp}
 use Rattle.mx_indexed_book.proofs.MapsProofs.MapLemmas.{stays}
 use Rattle.mx_indexed_book.proofs.maps.places.Places.make_room.Goals as goal
 

@@ -1,7 +1,7 @@
-use Rattle.std.proofs.Common.{ap, [], ◌∷◌, ◌++◌, false, None}
+use Rattle.std.proofs.Common.{ap, false, None}
 use Rattle.std.specs.Ordering.{nat_cmp}
 use Rattle.std.specs.Cmp.Lexicographic.{slice_cmp}
-use Rattle.mx_indexed_book.specs.maps.Places.{has_component, names_cmp, place_of, places_changed}
+use Rattle.mx_indexed_book.specs.maps.Places.{names_cmp}
 use Rattle.mx_indexed_book.specs.declared.maps.places.PlaceChanges.{PlaceChanges}
 use Rattle.mx_indexed_book.proofs.MapsProofs.MapLemmas.{moves}
 use Rattle.mx_indexed_book.proofs.MapsProofs.PlaceLemmas.{component_moves, place_moves}

@@ -2,9 +2,6 @@ use Rattle.std.proofs.Common.{None}
 use Rattle.std.specs.Ordering.{nat_cmp}
 use Rattle.std.specs.Cmp.Lexicographic.{slice_cmp}
 use Rattle.std.proofs.lemmas.Map.Lookups.{exact_bytes}
-use Rattle.mx_book.specs.Defect.{defect, extension}
-use Rattle.mx_book.specs.Register.{aircraft, component}
-use Rattle.mx_indexed_book.specs.maps.Registers.{number_of}
 use Rattle.mx_indexed_book.proofs.MapsProofs.MapLemmas.{stays}
 use Rattle.mx_indexed_book.proofs.maps.registers.Registers.make_room.Goals as goal
 

@@ -1,9 +1,6 @@
-use Rattle.std.proofs.Common.{ap, [], ◌∷◌, ◌++◌, None}
+use Rattle.std.proofs.Common.{ap, None}
 use Rattle.std.specs.Ordering.{nat_cmp}
 use Rattle.std.specs.Cmp.Lexicographic.{slice_cmp}
-use Rattle.mx_book.specs.Defect.{defect, extension}
-use Rattle.mx_book.specs.Register.{aircraft, component}
-use Rattle.mx_indexed_book.specs.maps.Registers.{number_of, registers_changed}
 use Rattle.mx_indexed_book.specs.declared.maps.registers.RegisterChanges.{RegisterChanges}
 use Rattle.mx_indexed_book.proofs.MapsProofs.MapLemmas.{moves}
 use Rattle.mx_indexed_book.proofs.MapsProofs.RegisterLemmas.{document_moves, aircraft_moves, component_moves, defect_moves, extension_moves}

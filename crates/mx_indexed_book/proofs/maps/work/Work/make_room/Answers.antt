@@ -2,9 +2,7 @@ use Rattle.std.proofs.Common.{None, false}
 use Rattle.std.specs.Ordering.{nat_cmp}
 use Rattle.std.specs.Cmp.Lexicographic.{slice_cmp}
 use Rattle.std.proofs.lemmas.Map.Lookups.{exact_bytes, exact_pairs}
-use Rattle.mx_book.specs.Defect.{is_rectified}
 use Rattle.mx_indexed_book.specs.maps.Places.{names_cmp}
-use Rattle.mx_indexed_book.specs.maps.Work.{airframe_base, component_base}
 use Rattle.mx_indexed_book.proofs.MapsProofs.MapLemmas.{stays}
 use Rattle.mx_indexed_book.proofs.maps.work.Work.make_room.Goals as goal
 

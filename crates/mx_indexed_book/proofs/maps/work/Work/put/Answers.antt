@@ -1,11 +1,7 @@
-use Rattle.std.proofs.Common.{[], ◌∷◌, ◌++◌, None, false}
-use Rattle.std.specs.List.{filter_map}
+use Rattle.std.proofs.Common.{None, false}
 use Rattle.std.specs.Ordering.{nat_cmp}
 use Rattle.std.specs.Cmp.Lexicographic.{slice_cmp}
-use Rattle.mx_book.specs.commands.Act.{lines_of}
-use Rattle.mx_book.specs.Defect.{is_rectified}
 use Rattle.mx_indexed_book.specs.maps.Places.{names_cmp}
-use Rattle.mx_indexed_book.specs.maps.Work.{airframe_base, airframe_task, bases_set, component_base, component_task, keyed, line_defect}
 use Rattle.mx_indexed_book.proofs.MapsProofs.WorkLemmas.{airframe_moves, bases_bounded, component_moves, moves_all, rectified_moves}
 use Rattle.mx_indexed_book.proofs.maps.work.Work.put.Goals as goal
 
