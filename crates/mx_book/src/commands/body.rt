@@ -5,6 +5,7 @@ ghost use Rattle.mx_book.specs.commands.Act.{act_of};
 use crate::commands::item::Item;
 use crate::commands::programme::Task;
 use crate::commands::release::{Line, Place};
+use crate::commands::said::Said;
 use mx_base::{
     Category, Day, Doc, Kind, MelRef, Moment, Part, Position, Serial, Tail, TaskId, Use,
 };
@@ -133,111 +134,67 @@ impl Body {
     pub fn copy(&self, alloc: Global) -> Result<Body, AllocError>
         ensures { IfOk result (λ body. act_of body ≡ act_of self.now) }
     {
-        Ok(match self {
-            Body::AddAircraft {
-                tail,
-                kind,
-                birth,
-                opening,
-                as_of,
-                positions,
-            } => Body::AddAircraft {
-                tail: *tail,
-                kind: *kind,
-                birth: *birth,
-                opening: *opening,
-                as_of: *as_of,
-                positions: Vec::from_slice(alloc, positions.as_slice())?,
+        Ok(match self.said() {
+            Said::Aircraft(aircraft, positions) => Body::AddAircraft {
+                tail: aircraft.tail,
+                kind: aircraft.kind,
+                birth: aircraft.birth,
+                opening: aircraft.opening,
+                as_of: aircraft.as_of,
+                positions: Vec::from_slice(alloc, positions)?,
             },
-            Body::AddComponent {
-                serial,
-                part,
-                birth,
-                opening,
-                as_of,
-            } => Body::AddComponent {
-                serial: *serial,
-                part: *part,
-                birth: *birth,
-                opening: *opening,
-                as_of: *as_of,
+            Said::Component(component) => Body::AddComponent {
+                serial: component.serial,
+                part: component.part,
+                birth: component.birth,
+                opening: component.opening,
+                as_of: component.as_of,
             },
-            Body::LoadProgramme {
-                kind,
-                revision,
-                tasks,
-            } => Body::LoadProgramme {
-                kind: *kind,
-                revision: *revision,
-                tasks: Vec::from_slice(alloc, tasks.as_slice())?,
+            Said::Programme(programme, tasks) => Body::LoadProgramme {
+                kind: programme.kind,
+                revision: programme.revision,
+                tasks: Vec::from_slice(alloc, tasks)?,
             },
-            Body::Opening {
-                item,
-                kind,
-                task,
-                use_then,
-                day,
-            } => Body::Opening {
-                item: *item,
-                kind: *kind,
-                task: *task,
-                use_then: *use_then,
-                day: *day,
+            Said::Opening(opening) => Body::Opening {
+                item: opening.item,
+                kind: opening.kind,
+                task: opening.task,
+                use_then: opening.use_then,
+                day: opening.day,
             },
-            Body::Sector {
-                tail,
-                page,
-                line,
-                off,
-                on,
-                cycles,
-            } => Body::Sector {
-                tail: *tail,
-                page: *page,
-                line: *line,
-                off: *off,
-                on: *on,
-                cycles: *cycles,
+            Said::Sector(sector) => Body::Sector {
+                tail: sector.tail,
+                page: sector.page,
+                line: sector.line,
+                off: sector.off,
+                on: sector.on,
+                cycles: sector.cycles,
             },
-            Body::Fit {
-                serial,
-                tail,
-                position,
-                moment,
-            } => Body::Fit {
-                serial: *serial,
-                tail: *tail,
-                position: *position,
-                moment: *moment,
+            Said::Fitting(fitting) => Body::Fit {
+                serial: fitting.serial,
+                tail: fitting.tail,
+                position: fitting.position,
+                moment: fitting.moment,
             },
-            Body::Remove { serial, moment } => Body::Remove {
-                serial: *serial,
-                moment: *moment,
+            Said::Removal(removal) => Body::Remove {
+                serial: removal.serial,
+                moment: removal.moment,
             },
-            Body::Release {
-                place,
-                moment,
-                lines,
-            } => Body::Release {
-                place: *place,
-                moment: *moment,
-                lines: Vec::from_slice(alloc, lines.as_slice())?,
+            Said::Release(release, lines) => Body::Release {
+                place: release.place,
+                moment: release.moment,
+                lines: Vec::from_slice(alloc, lines)?,
             },
-            Body::Defer {
-                tail,
-                moment,
-                reference,
-                category,
-            } => Body::Defer {
-                tail: *tail,
-                moment: *moment,
-                reference: *reference,
-                category: *category,
+            Said::Deferral(deferral) => Body::Defer {
+                tail: deferral.tail,
+                moment: deferral.moment,
+                reference: deferral.reference,
+                category: deferral.category,
             },
-            Body::Extend { defect, day, days } => Body::Extend {
-                defect: *defect,
-                day: *day,
-                days: *days,
+            Said::Extension(extension) => Body::Extend {
+                defect: extension.defect,
+                day: extension.day,
+                days: extension.days,
             },
         })
     }
