@@ -6,7 +6,7 @@ ghost use Rattle.mx_book.specs.commands.Bounds.{are_distinct, within};
 ghost use Rattle.mx_book.specs.commands.Shape.{act_shape, category_shape, opening_shape, positions_shape, same_name, use_shape};
 
 use crate::commands::body::Body;
-use crate::commands::programme::Programme;
+use crate::commands::said::Said;
 use mx_base::{Category, Day, Moment, Part, Position, Use, day_of};
 
 /// The most flight minutes that an item may bring with it.
@@ -44,54 +44,28 @@ impl Body {
     pub fn has_shape(&self) -> bool
         ensures { result ≡ act_shape (act_of self.now) }
     {
-        match self {
-            Body::AddAircraft {
-                birth,
-                opening,
-                as_of,
-                positions,
-                ..
-            } => {
-                has_opening_shape(*birth, opening, *as_of)
-                    && have_positions_shape(positions.as_slice())
+        match self.said() {
+            Said::Aircraft(aircraft, positions) => {
+                has_opening_shape(aircraft.birth, &aircraft.opening, aircraft.as_of)
+                    && have_positions_shape(positions)
             }
-            Body::AddComponent {
-                birth,
-                opening,
-                as_of,
-                ..
-            } => has_opening_shape(*birth, opening, *as_of),
-            Body::LoadProgramme {
-                kind,
-                revision,
-                tasks,
-            } => {
-                let programme = Programme {
-                    kind: *kind,
-                    revision: *revision,
-                };
-                programme.has_shape(tasks.as_slice())
+            Said::Component(component) => {
+                has_opening_shape(component.birth, &component.opening, component.as_of)
             }
-            Body::Opening { use_then, .. } => has_use_shape(use_then),
-            Body::Sector {
-                page,
-                line,
-                off,
-                on,
-                cycles,
-                ..
-            } => {
-                let earliest = off.number() + 1;
-                let latest = off.number() + MOST_SECTOR_MINUTES;
-                is_within(1, LAST_PAGE, *page)
-                    && is_within(1, LAST_LINE, *line)
-                    && is_within(earliest, latest, on.number())
-                    && is_within(1, MOST_SECTOR_CYCLES, *cycles)
+            Said::Programme(programme, tasks) => programme.has_shape(tasks),
+            Said::Opening(opening) => has_use_shape(&opening.use_then),
+            Said::Sector(sector) => {
+                let earliest = sector.off.number() + 1;
+                let latest = sector.off.number() + MOST_SECTOR_MINUTES;
+                is_within(1, LAST_PAGE, sector.page)
+                    && is_within(1, LAST_LINE, sector.line)
+                    && is_within(earliest, latest, sector.on.number())
+                    && is_within(1, MOST_SECTOR_CYCLES, sector.cycles)
             }
-            Body::Fit { .. } | Body::Remove { .. } => true,
-            Body::Release { lines, .. } => is_line_count(lines.len()),
-            Body::Defer { category, .. } => has_category_shape(category),
-            Body::Extend { days, .. } => is_within(1, MOST_EXTENSION_DAYS, *days),
+            Said::Fitting(_) | Said::Removal(_) => true,
+            Said::Release(_, lines) => is_line_count(lines.len()),
+            Said::Deferral(deferral) => has_category_shape(&deferral.category),
+            Said::Extension(extension) => is_within(1, MOST_EXTENSION_DAYS, extension.days),
         }
     }
 }
