@@ -1,7 +1,7 @@
 -- What a command that is new passes: each refusal, by its name.
 -- What follows of a new command cites a field of `Passes`: places in the list of refusals stand in one lemma here and
 -- nowhere else, so that a further refusal moves nothing.
-use Rattle.std.proofs.Common.{arith, refl, subst, ◌≡◌, ℕ, ◌+◌, ◌≤◌, length, List, ◌∷◌, Bool, true, false, cond, ◌||◌, Option, Some, None}
+use Rattle.std.proofs.Common.{rules, arith, refl, subst, ◌≡◌, ℕ, ◌+◌, ◌≤◌, length, List, ◌∷◌, Bool, true, false, cond, ◌||◌, Option, Some, None}
 use Rattle.std.proofs.lemmas.Bool.Decides.{nat_tests}
 use Rattle.std.specs.Prelude.{nat_le, is_some}
 use Rattle.std.specs.Option.{option_map}
@@ -84,35 +84,7 @@ passes_by book act h =
     let opening_too_late = none_first (tests.opening_too_late book act) reasons.OpeningTooLate _ other_aircraft.1 in
     let opening_too_large = none_first (tests.opening_too_large book act) reasons.OpeningTooLarge _ opening_too_late.1 in
     let repeated_line = none_first (tests.repeats_line book act) reasons.RepeatedLine _ opening_too_large.1 in
-    record {
-      full = full.0;
-      unknown_aircraft = unknown_aircraft.0;
-      unknown_component = unknown_component.0;
-      unknown_position = unknown_position.0;
-      unknown_programme = unknown_programme.0;
-      unknown_task = unknown_task.0;
-      unknown_defect = unknown_defect.0;
-      aircraft_exists = aircraft_exists.0;
-      component_exists = component_exists.0;
-      position_taken = position_taken.0;
-      already_fitted = already_fitted.0;
-      not_fitted = not_fitted.0;
-      wrong_part = wrong_part.0;
-      item_elsewhere = item_elsewhere.0;
-      task_closed = task_closed.0;
-      life_limit = life_limit.0;
-      defect_closed = defect_closed.0;
-      out_of_order = out_of_order.0;
-      not_extendable = not_extendable.0;
-      already_extended = already_extended.0;
-      extension_too_long = extension_too_long.0;
-      interval_ended = interval_ended.0;
-      wrong_revision = wrong_revision.0;
-      other_aircraft = other_aircraft.0;
-      opening_too_late = opening_too_late.0;
-      opening_too_large = opening_too_large.0;
-      repeated_line = repeated_line.0;
-    }
+    search rules
 
 -- ── of a command that is new ──
 
