@@ -27,6 +27,7 @@ pub mod plain;
 pub mod points;
 pub mod registers;
 
+pub use lines::{done_row, rectified_row};
 pub use mx_base::rows::{
     AircraftRow, BaseRow, ComponentRow, DeferralRow, EntryKind, EntryRow, ExtensionRow, FittingRow,
     OpeningRow, PlaceRow, ProgrammeRow, RegisterRows, ReleaseLineRow, ReleaseRow, RemovalRow,
@@ -34,7 +35,6 @@ pub use mx_base::rows::{
 };
 pub use names::{added_item, or_zero};
 pub use registers::{
-    aircraft_row, component_row, deferral_row, done_row, entry_row, extension_row, fitting_row,
-    opening_row, place_row, programme_row, rectified_row, release_row, removal_row, sector_row,
-    task_row,
+    aircraft_row, component_row, deferral_row, entry_row, extension_row, fitting_row, opening_row,
+    place_row, programme_row, release_row, removal_row, sector_row, task_row,
 };

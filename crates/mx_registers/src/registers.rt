@@ -1,16 +1,16 @@
 //! The rows that a command gives.
 ghost use Rattle.std.specs.Prelude.{◌≡◌, ◌<◌, ◌^◌, true, unwrap_or, IfSome};
 ghost use Rattle.mx_base.specs.Identifier.{IsIdentifier, is_graphic};
-ghost use Rattle.mx_base.specs.rows.Rows.{FitsAircraft, FitsCategory, FitsComponent, FitsDeferral, FitsEntry, FitsExtension, FitsFitting, FitsLimit, FitsOpening, FitsPlace, FitsProgramme, FitsRelease, FitsReleaseLine, FitsRemoval, FitsSector, FitsTask, FitsTolerance};
+ghost use Rattle.mx_base.specs.rows.Rows.{FitsAircraft, FitsCategory, FitsComponent, FitsDeferral, FitsEntry, FitsExtension, FitsFitting, FitsLimit, FitsOpening, FitsPlace, FitsProgramme, FitsRelease, FitsRemoval, FitsSector, FitsTask, FitsTolerance};
 ghost use Rattle.mx_registers.specs.Registers.{aircraft_row, component_row, deferral_row, entry_row, extension_row, fitting_row, kind_of, no_limit, opening_row, part_of, place_row, programme_row, kind_in_shop, release_row, removal_row, sector_row, task_row};
 ghost use Rattle.mx_book.specs.commands.Act.{act_of};
 ghost use Rattle.mx_book.specs.commands.Shape.{has_shape};
 
 use mx_base::rows::{
     AircraftRow, ComponentRow, DeferralRow, EntryKind, EntryRow, ExtensionRow, FittingRow,
-    OpeningRow, PlaceRow, ProgrammeRow, ReleaseLineRow, ReleaseRow, RemovalRow, SectorRow, TaskRow,
+    OpeningRow, PlaceRow, ProgrammeRow, ReleaseRow, RemovalRow, SectorRow, TaskRow,
 };
-use mx_base::{Category, Kind, Limit, Part, Position, TaskId, Tolerance};
+use mx_base::{Category, Kind, Limit, Part, Position, Tolerance};
 use mx_book::commands::{
     Aircraft, Applies, Body, Command, Component, Deferral, Extension, Fitting, Opening, Place,
     Programme, Release, Removal, Sector, Task,
@@ -308,50 +308,6 @@ pub fn release_row(seq: u32, item: u32, release: Release) -> ReleaseRow
         item,
         kind: kind_in_shop(&release.place),
         moment: release.moment,
-    }
-}
-
-/// The row of a line that certifies a task of an item, on this line of the release that is entered with a number, where
-/// another number is that of the entry that added the item.
-pub fn done_row(seq: u32, line: u32, item: u32, task: &TaskId) -> ReleaseLineRow
-    ensures row { result ≡ record {
-      seq = seq;
-      line = line;
-      item = Some item;
-      task = Some task.now;
-      defect = None;
-    } }
-    ensures fits { FitsReleaseLine result }
-{
-    // The text of an identifier fits its column.
-    let _ = task.as_str();
-    ReleaseLineRow {
-        seq,
-        line,
-        item: Some(item),
-        task: Some(*task),
-        defect: None,
-    }
-}
-
-/// The row of a line that certifies that a defect was rectified, on this line of the release that is entered with a
-/// number, where another number is that of the entry that deferred the defect.
-pub fn rectified_row(seq: u32, line: u32, defect: u32) -> ReleaseLineRow
-    ensures row { result ≡ record {
-      seq = seq;
-      line = line;
-      item = None;
-      task = None;
-      defect = Some defect;
-    } }
-    ensures fits { FitsReleaseLine result }
-{
-    ReleaseLineRow {
-        seq,
-        line,
-        item: None,
-        task: None,
-        defect: Some(defect),
     }
 }
 
