@@ -1,14 +1,13 @@
 -- The spans that a command touches, and those that were there throughout a flight, by the rows that were chosen.
-use Rattle.std.proofs.Common.{◌≡◌, ◌∙◌, ℕ, pos, Bool, true, false, cond, ◌&&◌, List, Vec, [], ◌∷◌, ◌++◌, filter, map, nat_eq, Result, refl, ap, ap₂}
+use Rattle.std.proofs.Common.{◌≡◌, ◌∙◌, ℕ, pos, Bool, true, false, cond, ◌&&◌, List, Vec, [], ◌∷◌, filter, map, nat_eq, Result, refl, ap, ap₂}
 use Rattle.std.specs.Prelude.{is_none}
 use Rattle.std.specs.List.{AllByRecursion}
 use Rattle.sqlite.specs.declared.types.Value.TheVariants.{Int}
 use Rattle.sqlite.specs.State.{State}
-use Rattle.mx_book.specs.commands.Act.{Act, Entry, Fitted}
-use Rattle.mx_book.specs.Span.{span_begun}
+use Rattle.mx_book.specs.commands.Act.{Entry}
 use Rattle.mx_base.specs.declared.rows.rows.SpanRow.{SpanRow}
 use Rattle.mx_registers.specs.kept.Items.{number_of_serial}
-use Rattle.mx_registers.specs.kept.Spans.{is_open_of, span_row, span_rows, span_rows_from}
+use Rattle.mx_registers.specs.kept.Spans.{is_open_of, span_rows}
 use Rattle.mx_registers.specs.kept.Totals.{has_between, numbers_during}
 use Rattle.mx_registers.proofs.KeptProofs.CreditLemmas.{filter_on}
 use Rattle.mx_registers.proofs.KeptProofs.SpanRegisters.{and_swap}
@@ -17,22 +16,12 @@ use Rattle.mx_layout.specs.kept.Cells.{kept_span2}
 use Rattle.mx_table_rows.specs.chosen.Calls.{ReadsBy}
 use Rattle.mx_table_rows.specs.chosen.Choices.{has_value}
 use Rattle.mx_row_rules.specs.found.Spans.{is_open_of as is_left_of}
-use Rattle.mx_row_rules.proofs.FoundProofs.OpenLemmas.{ends_alike}
+use Rattle.mx_row_rules.proofs.FoundProofs.OpenLemmas.{rows_ended}
 use Rattle.mx_lookups.specs.numbers.Reads.{Reads}
 use Rattle.mx_lookups.proofs.NumbersProofs.LookupLemmas.{number_is, rows_read}
 use Rattle.mx_lookups.proofs.NumbersProofs.TableLemmas.{spans}
 
 -- ── open spans ──
-
--- a span that nothing removed has no end
-rows_ended : (before later : List Entry) → AllByRecursion (λ (row : SpanRow). is_none row.remove_seq ≡ is_none row.to) (span_rows_from before later)
-rows_ended before [] = tt
-rows_ended before (e ∷ later) = at e.act (rows_ended (before ++ e ∷ []) later)
-  where
-    at : (act : Act) → AllByRecursion (λ (row : SpanRow). is_none row.remove_seq ≡ is_none row.to) (span_rows_from (before ++ e ∷ []) later)
-        → AllByRecursion (λ (row : SpanRow). is_none row.remove_seq ≡ is_none row.to) (map (span_row before later) (span_begun act later) ++ span_rows_from (before ++ e ∷ []) later)
-    at (Fitted f) rest = (ends_alike f.serial _ later, rest)
-    at _ rest = rest
 
 open_alike : (n : ℕ) (rows : List SpanRow) → AllByRecursion (λ (row : SpanRow). is_none row.remove_seq ≡ is_none row.to) rows → AllByRecursion (λ (row : SpanRow). is_left_of n row ≡ is_open_of n row) rows
 open_alike n [] h = tt
