@@ -7,5 +7,8 @@ pub mod Dues
 pub mod LimitList
 pub mod DueList
 pub mod Forecast
+pub mod FleetRow
+pub mod Fleet
+pub mod Inventory
 pub mod Ranks
 pub mod Report

@@ -1,5 +1,6 @@
-//! The lists that are asked of a book: due list, life list, limits and forecast, made by questions of any records, each alone
-//! or as the list that a question asks for.
+//! The lists that are asked of a book: due list, life list, limits and forecast of an aircraft, those of all aircraft in one,
+//! and what aircraft and components there are, made by questions of any records, each alone or as the list that a question
+//! asks for.
 //!
 //! # What is promised
 //!
@@ -7,6 +8,8 @@
 //!   forecast, are the definition's of that book, where the disk gave back what was written, or the fault of the
 //!   question that was not answered, and of a list also want of memory: `due_of_kind`, `list_dues`, `list_lives`,
 //!   `list_limits`, `list_forecast`.
+//! - So are what is due on all aircraft, what will be, the limits of all, all aircraft and all components: `list_fleet`,
+//!   `list_outlook`, `list_deferred`, `list_aircraft`, `list_components`.
 //! - So is the list that a question asks for, whichever it is, and it is of that kind: `list_report`: `answers`, `kind`.
 //! - A list put in order has the same rows, ascending, with ties as they were: `order::sorted`: `order`, `permutation`,
 //!   `ascending`, `stable`.
@@ -15,7 +18,10 @@
 pub mod due_lists;
 pub mod due_row;
 pub mod dues;
+pub mod fleet_lists;
+pub mod fleet_row;
 pub mod forecast;
+pub mod inventory;
 pub mod life_list;
 pub mod limit_list;
 mod list_questions;
@@ -28,9 +34,14 @@ pub mod stop;
 pub use due_lists::list_dues;
 pub use due_row::{DueList, DueRow};
 pub use dues::due_of_kind;
+pub use fleet_lists::{
+    DeferredList, FleetList, OutlookList, list_deferred, list_fleet, list_outlook,
+};
+pub use fleet_row::FleetRow;
 pub use forecast::{
     ForecastList, ForecastRow, MOST_CYCLES, MOST_DAYS, MOST_MINUTES, list_forecast,
 };
+pub use inventory::{AircraftRow, ComponentRow, list_aircraft, list_components};
 pub use life_list::{FittedPart, LifeList, list_lives};
 pub use limit_list::{LimitList, LimitRow, list_limits};
 pub use list_records::ListRecords;

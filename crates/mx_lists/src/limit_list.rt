@@ -57,8 +57,8 @@ pub struct LimitList {
     pub rows: Rows<LimitRow>,
 }
 
-// The limit of an open defect whose interval was extended by so many days.
-fn limit_of_defect(day: Day, defect: &Defect, days: u32) -> LimitRow
+/// The limit of an open defect whose interval was extended by so many days.
+pub(crate) fn limit_of_defect(day: Day, defect: &Defect, days: u32) -> LimitRow
     ensures { (book : List Entry) → days ≡ days_extended book defect.now.doc
         → result ≡ limit_row book day defect.now }
 {

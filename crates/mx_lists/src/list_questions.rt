@@ -1,13 +1,13 @@
 //! Questions that several lists ask of records, where memory may run out as well.
 ghost use Rattle.mx_book.specs.Defect.{days_extended};
-ghost use Rattle.mx_book.specs.Life.{life_now, use_or_none};
+ghost use Rattle.mx_book.specs.Life.{clock, life_now, use_or_none};
 ghost use Rattle.mx_book.specs.Register.{aircraft};
 ghost use Rattle.mx_lists.specs.Memory.{Gathers};
 
 use crate::life_list::life_or_none;
 use crate::list_records::ListRecords;
 use crate::stop::Stop;
-use mx_base::{Doc, Tail, Use};
+use mx_base::{Doc, Moment, Tail, Use};
 use mx_book::Records;
 use mx_book::commands::{Aircraft, Item};
 use mx_book::judging::judging_defects::extension_days;
@@ -32,6 +32,16 @@ pub(crate) fn life_of<R: ListRecords>(records: &mut R, item: &Item) -> Result<Us
 {
     match records.life(item) {
         Ok(life) => Ok(life_or_none(life)),
+        Err(fault) => Err(Stop::Fault(fault)),
+    }
+}
+
+/// The clock of an item.
+pub(crate) fn clock_of<R: Records>(records: &mut R, item: &Item) -> Result<Moment, Stop<R::Fault>>
+    ensures { Gathers R.reading records.old records.new result (λ book. clock book item.now) }
+{
+    match records.clock(item) {
+        Ok(clock) => Ok(clock),
         Err(fault) => Err(Stop::Fault(fault)),
     }
 }

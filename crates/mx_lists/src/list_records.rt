@@ -12,6 +12,8 @@ ghost use Rattle.mx_book.specs.Life.{life_now};
 ghost use Rattle.mx_book.specs.Programme.{tasks_or_none};
 ghost use Rattle.mx_book.specs.Reading.{Answers};
 ghost use Rattle.mx_lists.specs.Fitted.{fitted_on};
+ghost use Rattle.mx_lists.specs.Fleet.{all_open, tails};
+ghost use Rattle.mx_lists.specs.Inventory.{place_fitted, serials};
 ghost use Rattle.mx_lists.specs.Memory.{with_memory, seen_as};
 
 use crate::stop::Stop;
@@ -47,6 +49,26 @@ pub trait ListRecords: Records {
     ) -> Result<Vec<(Position, Serial)>, Stop<Self::Fault>>
         ensures { Answers (with_memory Self.reading) self.old self.new
             (seen_as (λ places. places.items) result) (λ book. fitted_on tail.now book) };
+
+    /// The registrations of all aircraft, in the order of their entries.
+    fn tails(&mut self, alloc: Global) -> Result<Vec<Tail>, Stop<Self::Fault>>
+        ensures { Answers (with_memory Self.reading) self.old self.new
+            (seen_as (λ tails. tails.items) result) (λ book. tails book) };
+
+    /// The serial numbers of all components, in the order of their entries.
+    fn serials(&mut self, alloc: Global) -> Result<Vec<Serial>, Stop<Self::Fault>>
+        ensures { Answers (with_memory Self.reading) self.old self.new
+            (seen_as (λ serials. serials.items) result) (λ book. serials book) };
+
+    /// The aircraft that a component is fitted to, and the position there, or `None` where it is fitted nowhere.
+    fn place(&mut self, serial: &Serial) -> Result<Option<(Tail, Position)>, Self::Fault>
+        ensures { Answers Self.reading self.old self.new result
+            (λ book. place_fitted book serial.now) };
+
+    /// The open defects of all aircraft, in the order of their entries.
+    fn all_open_defects(&mut self, alloc: Global) -> Result<Vec<Defect>, Stop<Self::Fault>>
+        ensures { Answers (with_memory Self.reading) self.old self.new
+            (seen_as (λ defects. defects.items) result) (λ book. all_open book) };
 
     /// The open defects of an aircraft, in the order of their entries.
     fn open_defects(&mut self, alloc: Global, tail: &Tail) -> Result<Vec<Defect>, Stop<Self::Fault>>
