@@ -3,6 +3,7 @@ ghost use Rattle.std.specs.Prelude.{◌≡◌, IfOk};
 ghost use Rattle.std.specs.List.{list_any};
 ghost use Rattle.mx_book.specs.commands.Act.{lines_of};
 ghost use Rattle.mx_book.specs.Defect.{deferred_by, defect, rectifies, is_rectified, extension, is_open, open_defects};
+ghost use Rattle.mx_lists.specs.Fleet.{all_open};
 
 use mx_base::{Doc, Tail};
 use mx_book::Defect;
@@ -82,5 +83,16 @@ pub fn list_open_defects(
         .iter()
         .filter_map(|entry| deferred_defect(entry))
         .filter(|defect| is_open_on(entries, tail, defect))
+        .collect(alloc)
+}
+
+/// The open defects of all aircraft, in the order of their entries. An error where memory runs out.
+pub(crate) fn list_all_open(alloc: Global, entries: &[Command]) -> Result<Vec<Defect>, AllocError>
+    ensures { IfOk result (λ defects. defects.items ≡ all_open entries.now) }
+{
+    entries
+        .iter()
+        .filter_map(|entry| deferred_defect(entry))
+        .filter(|defect| !was_rectified(entries, &defect.doc))
         .collect(alloc)
 }

@@ -3,10 +3,12 @@ ghost use Rattle.std.specs.Prelude.{◌≡◌, IfOk};
 
 use crate::Plain;
 use crate::bases::last_base;
-use crate::defects::list_open_defects;
+use crate::defects::{list_all_open, list_open_defects};
 use crate::fitted::places_fitted;
 use crate::lives::life;
 use crate::programmes::tasks_of_kind;
+use crate::register::{serials_of, tails_of};
+use crate::spans::place_of;
 use mx_base::{Base, Kind, Position, Serial, Tail, TaskId, Use};
 use mx_book::Defect;
 use mx_book::commands::{Item, Task};
@@ -34,6 +36,22 @@ impl<'a> ListRecords for Plain<'a> {
         tail: &Tail,
     ) -> Result<Vec<(Position, Serial)>, Stop<Infallible>> {
         Ok(places_fitted(alloc, self.book.as_slice(), tail)?)
+    }
+
+    fn tails(&mut self, alloc: Global) -> Result<Vec<Tail>, Stop<Infallible>> {
+        Ok(tails_of(alloc, self.book.as_slice())?)
+    }
+
+    fn serials(&mut self, alloc: Global) -> Result<Vec<Serial>, Stop<Infallible>> {
+        Ok(serials_of(alloc, self.book.as_slice())?)
+    }
+
+    fn place(&mut self, serial: &Serial) -> Result<Option<(Tail, Position)>, Infallible> {
+        Ok(place_of(self.book.as_slice(), serial))
+    }
+
+    fn all_open_defects(&mut self, alloc: Global) -> Result<Vec<Defect>, Stop<Infallible>> {
+        Ok(list_all_open(alloc, self.book.as_slice())?)
     }
 
     fn open_defects(

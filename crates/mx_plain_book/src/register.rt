@@ -1,16 +1,19 @@
 //! Finding an entry by its document, and a row in the registers of a book.
-ghost use Rattle.std.specs.Prelude.{◌≡◌, ◌≤◌, length};
+ghost use Rattle.std.specs.Prelude.{◌≡◌, ◌≤◌, length, IfOk};
 ghost use Rattle.std.specs.Option.{option_map};
 ghost use Rattle.mx_book.specs.commands.Act.{aircraft_of, component_of};
 ghost use Rattle.mx_book.specs.Register.{register, aircraft, component, found_of, has_room_for_aircraft, has_room_for_component, positions_added, part_among, part_at};
 ghost use Rattle.mx_book.specs.Judge.{known_from};
 ghost use Rattle.mx_book.specs.Asking.{known_same};
 ghost use Rattle.mx_book.specs.declared.limits.TheConstants.{MOST_ENTRIES};
+ghost use Rattle.mx_lists.specs.Fleet.{tails};
+ghost use Rattle.mx_lists.specs.Inventory.{serials};
 
 use mx_base::{Part, Position, Serial, Tail};
 use mx_book::commands::{Aircraft, Command, Component, Item};
 use mx_book::found::Found;
 use mx_book::limits::{MOST_AIRCRAFT, MOST_COMPONENTS};
+use std::alloc::{AllocError, Global};
 
 /// The number of the entry with the document of a command, and whether it is the same command.
 pub(crate) fn known(entries: &[Command], command: &Command) -> Option<(u32, bool)>
@@ -41,6 +44,17 @@ pub(crate) fn aircraft_of_tail(entries: &[Command], tail: &Tail) -> Option<Aircr
         .find(|aircraft| aircraft.tail == *tail)
 }
 
+/// The registrations of all aircraft, in the order of their entries. An error where memory runs out.
+pub(crate) fn tails_of(alloc: Global, entries: &[Command]) -> Result<Vec<Tail>, AllocError>
+    ensures { IfOk result (λ found. found.items ≡ tails entries.now) }
+{
+    entries
+        .iter()
+        .filter_map(|entry| entry.added_aircraft())
+        .map(|aircraft| aircraft.tail)
+        .collect(alloc)
+}
+
 // How many aircraft there are.
 fn aircraft_count(entries: &[Command]) -> usize
     ensures { result ≡ length (register aircraft_of entries.now) }
@@ -66,6 +80,17 @@ pub(crate) fn component_of_serial(entries: &[Command], serial: &Serial) -> Optio
         .iter()
         .filter_map(|entry| entry.added_component())
         .find(|component| component.serial == *serial)
+}
+
+/// The serial numbers of all components, in the order of their entries. An error where memory runs out.
+pub(crate) fn serials_of(alloc: Global, entries: &[Command]) -> Result<Vec<Serial>, AllocError>
+    ensures { IfOk result (λ found. found.items ≡ serials entries.now) }
+{
+    entries
+        .iter()
+        .filter_map(|entry| entry.added_component())
+        .map(|component| component.serial)
+        .collect(alloc)
 }
 
 // How many components there are.

@@ -7,6 +7,7 @@ ghost use Rattle.mx_book.specs.commands.Same.{same_text};
 ghost use Rattle.mx_book.specs.Register.{register};
 ghost use Rattle.mx_book.specs.Span.{first_removal, spans_of, spans_begun_of, tail_fitted, is_taken};
 ghost use Rattle.mx_book.specs.Life.{has_landed_by, is_within, latest, removals_from, removals_begun};
+ghost use Rattle.mx_lists.specs.Inventory.{place_fitted};
 
 use mx_base::{Moment, Position, Serial, Tail};
 use mx_book::commands::{Command, Removal, Sector};
@@ -68,9 +69,9 @@ pub(crate) fn is_within_span(entries: &[Command], serial: &Serial, sector: &Sect
     false
 }
 
-/// The registration of the aircraft that a component is fitted to, or `None` where it is fitted nowhere.
-pub(crate) fn fitted_to(entries: &[Command], serial: &Serial) -> Option<Tail>
-    ensures { result ≡ tail_fitted entries.now serial.now }
+/// The aircraft that a component is fitted to, and the position there, or `None` where it is fitted nowhere.
+pub(crate) fn place_of(entries: &[Command], serial: &Serial) -> Option<(Tail, Position)>
+    ensures { result ≡ place_fitted entries.now serial.now }
 {
     let mut rest = entries;
     while let Some((entry, later)) = rest.split_first() {
@@ -78,11 +79,19 @@ pub(crate) fn fitted_to(entries: &[Command], serial: &Serial) -> Option<Tail>
             && fitting.serial == *serial
             && removed_at(later, serial).is_none()
         {
-            return Some(fitting.tail);
+            return Some((fitting.tail, fitting.position));
         }
         rest = later;
     }
     None
+}
+
+/// The registration of the aircraft that a component is fitted to, or `None` where it is fitted nowhere.
+pub(crate) fn fitted_to(entries: &[Command], serial: &Serial) -> Option<Tail>
+    ensures { result ≡ tail_fitted entries.now serial.now }
+{
+    let (tail, _) = place_of(entries, serial)?;
+    Some(tail)
 }
 
 /// Whether a component is fitted to the position of an aircraft.

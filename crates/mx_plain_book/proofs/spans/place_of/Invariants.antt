@@ -1,6 +1,6 @@
 use Rattle.std.proofs.Common.{◌≡◌, length}
 use Rattle.mx_book.specs.Span.{fitted}
-use Rattle.mx_plain_book.proofs.spans.fitted_to.Given as goal
+use Rattle.mx_plain_book.proofs.spans.place_of.Given as goal
 
 -- what is left gives the answer
 abbrev pub invariant-loop-entry : goal.invariant-loop-entry
