@@ -44,7 +44,7 @@ impl Placed for DueRow {
     ghost ranks = { due_rows_rank };
 
     fn before(&self, other: &DueRow) -> bool {
-        rank_of(status_of_row(self)) < rank_of(status_of_row(other))
+        rank_of(self.status()) < rank_of(other.status())
     }
 }
 
@@ -59,13 +59,15 @@ fn rank_of(status: Status) -> u32
     }
 }
 
-// How a row stands.
-fn status_of_row(row: &DueRow) -> Status
-    ensures { result ≡ row_status row.now }
-{
-    match row {
-        DueRow::Task { status, .. } => *status,
-        DueRow::Defect { status, .. } => *status,
+impl DueRow {
+    /// How it stands.
+    pub fn status(&self) -> Status
+        ensures { result ≡ row_status self.now }
+    {
+        match self {
+            DueRow::Task { status, .. } => *status,
+            DueRow::Defect { status, .. } => *status,
+        }
     }
 }
 

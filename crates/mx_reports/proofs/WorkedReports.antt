@@ -24,11 +24,14 @@ flown_once kind birth as_of page doc =
 abbrev flown : List Entry
 flown = flown_once (codes "C172") 10957 28401120 12 (codes "TL/D-ABCD/12/1")
 
--- ── each question is of its aircraft, and has its list ──
+-- ── each question is of its aircraft or of all, and has its list ──
 
 tails : map tail_asked (asked.Life (codes "D-ABCD") ∷ asked.Due (codes "D-EABC") 0 ∷ asked.Forecast (codes "D-MINE") 1 2 3 4 ∷ asked.Limits (codes "D-NONE") 0 ∷ [])
-    ≡ codes "D-ABCD" ∷ codes "D-EABC" ∷ codes "D-MINE" ∷ codes "D-NONE" ∷ []
+    ≡ Some (codes "D-ABCD") ∷ Some (codes "D-EABC") ∷ Some (codes "D-MINE") ∷ Some (codes "D-NONE") ∷ []
 tails = refl
+
+of_all : map tail_asked (asked.Fleet 0 ∷ asked.Outlook 0 1 2 3 ∷ asked.Aircraft ∷ asked.Components ∷ asked.Deferred 0 ∷ []) ≡ None ∷ None ∷ None ∷ None ∷ None ∷ []
+of_all = refl
 
 life : report_of flown (asked.Life (codes "D-ABCD"))
     ≡ Some (report.Life (record { tail = codes "D-ABCD"; kind = codes "C172"; life = record { minutes = 60090; cycles = 801 }; parts = [] }))

@@ -7,6 +7,7 @@ use Rattle.mx_base.specs.declared.amounts.Left.{Left}
 use Rattle.mx_lists.specs.declared.due_row.DueList.{DueList}
 use Rattle.mx_lists.specs.declared.due_row.DueRow.{DueRow}
 use Rattle.mx_lists.specs.declared.due_row.DueRow.TheVariants.{Task as TaskRow, Defect as DefectRow}
+use Rattle.mx_lists.specs.DueRow.{row_status}
 use Rattle.mx_reports.specs.DefectText.{defect_words, until_line}
 use Rattle.mx_reports.specs.Words.{spaced, status_word, use_words, end_line}
 
@@ -29,10 +30,14 @@ left_number (Some left) = signed_decimal left
 abbrev pub left_words : Left → List ℕ
 left_words left = codes " h=" ++ (left_hours left.minutes ++ (codes " c=" ++ (left_number left.cycles ++ (codes " d=" ++ left_number left.days))))
 
--- STATUS, the place, TASK, and what is left; STATUS defect, its words, and what is left until its last day
+-- the place, TASK, and what is left; defect, its words, and what is left until its last day
+abbrev pub due_words : DueRow → List ℕ
+due_words (TaskRow status place task left) = place_words place ++ (spaced task ++ (left_words left ++ 10 ∷ []))
+due_words (DefectRow status doc letter reference last left) = spaced (codes "defect") ++ (defect_words doc letter reference ++ until_line last left)
+
+-- STATUS, and what is due
 abbrev pub row_line : DueRow → List ℕ
-row_line (TaskRow status place task left) = status_word status ++ (place_words place ++ (spaced task ++ (left_words left ++ 10 ∷ [])))
-row_line (DefectRow status doc letter reference last left) = status_word status ++ (spaced (codes "defect") ++ (defect_words doc letter reference ++ until_line last left))
+row_line row = status_word (row_status row) ++ due_words row
 
 -- due TAIL DAY HOURS CYCLES
 abbrev pub due_head : DueList → List ℕ

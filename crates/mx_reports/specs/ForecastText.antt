@@ -15,17 +15,21 @@ abbrev pub reached_words : DueRow → List ℕ
 reached_words (TaskRow status place task left) = place_words place ++ spaced task
 reached_words (DefectRow status doc letter reference last left) = spaced (codes "defect") ++ spaced doc
 
--- N DAY, the number of days and the day, later where that is past the calendar, and what is reached then
+-- N DAY: the number of days and the day, later where that is past the calendar
+abbrev pub date_words : ForecastRow → List ℕ
+date_words r = decimal r.after ++ spaced (day_number_text (unsigned_abs r.day))
+
+-- N DAY, and what is reached then
 abbrev pub forecast_line : ForecastRow → List ℕ
-forecast_line r = (decimal r.after ++ spaced (day_number_text (unsigned_abs r.day))) ++ (reached_words r.row ++ 10 ∷ [])
+forecast_line r = date_words r ++ (reached_words r.row ++ 10 ∷ [])
 
 -- DAYS MINUTES CYCLES: how far ahead, and how much a day
-abbrev pub rate_words : ForecastList → List ℕ
-rate_words l = spaced (decimal l.days) ++ (spaced (decimal l.minutes) ++ spaced (decimal l.cycles))
+abbrev pub rate_words : ℕ → ℕ → ℕ → List ℕ
+rate_words days minutes cycles = spaced (decimal days) ++ (spaced (decimal minutes) ++ spaced (decimal cycles))
 
 -- forecast TAIL DAY DAYS MINUTES CYCLES
 abbrev pub forecast_head : ForecastList → List ℕ
-forecast_head l = codes "forecast" ++ (spaced l.tail ++ (spaced (day_text l.day) ++ (rate_words l ++ 10 ∷ [])))
+forecast_head l = codes "forecast" ++ (spaced l.tail ++ (spaced (day_text l.day) ++ (rate_words l.days l.minutes l.cycles ++ 10 ∷ [])))
 
 -- the line of the aircraft; a line for each row; end N, where N counts the rows
 abbrev pub forecast_lines : ForecastList → List ℕ

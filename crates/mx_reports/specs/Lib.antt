@@ -3,6 +3,8 @@ pub mod DefectText
 pub mod DueText
 pub mod ForecastText
 pub mod LimitText
+pub mod FleetText
+pub mod InventoryText
 pub mod Replies
 pub mod ReplyText
 pub mod Words

@@ -12,9 +12,13 @@ use Rattle.mx_reports.specs.Words.{spaced, status_word, end_line}
 unfoldable pub found_words : ℕ → ℕ → List ℕ
 found_words found extension = codes " found=" ++ (day_text found ++ (codes " ext=" ++ decimal extension))
 
--- STATUS, the words of the defect, and what is left until its last day
+-- the words of the defect, and what is left until its last day
+abbrev pub limit_words : LimitRow → List ℕ
+limit_words r = defect_words r.doc r.letter r.reference ++ (found_words r.found r.extension ++ until_line r.last r.left)
+
+-- STATUS, and those
 abbrev pub limit_line : LimitRow → List ℕ
-limit_line r = status_word r.status ++ (defect_words r.doc r.letter r.reference ++ (found_words r.found r.extension ++ until_line r.last r.left))
+limit_line r = status_word r.status ++ limit_words r
 
 -- limits TAIL DAY
 abbrev pub limits_head : LimitList → List ℕ

@@ -10,6 +10,8 @@
 #![tactic(auto, using(crate::proofs::StartsLemmas::starts_further))]
 
 mod defect;
+mod fleet;
+mod inventory;
 pub mod lists;
 pub mod replies;
 pub mod reply;

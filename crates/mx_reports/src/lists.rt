@@ -1,28 +1,26 @@
 //! The texts of lists: of a life list, of what is due, of limits, and of a forecast.
-ghost use Rattle.std.specs.Prelude.{◌≡◌, ◌++◌, [], ◌∷◌, codes, OnOk, OnErr, unsigned_abs};
-ghost use Rattle.std.specs.Fmt.{decimal};
+ghost use Rattle.std.specs.Prelude.{◌≡◌, ◌++◌, [], ◌∷◌, codes, OnOk, OnErr};
 ghost use Rattle.std.specs.List.{flat_map};
-ghost use Rattle.mx_base.specs.Texts.{day_number_text};
 ghost use Rattle.mx_reports.specs.DefectText.{defect_words, until_line};
-ghost use Rattle.mx_reports.specs.DueText.{place_words, left_hours, left_number, left_words, row_line, due_head, due_lines};
-ghost use Rattle.mx_reports.specs.ForecastText.{reached_words, forecast_line, rate_words, forecast_head, forecast_lines};
+ghost use Rattle.mx_reports.specs.DueText.{place_words, left_hours, left_number, left_words, due_words, row_line, due_head, due_lines};
+ghost use Rattle.mx_reports.specs.ForecastText.{reached_words, date_words, forecast_line, rate_words, forecast_head, forecast_lines};
 ghost use Rattle.mx_reports.specs.LifeText.{head_lines, part_line, life_lines};
-ghost use Rattle.mx_reports.specs.LimitText.{found_words, limit_line, limits_head, limit_lines};
-ghost use Rattle.mx_reports.specs.Words.{spaced, status_word, end_line, StartsWith};
+ghost use Rattle.mx_reports.specs.LimitText.{found_words, limit_words, limit_line, limits_head, limit_lines};
+ghost use Rattle.mx_reports.specs.Words.{spaced, end_line, StartsWith};
 
 use crate::defect::{append_day_number, append_defect, append_until};
 use crate::text::{Text, append_rows, append_whole};
 use crate::words::{
     append_day, append_end, append_number, append_signed, append_status, append_use, append_word,
 };
-use mx_base::{Day, Doc, Left, MelRef, Position, Serial, Status, TaskId, print_day, print_hours};
+use mx_base::{Day, Doc, Left, MelRef, Position, Serial, TaskId, print_day, print_hours};
 use mx_lists::{
     DueList, DueRow, FittedPart, ForecastList, ForecastRow, LifeList, LimitList, LimitRow,
 };
 use std::alloc::AllocError;
 
-// Appends the rows of a list, and its last line, which has a number of lines.
-fn append_rows_and_end<T: Text>(
+/// Appends the rows of a list, and its last line, which has a number of lines.
+pub(crate) fn append_rows_and_end<T: Text>(
     out: &mut Vec<u8>,
     rows: &[T],
     lines: usize,
@@ -128,19 +126,6 @@ fn append_left(out: &mut Vec<u8>, left: &Left) -> Result<(), AllocError>
     append_left_number(out, left.days)
 }
 
-fn append_standing(
-    out: &mut Vec<u8>,
-    status: Status,
-    place: &Option<(Position, Serial)>,
-) -> Result<(), AllocError>
-    ensures words { OnOk result (out.new.items
-        ≡ out.old.items ++ (status_word status ++ place_words place.now)) }
-    ensures kept { OnErr result (StartsWith out.old.items out.new.items) }
-{
-    append_status(out, status)?;
-    append_place(out, place)
-}
-
 fn append_task_left(out: &mut Vec<u8>, task: &TaskId, left: &Left) -> Result<(), AllocError>
     ensures words { OnOk result (out.new.items
         ≡ out.old.items ++ (spaced task.now ++ (left_words left.now ++ 10 ∷ []))) }
@@ -153,47 +138,53 @@ fn append_task_left(out: &mut Vec<u8>, task: &TaskId, left: &Left) -> Result<(),
 
 fn append_due_defect(
     out: &mut Vec<u8>,
-    status: Status,
     doc: &Doc,
     letter: char,
     reference: &MelRef,
 ) -> Result<(), AllocError>
     ensures words { OnOk result (out.new.items ≡ out.old.items
-        ++ (status_word status ++ (spaced (codes "defect")
-        ++ defect_words doc.now letter reference.now))) }
+        ++ (spaced (codes "defect") ++ defect_words doc.now letter reference.now)) }
     ensures kept { OnErr result (StartsWith out.old.items out.new.items) }
 {
-    append_status(out, status)?;
     append_word(out, b"defect")?;
     append_defect(out, doc, letter, reference)
+}
+
+/// What is due, and what is left: the line of a row behind its status.
+pub(crate) fn append_due_words(out: &mut Vec<u8>, row: &DueRow) -> Result<(), AllocError>
+    ensures words { OnOk result (out.new.items ≡ out.old.items ++ due_words row.now) }
+    ensures kept { OnErr result (StartsWith out.old.items out.new.items) }
+{
+    match row {
+        DueRow::Task {
+            place,
+            task,
+            left,
+            ..
+        } => {
+            append_place(out, place)?;
+            append_task_left(out, task, left)
+        }
+        DueRow::Defect {
+            doc,
+            letter,
+            reference,
+            last,
+            left,
+            ..
+        } => {
+            append_due_defect(out, doc, *letter, reference)?;
+            append_until(out, *last, *left)
+        }
+    }
 }
 
 impl Text for DueRow {
     ghost text = { row_line };
 
     fn append(&self, out: &mut Vec<u8>) -> Result<(), AllocError> {
-        match self {
-            DueRow::Task {
-                status,
-                place,
-                task,
-                left,
-            } => {
-                append_standing(out, *status, place)?;
-                append_task_left(out, task, left)
-            }
-            DueRow::Defect {
-                status,
-                doc,
-                letter,
-                reference,
-                last,
-                left,
-            } => {
-                append_due_defect(out, *status, doc, *letter, reference)?;
-                append_until(out, *last, *left)
-            }
-        }
+        append_status(out, self.status())?;
+        append_due_words(out, self)
     }
 }
 
@@ -241,16 +232,6 @@ fn append_found(out: &mut Vec<u8>, found: Day, extension: u32) -> Result<(), All
     append_signed(out, i64::from(extension))
 }
 
-fn append_limit_defect(out: &mut Vec<u8>, row: &LimitRow) -> Result<(), AllocError>
-    ensures words { OnOk result (out.new.items ≡ out.old.items
-        ++ (status_word row.now.status
-        ++ defect_words row.now.doc row.now.letter row.now.reference)) }
-    ensures kept { OnErr result (StartsWith out.old.items out.new.items) }
-{
-    append_status(out, row.status)?;
-    append_defect(out, &row.doc, row.letter, &row.reference)
-}
-
 fn append_days(
     out: &mut Vec<u8>,
     found: Day,
@@ -266,12 +247,21 @@ fn append_days(
     append_until(out, last, left)
 }
 
+/// The defect, and what is left until its last day: the line of a limit behind its status.
+pub(crate) fn append_limit_words(out: &mut Vec<u8>, row: &LimitRow) -> Result<(), AllocError>
+    ensures words { OnOk result (out.new.items ≡ out.old.items ++ limit_words row.now) }
+    ensures kept { OnErr result (StartsWith out.old.items out.new.items) }
+{
+    append_defect(out, &row.doc, row.letter, &row.reference)?;
+    append_days(out, row.found, row.extension, row.last, row.left)
+}
+
 impl Text for LimitRow {
     ghost text = { limit_line };
 
     fn append(&self, out: &mut Vec<u8>) -> Result<(), AllocError> {
-        append_limit_defect(out, self)?;
-        append_days(out, self.found, self.extension, self.last, self.left)
+        append_status(out, self.status)?;
+        append_limit_words(out, self)
     }
 }
 
@@ -299,7 +289,8 @@ impl Text for LimitList {
     }
 }
 
-fn append_reached(out: &mut Vec<u8>, row: &DueRow) -> Result<(), AllocError>
+/// What is reached: the line of a forecast behind its day.
+pub(crate) fn append_reached(out: &mut Vec<u8>, row: &DueRow) -> Result<(), AllocError>
     ensures words { OnOk result (out.new.items ≡ out.old.items ++ reached_words row.now) }
     ensures kept { OnErr result (StartsWith out.old.items out.new.items) }
 {
@@ -315,33 +306,40 @@ fn append_reached(out: &mut Vec<u8>, row: &DueRow) -> Result<(), AllocError>
     }
 }
 
-fn append_date(out: &mut Vec<u8>, after: u32, day: i64) -> Result<(), AllocError>
-    ensures words { OnOk result (out.new.items ≡ out.old.items
-        ++ (decimal after ++ spaced (day_number_text (unsigned_abs day)))) }
+/// The number of days after which a row is reached, and the day.
+pub(crate) fn append_date(out: &mut Vec<u8>, row: &ForecastRow) -> Result<(), AllocError>
+    ensures words { OnOk result (out.new.items ≡ out.old.items ++ date_words row.now) }
     ensures kept { OnErr result (StartsWith out.old.items out.new.items) }
 {
-    append_signed(out, i64::from(after))?;
+    append_signed(out, i64::from(row.after))?;
     out.push(b' ')?;
-    append_day_number(out, day)
+    append_day_number(out, row.day)
 }
 
 impl Text for ForecastRow {
     ghost text = { forecast_line };
 
     fn append(&self, out: &mut Vec<u8>) -> Result<(), AllocError> {
-        append_date(out, self.after, self.day)?;
+        append_date(out, self)?;
         append_reached(out, &self.row)?;
         out.extend_from_slice(b"\n")
     }
 }
 
-fn append_rates(out: &mut Vec<u8>, list: &ForecastList) -> Result<(), AllocError>
-    ensures words { OnOk result (out.new.items ≡ out.old.items ++ rate_words list.now) }
+/// How far ahead a forecast looks, and how much is flown a day.
+pub(crate) fn append_rates(
+    out: &mut Vec<u8>,
+    days: u32,
+    minutes: u32,
+    cycles: u32,
+) -> Result<(), AllocError>
+    ensures words { OnOk result
+        (out.new.items ≡ out.old.items ++ rate_words days minutes cycles) }
     ensures kept { OnErr result (StartsWith out.old.items out.new.items) }
 {
-    append_number(out, list.days as usize)?;
-    append_number(out, list.minutes as usize)?;
-    append_number(out, list.cycles as usize)
+    append_number(out, days as usize)?;
+    append_number(out, minutes as usize)?;
+    append_number(out, cycles as usize)
 }
 
 fn append_forecast_head(out: &mut Vec<u8>, list: &ForecastList) -> Result<(), AllocError>
@@ -351,7 +349,7 @@ fn append_forecast_head(out: &mut Vec<u8>, list: &ForecastList) -> Result<(), Al
     out.extend_from_slice(b"forecast")?;
     append_word(out, list.tail.as_str().as_bytes())?;
     append_day(out, list.day)?;
-    append_rates(out, list)?;
+    append_rates(out, list.days, list.minutes, list.cycles)?;
     out.extend_from_slice(b"\n")
 }
 

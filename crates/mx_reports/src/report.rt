@@ -1,4 +1,4 @@
-//! Each list of an aircraft as text, whichever it is.
+//! Each list of an aircraft or of all as text, whichever it is.
 ghost use Rattle.std.specs.Prelude.{◌≡◌, ◌++◌, OnOk, OnErr};
 ghost use Rattle.mx_reports.specs.ReportText.{report_lines};
 
@@ -15,6 +15,11 @@ impl Text for Report {
             Report::Due(list) => list.append(out),
             Report::Forecast(list) => list.append(out),
             Report::Limits(list) => list.append(out),
+            Report::Fleet(list) => list.append(out),
+            Report::Outlook(list) => list.append(out),
+            Report::Aircraft(rows) => rows.append(out),
+            Report::Components(rows) => rows.append(out),
+            Report::Deferred(list) => list.append(out),
         }
     }
 }

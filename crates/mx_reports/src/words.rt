@@ -29,12 +29,20 @@ pub(crate) fn append_word(out: &mut Vec<u8>, word: &[u8]) -> Result<(), AllocErr
     out.extend_from_slice(word)
 }
 
+pub(crate) fn append_count(out: &mut Vec<u8>, number: usize) -> Result<(), AllocError>
+    ensures words { OnOk result (out.new.items ≡ out.old.items ++ decimal number) }
+    ensures unchanged { OnErr result (out.new.items ≡ out.old.items) }
+{
+    let mut buffer = Buffer::new();
+    out.extend_from_slice(buffer.format(number).as_bytes())
+}
+
 pub(crate) fn append_number(out: &mut Vec<u8>, number: usize) -> Result<(), AllocError>
     ensures words { OnOk result (out.new.items ≡ out.old.items ++ spaced (decimal number)) }
     ensures kept { OnErr result (StartsWith out.old.items out.new.items) }
 {
-    let mut buffer = Buffer::new();
-    append_word(out, buffer.format(number).as_bytes())
+    out.push(b' ')?;
+    append_count(out, number)
 }
 
 pub(crate) fn append_signed(out: &mut Vec<u8>, number: i64) -> Result<(), AllocError>
