@@ -2,6 +2,7 @@ pub mod FittedLemmas
 pub mod ForecastLemmas
 pub mod Gathering
 pub mod InOrder
+pub mod FleetLaws
 pub mod OrderLaws
 pub mod WorkedLives
 pub mod WorkedDues

@@ -30,6 +30,19 @@ snd_of true q h = (cc)
 snd_of false true h = (cc)
 snd_of false false h = refl
 
+-- of two tests, it does not matter which is first
+filter-swap : {X : Type 0} (p q : X → Bool) (xs : List X) → filter p (filter q xs) ≡ filter q (filter p xs)
+filter-swap p q [] = refl
+filter-swap p q (x ∷ xs) = at (filter-swap p q xs) (p x) refl (q x) refl
+  where
+    at : filter p (filter q xs) ≡ filter q (filter p xs) → (b : Bool) → p x ≡ b → (c : Bool) → q x ≡ c → filter p (cond c (x ∷ filter q xs) (filter q xs)) ≡ filter q (cond b (x ∷ filter p xs) (filter p xs))
+    at later true e true d =
+        ap (λ b. cond b (x ∷ filter p (filter q xs)) (filter p (filter q xs))) e ∙ ap (λ l. x ∷ l) later
+        ∙ sym (ap (λ c. cond c (x ∷ filter q (filter p xs)) (filter q (filter p xs))) d)
+    at later true e false d = later ∙ sym (ap (λ c. cond c (x ∷ filter q (filter p xs)) (filter q (filter p xs))) d)
+    at later false e true d = ap (λ b. cond b (x ∷ filter p (filter q xs)) (filter p (filter q xs))) e ∙ later
+    at later false e false d = later
+
 module _ {X : Type 0} (before : X → X → Bool) (o : IsStrictWeakOrder before) where
   itself : (x : X) (b : Bool) → before x x ≡ b → b ≡ false
   itself x true e = let f : before x x ≡ false = o.one_way x x e in (cc)
@@ -136,6 +149,36 @@ module _ {X : Type 0} (before : X → X → Bool) (o : IsStrictWeakOrder before)
       let left : xs ≡ ys = only xs ys a.1 b.1 (λ z. stripped x (ties before z x) (filter (ties before z) xs) (filter (ties before z) ys)
       (h z ∙ ap (λ w. cond (ties before z w) (w ∷ filter (ties before z) ys) (filter (ties before z) ys)) same)) in
       cc
+
+  -- ── some of a list in order, and a list in order put in order ──
+
+  none_kept : (p : X → Bool) (x : X) (ys : List X) → NoneBefore before x ys → NoneBefore before x (filter p ys)
+  none_kept p x [] n = tt
+  none_kept p x (y ∷ ys) n = at (none_kept p x ys n.1) (p y)
+    where
+      at : NoneBefore before x (filter p ys) → (b : Bool) → NoneBefore before x (cond b (y ∷ filter p ys) (filter p ys))
+      at later true = (n.0, later)
+      at later false = later
+
+  ascends_kept : (p : X → Bool) (xs : List X) → Ascends before xs → Ascends before (filter p xs)
+  ascends_kept p [] a = tt
+  ascends_kept p (x ∷ xs) a = at (ascends_kept p xs a.1) (p x)
+    where
+      at : Ascends before (filter p xs) → (b : Bool) → Ascends before (cond b (x ∷ filter p xs) (filter p xs))
+      at later true = (none_kept p x xs a.0, later)
+      at later false = later
+
+  -- those that pass a test, of a list in order, are those that pass it in order
+  pub filter-in_order : (p : X → Bool) (xs : List X) → filter p (in_order before xs) ≡ in_order before (filter p xs)
+  filter-in_order p xs =
+      only (filter p (in_order before xs)) (in_order before (filter p xs)) (ascends_kept p (in_order before xs) (in_order-ascends xs)) (in_order-ascends (filter p xs))
+      (λ x. filter-swap (ties before x) p (in_order before xs) ∙ ap (filter p) (in_order-stable xs x) ∙ filter-swap p (ties before x) xs ∙ sym (in_order-stable (filter p xs) x))
+
+  -- a list in order is that in order
+  pub in_order-again : (xs : List X) → in_order before (in_order before xs) ≡ in_order before xs
+  in_order-again xs =
+      only (in_order before (in_order before xs)) (in_order before xs) (in_order-ascends (in_order before xs)) (in_order-ascends xs)
+      (λ x. in_order-stable (in_order before xs) x)
 
   -- ── the sort of std ──
 

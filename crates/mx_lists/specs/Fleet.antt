@@ -3,6 +3,7 @@ use Rattle.std.specs.Prelude.{ℕ, List, [], map, filter, not, Bool}
 use Rattle.std.specs.List.{flat_map}
 use Rattle.std.specs.Option.{option_map_or}
 use Rattle.mx_book.specs.commands.Act.{Entry, aircraft_of}
+use Rattle.mx_book.specs.commands.Same.{same_text}
 use Rattle.mx_book.specs.Defect.{defects, is_rectified}
 use Rattle.mx_book.specs.Register.{register}
 use Rattle.mx_book.specs.declared.defects.Defect.{Defect}
@@ -35,6 +36,10 @@ rows_of_one rows tail = map (with_tail tail) (rows tail)
 -- the rows of these aircraft in one order, which are those of the first one before those of the next where they tie
 abbrev pub rows_of_all : {X : Type 0} → (X → X → Bool) → (List ℕ → List X) → List (List ℕ) → List (FleetRow X)
 rows_of_all before rows aircraft = in_order (fleet_before before) (flat_map (rows_of_one rows) aircraft)
+
+-- those of these rows that are of an aircraft, without its registration
+abbrev pub rows_with_tail : {X : Type 0} → List ℕ → List (FleetRow X) → List X
+rows_with_tail tail rows = map (λ r. r.row) (filter (λ r. same_text r.tail tail) rows)
 
 -- what is due on an aircraft, in the order of its due list
 abbrev pub dues_of : List Entry → ℕ → List ℕ → List DueRow

@@ -22,6 +22,7 @@ pub mod fleet_lists;
 pub mod fleet_row;
 pub mod forecast;
 pub mod inventory;
+pub mod laws;
 pub mod life_list;
 pub mod limit_list;
 mod list_questions;
