@@ -19,13 +19,15 @@ use Rattle.mx_book.specs.declared.limits.TheConstants.{MOST_AIRCRAFT, MOST_COMPO
 use Rattle.mx_book.specs.declared.verdict.Verdict.{Verdict}
 use Rattle.mx_layout.specs.declared.fault.Table.TheVariants as table
 use Rattle.mx_lists.specs.Fitted.{fitted_on}
+use Rattle.mx_lists.specs.Fleet.{all_open, tails}
+use Rattle.mx_lists.specs.Inventory.{place_fitted, serials}
 use Rattle.mx_layout.specs.kept.Cells.{kept_aircraft, kept_component, kept_entry}
 use Rattle.mx_table_rows.specs.chosen.Choices.{backward, has_value, is_any}
 use Rattle.mx_book_tables.specs.stands.Schemas.{schema_at}
 use Rattle.mx_row_rules.specs.found.Names.{last_number}
 use Rattle.mx_row_rules.specs.found.Said.{aircraft_in, component_in}
 use Rattle.mx_lookups.specs.numbers.AnyRows.{Gives, GivesFirst}
-use Rattle.mx_lookups.specs.numbers.Given.{BaseOf, ClockOf, DefectOf, ExtensionOf, FittedTo, HasRoom, IsAccomplished, IsRectified, IsRetired, IsTaken, LifeOf, NextRevision, OpenDefects, PartAt, TailFitted, TaskOf, TasksInForce}
+use Rattle.mx_lookups.specs.numbers.Given.{AllOpenDefects, BaseOf, ClockOf, DefectOf, ExtensionOf, FittedTo, HasRoom, IsAccomplished, IsRectified, IsRetired, IsTaken, LifeOf, NextRevision, OpenDefects, PartAt, PlaceFitted, Serials, TailFitted, Tails, TaskOf, TasksInForce}
 use Rattle.mx_lookups.specs.numbers.Reads.{rows_point}
 use Rattle.mx_row_judge.specs.known.Known.{KnownAs}
 
@@ -70,6 +72,13 @@ pub record AnswerListsAs (trees : Trees) (book : List Entry) : Type 0 where
   pub tasks : (kind : List ℕ) → Only (TasksInForce kind) trees (tasks_or_none book kind)
   pub fitted : (tail : List ℕ) → Only (FittedTo tail) trees (fitted_on tail book)
   pub open_defects : (tail : List ℕ) → Only (OpenDefects tail) trees (open_defects book tail)
+  -- the registrations of all aircraft, and the serial numbers of all components
+  pub tails : Only Tails trees (tails book)
+  pub serials : Only Serials trees (serials book)
+  -- where a component is fitted
+  pub place : (serial : List ℕ) → Only (PlaceFitted serial) trees (place_fitted book serial)
+  -- the open defects of all aircraft
+  pub all_open_defects : Only AllOpenDefects trees (all_open book)
 
 -- a transaction is at the point at which rows are looked up, and they answer as the book does
 pub record SpeaksFor (AnswersAs : Trees → List Entry → Type 0) (s : State) (book : List Entry) : Type 0 where

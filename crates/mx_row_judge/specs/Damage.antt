@@ -5,7 +5,7 @@ use Rattle.mx_book.specs.commands.Act.{Entry}
 use Rattle.mx_book.specs.declared.commands.item.Item.{Item}
 use Rattle.mx_layout.specs.TableName.{TableName}
 use Rattle.mx_layout.specs.declared.fault.Table.TheVariants as table
-use Rattle.mx_lookups.specs.numbers.Told.{AircraftDamage, BaseDamage, ComponentDamage, CountDamage, DefectDamage, DoneDamage, ExtensionDamage, FittedDamage, InForceDamage, LastDamage, OpenDamage, PartDamage, RectifiedDamage, RetiredDamage, RevisionDamage, TailFittedDamage, TakenDamage, TotalDamage}
+use Rattle.mx_lookups.specs.numbers.Told.{AircraftDamage, AllOpenDamage, BaseDamage, ComponentDamage, CountDamage, DefectDamage, DoneDamage, ExtensionDamage, FittedDamage, InForceDamage, LastDamage, OpenDamage, PartDamage, PlaceFittedDamage, RectifiedDamage, RetiredDamage, RevisionDamage, SerialsDamage, TailFittedDamage, TailsDamage, TakenDamage, TotalDamage}
 use Rattle.mx_row_judge.specs.known.Known.{KnownDamage}
 
 -- one question of the judge tells it, of the rows that its look-up chooses
@@ -36,3 +36,7 @@ pub data ListDamage (name : TableName) (trees : Trees) : Type 0 where
   by_tasks : (kind : List ℕ) → InForceDamage kind name trees → ListDamage name trees
   by_fitted : (tail : List ℕ) → FittedDamage tail name trees → ListDamage name trees
   by_open_defects : (tail : List ℕ) → OpenDamage tail name trees → ListDamage name trees
+  by_tails : TailsDamage name trees → ListDamage name trees
+  by_serials : SerialsDamage name trees → ListDamage name trees
+  by_place : (serial : List ℕ) → PlaceFittedDamage serial name trees → ListDamage name trees
+  by_all_open_defects : AllOpenDamage name trees → ListDamage name trees

@@ -6,10 +6,12 @@ use mx_book::Defect;
 use mx_book::commands::{Item, Task};
 use mx_layout::TableFault;
 use mx_lists::{ListRecords, Stop};
+use mx_lookups::fleet::{all_open_defects, serials, tails};
 use mx_lookups::lists::{fitted, open_defects};
 use mx_lookups::lives::lives::life;
 use mx_lookups::lives::programmes::tasks;
 use mx_lookups::lives::work::base;
+use mx_lookups::spans::place_fitted;
 use sqlite::Alter;
 use std::alloc::Global;
 
@@ -36,6 +38,31 @@ impl<S: Alter> ListRecords for Rows<'_, '_, S, ListQuestions> {
     ) -> Result<Vec<(Position, Serial)>, Stop<TableFault>> {
         match fitted(alloc, self.tx, tail) {
             Ok(places) => Ok(places),
+            Err(fault) => Err(Stop::Fault(fault)),
+        }
+    }
+
+    fn tails(&mut self, alloc: Global) -> Result<Vec<Tail>, Stop<TableFault>> {
+        match tails(alloc, self.tx) {
+            Ok(tails) => Ok(tails),
+            Err(fault) => Err(Stop::Fault(fault)),
+        }
+    }
+
+    fn serials(&mut self, alloc: Global) -> Result<Vec<Serial>, Stop<TableFault>> {
+        match serials(alloc, self.tx) {
+            Ok(serials) => Ok(serials),
+            Err(fault) => Err(Stop::Fault(fault)),
+        }
+    }
+
+    fn place(&mut self, serial: &Serial) -> Result<Option<(Tail, Position)>, TableFault> {
+        place_fitted(self.alloc, self.tx, serial)
+    }
+
+    fn all_open_defects(&mut self, alloc: Global) -> Result<Vec<Defect>, Stop<TableFault>> {
+        match all_open_defects(alloc, self.tx) {
+            Ok(defects) => Ok(defects),
             Err(fault) => Err(Stop::Fault(fault)),
         }
     }

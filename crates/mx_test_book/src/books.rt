@@ -4,8 +4,9 @@ use crate::same::are_same;
 use mx_base::{Moment, Serial, Tail, Use};
 use mx_book::commands::{Command, Item};
 use mx_book::entry_list::Book;
+use mx_lists::Question;
 use mx_plain_book::Plain;
-use mx_plain_book::book_lists::life_list_of;
+use mx_plain_book::book_lists::list_of;
 use mx_test_cases::{
     AnswerText, Unmade, append_number, command_of, documents, listed, number_text, verdict_text,
     yes_or_no,
@@ -77,7 +78,8 @@ fn life(alloc: Global, book: &Book, item: &Item, until: &[&str]) -> AnswerText {
 
 // list TAIL: the lines of the life list.
 fn list(alloc: Global, book: &Book, tail: &str) -> AnswerText {
-    Ok(listed(alloc, life_list_of(book, alloc, &Tail::read(tail)?)?)?)
+    let question = Question::Life(Tail::read(tail)?);
+    Ok(listed(alloc, list_of(book, alloc, &question)?)?)
 }
 
 /// The answer to a question on the book, or `None` where it is none.

@@ -1,10 +1,9 @@
-//! Questions on deferred defects: which are open, and the last day of each.
+//! Questions on deferred defects: which are open.
 
-use mx_base::{Day, Tail};
+use mx_base::Tail;
 use mx_book::entry_list::Book;
 use mx_plain_book::Plain;
-use mx_plain_book::book_lists::limits_of;
-use mx_test_cases::{AnswerText, Unmade, append_joined, listed, or_none};
+use mx_test_cases::{AnswerText, Unmade, append_joined, or_none};
 use std::alloc::Global;
 
 // open-defects TAIL: the documents of the open defects, in the order of their entries.
@@ -18,17 +17,10 @@ fn open_defects(alloc: Global, book: &Book, tail: &str) -> AnswerText {
     Ok(or_none(text)?)
 }
 
-// limits TAIL DAY: the lines of the limits.
-fn limits(alloc: Global, book: &Book, tail: &str, day: &str) -> AnswerText {
-    let tail = Tail::read(tail)?;
-    Ok(listed(alloc, limits_of(book, alloc, &tail, Day::read(day)?)?)?)
-}
-
 /// The answer to a question on deferred defects, or `None` where it is none.
 pub fn answer(alloc: Global, book: &Book, words: &[&str]) -> Result<Option<String>, Unmade> {
     let answer = match words {
         ["open-defects", tail] => open_defects(alloc, book, tail),
-        ["limits", tail, day] => limits(alloc, book, tail, day),
         _ => return Ok(None),
     };
     Ok(Some(answer?))

@@ -1,11 +1,11 @@
-//! Questions on what is due, and when it will be: bases, dues, due lists and forecasts.
+//! Questions on what is due: bases and dues, and lists of an aircraft or of all.
 
 use crate::tasks::append_limit;
-use mx_base::{Base, Day, Kind, Limit, Tail, TaskId};
+use mx_base::{Base, Kind, Limit, TaskId};
 use mx_book::commands::Item;
 use mx_book::entry_list::Book;
-use mx_plain_book::book_lists::{base_of_item, due_list_of, due_of_item, forecast_of};
-use mx_test_cases::{AnswerText, Unmade, append_number, item_of, listed, number_text};
+use mx_plain_book::book_lists::{base_of_item, due_of_item, list_of};
+use mx_test_cases::{AnswerText, Unmade, append_number, item_of, listed, number_text, question_of};
 use std::alloc::{AllocError, Global};
 
 // MINUTES CYCLES DAY, the day by its number; `none` where nothing was accomplished.
@@ -42,38 +42,23 @@ fn due(alloc: Global, book: &Book, item: &Item, kind: &str, task: &str) -> Answe
     Ok(limit_text(alloc, due_of_item(book, item, &kind, &task))?)
 }
 
-// due TAIL DAY: the lines of the due list.
-fn due_list(alloc: Global, book: &Book, tail: &str, day: &str) -> AnswerText {
-    let tail = Tail::read(tail)?;
-    Ok(listed(alloc, due_list_of(book, alloc, &tail, Day::read(day)?)?)?)
+// The lines of the list that words ask for, or `None` where they ask for none.
+fn list(alloc: Global, book: &Book, words: &[&str]) -> Result<Option<String>, Unmade> {
+    let Some(question) = question_of(words)? else {
+        return Ok(None);
+    };
+    let list = listed(alloc, list_of(book, alloc, &question)?)?;
+    Ok(Some(list))
 }
 
-// forecast TAIL DAY DAYS MINUTES CYCLES: the lines of the forecast.
-fn forecast(alloc: Global, book: &Book, tail: &str, day: &str, numbers: [&str; 3]) -> AnswerText {
-    let tail = Tail::read(tail)?;
-    let day = Day::read(day)?;
-    let [days, minutes, cycles] = numbers;
-    let days = days.parse::<u32>()?;
-    let minutes = minutes.parse::<u32>()?;
-    let cycles = cycles.parse::<u32>()?;
-    Ok(listed(
-        alloc,
-        forecast_of(book, alloc, &tail, day, days, minutes, cycles)?,
-    )?)
-}
-
-/// The answer to a question on what is due, or `None` where it is none.
+/// The answer to a question on what is due, or for a list, or `None` where it is neither.
 pub fn answer(alloc: Global, book: &Book, words: &[&str]) -> Result<Option<String>, Unmade> {
     let answer = match words {
         ["base", item, name, task] => base(alloc, book, &item_of(item, name)?, task),
         ["due-at", item, name, kind, task] => {
             due(alloc, book, &item_of(item, name)?, kind, task)
         }
-        ["due", tail, day] => due_list(alloc, book, tail, day),
-        ["forecast", tail, day, days, minutes, cycles] => {
-            forecast(alloc, book, tail, day, [days, minutes, cycles])
-        }
-        _ => return Ok(None),
+        _ => return list(alloc, book, words),
     };
     Ok(Some(answer?))
 }

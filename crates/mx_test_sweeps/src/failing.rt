@@ -221,6 +221,42 @@ impl<'a> ListRecords for Failing<'a> {
         }
     }
 
+    fn tails(&mut self, alloc: Global) -> Result<Vec<Tail>, Stop<Interrupted>> {
+        self.count_or_stop()?;
+        let mut plain = Plain { book: self.book };
+        match plain.tails(alloc) {
+            Ok(found) => Ok(found),
+            Err(Stop::NoMemory) => Err(Stop::NoMemory),
+            Err(Stop::Fault(never)) => match never {},
+        }
+    }
+
+    fn serials(&mut self, alloc: Global) -> Result<Vec<Serial>, Stop<Interrupted>> {
+        self.count_or_stop()?;
+        let mut plain = Plain { book: self.book };
+        match plain.serials(alloc) {
+            Ok(found) => Ok(found),
+            Err(Stop::NoMemory) => Err(Stop::NoMemory),
+            Err(Stop::Fault(never)) => match never {},
+        }
+    }
+
+    fn place(&mut self, serial: &Serial) -> Result<Option<(Tail, Position)>, Interrupted> {
+        self.count()?;
+        let mut plain = Plain { book: self.book };
+        Ok(answered(plain.place(serial)))
+    }
+
+    fn all_open_defects(&mut self, alloc: Global) -> Result<Vec<Defect>, Stop<Interrupted>> {
+        self.count_or_stop()?;
+        let mut plain = Plain { book: self.book };
+        match plain.all_open_defects(alloc) {
+            Ok(found) => Ok(found),
+            Err(Stop::NoMemory) => Err(Stop::NoMemory),
+            Err(Stop::Fault(never)) => match never {},
+        }
+    }
+
     fn open_defects(
         &mut self,
         alloc: Global,

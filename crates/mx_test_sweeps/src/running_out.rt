@@ -82,7 +82,29 @@ fn questions_of_list(alloc: Global, book: &Book, question: &Question) -> Result<
     Err(Wrong::Found("a list that is never made"))
 }
 
-// Makes each list of an aircraft: the number of questions.
+// Makes each list of all aircraft: the number of questions.
+fn questions_of_all(alloc: Global, book: &Book, day: Day) -> Result<u32, Wrong> {
+    let fleet = questions_of_list(alloc, book, &Question::Fleet(day))?;
+    let ahead = Question::Outlook {
+        day,
+        days: 365,
+        minutes: 120,
+        cycles: 1,
+    };
+    let outlook = questions_of_list(alloc, book, &ahead)?;
+    let aircraft = questions_of_list(alloc, book, &Question::Aircraft)?;
+    let components = questions_of_list(alloc, book, &Question::Components)?;
+    let deferred = questions_of_list(alloc, book, &Question::Deferred(day))?;
+    Ok(
+        fleet
+            .saturating_add(outlook)
+            .saturating_add(aircraft)
+            .saturating_add(components)
+            .saturating_add(deferred),
+    )
+}
+
+// Makes each list of an aircraft, and each of all: the number of questions.
 fn questions_of_lists(alloc: Global, book: &Book, tail: Tail, day: Day) -> Result<u32, Wrong> {
     let life = questions_of_list(alloc, book, &Question::Life(tail))?;
     let dues = questions_of_list(alloc, book, &Question::Due(tail, day))?;
@@ -95,10 +117,12 @@ fn questions_of_lists(alloc: Global, book: &Book, tail: Tail, day: Day) -> Resul
         cycles: 1,
     };
     let forecast = questions_of_list(alloc, book, &ahead)?;
+    let all = questions_of_all(alloc, book, day)?;
     Ok(
         life.saturating_add(dues)
             .saturating_add(limits)
-            .saturating_add(forecast),
+            .saturating_add(forecast)
+            .saturating_add(all),
     )
 }
 

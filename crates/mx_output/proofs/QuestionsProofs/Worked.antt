@@ -2,7 +2,7 @@
 use Rattle.std.proofs.Common.{refl, ◌≡◌, [], ◌∷◌, true, false, Some, None}
 use Rattle.std.specs.Prelude.{codes, map, is_some}
 use Rattle.mx_intake.proofs.Worked.{intake_on_literals}
-use Rattle.mx_output.specs.questions.Asking.{doc_of, due_question, forecast_question, is_in_reach, life_question, limits_question, tail_of}
+use Rattle.mx_output.specs.questions.Asking.{deferred_question, doc_of, due_question, fleet_question, forecast_question, is_in_reach, life_question, limits_question, outlook_question, tail_of}
 use Rattle.mx_lists.specs.declared.question.Question.TheVariants as asked
 
 -- a registration has up to 8 characters, A to Z, 0 to 9 and the hyphen
@@ -38,3 +38,19 @@ forecast_asked = refl
 forecast_too_far : forecast_question (codes "D-ABCD") (codes "2024-03-10") 3651 120 4 ≡ None
 unfolding intake_on_literals
 forecast_too_far = refl
+
+fleet_asked : map fleet_question (codes "2024-03-10" ∷ codes "2024-3-10" ∷ []) ≡ Some (asked.Fleet 19792) ∷ None ∷ []
+unfolding intake_on_literals
+fleet_asked = refl
+
+deferred_asked : map deferred_question (codes "2024-03-10" ∷ codes "2024-02-30" ∷ []) ≡ Some (asked.Deferred 19792) ∷ None ∷ []
+unfolding intake_on_literals
+deferred_asked = refl
+
+outlook_asked : outlook_question (codes "2024-03-10") 30 120 4 ≡ Some (asked.Outlook 19792 30 120 4)
+unfolding intake_on_literals
+outlook_asked = refl
+
+outlook_too_far : outlook_question (codes "2024-03-10") 30 1441 4 ≡ None
+unfolding intake_on_literals
+outlook_too_far = refl

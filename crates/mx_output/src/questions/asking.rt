@@ -1,6 +1,6 @@
-//! The question that texts ask for a list of an aircraft, as the parts of a path and the words of a command line do.
+//! The question that texts ask for a list of an aircraft or of all, as the parts of a path and the words of a command line do.
 ghost use Rattle.std.specs.Prelude.{◌≡◌};
-ghost use Rattle.mx_output.specs.questions.Asking.{due_question, forecast_question, is_in_reach, life_question, limits_question};
+ghost use Rattle.mx_output.specs.questions.Asking.{deferred_question, due_question, fleet_question, forecast_question, is_in_reach, life_question, limits_question, outlook_question};
 
 use mx_intake::{read_day, read_identifier};
 use mx_lists::{MOST_CYCLES, MOST_DAYS, MOST_MINUTES, Question};
@@ -56,6 +56,39 @@ pub fn forecast_question(
     }
     Some(Question::Forecast {
         tail,
+        day,
+        days,
+        minutes,
+        cycles,
+    })
+}
+
+/// The question for what is due on all aircraft on a day, or `None` where the text can't be read.
+pub fn fleet_question(day: &str) -> Option<Question>
+    ensures { result ≡ fleet_question day.now }
+{
+    let day = read_day(day)?;
+    Some(Question::Fleet(day))
+}
+
+/// The question for the limits of all aircraft on a day, or `None` where the text can't be read.
+pub fn deferred_question(day: &str) -> Option<Question>
+    ensures { result ≡ deferred_question day.now }
+{
+    let day = read_day(day)?;
+    Some(Question::Deferred(day))
+}
+
+/// The question for what will be due on all aircraft from a day on, each flown so many minutes and cycles a day, or `None`
+/// where the text can't be read or a number is past the greatest that a forecast takes.
+pub fn outlook_question(day: &str, days: u32, minutes: u32, cycles: u32) -> Option<Question>
+    ensures { result ≡ outlook_question day.now days minutes cycles }
+{
+    let day = read_day(day)?;
+    if !is_in_reach(days, minutes, cycles) {
+        return None;
+    }
+    Some(Question::Outlook {
         day,
         days,
         minutes,

@@ -1,5 +1,5 @@
-//! The list of an aircraft that a question asks for, and the life of an item, asked inside a transaction.
-ghost use Rattle.std.specs.Prelude.{◌≡◌, ok_or};
+//! The list that a question asks for, of an aircraft or of all, and the life of an item, asked inside a transaction.
+ghost use Rattle.std.specs.Prelude.{◌≡◌, ⊤, ok_or};
 ghost use Rattle.mx_book.specs.Life.{life_now};
 ghost use Rattle.mx_book.specs.declared.verdict.Refusal.TheVariants.{UnknownAircraft};
 ghost use Rattle.mx_lists.specs.Report.{report_of};
@@ -16,6 +16,7 @@ use mx_book::commands::Item;
 use mx_layout::TableFault;
 use mx_lists::{Question, Report, Stop, list_report};
 use mx_lookups::lives::lives;
+use mx_lookups::numbers::entries::entry_count;
 use mx_lookups::numbers::items::aircraft_number;
 use mx_row_judge::questions::ListQuestions;
 use mx_row_judge::view::Rows;
@@ -37,8 +38,28 @@ fn answered(
     }
 }
 
-/// The list of an aircraft that a question asks for, by the rows that a transaction shows: `Err(UnknownAircraft)` where no
-/// aircraft has the registration. It asks for the aircraft, and then what the list asks, each by the rows that have what is
+// What is asked before the list: for the aircraft that the question names, or for the last entry where it names none.
+fn ask_first<S: Alter>(
+    alloc: Global,
+    tx: &mut Transaction<'_, S>,
+    question: &Question,
+) -> Result<(), TableFault>
+    ensures looks_up { IsLookUp S.Store (λ book asked. ⊤) (λ trees asked. ⊤) ListDamage
+        tx.old tx.new result }
+{
+    match question.tail() {
+        Some(tail) => {
+            aircraft_number(alloc, tx, tail)?;
+        }
+        None => {
+            entry_count(alloc, tx)?;
+        }
+    }
+    Ok(())
+}
+
+/// The list that a question asks for, by the rows that a transaction shows: `Err(UnknownAircraft)` where no aircraft has the
+/// registration that it names. It asks for that aircraft, and then what the list asks, each by the rows that have what is
 /// asked for: a row that no question finds is not looked at.
 pub fn list_rows<S: Alter>(
     alloc: Global,
@@ -52,7 +73,7 @@ pub fn list_rows<S: Alter>(
         tx.old tx.new result }
     ensures kind { HasKind question.now result }
 {
-    aircraft_number(alloc, tx, question.tail())?;
+    ask_first(alloc, tx, question)?;
     let mut rows = Rows {
         alloc,
         tx,

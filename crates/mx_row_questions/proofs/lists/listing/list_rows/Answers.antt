@@ -9,8 +9,7 @@ use Rattle.mx_row_judge.specs.Answering.{AnswerListsAs}
 use Rattle.mx_row_questions.proofs.ListsProofs.ListStanding.{answer_lists_as}
 use Rattle.mx_row_questions.proofs.ListsProofs.ListLemmas.{list_asks, list_kind, list_shares}
 use Rattle.mx_row_judge.proofs.ViewLemmas.{asked_any, asked_then, asked_damage}
-use Rattle.mx_lookups.proofs.NumbersProofs.ToldLemmas.{handed}
-use Rattle.mx_row_judge.specs.Damage.{by_aircraft, by_judge, ListDamage}
+use Rattle.mx_row_judge.specs.Damage.{ListDamage}
 use Rattle.mx_row_judge.specs.View.{Asks}
 use Rattle.mx_row_questions.specs.lists.Listing.{ListOf}
 use Rattle.mx_row_questions.proofs.lists.listing.list_rows.Goals as goal
@@ -18,7 +17,7 @@ use Rattle.mx_row_questions.proofs.lists.listing.list_rows.Goals as goal
 pub returns-clause-looks_up : goal.returns-clause-looks_up
 returns-clause-looks_up g c =
     let old = c.args.tx.now.conn.now in
-    let begun = c.aircraft_number.new.tx.conn.now in
+    let begun = c.ask_first.new.tx.conn.now in
     let list = c.answered.result in
     let last = c.list_report.new.records.tx.now.conn.now in
     let shares = list_shares g.S.Store AnswerListsAs ListDamage (λ book. report_of book c.args.question.now) _ c.list_report.new.records c.list_report.result c.list_report.ensures.answers in
@@ -29,20 +28,12 @@ returns-clause-looks_up g c =
     record {
       same_reference = search rules;
       reads = subst (λ end. Reads (λ book a. a ≡ ok_or (report_of book c.args.question.now) UnknownAircraft) (state g.S.Store old) (state g.S.Store end) list) given
-          (asked_then g.S.Store AnswerListsAs ListDamage _ (λ book a. a ≡ ok_or (report_of book c.args.question.now) UnknownAircraft) old begun last _ c.in_ok-aircraft_number.ensures.looks_up.reads answer_lists_as list asks);
+          (asked_then g.S.Store AnswerListsAs ListDamage _ (λ book a. a ≡ ok_or (report_of book c.args.question.now) UnknownAircraft) old begun last _ c.in_ok-ask_first.ensures.looks_up.reads answer_lists_as list asks);
       any_rows = subst (λ end. ReadsAny (ListOf (λ book. report_of book c.args.question.now)) (state g.S.Store old) (state g.S.Store end) list) given
-          (asked_any g.S.Store AnswerListsAs ListDamage _ (λ book a. a ≡ ok_or (report_of book c.args.question.now) UnknownAircraft) old begun last _ c.in_ok-aircraft_number.ensures.looks_up.reads list asks);
+          (asked_any g.S.Store AnswerListsAs ListDamage _ (λ book a. a ≡ ok_or (report_of book c.args.question.now) UnknownAircraft) old begun last _ c.in_ok-ask_first.ensures.looks_up.reads list asks);
       damage = subst (λ end. TellsDamage ListDamage (state g.S.Store old) (state g.S.Store end) list) given
-          (asked_damage g.S.Store AnswerListsAs ListDamage _ (λ book a. a ≡ ok_or (report_of book c.args.question.now) UnknownAircraft) old begun last _ c.in_ok-aircraft_number.ensures.looks_up.reads list asks);
+          (asked_damage g.S.Store AnswerListsAs ListDamage _ (λ book a. a ≡ ok_or (report_of book c.args.question.now) UnknownAircraft) old begun last _ c.in_ok-ask_first.ensures.looks_up.reads list asks);
     }
 
 pub returns-clause-kind : goal.returns-clause-kind
 returns-clause-kind g c = list_kind c.args.question.now c.list_report.result c.answered.result c.answered.ensures c.list_report.ensures.kind
-
-pub returns-in_err-aircraft_number-clause-looks_up : goal.returns-in_err-aircraft_number-clause-looks_up
-returns-in_err-aircraft_number-clause-looks_up g c = record {
-  same_reference = search rules;
-  reads = search rules;
-  any_rows = search rules;
-  damage = handed (λ name trees it. by_judge (by_aircraft c.tail.result.now it)) c.from_residual.ensures.1 c.in_err-aircraft_number.ensures.looks_up.damage;
-}
