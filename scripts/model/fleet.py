@@ -4,7 +4,8 @@ import typing
 from . import book as records
 from . import lists
 from .commands import AddAircraft, AddComponent, Book, Item
-from .texts import day_text, moment_text
+from .http_text import Asked
+from .texts import day_of, day_text, moment_text
 
 LISTS = ("fleet", "outlook", "aircraft", "components", "deferred")  # words of the program, which the desk has not
 
@@ -60,6 +61,11 @@ def deferred_text(book: Book, day: int) -> str:
     found = [(limit.last, numbers[limit.doc], f"{limit.status} {known.tail} {limit.words}")
              for known in all_aircraft(book) for limit in lists.limit_rows(book, known.tail, day)]
     return lists.whole(f"deferred {day_text(day)}", [line for _, _, line in sorted(found)])
+
+
+def asked_of(word: str, behind: typing.Sequence[str]) -> Asked:
+    """A question, by what is typed behind the file."""
+    return Asked(word, (*map(day_of, behind[:1]), *map(int, behind[1:])), b"")
 
 
 def listed(book: Book, word: str, words: typing.Tuple[typing.Any, ...]) -> str:
