@@ -15,12 +15,14 @@ TAILS = ["D-EAAA", "D-EBBB", "D-ECCC"]
 TAIL = TAILS[0]
 FIRST = datetime(2024, 1, 1)
 KIND = "C172"
-PARTS = {"ENG": "IO360", "PROP": "HC2", "PUMP": "VP1"}
+Parts = typing.Dict[str, str]  # by the positions that take them
+PARTS: Parts = {"ENG": "IO360", "PROP": "HC2", "PUMP": "VP1"}
 TURN = 20  # entries
 SECTORS = 16  # of each turn
 FITTED_EACH = 25  # turns
 
-TASKS = [
+Task = typing.Tuple[str, str, str, str]  # its name, to what it applies, its first limit and the one after
+TASKS: typing.List[Task] = [
     ("100H", "airframe", "hours = 1000", "hours = 100"),
     ("ANNUAL", "airframe", "days = 365", "days = 365"),
     ("OVERHAUL", "part:IO360", "hours = 2000, days = 4380", "hours = 2000, days = 4380"),
@@ -37,14 +39,14 @@ def made(do: str, doc: str, **keys: object) -> Command:
     return {"do": do, "doc": doc, **keys}
 
 
-def aircraft(doc: str, tail: str) -> Command:
-    positions = [{"position": position, "part": part} for position, part in PARTS.items()]
+def aircraft(doc: str, tail: str, parts: Parts = PARTS) -> Command:
+    positions = [{"position": position, "part": part} for position, part in parts.items()]
     return made("add-aircraft", doc, tail=tail, kind=KIND, birth="2000-01-01", minutes=60000, cycles=800,
                 as_of=text_of(FIRST), positions=positions)
 
 
-def component(doc: str, serial: str, position: str) -> Command:
-    return made("add-component", doc, serial=serial, part=PARTS[position], birth="2015-01-01", minutes=30000,
+def component(doc: str, serial: str, position: str, parts: Parts = PARTS) -> Command:
+    return made("add-component", doc, serial=serial, part=parts[position], birth="2015-01-01", minutes=30000,
                 cycles=400, as_of=text_of(FIRST))
 
 
@@ -85,20 +87,20 @@ def first_entries() -> typing.List[Command]:
     return [*found, component("C-PUMP", "PUMP-0", "PUMP"), deferral("X-0", TAIL, FIRST, "D")]
 
 
-def openings() -> typing.List[Command]:
+def openings(tails: typing.Sequence[str] = TAILS) -> typing.List[Command]:
     return [
-        *(opening(f"O1-{nth}", "100H", 59000, tail=tail) for nth, tail in enumerate(TAILS)),
-        *(opening(f"O2-{nth}", "ANNUAL", 55000, tail=tail) for nth, tail in enumerate(TAILS)),
+        *(opening(f"O1-{nth}", "100H", 59000, tail=tail) for nth, tail in enumerate(tails)),
+        *(opening(f"O2-{nth}", "ANNUAL", 55000, tail=tail) for nth, tail in enumerate(tails)),
     ]
 
 
-def turn(nth: int, first: int = 0) -> typing.List[Command]:
+def turn(nth: int, first: int = 0, tails: typing.Sequence[str] = TAILS) -> typing.List[Command]:
     """Two days of an aircraft; the defects of turns before the first are let alone."""
-    one, tail = nth % len(TAILS), TAILS[nth % len(TAILS)]
+    one, tail = nth % len(tails), tails[nth % len(tails)]
     begun = FIRST + timedelta(days=2 * nth + 1)
     evening = begun + timedelta(hours=2 * SECTORS)
     flights = {"tail": tail, "task": "100H" if first else "ANNUAL"}
-    before = {"defect": f"X{nth - len(TAILS)}"} if nth >= first + len(TAILS) else flights
+    before = {"defect": f"X{nth - len(tails)}"} if nth >= first + len(tails) else flights
     flown = [sector(tail, nth + 1, line + 1, begun + timedelta(hours=2 * line)) for line in range(SECTORS)]
     done = [
         deferral(f"X{nth}", tail, evening, "C"),
@@ -112,12 +114,12 @@ def turn(nth: int, first: int = 0) -> typing.List[Command]:
     return [*flown[2:], *done, removal, fitting(f"F{nth}", f"PROP-{one}", tail, "PROP", evening + timedelta(hours=4))]
 
 
-def later_entries(count: int) -> typing.List[Command]:
+def later_entries(count: int, tails: typing.Sequence[str] = TAILS) -> typing.List[Command]:
     """So many entries behind the first ones and the programme."""
-    found = openings()
+    found = openings(tails)
     nth = 0
     while len(found) < count:
-        found += turn(nth)
+        found += turn(nth, tails=tails)
         nth += 1
     return found[:count]
 
@@ -129,8 +131,14 @@ def day_after(entries: int) -> datetime:
 
 def programme(revision: int, tasks: int = len(TASKS)) -> str:
     """A programme in TOML: its four tasks, and as many inspections of the airframe as make it so many."""
-    more = range(tasks - len(TASKS))
-    stated = TASKS + [(f"INSP-{nth}", "airframe", f"hours = {2000 + nth}", "hours = 500") for nth in more]
+    return programme_of(revision, [*TASKS, *inspections(tasks - len(TASKS))])
+
+
+def inspections(count: int) -> typing.List[Task]:
+    return [(f"INSP-{nth}", "airframe", f"hours = {2000 + nth}", "hours = 500") for nth in range(count)]
+
+
+def programme_of(revision: int, stated: typing.List[Task]) -> str:
     tables = [
         f'[[task]]\nid = "{task}"\napplies = "{item}"\nfirst = {{ {first} }}\nrepeat = {{ {repeat} }}\n'
         for task, item, first, repeat in stated

@@ -139,6 +139,11 @@ QUESTIONS: typing.Dict[str, typing.List[str]] = {
     "life": [], "due": [DAY], "limits": [DAY], "forecast": [DAY, "365", "120", "2"],
 }
 
+# The words that ask for a list of all aircraft, each with what stands behind the file. The desk has none of them.
+FLEET_QUESTIONS: typing.Dict[str, typing.List[str]] = {
+    "fleet": [DAY], "outlook": [DAY, "365", "120", "2"], "aircraft": [], "components": [], "deferred": [DAY],
+}
+
 
 def path_of(question: str, tail: str = TAIL) -> str:
     """Where the desk answers a question."""

@@ -8,16 +8,19 @@ import typing
 
 import desk_client
 from desk_client import Desk, entries, get, whole
-from model import csv_text, json_text, office, toml_text
+from model import csv_text, fleet, json_text, office, toml_text
 from model.commands import Book, Entry
 from model.http_text import Asked, asked_of
 from model.judge import enter
 from model.playing import words_of
-from office_facts import AIRCRAFT, COMMANDS, HEADER, PROGRAMME, QUESTIONS, TABLES, TAIL, Command, path_of
+from office_facts import (
+    AIRCRAFT, COMMANDS, FLEET_QUESTIONS, HEADER, PROGRAMME, QUESTIONS, TABLES, TAIL, Command, path_of,
+)
 
 ALL_TABLES = set(TABLES)
-# What is asked of the file that a stop leaves.
+# What is asked of the file that a stop leaves, and then of the one to which the word that was stopped is handed in again.
 LISTS = [asked_of(get(path)) for path in [*map(path_of, QUESTIONS), path_of("life", "D-EFGH")]]
+FLEET_LISTS = [fleet.asked_of(word, behind) for word, behind in FLEET_QUESTIONS.items()]
 Program = typing.List[str]  # the program, behind what is to be loaded in front of it
 # How a call of the disk is stopped (stop_disk.c), and what a program that goes on behind it tells, with which status.
 HOW = ["before", "within", "fail", "once"]
@@ -142,6 +145,9 @@ class Word:
         """What the program does on these words, the file behind the first."""
         return desk_client.run(self.program[0], words[0], file, *words[1:])
 
+    def listed(self, file: pathlib.Path, lists: typing.List[Asked]) -> typing.List[office.Printed]:
+        return [self.run(file, asked.word, *words_of(asked)) for asked in lists]
+
     def before(self, file: pathlib.Path) -> None:
         """Makes what the file holds before the word, and what the word reads: here nothing."""
 
@@ -194,6 +200,7 @@ class Entering(Word):
             enter(book, entry)
             self.books.append(book)
         self.lists = [[office.printed(book, asked) for asked in LISTS] for book in self.books]
+        self.last_lists = [office.printed(self.books[-1], asked) for asked in FLEET_LISTS]
         self.again = [office.printed([*book], self.asked) for book in self.books]
 
     def before(self, file: pathlib.Path) -> None:
@@ -213,12 +220,9 @@ class Entering(Word):
         word, *rest = self.words(file, self.asked)
         return Started(program, [word, file, *rest])
 
-    def lists_found(self, file: pathlib.Path) -> typing.List[office.Printed]:
-        return [self.run(file, asked.word, *words_of(asked)) for asked in LISTS]
-
     def kept(self, file: pathlib.Path, ended: Ended) -> int:
         """How many of the commands are kept, by the lists and by the replies where they are handed in again."""
-        found = self.lists_found(file)
+        found = self.listed(file, LISTS)
         again = self.run(file, *self.words(file, self.asked))
         kept = next((n for n in range(len(self.books)) if found == self.lists[n] and again == self.again[n]), None)
         if kept is None:
@@ -228,7 +232,7 @@ class Entering(Word):
             raise Bad(f"{kept} of the commands are kept, and these were acknowledged: {ended.acknowledged!r}")
         if ended.status >= 0 and kept > least + ("store" in ended.told):
             raise Bad(f"{kept} of the commands are kept, {least} were acknowledged, and it told {ended.told!r}")
-        want("the lists then", self.lists[-1], self.lists_found(file))
+        want("the lists then", self.last_lists, self.listed(file, FLEET_LISTS))
         return kept
 
     def after(self, file: pathlib.Path, ended: Ended) -> str:
@@ -292,7 +296,7 @@ class Old(Word):
         super().__init__(office_path)
         book: Book = []
         self.replies = office.printed(book, self.asked)
-        self.lists = [office.printed(book, asked) for asked in LISTS]
+        self.lists = [office.printed(book, asked) for asked in [*LISTS, *FLEET_LISTS]]
         self.again = office.printed(book, self.asked)
 
     def read(self, file: pathlib.Path) -> pathlib.Path:
@@ -303,7 +307,7 @@ class Old(Word):
 
     def look(self, file: pathlib.Path) -> None:
         """Looks at the whole book, in a file that any of the lists moves to the newest layout."""
-        want("the lists", self.lists, [self.run(file, asked.word, *words_of(asked)) for asked in LISTS])
+        want("the lists", self.lists, self.listed(file, [*LISTS, *FLEET_LISTS]))
         is_verified(self, file)
         want("enter", self.again, self.run(file, "enter", self.read(file)))
 

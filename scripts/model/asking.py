@@ -5,6 +5,7 @@ import typing
 from . import damage
 from .http_text import Asked
 from .playing import request_of
+from .texts import LAST_DAY
 
 METHODS = ["GET", "POST", "PUT", "HEAD", "get", "post", "G(T", "OPTIONS", ""]
 VERSIONS = ["HTTP/1.1", "HTTP/1.1", "HTTP/1.0", "HTTP/2.0", "HTTP/1.2", "http/1.1", "HTTP/1.1 ", " HTTP/1.1", "HTT", ""]
@@ -28,6 +29,8 @@ PARTS = [
 TARGETS = ["/", "*", "/entries", "/entries/", "/Entries", "/sectors", "/sectors?x=/y", "/programmes", "/programmes/",
            "/programmes/P?", "/aircraft", "/aircraft/D-A", "/aircraft/D-A/life/", "/aircraft//life", "//entries",
            "entries",
+           "/fleet/2024-03-01", "/outlook/2024-03-01/30/60/1", "/components", "/deferred/2024-03-01",
+           "/aircraft/D-A/fleet", "/aircraft/D-A/fleet/2024-03-01", "/aircraft/D-A/outlook/2024-03-01/30/60/1",
            "http://desk/entries", "/aircraft/D-A/life?", "/aircraft/D-A/life?a b", "/programmes/TL", "/?/entries", ""]
 LINE_ENDS = ["\r\n", "\r\n", "\r\n", "\n", "\r", "\r\r\n", " \r\n"]
 
@@ -45,16 +48,31 @@ def random_path(chance: random.Random) -> str:
     return "/" + "/".join(parts)
 
 
+def random_day(chance: random.Random, base: int) -> int:
+    return max(0, min(LAST_DAY, base + chance.choice([0, 3, 8, 20, 60, 120, -1, -400])))
+
+
+def random_rate(chance: random.Random) -> typing.Tuple[int, int, int]:
+    """The days of a forecast, and minutes and cycles a day."""
+    return chance.choice([0, 5, 30, 60, 400, 3650]), chance.choice([0, 1, 60, 1440]), chance.choice([0, 1, 50])
+
+
 def list_asked(chance: random.Random, tails: typing.Sequence[str], base: int) -> Asked:
     """A question for a list of an aircraft."""
     word = chance.choice(["life", "due", "due", "limits", "forecast", "forecast"])
-    day = max(0, min(84005, base + chance.choice([0, 3, 8, 20, 60, 120, -1, -400])))
+    day = random_day(chance, base)
     words: typing.Tuple[typing.Any, ...] = (chance.choice(list(tails)),)
     if word != "life":
         words += (day,)
     if word == "forecast":
-        words += (chance.choice([0, 5, 30, 60, 400, 3650]), chance.choice([0, 1, 60, 1440]), chance.choice([0, 1, 50]))
+        words += random_rate(chance)
     return Asked(word, words, b"")
+
+
+def fleet_words(chance: random.Random, word: str, base: int) -> typing.Tuple[int, ...]:
+    """What stands behind a word for a list of all aircraft."""
+    day, rate = random_day(chance, base), random_rate(chance)
+    return {"fleet": (day,), "deferred": (day,), "outlook": (day, *rate)}.get(word, ())
 
 
 def request_target(asked: Asked) -> str:

@@ -3,8 +3,8 @@ import json
 import random
 import typing
 
-from . import office
-from .asking import list_asked, random_request
+from . import fleet, office
+from .asking import fleet_words, list_asked, random_request
 from .commands import Book
 from .edges import edge
 from .damage import damaged
@@ -90,8 +90,14 @@ def lists_asked(case: Case) -> typing.Iterator[Asked]:
         yield Asked("forecast", (tail, day, case.chance.choice([0, 10, 90, 3650]), *rate), b"")
 
 
+def fleet_asked(case: Case) -> typing.Iterator[Asked]:
+    """Questions for the lists of all aircraft, which are asked by words alone: the desk has none of them."""
+    for word in fleet.LISTS:
+        yield Asked(word, fleet_words(case.chance, word, case.world.base), b"")
+
+
 def command_list(seed: int, number: int, by_words: bool, as_old: bool = False) -> Case:
-    """A list of commands, and the lists of every aircraft on some days."""
+    """A list of commands, the lists of every aircraft on some days, and those of all aircraft."""
     case = Case(seed, f"{'old' if as_old else 'list'}-{number}")
     if as_old:
         case.begun_as_old(by_words)
@@ -101,6 +107,8 @@ def command_list(seed: int, number: int, by_words: bool, as_old: bool = False) -
         case.asked(case.handed_in(2), by_words)
     for asked in lists_asked(case):
         case.asked(asked, by_words)
+    for asked in fleet_asked(case):
+        case.asked(asked, True)
     return case
 
 

@@ -110,11 +110,13 @@ CaseType = typing.TypeVar("CaseType", bound=Case)
 
 
 def edge(case: CaseType, number: int, by_words: bool) -> CaseType:
-    """52 aircraft, of which the last two are too many; the ends of shapes; a text of the largest size, by a word."""
+    """52 aircraft, of which the last two are too many, and the list of all; the ends of shapes; a text of the largest size, by a word."""
     if number == 0:
         case.asked(Asked("enter", (), json.dumps([aircraft(n) for n in range(52)]).encode()), by_words)
         for tail in ("D-49", "D-50"):
             case.asked(Asked("due", (tail, 20_000), b""), by_words)
+        for word, words in (("aircraft", ()), ("fleet", (20_000,))):
+            case.asked(Asked(word, words, b""), True)
     elif number == 1:
         for command in commands():
             case.asked(Asked("enter", (), json.dumps([command]).encode()), False)

@@ -14,7 +14,7 @@ PHRASES = {
     413: "Payload Too Large", 431: "Request Header Fields Too Large",
 }
 BODIES = {400: "bad request\n", 411: "length required\n", 413: "too large\n", 431: "too large\n"}
-LISTS = ("due", "limits", "forecast", "life")
+LISTS = ("due", "limits", "forecast", "life")  # of one aircraft: words of the program, and routes of the desk
 OLD_FILE = "init-old"  # the word that makes a file of layout 1
 
 

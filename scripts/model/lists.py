@@ -7,6 +7,7 @@ from .texts import day_text, hours_text
 
 RANKS = ["OVERDUE", "DUE", "OK"]
 UNKNOWN = "refused 20\n"
+Rate = typing.Tuple[int, int]  # minutes and cycles a day
 
 
 class Row(typing.NamedTuple):
@@ -21,6 +22,15 @@ class Row(typing.NamedTuple):
     def status(self) -> str:
         ranks = [rank(left, tolerated) for left, tolerated in zip(self.left, self.tolerance) if left is not None]
         return RANKS[min(ranks)]
+
+
+class Limit(typing.NamedTuple):
+    """The limit of an open defect: its last day, its document, how it stands, and the words behind that."""
+
+    last: int
+    doc: str
+    status: str
+    words: str
 
 
 def rank(left: int, tolerated: int) -> int:
@@ -96,39 +106,53 @@ def rows_by_place(book: Book, tail: str, kind: str, day: int) -> typing.List[Row
     return rows + [row._replace(words=f"defect {row.words}") for _, row in defect_rows(book, tail, day)]
 
 
+def due_rows(book: Book, tail: str, kind: str, day: int) -> typing.List[Row]:
+    return sorted(rows_by_place(book, tail, kind, day), key=lambda row: RANKS.index(row.status()))
+
+
 def due_text(book: Book, tail: str, day: int) -> str:
     known = records.aircraft(book, tail)
     if known is None:
         return UNKNOWN
-    rows = sorted(rows_by_place(book, tail, known.kind, day), key=lambda row: RANKS.index(row.status()))
     head = f"due {tail} {day_text(day)} {use_words(records.life(book, Item(tail=tail)))}"
-    return whole(head, [f"{row.status()} {row.words} {row.tail}" for row in rows])
+    return whole(head, [f"{row.status()} {row.words} {row.tail}" for row in due_rows(book, tail, known.kind, day)])
+
+
+def limit_rows(book: Book, tail: str, day: int) -> typing.List[Limit]:
+    """By their last days, those of one last day in the order of their entries."""
+    limits = []
+    for last, row in sorted(defect_rows(book, tail, day), key=lambda pair: pair[0]):
+        doc = row.words.split(" ")[0]
+        found = records.defect(book, doc)
+        assert found is not None
+        since = f"found={day_text(found.moment // 1440)} ext={records.extended(book, doc)}"
+        limits.append(Limit(last, doc, row.status(), f"{row.words} {since} {row.tail}"))
+    return limits
 
 
 def limits_text(book: Book, tail: str, day: int) -> str:
     if records.aircraft(book, tail) is None:
         return UNKNOWN
-    lines = []
-    for _, row in sorted(defect_rows(book, tail, day), key=lambda pair: pair[0]):
-        doc = row.words.split(" ")[0]
-        found = records.defect(book, doc)
-        assert found is not None
-        since = f"found={day_text(found.moment // 1440)} ext={records.extended(book, doc)}"
-        lines.append(f"{row.status()} {row.words} {since} {row.tail}")
+    lines = [f"{limit.status} {limit.words}" for limit in limit_rows(book, tail, day)]
     return whole(f"limits {tail} {day_text(day)}", lines)
 
 
-def forecast_text(book: Book, tail: str, day: int, days: int, rate: typing.Tuple[int, int]) -> str:
-    known = records.aircraft(book, tail)
-    if known is None:
-        return UNKNOWN
+def forecast_rows(book: Book, tail: str, kind: str, day: int, days: int, rate: Rate) -> typing.List[typing.Tuple[int, str]]:
+    """What is reached within so many days, the soonest first, each behind the number of days."""
     found = []
-    for row in rows_by_place(book, tail, known.kind, day):
+    for row in rows_by_place(book, tail, kind, day):
         after = [n for n in range(days + 1) if is_reached(row.left, (rate[0] * n, rate[1] * n, n))]
         if after:
             found.append((after[0], row.reached))
-    found.sort(key=lambda pair: pair[0])
-    lines = [f"{n} {day_text(day + n)} {reached}" for n, reached in found]
+    return sorted(found, key=lambda pair: pair[0])
+
+
+def forecast_text(book: Book, tail: str, day: int, days: int, rate: Rate) -> str:
+    known = records.aircraft(book, tail)
+    if known is None:
+        return UNKNOWN
+    rows = forecast_rows(book, tail, known.kind, day, days, rate)
+    lines = [f"{n} {day_text(day + n)} {reached}" for n, reached in rows]
     return whole(f"forecast {tail} {day_text(day)} {days} {rate[0]} {rate[1]}", lines)
 
 

@@ -1,12 +1,13 @@
 """What the office answers: the words of the program, and requests over HTTP, over the book so far."""
 import typing
 
-from . import csv_text, json_text, lists, toml_text
+from . import csv_text, fleet, http_text, json_text, lists, toml_text
 from .commands import Book, Entry
-from .http_text import BODIES, LISTS, Asked, Rejected, answer, asked_of
+from .http_text import BODIES, Asked, Rejected, answer, asked_of
 from .judge import enter
 from .reading import Fault
 
+LISTS = (*http_text.LISTS, *fleet.LISTS)  # the words that print a list; all others hand in
 Printed = typing.Tuple[int, bytes, bytes]  # the status, standard output and standard error
 
 
@@ -26,6 +27,8 @@ def told(book: Book, asked: Asked) -> typing.List[str]:
 
 
 def listed(book: Book, asked: Asked) -> str:
+    if asked.word in fleet.LISTS:
+        return fleet.listed(book, asked.word, asked.words)
     tail, *rest = asked.words
     if asked.word == "life":
         return lists.life_text(book, tail)

@@ -8,9 +8,9 @@ import typing
 import desk_client
 from desk_client import Desk, ended, get, post, run, whole
 
-from . import office
+from . import fleet, http_text, office
 from .commands import Book
-from .http_text import LISTS, OLD_FILE, Asked, is_whole
+from .http_text import OLD_FILE, Asked, is_whole
 from .texts import day_text
 from .toml_text import Undecided
 
@@ -38,15 +38,16 @@ Steps = typing.List[Step]
 def words_of(asked: Asked) -> typing.List[str]:
     """The words behind the file; days as they are written."""
     words = [str(word) for word in asked.words]
-    if asked.word in LISTS and len(words) > 1:
-        words[1] = day_text(asked.words[1])
+    day = 0 if asked.word in fleet.LISTS else 1  # where a list has its day, if any
+    if asked.word in office.LISTS and len(words) > day:
+        words[day] = day_text(asked.words[day])
     return words
 
 
 def request_of(asked: Asked) -> bytes:
     paths = {"enter": "/entries", "import": "/sectors", "programme": "/programmes/"}
     words = words_of(asked)
-    if asked.word in LISTS:
+    if asked.word in http_text.LISTS:
         return get("/".join(["/aircraft", words[0], asked.word, *words[1:]]))
     return post(paths[asked.word] + "".join(words), asked.body)
 
@@ -99,7 +100,7 @@ class Program:
         """A word of the program."""
         assert step.asked is not None
         text, words = folder / "text", words_of(step.asked)
-        if step.asked.word not in LISTS:
+        if step.asked.word not in office.LISTS:
             text.write_bytes(step.asked.body)
             words.append(str(text))
         if step.asked.word == OLD_FILE:

@@ -7,8 +7,8 @@ from . import book as records
 from .commands import AddAircraft, AddComponent, Book, Defer, Item
 from .texts import LAST_DAY, day_text, moment_text
 
-TAILS = ["D-A", "D-B", "D-C"]
-SERIALS = ["S1", "S2", "S3", "S4"]
+TAILS = ["D-A", "D-B", "D-A1"]
+SERIALS = ["S1", "S2", "S10", "S3"]
 KINDS = ["K1", "K2"]
 PARTS = ["P1", "P2"]
 POSITIONS = ["X1", "X2", "X3"]
