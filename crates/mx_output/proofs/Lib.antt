@@ -1,4 +1,5 @@
 pub mod EndingsProofs
+pub mod ExplainedProofs
 pub mod PrintedProofs
 pub mod QuestionsProofs
 pub mod SectorLogProofs

@@ -1,0 +1,3 @@
+pub mod EachLemmas
+pub mod TableLemmas
+pub mod Worked
