@@ -8,3 +8,4 @@ pub mod WorkedLives
 pub mod WorkedDues
 pub mod WorkedLimits
 pub mod WorkedForecast
+mod WorkedFleet
