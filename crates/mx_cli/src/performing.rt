@@ -1,4 +1,4 @@
-//! What the words ask for: each does its job over a file, at a port or in memory.
+//! What the words ask for: each does its job over a file, at a port or in memory, or prints a text.
 
 use crate::serving::Served;
 use mx_files::{
@@ -6,6 +6,7 @@ use mx_files::{
     programme_file, try_out, verify_file,
 };
 use mx_output::endings::{Ending, Stop};
+use mx_output::explained::print_explanation;
 use mx_words::Perform;
 use mx_words::command_line::Words;
 
@@ -34,6 +35,7 @@ impl Perform for Jobs {
             Words::Verify { file } => verify_file(rt, file, out),
             Words::Migrate { file, steps } => migrate_file(rt, file, *steps, out),
             Words::InitOld { file, entries } => init_old_file(rt, file, entries, out),
+            Words::Explain { text } => print_explanation(out, text),
         }
     }
 }

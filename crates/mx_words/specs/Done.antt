@@ -12,7 +12,7 @@ use Rattle.mx_words.specs.command_line.Trial.{is_trial_shaped, trial_commands}
 use Rattle.mx_output.specs.printed.Tried.{TellsTrial}
 use Rattle.mx_output.specs.printed.Verified.{IsVerifiedLine}
 use Rattle.mx_words.specs.command_line.Usage.{IsRequest}
-use Rattle.mx_words.specs.command_line.Job.{Job, said, tries, makes, lists, enters, imports, installs, loads, moves, serves, verifies}
+use Rattle.mx_words.specs.command_line.Job.{Job, said, tries, makes, explains, lists, enters, imports, installs, loads, moves, serves, verifies}
 use Rattle.mx_output.specs.declared.endings.ending.Ending.{Ending}
 use Rattle.mx_output.specs.declared.endings.ending.Ending.TheVariants.{Done}
 
@@ -28,6 +28,7 @@ IsDone (serves file port count) text ending = (text ≡ served_line count) × (e
 IsDone (verifies file) text ending = IsVerifiedLine text ending
 IsDone (moves file steps) text ending = IsPointLine text ending
 IsDone (installs file entries) text ending = AreFirstReplies text ending
+IsDone (explains explanation) text ending = (text ≡ explanation) × (ending ≡ Done)
 
 -- the job is a trial that lacks its shape
 abbrev pub LacksShape : Job → Type 0

@@ -3,10 +3,10 @@
 //!
 //! # What is promised
 //!
-//! - There are thirteen words, each with its values in their order, and each value has to be there: `command`,
+//! - There are fourteen words, each with its values in their order, and each value has to be there: `command`,
 //!   `new_word`, `value`: `rule`; `IsWord` of each word.
 //! - What is asked for is what the values say that `clap` found: the file, the question, the documents and numbers in
-//!   their ranges (one digit or more, below 2^32); where one can't be read nothing is: `words_of`.
+//!   their ranges (one digit or more, below 2^32), the explanation; where one can't be read nothing is: `words_of`.
 //! - The commands of a trial are the two that its words give; `BadShape` comes only where one of them lacks its shape:
 //!   `trial_commands`: `made`, `shaped`, `shape`; `aircraft_of`, `sector_of`: `shape`.
 

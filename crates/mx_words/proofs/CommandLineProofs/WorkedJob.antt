@@ -1,11 +1,13 @@
 -- What words ask for, computed from the definitions.
-use Rattle.std.proofs.Common.{refl, ◌≡◌, ℕ, List, [], ◌∷◌, Option, Some, None, map}
+use Rattle.std.proofs.Common.{refl, ◌≡◌, ℕ, List, [], ◌∷◌, Option, Some, None, map, true}
 use Rattle.std.specs.Prelude.{codes}
+use Rattle.std.specs.Option.{is_some, option_map}
 use Rattle.clap.specs.Words.{Row}
 use Rattle.clap.specs.declared.builder.value_parser.Reading.TheVariants.{AsWritten}
 use Rattle.mx_intake.proofs.Worked.{intake_on_literals}
 use Rattle.mx_lists.specs.declared.question.Question.TheVariants.{Life, Due, Forecast, Limits}
-use Rattle.mx_words.specs.command_line.Job.{Job, tries, makes, lists, enters, imports, installs, loads, moves, serves, verifies, job_said, number_within}
+use Rattle.mx_output.specs.explained.Explained.{explanation_of, explanations}
+use Rattle.mx_words.specs.command_line.Job.{Job, tries, makes, explains, lists, enters, imports, installs, loads, moves, serves, verifies, job_said, number_within}
 use Rattle.mx_words.specs.declared.command_line.words.TheConstants.{MOST_CONNECTIONS, MOST_PORT, MOST_STEPS}
 
 -- what is found for a name with one value
@@ -98,6 +100,23 @@ tried : asked (codes "try") ((codes "TAIL", codes "D-ABCD") ∷ (codes "MINUTES"
     ≡ Some (tries (record { tail = codes "D-ABCD"; minutes = 60000; cycles = 800; off = 28488000; on = 28488090; sector_cycles = 1 }))
 unfolding intake_on_literals
 tried = refl
+
+-- a refusal and a fault are explained by their texts
+abbrev explained : List ℕ → Option Job
+explained what = asked (codes "explain") ((codes "WHAT", what) ∷ [])
+
+explained_by : map explained (codes "41" ∷ codes "63" ∷ codes "store" ∷ []) ≡ map (λ what. option_map explains (explanation_of what)) (codes "41" ∷ codes "63" ∷ codes "store" ∷ [])
+unfolding explanations
+explained_by = refl
+
+some_explained : map (λ what. is_some (explained what)) (codes "41" ∷ codes "63" ∷ codes "store" ∷ []) ≡ true ∷ true ∷ true ∷ []
+unfolding explanations
+some_explained = refl
+
+-- numbers and words that are none
+not_explained : map explained (codes "32" ∷ codes "041" ∷ codes "entry" ∷ []) ≡ None ∷ None ∷ None ∷ []
+unfolding explanations
+not_explained = refl
 
 -- a word that there is not, and a value that is not there
 no_word : asked (codes "lives") on_a_day ≡ None

@@ -31,6 +31,7 @@ words =
     ∷ (codes "verify", codes "FILE" ∷ [])
     ∷ (codes "migrate", codes "FILE" ∷ codes "STEPS" ∷ [])
     ∷ (codes "init-old", codes "FILE" ∷ codes "ENTRIES" ∷ [])
+    ∷ (codes "explain", codes "WHAT" ∷ [])
     ∷ []
 
 -- the program without its words

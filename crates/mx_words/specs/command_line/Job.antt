@@ -5,6 +5,7 @@ use Rattle.clap.specs.Words.{Row, first_of, found_of, rows_of, subcommand_rows_o
 use Rattle.clap.specs.declared.parser.matches.ArgMatches.{ArgMatches}
 use Rattle.mx_intake.specs.Form.{if_read}
 use Rattle.mx_intake.specs.Vocabulary.{moment_of_text}
+use Rattle.mx_output.specs.explained.Explained.{explanation_of}
 use Rattle.mx_output.specs.questions.Asking.{doc_of, due_question, forecast_question, life_question, limits_question, tail_of}
 use Rattle.mx_lists.specs.declared.question.Question.{Question}
 use Rattle.mx_words.specs.command_line.Number.{number_in}
@@ -13,7 +14,7 @@ use Rattle.mx_words.specs.declared.command_line.words.TheConstants.{MOST_CONNECT
 use Rattle.mx_words.specs.declared.command_line.words.Words.{Words}
 use Rattle.mx_words.specs.declared.command_line.words.Words.TheVariants as words
 
--- an aircraft and a sector are tried; an empty book is made in a file; a list is asked of one; the commands of a file, the sectors of a log, or a programme by a document are entered into one; so many connections are served at a port with one; it is told whether the tables of one are those of a book; one is moved to the newest layout by at most so many commits; a book of the commands of a file is made in another, in the oldest layout
+-- an aircraft and a sector are tried; an empty book is made in a file; a list is asked of one; the commands of a file, the sectors of a log, or a programme by a document are entered into one; so many connections are served at a port with one; it is told whether the tables of one are those of a book; one is moved to the newest layout by at most so many commits; a book of the commands of a file is made in another, in the oldest layout; a text explains a refusal or a fault
 pub data Job : Type 0 where
   tries : Trial → Job
   makes : List ℕ → Job
@@ -25,6 +26,7 @@ pub data Job : Type 0 where
   verifies : List ℕ → Job
   moves : List ℕ → ℕ → Job
   installs : List ℕ → List ℕ → Job
+  explains : List ℕ → Job
 
 -- the job of words that were read
 abbrev pub job_of : Words → Job
@@ -38,6 +40,7 @@ job_of (words.Serve file port count) = serves file.now port count
 job_of (words.Verify file) = verifies file.now
 job_of (words.Migrate file steps) = moves file.now steps
 job_of (words.InitOld file entries) = installs file.now entries.now
+job_of (words.Explain text) = explains text.now
 
 -- ── the values of a word, by their names ──
 
@@ -115,6 +118,12 @@ serving file values =
 abbrev pub moving : List ℕ → List Row → Option Job
 moving file values = if_read (number_within 0 MOST_STEPS (codes "STEPS") values) (λ steps. Some (moves file steps))
 
+-- a refusal or a fault is explained
+abbrev pub explaining : List Row → Option Job
+explaining values =
+    if_read (first_of (codes "WHAT") values) (λ what.
+    if_read (explanation_of what) (λ text. Some (explains text)))
+
 -- what a word asks for that looks after a file itself, or for a list
 abbrev pub job_beside : List ℕ → List ℕ → List Row → Option Job
 job_beside word file values =
@@ -137,6 +146,7 @@ job_over word file values =
 abbrev pub job_said : List ℕ × List Row → Option Job
 job_said (word, values) =
     if bytes_eq word (codes "try") then if_read (trying values) (λ trial. Some (tries trial))
+    else if bytes_eq word (codes "explain") then explaining values
     else if_read (first_of (codes "FILE") values) (λ file. job_over word file values)
 
 -- what is asked for by what was found

@@ -246,6 +246,21 @@ fn init_old_command<'a>(alloc: Global) -> Result<Command<'a>, AllocError>
     )
 }
 
+fn explain_command<'a>(alloc: Global) -> Result<Command<'a>, AllocError>
+    ensures { IfOk result (IsWord (codes "explain")) }
+{
+    new_word(
+        alloc,
+        "explain",
+        "Prints what a refusal or a fault means, and what to do about it",
+        help::EXPLAIN,
+        &[(
+            "WHAT",
+            "What stands behind `refused` or `fault`, a number or a word",
+        )],
+    )
+}
+
 // The program without its words.
 fn office_command<'a>(alloc: Global) -> Result<Command<'a>, AllocError>
     ensures { IfOk result (IsApp office) }
@@ -254,8 +269,7 @@ fn office_command<'a>(alloc: Global) -> Result<Command<'a>, AllocError>
         Command::new(alloc, "office")
             .bin_name("office")?
             .version("0.2")
-            .about("Keeps the continuing airworthiness records of a small operator")
-            .after_help(help::OFFICE)
+            .override_help(help::OFFICE)
             .subcommand_required(true),
     )
 }
@@ -277,5 +291,6 @@ pub fn command<'a>(alloc: Global) -> Result<Command<'a>, AllocError>
         .subcommand(serve_command(alloc)?)?
         .subcommand(verify_command(alloc)?)?
         .subcommand(migrate_command(alloc)?)?
-        .subcommand(init_old_command(alloc)?)
+        .subcommand(init_old_command(alloc)?)?
+        .subcommand(explain_command(alloc)?)
 }

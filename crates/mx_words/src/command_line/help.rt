@@ -9,14 +9,37 @@ pub(crate) const TAIL: &str = "The registration, 1 to 8 of A to Z, 0 to 9 and -"
 /// What DAY is.
 pub(crate) const DAY: &str = "The day, YYYY-MM-DD";
 
-/// The program.
+/// The program: its words in groups, each with a line of its own.
 pub(crate) const OFFICE: &str = "\
+Keeps the continuing airworthiness records of a small operator\n\n\
+Usage: office <COMMAND>\n\n\
+Each day:\n  \
+due         What is due on an aircraft, and what is left until then on a day\n  \
+limits      The last day of each open defect of an aircraft, and what is left until then\n  \
+forecast    What will be due on an aircraft, and when, at the rate that it is flown\n\n\
+What there is:\n  \
+life        The life of an aircraft, and of each component that is fitted to it\n\n\
+Entering:\n  \
+enter       Enters the commands of a file, and prints a reply for each\n  \
+import      Enters the sectors of a log, and prints a reply or a fault for each row\n  \
+programme   Enters the maintenance programme of a file by a document\n\n\
+The file:\n  \
+init        Makes an empty book in a file\n  \
+verify      Reads a file whole, and prints whether its tables are those of a book\n  \
+migrate     Moves a file of an older layout on, and prints the point that it is at\n  \
+init-old    Makes a file of the oldest layout with the commands of a file in it\n\n\
+Others:\n  \
+serve       Answers requests over HTTP at a port of this machine alone\n  \
+explain     Prints what a refusal or a fault means, and what to do about it\n  \
+try         Enters an aircraft and one sector into a store in memory, and prints the life\n\n\
+Options:\n  \
+-h, --help     Print help; behind a word, that of the word\n  \
+-V, --version  Print version\n\n\
 FILE is a database; its log lies beside it, as FILE-wal. One program at a time has it open.\n\
-A day is YYYY-MM-DD and a moment YYYY-MM-DDTHH:MM, in UTC, from 1970-01-01 to 2199-12-31.\n\
-Flight time is entered in minutes and printed in hours, H:MM.\n\n\
+A day is YYYY-MM-DD, a moment YYYY-MM-DDTHH:MM in UTC, from 1970-01-01 to 2199-12-31.\n\
+Flight time is entered in minutes and printed in hours, H:MM.\n\
 Status: 0 all was done, 1 something was refused, 2 other words than these, 3 a faulty input\n\
-file, 4 a fault after FILE was opened, 5 FILE could not be opened or made.\n\
-docs/REFUSALS.md has what each number means, transcripts/tour.md a first session.\n\n\
+file, 4 a fault after FILE was opened, 5 FILE could not be opened or made.\n\n\
 Example:\n  office due fleet.db D-EABC 2024-02-01";
 
 /// `try`.
@@ -102,3 +125,10 @@ pub(crate) const INIT_OLD: &str = "\
 FILE is new or empty. It gets the commands that are accepted, in one commit, in layout 1, the first\n\
 that files had: to try a move on, or to hand records to an older program. ENTRIES is as for `enter`.\n\n\
 Example:\n  office init-old old.db examples/fleet.json";
+
+/// `explain`.
+pub(crate) const EXPLAIN: &str = "\
+WHAT is the number of a refusal, as 41, the number of a fault of an input file, as 63, or the word of\n\
+a fault of the program, as `store`; where more stands behind it, the number or the word alone. No\n\
+file is opened. docs/REFUSALS.md has more, transcripts/tour.md a first session.\n\n\
+Example:\n  office explain 41";

@@ -8,7 +8,7 @@ ghost use Rattle.std.specs.List.{list_all};
 ghost use Rattle.std.specs.Option.{option_map};
 ghost use Rattle.clap.specs.Words.{first_of};
 ghost use Rattle.mx_words.specs.command_line.Number.{number_in};
-ghost use Rattle.mx_words.specs.command_line.Job.{asking, asking_forecast, asking_on_a_day, doc_at};
+ghost use Rattle.mx_words.specs.command_line.Job.{asking, asking_forecast, asking_on_a_day, doc_at, explaining};
 ghost use Rattle.mx_words.specs.command_line.Job.{job_beside, job_of, job_over, job_said, loading};
 ghost use Rattle.mx_words.specs.command_line.Job.{moment_at, moving, number_at, number_within, said};
 ghost use Rattle.mx_words.specs.command_line.Job.{serving, tail_at, trying, values_of};
@@ -18,6 +18,7 @@ use clap::ArgMatches;
 use mx_base::{Doc, Moment, Tail};
 use mx_intake::{read_identifier, read_moment};
 use mx_lists::Question;
+use mx_output::explained::explanation;
 use mx_output::questions::{due_question, forecast_question, life_question, limits_question};
 
 /// The greatest port.
@@ -78,6 +79,10 @@ pub enum Words<'a> {
     InitOld {
         file: &'a str,
         entries: &'a str,
+    },
+    /// A refusal or a fault is explained, by the text that is printed.
+    Explain {
+        text: &'a str,
     },
 }
 
@@ -215,6 +220,14 @@ fn moving_of<'a>(file: &'a str, values: &ArgMatches<'a>) -> Option<Words<'a>>
     Some(Words::Migrate { file, steps })
 }
 
+// The explanation that is asked for.
+fn explaining_of<'a>(values: &ArgMatches<'a>) -> Option<Words<'a>>
+    ensures { option_map job_of result ≡ explaining (values_of values.now) }
+{
+    let text = explanation(value_of(values, "WHAT")?)?;
+    Some(Words::Explain { text })
+}
+
 // What a word asks for that looks after a file itself, or for a list.
 fn words_beside<'a>(word: &str, file: &'a str, values: &ArgMatches<'a>) -> Option<Words<'a>>
     ensures { option_map job_of result ≡ job_beside word.now file.entry.now (values_of values.now) }
@@ -262,6 +275,7 @@ fn words_by<'a>(word: &str, values: &ArgMatches<'a>) -> Option<Words<'a>>
             let trial = trial_of(values)?;
             Some(Words::Try(trial))
         }
+        "explain" => explaining_of(values),
         _ => words_over(word, value_of(values, "FILE")?, values),
     }
 }

@@ -16,4 +16,5 @@ returns c =
     let ten = one_word_more _ _ _ _ _ nine c.in_ok-serve_command.ensures c.in_ok-subcommand-10.ensures in
     let eleven = one_word_more _ _ _ _ _ ten c.in_ok-verify_command.ensures c.in_ok-subcommand-11.ensures in
     let twelve = one_word_more _ _ _ _ _ eleven c.in_ok-migrate_command.ensures c.in_ok-subcommand-12.ensures in
-    IfOk-weaker c.subcommand-13.result _ _ (λ whole added. one_word_more _ _ _ _ _ twelve c.in_ok-init_old_command.ensures added) c.subcommand-13.ensures
+    let thirteen = one_word_more _ _ _ _ _ twelve c.in_ok-init_old_command.ensures c.in_ok-subcommand-13.ensures in
+    IfOk-weaker c.subcommand-14.result _ _ (λ whole added. one_word_more _ _ _ _ _ thirteen c.in_ok-explain_command.ensures added) c.subcommand-14.ensures
