@@ -3,7 +3,7 @@
 //!
 //! # What is promised
 //!
-//! - There are fourteen words, each with its values in their order, and each value has to be there: `command`,
+//! - There are nineteen words, each with its values in their order, and each value has to be there: `command`,
 //!   `new_word`, `value`: `rule`; `IsWord` of each word.
 //! - What is asked for is what the values say that `clap` found: the file, the question, the documents and numbers in
 //!   their ranges (one digit or more, below 2^32), the explanation; where one can't be read nothing is: `words_of`.

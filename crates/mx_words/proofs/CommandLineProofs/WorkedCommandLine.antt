@@ -6,13 +6,13 @@ use Rattle.mx_output.specs.explained.Form.{has_part}
 use Rattle.mx_words.specs.command_line.CommandLine.{office, office_with_words, word, words}
 use Rattle.mx_words.specs.declared.command_line.help.TheConstants.{OFFICE}
 
--- fourteen words
-fourteen_words : map (λ sub. sub.name) office_with_words.subs
-    ≡ codes "try" ∷ codes "init" ∷ codes "life" ∷ codes "due" ∷ codes "forecast" ∷ codes "limits" ∷ codes "enter" ∷ codes "import" ∷ codes "programme" ∷ codes "serve" ∷ codes "verify" ∷ codes "migrate" ∷ codes "init-old" ∷ codes "explain" ∷ []
-fourteen_words = refl
+-- nineteen words
+nineteen_words : map (λ sub. sub.name) office_with_words.subs
+    ≡ codes "try" ∷ codes "init" ∷ codes "life" ∷ codes "due" ∷ codes "forecast" ∷ codes "limits" ∷ codes "enter" ∷ codes "import" ∷ codes "programme" ∷ codes "serve" ∷ codes "verify" ∷ codes "migrate" ∷ codes "init-old" ∷ codes "explain" ∷ codes "fleet" ∷ codes "outlook" ∷ codes "aircraft" ∷ codes "components" ∷ codes "deferred" ∷ []
+nineteen_words = refl
 
 -- how many values each takes
-numbers_of_values : map (λ sub. length sub.rules) office_with_words.subs ≡ 6 ∷ 1 ∷ 2 ∷ 3 ∷ 6 ∷ 3 ∷ 2 ∷ 2 ∷ 3 ∷ 3 ∷ 1 ∷ 2 ∷ 2 ∷ 1 ∷ []
+numbers_of_values : map (λ sub. length sub.rules) office_with_words.subs ≡ 6 ∷ 1 ∷ 2 ∷ 3 ∷ 6 ∷ 3 ∷ 2 ∷ 2 ∷ 3 ∷ 3 ∷ 1 ∷ 2 ∷ 2 ∷ 1 ∷ 2 ∷ 5 ∷ 1 ∷ 1 ∷ 2 ∷ []
 numbers_of_values = refl
 
 -- the values of import and of programme, in their order

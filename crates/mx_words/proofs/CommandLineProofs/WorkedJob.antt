@@ -5,7 +5,7 @@ use Rattle.std.specs.Option.{is_some, option_map}
 use Rattle.clap.specs.Words.{Row}
 use Rattle.clap.specs.declared.builder.value_parser.Reading.TheVariants.{AsWritten}
 use Rattle.mx_intake.proofs.Worked.{intake_on_literals}
-use Rattle.mx_lists.specs.declared.question.Question.TheVariants.{Life, Due, Forecast, Limits}
+use Rattle.mx_lists.specs.declared.question.Question.TheVariants.{Life, Due, Forecast, Limits, Fleet, Outlook, Aircraft, Components, Deferred}
 use Rattle.mx_output.specs.explained.Explained.{explanation_of, explanations}
 use Rattle.mx_words.specs.command_line.Job.{Job, tries, makes, explains, lists, enters, imports, installs, loads, moves, serves, verifies, job_said, number_within}
 use Rattle.mx_words.specs.declared.command_line.words.TheConstants.{MOST_CONNECTIONS, MOST_PORT, MOST_STEPS}
@@ -51,6 +51,25 @@ forecast_too_far = refl
 forecast_of_no_number : asked (codes "forecast") (looking_ahead (codes "30") (codes "-1") (codes "4")) ≡ None
 unfolding intake_on_literals
 forecast_of_no_number = refl
+
+fleet_asked : asked (codes "fleet") on_a_day ≡ Some (lists (codes "records") (Fleet 19792))
+unfolding intake_on_literals
+fleet_asked = refl
+
+deferred_asked : asked (codes "deferred") on_a_day ≡ Some (lists (codes "records") (Deferred 19792))
+unfolding intake_on_literals
+deferred_asked = refl
+
+outlook_asked : asked (codes "outlook") (looking_ahead (codes "30") (codes "120") (codes "4")) ≡ Some (lists (codes "records") (Outlook 19792 30 120 4))
+unfolding intake_on_literals
+outlook_asked = refl
+
+outlook_at_too_much : asked (codes "outlook") (looking_ahead (codes "30") (codes "120") (codes "51")) ≡ None
+unfolding intake_on_literals
+outlook_at_too_much = refl
+
+what_there_is : map (λ word. asked word on_a_day) (codes "aircraft" ∷ codes "components" ∷ []) ≡ Some (lists (codes "records") Aircraft) ∷ Some (lists (codes "records") Components) ∷ []
+what_there_is = refl
 
 entered : asked (codes "enter") ((codes "FILE", codes "records") ∷ (codes "ENTRIES", codes "day.json") ∷ []) ≡ Some (enters (codes "records") (codes "day.json"))
 entered = refl

@@ -32,6 +32,11 @@ words =
     ∷ (codes "migrate", codes "FILE" ∷ codes "STEPS" ∷ [])
     ∷ (codes "init-old", codes "FILE" ∷ codes "ENTRIES" ∷ [])
     ∷ (codes "explain", codes "WHAT" ∷ [])
+    ∷ (codes "fleet", codes "FILE" ∷ codes "DAY" ∷ [])
+    ∷ (codes "outlook", codes "FILE" ∷ codes "DAY" ∷ codes "DAYS" ∷ codes "MINUTES" ∷ codes "CYCLES" ∷ [])
+    ∷ (codes "aircraft", codes "FILE" ∷ [])
+    ∷ (codes "components", codes "FILE" ∷ [])
+    ∷ (codes "deferred", codes "FILE" ∷ codes "DAY" ∷ [])
     ∷ []
 
 -- the program without its words

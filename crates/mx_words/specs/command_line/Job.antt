@@ -6,8 +6,9 @@ use Rattle.clap.specs.declared.parser.matches.ArgMatches.{ArgMatches}
 use Rattle.mx_intake.specs.Form.{if_read}
 use Rattle.mx_intake.specs.Vocabulary.{moment_of_text}
 use Rattle.mx_output.specs.explained.Explained.{explanation_of}
-use Rattle.mx_output.specs.questions.Asking.{doc_of, due_question, forecast_question, life_question, limits_question, tail_of}
+use Rattle.mx_output.specs.questions.Asking.{deferred_question, doc_of, due_question, fleet_question, forecast_question, life_question, limits_question, outlook_question, tail_of}
 use Rattle.mx_lists.specs.declared.question.Question.{Question}
+use Rattle.mx_lists.specs.declared.question.Question.TheVariants as question
 use Rattle.mx_words.specs.command_line.Number.{number_in}
 use Rattle.mx_words.specs.declared.command_line.trial.Trial.{Trial}
 use Rattle.mx_words.specs.declared.command_line.words.TheConstants.{MOST_CONNECTIONS, MOST_PORT, MOST_STEPS}
@@ -95,12 +96,29 @@ asking_on_a_day word tail day values =
     else if bytes_eq word (codes "forecast") then asking_forecast tail day values
     else None
 
--- the question of a word for a list
-abbrev pub asking : List ℕ → List Row → Option Question
-asking word values =
+-- the question of a word for a list of an aircraft
+abbrev pub asking_of_one : List ℕ → List Row → Option Question
+asking_of_one word values =
     if_read (first_of (codes "TAIL") values) (λ tail.
     if bytes_eq word (codes "life") then life_question tail
     else if_read (first_of (codes "DAY") values) (λ day. asking_on_a_day word tail day values))
+
+-- the question for what will be due on all aircraft
+abbrev pub asking_outlook : List ℕ → List Row → Option Question
+asking_outlook day values =
+    if_read (number_at (codes "DAYS") values) (λ days.
+    if_read (number_at (codes "MINUTES") values) (λ minutes.
+    if_read (number_at (codes "CYCLES") values) (λ cycles. outlook_question day days minutes cycles)))
+
+-- the question of a word for a list, of all aircraft or of one
+abbrev pub asking : List ℕ → List Row → Option Question
+asking word values =
+    if bytes_eq word (codes "aircraft") then Some question.Aircraft
+    else if bytes_eq word (codes "components") then Some question.Components
+    else if bytes_eq word (codes "fleet") then if_read (first_of (codes "DAY") values) fleet_question
+    else if bytes_eq word (codes "deferred") then if_read (first_of (codes "DAY") values) deferred_question
+    else if bytes_eq word (codes "outlook") then if_read (first_of (codes "DAY") values) (λ day. asking_outlook day values)
+    else asking_of_one word values
 
 -- a programme is entered into a file
 abbrev pub loading : List ℕ → List Row → Option Job

@@ -115,10 +115,10 @@ fn forecast_command<'a>(alloc: Global) -> Result<Command<'a>, AllocError>
         &[
             ("FILE", help::FILE),
             ("TAIL", help::TAIL),
-            ("DAY", "The day to look ahead from, YYYY-MM-DD"),
-            ("DAYS", "The days to look ahead, 0 to 3650"),
-            ("MINUTES", "The flight minutes a day, 0 to 1440"),
-            ("CYCLES", "The cycles a day, 0 to 50"),
+            ("DAY", help::DAY_AHEAD),
+            ("DAYS", help::DAYS),
+            ("MINUTES", help::MINUTES),
+            ("CYCLES", help::CYCLES),
         ],
     )
 }
@@ -246,6 +246,72 @@ fn init_old_command<'a>(alloc: Global) -> Result<Command<'a>, AllocError>
     )
 }
 
+fn fleet_command<'a>(alloc: Global) -> Result<Command<'a>, AllocError>
+    ensures { IfOk result (IsWord (codes "fleet")) }
+{
+    new_word(
+        alloc,
+        "fleet",
+        "Prints what is due on all aircraft, and what is left until then on a day",
+        help::FLEET,
+        &[("FILE", help::FILE), ("DAY", help::DAY)],
+    )
+}
+
+fn outlook_command<'a>(alloc: Global) -> Result<Command<'a>, AllocError>
+    ensures { IfOk result (IsWord (codes "outlook")) }
+{
+    new_word(
+        alloc,
+        "outlook",
+        "Prints what will be due on all aircraft, and when, at one rate for all",
+        help::OUTLOOK,
+        &[
+            ("FILE", help::FILE),
+            ("DAY", help::DAY_AHEAD),
+            ("DAYS", help::DAYS),
+            ("MINUTES", help::MINUTES),
+            ("CYCLES", help::CYCLES),
+        ],
+    )
+}
+
+fn aircraft_command<'a>(alloc: Global) -> Result<Command<'a>, AllocError>
+    ensures { IfOk result (IsWord (codes "aircraft")) }
+{
+    new_word(
+        alloc,
+        "aircraft",
+        "Prints all aircraft, with the life of each, its components and open defects",
+        help::AIRCRAFT,
+        &[("FILE", help::FILE)],
+    )
+}
+
+fn components_command<'a>(alloc: Global) -> Result<Command<'a>, AllocError>
+    ensures { IfOk result (IsWord (codes "components")) }
+{
+    new_word(
+        alloc,
+        "components",
+        "Prints all components, with the life of each, and where it is fitted",
+        help::COMPONENTS,
+        &[("FILE", help::FILE)],
+    )
+}
+
+fn deferred_command<'a>(alloc: Global) -> Result<Command<'a>, AllocError>
+    ensures { IfOk result (IsWord (codes "deferred")) }
+{
+    new_word(
+        alloc,
+        "deferred",
+        "Prints the last day of each open defect of all aircraft, and what is left until then on a day",
+        help::DEFERRED,
+        &[("FILE", help::FILE), ("DAY", help::DAY)],
+    )
+}
+
 fn explain_command<'a>(alloc: Global) -> Result<Command<'a>, AllocError>
     ensures { IfOk result (IsWord (codes "explain")) }
 {
@@ -292,5 +358,10 @@ pub fn command<'a>(alloc: Global) -> Result<Command<'a>, AllocError>
         .subcommand(verify_command(alloc)?)?
         .subcommand(migrate_command(alloc)?)?
         .subcommand(init_old_command(alloc)?)?
-        .subcommand(explain_command(alloc)?)
+        .subcommand(explain_command(alloc)?)?
+        .subcommand(fleet_command(alloc)?)?
+        .subcommand(outlook_command(alloc)?)?
+        .subcommand(aircraft_command(alloc)?)?
+        .subcommand(components_command(alloc)?)?
+        .subcommand(deferred_command(alloc)?)
 }

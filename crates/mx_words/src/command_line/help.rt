@@ -9,15 +9,32 @@ pub(crate) const TAIL: &str = "The registration, 1 to 8 of A to Z, 0 to 9 and -"
 /// What DAY is.
 pub(crate) const DAY: &str = "The day, YYYY-MM-DD";
 
+/// What DAY is of a list that looks ahead.
+pub(crate) const DAY_AHEAD: &str = "The day to look ahead from, YYYY-MM-DD";
+
+/// What DAYS is.
+pub(crate) const DAYS: &str = "The days to look ahead, 0 to 3650";
+
+/// What MINUTES is.
+pub(crate) const MINUTES: &str = "The flight minutes a day, 0 to 1440";
+
+/// What CYCLES is.
+pub(crate) const CYCLES: &str = "The cycles a day, 0 to 50";
+
 /// The program: its words in groups, each with a line of its own.
 pub(crate) const OFFICE: &str = "\
 Keeps the continuing airworthiness records of a small operator\n\n\
 Usage: office <COMMAND>\n\n\
 Each day:\n  \
+fleet       What is due on all aircraft, and what is left until then on a day\n  \
 due         What is due on an aircraft, and what is left until then on a day\n  \
+deferred    The last day of each open defect of all aircraft, and what is left until then\n  \
 limits      The last day of each open defect of an aircraft, and what is left until then\n  \
+outlook     What will be due on all aircraft, and when, at one rate for all\n  \
 forecast    What will be due on an aircraft, and when, at the rate that it is flown\n\n\
 What there is:\n  \
+aircraft    All aircraft, with the life of each, its components and open defects\n  \
+components  All components, with the life of each, and where it is fitted\n  \
 life        The life of an aircraft, and of each component that is fitted to it\n\n\
 Entering:\n  \
 enter       Enters the commands of a file, and prints a reply for each\n  \
@@ -70,6 +87,36 @@ pub(crate) const FORECAST: &str = "\
 A row is the number of days until a task or a deferred defect is due, that day, and what is due, the\n\
 soonest first. At 0 minutes and 0 cycles the aircraft stands, and days alone are used up.\n\n\
 Example:\n  office forecast fleet.db D-EABC 2024-02-01 60 60 1";
+
+/// `fleet`.
+pub(crate) const FLEET: &str = "\
+A row is one of `due`, with the registration behind OVERDUE, DUE or OK: the worst first, and of those\n\
+that stand alike by registration, and then as in the list of the aircraft.\n\n\
+Example:\n  office fleet fleet.db 2024-02-01";
+
+/// `outlook`.
+pub(crate) const OUTLOOK: &str = "\
+A row is one of `forecast`, with the registration behind the day: the soonest first, and those of one\n\
+day by registration. Each aircraft is taken to fly so many minutes and cycles a day.\n\n\
+Example:\n  office outlook fleet.db 2024-02-01 30 60 1";
+
+/// `aircraft`.
+pub(crate) const AIRCRAFT: &str = "\
+A row is the registration, kind, hours and cycles, the latest moment that is known of the aircraft,\n\
+how many components are fitted to it and how many defects are open, by registration.\n\n\
+Example:\n  office aircraft fleet.db";
+
+/// `components`.
+pub(crate) const COMPONENTS: &str = "\
+A row is the serial number, part, hours and cycles, the latest moment that is known of the component,\n\
+and the registration and position that it is fitted to, or - twice, by serial number.\n\n\
+Example:\n  office components fleet.db";
+
+/// `deferred`.
+pub(crate) const DEFERRED: &str = "\
+A row is one of `limits`, with the registration behind OVERDUE, DUE or OK: the soonest last day\n\
+first, and those of one day in the order in which they were entered.\n\n\
+Example:\n  office deferred fleet.db 2024-04-06";
 
 /// `limits`.
 pub(crate) const LIMITS: &str = "\

@@ -8,7 +8,7 @@ ghost use Rattle.std.specs.List.{list_all};
 ghost use Rattle.std.specs.Option.{option_map};
 ghost use Rattle.clap.specs.Words.{first_of};
 ghost use Rattle.mx_words.specs.command_line.Number.{number_in};
-ghost use Rattle.mx_words.specs.command_line.Job.{asking, asking_forecast, asking_on_a_day, doc_at, explaining};
+ghost use Rattle.mx_words.specs.command_line.Job.{asking, asking_forecast, asking_of_one, asking_on_a_day, asking_outlook, doc_at, explaining};
 ghost use Rattle.mx_words.specs.command_line.Job.{job_beside, job_of, job_over, job_said, loading};
 ghost use Rattle.mx_words.specs.command_line.Job.{moment_at, moving, number_at, number_within, said};
 ghost use Rattle.mx_words.specs.command_line.Job.{serving, tail_at, trying, values_of};
@@ -19,7 +19,10 @@ use mx_base::{Doc, Moment, Tail};
 use mx_intake::{read_identifier, read_moment};
 use mx_lists::Question;
 use mx_output::explained::explanation;
-use mx_output::questions::{due_question, forecast_question, life_question, limits_question};
+use mx_output::questions::{
+    deferred_question, due_question, fleet_question, forecast_question, life_question,
+    limits_question, outlook_question,
+};
 
 /// The greatest port.
 const MOST_PORT: u32 = 65_535;
@@ -179,9 +182,32 @@ fn question_on_day(word: &str, tail: &str, day: &str, values: &ArgMatches<'_>) -
     }
 }
 
+fn outlook_at(day: &str, values: &ArgMatches<'_>) -> Option<Question>
+    ensures { result ≡ asking_outlook day.now (values_of values.now) }
+{
+    let days = number_at(values, "DAYS")?;
+    let minutes = number_at(values, "MINUTES")?;
+    let cycles = number_at(values, "CYCLES")?;
+    outlook_question(day, days, minutes, cycles)
+}
+
 // The question that a word for a list asks.
 fn question_of(word: &str, values: &ArgMatches<'_>) -> Option<Question>
     ensures { result ≡ asking word.now (values_of values.now) }
+{
+    match word {
+        "aircraft" => Some(Question::Aircraft),
+        "components" => Some(Question::Components),
+        "fleet" => fleet_question(value_of(values, "DAY")?),
+        "deferred" => deferred_question(value_of(values, "DAY")?),
+        "outlook" => outlook_at(value_of(values, "DAY")?, values),
+        _ => question_of_one(word, values),
+    }
+}
+
+// The question that a word for a list of an aircraft asks.
+fn question_of_one(word: &str, values: &ArgMatches<'_>) -> Option<Question>
+    ensures { result ≡ asking_of_one word.now (values_of values.now) }
 {
     let tail = value_of(values, "TAIL")?;
     match word {

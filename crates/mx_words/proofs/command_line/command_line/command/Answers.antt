@@ -17,4 +17,9 @@ returns c =
     let eleven = one_word_more _ _ _ _ _ ten c.in_ok-verify_command.ensures c.in_ok-subcommand-11.ensures in
     let twelve = one_word_more _ _ _ _ _ eleven c.in_ok-migrate_command.ensures c.in_ok-subcommand-12.ensures in
     let thirteen = one_word_more _ _ _ _ _ twelve c.in_ok-init_old_command.ensures c.in_ok-subcommand-13.ensures in
-    IfOk-weaker c.subcommand-14.result _ _ (λ whole added. one_word_more _ _ _ _ _ thirteen c.in_ok-explain_command.ensures added) c.subcommand-14.ensures
+    let fourteen = one_word_more _ _ _ _ _ thirteen c.in_ok-explain_command.ensures c.in_ok-subcommand-14.ensures in
+    let fifteen = one_word_more _ _ _ _ _ fourteen c.in_ok-fleet_command.ensures c.in_ok-subcommand-15.ensures in
+    let sixteen = one_word_more _ _ _ _ _ fifteen c.in_ok-outlook_command.ensures c.in_ok-subcommand-16.ensures in
+    let seventeen = one_word_more _ _ _ _ _ sixteen c.in_ok-aircraft_command.ensures c.in_ok-subcommand-17.ensures in
+    let eighteen = one_word_more _ _ _ _ _ seventeen c.in_ok-components_command.ensures c.in_ok-subcommand-18.ensures in
+    IfOk-weaker c.subcommand-19.result _ _ (λ whole added. one_word_more _ _ _ _ _ eighteen c.in_ok-deferred_command.ensures added) c.subcommand-19.ensures
