@@ -8,8 +8,8 @@
 //! schema where no table refers to another.
 //!
 //! - The rows read are exactly those of the table with this value in the column, in the order of the key, and each fits
-//!   its type; of open spans those that nothing ended; the last entry is the last by number: `ReadsFirst`: `rows`,
-//!   `fits`, cited by each look-up (`ReadsBy`).
+//!   its type; of open spans those that nothing ended; of all aircraft, components or defects every row; the last entry
+//!   is the last by number: `ReadsFirst`: `rows`, `fits`, cited by each look-up (`ReadsBy`).
 //! - `Damaged` names the reader's own table, and only where one of the rows that were chosen is none of its type: a row
 //!   that was not chosen is not met: `ReadsFirst`: `cause`, `damaged`.
 //! - An answer changes nothing: `ReadsFirst`: `unchanged`.

@@ -112,6 +112,17 @@ open_spans_by_component = codes "SELECT fit_seq, component, aircraft, position, 
 abbrev pub open_spans_by_aircraft : List ℕ
 open_spans_by_aircraft = codes "SELECT fit_seq, component, aircraft, position, from_min, remove_seq, to_min FROM span2 WHERE aircraft = ?1 AND remove_seq IS NULL ORDER BY fit_seq"
 
+-- ── all rows of a table ──
+
+abbrev pub all_aircraft : List ℕ
+all_aircraft = codes "SELECT seq, tail, kind, birth, minutes, cycles, as_of FROM aircraft ORDER BY seq"
+
+abbrev pub all_components : List ℕ
+all_components = codes "SELECT seq, serial, part, birth, minutes, cycles, as_of FROM component ORDER BY seq"
+
+abbrev pub all_defects : List ℕ
+all_defects = codes "SELECT seq, aircraft, moment, reference, category, days FROM defect ORDER BY seq"
+
 -- ── the last row ──
 
 abbrev pub last_entry : List ℕ

@@ -1,9 +1,10 @@
 //! Aircraft and components that are chosen.
-ghost use Rattle.std.specs.Prelude.{◌≡◌, pos};
+ghost use Rattle.std.specs.Prelude.{◌≡◌, pos, None};
 ghost use Rattle.sqlite.specs.declared.types.Value.TheVariants.{Int, Text};
 ghost use Rattle.sqlite.specs.Held.{state};
 ghost use Rattle.mx_layout.specs.kept.Cells.{kept_aircraft, kept_place, kept_component};
-ghost use Rattle.mx_table_rows.specs.chosen.Calls.{ReadsBy};
+ghost use Rattle.mx_table_rows.specs.chosen.Choices.{is_any};
+ghost use Rattle.mx_table_rows.specs.chosen.Calls.{ReadsBy, ReadsFirst};
 
 use crate::chosen::prelude::*;
 use mx_base::rows::{AircraftRow, ComponentRow, PlaceRow};
@@ -42,6 +43,23 @@ pub fn aircraft_by_tail<S: Alter>(
         tx,
         "SELECT seq, tail, kind, birth, minutes, cycles, as_of FROM aircraft WHERE tail = ?1 ORDER BY seq",
         params![tail.as_str()],
+    )
+}
+
+/// All aircraft.
+pub fn all_aircraft<S: Alter>(
+    alloc: Global,
+    tx: &mut Transaction<'_, S>,
+) -> Result<Vec<AircraftRow>, TableFault>
+    ensures same_reference { tx.new.conn.ghost_name ≡ tx.old.conn.ghost_name }
+    ensures reads { ReadsFirst kept_aircraft None kept_aircraft.order is_any (λ rows. rows.items)
+        (state S.Store tx.old.conn.now) (state S.Store tx.new.conn.now) result }
+{
+    rows_chosen(
+        alloc,
+        tx,
+        "SELECT seq, tail, kind, birth, minutes, cycles, as_of FROM aircraft ORDER BY seq",
+        &[],
     )
 }
 
@@ -96,5 +114,22 @@ pub fn component_by_serial<S: Alter>(
         tx,
         "SELECT seq, serial, part, birth, minutes, cycles, as_of FROM component WHERE serial = ?1 ORDER BY seq",
         params![serial.as_str()],
+    )
+}
+
+/// All components.
+pub fn all_components<S: Alter>(
+    alloc: Global,
+    tx: &mut Transaction<'_, S>,
+) -> Result<Vec<ComponentRow>, TableFault>
+    ensures same_reference { tx.new.conn.ghost_name ≡ tx.old.conn.ghost_name }
+    ensures reads { ReadsFirst kept_component None kept_component.order is_any (λ rows. rows.items)
+        (state S.Store tx.old.conn.now) (state S.Store tx.new.conn.now) result }
+{
+    rows_chosen(
+        alloc,
+        tx,
+        "SELECT seq, serial, part, birth, minutes, cycles, as_of FROM component ORDER BY seq",
+        &[],
     )
 }
