@@ -24,7 +24,7 @@ use mx_output::endings::{Ending, Stop};
 use sqlite::Alter;
 use std::{fs, slice};
 
-// A list of an aircraft is asked for.
+// A list of an aircraft, or of all, is asked for.
 impl Asked for Question {
     ghost is_answer = { IsListAnswer };
 
@@ -97,7 +97,7 @@ pub fn verify_file(rt: &HostRuntime, file: &str, out: &mut Vec<u8>) -> Result<En
     answer_file(rt, file, &Verified, out)
 }
 
-/// Appends the list of an aircraft that a question asks for.
+/// Appends the list that a question asks for, of an aircraft or of all.
 pub fn list_file(
     rt: &HostRuntime,
     file: &str,

@@ -20,7 +20,7 @@ use mx_row_questions::lists::listing::{life, list_rows};
 use sqlite::{Alter, Connection};
 use std::alloc::Global;
 
-/// The list of an aircraft that a question asks for.
+/// The list that a question asks for, of an aircraft or of all.
 pub(crate) fn list_found<S: Alter>(
     alloc: Global,
     conn: &mut Connection<S>,

@@ -28,8 +28,8 @@ use sqlite::Alter;
 use std::alloc::Global;
 
 impl<S: Alter> Office<S> {
-    /// The list of an aircraft that a question asks for. `Refused(UnknownAircraft)` where no aircraft has the registration. No
-    /// table changes.
+    /// The list that a question asks for, of an aircraft or of all. `Refused(UnknownAircraft)` where no aircraft has the
+    /// registration that it names. No table changes.
     pub fn list(&mut self, alloc: Global, question: &Question) -> Result<Report, Ask>
         ensures asked { IsAsked (stop_asking result) self.old self.new }
         ensures answered { IsAnsweredBy

@@ -1,6 +1,6 @@
 //! What is said back, whoever asked.
 //!
-//! - `questions`: a question for a list of an aircraft, the list that answers it, and its text.
+//! - `questions`: a question for a list of an aircraft or of all, the list that answers it, and its text.
 //! - `sector_log`: the rows of a sector log: their commands, what each is told, and the lines that say so.
 //! - `endings`: why a word or an answer ends before its work is done, the line that says so, and the status.
 //! - `printed`: what each word prints, and how it ends by that.

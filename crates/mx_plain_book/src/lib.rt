@@ -1,5 +1,5 @@
-//! The plain program: the entries of a book are read anew for each answer, to the judge, to lists, and of the four
-//! lists.
+//! The plain program: the entries of a book are read anew for each answer, to the judge, to lists, and of each
+//! list.
 //!
 //! # What is promised
 //!
@@ -12,22 +12,14 @@
 //! - The open defects of an aircraft are the definition's: those that were deferred on it and not rectified, in the
 //!   order of their entries: `Plain::open_defects`.
 //! - The plain book answers each question of lists, and by its entries: `Plain`, the clauses of `ListRecords`.
-//! - The life list is the definition's, its components by position, and `None` exactly for an unknown registration:
-//!   `life_list_of`.
 //! - The base of a task of an item is the definition's: what an opening states, and of work that was done in each
 //!   dimension the lesser of what was reached and what was due, by the programme in force when it was released; `None`
 //!   exactly where the task was never accomplished: `base_of_item`; `laws::accomplished_has_a_base` of `mx_book`.
 //! - When a task is due is the definition's, and no sum overflows; `None` where the item is unknown, no task of that
 //!   name in force for the kind applies to it, or it is due no more: `due_of_item`.
-//! - The due list is the definition's: each task in force for the aircraft's kind that applies to its airframe or to a
-//!   component fitted to it and is due, with what is left and how it stands, the overdue first, and then by place, the
-//!   open defects behind the tasks that stand alike; `None` exactly for an unknown registration: `due_list_of`.
-//! - The forecast is the definition's: each row of the due list with the least number of days after which it is
-//!   reached, where that is within those asked for, the soonest first and then by place; `None` exactly for an unknown
-//!   registration: `forecast_of`.
-//! - The limits are the definition's: of each open defect the last day, which is the day on which it was found, the
-//!   interval of its category and its extension, and the days that are left, the soonest first; `None` exactly for an
-//!   unknown registration: `limits_of`.
+//! - The list that a question asks for is the definition's, whichever it is, of an aircraft or of all: the life list, the
+//!   due list, the forecast, the limits; what is due on all aircraft, what will be, their limits; all aircraft, all
+//!   components; `None` exactly for an unknown registration: `list_of`.
 #![tactic(auto)]
 
 mod bases;

@@ -1,11 +1,11 @@
-//! The lists by rows: the list of an aircraft that a question asks for, and the life of an item, each asked inside a
+//! The lists by rows: the list that a question asks for, of an aircraft or of all, and the life of an item, each asked inside a
 //! transaction of its rows, as `mx_row_judge` shows them.
 //!
 //! # What is promised
 //!
 //! The office lists by them; lines of `mx_test_office` ask them alone for lists (`listing.cases`).
 //!
-//! - Where the tables stand for a book, the list of an aircraft by rows, and the life of an item, are those of that
+//! - Where the tables stand for a book, the list that is asked for by rows, and the life of an item, are those of that
 //!   book; where it has no such aircraft, or no such component, refusal 20, or 21, is answered: `list_rows`, `life`:
 //!   `looks_up` (`reads`: `read`).
 //! - A list is of the kind that the question asks for: `list_rows`: `kind` (`HasKind`).

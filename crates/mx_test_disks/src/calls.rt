@@ -62,7 +62,7 @@ pub(crate) fn life_of<S: Alter>(
     office.life(alloc, item)
 }
 
-/// The list of an aircraft that a question asks for.
+/// The list that a question asks for.
 pub(crate) fn list_of<S: Alter>(
     alloc: Global,
     office: &mut Office<S>,

@@ -117,7 +117,7 @@ fn refused(alloc: Global, refusal: Refusal) -> AnswerText {
     Ok(reply_in(space, alloc, &Reply::Refused(refusal))?)
 }
 
-// The list of an aircraft that a question asks for. This function and the next say nothing of the tables: so the proofs
+// The list that a question asks for. This function and the next say nothing of the tables: so the proofs
 // above carry none of what the lists promise of them.
 fn list_of<S: Alter>(
     alloc: Global,

@@ -53,7 +53,7 @@ pub fn due_interrupted(
     due_of_kind(&mut records, item, kind, task)
 }
 
-/// The list of an aircraft that is asked for, by at most so many questions, or the fault of the next, or that memory ran out.
+/// The list that is asked for, by at most so many questions, or the fault of the next, or that memory ran out.
 pub fn list_interrupted(
     book: &Book,
     alloc: Global,

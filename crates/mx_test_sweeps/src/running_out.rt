@@ -1,4 +1,4 @@
-//! A book whose questions run out. Each command of a list is judged, and each list of an aircraft is made, by no question,
+//! A book whose questions run out. Each command of a list is judged, and each list of an aircraft and of all is made, by no question,
 //! by one, and so on until it is answered: before that each is stopped by the fault in wait.
 
 use crate::failing::Interrupted;

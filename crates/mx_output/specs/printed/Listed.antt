@@ -1,4 +1,4 @@
--- What a question for a list of an aircraft prints.
+-- What a question for a list of an aircraft or of all prints.
 use Rattle.std.specs.Prelude.{◌≡◌, ◌⊎◌, ℕ, List, ◌++◌, Option, Some, None, Result, Ok, Err}
 use Rattle.mx_book.specs.commands.Act.{Entry}
 use Rattle.mx_book.specs.declared.verdict.Refusal.{Refusal}
