@@ -3,4 +3,5 @@ pub mod Worked
 mod WorkedDues
 mod WorkedLimits
 mod WorkedForecasts
+mod WorkedFleet
 pub mod WorkedReports
