@@ -20,7 +20,7 @@ pub(crate) const EXPLANATIONS: [&str; 49] = [
      What to do: load the programme of the kind first, or mend the kind.\n",
     "24 The programme in force does not have the task, or has it for another part\n\
      than the item, or not for an airframe.\n\
-     What to do: look at its `id` and `applies`, or load a revision that has it.\n",
+     What to do: look at `id` and `applies` there, or load a revision that has it.\n",
     "25 No defect was deferred by the document that an extension or a release names.\n\
      What to do: name the document of the `defer`, not its item of the minimum\n\
      equipment list.\n",
