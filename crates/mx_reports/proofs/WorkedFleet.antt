@@ -3,7 +3,7 @@ use Rattle.std.proofs.Common.{refl, ◌≡◌, ℕ, List, [], ◌∷◌, Some, N
 use Rattle.std.specs.Prelude.{codes, pos, negsuc}
 use Rattle.std.specs.Fmt.{digits}
 use Rattle.mx_base.specs.Calendar.{date_of}
-use Rattle.mx_base.specs.Texts.{day_text}
+use Rattle.mx_base.specs.Texts.{day_text, moment_text}
 use Rattle.mx_base.specs.declared.amounts.Status.TheVariants as statuses
 use Rattle.mx_lists.specs.declared.due_row.DueRow.TheVariants.{Task as TaskRow, Defect as DefectRow}
 use Rattle.mx_lists.specs.FleetRow.{with_tail}
@@ -47,11 +47,11 @@ of_one_defect = refl
 -- moment 28,488,090 is 2024-03-01T09:30
 of_one_aircraft : aircraft_lines (record { tail = codes "D-ABCD"; kind = codes "C172"; life = record { minutes = 60090; cycles = 801 }; clock = 28488090; components = 2; defects = 1 } ∷ [])
     ≡ codes "aircraft\nD-ABCD C172 1001:30 801 2024-03-01T09:30 fitted=2 open=1\nend 1\n"
-unfolding digits date_of day_text count_words
+unfolding digits date_of day_text moment_text count_words
 of_one_aircraft = refl
 
 of_two_components : component_lines (record { serial = codes "E1"; part = codes "IO360"; life = record { minutes = 1090; cycles = 101 }; clock = 28488090; place = None }
     ∷ record { serial = codes "E2"; part = codes "IO360"; life = record { minutes = 1000; cycles = 100 }; clock = 28488090; place = Some (codes "D-ABCD", codes "ENG") } ∷ [])
     ≡ codes "components\nE1 IO360 18:10 101 2024-03-01T09:30 - -\nE2 IO360 16:40 100 2024-03-01T09:30 D-ABCD ENG\nend 2\n"
-unfolding digits date_of day_text fitted_words
+unfolding digits date_of day_text moment_text fitted_words
 of_two_components = refl
