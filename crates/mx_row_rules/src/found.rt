@@ -34,6 +34,10 @@
 //!   `fitted_places_are_found`.
 //! - `open_defects`: the aircraft by its name, deferrals by its number, lines and the entry of each by number:
 //!   `open_defects_are_found`, `documents_are_found`.
+//! - `tails`, `serials`: all aircraft, all components: `aircraft_are_found`, `components_are_found`.
+//! - `place_fitted`: as `tail_fitted`: `fitted_components_are_found`.
+//! - `all_open_defects`: all deferrals, lines, the entry and the aircraft of each by number:
+//!   `all_open_defects_are_found`, `documents_are_found`, `aircraft_are_found`.
 //!
 //! # What is promised
 //!
@@ -44,20 +48,22 @@
 //! - The number of the last entry is how many there are; the row with a document has the number of the entry that is
 //!   known by it, and of the defect that it deferred: `entries_are_numbered`, `entries_are_found_by_document`.
 //! - The row with a registration or a serial number says the aircraft or the component and has its number, and the row
-//!   with a number its name; whether there is room for one more is said by how many rows there are:
-//!   `aircraft_are_found`, `components_are_found`.
+//!   with a number its name; whether there is room for one more is said by how many rows there are, and all names by
+//!   all rows, in the order of their entries: `aircraft_are_found`, `components_are_found`.
 //! - The rows with the number of an aircraft say the part that each position takes: `positions_are_found`.
 //! - The row with the number of an item is there, and has its clock and its life; that of a task of it has the last
 //!   base, and is there exactly where the task was accomplished: `totals_are_found`, `bases_are_found`.
-//! - The open span with the number of a component is of the aircraft that it is fitted to, whose row is there; a
-//!   position is taken where one of the open spans with the number of the aircraft is in it. Open is what nothing
-//!   removed: `fitted_components_are_found`, `taken_positions_are_found`.
+//! - The open span with the number of a component is of the aircraft and the position that it is fitted to, and the row
+//!   of the aircraft is there; a position is taken where one of the open spans with the number of the aircraft is in it.
+//!   Open is what nothing removed: `fitted_components_are_found`, `taken_positions_are_found`.
 //! - The row of a deferral and that of its aircraft are there, and say the defect; those with its number, its extension
 //!   and whether it was rectified: `defects_are_found`, `extensions_and_rectifications_are_found`.
 //! - The open spans with the number of an aircraft are what is fitted to it, each component behind its position, and
 //!   the row of each component is there; its deferrals, without those that a line rectifies, are its open defects, and
 //!   the row of the entry of each is there and has its document; both in the order of their entries:
 //!   `fitted_places_are_found`, `open_defects_are_found`, `documents_are_found`.
+//! - All deferrals, without those that a line rectifies, are the open defects of all aircraft, in the order of their
+//!   entries, and the rows of the entry and of the aircraft of each are there: `all_open_defects_are_found`.
 //! - The last row of a kind has the revision in force, the next has 32 bits, and the rows with its number are the tasks
 //!   in force, each of its shape; they say whether an item is retired, by its part, its birth and its life:
 //!   `revisions_are_found`, `tasks_are_found`, `retired_items_are_found`.

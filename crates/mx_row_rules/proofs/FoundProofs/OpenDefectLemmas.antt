@@ -1,4 +1,4 @@
--- The open defects of an aircraft, by the rows of its deferrals.
+-- The open defects of an aircraft, by the rows of its deferrals, and those of all aircraft.
 use Rattle.std.proofs.Common.{arith, ◌≡◌, ℕ, zero, suc, ◌+◌, ◌<◌, Bool, true, false, cond, ◌&&◌, nat_eq, List, [], ◌∷◌, ◌++◌, filter, length, take, Option, Some, None, refl, sym, ap, ap₂, ◌∙◌, append_assoc, add-one}
 use Rattle.std.specs.Prelude.{is_some, not, slice_get}
 use Rattle.std.specs.List.{AllByRecursion, filter_map, cons_option}
@@ -6,19 +6,21 @@ use Rattle.std.specs.Option.{option_and_then, option_map, option_map_or}
 use Rattle.mx_book.specs.commands.Act.{Act, Entry, Deferred}
 use Rattle.mx_book.specs.commands.Same.{same_text}
 use Rattle.mx_book.proofs.CommandsProofs.SameLemmas.{text_same}
+use Rattle.mx_book.specs.declared.commands.deferral.Deferral.{Deferral}
 use Rattle.mx_book.specs.Book.{IsBook, is_book_from, is_new, entry_at}
 use Rattle.mx_book.specs.Defect.{deferred_by, defects, is_open, is_rectified, open_defects}
 use Rattle.mx_book.specs.Judge.{judge}
 use Rattle.mx_book.specs.Register.{aircraft}
 use Rattle.mx_book.proofs.JudgeLemmas.{both_true}
-use Rattle.mx_registers.specs.Names.{defect_at, defect_deferred, or_zero, seq_of_defect, seq_of_tail}
+use Rattle.mx_registers.specs.Names.{defect_at, defect_deferred, or_zero, seq_of_defect, seq_of_tail, tail_at}
 use Rattle.mx_registers.specs.Registers.{deferral_row, deferral_rows, deferrals_by, entry_added, entry_rows, gives_by, next}
-use Rattle.mx_registers.proofs.NameLemmas.{defect_number}
+use Rattle.mx_registers.proofs.NameLemmas.{defect_number, tail_known}
 use Rattle.mx_registers.proofs.NewLemmas.{deferred_is_known}
 use Rattle.mx_base.specs.declared.rows.rows.DeferralRow.{DeferralRow}
 use Rattle.mx_base.specs.declared.rows.rows.EntryRow.{EntryRow}
 use Rattle.mx_registers.proofs.KeptProofs.KnownLemmas.{aircraft_kept, other_name}
-use Rattle.mx_row_rules.specs.found.Defects.{defect_said, open_said}
+use Rattle.mx_registers.proofs.KeptProofs.NumbersThere.{tail_number_kept}
+use Rattle.mx_row_rules.specs.found.Defects.{deferred_said, defect_said, left_said, open_said}
 use Rattle.mx_row_rules.specs.found.Names.{doc_at, doc_in}
 use Rattle.mx_row_rules.proofs.FoundProofs.DeferralLemmas.{rectified_is}
 use Rattle.mx_row_rules.proofs.FoundProofs.EntryLemmas.{get_seam, given_by, rows_numbered}
@@ -79,6 +81,13 @@ is_number : (o : Option ℕ) (n : ℕ) → 0 < n → n ≡ or_zero o → o ≡ S
 is_number None n low e = absurd (omega (arith, low, e))
 is_number (Some m) n low e = ap (λ (k : ℕ). Some k) (sym e)
 
+-- the number of a defect is that of the entry that defers it
+its_number : (whole : List Entry) → IsBook whole → (before later : List Entry) (e : Entry) (d : Deferral) → before ++ e ∷ later ≡ whole → e.act ≡ Deferred d → seq_of_defect whole e.doc ≡ Some (next before)
+its_number whole b before later e d is act =
+    let deferred : defect_at whole (next before) ≡ Some e.doc = ap (option_and_then defect_deferred) (here whole before later e is) ∙ ap (λ a. defect_deferred (record { doc = e.doc; act = a })) act in
+    let low : 0 < next before = omega arith in
+    is_number (seq_of_defect whole e.doc) (next before) low (defect_number whole e.doc (next before) b.judged deferred)
+
 module _ (whole : List Entry) (b : IsBook whole) (tail : List ℕ) (n : ℕ) (there : is_some (aircraft whole tail) ≡ true) (number : n ≡ or_zero (seq_of_tail whole tail)) where
   open_from : (before later : List Entry) → before ++ later ≡ whole → is_book_from before later ≡ true
       → filter_map (open_said whole tail) (filter (λ (row : DeferralRow). nat_eq row.aircraft n) (gives_by deferrals_by before later)) ≡ filter (is_open whole tail) (defects later)
@@ -94,9 +103,7 @@ module _ (whole : List Entry) (b : IsBook whole) (tail : List ℕ) (n : ℕ) (th
       at (Deferred d) act new rest =
           let at_it = here whole before later e is in
           let row = deferral_row (next before) (or_zero (seq_of_tail before d.tail)) d in
-          let deferred : defect_at whole (next before) ≡ Some e.doc = ap (option_and_then defect_deferred) at_it ∙ ap (λ a. defect_deferred (record { doc = e.doc; act = a })) act in
-          let low : 0 < next before = omega arith in
-          let its : seq_of_defect whole e.doc ≡ Some (next before) = is_number (seq_of_defect whole e.doc) (next before) low (defect_number whole e.doc (next before) b.judged deferred) in
+          let its = its_number whole b before later e d is act in
           one_more (open_said whole tail) (is_open whole tail) (nat_eq row.aircraft n) (same_text d.tail tail) (is_rectified whole e.doc) row _ (record { doc = e.doc; deferral = d }) _
           (is_its_number whole tail n there number before (e ∷ later) d.tail is (deferred_is_known before e.doc d new))
           (λ same.
@@ -131,3 +138,55 @@ module _ (whole : List Entry) (tail : List ℕ) (free : is_some (aircraft whole 
 -- an aircraft that is not there has no open defects
 pub none_open : (book : List Entry) (tail : List ℕ) → IsBook book → seq_of_tail book tail ≡ None → open_defects book tail ≡ []
 none_open book tail b none = none_from book tail (ap is_some (no_tail book tail none)) [] book refl b.judged
+
+-- ── those of all aircraft ──
+
+module _ (whole : List Entry) where
+  -- the aircraft that some entries have is there behind all of them, by its number
+  aircraft_there : (before more : List Entry) (tail : List ℕ) → before ++ more ≡ whole → is_some (aircraft before tail) ≡ true → tail_at whole (or_zero (seq_of_tail before tail)) ≡ Some tail
+  aircraft_there before more tail is known =
+      ap₂ (λ (w : List Entry) (m : ℕ). tail_at w m) (sym is) (sym (tail_number_kept before more tail known))
+      ∙ tail_known (before ++ more) tail (ap is_some (aircraft_kept before more tail known) ∙ known)
+
+  -- a deferral says its defect
+  said_here : (before later : List Entry) (e : Entry) (d : Deferral) → before ++ e ∷ later ≡ whole → is_some (aircraft before d.tail) ≡ true
+      → deferred_said whole (deferral_row (next before) (or_zero (seq_of_tail before d.tail)) d) ≡ Some (record { doc = e.doc; deferral = d })
+  said_here before later e d is known =
+      let row = deferral_row (next before) (or_zero (seq_of_tail before d.tail)) d in
+      ap₂ (λ (o : Option (List ℕ)) (t : Option (List ℕ)). option_and_then (λ doc. option_map (λ tail. defect_said doc tail row) t) o) (ap (option_map (λ (x : Entry). x.doc)) (here whole before later e is)) (aircraft_there before (e ∷ later) d.tail is known)
+
+  all_there_from : (before later : List Entry) → before ++ later ≡ whole → is_book_from before later ≡ true → AllByRecursion (λ (row : DeferralRow). is_some (deferred_said whole row) ≡ true) (gives_by deferrals_by before later)
+  all_there_from before [] is h = tt
+  all_there_from before (e ∷ later) is h =
+      let both = both_true (is_new (judge before e)) (is_book_from (before ++ e ∷ []) later) h in
+      at e.act both.0 (all_there_from (before ++ e ∷ []) later (append_assoc before (e ∷ []) later ∙ is) both.1)
+    where
+      at : (act : Act) → is_new (judge before (record { doc = e.doc; act = act })) ≡ true → AllByRecursion (λ (row : DeferralRow). is_some (deferred_said whole row) ≡ true) (gives_by deferrals_by (before ++ e ∷ []) later)
+          → AllByRecursion (λ (row : DeferralRow). is_some (deferred_said whole row) ≡ true) (deferrals_by before act ++ gives_by deferrals_by (before ++ e ∷ []) later)
+      at (Deferred d) new rest = (ap is_some (said_here before later e d is (deferred_is_known before e.doc d new)), rest)
+      at _ new rest = rest
+
+  module _ (b : IsBook whole) where
+    all_open_from : (before later : List Entry) → before ++ later ≡ whole → is_book_from before later ≡ true
+        → filter_map (left_said whole) (gives_by deferrals_by before later) ≡ filter (λ d. not (is_rectified whole d.doc)) (defects later)
+    all_open_from before [] is h = refl
+    all_open_from before (e ∷ later) is h =
+        let both = both_true (is_new (judge before e)) (is_book_from (before ++ e ∷ []) later) h in
+        at e.act refl both.0 (all_open_from (before ++ e ∷ []) later (append_assoc before (e ∷ []) later ∙ is) both.1)
+      where
+        at : (act : Act) → e.act ≡ act → is_new (judge before (record { doc = e.doc; act = act })) ≡ true
+            → filter_map (left_said whole) (gives_by deferrals_by (before ++ e ∷ []) later) ≡ filter (λ d. not (is_rectified whole d.doc)) (defects later)
+            → filter_map (left_said whole) (deferrals_by before act ++ gives_by deferrals_by (before ++ e ∷ []) later)
+            ≡ filter (λ d. not (is_rectified whole d.doc)) (cons_option (deferred_by (record { doc = e.doc; act = act })) (defects later))
+        at (Deferred d) act new rest =
+            let row = deferral_row (next before) (or_zero (seq_of_tail before d.tail)) d in
+            one_more (left_said whole) (λ x. not (is_rectified whole x.doc)) true true (is_rectified whole e.doc) row _ (record { doc = e.doc; deferral = d }) _ refl
+            (λ same. ap₂ (λ r o. cond r None o) (rectified_is whole b e.doc (next before) (its_number whole b before later e d is act)) (said_here before later e d is (deferred_is_known before e.doc d new)))
+            refl rest
+        at _ act new rest = rest
+
+pub all_there : (book : List Entry) → IsBook book → AllByRecursion (λ (row : DeferralRow). is_some (deferred_said book row) ≡ true) (deferral_rows book)
+all_there book b = all_there_from book [] book refl b.judged
+
+pub all_open_found : (book : List Entry) → IsBook book → filter_map (left_said book) (deferral_rows book) ≡ filter (λ d. not (is_rectified book d.doc)) (defects book)
+all_open_found book b = all_open_from book b [] book refl b.judged

@@ -1,6 +1,6 @@
 -- Where a component is fitted and whether a position is taken, by the rows of open spans.
 use Rattle.std.proofs.Common.{◌≡◌, ℕ, ◌+◌, Bool, true, false, cond, ◌&&◌, ◌||◌, nat_eq, List, [], ◌∷◌, ◌++◌, map, filter, Option, Some, None, refl, sym, ap, subst, ◌∙◌, append_assoc}
-use Rattle.std.specs.Prelude.{find, is_none, is_some}
+use Rattle.std.specs.Prelude.{find, is_none, is_some, slice_get}
 use Rattle.std.specs.List.{list_any, cons_option, AllByRecursion}
 use Rattle.std.specs.Option.{option_and_then, option_map}
 use Rattle.mx_book.specs.commands.Act.{Act, Entry, Fitted, Removed, removal_of}
@@ -9,15 +9,15 @@ use Rattle.mx_book.specs.declared.commands.fitting.Removal.{Removal}
 use Rattle.mx_book.specs.Book.{IsBook, is_book_from, is_new}
 use Rattle.mx_book.specs.Judge.{judge}
 use Rattle.mx_book.specs.Register.{aircraft, component, register}
-use Rattle.mx_book.specs.Span.{Span, first_removal, is_open_on, is_taken, span_begun, spans, tail_fitted}
+use Rattle.mx_book.specs.Span.{Span, first_removal, fitted, is_open_on, is_taken, span_begun, spans, tail_fitted}
 use Rattle.mx_book.proofs.JudgeLemmas.{both_true}
 use Rattle.mx_registers.specs.Names.{or_zero, seq_of_serial, seq_of_tail, tail_at}
 use Rattle.mx_registers.proofs.NameLemmas.{tail_known}
 use Rattle.mx_registers.proofs.NewLemmas.{fitted_is_known}
 use Rattle.mx_base.specs.declared.rows.rows.SpanRow.{SpanRow}
-use Rattle.mx_registers.specs.kept.Items.{number_of_tail}
+use Rattle.mx_registers.specs.kept.Items.{number_of_serial, number_of_tail}
 use Rattle.mx_registers.specs.kept.Spans.{is_open_of as is_open_span, open_span_in, removal_from, removes, span_row, span_rows, span_rows_from}
-use Rattle.mx_registers.proofs.KeptProofs.FittedRows.{aircraft_found}
+use Rattle.mx_registers.proofs.KeptProofs.FittedRows.{aircraft_found, position_found}
 use Rattle.mx_registers.proofs.KeptProofs.KnownLemmas.{aircraft_kept, other_name, spans_known, spans_placed}
 use Rattle.mx_registers.proofs.KeptProofs.CreditLemmas.{filter_on}
 use Rattle.mx_registers.proofs.KeptProofs.NumbersThere.{one_tail_number, tail_number_kept}
@@ -75,12 +75,14 @@ module _ (book : List Entry) (b : IsBook book) (serial : List ℕ) where
   tail_again (Some s) h = tail_known book s.tail (found_has (λ (x : Span). is_some (aircraft book x.tail) ≡ true) is_there (spans book) s (spans_placed book b) h)
 
   module _ (n : ℕ) (number : seq_of_serial book serial ≡ Some n) where
+    first_open : slice_get (filter (is_open_of n) (span_rows book)) 0 ≡ open_span_in (span_rows book) (number_of_serial book serial)
+    first_open =
+        ap (λ rows. slice_get rows 0) (filter_on (is_open_of n) (is_open_span n) (span_rows book) (open_alike n (span_rows book) (rows_ended [] book)))
+        ∙ first_left (is_open_span n) (span_rows book)
+        ∙ ap (open_span_in (span_rows book)) (sym (ap or_zero number))
+
     aircraft_is : span_aircraft (filter (is_open_of n) (span_rows book)) ≡ option_map (number_of_tail book) (tail_fitted book serial)
-    aircraft_is =
-        ap span_aircraft (filter_on (is_open_of n) (is_open_span n) (span_rows book) (open_alike n (span_rows book) (rows_ended [] book)))
-        ∙ ap (option_map (λ (row : SpanRow). row.aircraft)) (first_left (is_open_span n) (span_rows book))
-        ∙ ap (λ m. option_map (λ (row : SpanRow). row.aircraft) (open_span_in (span_rows book) m)) (sym (ap or_zero number))
-        ∙ aircraft_found book serial b (serial_there book serial n number)
+    aircraft_is = ap (option_map (λ (row : SpanRow). row.aircraft)) first_open ∙ aircraft_found book serial b (serial_there book serial n number)
 
     -- the aircraft of the open span of a component is the one that it is fitted to
     pub fitted_tail : option_and_then (tail_at book) (span_aircraft (filter (is_open_of n) (span_rows book))) ≡ tail_fitted book serial
@@ -88,6 +90,10 @@ module _ (book : List Entry) (b : IsBook book) (serial : List ℕ) where
 
     pub fitted_there : is_some (span_aircraft (filter (is_open_of n) (span_rows book))) ≡ is_some (tail_fitted book serial)
     fitted_there = ap is_some aircraft_is ∙ some_map (number_of_tail book) (tail_fitted book serial)
+
+    -- and its position is the one that it is fitted to
+    pub fitted_position : option_map (λ (row : SpanRow). row.position) (slice_get (filter (is_open_of n) (span_rows book)) 0) ≡ option_map (λ (s : Span). s.position) (fitted book serial)
+    fitted_position = ap (option_map (λ (row : SpanRow). row.position)) first_open ∙ position_found book serial b (serial_there book serial n number)
 
   none_there : is_some (component book serial) ≡ false → (xs : List Span) → AllByRecursion (λ (s : Span). is_some (component book s.serial) ≡ true) xs → find is_there xs ≡ None
   none_there free [] h = refl

@@ -1,5 +1,5 @@
--- The positions of an aircraft, by the rows that have its number; and how many aircraft and components there are.
-use Rattle.std.proofs.Common.{◌≡◌, ℕ, zero, suc, ◌+◌, Bool, true, false, cond, List, [], ◌∷◌, ◌++◌, filter, length, take, nat_eq, Option, Some, None, refl, sym, ap, ap₂, ◌∙◌, length-append, append_assoc, append-nil, add-one}
+-- The positions of an aircraft, by the rows that have its number; how many aircraft and components there are, and their names.
+use Rattle.std.proofs.Common.{◌≡◌, ℕ, zero, suc, ◌+◌, Bool, true, false, cond, List, [], ◌∷◌, ◌++◌, filter, map, length, take, nat_eq, Option, Some, None, refl, sym, ap, ap₂, ◌∙◌, length-append, append_assoc, append-nil, add-one}
 use Rattle.std.specs.Prelude.{is_some, slice_get, nat_lt}
 use Rattle.std.specs.List.{cons_option, flat_map}
 use Rattle.std.specs.Option.{option_and_then, option_map, option_map_or, option_or}
@@ -16,6 +16,8 @@ use Rattle.mx_registers.specs.Names.{adds_named, number_from, seq_of_tail, tail_
 use Rattle.mx_registers.specs.Registers.{gives_by, if_any, next, aircraft_row, aircraft_rows, component_row, component_rows, place_row, place_rows}
 use Rattle.mx_registers.proofs.NameLemmas.{said_at-number}
 use Rattle.mx_registers.proofs.NewLemmas.{added_is_unknown}
+use Rattle.mx_base.specs.declared.rows.rows.AircraftRow.{AircraftRow}
+use Rattle.mx_base.specs.declared.rows.rows.ComponentRow.{ComponentRow}
 use Rattle.mx_base.specs.declared.rows.rows.PlaceRow.{PlaceRow}
 use Rattle.mx_registers.proofs.KeptProofs.SpanRows.{number-append}
 use Rattle.mx_row_rules.specs.found.Given.{places}
@@ -142,3 +144,20 @@ room_for_aircraft book = ap (λ n. nat_lt n MOST_AIRCRAFT) (counted_from aircraf
 
 pub room_for_components : (book : List Entry) → nat_lt (length (component_rows book)) MOST_COMPONENTS ≡ has_room_for_component book
 room_for_components book = ap (λ n. nat_lt n MOST_COMPONENTS) (counted_from component_of component_row [] book)
+
+-- ── the names of all of them ──
+
+module _ {X Row : Type 0} (pick : Act → Option X) (row : ℕ → X → Row) (name_in : Row → List ℕ) (name : X → List ℕ) (same : (n : ℕ) (x : X) → name_in (row n x) ≡ name x) where
+  one_named : (n : ℕ) (o : Option X) (rows : List Row) (xs : List X) → map name_in rows ≡ map name xs → map name_in (if_any (row n) o ++ rows) ≡ map name (cons_option o xs)
+  one_named n None rows xs h = h
+  one_named n (Some x) rows xs h = ap₂ ◌∷◌ (same n x) h
+
+  named_from : (before later : List Entry) → map name_in (gives_by (λ before act. if_any (row (next before)) (pick act)) before later) ≡ map name (register pick later)
+  named_from before [] = refl
+  named_from before (e ∷ later) = one_named (next before) (pick e.act) _ (register pick later) (named_from (before ++ e ∷ []) later)
+
+pub all_tails : (book : List Entry) → map (λ (row : AircraftRow). row.tail) (aircraft_rows book) ≡ map (λ a. a.tail) (register aircraft_of book)
+all_tails book = named_from aircraft_of aircraft_row (λ row. row.tail) (λ a. a.tail) (λ n a. refl) [] book
+
+pub all_serials : (book : List Entry) → map (λ (row : ComponentRow). row.serial) (component_rows book) ≡ map (λ c. c.serial) (register component_of book)
+all_serials book = named_from component_of component_row (λ row. row.serial) (λ c. c.serial) (λ n c. refl) [] book

@@ -4,6 +4,7 @@ use Rattle.std.specs.Option.{option_and_then, option_eq, option_map}
 use Rattle.mx_book.specs.commands.Act.{Entry}
 use Rattle.mx_book.specs.declared.commands.deferral.Extension.{Extension}
 use Rattle.mx_book.specs.declared.defects.Defect.{Defect}
+use Rattle.mx_registers.specs.Names.{tail_at}
 use Rattle.mx_registers.specs.Registers.{release_line_rows}
 use Rattle.mx_base.specs.declared.rows.rows.AircraftRow.{AircraftRow}
 use Rattle.mx_base.specs.declared.rows.rows.DeferralRow.{DeferralRow}
@@ -46,3 +47,11 @@ is_rectified_at book defect = is_rectified_in (filter (rectifies defect) (releas
 -- the defect that the row of its deferral says, of the aircraft with this registration; none where it was rectified
 abbrev pub open_said : List Entry → List ℕ → DeferralRow → Option Defect
 open_said book tail row = if is_rectified_at book row.seq then None else option_map (λ doc. defect_said doc tail row) (doc_at book row.seq)
+
+-- the defect that the row of its deferral says, with the document of its entry and the registration of its aircraft
+abbrev pub deferred_said : List Entry → DeferralRow → Option Defect
+deferred_said book row = option_and_then (λ doc. option_map (λ tail. defect_said doc tail row) (tail_at book row.aircraft)) (doc_at book row.seq)
+
+-- that defect; none where it was rectified
+abbrev pub left_said : List Entry → DeferralRow → Option Defect
+left_said book row = if is_rectified_at book row.seq then None else deferred_said book row

@@ -1,9 +1,9 @@
 //! Aircraft that were found, and their positions.
-ghost use Rattle.std.specs.Prelude.{◌≡◌, ℕ, List, filter, nat_eq, nat_lt, length, None, Some};
-ghost use Rattle.mx_book.specs.commands.Act.{Entry};
+ghost use Rattle.std.specs.Prelude.{◌≡◌, ℕ, List, filter, map, nat_eq, nat_lt, length, None, Some, IfOk};
+ghost use Rattle.mx_book.specs.commands.Act.{Entry, aircraft_of};
 ghost use Rattle.mx_book.specs.commands.Same.{same_text};
 ghost use Rattle.mx_book.specs.Book.{IsBook};
-ghost use Rattle.mx_book.specs.Register.{aircraft, has_room_for_aircraft, part_at};
+ghost use Rattle.mx_book.specs.Register.{aircraft, has_room_for_aircraft, part_at, register};
 ghost use Rattle.mx_book.specs.declared.limits.TheConstants.{MOST_AIRCRAFT};
 ghost use Rattle.mx_registers.specs.Names.{seq_of_tail, tail_at};
 ghost use Rattle.mx_registers.specs.Registers.{aircraft_rows, place_rows};
@@ -15,6 +15,7 @@ ghost use Rattle.mx_row_rules.specs.found.Said.{aircraft_in, part_in};
 use mx_base::rows::{AircraftRow, PlaceRow};
 use mx_base::{Part, Position, Tail, Use};
 use mx_book::commands::Aircraft;
+use std::alloc::{AllocError, Global};
 
 /// The number of the first of these aircraft.
 pub fn aircraft_number(rows: &[AircraftRow]) -> Option<u32>
@@ -28,6 +29,13 @@ pub fn tail_in(rows: &[AircraftRow]) -> Option<Tail>
     ensures { result ≡ tail_in rows.now }
 {
     rows.first().map(|row| row.tail)
+}
+
+/// The registrations of these aircraft, in their order. An error where memory runs out.
+pub fn tails_said(alloc: Global, rows: &[AircraftRow]) -> Result<Vec<Tail>, AllocError>
+    ensures { IfOk result (λ tails. tails.items ≡ map (λ row. row.tail) rows.now) }
+{
+    rows.iter().map(|row| row.tail).collect(alloc)
 }
 
 /// The aircraft that the first of these rows says.
@@ -56,7 +64,7 @@ pub fn part_in(rows: &[PlaceRow], position: &Position) -> Option<Part>
 }
 
 /// The rows of aircraft with a registration say the aircraft and have its number; those with a number, its registration;
-/// and all of them are as many as there are aircraft.
+/// and all of them are as many as there are aircraft, and have their registrations, in the order of their entries.
 pub fn aircraft_are_found()
     ensures by_tail { (book : List Entry) (tail : List ℕ)
         → aircraft_in (filter (λ (row : AircraftRow). same_text row.tail tail) (aircraft_rows book))
@@ -69,6 +77,8 @@ pub fn aircraft_are_found()
         ≡ tail_at book n }
     ensures room { (book : List Entry)
         → nat_lt (length (aircraft_rows book)) MOST_AIRCRAFT ≡ has_room_for_aircraft book }
+    ensures tails { (book : List Entry) → map (λ (row : AircraftRow). row.tail) (aircraft_rows book)
+        ≡ map (λ a. a.tail) (register aircraft_of book) }
 {}
 
 /// The rows with the number of an aircraft are its positions, and an aircraft that is not there has none.

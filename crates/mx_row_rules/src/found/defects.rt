@@ -1,15 +1,15 @@
 //! Defects that were found, their extensions, and whether they were rectified.
-ghost use Rattle.std.specs.Prelude.{◌≡◌, ℕ, List, [], false, filter, is_some, nat_eq, true, None, Some, IsSomeAnd};
+ghost use Rattle.std.specs.Prelude.{◌≡◌, ℕ, List, [], false, filter, is_some, nat_eq, not, true, None, Some, IsSomeAnd};
 ghost use Rattle.std.specs.List.{filter_map, AllByRecursion};
 ghost use Rattle.mx_book.specs.commands.Act.{Entry};
 ghost use Rattle.mx_book.specs.Book.{IsBook};
-ghost use Rattle.mx_book.specs.Defect.{defect, extension, is_rectified, open_defects};
+ghost use Rattle.mx_book.specs.Defect.{defect, defects, extension, is_rectified, open_defects};
 ghost use Rattle.mx_registers.specs.Names.{seq_of_defect, seq_of_tail};
 ghost use Rattle.mx_registers.specs.Registers.{aircraft_rows, deferral_rows, extension_rows, release_line_rows};
 ghost use Rattle.mx_base.specs.declared.rows.rows.AircraftRow.{AircraftRow};
 ghost use Rattle.mx_base.specs.declared.rows.rows.DeferralRow.{DeferralRow};
 ghost use Rattle.mx_base.specs.declared.rows.rows.ExtensionRow.{ExtensionRow};
-ghost use Rattle.mx_row_rules.specs.found.Defects.{deferral_aircraft, defect_in, defect_said, extension_in, is_rectified_in, open_said, rectifies};
+ghost use Rattle.mx_row_rules.specs.found.Defects.{deferral_aircraft, deferred_said, defect_in, defect_said, extension_in, is_rectified_in, left_said, open_said, rectifies};
 ghost use Rattle.mx_row_rules.specs.found.Names.{doc_at};
 
 use crate::found::aircraft::tail_in;
@@ -117,4 +117,15 @@ pub fn open_defects_are_found()
         (filter (λ (row : DeferralRow). nat_eq row.aircraft n) (deferral_rows book)) }
     ensures missed { (book : List Entry) (tail : List ℕ) → IsBook book
         → seq_of_tail book tail ≡ None → open_defects book tail ≡ [] }
+{}
+
+/// All deferrals say the open defects of all aircraft, in the order of their entries, and the entry and the aircraft of
+/// each are there.
+pub fn all_open_defects_are_found()
+    ensures open { (book : List Entry) → IsBook book
+        → filter_map (left_said book) (deferral_rows book)
+        ≡ filter (λ d. not (is_rectified book d.doc)) (defects book) }
+    ensures there { (book : List Entry) → IsBook book
+        → AllByRecursion (λ (row : DeferralRow). is_some (deferred_said book row) ≡ true)
+        (deferral_rows book) }
 {}
