@@ -44,6 +44,11 @@ pub component_unmet : (trees : Trees) (row : SpanRow) → IsKept kept_span2 tree
 unfolding IsDamaged
 component_unmet trees row kept none = inr (inl (_, (0, omega arith, refl), refl, kept_unmet kept_span2 kept_component 1 (λ r. r.component) (λ r. refl) _ table.Span2 (λ r. r.serial) row kept refl refl none))
 
+-- the aircraft of a deferral is not there
+pub deferred_unmet : (trees : Trees) (row : DeferralRow) → IsKept kept_defect trees row → TailOfNumber row.aircraft trees None → IsDamaged table.Defect trees
+unfolding IsDamaged
+deferred_unmet trees row kept none = inr (inl (_, (6, omega arith, refl), refl, kept_unmet kept_defect kept_aircraft 1 (λ r. r.aircraft) (λ r. refl) _ table.Defect (λ r. r.tail) row kept refl refl none))
+
 -- the entry of a deferral is not there
 pub entry_unmet : (trees : Trees) (row : DeferralRow) → IsKept kept_defect trees row → DocOfNumber row.seq trees None → IsDamaged table.Defect trees
 unfolding IsDamaged

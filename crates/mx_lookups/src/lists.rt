@@ -111,7 +111,7 @@ fn doc_of_number<S: Alter>(
 }
 
 // The document of the defect with this number, unless it was rectified: `Some(None)` where its entry is not there.
-fn doc_if_open<S: Alter>(
+pub(crate) fn doc_if_open<S: Alter>(
     alloc: Global,
     tx: &mut Transaction<'_, S>,
     defect: u32,

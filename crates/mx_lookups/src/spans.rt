@@ -1,15 +1,17 @@
 //! What is fitted where, by spans that nothing ended.
-ghost use Rattle.std.specs.Prelude.{◌≡◌};
-ghost use Rattle.mx_book.specs.Span.{is_taken, tail_fitted};
-ghost use Rattle.mx_lookups.specs.Fitted.{IsNumberFitted};
-ghost use Rattle.mx_lookups.specs.numbers.Given.{IsTaken, NumberFitted, TailFitted};
+ghost use Rattle.std.specs.Prelude.{◌≡◌, ℕ, List};
+ghost use Rattle.std.specs.Option.{option_map};
+ghost use Rattle.mx_book.specs.Span.{fitted, is_taken, tail_fitted};
+ghost use Rattle.mx_lookups.specs.Fitted.{IsSpanFitted};
+ghost use Rattle.mx_lookups.specs.numbers.Given.{IsTaken, PlaceFitted, SpanFitted, TailFitted};
 ghost use Rattle.mx_lookups.specs.numbers.LookUp.{IsLookUp};
-ghost use Rattle.mx_lookups.specs.numbers.Told.{NumberFittedDamage, TailFittedDamage, TakenDamage};
+ghost use Rattle.mx_lookups.specs.numbers.Told.{NumberFittedDamage, PlaceFittedDamage, TailFittedDamage, TakenDamage};
 
 use crate::numbers::items::{aircraft_number, component_number, tail_of_number};
+use mx_base::rows::SpanRow;
 use mx_base::{Position, Serial, Tail};
 use mx_layout::{Table, TableFault};
-use mx_row_rules::found::spans::{is_taken_in, span_aircraft};
+use mx_row_rules::found::spans::{is_taken_in, span_in};
 use mx_table_rows::chosen::kept::{open_spans_by_aircraft, open_spans_by_component};
 use sqlite::{Alter, Transaction};
 use std::alloc::Global;
@@ -38,15 +40,15 @@ pub fn is_taken<S: Alter>(
     }
 }
 
-// The number of the aircraft that a component is fitted to.
-fn number_fitted<S: Alter>(
+// The open span of a component: where it is fitted.
+fn span_fitted<S: Alter>(
     alloc: Global,
     tx: &mut Transaction<'_, S>,
     serial: &Serial,
-) -> Result<Option<u32>, TableFault>
+) -> Result<Option<SpanRow>, TableFault>
     ensures looks_up { IsLookUp S.Store
-        (IsNumberFitted serial.now)
-        (NumberFitted serial.now)
+        (IsSpanFitted serial.now)
+        (SpanFitted serial.now)
         (NumberFittedDamage serial.now)
         tx.old tx.new result }
 {
@@ -54,8 +56,32 @@ fn number_fitted<S: Alter>(
     match found {
         Some(number) => {
             let rows = open_spans_by_component(alloc, tx, number)?;
-            Ok(span_aircraft(&rows))
+            Ok(span_in(&rows))
         }
+        None => Ok(None),
+    }
+}
+
+/// The registration of the aircraft that a component is fitted to, and the position, or `None` where it is fitted nowhere.
+/// `Damaged` as `tail_fitted` is.
+pub fn place_fitted<S: Alter>(
+    alloc: Global,
+    tx: &mut Transaction<'_, S>,
+    serial: &Serial,
+) -> Result<Option<(Tail, Position)>, TableFault>
+    ensures looks_up { IsLookUp S.Store
+        (λ book place. place ≡ option_map {U = List ℕ × List ℕ} (λ s. (s.tail, s.position))
+        (fitted book serial.now))
+        (PlaceFitted serial.now)
+        (PlaceFittedDamage serial.now)
+        tx.old tx.new result }
+{
+    let found = span_fitted(alloc, tx, serial)?;
+    match found {
+        Some(row) => match tail_of_number(alloc, tx, row.aircraft)? {
+            Some(tail) => Ok(Some((tail, row.position))),
+            None => Err(TableFault::Damaged(Table::Span2)),
+        },
         None => Ok(None),
     }
 }
@@ -74,12 +100,9 @@ pub fn tail_fitted<S: Alter>(
         (TailFittedDamage serial.now)
         tx.old tx.new result }
 {
-    let found = number_fitted(alloc, tx, serial)?;
+    let found = place_fitted(alloc, tx, serial)?;
     match found {
-        Some(number) => match tail_of_number(alloc, tx, number)? {
-            Some(tail) => Ok(Some(tail)),
-            None => Err(TableFault::Damaged(Table::Span2)),
-        },
+        Some(place) => Ok(Some(place.0)),
         None => Ok(None),
     }
 }

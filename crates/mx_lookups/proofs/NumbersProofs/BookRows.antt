@@ -19,12 +19,12 @@ use Rattle.mx_layout.specs.declared.fault.TableFault.{TableFault}
 use Rattle.mx_layout.specs.kept.Cells.{kept_entry, kept_aircraft, kept_place, kept_component, kept_programme, kept_task, kept_opening, kept_crs, kept_crs_line, kept_defect, kept_extension, kept_span2, kept_total2}
 use Rattle.mx_layout.specs.kept.Kept.{Kept}
 use Rattle.mx_layout.specs.kept.Values.{number_or_null}
-use Rattle.mx_table_rows.specs.chosen.Choices.{has_value, is_open}
+use Rattle.mx_table_rows.specs.chosen.Choices.{has_value, is_any, is_open}
 use Rattle.mx_table_rows.specs.chosen.Calls.{ReadsBy, ReadsFirst}
 use Rattle.mx_row_rules.specs.found.Defects.{rectifies}
 use Rattle.mx_row_rules.specs.found.Spans.{is_open_at, is_open_of, is_removed_by}
 use Rattle.mx_lookups.specs.numbers.Reads.{Reads}
-use Rattle.mx_lookups.proofs.NumbersProofs.LookupLemmas.{rows_read, text_is, number_is, is_open_at-cells, is_open_of-cells}
+use Rattle.mx_lookups.proofs.NumbersProofs.LookupLemmas.{all_read, rows_read, text_is, number_is, is_open_at-cells, is_open_of-cells}
 use Rattle.mx_lookups.proofs.NumbersProofs.TableLemmas.{IsTable, entries, aircraft, places, components, programmes, tasks, openings, releases, release_lines, deferrals, extensions, spans, totals}
 
 -- ── by a number and by a text, whatever the table ──
@@ -115,3 +115,12 @@ module _ {A : Type 0} {old new : State} where
 
   pub open_spans_at : {result : Result (Vec _ A) TableFault} (n : ℕ) → ReadsFirst kept_span2 None kept_span2.order (is_open 2 (Int (pos n))) (λ rows. rows.items) old new result → Reads (λ book rows. rows.items ≡ filter (is_open_at n) (span_rows book)) old new result
   open_spans_at {result} n = rows_read kept_span2 span_rows spans (is_open 2 (Int (pos n))) (is_open_at n) (is_open_at-cells n) (λ rows. rows.items) old new result
+
+  pub aircraft_all : {result : Result (Vec _ A) TableFault} → ReadsFirst kept_aircraft None kept_aircraft.order is_any (λ rows. rows.items) old new result → Reads (λ book rows. rows.items ≡ aircraft_rows book) old new result
+  aircraft_all {result} = all_read kept_aircraft aircraft_rows aircraft (λ rows. rows.items) old new result
+
+  pub components_all : {result : Result (Vec _ A) TableFault} → ReadsFirst kept_component None kept_component.order is_any (λ rows. rows.items) old new result → Reads (λ book rows. rows.items ≡ component_rows book) old new result
+  components_all {result} = all_read kept_component component_rows components (λ rows. rows.items) old new result
+
+  pub deferrals_all : {result : Result (Vec _ A) TableFault} → ReadsFirst kept_defect None kept_defect.order is_any (λ rows. rows.items) old new result → Reads (λ book rows. rows.items ≡ deferral_rows book) old new result
+  deferrals_all {result} = all_read kept_defect deferral_rows deferrals (λ rows. rows.items) old new result

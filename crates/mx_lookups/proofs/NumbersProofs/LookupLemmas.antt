@@ -1,5 +1,5 @@
 -- What chosen rows are of the book that the tables stand for, whatever the table and the column are.
-use Rattle.std.proofs.Common.{◌≡◌, ◌⊎◌, inl, inr, ◌∙◌, ℕ, zero, suc, pos, List, [], ◌∷◌, take, Bool, ◌&&◌, map, filter, length, None, Some, Ok, Err, Result, refl, sym, ap, ap₂, subst}
+use Rattle.std.proofs.Common.{◌≡◌, ◌⊎◌, inl, inr, ◌∙◌, ℕ, zero, suc, pos, List, [], ◌∷◌, take, Bool, ◌&&◌, map, filter, length, None, Some, Ok, Err, Result, true, refl, sym, ap, ap₂, subst}
 use Rattle.std.specs.Prelude.{All, IfOk, IfErr, Option, is_none, nat_eq}
 use Rattle.std.specs.List.{range_with_len}
 use Rattle.std.proofs.lemmas.Map.Text.{is_eq-slice_cmp}
@@ -39,7 +39,7 @@ use Rattle.mx_row_rules.proofs.FoundProofs.FoundLemmas.{entries_counted, entries
 use Rattle.mx_lookups.specs.numbers.Damage.{IsDamaged}
 use Rattle.mx_lookups.specs.numbers.Reads.{IsStop, Reads, rows_point}
 use Rattle.mx_lookups.proofs.NumbersProofs.ChosenLemmas.{chosen_is, none_other, other_chosen}
-use Rattle.mx_lookups.proofs.NumbersProofs.ReadLemmas.{map_ok, map_read}
+use Rattle.mx_lookups.proofs.NumbersProofs.ReadLemmas.{follows, map_ok, map_read}
 use Rattle.mx_lookups.proofs.NumbersProofs.TableLemmas.{IsTable, entries}
 
 -- ── what the tests of WHERE say of typed rows ──
@@ -118,6 +118,15 @@ module _ {X V : Type 0} (k : Kept X) (rows : List Entry → List X) (it : IsTabl
       chosen_read k it.law it.is_in it.readable chosen items (λ book v. items v ≡ filter picks (rows book))
       (λ trees book has v are fits. chosen_is k it.law trees (rows book) (it.keeps trees book has) chosen picks same (items v) are fits)
       (λ trees book has. none_other k it.law trees (rows book) (it.keeps trees book has))
+
+-- each passes
+pub each_passes : {X : Type 0} (xs : List X) → filter (λ _. true) xs ≡ xs
+each_passes [] = refl
+each_passes (x ∷ xs) = ap (λ l. x ∷ l) (each_passes xs)
+
+-- all rows are those of the book
+pub all_read : {X V : Type 0} (k : Kept X) (rows : List Entry → List X) (it : IsTable k rows) (items : V → List X) (old new : State) (result : Result V TableFault) → ReadsFirst k None k.order is_any items old new result → Reads (λ book v. items v ≡ rows book) old new result
+all_read k rows it items old new result r = follows _ _ old new result (λ book v b is. is ∙ each_passes (rows book)) (rows_read k rows it is_any (λ _. true) (λ x. refl) items old new result r)
 
 -- ── the last entry ──
 

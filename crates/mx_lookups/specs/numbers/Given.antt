@@ -1,5 +1,5 @@
 -- What each look-up that goes through tables answers over any rows.
-use Rattle.std.specs.Prelude.{◌≡◌, ◌&&◌, ℕ, false, true, pos, List, [], map, Bool, Option, Some, None, IsSome, IsSomeAnd, is_some, length, nat_lt}
+use Rattle.std.specs.Prelude.{◌≡◌, ◌⊎◌, ◌&&◌, ℕ, false, true, pos, List, [], map, Bool, Option, Some, None, IsSome, IsSomeAnd, is_some, length, nat_lt, slice_get}
 use Rattle.std.specs.Option.{option_map, option_map_or}
 use Rattle.sqlite.specs.declared.types.Value.TheVariants.{Int, Text}
 use Rattle.sqlite.specs.Order.{Row}
@@ -20,7 +20,7 @@ use Rattle.mx_layout.specs.TableName.{TableName}
 use Rattle.mx_layout.specs.Contents.{rows_in}
 use Rattle.mx_layout.specs.Names.{table_named}
 use Rattle.mx_layout.specs.kept.Cells.{kept_aircraft, kept_base2, kept_component, kept_crs_line, kept_defect, kept_entry, kept_extension, kept_place, kept_programme, kept_span2, kept_task, kept_total2}
-use Rattle.mx_table_rows.specs.chosen.Choices.{has_value, is_open}
+use Rattle.mx_table_rows.specs.chosen.Choices.{has_value, is_any, is_open}
 use Rattle.mx_row_rules.specs.found.Defects.{deferral_aircraft, defect_in, defect_said, extension_in, is_rectified_in}
 use Rattle.mx_row_rules.specs.found.Lives.{base_found, clock_in, life_in}
 use Rattle.mx_row_rules.specs.found.Names.{aircraft_number, component_number, deferral_number, doc_in, serial_in, tail_in}
@@ -83,6 +83,14 @@ NumberFitted serial = GivesBy (ComponentNumber serial) None (λ n. Gives kept_sp
 -- the registration of the aircraft in that span, which is there
 abbrev pub TailFitted : List ℕ → Trees → Option (List ℕ) → Type 0
 TailFitted serial = GivesBy (NumberFitted serial) None (λ n trees tail. IsSome tail × TailOfNumber n trees tail)
+
+-- the open span with the number of the component
+abbrev pub SpanFitted : List ℕ → Trees → Option SpanRow → Type 0
+SpanFitted serial = GivesBy (ComponentNumber serial) None (λ n. Gives kept_span2 (is_open 1 (Int (pos n))) (λ rows. slice_get rows 0))
+
+-- the registration of the aircraft with the number that it names, which is there, and its position
+abbrev pub PlaceFitted : List ℕ → Trees → Option (List ℕ × List ℕ) → Type 0
+PlaceFitted serial = GivesBy (SpanFitted serial) None (λ row trees place. (tail : List ℕ) × TailOfNumber row.aircraft trees (Some tail) × (place ≡ Some (tail, row.position)))
 
 -- the clock in the total with the number of the item, which is there; the first moment where the item is not
 abbrev pub ClockOf : Item → Trees → ℕ → Type 0
@@ -157,6 +165,28 @@ DefectsAt tail n = GivesEach kept_defect (has_value 1 (Int (pos n))) (OpenSaid t
 -- the open defects of the aircraft with this registration, none where it is not there
 abbrev pub OpenDefects : List ℕ → Trees → List Defect → Type 0
 OpenDefects tail = GivesBy (AircraftNumber tail) [] (DefectsAt tail)
+
+-- the defect that a deferral says, with the document of its entry and the registration of the aircraft with the number that it names: that it is not said where one of these is not there, and nothing where a line has its number
+abbrev pub DefectIfOpen : DeferralRow → Trees → Option (Option Defect) → Type 0
+DefectIfOpen row trees None = IsRectifiedAt row.seq trees true
+DefectIfOpen row trees (Some None) = DocIfOpen row.seq trees (Some None) ⊎ ((doc : List ℕ) × DocIfOpen row.seq trees (Some (Some doc)) × TailOfNumber row.aircraft trees None)
+DefectIfOpen row trees (Some (Some defect)) = (doc : List ℕ) × (tail : List ℕ) × DocIfOpen row.seq trees (Some (Some doc)) × TailOfNumber row.aircraft trees (Some tail) × (defect ≡ defect_said doc tail row)
+
+-- the defect that a deferral says so, where its entry and its aircraft are there; nothing where a line has its number
+abbrev pub LeftSaid : Trees → DeferralRow → Option Defect → Type 0
+LeftSaid trees row said = DefectIfOpen row trees (option_map Some said)
+
+-- the open defects of all aircraft: what each deferral says
+abbrev pub AllOpenDefects : Trees → List Defect → Type 0
+AllOpenDefects = GivesEach kept_defect is_any LeftSaid
+
+-- the registrations of all aircraft
+abbrev pub Tails : Trees → List (List ℕ) → Type 0
+Tails = Gives kept_aircraft is_any (map (λ row. row.tail))
+
+-- the serial numbers of all components
+abbrev pub Serials : Trees → List (List ℕ) → Type 0
+Serials = Gives kept_component is_any (map (λ row. row.serial))
 
 -- the row has this number and this name of a task
 abbrev pub is_of : ℕ → List ℕ → Row → Bool

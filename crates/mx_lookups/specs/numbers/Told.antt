@@ -1,8 +1,7 @@
 -- For which of the rows that it chose each look-up tells which table damaged.
 -- A look-up says it in a clause beside what it reads, and one that only hands on the fault of another needs no answer
 -- for it. That `IsDamaged` follows from each such relation is proved of none: both are proved of the look-up.
-use Rattle.std.specs.Prelude.{◌≡◌, ◌⊎◌, ◌≤◌, ◌^◌, ℕ, pos, false, true, Bool, List, [], filter, Option, Some, None, Result, Err, Contains}
-use Rattle.std.specs.List.{list_all}
+use Rattle.std.specs.Prelude.{◌≡◌, ◌⊎◌, ◌≤◌, ◌^◌, ℕ, pos, false, Bool, List, [], filter, Option, Some, None, Result, Err, Contains}
 use Rattle.std.specs.declared.cmp.Ordering.{Ordering}
 use Rattle.sqlite.specs.declared.types.Value.TheVariants.{Int, Text}
 use Rattle.sqlite.specs.Order.{Row}
@@ -14,6 +13,7 @@ use Rattle.mx_book.specs.declared.commands.item.Item.{Item}
 use Rattle.mx_book.specs.declared.commands.item.Item.TheVariants.{Airframe, Component}
 use Rattle.mx_book.specs.due.Due.{IsLife}
 use Rattle.mx_registers.specs.Merge.{task_said}
+use Rattle.mx_base.specs.declared.rows.rows.DeferralRow.{DeferralRow}
 use Rattle.mx_base.specs.declared.rows.rows.TaskRow.{TaskRow}
 use Rattle.mx_layout.specs.TableName.{TableName}
 use Rattle.mx_layout.specs.declared.fault.Table.TheVariants as table
@@ -31,7 +31,7 @@ use Rattle.mx_row_rules.specs.found.Defects.{deferral_aircraft}
 use Rattle.mx_row_rules.specs.found.Lives.{base_found, life_in_base}
 use Rattle.mx_lookups.specs.numbers.AnyRows.{AreChosen, Gives}
 use Rattle.mx_lookups.specs.numbers.Damage.{IsUncounted}
-use Rattle.mx_lookups.specs.numbers.Given.{AircraftNumber, BornOf, ComponentNumber, DefectNumber, DocOfNumber, IsRectifiedAt, ItemNumber, LifeOf, NextRevision, NumberFitted, ProgrammeNumber, TailOfNumber, is_of}
+use Rattle.mx_lookups.specs.numbers.Given.{AircraftNumber, BornOf, ComponentNumber, DefectNumber, DocIfOpen, IsRectifiedAt, ItemNumber, LifeOf, NextRevision, NumberFitted, ProgrammeNumber, is_of}
 use Rattle.mx_lookups.specs.numbers.Reads.{rows_point}
 
 -- ── the forms ──
@@ -133,6 +133,10 @@ NumberFittedDamage serial = DamageBy (ComponentDamage serial) (ComponentNumber s
 abbrev pub TailFittedDamage : List ℕ → Damage
 TailFittedDamage serial = DamageBy (NumberFittedDamage serial) (NumberFitted serial) (TailNamedDamage table.Span2)
 
+-- the same of the place that a component is fitted to
+abbrev pub PlaceFittedDamage : List ℕ → Damage
+PlaceFittedDamage = TailFittedDamage
+
 -- of an open span, the component that it names: the span where that is not there
 abbrev pub PlaceDamage : ℕ → Damage
 PlaceDamage n = Either (SerialDamage n) (Of table.Span2 (HasNone kept_component (has_value 0 (Int (pos n)))))
@@ -230,6 +234,32 @@ DefectsDamage n = DamageEach kept_defect (has_value 1 (Int (pos n))) (λ row. Ei
 -- of those of the aircraft with this registration
 abbrev pub OpenDamage : List ℕ → Damage
 OpenDamage tail = DamageBy (AircraftDamage tail) (AircraftNumber tail) DefectsDamage
+
+-- no line rectifies the defect of a deferral, its entry is there, and this is so of the rows
+abbrev pub WhereOpen : DeferralRow → (Trees → Type 0) → Trees → Type 0
+WhereOpen row Is trees = (doc : List ℕ) × DocIfOpen row.seq trees (Some (Some doc)) × Is trees
+
+-- of the lines that rectify the defect of a deferral, of its entry where there is none, and of the aircraft that it names where that is there
+abbrev pub DefectIfOpenDamage : DeferralRow → Damage
+DefectIfOpenDamage row = Either (DocIfOpenDamage row.seq) (λ name. WhereOpen row (TailDamage row.aircraft name))
+
+-- no line rectifies the defect of a deferral, and its entry is not there, or its aircraft
+abbrev pub LacksOne : DeferralRow → Trees → Type 0
+LacksOne row trees = HasNoEntry row.seq trees ⊎ WhereOpen row (HasNone kept_aircraft (has_value 0 (Int (pos row.aircraft)))) trees
+
+-- of all deferrals, and of the entry and the aircraft of each that is open: the deferral where one of these is not there
+abbrev pub AllOpenDamage : Damage
+AllOpenDamage = DamageEach kept_defect is_any (λ row. Either (DefectIfOpenDamage row) (Of table.Defect (LacksOne row)))
+
+-- ── all of them ──
+
+-- of all aircraft
+abbrev pub TailsDamage : Damage
+TailsDamage = Unread kept_aircraft is_any
+
+-- of all components
+abbrev pub SerialsDamage : Damage
+SerialsDamage = Unread kept_component is_any
 
 -- ── how many there are ──
 

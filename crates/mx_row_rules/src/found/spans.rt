@@ -13,13 +13,6 @@ ghost use Rattle.mx_row_rules.specs.found.Spans.{is_open_at, is_open_of, is_take
 use mx_base::Position;
 use mx_base::rows::SpanRow;
 
-/// The number of the aircraft of the first of these spans.
-pub fn span_aircraft(rows: &[SpanRow]) -> Option<u32>
-    ensures { result ≡ span_aircraft rows.now }
-{
-    rows.first().map(|row| row.aircraft)
-}
-
 /// The first of these spans.
 pub fn span_in(rows: &[SpanRow]) -> Option<SpanRow>
     ensures { result ≡ slice_get rows.now 0 }
