@@ -10,6 +10,9 @@
 //!   `list_limits`, `list_forecast`.
 //! - So are what is due on all aircraft, what will be, the limits of all, all aircraft and all components: `list_fleet`,
 //!   `list_outlook`, `list_deferred`, `list_aircraft`, `list_components`.
+//! - Of the lists of all aircraft, the rows of one registration, without it, are those of that aircraft's own list, in their
+//!   order: `laws::the_fleet_has_each_due_list`, `laws::the_outlook_has_each_forecast`,
+//!   `laws::the_deferred_have_the_limits_of_each`.
 //! - So is the list that a question asks for, whichever it is, and it is of that kind: `list_report`: `answers`, `kind`.
 //! - A list put in order has the same rows, ascending, with ties as they were: `order::sorted`: `order`, `permutation`,
 //!   `ascending`, `stable`.

@@ -50,12 +50,13 @@ fn ask_first<S: Alter>(
     match question.tail() {
         Some(tail) => {
             aircraft_number(alloc, tx, tail)?;
+            Ok(())
         }
         None => {
             entry_count(alloc, tx)?;
+            Ok(())
         }
     }
-    Ok(())
 }
 
 /// The list that a question asks for, by the rows that a transaction shows: `Err(UnknownAircraft)` where no aircraft has the

@@ -2,6 +2,7 @@ use Rattle.std.proofs.Common.{◌≡◌, ok_or, rules, subst, sym}
 use Rattle.sqlite.specs.Held.{state}
 use Rattle.mx_book.specs.declared.verdict.Refusal.TheVariants.{UnknownAircraft}
 use Rattle.mx_lists.specs.Report.{report_of}
+use Rattle.mx_lookups.proofs.NumbersProofs.Composed.{hands}
 use Rattle.mx_lookups.specs.numbers.AnyRows.{ReadsAny}
 use Rattle.mx_lookups.specs.numbers.Reads.{Reads}
 use Rattle.mx_lookups.specs.numbers.Told.{TellsDamage}
@@ -37,3 +38,6 @@ returns-clause-looks_up g c =
 
 pub returns-clause-kind : goal.returns-clause-kind
 returns-clause-kind g c = list_kind c.args.question.now c.list_report.result c.answered.result c.answered.ensures c.list_report.ensures.kind
+
+pub returns-in_err-ask_first-clause-looks_up : goal.returns-in_err-ask_first-clause-looks_up
+returns-in_err-ask_first-clause-looks_up g c = hands c.from_residual.ensures.1 (λ name trees it. it) c.in_err-ask_first.ensures.looks_up
