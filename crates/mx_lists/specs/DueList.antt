@@ -11,7 +11,8 @@ use Rattle.mx_book.specs.declared.commands.programme.Task.{Task}
 use Rattle.mx_book.specs.due.Left.{left_of}
 use Rattle.mx_book.specs.due.Status.{status_by, status_of}
 use Rattle.mx_book.specs.declared.defects.Defect.{Defect}
-use Rattle.mx_book.specs.Register.{aircraft}
+use Rattle.mx_book.specs.declared.found.Found.{Found}
+use Rattle.mx_book.specs.Register.{aircraft, found_of}
 use Rattle.mx_book.specs.Life.{life_now, use_or_none}
 use Rattle.mx_book.specs.Programme.{tasks_or_none}
 use Rattle.mx_book.specs.Defect.{last_permitted, letter_of, open_defects}
@@ -20,7 +21,7 @@ use Rattle.mx_lists.specs.declared.due_row.DueRow.TheVariants.{Task as TaskRow, 
 use Rattle.mx_lists.specs.declared.due_row.DueList.{DueList}
 use Rattle.mx_lists.specs.declared.life_list.FittedPart.{FittedPart}
 use Rattle.mx_lists.specs.LifeList.{parts}
-use Rattle.mx_lists.specs.Dues.{due_by}
+use Rattle.mx_lists.specs.Dues.{due_of_found}
 use Rattle.mx_lists.specs.LimitList.{days_left}
 use Rattle.mx_lists.specs.DueRow.{row_before}
 use Rattle.mx_lists.specs.Order.{in_order, text_before}
@@ -29,13 +30,13 @@ use Rattle.mx_lists.specs.Order.{in_order, text_before}
 abbrev pub row_by_due : ℕ → Use → Option (List ℕ × List ℕ) → Task → Limit → DueRow
 row_by_due day life place t due = TaskRow (status_of (left_of due life day) t.tolerance) place t.id (left_of due life day)
 
--- the row of a task of an item that has this life, where something is due; a component stands in its place, with its position and its serial number
-abbrev pub row_with : List Entry → ℕ → Item → Use → Option (List ℕ × List ℕ) → Task → Option DueRow
-row_with book day item life place t = option_map (row_by_due day life place t) (due_by book item t)
+-- the row of a task of an item that was found so and has this life, where something is due; a component stands in its place, with its position and its serial number
+abbrev pub row_with : List Entry → ℕ → Item → Found → Use → Option (List ℕ × List ℕ) → Task → Option DueRow
+row_with book day item found life place t = option_map (row_by_due day life place t) (due_of_found book item found t)
 
--- the rows of an item that has this life, in the order of these tasks
-abbrev pub rows_with : List Entry → ℕ → Item → Use → Option (List ℕ × List ℕ) → List Task → List DueRow
-rows_with book day item life place tasks = filter_map (row_with book day item life place) tasks
+-- the rows of an item that was found so and has this life, in the order of these tasks
+abbrev pub rows_with : List Entry → ℕ → Item → Found → Use → Option (List ℕ × List ℕ) → List Task → List DueRow
+rows_with book day item found life place tasks = filter_map (row_with book day item found life place) tasks
 
 -- one task comes before another: by their names
 abbrev pub task_before : Task → Task → Bool
@@ -47,7 +48,7 @@ tasks_by_name book kind = in_order task_before (tasks_or_none book kind)
 
 -- the rows of an item, in the order of these tasks
 abbrev pub rows_of_item : List Entry → ℕ → List Task → Item → Option (List ℕ × List ℕ) → List DueRow
-rows_of_item book day tasks item place = rows_with book day item (use_or_none (life_now book item)) place tasks
+rows_of_item book day tasks item place = rows_with book day item (found_of book item) (use_or_none (life_now book item)) place tasks
 
 -- the rows of a component in its position
 abbrev pub rows_of_part : List Entry → ℕ → List Task → FittedPart → List DueRow

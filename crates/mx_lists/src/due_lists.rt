@@ -9,9 +9,9 @@ ghost use Rattle.mx_lists.specs.Memory.{Gathers, seen_as};
 ghost use Rattle.mx_lists.specs.Ranks.{tasks_rank};
 
 use crate::due_row::{DueList, DueRow};
-use crate::dues::due_of_task;
+use crate::dues::due_of_found;
 use crate::life_list::{FittedPart, parts_by_position};
-use crate::list_questions::{aircraft_of, days_of_extension, life_of};
+use crate::list_questions::{aircraft_of, days_of_extension, item_found, life_of};
 use crate::list_records::ListRecords;
 use crate::order::{Placed, Rows, sorted};
 use crate::stop::Stop;
@@ -19,6 +19,7 @@ use mx_base::{Day, Kind, Limit, Position, Serial, Tail, Use};
 use mx_book::commands::{Item, Task};
 use mx_book::defects::{Defect, category_letter, last_day_with};
 use mx_book::due::{left_of, status_by, status_of};
+use mx_book::found::Found;
 use std::alloc::{AllocError, Global};
 
 impl Placed for Task {
@@ -65,20 +66,21 @@ fn row_of_due(
     }
 }
 
-// The row of a task of an item that has this life, where something is due.
+// The row of a task of an item that was found so and has this life, where something is due.
 fn row_of_task<R: ListRecords>(
     records: &mut R,
     day: Day,
     item: &Item,
+    found: &Found,
     life: &Use,
     place: Option<(Position, Serial)>,
     task: &Task,
 ) -> Result<Option<DueRow>, Stop<R::Fault>>
     requires { task_shape task.now ≡ true }
     ensures { Gathers R.reading records.old records.new result
-        (λ book. row_with book day item.now life.now place task.now) }
+        (λ book. row_with book day item.now found.now life.now place task.now) }
 {
-    match due_of_task(records, item, task) {
+    match due_of_found(records, item, found, task) {
         Ok(Some(due)) => Ok(Some(row_of_due(day, life, place, task, &due))),
         Ok(None) => Ok(None),
         Err(fault) => Err(Stop::Fault(fault)),
@@ -111,11 +113,12 @@ fn append_item<R: ListRecords>(
     ensures { Gathers R.reading records.old records.new (seen_as (λ _. rows.new.items) result)
         (λ book. rows.old.items ++ rows_of_item book day tasks.now item.now place.now) }
 {
+    let found = item_found(records, item)?;
     let life = life_of(records, item)?;
     let mut rest = tasks;
     while let Some((task, later)) = rest.split_first() {
-        let found = row_of_task(records, day, item, &life, *place, task)?;
-        push_found(rows, found)?;
+        let row = row_of_task(records, day, item, &found, &life, *place, task)?;
+        push_found(rows, row)?;
         rest = later;
     }
     Ok(())

@@ -2,30 +2,31 @@
 ghost use Rattle.std.specs.Prelude.{◌≡◌, true};
 ghost use Rattle.mx_book.specs.commands.Programme.{task_shape};
 ghost use Rattle.mx_book.specs.Reading.{Answers};
-ghost use Rattle.mx_lists.specs.Dues.{due_by, due};
+ghost use Rattle.mx_lists.specs.Dues.{due_of_found, due};
 
 use crate::list_records::ListRecords;
 use mx_base::{Kind, Limit, TaskId};
 use mx_book::Records;
 use mx_book::commands::{Item, Task};
 use mx_book::due::due_after;
-use mx_book::found::{birth_of, is_task_of};
+use mx_book::found::{Found, birth_of, is_task_of};
 use mx_book::judging::judging_items::found_of;
 
-/// When a task of a programme is due on an item, or `None` where it does not apply to it or is due no more.
-pub(crate) fn due_of_task<R: ListRecords>(
+/// When a task of a programme is due on an item of which this was found, or `None` where it does not apply to it or is
+/// due no more.
+pub(crate) fn due_of_found<R: ListRecords>(
     records: &mut R,
     item: &Item,
+    found: &Found,
     task: &Task,
 ) -> Result<Option<Limit>, R::Fault>
     requires { task_shape task.now ≡ true }
     ensures { Answers R.reading records.old records.new result
-        (λ book. due_by book item.now task.now) }
+        (λ book. due_of_found book item.now found.now task.now) }
 {
-    let found = found_of(records, item)?;
-    if is_task_of(&found, task) {
+    if is_task_of(found, task) {
         let base = records.base(item, &task.id)?;
-        Ok(due_after(base, birth_of(&found), task))
+        Ok(due_after(base, birth_of(found), task))
     } else {
         Ok(None)
     }
@@ -44,7 +45,10 @@ pub fn due_of_kind<R: ListRecords>(
         (λ book. due book item.now kind.now id.now) }
 {
     match records.task(kind, id)? {
-        Some(Some(task)) => due_of_task(records, item, &task),
+        Some(Some(task)) => {
+            let found = found_of(records, item)?;
+            due_of_found(records, item, &found, &task)
+        }
         _ => Ok(None),
     }
 }

@@ -1,7 +1,7 @@
 //! Questions that several lists ask of records, where memory may run out as well.
 ghost use Rattle.mx_book.specs.Defect.{days_extended};
 ghost use Rattle.mx_book.specs.Life.{clock, life_now, use_or_none};
-ghost use Rattle.mx_book.specs.Register.{aircraft};
+ghost use Rattle.mx_book.specs.Register.{aircraft, found_of};
 ghost use Rattle.mx_lists.specs.Memory.{Gathers};
 
 use crate::life_list::life_or_none;
@@ -10,7 +10,9 @@ use crate::stop::Stop;
 use mx_base::{Doc, Moment, Tail, Use};
 use mx_book::Records;
 use mx_book::commands::{Aircraft, Item};
+use mx_book::found::Found;
 use mx_book::judging::judging_defects::extension_days;
+use mx_book::judging::judging_items::found_of;
 
 /// The aircraft with a registration.
 pub(crate) fn aircraft_of<R: ListRecords>(
@@ -21,6 +23,16 @@ pub(crate) fn aircraft_of<R: ListRecords>(
 {
     match records.aircraft(tail) {
         Ok(aircraft) => Ok(aircraft),
+        Err(fault) => Err(Stop::Fault(fault)),
+    }
+}
+
+/// The aircraft or the component that an item names, where there is one.
+pub(crate) fn item_found<R: Records>(records: &mut R, item: &Item) -> Result<Found, Stop<R::Fault>>
+    ensures { Gathers R.reading records.old records.new result (λ book. found_of book item.now) }
+{
+    match found_of(records, item) {
+        Ok(found) => Ok(found),
         Err(fault) => Err(Stop::Fault(fault)),
     }
 }

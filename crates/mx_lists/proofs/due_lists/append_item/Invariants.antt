@@ -11,7 +11,7 @@ abbrev pub invariant-loop-task : goal.invariant-loop-task
 invariant-loop-task g l = record {
   left :
       Gathers (with_memory g.R.Records.reading) l.fn.records l.records
-      (λ book. l.rows.items ++ rows_with book l.day l.item l.life l.place l.rest)
+      (λ book. l.rows.items ++ rows_with book l.day l.item l.found l.life l.place l.rest)
       (λ book. l.fn.rows.items ++ rows_of_item book l.day l.tasks l.item l.place);
   shape : list_all task_shape l.rest ≡ true;
 }
