@@ -1,3 +1,4 @@
+pub mod AmongAll
 pub mod FittedLemmas
 pub mod ForecastLemmas
 pub mod Gathering

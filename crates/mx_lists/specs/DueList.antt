@@ -58,12 +58,16 @@ rows_of_part book day tasks p = rows_of_item book day tasks (Component p.serial)
 abbrev pub defect_row : List Entry → ℕ → Defect → DueRow
 defect_row book day d = DefectRow (status_by 0 (days_left book day d)) d.doc (letter_of d.deferral.category) d.deferral.reference (pos (last_permitted book d)) (days_left book day d)
 
--- the rows by place: those of the airframe by task, then those of the components by position and then by task, then those of the open defects in the order of their entries
-abbrev pub rows_by_place : List Entry → List ℕ → List ℕ → ℕ → List DueRow
-rows_by_place book tail kind day =
+-- the rows by place, where these are the open defects: those of the airframe by task, then those of the components by position and then by task, then those of the open defects in the order of their entries
+abbrev pub rows_placed : List Entry → List ℕ → List ℕ → ℕ → List Defect → List DueRow
+rows_placed book tail kind day defects =
     rows_of_item book day (tasks_by_name book kind) (Airframe tail) None
     ++ (flat_map (rows_of_part book day (tasks_by_name book kind)) (parts book tail)
-    ++ map (defect_row book day) (open_defects book tail))
+    ++ map (defect_row book day) defects)
+
+-- the rows by place, with the defects that are open
+abbrev pub rows_by_place : List Entry → List ℕ → List ℕ → ℕ → List DueRow
+rows_by_place book tail kind day = rows_placed book tail kind day (open_defects book tail)
 
 -- the rows of an aircraft of a kind: the overdue, then the due, then the others, each by place
 abbrev pub due_rows : List Entry → List ℕ → List ℕ → ℕ → List DueRow

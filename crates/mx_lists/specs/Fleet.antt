@@ -5,7 +5,7 @@ use Rattle.std.specs.Option.{option_map_or}
 use Rattle.mx_book.specs.commands.Act.{Entry, aircraft_of}
 use Rattle.mx_book.specs.commands.Same.{same_text}
 use Rattle.mx_book.specs.Defect.{defects, is_rectified}
-use Rattle.mx_book.specs.Register.{register}
+use Rattle.mx_book.specs.Register.{aircraft, register}
 use Rattle.mx_book.specs.declared.defects.Defect.{Defect}
 use Rattle.mx_lists.specs.declared.due_row.DueRow.{DueRow}
 use Rattle.mx_lists.specs.declared.fleet_row.FleetRow.{FleetRow}
@@ -40,6 +40,14 @@ rows_of_all before rows aircraft = in_order (fleet_before before) (flat_map (row
 -- those of these rows that are of an aircraft, without its registration
 abbrev pub rows_with_tail : {X : Type 0} → List ℕ → List (FleetRow X) → List X
 rows_with_tail tail rows = map (λ r. r.row) (filter (λ r. same_text r.tail tail) rows)
+
+-- the defect is of this aircraft
+abbrev pub is_on : List ℕ → Defect → Bool
+is_on tail d = same_text d.deferral.tail tail
+
+-- the rows that an aircraft has by its kind and by those of these defects that are its own, none where the registration is unknown
+abbrev pub rows_among : {X : Type 0} → (List ℕ → List ℕ → List Defect → List X) → List Entry → List Defect → List ℕ → List X
+rows_among rows book defects tail = option_map_or (λ a. rows tail a.kind (filter (is_on tail) defects)) (aircraft book tail) []
 
 -- what is due on an aircraft, in the order of its due list
 abbrev pub dues_of : List Entry → ℕ → List ℕ → List DueRow

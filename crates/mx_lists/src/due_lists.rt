@@ -4,8 +4,10 @@ ghost use Rattle.std.specs.List.{cons_option, flat_map, list_all};
 ghost use Rattle.mx_book.specs.commands.Act.{Entry};
 ghost use Rattle.mx_book.specs.commands.Programme.{task_shape};
 ghost use Rattle.mx_book.specs.Defect.{days_extended};
-ghost use Rattle.mx_lists.specs.DueList.{row_by_due, task_before, tasks_by_name, row_with, rows_of_item, rows_of_part, defect_row, rows_by_place, due_list};
+ghost use Rattle.mx_lists.specs.DueList.{row_by_due, task_before, tasks_by_name, row_with, rows_of_item, rows_of_part, defect_row, rows_placed, due_list};
+ghost use Rattle.mx_lists.specs.DueRow.{row_before};
 ghost use Rattle.mx_lists.specs.Memory.{Gathers, seen_as};
+ghost use Rattle.mx_lists.specs.Order.{in_order};
 ghost use Rattle.mx_lists.specs.Ranks.{tasks_rank};
 
 use crate::due_row::{DueList, DueRow};
@@ -204,25 +206,42 @@ fn append_defects<R: ListRecords>(
 }
 
 /// The rows of an aircraft by place: those of its airframe by task, then those of its components by position and task,
-/// then those of its open defects.
+/// then those of these defects, which are its open ones.
 pub(crate) fn placed_rows<R: ListRecords>(
     records: &mut R,
     alloc: Global,
     tail: &Tail,
     kind: &Kind,
     day: Day,
+    defects: &[Defect],
 ) -> Result<Vec<DueRow>, Stop<R::Fault>>
     ensures { Gathers R.reading records.old records.new (seen_as (λ rows. rows.items) result)
-        (λ book. rows_by_place book tail.now kind.now day) }
+        (λ book. rows_placed book tail.now kind.now day defects.now) }
 {
     let tasks = tasks_in_order(records, alloc, kind)?;
     let parts = parts_by_position(records, alloc, tail)?;
-    let defects = records.open_defects(alloc, tail)?;
     let mut rows = Vec::new(alloc);
     let airframe = Item::Airframe(*tail);
     append_item(&mut rows, records, day, tasks.as_slice(), &airframe, &None)?;
     append_parts(&mut rows, records, day, tasks.as_slice(), parts.as_slice())?;
-    append_defects(&mut rows, records, day, defects.as_slice())?;
+    append_defects(&mut rows, records, day, defects)?;
+    Ok(rows)
+}
+
+/// The rows of an aircraft with these open defects: the overdue, then the due, then the others, each by place.
+pub(crate) fn rows_due<R: ListRecords>(
+    records: &mut R,
+    alloc: Global,
+    tail: &Tail,
+    kind: &Kind,
+    day: Day,
+    defects: &[Defect],
+) -> Result<Rows<DueRow>, Stop<R::Fault>>
+    ensures { Gathers R.reading records.old records.new result
+        (λ book. in_order row_before (rows_placed book tail.now kind.now day defects.now)) }
+{
+    let placed = placed_rows(records, alloc, tail, kind, day, defects)?;
+    let rows = sorted(placed)?;
     Ok(rows)
 }
 
@@ -240,9 +259,16 @@ pub fn list_dues<R: ListRecords>(
     let Some(aircraft) = aircraft_of(records, tail)? else {
         return Ok(None);
     };
-    let placed = placed_rows(records, alloc, tail, &aircraft.kind, day)?;
+    let defects = records.open_defects(alloc, tail)?;
+    let rows = rows_due(
+        records,
+        alloc,
+        tail,
+        &aircraft.kind,
+        day,
+        defects.as_slice(),
+    )?;
     let life = life_of(records, &Item::Airframe(*tail))?;
-    let rows = sorted(placed)?;
     Ok(Some(DueList {
         tail: *tail,
         day,

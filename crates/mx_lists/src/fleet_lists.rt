@@ -1,23 +1,27 @@
 //! The lists of all aircraft in one: what is due on them, what will be, and the limits of their open defects.
-ghost use Rattle.std.specs.Prelude.{◌≡◌, ◌++◌, List, map};
-ghost use Rattle.std.specs.List.{flat_map};
+ghost use Rattle.std.specs.Prelude.{◌≡◌, ◌++◌, List, filter, map, IfOk};
+ghost use Rattle.std.specs.List.{filter_map, flat_map};
 ghost use Rattle.mx_book.specs.commands.Act.{Entry};
 ghost use Rattle.mx_book.specs.Defect.{days_extended};
-ghost use Rattle.mx_lists.specs.Fleet.{deferred, deferred_row, dues_of, fleet, outlook, reached_of, rows_of_all, rows_of_one, tails_by_text};
+ghost use Rattle.mx_lists.specs.DueList.{rows_placed};
+ghost use Rattle.mx_lists.specs.DueRow.{row_before};
+ghost use Rattle.mx_lists.specs.Fleet.{all_open, deferred, deferred_row, fleet, is_on, outlook, rows_among, rows_of_all, rows_of_one, tails_by_text};
+ghost use Rattle.mx_lists.specs.Forecast.{forecast_row, sooner};
 ghost use Rattle.mx_lists.specs.Memory.{Gathers, seen_as};
+ghost use Rattle.mx_lists.specs.Order.{in_order};
 
-use crate::due_lists::list_dues;
+use crate::due_lists::rows_due;
 use crate::due_row::DueRow;
 use crate::fleet_row::{FleetRow, append_with_tail};
-use crate::forecast::{ForecastRow, list_forecast};
+use crate::forecast::{Ahead, ForecastRow, rows_reached};
 use crate::limit_list::{LimitRow, limit_of_defect};
-use crate::list_questions::days_of_extension;
+use crate::list_questions::{aircraft_of, days_of_extension};
 use crate::list_records::ListRecords;
 use crate::order::{Placed, Rows, sorted};
 use crate::stop::Stop;
-use mx_base::{Day, Tail};
+use mx_base::{Day, Kind, Tail};
 use mx_book::Defect;
-use std::alloc::Global;
+use std::alloc::{AllocError, Global};
 
 /// What is due on all aircraft: the overdue first, then the due, then the others, each by registration and then in the order
 /// of the aircraft's own list.
@@ -58,20 +62,23 @@ pub struct DeferredList {
 trait OfEach {
     ghost use Rattle.std.specs.Prelude.{List, ℕ};
     ghost use Rattle.mx_book.specs.commands.Act.{Entry};
+    ghost use Rattle.mx_book.specs.declared.defects.Defect.{Defect};
 
     type Row: Placed;
 
-    ghost rows_of: { Self → List Entry → List ℕ → List Self.Row };
+    ghost rows_of: { Self → List Entry → List ℕ → List ℕ → List Defect → List Self.Row };
 
-    // Its rows of an aircraft, none where the registration is unknown.
+    // Its rows of an aircraft of a kind, where these are the open defects of that.
     fn rows_of<R: ListRecords>(
         &self,
         records: &mut R,
         alloc: Global,
         tail: &Tail,
+        kind: &Kind,
+        defects: &[Defect],
     ) -> Result<Rows<Self::Row>, Stop<R::Fault>>
         ensures { Gathers R.reading records.old records.new result
-            (λ book. rows_of self.now book tail.now) };
+            (λ book. rows_of self.now book tail.now kind.now defects.now) };
 }
 
 // What is due on a day.
@@ -81,48 +88,69 @@ struct DueOn(Day);
 impl OfEach for DueOn {
     type Row = DueRow;
 
-    ghost rows_of = { λ asked book tail. dues_of book asked.0 tail };
+    ghost rows_of = { λ asked book tail kind defects.
+        in_order row_before (rows_placed book tail kind asked.0 defects) };
 
     fn rows_of<R: ListRecords>(
         &self,
         records: &mut R,
         alloc: Global,
         tail: &Tail,
+        kind: &Kind,
+        defects: &[Defect],
     ) -> Result<Rows<DueRow>, Stop<R::Fault>> {
-        match list_dues(records, alloc, tail, self.0)? {
-            Some(list) => Ok(list.rows),
-            None => Ok(Rows::new(Vec::new(alloc))),
-        }
+        rows_due(records, alloc, tail, kind, self.0, defects)
     }
 }
 
-// What will be due within so many days, at so many minutes and cycles a day.
-#[derive(Clone, Copy)]
-struct Ahead {
-    day: Day,
-    days: u32,
-    minutes: u32,
-    cycles: u32,
-}
-
+// What will be due so far ahead.
 impl OfEach for Ahead {
     type Row = ForecastRow;
 
-    ghost rows_of = { λ asked book tail.
-        reached_of book asked.day asked.days asked.minutes asked.cycles tail };
+    ghost rows_of = { λ asked book tail kind defects.
+        in_order sooner (filter_map
+        (forecast_row asked.day asked.days asked.minutes asked.cycles)
+        (rows_placed book tail kind asked.day defects)) };
 
     fn rows_of<R: ListRecords>(
         &self,
         records: &mut R,
         alloc: Global,
         tail: &Tail,
+        kind: &Kind,
+        defects: &[Defect],
     ) -> Result<Rows<ForecastRow>, Stop<R::Fault>> {
-        let (days, minutes, cycles) = (self.days, self.minutes, self.cycles);
-        match list_forecast(records, alloc, tail, self.day, days, minutes, cycles)? {
-            Some(list) => Ok(list.rows),
-            None => Ok(Rows::new(Vec::new(alloc))),
-        }
+        rows_reached(records, alloc, tail, kind, self, defects)
     }
+}
+
+// Those of some defects that are of an aircraft, in their order.
+fn defects_on(alloc: Global, defects: &[Defect], tail: &Tail) -> Result<Vec<Defect>, AllocError>
+    ensures { IfOk result (λ own. own.items ≡ filter (is_on tail.now) defects.now) }
+{
+    defects
+        .iter()
+        .filter(|defect| defect.deferral.tail == *tail)
+        .copied()
+        .collect(alloc)
+}
+
+// The rows of an aircraft, by those of these defects that are its own, and none where the registration is unknown.
+fn rows_of_aircraft<R: ListRecords, A: OfEach>(
+    records: &mut R,
+    alloc: Global,
+    asked: &A,
+    defects: &[Defect],
+    tail: &Tail,
+) -> Result<Rows<A::Row>, Stop<R::Fault>>
+    ensures { Gathers R.reading records.old records.new result
+        (λ book. rows_among (A.rows_of asked.now book) book defects.now tail.now) }
+{
+    let Some(aircraft) = aircraft_of(records, tail)? else {
+        return Ok(Rows::new(Vec::new(alloc)));
+    };
+    let own = defects_on(alloc, defects, tail)?;
+    asked.rows_of(records, alloc, tail, &aircraft.kind, own.as_slice())
 }
 
 // Appends the rows of an aircraft, each with its registration.
@@ -131,12 +159,14 @@ fn append_of<R: ListRecords, A: OfEach>(
     records: &mut R,
     alloc: Global,
     asked: &A,
+    defects: &[Defect],
     tail: &Tail,
 ) -> Result<(), Stop<R::Fault>>
     ensures { Gathers R.reading records.old records.new (seen_as (λ _. rows.new.items) result)
-        (λ book. rows.old.items ++ rows_of_one (A.rows_of asked.now book) tail.now) }
+        (λ book. rows.old.items
+        ++ rows_of_one (rows_among (A.rows_of asked.now book) book defects.now) tail.now) }
 {
-    let of_aircraft = asked.rows_of(records, alloc, tail)?;
+    let of_aircraft = rows_of_aircraft(records, alloc, asked, defects, tail)?;
     append_with_tail(rows, tail, of_aircraft.as_slice())?;
     Ok(())
 }
@@ -146,32 +176,36 @@ fn rows_of_these<R: ListRecords, A: OfEach>(
     records: &mut R,
     alloc: Global,
     asked: &A,
+    defects: &[Defect],
     tails: &[Tail],
 ) -> Result<Vec<FleetRow<A::Row>>, Stop<R::Fault>>
     ensures { Gathers R.reading records.old records.new (seen_as (λ rows. rows.items) result)
-        (λ book. flat_map (rows_of_one (A.rows_of asked.now book)) tails.now) }
+        (λ book. flat_map
+        (rows_of_one (rows_among (A.rows_of asked.now book) book defects.now)) tails.now) }
 {
     let mut rows = Vec::new(alloc);
     let mut rest = tails;
     while let Some((tail, later)) = rest.split_first() {
-        append_of(&mut rows, records, alloc, asked, tail)?;
+        append_of(&mut rows, records, alloc, asked, defects, tail)?;
         rest = later;
     }
     Ok(rows)
 }
 
-// The rows of all aircraft in one order; those that tie by registration, and then in the order of the aircraft's own.
+// The rows of all aircraft, by the open defects of each, in one order; those that tie by registration, and then in the order of the aircraft's own.
 fn rows_of_all<R: ListRecords, A: OfEach>(
     records: &mut R,
     alloc: Global,
     asked: &A,
 ) -> Result<Rows<FleetRow<A::Row>>, Stop<R::Fault>>
     ensures { Gathers R.reading records.old records.new result
-        (λ book. rows_of_all A.Row.before (A.rows_of asked.now book) (tails_by_text book)) }
+        (λ book. rows_of_all A.Row.before
+        (rows_among (A.rows_of asked.now book) book (all_open book)) (tails_by_text book)) }
 {
     let known = records.tails(alloc)?;
     let tails = sorted(known)?;
-    let all = rows_of_these(records, alloc, asked, tails.as_slice())?;
+    let defects = records.all_open_defects(alloc)?;
+    let all = rows_of_these(records, alloc, asked, defects.as_slice(), tails.as_slice())?;
     let rows = sorted(all)?;
     Ok(rows)
 }

@@ -2,8 +2,10 @@
 ghost use Rattle.std.specs.Prelude.{◌≡◌, IfOk};
 ghost use Rattle.std.specs.List.{filter_map};
 ghost use Rattle.mx_book.specs.due.Reach.{IsLeastIfAny};
+ghost use Rattle.mx_lists.specs.DueList.{rows_placed};
 ghost use Rattle.mx_lists.specs.Forecast.{is_reached_after, row_after, forecast_row, sooner, forecast};
 ghost use Rattle.mx_lists.specs.Memory.{Gathers};
+ghost use Rattle.mx_lists.specs.Order.{in_order};
 ghost use Rattle.mx_lists.specs.Ranks.{forecast_rank};
 
 use crate::due_lists::placed_rows;
@@ -12,7 +14,8 @@ use crate::list_questions::aircraft_of;
 use crate::list_records::ListRecords;
 use crate::order::{Placed, Rows, sorted};
 use crate::stop::Stop;
-use mx_base::{Day, Tail};
+use mx_base::{Day, Kind, Tail};
+use mx_book::Defect;
 use mx_book::due::{days_to_reach, days_to_reach_some};
 use std::alloc::{AllocError, Global};
 
@@ -62,6 +65,19 @@ pub struct ForecastList {
     pub cycles: u32,
     /// What is reached within these days.
     pub rows: Rows<ForecastRow>,
+}
+
+/// How far a forecast looks ahead, and how much is flown.
+#[derive(Clone, Copy)]
+pub(crate) struct Ahead {
+    /// The day that it is from.
+    pub(crate) day: Day,
+    /// The days that it looks ahead.
+    pub(crate) days: u32,
+    /// The minutes that are flown a day.
+    pub(crate) minutes: u32,
+    /// The cycles that are flown a day.
+    pub(crate) cycles: u32,
 }
 
 // The least number of days after which a row is reached.
@@ -118,6 +134,34 @@ fn rows_within(
         .collect(alloc)
 }
 
+/// The rows of an aircraft with these open defects that are reached so far ahead, by the number of days.
+pub(crate) fn rows_reached<R: ListRecords>(
+    records: &mut R,
+    alloc: Global,
+    tail: &Tail,
+    kind: &Kind,
+    ahead: &Ahead,
+    defects: &[Defect],
+) -> Result<Rows<ForecastRow>, Stop<R::Fault>>
+    ensures { Gathers R.reading records.old records.new result
+        (λ book. in_order sooner (filter_map
+        (forecast_row ahead.now.day ahead.now.days ahead.now.minutes ahead.now.cycles)
+        (rows_placed book tail.now kind.now ahead.now.day defects.now))) }
+{
+    let (day, days) = (ahead.day, ahead.days);
+    let all = placed_rows(records, alloc, tail, kind, day, defects)?;
+    let reached = rows_within(
+        alloc,
+        all.as_slice(),
+        day,
+        days,
+        ahead.minutes,
+        ahead.cycles,
+    )?;
+    let rows = sorted(reached)?;
+    Ok(rows)
+}
+
 /// The forecast of an aircraft from a day on, or `None` where the registration is unknown. Or why it stopped: memory
 /// ran out, or a question was not answered.
 pub fn list_forecast<R: ListRecords>(
@@ -135,9 +179,21 @@ pub fn list_forecast<R: ListRecords>(
     let Some(aircraft) = aircraft_of(records, tail)? else {
         return Ok(None);
     };
-    let all = placed_rows(records, alloc, tail, &aircraft.kind, day)?;
-    let reached = rows_within(alloc, all.as_slice(), day, days, minutes, cycles)?;
-    let rows = sorted(reached)?;
+    let ahead = Ahead {
+        day,
+        days,
+        minutes,
+        cycles,
+    };
+    let defects = records.open_defects(alloc, tail)?;
+    let rows = rows_reached(
+        records,
+        alloc,
+        tail,
+        &aircraft.kind,
+        &ahead,
+        defects.as_slice(),
+    )?;
     Ok(Some(ForecastList {
         tail: *tail,
         day,
