@@ -68,7 +68,7 @@ trait OfEach {
 
     ghost rows_of: { Self → List Entry → List ℕ → List ℕ → List Defect → List Self.Row };
 
-    // Its rows of an aircraft of a kind, where these are the open defects of that.
+    // Its rows of an aircraft of this kind, which has these open defects.
     fn rows_of<R: ListRecords>(
         &self,
         records: &mut R,
@@ -192,7 +192,7 @@ fn rows_of_these<R: ListRecords, A: OfEach>(
     Ok(rows)
 }
 
-// The rows of all aircraft, by the open defects of each, in one order; those that tie by registration, and then in the order of the aircraft's own.
+// The rows of all aircraft in one order; those that tie by registration, and then in the order of the aircraft's own.
 fn rows_of_all<R: ListRecords, A: OfEach>(
     records: &mut R,
     alloc: Global,

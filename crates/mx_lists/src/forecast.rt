@@ -134,7 +134,8 @@ fn rows_within(
         .collect(alloc)
 }
 
-/// The rows of an aircraft with these open defects that are reached so far ahead, by the number of days.
+/// The rows of an aircraft with these open defects that are reached so far ahead: by the number of days, those of one
+/// number by place.
 pub(crate) fn rows_reached<R: ListRecords>(
     records: &mut R,
     alloc: Global,
@@ -148,13 +149,12 @@ pub(crate) fn rows_reached<R: ListRecords>(
         (forecast_row ahead.now.day ahead.now.days ahead.now.minutes ahead.now.cycles)
         (rows_placed book tail.now kind.now ahead.now.day defects.now))) }
 {
-    let (day, days) = (ahead.day, ahead.days);
-    let all = placed_rows(records, alloc, tail, kind, day, defects)?;
+    let all = placed_rows(records, alloc, tail, kind, ahead.day, defects)?;
     let reached = rows_within(
         alloc,
         all.as_slice(),
-        day,
-        days,
+        ahead.day,
+        ahead.days,
         ahead.minutes,
         ahead.cycles,
     )?;
