@@ -36,7 +36,7 @@ kept book tail (d ∷ ds) = at (kept book tail ds) (not (is_rectified book d.doc
     at later false false e = later
 
 -- those of an aircraft among the open defects of all are its own
-own_of_all : (book : List Entry) (tail : List ℕ) → filter (is_on tail) (all_open book) ≡ open_defects book tail
+pub own_of_all : (book : List Entry) (tail : List ℕ) → filter (is_on tail) (all_open book) ≡ open_defects book tail
 own_of_all book tail = kept book tail (defects book)
 
 listed : {X L : Type 0} (given : Aircraft → List X) (rows : L → List X) (list : Aircraft → L) (o : Option Aircraft) → ((a : Aircraft) → given a ≡ rows (list a))

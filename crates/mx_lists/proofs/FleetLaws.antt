@@ -1,6 +1,6 @@
 -- Of the lists of all aircraft, the rows of one registration are those of its own list.
 use Rattle.std.proofs.Common.{◌≡◌, ◌∙◌, ℕ, List, [], ◌∷◌, ◌++◌, Bool, true, false, cond, Option, Some, None, refl, sym, ap, subst, map, append_assoc, append-nil}
-use Rattle.std.specs.Prelude.{filter, find, not, ◌&&◌, is_some}
+use Rattle.std.specs.Prelude.{filter, find, is_some}
 use Rattle.std.specs.Cmp.{IsStrictWeakOrder}
 use Rattle.std.specs.List.{cons_option, filter_map, flat_map}
 use Rattle.std.specs.Option.{option_map, option_map_or, option_or, option_to_list}
@@ -9,7 +9,7 @@ use Rattle.std.proofs.lemmas.List.Folds.{find-append}
 use Rattle.mx_book.specs.Book.{IsBook, is_book_from, is_new}
 use Rattle.mx_book.specs.commands.Act.{Act, Entry, Added, aircraft_of}
 use Rattle.mx_book.specs.commands.Same.{same_text}
-use Rattle.mx_book.specs.Defect.{defects, is_open, is_rectified, open_defects}
+use Rattle.mx_book.specs.Defect.{open_defects}
 use Rattle.mx_book.specs.Judge.{judge}
 use Rattle.mx_book.specs.Register.{aircraft, register}
 use Rattle.mx_book.specs.declared.commands.aircraft.Aircraft.{Aircraft}
@@ -24,12 +24,13 @@ use Rattle.mx_lists.specs.declared.forecast.ForecastList.{ForecastList}
 use Rattle.mx_lists.specs.declared.limit_list.LimitRow.{LimitRow}
 use Rattle.mx_lists.specs.DueRow.{row_before}
 use Rattle.mx_lists.specs.DueList.{rows_by_place}
-use Rattle.mx_lists.specs.Fleet.{all_open, deferred, deferred_row, dues_of, fleet, outlook, reached_of, rows_of_all, rows_of_one, rows_with_tail, tails, tails_by_text}
+use Rattle.mx_lists.specs.Fleet.{all_open, deferred, deferred_row, dues_of, fleet, is_on, outlook, reached_of, rows_of_all, rows_of_one, rows_with_tail, tails}
 use Rattle.mx_lists.specs.FleetRow.{fleet_before, with_tail}
 use Rattle.mx_lists.specs.Forecast.{forecast_row, sooner}
 use Rattle.mx_lists.specs.LimitList.{limit_before, limit_row, limit_rows}
 use Rattle.mx_lists.specs.Order.{in_order, placed, put_in, text_before}
 use Rattle.mx_lists.specs.Ranks.{due_rows_rank, fleet_rank, forecast_rank, limits_rank, tails_rank}
+use Rattle.mx_lists.proofs.AmongAll.{own_of_all}
 use Rattle.mx_lists.proofs.OrderLaws.{filter-in_order, in_order-again}
 
 -- the row is of this aircraft
@@ -189,29 +190,26 @@ module _ (book : List Entry) (tail : List ℕ) (is : IsBook book) where
       (unlisted (λ (list : ForecastList). list.rows) _ (aircraft book tail))
 
 limits_kept : (book : List Entry) (day : ℕ) (tail : List ℕ) (ds : List Defect)
-    → filter (is_of tail) (map (deferred_row book day) (filter (λ d. not (is_rectified book d.doc)) ds)) ≡ map (with_tail tail) (map (limit_row book day) (filter (is_open book tail) ds))
+    → filter (is_of tail) (map (deferred_row book day) ds) ≡ map (with_tail tail) (map (limit_row book day) (filter (is_on tail) ds))
 limits_kept book day tail [] = refl
-limits_kept book day tail (d ∷ ds) = at (limits_kept book day tail ds) (not (is_rectified book d.doc)) (same_text d.deferral.tail tail) refl
+limits_kept book day tail (d ∷ ds) = at (limits_kept book day tail ds) (same_text d.deferral.tail tail) refl
   where
-    at : filter (is_of tail) (map (deferred_row book day) (filter (λ d. not (is_rectified book d.doc)) ds)) ≡ map (with_tail tail) (map (limit_row book day) (filter (is_open book tail) ds))
-        → (r s : Bool) → same_text d.deferral.tail tail ≡ s
-        → filter (is_of tail) (map (deferred_row book day) (cond r (d ∷ filter (λ d. not (is_rectified book d.doc)) ds) (filter (λ d. not (is_rectified book d.doc)) ds)))
-        ≡ map (with_tail tail) (map (limit_row book day) (cond (s && r) (d ∷ filter (is_open book tail) ds) (filter (is_open book tail) ds)))
-    at later true true e =
+    at : filter (is_of tail) (map (deferred_row book day) ds) ≡ map (with_tail tail) (map (limit_row book day) (filter (is_on tail) ds))
+        → (s : Bool) → same_text d.deferral.tail tail ≡ s
+        → filter (is_of tail) (map (deferred_row book day) (d ∷ ds)) ≡ map (with_tail tail) (map (limit_row book day) (cond s (d ∷ filter (is_on tail) ds) (filter (is_on tail) ds)))
+    at later true e =
         let same : d.deferral.tail ≡ tail = (text_same d.deferral.tail tail).0 e in
-        ap (λ b. cond b (deferred_row book day d ∷ filter (is_of tail) (map (deferred_row book day) (filter (λ d. not (is_rectified book d.doc)) ds))) (filter (is_of tail) (map (deferred_row book day) (filter (λ d. not (is_rectified book d.doc)) ds)))) e
-        ∙ ap (λ t. with_tail t (limit_row book day d) ∷ filter (is_of tail) (map (deferred_row book day) (filter (λ d. not (is_rectified book d.doc)) ds))) same
+        ap (λ b. cond b (deferred_row book day d ∷ filter (is_of tail) (map (deferred_row book day) ds)) (filter (is_of tail) (map (deferred_row book day) ds))) e
+        ∙ ap (λ t. with_tail t (limit_row book day d) ∷ filter (is_of tail) (map (deferred_row book day) ds)) same
         ∙ ap (λ l. with_tail tail (limit_row book day d) ∷ l) later
-    at later true false e =
-        ap (λ b. cond b (deferred_row book day d ∷ filter (is_of tail) (map (deferred_row book day) (filter (λ d. not (is_rectified book d.doc)) ds))) (filter (is_of tail) (map (deferred_row book day) (filter (λ d. not (is_rectified book d.doc)) ds)))) e
+    at later false e =
+        ap (λ b. cond b (deferred_row book day d ∷ filter (is_of tail) (map (deferred_row book day) ds)) (filter (is_of tail) (map (deferred_row book day) ds))) e
         ∙ later
-    at later false true e = later
-    at later false false e = later
 
 pub limits_back : (book : List Entry) (tail : List ℕ) (day : ℕ) → rows_with_tail tail (deferred book day).rows ≡ limit_rows book tail day
 limits_back book tail day =
     ap (map (λ (r : FleetRow LimitRow). r.row))
     (filter-in_order (fleet_before limit_before) (fleet_rank limits_rank) (is_of tail) (map (deferred_row book day) (all_open book))
-    ∙ ap (in_order (fleet_before limit_before)) (limits_kept book day tail (defects book))
+    ∙ ap (in_order (fleet_before limit_before)) (limits_kept book day tail (all_open book) ∙ ap (λ ds. map (with_tail tail) (map (limit_row book day) ds)) (own_of_all book tail))
     ∙ map-put_in limit_before tail [] (map (limit_row book day) (open_defects book tail)))
     ∙ rows_back limit_before tail (limit_rows book tail day)
