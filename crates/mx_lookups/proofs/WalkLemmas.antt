@@ -115,6 +115,18 @@ module _ {R X : Type 0} (k : Kept R) (rows : List Entry → List R) (said : List
     pub walk_starved : {V W : Type 0} (P : List Entry → V → Type 0) (Q : List Entry → W → Type 0) (v : V) (result : Result W TableFault) → IsErrAnd result (λ e. e ≡ fault.Memory) → Reads P b c (Ok v) → Reads Q a c result
     walk_starved P Q v result is r = stopped Q Q a c fault.Memory result is (no_memory _ Q a c v (both P v r))
 
+  -- the row says nothing, and nothing is looked up for it
+  pub skipped : (a b : State) (done : List X) (left later : List R) (row : R) → Walks a b done left → left ≡ row ∷ later → ((book : List Entry) → said book row ≡ None) → ((trees : Trees) → Says trees row None) → Walks a b done later
+  skipped a b done left later row walks is so says =
+      let here : Walks a b done (row ∷ later) = subst (Walks a b done) is walks in (
+        told _ _ a b 0 0 (λ book is_book h. (h.0.1, h.1 ∙ ap (λ o. done ++ cons_option o (filter_map (said book) later)) (so book))) here.0,
+        record {
+          found = λ clean has.
+              let was = here.1.found clean has in
+              (was.0, was.1, was.2.1, λ rest of_rest. was.3 rest (None, rest, says a.now.trees, of_rest, refl));
+        },
+      )
+
   pub walk_stopped : {V W : Type 0} (a b c : State) (done : List X) (rest : List R) → Walks a b done rest → (P : List Entry → V → Type 0) (Q : List Entry → W → Type 0) (e : TableFault) (result : Result W TableFault) → IsErrAnd result (λ f. f ≡ e)
       → Reads P b c (Err e) → Reads Q a c result
   walk_stopped {V = V} a b c done rest walks P Q e result is r = stopped {V = V} _ Q a c e result is (reads_then _ P a b c 0 (Err e) walks.0 r)

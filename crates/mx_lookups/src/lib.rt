@@ -26,5 +26,6 @@ pub mod fleet;
 pub mod lists;
 pub mod lives;
 pub mod numbers;
+mod rectified;
 pub mod rooms;
 pub mod spans;

@@ -94,8 +94,8 @@ pub fn fitted<S: Alter>(
     }
 }
 
-// The document of the entry with this number.
-fn doc_of_number<S: Alter>(
+/// The document of the entry with this number.
+pub(crate) fn doc_of_number<S: Alter>(
     alloc: Global,
     tx: &mut Transaction<'_, S>,
     number: u32,

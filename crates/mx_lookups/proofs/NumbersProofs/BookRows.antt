@@ -41,7 +41,7 @@ module _ {X A : Type 0} (k : Kept X) (rows : List Entry → List X) (it : IsTabl
 -- ── each raw look-up ──
 
 -- a number that may be missing
-some_number : (o : Option ℕ) (n : ℕ) → equal Binary (number_or_null o) (Int (pos n)) ≡ option_eq nat_eq o (Some n)
+pub some_number : (o : Option ℕ) (n : ℕ) → equal Binary (number_or_null o) (Int (pos n)) ≡ option_eq nat_eq o (Some n)
 unfolding binary
 some_number None n = refl
 some_number (Some m) n = number_is m n
@@ -88,6 +88,9 @@ module _ {A : Type 0} {old new : State} where
 
   pub lines_of_defect : {result : Result (Vec _ A) TableFault} (n : ℕ) → ReadsBy kept_crs_line 4 (Int (pos n)) old new result → Reads (λ book rows. rows.items ≡ filter (rectifies n) (release_line_rows book)) old new result
   lines_of_defect {result} n = rows_read kept_crs_line release_line_rows release_lines (has_value 4 (Int (pos n))) (rectifies n) (λ row. some_number row.defect n) (λ rows. rows.items) old new result
+
+  pub lines_all : {result : Result (Vec _ A) TableFault} → ReadsFirst kept_crs_line None kept_crs_line.order is_any (λ rows. rows.items) old new result → Reads (λ book rows. rows.items ≡ release_line_rows book) old new result
+  lines_all {result} = all_read kept_crs_line release_line_rows release_lines (λ rows. rows.items) old new result
 
   pub deferrals_of_number : {result : Result (Vec _ A) TableFault} (n : ℕ) → ReadsBy kept_defect 0 (Int (pos n)) old new result → Reads (λ book rows. rows.items ≡ filter (λ row. nat_eq row.seq n) (deferral_rows book)) old new result
   deferrals_of_number {result} = by_number kept_defect deferral_rows deferrals old new result 0 (λ row. row.seq) (λ row. refl)

@@ -1,5 +1,6 @@
 -- What each look-up that goes through tables answers over any rows.
-use Rattle.std.specs.Prelude.{◌≡◌, ◌⊎◌, ◌&&◌, ℕ, false, true, pos, List, [], map, Bool, Option, Some, None, IsSome, IsSomeAnd, is_some, length, nat_lt, slice_get}
+use Rattle.std.specs.Prelude.{◌≡◌, ◌⊎◌, ◌&&◌, ℕ, false, true, pos, List, [], map, Bool, Option, Some, None, IsSome, IsSomeAnd, is_some, length, nat_eq, nat_lt, slice_get}
+use Rattle.std.specs.HashSet.{HashSet, contains}
 use Rattle.std.specs.Option.{option_map, option_map_or}
 use Rattle.sqlite.specs.declared.types.Value.TheVariants.{Int, Text}
 use Rattle.sqlite.specs.Order.{Row}
@@ -166,7 +167,16 @@ DefectsAt tail n = GivesEach kept_defect (has_value 1 (Int (pos n))) (OpenSaid t
 abbrev pub OpenDefects : List ℕ → Trees → List Defect → Type 0
 OpenDefects tail = GivesBy (AircraftNumber tail) [] (DefectsAt tail)
 
--- the defect that a deferral says, with the document of its entry and the registration of the aircraft with the number that it names: that it is not said where one of these is not there, and nothing where a line has its number
+-- the defect that a deferral says, with the document of its entry and the registration of the aircraft with the number that it names; nothing where one of these is not there
+abbrev pub DefectOfRow : DeferralRow → Trees → Option Defect → Type 0
+DefectOfRow row trees None = DocOfNumber row.seq trees None ⊎ ((doc : List ℕ) × DocOfNumber row.seq trees (Some doc) × TailOfNumber row.aircraft trees None)
+DefectOfRow row trees (Some defect) = (doc : List ℕ) × (tail : List ℕ) × DocOfNumber row.seq trees (Some doc) × TailOfNumber row.aircraft trees (Some tail) × (defect ≡ defect_said doc tail row)
+
+-- these are the numbers of the defects that lines have
+abbrev pub AreRectified : {S : Type 0} → HashSet ℕ S → Trees → Type 0
+AreRectified defects trees = (n : ℕ) → IsRectifiedAt n trees (contains nat_eq defects n)
+
+-- that defect as it is said: that it is not where its entry or its aircraft is not there, and nothing where a line has its number
 abbrev pub DefectIfOpen : DeferralRow → Trees → Option (Option Defect) → Type 0
 DefectIfOpen row trees None = IsRectifiedAt row.seq trees true
 DefectIfOpen row trees (Some None) = DocIfOpen row.seq trees (Some None) ⊎ ((doc : List ℕ) × DocIfOpen row.seq trees (Some (Some doc)) × TailOfNumber row.aircraft trees None)

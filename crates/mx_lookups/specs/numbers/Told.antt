@@ -31,7 +31,7 @@ use Rattle.mx_row_rules.specs.found.Defects.{deferral_aircraft}
 use Rattle.mx_row_rules.specs.found.Lives.{base_found, life_in_base}
 use Rattle.mx_lookups.specs.numbers.AnyRows.{AreChosen, Gives}
 use Rattle.mx_lookups.specs.numbers.Damage.{IsUncounted}
-use Rattle.mx_lookups.specs.numbers.Given.{AircraftNumber, BornOf, ComponentNumber, DefectNumber, DocIfOpen, IsRectifiedAt, ItemNumber, LifeOf, NextRevision, NumberFitted, ProgrammeNumber, is_of}
+use Rattle.mx_lookups.specs.numbers.Given.{AircraftNumber, BornOf, ComponentNumber, DefectNumber, DocIfOpen, DocOfNumber, IsRectifiedAt, ItemNumber, LifeOf, NextRevision, NumberFitted, ProgrammeNumber, is_of}
 use Rattle.mx_lookups.specs.numbers.Reads.{rows_point}
 
 -- ── the forms ──
@@ -247,9 +247,17 @@ DefectIfOpenDamage row = Either (DocIfOpenDamage row.seq) (λ name. WhereOpen ro
 abbrev pub LacksOne : DeferralRow → Trees → Type 0
 LacksOne row trees = HasNoEntry row.seq trees ⊎ WhereOpen row (HasNone kept_aircraft (has_value 0 (Int (pos row.aircraft)))) trees
 
+-- of the entry of a deferral, and of the aircraft that it names where that entry is there
+abbrev pub DefectOfRowDamage : DeferralRow → Damage
+DefectOfRowDamage row = Either (DocDamage row.seq) (λ name trees. (doc : List ℕ) × DocOfNumber row.seq trees (Some doc) × TailDamage row.aircraft name trees)
+
 -- of all deferrals, and of the entry and the aircraft of each that is open: the deferral where one of these is not there
+abbrev pub DefectsButDamage : Damage
+DefectsButDamage = DamageEach kept_defect is_any (λ row. Either (DefectIfOpenDamage row) (Of table.Defect (LacksOne row)))
+
+-- of all lines of releases, and so
 abbrev pub AllOpenDamage : Damage
-AllOpenDamage = DamageEach kept_defect is_any (λ row. Either (DefectIfOpenDamage row) (Of table.Defect (LacksOne row)))
+AllOpenDamage = Either (Unread kept_crs_line is_any) DefectsButDamage
 
 -- ── all of them ──
 

@@ -20,7 +20,7 @@ use Rattle.mx_layout.specs.kept.Kept.{over}
 use Rattle.mx_layout.specs.kept.Schemas.{permanent, own_1, own_2, own_moving, HasBehind, HasOwn1}
 use Rattle.mx_table_rows.specs.chosen.Choices.{backward}
 use Rattle.mx_table_rows.specs.chosen.Lookups.{FindsFirst, Finds, Deletes}
-use Rattle.mx_table_rows.specs.chosen.Texts.{sector2_by_seq, by_value, by_values, open_by, open_spans_by_component, open_spans_by_aircraft, up_to, any_row, entry_by_seq, entry_by_doc, aircraft_by_seq, aircraft_by_tail, place_by_seq, component_by_seq, component_by_serial, programme_by_seq, programme_by_kind, task_by_seq, opening_by_seq, crs_by_seq, crs_line_by_seq, crs_line_by_defect, defect_by_seq, defect_by_aircraft, extension_by_seq, extension_by_defect, span2_by_fit_seq, span2_by_component, span2_by_aircraft, span2_by_remove_seq, total2_by_item, base2_by_item_and_task, last_entry, all_aircraft, all_components, all_defects, sector1_gone, fit1_gone}
+use Rattle.mx_table_rows.specs.chosen.Texts.{sector2_by_seq, by_value, by_values, open_by, open_spans_by_component, open_spans_by_aircraft, up_to, any_row, entry_by_seq, entry_by_doc, aircraft_by_seq, aircraft_by_tail, place_by_seq, component_by_seq, component_by_serial, programme_by_seq, programme_by_kind, task_by_seq, opening_by_seq, crs_by_seq, crs_line_by_seq, crs_line_by_defect, defect_by_seq, defect_by_aircraft, extension_by_seq, extension_by_defect, span2_by_fit_seq, span2_by_component, span2_by_aircraft, span2_by_remove_seq, total2_by_item, base2_by_item_and_task, last_entry, all_aircraft, all_components, all_defects, all_crs_lines, sector1_gone, fit1_gone}
 use Rattle.mx_table_rows.proofs.ChosenProofs.LookupLemmas.{Chooses, Drops, given_at, first_found, last_found, two_found, deleted, either_finds, either_deletes}
 use Rattle.mx_table_rows.proofs.ChosenProofs.EqualLemmas.{one_equal, two_equal, missing}
 
@@ -172,6 +172,10 @@ all_aircraft_finds = first_found kept_aircraft [] (λ _ has. has) all_aircraft [
 pub all_components_finds : Finds kept_component all_components any_row
 unfolding understood everything
 all_components_finds = first_found kept_component [] (λ _ has. has) all_components [] any_row (λ _. refl) (λ _ _. refl) refl (λ _ _. (refl, refl, (refl, refl))) (λ _. refl) (λ _ _. refl)
+
+pub all_crs_lines_finds : Finds kept_crs_line all_crs_lines any_row
+unfolding understood everything
+all_crs_lines_finds = two_found kept_crs_line [] (λ _ has. has) all_crs_lines [] any_row (λ _. refl) (λ _ _. refl) refl (λ _ _. (refl, refl, (refl, refl))) (λ _. refl) (λ _ _. refl) (λ _ _. refl)
 
 pub all_defects_finds : Finds kept_defect all_defects any_row
 unfolding understood everything

@@ -123,6 +123,9 @@ all_components = codes "SELECT seq, serial, part, birth, minutes, cycles, as_of 
 abbrev pub all_defects : List ℕ
 all_defects = codes "SELECT seq, aircraft, moment, reference, category, days FROM defect ORDER BY seq"
 
+abbrev pub all_crs_lines : List ℕ
+all_crs_lines = codes "SELECT seq, line, item, task, defect FROM crs_line ORDER BY seq, line"
+
 -- ── the last row ──
 
 abbrev pub last_entry : List ℕ

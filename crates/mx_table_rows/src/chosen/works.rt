@@ -1,9 +1,10 @@
 //! Accomplishments and releases to service that are chosen.
-ghost use Rattle.std.specs.Prelude.{◌≡◌, pos};
+ghost use Rattle.std.specs.Prelude.{◌≡◌, pos, None};
 ghost use Rattle.sqlite.specs.declared.types.Value.TheVariants.{Int};
 ghost use Rattle.sqlite.specs.Held.{state};
 ghost use Rattle.mx_layout.specs.kept.Cells.{kept_opening, kept_crs, kept_crs_line};
-ghost use Rattle.mx_table_rows.specs.chosen.Calls.{ReadsBy};
+ghost use Rattle.mx_table_rows.specs.chosen.Choices.{is_any};
+ghost use Rattle.mx_table_rows.specs.chosen.Calls.{ReadsBy, ReadsFirst};
 
 use crate::chosen::prelude::*;
 use mx_base::rows::{OpeningRow, ReleaseLineRow, ReleaseRow};
@@ -77,5 +78,22 @@ pub fn crs_line_by_defect<S: Alter>(
         tx,
         "SELECT seq, line, item, task, defect FROM crs_line WHERE defect = ?1 ORDER BY seq, line",
         params![defect],
+    )
+}
+
+/// The lines of all releases.
+pub fn all_crs_lines<S: Alter>(
+    alloc: Global,
+    tx: &mut Transaction<'_, S>,
+) -> Result<Vec<ReleaseLineRow>, TableFault>
+    ensures same_reference { tx.new.conn.ghost_name ≡ tx.old.conn.ghost_name }
+    ensures reads { ReadsFirst kept_crs_line None kept_crs_line.order is_any (λ rows. rows.items)
+        (state S.Store tx.old.conn.now) (state S.Store tx.new.conn.now) result }
+{
+    rows_chosen(
+        alloc,
+        tx,
+        "SELECT seq, line, item, task, defect FROM crs_line ORDER BY seq, line",
+        &[],
     )
 }
