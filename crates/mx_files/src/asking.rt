@@ -8,8 +8,7 @@ ghost use Rattle.mx_output.specs.declared.endings.ending.Ending.{Ending};
 
 use crate::opening::{ended, stop_of};
 use mx_database::{Opening, Work, work_in_file};
-use mx_jobs::open;
-use mx_office::Office;
+use mx_office::{Office, open_office};
 use mx_output::endings::{Ending, Stop};
 use sqlite::{Alter, Connection};
 
@@ -45,12 +44,12 @@ impl<'a, A: Asked> Work for Asking<'a, A> {
         conn: Connection<S>,
         out: &mut Vec<u8>,
     ) -> (Option<Connection<S>>, Result<Ending, Stop>) {
-        match open(rt.alloc(), conn) {
+        match open_office(rt.alloc(), conn) {
             Ok(mut office) => {
                 let answered = self.asked.answer(rt, &mut office, out);
                 (Some(office.close()), answered)
             }
-            Err(stop) => (None, Err(stop)),
+            Err((_, fault)) => (None, Err(Stop::Open(fault))),
         }
     }
 }

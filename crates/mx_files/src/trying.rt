@@ -14,10 +14,10 @@ ghost use Rattle.mx_output.specs.printed.Tried.{TellsTrial};
 use mx_base::Tail;
 use mx_book::commands::Command;
 use mx_jobs::answers::print_list;
-use mx_jobs::{enter_all, open};
+use mx_jobs::enter_all;
 use mx_layout::{Layout, create};
 use mx_lists::Question;
-use mx_office::{NEWEST_LAYOUT, Office, OpenFault};
+use mx_office::{NEWEST_LAYOUT, Office, OpenFault, open_office};
 use mx_output::endings::{Ending, Stop};
 use sqlite::{Alter, Connection};
 use std::alloc::Global;
@@ -59,7 +59,10 @@ fn try_in<S: Alter + Drop>(
     if let Err(fault) = create(&mut conn, Layout(NEWEST_LAYOUT)) {
         return Err(Stop::Create(fault));
     }
-    let mut office = open(alloc, conn)?;
+    let mut office = match open_office(alloc, conn) {
+        Ok(office) => office,
+        Err((_, fault)) => return Err(Stop::Open(fault)),
+    };
     let tried = try_commands(alloc, &mut office, commands, tail, out);
     drop(office.close());
     tried

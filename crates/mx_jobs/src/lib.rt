@@ -19,9 +19,6 @@
 //!   where they have the rows of a book and there is no other table, `differs` where not, a table that is named damaged
 //!   is damaged, and no table changes: `print_verified`: `asked` (`AsksVerified`, `PrintsVerified`), `told`
 //!   (`TellsVerified`), `shown`, `unprinted`.
-//! - An office that is opened stands for the book that the tables stood for, and nothing changes but in a file that is
-//!   on the way to the newest layout; why no office was opened, and what became of the file, is what the layers below
-//!   answered: `open`: `moves`, `changes`, `reason`.
 //! - After a fault of the store the office has to be opened again, and goes on after any other answer; where memory ran
 //!   out for the lines of replies (`Print`), which takes the place of the run's own fault, it is so by the fault of the
 //!   run all the same: `enter_all`: `ran`.
@@ -31,11 +28,9 @@ pub mod answers;
 mod entering;
 pub mod logs;
 mod making;
-mod opening;
 pub mod upkeep;
 mod verifying;
 
 pub use entering::enter_all;
 pub use making::{CREATED, make_book};
-pub use opening::open;
 pub use verifying::print_verified;

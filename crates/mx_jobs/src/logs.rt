@@ -15,8 +15,9 @@
 //!   (`IsRun`: `doubt`).
 //! - A sector log appends a line for each row that is told, and ends as its gravest row: bad, refused or done; over a
 //!   reader of known bytes these are its rows; where a fault stops it, the lines of the rows before it are there; a log
-//!   that is faulty as a whole is told by its fault; and want of memory for the lines is told only over a log that has
-//!   rows: `import_all`: `ended`, `stopped`, `unread`, `fault`, `lines`, `status`.
+//!   that is faulty as a whole is told by its fault; and where memory ran out for the lines (`Print`), the sectors of the
+//!   good rows were handed in all the same, and nothing else was: `import_all`: `ended`, `stopped`, `unread`, `fault`,
+//!   `ran`, `status`.
 
 pub mod importing;
 mod printing;

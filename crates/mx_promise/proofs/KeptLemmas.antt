@@ -25,7 +25,7 @@ use Rattle.mx_office.specs.Opening.{ChangesOnWay}
 use Rattle.mx_office.proofs.MoveLemmas.{nothing_changes, placed_holds}
 use Rattle.mx_migrate.specs.settle.Place.{SaysAt}
 use Rattle.mx_office.specs.Stands.{Stands, Rests, IsEither}
-use Rattle.mx_promise.specs.Kept.{count_accepted, IsKept, IsBookKept}
+use Rattle.mx_promise.specs.Kept.{count_accepted, HasReached, IsKept, IsBookKept}
 
 -- the tables that were found stand for the book, so they rest as it
 pub rests_as : (may_leave : Trees → Type 0) (again : State) (book : List Entry) (found : IsFound may_leave again) → Stands found.tables book → Rests again book
@@ -43,10 +43,6 @@ is_store (Some Memory) = inr (λ h. cc)
 is_store (Some Store) = inl refl
 is_store (Some NeedsReopen) = inr (λ h. cc)
 is_store (Some (Damaged table)) = inr (λ h. cc)
-
--- so many commands reached the file: as many as were answered, or one more
-abbrev pub HasReached : Outcomes → ℕ → Type 0
-HasReached outcomes reached = (reached ≡ length outcomes.replies.items) ⊎ ((outcomes.stopped ≡ Some Store) × (reached ≡ length outcomes.replies.items + 1))
 
 -- whatever tables a crash leaves behind a run, they stand for the book after those commands
 pub book_left : (end : State) (before commands : List Entry) (outcomes : Outcomes) → let n = length outcomes.replies.items in (outcomes.stopped ≢ Some Store → Rests end (book_run before (take n commands)))
@@ -99,6 +95,9 @@ module _ (before commands : List Entry) (outcomes : Outcomes) (reached : ℕ) (r
   pub is_book_kept : ((table : Table) → outcomes.stopped ≢ Some (Damaged table)) → IsBookKept before commands outcomes (book_run before (take reached commands))
   is_book_kept undamaged = record {
     answered = answered;
+    reached = reached;
+    reaches = reaches;
+    is = refl;
     kept = length (accepted before (take reached commands));
     prefix = run_prefix before commands reached;
     acknowledged = acknowledged;

@@ -1,6 +1,6 @@
 //! What is printed of a sector log that is imported into an open office: a line for each row.
 ghost use Rattle.std.specs.Prelude.{◌≡◌, ◌⊎◌, ◌++◌, Some, None, IfOk, IfErr};
-ghost use Rattle.mx_jobs.specs.logs.Import.{AreRowsOf, IsFaultOf};
+ghost use Rattle.mx_jobs.specs.logs.Import.{IsFaultOf};
 ghost use Rattle.mx_output.specs.sector_log.Text.{row_lines};
 ghost use Rattle.mx_jobs.specs.logs.Told.{AreTold};
 ghost use Rattle.mx_output.specs.printed.Imported.{import_ending};
@@ -56,8 +56,8 @@ pub fn import_all<S: Alter, R: Read>(
     ensures fault { (fault : _) → result ≡ Err (Stop.Intake fault)
         → IsFaultOf (R.remaining reader.old) fault }
     ensures unprinted { result ≡ Err Stop.Print → out.new.items ≡ out.old.items }
-    ensures lines { result ≡ Err Stop.Print → (rows : _)
-        × AreRowsOf (R.remaining reader.old) rows }
+    ensures ran { result ≡ Err Stop.Print → (stop : _) × (rows : _)
+        × AreTold (R.remaining reader.old) stop rows office.old office.new }
     ensures status { IfErr result (λ stop. (stop_status stop ≡ 3) ⊎ (stop_status stop ≡ 4)) }
 {
     match import(alloc, office, reader) {

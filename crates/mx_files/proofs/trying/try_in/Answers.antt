@@ -7,6 +7,6 @@ use Rattle.mx_files.proofs.trying.try_in.Goals as goal
 pub returns-clause-exact : goal.returns-clause-exact
 returns-clause-exact g c rests clean =
     let made = made_rests (state g.S.Store c.create.new.conn) (c.in_default.ensures.made rests) in
-    let opened = c.in_ok-office.ensures in
+    let opened = c.in-Ok.ensures in
     let tried = c.try_commands-tried in
     tried.ensures.exact [] opened.ready (opened.moves.kept office_point [] made refl) (clean tried.new.office.conn)
