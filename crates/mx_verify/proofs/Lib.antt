@@ -3,3 +3,5 @@ pub mod TellLemmas
 pub mod DerivedProofs
 pub mod MergedProofs
 pub mod VerifiedProofs
+pub mod WorkedMerging
+pub mod WorkedListed

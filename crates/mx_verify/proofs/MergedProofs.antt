@@ -1,3 +1,4 @@
 pub mod MergingLemmas
 pub mod TotalLemmas
 pub mod KeyLemmas
+pub mod BlameLemmas

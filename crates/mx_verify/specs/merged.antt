@@ -1,2 +1,3 @@
 pub mod Keys
 pub mod Merging
+pub mod Blame

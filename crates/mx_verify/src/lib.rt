@@ -15,6 +15,9 @@
 //!   row of `office` among them; where they have, the answer is true, or memory or the store stopped the call:
 //!   `verify`: `tells` (`exact`, `whole`).
 //! - Tables that stand for a book are among these: such a file is verified: `laws::standing_tables_are_verified`.
+//! - Registers are damaged exactly where an entry is to blame: those before it give a book with their rows, and its own
+//!   say no command, though there is one of its kind, or a command that is not new behind that book:
+//!   `laws::damaged_registers_have_an_entry_to_blame` (`HasBlame`).
 //! - A table is told damaged only where a row of it is none of its type, or the row of an entry of its kind is damaged,
 //!   as `mx_verify::merged` has it; where there is an answer, true or false, no row is, but where `office` has not
 //!   exactly one: `verify`: `tells` (`damaged`, `undamaged`).
