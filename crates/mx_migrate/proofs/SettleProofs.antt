@@ -1,10 +1,15 @@
 pub mod DueLemmas
 pub mod PlaceLemmas
+pub mod FollowLemmas
+pub mod FoundLemmas
 pub mod FrontLemmas
 pub mod ItemLemmas
 pub mod NumberLemmas
 pub mod KnownLemmas
 pub mod KeptChoices
+pub mod LeftLemmas
 pub mod ChoiceLemmas
 pub mod AdvanceLemmas
 pub mod SettleLemmas
+pub mod Worked
+pub mod WorkedRows

@@ -3,6 +3,7 @@ pub mod DueLaws
 pub mod Place
 pub mod Items
 pub mod Numbers
+pub mod Found
 pub mod Choices
 pub mod Advances
 pub mod Settles

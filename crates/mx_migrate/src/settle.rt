@@ -16,23 +16,30 @@
 //!   `book` (`AdvancesBook`: `moved`, `kept`, `same`, `whole`, `crash`).
 //! - Whatever rows there are, any answer but `Store` that is an error changed nothing, and at the newest layout nothing
 //!   changes: `advance`: `advances` (`Advances`: `untouched`, `ended`).
-//! - Whatever rows there are, below the newest layout the point that is answered is a later one, the file is there and
-//!   says so, and its tables are what a step of the move makes of those from before; each state that a stop may leave
-//!   is one from before, or what a step of the move makes of the tables: `advance`: `advances` (`Advances`: `placed`,
-//!   `later`, `made`, `left`).
+//! - Whatever rows there are, below the newest layout the point that is answered is a later one, and the file is there
+//!   and says so: `advance`: `advances` (`Advances`: `placed`, `later`). Its tables are what the step that they call for
+//!   makes of those from before; each state that a stop may leave is one from before, or what such a step makes of the
+//!   tables: `advance`: `rows` (`AdvancesRows`: `made`, `left`). Rows call for a step by what is left at its front, and
+//!   for the total and the last bases of an item by the book that the registers give (`IsCalledFor`): so none is passed
+//!   over, and nothing is made up where they give none.
 //! - A table is damaged where a row that was looked at is none of its type; where a component, or any register before
 //!   totals and last bases are made of it, has a number that no entry can have, of several the table that is read
-//!   first; where the registers, none of which has such a number, are those of no book; or as a step for the point
-//!   names it: `advance`: `advances` (`Advances`: `damaged`, by `IsUnfit`).
-//! - A newer layout, and a point that no file can be at, are answered as such; `NotOurs` is answered where no table is
-//!   named `office`: `advance`: `advances` (`Advances`: `told`, `absent`).
+//!   first; where the registers, none of which has such a number, are those of no book, the table whose rows are to
+//!   blame, or that of the entries; or as the step that is called for names it: `advance`: `rows` (`AdvancesRows`:
+//!   `damaged`, by `Stops`).
+//! - What `office` says decides, in any database: a newer layout, and a point that no file can be at, are answered as
+//!   such, also where its rows are those of no point; `NotOurs` is answered where no table has that name; and then
+//!   nothing changed, nor where it was read as a point that is not on the way: `advance`, `settle`: `follows`
+//!   (`FollowsPoint`: `told`, `exact`, `absent`, `moves`).
 //! - Of at most so many commits, where the tables stood for a book they stand for it behind so many, fewer only at the
 //!   newest layout; where a fault other than `Store` stopped them, behind some of them; and a stop anywhere leaves them
 //!   to stand for it behind some of them: `settle`: `settles` (`Settles`: `reached`, `kept`, `same`, `whole`, `crash`).
 //! - Whatever rows a file at a point has, unless the store failed its tables are what so many steps of the move at
-//!   most, one after another, make of those from before; and each state that a crash may leave is one from before, or
-//!   what they make, so that no row goes that a step does not take: `settle`: `settles` (`Settles`: `made`, `left`, by
-//!   `AreMoved`).
+//!   most, each called for where it was made, make of those from before, one after another; and each state that a crash
+//!   may leave is one from before, or what they make, so that no row goes that a step does not take: `settle`: `settles`
+//!   (`Settles`: `made`, `left`, by `AreMoved`). Where a point is answered they lead there, and are so many, or it is the
+//!   newest layout: `settle`: `settles` (`Settles`: `counted`). Where a table is told damaged, it stops the tables that
+//!   they led to: `settle`: `settles` (`Settles`: `damaged`).
 //! - Whatever rows there are, with 8,000,000 commits a file ends at the newest layout, or a fault is answered:
 //!   `settle`: `settles` (`Settles`: `ends`).
 //! - Where the tables of layout 1 stood for a book and no fault is answered, the file is settled at layout 2 with as

@@ -18,7 +18,7 @@ use Rattle.mx_layout.specs.Tables.{office, HasOffice}
 use Rattle.mx_book_tables.specs.stands.Schemas.{IsOfFile}
 use Rattle.mx_book_tables.specs.stands.Stands.{RestsAt, StandsAt}
 use Rattle.mx_migrate.specs.settle.Advances.{LeadsTo}
-use Rattle.mx_migrate.specs.settle.Place.{IsPlacedAt}
+use Rattle.mx_migrate.specs.settle.Place.{IsOnWay, IsPlacedAt}
 use Rattle.mx_faults.specs.declared.fault.OpenFault.{OpenFault}
 use Rattle.mx_faults.specs.declared.fault.OpenFault.TheVariants as unopened
 use Rattle.mx_office.specs.Faults.{open_answer, open_fault_from, IsReason, IsStop, IsStopped, IsUnopened, SaysWhy}
@@ -48,13 +48,6 @@ pub record MovesOn (old new : State) (why : Option OpenFault) : Type 0 where
   -- and unless the store failed its tables are what steps of the move make of those from before; each state that a crash may leave is one from before, or what they make
   pub made : (at : Point) → IsPlacedAt at old → why ≢ Some unopened.Store → HasCleanDisk new → IsTrue new.is_open → IsTrue old.is_open × AreMovedOn at old.now.trees new.now.trees
   pub left : (at : Point) → IsPlacedAt at old → Leaves new (λ trees. old.may_leave trees ⊎ (IsTrue old.is_open × AreMovedOn at old.now.trees trees))
-
--- the query of `office` told a point on the way to the newest layout, which is the one that its row says
-pub record IsOnWay {S : Type 0} (g : Ghosts S) (was : Held S) : Type 0 where
-  pub at : Point
-  pub way : is_on_way at ≡ true
-  pub told : TellsPoint g was (Ok at)
-  pub exact : (p : Point) → (IsTrue (state g was).is_open → HoldsPoint p (state g was).now) → FitsPoint p → at ≡ p
 
 -- nothing changed, but where the query of `office` told a point on the way
 abbrev pub ChangesOnWay : {S : Type 0} → Ghosts S → Held S → State → Type 0

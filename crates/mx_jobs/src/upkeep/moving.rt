@@ -23,7 +23,7 @@ pub fn move_on<S: Alter>(
     ensures idle { conn.new.in_transaction ≡ false }
 
     // What became of the file, and what was appended of its point.
-    ensures moved { Moves steps (state S.Store conn.old) (state S.Store conn.new)
+    ensures moved { Moves S.Store steps conn.old (state S.Store conn.new)
         (PrintsPoint out.old.items out.new.items result) }
     ensures shown { IfOk result (Shows IsPointLine out.old.items out.new.items) }
     ensures unprinted { OnErr result (out.new.items ≡ out.old.items) }

@@ -1,6 +1,6 @@
 -- One commit of a file, behind the calls that read its point and chose the step.
 use Rattle.std.proofs.Common.{◌≡◌, ◌⊎◌, inl, inr, List, Option, None, Some, Ok, Err, Result, IsTrue, refl, sym, ap, subst, ◌∙◌, arith}
-use Rattle.std.specs.Prelude.{IfErr}
+use Rattle.std.specs.Prelude.{IfOk}
 use Rattle.sqlite.specs.Effect.{Database}
 use Rattle.sqlite.specs.Schema.{Schema}
 use Rattle.sqlite.specs.State.{State, HasCleanDisk}
@@ -21,14 +21,16 @@ use Rattle.mx_migrate.specs.Steps.{CommitsStep, LeavesOneBook}
 use Rattle.mx_faults.specs.declared.moving.MoveFault.{MoveFault}
 use Rattle.mx_faults.specs.declared.moving.MoveFault.TheVariants as stop
 use Rattle.mx_verify.specs.declared.derived.kept.KeptRows.{KeptRows}
-use Rattle.mx_migrate.specs.settle.Advances.{Advances, AdvancesBook, IsStepOf}
+use Rattle.mx_migrate.specs.settle.Advances.{Advances, AdvancesBook, AdvancesRows, IsStepOf}
 use Rattle.mx_migrate.specs.settle.Choices.{Chooses, GoesOn, IsUnfit, LiesIn, StandsIn}
-use Rattle.mx_migrate.specs.settle.Due.{IsDueAt, IsFor, IsOffFor, MakesBy}
+use Rattle.mx_migrate.specs.settle.Due.{IsCalledFor, IsDueAt, IsFor, IsOffFor, MakesBy}
+use Rattle.mx_migrate.specs.settle.Found.{KnowsIn, KnowsNow}
 use Rattle.mx_migrate.specs.settle.Items.{Knows}
-use Rattle.mx_migrate.specs.settle.Place.{AnswersAs, IsBehind, IsMoveStop, IsPlacedAt, SaysAt, TellsPlace, checked}
+use Rattle.mx_migrate.specs.settle.Place.{IsBehind, IsMoveStop, IsPlacedAt, SaysAt, TellsPlace}
 use Rattle.mx_migrate.specs.declared.settle.due.Due.{Due}
 use Rattle.mx_migrate.proofs.CommitLemmas.{damage_from}
 use Rattle.mx_migrate.proofs.SettleProofs.DueLemmas.{due_says}
+use Rattle.mx_migrate.proofs.SettleProofs.FoundLemmas.{knows_on}
 use Rattle.mx_migrate.proofs.SettleProofs.PlaceLemmas.{bounds, file_fits, move_stop, place_is, place_stops, rests_placed}
 
 -- ── calls that change nothing ──
@@ -79,13 +81,9 @@ newest_stays book = refl
 -- ── the point was not answered ──
 
 -- a stop is no damage
-no_damage : (e : MoveFault) (name : TableName) → IsMoveStop e → e ≡ stop.Damaged name → ⊥
+pub no_damage : (e : MoveFault) (name : TableName) → IsMoveStop e → e ≡ stop.Damaged name → ⊥
 no_damage e name (inl memory) is = absurd cc
 no_damage e name (inr store) is = absurd cc
-
-as_error : (c : Result Point MoveFault) (e : MoveFault) → AnswersAs c (Err e) → IfErr c (λ f. AnswersAs (Err f) (Err e))
-as_error (Ok p) e answers = tt
-as_error (Err f) e answers = answers
 
 module _ (old new : State) (e : MoveFault) (tells : TellsPlace old new (Err e)) where
   nothing_told : ChangesNothing old new
@@ -100,13 +98,15 @@ module _ (old new : State) (e : MoveFault) (tells : TellsPlace old new (Err e)) 
     untouched = λ _. nothing_told;
     placed = λ _ _. tt;
     later = λ _ _ _. tt;
-    made = λ _ _ _ _. tt;
     opened = λ _ _ _ _. tt;
     ended = λ _ _. tt;
-    left = λ at placed clean db may. elim (nothing_told.survives.crash clean db may) [ inl before ↦ inl before | inr none ↦ absurd none ];
-    damaged = λ at file placed clean name is. absurd (no_damage e name (place_stops old new at placed told_early file e tells clean) is);
-    told = λ at clean holds fits. as_error (checked at) e (tells.exact at clean holds fits);
-    absent = tells.absent;
+  }
+
+  pub rows_stop_first : (at : Point) → IsPlacedAt at old → AdvancesRows at old new (Err e)
+  rows_stop_first at placed = record {
+    made = λ _ _. tt;
+    left = λ clean db may. elim (nothing_told.survives.crash clean db may) [ inl before ↦ inl before | inr none ↦ absurd none ];
+    damaged = λ file clean name is. absurd (no_damage e name (place_stops old new at placed told_early file e tells clean) is);
   }
 
   pub book_stops_first : (book : List Entry) → AdvancesBook book old new (Err e)
@@ -119,15 +119,6 @@ module _ (old new : State) (e : MoveFault) (tells : TellsPlace old new (Err e)) 
   }
 
 -- ── the point was answered ──
-
-as_none : (c : Result Point MoveFault) (p : Point) (result : Result Point MoveFault) → AnswersAs c (Ok p) → IfErr c (λ f. AnswersAs (Err f) result)
-as_none (Ok q) p result answers = tt
-as_none (Err f) p result (inl is) = absurd cc
-as_none (Err f) p result (inr stops) = (let is = stops.1 in absurd cc)
-
-none_ours : (f : MoveFault) (p : Point) (result : Result Point MoveFault) → AnswersAs (Err f) (Ok p) → AnswersAs (Err f) result
-none_ours f p result (inl is) = absurd cc
-none_ours f p result (inr stops) = (let is = stops.1 in absurd cc)
 
 module _ (old mid ready : State) (from : Point) (tells : TellsPlace old mid (Ok from)) (nothing : ChangesNothing mid ready) (known after : Option KeptRows) where
   mid_old : HasCleanDisk mid → HasCleanDisk old
@@ -166,6 +157,22 @@ module _ (old mid ready : State) (from : Point) (tells : TellsPlace old mid (Ok 
   pub knows_then : (result : Result (Option Due) TableFault) → Chooses from known after mid ready result → (at : Point) (book : List Entry) → RestsAt at old book → HasCleanDisk ready → Knows known book → Knows after book
   knows_then result c at book rests clean knows = c.knows book from_file clean (λ is_open. stands_in at book rests (ready_mid clean) is_open) knows
 
+  -- so over any rows: what is known is of the registers that stand there, and then it still is
+  knows_mid : (at : Point) → IsPlacedAt at old → KnowsNow at known old → HasCleanDisk mid → IsTrue mid.is_open → KnowsIn from known mid.now.trees
+  knows_mid at placed knows clean is_open =
+      let same : mid.now ≡ old.now = same_now (schema_at at) (SaysAt at) old mid tells.unchanged placed clean is_open in
+      subst (λ (d : Database). KnowsIn from known d.trees) (sym same) (subst (λ p. KnowsIn p known old.now.trees) (sym (placed_from at placed clean)) (knows (mid_old clean) (tells.unchanged.was_open clean is_open)))
+
+  -- the tables from which a step is chosen are those that stand where it is made
+  mid_ready : (at : Point) → IsPlacedAt at old → HasCleanDisk ready → IsTrue ready.is_open → ready.now ≡ mid.now
+  mid_ready at placed clean is_open = same_now (schema_at at) (SaysAt at) mid ready nothing (placed_still at old mid tells.unchanged placed) clean is_open
+
+  keeps_then : (result : Result (Option Due) TableFault) → Chooses from known after mid ready result → (at : Point) → IsPlacedAt at old → KnowsNow at known old → KnowsNow from after ready
+  keeps_then result c at placed knows clean is_open =
+      let mid_open = nothing.was_open clean is_open in
+      subst (λ (d : Database). KnowsIn from after d.trees) (sym (mid_ready at placed clean is_open))
+      (c.keeps from_file clean (λ o. lies_in at placed (ready_mid clean) o) mid_open (knows_mid at placed knows (ready_mid clean) mid_open))
+
   -- ── the step was not chosen ──
 
   pub stops_second : (f : TableFault) → Chooses from known after mid ready (Err f) → Advances old ready (Err (fault_from f))
@@ -174,16 +181,18 @@ module _ (old mid ready : State) (from : Point) (tells : TellsPlace old mid (Ok 
     untouched = λ _. both;
     placed = λ _ _. tt;
     later = λ _ _ _. tt;
-    made = λ _ _ _ _. tt;
     opened = λ _ _ _ _. tt;
     ended = λ _ _. tt;
-    left = λ at placed clean db may. inl (left_before clean db may);
-    damaged = λ at file placed clean name is.
+  }
+
+  pub rows_stop_second : (f : TableFault) → Chooses from known after mid ready (Err f) → (at : Point) → IsPlacedAt at old → AdvancesRows at old ready (Err (fault_from f))
+  rows_stop_second f c at placed = record {
+    made = λ _ _. tt;
+    left = λ clean db may. inl (left_before clean db may);
+    damaged = λ file clean name is.
         let unfit = c.damaged from_file clean (λ is_open. lies_in at placed (ready_mid clean) is_open) name (damage_from f name is) in
         let same : mid.now ≡ old.now = same_now (schema_at at) (SaysAt at) old mid tells.unchanged placed (ready_mid clean) unfit.0 in
-        inl (subst (λ (d : Database). IsUnfit name d.trees) same unfit.1);
-    told = λ at clean holds fits. as_none (checked at) from (Err (fault_from f)) (tells.exact at (ready_mid clean) holds fits);
-    absent = λ clean lacks. none_ours stop.NotOurs from (Err (fault_from f)) (tells.absent (ready_mid clean) lacks);
+        (tells.unchanged.was_open (ready_mid clean) unfit.0, inl (subst (λ (d : Database). IsUnfit name d.trees) same unfit.1));
   }
 
   -- none was due
@@ -195,14 +204,21 @@ module _ (old mid ready : State) (from : Point) (tells : TellsPlace old mid (Ok 
         untouched = tt;
         placed = λ at placed. placed_point ready at from (λ clean. sym (placed_from at placed (ready_mid clean))) (placed_still at old ready both placed);
         later = λ at placed clean. (from_file, inl (sym (placed_from at placed (ready_mid clean)) ∙ newest, placed_from at placed (ready_mid clean)));
-        made = λ at placed other clean. absurd (other (sym (placed_from at placed (ready_mid clean)) ∙ newest));
         opened = λ at placed other clean. absurd (other (sym (placed_from at placed (ready_mid clean)) ∙ newest));
         ended = λ _ _. both;
-        left = λ at placed clean db may. inl (left_before clean db may);
-        damaged = λ _ _ _ _. tt;
-        told = λ at clean holds fits. as_none (checked at) from (Ok from) (tells.exact at (ready_mid clean) holds fits);
-        absent = λ clean lacks. none_ours stop.NotOurs from (Ok from) (tells.absent (ready_mid clean) lacks);
       }
+
+  pub rows_stay : Chooses from known after mid ready (Ok None) → (at : Point) → IsPlacedAt at old → AdvancesRows at old ready (Ok from)
+  rows_stay c at placed =
+      let newest : from ≡ settled 2 = c.fits from_file in
+      record {
+        made = λ other clean. absurd (other (sym (placed_from at placed (ready_mid clean)) ∙ newest));
+        left = λ clean db may. inl (left_before clean db may);
+        damaged = λ _ _. tt;
+      }
+
+  pub keeps_staying : Chooses from known after mid ready (Ok None) → (at : Point) → IsPlacedAt at old → KnowsNow at known old → KnowsNow from after ready
+  keeps_staying c = keeps_then (Ok None) c
 
   module _ (book : List Entry) (knows : HasCleanDisk old → Knows known book) where
     pub book_stops_second : (f : TableFault) → Chooses from known after mid ready (Err f) → AdvancesBook book old ready (Err (fault_from f))
@@ -242,22 +258,28 @@ module _ (old mid ready : State) (from : Point) (tells : TellsPlace old mid (Ok 
 
     goes_here : (at : Point) → IsPlacedAt at old → HasCleanDisk ready → IsTrue ready.is_open → GoesOn step at ready.now.trees
     goes_here at placed clean is_open =
-        let late = placed_still at old mid tells.unchanged placed in
-        let same : ready.now ≡ mid.now = same_now (schema_at at) (SaysAt at) mid ready nothing late clean is_open in
+        let same = mid_ready at placed clean is_open in
         let goes = c.goes from_file clean (λ mid_open. lies_in at placed (ready_mid clean) mid_open) in
         subst (λ (d : Database). GoesOn step at d.trees) (sym same) (subst (λ p. GoesOn step p mid.now.trees) (placed_from at placed (ready_mid clean)) goes)
+
+    -- and over any rows they call for it
+    called_old : (at : Point) → IsPlacedAt at old → KnowsNow at known old → HasCleanDisk ready → IsTrue ready.is_open → IsCalledFor step old.now.trees
+    called_old at placed knows clean is_open =
+        let mid_open = nothing.was_open clean is_open in
+        let same : mid.now ≡ old.now = same_now (schema_at at) (SaysAt at) old mid tells.unchanged placed (ready_mid clean) mid_open in
+        subst (λ (d : Database). IsCalledFor step d.trees) same (c.called from_file clean (λ o. lies_in at placed (ready_mid clean) o) mid_open (knows_mid at placed knows (ready_mid clean) mid_open))
 
     -- a connection that is open was open before
     open_old : HasCleanDisk ready → IsTrue ready.is_open → IsTrue old.is_open
     open_old clean is_open = both.was_open clean is_open
 
-    left_then : (at : Point) → IsPlacedAt at old → (result : Result Point MoveFault) → CommitsStep (IsFor step) (IsDueAt step) (MakesBy step) (IsOffFor step) ready new result
+    left_then : (at : Point) → IsPlacedAt at old → KnowsNow at known old → (result : Result Point MoveFault) → CommitsStep (IsFor step) (IsDueAt step) (MakesBy step) (IsOffFor step) ready new result
         → HasCleanDisk new → (db : Trees) → new.may_leave db → old.may_leave db ⊎ (IsTrue old.is_open × IsStepOf at old.now.trees db)
-    left_then at placed result r clean db may =
+    left_then at placed knows result r clean db may =
         let late : HasCleanDisk ready = omega (arith, r.clean) in
         elim (r.left at (lies_ready at placed) (for_here at placed) clean db may) [
           | inl before ↦ inl (left_before late db before)
-          | inr made ↦ inr (open_old late made.0, (step, made.1.0, for_here at placed late, subst (λ (d : Database). MakesBy step at made.1.0 d.trees db) (now_old at placed late made.0) made.1.1))
+          | inr made ↦ inr (open_old late made.0, (made.1.0, (step, for_here at placed late, called_old at placed knows late made.0, subst (λ (d : Database). MakesBy step at made.1.0 d.trees db) (now_old at placed late made.0) made.1.1)))
         ]
 
     goes_on : (to : Point) → CommitsStep (IsFor step) (IsDueAt step) (MakesBy step) (IsOffFor step) ready new (Ok to) → Advances old new (Ok to)
@@ -273,16 +295,8 @@ module _ (old mid ready : State) (from : Point) (tells : TellsPlace old mid (Ok 
               rests_same new (schema_at to) (MakesBy step at to ready.now.trees) (SaysAt to)
               (λ clean db makes. due_says step at to ready.now.trees db (file_fits to (later at placed clean).0) ((placed_still at old ready both placed).tables (late clean) (r.opened clean).0) makes) (made at placed);
           later = λ at placed clean. (let far = later at placed clean in (far.0, inr far.1));
-          made = λ at placed _ clean.
-              let opened = r.opened clean in
-              let makes = (made at placed).tables clean opened.1 in
-              (step, for_here at placed (late clean), subst (λ (d : Database). MakesBy step at to d.trees new.now.trees) (now_old at placed (late clean) opened.0) makes);
           opened = λ at placed _ clean. (let opened = r.opened clean in (open_old (late clean) opened.0, opened.1));
           ended = λ placed clean. (let far = later (settled 2) placed clean in absurd (none_behind to far.0 far.1));
-          left = λ at placed. left_then at placed (Ok to) r;
-          damaged = λ _ _ _ _. tt;
-          told = λ at clean holds fits. as_none (checked at) from (Ok to) (tells.exact at (ready_mid (late clean)) holds fits);
-          absent = λ clean lacks. none_ours stop.NotOurs from (Ok to) (tells.absent (ready_mid (late clean)) lacks);
         }
       where
         -- no point that a file can be at is behind the newest layout
@@ -299,20 +313,45 @@ module _ (old mid ready : State) (from : Point) (tells : TellsPlace old mid (Ok 
           untouched = λ other. nothing_then old ready new both (r.untouched other);
           placed = λ _ _. tt;
           later = λ _ _ _. tt;
-          made = λ _ _ _ _. tt;
           opened = λ _ _ _ _. tt;
           ended = λ _ _. tt;
-          left = λ at placed. left_then at placed (Err e) r;
-          damaged = λ at file placed clean name is.
-              let off = r.damaged at (lies_ready at placed) (for_here at placed) clean name is in
-              inr (step, for_here at placed (late clean), subst (λ (d : Database). IsOffFor step at name d.trees) (now_old at placed (late clean) off.0) off.1);
-          told = λ at clean holds fits. as_none (checked at) from (Err e) (tells.exact at (ready_mid (late clean)) holds fits);
-          absent = λ clean lacks. none_ours stop.NotOurs from (Err e) (tells.absent (ready_mid (late clean)) lacks);
         }
 
     pub commits : (result : Result Point MoveFault) → CommitsStep (IsFor step) (IsDueAt step) (MakesBy step) (IsOffFor step) ready new result → Advances old new result
     commits (Ok to) r = goes_on to r
     commits (Err e) r = stops_last e r
+
+    makes_then : (at to : Point) → IsPlacedAt at old → CommitsStep (IsFor step) (IsDueAt step) (MakesBy step) (IsOffFor step) ready new (Ok to) → HasCleanDisk new → MakesBy step at to ready.now.trees new.now.trees
+    makes_then at to placed r clean = (r.made at (lies_ready at placed) (for_here at placed)).tables clean (r.opened clean).1
+
+    pub rows_commit : (result : Result Point MoveFault) → CommitsStep (IsFor step) (IsDueAt step) (MakesBy step) (IsOffFor step) ready new result → (at : Point) → IsPlacedAt at old → KnowsNow at known old → AdvancesRows at old new result
+    rows_commit (Ok to) r at placed knows =
+        let late : HasCleanDisk new → HasCleanDisk ready = λ clean. omega (arith, r.clean) in
+        record {
+          made = λ _ clean.
+              let opened = r.opened clean in
+              (step, for_here at placed (late clean), called_old at placed knows (late clean) opened.0, subst (λ (d : Database). MakesBy step at to d.trees new.now.trees) (now_old at placed (late clean) opened.0) (makes_then at to placed r clean));
+          left = left_then at placed knows (Ok to) r;
+          damaged = λ _ _. tt;
+        }
+    rows_commit (Err e) r at placed knows =
+        let late : HasCleanDisk new → HasCleanDisk ready = λ clean. omega (arith, r.clean) in
+        record {
+          made = λ _ _. tt;
+          left = left_then at placed knows (Err e) r;
+          damaged = λ file clean name is.
+              let off = r.damaged at (lies_ready at placed) (for_here at placed) clean name is in
+              (open_old (late clean) off.0, inr (step, for_here at placed (late clean), called_old at placed knows (late clean) off.0, subst (λ (d : Database). IsOffFor step at name d.trees) (now_old at placed (late clean) off.0) off.1));
+        }
+
+    -- what is then known is of the registers that stand behind it
+    pub keeps_behind : (result : Result Point MoveFault) → CommitsStep (IsFor step) (IsDueAt step) (MakesBy step) (IsOffFor step) ready new result → (at : Point) → IsPlacedAt at old → KnowsNow at known old → IfOk result (λ to. KnowsNow to after new)
+    keeps_behind (Err e) r at placed knows = tt
+    keeps_behind (Ok to) r at placed knows = λ clean is_open.
+        let late : HasCleanDisk ready = omega (arith, r.clean) in
+        let opened = r.opened clean in
+        let here = keeps_then (Ok (Some step)) c at placed knows late opened.0 in
+        knows_on after step at to ready.now.trees new.now.trees (for_here at placed late) (makes_then at to placed r clean) (subst (λ p. KnowsIn p after ready.now.trees) (placed_from at placed (ready_mid late)) here)
 
     pub book_commits : (book : List Entry) → (HasCleanDisk old → Knows known book) → (result : Result Point MoveFault) → CommitsStep (IsFor step) (IsDueAt step) (MakesBy step) (IsOffFor step) ready new result → LeavesOneBook (IsFor step) (IsDueAt step) ready new → AdvancesBook book old new result
     book_commits book knows result r left = record {

@@ -27,7 +27,8 @@ use Rattle.mx_moves.proofs.StepsProofs.WrittenLemmas.{next_item, no_item}
 use Rattle.mx_verify.specs.declared.derived.kept.KeptRows.{KeptRows}
 use Rattle.mx_migrate.specs.declared.settle.due.Due.{Due}
 use Rattle.mx_migrate.specs.settle.Choices.{GoesOn}
-use Rattle.mx_migrate.specs.settle.Due.{IsDueAt, IsFor}
+use Rattle.mx_migrate.specs.settle.Due.{IsCalledFor, IsDueAt, IsFor}
+use Rattle.mx_migrate.specs.settle.Found.{AreKeptIn}
 use Rattle.mx_migrate.specs.settle.Items.{AreItemsOf, IsBasesBy, is_next, next_total, total_by}
 use Rattle.mx_migrate.specs.settle.Place.{IsBehind}
 
@@ -162,3 +163,14 @@ bases_goes mark totals bases (Some row) step is by trees =
 bases_goes mark totals bases None step is by trees =
     subst (λ s. GoesOn s (moving 4 mark) trees) (sym by)
     (λ to new it. later (moving 4 mark) to (settled 2) (inr refl) (inl (omega arith)) it.point)
+
+-- ── which step the registers call for ──
+
+module _ (mark : ℕ) (kept : KeptRows) (trees : Trees) (are : AreKeptIn kept trees) where
+  pub total_called : (next : Option TotalRow) → next_total mark kept.totals.items ≡ next → IsCalledFor (total_by mark next) trees
+  total_called (Some row) is = (kept, are, is)
+  total_called None is = (kept, are, is)
+
+  pub bases_called : (next : Option TotalRow) → next_total mark kept.totals.items ≡ next → (step : Due) → IsBasesBy mark kept.bases.items next step → IsCalledFor step trees
+  bases_called (Some row) is step by = subst (λ s. IsCalledFor s trees) (sym by.2) (kept, are, (row, is, refl), by.1)
+  bases_called None is step by = subst (λ s. IsCalledFor s trees) (sym by) (kept, are, is)

@@ -1,5 +1,5 @@
 -- Which step is due where what is kept of items is written, by the kept rows of all of them.
-use Rattle.std.proofs.Common.{◌≡◌, inl, inr, ℕ, List, Option, None, Some, Ok, Err, IsTrue, refl, sym, subst}
+use Rattle.std.proofs.Common.{◌≡◌, inl, inr, ℕ, List, Option, None, Some, Ok, Err, IsTrue, refl, sym, subst, arith}
 use Rattle.sqlite.specs.State.{State, HasCleanDisk}
 use Rattle.mx_book.specs.commands.Act.{Entry}
 use Rattle.mx_base.specs.declared.point.Point.{Point}
@@ -8,9 +8,10 @@ use Rattle.mx_layout.specs.declared.fault.TableFault.{TableFault}
 use Rattle.mx_layout.specs.declared.fault.TableFault.TheVariants.{Memory}
 use Rattle.mx_verify.specs.declared.derived.kept.KeptRows.{KeptRows}
 use Rattle.mx_migrate.specs.declared.settle.due.Due.{Due}
-use Rattle.mx_migrate.specs.settle.Choices.{Chooses, FindsKept, IsKeeping, StandsIn}
+use Rattle.mx_migrate.specs.settle.Choices.{Chooses, FindsKept, IsKeeping, LiesIn, StandsIn}
+use Rattle.mx_migrate.specs.settle.Found.{AreKeptIn, KnowsIn, MayBeRead}
 use Rattle.mx_migrate.specs.settle.Items.{AreItemsOf, IsBasesBy, Knows, next_total, total_by}
-use Rattle.mx_migrate.proofs.SettleProofs.ItemLemmas.{bases_due, bases_for, bases_goes, total_due, total_for, total_goes}
+use Rattle.mx_migrate.proofs.SettleProofs.ItemLemmas.{bases_called, bases_due, bases_for, bases_goes, total_called, total_due, total_for, total_goes}
 
 module _ (known after : Option KeptRows) (old new : State) where
   -- the kept rows were not found
@@ -23,6 +24,8 @@ module _ (known after : Option KeptRows) (old new : State) where
     goes = λ _ _ _. tt;
     cause = r.cause;
     damaged = λ file clean lies. r.damaged at keeping clean lies;
+    called = λ _ _ _ _ _. tt;
+    keeps = λ _ _ _ _ _. subst (λ k. KnowsIn at k old.now.trees) (sym is) tt;
   }
 
   module _ (kept : KeptRows) (is : after ≡ Some kept) (r : FindsKept known old new (Ok kept)) where
@@ -31,6 +34,13 @@ module _ (known after : Option KeptRows) (old new : State) where
 
     known_after : (at : Point) (book : List Entry) → IsKeeping at → HasCleanDisk new → (IsTrue old.is_open → StandsIn at book old.now) → Knows known book → Knows after book
     known_after at book keeping clean stands knows = subst (λ k. Knows k book) (sym is) (items_are at book keeping clean stands knows)
+
+    -- over any rows
+    kept_in : (at : Point) → IsKeeping at → HasCleanDisk new → (IsTrue old.is_open → LiesIn at old.now) → IsTrue old.is_open → KnowsIn at known old.now.trees → AreKeptIn kept old.now.trees
+    kept_in at keeping clean lies is_open knows = r.given at keeping clean lies is_open knows
+
+    known_in : (at : Point) → MayBeRead at → IsKeeping at → HasCleanDisk new → (IsTrue old.is_open → LiesIn at old.now) → IsTrue old.is_open → KnowsIn at known old.now.trees → KnowsIn at after old.now.trees
+    known_in at may keeping clean lies is_open knows = subst (λ k. KnowsIn at k old.now.trees) (sym is) (may, kept_in at keeping clean lies is_open knows)
 
     pub total_chosen : (mark : ℕ) → Chooses (moving 3 mark) known after old new (Ok (Some (total_by mark (next_total mark kept.totals.items))))
     total_chosen mark =
@@ -43,6 +53,8 @@ module _ (known after : Option KeptRows) (old new : State) where
           goes = λ _ _ _. total_goes mark kept.totals.items next refl old.now.trees;
           cause = tt;
           damaged = λ _ _ _. tt;
+          called = λ file clean lies is_open knows. total_called mark kept old.now.trees (kept_in (moving 3 mark) (mark, inl refl) clean lies is_open knows) next refl;
+          keeps = λ file clean lies is_open knows. known_in (moving 3 mark) (inl (omega arith)) (mark, inl refl) clean lies is_open knows;
         }
 
     pub bases_chosen : (mark : ℕ) (step : Due) → IsBasesBy mark kept.bases.items (next_total mark kept.totals.items) step → Chooses (moving 4 mark) known after old new (Ok (Some step))
@@ -56,6 +68,8 @@ module _ (known after : Option KeptRows) (old new : State) where
           goes = λ _ _ _. bases_goes mark kept.totals.items kept.bases.items next step refl by old.now.trees;
           cause = tt;
           damaged = λ _ _ _. tt;
+          called = λ file clean lies is_open knows. bases_called mark kept old.now.trees (kept_in (moving 4 mark) (mark, inr refl) clean lies is_open knows) next refl step by;
+          keeps = λ file clean lies is_open knows. known_in (moving 4 mark) (inl (omega arith)) (mark, inr refl) clean lies is_open knows;
         }
 
     -- memory ran out for the last bases of the item
@@ -68,4 +82,6 @@ module _ (known after : Option KeptRows) (old new : State) where
       goes = λ _ _ _. tt;
       cause = inl refl;
       damaged = λ _ _ _ name never. absurd cc;
+      called = λ _ _ _ _ _. tt;
+      keeps = λ file clean lies is_open knows. known_in (moving 4 mark) (inl (omega arith)) (mark, inr refl) clean lies is_open knows;
     }

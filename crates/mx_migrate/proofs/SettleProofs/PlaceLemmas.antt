@@ -147,7 +147,7 @@ placed_holds : (s : State) (at : Point) → IsPlacedAt at s → HasCleanDisk s �
 placed_holds s at placed clean is_open = ((_, ap (λ (x : Schema). x.tables) (placed.schema clean is_open)), (placed.tables clean is_open).says)
 
 -- a point that is checked is answered as it is
-checked_same : (at p : Point) → checked at ≡ Ok p → p ≡ at
+pub checked_same : (at p : Point) → checked at ≡ Ok p → p ≡ at
 checked_same at p e = by (nat_lt 2 at.layout) (is_of_file at) e
   where
     by : (newer known : Bool) → checks newer known at ≡ Ok p → p ≡ at

@@ -17,14 +17,15 @@ use Rattle.mx_layout.specs.Crash.{Leaves}
 use Rattle.mx_book_tables.specs.stands.Schemas.{IsOfFile, schema_at}
 use Rattle.mx_book_tables.specs.stands.Stands.{RestsAt, StandsAt}
 use Rattle.mx_faults.specs.declared.moving.MoveFault.{MoveFault}
+use Rattle.mx_faults.specs.declared.moving.MoveFault.TheVariants as stop
+use Rattle.mx_layout.specs.TableName.{TableName}
 use Rattle.mx_verify.specs.declared.derived.kept.KeptRows.{KeptRows}
-use Rattle.mx_migrate.specs.settle.Advances.{Advances, AdvancesBook, AreMoved, IsStepOf, LeadsTo}
-use Rattle.mx_migrate.specs.settle.Due.{IsFor, MakesBy}
+use Rattle.mx_migrate.specs.settle.Advances.{Advances, AdvancesBook, AdvancesRows, AreMoved, IsStepOf, IsStepTo, LeadsTo}
+use Rattle.mx_migrate.specs.settle.Found.{KnowsNow}
 use Rattle.mx_migrate.specs.settle.Items.{Knows}
 use Rattle.mx_migrate.specs.settle.Place.{IsBehind, IsPlacedAt, SaysAt, TellsPlace}
 use Rattle.mx_migrate.specs.settle.Settles.{Settles}
-use Rattle.mx_migrate.specs.declared.settle.due.Due.{Due}
-use Rattle.mx_migrate.proofs.SettleProofs.AdvanceLemmas.{newest_stays, placed_point, placed_still, rests_point, same_now, still}
+use Rattle.mx_migrate.proofs.SettleProofs.AdvanceLemmas.{newest_stays, no_damage, placed_point, placed_still, rests_point, same_now, still}
 use Rattle.mx_migrate.proofs.SettleProofs.ChoiceLemmas.{settled_at}
 use Rattle.mx_migrate.proofs.SettleProofs.PlaceLemmas.{Bounds, bounds, place_is, place_stops, rests_placed}
 
@@ -79,13 +80,13 @@ stays_behind (suc most) done at book low there = by (nat_le done most) refl (λ 
 -- ── what commits make of the tables ──
 
 -- one commit more
-leads_on : (done : ℕ) (at p q : Point) (first mid last : Trees) → LeadsTo done at first p mid → ((step : Due) × IsFor step p × MakesBy step p q mid last) → LeadsTo (done + 1) at first q last
+leads_on : (done : ℕ) (at p q : Point) (first mid last : Trees) → LeadsTo done at first p mid → IsStepTo p q mid last → LeadsTo (done + 1) at first q last
 leads_on done at p q first mid last before step =
     let one : suc done ≡ done + 1 = omega arith in
     subst (λ n. LeadsTo n at first q last) one (p, mid, before, step)
 
 moved_on : (done : ℕ) (at p : Point) (first mid last : Trees) → LeadsTo done at first p mid → IsStepOf p mid last → AreMoved (done + 1) at first last
-moved_on done at p first mid last before (step, to, fits, makes) = (done + 1, omega arith, to, leads_on done at p to first mid last before (step, fits, makes))
+moved_on done at p first mid last before (to, step) = (done + 1, omega arith, to, leads_on done at p to first mid last before step)
 
 moved_within : (few most : ℕ) (at : Point) (first last : Trees) → few ≤ most → AreMoved few at first last → AreMoved most at first last
 moved_within few most at first last low (commits, under, to, leads) = (commits, omega (arith, low, under), to, leads)
@@ -113,6 +114,7 @@ pub record HasGone (done : ℕ) (end : Point) (known : Option KeptRows) (old now
   pub risen : (at : Point) → IsPlacedAt at old → HasCleanDisk now → IsOfFile end × (5000005 + done ≤ rank end)
   pub made : (at : Point) → IsPlacedAt at old → HasCleanDisk now → IsTrue now.is_open → IsTrue old.is_open × LeadsTo done at old.now.trees end now.now.trees
   pub left : (at : Point) → IsPlacedAt at old → Leaves now (IsLeftBy done at old)
+  pub keeps : (at : Point) → IsPlacedAt at old → KnowsNow end known now
 
 pub gone_none : (old now : State) (from : Point) → TellsPlace old now (Ok from) → HasGone 0 from None old now
 gone_none old now from tells =
@@ -128,19 +130,27 @@ gone_none old now from tells =
       risen = λ at placed clean. (tells.of_file, low_rank from tells.of_file);
       made = λ at placed clean is_open. (nothing.was_open clean is_open, (is at placed clean, ap (λ (d : Database). d.trees) (same_now (schema_at at) (SaysAt at) old now nothing placed clean is_open)));
       left = λ at placed clean db may. elim (nothing.survives.crash clean db may) [ inl before ↦ inl before | inr none ↦ absurd none ];
+      keeps = λ _ _ _ _. tt;
     }
   where
     low_rank : (at : Point) → IsOfFile at → 5000005 + 0 ≤ rank at
     low_rank at file = let b = bounds at file in omega (arith, b.first)
+
+no_store : (name : TableName) → stop.Damaged name ≡ stop.Store → ⊥
+no_store name is = absurd cc
 
 module _ (old now : State) where
   -- what a commit is told is known is so of the book that the tables stand for
   abbrev GoesKnowing : Option KeptRows → State → Result Point MoveFault → Type 0
   GoesKnowing known new result = (book : List Entry) → (HasCleanDisk now → Knows known book) → AdvancesBook book now new result
 
-  pub gone_more : (done : ℕ) (p q : Point) (known after : Option KeptRows) (new : State) → p.layout < 2 → HasGone done p known old now → Advances now new (Ok q) → GoesKnowing known new (Ok q)
-      → ((at : Point) (book : List Entry) → RestsAt at now book → HasCleanDisk new → Knows known book → Knows after book) → HasGone (done + 1) q after old new
-  gone_more done p q known after new older gone more goes still_knows =
+  -- and, over any rows, of the registers that stand there
+  abbrev GoesByRows : Option KeptRows → State → Result Point MoveFault → Type 0
+  GoesByRows known new result = (at : Point) → IsPlacedAt at now → KnowsNow at known now → AdvancesRows at now new result
+
+  pub gone_more : (done : ℕ) (p q : Point) (known after : Option KeptRows) (new : State) → p.layout < 2 → HasGone done p known old now → Advances now new (Ok q) → GoesByRows known new (Ok q) → GoesKnowing known new (Ok q)
+      → ((at : Point) → IsPlacedAt at now → KnowsNow at known now → KnowsNow q after new) → ((at : Point) (book : List Entry) → RestsAt at now book → HasCleanDisk new → Knows known book → Knows after book) → HasGone (done + 1) q after old new
+  gone_more done p q known after new older gone more rows goes still_kept still_knows =
       let one : suc done ≡ done + 1 = omega arith in
       let early : HasCleanDisk new → HasCleanDisk now = λ clean. omega (arith, more.clean) in
       record {
@@ -155,8 +165,9 @@ module _ (old now : State) where
         made = λ at placed clean is_open.
             let opened = more.opened p (gone.placed at placed) not_newest clean in
             let before = gone.made at placed (early clean) opened.0 in
-            (before.0, leads_on done at p q old.now.trees now.now.trees new.now.trees before.1 (more.made p (gone.placed at placed) not_newest clean));
-        left = λ at placed clean db may. left_on done at p old now db (gone.made at placed (early clean)) (gone.left at placed (early clean) db) (more.left p (gone.placed at placed) clean db may);
+            (before.0, leads_on done at p q old.now.trees now.now.trees new.now.trees before.1 ((rows p (gone.placed at placed) (gone.keeps at placed)).made not_newest clean));
+        left = λ at placed clean db may. left_on done at p old now db (gone.made at placed (early clean)) (gone.left at placed (early clean) db) ((rows p (gone.placed at placed) (gone.keeps at placed)).left clean db may);
+        keeps = λ at placed. still_kept p (gone.placed at placed) (gone.keeps at placed);
       }
     where
       not_newest : p ≢ settled 2
@@ -170,8 +181,8 @@ module _ (old now : State) where
   file_behind : (done : ℕ) (p : Point) (known : Option KeptRows) → HasGone done p known old now → (at : Point) (book : List Entry) → RestsAt at old book → HasCleanDisk now → IsOfFile (point_behind done at book)
   file_behind done p known gone at book rests clean = subst IsOfFile (gone.reached at book rests clean) (gone.risen at (rests_placed old at book rests) clean).0
 
-  pub gone_stops : (most done : ℕ) (p : Point) (known : Option KeptRows) (e : MoveFault) (new : State) → HasGone done p known old now → done < most → Advances now new (Err e) → GoesKnowing known new (Err e) → Settles most old new (Err e)
-  gone_stops most done p known e new gone low more goes =
+  pub gone_stops : (most done : ℕ) (p : Point) (known : Option KeptRows) (e : MoveFault) (new : State) → HasGone done p known old now → done < most → Advances now new (Err e) → GoesByRows known new (Err e) → GoesKnowing known new (Err e) → Settles most old new (Err e)
+  gone_stops most done p known e new gone low more rows goes =
       let early : HasCleanDisk new → HasCleanDisk now = λ clean. omega (arith, more.clean) in
       record {
         clean = omega (arith, gone.clean, more.clean);
@@ -190,7 +201,14 @@ module _ (old now : State) where
             let same = same_now (schema_at p) (SaysAt p) now new nothing (gone.placed at placed) clean is_open in
             (before.0, (done, omega (arith, low), p, subst (λ (d : Database). LeadsTo done at old.now.trees p d.trees) (sym same) before.1));
         left = λ at placed clean db may.
-            left_within (done + 1) most at old db (omega (arith, low)) (left_on done at p old now db (gone.made at placed (early clean)) (gone.left at placed (early clean) db) (more.left p (gone.placed at placed) clean db may));
+            left_within (done + 1) most at old db (omega (arith, low)) (left_on done at p old now db (gone.made at placed (early clean)) (gone.left at placed (early clean) db) ((rows p (gone.placed at placed) (gone.keeps at placed)).left clean db may));
+        counted = λ _ _ _ _. tt;
+        damaged = λ at file placed clean name is.
+            let here = gone.placed at placed in
+            let stops = (rows p here (gone.keeps at placed)).damaged (gone.risen at placed (early clean)).0 clean name is in
+            let before = gone.made at placed (early clean) stops.0 in
+            let nothing = more.untouched (λ store. no_store name (sym is ∙ store)) in
+            (before.0, (done, low, p, now.now.trees, before.1, stops.1, λ is_open. ap (λ (d : Database). d.trees) (same_now (schema_at p) (SaysAt p) now new nothing here clean is_open)));
         ends = λ _ _ _ _. tt;
       }
 
@@ -205,6 +223,8 @@ module _ (old now : State) where
     placed = gone.placed;
     made = λ at placed _ clean is_open. (let it = gone.made at placed clean is_open in (it.0, (most, omega arith, p, it.1)));
     left = gone.left;
+    counted = λ at placed clean is_open. (let it = gone.made at placed clean is_open in (it.0, (most, omega arith, it.1, inl refl)));
+    damaged = λ _ _ _ _. tt;
     ends = λ at placed clean enough. (let far = gone.risen at placed clean in absurd (omega (arith, far.1, rank_high p far.0, enough)));
   }
 
@@ -225,6 +245,8 @@ module _ (old now : State) where
         placed = gone.placed;
         made = λ at placed _ clean is_open. (let it = gone.made at placed clean is_open in (it.0, (done, low, p, it.1)));
         left = λ at placed clean db may. left_within done most at old db low (gone.left at placed clean db may);
+        counted = λ at placed clean is_open. (let it = gone.made at placed clean is_open in (it.0, (done, low, it.1, inr (there at placed clean))));
+        damaged = λ _ _ _ _. tt;
         ends = λ at placed clean _. there at placed clean;
       }
 
@@ -243,6 +265,8 @@ settles_none most old new e tells =
       placed = λ _ _. tt;
       made = λ at placed _ clean is_open. (nothing.was_open clean is_open, (0, omega arith, at, (refl, ap (λ (d : Database). d.trees) (same_now (schema_at at) (SaysAt at) old new nothing placed clean is_open))));
       left = λ at placed clean db may. elim (nothing.survives.crash clean db may) [ inl before ↦ inl before | inr none ↦ absurd none ];
+      counted = λ _ _ _ _. tt;
+      damaged = λ at file placed clean name is. absurd (no_damage e name (place_stops old new at placed early file e tells clean) is);
       ends = λ _ _ _ _. tt;
     }
 

@@ -1,12 +1,9 @@
 -- What is asked of a file to know which step is due: what is left at the front of a step, what is kept of all items, and what the answer says.
-use Rattle.std.specs.Prelude.{◌≡◌, ◌≢◌, ◌⊎◌, ◌<◌, ℕ, pos, Bool, true, false, List, [], map, All, Contains, Option, None, Some, IsTrue, Result, Ok, Err, IfOk, IfErr, IfSome, MatchOption, MatchResult, slice_get, if◌then◌else◌}
-use Rattle.std.specs.Option.{option_map}
-use Rattle.sqlite.specs.declared.types.Value.TheVariants.{Int}
+use Rattle.std.specs.Prelude.{◌≡◌, ◌≢◌, ◌⊎◌, ◌<◌, ℕ, Bool, true, false, List, [], Contains, Option, None, Some, IsTrue, Result, Ok, Err, IfOk, IfErr, IfSome, MatchOption, MatchResult, if◌then◌else◌}
 use Rattle.sqlite.specs.Effect.{Database}
 use Rattle.sqlite.specs.State.{State, HasCleanDisk}
 use Rattle.sqlite.specs.Tree.{Trees}
 use Rattle.mx_book.specs.declared.limits.TheConstants.{MOST_ENTRIES}
-use Rattle.mx_book.specs.Book.{IsBook}
 use Rattle.mx_book.specs.commands.Act.{Entry}
 use Rattle.mx_base.specs.declared.rows.rows.EntryKind.{EntryKind}
 use Rattle.mx_base.specs.declared.point.Point.{Point}
@@ -23,19 +20,19 @@ use Rattle.mx_layout.specs.Point.{IsStop}
 use Rattle.mx_layout.specs.Tables.{sector1}
 use Rattle.mx_layout.specs.kept.Cells.{kept_component, kept_sector1}
 use Rattle.mx_layout.specs.kept.Kept.{Kept}
-use Rattle.mx_table_rows.specs.chosen.Choices.{AreFirst, is_above}
 use Rattle.mx_book_tables.specs.stands.Schemas.{IsOfFile, schema_at}
 use Rattle.mx_book_tables.specs.stands.Stands.{LiesAt, StandsAt}
 use Rattle.mx_tables.specs.Calls.{OnRead}
 use Rattle.mx_tables.specs.inserts.Sets.{IsDamaged}
-use Rattle.mx_registers.specs.file.Tables.{AreRegistersIn}
 use Rattle.mx_verify.specs.declared.derived.kept.KeptRows.{KeptRows}
 use Rattle.mx_verify.specs.declared.derived.kept.Unkept.{Unkept}
 use Rattle.mx_verify.specs.declared.derived.kept.Unkept.TheVariants as why
 use Rattle.mx_registers.specs.declared.file.file_rows.FileRows.{FileRows}
 use Rattle.mx_book_tables.specs.reading.Damage.{table_of}
 use Rattle.mx_book_tables.specs.reading.Stored.{AreRegisters}
-use Rattle.mx_migrate.specs.settle.Due.{IsDueAt, IsFor, MakesBy}
+use Rattle.mx_verify.specs.declared.merged.merged.NoBook.TheVariants as no_book
+use Rattle.mx_migrate.specs.settle.Due.{IsCalledFor, IsDueAt, IsFor, MakesBy}
+use Rattle.mx_migrate.specs.settle.Found.{AreKeptIn, HasNoBook, IsNextIn, KnowsIn}
 use Rattle.mx_migrate.specs.settle.Items.{AreItemsOf, Knows, is_next}
 use Rattle.mx_migrate.specs.settle.Numbers.{late_table}
 use Rattle.mx_migrate.specs.settle.Place.{IsBehind}
@@ -55,7 +52,7 @@ HasLateNumber {X} k trees = (row : X) × Contains (rows_in (table_named k.name) 
 
 -- the number of the next row of a table behind a mark was looked for, and nothing changed; or a row is damaged, by its type or by its number; or the call stopped
 pub record FindsNext {X : Type 0} (k : Kept X) (mark : ℕ) (old new : State) (result : Result (Option ℕ) TableFault) : Type 0 where
-  pub rows : HasCleanDisk new → k.IsIn old.now.schema → IfOk result (λ next. (rows : List X) × AreFirst (Some 1) k.order (table_named k.name) (is_above 0 (Int (pos mark))) old.now.trees (map k.as_cells rows) × All k.Fits rows × (next ≡ option_map k.key (slice_get rows 0)))
+  pub rows : HasCleanDisk new → k.IsIn old.now.schema → IfOk result (λ next. IsNextIn k mark old.now.trees next)
   pub next : IfOk result (λ next. IfSome next (λ number. is_next mark number ≡ true))
   pub cause : IfErr result (λ e. (e ≡ Memory) ⊎ ((e ≡ Store) ⊎ (e ≡ Damaged k.name)))
   pub damaged : HasCleanDisk new → k.IsIn old.now.schema → result ≡ Err (Damaged k.name) → IsDamaged old.now.trees k.name ⊎ HasLateNumber k old.now.trees
@@ -87,26 +84,19 @@ StandsIn at book db = (db.schema ≡ schema_at at) × StandsAt at db.trees book
 abbrev pub GoesOn : Due → Point → Trees → Type 0
 GoesOn step at old = (to : Point) (new : Trees) → MakesBy step at to old new → IsOfFile to × IsBehind at to
 
--- the rows of the registers, each of which has a number that an entry can have, are those of no book
-pub record HasNoBook (trees : Trees) : Type 0 where
-  pub rows : FileRows
-  pub are : AreRegisters trees rows
-  pub early : late_table rows ≡ None
-  pub none : (book : List Entry) → IsBook book → AreRegistersIn rows book → ⊥
-
 -- this is the first of the registers that has a row whose number no entry can have
 pub record IsFirstLate (name : TableName) (trees : Trees) : Type 0 where
   pub rows : FileRows
   pub are : AreRegisters trees rows
   pub late : late_table rows ≡ Some name
 
--- the table is that of the entries, or of the rows that those of some kind have
-abbrev pub IsOfEntries : TableName → Type 0
-IsOfEntries name = (name ≡ table.Entry) ⊎ ((kind : EntryKind) × (name ≡ table_of kind))
+-- the registers are those of no book, and the rows of the table with this name are to blame; where none are, it is that of the entries
+abbrev pub IsToBlame : TableName → Trees → Type 0
+IsToBlame name trees = ((kind : EntryKind) × (name ≡ table_of kind) × HasNoBook trees (no_book.Damaged kind)) ⊎ ((name ≡ table.Entry) × HasNoBook trees no_book.Differs)
 
 -- why a table is damaged that was looked at: a row is none of its type, or has a number that no entry can have, or the registers are those of no book, for the rows of the table
 abbrev pub IsUnfit : TableName → Trees → Type 0
-IsUnfit name trees = IsDamaged trees name ⊎ (((name ≡ table.Component) × HasLateNumber kept_component trees) ⊎ (IsFirstLate name trees ⊎ (IsOfEntries name × HasNoBook trees)))
+IsUnfit name trees = IsDamaged trees name ⊎ (((name ≡ table.Component) × HasLateNumber kept_component trees) ⊎ (IsFirstLate name trees ⊎ IsToBlame name trees))
 
 -- ── the kept rows of all items ──
 
@@ -125,10 +115,12 @@ pub record FindsKept (known : Option KeptRows) (old new : State) (result : Resul
   pub whole : (at : Point) (book : List Entry) → IsKeeping at → HasCleanDisk new → (IsTrue old.is_open → StandsIn at book old.now) → Knows known book → MatchResult result (λ kept. AreItemsOf kept book) IsStop
   pub cause : IfErr result (λ e. (e ≡ Memory) ⊎ ((e ≡ Store) ⊎ ((name : TableName) × (e ≡ Damaged name))))
   pub damaged : (at : Point) → IsKeeping at → HasCleanDisk new → (IsTrue old.is_open → LiesIn at old.now) → IfErr result (λ e. (name : TableName) → e ≡ Damaged name → IsTrue old.is_open × IsUnfit name old.now.trees)
+  -- over any rows they are what the registers give
+  pub given : (at : Point) → IsKeeping at → HasCleanDisk new → (IsTrue old.is_open → LiesIn at old.now) → IsTrue old.is_open → KnowsIn at known old.now.trees → IfOk result (λ kept. AreKeptIn kept old.now.trees)
 
 -- ── the choice ──
 
--- which step is due at this point was looked for, by what was known of the items: one that is for it and due, whose commit leads to a later point; none where the file is settled at the newest layout; or a table is damaged; or the call stopped; and what is then known is so of the same book
+-- which step is due at this point was looked for, by what was known of the items: one that is for it and due, whose commit leads to a later point; none where the file is settled at the newest layout; or a table is damaged; or the call stopped; and what is then known is so of the same book; over any rows it is one that they call for, and what is then known is what the registers give
 pub record Chooses (at : Point) (known after : Option KeptRows) (old new : State) (result : Result (Option Due) TableFault) : Type 0 where
   pub fits : IsOfFile at → IfOk result (λ next. MatchOption next (at ≡ settled NEWEST_LAYOUT) (λ step. IsFor step at))
   pub due : (book : List Entry) → IsOfFile at → HasCleanDisk new → (IsTrue old.is_open → StandsIn at book old.now) → Knows known book → IfOk result (λ next. IfSome next (λ step. IsDueAt step at book))
@@ -137,3 +129,5 @@ pub record Chooses (at : Point) (known after : Option KeptRows) (old new : State
   pub goes : IsOfFile at → HasCleanDisk new → (IsTrue old.is_open → LiesIn at old.now) → IfOk result (λ next. IfSome next (λ step. GoesOn step at old.now.trees))
   pub cause : IfErr result (λ e. (e ≡ Memory) ⊎ ((e ≡ Store) ⊎ ((name : TableName) × (e ≡ Damaged name))))
   pub damaged : IsOfFile at → HasCleanDisk new → (IsTrue old.is_open → LiesIn at old.now) → IfErr result (λ e. (name : TableName) → e ≡ Damaged name → IsTrue old.is_open × IsUnfit name old.now.trees)
+  pub called : IsOfFile at → HasCleanDisk new → (IsTrue old.is_open → LiesIn at old.now) → IsTrue old.is_open → KnowsIn at known old.now.trees → IfOk result (λ next. IfSome next (λ step. IsCalledFor step old.now.trees))
+  pub keeps : IsOfFile at → HasCleanDisk new → (IsTrue old.is_open → LiesIn at old.now) → IsTrue old.is_open → KnowsIn at known old.now.trees → KnowsIn at after old.now.trees

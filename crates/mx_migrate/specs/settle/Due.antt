@@ -1,4 +1,4 @@
--- The step that is due, as one step: what each of them is for, when it is due, and what it makes of the tables.
+-- The step that is due, as one step: what each of them is for, when it is due, which rows call for it, and what it makes of the tables.
 use Rattle.std.specs.Prelude.{⊤, ◌≡◌, ◌≢◌, true, List, [], ◌∷◌, None, Some, IsPermutation}
 use Rattle.sqlite.specs.Tree.{Trees}
 use Rattle.mx_book.specs.commands.Act.{Entry}
@@ -6,11 +6,18 @@ use Rattle.mx_base.specs.declared.point.Point.{Point}
 use Rattle.mx_base.specs.Settled.{settled}
 use Rattle.mx_registers.specs.points.Moves.{totals_next}
 use Rattle.mx_registers.specs.points.Points.{is_on_way, moving, next_mark}
+use Rattle.mx_base.specs.declared.rows.rows.TotalRow.{TotalRow}
+use Rattle.mx_layout.specs.Contents.{rows_in}
+use Rattle.mx_layout.specs.Tables.{sector1}
+use Rattle.mx_layout.specs.kept.Cells.{kept_component}
 use Rattle.mx_layout.specs.TableName.{TableName}
 use Rattle.mx_moves.specs.steps.Components.{MovesComponent, IsComponentOff}
 use Rattle.mx_moves.specs.steps.Sectors.{MovesSectors, IsOldOff}
 use Rattle.mx_moves.specs.steps.Tables.{MakesSectors, ChangesToSpans, ChangesToTotals, MakesBases, Finishes, IsLeftOver, IsUnmoved}
 use Rattle.mx_moves.specs.steps.Written.{WritesTotal, WritesBases, bases_of}
+use Rattle.mx_verify.specs.declared.derived.kept.KeptRows.{KeptRows}
+use Rattle.mx_migrate.specs.settle.Found.{AreKeptIn, IsNextIn}
+use Rattle.mx_migrate.specs.settle.Items.{next_total, of_item}
 use Rattle.mx_migrate.specs.declared.settle.due.Due.{Due}
 use Rattle.mx_migrate.specs.declared.settle.due.Due.TheVariants as due
 
@@ -37,6 +44,18 @@ IsDueAt (due.Total step) at book = totals_next book step.mark ≡ step.row ∷ [
 IsDueAt (due.BaseTable step) at book = next_mark at book ≡ None
 IsDueAt (due.Bases step) at book = (next_mark at book ≡ Some step.item) × IsPermutation step.rows.items (bases_of book step.item)
 IsDueAt (due.End step) at book = next_mark at book ≡ None
+
+-- what was looked at of the tables, whatever rows they have, calls for this step: what is left at the front of a step, or what is kept of the next item of the book that the registers give
+abbrev pub IsCalledFor : Due → Trees → Type 0
+IsCalledFor (due.SectorTable step) trees = ⊤
+IsCalledFor (due.Sectors step) trees = rows_in sector1 trees ≢ []
+IsCalledFor (due.SpanTable step) trees = rows_in sector1 trees ≡ []
+IsCalledFor (due.Component step) trees = IsNextIn kept_component step.mark trees (Some step.component)
+IsCalledFor (due.TotalTable step) trees = IsNextIn kept_component step.mark trees None
+IsCalledFor (due.Total step) trees = (kept : KeptRows) × AreKeptIn kept trees × (next_total step.mark kept.totals.items ≡ Some step.row)
+IsCalledFor (due.BaseTable step) trees = (kept : KeptRows) × AreKeptIn kept trees × (next_total step.mark kept.totals.items ≡ None)
+IsCalledFor (due.Bases step) trees = (kept : KeptRows) × AreKeptIn kept trees × ((total : TotalRow) × (next_total step.mark kept.totals.items ≡ Some total) × (step.item ≡ total.item)) × (step.rows.items ≡ of_item step.item kept.bases.items)
+IsCalledFor (due.End step) trees = (kept : KeptRows) × AreKeptIn kept trees × (next_total step.mark kept.totals.items ≡ None)
 
 -- what the step makes of the tables of a file at the one point, which then is at the other, whatever rows they have
 abbrev pub MakesBy : Due → Point → Point → Trees → Trees → Type 0

@@ -36,7 +36,11 @@ abbrev pub total_by : ℕ → Option TotalRow → Due
 total_by mark (Some row) = due.Total (record { mark = mark; row = row })
 total_by mark None = due.BaseTable (record { mark = mark })
 
+-- those of these last bases that are of the item with this number
+abbrev pub of_item : ℕ → List BaseRow → List BaseRow
+of_item item bases = filter (λ (base : BaseRow). nat_eq base.item item) bases
+
 -- the step writes those of these last bases that are of the item with this next total, or where there is none ends the move
 abbrev pub IsBasesBy : ℕ → List BaseRow → Option TotalRow → Due → Type 0
-IsBasesBy mark bases (Some row) step = (rows : Vec BaseRow Global) × (rows.items ≡ filter (λ (base : BaseRow). nat_eq base.item row.item) bases) × (step ≡ due.Bases (record { mark = mark; item = row.item; rows = rows }))
+IsBasesBy mark bases (Some row) step = (rows : Vec BaseRow Global) × (rows.items ≡ of_item row.item bases) × (step ≡ due.Bases (record { mark = mark; item = row.item; rows = rows }))
 IsBasesBy mark bases None step = step ≡ due.End (record { mark = mark })

@@ -1,12 +1,14 @@
 //! One commit of a file on its way to the newest layout.
-ghost use Rattle.std.specs.Prelude.{◌≡◌, false, List};
+ghost use Rattle.std.specs.Prelude.{◌≡◌, false, List, IfOk};
 ghost use Rattle.sqlite.specs.Held.{state};
 ghost use Rattle.sqlite.specs.State.{HasCleanDisk};
 ghost use Rattle.mx_book.specs.commands.Act.{Entry};
 ghost use Rattle.mx_base.specs.declared.point.Point.{Point};
 ghost use Rattle.mx_book_tables.specs.stands.Stands.{RestsAt};
-ghost use Rattle.mx_migrate.specs.settle.Advances.{Advances, AdvancesBook};
+ghost use Rattle.mx_migrate.specs.settle.Advances.{Advances, AdvancesBook, AdvancesRows};
+ghost use Rattle.mx_migrate.specs.settle.Found.{KnowsNow};
 ghost use Rattle.mx_migrate.specs.settle.Items.{Knows};
+ghost use Rattle.mx_migrate.specs.settle.Place.{FollowsPoint, IsPlacedAt};
 
 use crate::commit_step;
 use crate::settle::choosing::next_due;
@@ -26,7 +28,16 @@ pub(crate) fn advance_knowing<S: Alter>(
 ) -> Result<Point, MoveFault>
     requires { conn.old.in_transaction ≡ false }
     ensures idle { conn.new.in_transaction ≡ false }
+    ensures follows { FollowsPoint S.Store conn.old (state S.Store conn.new) result }
     ensures advances { Advances (state S.Store conn.old) (state S.Store conn.new) result }
+
+    // Over any rows what is known is to be what the registers give, and then it still is.
+    ensures rows { (at : Point) → IsPlacedAt at (state S.Store conn.old)
+        → KnowsNow at known.old (state S.Store conn.old)
+        → AdvancesRows at (state S.Store conn.old) (state S.Store conn.new) result }
+    ensures keeps { (at : Point) → IsPlacedAt at (state S.Store conn.old)
+        → KnowsNow at known.old (state S.Store conn.old)
+        → IfOk result (λ to. KnowsNow to known.new (state S.Store conn.new)) }
 
     // What is known is to be of the book that the tables stand for, and then it still is.
     ensures book { (book : List Entry)
@@ -59,7 +70,10 @@ pub(crate) fn advance_knowing<S: Alter>(
 pub fn advance<S: Alter>(alloc: Global, conn: &mut Connection<S>) -> Result<Point, MoveFault>
     requires { conn.old.in_transaction ≡ false }
     ensures idle { conn.new.in_transaction ≡ false }
+    ensures follows { FollowsPoint S.Store conn.old (state S.Store conn.new) result }
     ensures advances { Advances (state S.Store conn.old) (state S.Store conn.new) result }
+    ensures rows { (at : Point) → IsPlacedAt at (state S.Store conn.old)
+        → AdvancesRows at (state S.Store conn.old) (state S.Store conn.new) result }
     ensures book { (book : List Entry)
         → AdvancesBook book (state S.Store conn.old) (state S.Store conn.new) result }
 {

@@ -2,7 +2,7 @@
 //!
 //! `Due` holds the step and meets the law of a step itself, so what is promised of one commit is said and proved once,
 //! by `commit_step`, and what `advance` and `settle` promise names no step. A further step is a variant, a line in each
-//! of the four definitions of `specs/settle/Due.antt`, of the two laws of `specs/settle/DueLaws.antt` and of one lemma,
+//! of the five definitions of `specs/settle/Due.antt`, of the two laws of `specs/settle/DueLaws.antt` and of one lemma,
 //! and the place where it is chosen.
 ghost use Rattle.std.specs.Prelude.{◌≡◌};
 

@@ -2,8 +2,8 @@
 //!
 //! To look through 5,000 totals for each of 5,000 items is little beside a commit, so they lie in two lists and in no
 //! map.
-ghost use Rattle.std.specs.Prelude.{◌≡◌, IfOk, filter, nat_eq};
-ghost use Rattle.mx_migrate.specs.settle.Items.{next_total, total_by, IsBasesBy};
+ghost use Rattle.std.specs.Prelude.{◌≡◌, IfOk};
+ghost use Rattle.mx_migrate.specs.settle.Items.{next_total, of_item, total_by, IsBasesBy};
 
 use crate::settle::due::Due;
 use crate::{CreateBases, Finish, WriteBases, WriteTotal};
@@ -24,7 +24,7 @@ fn next_total(totals: &[TotalRow], mark: u32) -> Option<TotalRow>
 
 // The last bases of the item with this number.
 fn bases_of(alloc: Global, bases: &[BaseRow], item: u32) -> Result<Vec<BaseRow>, AllocError>
-    ensures { IfOk result (λ rows. rows.items ≡ filter (λ row. nat_eq row.item item) bases.now) }
+    ensures { IfOk result (λ rows. rows.items ≡ of_item item bases.now) }
 {
     bases
         .iter()

@@ -3,8 +3,8 @@
 //! Sectors, fittings and removals all stand in their new tables when this is read, so the registers are read as a
 //! file's of layout 2 are. What is known is never compared with the tables again: a commit of a move changes no
 //! register, and no one else writes between two commits of a call, since the connection is lent for the call. That the
-//! kept rows are of the book for which the tables stand is said by `kept_rows`; over any rows no more is said of them
-//! than that the number of an item rises and is one that an entry can have.
+//! kept rows are of the book for which the tables stand is said by `kept_rows`, and over any rows that they are of the
+//! book that the registers give; where they give none, that is told, and nothing is written.
 ghost use Rattle.std.specs.Prelude.{◌≡◌, None, IsTrue};
 ghost use Rattle.sqlite.specs.Held.{state};
 ghost use Rattle.mx_layout.specs.Crash.{IsWithin};

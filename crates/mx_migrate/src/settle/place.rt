@@ -1,7 +1,8 @@
 //! The point that a file is at, where a file can be at it.
 ghost use Rattle.std.specs.Prelude.{◌≡◌, false};
 ghost use Rattle.sqlite.specs.Held.{state};
-ghost use Rattle.mx_migrate.specs.settle.Place.{checked, is_of_file, TellsPlace};
+ghost use Rattle.sqlite.specs.State.{HasCleanDisk};
+ghost use Rattle.mx_migrate.specs.settle.Place.{checked, is_of_file, TellsPlace, TellsRead};
 
 use mx_base::Point;
 use mx_faults::moving::{MoveFault, fault_of};
@@ -42,6 +43,7 @@ pub(crate) fn place<S: Alter>(conn: &mut Connection<S>) -> Result<Point, MoveFau
     requires { conn.old.in_transaction ≡ false }
     ensures idle { conn.new.in_transaction ≡ false }
     ensures tells { TellsPlace (state S.Store conn.old) (state S.Store conn.new) result }
+    ensures read { HasCleanDisk (state S.Store conn.new) → TellsRead S.Store conn.old result }
 {
     match point(conn) {
         Ok(at) => checked(at),

@@ -4,8 +4,8 @@
 //! mark is at most 1,000,000, since a step of sectors is chosen only where a sector is left, and the next component or
 //! item is one behind the mark with a number that an entry can have. There are fewer than 8,000,000 such points, and so
 //! many commits end at the newest layout or at a fault. A bound by what the book has would be nearer, and holds of
-//! tables that stand for one: `enough` and `fewer`. Of a database of other tables than those of a file at a point no
-//! more is said than that nothing changes at an error.
+//! tables that stand for one: `enough` and `fewer`. Of a database of other tables than those of a file at a point it is
+//! said by what its row of `office` was read as: at none on the way nothing changes, whatever is answered (`follows`).
 ghost use Rattle.std.specs.Prelude.{◌≡◌, ◌<◌, ◌≤◌, true, false, List, IfOk};
 ghost use Rattle.sqlite.specs.Held.{state};
 ghost use Rattle.sqlite.specs.State.{HasCleanDisk};
@@ -15,6 +15,7 @@ ghost use Rattle.mx_base.specs.Settled.{settled};
 ghost use Rattle.mx_registers.specs.points.Commits.{commits_of_move};
 ghost use Rattle.mx_registers.specs.points.Points.{is_on_way};
 ghost use Rattle.mx_book_tables.specs.stands.Stands.{RestsAt};
+ghost use Rattle.mx_migrate.specs.settle.Place.{FollowsPoint};
 ghost use Rattle.mx_migrate.specs.settle.Settles.{Settles};
 
 use crate::settle::advancing::advance_knowing;
@@ -35,6 +36,7 @@ fn go_on<S: Alter>(
 ) -> Result<Point, MoveFault>
     requires { conn.old.in_transaction ≡ false }
     ensures idle { conn.new.in_transaction ≡ false }
+    ensures follows { FollowsPoint S.Store conn.old (state S.Store conn.new) result }
     ensures settles { Settles at_most (state S.Store conn.old) (state S.Store conn.new) result }
 {
     let mut at = place(conn)?;
@@ -61,6 +63,7 @@ pub fn settle<S: Alter>(
 ) -> Result<Point, MoveFault>
     requires { conn.old.in_transaction ≡ false }
     ensures idle { conn.new.in_transaction ≡ false }
+    ensures follows { FollowsPoint S.Store conn.old (state S.Store conn.new) result }
     ensures settles { Settles at_most (state S.Store conn.old) (state S.Store conn.new) result }
 
     // From layout 1 a file of a book is settled with as many commits as its move takes, and with fewer it is on the way.

@@ -1,8 +1,14 @@
-use Rattle.std.proofs.Common.{Err, sym, subst}
+use Rattle.std.proofs.Common.{Ok, Err, sym, ap, subst}
 use Rattle.sqlite.specs.Held.{state}
 use Rattle.mx_migrate.specs.settle.Place.{TellsPlace}
 use Rattle.mx_migrate.proofs.SettleProofs.PlaceLemmas.{told, untold}
 use Rattle.mx_migrate.proofs.settle.place.place.Goals as goal
+
+pub returns-in-Ok-clause-read : goal.returns-in-Ok-clause-read
+returns-in-Ok-clause-read g c clean = (Ok c.in-Ok.at, c.in-Ok.ensures.told clean, c.checked.ensures)
+
+pub returns-in-Err-clause-read : goal.returns-in-Err-clause-read
+returns-in-Err-clause-read g c clean = (Err c.in-Err.fault, c.in-Err.ensures.told clean, ap Err c.fault_of.ensures)
 
 pub returns-in-Ok-clause-tells : goal.returns-in-Ok-clause-tells
 returns-in-Ok-clause-tells g c =
