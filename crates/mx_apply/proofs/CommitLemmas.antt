@@ -26,7 +26,7 @@ use Rattle.mx_book_tables.proofs.StandsProofs.SchemaLemmas.{has_tables}
 use Rattle.mx_tables.specs.Calls.{OnDamaged, OnRead}
 use Rattle.mx_tables.specs.inserts.Sets.{GainsRows}
 use Rattle.mx_apply.specs.writing.Written.{IsSettled, with_rows, written_point}
-use Rattle.mx_apply.specs.Applies.{Applies, HasOneCommit, IsNoDamage, Runs, behind}
+use Rattle.mx_apply.specs.Applies.{Applies, HasOneCommit, IsNoDamage, ReplyOf, Runs, behind}
 
 -- the tables of a file that is settled are in its schema
 in_settled : (s : Schema) → IsSettled s → (name : TableName) → is_at written_point name ≡ true → Contains s.tables (table_named name)
@@ -143,7 +143,7 @@ module _ {S : Type 0} (g : Ghosts S) (old last : Held S) (command : Entry) where
 
       -- what a crash may leave of it
       may : HasCleanDisk (state g last) → Leftover (state g last).now.trees
-      may clean = (let it = runs.wrote clean refl in (it.0, it.1, record { was_open = opened clean; tables = λ is rise name there. (it.3 is rise).tables name (in_settled (state g old).now.schema is name there) }))
+      may clean = (let it = runs.wrote clean refl in (it.0, it.1, record { was_open = opened clean; tables = λ is rise name there. (it.3 is rise).tables name (in_settled (state g old).now.schema is name there) }, λ is. subst (λ n. ReplyOf command (state g old).now.trees (answers.Accepted n)) (sym it.2) (runs.judged clean is)))
 
       pub commit_survives : Survives (state g old) (state g end) Leftover
       commit_survives = survives_begin g old (state g end) _ (survives_then (state g begun) (state g last) (state g end) _ _ _ (λ _ trees none. absurd none)

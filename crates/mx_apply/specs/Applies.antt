@@ -62,9 +62,13 @@ abbrev pub Wrote : Entry → Reply → State → State → Type 0
 Wrote command (Accepted seq) old new = (rows : CommandRows) × AreItsRows command old rows × (rows.entry.seq ≡ seq) × (IsSettled old.now.schema → AllRise old.now → GainsRows (with_rows rows) old.now new.now)
 Wrote command _ old new = ⊤
 
--- the tables with the one commit of this command's rows, which a crash may leave beside those from before
+-- the command is new to these tables: accepted is the reply by the verdict of each book as which the rows answer
+abbrev pub IsNewTo : Entry → State → CommandRows → Type 0
+IsNewTo command old rows = IsSettled old.now.schema → ReplyOf command old.now.trees (Accepted rows.entry.seq)
+
+-- the tables with the one commit of the rows of this command, which is new to them; a crash may leave it beside those from before
 abbrev pub HasOneCommit : Entry → State → Trees → Type 0
-HasOneCommit command old trees = (rows : CommandRows) × AreItsRows command old rows × MayWrite rows old trees
+HasOneCommit command old trees = (rows : CommandRows) × AreItsRows command old rows × MayWrite rows old trees × IsNewTo command old rows
 
 -- A command was judged inside a transaction, and its rows written where it is new.
 pub record Runs (command : Entry) (old new : State) (result : Result Reply TableFault) : Type 0 where

@@ -19,7 +19,7 @@
 //!   and this command's, and each kept row that the rules of the command do not name is as it was: `apply`: `applies`
 //!   (`Applies`: `written`, by `AreRowsFor` and `with_rows`).
 //! - Over any rows, and whatever is answered, a crash leaves the tables from before, or those with the one commit of
-//!   this command's rows: `apply`: `survives` (`HasOneCommit`).
+//!   the rows of this command, which is new to them: `apply`: `survives` (`HasOneCommit`).
 //! - Over any rows, a table that is told damaged is damaged, and what was answered was answered by a connection that is
 //!   open: `apply`: `applies` (`Applies`: `damaged`, `was_open`).
 //! - Whatever rows there are, a row of any table that the rules of a command do not name is there behind it as it was.

@@ -79,7 +79,7 @@ module _ (commands : List Entry) (said : List Reply) (command : Entry) (first mi
   left_next : HasCleanDisk new → IsOfOffice first → (trees : Trees) → HasOneCommit command mid trees → IsTrue first.is_open × AreAnswered done said first.now mid.now × HasOnTop command mid.now trees
   left_next clean is trees may =
       let at = before clean is may.2.was_open in
-      let of = still is at in (at.was_open, at.answered, record { rows = may.0; are_its = may.1 of.0; tables = may.2.tables of.0 of.1 })
+      let of = still is at in (at.was_open, at.answered, record { rows = may.0; are_its = may.1 of.0; is_new = may.3 of.0; tables = may.2.tables of.0 of.1 })
 
   survives_next : (more : List Reply) (stop : Option Fault) → length said ≤ length more → ((n : ℕ) → n ≤ length said → take n more ≡ take n said) → (length said < length more) ⊎ ((stop ≡ Some Store) × (length said ≡ length more)) → IsOfOffice first
       → Survives first new (MayLeave commands more stop first)

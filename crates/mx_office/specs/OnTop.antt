@@ -47,10 +47,11 @@ AreAnswered [] [] before after = after ≡ before
 AreAnswered (command ∷ commands) (reply ∷ said) before after = ReplyOf command before.trees reply × ((next : Database) × LeadsTo command reply before next × AreAnswered commands said next after)
 AreAnswered _ _ before after = ⊥
 
--- the tables have the rows of this command on top of those from before
+-- the tables have the rows of this command, which is new to them, on top of those from before
 pub record HasOnTop (command : Entry) (before : Database) (trees : Trees) : Type 0 where
   pub rows : CommandRows
   pub are_its : AreRowsFor command before.trees rows
+  pub is_new : ReplyOf command before.trees (Accepted rows.entry.seq)
   pub tables : (name : TableName) → is_at office_point name ≡ true → IsPermutation (with_rows rows name (rows_in (table_named name) before.trees)) (rows_in (table_named name) trees)
 
 -- what a crash may leave of commands that were handed in, beside the tables from before: the first so many were answered, and the next one is on top of the tables that these led to; it has a reply too, or the store failed at it

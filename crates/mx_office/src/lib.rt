@@ -22,8 +22,8 @@
 //!   accepted on top, one after the other, and nothing else: `IsRun`: `over_rows` (`sound`).
 //! - What is replied, or told damaged, is so by a connection that is open: `IsRun`: `over_rows` (`was_open`).
 //! - Over any rows, whatever a run was answered, a crash leaves the tables from before, or those with the first of the
-//!   commands on top, as many as have a reply at most, or one more where the store failed: `IsRun`: `over_rows`
-//!   (`crash`).
+//!   commands on top, as many as have a reply at most, or one more, which is new to them, where the store failed:
+//!   `IsRun`: `over_rows` (`crash`, by `HasOnTop`).
 //! - Over any rows, a table that is told damaged is damaged in the tables that the command or the question found:
 //!   `IsRun`: `over_rows` (`damaged`); `entries`: `damaged`; `list` and its four, `life`: `answered` (`damaged`).
 //! - Over any rows, what a list or a life is answered is so of each book as which the rows answer; the life is that of
@@ -47,9 +47,9 @@
 //!   `reason` (`exact`, `not_ours`), `older`, `ready`. Nothing is said of the other tables, of which a call that needs
 //!   one and finds none answers `Store`, as `transcripts/files.md` and `transcripts/damage.md` show.
 //! - Over any rows of a file at a point, an office is opened at the point of the office alone; and whether one is or
-//!   not, unless the store failed the tables are what steps of the move make of those from before, and each state that
-//!   a crash may leave is one from before, or what they make: `open_office`: `moves` (`MovesOn`: `placed`, `made`,
-//!   `left`).
+//!   not, unless the store failed the tables are what steps of the move, each called for by the tables that it found,
+//!   make of those from before, and each state that a crash may leave is one from before, or what they make:
+//!   `open_office`: `moves` (`MovesOn`: `placed`, `made`, `left`).
 //! - Where `office` has the one row of a point, a table is told damaged by an opening only where no file can be at that
 //!   point, or by the move of an older file: `open_office`: `reason` (`exact`: `SaysWhy`).
 //!
