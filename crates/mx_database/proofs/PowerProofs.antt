@@ -1,1 +1,2 @@
 pub mod FoundLemmas
+pub mod LeftLemmas

@@ -11,4 +11,4 @@
 
 pub mod power;
 
-pub use power::{end_process, reopen, reopen_file};
+pub use power::{end_process, reopen, reopen_file, reopen_left};

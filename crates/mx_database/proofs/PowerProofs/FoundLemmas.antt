@@ -8,39 +8,36 @@ use Rattle.sqlite_trees.specs.Tree.{Trees}
 use Rattle.sqlite_catalog.specs.Listing.{IsSound}
 use Rattle.sqlite_catalog.proofs.ReadLemmas.{lists_once}
 use Rattle.sqlite_store.specs.declared.store.FileStore.{FileStore}
-use Rattle.sqlite_store.specs.FileStore.{state, view, recovers}
 use Rattle.sqlite_store.specs.Laws.{settled_at}
 use Rattle.sqlite.specs.Schema.{Schema}
 use Rattle.sqlite.specs.Effect.{Database}
 use Rattle.sqlite.specs.State.{State, HasCleanDisk}
-use Rattle.sqlite.specs.Held.{Held, AreDatabases}
-use Rattle.sqlite.specs.Files.{file_state, IsOpened}
+use Rattle.sqlite.specs.Held.{Held}
+use Rattle.sqlite.specs.Files.{file_state, HoldsDatabase, IsOpened}
 use Rattle.sqlite.specs.Start.{FindsIn}
-use Rattle.sqlite.proofs.Theorems.{next_run}
 use Rattle.mx_layout.specs.Crash.{Leaves, RestsAs, ChangesNothing}
 use Rattle.mx_layout.proofs.CrashLemmas.{rests_kept}
 use Rattle.mx_database.specs.power.Found.{IsFound}
 
-module _ {D' : Type 0} {g' : Ghosts D'} (stays : SeenMayStay g') (again : Held (FileStore D' g')) (opened : IsOpened again) where
-  -- `left` is what the files hold as they are opened again, by whatever disk
-  pub finds : {D : Type 0} {g : Ghosts D} (may_leave : Trees → Type 0) (it : FileStore D g) (left : Image) → ((db : Trees) → recovers it db → may_leave db)
-      → IsTrue (view it).is_numbered → AreDatabases (recovers it) → (state it).may_leave left → FindsIn left (file_state again) → ∥ IsFound may_leave (file_state again) ∥₁
-  finds may_leave it left among numbered sound may found = ∥∥₁_map (next_run it numbered sound left may (file_state again) found) (λ one.
-      let now = file_state again in
-      let is_open = opened.0.is_open in
-      let trees = ap (λ (d : Database). d.trees) opened.0.clean in
-      let r : IsFound may_leave now = record {
-        schema = now.now.schema;
-        tables = now.now.trees;
-        left = subst may_leave (sym trees) (among now.committed.trees one);
-        sound = (opened.1 is_open).0;
-        rests = record {
-          schema = λ _ _. refl;
-          tables = λ _ _. refl;
-          settled = λ _ _. opened.0.clean;
-          crash = λ _ db may. settled_at again.store stays db is_open may ∙ sym trees;
-        };
-      } in r)
+-- what the files held as they were opened again, by whatever disk, and the tables that were found
+pub finds : {D : Type 0} {g : Ghosts D} (stays : SeenMayStay g) (again : Held (FileStore D g)) → IsOpened again → (among : Trees → Type 0) (image : Image)
+    → ∥ ((db : Trees) × among db × HoldsDatabase image db) ∥₁ → FindsIn image (file_state again) → ∥ IsFound among (file_state again) ∥₁
+finds stays again opened among image holds found = ∥∥₁_map holds (λ one.
+    let now = file_state again in
+    let is_open = opened.0.is_open in
+    let trees = ap (λ (d : Database). d.trees) opened.0.clean in
+    let r : IsFound among now = record {
+      schema = now.now.schema;
+      tables = now.now.trees;
+      left = subst among (sym (trees ∙ found.holds one.0 one.2)) one.1;
+      sound = (opened.1 is_open).0;
+      rests = record {
+        schema = λ _ _. refl;
+        tables = λ _ _. refl;
+        settled = λ _ _. opened.0.clean;
+        crash = λ _ db may. settled_at again.store stays db is_open may ∙ sym trees;
+      };
+    } in r)
 
 -- what was found rests as whatever the tables that were found have
 pub rests_found : (may_leave : Trees → Type 0) (now : State) (of : Schema) (P : Trees → Type 0) (found : IsFound may_leave now) → IsSound of found.tables → P found.tables → RestsAs now of P

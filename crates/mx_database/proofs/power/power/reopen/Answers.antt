@@ -1,39 +1,34 @@
-use Rattle.std.proofs.Common.{◌∙◌, subst, arith}
-use Rattle.std.proofs.lemmas.Bool.{and_from}
-use Rattle.sqlite_wal.specs.Files.{outcomes, seen_image}
-use Rattle.sqlite_wal.specs.Reads.{AreClean}
-use Rattle.sqlite_wal.proofs.CleanLemmas.{halves}
-use Rattle.sqlite_pool.proofs.StateLemmas.{clean_is, may_leave_is}
+use Rattle.std.proofs.Common.{arith}
 use Rattle.sqlite_trees.proofs.Doubt.{no_doubt}
 use Rattle.sqlite_trees.specs.View.{IsClean}
 use Rattle.sqlite_store.specs.FileStore.{view}
+use Rattle.sqlite.specs.State.{HasCleanDisk}
 use Rattle.sqlite.specs.Files.{file_state}
-use Rattle.mx_database.proofs.PowerProofs.FoundLemmas.{finds}
+use Rattle.mx_database.specs.power.Left.{HoldsWhatIsLeftOf}
+use Rattle.sqlite.specs.declared.file.Leftover.TheVariants as left
+use Rattle.mx_database.proofs.PowerProofs.LeftLemmas.{err_by, faithful_left, ok_by, ok_when, store_holds, wider_left}
 use Rattle.mx_database.proofs.power.power.reopen.Goals as goal
 
-pub returns-in-Ok-clause-clean : goal.returns-in-Ok-clause-clean
-returns-in-Ok-clause-clean g c clean =
-    let it = c.into_store.result in
-    let log = c.crash.new.self in
-    let db = c.crash-2.new.self in
-    let found = c.in-Ok.ensures.found clean in
-    let parts = halves g.D.Disk log db found.honest in
-    let before : AreClean g.D.Disk c.close-files.result.log c.close-files.result.db = and_from _ _ (c.crash.ensures.clean parts.0) (c.crash-2.ensures.clean parts.1) in
-    let honest = subst (λ p. AreClean g.D.Disk p.0 p.1) c.close-files.ensures before in
-    let none : IsClean (view it) = no_doubt _ (clean_is it.pool ∙ honest) in
-    omega (arith, c.into_store.ensures.quiet.clean)
+pub returns-clause-clean : goal.returns-clause-clean
+returns-clause-clean g c = ok_by c.reopen_left.result c.reopen_left.ensures.clean c.reopen_left.ensures.clean (λ again clean _ now.
+    let none : IsClean (view c.into_store.result) = no_doubt _ (clean now) in
+    omega (arith, c.into_store.ensures.quiet.clean))
 
-pub returns-in-Ok-clause-found : goal.returns-in-Ok-clause-found
-returns-in-Ok-clause-found g c clean =
+pub returns-clause-found : goal.returns-clause-found
+returns-clause-found g c = ok_when _ _ c.reopen_left.result c.reopen_left.ensures.clean (λ clean.
     let it = c.into_store.result in
-    let log = c.crash.new.self in
-    let db = c.crash-2.new.self in
-    let left = seen_image g.D.Disk log db in
-    let found = c.in-Ok.ensures.found clean in
-    let parts = halves g.D.Disk log db found.honest in
-    let before : AreClean g.D.Disk c.close-files.result.log c.close-files.result.db = and_from _ _ (c.crash.ensures.clean parts.0) (c.crash-2.ensures.clean parts.1) in
-    let honest = subst (λ p. AreClean g.D.Disk p.0 p.1) c.close-files.ensures before in
-    let none : IsClean (view it) = no_doubt _ (clean_is it.pool ∙ honest) in
-    let may = may_leave_is it.pool left honest (subst (λ p. outcomes g.D.Disk p.0 p.1 left) c.close-files.ensures (c.crash.ensures.left, c.crash-2.ensures.left)) in
-    finds g.met.D.Disk.seen_may_stay c.in-Ok.again (c.in-Ok.ensures.opened clean) (file_state c.args.conn).may_leave it left c.into_store.ensures.quiet.outcomes (c.into_store.ensures.numbered none)
-    (c.into_store.ensures.sound none) may (record { holds = found.holds; reads = found.reads })
+    let none : IsClean (view it) = no_doubt _ clean in
+    let given = c.into_store.ensures in
+    let holds : HoldsWhatIsLeftOf c.args.conn (left.Store it) = store_holds it clean (given.numbered none) (given.sound none) (file_state c.args.conn).may_leave given.quiet.outcomes in
+    c.reopen_left.ensures.found c.args.conn holds)
+
+pub returns-clause-left : goal.returns-clause-left
+returns-clause-left g c faithful =
+    let it = c.into_store.result in
+    let given = c.into_store.ensures in
+    let clean = faithful_left faithful (left.Store it) in
+    let none : IsClean (view it) = no_doubt _ clean in
+    let holds : HoldsWhatIsLeftOf c.args.conn (left.Store it) = store_holds it clean (given.numbered none) (given.sound none) (file_state c.args.conn).may_leave given.quiet.outcomes in
+    let sure : HasCleanDisk (file_state c.args.conn) = omega (arith, given.quiet.clean) in
+    err_by c.reopen_left.result (c.reopen_left.ensures.left c.args.conn holds) (c.reopen_left.ensures.left c.args.conn holds)
+    (λ why is _. (sure, wider_left _ _ (λ db may. may) 0 _ (omega arith) why.0 why.1 (is (faithful_left faithful why.1))))
