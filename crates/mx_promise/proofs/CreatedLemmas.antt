@@ -2,6 +2,7 @@
 use Rattle.std.proofs.Common.{◌≢◌, ◌⊎◌, inl, inr, [], Result, Ok, Err, OnOk, IfOk, IfErr}
 use Rattle.std.proofs.Math.Logic.{∥∥₁_map}
 use Rattle.sqlite.specs.State.{State, HasCleanDisk}
+use Rattle.sqlite.specs.Tree.{Trees}
 use Rattle.sqlite_catalog.specs.Listing.{IsSound}
 use Rattle.mx_layout.specs.declared.fault.TableFault.{TableFault}
 use Rattle.mx_layout.specs.declared.fault.TableFault.TheVariants.{Memory, Store, NotOurs, Exists, Damaged}
@@ -15,7 +16,7 @@ use Rattle.mx_database.proofs.PowerProofs.FoundLemmas.{rests_found, found_before
 use Rattle.mx_office.specs.Layout.{office_point}
 use Rattle.mx_office.specs.Stands.{Rests}
 use Rattle.mx_office.proofs.StandsLemmas.{empty_stands}
-use Rattle.mx_promise.specs.Created.{IsBare, IsMade}
+use Rattle.mx_promise.specs.Created.{IsBare, IsMade, MayBeMade}
 use Rattle.mx_promise.proofs.KeptLemmas.{rests_as}
 
 module _ (old end again : State) (clean : HasCleanDisk end) (bare : IsBare old) (crash : Leaves end (λ db. IsSound no_schema db ⊎ IsEmptyIn office_point.layout db)) (found : IsFound end.may_leave again) where
@@ -35,6 +36,20 @@ module _ (old end again : State) (clean : HasCleanDisk end) (bare : IsBare old) 
   is_made (Err NotOurs) made unchanged = nothing_done (unchanged (λ h. cc))
   is_made (Err Exists) made unchanged = nothing_done (unchanged (λ h. cc))
   is_made (Err (Damaged table)) made unchanged = nothing_done (unchanged (λ h. cc))
+
+-- what a crash may leave behind the call
+module _ (old end : State) (clean : HasCleanDisk end) (bare : IsBare old) (crash : Leaves end (λ db. IsSound no_schema db ⊎ IsEmptyIn office_point.layout db)) where
+  left_alone : ChangesNothing old end → (db : Trees) → end.may_leave db → IsSound no_schema db
+  left_alone nothing db may = (rests_kept no_schema (IsSound no_schema) old end nothing bare).crash clean db may
+
+  pub may_be_made : {X : Type 0} (answer : Result X TableFault) → OnOk answer (RestsAs end (schema_of office_point.layout) (IsEmptyIn office_point.layout)) → IfErr answer (λ fault. fault ≢ Store → ChangesNothing old end)
+      → (db : Trees) → end.may_leave db → MayBeMade answer db
+  may_be_made (Ok x) made unchanged db may = empty_stands db (made.crash clean db may)
+  may_be_made (Err Memory) made unchanged db may = left_alone (unchanged (λ h. cc)) db may
+  may_be_made (Err Store) made unchanged db may = elim (crash clean db may) [ inl none ↦ inr none | inr empty ↦ inl (empty_stands db empty) ]
+  may_be_made (Err NotOurs) made unchanged db may = left_alone (unchanged (λ h. cc)) db may
+  may_be_made (Err Exists) made unchanged db may = left_alone (unchanged (λ h. cc)) db may
+  may_be_made (Err (Damaged table)) made unchanged db may = left_alone (unchanged (λ h. cc)) db may
 
 -- what was opened, where it was, has what follows from two facts of it
 pub if_opened : {X E : Type 0} {P Q R : X → Type 0} (opened : Result X E) → IfOk opened P → IfOk opened Q → ((again : X) → P again → Q again → R again) → IfOk opened R

@@ -25,17 +25,18 @@ use Rattle.mx_book_tables.specs.stands.Stands.{RestsAt, StandsAt}
 use Rattle.mx_faults.specs.declared.fault.OpenFault.{OpenFault}
 use Rattle.mx_faults.specs.declared.fault.OpenFault.TheVariants as opening
 use Rattle.mx_office.specs.declared.fault.Outcomes.{Outcomes}
+use Rattle.mx_office.specs.declared.office.Office.{Office as TheOffice}
 use Rattle.mx_office.specs.Layout.{office_point, office_schema}
 use Rattle.mx_office.specs.Office.{office_state}
 use Rattle.mx_office.specs.Opening.{AreMovedOn, ChangesOnWay, HasReason, MovesOn, StandsBehind}
 use Rattle.mx_office.specs.Stands.{Rests}
 use Rattle.mx_promise.specs.declared.running.Reopened.{Reopened}
 use Rattle.mx_promise.specs.declared.running.Unopened.{Unopened}
-use Rattle.mx_promise.specs.declared.running.Unopened.TheVariants.{Database, Office}
+use Rattle.mx_promise.specs.declared.running.Unopened.TheVariants.{Files, Database, Office}
 use Rattle.mx_promise.specs.declared.next_process.Ended.{Ended}
 use Rattle.mx_promise.specs.Ended.{IsEnded, IsEndedSomewhere}
 use Rattle.mx_promise.specs.Kept.{IsBookKept}
-use Rattle.mx_promise.specs.Opened.{IsKeptSomewhere, IsLeftClean, IsLeftFor, IsLeftStanding, IsOpenedAgain, IsThereClean, IsUnopenedAgain, KeepsSomewhere, MissesAgain, PrintsAgain, RestsSomewhere, StandsSomewhere}
+use Rattle.mx_promise.specs.Opened.{IsHandedClean, IsKeptBehind, IsKeptSomewhere, IsLeftClean, IsLeftFor, IsLeftStanding, IsOpenedAgain, IsThereClean, IsUnopenedAgain, KeepsSomewhere, MissesAgain, PrintsAgain, RestsSomewhere, StandsSomewhere}
 use Rattle.mx_promise.specs.Reopened.{KeepsUnopened, Reopens, ReopensTwice}
 use Rattle.mx_promise.proofs.KeptLemmas.{is_book_kept, nothing_found}
 use Rattle.mx_promise.proofs.ReopenedLemmas.{is_reopened_twice}
@@ -125,7 +126,7 @@ module _ (was : State) {S : Type 0} (g : Ghosts S) (mid : Held S) (now : State) 
 -- ── what was opened, where it was ──
 
 -- where the database is there behind an opening, the disk had returned what was written
-pub seen_clean : {D : Type 0} {g : disk.Ghosts D} (end : State) (again : Result (Reopened (FileStore D g) over_files) (Unopened (FileStore D g))) → IfOk again (λ it. HasCleanDisk (office_state it.office) → HasCleanDisk end)
+pub seen_clean : {D : Type 0} {g : disk.Ghosts D} (end : State) (again : Result (Reopened (FileStore D g) over_files) (Unopened D g)) → IfOk again (λ it. HasCleanDisk (office_state it.office) → HasCleanDisk end)
     → IfErr again (λ why. IsLeftClean why → HasCleanDisk end) → IsThereClean again → HasCleanDisk end
 seen_clean end (Ok it) opened left there = opened there
 seen_clean end (Err why) opened left there = left there
@@ -135,10 +136,16 @@ if_opened_then (Ok x) has then = then x has
 if_opened_then (Err error) has then = tt
 
 -- what is known of an office that was run is known of it as of a file at some point
-pub keeps_somewhere : {X D : Type 0} {g : disk.Ghosts D} (before commands : List Entry) (outcomes : Outcomes) (again : Result X (Unopened (FileStore D g)))
+pub keeps_somewhere : {X D : Type 0} {g : disk.Ghosts D} (before commands : List Entry) (outcomes : Outcomes) (again : Result X (Unopened D g))
     → IfErr again (KeepsUnopened before commands outcomes) → IfErr again (KeepsSomewhere before commands outcomes)
 keeps_somewhere before commands outcomes (Ok it) kept = tt
-keeps_somewhere before commands outcomes (Err (Database error)) kept = tt
+keeps_somewhere before commands outcomes (Err (Files error)) kept = kept
+keeps_somewhere before commands outcomes (Err (Database error left)) kept = λ faithful. ∥∥₁_map (kept faithful) (λ one. record {
+  was = one.was;
+  clean = one.clean;
+  books = λ db may. (let it = one.books db may in (it.0, it.1, (office_point, inr refl, it.2)));
+  still = one.still;
+})
 keeps_somewhere before commands outcomes (Err (Office conn fault)) kept = λ clean. ∥∥₁_map (kept clean) (λ one. record {
   book = one.book;
   kept = one.kept;
@@ -166,9 +173,18 @@ module _ (before commands : List Entry) (outcomes : Outcomes) (none : outcomes.r
         })
     reopens_unrun tail day (Err why) sure prints = tt
 
-    pub keeps_unrun : {X D : Type 0} {g : disk.Ghosts D} → IsOfFile at → (again : Result X (Unopened (FileStore D g))) → IfErr again (MissesAgain end) → IfErr again (KeepsSomewhere before commands outcomes)
+  module _ {D : Type 0} {g : disk.Ghosts D} (at : Point) (old : State) (end : Held (FileStore D g)) (fault : OpenFault) (rests : RestsAt at old before) (moves : MovesOn old (file_state end) (Some fault)) where
+    pub keeps_unrun : {X : Type 0} → IsOfFile at → (again : Result X (Unopened D g)) → IfErr again (MissesAgain (file_state end)) → IfErr again (KeepsSomewhere before commands outcomes)
     keeps_unrun file (Ok it) misses = tt
-    keeps_unrun file (Err (Database error)) misses = tt
+    keeps_unrun file (Err (Files error)) misses = misses
+    keeps_unrun file (Err (Database error left)) misses = λ faithful.
+        let it = misses faithful in
+        ∣ record {
+          was = end;
+          clean = it.0;
+          books = λ db may. (before, none_answered, somewhere_behind at before db file (moves.crash at before rests it.0 db may));
+          still = it.1;
+        } ∣₁
     keeps_unrun file (Err (Office conn why)) misses = λ clean. ∥∥₁_map (misses clean) (λ one.
         let stands = somewhere_behind at before one.tables file (moves.crash at before rests one.clean one.tables one.left) in
         record {
@@ -178,22 +194,36 @@ module _ (before commands : List Entry) (outcomes : Outcomes) (none : outcomes.r
           reason = one.reason stands.0 before stands.1 stands.2;
         })
 
+-- ── what is left of files is opened once more ──
+
+module _ {D : Type 0} {g : disk.Ghosts D} (before commands : List Entry) (outcomes : Outcomes) (was : Held (FileStore D g)) (books : (db : Trees) → (file_state was).may_leave db → (book : List Entry) × IsBookKept before commands outcomes book × StandsSomewhere book db) where
+  pub kept_behind : (again : TheOffice (FileStore D g) over_files) → IsOpenedAgain (file_state was) (office_state again) → IsKeptBehind before commands outcomes again
+  kept_behind again found =
+      let one = books found.tables found.left in
+      record { book = one.0; kept = one.1; tables = found.books one.2.0 one.0 one.2.2 }
+
+  pub kept_unopened : (fault : OpenFault) (now : State) → IsUnopenedAgain (file_state was) fault now → IsKeptSomewhere before commands outcomes fault now
+  kept_unopened fault now found =
+      let one = books found.tables found.left in
+      record { book = one.0; kept = one.1; tables = found.books one.2.0 one.0 one.2.1 one.2.2; reason = found.reason one.2.0 one.0 one.2.1 one.2.2 }
+
 -- ── a second stop ──
 
-module _ {D : Type 0} {g : disk.Ghosts D} (again : Result (Reopened (FileStore D g) over_files) (Unopened (FileStore D g))) (why : Unopened (FileStore D g)) (conn : Held (FileStore D g)) (fault : OpenFault) (is : again ≡ Err why) (there : why ≡ Office conn fault) where
+module _ {D : Type 0} {g : disk.Ghosts D} (again : Result (Reopened (FileStore D g) over_files) (Unopened D g)) (why : Unopened D g) (conn : Held (FileStore D g)) (fault : OpenFault) (is : again ≡ Err why) (there : why ≡ Office conn fault) where
   -- what is known of the connection that is handed back is known of what the stop left
-  pub there_clean : HasCleanDisk (file_state conn) → IsThereClean again
-  there_clean clean = subst IsThereClean (sym is) (subst (λ w. IsThereClean {D = D} {g = g} (Err w)) (sym there) clean)
+  pub there_clean : HasCleanDisk (file_state conn) → IsHandedClean again
+  there_clean clean = subst IsHandedClean (sym is) (subst (λ w. IsHandedClean {D = D} {g = g} (Err w)) (sym there) clean)
 
   pub leaves_standing : (book : List Entry) → IsLeftStanding book again → Leaves (file_state conn) (StandsSomewhere book)
   leaves_standing book left = subst (λ w. IsLeftStanding {D = D} {g = g} book (Err w)) there (subst (IsLeftStanding book) is left)
 
 -- what is known of the book that a stop left
-pub book_left_behind : {D : Type 0} {g : disk.Ghosts D} (before commands : List Entry) (tail : List ℕ) (day : ℕ) (outcomes : Outcomes) (again : Result (Reopened (FileStore D g) over_files) (Unopened (FileStore D g))) → IsThereClean again
+pub book_left_behind : {D : Type 0} {g : disk.Ghosts D} (before commands : List Entry) (tail : List ℕ) (day : ℕ) (outcomes : Outcomes) (again : Result (Reopened (FileStore D g) over_files) (Unopened D g)) → IsHandedClean again
     → IfOk again (Reopens before commands tail day outcomes) → IfErr again (KeepsSomewhere before commands outcomes) → ∥ ((between : List Entry) × IsBookKept before commands outcomes between × IsLeftStanding between again) ∥₁
 book_left_behind before commands tail day outcomes (Ok it) clean reopens keeps = ∥∥₁_map (reopens clean) (λ one. (one.book, one.kept, one.tables))
 book_left_behind before commands tail day outcomes (Err (Office conn fault)) clean reopens keeps = ∥∥₁_map (keeps clean) (λ one. (one.book, one.kept, one.tables.crash))
-book_left_behind before commands tail day outcomes (Err (Database error)) clean reopens keeps = absurd clean
+book_left_behind before commands tail day outcomes (Err (Database error left)) clean reopens keeps = absurd clean
+book_left_behind before commands tail day outcomes (Err (Files error)) clean reopens keeps = absurd clean
 
 -- what is found behind a further loss of power stands for the book at some point
 pub rests_found_somewhere : (was again : State) (book : List Entry) → HasCleanDisk was → Leaves was (StandsSomewhere book) → IsFound was.may_leave again → RestsSomewhere book again
@@ -202,9 +232,9 @@ rests_found_somewhere was again book clean leaves found =
     (stands.0, stands.1, rests_found was.may_leave again (schema_at stands.0) (λ trees. StandsAt stands.0 trees book) found stands.2.lies.sound stands.2)
 
 -- the second opening goes on from there
-pub reopens_twice_somewhere : {D : Type 0} {g : disk.Ghosts D} {E : Type 0} (before commands more : List Entry) (tail : List ℕ) (day : ℕ) (first : Outcomes) (again : Result (Reopened (FileStore D g) over_files) (Unopened (FileStore D g)))
+pub reopens_twice_somewhere : {D : Type 0} {g : disk.Ghosts D} {E : Type 0} (before commands more : List Entry) (tail : List ℕ) (day : ℕ) (first : Outcomes) (again : Result (Reopened (FileStore D g) over_files) (Unopened D g))
     (mid : State) (second : Outcomes) (last : Result (Reopened (FileStore D g) over_files) E) → IfOk again (Reopens before commands tail day first) → IfErr again (KeepsSomewhere before commands first)
-    → (HasCleanDisk mid → IsThereClean again) → ((book : List Entry) → IsLeftStanding book again → HasCleanDisk mid → ∥ RestsSomewhere book mid ∥₁) → IfOk last (λ it. HasCleanDisk (office_state it.office) → HasCleanDisk mid)
+    → (HasCleanDisk mid → IsHandedClean again) → ((book : List Entry) → IsLeftStanding book again → HasCleanDisk mid → ∥ RestsSomewhere book mid ∥₁) → IfOk last (λ it. HasCleanDisk (office_state it.office) → HasCleanDisk mid)
     → ((at : Point) (book : List Entry) → RestsAt at mid book → IfOk last (Reopens book more tail day second)) → IfOk last (ReopensTwice before commands more tail day first second)
 reopens_twice_somewhere before commands more tail day first again mid second (Ok it) reopens keeps there stands sure next = λ clean.
     let early = sure clean in

@@ -24,7 +24,7 @@ use Rattle.mx_office.specs.Office.{office_state, StandsFor}
 use Rattle.mx_office.specs.Stands.{Stands}
 use Rattle.mx_promise.specs.declared.running.Reopened.{Reopened}
 use Rattle.mx_promise.specs.declared.running.Unopened.{Unopened}
-use Rattle.mx_promise.specs.declared.running.Unopened.TheVariants.{Database, Office}
+use Rattle.mx_promise.specs.declared.running.Unopened.TheVariants.{Files, Database, Office}
 use Rattle.mx_promise.specs.Kept.{IsBookKept}
 use Rattle.mx_promise.specs.Ended.{IsEnded}
 use Rattle.mx_promise.specs.Reopened.{FindsUnopened, IsUnopened, KeepsUnopened, IsKeptUnopened, IsReopened, Reopens, IsReopenedTwice, ReopensTwice}
@@ -54,10 +54,18 @@ is_kept_unopened before commands outcomes end now fault run left =
     let it = is_kept_in before commands outcomes end left.clean run left.found.tables left.found.left in
     record { book = it.book; kept = it.kept; tables = rests_as end.may_leave now it.book left.found it.stands; reason = left.reason it.book it.stands }
 
-pub keeps_unopened : {D : Type 0} {g : disk.Ghosts D} (before commands : List Entry) (outcomes : Outcomes) (end : State) → HasRun before commands outcomes end
-    → (why : Unopened (FileStore D g)) → FindsUnopened end why → KeepsUnopened before commands outcomes why
-keeps_unopened before commands outcomes end run (Database error) left = tt
-keeps_unopened before commands outcomes end run (Office conn fault) left = λ clean. ∥∥₁_map (left clean) (λ one. is_kept_unopened before commands outcomes end (file_state conn) fault run one)
+pub keeps_unopened : {D : Type 0} {g : disk.Ghosts D} (before commands : List Entry) (outcomes : Outcomes) (end : Held (FileStore D g)) → HasRun before commands outcomes (file_state end)
+    → (why : Unopened D g) → FindsUnopened (file_state end) why → KeepsUnopened before commands outcomes why
+keeps_unopened before commands outcomes end run (Files error) left = left
+keeps_unopened before commands outcomes end run (Database error rest) left = λ faithful.
+    let it = left faithful in
+    ∣ record {
+      was = end;
+      clean = it.0;
+      books = λ db may. (let one = is_kept_in before commands outcomes (file_state end) it.0 run db may in (one.book, one.kept, one.stands));
+      still = it.1;
+    } ∣₁
+keeps_unopened before commands outcomes end run (Office conn fault) left = λ clean. ∥∥₁_map (left clean) (λ one. is_kept_unopened before commands outcomes (file_state end) (file_state conn) fault run one)
 
 -- two runs, one after the other
 pub is_reopened_twice : {S : Type 0} {g : Ghosts S} (before commands more : List Entry) (tail : List ℕ) (day : ℕ) (first second : Outcomes) (again : Reopened S g) (between : List Entry)

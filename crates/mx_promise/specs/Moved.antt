@@ -1,12 +1,12 @@
 -- What is found of a file whose office was being opened, at whatever point it was on its way to the newest layout.
-use Rattle.std.specs.Prelude.{◌≢◌, ℕ, List, ⊤}
+use Rattle.std.specs.Prelude.{◌≢◌, ℕ, List}
 use Rattle.sqlite_disk.specs.declared.Disk as disk
-use Rattle.sqlite_store.specs.declared.store.FileStore.{FileStore}
 use Rattle.sqlite.specs.Store.{Ghosts}
 use Rattle.sqlite.specs.State.{State, HasCleanDisk}
 use Rattle.sqlite.specs.Files.{file_state}
 use Rattle.mx_book.specs.commands.Act.{Entry}
 use Rattle.mx_layout.specs.Crash.{Leaves}
+use Rattle.mx_database.specs.power.Left.{IsFaithful, IsLeft}
 use Rattle.mx_base.specs.declared.point.Point.{Point}
 use Rattle.mx_registers.specs.points.Commits.{point_behind}
 use Rattle.mx_book_tables.specs.stands.Schemas.{IsOfFile}
@@ -18,7 +18,7 @@ use Rattle.mx_office.specs.Office.{office_state, StandsFor}
 use Rattle.mx_office.specs.Opening.{StandsBehind}
 use Rattle.mx_promise.specs.Reopened.{IsStopOf}
 use Rattle.mx_promise.specs.declared.running.Unopened.{Unopened}
-use Rattle.mx_promise.specs.declared.running.Unopened.TheVariants.{Database, Office}
+use Rattle.mx_promise.specs.declared.running.Unopened.TheVariants.{Files, Database, Office}
 
 -- where the disk returns what was written, the office stands for this book
 abbrev pub FindsBook : {S : Type 0} {g : Ghosts S} → List Entry → TheOffice S g → Type 0
@@ -31,6 +31,7 @@ pub record IsKeptMoving (at : Point) (book : List Entry) (fault : OpenFault) (no
   pub reason : IsOfFile at → IsStopOf fault
 
 -- so it is where the connection is handed back, and the disk returns what was written
-abbrev pub KeepsMoving : {D : Type 0} {g : disk.Ghosts D} → Point → List Entry → Unopened (FileStore D g) → Type 0
-KeepsMoving at book (Database error) = ⊤
+abbrev pub KeepsMoving : {D : Type 0} {g : disk.Ghosts D} → Point → List Entry → Unopened D g → Type 0
+KeepsMoving at book (Files error) = ⊥
+KeepsMoving {D} {g} at book (Database error left) = IsFaithful g → IsLeft (StandsBehind at book) 0 error left
 KeepsMoving at book (Office conn fault) = HasCleanDisk (file_state conn) → ∥ IsKeptMoving at book fault (file_state conn) ∥₁

@@ -9,6 +9,7 @@ use Rattle.sqlite.specs.Tree.{Trees}
 use Rattle.sqlite.specs.Files.{file_state, over_files}
 use Rattle.mx_book.specs.commands.Act.{Entry}
 use Rattle.mx_base.specs.declared.point.Point.{Point}
+use Rattle.mx_database.specs.power.Left.{IsFaithful}
 use Rattle.mx_layout.specs.Crash.{Leaves, RestsAs}
 use Rattle.mx_migrate.specs.settle.Place.{IsPlacedAt, SaysAt}
 use Rattle.mx_book_tables.specs.stands.Schemas.{IsOfFile}
@@ -23,10 +24,10 @@ use Rattle.mx_office.specs.Layout.{office_point, office_schema}
 use Rattle.mx_office.specs.Office.{office_state, IsReady, StandsFor}
 use Rattle.mx_office.specs.Stands.{Rests}
 use Rattle.mx_promise.specs.Kept.{IsBookKept}
-use Rattle.mx_promise.specs.Reopened.{IsPrintOf, IsStopOf}
+use Rattle.mx_promise.specs.Reopened.{IsKeptInFiles, IsPrintOf, IsStopOf, MissesFiles}
 use Rattle.mx_promise.specs.declared.running.Reopened.{Reopened}
 use Rattle.mx_promise.specs.declared.running.Unopened.{Unopened}
-use Rattle.mx_promise.specs.declared.running.Unopened.TheVariants.{Database, Office}
+use Rattle.mx_promise.specs.declared.running.Unopened.TheVariants.{Files, Database, Office}
 
 -- ── a book at some point ──
 
@@ -61,8 +62,9 @@ pub record IsKeptSomewhere (before commands : List Entry) (outcomes : Outcomes) 
   pub reason : IsStopOf fault
 
 -- so it is where the connection is handed back, and the disk returns what was written
-abbrev pub KeepsSomewhere : {D : Type 0} {g : disk.Ghosts D} → List Entry → List Entry → Outcomes → Unopened (FileStore D g) → Type 0
-KeepsSomewhere before commands outcomes (Database error) = ⊤
+abbrev pub KeepsSomewhere : {D : Type 0} {g : disk.Ghosts D} → List Entry → List Entry → Outcomes → Unopened D g → Type 0
+KeepsSomewhere before commands outcomes (Files error) = ⊥
+KeepsSomewhere {D} {g} before commands outcomes (Database error left) = IsFaithful g → ∥ IsKeptInFiles StandsSomewhere before commands outcomes error left ∥₁
 KeepsSomewhere before commands outcomes (Office conn fault) = HasCleanDisk (file_state conn) → ∥ IsKeptSomewhere before commands outcomes fault (file_state conn) ∥₁
 
 -- ── an opening behind a loss of power, of any book ──
@@ -91,8 +93,9 @@ pub record IsUnopenedAgain (before : State) (fault : OpenFault) (now : State) : 
   pub moved : (at : Point) → SaysAt at tables → Leaves now (AreMovedOn at tables)
 
 -- so it is where the connection is handed back, and the disk returns what was written
-abbrev pub MissesAgain : {D : Type 0} {g : disk.Ghosts D} → State → Unopened (FileStore D g) → Type 0
-MissesAgain before (Database error) = ⊤
+abbrev pub MissesAgain : {D : Type 0} {g : disk.Ghosts D} → State → Unopened D g → Type 0
+MissesAgain before (Files error) = ⊥
+MissesAgain before (Database error left) = MissesFiles before error left
 MissesAgain before (Office conn fault) = HasCleanDisk (file_state conn) → ∥ IsUnopenedAgain before fault (file_state conn) ∥₁
 
 -- The tables that were found are among those that a crash may have left. Where they stood for a book, at whatever point, the office stands for it, and the due list that is printed is that book's.
@@ -108,18 +111,39 @@ PrintsAgain before tail day again = HasCleanDisk (office_state again.office) →
 
 -- ── what a stop leaves for the next opening ──
 
--- the connection is handed back, and the disk has returned what was written
-abbrev pub IsLeftClean : {D : Type 0} {g : disk.Ghosts D} → Unopened (FileStore D g) → Type 0
+-- the disk has returned what was written, to the connection that is handed back; or it is one that does
+abbrev pub IsLeftClean : {D : Type 0} {g : disk.Ghosts D} → Unopened D g → Type 0
 IsLeftClean (Office conn fault) = HasCleanDisk (file_state conn)
-IsLeftClean (Database error) = ⊥
+IsLeftClean {D} {g} (Database error left) = IsFaithful g
+IsLeftClean (Files error) = ⊥
 
--- the database is there to be opened again, and the disk has returned what was written
-abbrev pub IsThereClean : {D : Type 0} {g : disk.Ghosts D} → Result (Reopened (FileStore D g) over_files) (Unopened (FileStore D g)) → Type 0
+-- the disk has returned what was written
+abbrev pub IsThereClean : {D : Type 0} {g : disk.Ghosts D} → Result (Reopened (FileStore D g) over_files) (Unopened D g) → Type 0
 IsThereClean (Ok again) = HasCleanDisk (office_state again.office)
 IsThereClean (Err why) = IsLeftClean why
 
--- the office stands for the book; or each state that a crash may leave does, where none was opened
-abbrev pub IsLeftStanding : {D : Type 0} {g : disk.Ghosts D} → List Entry → Result (Reopened (FileStore D g) over_files) (Unopened (FileStore D g)) → Type 0
+-- a connection is handed back, and the disk has returned what was written
+abbrev pub IsHandedClean : {D : Type 0} {g : disk.Ghosts D} → Result (Reopened (FileStore D g) over_files) (Unopened D g) → Type 0
+IsHandedClean (Ok again) = HasCleanDisk (office_state again.office)
+IsHandedClean (Err (Office conn fault)) = HasCleanDisk (file_state conn)
+IsHandedClean (Err (Database error left)) = ⊥
+IsHandedClean (Err (Files error)) = ⊥
+
+-- the office stands for the book; or each state that a crash may leave of the connection that is handed back does
+abbrev pub IsLeftStanding : {D : Type 0} {g : disk.Ghosts D} → List Entry → Result (Reopened (FileStore D g) over_files) (Unopened D g) → Type 0
 IsLeftStanding book (Ok again) = StandsFor again.office book
 IsLeftStanding book (Err (Office conn fault)) = Leaves (file_state conn) (StandsSomewhere book)
-IsLeftStanding book (Err (Database error)) = ⊤
+IsLeftStanding book (Err (Database error left)) = ⊤
+IsLeftStanding book (Err (Files error)) = ⊤
+
+-- ── what is left of files that were not opened ──
+
+-- the office stands for the one book
+pub record IsKeptBehind {S : Type 0} {g : Ghosts S} (before commands : List Entry) (outcomes : Outcomes) (again : TheOffice S g) : Type 0 where
+  pub book : List Entry
+  pub kept : IsBookKept before commands outcomes book
+  pub tables : StandsFor again book
+
+-- so it is, where the disk returns what was written
+abbrev pub FindsKept : {S : Type 0} {g : Ghosts S} → List Entry → List Entry → Outcomes → TheOffice S g → Type 0
+FindsKept before commands outcomes again = HasCleanDisk (office_state again) → ∥ IsKeptBehind before commands outcomes again ∥₁

@@ -1,15 +1,20 @@
 -- The headline: what is found where a run was stopped, the power was lost, and the file was opened again.
-use Rattle.std.specs.Prelude.{◌≡◌, ◌≢◌, ◌⊎◌, ℕ, List, ⊤, Vec, None, Some, Result, Err, option_map, MatchResult}
+use Rattle.std.specs.Prelude.{◌≡◌, ◌≢◌, ◌⊎◌, ℕ, List, Vec, None, Some, Result, Err, option_map, MatchResult}
 use Rattle.sqlite_disk.specs.declared.Disk as disk
 use Rattle.sqlite_store.specs.declared.store.FileStore.{FileStore}
 use Rattle.sqlite.specs.Store.{Ghosts}
 use Rattle.sqlite.specs.State.{State, HasCleanDisk}
 use Rattle.sqlite.specs.Files.{file_state}
+use Rattle.sqlite.specs.Held.{Held}
+use Rattle.sqlite.specs.Tree.{Trees}
+use Rattle.sqlite.specs.declared.error.Error.{Error}
+use Rattle.sqlite.specs.declared.file.Leftover.{Leftover}
 use Rattle.mx_book.specs.commands.Act.{Entry}
 use Rattle.mx_book.specs.declared.verdict.Refusal.TheVariants.{UnknownAircraft}
 use Rattle.mx_book.specs.Accepted.{HasAcknowledged}
 use Rattle.mx_lists.specs.DueList.{due_list}
 use Rattle.mx_database.specs.power.Found.{IsFound}
+use Rattle.mx_database.specs.power.Left.{IsFaithful, IsLeft}
 use Rattle.mx_faults.specs.declared.fault.Ask.{Ask}
 use Rattle.mx_faults.specs.declared.fault.Ask.TheVariants.{Refused, Failed}
 use Rattle.mx_faults.specs.declared.fault.Fault.TheVariants.{Memory, Store}
@@ -22,7 +27,7 @@ use Rattle.mx_reports.specs.DueText.{due_lines}
 use Rattle.mx_promise.specs.Kept.{IsBookKept}
 use Rattle.mx_promise.specs.declared.running.Reopened.{Reopened}
 use Rattle.mx_promise.specs.declared.running.Unopened.{Unopened}
-use Rattle.mx_promise.specs.declared.running.Unopened.TheVariants.{Database, Office}
+use Rattle.mx_promise.specs.declared.running.Unopened.TheVariants.{Files, Database, Office}
 
 -- why a list was not printed: the book has no such aircraft, or memory or the store failed
 abbrev pub IsUnprinted : List Entry → List ℕ → ℕ → Ask → Type 0
@@ -60,9 +65,14 @@ pub record IsUnopened (before : State) (fault : OpenFault) (now : State) : Type 
   pub found : IsFound before.may_leave now
   pub reason : (book : List Entry) → Stands found.tables book → IsStopOf fault
 
+-- `sqlite` did not open the files: what is left of them is what a crash might leave, still, where the disks return what was written
+abbrev pub MissesFiles : {D : Type 0} {g : disk.Ghosts D} → State → Error → Leftover D g → Type 0
+MissesFiles {D} {g} before error left = IsFaithful g → HasCleanDisk before × IsLeft before.may_leave 0 error left
+
 -- so it is where the connection is handed back, and the disk returns what was written
-abbrev pub FindsUnopened : {D : Type 0} {g : disk.Ghosts D} → State → Unopened (FileStore D g) → Type 0
-FindsUnopened before (Database error) = ⊤
+abbrev pub FindsUnopened : {D : Type 0} {g : disk.Ghosts D} → State → Unopened D g → Type 0
+FindsUnopened before (Files error) = ⊥
+FindsUnopened before (Database error left) = MissesFiles before error left
 FindsUnopened before (Office conn fault) = HasCleanDisk (file_state conn) → ∥ IsUnopened before fault (file_state conn) ∥₁
 
 -- The tables are those of the one book all the same, and no office was opened for want of memory or since the store failed.
@@ -72,9 +82,21 @@ pub record IsKeptUnopened (before commands : List Entry) (outcomes : Outcomes) (
   pub tables : Rests now book
   pub reason : IsStopOf fault
 
+-- `sqlite` did not open the files. A crash of the connection at the loss of power may leave tables that stand for the one book, and what is left of the files is among them still; why is told.
+pub record IsKeptInFiles (Standing : List Entry → Trees → Type 0) (before commands : List Entry) (outcomes : Outcomes) {D : Type 0} {g : disk.Ghosts D} (error : Error) (left : Leftover D g) : Type 0 where
+  pub was : Held (FileStore D g)
+  pub clean : HasCleanDisk (file_state was)
+  pub books : (db : Trees) → (file_state was).may_leave db → (book : List Entry) × IsBookKept before commands outcomes book × Standing book db
+  pub still : IsLeft (file_state was).may_leave 0 error left
+
+-- the tables are those of a book, at the point of the office
+abbrev pub StandsHere : List Entry → Trees → Type 0
+StandsHere book db = Stands db book
+
 -- so it is where the connection is handed back, and the disk returns what was written
-abbrev pub KeepsUnopened : {D : Type 0} {g : disk.Ghosts D} → List Entry → List Entry → Outcomes → Unopened (FileStore D g) → Type 0
-KeepsUnopened before commands outcomes (Database error) = ⊤
+abbrev pub KeepsUnopened : {D : Type 0} {g : disk.Ghosts D} → List Entry → List Entry → Outcomes → Unopened D g → Type 0
+KeepsUnopened before commands outcomes (Files error) = ⊥
+KeepsUnopened {D} {g} before commands outcomes (Database error left) = IsFaithful g → ∥ IsKeptInFiles StandsHere before commands outcomes error left ∥₁
 KeepsUnopened before commands outcomes (Office conn fault) = HasCleanDisk (file_state conn) → ∥ IsKeptUnopened before commands outcomes fault (file_state conn) ∥₁
 
 -- ── two stops ──

@@ -3,24 +3,25 @@ ghost use Rattle.std.specs.Prelude.{◌≡◌, ◌≢◌, ◌⊎◌, false, IsEr
 ghost use Rattle.sqlite.specs.State.{HasCleanDisk};
 ghost use Rattle.sqlite.specs.Files.{file_state};
 ghost use Rattle.mx_database.specs.power.Found.{Finds};
+ghost use Rattle.mx_database.specs.power.Left.{IsFaithful, IsLeft};
 ghost use Rattle.mx_layout.specs.Listed.{IsRefusal};
 ghost use Rattle.mx_layout.specs.Point.{IsStop};
 ghost use Rattle.mx_layout.specs.Tables.{no_schema};
 ghost use Rattle.mx_office.specs.Layout.{office_point};
-ghost use Rattle.mx_promise.specs.Created.{FindsMade, IsBare};
+ghost use Rattle.mx_promise.specs.Created.{FindsMade, IsBare, MayBeMade};
 
 use mx_database::power::reopen;
 use mx_layout::{Layout, TableFault, create};
-use sqlite::{Alter, Connection, Error, FileStore, Options};
-use sqlite_disk::Crash;
+use sqlite::{Connection, Error, FileStore, Leftover, Options};
+use sqlite_disk::{Crash, Disk};
 use std::alloc::Global;
 
 /// What making an empty book answered before the power was lost, and the database that was opened after it.
-pub struct Made<S: Alter> {
+pub struct Made<D: Disk> {
     /// What the call answered.
     pub answer: Result<(), TableFault>,
-    /// The database; or why it could not be opened, and then its files are used up.
-    pub again: Result<Connection<S>, Error>,
+    /// The database; or why `sqlite` did not open it, and what is left of its files.
+    pub again: Result<Connection<FileStore<D>>, (Error, Leftover<D>)>,
 }
 
 /// Makes an empty book in an empty database, until it is made or something stops it; then the power is lost and the
@@ -30,12 +31,14 @@ pub fn create_and_reopen<D: Crash + Drop>(
     mut conn: Connection<FileStore<D>>,
     layout: Layout,
     options: Options,
-) -> Made<FileStore<D>>
+) -> Made<D>
     requires idle { conn.in_transaction ≡ false }
     requires built { layout.0 ≡ office_point.layout }
     ensures idle { IfOk result.again (λ again. again.in_transaction ≡ false) }
     ensures headline { IsBare (file_state conn)
         → IfOk result.again (λ again. FindsMade result.answer (file_state again)) }
+    ensures unopened { IsBare (file_state conn) → IsFaithful D.Disk
+        → IfErr result.again (λ why. IsLeft (MayBeMade result.answer) 0 why.0 why.1) }
 
     // Over any database: one that is not empty keeps what it holds, an office or another program's tables, and so does
     // any where nothing was made.

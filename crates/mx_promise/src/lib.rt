@@ -11,6 +11,7 @@
 pub mod creating;
 pub mod moving;
 pub mod next_process;
+pub mod once_more;
 pub mod opening;
 pub mod running;
 pub mod second_stop;
@@ -18,6 +19,7 @@ pub mod second_stop;
 pub use creating::{Made, create_and_reopen};
 pub use moving::open_and_reopen;
 pub use next_process::{Ended, OpenedAndEnded, open_run_and_end, reopen_after, run_and_end};
+pub use once_more::open_left;
 pub use opening::{Opened, open_again, open_run_and_reopen};
 pub use running::{Reopened, Stopped, Unopened, reopen_office, run_and_reopen};
 pub use second_stop::{OpenedTwice, StoppedTwice, open_run_and_reopen_twice, run_and_reopen_twice};

@@ -36,7 +36,7 @@ pub fn open_and_reopen<D: Crash + Drop>(
     alloc: Global,
     conn: Connection<FileStore<D>>,
     options: Options,
-) -> Result<Office<FileStore<D>>, Unopened<FileStore<D>>>
+) -> Result<Office<FileStore<D>>, Unopened<D>>
     requires { conn.in_transaction ≡ false }
     ensures ready { IfOk result IsReady }
     ensures headline { (at : Point) (book : List Entry) → RestsAt at (file_state conn) book
@@ -49,6 +49,6 @@ pub fn open_and_reopen<D: Crash + Drop>(
             Ok(again) => Ok(again),
             Err((conn, fault)) => Err(Unopened::Office(conn, fault)),
         },
-        Err(error) => Err(Unopened::Database(error)),
+        Err((error, left)) => Err(Unopened::Database(error, left)),
     }
 }

@@ -17,9 +17,9 @@ ghost use Rattle.mx_book_tables.specs.stands.Schemas.{IsOfFile};
 ghost use Rattle.mx_book_tables.specs.stands.Stands.{RestsAt};
 ghost use Rattle.mx_office.specs.Calls.{IsRun};
 ghost use Rattle.mx_office.specs.Office.{StandsFor};
-ghost use Rattle.mx_promise.specs.Ended.{IsEnded, IsEndedSomewhere};
-ghost use Rattle.mx_promise.specs.Opened.{IsOpenedAndRun, KeepsSomewhere};
-ghost use Rattle.mx_promise.specs.Reopened.{GoesOn, IsStopOf, KeepsUnopened, Reopens};
+ghost use Rattle.mx_promise.specs.Ended.{IsEnded, IsEndedSomewhere, NextKeepsSomewhere, NextKeepsUnopened};
+ghost use Rattle.mx_promise.specs.Opened.{IsOpenedAndRun};
+ghost use Rattle.mx_promise.specs.Reopened.{GoesOn, IsStopOf, Reopens};
 
 use crate::running::{Reopened, Stopped, Unopened, print_due};
 use mx_base::{Day, Tail};
@@ -120,7 +120,7 @@ pub fn reopen_after<D: Disk + Drop, S: Start>(
     start: S,
     tail: &Tail,
     day: Day,
-) -> Stopped<FileStore<FileFrom<S>>>
+) -> Stopped<FileFrom<S>>
     ensures outcomes { result.outcomes ≡ ended.outcomes }
     ensures goes_on { IfOk result.again GoesOn }
     ensures headline { (before commands : _) → IsEnded before commands ended
@@ -128,7 +128,7 @@ pub fn reopen_after<D: Disk + Drop, S: Start>(
         → IfOk result.again (Reopens before commands tail.now day result.outcomes) }
     ensures unopened { (before commands : _) → IsEnded before commands ended
         → WasLeft ended.store (image_at S.Start)
-        → IfErr result.again (KeepsUnopened before commands result.outcomes) }
+        → IfErr result.again (NextKeepsUnopened before commands result.outcomes) }
 
     // Where the first process opened its office too, and may have ended in its move.
     ensures moved { (before commands : _) → IsEndedSomewhere before commands ended
@@ -136,7 +136,7 @@ pub fn reopen_after<D: Disk + Drop, S: Start>(
         → IfOk result.again (Reopens before commands tail.now day result.outcomes) }
     ensures unmoved { (before commands : _) → IsEndedSomewhere before commands ended
         → WasLeft ended.store (image_at S.Start)
-        → IfErr result.again (KeepsSomewhere before commands result.outcomes) }
+        → IfErr result.again (NextKeepsSomewhere before commands result.outcomes) }
 {
     let Ended { outcomes, store } = ended;
     match reopen_file(rt, store, path, start) {
@@ -153,9 +153,13 @@ pub fn reopen_after<D: Disk + Drop, S: Start>(
                 again: Err(Unopened::Office(conn, fault)),
             },
         },
-        Err(error) => Stopped {
+        Err((error, None)) => Stopped {
             outcomes,
-            again: Err(Unopened::Database(error)),
+            again: Err(Unopened::Files(error)),
+        },
+        Err((error, Some(left))) => Stopped {
+            outcomes,
+            again: Err(Unopened::Database(error, left)),
         },
     }
 }

@@ -14,8 +14,8 @@ ghost use Rattle.mx_base.specs.declared.point.Point.{Point};
 ghost use Rattle.mx_book_tables.specs.stands.Schemas.{IsOfFile};
 ghost use Rattle.mx_book_tables.specs.stands.Stands.{RestsAt};
 ghost use Rattle.mx_office.specs.Office.{office_state, IsReady};
-ghost use Rattle.mx_promise.specs.Opened.{FindsAgain, IsLeftClean, IsOpenedAndRun, IsThereClean};
-ghost use Rattle.mx_promise.specs.Opened.{KeepsSomewhere, MissesAgain, PrintsAgain};
+ghost use Rattle.mx_promise.specs.Opened.{FindsAgain, IsLeftClean, IsOpenedAndRun};
+ghost use Rattle.mx_promise.specs.Opened.{IsThereClean, KeepsSomewhere, MissesAgain, PrintsAgain};
 ghost use Rattle.mx_promise.specs.Reopened.{GoesOn, IsStopOf, Reopens};
 
 use crate::running::{Reopened, Stopped, Unopened, print_due, run_and_reopen};
@@ -23,18 +23,18 @@ use mx_base::{Day, Tail};
 use mx_book::commands::Command;
 use mx_database::power::reopen;
 use mx_office::{Fault, Office, OpenFault, Outcomes, open_office};
-use sqlite::{Alter, Connection, FileStore, Options};
-use sqlite_disk::Crash;
+use sqlite::{Connection, FileStore, Options};
+use sqlite_disk::{Crash, Disk};
 use std::alloc::Global;
 
 /// What came of a database whose office was opened for commands, was stopped, and was opened again.
-pub struct Opened<S: Alter> {
+pub struct Opened<D: Disk> {
     /// Why no office was opened for the commands, if none was: then none of them was run.
     pub unopened: Option<OpenFault>,
     /// The replies, and what stopped the run before its end; no reply and no stop where no command was run.
     pub outcomes: Outcomes,
     /// The office that was opened again; or why none was.
-    pub again: Result<Reopened<S>, Unopened<S>>,
+    pub again: Result<Reopened<FileStore<D>>, Unopened<D>>,
 }
 
 /// The power is lost at this moment, and the office of the database is opened again. A file of an older layout, or one
@@ -43,7 +43,7 @@ pub fn open_again<D: Crash + Drop>(
     alloc: Global,
     conn: Connection<FileStore<D>>,
     options: Options,
-) -> Result<Office<FileStore<D>>, Unopened<FileStore<D>>>
+) -> Result<Office<FileStore<D>>, Unopened<D>>
     ensures ready { IfOk result IsReady }
     ensures clean { IfOk result (λ again.
         HasCleanDisk (office_state again) → HasCleanDisk (file_state conn)) }
@@ -56,7 +56,7 @@ pub fn open_again<D: Crash + Drop>(
             Ok(again) => Ok(again),
             Err((left, fault)) => Err(Unopened::Office(left, fault)),
         },
-        Err(error) => Err(Unopened::Database(error)),
+        Err((error, left)) => Err(Unopened::Database(error, left)),
     }
 }
 
@@ -67,7 +67,7 @@ fn reopen_and_print<D: Crash + Drop>(
     tail: &Tail,
     day: Day,
     options: Options,
-) -> Result<Reopened<FileStore<D>>, Unopened<FileStore<D>>>
+) -> Result<Reopened<FileStore<D>>, Unopened<D>>
     ensures goes_on { IfOk result GoesOn }
     ensures clean { IfOk result (λ it.
         HasCleanDisk (office_state it.office) → HasCleanDisk (file_state conn)) }
@@ -94,7 +94,7 @@ pub fn open_run_and_reopen<D: Crash + Drop>(
     tail: &Tail,
     day: Day,
     options: Options,
-) -> Opened<FileStore<D>>
+) -> Opened<D>
     requires { conn.in_transaction ≡ false }
 
     // Of a file that stands for a book, at whatever point of the move.

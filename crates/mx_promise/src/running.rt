@@ -2,8 +2,8 @@
 //! `run_and_reopen`.
 //!
 //! What was answered outlives an opening that fails: the outcomes of the run are handed back beside what was found, not
-//! within it, and where no office is opened again in a database that was, the connection with the reason. A database
-//! that could not be opened hands nothing back, since no clause could say what the next opening finds.
+//! within it, and where no office is opened again in a database that was, the connection with the reason. Where `sqlite`
+//! does not open the files, what it leaves of them is handed back with the reason, for `open_left`.
 ghost use Rattle.std.specs.Prelude.{◌≡◌, ◌≢◌, IfOk, IfErr};
 ghost use Rattle.sqlite.specs.State.{HasCleanDisk};
 ghost use Rattle.mx_layout.specs.Crash.{ChangesNothing, Leaves};
@@ -19,16 +19,18 @@ use mx_book::commands::Command;
 use mx_database::power::reopen;
 use mx_office::{Ask, Fault, Office, OpenFault, Outcomes, open_office};
 use mx_reports::due_text;
-use sqlite::{Alter, Connection, Error, FileStore, Options};
-use sqlite_disk::Crash;
+use sqlite::{Alter, Connection, Error, FileStore, Leftover, Options};
+use sqlite_disk::{Crash, Disk};
 use std::alloc::Global;
 
 /// Why no office was opened again.
-pub enum Unopened<S: Alter> {
-    /// The files could not be opened as a database; they are used up.
-    Database(Error),
+pub enum Unopened<D: Disk> {
+    /// Not even the files could be opened, and they are as they were.
+    Files(Error),
+    /// `sqlite` did not open the files as a database: why, and what is left of them.
+    Database(Error, Leftover<D>),
     /// The database was opened and is handed back; no office was opened in it.
-    Office(Connection<S>, OpenFault),
+    Office(Connection<FileStore<D>>, OpenFault),
 }
 
 /// An office that was opened again, and the due list that was printed from it.
@@ -40,11 +42,11 @@ pub struct Reopened<S: Alter> {
 }
 
 /// What commands were answered before the power was lost, and what was found after it.
-pub struct Stopped<S: Alter> {
+pub struct Stopped<D: Disk> {
     /// The replies, and what stopped the run before its end.
     pub outcomes: Outcomes,
     /// The office that was opened again; or why none was.
-    pub again: Result<Reopened<S>, Unopened<S>>,
+    pub again: Result<Reopened<FileStore<D>>, Unopened<D>>,
 }
 
 /// The due list of an aircraft on a day, as text. No table changes.
@@ -75,7 +77,7 @@ pub fn reopen_office<D: Crash + Drop>(
     alloc: Global,
     office: Office<FileStore<D>>,
     options: Options,
-) -> Result<Office<FileStore<D>>, Unopened<FileStore<D>>>
+) -> Result<Office<FileStore<D>>, Unopened<D>>
     ensures ready { IfOk result IsReady }
     ensures clean { IfOk result (λ again.
         HasCleanDisk (office_state again) → HasCleanDisk (office_state office)) }
@@ -91,7 +93,7 @@ pub fn reopen_office<D: Crash + Drop>(
             Ok(again) => Ok(again),
             Err((conn, fault)) => Err(Unopened::Office(conn, fault)),
         },
-        Err(error) => Err(Unopened::Database(error)),
+        Err((error, left)) => Err(Unopened::Database(error, left)),
     }
 }
 
@@ -104,7 +106,7 @@ pub fn run_and_reopen<D: Crash + Drop>(
     tail: &Tail,
     day: Day,
     options: Options,
-) -> Stopped<FileStore<D>>
+) -> Stopped<D>
     ensures headline { (before : _) → StandsFor office before
         → IfOk result.again (Reopens before commands.now tail.now day result.outcomes) }
     ensures unopened { (before : _) → StandsFor office before

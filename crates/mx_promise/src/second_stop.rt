@@ -8,7 +8,8 @@ ghost use Rattle.mx_book_tables.specs.stands.Schemas.{IsOfFile};
 ghost use Rattle.mx_book_tables.specs.stands.Stands.{RestsAt};
 ghost use Rattle.mx_office.specs.Calls.{IsRun};
 ghost use Rattle.mx_office.specs.Office.{StandsFor};
-ghost use Rattle.mx_promise.specs.Opened.{IsLeftStanding, IsOpenedAndRun, IsThereClean, RestsSomewhere};
+ghost use Rattle.mx_promise.specs.Opened.{IsHandedClean, IsLeftStanding, IsOpenedAndRun, KeepsSomewhere};
+ghost use Rattle.mx_promise.specs.Opened.{RestsSomewhere};
 ghost use Rattle.mx_promise.specs.Reopened.{KeepsUnopened, ReopensTwice};
 
 use crate::opening::{Opened, open_run_and_reopen};
@@ -17,16 +18,16 @@ use mx_base::{Day, Tail};
 use mx_book::commands::Command;
 use mx_database::power::reopen;
 use mx_office::{Office, OpenFault, Outcomes};
-use sqlite::{Alter, Connection, Error, FileStore, Options};
-use sqlite_disk::Crash;
+use sqlite::{Connection, FileStore, Options};
+use sqlite_disk::{Crash, Disk};
 use std::alloc::Global;
 
 /// What two runs were answered, with a loss of power behind each, and what was found after the second.
-pub struct StoppedTwice<S: Alter> {
+pub struct StoppedTwice<D: Disk> {
     /// What the first run was answered.
     pub first: Outcomes,
     /// The second run; or why no office was opened for it.
-    pub second: Result<Stopped<S>, Unopened<S>>,
+    pub second: Result<Stopped<D>, Unopened<D>>,
 }
 
 /// Runs commands up to a first loss of power, and more of them, over the office that was opened again, up to a second.
@@ -38,7 +39,7 @@ pub fn run_and_reopen_twice<D: Crash + Drop>(
     tail: &Tail,
     day: Day,
     options: Options,
-) -> StoppedTwice<FileStore<D>>
+) -> StoppedTwice<D>
     ensures headline { (before : _) → StandsFor office before → IfOk result.second (λ second.
         IfOk second.again (ReopensTwice before commands.now more.now tail.now day result.first
         second.outcomes)) }
@@ -69,32 +70,38 @@ pub fn run_and_reopen_twice<D: Crash + Drop>(
 }
 
 /// What came of a database that was opened, run and stopped, and then once more.
-pub struct OpenedTwice<S: Alter> {
+pub struct OpenedTwice<D: Disk> {
     /// Why no office was opened for the first commands, if none was: then none of them was run.
     pub unopened: Option<OpenFault>,
     /// What the first commands were answered.
     pub first: Outcomes,
-    /// What came of it the second time; or why the database could not be opened for that, and then its files are used up.
-    pub second: Result<Opened<S>, Error>,
+    /// What came of it the second time; or why the database could not be opened for that, with what is left of it.
+    pub second: Result<Opened<D>, Unopened<D>>,
 }
 
 // The connection that a stop left, to be opened again: that of the office; or, where none was opened, the one that is
 // found behind a further loss of power.
 fn connection_behind<D: Crash + Drop>(
     alloc: Global,
-    again: Result<Reopened<FileStore<D>>, Unopened<FileStore<D>>>,
+    again: Result<Reopened<FileStore<D>>, Unopened<D>>,
     options: Options,
-) -> Result<Connection<FileStore<D>>, Error>
+) -> Result<Connection<FileStore<D>>, Unopened<D>>
     ensures idle { IfOk result (λ conn. conn.in_transaction ≡ false) }
-    ensures clean { IfOk result (λ conn. HasCleanDisk (file_state conn) → IsThereClean again) }
+    ensures clean { IfOk result (λ conn. HasCleanDisk (file_state conn) → IsHandedClean again) }
     ensures stands { (book : List Entry) → IsLeftStanding book again
         → IfOk result (λ conn. HasCleanDisk (file_state conn)
         → ∥ RestsSomewhere book (file_state conn) ∥₁) }
+    ensures unopened { (before commands : List Entry) (outcomes : _)
+        → IfErr again (KeepsSomewhere before commands outcomes)
+        → IfErr result (KeepsSomewhere before commands outcomes) }
 {
     match again {
         Ok(Reopened { office, printed: _ }) => Ok(office.close()),
-        Err(Unopened::Office(conn, _)) => reopen(alloc, conn, options),
-        Err(Unopened::Database(error)) => Err(error),
+        Err(Unopened::Office(conn, _)) => match reopen(alloc, conn, options) {
+            Ok(found) => Ok(found),
+            Err((error, left)) => Err(Unopened::Database(error, left)),
+        },
+        Err(why) => Err(why),
     }
 }
 
@@ -108,12 +115,15 @@ pub fn open_run_and_reopen_twice<D: Crash + Drop>(
     tail: &Tail,
     day: Day,
     options: Options,
-) -> OpenedTwice<FileStore<D>>
+) -> OpenedTwice<D>
     requires { conn.in_transaction ≡ false }
     ensures headline { (at : Point) (before : List Entry) → IsOfFile at
         → RestsAt at (file_state conn) before → IfOk result.second (λ second.
         IfOk second.again (ReopensTwice before commands.now more.now tail.now day result.first
         second.outcomes)) }
+    ensures unopened { (at : Point) (before : List Entry) → IsOfFile at
+        → RestsAt at (file_state conn) before
+        → IfErr result.second (KeepsSomewhere before commands.now result.first) }
     ensures ran { result.unopened ≡ None → IsOpenedAndRun commands.now result.first conn }
     ensures unrun { result.unopened ≢ None → (result.first.replies.items ≡ [])
         × (result.first.stopped ≡ None) }
@@ -135,10 +145,10 @@ pub fn open_run_and_reopen_twice<D: Crash + Drop>(
                 second: Ok(second),
             }
         }
-        Err(error) => OpenedTwice {
+        Err(why) => OpenedTwice {
             unopened,
             first,
-            second: Err(error),
+            second: Err(why),
         },
     }
 }

@@ -1,5 +1,5 @@
 -- What is found where a database is opened again.
-use Rattle.std.proofs.Common.{◌≡◌, inl, inr, IsTrue, refl, sym, ap, subst, ◌∙◌}
+use Rattle.std.proofs.Common.{◌≡◌, inl, inr, refl, sym, ap, subst, ◌∙◌}
 use Rattle.std.proofs.Math.Logic.{∥∥₁_map}
 use Rattle.sqlite_disk.specs.declared.Disk.{Ghosts}
 use Rattle.sqlite_wal.specs.Recovery.{Image}
@@ -15,7 +15,7 @@ use Rattle.sqlite.specs.State.{State, HasCleanDisk}
 use Rattle.sqlite.specs.Held.{Held}
 use Rattle.sqlite.specs.Files.{file_state, HoldsDatabase, IsOpened}
 use Rattle.sqlite.specs.Start.{FindsIn}
-use Rattle.mx_layout.specs.Crash.{Leaves, RestsAs, ChangesNothing}
+use Rattle.mx_layout.specs.Crash.{RestsAs, ChangesNothing}
 use Rattle.mx_layout.proofs.CrashLemmas.{rests_kept}
 use Rattle.mx_database.specs.power.Found.{IsFound}
 

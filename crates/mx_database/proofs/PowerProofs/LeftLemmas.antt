@@ -1,5 +1,5 @@
 -- What is left of files that `sqlite` did not open.
-use Rattle.std.proofs.Common.{◌≡◌, ◌≢◌, ◌≤◌, ◌<◌, ◌∙◌, ℕ, ◌+◌, ◌%◌, List, take, slice_index, ◌∷◌, [], Bool, Some, None, Option, Result, Ok, Err, IfOk, IfErr, IfSome, IsTrue, inl, inr, refl, sym, ap, subst, arith, eq-eqb, ne_eqb, get_or-take}
+use Rattle.std.proofs.Common.{◌≡◌, ◌≢◌, ◌≤◌, ◌<◌, ◌∙◌, ℕ, ◌%◌, List, take, slice_index, ◌∷◌, [], Bool, Some, None, Option, Result, Ok, Err, IfOk, IfErr, IfSome, IsTrue, inl, inr, sym, ap, subst, arith, eq-eqb, ne_eqb, get_or-take}
 use Rattle.std.proofs.Math.Logic.{∥∥₁_elim, ∥∥₁_map}
 use Rattle.std.proofs.lemmas.Bool.{and_from, cases_eq}
 use Rattle.sqlite_disk.specs.declared.Disk.{Ghosts}
@@ -12,7 +12,7 @@ use Rattle.sqlite_wal.specs.Reads.{AreClean}
 use Rattle.sqlite_wal.specs.Files.{outcomes}
 use Rattle.sqlite_wal.specs.Format.{be32}
 use Rattle.sqlite_wal.proofs.AppendLemmas.{some_value}
-use Rattle.sqlite_pool.specs.Stored.{is_summed, reserved, resealed, stored_size, trimmed, Recovers, StandsAs}
+use Rattle.sqlite_pool.specs.Stored.{is_summed, reserved, resealed, stored_size, StandsAs}
 use Rattle.sqlite_pool.specs.StoredLaws.{trimmed_some}
 use Rattle.sqlite_pool.proofs.ProbeLemmas.{reserved_word, size_by_file, size_by_log}
 use Rattle.sqlite_pool.proofs.ResealLemmas.{same_trimmed, still_whole}
@@ -29,7 +29,7 @@ use Rattle.sqlite.specs.Held.{AreDatabases}
 use Rattle.sqlite.specs.Opening.{HoldsIn}
 use Rattle.sqlite.proofs.FileLemmas.{is_something}
 use Rattle.sqlite.proofs.Theorems.{opens_again}
-use Rattle.mx_database.specs.power.Left.{HoldsAmong, IsFaithful, IsLeft, IsStopOfOpening, SaysNoSums, StandsStill}
+use Rattle.mx_database.specs.power.Left.{HoldsAmong, IsFaithful, IsLeft, IsStopOfOpening, OpensOnceMore, SaysNoSums, StandsStill}
 
 -- the image holds a database whose tables are among these
 abbrev pub Holds : (Trees → Type 0) → Image → Type 0
@@ -185,13 +185,18 @@ module _ {D : Type 0} {g : Ghosts D} where
   stop_of_opening among files seen faults few rest error (inr (inr (inl fault))) = inr (inl (omega (arith, few, fault.1)))
   stop_of_opening among files seen faults few rest error (inr (inr (inr full))) = inr (inr full)
 
-  wider_holds : (few many : Trees → Type 0) → ((db : Trees) → few db → many db) → (rest : Leftover D g) → HoldsAmong few rest → HoldsAmong many rest
-  wider_holds few many so rest holds image may = ∥∥₁_map (holds image may) (λ one. (one.0, so one.0 one.1, one.2))
+  pub holds_once_more : (among : Trees → Type 0) (rest : Leftover D g) → StandsStill among rest → OpensOnceMore rest → HoldsAmong among rest
+  holds_once_more among (left.Files files) stands opens = stands
+  holds_once_more among (left.Unopened files) stands opens = stands opens
+  holds_once_more among (left.Store it) stands opens = absurd opens
 
-  wider_stands : (few many : Trees → Type 0) → ((db : Trees) → few db → many db) → (rest : Leftover D g) → StandsStill few rest → StandsStill many rest
+  wider_holds : (few many : Trees → Type 0) → ((db : Trees) → few db → ∥ many db ∥₁) → (rest : Leftover D g) → HoldsAmong few rest → HoldsAmong many rest
+  wider_holds few many so rest holds image may = ∥∥₁_elim (holds image may) squash₁ (λ one. ∥∥₁_map (so one.0 one.1) (λ it. (one.0, it, one.2)))
+
+  wider_stands : (few many : Trees → Type 0) → ((db : Trees) → few db → ∥ many db ∥₁) → (rest : Leftover D g) → StandsStill few rest → StandsStill many rest
   wider_stands few many so (left.Files files) stands = wider_holds few many so (left.Files files) stands
   wider_stands few many so (left.Unopened files) stands = λ plain. wider_holds few many so (left.Unopened files) (stands plain)
-  wider_stands few many so (left.Store it) stands = λ db found. ∥∥₁_map (stands db found) (so db)
+  wider_stands few many so (left.Store it) stands = λ db found. ∥∥₁_elim (stands db found) squash₁ (so db)
 
   wider_reason : (before after : ℕ) → before ≤ after → (error : Error) (rest : Leftover D g) → IsStopOfOpening after error rest → IsStopOfOpening before error rest
   wider_reason before after less error rest (inl memory) = inl memory
@@ -199,5 +204,5 @@ module _ {D : Type 0} {g : Ghosts D} where
   wider_reason before after less error rest (inr (inr full)) = inr (inr full)
 
   -- the same of more tables, and of fewer failures
-  pub wider_left : (few many : Trees → Type 0) → ((db : Trees) → few db → many db) → (before after : ℕ) → before ≤ after → (error : Error) (rest : Leftover D g) → IsLeft few after error rest → IsLeft many before error rest
+  pub wider_left : (few many : Trees → Type 0) → ((db : Trees) → few db → ∥ many db ∥₁) → (before after : ℕ) → before ≤ after → (error : Error) (rest : Leftover D g) → IsLeft few after error rest → IsLeft many before error rest
   wider_left few many so before after less error rest is = record { stands = wider_stands few many so rest is.stands; reason = wider_reason before after less error rest is.reason }

@@ -1,5 +1,5 @@
 -- What is left of two files that `sqlite` did not open, and why it did not.
-use Rattle.std.specs.Prelude.{◌≡◌, ◌≢◌, ◌⊎◌, ℕ, ◌+◌, List, Some, length, IsTrue}
+use Rattle.std.specs.Prelude.{◌≡◌, ◌≢◌, ◌⊎◌, ℕ, ◌+◌, List, ⊤, Some, length, IsTrue}
 use Rattle.sqlite_disk.specs.declared.Disk.{Ghosts}
 use Rattle.sqlite_disk.specs.Disk.{MoreFaults}
 use Rattle.sqlite_wal.specs.Recovery.{Image, Pages, Recovers}
@@ -38,14 +38,20 @@ module _ {D : Type 0} {g : Ghosts D} where
   abbrev pub HoldsWhatIsLeftOf : Held (FileStore D g) → Leftover D g → Type 0
   HoldsWhatIsLeftOf conn left = HoldsAmong (file_state conn).may_leave left
 
+  -- The files can be opened once more: as they are, where nothing was written; where recovery was under way, if they are files without sums. Where their schema alone was not read, no clause of `sqlite` says what its store numbers.
+  abbrev pub OpensOnceMore : Leftover D g → Type 0
+  OpensOnceMore (Files files) = ⊤
+  OpensOnceMore (Unopened files) = (image : Image) → MayBeLeft (Unopened files) image → SaysNoSums image
+  OpensOnceMore (Store it) = ⊥
+
   -- how often the disks of the files have failed or refused
   abbrev pub faults_of_files : Leftover D g → ℕ
   faults_of_files left = g.faults (files_left left).0 + g.faults (files_left left).1
 
-  -- What is left of files that held a database among these holds one still: as they were, where nothing was written; where recovery was under way, in a file without sums; and where the schema alone was not read, the tables to which the files recover are among these.
+  -- What is left of files that held a database among these holds one still, where they can be opened once more; where their schema alone was not read, the tables to which they recover are among these.
   abbrev pub StandsStill : (Trees → Type 0) → Leftover D g → Type 0
   StandsStill among (Files files) = HoldsAmong among (Files files)
-  StandsStill among (Unopened files) = ((image : Image) → MayBeLeft (Unopened files) image → SaysNoSums image) → HoldsAmong among (Unopened files)
+  StandsStill among (Unopened files) = OpensOnceMore (Unopened files) → HoldsAmong among (Unopened files)
   StandsStill among (Store it) = (db : Trees) → recovers it db → ∥ among db ∥₁
 
   -- memory ran out, a disk has failed since, or a limit of the format is met

@@ -4,6 +4,8 @@ use Rattle.sqlite.specs.State.{HasCleanDisk}
 use Rattle.sqlite.specs.Files.{file_state}
 use Rattle.mx_office.specs.Office.{office_state}
 use Rattle.mx_promise.proofs.MovedLemmas.{left_behind, opened_behind}
+use Rattle.mx_database.proofs.PowerProofs.LeftLemmas.{wider_left}
+use Rattle.mx_office.specs.Opening.{StandsBehind}
 use Rattle.mx_promise.proofs.moving.open_and_reopen.Goals as goal
 
 pub returns-in-Ok-open_office-clause-headline : goal.returns-in-Ok-open_office-clause-headline
@@ -23,3 +25,8 @@ returns-in-Err-open_office-clause-unopened g c at book rests clean =
     let early : HasCleanDisk mid = omega (arith, c.in-Err-open_office.ensures.moves.clean) in
     let sure : HasCleanDisk end = c.in-Ok.ensures.clean early in
     ∥∥₁_map (c.in-Ok.ensures.found early) (λ found. left_behind end.may_leave mid now at book (λ db may. c.behind_opening.ensures at book rests sure db may) found c.in-Err-open_office.fault c.in-Err-open_office.ensures.moves (c.in-Err-open_office.ensures.reason clean))
+
+pub returns-in-Err-clause-unopened : goal.returns-in-Err-clause-unopened
+returns-in-Err-clause-unopened g c at book rests faithful =
+    let it = c.in-Err.ensures.left faithful in
+    wider_left _ (StandsBehind at book) (λ db may. ∣ c.behind_opening.ensures at book rests it.0 db may ∣₁) 0 0 (omega arith) _ _ it.1

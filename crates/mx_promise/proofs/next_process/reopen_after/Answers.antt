@@ -8,6 +8,8 @@ use Rattle.mx_office.specs.Office.{office_state}
 use Rattle.mx_office.proofs.OfficeLemmas.{rests_still}
 use Rattle.mx_promise.proofs.KeptLemmas.{nothing_found, rests_as}
 use Rattle.mx_promise.proofs.OpenedLemmas.{found_for, missed_for}
+use Rattle.std.proofs.lemmas.Result.{IfErr-at_err}
+use Rattle.mx_database.proofs.PowerProofs.LeftLemmas.{wider_left}
 use Rattle.mx_promise.proofs.next_process.reopen_after.Goals as goal
 
 pub returns-in-Ok-open_office-clause-headline : goal.returns-in-Ok-open_office-clause-headline
@@ -73,3 +75,8 @@ returns-in-Err-open_office-clause-unmoved g c before commands left was clean =
     let early : HasCleanDisk mid = omega (arith, failed.moves.clean) in
     let sure = left.left.clean was.clean in
     ∥∥₁_map (c.in-Ok.ensures.found left.conn left.left was early) (λ found. missed_for before commands c.args.ended left sure mid now found c.in-Err-open_office.fault failed.moves (failed.reason clean))
+
+pub returns-in-Err-Some-clause-unopened : goal.returns-in-Err-Some-clause-unopened
+returns-in-Err-Some-clause-unopened g c before commands left was clean =
+    let sure = left.left.clean was.clean in
+    wider_left _ _ (λ db may. (let one = left.books sure db may in ∣ (one.0, one.1, one.2) ∣₁)) 0 0 (omega arith) _ _ (c.reopen_file.ensures.left left.conn left.left was clean)

@@ -31,3 +31,9 @@ pub returns-in-Err-open_office-clause-sure : goal.returns-in-Err-open_office-cla
 returns-in-Err-open_office-clause-sure g c clean =
     let early : HasCleanDisk (file_state c.in-Ok.found) = omega (arith, c.in-Err-open_office.ensures.moves.clean) in
     c.in-Ok.ensures.clean early
+
+pub returns-in-Err-clause-unopened : goal.returns-in-Err-clause-unopened
+returns-in-Err-clause-unopened g c = c.in-Err.ensures.left
+
+pub returns-in-Err-clause-sure : goal.returns-in-Err-clause-sure
+returns-in-Err-clause-sure g c faithful = (c.in-Err.ensures.left faithful).0

@@ -49,11 +49,10 @@ returns-in-Err-clause-headline g c at before rests =
 pub returns-in-Err-clause-unopened : goal.returns-in-Err-clause-unopened
 returns-in-Err-clause-unopened g c at before file rests =
     let old = file_state c.args.conn in
-    let end = file_state c.in-Err.left in
     let again = c.reopen_and_print-again in
     let none : c.new.result.items ≡ [] = cc in
     let outcomes : Outcomes = record { replies = c.new.result; stopped = None } in
-    keeps_unrun before c.args.commands.now outcomes none refl at old end c.in-Err.fault rests c.in-Err.ensures.moves file again.result again.ensures.unopened
+    keeps_unrun before c.args.commands.now outcomes none refl at old c.in-Err.left c.in-Err.fault rests c.in-Err.ensures.moves file again.result again.ensures.unopened
 
 pub returns-in-Err-clause-whole : goal.returns-in-Err-clause-whole
 returns-in-Err-clause-whole g c at before file rests there fault is =

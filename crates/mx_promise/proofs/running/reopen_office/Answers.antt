@@ -9,6 +9,7 @@ use Rattle.mx_migrate.specs.settle.Place.{SaysAt}
 use Rattle.mx_office.specs.Layout.{office_point}
 use Rattle.mx_promise.specs.Reopened.{IsUnopened}
 use Rattle.mx_promise.proofs.KeptLemmas.{nothing_found, rests_as}
+use Rattle.mx_promise.specs.Reopened.{MissesFiles}
 use Rattle.mx_promise.proofs.running.reopen_office.Goals as goal
 
 pub returns-in-Ok-open_office-clause-clean : goal.returns-in-Ok-open_office-clause-clean
@@ -44,3 +45,6 @@ returns-in-Err-open_office-clause-unopened g c says clean =
       found = found_kept was.may_leave mid now (nothing_found was.may_leave _ c.in-Ok.conn now early clean found (here sure found.tables found.left) c.in-Err-open_office.ensures.changes) found;
       reason = λ book stands. (c.in-Err-open_office.ensures.reason clean).whole office_point book (inr refl) (rests_as was.may_leave mid book found stands);
     }))
+
+pub returns-in-Err-clause-unopened : goal.returns-in-Err-clause-unopened
+returns-in-Err-clause-unopened g c says = subst (λ h. MissesFiles (file_state h) c.in-Err.error c.in-Err.left) c.close.ensures c.in-Err.ensures.left

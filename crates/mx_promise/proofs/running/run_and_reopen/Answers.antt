@@ -42,9 +42,9 @@ returns-in-Ok-clause-headline g c before rests clean =
 pub returns-in-Err-clause-unopened : goal.returns-in-Err-clause-unopened
 returns-in-Err-clause-unopened g c before rests =
     let ran = c.run-outcomes.ensures in
-    let end = office_state c.run-outcomes.new.self in
+    let end = c.run-outcomes.new.self in
     let run = ran.over_book before rests in
-    keeps_unopened before c.args.commands.now c.run-outcomes.result end run c.in-Err.why (c.in-Err.ensures.unopened (run_says before c.args.commands.now c.run-outcomes.result end run))
+    keeps_unopened before c.args.commands.now c.run-outcomes.result end.conn run c.in-Err.why (c.in-Err.ensures.unopened (run_says before c.args.commands.now c.run-outcomes.result (office_state end) run))
 
 pub returns-in-Ok-clause-ran : goal.returns-in-Ok-clause-ran
 returns-in-Ok-clause-ran g c = (c.run-outcomes.new.self, c.run-outcomes.ensures)

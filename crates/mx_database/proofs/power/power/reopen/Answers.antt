@@ -31,4 +31,4 @@ returns-clause-left g c faithful =
     let holds : HoldsWhatIsLeftOf c.args.conn (left.Store it) = store_holds it clean (given.numbered none) (given.sound none) (file_state c.args.conn).may_leave given.quiet.outcomes in
     let sure : HasCleanDisk (file_state c.args.conn) = omega (arith, given.quiet.clean) in
     err_by c.reopen_left.result (c.reopen_left.ensures.left c.args.conn holds) (c.reopen_left.ensures.left c.args.conn holds)
-    (λ why is _. (sure, wider_left _ _ (λ db may. may) 0 _ (omega arith) why.0 why.1 (is (faithful_left faithful why.1))))
+    (λ why is _. (sure, wider_left _ _ (λ db may. ∣ may ∣₁) 0 _ (omega arith) why.0 why.1 (is (faithful_left faithful why.1))))
