@@ -217,6 +217,11 @@ module _ {D : Type 0} {g : disk.Ghosts D} (again : Result (Reopened (FileStore D
   pub leaves_standing : (book : List Entry) → IsLeftStanding book again → Leaves (file_state conn) (StandsSomewhere book)
   leaves_standing book left = subst (λ w. IsLeftStanding {D = D} {g = g} book (Err w)) there (subst (IsLeftStanding book) is left)
 
+  pub kept_left : (before commands : List Entry) (outcomes : Outcomes) → IfErr again (KeepsSomewhere before commands outcomes) → HasCleanDisk (file_state conn) → ∥ IsKeptSomewhere before commands outcomes fault (file_state conn) ∥₁
+  kept_left before commands outcomes keeps =
+      let kept = subst (λ (r : Result (Reopened (FileStore D g) over_files) (Unopened D g)). IfErr r (KeepsSomewhere before commands outcomes)) is keeps in
+      subst (λ w. KeepsSomewhere {D = D} {g = g} before commands outcomes w) there kept
+
 -- what is known of the book that a stop left
 pub book_left_behind : {D : Type 0} {g : disk.Ghosts D} (before commands : List Entry) (tail : List ℕ) (day : ℕ) (outcomes : Outcomes) (again : Result (Reopened (FileStore D g) over_files) (Unopened D g)) → IsHandedClean again
     → IfOk again (Reopens before commands tail day outcomes) → IfErr again (KeepsSomewhere before commands outcomes) → ∥ ((between : List Entry) × IsBookKept before commands outcomes between × IsLeftStanding between again) ∥₁

@@ -120,7 +120,7 @@ pub fn reopen_after<D: Disk + Drop, S: Start>(
     start: S,
     tail: &Tail,
     day: Day,
-) -> Stopped<FileFrom<S>>
+) -> Stopped<FileStore<FileFrom<S>>, FileFrom<S>>
     ensures outcomes { result.outcomes ≡ ended.outcomes }
     ensures goes_on { IfOk result.again GoesOn }
     ensures headline { (before commands : _) → IsEnded before commands ended

@@ -23,18 +23,18 @@ use mx_base::{Day, Tail};
 use mx_book::commands::Command;
 use mx_database::power::reopen;
 use mx_office::{Fault, Office, OpenFault, Outcomes, open_office};
-use sqlite::{Connection, FileStore, Options};
+use sqlite::{Alter, Connection, FileStore, Options};
 use sqlite_disk::{Crash, Disk};
 use std::alloc::Global;
 
 /// What came of a database whose office was opened for commands, was stopped, and was opened again.
-pub struct Opened<D: Disk> {
+pub struct Opened<S: Alter, D: Disk> {
     /// Why no office was opened for the commands, if none was: then none of them was run.
     pub unopened: Option<OpenFault>,
     /// The replies, and what stopped the run before its end; no reply and no stop where no command was run.
     pub outcomes: Outcomes,
     /// The office that was opened again; or why none was.
-    pub again: Result<Reopened<FileStore<D>>, Unopened<D>>,
+    pub again: Result<Reopened<S>, Unopened<D>>,
 }
 
 /// The power is lost at this moment, and the office of the database is opened again. A file of an older layout, or one
@@ -94,7 +94,7 @@ pub fn open_run_and_reopen<D: Crash + Drop>(
     tail: &Tail,
     day: Day,
     options: Options,
-) -> Opened<D>
+) -> Opened<FileStore<D>, D>
     requires { conn.in_transaction ≡ false }
 
     // Of a file that stands for a book, at whatever point of the move.

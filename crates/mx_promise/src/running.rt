@@ -42,11 +42,11 @@ pub struct Reopened<S: Alter> {
 }
 
 /// What commands were answered before the power was lost, and what was found after it.
-pub struct Stopped<D: Disk> {
+pub struct Stopped<S: Alter, D: Disk> {
     /// The replies, and what stopped the run before its end.
     pub outcomes: Outcomes,
     /// The office that was opened again; or why none was.
-    pub again: Result<Reopened<FileStore<D>>, Unopened<D>>,
+    pub again: Result<Reopened<S>, Unopened<D>>,
 }
 
 /// The due list of an aircraft on a day, as text. No table changes.
@@ -106,7 +106,7 @@ pub fn run_and_reopen<D: Crash + Drop>(
     tail: &Tail,
     day: Day,
     options: Options,
-) -> Stopped<D>
+) -> Stopped<FileStore<D>, D>
     ensures headline { (before : _) → StandsFor office before
         → IfOk result.again (Reopens before commands.now tail.now day result.outcomes) }
     ensures unopened { (before : _) → StandsFor office before

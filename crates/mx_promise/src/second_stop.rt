@@ -18,16 +18,16 @@ use mx_base::{Day, Tail};
 use mx_book::commands::Command;
 use mx_database::power::reopen;
 use mx_office::{Office, OpenFault, Outcomes};
-use sqlite::{Connection, FileStore, Options};
+use sqlite::{Alter, Connection, FileStore, Options};
 use sqlite_disk::{Crash, Disk};
 use std::alloc::Global;
 
 /// What two runs were answered, with a loss of power behind each, and what was found after the second.
-pub struct StoppedTwice<D: Disk> {
+pub struct StoppedTwice<S: Alter, D: Disk> {
     /// What the first run was answered.
     pub first: Outcomes,
     /// The second run; or why no office was opened for it.
-    pub second: Result<Stopped<D>, Unopened<D>>,
+    pub second: Result<Stopped<S, D>, Unopened<D>>,
 }
 
 /// Runs commands up to a first loss of power, and more of them, over the office that was opened again, up to a second.
@@ -39,7 +39,7 @@ pub fn run_and_reopen_twice<D: Crash + Drop>(
     tail: &Tail,
     day: Day,
     options: Options,
-) -> StoppedTwice<D>
+) -> StoppedTwice<FileStore<D>, D>
     ensures headline { (before : _) → StandsFor office before → IfOk result.second (λ second.
         IfOk second.again (ReopensTwice before commands.now more.now tail.now day result.first
         second.outcomes)) }
@@ -70,13 +70,13 @@ pub fn run_and_reopen_twice<D: Crash + Drop>(
 }
 
 /// What came of a database that was opened, run and stopped, and then once more.
-pub struct OpenedTwice<D: Disk> {
+pub struct OpenedTwice<S: Alter, D: Disk> {
     /// Why no office was opened for the first commands, if none was: then none of them was run.
     pub unopened: Option<OpenFault>,
     /// What the first commands were answered.
     pub first: Outcomes,
     /// What came of it the second time; or why the database could not be opened for that, with what is left of it.
-    pub second: Result<Opened<D>, Unopened<D>>,
+    pub second: Result<Opened<S, D>, Unopened<D>>,
 }
 
 // The connection that a stop left, to be opened again: that of the office; or, where none was opened, the one that is
@@ -115,7 +115,7 @@ pub fn open_run_and_reopen_twice<D: Crash + Drop>(
     tail: &Tail,
     day: Day,
     options: Options,
-) -> OpenedTwice<D>
+) -> OpenedTwice<FileStore<D>, D>
     requires { conn.in_transaction ≡ false }
     ensures headline { (at : Point) (before : List Entry) → IsOfFile at
         → RestsAt at (file_state conn) before → IfOk result.second (λ second.

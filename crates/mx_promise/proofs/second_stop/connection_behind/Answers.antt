@@ -3,26 +3,36 @@ use Rattle.std.proofs.Math.Logic.{∥∥₁_map}
 use Rattle.sqlite.specs.Files.{file_state}
 use Rattle.sqlite.specs.State.{HasCleanDisk}
 use Rattle.mx_office.specs.Layout.{office_point}
-use Rattle.mx_promise.specs.Opened.{IsLeftStanding, IsThereClean, RestsSomewhere}
-use Rattle.mx_promise.proofs.CreatedLemmas.{if_opened}
-use Rattle.mx_promise.proofs.OpenedLemmas.{if_opened_then, leaves_standing, rests_found_somewhere, there_clean}
+use Rattle.mx_promise.specs.Opened.{IsHandedClean, IsLeftStanding, RestsSomewhere}
+use Rattle.mx_promise.proofs.OpenedLemmas.{kept_left, leaves_standing, rests_found_somewhere, there_clean}
 use Rattle.mx_promise.proofs.second_stop.connection_behind.Goals as goal
 
 pub returns-in-Ok-clause-clean : goal.returns-in-Ok-clause-clean
-returns-in-Ok-clause-clean g c clean = subst IsThereClean (sym c.in-Ok.is) (subst (λ h. HasCleanDisk (file_state h)) c.close.ensures clean)
+returns-in-Ok-clause-clean g c clean = subst IsHandedClean (sym c.in-Ok.is) (subst (λ h. HasCleanDisk (file_state h)) c.close.ensures clean)
 
 pub returns-in-Ok-clause-stands : goal.returns-in-Ok-clause-stands
 returns-in-Ok-clause-stands g c book left clean =
     let rests = subst (IsLeftStanding book) c.in-Ok.is left in
     ∣ subst (λ h. RestsSomewhere book (file_state h)) (sym c.close.ensures) (office_point, inr refl, rests) ∣₁
 
-pub returns-in-Err-Office-clause-clean : goal.returns-in-Err-Office-clause-clean
-returns-in-Err-Office-clause-clean g c =
-    if_opened_then c.reopen.result c.reopen.ensures.clean (λ conn sure clean. there_clean c.args.again _ c.in-Err-Office.conn _ c.in-Err-Office.is c.in-Err-Office.field-0-is (sure clean))
+pub returns-in-Ok-reopen-clause-clean : goal.returns-in-Ok-reopen-clause-clean
+returns-in-Ok-reopen-clause-clean g c clean = there_clean c.args.again _ c.in-Err-Office.conn _ c.in-Err-Office.is c.in-Err-Office.field-0-is (c.in-Ok-reopen.ensures.clean clean)
 
-pub returns-in-Err-Office-clause-stands : goal.returns-in-Err-Office-clause-stands
-returns-in-Err-Office-clause-stands g c book left =
+pub returns-in-Ok-reopen-clause-stands : goal.returns-in-Ok-reopen-clause-stands
+returns-in-Ok-reopen-clause-stands g c book left clean =
     let was = file_state c.in-Err-Office.conn in
     let leaves = leaves_standing c.args.again _ c.in-Err-Office.conn _ c.in-Err-Office.is c.in-Err-Office.field-0-is book left in
-    if_opened c.reopen.result c.reopen.ensures.clean c.reopen.ensures.found (λ conn sure found clean.
-    ∥∥₁_map (found clean) (λ one. rests_found_somewhere was (file_state conn) book (sure clean) leaves one))
+    let sure = c.in-Ok-reopen.ensures.clean clean in
+    ∥∥₁_map (c.in-Ok-reopen.ensures.found clean) (λ one. rests_found_somewhere was (file_state c.in-Ok-reopen.found) book sure leaves one)
+
+pub returns-in-Err-reopen-clause-unopened : goal.returns-in-Err-reopen-clause-unopened
+returns-in-Err-reopen-clause-unopened g c before commands outcomes keeps faithful =
+    let conn = c.in-Err-Office.conn in
+    let kept = kept_left c.args.again _ conn _ c.in-Err-Office.is c.in-Err-Office.field-0-is before commands outcomes keeps in
+    let it = c.in-Err-reopen.ensures.left faithful in
+    ∥∥₁_map (kept it.0) (λ one. record {
+      was = conn;
+      clean = it.0;
+      books = λ db may. (one.book, one.kept, one.tables.crash it.0 db may);
+      still = it.1;
+    })

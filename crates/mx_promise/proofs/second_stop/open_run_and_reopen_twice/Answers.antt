@@ -9,7 +9,13 @@ returns-in-Ok g c = record {
       let second = c.open_run_and_reopen-second in
       reopens_twice_somewhere before c.args.commands.now c.args.more.now c.args.tail.now c.args.day first.result.outcomes first.result.again (file_state c.in-Ok.found) second.result.outcomes second.result.again
       (first.ensures.headline at before rests) (first.ensures.unopened at before file rests) c.in-Ok.ensures.clean c.in-Ok.ensures.stands second.ensures.clean second.ensures.headline;
+  unopened = λ at before file rests. tt;
   ran = c.open_run_and_reopen-unopened.ensures.ran;
   unrun = λ some. (c.open_run_and_reopen-unopened.ensures.unrun some, c.open_run_and_reopen-unopened.ensures.unstopped some);
   done = c.open_run_and_reopen-second.ensures.done;
 }
+
+pub returns-in-Err-clause-unopened : goal.returns-in-Err-clause-unopened
+returns-in-Err-clause-unopened g c at before file rests =
+    let first = c.open_run_and_reopen-unopened in
+    c.in-Err.ensures.unopened before c.args.commands.now first.result.outcomes (first.ensures.unopened at before file rests)
