@@ -1,5 +1,5 @@
 -- The headline from the connection on, from what the openings, the run and the printing answer.
-use Rattle.std.proofs.Common.{refl, sym, ap, subst, ◌∙◌, ◌≡◌, ◌≢◌, ◌⊎◌, inl, inr, arith, ℕ, zero, suc, List, [], length, take, Option, Some, None, Result, Ok, Err, IsTrue, IfOk, IfErr}
+use Rattle.std.proofs.Common.{refl, sym, ap, subst, ◌∙◌, ◌≡◌, ◌≢◌, ◌⊎◌, inl, inr, arith, ℕ, zero, suc, List, [], length, take, Option, Some, None, Result, Ok, Err, IsTrue, IfOk, IfErr, IfSome}
 use Rattle.std.proofs.Math.Logic.{∥∥₁_elim, ∥∥₁_map, ∥∥₁_prop}
 use Rattle.sqlite_disk.specs.declared.Disk as disk
 use Rattle.sqlite_store.specs.declared.store.FileStore.{FileStore}
@@ -8,6 +8,8 @@ use Rattle.sqlite.specs.Held.{Held, state}
 use Rattle.sqlite.specs.Files.{file_state, over_files}
 use Rattle.sqlite.specs.State.{State, HasCleanDisk}
 use Rattle.sqlite.specs.Tree.{Trees}
+use Rattle.sqlite.specs.declared.error.Error.{Error}
+use Rattle.sqlite.specs.declared.file.Leftover.{Leftover}
 use Rattle.mx_book.specs.commands.Act.{Entry}
 use Rattle.mx_book.specs.Book.{IsBook}
 use Rattle.mx_book.specs.Run.{replies}
@@ -34,7 +36,7 @@ use Rattle.mx_promise.specs.declared.running.Reopened.{Reopened}
 use Rattle.mx_promise.specs.declared.running.Unopened.{Unopened}
 use Rattle.mx_promise.specs.declared.running.Unopened.TheVariants.{Files, Database, Office}
 use Rattle.mx_promise.specs.declared.next_process.Ended.{Ended}
-use Rattle.mx_promise.specs.Ended.{IsEnded, IsEndedSomewhere}
+use Rattle.mx_promise.specs.Ended.{without_database, IsEnded, IsEndedSomewhere}
 use Rattle.mx_promise.specs.Kept.{IsBookKept}
 use Rattle.mx_promise.specs.Opened.{IsHandedClean, IsKeptBehind, IsKeptSomewhere, IsLeftClean, IsLeftFor, IsLeftStanding, IsOpenedAgain, IsThereClean, IsUnopenedAgain, KeepsSomewhere, MissesAgain, PrintsAgain, RestsSomewhere, StandsSomewhere}
 use Rattle.mx_promise.specs.Reopened.{KeepsUnopened, Reopens, ReopensTwice}
@@ -265,6 +267,11 @@ ended_unrun at before commands outcomes old conn fault store file none unstopped
   left = left;
   books = λ clean db may. (before, none_answered before commands outcomes none unstopped, somewhere_behind at before db file (moves.crash at before rests clean db may));
 }
+
+-- what is known of both ways in which no database was opened
+pub unopened_either : {D : Type 0} {g : disk.Ghosts D} (Kept : Unopened D g → Type 0) (error : Error) (left : Option (Leftover D g)) → (left ≡ None → Kept (Files error)) → IfSome left (λ rest. Kept (Database error rest)) → Kept (without_database error left)
+unopened_either Kept error (Some rest) none some = some
+unopened_either Kept error None none some = none refl
 
 -- the next process finds such a file
 module _ {D : Type 0} {g : disk.Ghosts D} (before commands : List Entry) (ended : Ended D g) (it : IsEndedSomewhere before commands ended) (sure : HasCleanDisk (file_state it.conn)) (mid now : State) (found : IsFound (file_state it.conn).may_leave mid) where

@@ -1,5 +1,5 @@
 -- What a process leaves of a run as it ends.
-use Rattle.std.specs.Prelude.{◌≡◌, ◌⊎◌, List}
+use Rattle.std.specs.Prelude.{◌≡◌, ◌⊎◌, List, None, Option, Some}
 use Rattle.sqlite_disk.specs.declared.Disk.{Ghosts}
 use Rattle.sqlite_store.specs.declared.store.FileStore.{FileStore}
 use Rattle.sqlite.specs.Files.{file_state, IsCleanLeft}
@@ -35,6 +35,11 @@ pub record IsEndedSomewhere {D : Type 0} {g : Ghosts D} (before commands : List 
   pub books : Leaves (file_state conn) (λ db. (book : List Entry) × IsBookKept before commands ended.outcomes book × StandsSomewhere book db)
 
 -- ── where the next process opens no office ──
+
+-- why no database was opened, with what is left of its files where these were
+abbrev pub without_database : {D : Type 0} {g : Ghosts D} → Error → Option (Leftover D g) → Unopened D g
+without_database error (Some left) = Database error left
+without_database error None = Files error
 
 -- not even the files were opened: there is none to be opened, memory ran out, or another process holds them
 abbrev pub IsClosedFile : Error → Type 0

@@ -18,6 +18,7 @@ ghost use Rattle.mx_book_tables.specs.stands.Stands.{RestsAt};
 ghost use Rattle.mx_office.specs.Calls.{IsRun};
 ghost use Rattle.mx_office.specs.Office.{StandsFor};
 ghost use Rattle.mx_promise.specs.Ended.{IsEnded, IsEndedSomewhere, NextKeepsSomewhere, NextKeepsUnopened};
+ghost use Rattle.mx_promise.specs.Ended.{without_database};
 ghost use Rattle.mx_promise.specs.Opened.{IsOpenedAndRun};
 ghost use Rattle.mx_promise.specs.Reopened.{GoesOn, IsStopOf, Reopens};
 
@@ -26,7 +27,7 @@ use mx_base::{Day, Tail};
 use mx_book::commands::Command;
 use mx_database::power::{end_process, reopen_file};
 use mx_office::{Fault, Office, OpenFault, Outcomes, open_office};
-use sqlite::{Connection, FileFrom, FileStore};
+use sqlite::{Connection, Error, FileFrom, FileStore, Leftover};
 use sqlite_disk::{Disk, Start};
 use std::alloc::Global;
 
@@ -111,6 +112,16 @@ pub fn open_run_and_end<D: Disk + Drop>(
     }
 }
 
+// Why no database was opened, with what is left of its files where these were.
+fn unopened_by<D: Disk>(error: Error, left: Option<Leftover<D>>) -> Unopened<D>
+    ensures { result ≡ without_database error left }
+{
+    match left {
+        Some(left) => Unopened::Database(error, left),
+        None => Unopened::Files(error),
+    }
+}
+
 /// The next process opens the file, and a due list is printed from it. `ended` is what the first process left; `start`
 /// says what the file and its log hold now, which is supposed to be what the first may have left of them.
 pub fn reopen_after<D: Disk + Drop, S: Start>(
@@ -153,13 +164,9 @@ pub fn reopen_after<D: Disk + Drop, S: Start>(
                 again: Err(Unopened::Office(conn, fault)),
             },
         },
-        Err((error, None)) => Stopped {
+        Err((error, left)) => Stopped {
             outcomes,
-            again: Err(Unopened::Files(error)),
-        },
-        Err((error, Some(left))) => Stopped {
-            outcomes,
-            again: Err(Unopened::Database(error, left)),
+            again: Err(unopened_by(error, left)),
         },
     }
 }

@@ -1,4 +1,4 @@
-use Rattle.std.proofs.Common.{arith, inr, refl}
+use Rattle.std.proofs.Common.{arith, inr, refl, subst, sym}
 use Rattle.std.proofs.Math.Logic.{∥∥₁_map}
 use Rattle.sqlite.specs.State.{HasCleanDisk}
 use Rattle.sqlite.specs.Files.{file_state}
@@ -7,9 +7,9 @@ use Rattle.mx_office.specs.Layout.{office_point}
 use Rattle.mx_office.specs.Office.{office_state}
 use Rattle.mx_office.proofs.OfficeLemmas.{rests_still}
 use Rattle.mx_promise.proofs.KeptLemmas.{nothing_found, rests_as}
-use Rattle.mx_promise.proofs.OpenedLemmas.{found_for, missed_for}
-use Rattle.std.proofs.lemmas.Result.{IfErr-at_err}
-use Rattle.mx_database.proofs.PowerProofs.LeftLemmas.{wider_left}
+use Rattle.mx_promise.proofs.OpenedLemmas.{found_for, missed_for, unopened_either}
+use Rattle.mx_database.proofs.PowerProofs.LeftLemmas.{some_by, wider_left}
+use Rattle.mx_promise.specs.Ended.{NextKeepsSomewhere, NextKeepsUnopened}
 use Rattle.mx_promise.proofs.next_process.reopen_after.Goals as goal
 
 pub returns-in-Ok-open_office-clause-headline : goal.returns-in-Ok-open_office-clause-headline
@@ -35,17 +35,17 @@ returns-in-Ok-open_office-clause-headline g c before commands left was clean =
 pub returns-in-Ok-open_office-clause-goes_on : goal.returns-in-Ok-open_office-clause-goes_on
 returns-in-Ok-open_office-clause-goes_on g c = record { ready = c.print_due-printed.ensures.goes_on c.in-Ok-open_office.ensures.ready; stopped = c.print_due-printed.ensures.stopped }
 
-pub returns-in-Err-clause-unopened : goal.returns-in-Err-clause-unopened
-returns-in-Err-clause-unopened g c before commands left was clean =
+pub returns-in-Err-open_office-clause-unopened : goal.returns-in-Err-open_office-clause-unopened
+returns-in-Err-open_office-clause-unopened g c before commands left was clean =
     let mid = file_state c.in-Ok.conn in
-    let failed = c.in-Err.ensures in
+    let failed = c.in-Err-open_office.ensures in
     let early : HasCleanDisk mid = omega (arith, failed.moves.clean) in
     let sure = left.left.clean was.clean in
     ∥∥₁_map (c.in-Ok.ensures.found left.conn left.left was early) (λ found.
     let one = left.books sure found.tables found.left in
     let rests = rests_as (file_state left.conn).may_leave mid one.0 found one.2 in
-    let nothing = nothing_found (file_state left.conn).may_leave _ c.in-Ok.conn (file_state c.in-Err.conn) early clean found (stands_says office_point found.tables one.0 one.2) failed.changes in
-    record { book = one.0; kept = one.1; tables = rests_still mid (file_state c.in-Err.conn) one.0 nothing rests; reason = (failed.reason clean).whole office_point one.0 (inr refl) rests })
+    let nothing = nothing_found (file_state left.conn).may_leave _ c.in-Ok.conn (file_state c.in-Err-open_office.conn) early clean found (stands_says office_point found.tables one.0 one.2) failed.changes in
+    record { book = one.0; kept = one.1; tables = rests_still mid (file_state c.in-Err-open_office.conn) one.0 nothing rests; reason = (failed.reason clean).whole office_point one.0 (inr refl) rests })
 
 pub returns-in-Ok-open_office-clause-moved : goal.returns-in-Ok-open_office-clause-moved
 returns-in-Ok-open_office-clause-moved g c before commands left was clean =
@@ -67,23 +67,27 @@ returns-in-Ok-open_office-clause-moved g c before commands left was clean =
       printed = c.print_due-printed.ensures.printed one.book ready rests clean;
     })
 
-pub returns-in-Err-clause-unmoved : goal.returns-in-Err-clause-unmoved
-returns-in-Err-clause-unmoved g c before commands left was clean =
+pub returns-in-Err-open_office-clause-unmoved : goal.returns-in-Err-open_office-clause-unmoved
+returns-in-Err-open_office-clause-unmoved g c before commands left was clean =
     let mid = file_state c.in-Ok.conn in
-    let now = file_state c.in-Err.conn in
-    let failed = c.in-Err.ensures in
+    let now = file_state c.in-Err-open_office.conn in
+    let failed = c.in-Err-open_office.ensures in
     let early : HasCleanDisk mid = omega (arith, failed.moves.clean) in
     let sure = left.left.clean was.clean in
-    ∥∥₁_map (c.in-Ok.ensures.found left.conn left.left was early) (λ found. missed_for before commands c.args.ended left sure mid now found c.in-Err.fault failed.moves (failed.reason clean))
+    ∥∥₁_map (c.in-Ok.ensures.found left.conn left.left was early) (λ found. missed_for before commands c.args.ended left sure mid now found c.in-Err-open_office.fault failed.moves (failed.reason clean))
 
-pub returns-in-Err-default-Some-clause-unopened : goal.returns-in-Err-default-Some-clause-unopened
-returns-in-Err-default-Some-clause-unopened g c before commands left was clean =
+pub returns-in-Err-clause-unopened : goal.returns-in-Err-clause-unopened
+returns-in-Err-clause-unopened g c before commands left was =
+    let kept = NextKeepsUnopened before commands c.args.ended.outcomes in
     let sure = left.left.clean was.clean in
-    let few = (file_state left.conn).may_leave in
-    wider_left few _ (λ db may. (let one = left.books sure db may in ∣ (one.0, one.1, one.2) ∣₁)) 0 0 (omega arith) _ _ (c.in-Err-default-Some.ensures.left left.conn left.left was clean)
+    let told = some_by c.in-Err.left (c.in-Err.ensures.left left.conn left.left was) (λ rest is clean.
+    wider_left (file_state left.conn).may_leave _ (λ db may. (let one = left.books sure db may in ∣ (one.0, one.1, one.2) ∣₁)) 0 0 (omega arith) _ rest (is clean)) in
+    subst kept (sym c.unopened_by.ensures) (unopened_either kept c.in-Err.error c.in-Err.left c.in-Err.ensures.unopened told)
 
-pub returns-in-Err-default-Some-clause-unmoved : goal.returns-in-Err-default-Some-clause-unmoved
-returns-in-Err-default-Some-clause-unmoved g c before commands left was clean =
+pub returns-in-Err-clause-unmoved : goal.returns-in-Err-clause-unmoved
+returns-in-Err-clause-unmoved g c before commands left was =
+    let kept = NextKeepsSomewhere before commands c.args.ended.outcomes in
     let sure = left.left.clean was.clean in
-    let few = (file_state left.conn).may_leave in
-    wider_left few _ (λ db may. (let one = left.books sure db may in ∣ (one.0, one.1, one.2) ∣₁)) 0 0 (omega arith) _ _ (c.in-Err-default-Some.ensures.left left.conn left.left was clean)
+    let told = some_by c.in-Err.left (c.in-Err.ensures.left left.conn left.left was) (λ rest is clean.
+    wider_left (file_state left.conn).may_leave _ (λ db may. (let one = left.books sure db may in ∣ (one.0, one.1, one.2) ∣₁)) 0 0 (omega arith) _ rest (is clean)) in
+    subst kept (sym c.unopened_by.ensures) (unopened_either kept c.in-Err.error c.in-Err.left c.in-Err.ensures.unopened told)
