@@ -4,6 +4,8 @@
 //!
 //! - Each word does its own job, and what is printed of it is that job's; where memory, a file or the store stops it,
 //!   it is what `Perform` says: `perform` of `Jobs`: `done`, `shape`, `words`, `unprinted`, `unread`.
+//! - Of a book that an office serves at a port that becomes which `serve_on` says, and where the port was not bound the
+//!   office is as it was: `serve_at`: `served`.
 //!
 //! `scripts/check-desk` shows that the port is the one of the words, at the loopback alone, and that each connection is
 //! handed to `serve_one`.

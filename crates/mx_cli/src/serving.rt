@@ -1,6 +1,6 @@
 //! `serve`: connections at a port of the loopback, with the office in a file.
-ghost use Rattle.std.specs.Prelude.{◌≡◌, ◌⊎◌, ◌≤◌, ◌++◌, IfOk, IfErr};
-ghost use Rattle.mx_desk.specs.Served.{StopsServing};
+ghost use Rattle.std.specs.Prelude.{◌≡◌, ◌≤◌, ◌++◌, IfOk, IfErr};
+ghost use Rattle.mx_cli.specs.Serving.{ServesAt};
 ghost use Rattle.mx_http.specs.responses.Serving.{served_line};
 ghost use Rattle.mx_output.specs.endings.Status.{stop_status};
 ghost use Rattle.mx_output.specs.declared.endings.ending.Ending.TheVariants.{Done};
@@ -22,8 +22,7 @@ fn serve_at<S: Alter>(
 ) -> Result<Ending, Stop>
     ensures shown { IfOk result (λ ending. (out.new.items ≡ out.old.items ++ served_line count)
         × (ending ≡ Ending.Done)) }
-    ensures stopped { IfErr result (λ stop. (stop ≡ Stop.Net) ⊎ ((fault : _)
-        × (stop ≡ Stop.Office fault) × StopsServing fault office.new)) }
+    ensures served { ServesAt office.old office.new result }
     ensures status { IfErr result (λ stop. 4 ≤ stop_status stop) }
 {
     let address = SocketAddr::V4(SocketAddrV4::new(Ipv4Addr::LOCALHOST, port));
@@ -45,6 +44,8 @@ pub(crate) struct Served {
 
 impl Asked for Served {
     ghost is_answer = { λ served text ending. (text ≡ served_line served.count) × (ending ≡ Done) };
+
+    ghost keeps = { λ served before after old new. ServesAt before after };
 
     fn answer<S: Alter>(
         &self,

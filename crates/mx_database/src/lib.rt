@@ -6,8 +6,9 @@
 //!
 //! # What is promised
 //!
-//! - What is done over the database in a file says what is appended and what comes of it, whatever the store; where no
-//!   database is opened nothing is appended: `work_in_file`: `given`, `unopened`.
+//! - What is done over the database in a file says what is appended and what comes of it, and what becomes of the
+//!   database, whatever the store; where no database is opened nothing is appended: `work`: `given`, `kept`;
+//!   `work_in_file`: `given`, `unopened`.
 //! - Of a file that is made where it isn't there it is never told that there is none: `work_in_file`: `opened`.
 #![tactic(auto)]
 
@@ -16,4 +17,4 @@ pub mod power;
 pub mod working;
 
 pub use opening::{Opening, Unopened};
-pub use working::{Work, Worked, work_in_file};
+pub use working::{Left, Work, Worked, work_in_file};

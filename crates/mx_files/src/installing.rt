@@ -5,6 +5,7 @@
 //! commit, and where there is a book already nothing is printed but `fault exists`.
 ghost use Rattle.std.specs.Prelude.{◌≡◌, ◌≤◌, ◌++◌, [], IfOk, IfErr, OnErr};
 ghost use Rattle.mx_files.specs.Answered.{TellsNothing};
+ghost use Rattle.mx_files.specs.Kept.{InstallsBook};
 ghost use Rattle.mx_output.specs.printed.Entered.{AreFirstReplies, TellsReplies};
 ghost use Rattle.mx_jobs.specs.upkeep.Installed.{HasAppended};
 ghost use Rattle.mx_output.specs.endings.Status.{LeavesUnread, Shows, stop_status};
@@ -13,7 +14,7 @@ use crate::inputs::commands_in;
 use crate::opening::stop_of;
 use mx_book::commands::Command;
 use mx_book::entry_list::Book;
-use mx_database::{Opening, Work, Worked, work_in_file};
+use mx_database::{Left, Opening, Work, Worked, work_in_file};
 use mx_jobs::upkeep::{Accepted, accept_all, install_book, print_accepted};
 use mx_layout::TableFault;
 use mx_output::endings::{Ending, Stop};
@@ -30,16 +31,20 @@ impl<'a> Work for Installing<'a> {
 
     ghost gives = { λ installing. TellsNothing };
 
+    ghost keeps = { λ g installing was now old new. InstallsBook g installing.book.now was now };
+
     fn work<S: Alter + Drop>(
         &self,
         rt: &HostRuntime,
         conn: Connection<S>,
         _out: &mut Vec<u8>,
-    ) -> (Option<Connection<S>>, Result<(), Stop>) {
+    ) -> Left<S, Result<(), Stop>> {
         let mut conn = conn;
-        match install_book(rt.alloc(), &mut conn, self.book) {
-            Ok(()) => (Some(conn), Ok(())),
-            Err(stop) => (None, Err(stop)),
+        let done = install_book(rt.alloc(), &mut conn, self.book);
+        Left {
+            conn,
+            is_to_be_closed: done.is_ok(),
+            done,
         }
     }
 }

@@ -14,6 +14,9 @@
 //!   new book to some commands, and nothing where no file was made: `verify_file`, `migrate_file`: `answers`;
 //!   `init_old_file`: `shown`, `unread`, `status`, `unprinted`. That a file was moved to its end before it was
 //!   verified, `transcripts/moving.md` shows.
+//! - While a word works on the database, that becomes of it which the call below says, and nothing else: of the office,
+//!   as it was opened and as it was asked, of a move, and of a book that is made: `work`: `kept` (`OpensAnd`, `Moves`,
+//!   `InstallsBook`, `MakesBook`); `answer`: `kept`. What was printed of an office is right for its tables by the same.
 //! - A word whose database was not opened is told why: want of memory, a fault of the store, or that the file has none,
 //!   which is then not one of an office; the status is 5: `unopened_by` of `mx_database`: `memory`, `opened`;
 //!   `stop_of`: `memory`, `store`, `nothing`, `status`.

@@ -5,10 +5,11 @@
 //! nothing; the book is there, and a second `init` says `fault exists`.
 ghost use Rattle.std.specs.Prelude.{◌≡◌, ◌++◌, codes, OnErr, IfOk, IfErr};
 ghost use Rattle.mx_files.specs.Answered.{TellsMade};
+ghost use Rattle.mx_files.specs.Kept.{MakesBook};
 ghost use Rattle.mx_output.specs.endings.Status.{stop_status};
 
 use crate::opening::stop_of;
-use mx_database::{Opening, Work, Worked, work_in_file};
+use mx_database::{Left, Opening, Work, Worked, work_in_file};
 use mx_jobs::{CREATED, make_book};
 use mx_layout::TableFault;
 use mx_output::endings::{Ending, Stop};
@@ -23,19 +24,33 @@ impl Work for Making {
 
     ghost gives = { λ making. TellsMade };
 
+    ghost keeps = { λ g making was now old new. MakesBook g was now };
+
     fn work<S: Alter + Drop>(
         &self,
         _rt: &HostRuntime,
         conn: Connection<S>,
         out: &mut Vec<u8>,
-    ) -> (Option<Connection<S>>, Result<Ending, Stop>) {
+    ) -> Left<S, Result<Ending, Stop>> {
         let mut conn = conn;
         if out.reserve(CREATED.len()).is_err() {
-            return (None, Err(Stop::MakeMemory));
+            return Left {
+                conn,
+                is_to_be_closed: false,
+                done: Err(Stop::MakeMemory),
+            };
         }
         match make_book(&mut conn, out) {
-            Ok(()) => (Some(conn), Ok(Ending::Done)),
-            Err(stop) => (None, Err(stop)),
+            Ok(()) => Left {
+                conn,
+                is_to_be_closed: true,
+                done: Ok(Ending::Done),
+            },
+            Err(stop) => Left {
+                conn,
+                is_to_be_closed: false,
+                done: Err(stop),
+            },
         }
     }
 }

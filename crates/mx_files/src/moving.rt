@@ -3,11 +3,13 @@
 //! The database is opened alone, since an office would move the file to the end. So what stops the move is a fault
 //! behind the opening, status 4, but for a file that is none of an office or of a newer layout, which an opening tells
 //! alike, status 5.
+ghost use Rattle.sqlite.specs.Held.{state};
 ghost use Rattle.mx_files.specs.Answered.{Answers};
-ghost use Rattle.mx_output.specs.printed.Moved.{IsPointLine};
+ghost use Rattle.mx_jobs.specs.upkeep.Moved.{Moves};
+ghost use Rattle.mx_output.specs.printed.Moved.{IsPointLine, PrintsPoint};
 
 use crate::opening::{ended, stop_of};
-use mx_database::{Opening, Work, work_in_file};
+use mx_database::{Left, Opening, Work, work_in_file};
 use mx_jobs::upkeep::move_on;
 use mx_output::endings::{Ending, Stop};
 use sqlite::{Alter, Connection};
@@ -23,15 +25,22 @@ impl Work for Moving {
 
     ghost gives = { λ moving. Answers IsPointLine 4 };
 
+    ghost keeps = { λ g moving was now old new result.
+        Moves g moving.steps was (state g now) (PrintsPoint old new result) };
+
     fn work<S: Alter + Drop>(
         &self,
         rt: &HostRuntime,
         conn: Connection<S>,
         out: &mut Vec<u8>,
-    ) -> (Option<Connection<S>>, Result<Ending, Stop>) {
+    ) -> Left<S, Result<Ending, Stop>> {
         let mut conn = conn;
-        let moved = move_on(rt.alloc(), &mut conn, self.steps, out);
-        (Some(conn), moved)
+        let done = move_on(rt.alloc(), &mut conn, self.steps, out);
+        Left {
+            conn,
+            is_to_be_closed: true,
+            done,
+        }
     }
 }
 

@@ -6,9 +6,12 @@
 //! reader too.
 ghost use Rattle.std.specs.Prelude.{length};
 ghost use Rattle.mx_files.specs.Answered.{Answers};
-ghost use Rattle.mx_output.specs.printed.Entered.{AreReplyLines, AreSomeReplyLines};
+ghost use Rattle.mx_files.specs.Asked.{Imports, Verifies};
+ghost use Rattle.mx_jobs.specs.answers.Asked.{Asks};
+ghost use Rattle.mx_office.specs.Calls.{Runs};
+ghost use Rattle.mx_output.specs.printed.Entered.{AreReplyLines, AreSomeReplyLines, PrintsRun};
 ghost use Rattle.mx_output.specs.printed.Imported.{AreRowLines};
-ghost use Rattle.mx_output.specs.printed.Listed.{IsListAnswer};
+ghost use Rattle.mx_output.specs.printed.Listed.{IsListAnswer, PrintsAnswer};
 ghost use Rattle.mx_output.specs.printed.Verified.{IsVerifiedLine};
 
 use crate::asking::{Asked, answer_file};
@@ -27,6 +30,9 @@ use std::{fs, slice};
 // A list of an aircraft, or of all, is asked for.
 impl Asked for Question {
     ghost is_answer = { IsListAnswer };
+
+    ghost keeps = { λ question before after old new result.
+        Asks question before after (PrintsAnswer old new result) };
 
     fn answer<S: Alter>(
         &self,
@@ -47,6 +53,9 @@ struct Entered<'a> {
 impl<'a> Asked for Entered<'a> {
     ghost is_answer = { λ entered. AreReplyLines (length entered.commands.now) };
 
+    ghost keeps = { λ entered before after old new result.
+        Runs entered.commands.now before after (PrintsRun old new result) };
+
     fn answer<S: Alter>(
         &self,
         rt: &HostRuntime,
@@ -60,6 +69,8 @@ impl<'a> Asked for Entered<'a> {
 // A sector log that is imported: what its rows are told is asked for.
 impl Asked for fs::File {
     ghost is_answer = { λ log. AreRowLines };
+
+    ghost keeps = { λ log. Imports };
 
     fn answer<S: Alter>(
         &self,
@@ -78,6 +89,8 @@ struct Verified;
 
 impl Asked for Verified {
     ghost is_answer = { λ verified. IsVerifiedLine };
+
+    ghost keeps = { λ verified. Verifies };
 
     fn answer<S: Alter>(
         &self,

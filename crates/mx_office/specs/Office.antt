@@ -2,7 +2,7 @@
 use Rattle.std.specs.Prelude.{◌≡◌, false, true, List}
 use Rattle.sqlite.specs.Store.{Ghosts}
 use Rattle.sqlite.specs.State.{State}
-use Rattle.sqlite.specs.Held.{state}
+use Rattle.sqlite.specs.Held.{Held, state}
 use Rattle.mx_book.specs.commands.Act.{Entry}
 use Rattle.mx_office.specs.Stands.{Rests}
 use Rattle.mx_office.specs.declared.office.Office.{Office}
@@ -10,6 +10,10 @@ use Rattle.mx_office.specs.declared.office.Office.{Office}
 -- what the database of an office shows
 abbrev pub office_state : {S : Type 0} {g : Ghosts S} → Office S g → State
 office_state {S} {g} office = state g office.conn
+
+-- the connection of an office, which is handed back where it is closed
+abbrev pub office_conn : {S : Type 0} {g : Ghosts S} → Office S g → Held S
+office_conn office = office.conn
 
 -- the office takes commands and questions: no commit is in doubt
 abbrev pub IsReady : {S : Type 0} {g : Ghosts S} → Office S g → Type 0

@@ -13,11 +13,20 @@ at_least : (status : ℕ) → (status ≡ 3) ⊎ (status ≡ 4) → 3 ≤ status
 at_least status (inl is) = omega (arith, is)
 at_least status (inr is) = omega (arith, is)
 
-pub returns : goal.returns
-returns g c = record {
-  answers = record {
-    shown = weaker _ _ c.import_all.result (λ ending it. (_, it.1, (it.0, refl, it.2))) c.import_all.ensures.ended;
-    unread = weaker_fault _ _ c.import_all.result (λ stop it is. (it is).0) c.import_all.ensures.unread;
-    status = weaker_fault _ _ c.import_all.result (λ stop it. at_least _ it) c.import_all.ensures.status;
-  };
+pub returns-clause-answers : goal.returns-clause-answers
+returns-clause-answers g c = record {
+  shown = weaker _ _ c.import_all.result (λ ending it. (_, it.1, (it.0, refl, it.2))) c.import_all.ensures.ended;
+  unread = weaker_fault _ _ c.import_all.result (λ stop it is. (it is).0) c.import_all.ensures.unread;
+  status = weaker_fault _ _ c.import_all.result (λ stop it. at_least _ it) c.import_all.ensures.status;
 }
+
+pub returns-clause-kept : goal.returns-clause-kept
+returns-clause-kept g c =
+    let told = c.import_all.ensures in record {
+      ended = weaker _ _ c.import_all.result (λ ending it. (it.0, (it.3, it.1), it.2)) told.ended;
+      stopped = λ fault is. let it = told.stopped fault is in (it.0, (it.2, it.1));
+      unread = told.unread;
+      fault = told.fault;
+      unprinted = told.unprinted;
+      ran = told.ran;
+    }
