@@ -2,7 +2,7 @@
 //!
 //! The recovery of a file writes, and the power may be lost in that: so a file has to open behind it, as often as that
 //! comes. Two things are needed of what is left (`OpensOnceMore`): where recovery was under way, that the file is one
-//! without sums behind its pages, as `create` makes it; and that `sqlite` did not stop at the reading of its schema,
+//! without sums behind its pages, as `office` makes it; and that `sqlite` did not stop at the reading of its schema,
 //! since of the store that it leaves there no clause of its own says enough.
 ghost use Rattle.std.specs.Prelude.{List, IfOk, IfErr};
 ghost use Rattle.mx_book.specs.commands.Act.{Entry};
