@@ -7,7 +7,8 @@
 //! - So are those that the next process finds of any two, where the file holds what the first may have left of it:
 //!   `end_process`; `reopen_file`: `found`.
 //! - Where `sqlite` does not open the files, why is told, memory, a disk that failed or a limit of the format, and what is left of
-//!   them holds one of those states still, over disks that return what was written: `reopen`, `reopen_file`: `left`.
+//!   them holds one of those states still, over disks that return what was written; of files with sums behind their pages,
+//!   where nothing was written alone: `reopen`, `reopen_file`: `left` (`IsLeft`).
 //! - So what is left can be opened once more, with the same said of what is found, where nothing was written, or where recovery
 //!   was under way in a file without sums: `reopen_left`: `found`, `left`.
 //!
