@@ -18,24 +18,21 @@ use Rattle.mx_layout.specs.declared.fault.TableFault.TheVariants as fault
 use Rattle.mx_layout.specs.Crash.{StaysInside}
 use Rattle.mx_layout.specs.Names.{table_named}
 use Rattle.mx_layout.proofs.CrashLemmas.{stays_then, within_then}
-use Rattle.mx_book_tables.specs.stands.Schemas.{schema_at}
-use Rattle.mx_book_tables.specs.stands.Stands.{StandsAt}
-use Rattle.mx_book_tables.proofs.StandsProofs.SchemaLemmas.{has_tables}
 use Rattle.mx_tables.specs.Calls.{OnRead}
 use Rattle.mx_tables.specs.inserts.Sets.{GainsRows, IsInside}
 use Rattle.mx_lookups.specs.numbers.AnyRows.{ReadsAny}
-use Rattle.mx_lookups.specs.numbers.Reads.{IsStop, Reads, StandsFor}
+use Rattle.mx_lookups.specs.numbers.Reads.{HasTablesOfRows, IsStop, Reads, StandsFor}
 use Rattle.mx_apply.specs.writing.Changes.{AllRise, WritesRows}
-use Rattle.mx_apply.specs.writing.Written.{IsSettled, with_rows, written_point}
+use Rattle.mx_apply.specs.writing.Written.{IsSettled, with_rows}
 use Rattle.mx_apply.proofs.WritingProofs.StandLemmas.{stand}
-use Rattle.mx_apply.specs.Applies.{IsNoDamage, ReplyOf, Runs, Wrote, behind}
+use Rattle.mx_apply.specs.Applies.{IsNoDamage, ReplyOf, Runs, StandsIn, Wrote, behind}
 use Rattle.mx_apply.specs.Judged.{IsJudged, JudgedOf}
 use Rattle.mx_apply.specs.declared.judged.Judged.{Judged}
 use Rattle.mx_apply.specs.declared.judged.Judged.TheVariants.{New, Already, Refused}
 
 -- the rowids of tables that stand for a book rise
-all_rise : (db : Database) (book : List Entry) → db.schema ≡ schema_at written_point → StandsAt written_point db.trees book → AllRise db
-all_rise db book has stands = λ name at. stands.lies.rises name ((has_tables written_point name).1 (subst (λ (s : Schema). Contains s.tables (table_named name)) has at))
+all_rise : (schema : Schema) (db : Database) (book : List Entry) → db.schema ≡ schema → StandsIn schema db.trees book → AllRise db
+all_rise schema db book has stands = λ name at. stands.lies.rises name (subst (λ (s : Schema). Contains s.tables (table_named name)) has at)
 
 -- a stop that tells no damage
 sure : (e : TableFault) → IsStop e → ((name : TableName) → e ≡ fault.Damaged name → ⊥) → IsNoDamage e
@@ -44,8 +41,8 @@ sure e (inr (inl store)) never = inr store
 sure e (inr (inr damaged)) never = absurd (never damaged.0 damaged.1)
 
 -- the tables stand for the book, of which the rows are known
-abbrev stands_for : (s : State) (book : List Entry) → s.now.schema ≡ schema_at written_point → StandsAt written_point s.now.trees book → StandsFor s book
-stands_for s book has stands = record { schema = has; rows = stands.rows }
+abbrev stands_for : (schema : Schema) → IsSettled schema → (s : State) (book : List Entry) → s.now.schema ≡ schema → StandsIn schema s.now.trees book → StandsFor s book
+stands_for schema is s book has stands = record { schema = subst HasTablesOfRows (sym has) is.tables; rows = stands.rows }
 
 module _ (command : Entry) (old mid : State) where
   -- the call did not answer
@@ -53,7 +50,7 @@ module _ (command : Entry) (old mid : State) where
   unread e r = record {
     judged = λ _ _. tt;
     damaged = λ clean has name is. (let same : e ≡ fault.Damaged name = cc in r.damaged clean has name (ap Err same));
-    ran = λ clean begun book has stands. sure e r.cause (λ name is. r.no_book clean name (ap Err is) book (stands_for old book has stands));
+    ran = λ clean begun schema settled book has stands. sure e r.cause (λ name is. r.no_book clean name (ap Err is) book (stands_for schema settled old book has stands));
     wrote = λ _ _. tt;
     cause = r.cause;
     inside = r.inside;
@@ -66,11 +63,12 @@ module _ (command : Entry) (old mid : State) where
     told a by says same_book wrote = record {
       judged = λ clean has. by old.now.trees (any.found clean has);
       damaged = λ _ _ name is. cc;
-      ran = λ clean begun book has stands.
-          let same = r.unchanged clean has in (
-            says book (r.read clean book (stands_for old book has stands)),
+      ran = λ clean begun schema settled book has stands.
+          let for = stands_for schema settled old book has stands in
+          let same = r.unchanged clean for.schema in (
+            says book (r.read clean book for),
             ap (λ (d : Database). d.schema) same ∙ has,
-            subst (λ b. StandsAt written_point mid.now.trees b) (sym (same_book book)) (subst (λ (d : Database). StandsAt written_point d.trees book) (sym same) stands),
+            subst (λ b. StandsIn schema mid.now.trees b) (sym (same_book book)) (subst (λ (d : Database). StandsIn schema d.trees book) (sym same) stands),
           );
       wrote = λ _ _. wrote;
       cause = tt;
@@ -94,7 +92,7 @@ module _ (command : Entry) (old mid : State) where
     unwritten e store w = record {
       judged = λ _ _. tt;
       damaged = λ _ _ name is. (let same : fault.Store ≡ fault.Damaged name = sym store ∙ (cc) in cc);
-      ran = λ _ _ _ _ _. inr store;
+      ran = λ _ _ _ _ _ _ _. inr store;
       wrote = λ _ _. tt;
       cause = inr (inl store);
       inside = λ _ _. subst (λ f. OnRead {T = Reply} (Err f) (StaysInside old new)) (sym store) tt;
@@ -111,7 +109,7 @@ module _ (command : Entry) (old mid : State) where
 
       gains : HasCleanDisk new → IsTrue old.in_transaction → IsSettled old.now.schema → AllRise old.now → GainsRows (with_rows x) old.now new.now
       gains clean begun has rise =
-          let same = r.unchanged (early clean) has in
+          let same = r.unchanged (early clean) has.tables in
           subst (λ (d : Database). GainsRows (with_rows x) d new.now) same
           (w.gains clean (inside_mid clean begun) (subst (λ (d : Database). IsSettled d.schema) (sym same) has) (subst AllRise (sym same) rise))
 
@@ -119,10 +117,10 @@ module _ (command : Entry) (old mid : State) where
       written = record {
         judged = λ clean has. (any.found (early clean) has).by;
         damaged = λ _ _ name is. cc;
-        ran = λ clean begun book has stands.
-            let said = r.read (early clean) book (stands_for old book has stands) in
+        ran = λ clean begun schema settled book has stands.
+            let said = r.read (early clean) book (stands_for schema settled old book has stands) in
             let number : x.entry.seq ≡ length book + 1 = ap (λ (row : EntryRow). row.seq) said.1.entry in
-            let made = stand book command x said.1 stands.rows.is_book said.0 shape old.now new.now has stands (gains clean begun has (all_rise old.now book has stands)) in
+            let made = stand book command x said.1 stands.rows.is_book said.0 shape schema settled old.now new.now has stands (gains clean begun (subst IsSettled (sym has) settled) (all_rise schema old.now book has stands)) in
             (ap answers.Accepted number ∙ sym (ap (reply_to (length book + 1)) said.0), made.0, made.1);
         wrote = λ clean begun. (x, λ has. (any.found (early clean) has).rows, refl, gains clean begun);
         cause = tt;

@@ -1,6 +1,6 @@
 -- From what becomes of a command inside a transaction to its commit.
 use Rattle.std.proofs.Common.{◌≡◌, ◌≢◌, inl, inr, true, false, ℕ, List, [], ◌∷◌, ◌++◌, Ok, Err, Result, IsTrue, refl, sym, subst, ◌∙◌, arith}
-use Rattle.std.specs.Prelude.{Contains, IfErr, IfOk, MatchResult}
+use Rattle.std.specs.Prelude.{IfErr, IfOk, MatchResult}
 use Rattle.sqlite.specs.Store.{Ghosts}
 use Rattle.sqlite.specs.Schema.{Schema}
 use Rattle.sqlite.specs.Tree.{Trees}
@@ -13,24 +13,15 @@ use Rattle.mx_book.specs.commands.Act.{Entry}
 use Rattle.mx_book.specs.Run.{reply}
 use Rattle.mx_book.specs.declared.verdict.Reply.{Reply}
 use Rattle.mx_book.specs.declared.verdict.Reply.TheVariants as answers
-use Rattle.mx_layout.specs.TableName.{TableName}
 use Rattle.mx_layout.specs.declared.fault.TableFault.{TableFault}
 use Rattle.mx_layout.specs.declared.fault.TableFault.TheVariants as fault
 use Rattle.mx_layout.specs.Crash.{ChangesNothing, Leaves, StaysInside}
-use Rattle.mx_layout.specs.Names.{table_named}
 use Rattle.mx_layout.proofs.CrashLemmas.{IsSettled as StoreSettles, commits_either, commits_ok, dropped}
-use Rattle.mx_book_tables.specs.stands.Family.{is_at}
-use Rattle.mx_book_tables.specs.stands.Schemas.{schema_at}
-use Rattle.mx_book_tables.specs.stands.Stands.{IsEither, RestsAt, StandsAt}
-use Rattle.mx_book_tables.proofs.StandsProofs.SchemaLemmas.{has_tables}
 use Rattle.mx_tables.specs.Calls.{OnDamaged, OnRead}
 use Rattle.mx_tables.specs.inserts.Sets.{GainsRows}
-use Rattle.mx_apply.specs.writing.Written.{IsSettled, with_rows, written_point}
-use Rattle.mx_apply.specs.Applies.{Applies, HasOneCommit, IsNoDamage, ReplyOf, Runs, behind}
-
--- the tables of a file that is settled are in its schema
-in_settled : (s : Schema) → IsSettled s → (name : TableName) → is_at written_point name ≡ true → Contains s.tables (table_named name)
-in_settled s is name there = subst (λ (s : Schema). Contains s.tables (table_named name)) (sym is) ((has_tables written_point name).0 there)
+use Rattle.mx_apply.specs.writing.Written.{IsSettled, with_rows}
+use Rattle.mx_apply.specs.Applies.{Applies, HasOneCommit, IsEitherIn, IsNoDamage, ReplyOf, RestsIn, Runs, StandsIn, behind}
+use Rattle.mx_apply.proofs.WritingProofs.ThereLemmas.{in_settled}
 
 -- a reply that is no acceptance leaves the book
 left : (book : List Entry) (command : Entry) (a : Reply) → ((seq : ℕ) → a ≢ answers.Accepted seq) → behind book command a ≡ book
@@ -55,8 +46,8 @@ module _ {S : Type 0} (g : Ghosts S) (old last : Held S) (command : Entry) where
   abbrev Leftover : Trees → Type 0
   Leftover = HasOneCommit command (state g old)
 
-  abbrev stands : List Entry → Trees → Type 0
-  stands book = λ trees. StandsAt written_point trees book
+  abbrev stands : Schema → List Entry → Trees → Type 0
+  stands schema book = λ trees. StandsIn schema trees book
 
   module _ (end : Held S) where
     -- ── the transaction was dropped ──
@@ -77,20 +68,20 @@ module _ {S : Type 0} (g : Ghosts S) (old last : Held S) (command : Entry) where
           committed_is = λ clean is_open. ((back clean).undone is_open).1 ∙ (runs.within.kept (mid clean) refl).committed ((back clean).was_open is_open);
         }
 
-        rest : (book : List Entry) → RestsAt written_point (state g old) book → RestsAt written_point (state g end) book
-        rest book rests = dropped g (schema_at written_point) (schema_at written_point) (stands book) (stands book) old begun last refl rests runs.within end drop back
+        rest : (schema : Schema) (book : List Entry) → RestsIn schema (state g old) book → RestsIn schema (state g end) book
+        rest schema book rests = dropped g schema schema (stands schema book) (stands schema book) old begun last refl rests runs.within end drop back
 
         pub dropped_survives : Survives (state g old) (state g end) Leftover
         dropped_survives = survives_begin g old (state g end) _ (survives_then (state g begun) (state g last) (state g end) _ _ _ (λ _ trees none. absurd none) (λ _ trees none. absurd none) runs.within.survives drop)
 
         -- what was said inside the transaction, where it found the connection open
-        ran : (book : List Entry) → RestsAt written_point (state g old) book → HasCleanDisk (state g end) → IsTrue (state g begun).is_open
-            → MatchResult result (λ a. (a ≡ reply book command) × ((state g last).now.schema ≡ schema_at written_point) × StandsAt written_point (state g last).now.trees (behind book command a)) IsNoDamage
-        ran book rests clean opened = runs.ran (mid clean) refl book (rests.schema (early clean) opened) (rests.tables (early clean) opened)
+        ran : (schema : Schema) → IsSettled schema → (book : List Entry) → RestsIn schema (state g old) book → HasCleanDisk (state g end) → IsTrue (state g begun).is_open
+            → MatchResult result (λ a. (a ≡ reply book command) × ((state g last).now.schema ≡ schema) × StandsIn schema (state g last).now.trees (behind book command a)) IsNoDamage
+        ran schema settled book rests clean opened = runs.ran (mid clean) refl schema settled book (rests.schema (early clean) opened) (rests.tables (early clean) opened)
 
-        drops : ((seq : ℕ) → result ≢ Ok (answers.Accepted seq)) → ((book : List Entry) → RestsAt written_point (state g old) book → HasCleanDisk (state g end) → MatchResult result (λ a. a ≡ reply book command) IsNoDamage)
-            → ((book : List Entry) → RestsAt written_point (state g old) book → IfOk result (λ a. RestsAt written_point (state g end) (behind book command a))) → ((book : List Entry) → RestsAt written_point (state g old) book → IfErr result (λ e. e ≢ fault.Store → RestsAt written_point (state g end) book))
-            → Applies command (state g old) (state g end) result
+        drops : ((seq : ℕ) → result ≢ Ok (answers.Accepted seq)) → ((schema : Schema) → IsSettled schema → (book : List Entry) → RestsIn schema (state g old) book → HasCleanDisk (state g end) → MatchResult result (λ a. a ≡ reply book command) IsNoDamage)
+            → ((schema : Schema) → IsSettled schema → (book : List Entry) → RestsIn schema (state g old) book → IfOk result (λ a. RestsIn schema (state g end) (behind book command a)))
+            → ((schema : Schema) → IsSettled schema → (book : List Entry) → RestsIn schema (state g old) book → IfErr result (λ e. e ≢ fault.Store → RestsIn schema (state g end) book)) → Applies command (state g old) (state g end) result
         drops never said kept same = record {
           clean = omega (arith, drop.clean, runs.within.survives.clean);
           cause = runs.cause;
@@ -102,25 +93,25 @@ module _ {S : Type 0} (g : Ghosts S) (old last : Held S) (command : Entry) where
           said = said;
           kept = kept;
           same = same;
-          crash = λ book rests clean db may. inl ((rest book rests).crash clean db may);
+          crash = λ schema settled book rests clean db may. inl ((rest schema book rests).crash clean db may);
         }
 
       -- a reply that is no acceptance
       pub tells : (a : Reply) → ((seq : ℕ) → a ≢ answers.Accepted seq) → Runs command (state g begun) (state g last) (Ok a) → Applies command (state g old) (state g end) (Ok a)
       tells a never runs =
-          drops (Ok a) runs (λ seq is. never seq (let same : a ≡ answers.Accepted seq = cc in same)) (λ book rests clean. (ran (Ok a) runs book rests clean (runs.inside (mid clean) refl).was_open).0)
-          (λ book rests. subst (λ b. RestsAt written_point (state g end) b) (sym (left book command a never)) (rest (Ok a) runs book rests)) (λ _ _. tt)
+          drops (Ok a) runs (λ seq is. never seq (let same : a ≡ answers.Accepted seq = cc in same)) (λ schema settled book rests clean. (ran (Ok a) runs schema settled book rests clean (runs.inside (mid clean) refl).was_open).0)
+          (λ schema _ book rests. subst (λ b. RestsIn schema (state g end) b) (sym (left book command a never)) (rest (Ok a) runs schema book rests)) (λ _ _ _ _. tt)
 
       -- a fault
       pub stops : (e : TableFault) → Runs command (state g begun) (state g last) (Err e) → Applies command (state g old) (state g end) (Err e)
       stops e runs =
-          drops (Err e) runs (λ seq is. absurd cc) (λ book rests clean. elim runs.cause [
+          drops (Err e) runs (λ seq is. absurd cc) (λ schema settled book rests clean. elim runs.cause [
             | inl memory ↦ inl memory
             | inr other ↦ elim other [
               | inl store ↦ inr store
-              | inr damaged ↦ ran (Err e) runs book rests clean (subst (λ f. OnDamaged f (StaysInside (state g begun) (state g last))) damaged.1 (runs.inside (mid clean) refl)).was_open
+              | inr damaged ↦ ran (Err e) runs schema settled book rests clean (subst (λ f. OnDamaged f (StaysInside (state g begun) (state g last))) damaged.1 (runs.inside (mid clean) refl)).was_open
             ]
-          ]) (λ _ _. tt) (λ book rests _. rest (Err e) runs book rests)
+          ]) (λ _ _ _ _. tt) (λ schema _ book rests _. rest (Err e) runs schema book rests)
 
     -- ── the commit was asked for ──
 
@@ -134,12 +125,12 @@ module _ {S : Type 0} (g : Ghosts S) (old last : Held S) (command : Entry) where
       opened : HasCleanDisk (state g last) → IsTrue (state g old).is_open
       opened clean = (runs.inside clean refl).was_open
 
-      made : (book : List Entry) → HasCleanDisk (state g last) → IsTrue (state g begun).in_transaction → (state g begun).now.schema ≡ schema_at written_point → StandsAt written_point (state g begun).now.trees book
-          → ((state g last).now.schema ≡ schema_at written_point) × StandsAt written_point (state g last).now.trees (book ++ command ∷ [])
-      made book clean within has stood = (let it = runs.ran clean within book has stood in (it.1, it.2))
+      made : (schema : Schema) → IsSettled schema → (book : List Entry) → HasCleanDisk (state g last) → IsTrue (state g begun).in_transaction → (state g begun).now.schema ≡ schema → StandsIn schema (state g begun).now.trees book
+          → ((state g last).now.schema ≡ schema) × StandsIn schema (state g last).now.trees (book ++ command ∷ [])
+      made schema settled book clean within has stood = (let it = runs.ran clean within schema settled book has stood in (it.1, it.2))
 
-      either : (book : List Entry) → RestsAt written_point (state g old) book → Leaves (state g end) (IsEither written_point book (book ++ command ∷ []))
-      either book rests = commits_either g (schema_at written_point) (schema_at written_point) (stands book) (stands (book ++ command ∷ [])) old begun last refl rests runs.within runs.inside (made book) end commit
+      either : (schema : Schema) → IsSettled schema → (book : List Entry) → RestsIn schema (state g old) book → Leaves (state g end) (IsEitherIn schema book (book ++ command ∷ []))
+      either schema settled book rests = commits_either g schema schema (stands schema book) (stands schema (book ++ command ∷ [])) old begun last refl rests runs.within runs.inside (made schema settled book) end commit
 
       -- what a crash may leave of it
       may : HasCleanDisk (state g last) → Leftover (state g last).now.trees
@@ -159,9 +150,9 @@ module _ {S : Type 0} (g : Ghosts S) (old last : Held S) (command : Entry) where
         was_open = λ _. tt;
         damaged = λ _ _ name is. cc;
         written = λ _ _ is. absurd cc;
-        said = λ _ _ _. inr refl;
-        kept = λ _ _. tt;
-        same = λ _ _ other. absurd (other refl);
+        said = λ _ _ _ _ _. inr refl;
+        kept = λ _ _ _ _. tt;
+        same = λ _ _ _ _ other. absurd (other refl);
         crash = either;
       }
 
@@ -185,8 +176,8 @@ module _ {S : Type 0} (g : Ghosts S) (old last : Held S) (command : Entry) where
                 gains = λ has rise. subst (λ (d : Database). GainsRows (with_rows it.0) (state g old).now d) (sym (shown clean).now_is) (it.3 has rise);
               },
             );
-        said = λ book rests clean. (runs.ran (late clean) refl book (rests.schema (first clean) (opened (late clean))) (rests.tables (first clean) (opened (late clean)))).0;
-        kept = λ book rests. commits_ok g (schema_at written_point) (schema_at written_point) (stands book) (stands (book ++ command ∷ [])) old begun last refl rests runs.within runs.inside (made book) end commit settled shown;
-        same = λ _ _. tt;
+        said = λ schema settled book rests clean. (runs.ran (late clean) refl schema settled book (rests.schema (first clean) (opened (late clean))) (rests.tables (first clean) (opened (late clean)))).0;
+        kept = λ schema is book rests. commits_ok g schema schema (stands schema book) (stands schema (book ++ command ∷ [])) old begun last refl rests runs.within runs.inside (made schema is book) end commit settled shown;
+        same = λ _ _ _ _. tt;
         crash = either;
       }

@@ -6,8 +6,9 @@
 //!
 //! # What is promised
 //!
-//! Over any rows is said as in `writing`, of the tables of a file that is settled at layout 2. Lines of
-//! `mx_test_office` hand commands in too (`applied.cases`).
+//! What is said over any rows, and of a book, is said of the tables of a file that is settled at layout 2, and of whatever
+//! tables and indexes there are behind them (`HasTablesOfRows`), where rows are written if no table refers to another
+//! (`IsSettled`). Lines of `mx_test_office` hand commands in too (`applied.cases`).
 //!
 //! - Over any rows, the reply is by the verdict of the judge on each book as which the rows answer: `apply`: `applies`
 //!   (`Applies`: `judged`). Of a book that is what its tables answer: `laws::tables_answer_as_their_book` of

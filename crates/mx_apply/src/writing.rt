@@ -3,7 +3,8 @@
 //!
 //! # What is promised
 //!
-//! Over any rows is said of the tables of a file that is settled at layout 2, whose rowids rise.
+//! Over any rows is said of the tables of a file that is settled at layout 2, whose rowids rise, whatever tables and
+//! indexes there are behind them, if no table refers to another (`IsSettled`).
 //!
 //! - What the rows of a command make of those that a book gives each table is what the book with the command gives it,
 //!   whichever of the ten commands it is: `laws::commands_enter`, with a line for each table, and one for all that only

@@ -14,7 +14,9 @@ use Rattle.mx_office.specs.Calls.{stop_asking, IsAsked, IsRun}
 use Rattle.mx_office.specs.Office.{office_state, IsReady, StandsFor}
 use Rattle.mx_office.specs.Questions.{IsAnsweredBy}
 use Rattle.mx_office.proofs.OfficeLemmas.{rests_still}
+use Rattle.mx_office.specs.Layout.{office_point}
 use Rattle.mx_office.specs.Stands.{IsEither, Rests}
+use Rattle.mx_office.proofs.StandsLemmas.{may_stand}
 use Rattle.mx_faults.specs.declared.fault.Ask.{Ask}
 use Rattle.mx_faults.specs.declared.fault.Fault.{Fault}
 use Rattle.mx_faults.specs.declared.fault.Fault.TheVariants.{Memory, Store, NeedsReopen, Damaged}
@@ -34,7 +36,7 @@ not_both b ready doubt = (cc)
 
 -- a book at rest is what a crash leaves, where nothing was handed in
 rests_either : (book : List Entry) (other : List Entry) (s : State) → Rests s book → Leaves s (IsEither book other)
-rests_either book other s rests = λ clean db may. inl (rests.crash clean db may)
+rests_either book other s rests = λ clean db may. inl (may_stand office_point s book rests clean db may)
 
 module _ {S : Type 0} {g : Ghosts S} (book : List Entry) (commands : List Entry) (said : List Reply) (stopped : Option Fault) (old new : Office S g) (stands : StandsFor old book) (clean : HasCleanDisk (office_state new)) (run : IsRun commands said stopped old new) where
   served_run : (request : Request) (answer : Answer) → commands_of request ≡ commands → answer ≡ answer_of book request (length said) stopped → IsServed book request (length said) stopped answer (office_state new)

@@ -19,10 +19,9 @@ use Rattle.mx_layout.specs.declared.fault.TableFault.TheVariants as fault
 use Rattle.mx_layout.specs.kept.Cells.{kept_aircraft, kept_component}
 use Rattle.mx_layout.specs.kept.Kept.{Kept}
 use Rattle.mx_table_rows.specs.chosen.Counts.{CountsRows}
-use Rattle.mx_book_tables.specs.stands.Schemas.{schema_at}
 use Rattle.mx_book_tables.specs.stands.Stands.{HasRowsAt}
 use Rattle.mx_lookups.specs.numbers.Damage.{IsDamaged, IsUncounted}
-use Rattle.mx_lookups.specs.numbers.Reads.{Reads, rows_point}
+use Rattle.mx_lookups.specs.numbers.Reads.{HasTablesOfRows, Reads, rows_point}
 use Rattle.mx_lookups.proofs.NumbersProofs.LookupLemmas.{damage_of, stop_of}
 use Rattle.mx_lookups.proofs.NumbersProofs.ReadLemmas.{map_ok, map_read}
 use Rattle.mx_lookups.proofs.NumbersProofs.TableLemmas.{IsTable, aircraft, components}
@@ -47,7 +46,7 @@ module _ {X : Type 0} (k : Kept X) (rows : List Entry → List X) (it : IsTable 
   -- what was counted is how many rows the book gives
   pub rows_counted : (old new : State) (result : Result ℕ TableFault) → CountsRows k old new result → Reads (λ book n. n ≡ length (rows book)) old new result
   rows_counted old new result r =
-      let has_it : old.now.schema ≡ schema_at rows_point → k.IsIn old.now.schema = λ has. subst k.IsIn (sym has) it.is_in in
+      let has_it : HasTablesOfRows old.now.schema → k.IsIn old.now.schema = λ has. it.is_in _ has in
       record {
         read = λ clean book stands. map_ok (λ n. n ≡ length (rows_in (table_named k.name) old.now.trees)) (λ n. n ≡ length (rows book)) result (λ n is. is ∙ as_many old.now.trees book stands.rows) (r.rows clean (has_it stands.schema));
         cause = stop_of k.name result r.cause;

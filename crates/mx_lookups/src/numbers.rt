@@ -1,5 +1,6 @@
 //! Entries and items by rows, and what a look-up promises: the numbers with which every other look-up begins, and the
-//! law of all. Each is made inside a `Transaction`, at the point at which rows are looked up; the office asks them for
+//! law of all. Each is made inside a `Transaction`, at the point at which rows are looked up, whatever
+//! tables and indexes there are beside those of a file there; the office asks them for
 //! each command and for each list. `Memory` is want of memory, `Store` an error of the store, and `Damaged` names a
 //! table that no book gives.
 //!

@@ -37,7 +37,8 @@ use Rattle.mx_moves.specs.steps.Rows.{MakesRows}
 use Rattle.mx_moves.proofs.StepsProofs.FrontLemmas.{front_is}
 use Rattle.mx_moves.proofs.StepsProofs.PageLemmas.{among, page_damaged}
 use Rattle.mx_moves.proofs.StepsProofs.SectorLemmas.{seq_of}
-use Rattle.mx_moves.proofs.StepsProofs.StandsLemmas.{all_rise, reaches_rows}
+use Rattle.mx_book_tables.proofs.StandsProofs.SchemaLemmas.{has_tables}
+use Rattle.mx_moves.proofs.StepsProofs.StandsLemmas.{reaches_rows}
 
 module _ (IsAt : Point → Type 0) (Makes : Point → Point → Trees → Trees → Type 0) (IsOff : Point → TableName → Trees → Type 0) (old new : State) (within : IsWithin old new) where
   -- the store stopped the statements that write
@@ -87,7 +88,7 @@ module _ (IsAt : Point → Type 0) (Makes : Point → Point → Trees → Trees 
     made = λ clean entered at is has lies.
         let has_now = has ∙ ap schema_at (at_here at is) in
         let lies_now = subst (λ q. LiesAt q old.now.trees) (at_here at is) lies in
-        let it = reaches_rows here to onto old.now new.now has_now lies_now (w.reaches clean entered has_now (all_rise here old.now.trees lies_now)) in
+        let it = reaches_rows here to onto old.now new.now has_now lies_now (w.reaches clean entered has_now lies_now.rises) in
         (it.0, makes at old.now.trees new.now.trees it.1);
     cause = tt;
     damaged = λ _ _ _ _ name never. absurd cc;
@@ -108,7 +109,7 @@ module _ (IsAt : Point → Type 0) (Makes : Point → Point → Trees → Trees 
               let same : mid.now ≡ old.now = unchanged (early clean) at is has in
               let open_mid = stays (early clean) entered.0 in
               let lies_now = subst (λ q. LiesAt q old.now.trees) (at_here at is) lies in
-              let rise : AllRise (schema_at here) mid.now.trees = subst (λ (d : Database). AllRise (schema_at here) d.trees) (sym same) (all_rise here old.now.trees lies_now) in
+              let rise : AllRise (schema_at here) mid.now.trees = subst (λ (d : Database). AllRise (schema_at here) d.trees) (sym same) lies_now.rises in
               let reached = w.reaches clean (open_mid.mode, open_mid.is_open) (ap (λ (d : Database). d.schema) same ∙ has_now) rise in
               let it = reaches_rows here to onto old.now new.now has_now lies_now (subst (λ d. Reaches (schema_at to) onto d new.now) same reached) in
               (it.0, makes (early clean) at is has lies_now it.1);
@@ -174,6 +175,6 @@ module _ {V : Type 0} (mark : ℕ) (items : V → List SectorRow) (old mid : Sta
   page_moves {U} new to ran result answered next is w = writes_behind _ _ _ (moving 1 mark) to (λ at here. here) (sectors_moved (items v) to) old mid (λ clean at here has. (r.unchanged clean (has_own mark at old here has)).0.now_is) r.inside r.within new
       (λ clean at here has lies made.
       let first = r.rows clean (has_own mark at old here has) in
-      let gone = ap (λ (q : Point). filter (is_up_to 0 (Int (pos q.mark))) (rows_in sector1 old.now.trees)) is ∙ front_is seq_of kept_sector1.as_cells (λ _. refl) sector1 (λ _. refl) 63 mark old.now.trees (items v) (lies.rises table.Sector1 refl) first in
+      let gone = ap (λ (q : Point). filter (is_up_to 0 (Int (pos q.mark))) (rows_in sector1 old.now.trees)) is ∙ front_is seq_of kept_sector1.as_cells (λ _. refl) sector1 (λ _. refl) 63 mark old.now.trees (items v) (lies.rises table.Sector1 ((has_tables (moving 1 mark) table.Sector1).0 refl)) first in
       record { rows = items v; first = first; fit = r.fits; next = next; point = is; gone = gone; made = made })
       ran result answered (subst (λ q. Alters {V = U} (schema_at (moving 1 0)) (schema_at q) (sectors_moved (items v) to) mid new ran) (sym is) w)

@@ -11,6 +11,7 @@ use Rattle.mx_book.specs.commands.Act.{Entry}
 use Rattle.mx_layout.specs.Contents.{rows_in}
 use Rattle.mx_layout.specs.Listed.{LacksOffice}
 use Rattle.mx_layout.specs.Tables.{office, HasOffice}
+use Rattle.mx_faults.specs.Moving.{fault_from as move_fault_from}
 use Rattle.mx_faults.specs.declared.moving.MoveFault.{MoveFault}
 use Rattle.mx_faults.specs.declared.moving.MoveFault.TheVariants as move
 use Rattle.mx_base.specs.declared.point.Point.{Point}
@@ -21,12 +22,12 @@ use Rattle.mx_layout.specs.declared.fault.TableFault.{TableFault}
 use Rattle.mx_layout.specs.declared.fault.TableFault.TheVariants as table
 use Rattle.mx_layout.specs.declared.fault.Table.TheVariants.{Office}
 use Rattle.mx_book_tables.specs.stands.Schemas.{IsOfFile}
-use Rattle.mx_book_tables.specs.stands.Stands.{RestsAt}
 use Rattle.mx_migrate.specs.settle.Place.{IsMoveStop}
 use Rattle.mx_migrate.proofs.SettleProofs.PlaceLemmas.{Bounds, bounds}
 use Rattle.mx_office.specs.Faults.{is_office_point, moved_fault_from, open_answer, open_fault_from, IsReason, IsStop, IsStopped, IsUnopened, SaysWhy}
 use Rattle.mx_office.specs.Layout.{office_point}
 use Rattle.mx_office.specs.Opening.{HasReason, SaysPoint, WasOurs}
+use Rattle.mx_office.specs.Stands.{RestsOn}
 use Rattle.mx_faults.specs.declared.fault.OpenFault.{OpenFault}
 use Rattle.mx_faults.specs.declared.fault.OpenFault.TheVariants as unopened
 
@@ -73,6 +74,10 @@ moved_stopped (move.Damaged name) = inr (name, refl)
 pub moved_stop : (e : MoveFault) → IsMoveStop e → IsStop (moved_fault_from e)
 moved_stop e (inl memory) = inl (ap moved_fault_from memory)
 moved_stop e (inr store) = inr (ap moved_fault_from store)
+
+pub move_stops : (f : TableFault) (e : MoveFault) → e ≡ move_fault_from f → IsTableStop f → IsMoveStop e
+move_stops f e is (inl memory) = inl (is ∙ ap move_fault_from memory)
+move_stops f e is (inr store) = inr (is ∙ ap move_fault_from store)
 
 stopped_is : (why : OpenFault) → IsStopped why → ((layout : ℕ) → why ≢ unopened.OlderLayout layout) × (why ≢ unopened.NotOurs)
 stopped_is why (inl (inl memory)) = (λ layout same. cc, λ same. cc)
@@ -141,7 +146,7 @@ module _ (was : State) (p : Point) (reads : (IsTrue was.is_open → HasOffice wa
   point_ours is = record { file = λ has. (p, answers_file p is, reads has); exact = λ q holds fits. ap open_answer (sym (exact q holds fits)) ∙ is; found = absent }
 
   -- the point says why none is
-  pub point_reason : (why : OpenFault) → open_answer p ≡ Some why → ((at : Point) (book : List Entry) → RestsAt at was book → p ≡ at) → HasReason was why
+  pub point_reason : (why : OpenFault) → open_answer p ≡ Some why → ((at : Point) (book : List Entry) → RestsOn at was book → p ≡ at) → HasReason was why
   point_reason why is rests_at = record {
     exact = λ q holds fits. inl (inl (ap open_answer (sym (exact q holds fits)) ∙ is));
     reason = λ has. inr (inr (inr (p, reads has, inl is)));
@@ -151,7 +156,7 @@ module _ (was : State) (p : Point) (reads : (IsTrue was.is_open → HasOffice wa
   }
 
   -- the move from there was stopped
-  pub way_reason : (why : OpenFault) → is_on_way p ≡ true → IsStopped why → ((at : Point) (book : List Entry) → IsOfFile at → RestsAt at was book → IsStop why) → HasReason was why
+  pub way_reason : (why : OpenFault) → is_on_way p ≡ true → IsStopped why → ((at : Point) (book : List Entry) → IsOfFile at → RestsOn at was book → IsStop why) → HasReason was why
   way_reason why way stopped whole = record {
     exact = λ q holds fits. by q stopped (subst (λ (x : Point). is_on_way x ≡ true) (exact q holds fits) way);
     reason = λ has. by_rows stopped (reads has);

@@ -12,7 +12,7 @@ use Rattle.mx_tables.specs.Calls.{OnRead}
 use Rattle.mx_lookups.specs.numbers.Damage.{IsDamaged}
 use Rattle.mx_apply.specs.Applies.{Applies, HasOneCommit}
 use Rattle.mx_office.specs.Faults.{call_answer}
-use Rattle.mx_office.specs.Layout.{office_schema}
+use Rattle.mx_lookups.specs.numbers.Reads.{HasTablesOfRows}
 use Rattle.mx_office.specs.OnTop.{WasEntered}
 
 -- one command was handed in, and did this; and this a crash may leave of it
@@ -30,7 +30,7 @@ module _ (command : Entry) (old new : State) (result : Result Reply TableFault) 
   was_open = it.applies.was_open
 
   -- a table is told damaged only where it is
-  pub is_damaged : HasCleanDisk new → old.now.schema ≡ office_schema → (name : TableName) → result ≡ Err (Damaged name) → IsDamaged name old.now.trees
+  pub is_damaged : HasCleanDisk new → HasTablesOfRows old.now.schema → (name : TableName) → result ≡ Err (Damaged name) → IsDamaged name old.now.trees
   is_damaged = it.applies.damaged
 
 -- a command that the office answers accepted was entered

@@ -18,16 +18,18 @@ use Rattle.mx_layout.specs.declared.fault.TableFault.{TableFault}
 use Rattle.mx_layout.specs.declared.fault.TableFault.TheVariants as table
 use Rattle.mx_tables.specs.Calls.{OnRead}
 use Rattle.mx_apply.specs.writing.Changes.{AllRise}
+use Rattle.mx_apply.specs.writing.Written.{IsSettled}
+use Rattle.mx_office.specs.Layout.{office_point}
 use Rattle.mx_apply.specs.Applies.{HasOneCommit, behind}
 use Rattle.mx_office.specs.Calls.{replies_in, stop_in, HandsIn, RunsOver}
 use Rattle.mx_office.specs.Faults.{call_answer, fault_from}
-use Rattle.mx_office.specs.Layout.{office_schema}
 use Rattle.mx_office.specs.OnTop.{AreAnswered, HasOnTop, IsBehind, IsDamagedBehind, IsOfOffice, LeadsTo, MayLeave, WasEntered}
 use Rattle.mx_office.specs.Stands.{IsEither, NoneAccepted, Rests, Stands}
 use Rattle.mx_faults.specs.declared.fault.Fault.{Fault}
 use Rattle.mx_faults.specs.declared.fault.Fault.TheVariants.{Store, Damaged}
 use Rattle.mx_office.proofs.AppliedLemmas.{Handed, is_damaged, was_entered, was_open}
 use Rattle.mx_office.proofs.OfficeLemmas.{after_is, behind_is, nothing_then, rests_as, survives_itself}
+use Rattle.mx_office.proofs.StandsLemmas.{either_stand, may_stand, settled_of}
 use Rattle.mx_office.proofs.ReplyLemmas.{answered_more, answered_on, damage_from, idle_fault, idle_reply, no_damage_stop, no_reopening, none_before, none_last, store_stop}
 
 -- ── no command yet ──
@@ -72,14 +74,14 @@ module _ (commands : List Entry) (said : List Reply) (command : Entry) (first mi
   first_open : HasCleanDisk new → IsTrue mid.is_open → IsTrue first.is_open
   first_open clean is_open = so_far.opened (λ same. cc) (early clean) is_open
 
-  still : IsOfOffice first → IsBehind commands said first mid → (mid.now.schema ≡ office_schema) × AllRise mid.now
+  still : IsOfOffice first → IsBehind commands said first mid → IsSettled mid.now.schema × AllRise mid.now
   still is at = answered_on done said first.now mid.now at.answered is.schema is.rises
 
   -- what it may leave behind a crash
   left_next : HasCleanDisk new → IsOfOffice first → (trees : Trees) → HasOneCommit command mid trees → IsTrue first.is_open × AreAnswered done said first.now mid.now × HasOnTop command mid.now trees
   left_next clean is trees may =
       let at = before clean is may.2.was_open in
-      let of = still is at in (at.was_open, at.answered, record { rows = may.0; are_its = may.1 of.0; is_new = may.3 of.0; tables = may.2.tables of.0 of.1 })
+      let of = still is at in (at.was_open, at.answered, record { rows = may.0; are_its = may.1 of.0.tables; is_new = may.3 of.0.tables; tables = may.2.tables of.0 of.1 })
 
   survives_next : (more : List Reply) (stop : Option Fault) → length said ≤ length more → ((n : ℕ) → n ≤ length said → take n more ≡ take n said) → (length said < length more) ⊎ ((stop ≡ Some Store) × (length said ≡ length more)) → IsOfOffice first
       → Survives first new (MayLeave commands more stop first)
@@ -144,7 +146,7 @@ module _ (commands : List Entry) (said : List Reply) (command : Entry) (first mi
 
     either_next : (trees : Trees) → IsEither now (now ++ command ∷ []) trees → IsEither now (book_run book (take (length said + 1) commands)) trees
     either_next trees (inl one) = inl one
-    either_next trees (inr other) = inr (subst (Stands trees) (sym (run_next ∙ after_is now command other.rows.is_book)) other)
+    either_next trees (inr other) = inr (subst (Stands trees) (sym (run_next ∙ after_is now command other.tables.rows.is_book)) other)
 
 -- ── it was answered ──
 
@@ -160,11 +162,11 @@ module _ (commands : List Entry) (said : List Reply) (command : Entry) (first mi
   more_taken = ap (λ n. take n commands) one_more ∙ next
 
   -- the chain of replies has one more
-  answered_next : (clean : HasCleanDisk new) → IsOfOffice first → IsBehind commands said first mid → (after : Database) → ((mid.now.schema ≡ office_schema) → AllRise mid.now → LeadsTo command r mid.now after) → AreAnswered (take (length more) commands) more first.now after
+  answered_next : (clean : HasCleanDisk new) → IsOfOffice first → IsBehind commands said first mid → (after : Database) → (IsSettled mid.now.schema → AllRise mid.now → LeadsTo command r mid.now after) → AreAnswered (take (length more) commands) more first.now after
   answered_next clean is at after leads =
       let of = still commands said command first mid new next so_far (Ok r) it is at in
       subst (λ (cs : List Entry). AreAnswered cs more first.now after) (sym more_taken)
-      (answered_more (take (length said) commands) said command r first.now mid.now after at.answered (it.applies.judged clean of.0) (leads of.0 of.1))
+      (answered_more (take (length said) commands) said command r first.now mid.now after at.answered (it.applies.judged clean of.0.tables) (leads of.0 of.1))
 
   mid_open : HasCleanDisk new → IsTrue mid.is_open
   mid_open clean = was_open command mid new (Ok r) it clean
@@ -176,7 +178,7 @@ module _ (commands : List Entry) (said : List Reply) (command : Entry) (first mi
       record {
         was_open = at.was_open;
         settled = wrote.3.settled;
-        answered = answered_next clean is at new.now (λ has rise. subst (λ (a : Reply). LeadsTo command a mid.now new.now) (sym is_r) (wrote.0, wrote.1 has, wrote.2, wrote.3.gains has rise));
+        answered = answered_next clean is at new.now (λ has rise. subst (λ (a : Reply). LeadsTo command a mid.now new.now) (sym is_r) (wrote.0, wrote.1 has.tables, wrote.2, wrote.3.gains has rise));
       }
 
   sound_idle : ChangesNothing mid new → ((d : Database) → d ≡ mid.now → LeadsTo command r mid.now d) → HasCleanDisk new → IsOfOffice first → IsTrue new.is_open → IsBehind commands more first new
@@ -202,15 +204,16 @@ module _ (commands : List Entry) (said : List Reply) (command : Entry) (first mi
       let at = rests_mid commands said command first mid new next so_far (Ok r) it book rests in
       let runs = ap (book_run book) (ap (λ n. take n commands) one_more) ∙ run_next commands said command first mid new next so_far (Ok r) it book rests in
       let kept : Rests new (book_run book (take (length more) commands)) =
-      rests_as new (behind b command r) (book_run book (take (length more) commands)) (λ clean. behind_is b command r (it.applies.said b at clean) ∙ sym runs) (it.applies.kept b at) in
+      rests_as new (behind b command r) (book_run book (take (length more) commands)) (λ clean. behind_is b command r (it.applies.said at.schema (settled_of at.schema at.is) b at.tables clean) ∙ sym runs)
+      (record { schema = at.schema; is = at.is; tables = it.applies.kept at.schema (settled_of at.schema at.is) b at.tables }) in
       record {
         answered = λ clean.
             ap (λ rs. rs ++ r ∷ []) (had.answered (early commands said command first mid new next so_far (Ok r) it clean))
-            ∙ ap (λ a. replies book (take (length said) commands) ++ a ∷ []) (it.applies.said b at clean)
+            ∙ ap (λ a. replies book (take (length said) commands) ++ a ∷ []) (it.applies.said at.schema (settled_of at.schema at.is) b at.tables clean)
             ∙ sym (ap (replies book) more_taken ∙ replies-append book (take (length said) commands) (command ∷ []));
         whole = λ _ name same. cc;
         kept = λ _. kept;
-        crash = λ clean trees may. inl (kept.crash clean trees may);
+        crash = λ clean trees may. inl (may_stand office_point new (book_run book (take (length more) commands)) kept clean trees may);
       }
 
   handed_as : (HasCleanDisk new → IsOfOffice first → (after : Database) × AreAnswered (take (length more) commands) more first.now after) → (HasCleanDisk new → IsOfOffice first → IsTrue new.is_open → IsBehind commands more first new)
@@ -258,9 +261,9 @@ module _ (commands : List Entry) (said : List Reply) (command : Entry) (first mi
       let at = rests_mid commands said command first mid new next so_far (Err e) it book rests in
       record {
         answered = λ clean. had.answered (early commands said command first mid new next so_far (Err e) it clean);
-        whole = λ clean name same. no_damage_stop e name (it.applies.said b at clean) same;
-        kept = λ other. it.applies.same b at (store_stop e other);
-        crash = λ clean trees may. either_next commands said command first mid new next so_far (Err e) it book rests trees (it.applies.crash b at clean trees may);
+        whole = λ clean name same. no_damage_stop e name (it.applies.said at.schema (settled_of at.schema at.is) b at.tables clean) same;
+        kept = λ other. record { schema = at.schema; is = at.is; tables = it.applies.same at.schema (settled_of at.schema at.is) b at.tables (store_stop e other) };
+        crash = λ clean trees may. either_next commands said command first mid new next so_far (Err e) it book rests trees (either_stand at.schema at.is b (b ++ command ∷ []) trees (it.applies.crash at.schema (settled_of at.schema at.is) b at.tables clean trees may));
       }
 
   nothing : e ≢ table.Store → ChangesNothing mid new
@@ -312,7 +315,7 @@ module _ (commands : List Entry) (said : List Reply) (command : Entry) (first mi
       let is_open = damage_open clean name is_e in
       let at = before commands said command first mid new next so_far (Err e) it clean is is_open in
       let of = still commands said command first mid new next so_far (Err e) it is at in
-      record { was_open = at.was_open; found = mid.now; answered = at.answered; damaged = is_damaged command mid new (Err e) it clean of.0 name (ap Err is_e) }
+      record { was_open = at.was_open; found = mid.now; answered = at.answered; damaged = is_damaged command mid new (Err e) it clean of.0.tables name (ap Err is_e) }
 
   pub handed_stop : HandsIn commands said stop first new
   handed_stop = record {

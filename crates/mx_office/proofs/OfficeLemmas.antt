@@ -1,6 +1,7 @@
 -- What becomes of the tables of a book with a command, and with calls that change nothing.
 use Rattle.std.proofs.Common.{◌≡◌, inl, true, cond, append_assoc, List, [], ◌∷◌, ◌++◌, refl, sym, ap, subst, ◌∙◌, arith}
 use Rattle.std.proofs.lemmas.List.{append-nil}
+use Rattle.sqlite.specs.Schema.{Schema}
 use Rattle.sqlite.specs.State.{State, HasCleanDisk, Survives}
 use Rattle.sqlite.specs.Tree.{Trees}
 use Rattle.sqlite.proofs.StateLemmas.{survives_then}
@@ -14,16 +15,18 @@ use Rattle.mx_book.specs.declared.verdict.Verdict.{Verdict}
 use Rattle.mx_book.specs.declared.verdict.Verdict.TheVariants as verdict
 use Rattle.mx_book.proofs.JudgeLemmas.{both_true, is_new-New}
 use Rattle.mx_layout.specs.Crash.{ChangesNothing}
-use Rattle.mx_layout.proofs.CrashLemmas.{rests_kept, rests_same}
+use Rattle.mx_layout.proofs.CrashLemmas.{rests_same}
+use Rattle.mx_book_tables.specs.stands.Stands.{RestsInSchema, StandsInSchema}
 use Rattle.mx_apply.specs.Applies.{behind}
-use Rattle.mx_office.specs.Layout.{office_schema}
-use Rattle.mx_office.specs.Stands.{Stands, Rests}
+use Rattle.mx_office.specs.Layout.{office_point}
+use Rattle.mx_office.specs.Stands.{Rests}
+use Rattle.mx_office.proofs.StandsLemmas.{still_on}
 
 -- ── calls that change nothing ──
 
 -- a call that changed nothing left the tables those of the book
 pub rests_still : (old new : State) (book : List Entry) → ChangesNothing old new → Rests old book → Rests new book
-rests_still old new book = rests_kept office_schema (λ trees. Stands trees book) old new
+rests_still old new book nothing = still_on office_point old new book (λ _. nothing)
 
 -- one after the other
 pub nothing_then : (old mid new : State) → ChangesNothing old mid → ChangesNothing mid new → ChangesNothing old new
@@ -42,8 +45,12 @@ survives_itself s P = record { clean = omega arith; shield = λ h. h; counts = o
 
 -- ── the book behind a command ──
 
+-- so in one schema
+rests_in_as : (s : State) (schema : Schema) (one other : List Entry) → (HasCleanDisk s → one ≡ other) → RestsInSchema schema office_point s one → RestsInSchema schema office_point s other
+rests_in_as s schema one other same = rests_same s schema (λ trees. StandsInSchema schema office_point trees one) (λ trees. StandsInSchema schema office_point trees other) (λ clean trees is. subst (StandsInSchema schema office_point trees) (same clean) is)
+
 pub rests_as : (s : State) (one other : List Entry) → (HasCleanDisk s → one ≡ other) → Rests s one → Rests s other
-rests_as s one other same r = rests_same s office_schema (λ trees. Stands trees one) (λ trees. Stands trees other) (λ clean trees is. subst (Stands trees) (same clean) is) r
+rests_as s one other same r = record { schema = r.schema; is = r.is; tables = rests_in_as s r.schema one other same r.tables }
 
 after_new : (book : List Entry) (command : Entry) → judge book command ≡ verdict.New → book_after book command ≡ book ++ command ∷ []
 after_new book command is = ap (λ v. cond (is_new v) (book ++ command ∷ []) book) is

@@ -11,10 +11,10 @@ use Rattle.mx_layout.specs.TableName.{TableName}
 use Rattle.mx_layout.specs.declared.fault.TableFault.{TableFault}
 use Rattle.mx_layout.specs.declared.fault.TableFault.TheVariants as table
 use Rattle.mx_apply.specs.writing.Changes.{AllRise}
+use Rattle.mx_apply.specs.writing.Written.{IsSettled}
 use Rattle.mx_apply.proofs.WritingProofs.RowLemmas.{rise_then}
 use Rattle.mx_apply.specs.Applies.{IsIdle, IsNoDamage, ReplyOf}
 use Rattle.mx_office.specs.Faults.{fault_from}
-use Rattle.mx_office.specs.Layout.{office_schema}
 use Rattle.mx_office.specs.OnTop.{AreAnswered, LeadsTo}
 use Rattle.mx_office.specs.Stands.{NoneAccepted}
 use Rattle.mx_faults.specs.declared.fault.Fault.TheVariants.{Store, NeedsReopen, Damaged}
@@ -23,13 +23,13 @@ use Rattle.mx_faults.specs.declared.fault.Fault.TheVariants.{Store, NeedsReopen,
 
 -- a file keeps its tables, and their rowids rise
 abbrev Goes : Database → Database → Type 0
-Goes before after = before.schema ≡ office_schema → AllRise before → (after.schema ≡ office_schema) × AllRise after
+Goes before after = IsSettled before.schema → AllRise before → IsSettled after.schema × AllRise after
 
 goes_same : (before after : Database) → after ≡ before → Goes before after
-goes_same before after same has rise = (ap (λ (d : Database). d.schema) same ∙ has, subst AllRise (sym same) rise)
+goes_same before after same has rise = (subst (λ (d : Database). IsSettled d.schema) (sym same) has, subst AllRise (sym same) rise)
 
 leads_on : (command : Entry) (reply : Reply) (before after : Database) → LeadsTo command reply before after → Goes before after
-leads_on command (Accepted seq) before after it has rise = (it.3.schema ∙ has, rise_then _ before after it.3 rise)
+leads_on command (Accepted seq) before after it has rise = (subst IsSettled (sym it.3.schema) has, rise_then _ before after it.3 rise)
 leads_on command (Already seq) before after same has rise = goes_same before after same has rise
 leads_on command (Refused why) before after same has rise = goes_same before after same has rise
 

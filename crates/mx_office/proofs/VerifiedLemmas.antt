@@ -6,10 +6,10 @@ use Rattle.mx_book.specs.commands.Act.{Entry}
 use Rattle.mx_layout.specs.Point.{IsStop}
 use Rattle.mx_layout.specs.declared.fault.TableFault.{TableFault}
 use Rattle.mx_book_tables.specs.stands.Schemas.{HasTablesAt, indexes_at}
+use Rattle.mx_book_tables.specs.stands.Stands.{RestsAt}
 use Rattle.mx_verify.specs.Verifies.{IsVerified, Tells}
 use Rattle.mx_office.specs.Faults.{call_answer, fault_from}
-use Rattle.mx_office.specs.Layout.{office_point, office_schema}
-use Rattle.mx_office.specs.Stands.{Rests}
+use Rattle.mx_office.specs.Layout.{office_point}
 use Rattle.mx_faults.specs.declared.fault.Fault.{Fault}
 use Rattle.mx_faults.specs.declared.fault.Fault.TheVariants.{Memory, Store}
 
@@ -19,7 +19,7 @@ found_of_book (Ok same) is = is
 found_of_book (Err why) (inl memory) = inl (ap fault_from memory)
 found_of_book (Err why) (inr store) = inr (ap fault_from store)
 
-module _ (s : State) (book : List Entry) (rests : Rests s book) (clean : HasCleanDisk s) (is_open : IsTrue s.is_open) where
+module _ (s : State) (book : List Entry) (rests : RestsAt office_point s book) (clean : HasCleanDisk s) (is_open : IsTrue s.is_open) where
   has_tables : HasTablesAt office_point s.now.schema
   has_tables = record { rest = []; more = indexes_at office_point; is = rests.schema clean is_open }
 

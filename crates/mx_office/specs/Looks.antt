@@ -10,10 +10,9 @@ use Rattle.mx_layout.specs.declared.fault.TableFault.TheVariants.{Damaged}
 use Rattle.mx_layout.specs.Crash.{ChangesNothing}
 use Rattle.mx_tables.specs.Calls.{OnRead}
 use Rattle.mx_lookups.specs.numbers.Damage.{IsDamaged}
-use Rattle.mx_lookups.specs.numbers.Reads.{IsStop}
+use Rattle.mx_lookups.specs.numbers.Reads.{HasTablesOfRows, IsStop}
 use Rattle.mx_row_questions.specs.lists.Answering.{AnswerListsAs}
 use Rattle.mx_apply.specs.Applies.{IsNoDamage}
-use Rattle.mx_office.specs.Layout.{office_schema}
 use Rattle.mx_office.specs.Stands.{Rests}
 
 -- something was looked up, of which this is so by a book and this by any rows, and a table is told damaged for this reason
@@ -26,8 +25,8 @@ pub record LooksUp {V : Type 0} (Is : List Entry → V → Type 0) (IsOfRows : T
   -- of the book that the tables stand for, none of which is damaged
   pub of_book : (book : List Entry) → Rests old book → HasCleanDisk new → MatchResult result (Is book) IsNoDamage
   -- of whichever rows the tables have
-  pub of_rows : HasCleanDisk new → old.now.schema ≡ office_schema → IfOk result (IsOfRows old.now.trees)
-  pub damaged : HasCleanDisk new → old.now.schema ≡ office_schema → (name : TableName) → result ≡ Err (Damaged name) → Why name old.now.trees
+  pub of_rows : HasCleanDisk new → HasTablesOfRows old.now.schema → IfOk result (IsOfRows old.now.trees)
+  pub damaged : HasCleanDisk new → HasTablesOfRows old.now.schema → (name : TableName) → result ≡ Err (Damaged name) → Why name old.now.trees
 
 -- a list or a life is this of a book, or refused so where there is none
 abbrev pub IsFound : {X : Type 0} → Refusal → (List Entry → Option X) → List Entry → Result X Refusal → Type 0

@@ -19,16 +19,16 @@ use Rattle.mx_tables.specs.inserts.Sets.{GainsRows}
 use Rattle.mx_lookups.specs.numbers.Damage.{IsDamaged}
 use Rattle.mx_apply.specs.writing.Changes.{AllRise}
 use Rattle.mx_apply.specs.writing.Commits.{IsWritten}
-use Rattle.mx_apply.specs.writing.Written.{with_rows}
+use Rattle.mx_apply.specs.writing.Written.{IsSettled, with_rows}
 use Rattle.mx_apply.specs.made.Found.{AreRowsFor}
 use Rattle.mx_apply.specs.Applies.{AreItsRows, ReplyOf}
-use Rattle.mx_office.specs.Layout.{office_point, office_schema}
+use Rattle.mx_office.specs.Layout.{office_point}
 use Rattle.mx_faults.specs.declared.fault.Fault.{Fault}
 use Rattle.mx_faults.specs.declared.fault.Fault.TheVariants.{Store}
 
--- the file is one of the office, whatever rows its tables have: these are those of its point, their rowids rise, and all of it is committed
+-- the file is one of the office, whatever rows its tables have, and whatever further tables and indexes: it has those of its point, their rowids rise, and all of it is committed
 pub record IsOfOffice (s : State) : Type 0 where
-  pub schema : s.now.schema ≡ office_schema
+  pub schema : IsSettled s.now.schema
   pub rises : AllRise s.now
   pub settled : s.now ≡ s.committed
 

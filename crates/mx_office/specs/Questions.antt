@@ -12,7 +12,7 @@ use Rattle.mx_faults.specs.declared.fault.Fault.{Fault}
 use Rattle.mx_faults.specs.declared.fault.Fault.TheVariants.{Damaged}
 use Rattle.mx_office.specs.declared.office.Office.{Office}
 use Rattle.mx_office.specs.Faults.{IsAnswer}
-use Rattle.mx_office.specs.Layout.{office_schema}
+use Rattle.mx_lookups.specs.numbers.Reads.{HasTablesOfRows}
 use Rattle.mx_office.specs.Office.{office_state, IsReady, StandsFor}
 
 -- a question was answered, to which this is said of a book
@@ -20,6 +20,6 @@ pub record IsAnsweredBy {S : Type 0} {g : Ghosts S} {X : Type 0} (said : List En
   -- of the book that the tables stand for, unless memory or the store failed
   pub exact : (book : List Entry) → IsReady old → StandsFor old book → HasCleanDisk (office_state new) → IsAnswer (said book) result
   -- of each book as which the rows answer that the tables have, if it was answered at all
-  pub sound : HasCleanDisk (office_state new) → (office_state old).now.schema ≡ office_schema → ((fault : Fault) → result ≢ Err (Failed fault)) → (book : List Entry) → AnswerListsAs (office_state old).now.trees book → result ≡ said book
+  pub sound : HasCleanDisk (office_state new) → HasTablesOfRows (office_state old).now.schema → ((fault : Fault) → result ≢ Err (Failed fault)) → (book : List Entry) → AnswerListsAs (office_state old).now.trees book → result ≡ said book
   -- a table is answered damaged only where it is
-  pub damaged : HasCleanDisk (office_state new) → (office_state old).now.schema ≡ office_schema → (table : TableName) → result ≡ Err (Failed (Damaged table)) → IsDamaged table (office_state old).now.trees
+  pub damaged : HasCleanDisk (office_state new) → HasTablesOfRows (office_state old).now.schema → (table : TableName) → result ≡ Err (Failed (Damaged table)) → IsDamaged table (office_state old).now.trees

@@ -5,8 +5,9 @@
 //!
 //! These stand beside the clauses of the headline, which `docs/PROMISES.md` has. `apply` promises by `ran` what `run`
 //! does of a run of its one command, so that each field of `IsRun` is said of both; `MarksDoubt` is its field `doubt`,
-//! and of a question a field of `IsAsked`. Over any rows is said of a file of the office (`IsOfOffice`): its tables are
-//! those of its point, their rowids rise, and all is committed.
+//! and of a question a field of `IsAsked`. Over any rows is said of a file of the office (`IsOfOffice`): it has the tables of
+//! its point, their rowids rise, and all is committed; of a question it is enough that it has them. So is what is said of a
+//! book (`Rests`). Behind these tables there may be others, and any indexes, where no table refers to another.
 //!
 //! - Over any rows, good or damaged, a command answered `Already`, `Refused`, `Memory` or `Damaged` changes no table:
 //!   `apply`: `untouched`.
@@ -43,7 +44,8 @@
 //!   `IsRun`: `counted`, `done`, `cut`; `MarksDoubt`: `stopped`, `reopen`, `usable`.
 //! - An office is opened only in a file at a point that a file can be at; a newer layout, and a point that no file can
 //!   be at, are answered as such, `NotOurs` only where `office` has not one row, and that a layout is older never; each
-//!   answer is that of the query of `office`, whatever the schema is: `open_office`: `told`, `ours` (`file`, `exact`),
+//!   answer is that of the query of `office`, whatever the schema is, and so is the point at which one is opened behind a
+//!   move: `open_office`: `told`, `there`, `ours` (`file`, `exact`),
 //!   `reason` (`exact`, `not_ours`), `older`, `ready`. Nothing is said of the other tables, of which a call that needs
 //!   one and finds none answers `Store`, as `transcripts/files.md` and `transcripts/damage.md` show.
 //! - Over any rows of a file at a point, an office is opened at the point of the office alone; and whether one is or

@@ -3,22 +3,27 @@
 //! `open_office` reads the point itself, before `settle` does, since what it answers of a database that is at no point
 //! of ours is said of whatever schema there is; at the newest layout it reads nothing else. A fault of the move that
 //! speaks of no file of ours, or of a newer layout, is told as damage of `office`: nobody else writes the file, so its
-//! row is not what was just read.
-ghost use Rattle.std.specs.Prelude.{◌≡◌, ◌≢◌, ◌≤◌, List, None, Some, false, IfOk, IfErr, MatchResult};
+//! row is not what was just read. Behind a move the point is read once more, so that an office is opened at its own point
+//! alone, whatever tables the file has beside those of the program: of such a file it is not known what a step makes.
+ghost use Rattle.std.specs.Prelude.{◌≡◌, ◌≢◌, ◌≤◌, List, None, Ok, Some, false, IsTrue, IfOk, IfErr, MatchResult};
 ghost use Rattle.sqlite.specs.Held.{state};
 ghost use Rattle.sqlite.specs.State.{HasCleanDisk};
 ghost use Rattle.mx_book.specs.commands.Act.{Entry};
 ghost use Rattle.mx_base.specs.declared.point.Point.{Point};
+ghost use Rattle.mx_layout.specs.Crash.{ChangesNothing};
+ghost use Rattle.mx_layout.specs.Point.{FitsPoint, HoldsPoint, TellsPoint};
 ghost use Rattle.mx_book_tables.specs.stands.Schemas.{IsOfFile};
 ghost use Rattle.mx_book_tables.specs.stands.Stands.{RestsAt};
 ghost use Rattle.mx_office.specs.Faults.{is_office_point, open_answer, IsStop, IsStopped};
+ghost use Rattle.mx_office.specs.Layout.{office_point};
 ghost use Rattle.mx_office.specs.Office.{office_state, IsReady};
-ghost use Rattle.mx_office.specs.Opening.{ChangesOnWay, HasReason, MovesOn, SaysPoint, WasOurs};
+ghost use Rattle.mx_office.specs.Opening.{ChangesOnWay, HasReason, IsArrived, IsThere, MovesOn, SaysPoint, WasOurs};
 
 use crate::fault::{moved_fault_of, open_fault_of};
 use crate::office::Office;
 use mx_base::Point;
 use mx_faults::OpenFault;
+use mx_faults::moving::fault_of;
 use mx_layout::{Table, point};
 use mx_migrate::settle::{ENOUGH_COMMITS, NEWEST_LAYOUT, settle};
 use mx_registers::points::is_on_way;
@@ -45,18 +50,21 @@ fn open_answer(at: Point) -> Option<OpenFault>
     }
 }
 
-// Moves a file to the point of the office, with as many commits as any takes, and answers why it is not there, if it isn't.
-fn move_on<S: Alter>(alloc: Global, conn: &mut Connection<S>, at_most: u32) -> Option<OpenFault>
-    requires idle { conn.old.in_transaction ≡ false }
-    requires enough { ENOUGH_COMMITS ≤ at_most }
+// Reads the point of a file that was moved, and answers why it is not that of the office, if it isn't.
+fn arrived<S: Alter>(conn: &mut Connection<S>) -> Option<OpenFault>
+    requires { conn.old.in_transaction ≡ false }
     ensures idle { conn.new.in_transaction ≡ false }
-    ensures moves { MovesOn (state S.Store conn.old) (state S.Store conn.new) result }
+    ensures unchanged { ChangesNothing (state S.Store conn.old) (state S.Store conn.new) }
+    ensures told { HasCleanDisk (state S.Store conn.new) → result ≡ None
+        → TellsPoint S.Store conn.old (Ok office_point) }
+    ensures exact { HasCleanDisk (state S.Store conn.new) → (at : Point)
+        → (IsTrue (state S.Store conn.old).is_open → HoldsPoint at (state S.Store conn.old).now)
+        → FitsPoint at → IsArrived at result }
+    ensures open { HasCleanDisk (state S.Store conn.new) → result ≡ None
+        → IsTrue (state S.Store conn.old).is_open }
     ensures stops { (why : _) → result ≡ Some why → IsStopped why }
-    ensures whole { (at : Point) (book : List Entry) → IsOfFile at
-        → RestsAt at (state S.Store conn.old) book → HasCleanDisk (state S.Store conn.new)
-        → (why : _) → result ≡ Some why → IsStop why }
 {
-    match settle(alloc, conn, at_most) {
+    match point(conn) {
         Ok(at) => {
             if is_office_point(at) {
                 None
@@ -64,6 +72,25 @@ fn move_on<S: Alter>(alloc: Global, conn: &mut Connection<S>, at_most: u32) -> O
                 Some(OpenFault::Damaged(Table::Office))
             }
         }
+        Err(fault) => Some(moved_fault_of(fault_of(fault))),
+    }
+}
+
+// Moves a file to the point of the office, with as many commits as any takes, and answers why it is not there, if it isn't.
+fn move_on<S: Alter>(alloc: Global, conn: &mut Connection<S>, at_most: u32) -> Option<OpenFault>
+    requires idle { conn.old.in_transaction ≡ false }
+    requires enough { ENOUGH_COMMITS ≤ at_most }
+    ensures idle { conn.new.in_transaction ≡ false }
+    ensures moves { MovesOn (state S.Store conn.old) (state S.Store conn.new) result }
+    ensures there { HasCleanDisk (state S.Store conn.new) → result ≡ None
+        → IsThere S.Store (state S.Store conn.new) }
+    ensures stops { (why : _) → result ≡ Some why → IsStopped why }
+    ensures whole { (at : Point) (book : List Entry) → IsOfFile at
+        → RestsAt at (state S.Store conn.old) book → HasCleanDisk (state S.Store conn.new)
+        → (why : _) → result ≡ Some why → IsStop why }
+{
+    match settle(alloc, conn, at_most) {
+        Ok(_) => arrived(conn),
         Err(fault) => Some(moved_fault_of(fault)),
     }
 }
@@ -73,6 +100,8 @@ fn unopened<S: Alter>(alloc: Global, conn: &mut Connection<S>) -> Option<OpenFau
     requires { conn.old.in_transaction ≡ false }
     ensures idle { conn.new.in_transaction ≡ false }
     ensures moves { MovesOn (state S.Store conn.old) (state S.Store conn.new) result }
+    ensures there { HasCleanDisk (state S.Store conn.new) → result ≡ None
+        → IsThere S.Store (state S.Store conn.new) }
     ensures changes { ChangesOnWay S.Store conn.old (state S.Store conn.new) }
     ensures told { HasCleanDisk (state S.Store conn.new) → SaysPoint S.Store conn.old result }
     ensures ours { HasCleanDisk (state S.Store conn.new) → result ≡ None
@@ -112,6 +141,10 @@ pub fn open_office<S: Alter>(
     ensures moves { MatchResult result
         (λ office. MovesOn (state S.Store conn) (office_state office) None)
         (λ e. MovesOn (state S.Store conn) (state S.Store e.0) (Some e.1)) }
+
+    // Of whatever database, an office is opened at its own point alone, as the query of `office` tells it.
+    ensures there { IfOk result (λ office. HasCleanDisk (office_state office)
+        → IsThere S.Store (office_state office)) }
 
     // Of whatever database, nothing changes but where the point that was read is on the way.
     ensures changes { MatchResult result

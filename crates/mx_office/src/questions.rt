@@ -12,8 +12,8 @@ ghost use Rattle.mx_lookups.specs.numbers.Given.{LifeOf};
 ghost use Rattle.mx_row_questions.specs.lists.Listing.{unknown};
 ghost use Rattle.mx_office.specs.Calls.{stop_asking, stop_in, IsAsked};
 ghost use Rattle.mx_office.specs.Faults.{found_or};
-ghost use Rattle.mx_office.specs.Layout.{office_schema};
 ghost use Rattle.mx_office.specs.Office.{office_state, IsReady, StandsFor};
+ghost use Rattle.mx_lookups.specs.numbers.Reads.{HasTablesOfRows};
 ghost use Rattle.mx_office.specs.Questions.{IsAnsweredBy};
 
 use crate::asking::{entries_found, life_found, list_found};
@@ -69,7 +69,7 @@ impl<S: Alter> Office<S> {
 
         // Over whatever rows, it is the life that these give.
         ensures found { HasCleanDisk (office_state self.new)
-            → (office_state self.old).now.schema ≡ office_schema → IfOk result
+            → HasTablesOfRows (office_state self.old).now.schema → IfOk result
             (λ life. LifeOf item.now (office_state self.old).now.trees (Some life)) }
     {
         if self.needs_reopen {
@@ -89,10 +89,10 @@ impl<S: Alter> Office<S> {
             → MatchResult result (λ v. v.items ≡ entries_from from at_most book)
             (λ fault. (fault ≡ Fault.Memory) ⊎ (fault ≡ Fault.Store)) }
         ensures sound { HasCleanDisk (office_state self.new)
-            → (office_state self.old).now.schema ≡ office_schema → IfOk result
+            → HasTablesOfRows (office_state self.old).now.schema → IfOk result
             (λ v. AreEntries from at_most (office_state self.old).now.trees v.items) }
         ensures damaged { HasCleanDisk (office_state self.new)
-            → (office_state self.old).now.schema ≡ office_schema → (table : _)
+            → HasTablesOfRows (office_state self.old).now.schema → (table : _)
             → result ≡ Err (Fault.Damaged table)
             → IsDamaged table (office_state self.old).now.trees
             ⊎ IsSkipped table (office_state self.old).now.trees }

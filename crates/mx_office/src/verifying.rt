@@ -6,9 +6,10 @@ ghost use Rattle.mx_layout.specs.Names.{table_name};
 ghost use Rattle.mx_layout.specs.TableName.{TableName};
 ghost use Rattle.mx_book_tables.specs.stands.Family.{is_at};
 ghost use Rattle.mx_book_tables.specs.stands.Schemas.{HasTablesAt};
+ghost use Rattle.mx_book_tables.specs.stands.Stands.{RestsAt};
 ghost use Rattle.mx_office.specs.Calls.{stop_in, IsAsked};
 ghost use Rattle.mx_office.specs.Layout.{office_point};
-ghost use Rattle.mx_office.specs.Office.{office_state, IsReady, StandsFor};
+ghost use Rattle.mx_office.specs.Office.{office_state, IsReady};
 ghost use Rattle.mx_office.specs.Verified.{SaysVerified};
 
 use crate::fault::{call_answer, call_failed};
@@ -34,8 +35,9 @@ impl<S: Alter> Office<S> {
             → has_table (office_state self.old).now.schema (table_name name) ≡ false
             → result ≡ Err Fault.Store }
 
-        // Of the tables of a book.
-        ensures exact { (book : _) → IsReady self.old → StandsFor self.old book
+        // Of the tables of a book, with no other table or index.
+        ensures exact { (book : _) → IsReady self.old
+            → RestsAt office_point (office_state self.old) book
             → HasCleanDisk (office_state self.new) → IsTrue (office_state self.old).is_open
             → MatchResult result (λ same. same ≡ true)
             (λ fault. (fault ≡ Fault.Memory) ⊎ (fault ≡ Fault.Store)) }

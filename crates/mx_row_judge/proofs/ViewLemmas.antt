@@ -1,5 +1,5 @@
 -- What look-ups answer to the judge, and what its questions read of a connection.
-use Rattle.std.proofs.Common.{◌≡◌, inl, inr, ◌∙◌, List, Ok, Err, Result, refl, sym, ap, subst, arith}
+use Rattle.std.proofs.Common.{◌≡◌, inl, inr, ◌∙◌, List, Ok, Err, Result, refl, sym, subst, arith}
 use Rattle.std.specs.Prelude.{IfOk, OnOk, ⊤}
 use Rattle.std.specs.Result.{MatchResult}
 use Rattle.sqlite.specs.Store.{Ghosts}
@@ -13,7 +13,7 @@ use Rattle.mx_layout.specs.Crash.{IsWithin}
 use Rattle.mx_layout.specs.declared.fault.TableFault.{TableFault}
 use Rattle.mx_book_tables.specs.stands.Stands.{HasRowsAt}
 use Rattle.mx_lookups.specs.numbers.AnyRows.{ReadsAny}
-use Rattle.mx_lookups.specs.numbers.Reads.{Reads, rows_point}
+use Rattle.mx_lookups.specs.numbers.Reads.{HasTablesOfRows, Reads, rows_point}
 use Rattle.mx_lookups.specs.numbers.Told.{Damage, TellsDamage}
 use Rattle.mx_row_judge.specs.Answering.{Only, SpeaksFor}
 use Rattle.mx_row_judge.specs.View.{Asks, AskedOn, IsAny, SharesWith, StoppedOn, held, rows_reading}
@@ -97,7 +97,7 @@ module _ {S V W : Type 0} (g : Ghosts S) (AnswersAs : Trees → List Entry → T
   speaks_there : (result : Result V TableFault) → Asks g AnswersAs Of Is old new result → HasCleanDisk (state g new) → (book : List Entry) → SpeaksFor AnswersAs (state g start) book → SpeaksFor AnswersAs (state g old) book
   speaks_there result asks clean book speaks =
       let same = one.unchanged (clean_before result asks.asked clean) speaks.schema in
-      record { schema = ap (λ (d : Database). d.schema) same ∙ speaks.schema; answers = subst (λ (d : Database). AnswersAs d.trees book) (sym same) speaks.answers }
+      record { schema = subst (λ (d : Database). HasTablesOfRows d.schema) (sym same) speaks.schema; answers = subst (λ (d : Database). AnswersAs d.trees book) (sym same) speaks.answers }
 
   -- what they leave
   frame : AskedOn g old new → Reads IsAny (state g start) (state g new) (Ok tt)

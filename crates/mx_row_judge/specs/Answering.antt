@@ -23,12 +23,11 @@ use Rattle.mx_lists.specs.Fleet.{all_open, tails}
 use Rattle.mx_lists.specs.Inventory.{place_fitted, serials}
 use Rattle.mx_layout.specs.kept.Cells.{kept_aircraft, kept_component, kept_entry}
 use Rattle.mx_table_rows.specs.chosen.Choices.{backward, has_value, is_any}
-use Rattle.mx_book_tables.specs.stands.Schemas.{schema_at}
 use Rattle.mx_row_rules.specs.found.Names.{last_number}
 use Rattle.mx_row_rules.specs.found.Said.{aircraft_in, component_in}
 use Rattle.mx_lookups.specs.numbers.AnyRows.{Gives, GivesFirst}
 use Rattle.mx_lookups.specs.numbers.Given.{AllOpenDefects, BaseOf, ClockOf, DefectOf, ExtensionOf, FittedTo, HasRoom, IsAccomplished, IsRectified, IsRetired, IsTaken, LifeOf, NextRevision, OpenDefects, PartAt, PlaceFitted, Serials, TailFitted, Tails, TaskOf, TasksInForce}
-use Rattle.mx_lookups.specs.numbers.Reads.{rows_point}
+use Rattle.mx_lookups.specs.numbers.Reads.{HasTablesOfRows}
 use Rattle.mx_row_judge.specs.known.Known.{KnownAs}
 
 -- whatever the rows answer to a question, it is this: they may answer nothing
@@ -82,7 +81,7 @@ pub record AnswerListsAs (trees : Trees) (book : List Entry) : Type 0 where
 
 -- a transaction is at the point at which rows are looked up, and they answer as the book does
 pub record SpeaksFor (AnswersAs : Trees → List Entry → Type 0) (s : State) (book : List Entry) : Type 0 where
-  pub schema : s.now.schema ≡ schema_at rows_point
+  pub schema : HasTablesOfRows s.now.schema
   pub answers : AnswersAs s.now.trees book
 
 -- the verdict on a command is the one on each book as which the rows answer

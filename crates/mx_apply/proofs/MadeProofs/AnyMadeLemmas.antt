@@ -52,7 +52,7 @@ any_follows P Q old new (Err e) so r = record { found = λ clean has. tt }
 -- the rows that a raw look-up chose
 pub chosen_read : {X A : Type 0} {k : Kept X} {book_rows : List Entry → List X} (it : IsTable k book_rows) {most : Option ℕ} {order : Row → Row → Ordering} {chosen : Row → Bool} {old new : State} {rows : Vec X A} → ReadsFirst k most order chosen (λ (v : Vec X A). v.items) old new (Ok rows)
     → ReadsAny (λ trees (v : Vec X A). AreChosen k most order chosen trees v.items) old new (Ok rows)
-chosen_read {k = k} it r = record { found = λ clean has. record { are = r.rows clean (subst k.IsIn (sym has) it.is_in); fit = r.fits } }
+chosen_read {k = k} it r = record { found = λ clean has. record { are = r.rows clean (it.is_in _ has); fit = r.fits } }
 
 -- ── when a task is due ──
 

@@ -34,14 +34,13 @@ use Rattle.mx_layout.specs.Names.{table_named}
 use Rattle.mx_layout.specs.kept.Cells.{kept_aircraft, kept_component, kept_total2}
 use Rattle.mx_layout.specs.kept.Kept.{Kept}
 use Rattle.mx_table_rows.specs.chosen.Choices.{has_value, is_any}
-use Rattle.mx_book_tables.specs.stands.Schemas.{schema_at}
 use Rattle.mx_row_rules.specs.found.Names.{aircraft_number, component_number}
 use Rattle.mx_row_rules.proofs.FoundProofs.FoundLemmas.{serial_numbered, tail_numbered}
 use Rattle.mx_row_rules.proofs.FoundProofs.ListLemmas.{all_left, first_left}
 use Rattle.mx_row_rules.proofs.FoundProofs.StatedLemmas.{airframe_numbered, component_numbered, no_item_numbered}
 use Rattle.mx_lookups.specs.numbers.AnyRows.{AreChosen, Gives, ReadsAny}
 use Rattle.mx_lookups.specs.numbers.Damage.{HasRow, IsDamaged}
-use Rattle.mx_lookups.specs.numbers.Reads.{Reads, rows_point}
+use Rattle.mx_lookups.specs.numbers.Reads.{HasTablesOfRows, Reads}
 use Rattle.mx_lookups.proofs.NumbersProofs.AnyLemmas.{any_later, empty_is, first_kept, kept_unmet}
 use Rattle.mx_lookups.proofs.NumbersProofs.LookupLemmas.{number_is}
 use Rattle.mx_apply.specs.made.Totals.{HasItem, TotalOf}
@@ -209,7 +208,7 @@ item_unmet trees n (inr it) none = inr (inl (_, (3, omega arith, refl), refl, ke
 -- an item was found behind no total
 module _ {V : Type 0} (n : ℕ) (P : List Entry → V → Type 0) (a b c : State) (v : V) (there : Bool) (one : Reads P a b (Ok v)) (within : IsWithin b c) (total : ReadsAny (Gives kept_total2 (has_value 0 (Int (pos n))) (λ rows. slice_get rows 0)) a b (Ok None))
     (item : ReadsAny (λ trees it. IsTrue it ↔ HasItem n trees) b c (Ok there)) where
-  pub missing_total : there ≡ true → HasCleanDisk c → a.now.schema ≡ schema_at rows_point → IsDamaged table.Total2 a.now.trees
+  pub missing_total : there ≡ true → HasCleanDisk c → HasTablesOfRows a.now.schema → IsDamaged table.Total2 a.now.trees
   missing_total found clean has = item_unmet a.now.trees n (((any_later P _ a b c v there one within item).found clean has).0 found) (total.found (omega (arith, clean, within.survives.clean)) has)
 
   -- or none was

@@ -36,15 +36,14 @@ use Rattle.mx_layout.specs.Names.{table_named}
 use Rattle.mx_layout.specs.kept.Cells.{kept_entry, kept_aircraft, kept_place, kept_component, kept_programme, kept_task, kept_opening, kept_crs, kept_crs_line, kept_defect, kept_extension, kept_sector2_rows, kept_span2, kept_total2, kept_base2}
 use Rattle.mx_layout.proofs.KeptProofs.OntoLemmas.{on_top_keeps}
 use Rattle.mx_book_tables.specs.stands.Family.{Fit, FitBrought, Rows, is_at, is_register, is_there, none, of, rows_of}
-use Rattle.mx_book_tables.specs.stands.Schemas.{schema_at}
-use Rattle.mx_book_tables.specs.stands.Stands.{StandsAt}
+use Rattle.mx_book_tables.specs.stands.Stands.{StandsInSchema}
 use Rattle.mx_book_tables.proofs.StandsProofs.FamilyLemmas.{Facts, RegisterFacts, facts, never, register_facts}
-use Rattle.mx_book_tables.proofs.StandsProofs.SchemaLemmas.{has_tables}
 use Rattle.mx_tables.specs.inserts.Sets.{GainsRows}
-use Rattle.mx_apply.specs.writing.Written.{written_point, is_same_base, is_same_span, is_same_total, with_added, with_changed, with_rows}
+use Rattle.mx_apply.specs.writing.Written.{IsSettled, written_point, is_same_base, is_same_span, is_same_total, with_added, with_changed, with_rows}
 use Rattle.mx_apply.proofs.WritingProofs.CellLemmas.{bases_put_are, is_of_same_task}
 use Rattle.mx_apply.proofs.WritingProofs.EnterLemmas.{base_facts, enter, is_layout, span_facts, total_facts}
 use Rattle.mx_apply.proofs.WritingProofs.RowLemmas.{Keeps, all_in_place_keeps}
+use Rattle.mx_apply.proofs.WritingProofs.ThereLemmas.{in_settled}
 
 -- ── in any order ──
 
@@ -137,16 +136,16 @@ module _ (book : List Entry) (command : Entry) (x : CommandRows) (due : AreComma
   rows_fit name there fit = more_fit name (rows_of name) (facts name) (register_facts name) refl there book command fit (brought_fit name refl there)
 
   -- tables that stood for the book, and whose rows became what the rows of the command make of them, stand for the book with it
-  pub stand : (old next : Database) → old.schema ≡ schema_at written_point → StandsAt written_point old.trees book → GainsRows (with_rows x) old next → (next.schema ≡ schema_at written_point) × StandsAt written_point next.trees after
-  stand old next has stands gains =
+  pub stand : (schema : Schema) → IsSettled schema → (old next : Database) → old.schema ≡ schema → StandsInSchema schema written_point old.trees book → GainsRows (with_rows x) old next → (next.schema ≡ schema) × StandsInSchema schema written_point next.trees after
+  stand schema settled old next has stands gains =
       let new_has = gains.schema ∙ has in
       let in_old : (name : TableName) → is_at written_point name ≡ true → Contains old.schema.tables (table_named name) = λ name there.
-      subst (λ (s : Schema). Contains s.tables (table_named name)) (sym has) ((has_tables written_point name).0 there) in (
+      subst (λ (s : Schema). Contains s.tables (table_named name)) (sym has) (in_settled schema settled name there) in (
         new_has,
         record {
           lies = record {
             sound = subst (λ (s : Schema). IsSound s next.trees) new_has (gains.sound (subst (λ (s : Schema). IsSound s old.trees) (sym has) stands.lies.sound));
-            rises = λ name there. gains.rises name (in_old name there) (stands.lies.rises name there);
+            rises = λ name there. gains.rises name (subst (λ (s : Schema). Contains s.tables (table_named name)) (sym has) there) (stands.lies.rises name there);
           };
           rows = record {
             is_book = IsBook-entered book command b shape new;

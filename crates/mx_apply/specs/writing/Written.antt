@@ -1,5 +1,5 @@
 -- What the rows of a command make of the rows of each table of layout 2.
-use Rattle.std.specs.Prelude.{◌≡◌, pos, Bool, ◌&&◌, List, [], ◌∷◌}
+use Rattle.std.specs.Prelude.{pos, Bool, ◌&&◌, List, [], ◌∷◌}
 use Rattle.sqlite.specs.declared.types.Value.TheVariants.{Int, Text}
 use Rattle.sqlite.specs.Order.{Row}
 use Rattle.sqlite.specs.Schema.{Schema}
@@ -12,19 +12,21 @@ use Rattle.mx_row_rules.specs.declared.changes.rows.AddedRows.{AddedRows}
 use Rattle.mx_row_rules.specs.declared.changes.rows.ChangedRows.{ChangedRows}
 use Rattle.mx_row_rules.specs.declared.changes.rows.CommandRows.{CommandRows}
 use Rattle.mx_layout.specs.TableName.{TableName}
+use Rattle.mx_layout.specs.Contents.{HasNoReferences}
 use Rattle.mx_layout.specs.kept.Cells.{kept_entry, kept_aircraft, kept_place, kept_component, kept_programme, kept_task, kept_opening, kept_crs, kept_crs_line, kept_defect, kept_extension, kept_sector2_rows, kept_span2, kept_total2, kept_base2}
 use Rattle.mx_layout.specs.kept.Family.{on_top}
-use Rattle.mx_book_tables.specs.stands.Schemas.{schema_at}
 use Rattle.mx_table_rows.specs.chosen.Choices.{has_value}
+use Rattle.mx_lookups.specs.numbers.Reads.{HasTablesOfRows}
 use Rattle.mx_apply.specs.writing.Changes.{all_in_place}
 
 -- the point of the files to which commands are written: settled at layout 2
 abbrev pub written_point : Point
 written_point = settled 2
 
--- the schema is that of a file that is settled at layout 2
-abbrev pub IsSettled : Schema → Type 0
-IsSettled schema = schema ≡ schema_at written_point
+-- the schema has the tables of a file that is settled at layout 2, and behind them whatever tables and indexes; no table refers to another
+pub record IsSettled (schema : Schema) : Type 0 where
+  pub tables : HasTablesOfRows schema
+  pub plain : HasNoReferences schema
 
 -- ── in whose place a row comes ──
 

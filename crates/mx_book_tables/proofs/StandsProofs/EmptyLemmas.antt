@@ -47,7 +47,7 @@ empty_stands layout is trees empty =
     record {
       lies = record {
         sound = subst (λ (s : Schema). IsSound s trees) (sym same) empty.sound;
-        rises = λ name there. empty.rises name (contained name there);
+        rises = λ name there. empty.rises name (subst (λ (s : Schema). Contains s.tables (table_named name)) same there);
       };
       rows = record {
         is_book = empty_book;

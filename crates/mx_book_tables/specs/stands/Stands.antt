@@ -1,5 +1,6 @@
 -- The tables that stand for a book at a point.
-use Rattle.std.specs.Prelude.{◌≡◌, ◌⊎◌, true, List, IsPermutation}
+use Rattle.std.specs.Prelude.{◌≡◌, ◌⊎◌, true, Contains, List, IsPermutation}
+use Rattle.sqlite.specs.Schema.{Schema}
 use Rattle.sqlite.specs.Tree.{Trees}
 use Rattle.sqlite.specs.State.{State}
 use Rattle.sqlite_catalog.specs.Listing.{IsSound}
@@ -25,22 +26,38 @@ pub record HasRowsAt (at : Point) (trees : Trees) (book : List Entry) : Type 0 w
 
 -- ── what is not of rows ──
 
--- the trees are the tables and indexes of a file at this point and no others, and the rowids of each table rise: what the rows as sets don't say, and what an opening, which reads the point alone, doesn't look at; it holds of new tables, and each call keeps it
-pub record LiesAt (at : Point) (trees : Trees) : Type 0 where
-  pub sound : IsSound (schema_at at) trees
-  pub rises : (name : TableName) → is_at at name ≡ true → Rises (table_named name) trees
+-- the trees are the tables and indexes of this schema and no others, and the rowids of each table rise: what the rows as sets don't say, and what an opening, which reads the point alone, doesn't look at; it holds of new tables, and each call keeps it
+pub record LiesInSchema (schema : Schema) (trees : Trees) : Type 0 where
+  pub sound : IsSound schema trees
+  pub rises : (name : TableName) → Contains schema.tables (table_named name) → Rises (table_named name) trees
+
+-- so of the schema of a file at this point
+abbrev pub LiesAt : Point → Trees → Type 0
+LiesAt at = LiesInSchema (schema_at at)
 
 -- ── both ──
 
--- the trees are the tables of a file at this point, and stand for this book
-pub record StandsAt (at : Point) (trees : Trees) (book : List Entry) : Type 0 where
-  pub lies : LiesAt at trees
+-- the trees are the tables of this schema, among which those of a file at this point stand for this book
+pub record StandsInSchema (schema : Schema) (at : Point) (trees : Trees) (book : List Entry) : Type 0 where
+  pub lies : LiesInSchema schema trees
   pub rows : HasRowsAt at trees book
 
--- no transaction is open, and the tables, and each state of them that a crash may leave, stand for the book at this point
+-- the trees are the tables of a file at this point and no others, and stand for this book
+abbrev pub StandsAt : Point → Trees → List Entry → Type 0
+StandsAt at = StandsInSchema (schema_at at) at
+
+-- no transaction is open, and the tables, and each state of them that a crash may leave, stand for the book at this point, in this schema
+abbrev pub RestsInSchema : Schema → Point → State → List Entry → Type 0
+RestsInSchema schema at s book = RestsAs s schema (λ trees. StandsInSchema schema at trees book)
+
+-- so in the schema of a file at this point
 abbrev pub RestsAt : Point → State → List Entry → Type 0
-RestsAt at s book = RestsAs s (schema_at at) (λ trees. StandsAt at trees book)
+RestsAt at = RestsInSchema (schema_at at) at
 
 -- the tables stand for one of two books
+abbrev pub IsEitherInSchema : Schema → Point → List Entry → List Entry → Trees → Type 0
+IsEitherInSchema schema at one other trees = StandsInSchema schema at trees one ⊎ StandsInSchema schema at trees other
+
+-- so in the schema of a file at this point
 abbrev pub IsEither : Point → List Entry → List Entry → Trees → Type 0
-IsEither at one other trees = StandsAt at trees one ⊎ StandsAt at trees other
+IsEither at = IsEitherInSchema (schema_at at) at

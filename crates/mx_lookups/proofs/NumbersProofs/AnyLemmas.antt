@@ -23,18 +23,17 @@ use Rattle.mx_layout.specs.Names.{table_named}
 use Rattle.mx_layout.specs.kept.Kept.{Kept}
 use Rattle.mx_table_rows.specs.chosen.Choices.{has_value, is_any}
 use Rattle.mx_table_rows.specs.chosen.Calls.{ReadsFirst}
-use Rattle.mx_book_tables.specs.stands.Schemas.{schema_at}
 use Rattle.mx_lookups.specs.numbers.Damage.{HasRow, IsKept, IsUnmet}
 use Rattle.mx_lookups.specs.numbers.AnyRows.{AreChosen, ReadsAny, Gives, GivesFirst, GivesBy}
-use Rattle.mx_lookups.specs.numbers.Reads.{Reads, rows_point}
-use Rattle.mx_lookups.proofs.NumbersProofs.TableLemmas.{IsTable}
+use Rattle.mx_lookups.specs.numbers.Reads.{HasTablesOfRows, Reads}
+use Rattle.mx_lookups.proofs.NumbersProofs.TableLemmas.{IsInEach, IsTable}
 
 -- ── what is found ──
 
 -- what the chosen rows of a table give that stands at the point
-pub given_in : {X V W : Type 0} {k : Kept X} (is_in : k.IsIn (schema_at rows_point)) {most : Option ℕ} {order : Row → Row → Ordering} {chosen : Row → Bool} {items : V → List X} {old new : State} {rows : V} (of : List X → W) {w : W}
+pub given_in : {X V W : Type 0} {k : Kept X} (is_in : IsInEach k) {most : Option ℕ} {order : Row → Row → Ordering} {chosen : Row → Bool} {items : V → List X} {old new : State} {rows : V} (of : List X → W) {w : W}
     → w ≡ of (items rows) → ReadsFirst k most order chosen items old new (Ok rows) → ReadsAny (GivesFirst k most order chosen of) old new (Ok w)
-given_in {k} is_in {most} {order} {chosen} {items} {old} {new} {rows} of is r = record { found = λ clean has. (items rows, record { are = r.rows clean (subst k.IsIn (sym has) is_in); fit = r.fits }, is) }
+given_in {k} is_in {most} {order} {chosen} {items} {old} {new} {rows} of is r = record { found = λ clean has. (items rows, record { are = r.rows clean (is_in _ has); fit = r.fits }, is) }
 
 -- so of a table of which it is known what it keeps
 pub gives : {X V W : Type 0} {k : Kept X} {book_rows : List Entry → List X} (it : IsTable k book_rows) {most : Option ℕ} {order : Row → Row → Ordering} {chosen : Row → Bool} {items : V → List X} {old new : State} {rows : V} (of : List X → W) {w : W}
@@ -56,11 +55,11 @@ any_later P Q a b c v w one within two = record {
   found = λ clean has.
       let early : HasCleanDisk b = omega (arith, within.survives.clean) in
       let same : b.now ≡ a.now = one.unchanged early has in
-      subst (λ (d : Database). Q d.trees w) same (two.found clean (ap (λ (d : Database). d.schema) same ∙ has));
+      subst (λ (d : Database). Q d.trees w) same (two.found clean (subst (λ (d : Database). HasTablesOfRows d.schema) (sym same) has));
 }
 
 -- what was found, before what was looked up by it
-pub found_some : {A : Type 0} (First : Trees → Option A → Type 0) {a b c : State} {found : Option A} {n : A} → found ≡ Some n → ReadsAny First a b (Ok found) → IsWithin b c → HasCleanDisk c → a.now.schema ≡ schema_at rows_point → First a.now.trees (Some n)
+pub found_some : {A : Type 0} (First : Trees → Option A → Type 0) {a b c : State} {found : Option A} {n : A} → found ≡ Some n → ReadsAny First a b (Ok found) → IsWithin b c → HasCleanDisk c → HasTablesOfRows a.now.schema → First a.now.trees (Some n)
 found_some First {a} is first within clean has = subst (First a.now.trees) is (first.found (omega (arith, within.survives.clean)) has)
 
 -- what is looked up by what was found

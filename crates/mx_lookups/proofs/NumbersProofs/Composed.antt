@@ -1,5 +1,5 @@
 -- Look-ups one behind another, and what is made of their answers, are look-ups.
-use Rattle.std.proofs.Common.{◌≡◌, ◌∙◌, ℕ, inr, Bool, List, Option, Some, None, Result, Ok, Err, refl, sym, ap, subst, arith}
+use Rattle.std.proofs.Common.{◌≡◌, ◌∙◌, ℕ, inr, Bool, List, Option, Some, None, Result, Ok, Err, refl, sym, subst, arith}
 use Rattle.std.specs.Prelude.{IsErrAnd}
 use Rattle.std.specs.declared.cmp.Ordering.{Ordering}
 use Rattle.sqlite.specs.Effect.{Database}
@@ -17,25 +17,24 @@ use Rattle.mx_layout.specs.declared.fault.TableFault.{TableFault}
 use Rattle.mx_layout.specs.declared.fault.TableFault.TheVariants.{Damaged, Memory}
 use Rattle.mx_layout.specs.kept.Kept.{Kept}
 use Rattle.mx_table_rows.specs.chosen.Calls.{ReadsFirst}
-use Rattle.mx_book_tables.specs.stands.Schemas.{schema_at}
 use Rattle.mx_lookups.specs.numbers.AnyRows.{AreChosen, GivesBy, GivesFirst, ReadsAny}
 use Rattle.mx_lookups.specs.numbers.Damage.{IsDamaged}
 use Rattle.mx_lookups.specs.numbers.LookUp.{IsLookUp}
-use Rattle.mx_lookups.specs.numbers.Reads.{Reads, rows_point}
+use Rattle.mx_lookups.specs.numbers.Reads.{HasTablesOfRows, Reads}
 use Rattle.mx_lookups.specs.numbers.Told.{Damage, TellsDamage, UnreadFirst}
 use Rattle.mx_lookups.proofs.NumbersProofs.AnyLemmas.{any_so, silent}
 use Rattle.mx_lookups.proofs.NumbersProofs.ReadLemmas.{follows, map_ok, no_memory, reads_then, refused, stopped, told}
-use Rattle.mx_lookups.proofs.NumbersProofs.TableLemmas.{IsTable}
+use Rattle.mx_lookups.proofs.NumbersProofs.TableLemmas.{IsInEach, IsTable}
 use Rattle.mx_lookups.proofs.NumbersProofs.ToldLemmas.{handed, told_as, told_here, told_later, unread_in}
 
 -- ── over states ──
 
-any_chosen : {X V : Type 0} {k : Kept X} (is_in : k.IsIn (schema_at rows_point)) {most : Option ℕ} {order : Row → Row → Ordering} {picks : Row → Bool} {items : V → List X} {old new : State} (result : Result V TableFault)
+any_chosen : {X V : Type 0} {k : Kept X} (is_in : IsInEach k) {most : Option ℕ} {order : Row → Row → Ordering} {picks : Row → Bool} {items : V → List X} {old new : State} (result : Result V TableFault)
     → ReadsFirst k most order picks items old new result → ReadsAny (λ trees v. AreChosen k most order picks trees (items v)) old new result
-any_chosen {k = k} is_in (Ok v) r = record { found = λ clean has. record { are = r.rows clean (subst k.IsIn (sym has) is_in); fit = r.fits } }
+any_chosen {k = k} is_in (Ok v) r = record { found = λ clean has. record { are = r.rows clean (is_in _ has); fit = r.fits } }
 any_chosen is_in (Err e) r = record { found = λ clean has. tt }
 
-told_chosen : {X V : Type 0} {k : Kept X} (is_in : k.IsIn (schema_at rows_point)) {most : Option ℕ} {order : Row → Row → Ordering} {picks : Row → Bool} {items : V → List X} {old new : State} (result : Result V TableFault)
+told_chosen : {X V : Type 0} {k : Kept X} (is_in : IsInEach k) {most : Option ℕ} {order : Row → Row → Ordering} {picks : Row → Bool} {items : V → List X} {old new : State} (result : Result V TableFault)
     → ReadsFirst k most order picks items old new result → TellsDamage (UnreadFirst k most order picks) old new result
 told_chosen is_in (Ok v) r = record { told = λ clean has name is. absurd cc }
 told_chosen is_in (Err e) r = unread_in is_in refl r
@@ -46,7 +45,7 @@ any_both A B {a = a} {b = b} result one first within two = record {
   found = λ clean has.
       let early : HasCleanDisk b = omega (arith, within.survives.clean) in
       let same : b.now ≡ a.now = one.unchanged early has in
-      map_ok _ _ result (λ w is. (first.found early has, subst (λ (d : Database). B d.trees w) same is)) (two.found clean (ap (λ (d : Database). d.schema) same ∙ has));
+      map_ok _ _ result (λ w is. (first.found early has, subst (λ (d : Database). B d.trees w) same is)) (two.found clean (subst (λ (d : Database). HasTablesOfRows d.schema) (sym same) has));
 }
 
 told_both : {V W : Type 0} {P : List Entry → V → Type 0} (A : Trees → V → Type 0) (Why : Damage) {a b c : State} {v : V} (result : Result W TableFault) → Reads P a b (Ok v) → ReadsAny A a b (Ok v) → IsWithin b c → TellsDamage Why b c result
@@ -59,7 +58,7 @@ told_both A Why result one first within two = record {
 
 module _ {S : Type 0} {g : Ghosts S} where
   -- the rows that are chosen from a table that stands at the point
-  pub chosen_in : {X V : Type 0} {k : Kept X} (is_in : k.IsIn (schema_at rows_point)) {most : Option ℕ} {order : Row → Row → Ordering} {picks : Row → Bool} {items : V → List X} {P : List Entry → V → Type 0} {old new : Transaction S} {result : Result V TableFault}
+  pub chosen_in : {X V : Type 0} {k : Kept X} (is_in : IsInEach k) {most : Option ℕ} {order : Row → Row → Ordering} {picks : Row → Bool} {items : V → List X} {P : List Entry → V → Type 0} {old new : Transaction S} {result : Result V TableFault}
       → new.conn.ghost_name ≡ old.conn.ghost_name → Reads P (state g old.conn.now) (state g new.conn.now) result → ReadsFirst k most order picks items (state g old.conn.now) (state g new.conn.now) result
       → IsLookUp g P (λ trees v. AreChosen k most order picks trees (items v)) (UnreadFirst k most order picks) old new result
   chosen_in is_in {result = result} same reads raw = record { same_reference = same; reads = reads; any_rows = any_chosen is_in result raw; damage = told_chosen is_in result raw }

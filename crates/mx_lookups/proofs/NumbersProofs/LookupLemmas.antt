@@ -31,16 +31,15 @@ use Rattle.mx_table_rows.specs.chosen.Calls.{ReadsFirst}
 use Rattle.mx_table_rows.specs.chosen.Counts.{AreNumbered, last_number as counted}
 use Rattle.mx_table_rows.proofs.ChosenProofs.LastLemmas.{last_tells}
 use Rattle.mx_table_rows.proofs.ChosenProofs.EqualLemmas.{equal_numbers, equal_texts}
-use Rattle.mx_book_tables.specs.stands.Schemas.{schema_at}
 use Rattle.mx_book_tables.specs.stands.Stands.{HasRowsAt}
 use Rattle.mx_row_rules.specs.found.Names.{last_number}
 use Rattle.mx_row_rules.specs.found.Spans.{is_open_at, is_open_of}
 use Rattle.mx_row_rules.proofs.FoundProofs.FoundLemmas.{entries_counted, entries_numbered}
 use Rattle.mx_lookups.specs.numbers.Damage.{IsDamaged}
-use Rattle.mx_lookups.specs.numbers.Reads.{IsStop, Reads, rows_point}
+use Rattle.mx_lookups.specs.numbers.Reads.{HasTablesOfRows, IsStop, Reads, rows_point}
 use Rattle.mx_lookups.proofs.NumbersProofs.ChosenLemmas.{chosen_is, none_other, other_chosen}
 use Rattle.mx_lookups.proofs.NumbersProofs.ReadLemmas.{follows, map_ok, map_read}
-use Rattle.mx_lookups.proofs.NumbersProofs.TableLemmas.{IsTable, entries}
+use Rattle.mx_lookups.proofs.NumbersProofs.TableLemmas.{IsInEach, IsTable, entries}
 
 -- ── what the tests of WHERE say of typed rows ──
 
@@ -88,13 +87,13 @@ damaged_by k readable other trees r mine is bad =
     let same : k.name ≡ other = cc in
     subst (λ name. IsDamaged name trees) same (inl (bad.0, bad.1, λ good. bad.2 (readable bad.0 good)))
 
-module _ {X V : Type 0} (k : Kept X) (law : IsLawful k) (is_in : k.IsIn (schema_at rows_point)) (readable : (row : Row) → IsReadable k.name row → IsReadableAs k row) (chosen : Row → Bool) (items : V → List X) (Is : List Entry → V → Type 0) where
+module _ {X V : Type 0} (k : Kept X) (law : IsLawful k) (is_in : IsInEach k) (readable : (row : Row) → IsReadable k.name row → IsReadableAs k row) (chosen : Row → Bool) (items : V → List X) (Is : List Entry → V → Type 0) where
   -- the rows that were chosen are what is so of them, where the tables stand for a book
   pub chosen_read : ((trees : Trees) (book : List Entry) → HasRowsAt rows_point trees book → (v : V) → AreFirst None k.order (table_named k.name) chosen trees (map k.as_cells (items v)) → All k.Fits (items v) → Is book v)
       → ((trees : Trees) (book : List Entry) → HasRowsAt rows_point trees book → HasOther (IsReadableAs k) (rows_in (table_named k.name) trees) → ⊥)
       → (old new : State) (result : Result V TableFault) → ReadsFirst k None k.order chosen items old new result → Reads Is old new result
   chosen_read so none old new result r =
-      let has_it : old.now.schema ≡ schema_at rows_point → k.IsIn old.now.schema = λ has. subst k.IsIn (sym has) is_in in
+      let has_it : HasTablesOfRows old.now.schema → k.IsIn old.now.schema = λ has. is_in _ has in
       record {
         read = λ clean book stands.
             both_ok (λ v. AreFirst None k.order (table_named k.name) chosen old.now.trees (map k.as_cells (items v))) (λ v. All k.Fits (items v)) (Is book) result (so old.now.trees book stands.rows) (r.rows clean (has_it stands.schema)) r.fits;
@@ -154,7 +153,7 @@ last_read items old new result r =
     let all : Has are.those bad.2.0 = taken_had 1 are.those bad.2.0 (subst (λ rs. Has rs bad.2.0) are.first first) in
     let those : AreFirst None (backward kept_entry.order) table is_any old.now.trees are.those = record { those = are.those; are = are.are; first = refl } in
     other_chosen (IsReadableAs kept_entry) table is_any old.now.trees are.those those (bad.2.0, contains_had are.those bad.2.0 all, bad.2.2) in
-    let has_it : old.now.schema ≡ schema_at rows_point → kept_entry.IsIn old.now.schema = λ has. subst kept_entry.IsIn (sym has) entries.is_in in
+    let has_it : HasTablesOfRows old.now.schema → kept_entry.IsIn old.now.schema = λ has. entries.is_in _ has in
     record {
       read = λ clean book stands.
           let keeps = entries.keeps old.now.trees book stands.rows in

@@ -11,10 +11,9 @@ use Rattle.mx_layout.specs.declared.fault.TableFault.TheVariants as fault
 use Rattle.mx_layout.specs.Crash.{StaysInside}
 use Rattle.mx_layout.proofs.CrashLemmas.{stays_then, within_then}
 use Rattle.mx_tables.specs.Calls.{OnRead}
-use Rattle.mx_book_tables.specs.stands.Schemas.{schema_at}
 use Rattle.mx_book_tables.specs.stands.Stands.{HasRowsAt}
 use Rattle.mx_lookups.specs.numbers.Damage.{IsDamaged}
-use Rattle.mx_lookups.specs.numbers.Reads.{Reads, StandsFor, rows_point}
+use Rattle.mx_lookups.specs.numbers.Reads.{HasTablesOfRows, Reads, rows_point, StandsFor}
 
 -- a look-up that did not answer is one of anything
 pub stops : {V W : Type 0} (P : List Entry → V → Type 0) (Q : List Entry → W → Type 0) (old new : State) (e : TableFault) → Reads P old new (Err e) → Reads Q old new (Err e)
@@ -46,7 +45,7 @@ told P Q old new v w so r = record {
 }
 
 -- what was answered is so of no book, and the table is damaged
-pub refused : {V W : Type 0} (P : List Entry → V → Type 0) (Q : List Entry → W → Type 0) (old new : State) (v : V) (name : TableName) → ((book : List Entry) → IsBook book → P book v → ⊥) → (HasCleanDisk new → old.now.schema ≡ schema_at rows_point → IsDamaged name old.now.trees) → Reads P old new (Ok v) → Reads Q old new (Err (fault.Damaged name))
+pub refused : {V W : Type 0} (P : List Entry → V → Type 0) (Q : List Entry → W → Type 0) (old new : State) (v : V) (name : TableName) → ((book : List Entry) → IsBook book → P book v → ⊥) → (HasCleanDisk new → HasTablesOfRows old.now.schema → IsDamaged name old.now.trees) → Reads P old new (Ok v) → Reads Q old new (Err (fault.Damaged name))
 refused P Q old new v name never reason r = record {
   read = λ _ _ _. tt;
   cause = inr (inr (name, refl));
@@ -73,8 +72,8 @@ map_ok P Q (Err e) f h = tt
 pub reads_then : {V W : Type 0} (P : List Entry → V → Type 0) (Q : List Entry → W → Type 0) (a b c : State) (v : V) (result : Result W TableFault) → Reads P a b (Ok v) → Reads Q b c result → Reads (λ book w. P book v × Q book w) a c result
 reads_then P Q a b c v result one two =
     let early : HasCleanDisk c → HasCleanDisk b = λ clean. omega (arith, two.within.survives.clean) in
-    let same : HasCleanDisk c → a.now.schema ≡ schema_at rows_point → b.now ≡ a.now = λ clean has. one.unchanged (early clean) has in
-    let has_too : HasCleanDisk c → a.now.schema ≡ schema_at rows_point → b.now.schema ≡ schema_at rows_point = λ clean has. ap (λ (d : Database). d.schema) (same clean has) ∙ has in
+    let same : HasCleanDisk c → HasTablesOfRows a.now.schema → b.now ≡ a.now = λ clean has. one.unchanged (early clean) has in
+    let has_too : HasCleanDisk c → HasTablesOfRows a.now.schema → HasTablesOfRows b.now.schema = λ clean has. subst (λ (d : Database). HasTablesOfRows d.schema) (sym (same clean has)) has in
     let stands_too : HasCleanDisk c → (book : List Entry) → StandsFor a book → StandsFor b book = λ clean book stands. record { schema = has_too clean stands.schema; rows = subst (λ (d : Database). HasRowsAt rows_point d.trees book) (sym (same clean stands.schema)) stands.rows } in
     record {
       read = λ clean book stands. map_ok _ _ result (λ w q. (one.read (early clean) book stands, q)) (two.read clean book (stands_too clean book stands));

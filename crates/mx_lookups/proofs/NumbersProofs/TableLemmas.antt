@@ -2,6 +2,7 @@
 use Rattle.std.proofs.Common.{◌≡◌, List, map, All, true, inr, refl, subst}
 use Rattle.std.specs.List.Sorted.{IsPermutation}
 use Rattle.sqlite.specs.Order.{Row}
+use Rattle.sqlite.specs.Schema.{Schema}
 use Rattle.sqlite.specs.Tree.{Trees}
 use Rattle.mx_book.specs.commands.Act.{Entry}
 use Rattle.mx_book.specs.Book.{IsBook}
@@ -19,17 +20,30 @@ use Rattle.mx_layout.specs.kept.Family.{IsReadable, IsReadableAs}
 use Rattle.mx_layout.specs.kept.Kept.{Kept}
 use Rattle.mx_layout.specs.kept.Cells.{kept_entry, kept_aircraft, kept_place, kept_component, kept_programme, kept_task, kept_opening, kept_crs, kept_crs_line, kept_defect, kept_extension, kept_sector2, kept_span2, kept_total2}
 use Rattle.mx_layout.specs.kept.Meanings.{IsLawful}
-use Rattle.mx_book_tables.specs.stands.Schemas.{schema_at}
+use Rattle.mx_book_tables.specs.stands.Schemas.{HasTablesAt}
 use Rattle.mx_book_tables.specs.stands.Stands.{HasRowsAt}
 use Rattle.mx_book_tables.proofs.StandsProofs.FamilyLemmas.{AreFacts, Rise, facts, register_facts}
 use Rattle.mx_lookups.specs.numbers.Keeping.{KeepsRows}
-use Rattle.mx_lookups.specs.numbers.Reads.{rows_point}
+use Rattle.mx_lookups.specs.numbers.Reads.{HasTablesOfRows, rows_point}
 
--- the table has its law, its rows are those of its name, the schema at the point has it, and where the tables stand for a book it keeps these rows of the book
+-- the schema is one whose rows are looked up where it has the tables of a file there
+pub tables_of_rows : (schema : Schema) → HasTablesAt rows_point schema → HasTablesOfRows schema
+unfolding HasTablesOfRows
+tables_of_rows schema has = has
+
+pub tables_at : (schema : Schema) → HasTablesOfRows schema → HasTablesAt rows_point schema
+unfolding HasTablesOfRows
+tables_at schema has = has
+
+-- each such schema has this table
+abbrev pub IsInEach : {X : Type 0} → Kept X → Type 0
+IsInEach k = (schema : Schema) → HasTablesOfRows schema → k.IsIn schema
+
+-- the table has its law, its rows are those of its name, each schema with the tables of the point has it, and where the tables stand for a book it keeps these rows of the book
 pub record IsTable {X : Type 0} (k : Kept X) (rows : List Entry → List X) : Type 0 where
   pub law : IsLawful k
   pub readable : (row : Row) → IsReadable k.name row → IsReadableAs k row
-  pub is_in : k.IsIn (schema_at rows_point)
+  pub is_in : IsInEach k
   pub keeps : (trees : Trees) (book : List Entry) → HasRowsAt rows_point trees book → KeepsRows k trees (rows book)
 
 -- what the family says of a table makes it one
@@ -43,7 +57,7 @@ table_is name k line fact readable there rise fits given =
     record {
       law = fact.law;
       readable = readable;
-      is_in = fact.is_in rows_point (inr refl) there (schema_at rows_point) (record { rest = _; more = _; is = refl });
+      is_in = λ schema has. fact.is_in rows_point (inr refl) there schema (tables_at schema has);
       keeps = λ trees book has. (let up = rise book has.is_book in record {
         low = up.0;
         high = up.1;

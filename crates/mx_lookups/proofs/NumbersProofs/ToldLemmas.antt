@@ -1,5 +1,5 @@
 -- For which rows a table is told damaged, of look-ups one after another.
-use Rattle.std.proofs.Common.{◌≡◌, ◌<◌, ◌^◌, ◌∙◌, ℕ, inl, inr, Bool, false, List, [], ◌∷◌, Option, None, Some, Ok, Err, Result, refl, sym, ap, subst, arith}
+use Rattle.std.proofs.Common.{◌≡◌, ◌<◌, ◌^◌, ℕ, inl, inr, Bool, false, List, [], ◌∷◌, Option, None, Some, Ok, Err, Result, refl, sym, ap, subst, arith}
 use Rattle.std.specs.Prelude.{IsErrAnd, slice_get}
 use Rattle.std.specs.List.{list_all}
 use Rattle.std.specs.Option.{option_map}
@@ -22,13 +22,12 @@ use Rattle.mx_layout.specs.kept.Cells.{kept_task}
 use Rattle.mx_layout.specs.kept.Kept.{Kept}
 use Rattle.mx_table_rows.specs.chosen.Calls.{ReadsFirst}
 use Rattle.mx_table_rows.specs.chosen.Counts.{CountsRows}
-use Rattle.mx_book_tables.specs.stands.Schemas.{schema_at}
 use Rattle.mx_lookups.specs.numbers.AnyRows.{AreChosen, Gives, ReadsAny}
-use Rattle.mx_lookups.specs.numbers.Reads.{Reads, rows_point}
+use Rattle.mx_lookups.specs.numbers.Reads.{HasTablesOfRows, Reads}
 use Rattle.mx_lookups.specs.numbers.Told.{CountDamage, Damage, DamageBy, HasNone, IsChosen, TellsDamage, UnreadFirst}
 use Rattle.mx_lookups.proofs.NumbersProofs.AnyLemmas.{found_some, none_chosen}
 use Rattle.mx_lookups.proofs.NumbersProofs.LookupLemmas.{damage_of}
-use Rattle.mx_lookups.proofs.NumbersProofs.TableLemmas.{IsTable}
+use Rattle.mx_lookups.proofs.NumbersProofs.TableLemmas.{IsInEach, IsTable}
 
 -- the fault is handed on
 pub handed : {V W : Type 0} {One : Damage} {Of : Damage} {old new : State} {e : TableFault} {result : Result W TableFault} → ((name : TableName) (trees : Trees) → One name trees → Of name trees) → IsErrAnd result (λ f. f ≡ e) → TellsDamage {V = V} One old new (Err e) → TellsDamage Of old new result
@@ -40,13 +39,13 @@ pub told_as : {V : Type 0} {One : Damage} {Of : Damage} {old new : State} {resul
 told_as {old = old} so one = record { told = λ clean has name is. so name old.now.trees (one.told clean has name is) }
 
 -- the table is told for what is so here
-pub told_here : {V : Type 0} {Of : Damage} {old new : State} (name : TableName) → (HasCleanDisk new → old.now.schema ≡ schema_at rows_point → Of name old.now.trees) → TellsDamage {V = V} Of old new (Err (Damaged name))
+pub told_here : {V : Type 0} {Of : Damage} {old new : State} (name : TableName) → (HasCleanDisk new → HasTablesOfRows old.now.schema → Of name old.now.trees) → TellsDamage {V = V} Of old new (Err (Damaged name))
 told_here {Of = Of} {old = old} name so = record { told = λ clean has other is. (let same : name ≡ other = cc in subst (λ it. Of it old.now.trees) same (so clean has)) }
 
 -- ── one table ──
 
 -- one of the rows that are chosen is none of its type
-pub unread_in : {X V W : Type 0} {k : Kept X} (is_in : k.IsIn (schema_at rows_point)) {most : Option ℕ} {order : Row → Row → Ordering} {chosen : Row → Bool} {items : V → List X} {old new : State} {e : TableFault} {result : Result W TableFault}
+pub unread_in : {X V W : Type 0} {k : Kept X} (is_in : IsInEach k) {most : Option ℕ} {order : Row → Row → Ordering} {chosen : Row → Bool} {items : V → List X} {old new : State} {e : TableFault} {result : Result W TableFault}
     → IsErrAnd result (λ f. f ≡ e) → ReadsFirst k most order chosen items old new (Err e) → TellsDamage (UnreadFirst k most order chosen) old new result
 unread_in {k = k} is_in {old = old} {e = e} {result = Ok w} is r = absurd is
 unread_in {V = V} {k = k} is_in {old = old} {e = e} {result = Err f} is r = record {
@@ -54,7 +53,7 @@ unread_in {V = V} {k = k} is_in {old = old} {e = e} {result = Err f} is r = reco
       let it : e ≡ Damaged name = cc in
       let mine : ◌≡◌ {A = Result V TableFault} (Err e) (Err (Damaged k.name)) = damage_of k.name name (Err e) r.cause (ap Err it) in
       let table : name ≡ k.name = cc in
-      (table, r.damaged clean (subst k.IsIn (sym has) is_in) mine);
+      (table, r.damaged clean (is_in _ has) mine);
 }
 
 -- so of a table of which it is known what it keeps
@@ -70,7 +69,7 @@ uncounted {k = k} it {old = old} {e = e} {result = Err f} is r = record {
       let fault : e ≡ Damaged name = cc in
       let mine : ◌≡◌ {A = Result ℕ TableFault} (Err e) (Err (Damaged k.name)) = damage_of k.name name (Err e) r.cause (ap Err fault) in
       let table : name ≡ k.name = cc in
-      (table, r.damaged clean (subst k.IsIn (sym has) it.is_in) mine);
+      (table, r.damaged clean (it.is_in _ has) mine);
 }
 
 -- nothing was found, so that no row is chosen
@@ -89,7 +88,7 @@ told_later {Of = Of} {a = a} {b = b} one within two = record {
   told = λ clean has name is.
       let early : HasCleanDisk b = omega (arith, within.survives.clean) in
       let same : b.now ≡ a.now = one.unchanged early has in
-      subst (λ (d : Database). Of name d.trees) same (two.told clean (ap (λ (d : Database). d.schema) same ∙ has) name is);
+      subst (λ (d : Database). Of name d.trees) same (two.told clean (subst (λ (d : Database). HasTablesOfRows d.schema) (sym same) has) name is);
 }
 
 -- what was looked up by what was found

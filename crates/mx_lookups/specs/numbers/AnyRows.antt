@@ -9,12 +9,11 @@ use Rattle.mx_layout.specs.declared.fault.TableFault.{TableFault}
 use Rattle.mx_layout.specs.Names.{table_named}
 use Rattle.mx_layout.specs.kept.Kept.{Kept}
 use Rattle.mx_table_rows.specs.chosen.Choices.{AreFirst}
-use Rattle.mx_book_tables.specs.stands.Schemas.{schema_at}
-use Rattle.mx_lookups.specs.numbers.Reads.{rows_point}
+use Rattle.mx_lookups.specs.numbers.Reads.{HasTablesOfRows}
 
 -- what is answered is so of the rows that the tables have, whatever these are
 pub record ReadsAny {V : Type 0} (Is : Trees → V → Type 0) (old new : State) (result : Result V TableFault) : Type 0 where
-  pub found : HasCleanDisk new → old.now.schema ≡ schema_at rows_point → IfOk result (Is old.now.trees)
+  pub found : HasCleanDisk new → HasTablesOfRows old.now.schema → IfOk result (Is old.now.trees)
 
 -- these rows of the table are chosen, the first so many in this order, and each fits its columns
 pub record AreChosen {X : Type 0} (k : Kept X) (most : Option ℕ) (order : Row → Row → Ordering) (chosen : Row → Bool) (trees : Trees) (rows : List X) : Type 0 where

@@ -1,5 +1,6 @@
 -- What look-ups inside a transaction answer, and what they leave.
 use Rattle.std.specs.Prelude.{◌≡◌, ◌⊎◌, List, Result, Err, IsTrue, IfOk, IfErr}
+use Rattle.sqlite.specs.Schema.{Schema}
 use Rattle.sqlite.specs.State.{State, HasCleanDisk}
 use Rattle.mx_book.specs.commands.Act.{Entry}
 use Rattle.mx_base.specs.declared.point.Point.{Point}
@@ -9,7 +10,7 @@ use Rattle.mx_layout.specs.declared.fault.TableFault.{TableFault}
 use Rattle.mx_layout.specs.declared.fault.TableFault.TheVariants.{Memory, Store, Damaged}
 use Rattle.mx_layout.specs.Crash.{StaysInside, IsWithin}
 use Rattle.mx_tables.specs.Calls.{OnRead}
-use Rattle.mx_book_tables.specs.stands.Schemas.{schema_at}
+use Rattle.mx_book_tables.specs.stands.Schemas.{HasTablesAt}
 use Rattle.mx_book_tables.specs.stands.Stands.{HasRowsAt}
 use Rattle.mx_lookups.specs.numbers.Damage.{IsDamaged}
 
@@ -17,9 +18,13 @@ use Rattle.mx_lookups.specs.numbers.Damage.{IsDamaged}
 abbrev pub rows_point : Point
 rows_point = settled 2
 
+-- the schema has the tables that a file has there, and behind them whatever tables and indexes
+unfoldable pub HasTablesOfRows : Schema → Type 0
+HasTablesOfRows schema = HasTablesAt rows_point schema
+
 -- a transaction is at that point, and its tables have the rows of the book
 pub record StandsFor (s : State) (book : List Entry) : Type 0 where
-  pub schema : s.now.schema ≡ schema_at rows_point
+  pub schema : HasTablesOfRows s.now.schema
   pub rows : HasRowsAt rows_point s.now.trees book
 
 -- want of memory, the store, or a table that is damaged
@@ -31,7 +36,7 @@ pub record Reads {V : Type 0} (Is : List Entry → V → Type 0) (old new : Stat
   pub read : HasCleanDisk new → (book : List Entry) → StandsFor old book → IfOk result (Is book)
   pub cause : IfErr result IsStop
   pub no_book : HasCleanDisk new → (name : TableName) → result ≡ Err (Damaged name) → (book : List Entry) → StandsFor old book → ⊥
-  pub damaged : HasCleanDisk new → old.now.schema ≡ schema_at rows_point → (name : TableName) → result ≡ Err (Damaged name) → IsDamaged name old.now.trees
-  pub unchanged : HasCleanDisk new → old.now.schema ≡ schema_at rows_point → OnRead result (new.now ≡ old.now)
+  pub damaged : HasCleanDisk new → HasTablesOfRows old.now.schema → (name : TableName) → result ≡ Err (Damaged name) → IsDamaged name old.now.trees
+  pub unchanged : HasCleanDisk new → HasTablesOfRows old.now.schema → OnRead result (new.now ≡ old.now)
   pub inside : HasCleanDisk new → IsTrue old.in_transaction → OnRead result (StaysInside old new)
   pub within : IsWithin old new

@@ -26,13 +26,12 @@ use Rattle.mx_layout.specs.kept.Cells.{kept_aircraft, kept_base2, kept_component
 use Rattle.mx_layout.specs.kept.Family.{IsReadableAs}
 use Rattle.mx_layout.specs.kept.Kept.{Kept}
 use Rattle.mx_table_rows.specs.chosen.Choices.{AreFirst, backward, has_value, is_any, is_open}
-use Rattle.mx_book_tables.specs.stands.Schemas.{schema_at}
 use Rattle.mx_row_rules.specs.found.Defects.{deferral_aircraft}
 use Rattle.mx_row_rules.specs.found.Lives.{base_found, life_in_base}
 use Rattle.mx_lookups.specs.numbers.AnyRows.{AreChosen, Gives}
 use Rattle.mx_lookups.specs.numbers.Damage.{IsUncounted}
 use Rattle.mx_lookups.specs.numbers.Given.{AircraftNumber, BornOf, ComponentNumber, DefectNumber, DocIfOpen, DocOfNumber, IsRectifiedAt, ItemNumber, LifeOf, NextRevision, NumberFitted, ProgrammeNumber, is_of}
-use Rattle.mx_lookups.specs.numbers.Reads.{rows_point}
+use Rattle.mx_lookups.specs.numbers.Reads.{HasTablesOfRows}
 
 -- ── the forms ──
 
@@ -42,7 +41,7 @@ Damage = TableName → Trees → Type 0
 
 -- a table is told damaged only where this is so of the rows
 pub record TellsDamage {V : Type 0} (Of : Damage) (old new : State) (result : Result V TableFault) : Type 0 where
-  pub told : HasCleanDisk new → old.now.schema ≡ schema_at rows_point → (name : TableName) → result ≡ Err (Damaged name) → Of name old.now.trees
+  pub told : HasCleanDisk new → HasTablesOfRows old.now.schema → (name : TableName) → result ≡ Err (Damaged name) → Of name old.now.trees
 
 -- one of the rows that are chosen from the table, the first so many in this order, is none of its type
 abbrev pub UnreadFirst : {X : Type 0} → Kept X → Option ℕ → (Row → Row → Ordering) → (Row → Bool) → Damage

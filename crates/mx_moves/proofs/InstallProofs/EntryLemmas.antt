@@ -86,7 +86,7 @@ module _ (book : List Entry) (command : Entry) where
         record {
           lies = record {
             sound = subst (λ (s : Schema). IsSound s new.trees) new_has (gains.sound (subst (λ (s : Schema). IsSound s old.trees) (sym has) stands.lies.sound));
-            rises = λ name there. gains.rises name (in_old name there) (stands.lies.rises name there);
+            rises = λ name there. gains.rises name (subst (λ (s : Schema). Contains s.tables (table_named name)) (sym has) there) (stands.lies.rises name there);
           };
           rows = record {
             is_book = IsBook-entered book command stands.rows.is_book shape is_new;

@@ -22,9 +22,6 @@ use Rattle.mx_moves.specs.steps.Rows.{MakesRows}
 
 -- ── as they lie ──
 
-pub all_rise : (at : Point) (trees : Trees) → LiesAt at trees → AllRise (schema_at at) trees
-all_rise at trees lies name there = lies.rises name ((has_tables at name).1 there)
-
 -- what statements reach from the schema of one point is a file at the other
 pub reaches_rows : (at to : Point) (onto : TableName → List Row → List Row) (old new : Database) → old.schema ≡ schema_at at → LiesAt at old.trees → Reaches (schema_at to) onto old new
     → (new.schema ≡ schema_at to) × MakesRows onto to old.trees new.trees
@@ -33,7 +30,7 @@ reaches_rows at to onto old new has lies reached = (
   record {
     lies = record {
       sound = subst (λ s. IsSound s new.trees) reached.schema (reached.sound (subst (λ s. IsSound s old.trees) (sym has) lies.sound));
-      rises = λ name there. reached.rises (subst (λ s. AllRise s old.trees) (sym has) (all_rise at old.trees lies)) name ((has_tables to name).0 there);
+      rises = reached.rises (subst (λ s. AllRise s old.trees) (sym has) lies.rises);
     };
     tables = λ name there. reached.tables name ((has_tables to name).0 there);
   },

@@ -1,5 +1,5 @@
 -- Look-ups after which a table may be told damaged for a reason of its own.
-use Rattle.std.proofs.Common.{◌≡◌, inl, inr, List, Ok, Err, Result, ap, subst, ◌∙◌, arith}
+use Rattle.std.proofs.Common.{◌≡◌, inl, inr, List, Ok, Err, Result, ap, subst, ◌∙◌, arith, sym}
 use Rattle.std.specs.Prelude.{⊤, IsErrAnd}
 use Rattle.sqlite.specs.Effect.{Database}
 use Rattle.sqlite.specs.State.{State, HasCleanDisk}
@@ -9,14 +9,13 @@ use Rattle.mx_book.specs.Book.{IsBook}
 use Rattle.mx_layout.specs.TableName.{TableName}
 use Rattle.mx_layout.specs.declared.fault.TableFault.{TableFault}
 use Rattle.mx_layout.specs.declared.fault.TableFault.TheVariants.{Damaged}
-use Rattle.mx_book_tables.specs.stands.Schemas.{schema_at}
-use Rattle.mx_lookups.specs.numbers.Reads.{Reads, rows_point}
+use Rattle.mx_lookups.specs.numbers.Reads.{HasTablesOfRows, Reads}
 use Rattle.mx_lookups.proofs.NumbersProofs.ReadLemmas.{reads_then, stopped, told}
 use Rattle.mx_row_questions.specs.entries.Damage.{ReadsOr}
 
 -- what was looked up is so of no book, and this is the reason
 pub refuses : {V W : Type 0} (Why : TableName → Trees → Type 0) (P : List Entry → V → Type 0) (Q : List Entry → W → Type 0) (old new : State) (v : V) (name : TableName) (result : Result W TableFault) → result ≡ Err (Damaged name) → ((book : List Entry) → IsBook book → P book v → ⊥)
-    → (HasCleanDisk new → old.now.schema ≡ schema_at rows_point → Why name old.now.trees) → Reads P old new (Ok v) → ReadsOr Why Q old new result
+    → (HasCleanDisk new → HasTablesOfRows old.now.schema → Why name old.now.trees) → Reads P old new (Ok v) → ReadsOr Why Q old new result
 refuses Why P Q old new v name result is never why r = inr (record { name = name; told = is; asked = told P (λ book (u : ⊤). ⊥) old new v tt never r; why = why })
 
 -- what was answered was looked up
@@ -36,5 +35,5 @@ handed_on Why More more P Q R a b c u e (Err f) is one (inr refusal) = inr (reco
   why = λ clean has.
       let early : HasCleanDisk b = omega (arith, refusal.asked.within.survives.clean) in
       let same : b.now ≡ a.now = one.unchanged early has in
-      more refusal.name a.now.trees (subst (λ (d : Database). Why refusal.name d.trees) same (refusal.why clean (ap (λ (d : Database). d.schema) same ∙ has)));
+      more refusal.name a.now.trees (subst (λ (d : Database). Why refusal.name d.trees) same (refusal.why clean (subst (λ (d : Database). HasTablesOfRows d.schema) (sym same) has)));
 })

@@ -13,12 +13,11 @@ use Rattle.mx_layout.specs.declared.fault.TableFault.{TableFault}
 use Rattle.mx_layout.specs.declared.fault.TableFault.TheVariants.{Memory}
 use Rattle.mx_layout.specs.kept.Cells.{kept_crs_line}
 use Rattle.mx_row_rules.specs.found.Given.{found, release_lines}
-use Rattle.mx_book_tables.specs.stands.Schemas.{schema_at}
 use Rattle.mx_row_rules.specs.declared.found.stated.Certified.{Certified}
 use Rattle.mx_row_rules.specs.found.Stated.{certified_in, certified_said, lines_stated}
 use Rattle.mx_row_rules.proofs.FoundProofs.StatedLemmas.{line_certified}
 use Rattle.mx_lookups.specs.numbers.AnyRows.{ReadsAny}
-use Rattle.mx_lookups.specs.numbers.Reads.{Reads, rows_point}
+use Rattle.mx_lookups.specs.numbers.Reads.{HasTablesOfRows, Reads}
 use Rattle.mx_lookups.proofs.NumbersProofs.AnyLemmas.{any_later}
 use Rattle.mx_lookups.proofs.NumbersProofs.ReadLemmas.{reads_then, told}
 use Rattle.mx_row_questions.specs.entries.Releases.{LineCertified, LineNamed, LineStated, LinesSaid, LinesStated}
@@ -82,7 +81,7 @@ module _ (n : ℕ) (a b : State) (done : List Line) (left later : List ReleaseLi
     early clean = omega (arith, named.within.survives.clean)
 
     -- and what the row says by them
-    stated_any : HasCleanDisk c → a.now.schema ≡ schema_at rows_point → LineStated row a.now.trees line
+    stated_any : HasCleanDisk c → HasTablesOfRows a.now.schema → LineStated row a.now.trees line
     stated_any clean has = subst (λ o. LineCertified o a.now.trees line) (sym this) ((any_later _ (LineNamed certified) a b c 0 line here.reads named.within any).found clean has)
 
     -- the row says a line

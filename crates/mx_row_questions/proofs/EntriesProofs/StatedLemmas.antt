@@ -14,11 +14,11 @@ use Rattle.mx_layout.specs.declared.fault.TableFault.{TableFault}
 use Rattle.mx_layout.specs.declared.fault.TableFault.TheVariants.{Memory}
 use Rattle.mx_layout.specs.kept.Kept.{Kept}
 use Rattle.mx_table_rows.specs.chosen.Calls.{ReadsFirst}
-use Rattle.mx_book_tables.specs.stands.Schemas.{schema_at}
 use Rattle.mx_lookups.specs.numbers.AnyRows.{AreChosen, Gives, ReadsAny}
-use Rattle.mx_lookups.specs.numbers.Reads.{Reads, rows_point}
+use Rattle.mx_lookups.specs.numbers.Reads.{Reads}
 use Rattle.mx_lookups.proofs.NumbersProofs.AnyLemmas.{any_later, given_in}
 use Rattle.mx_lookups.proofs.NumbersProofs.ReadLemmas.{no_memory, reads_then, stopped, told}
+use Rattle.mx_lookups.proofs.NumbersProofs.TableLemmas.{IsInEach}
 use Rattle.mx_row_questions.specs.entries.Names.{ByRow, WithName}
 
 -- memory ran out behind what was answered
@@ -28,8 +28,8 @@ starved P Q old new v result is r = stopped Q Q old new Memory result is (no_mem
 -- ── over any rows ──
 
 -- all rows that were chosen
-pub all_chosen : {X V : Type 0} {k : Kept X} (is_in : k.IsIn (schema_at rows_point)) {most : Option ℕ} {order : Row → Row → Ordering} {chosen : Row → Bool} {items : V → List X} {old new : State} {v : V} → ReadsFirst k most order chosen items old new (Ok v) → ReadsAny (AreChosen k most order chosen) old new (Ok (items v))
-all_chosen {k = k} is_in r = record { found = λ clean has. record { are = r.rows clean (subst k.IsIn (sym has) is_in); fit = r.fits } }
+pub all_chosen : {X V : Type 0} {k : Kept X} (is_in : IsInEach k) {most : Option ℕ} {order : Row → Row → Ordering} {chosen : Row → Bool} {items : V → List X} {old new : State} {v : V} → ReadsFirst k most order chosen items old new (Ok v) → ReadsAny (AreChosen k most order chosen) old new (Ok (items v))
+all_chosen {k = k} is_in r = record { found = λ clean has. record { are = r.rows clean (is_in _ has); fit = r.fits } }
 
 -- two look-ups one after the other
 pub any_both : {V W : Type 0} (P : List Entry → V → Type 0) (A : Trees → V → Type 0) (B : Trees → W → Type 0) (a b c : State) (v : V) (w : W) → Reads P a b (Ok v) → ReadsAny A a b (Ok v) → IsWithin b c → ReadsAny B b c (Ok w) → ReadsAny (λ trees w. A trees v × B trees w) a c (Ok w)
@@ -71,7 +71,7 @@ pub record Kind (X It : Type 0) : Type 1 where
   pub says : List Entry → It → Option Act
   pub Says : It → Trees → Option Act → Type 0
   pub wanted : List Entry → Option It
-  pub is_in : kept.IsIn (schema_at rows_point)
+  pub is_in : IsInEach kept
   pub found : (old new : State) (result : Result (Vec X Global) TableFault) → ReadsFirst kept None kept.order chosen (λ rows. rows.items) old new result → Reads (λ book rows. first rows.items ≡ wanted book) old new result
 
 module _ {X It : Type 0} (kind : Kind X It) where
@@ -118,7 +118,7 @@ pub both_said : {X Y : Type 0} (states : List X → List Y → Option Act) {Line
     → Reads (λ book v. v.items ≡ Lines book) a b (Ok lines) → Reads (λ book v. v.items ≡ Rows book) b c (Ok rows) → Reads (λ book v. option_map act_of v ≡ states (Lines book) (Rows book)) a c (Ok said)
 both_said states {a = a} {b = b} {c = c} {lines = lines} {rows = rows} said so one two = told _ _ a c rows said (λ book is_book both. so ∙ ap₂ states both.0 both.1) (reads_then _ _ a b c lines (Ok rows) one two)
 
-pub both_said-any : {X Y : Type 0} {k : Kept X} {other : Kept Y} (lines_in : k.IsIn (schema_at rows_point)) (rows_in : other.IsIn (schema_at rows_point)) (states : List X → List Y → Option Act) {Lines : List Entry → List X} {chosen also : Row → Bool} {a b c : State} {lines : Vec X Global} {rows : Vec Y Global} (said : Option Body)
+pub both_said-any : {X Y : Type 0} {k : Kept X} {other : Kept Y} (lines_in : IsInEach k) (rows_in : IsInEach other) (states : List X → List Y → Option Act) {Lines : List Entry → List X} {chosen also : Row → Bool} {a b c : State} {lines : Vec X Global} {rows : Vec Y Global} (said : Option Body)
     → option_map act_of said ≡ states lines.items rows.items → Reads (λ book v. v.items ≡ Lines book) a b (Ok lines) → ReadsFirst k None k.order chosen (λ v. v.items) a b (Ok lines) → ReadsFirst other None other.order also (λ v. v.items) b c (Ok rows)
     → ReadsAny {V = Option Body} (λ trees v. (on_lines : List X) × AreChosen k None k.order chosen trees on_lines × Gives other also (states on_lines) trees (option_map act_of v)) a c (Ok said)
 both_said-any {k = k} {other = other} lines_in rows_in states {chosen = chosen} {also = also} {a = a} {b = b} {c = c} {lines = lines} {rows = rows} said so one first second = record {

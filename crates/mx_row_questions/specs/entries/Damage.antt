@@ -13,8 +13,7 @@ use Rattle.mx_layout.specs.declared.fault.Table.TheVariants as table
 use Rattle.mx_layout.specs.declared.fault.TableFault.{TableFault}
 use Rattle.mx_layout.specs.declared.fault.TableFault.TheVariants.{Damaged}
 use Rattle.mx_layout.specs.kept.Cells.{kept_entry}
-use Rattle.mx_book_tables.specs.stands.Schemas.{schema_at}
-use Rattle.mx_lookups.specs.numbers.Reads.{Reads, rows_point}
+use Rattle.mx_lookups.specs.numbers.Reads.{HasTablesOfRows, Reads}
 use Rattle.mx_row_questions.specs.entries.Entries.{IsLast, KindStated, command_said, table_of}
 use Rattle.mx_row_questions.specs.entries.Stated.{FirstOf}
 
@@ -46,7 +45,7 @@ pub record Refuses {V : Type 0} (Why : TableName → Trees → Type 0) (old new 
   pub name : TableName
   pub told : result ≡ Err (Damaged name)
   pub asked : Reads {V = ⊤} (λ book v. ⊥) old new (Ok tt)
-  pub why : HasCleanDisk new → old.now.schema ≡ schema_at rows_point → Why name old.now.trees
+  pub why : HasCleanDisk new → HasTablesOfRows old.now.schema → Why name old.now.trees
 
 -- look-ups were made, and a table is told damaged for a reason of its own too
 abbrev pub ReadsOr : {V : Type 0} → (TableName → Trees → Type 0) → (List Entry → V → Type 0) → State → State → Result V TableFault → Type 0

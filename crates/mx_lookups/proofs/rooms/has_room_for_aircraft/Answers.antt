@@ -1,8 +1,7 @@
-use Rattle.std.proofs.Common.{◌∙◌, ap, subst, sym, rules}
+use Rattle.std.proofs.Common.{◌∙◌, ap, rules}
 use Rattle.std.specs.Prelude.{nat_lt}
 use Rattle.mx_book.specs.declared.limits.TheConstants.{MOST_AIRCRAFT}
 use Rattle.mx_row_rules.proofs.FoundProofs.PlaceLemmas.{room_for_aircraft}
-use Rattle.mx_layout.specs.kept.Cells.{kept_aircraft}
 use Rattle.mx_lookups.proofs.NumbersProofs.TableLemmas.{aircraft}
 use Rattle.mx_lookups.proofs.NumbersProofs.ReadLemmas.{stopped, told}
 use Rattle.mx_lookups.proofs.RoomLookups.{aircraft_counted}
@@ -24,7 +23,7 @@ returns g c = record {
   looks_up = record {
     same_reference = search rules;
     reads = told _ _ _ _ _ _ (λ book b count. ap (λ n. nat_lt n MOST_AIRCRAFT) count ∙ room_for_aircraft book) (aircraft_counted _ _ _ c.in_ok-count.ensures.counts);
-    any_rows = record { found = λ clean has. ap (λ n. nat_lt n MOST_AIRCRAFT) (c.in_ok-count.ensures.counts.rows clean (subst kept_aircraft.IsIn (sym has) aircraft.is_in)) };
+    any_rows = record { found = λ clean has. ap (λ n. nat_lt n MOST_AIRCRAFT) (c.in_ok-count.ensures.counts.rows clean (aircraft.is_in _ has)) };
     damage = search rules;
   };
 }
