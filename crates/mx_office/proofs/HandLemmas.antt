@@ -45,7 +45,7 @@ handed_none commands s = record {
   usable = λ same. cc;
   opened = λ _ _ is_open. is_open;
   untouched = λ _ _ some. absurd (elim some [ inl said ↦ said refl | inr stop ↦ stop refl ]);
-  over_book = λ book rests. record { answered = λ _. refl; whole = λ _ name same. cc; kept = λ _. rests; crash = λ clean trees may. inl (rests.crash clean trees may) };
+  over_book = λ book rests. record { answered = λ _. refl; whole = λ _ name same. cc; kept = λ _. rests; crash = λ clean trees may. inl (may_stand office_point s book rests clean trees may) };
   over_rows = record {
     crash = λ _. survives_itself s _;
     was_open = λ clean some. absurd (elim some [ inl said ↦ said refl | inr damaged ↦ (let same : None ≡ Some (Damaged damaged.0) = damaged.1 in cc) ]);

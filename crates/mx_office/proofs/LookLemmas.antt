@@ -148,6 +148,11 @@ stops_as : (e : TableFault) → IsNoDamage e → (fault_from e ≡ Memory) ⊎ (
 stops_as e (inl memory) = inl (ap fault_from memory)
 stops_as e (inr store) = inr (ap fault_from store)
 
+-- of a book, memory or the store alone are answered in place of what was looked up
+pub call_of_book : {X : Type 0} (Is : X → Type 0) (found : Result X TableFault) → MatchResult found Is IsNoDamage → MatchResult (call_answer found) Is (λ fault. (fault ≡ Memory) ⊎ (fault ≡ Store))
+call_of_book Is (Ok x) is = is
+call_of_book Is (Err e) is = stops_as e is
+
 -- ── a list or a life that was looked up ──
 
 module _ {S : Type 0} {g : Ghosts S} {X : Type 0} (old new : Office S g) (refusal : Refusal) (what : List Entry → Option X) (found : Result (Result X Refusal) TableFault) {IsOfRows : Trees → Result X Refusal → Type 0}

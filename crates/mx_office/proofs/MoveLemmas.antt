@@ -194,7 +194,7 @@ module _ (at_most : ℕ) (old mid new : State) (to : Point) (s : Settles at_most
   -- it is
   module _ (is_open : HasCleanDisk new → IsTrue mid.is_open) (exact : HasCleanDisk new → (p : Point) → (IsTrue mid.is_open → HoldsPoint p mid.now) → FitsPoint p → p ≡ office_point) where
     is_there : (p : Point) → IsPlacedAt p mid → HasCleanDisk new → p ≡ office_point
-    is_there p placed clean = exact clean p (λ open. placed_holds mid p placed (before clean) open) (placed.tables (before clean) (is_open clean)).fits
+    is_there p placed clean = exact clean p (λ there. placed_holds mid p placed (before clean) there) (placed.tables (before clean) (is_open clean)).fits
 
     kept_there : (at : Point) (book : List Entry) → RestsOn at old book → Rests new book
     kept_there at book rests = elim (which at old book rests) [

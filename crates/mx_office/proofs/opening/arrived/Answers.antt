@@ -1,7 +1,7 @@
 use Rattle.std.proofs.Common.{◌≡◌, Ok, inl, inr, sym, ap, subst, ◌∙◌, true, false}
 use Rattle.mx_base.specs.declared.point.Point.{Point}
 use Rattle.mx_layout.specs.Point.{TellsPoint}
-use Rattle.mx_office.specs.Faults.{is_office_point}
+use Rattle.mx_office.specs.Faults.{IsStop, is_office_point}
 use Rattle.mx_office.specs.Layout.{office_point}
 use Rattle.mx_office.proofs.AnswerLemmas.{move_stops, moved_stop, moved_stopped, point_of_office}
 use Rattle.mx_office.proofs.opening.arrived.Goals as goal
@@ -23,4 +23,4 @@ returns-else-is_office_point-clause-exact g c clean p holds fits =
 
 pub returns-in-Err-clause-exact : goal.returns-in-Err-clause-exact
 returns-in-Err-clause-exact g c clean p holds fits =
-    inl (subst _ (sym c.moved_fault_of.ensures) (moved_stop c.fault_of.result (move_stops c.in-Err.fault c.fault_of.result c.fault_of.ensures (c.in-Err.ensures.exact p clean holds fits))))
+    inl (subst IsStop (sym c.moved_fault_of.ensures) (moved_stop c.fault_of.result (move_stops c.in-Err.fault c.fault_of.result c.fault_of.ensures (c.in-Err.ensures.exact p clean holds fits))))
