@@ -30,6 +30,8 @@
 //! - Over any rows, what a list or a life is answered is so of each book as which the rows answer; the life is that of
 //!   the total with its number; entries are the commands that their rows state: `list` and its four, `life`: `answered`
 //!   (`sound`); `life`: `found`; `entries`: `sound`.
+//! - A file that is verified stands for a book, where its rowids rise and no table refers to another, an index more or
+//!   fewer or not: `laws::verified_rows_stand`.
 //! - New tables stand for the empty book; the rowids of tables that stand for a book rise, and do so behind each call:
 //!   `laws::new_tables_stand_for_the_empty_book`; `IsRun`: `over_book` (`kept`).
 //! - Why no office was opened follows from the rows of `office`, and a database in which no table has that name is not

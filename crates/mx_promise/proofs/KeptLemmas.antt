@@ -1,5 +1,5 @@
 -- The book that a stop leaves of a run, from what the run answers and what is found.
-use Rattle.std.proofs.Common.{arith, refl, sym, ap, subst, ◌∙◌, ◌≡◌, ◌≢◌, ◌≤◌, ◌<◌, ◌⊎◌, inl, inr, ℕ, ◌+◌, suc, length, take, drop, List, ◌++◌, Option, Some, None, slice_get, count_by, IsSomeAnd}
+use Rattle.std.proofs.Common.{arith, refl, sym, ap, subst, ◌∙◌, ◌≡◌, ◌≢◌, ◌≤◌, ◌<◌, ◌⊎◌, inl, inr, ℕ, ◌+◌, suc, length, take, drop, List, ◌++◌, Option, Some, None, slice_get, count_by, IsSomeAnd, ◌∷◌, []}
 use Rattle.std.proofs.lemmas.List.{take-append-drop, take-take}
 use Rattle.std.proofs.lemmas.Option.{slice_get_within}
 use Rattle.sqlite.specs.Tree.{Trees}

@@ -1,5 +1,5 @@
 -- The headline: what is found where a run was stopped, the power was lost, and the file was opened again.
-use Rattle.std.specs.Prelude.{◌≡◌, ◌≢◌, ◌⊎◌, ℕ, List, Vec, None, Some, Result, Err, option_map, MatchResult}
+use Rattle.std.specs.Prelude.{◌≡◌, ◌≢◌, ◌⊎◌, ℕ, List, Vec, None, Some, Result, Err, option_map, MatchResult, ◌∷◌, []}
 use Rattle.sqlite_disk.specs.declared.Disk as disk
 use Rattle.sqlite_store.specs.declared.store.FileStore.{FileStore}
 use Rattle.sqlite.specs.Store.{Ghosts}
