@@ -14,9 +14,9 @@ use Rattle.mx_office.specs.Calls.{stop_asking, IsAsked, IsRun}
 use Rattle.mx_office.specs.Office.{office_state, IsReady, StandsFor}
 use Rattle.mx_office.specs.Questions.{IsAnsweredBy}
 use Rattle.mx_office.proofs.OfficeLemmas.{rests_still}
-use Rattle.mx_office.specs.Layout.{office_point}
+use Rattle.mx_office.specs.Layout.{office_schema}
 use Rattle.mx_office.specs.Stands.{IsEither, Rests}
-use Rattle.mx_office.proofs.StandsLemmas.{may_stand}
+use Rattle.mx_office.proofs.StandsLemmas.{own_settled}
 use Rattle.mx_faults.specs.declared.fault.Ask.{Ask}
 use Rattle.mx_faults.specs.declared.fault.Fault.{Fault}
 use Rattle.mx_faults.specs.declared.fault.Fault.TheVariants.{Memory, Store, NeedsReopen, Damaged}
@@ -36,12 +36,12 @@ not_both b ready doubt = (cc)
 
 -- a book at rest is what a crash leaves, where nothing was handed in
 rests_either : (book : List Entry) (other : List Entry) (s : State) → Rests s book → Leaves s (IsEither book other)
-rests_either book other s rests = λ clean db may. inl (may_stand office_point s book rests clean db may)
+rests_either book other s rests = λ clean db may. inl (rests.crash clean db may)
 
 module _ {S : Type 0} {g : Ghosts S} (book : List Entry) (commands : List Entry) (said : List Reply) (stopped : Option Fault) (old new : Office S g) (stands : StandsFor old book) (clean : HasCleanDisk (office_state new)) (run : IsRun commands said stopped old new) where
   served_run : (request : Request) (answer : Answer) → commands_of request ≡ commands → answer ≡ answer_of book request (length said) stopped → IsServed book request (length said) stopped answer (office_state new)
   served_run request answer same is =
-      let over = run.over_book book stands in
+      let over = run.over_book office_schema own_settled book stands in
       record {
         counted = subst (λ (cs : List Entry). length said ≤ length cs) (sym same) run.counted;
         done = λ none. subst (λ (cs : List Entry). length said ≡ length cs) (sym same) (run.done none);
@@ -80,7 +80,7 @@ module _ {S : Type 0} {g : Ghosts S} (book : List Entry) (old new : Office S g) 
       → IsAsked (stop_asking result) old new → IsAnsweredBy (λ entries. found_or UnknownAircraft (report_of entries question)) old new result
       → answer ≡ list_answer result → Serves book (asks question) answer (office_state new)
   served_asked question result answer false ready asked answered is =
-      served_list question result answer (rests_still (office_state old) (office_state new) book (asked.untouched ready) rests) (answered.exact book ready rests clean) is
+      served_list question result answer (rests_still (office_state old) (office_state new) book (asked.untouched ready) rests) (answered.exact office_schema own_settled book ready rests clean) is
   served_asked question result answer true doubt asked answered is =
       let stopped = asked.doubt.reopen doubt in
       inl (0, Some NeedsReopen, served_nothing book (asks question) (Some NeedsReopen) answer (office_state new) refl (unchanged stopped.1) (λ table damaged. (cc)) (is ∙ ap list_answer (stopped_asking result NeedsReopen stopped.0)))
@@ -92,14 +92,14 @@ module _ {S : Type 0} {g : Ghosts S} (book : List Entry) (old new : Office S g) 
         length said,
         stopped,
         served_run book commands said stopped old new rests clean run (enters commands) answer refl
-            (is ∙ ap (λ (given : List Reply). replies_answer given stopped) ((run.over_book book rests).answered clean)),
+            (is ∙ ap (λ (given : List Reply). replies_answer given stopped) ((run.over_book office_schema own_settled book rests).answered clean)),
       )
   serves (imports rows) answer (inl (said, stopped, run, is)) =
       inl (
         length said,
         stopped,
         served_run book (good_rows rows) said stopped old new rests clean run (imports rows) answer refl
-            (is ∙ ap (λ (given : List Reply). rows_answer (told rows given) stopped) ((run.over_book book rests).answered clean)),
+            (is ∙ ap (λ (given : List Reply). rows_answer (told rows given) stopped) ((run.over_book office_schema own_settled book rests).answered clean)),
       )
   serves (asks question) answer (inl (result, asked, answered, kind, is)) = served_asked question result answer old.needs_reopen refl asked answered is
   serves (unread fault) answer (inl (same, is)) = inl (0, None, served_nothing book (unread fault) None answer (office_state new) refl (unchanged same) (λ table damaged. (cc)) is)
@@ -122,8 +122,8 @@ module _ {S : Type 0} {g : Ghosts S} (book : List Entry) (old new : Office S g) 
 
   -- what a crash leaves of the book behind a request, whatever is answered
   pub leaves : (request : Request) (P : Answer → Type 0) → AnswersIfRoom request old new P → (n : ℕ) × LeavesBehind book request n (office_state new)
-  leaves (enters commands) P (inl (said, stopped, run, is)) = (length said, (run.over_book book rests).crash)
-  leaves (imports rows) P (inl (said, stopped, run, is)) = (length said, (run.over_book book rests).crash)
+  leaves (enters commands) P (inl (said, stopped, run, is)) = (length said, (run.over_book office_schema own_settled book rests).crash)
+  leaves (imports rows) P (inl (said, stopped, run, is)) = (length said, (run.over_book office_schema own_settled book rests).crash)
   leaves (asks question) P (inl (result, asked, answered, kind, is)) = left_asked question result old.needs_reopen refl asked
   leaves (unread fault) P (inl (same, is)) = left_same (unread fault) same
   leaves (rejected why) P (inl (same, is)) = left_same (rejected why) same
@@ -137,7 +137,7 @@ module _ {S : Type 0} {g : Ghosts S} (book : List Entry) (old new : Office S g) 
   kept_asked result true doubt asked = kept_same (asked.doubt.reopen doubt).1
 
   kept_run : (commands : List Entry) (said : List Reply) (stopped : Option Fault) → IsReady new → IsRun commands said stopped old new → (handed : List Entry) × Rests (office_state new) (book_run book handed)
-  kept_run commands said stopped ready run = (take (length said) commands, (run.over_book book rests).kept (λ store. not_both new.needs_reopen ready (run.doubt.stopped store)))
+  kept_run commands said stopped ready run = (take (length said) commands, (run.over_book office_schema own_settled book rests).kept (λ store. not_both new.needs_reopen ready (run.doubt.stopped store)))
 
   -- an office that goes on after a request rests at the book behind some commands
   pub stays : (request : Request) (P : Answer → Type 0) → IsReady new → AnswersIfRoom request old new P → (commands : List Entry) × Rests (office_state new) (book_run book commands)

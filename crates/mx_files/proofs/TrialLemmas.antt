@@ -9,8 +9,8 @@ use Rattle.mx_layout.specs.Making.{IsEmptyIn}
 use Rattle.mx_layout.specs.Steps.{schema_of}
 use Rattle.mx_layout.specs.Tables.{no_schema}
 use Rattle.mx_layout.proofs.CrashLemmas.{rests_same}
-use Rattle.mx_book_tables.specs.stands.Stands.{RestsAt, StandsAt}
 use Rattle.mx_office.specs.Layout.{office_point, office_schema}
+use Rattle.mx_office.specs.Stands.{Rests, Stands}
 use Rattle.mx_office.proofs.StandsLemmas.{empty_stands}
 
 -- a database in memory that was just opened has no table
@@ -26,5 +26,5 @@ memory_rests conn (opens, live, empty) =
     }
 
 -- tables that were just made rest as the book with no entry
-pub made_rests : (now : State) → RestsAs now (schema_of office_point.layout) (IsEmptyIn office_point.layout) → RestsAt office_point now []
-made_rests now made = rests_same now office_schema (IsEmptyIn office_point.layout) (λ trees. StandsAt office_point trees []) (λ clean trees empty. (empty_stands trees empty).tables) made
+pub made_rests : (now : State) → RestsAs now (schema_of office_point.layout) (IsEmptyIn office_point.layout) → Rests now []
+made_rests now made = rests_same now office_schema (IsEmptyIn office_point.layout) (λ trees. Stands trees []) (λ clean trees empty. empty_stands trees empty) made

@@ -22,12 +22,12 @@ use Rattle.mx_layout.specs.declared.fault.TableFault.{TableFault}
 use Rattle.mx_layout.specs.declared.fault.TableFault.TheVariants as table
 use Rattle.mx_layout.specs.declared.fault.Table.TheVariants.{Office}
 use Rattle.mx_book_tables.specs.stands.Schemas.{IsOfFile}
+use Rattle.mx_book_tables.specs.stands.Stands.{RestsAt}
 use Rattle.mx_migrate.specs.settle.Place.{IsMoveStop}
 use Rattle.mx_migrate.proofs.SettleProofs.PlaceLemmas.{Bounds, bounds}
 use Rattle.mx_office.specs.Faults.{is_office_point, moved_fault_from, open_answer, open_fault_from, IsReason, IsStop, IsStopped, IsUnopened, SaysWhy}
 use Rattle.mx_office.specs.Layout.{office_point}
 use Rattle.mx_office.specs.Opening.{HasReason, SaysPoint, WasOurs}
-use Rattle.mx_office.specs.Stands.{RestsOn}
 use Rattle.mx_faults.specs.declared.fault.OpenFault.{OpenFault}
 use Rattle.mx_faults.specs.declared.fault.OpenFault.TheVariants as unopened
 
@@ -146,7 +146,7 @@ module _ (was : State) (p : Point) (reads : (IsTrue was.is_open → HasOffice wa
   point_ours is = record { file = λ has. (p, answers_file p is, reads has); exact = λ q holds fits. ap open_answer (sym (exact q holds fits)) ∙ is; found = absent }
 
   -- the point says why none is
-  pub point_reason : (why : OpenFault) → open_answer p ≡ Some why → ((at : Point) (book : List Entry) → RestsOn at was book → p ≡ at) → HasReason was why
+  pub point_reason : (why : OpenFault) → open_answer p ≡ Some why → ((at : Point) (book : List Entry) → RestsAt at was book → p ≡ at) → HasReason was why
   point_reason why is rests_at = record {
     exact = λ q holds fits. inl (inl (ap open_answer (sym (exact q holds fits)) ∙ is));
     reason = λ has. inr (inr (inr (p, reads has, inl is)));
@@ -156,7 +156,7 @@ module _ (was : State) (p : Point) (reads : (IsTrue was.is_open → HasOffice wa
   }
 
   -- the move from there was stopped
-  pub way_reason : (why : OpenFault) → is_on_way p ≡ true → IsStopped why → ((at : Point) (book : List Entry) → IsOfFile at → RestsOn at was book → IsStop why) → HasReason was why
+  pub way_reason : (why : OpenFault) → is_on_way p ≡ true → IsStopped why → ((at : Point) (book : List Entry) → IsOfFile at → RestsAt at was book → IsStop why) → HasReason was why
   way_reason why way stopped whole = record {
     exact = λ q holds fits. by q stopped (subst (λ (x : Point). is_on_way x ≡ true) (exact q holds fits) way);
     reason = λ has. by_rows stopped (reads has);

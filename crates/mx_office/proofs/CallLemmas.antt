@@ -1,20 +1,20 @@
 -- A run, from what handing the commands to the tables answered; and what stopped a question.
 use Rattle.std.proofs.Common.{◌≡◌, ◌≢◌, ◌⊎◌, inl, inr, ◌≤◌, ◌<◌, true, false, refl, sym, ap, ◌∙◌, arith, Bool, List, [], ◌∷◌, length, Option, Some, None, Result, Ok, Err}
+use Rattle.sqlite.specs.Schema.{Schema}
 use Rattle.sqlite.specs.Store.{Ghosts}
 use Rattle.mx_book.specs.commands.Act.{Entry}
 use Rattle.mx_book.specs.declared.verdict.Reply.{Reply}
 use Rattle.mx_layout.specs.Crash.{ChangesNothing}
+use Rattle.mx_apply.specs.writing.Written.{IsSettled}
 use Rattle.mx_office.specs.Calls.{stop_asking, HandsIn, IsRun, RunsOver, RunsOverRows, replies_in, stop_in}
-use Rattle.mx_office.specs.Office.{office_state, IsReady, IsInDoubt, StandsFor}
-use Rattle.mx_office.specs.Layout.{office_point}
-use Rattle.mx_office.specs.Stands.{NoneAccepted}
+use Rattle.mx_office.specs.Office.{office_state, IsReady, IsInDoubt}
+use Rattle.mx_office.specs.Stands.{NoneAccepted, RestsIn}
 use Rattle.mx_faults.specs.declared.fault.Ask.{Ask}
 use Rattle.mx_faults.specs.declared.fault.Ask.TheVariants.{Refused, Failed}
 use Rattle.mx_faults.specs.declared.fault.Fault.{Fault}
 use Rattle.mx_faults.specs.declared.fault.Fault.TheVariants.{Memory, Store, NeedsReopen, Damaged}
 use Rattle.mx_office.specs.declared.office.Office.{Office}
 use Rattle.mx_office.proofs.OfficeLemmas.{survives_itself}
-use Rattle.mx_office.proofs.StandsLemmas.{may_stand}
 
 not_both : (b : Bool) → b ≡ false → b ≡ true → ⊥
 not_both b ready doubt = cc
@@ -23,8 +23,8 @@ not_both b ready doubt = cc
 
 module _ {S : Type 0} {g : Ghosts S} (commands : List Entry) (office : Office S g) where
   -- tables of which no command was asked
-  untouched_book : (fault : Fault) → ((name : _) → Some fault ≢ Some (Damaged name)) → (book : List Entry) → StandsFor office book → RunsOver book commands [] (Some fault) (office_state office)
-  untouched_book fault whole book rests = record { answered = λ _. refl; whole = λ _. whole; kept = λ _. rests; crash = λ clean trees may. inl (may_stand office_point (office_state office) book rests clean trees may) }
+  untouched_book : (fault : Fault) → ((name : _) → Some fault ≢ Some (Damaged name)) → (schema : Schema) → IsSettled schema → (book : List Entry) → RestsIn schema (office_state office) book → RunsOver schema book commands [] (Some fault) (office_state office)
+  untouched_book fault whole schema settled book rests = record { answered = λ _. refl; whole = λ _. whole; kept = λ _. rests; crash = λ clean trees may. inl (rests.crash clean trees may) }
 
   untouched_rows : (fault : Fault) → ((name : _) → Some fault ≢ Some (Damaged name)) → RunsOverRows commands [] (Some fault) (office_state office) (office_state office)
   untouched_rows fault whole = record {

@@ -4,6 +4,7 @@ use Rattle.std.proofs.Math.Nat.{le_refl}
 use Rattle.std.proofs.Math.Seq.{take-length}
 use Rattle.std.proofs.lemmas.List.{length-append, take-append-le, take_more}
 use Rattle.sqlite.specs.Effect.{Database}
+use Rattle.sqlite.specs.Schema.{Schema}
 use Rattle.sqlite.specs.State.{State, HasCleanDisk, Survives}
 use Rattle.sqlite.specs.Tree.{Trees}
 use Rattle.sqlite.proofs.StateLemmas.{survives_then}
@@ -24,12 +25,12 @@ use Rattle.mx_apply.specs.Applies.{HasOneCommit, behind}
 use Rattle.mx_office.specs.Calls.{replies_in, stop_in, HandsIn, RunsOver}
 use Rattle.mx_office.specs.Faults.{call_answer, fault_from}
 use Rattle.mx_office.specs.OnTop.{AreAnswered, HasOnTop, IsBehind, IsDamagedBehind, IsOfOffice, LeadsTo, MayLeave, WasEntered}
-use Rattle.mx_office.specs.Stands.{IsEither, NoneAccepted, Rests, Stands}
+use Rattle.mx_book_tables.specs.stands.Stands.{StandsInSchema}
+use Rattle.mx_office.specs.Stands.{IsEitherIn, NoneAccepted, RestsIn}
 use Rattle.mx_faults.specs.declared.fault.Fault.{Fault}
 use Rattle.mx_faults.specs.declared.fault.Fault.TheVariants.{Store, Damaged}
 use Rattle.mx_office.proofs.AppliedLemmas.{Handed, is_damaged, was_entered, was_open}
 use Rattle.mx_office.proofs.OfficeLemmas.{after_is, behind_is, nothing_then, rests_as, survives_itself}
-use Rattle.mx_office.proofs.StandsLemmas.{either_stand, may_stand, settled_of}
 use Rattle.mx_office.proofs.ReplyLemmas.{answered_more, answered_on, damage_from, idle_fault, idle_reply, no_damage_stop, no_reopening, none_before, none_last, store_stop}
 
 -- ── no command yet ──
@@ -45,7 +46,7 @@ handed_none commands s = record {
   usable = λ same. cc;
   opened = λ _ _ is_open. is_open;
   untouched = λ _ _ some. absurd (elim some [ inl said ↦ said refl | inr stop ↦ stop refl ]);
-  over_book = λ book rests. record { answered = λ _. refl; whole = λ _ name same. cc; kept = λ _. rests; crash = λ clean trees may. inl (may_stand office_point s book rests clean trees may) };
+  over_book = λ schema settled book rests. record { answered = λ _. refl; whole = λ _ name same. cc; kept = λ _. rests; crash = λ clean trees may. inl (rests.crash clean trees may) };
   over_rows = record {
     crash = λ _. survives_itself s _;
     was_open = λ clean some. absurd (elim some [ inl said ↦ said refl | inr damaged ↦ (let same : None ≡ Some (Damaged damaged.0) = damaged.1 in cc) ]);
@@ -131,22 +132,22 @@ module _ (commands : List Entry) (said : List Reply) (command : Entry) (first mi
 
   -- ── over a book ──
 
-  module _ (book : List Entry) (rests : Rests first book) where
+  module _ (schema : Schema) (settled : IsSettled schema) (book : List Entry) (rests : RestsIn schema first book) where
     abbrev now : List Entry
     now = book_run book done
 
-    had : RunsOver book commands said None mid
-    had = so_far.over_book book rests
+    had : RunsOver schema book commands said None mid
+    had = so_far.over_book schema settled book rests
 
-    rests_mid : Rests mid now
+    rests_mid : RestsIn schema mid now
     rests_mid = had.kept (λ same. cc)
 
     run_next : book_run book (take (length said + 1) commands) ≡ book_after now command
     run_next = ap (book_run book) next ∙ book_run-append book done (command ∷ [])
 
-    either_next : (trees : Trees) → IsEither now (now ++ command ∷ []) trees → IsEither now (book_run book (take (length said + 1) commands)) trees
+    either_next : (trees : Trees) → IsEitherIn schema now (now ++ command ∷ []) trees → IsEitherIn schema now (book_run book (take (length said + 1) commands)) trees
     either_next trees (inl one) = inl one
-    either_next trees (inr other) = inr (subst (Stands trees) (sym (run_next ∙ after_is now command other.tables.rows.is_book)) other)
+    either_next trees (inr other) = inr (subst (StandsInSchema schema office_point trees) (sym (run_next ∙ after_is now command other.rows.is_book)) other)
 
 -- ── it was answered ──
 
@@ -197,23 +198,22 @@ module _ (commands : List Entry) (said : List Reply) (command : Entry) (first mi
   crash_next : IsOfOffice first → Survives first new (MayLeave commands more None first)
   crash_next = survives_next commands said command first mid new next so_far (Ok r) it more None (omega (arith, one_more)) (λ n low. take-append-le n said (r ∷ []) low) (inl (omega (arith, one_more)))
 
-  over_more : (book : List Entry) → Rests first book → RunsOver book commands more None new
-  over_more book rests =
-      let had = so_far.over_book book rests in
+  over_more : (schema : Schema) → IsSettled schema → (book : List Entry) → RestsIn schema first book → RunsOver schema book commands more None new
+  over_more schema settled book rests =
+      let had = so_far.over_book schema settled book rests in
       let b = book_run book (take (length said) commands) in
-      let at = rests_mid commands said command first mid new next so_far (Ok r) it book rests in
-      let runs = ap (book_run book) (ap (λ n. take n commands) one_more) ∙ run_next commands said command first mid new next so_far (Ok r) it book rests in
-      let kept : Rests new (book_run book (take (length more) commands)) =
-      rests_as new (behind b command r) (book_run book (take (length more) commands)) (λ clean. behind_is b command r (it.applies.said at.schema (settled_of at.schema at.is) b at.tables clean) ∙ sym runs)
-      (record { schema = at.schema; is = at.is; tables = it.applies.kept at.schema (settled_of at.schema at.is) b at.tables }) in
+      let at = rests_mid commands said command first mid new next so_far (Ok r) it schema settled book rests in
+      let runs = ap (book_run book) (ap (λ n. take n commands) one_more) ∙ run_next commands said command first mid new next so_far (Ok r) it schema settled book rests in
+      let kept : RestsIn schema new (book_run book (take (length more) commands)) =
+      rests_as schema new (behind b command r) (book_run book (take (length more) commands)) (λ clean. behind_is b command r (it.applies.said schema settled b at clean) ∙ sym runs) (it.applies.kept schema settled b at) in
       record {
         answered = λ clean.
             ap (λ rs. rs ++ r ∷ []) (had.answered (early commands said command first mid new next so_far (Ok r) it clean))
-            ∙ ap (λ a. replies book (take (length said) commands) ++ a ∷ []) (it.applies.said at.schema (settled_of at.schema at.is) b at.tables clean)
+            ∙ ap (λ a. replies book (take (length said) commands) ++ a ∷ []) (it.applies.said schema settled b at clean)
             ∙ sym (ap (replies book) more_taken ∙ replies-append book (take (length said) commands) (command ∷ []));
         whole = λ _ name same. cc;
         kept = λ _. kept;
-        crash = λ clean trees may. inl (may_stand office_point new (book_run book (take (length more) commands)) kept clean trees may);
+        crash = λ clean trees may. inl (kept.crash clean trees may);
       }
 
   handed_as : (HasCleanDisk new → IsOfOffice first → (after : Database) × AreAnswered (take (length more) commands) more first.now after) → (HasCleanDisk new → IsOfOffice first → IsTrue new.is_open → IsBehind commands more first new)
@@ -254,16 +254,16 @@ module _ (commands : List Entry) (said : List Reply) (command : Entry) (first mi
   abbrev stop : Option Fault
   stop = Some (fault_from e)
 
-  over_stop : (book : List Entry) → Rests first book → RunsOver book commands said stop new
-  over_stop book rests =
-      let had = so_far.over_book book rests in
+  over_stop : (schema : Schema) → IsSettled schema → (book : List Entry) → RestsIn schema first book → RunsOver schema book commands said stop new
+  over_stop schema settled book rests =
+      let had = so_far.over_book schema settled book rests in
       let b = book_run book (take (length said) commands) in
-      let at = rests_mid commands said command first mid new next so_far (Err e) it book rests in
+      let at = rests_mid commands said command first mid new next so_far (Err e) it schema settled book rests in
       record {
         answered = λ clean. had.answered (early commands said command first mid new next so_far (Err e) it clean);
-        whole = λ clean name same. no_damage_stop e name (it.applies.said at.schema (settled_of at.schema at.is) b at.tables clean) same;
-        kept = λ other. record { schema = at.schema; is = at.is; tables = it.applies.same at.schema (settled_of at.schema at.is) b at.tables (store_stop e other) };
-        crash = λ clean trees may. either_next commands said command first mid new next so_far (Err e) it book rests trees (either_stand at.schema at.is b (b ++ command ∷ []) trees (it.applies.crash at.schema (settled_of at.schema at.is) b at.tables clean trees may));
+        whole = λ clean name same. no_damage_stop e name (it.applies.said schema settled b at clean) same;
+        kept = λ other. it.applies.same schema settled b at (store_stop e other);
+        crash = λ clean trees may. either_next commands said command first mid new next so_far (Err e) it schema settled book rests trees (it.applies.crash schema settled b at clean trees may);
       }
 
   nothing : e ≢ table.Store → ChangesNothing mid new

@@ -2,6 +2,7 @@
 use Rattle.std.proofs.Common.{◌≡◌, ◌≢◌, ◌⊎◌, inl, inr, true, refl, sym, ap, subst, ◌∙◌, arith, IsTrue, List, Option, Some, None, Result, Ok, Err}
 use Rattle.std.specs.Prelude.{ok_or, IfErr, IfOk, MatchResult}
 use Rattle.sqlite.specs.Held.{Held, state}
+use Rattle.sqlite.specs.Schema.{Schema}
 use Rattle.sqlite.specs.State.{HasCleanDisk, Survives, IsRolledBack}
 use Rattle.sqlite.specs.Store.{Ghosts}
 use Rattle.sqlite.specs.Tree.{Trees}
@@ -28,7 +29,8 @@ use Rattle.mx_office.specs.Faults.{call_answer, fault_from, found_or, question_a
 use Rattle.mx_office.specs.Looks.{LooksUp, IsFound, IsFoundIn}
 use Rattle.mx_office.specs.Office.{office_state}
 use Rattle.mx_office.specs.Questions.{IsAnsweredBy}
-use Rattle.mx_office.specs.Stands.{Rests}
+use Rattle.mx_apply.specs.writing.Written.{IsSettled}
+use Rattle.mx_office.specs.Stands.{RestsIn}
 use Rattle.mx_faults.specs.declared.fault.Ask.TheVariants.{Failed}
 use Rattle.mx_faults.specs.declared.fault.Fault.{Fault}
 use Rattle.mx_faults.specs.declared.fault.Fault.TheVariants.{Memory, Store, Damaged}
@@ -54,24 +56,24 @@ module _ {S : Type 0} (g : Ghosts S) (old last end : Held S) (drop : Survives (s
   }
 
   -- what the tables stand for as it begins
-  begun_found : (book : List Entry) → Rests (state g old) book → HasCleanDisk (state g old) → IsTrue (state g old).is_open → StandsFor (state g begun) book
-  begun_found book rests clean is_open = let it = rests_found (state g old) book rests clean is_open in record { schema = it.schema; rows = it.rows }
+  begun_found : (schema : Schema) → IsSettled schema → (book : List Entry) → RestsIn schema (state g old) book → HasCleanDisk (state g old) → IsTrue (state g old).is_open → StandsFor (state g begun) book
+  begun_found schema settled book rests clean is_open = let it = rests_found schema settled (state g old) book rests clean is_open in record { schema = it.schema; rows = it.rows }
 
   module _ {V : Type 0} (Is : List Entry → V → Type 0) (IsOfRows : Trees → V → Type 0) where
     -- what is so of a book, where the call found the connection open if it answered
     over_book : (within : IsWithin (state g begun) (state g last)) → (result : Result V TableFault) → IfErr result IsStop → (HasCleanDisk (state g last) → OnRead result (StaysInside (state g begun) (state g last)))
         → (HasCleanDisk (state g last) → (book : List Entry) → StandsFor (state g begun) book → IfOk result (Is book))
         → (HasCleanDisk (state g last) → (name : TableName) → result ≡ Err (table.Damaged name) → (book : List Entry) → StandsFor (state g begun) book → ⊥)
-        → (book : List Entry) → Rests (state g old) book → HasCleanDisk (state g end) → MatchResult result (Is book) IsNoDamage
-    over_book within (Ok v) cause inside read whole book rests clean =
+        → (schema : Schema) → IsSettled schema → (book : List Entry) → RestsIn schema (state g old) book → HasCleanDisk (state g end) → MatchResult result (Is book) IsNoDamage
+    over_book within (Ok v) cause inside read whole schema settled book rests clean =
         let early : HasCleanDisk (state g old) = omega (arith, drop.clean, within.survives.clean) in
-        read (mid clean) book (begun_found book rests early (inside (mid clean)).was_open)
-    over_book within (Err e) (inl memory) inside read whole book rests clean = inl memory
-    over_book within (Err e) (inr (inl store)) inside read whole book rests clean = inr store
-    over_book within (Err e) (inr (inr damaged)) inside read whole book rests clean =
+        read (mid clean) book (begun_found schema settled book rests early (inside (mid clean)).was_open)
+    over_book within (Err e) (inl memory) inside read whole schema settled book rests clean = inl memory
+    over_book within (Err e) (inr (inl store)) inside read whole schema settled book rests clean = inr store
+    over_book within (Err e) (inr (inr damaged)) inside read whole schema settled book rests clean =
         let early : HasCleanDisk (state g old) = omega (arith, drop.clean, within.survives.clean) in
         let opened = (subst (λ f. OnDamaged f (StaysInside (state g begun) (state g last))) damaged.1 (inside (mid clean))).was_open in
-        absurd (whole (mid clean) damaged.0 (ap Err damaged.1) book (begun_found book rests early opened))
+        absurd (whole (mid clean) damaged.0 (ap Err damaged.1) book (begun_found schema settled book rests early opened))
 
     found_open : (result : Result V TableFault) → OnRead result (StaysInside (state g begun) (state g last)) → OnRead result (IsTrue (state g old).is_open)
     found_open (Ok v) stays = stays.was_open
@@ -172,7 +174,7 @@ module _ {S : Type 0} {g : Ghosts S} {X : Type 0} (old new : Office S g) (refusa
 
   pub question_answered : ((answer : Result X Refusal) → IsOfRows (office_state old).now.trees answer → IsFoundIn refusal what (office_state old).now.trees answer) → IsAnsweredBy (λ book. found_or refusal (what book)) old new (question_answer found)
   question_answered says = record {
-    exact = λ book _ rests clean. match_question book found (looks.of_book book rests clean);
+    exact = λ schema settled book _ rests clean. match_question book found (looks.of_book schema settled book rests clean);
     sound = λ clean has goes. sound_question (office_state old).now.trees says found (looks.of_rows clean has) goes;
     damaged = λ clean has name same. looks.damaged clean has name (question_damaged found name same);
   }

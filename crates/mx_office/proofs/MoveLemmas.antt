@@ -20,27 +20,18 @@ use Rattle.mx_migrate.specs.settle.Advances.{AreMoved}
 use Rattle.mx_migrate.specs.settle.Place.{IsPlacedAt, SaysAt}
 use Rattle.mx_migrate.specs.settle.Settles.{Settles}
 use Rattle.mx_migrate.specs.declared.settle.settling.TheConstants.{ENOUGH_COMMITS}
-use Rattle.mx_migrate.proofs.SettleProofs.AdvanceLemmas.{nothing_then, placed_point, placed_still, rests_point, same_now, still}
+use Rattle.mx_migrate.proofs.SettleProofs.AdvanceLemmas.{placed_point, placed_still, rests_point, same_now, still}
 use Rattle.mx_migrate.proofs.SettleProofs.PlaceLemmas.{rests_placed}
 use Rattle.mx_office.specs.Faults.{moved_fault_from, open_answer, IsStop}
 use Rattle.mx_office.specs.Layout.{office_point}
-use Rattle.mx_office.specs.Opening.{AreMovedOn, ChangesOnWay, IsArrived, MovesOn, StandsBehind}
-use Rattle.mx_office.specs.Stands.{Rests, RestsOn}
+use Rattle.mx_office.specs.Opening.{AreMovedOn, ChangesOnWay, IsArrived, MovesOn}
 use Rattle.mx_faults.specs.declared.fault.OpenFault.{OpenFault}
 use Rattle.mx_faults.specs.declared.fault.OpenFault.TheVariants as unopened
 use Rattle.mx_office.proofs.AnswerLemmas.{answers_office, moved_stop}
-use Rattle.mx_office.proofs.StandsLemmas.{may_stand, on_point, rests_here, stands_here, still_on, which}
 
 -- a file that is at a point has its row
 pub placed_holds : (s : State) (at : Point) → IsPlacedAt at s → HasCleanDisk s → IsTrue s.is_open → HoldsPoint at s.now
 placed_holds s at placed clean is_open = ((_, ap (λ (schema : Schema). schema.tables) (placed.schema clean is_open)), (placed.tables clean is_open).says)
-
--- a file that rests at a point which is that of the office rests there
-named_on : (s : State) (at : Point) (book : List Entry) → (HasCleanDisk s → at ≡ office_point) → RestsOn at s book → Rests s book
-named_on s at book same rests = elim (which at s book rests) [
-  | inl exact ↦ rests_here office_point s book (rests_point s at office_point book same exact)
-  | inr own ↦ subst (λ p. RestsOn p s book) own rests
-]
 
 -- ── what becomes of any rows ──
 
@@ -78,8 +69,8 @@ module _ (old new : State) (nothing : ChangesNothing old new) where
   stays_shut why = record {
     clean = nothing.survives.clean;
     kept = λ at book rests is. absurd cc;
-    same = λ at book rests fault is other. (0, still_on at old new book (λ _. nothing) rests);
-    crash = λ at book rests clean db may. (0, may_stand at new book (still_on at old new book (λ _. nothing) rests) clean db may);
+    same = λ at book rests fault is other. (0, still at book old new nothing rests);
+    crash = λ at book rests clean db may. (0, (still at book old new nothing rests).crash clean db may);
     placed = λ at placed is. absurd cc;
     made = λ at placed _. moved_none at placed;
     left = λ at _. left_none at;
@@ -89,9 +80,9 @@ module _ (old new : State) (nothing : ChangesNothing old new) where
   pub moves_then : (end : State) (why : Option OpenFault) → MovesOn new end why → MovesOn old end why
   moves_then end why on = record {
     clean = omega (arith, nothing.survives.clean, on.clean);
-    kept = λ at book rests. on.kept at book (still_on at old new book (λ _. nothing) rests);
-    same = λ at book rests. on.same at book (still_on at old new book (λ _. nothing) rests);
-    crash = λ at book rests. on.crash at book (still_on at old new book (λ _. nothing) rests);
+    kept = λ at book rests. on.kept at book (still at book old new nothing rests);
+    same = λ at book rests. on.same at book (still at book old new nothing rests);
+    crash = λ at book rests. on.crash at book (still at book old new nothing rests);
     placed = λ at placed. on.placed at (placed_still at old new nothing placed);
     made = λ at placed other clean is_open. from_before at placed (omega (arith, on.clean)) end.now.trees (on.made at (placed_still at old new nothing placed) other clean is_open);
     left = λ at placed clean db may. left_before at placed (omega (arith, on.clean)) db (on.left at (placed_still at old new nothing placed) clean db may);
@@ -103,15 +94,15 @@ module _ (old new : State) (nothing : ChangesNothing old new) where
     is_at : (at : Point) → IsPlacedAt at old → HasCleanDisk new → p ≡ at
     is_at at placed clean = exact at clean (λ there. placed_holds old at placed (early clean) there) (placed.tables (early clean) (is_open clean)).fits
 
-    pub is_at_book : HasCleanDisk new → (at : Point) (book : List Entry) → RestsOn at old book → p ≡ at
-    is_at_book clean at book rests = exact at clean (λ there. on_point at old book rests (early clean) there) (rests.tables.tables (early clean) (is_open clean)).rows.point
+    pub is_at_book : HasCleanDisk new → (at : Point) (book : List Entry) → RestsAt at old book → p ≡ at
+    is_at_book clean at book rests = is_at at (rests_placed old at book rests) clean
 
     opens_there : p ≡ office_point → MovesOn old new None
     opens_there own = record {
       clean = nothing.survives.clean;
-      kept = λ at book rests _. named_on new at book (λ clean. sym (is_at_book clean at book rests) ∙ own) (still_on at old new book (λ _. nothing) rests);
+      kept = λ at book rests _. rests_point new at office_point book (λ clean. sym (is_at_book clean at book rests) ∙ own) (still at book old new nothing rests);
       same = λ at book rests fault is. absurd cc;
-      crash = λ at book rests clean db may. (0, may_stand at new book (still_on at old new book (λ _. nothing) rests) clean db may);
+      crash = λ at book rests clean db may. (0, (still at book old new nothing rests).crash clean db may);
       placed = λ at placed _. placed_point new at office_point (λ clean. sym (is_at at placed clean) ∙ own) (placed_still at old new nothing placed);
       made = λ at placed _. moved_none at placed;
       left = λ at _. left_none at;
@@ -129,20 +120,10 @@ not_store e fault is other store = other (let same : moved_fault_from e ≡ faul
 stopped_store : (e : MoveFault) (result : Result Point MoveFault) → result ≡ Err e → result ≡ Err move.Store → moved_fault_from e ≡ unopened.Store
 stopped_store e result stops is = let same : e ≡ move.Store = cc in ap moved_fault_from same
 
--- a file of the office, whose tables were not moved, where the disk returned what was written
-abbrev pub LeavesOffice : State → State → Type 0
-LeavesOffice old new = HasCleanDisk new → (IsTrue old.is_open → HoldsPoint office_point old.now) → ChangesNothing old new
-
-office_on : (old new : State) → LeavesOffice old new → (HasCleanDisk new → HasCleanDisk old) → (at : Point) (book : List Entry) → at ≡ office_point → RestsOn at old book → RestsOn at new book
-office_on old new leaves early at book own rests = still_on at old new book (λ clean. leaves clean (λ is_open. subst (λ p. HoldsPoint p old.now) own (on_point at old book rests (early clean) is_open))) rests
-
 -- as far as it goes, and the point was read once more
-module _ (at_most : ℕ) (old mid new : State) (to : Point) (s : Settles at_most old mid (Ok to)) (nothing : ChangesNothing mid new) (leaves : LeavesOffice old new) where
+module _ (at_most : ℕ) (old mid new : State) (to : Point) (s : Settles at_most old mid (Ok to)) (nothing : ChangesNothing mid new) where
   before : HasCleanDisk new → HasCleanDisk mid
   before clean = omega (arith, nothing.survives.clean)
-
-  first : HasCleanDisk new → HasCleanDisk old
-  first clean = omega (arith, nothing.survives.clean, s.clean)
 
   made_then : (at : Point) → IsPlacedAt at old → HasCleanDisk new → IsTrue new.is_open → IsTrue old.is_open × AreMovedOn at old.now.trees new.now.trees
   made_then at placed clean is_open =
@@ -156,26 +137,16 @@ module _ (at_most : ℕ) (old mid new : State) (to : Point) (s : Settles at_most
     | inr none ↦ absurd none
   ]
 
-  kept_at : (at : Point) (book : List Entry) → RestsAt at old book → RestsAt (point_behind at_most at book) new book
-  kept_at at book rests = still (point_behind at_most at book) book mid new nothing (s.kept at book rests)
-
-  -- it stands for the same book, behind some commits
-  kept_on : (at : Point) (book : List Entry) → RestsOn at old book → (commits : ℕ) × RestsOn (point_behind commits at book) new book
-  kept_on at book rests = elim (which at old book rests) [
-    | inl exact ↦ (at_most, rests_here (point_behind at_most at book) new book (kept_at at book exact))
-    | inr own ↦ (0, office_on old new leaves first at book own rests)
-  ]
-
-  crash_on : (at : Point) (book : List Entry) → RestsOn at old book → Leaves new (StandsBehind at book)
-  crash_on at book rests clean db may = (let it = kept_on at book rests in (it.0, may_stand (point_behind it.0 at book) new book it.1 clean db may))
+  kept_then : (at : Point) (book : List Entry) → RestsAt at old book → RestsAt (point_behind at_most at book) new book
+  kept_then at book rests = still (point_behind at_most at book) book mid new nothing (s.kept at book rests)
 
   -- it is not that of the office
   pub stays_away : (why : OpenFault) → MovesOn old new (Some why)
   stays_away why = record {
     clean = omega (arith, s.clean, nothing.survives.clean);
     kept = λ at book rests is. absurd cc;
-    same = λ at book rests fault is other. kept_on at book rests;
-    crash = crash_on;
+    same = λ at book rests fault is other. (at_most, kept_then at book rests);
+    crash = λ at book rests clean db may. (at_most, (kept_then at book rests).crash clean db may);
     placed = λ at placed is. absurd cc;
     made = λ at placed _. made_then at placed;
     left = left_then;
@@ -196,20 +167,14 @@ module _ (at_most : ℕ) (old mid new : State) (to : Point) (s : Settles at_most
     is_there : (p : Point) → IsPlacedAt p mid → HasCleanDisk new → p ≡ office_point
     is_there p placed clean = exact clean p (λ there. placed_holds mid p placed (before clean) there) (placed.tables (before clean) (is_open clean)).fits
 
-    kept_there : (at : Point) (book : List Entry) → RestsOn at old book → Rests new book
-    kept_there at book rests = elim (which at old book rests) [
-      | inl exactly ↦
-          let p = point_behind at_most at book in
-          rests_here office_point new book (rests_point new p office_point book (λ clean. is_there p (rests_placed mid p book (s.kept at book exactly)) clean) (kept_at at book exactly))
-      | inr own ↦ subst (λ p. RestsOn p new book) own (office_on old new leaves first at book own rests)
-    ]
-
     pub settles_there : MovesOn old new None
     settles_there = record {
       clean = omega (arith, s.clean, nothing.survives.clean);
-      kept = λ at book rests _. kept_there at book rests;
+      kept = λ at book rests _.
+          let p = point_behind at_most at book in
+          rests_point new p office_point book (λ clean. is_there p (rests_placed mid p book (s.kept at book rests)) clean) (kept_then at book rests);
       same = λ at book rests fault is. absurd cc;
-      crash = crash_on;
+      crash = λ at book rests clean db may. (at_most, (kept_then at book rests).crash clean db may);
       placed = λ at placed _. placed_point new to office_point (λ clean. is_there to (s.placed at placed) clean) (placed_still to mid new nothing (s.placed at placed));
       made = λ at placed _. made_then at placed;
       left = left_then;
@@ -222,22 +187,12 @@ module _ (at_most : ℕ) (old mid new : State) (to : Point) (s : Settles at_most
 
 -- the move was stopped
 module _ (at_most : ℕ) (old new : State) where
-  pub stopped_on_way : (e : MoveFault) (why : OpenFault) → why ≡ moved_fault_from e → Settles at_most old new (Err e) → LeavesOffice old new → MovesOn old new (Some why)
-  stopped_on_way e why is_why s leaves = record {
+  pub stopped_on_way : (e : MoveFault) (why : OpenFault) → why ≡ moved_fault_from e → Settles at_most old new (Err e) → MovesOn old new (Some why)
+  stopped_on_way e why is_why s = record {
     clean = s.clean;
     kept = λ at book rests is. absurd cc;
-    same = λ at book rests fault is other. elim (which at old book rests) [
-      | inl exact ↦
-          let it = s.same at book exact (not_store e fault (ap Some (sym is_why) ∙ is) other) in
-          (it.0, rests_here (point_behind it.0 at book) new book it.2)
-      | inr own ↦ (0, office_on old new leaves (λ clean. omega (arith, s.clean)) at book own rests)
-    ];
-    crash = λ at book rests clean db may. elim (which at old book rests) [
-      | inl exact ↦
-          let it = s.crash at book exact clean db may in
-          (it.0, stands_here (point_behind it.0 at book) db book it.2)
-      | inr own ↦ (0, may_stand at new book (office_on old new leaves (λ sure. omega (arith, s.clean)) at book own rests) clean db may)
-    ];
+    same = λ at book rests fault is other. (let it = s.same at book rests (not_store e fault (ap Some (sym is_why) ∙ is) other) in (it.0, it.2));
+    crash = λ at book rests clean db may. (let it = s.crash at book rests clean db may in (it.0, it.2));
     placed = λ at placed is. absurd cc;
     made = λ at placed other clean is_open. as_moved_on at_most at old new.now.trees (s.made at placed (λ is. other (ap Some (is_why ∙ stopped_store e (Err e) refl is))) clean is_open);
     left = λ at placed clean db may. as_left_on at_most at old db (s.left at placed clean db may);
@@ -260,9 +215,3 @@ nothing_changes g was now (inr moved) clean holds =
     let there = it.exact office_point holds (omega arith, omega arith, omega arith) in
     let both : true ≡ false = sym it.way ∙ ap is_on_way there ∙ off_way in
     absurd cc
-
--- so where no step was due, and nothing changed behind that
-pub left_there : {S : Type 0} (g : Ghosts S) (was : Held S) (mid new : State) → ChangesOnWay g was mid → ChangesNothing mid new → LeavesOffice (state g was) new
-left_there g was mid new changes later clean holds =
-    let early : HasCleanDisk mid = omega (arith, later.survives.clean) in
-    nothing_then (state g was) mid new (nothing_changes g was mid changes early holds) later

@@ -15,18 +15,17 @@ use Rattle.mx_book.specs.declared.verdict.Verdict.{Verdict}
 use Rattle.mx_book.specs.declared.verdict.Verdict.TheVariants as verdict
 use Rattle.mx_book.proofs.JudgeLemmas.{both_true, is_new-New}
 use Rattle.mx_layout.specs.Crash.{ChangesNothing}
-use Rattle.mx_layout.proofs.CrashLemmas.{rests_same}
-use Rattle.mx_book_tables.specs.stands.Stands.{RestsInSchema, StandsInSchema}
+use Rattle.mx_layout.proofs.CrashLemmas.{rests_kept, rests_same}
+use Rattle.mx_book_tables.specs.stands.Stands.{StandsInSchema}
 use Rattle.mx_apply.specs.Applies.{behind}
-use Rattle.mx_office.specs.Layout.{office_point}
-use Rattle.mx_office.specs.Stands.{Rests}
-use Rattle.mx_office.proofs.StandsLemmas.{still_on}
+use Rattle.mx_office.specs.Layout.{office_point, office_schema}
+use Rattle.mx_office.specs.Stands.{Rests, RestsIn, Stands}
 
 -- ── calls that change nothing ──
 
 -- a call that changed nothing left the tables those of the book
 pub rests_still : (old new : State) (book : List Entry) → ChangesNothing old new → Rests old book → Rests new book
-rests_still old new book nothing = still_on office_point old new book (λ _. nothing)
+rests_still old new book = rests_kept office_schema (λ trees. Stands trees book) old new
 
 -- one after the other
 pub nothing_then : (old mid new : State) → ChangesNothing old mid → ChangesNothing mid new → ChangesNothing old new
@@ -45,12 +44,8 @@ survives_itself s P = record { clean = omega arith; shield = λ h. h; counts = o
 
 -- ── the book behind a command ──
 
--- so in one schema
-rests_in_as : (s : State) (schema : Schema) (one other : List Entry) → (HasCleanDisk s → one ≡ other) → RestsInSchema schema office_point s one → RestsInSchema schema office_point s other
-rests_in_as s schema one other same = rests_same s schema (λ trees. StandsInSchema schema office_point trees one) (λ trees. StandsInSchema schema office_point trees other) (λ clean trees is. subst (StandsInSchema schema office_point trees) (same clean) is)
-
-pub rests_as : (s : State) (one other : List Entry) → (HasCleanDisk s → one ≡ other) → Rests s one → Rests s other
-rests_as s one other same r = record { schema = r.schema; is = r.is; tables = rests_in_as s r.schema one other same r.tables }
+pub rests_as : (schema : Schema) (s : State) (one other : List Entry) → (HasCleanDisk s → one ≡ other) → RestsIn schema s one → RestsIn schema s other
+rests_as schema s one other same = rests_same s schema (λ trees. StandsInSchema schema office_point trees one) (λ trees. StandsInSchema schema office_point trees other) (λ clean trees is. subst (StandsInSchema schema office_point trees) (same clean) is)
 
 after_new : (book : List Entry) (command : Entry) → judge book command ≡ verdict.New → book_after book command ≡ book ++ command ∷ []
 after_new book command is = ap (λ v. cond (is_new v) (book ++ command ∷ []) book) is

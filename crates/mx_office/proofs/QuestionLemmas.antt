@@ -50,8 +50,8 @@ module _ {X Y : Type 0} (f : X → Y) (decides : (x y : X) → f x ≡ f y → x
     pub answered_of : (refusal : Refusal) (said : List Entry → Option X) → IsAnsweredBy (λ book. found_or refusal (option_map f (said book))) old new (as_answer result)
         → IsAnsweredBy (λ book. found_or refusal (said book)) old new result
     answered_of refusal said h = record {
-      exact = λ book ready stands clean.
-          is_answer_of (found_or refusal (said book)) result (subst (λ (r : Result Y Ask). IsAnswer r (as_answer result)) (found_as refusal (said book)) (h.exact book ready stands clean));
+      exact = λ schema settled book ready stands clean.
+          is_answer_of (found_or refusal (said book)) result (subst (λ (r : Result Y Ask). IsAnswer r (as_answer result)) (found_as refusal (said book)) (h.exact schema settled book ready stands clean));
       sound = λ clean own goes book speaks.
           same_as result (found_or refusal (said book)) (h.sound clean own (λ fault e. goes fault (same_as result (Err (Failed fault)) e)) book speaks ∙ found_as refusal (said book));
       damaged = λ clean own table e. h.damaged clean own table (ap as_answer e);

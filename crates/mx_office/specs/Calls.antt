@@ -5,6 +5,7 @@
 use Rattle.std.specs.Prelude.{◌≡◌, ◌≢◌, ◌⊎◌, ◌≤◌, ◌<◌, ◌+◌, List, [], ◌∷◌, length, take, IsTrue, Option, Some, None, Result, Ok, Err}
 use Rattle.sqlite.specs.Store.{Ghosts}
 use Rattle.sqlite.specs.Effect.{Database}
+use Rattle.sqlite.specs.Schema.{Schema}
 use Rattle.sqlite.specs.State.{State, HasCleanDisk, Survives}
 use Rattle.sqlite_trees.specs.View.{doubt}
 use Rattle.mx_book.specs.commands.Act.{Entry}
@@ -12,14 +13,15 @@ use Rattle.mx_book.specs.Run.{book_run, replies}
 use Rattle.mx_book.specs.declared.verdict.Reply.{Reply}
 use Rattle.mx_layout.specs.TableName.{TableName}
 use Rattle.mx_layout.specs.Crash.{Leaves, ChangesNothing}
+use Rattle.mx_apply.specs.writing.Written.{IsSettled}
 use Rattle.mx_faults.specs.declared.fault.Ask.{Ask}
 use Rattle.mx_faults.specs.declared.fault.Ask.TheVariants.{Refused, Failed}
 use Rattle.mx_faults.specs.declared.fault.Fault.{Fault}
 use Rattle.mx_faults.specs.declared.fault.Fault.TheVariants.{Memory, Store, NeedsReopen, Damaged}
 use Rattle.mx_office.specs.declared.office.Office.{Office}
-use Rattle.mx_office.specs.Office.{office_state, IsReady, IsInDoubt, StandsFor}
+use Rattle.mx_office.specs.Office.{office_state, IsReady, IsInDoubt}
 use Rattle.mx_office.specs.OnTop.{AreAnswered, IsBehind, IsDamagedBehind, IsOfOffice, MayLeave}
-use Rattle.mx_office.specs.Stands.{IsEither, NoneAccepted, Rests}
+use Rattle.mx_office.specs.Stands.{IsEitherIn, NoneAccepted, RestsIn}
 
 -- ── what stopped a call ──
 
@@ -44,16 +46,16 @@ replies_in (Err fault) = []
 
 -- ── over the tables of a book ──
 
--- commands were handed in where the tables stood for this book: the first of them got these replies, and this stopped it before the next one, if anything did
-pub record RunsOver (book commands : List Entry) (said : List Reply) (stop : Option Fault) (new : State) : Type 0 where
+-- commands were handed in where the tables of this schema stood for this book: the first of them got these replies, and this stopped it before the next one, if anything did
+pub record RunsOver (schema : Schema) (book commands : List Entry) (said : List Reply) (stop : Option Fault) (new : State) : Type 0 where
   -- each reply is that of the book behind the commands before it
   pub answered : HasCleanDisk new → said ≡ replies book (take (length said) commands)
   -- no table of a book is damaged
   pub whole : HasCleanDisk new → (table : TableName) → stop ≢ Some (Damaged table)
   -- the tables stand for the book behind the commands that have a reply
-  pub kept : stop ≢ Some Store → Rests new (book_run book (take (length said) commands))
+  pub kept : stop ≢ Some Store → RestsIn schema new (book_run book (take (length said) commands))
   -- a crash leaves that book, or the one behind the next command
-  pub crash : Leaves new (IsEither (book_run book (take (length said) commands)) (book_run book (take (length said + 1) commands)))
+  pub crash : Leaves new (IsEitherIn schema (book_run book (take (length said) commands)) (book_run book (take (length said + 1) commands)))
 
 -- ── whether the office goes on ──
 
@@ -104,8 +106,8 @@ pub record HandsIn (commands : List Entry) (said : List Reply) (stop : Option Fa
   pub opened : stop ≢ Some Store → HasCleanDisk new → IsTrue new.is_open → IsTrue old.is_open
   -- where a command was looked for and none was accepted no table changes
   pub untouched : NoneAccepted said → stop ≢ Some Store → (said ≢ []) ⊎ (stop ≢ None) → ChangesNothing old new
-  -- what becomes of a book
-  pub over_book : (book : List Entry) → Rests old book → RunsOver book commands said stop new
+  -- what becomes of a book, in whatever schema that has the tables of the office
+  pub over_book : (schema : Schema) → IsSettled schema → (book : List Entry) → RestsIn schema old book → RunsOver schema book commands said stop new
   -- what becomes of any rows
   pub over_rows : RunsOverRows commands said stop old new
 
@@ -121,8 +123,8 @@ pub record IsRun {S : Type 0} {g : Ghosts S} (commands : List Entry) (said : Lis
   pub doubt : MarksDoubt stop old new
   -- where no command was accepted no table changes
   pub untouched : NoneAccepted said → stop ≢ Some Store → (new.conn ≡ old.conn) ⊎ ChangesNothing (office_state old) (office_state new)
-  -- what becomes of a book
-  pub over_book : (book : List Entry) → StandsFor old book → RunsOver book commands said stop (office_state new)
+  -- what becomes of a book, in whatever schema that has the tables of the office
+  pub over_book : (schema : Schema) → IsSettled schema → (book : List Entry) → RestsIn schema (office_state old) book → RunsOver schema book commands said stop (office_state new)
   -- what becomes of any rows
   pub over_rows : RunsOverRows commands said stop (office_state old) (office_state new)
 

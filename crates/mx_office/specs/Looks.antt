@@ -1,5 +1,6 @@
 -- What is asked of the tables in a transaction of its own, which is dropped.
 use Rattle.std.specs.Prelude.{◌≡◌, List, Option, Result, Err, ok_or, IsTrue, IfOk, IfErr, MatchResult}
+use Rattle.sqlite.specs.Schema.{Schema}
 use Rattle.sqlite.specs.State.{State, HasCleanDisk}
 use Rattle.sqlite.specs.Tree.{Trees}
 use Rattle.mx_book.specs.commands.Act.{Entry}
@@ -13,7 +14,8 @@ use Rattle.mx_lookups.specs.numbers.Damage.{IsDamaged}
 use Rattle.mx_lookups.specs.numbers.Reads.{HasTablesOfRows, IsStop}
 use Rattle.mx_row_questions.specs.lists.Answering.{AnswerListsAs}
 use Rattle.mx_apply.specs.Applies.{IsNoDamage}
-use Rattle.mx_office.specs.Stands.{Rests}
+use Rattle.mx_apply.specs.writing.Written.{IsSettled}
+use Rattle.mx_office.specs.Stands.{RestsIn}
 
 -- something was looked up, of which this is so by a book and this by any rows, and a table is told damaged for this reason
 pub record LooksUp {V : Type 0} (Is : List Entry → V → Type 0) (IsOfRows : Trees → V → Type 0) (Why : TableName → Trees → Type 0) (old new : State) (result : Result V TableFault) : Type 0 where
@@ -22,8 +24,8 @@ pub record LooksUp {V : Type 0} (Is : List Entry → V → Type 0) (IsOfRows : T
   pub cause : IfErr result IsStop
   -- what was answered was answered by a connection that is open
   pub was_open : HasCleanDisk new → OnRead result (IsTrue old.is_open)
-  -- of the book that the tables stand for, none of which is damaged
-  pub of_book : (book : List Entry) → Rests old book → HasCleanDisk new → MatchResult result (Is book) IsNoDamage
+  -- of the book that the tables stand for, in whatever schema, none of which is damaged
+  pub of_book : (schema : Schema) → IsSettled schema → (book : List Entry) → RestsIn schema old book → HasCleanDisk new → MatchResult result (Is book) IsNoDamage
   -- of whichever rows the tables have
   pub of_rows : HasCleanDisk new → HasTablesOfRows old.now.schema → IfOk result (IsOfRows old.now.trees)
   pub damaged : HasCleanDisk new → HasTablesOfRows old.now.schema → (name : TableName) → result ≡ Err (Damaged name) → Why name old.now.trees

@@ -16,19 +16,20 @@ use Rattle.mx_layout.specs.Listed.{LacksOffice}
 use Rattle.mx_layout.specs.Point.{point_cells, FitsPoint, HoldsPoint, TellsPoint}
 use Rattle.mx_layout.specs.Tables.{office, HasOffice}
 use Rattle.mx_book_tables.specs.stands.Schemas.{IsOfFile}
+use Rattle.mx_book_tables.specs.stands.Stands.{RestsAt, StandsAt}
 use Rattle.mx_migrate.specs.settle.Advances.{LeadsTo}
 use Rattle.mx_migrate.specs.settle.Place.{IsOnWay, IsPlacedAt}
 use Rattle.mx_faults.specs.declared.fault.OpenFault.{OpenFault}
 use Rattle.mx_faults.specs.declared.fault.OpenFault.TheVariants as unopened
 use Rattle.mx_office.specs.Faults.{open_answer, open_fault_from, IsReason, IsStop, IsStopped, IsUnopened, SaysWhy}
 use Rattle.mx_office.specs.Layout.{office_point}
-use Rattle.mx_office.specs.Stands.{Rests, RestsOn, StandsOn}
+use Rattle.mx_office.specs.Stands.{Rests}
 
 -- ── what becomes of a database ──
 
 -- the tables stand for the book at a point, or at one behind it on the way to the newest layout
 abbrev pub StandsBehind : Point → List Entry → Trees → Type 0
-StandsBehind at book trees = (commits : ℕ) × StandsOn (point_behind commits at book) trees book
+StandsBehind at book trees = (commits : ℕ) × StandsAt (point_behind commits at book) trees book
 
 -- some steps of the move, one after another, make these trees of those of a file at this point
 abbrev pub AreMovedOn : Point → Trees → Trees → Type 0
@@ -39,9 +40,9 @@ pub record MovesOn (old new : State) (why : Option OpenFault) : Type 0 where
   -- what the disk failed in is not forgotten
   pub clean : doubt old.is_clean ≤ doubt new.is_clean
   -- where the tables stood for a book at any point: they stand for it at the point of the office, or, unless the store failed, at that point or at one behind it; and whatever is answered, a crash leaves them to stand for it at such a point
-  pub kept : (at : Point) (book : List Entry) → RestsOn at old book → why ≡ None → Rests new book
-  pub same : (at : Point) (book : List Entry) → RestsOn at old book → (fault : OpenFault) → why ≡ Some fault → fault ≢ unopened.Store → (commits : ℕ) × RestsOn (point_behind commits at book) new book
-  pub crash : (at : Point) (book : List Entry) → RestsOn at old book → Leaves new (StandsBehind at book)
+  pub kept : (at : Point) (book : List Entry) → RestsAt at old book → why ≡ None → Rests new book
+  pub same : (at : Point) (book : List Entry) → RestsAt at old book → (fault : OpenFault) → why ≡ Some fault → fault ≢ unopened.Store → (commits : ℕ) × RestsAt (point_behind commits at book) new book
+  pub crash : (at : Point) (book : List Entry) → RestsAt at old book → Leaves new (StandsBehind at book)
   -- whatever rows a file at a point has: it is at the point of the office
   pub placed : (at : Point) → IsPlacedAt at old → why ≡ None → IsPlacedAt office_point new
   -- and unless the store failed its tables are what steps of the move make of those from before; each state that a crash may leave is one from before, or what they make
@@ -95,4 +96,4 @@ pub record HasReason (was : State) (why : OpenFault) : Type 0 where
   -- no table is named `office`
   pub absent : (IsTrue was.is_open → LacksOffice was.now.schema) → IsUnopened (Some unopened.NotOurs) why
   -- of a book, where a file can be at the point at which the tables stood for it, memory or the store alone
-  pub whole : (at : Point) (book : List Entry) → IsOfFile at → RestsOn at was book → IsStop why
+  pub whole : (at : Point) (book : List Entry) → IsOfFile at → RestsAt at was book → IsStop why

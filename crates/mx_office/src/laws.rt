@@ -4,6 +4,7 @@ ghost use Rattle.sqlite.specs.Effect.{Database, IsDatabase};
 ghost use Rattle.sqlite.specs.Tree.{Trees};
 ghost use Rattle.mx_book.specs.commands.Act.{Entry};
 ghost use Rattle.mx_layout.specs.Making.{IsEmptyIn};
+ghost use Rattle.mx_book_tables.specs.stands.Stands.{StandsInSchema};
 ghost use Rattle.mx_apply.specs.writing.Changes.{AllRise};
 ghost use Rattle.mx_apply.specs.writing.Written.{IsSettled};
 ghost use Rattle.mx_verify.specs.Verifies.{HasBook};
@@ -20,7 +21,7 @@ pub fn tables_stand_for_one_book()
 /// where no table refers to another and the rowids of each rise.
 pub fn verified_rows_stand()
     ensures { (db : Database) → IsSettled db.schema → IsDatabase db → AllRise db → HasBook db.trees
-        → (book : List Entry) × Stands db.trees book }
+        → (book : List Entry) × StandsInSchema db.schema office_point db.trees book }
 {}
 
 /// Tables that were just made stand for the book with no entry.

@@ -6,8 +6,9 @@
 //! These stand beside the clauses of the headline, which `docs/PROMISES.md` has. `apply` promises by `ran` what `run`
 //! does of a run of its one command, so that each field of `IsRun` is said of both; `MarksDoubt` is its field `doubt`,
 //! and of a question a field of `IsAsked`. Over any rows is said of a file of the office (`IsOfOffice`): it has the tables of
-//! its point, their rowids rise, and all is committed; of a question it is enough that it has them. So is what is said of a
-//! book (`Rests`). Behind these tables there may be others, and any indexes, where no table refers to another.
+//! its point, their rowids rise, and all is committed; of a question it is enough that it has them. Behind these tables there
+//! may be others, and any indexes, where no table refers to another (`IsSettled`); so in what a run and a question do to a
+//! book (`over_book`, `exact`), which keep the schema. An opening is spoken of where there are no others.
 //!
 //! - Over any rows, good or damaged, a command answered `Already`, `Refused`, `Memory` or `Damaged` changes no table:
 //!   `apply`: `untouched`.

@@ -10,9 +10,11 @@ ghost use Rattle.mx_lists.specs.Report.{IsOfKind, report_of};
 ghost use Rattle.mx_lookups.specs.numbers.Damage.{IsDamaged};
 ghost use Rattle.mx_lookups.specs.numbers.Given.{LifeOf};
 ghost use Rattle.mx_row_questions.specs.lists.Listing.{unknown};
+ghost use Rattle.mx_apply.specs.writing.Written.{IsSettled};
 ghost use Rattle.mx_office.specs.Calls.{stop_asking, stop_in, IsAsked};
 ghost use Rattle.mx_office.specs.Faults.{found_or};
-ghost use Rattle.mx_office.specs.Office.{office_state, IsReady, StandsFor};
+ghost use Rattle.mx_office.specs.Office.{office_state, IsReady};
+ghost use Rattle.mx_office.specs.Stands.{RestsIn};
 ghost use Rattle.mx_lookups.specs.numbers.Reads.{HasTablesOfRows};
 ghost use Rattle.mx_office.specs.Questions.{IsAnsweredBy};
 
@@ -84,8 +86,8 @@ impl<S: Alter> Office<S> {
     /// changes.
     pub fn entries(&mut self, alloc: Global, from: u32, at_most: u32) -> Result<Vec<Command>, Fault>
         ensures asked { IsAsked (stop_in result) self.old self.new }
-        ensures exact { (book : _) → IsReady self.old → StandsFor self.old book
-            → HasCleanDisk (office_state self.new)
+        ensures exact { (schema : _) → IsSettled schema → (book : _) → IsReady self.old
+            → RestsIn schema (office_state self.old) book → HasCleanDisk (office_state self.new)
             → MatchResult result (λ v. v.items ≡ entries_from from at_most book)
             (λ fault. (fault ≡ Fault.Memory) ⊎ (fault ≡ Fault.Store)) }
         ensures sound { HasCleanDisk (office_state self.new)

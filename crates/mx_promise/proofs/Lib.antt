@@ -3,3 +3,4 @@ pub mod CreatedLemmas
 pub mod ReopenedLemmas
 pub mod MovedLemmas
 pub mod OpenedLemmas
+pub mod PrintLemmas

@@ -4,12 +4,14 @@ use Rattle.sqlite.specs.State.{State}
 use Rattle.sqlite.specs.Tree.{Trees}
 use Rattle.mx_book.specs.commands.Act.{Entry}
 use Rattle.mx_database.specs.power.Found.{IsFound}
+use Rattle.mx_database.proofs.PowerProofs.FoundLemmas.{rests_found}
 use Rattle.mx_base.specs.declared.point.Point.{Point}
 use Rattle.mx_registers.specs.points.Commits.{point_behind}
 use Rattle.mx_registers.specs.points.Points.{next_point}
+use Rattle.mx_book_tables.specs.stands.Schemas.{schema_at}
+use Rattle.mx_book_tables.specs.stands.Stands.{RestsAt, StandsAt}
 use Rattle.mx_office.specs.Opening.{HasReason, MovesOn, StandsBehind}
-use Rattle.mx_office.specs.Stands.{Rests, RestsOn, StandsOn}
-use Rattle.mx_promise.proofs.KeptLemmas.{rests_on}
+use Rattle.mx_office.specs.Stands.{Rests}
 use Rattle.mx_faults.specs.declared.fault.OpenFault.{OpenFault}
 use Rattle.mx_promise.specs.Moved.{IsKeptMoving}
 use Rattle.mx_promise.proofs.OpenedLemmas.{file_behind}
@@ -24,8 +26,10 @@ module _ (may_leave : Trees → Type 0) (mid now : State) (at : Point) (book : L
   commits = (left found.tables found.left).0
 
   -- what was found rests as the book, at a point behind
-  rests_behind : RestsOn (point_behind commits at book) mid book
-  rests_behind = rests_on (point_behind commits at book) may_leave mid book found (left found.tables found.left).1
+  rests_behind : RestsAt (point_behind commits at book) mid book
+  rests_behind =
+      let stands = (left found.tables found.left).1 in
+      rests_found may_leave mid (schema_at (point_behind commits at book)) (λ trees. StandsAt (point_behind commits at book) trees book) found stands.lies.sound stands
 
   pub opened_behind : MovesOn mid now None → Rests now book
   opened_behind on = on.kept (point_behind commits at book) book rests_behind refl
@@ -35,10 +39,10 @@ module _ (may_leave : Trees → Type 0) (mid now : State) (at : Point) (book : L
     rests = λ other.
         let it = on.same (point_behind commits at book) book rests_behind fault refl other in
         let both = behind_both commits it.0 at book in
-        (both.0, subst (λ p. RestsOn p now book) both.1 it.1);
+        (both.0, subst (λ p. RestsAt p now book) both.1 it.1);
     crash = λ clean db may.
         let it = on.crash (point_behind commits at book) book rests_behind clean db may in
         let both = behind_both commits it.0 at book in
-        (both.0, subst (λ p. StandsOn p db book) both.1 it.1);
-    reason = λ file. reason.whole (point_behind commits at book) book (file_behind book (left found.tables found.left).1.tables.rows.is_book commits at file) rests_behind;
+        (both.0, subst (λ p. StandsAt p db book) both.1 it.1);
+    reason = λ file. reason.whole (point_behind commits at book) book (file_behind book (left found.tables found.left).1.rows.is_book commits at file) rests_behind;
   }

@@ -23,15 +23,15 @@ use Rattle.mx_layout.proofs.CrashLemmas.{rests_kept}
 use Rattle.mx_database.proofs.PowerProofs.FoundLemmas.{rests_found}
 use Rattle.mx_migrate.specs.settle.Place.{IsPlacedAt, SaysAt}
 use Rattle.mx_book_tables.specs.stands.Schemas.{IsOfFile, schema_at}
+use Rattle.mx_book_tables.specs.stands.Stands.{RestsAt, StandsAt}
 use Rattle.mx_faults.specs.declared.fault.OpenFault.{OpenFault}
 use Rattle.mx_faults.specs.declared.fault.OpenFault.TheVariants as opening
 use Rattle.mx_office.specs.declared.fault.Outcomes.{Outcomes}
 use Rattle.mx_office.specs.declared.office.Office.{Office as TheOffice}
-use Rattle.mx_office.specs.Layout.{office_point}
+use Rattle.mx_office.specs.Layout.{office_point, office_schema}
 use Rattle.mx_office.specs.Office.{office_state}
 use Rattle.mx_office.specs.Opening.{AreMovedOn, ChangesOnWay, HasReason, MovesOn, StandsBehind}
-use Rattle.mx_office.specs.Stands.{Rests, RestsOn, StandsOn}
-use Rattle.mx_office.proofs.StandsLemmas.{may_stand}
+use Rattle.mx_office.specs.Stands.{Rests}
 use Rattle.mx_promise.specs.declared.running.Reopened.{Reopened}
 use Rattle.mx_promise.specs.declared.running.Unopened.{Unopened}
 use Rattle.mx_promise.specs.declared.running.Unopened.TheVariants.{Files, Database, Office}
@@ -40,7 +40,7 @@ use Rattle.mx_promise.specs.Ended.{without_database, IsEnded, IsEndedSomewhere}
 use Rattle.mx_promise.specs.Kept.{IsBookKept}
 use Rattle.mx_promise.specs.Opened.{IsHandedClean, IsKeptBehind, IsKeptSomewhere, IsLeftClean, IsLeftFor, IsLeftStanding, IsOpenedAgain, IsThereClean, IsUnopenedAgain, KeepsSomewhere, MissesAgain, PrintsAgain, RestsSomewhere, StandsSomewhere}
 use Rattle.mx_promise.specs.Reopened.{KeepsUnopened, Reopens, ReopensTwice}
-use Rattle.mx_promise.proofs.KeptLemmas.{is_book_kept, nothing_found, rests_on}
+use Rattle.mx_promise.proofs.KeptLemmas.{is_book_kept, nothing_found}
 use Rattle.mx_promise.proofs.ReopenedLemmas.{is_reopened_twice}
 
 -- ── a file that goes on ──
@@ -55,10 +55,10 @@ file_behind book is zero at file = file
 file_behind book is (suc commits) at file = file_behind book is commits (next_point at book) (next_file book is at file)
 
 somewhere_behind : (at : Point) (book : List Entry) (trees : Trees) → IsOfFile at → StandsBehind at book trees → StandsSomewhere book trees
-somewhere_behind at book trees file it = (point_behind it.0 at book, file_behind book it.1.tables.rows.is_book it.0 at file, it.1)
+somewhere_behind at book trees file it = (point_behind it.0 at book, file_behind book it.1.rows.is_book it.0 at file, it.1)
 
 -- where no office was opened, a file of a book was left so
-left_for : (at : Point) (book : List Entry) (old now : State) (fault : OpenFault) → IsOfFile at → IsBook book → RestsOn at old book → MovesOn old now (Some fault) → IsLeftFor book fault now
+left_for : (at : Point) (book : List Entry) (old now : State) (fault : OpenFault) → IsOfFile at → IsBook book → RestsAt at old book → MovesOn old now (Some fault) → IsLeftFor book fault now
 left_for at book old now fault file is rests moves = record {
   rests = λ other. (let it = moves.same at book rests fault refl other in (point_behind it.0 at book, file_behind book is it.0 at file, it.1));
   crash = λ clean db may. somewhere_behind at book db file (moves.crash at book rests clean db may);
@@ -68,15 +68,15 @@ left_for at book old now fault file is rests moves = record {
 rests_left : (book : List Entry) (fault : OpenFault) (now : State) → Rests now book → IsLeftFor book fault now
 rests_left book fault now rests = record {
   rests = λ other. (office_point, inr refl, rests);
-  crash = λ clean db may. (office_point, inr refl, may_stand office_point now book rests clean db may);
+  crash = λ clean db may. (office_point, inr refl, rests.crash clean db may);
 }
 
 -- ── an opening behind a loss of power ──
 
 module _ (was : State) {S : Type 0} (g : Ghosts S) (mid : Held S) (now : State) (clean : HasCleanDisk now) (found : IsFound was.may_leave (state g mid)) where
   -- the tables that were found rest at the point at which they stand for a book
-  found_at : (at : Point) (book : List Entry) → StandsOn at found.tables book → RestsOn at (state g mid) book
-  found_at at book stands = rests_on at was.may_leave (state g mid) book found stands
+  found_at : (at : Point) (book : List Entry) → StandsAt at found.tables book → RestsAt at (state g mid) book
+  found_at at book stands = rests_found was.may_leave (state g mid) (schema_at at) (λ trees. StandsAt at trees book) found stands.lies.sound stands
 
   placed_at : (at : Point) → SaysAt at found.tables → IsPlacedAt at (state g mid)
   placed_at at says = rests_found was.may_leave (state g mid) (schema_at at) (SaysAt at) found says.lies.sound says
@@ -110,8 +110,8 @@ module _ (was : State) {S : Type 0} (g : Ghosts S) (mid : Held S) (now : State) 
     books = λ at book stands. moves.kept at book (found_at at book stands) refl;
     placed = λ at says. moves.placed at (placed_at at says) refl;
     moved = λ at says. moved_from at says None moves;
-    settled = λ here. rests_kept here.schema (λ db. db ≡ found.tables) (state g mid) now (nothing_found was.may_leave g mid now early clean found here changes)
-        (rests_found was.may_leave (state g mid) here.schema (λ db. db ≡ found.tables) found here.sound refl);
+    settled = λ says. rests_kept office_schema (λ db. db ≡ found.tables) (state g mid) now (nothing_found was.may_leave g mid now early clean found says changes)
+        (rests_found was.may_leave (state g mid) office_schema (λ db. db ≡ found.tables) found says.lies.sound refl);
   }
 
   pub unopened_again : (fault : OpenFault) → HasCleanDisk was → MovesOn (state g mid) now (Some fault) → HasReason (state g mid) fault → IsUnopenedAgain was fault now
@@ -119,7 +119,7 @@ module _ (was : State) {S : Type 0} (g : Ghosts S) (mid : Held S) (now : State) 
     clean = sure;
     tables = found.tables;
     left = found.left;
-    books = λ at book file stands. left_for at book (state g mid) now fault file stands.tables.rows.is_book (found_at at book stands) moves;
+    books = λ at book file stands. left_for at book (state g mid) now fault file stands.rows.is_book (found_at at book stands) moves;
     reason = λ at book file stands. reason.whole at book file (found_at at book stands);
     made = λ at says other is_open. made_from at says (Some fault) moves (λ is. other cc) is_open;
     moved = λ at says. moved_from at says (Some fault) moves;
@@ -162,7 +162,7 @@ module _ (before commands : List Entry) (outcomes : Outcomes) (none : outcomes.r
   none_answered : IsBookKept before commands outcomes before
   none_answered = is_book_kept before commands outcomes 0 (inl (sym (ap length none))) (none ∙ sym (ap (λ said. replies before (take (length said) commands)) none)) (λ table damaged. cc)
 
-  module _ (at : Point) (old end : State) (fault : OpenFault) (rests : RestsOn at old before) (moves : MovesOn old end (Some fault)) where
+  module _ (at : Point) (old end : State) (fault : OpenFault) (rests : RestsAt at old before) (moves : MovesOn old end (Some fault)) where
     pub reopens_unrun : {S E : Type 0} {g : Ghosts S} (tail : List ℕ) (day : ℕ) (again : Result (Reopened S g) E) → IfOk again (λ it. HasCleanDisk (office_state it.office) → HasCleanDisk end)
         → IfOk again (PrintsAgain end tail day) → IfOk again (Reopens before commands tail day outcomes)
     reopens_unrun tail day (Ok it) sure prints = λ clean. ∥∥₁_map (prints clean) (λ one.
@@ -175,7 +175,7 @@ module _ (before commands : List Entry) (outcomes : Outcomes) (none : outcomes.r
         })
     reopens_unrun tail day (Err why) sure prints = tt
 
-  module _ {D : Type 0} {g : disk.Ghosts D} (at : Point) (old : State) (end : Held (FileStore D g)) (fault : OpenFault) (rests : RestsOn at old before) (moves : MovesOn old (file_state end) (Some fault)) where
+  module _ {D : Type 0} {g : disk.Ghosts D} (at : Point) (old : State) (end : Held (FileStore D g)) (fault : OpenFault) (rests : RestsAt at old before) (moves : MovesOn old (file_state end) (Some fault)) where
     pub keeps_unrun : {X : Type 0} → IsOfFile at → (again : Result X (Unopened D g)) → IfErr again (MissesAgain (file_state end)) → IfErr again (KeepsSomewhere before commands outcomes)
     keeps_unrun file (Ok it) misses = tt
     keeps_unrun file (Err (Files error)) misses = misses
@@ -236,13 +236,13 @@ book_left_behind before commands tail day outcomes (Err (Files error)) clean reo
 pub rests_found_somewhere : (was again : State) (book : List Entry) → HasCleanDisk was → Leaves was (StandsSomewhere book) → IsFound was.may_leave again → RestsSomewhere book again
 rests_found_somewhere was again book clean leaves found =
     let stands = leaves clean found.tables found.left in
-    (stands.0, stands.1, rests_on stands.0 was.may_leave again book found stands.2)
+    (stands.0, stands.1, rests_found was.may_leave again (schema_at stands.0) (λ trees. StandsAt stands.0 trees book) found stands.2.lies.sound stands.2)
 
 -- the second opening goes on from there
 pub reopens_twice_somewhere : {D : Type 0} {g : disk.Ghosts D} {E : Type 0} (before commands more : List Entry) (tail : List ℕ) (day : ℕ) (first : Outcomes) (again : Result (Reopened (FileStore D g) over_files) (Unopened D g))
     (mid : State) (second : Outcomes) (last : Result (Reopened (FileStore D g) over_files) E) → IfOk again (Reopens before commands tail day first) → IfErr again (KeepsSomewhere before commands first)
     → (HasCleanDisk mid → IsHandedClean again) → ((book : List Entry) → IsLeftStanding book again → HasCleanDisk mid → ∥ RestsSomewhere book mid ∥₁) → IfOk last (λ it. HasCleanDisk (office_state it.office) → HasCleanDisk mid)
-    → ((at : Point) (book : List Entry) → RestsOn at mid book → IfOk last (Reopens book more tail day second)) → IfOk last (ReopensTwice before commands more tail day first second)
+    → ((at : Point) (book : List Entry) → RestsAt at mid book → IfOk last (Reopens book more tail day second)) → IfOk last (ReopensTwice before commands more tail day first second)
 reopens_twice_somewhere before commands more tail day first again mid second (Ok it) reopens keeps there stands sure next = λ clean.
     let early = sure clean in
     ∥∥₁_elim (book_left_behind before commands tail day first again (there early) reopens keeps) ∥∥₁_prop (λ one.
@@ -261,7 +261,7 @@ ended_somewhere before commands ended it = record {
 
 -- no office was opened for the commands
 pub ended_unrun : {D : Type 0} {g : disk.Ghosts D} (at : Point) (before commands : List Entry) (outcomes : Outcomes) (old : State) (conn : Held (FileStore D g)) (fault : OpenFault) (store : FileStore D g) → IsOfFile at
-    → outcomes.replies.items ≡ [] → outcomes.stopped ≡ None → RestsOn at old before → MovesOn old (file_state conn) (Some fault) → IsEndOf conn store → IsEndedSomewhere before commands (record { outcomes = outcomes; store = store })
+    → outcomes.replies.items ≡ [] → outcomes.stopped ≡ None → RestsAt at old before → MovesOn old (file_state conn) (Some fault) → IsEndOf conn store → IsEndedSomewhere before commands (record { outcomes = outcomes; store = store })
 ended_unrun at before commands outcomes old conn fault store file none unstopped rests moves left = record {
   conn = conn;
   left = left;
@@ -281,8 +281,8 @@ module _ {D : Type 0} {g : disk.Ghosts D} (before commands : List Entry) (ended 
     pub kept : IsBookKept before commands ended.outcomes book
     pub at : Point
     pub file : IsOfFile at
-    pub stands : StandsOn at found.tables book
-    pub rests : RestsOn at mid book
+    pub stands : StandsAt at found.tables book
+    pub rests : RestsAt at mid book
 
   pub found_for : IsFoundFor
   found_for =
@@ -294,7 +294,7 @@ module _ {D : Type 0} {g : disk.Ghosts D} (before commands : List Entry) (ended 
         at = stands.0;
         file = stands.1;
         stands = stands.2;
-        rests = rests_on stands.0 (file_state it.conn).may_leave mid one.0 found stands.2;
+        rests = rests_found (file_state it.conn).may_leave mid (schema_at stands.0) (λ trees. StandsAt stands.0 trees one.0) found stands.2.lies.sound stands.2;
       }
 
   -- no office was opened in it
@@ -304,6 +304,6 @@ module _ {D : Type 0} {g : disk.Ghosts D} (before commands : List Entry) (ended 
       record {
         book = one.book;
         kept = one.kept;
-        tables = left_for one.at one.book mid now fault one.file one.stands.tables.rows.is_book one.rests moves;
+        tables = left_for one.at one.book mid now fault one.file one.stands.rows.is_book one.rests moves;
         reason = reason.whole one.at one.book one.file one.rests;
       }

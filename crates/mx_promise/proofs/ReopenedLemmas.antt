@@ -14,6 +14,9 @@ use Rattle.mx_book.specs.Run.{book_run}
 use Rattle.mx_book.proofs.AcceptedLemmas.{acknowledged_stays}
 use Rattle.mx_layout.specs.Crash.{Leaves}
 use Rattle.mx_database.specs.power.Found.{IsEndOf}
+use Rattle.mx_migrate.specs.settle.Place.{SaysAt}
+use Rattle.mx_migrate.proofs.SettleProofs.PlaceLemmas.{stands_says}
+use Rattle.mx_office.specs.Layout.{office_point, office_schema}
 use Rattle.mx_faults.specs.declared.fault.OpenFault.{OpenFault}
 use Rattle.mx_office.specs.declared.fault.Outcomes.{Outcomes}
 use Rattle.mx_office.specs.Calls.{RunsOver}
@@ -24,12 +27,12 @@ use Rattle.mx_promise.specs.declared.running.Unopened.{Unopened}
 use Rattle.mx_promise.specs.declared.running.Unopened.TheVariants.{Files, Database, Office}
 use Rattle.mx_promise.specs.Kept.{IsBookKept}
 use Rattle.mx_promise.specs.Ended.{IsEnded}
-use Rattle.mx_promise.specs.Reopened.{FindsUnopened, IsUnopened, KeepsUnopened, IsKeptUnopened, IsReopened, Reopens, IsReopenedTwice, ReopensTwice, SaysHere}
-use Rattle.mx_promise.proofs.KeptLemmas.{book_left, is_book_kept, rests_as, says_here}
+use Rattle.mx_promise.specs.Reopened.{FindsUnopened, IsUnopened, KeepsUnopened, IsKeptUnopened, IsReopened, Reopens, IsReopenedTwice, ReopensTwice}
+use Rattle.mx_promise.proofs.KeptLemmas.{rests_as, book_left, is_book_kept}
 
 -- what a run of a book answered, and what it leaves
 abbrev pub HasRun : List Entry → List Entry → Outcomes → State → Type 0
-HasRun before commands outcomes end = RunsOver before commands outcomes.replies.items outcomes.stopped end
+HasRun before commands outcomes end = RunsOver office_schema before commands outcomes.replies.items outcomes.stopped end
 
 -- the book of tables that a crash leaves
 pub record IsKeptIn (before commands : List Entry) (outcomes : Outcomes) (db : Trees) : Type 0 where
@@ -43,8 +46,8 @@ is_kept_in before commands outcomes end clean run db left =
     record { book = book_run before (take one.0 commands); kept = is_book_kept before commands outcomes one.0 one.1 (run.answered clean) (run.whole clean); stands = one.2 }
 
 -- whatever a crash leaves of it is at the point of the office
-pub run_says : (before commands : List Entry) (outcomes : Outcomes) (end : State) → HasRun before commands outcomes end → Leaves end SaysHere
-run_says before commands outcomes end run clean db may = let it = is_kept_in before commands outcomes end clean run db may in says_here db it.book it.stands
+pub run_says : (before commands : List Entry) (outcomes : Outcomes) (end : State) → HasRun before commands outcomes end → Leaves end (SaysAt office_point)
+run_says before commands outcomes end run clean db may = let it = is_kept_in before commands outcomes end clean run db may in stands_says office_point db it.book it.stands
 
 is_kept_unopened : (before commands : List Entry) (outcomes : Outcomes) (end now : State) (fault : OpenFault) → HasRun before commands outcomes end → IsUnopened end fault now → IsKeptUnopened before commands outcomes fault now
 is_kept_unopened before commands outcomes end now fault run left =

@@ -10,12 +10,12 @@ use Rattle.mx_database.specs.power.Left.{IsFaithful, IsLeft}
 use Rattle.mx_base.specs.declared.point.Point.{Point}
 use Rattle.mx_registers.specs.points.Commits.{point_behind}
 use Rattle.mx_book_tables.specs.stands.Schemas.{IsOfFile}
+use Rattle.mx_book_tables.specs.stands.Stands.{RestsAt}
 use Rattle.mx_faults.specs.declared.fault.OpenFault.{OpenFault}
 use Rattle.mx_faults.specs.declared.fault.OpenFault.TheVariants as opening
 use Rattle.mx_office.specs.declared.office.Office.{Office as TheOffice}
 use Rattle.mx_office.specs.Office.{office_state, StandsFor}
 use Rattle.mx_office.specs.Opening.{StandsBehind}
-use Rattle.mx_office.specs.Stands.{RestsOn}
 use Rattle.mx_promise.specs.Reopened.{IsStopOf}
 use Rattle.mx_promise.specs.declared.running.Unopened.{Unopened}
 use Rattle.mx_promise.specs.declared.running.Unopened.TheVariants.{Files, Database, Office}
@@ -26,7 +26,7 @@ FindsBook book again = HasCleanDisk (office_state again) → ∥ StandsFor again
 
 -- No office was opened again: the tables stand for the book at that point or at one behind it, unless the store failed, and so does whatever a crash leaves; and where a file can be at the point, memory or the store is why.
 pub record IsKeptMoving (at : Point) (book : List Entry) (fault : OpenFault) (now : State) : Type 0 where
-  pub rests : fault ≢ opening.Store → (commits : ℕ) × RestsOn (point_behind commits at book) now book
+  pub rests : fault ≢ opening.Store → (commits : ℕ) × RestsAt (point_behind commits at book) now book
   pub crash : Leaves now (StandsBehind at book)
   pub reason : IsOfFile at → IsStopOf fault
 

@@ -13,17 +13,18 @@ use Rattle.mx_database.specs.power.Left.{IsFaithful}
 use Rattle.mx_layout.specs.Crash.{Leaves, RestsAs}
 use Rattle.mx_migrate.specs.settle.Place.{IsPlacedAt, SaysAt}
 use Rattle.mx_book_tables.specs.stands.Schemas.{IsOfFile}
+use Rattle.mx_book_tables.specs.stands.Stands.{RestsAt, StandsAt}
 use Rattle.mx_office.specs.Calls.{IsRun}
 use Rattle.mx_office.specs.Opening.{AreMovedOn, MovesOn}
 use Rattle.mx_office.specs.declared.office.Office.{Office as TheOffice}
 use Rattle.mx_faults.specs.declared.fault.OpenFault.{OpenFault}
 use Rattle.mx_faults.specs.declared.fault.OpenFault.TheVariants as opening
 use Rattle.mx_office.specs.declared.fault.Outcomes.{Outcomes}
-use Rattle.mx_office.specs.Layout.{office_point}
+use Rattle.mx_office.specs.Layout.{office_point, office_schema}
 use Rattle.mx_office.specs.Office.{office_state, IsReady, StandsFor}
-use Rattle.mx_office.specs.Stands.{Rests, RestsOn, StandsOn}
+use Rattle.mx_office.specs.Stands.{Rests}
 use Rattle.mx_promise.specs.Kept.{IsBookKept}
-use Rattle.mx_promise.specs.Reopened.{IsKeptInFiles, IsPrintOf, IsStopOf, MissesFiles, SaysHere}
+use Rattle.mx_promise.specs.Reopened.{IsKeptInFiles, IsPrintOf, IsStopOf, MissesFiles}
 use Rattle.mx_promise.specs.declared.running.Reopened.{Reopened}
 use Rattle.mx_promise.specs.declared.running.Unopened.{Unopened}
 use Rattle.mx_promise.specs.declared.running.Unopened.TheVariants.{Files, Database, Office}
@@ -32,11 +33,11 @@ use Rattle.mx_promise.specs.declared.running.Unopened.TheVariants.{Files, Databa
 
 -- the tables stand for the book at a point that a file can be at
 abbrev pub StandsSomewhere : List Entry → Trees → Type 0
-StandsSomewhere book trees = (at : Point) × IsOfFile at × StandsOn at trees book
+StandsSomewhere book trees = (at : Point) × IsOfFile at × StandsAt at trees book
 
 -- no transaction is open, and the tables, and each state of them that a crash may leave, stand for the book at one point that a file can be at
 abbrev pub RestsSomewhere : List Entry → State → Type 0
-RestsSomewhere book now = (at : Point) × IsOfFile at × RestsOn at now book
+RestsSomewhere book now = (at : Point) × IsOfFile at × RestsAt at now book
 
 -- An office was opened in the file, which moved it first where it was older, and commands were run in that.
 pub record IsOpenedAndRun {D : Type 0} {g : disk.Ghosts D} (commands : List Entry) (outcomes : Outcomes) (was : Held (FileStore D g)) : Type 0 where
@@ -72,10 +73,10 @@ KeepsSomewhere before commands outcomes (Office conn fault) = HasCleanDisk (file
 pub record IsOpenedAgain (before now : State) : Type 0 where
   pub tables : Trees
   pub left : before.may_leave tables
-  pub books : (at : Point) (book : List Entry) → StandsOn at tables book → Rests now book
+  pub books : (at : Point) (book : List Entry) → StandsAt at tables book → Rests now book
   pub placed : (at : Point) → SaysAt at tables → IsPlacedAt office_point now
   pub moved : (at : Point) → SaysAt at tables → Leaves now (AreMovedOn at tables)
-  pub settled : (here : SaysHere tables) → RestsAs now here.schema (λ db. db ≡ tables)
+  pub settled : SaysAt office_point tables → RestsAs now office_schema (λ db. db ≡ tables)
 
 -- so it is, where the disk returns what was written
 abbrev pub FindsAgain : State → State → Type 0
@@ -86,8 +87,8 @@ pub record IsUnopenedAgain (before : State) (fault : OpenFault) (now : State) : 
   pub clean : HasCleanDisk before
   pub tables : Trees
   pub left : before.may_leave tables
-  pub books : (at : Point) (book : List Entry) → IsOfFile at → StandsOn at tables book → IsLeftFor book fault now
-  pub reason : (at : Point) (book : List Entry) → IsOfFile at → StandsOn at tables book → IsStopOf fault
+  pub books : (at : Point) (book : List Entry) → IsOfFile at → StandsAt at tables book → IsLeftFor book fault now
+  pub reason : (at : Point) (book : List Entry) → IsOfFile at → StandsAt at tables book → IsStopOf fault
   pub made : (at : Point) → SaysAt at tables → fault ≢ opening.Store → IsTrue now.is_open → AreMovedOn at tables now.now.trees
   pub moved : (at : Point) → SaysAt at tables → Leaves now (AreMovedOn at tables)
 
@@ -101,8 +102,8 @@ MissesAgain before (Office conn fault) = HasCleanDisk (file_state conn) → ∥ 
 pub record IsPrintedAgain {S : Type 0} {g : Ghosts S} (before : State) (tail : List ℕ) (day : ℕ) (again : Reopened S g) : Type 0 where
   pub tables : Trees
   pub left : before.may_leave tables
-  pub books : (at : Point) (book : List Entry) → StandsOn at tables book → StandsFor again.office book
-  pub printed : (at : Point) (book : List Entry) → StandsOn at tables book → IsPrintOf book tail day again.printed
+  pub books : (at : Point) (book : List Entry) → StandsAt at tables book → StandsFor again.office book
+  pub printed : (at : Point) (book : List Entry) → StandsAt at tables book → IsPrintOf book tail day again.printed
 
 -- so it is, where the disk returns what was written
 abbrev pub PrintsAgain : {S : Type 0} {g : Ghosts S} → State → List ℕ → ℕ → Reopened S g → Type 0

@@ -1,25 +1,20 @@
 -- The headline: what is found where a run was stopped, the power was lost, and the file was opened again.
-use Rattle.std.specs.Prelude.{◌≡◌, ◌≢◌, ◌⊎◌, ℕ, List, Vec, None, Some, Result, Err, option_map, MatchResult, ◌∷◌, []}
+use Rattle.std.specs.Prelude.{◌≡◌, ◌≢◌, ◌⊎◌, ℕ, List, Vec, None, Some, Result, Err, option_map, MatchResult}
 use Rattle.sqlite_disk.specs.declared.Disk as disk
 use Rattle.sqlite_store.specs.declared.store.FileStore.{FileStore}
 use Rattle.sqlite.specs.Store.{Ghosts}
-use Rattle.sqlite.specs.Schema.{Schema}
 use Rattle.sqlite.specs.State.{State, HasCleanDisk}
 use Rattle.sqlite.specs.Files.{file_state}
 use Rattle.sqlite.specs.Held.{Held}
 use Rattle.sqlite.specs.Tree.{Trees}
 use Rattle.sqlite.specs.declared.error.Error.{Error}
 use Rattle.sqlite.specs.declared.file.Leftover.{Leftover}
-use Rattle.sqlite_catalog.specs.Listing.{IsSound}
 use Rattle.mx_book.specs.commands.Act.{Entry}
 use Rattle.mx_book.specs.declared.verdict.Refusal.TheVariants.{UnknownAircraft}
 use Rattle.mx_book.specs.Accepted.{HasAcknowledged}
 use Rattle.mx_lists.specs.DueList.{due_list}
 use Rattle.mx_database.specs.power.Found.{IsFound}
 use Rattle.mx_database.specs.power.Left.{IsFaithful, IsLeft}
-use Rattle.mx_layout.specs.Contents.{rows_in}
-use Rattle.mx_layout.specs.Point.{point_cells}
-use Rattle.mx_layout.specs.Tables.{office}
 use Rattle.mx_faults.specs.declared.fault.Ask.{Ask}
 use Rattle.mx_faults.specs.declared.fault.Ask.TheVariants.{Refused, Failed}
 use Rattle.mx_faults.specs.declared.fault.Fault.TheVariants.{Memory, Store}
@@ -27,8 +22,7 @@ use Rattle.mx_faults.specs.declared.fault.OpenFault.{OpenFault}
 use Rattle.mx_faults.specs.declared.fault.OpenFault.TheVariants as opening
 use Rattle.mx_office.specs.declared.fault.Outcomes.{Outcomes}
 use Rattle.mx_office.specs.Office.{office_state, IsReady, IsInDoubt, StandsFor}
-use Rattle.mx_office.specs.Layout.{office_point}
-use Rattle.mx_office.specs.Stands.{IsSchemaOf, Rests, Stands}
+use Rattle.mx_office.specs.Stands.{Stands, Rests}
 use Rattle.mx_reports.specs.DueText.{due_lines}
 use Rattle.mx_promise.specs.Kept.{IsBookKept}
 use Rattle.mx_promise.specs.declared.running.Reopened.{Reopened}
@@ -60,13 +54,6 @@ pub record GoesOn {S : Type 0} {g : Ghosts S} (again : Reopened S g) : Type 0 wh
   pub stopped : again.printed ≡ Err (Failed Store) → IsInDoubt again.office
 
 -- ── where the office was not opened again ──
-
--- the trees are the tables of the office, whatever rows they have, and of a schema that a file of it may have, and the row of `office` says its point
-pub record SaysHere (trees : Trees) : Type 0 where
-  pub schema : Schema
-  pub is : IsSchemaOf office_point schema
-  pub sound : IsSound schema trees
-  pub says : rows_in office trees ≡ point_cells office_point ∷ []
 
 -- memory ran out, or the store failed
 abbrev pub IsStopOf : OpenFault → Type 0

@@ -6,9 +6,9 @@ ghost use Rattle.sqlite.specs.Held.{state};
 ghost use Rattle.mx_book.specs.commands.Act.{Entry};
 ghost use Rattle.mx_layout.specs.Crash.{Leaves};
 ghost use Rattle.mx_base.specs.declared.point.Point.{Point};
+ghost use Rattle.mx_book_tables.specs.stands.Stands.{RestsAt};
 ghost use Rattle.mx_office.specs.Office.{IsReady};
 ghost use Rattle.mx_office.specs.Opening.{StandsBehind};
-ghost use Rattle.mx_office.specs.Stands.{RestsOn};
 ghost use Rattle.mx_promise.specs.Moved.{FindsBook, KeepsMoving};
 
 use crate::running::Unopened;
@@ -21,7 +21,7 @@ use std::alloc::Global;
 // Opens the office of a database, and hands the connection back, whatever became of the opening.
 fn behind_opening<S: Alter>(alloc: Global, conn: Connection<S>) -> Connection<S>
     requires { conn.in_transaction ≡ false }
-    ensures { (at : Point) (book : List Entry) → RestsOn at (state S.Store conn) book
+    ensures { (at : Point) (book : List Entry) → RestsAt at (state S.Store conn) book
         → Leaves (state S.Store result) (StandsBehind at book) }
 {
     match open_office(alloc, conn) {
@@ -39,9 +39,9 @@ pub fn open_and_reopen<D: Crash + Drop>(
 ) -> Result<Office<FileStore<D>>, Unopened<D>>
     requires { conn.in_transaction ≡ false }
     ensures ready { IfOk result IsReady }
-    ensures headline { (at : Point) (book : List Entry) → RestsOn at (file_state conn) book
+    ensures headline { (at : Point) (book : List Entry) → RestsAt at (file_state conn) book
         → IfOk result (FindsBook book) }
-    ensures unopened { (at : Point) (book : List Entry) → RestsOn at (file_state conn) book
+    ensures unopened { (at : Point) (book : List Entry) → RestsAt at (file_state conn) book
         → IfErr result (KeepsMoving at book) }
 {
     match reopen(alloc, behind_opening(alloc, conn), options) {

@@ -14,9 +14,9 @@ ghost use Rattle.mx_book.specs.commands.Act.{Entry};
 ghost use Rattle.mx_base.specs.declared.point.Point.{Point};
 ghost use Rattle.mx_database.specs.power.Found.{WasLeft};
 ghost use Rattle.mx_book_tables.specs.stands.Schemas.{IsOfFile};
+ghost use Rattle.mx_book_tables.specs.stands.Stands.{RestsAt};
 ghost use Rattle.mx_office.specs.Calls.{IsRun};
 ghost use Rattle.mx_office.specs.Office.{StandsFor};
-ghost use Rattle.mx_office.specs.Stands.{RestsOn};
 ghost use Rattle.mx_promise.specs.Ended.{IsEnded, IsEndedSomewhere, NextKeepsSomewhere, NextKeepsUnopened};
 ghost use Rattle.mx_promise.specs.Ended.{without_database};
 ghost use Rattle.mx_promise.specs.Opened.{IsOpenedAndRun};
@@ -74,10 +74,10 @@ pub fn open_run_and_end<D: Disk + Drop>(
 ) -> OpenedAndEnded<D>
     requires { conn.in_transaction ≡ false }
     ensures ended { (at : Point) (before : List Entry) → IsOfFile at
-        → RestsOn at (file_state conn) before
+        → RestsAt at (file_state conn) before
         → IsEndedSomewhere before commands.now result.ended }
     ensures whole { (at : Point) (before : List Entry) → IsOfFile at
-        → RestsOn at (file_state conn) before → IsClean (files.view result.ended.store)
+        → RestsAt at (file_state conn) before → IsClean (files.view result.ended.store)
         → (fault : OpenFault) → result.unopened ≡ Some fault → IsStopOf fault }
     ensures ran { result.unopened ≡ None
         → IsOpenedAndRun commands.now result.ended.outcomes conn }

@@ -8,9 +8,11 @@ ghost use Rattle.std.specs.Prelude.{◌≡◌, ◌≢◌, IfOk, IfErr};
 ghost use Rattle.sqlite.specs.State.{HasCleanDisk};
 ghost use Rattle.mx_layout.specs.Crash.{ChangesNothing, Leaves};
 ghost use Rattle.mx_database.specs.power.Found.{Finds};
+ghost use Rattle.mx_migrate.specs.settle.Place.{SaysAt};
 ghost use Rattle.mx_office.specs.Calls.{IsRun};
+ghost use Rattle.mx_office.specs.Layout.{office_point};
 ghost use Rattle.mx_office.specs.Office.{office_state, IsInDoubt, IsReady, StandsFor};
-ghost use Rattle.mx_promise.specs.Reopened.{FindsUnopened, GoesOn, IsPrintOf, KeepsUnopened, Reopens, SaysHere};
+ghost use Rattle.mx_promise.specs.Reopened.{FindsUnopened, GoesOn, IsPrintOf, KeepsUnopened, Reopens};
 
 use mx_base::{Day, Tail};
 use mx_book::commands::Command;
@@ -80,10 +82,10 @@ pub fn reopen_office<D: Crash + Drop>(
     ensures clean { IfOk result (λ again.
         HasCleanDisk (office_state again) → HasCleanDisk (office_state office)) }
 
-    // Of a file at the point of the office, whatever rows it has, and whatever tables beside its own.
-    ensures found { Leaves (office_state office) SaysHere
+    // Of a file at the point of the office, whatever rows it has.
+    ensures found { Leaves (office_state office) (SaysAt office_point)
         → IfOk result (λ again. Finds (office_state office).may_leave (office_state again)) }
-    ensures unopened { Leaves (office_state office) SaysHere
+    ensures unopened { Leaves (office_state office) (SaysAt office_point)
         → IfErr result (FindsUnopened (office_state office)) }
 {
     match reopen(alloc, office.close(), options) {

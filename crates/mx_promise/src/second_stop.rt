@@ -5,9 +5,9 @@ ghost use Rattle.sqlite.specs.Files.{file_state};
 ghost use Rattle.mx_book.specs.commands.Act.{Entry};
 ghost use Rattle.mx_base.specs.declared.point.Point.{Point};
 ghost use Rattle.mx_book_tables.specs.stands.Schemas.{IsOfFile};
+ghost use Rattle.mx_book_tables.specs.stands.Stands.{RestsAt};
 ghost use Rattle.mx_office.specs.Calls.{IsRun};
 ghost use Rattle.mx_office.specs.Office.{StandsFor};
-ghost use Rattle.mx_office.specs.Stands.{RestsOn};
 ghost use Rattle.mx_promise.specs.Opened.{IsHandedClean, IsLeftStanding, IsOpenedAndRun, KeepsSomewhere};
 ghost use Rattle.mx_promise.specs.Opened.{RestsSomewhere};
 ghost use Rattle.mx_promise.specs.Reopened.{KeepsUnopened, ReopensTwice};
@@ -118,11 +118,11 @@ pub fn open_run_and_reopen_twice<D: Crash + Drop>(
 ) -> OpenedTwice<FileStore<D>, D>
     requires { conn.in_transaction ≡ false }
     ensures headline { (at : Point) (before : List Entry) → IsOfFile at
-        → RestsOn at (file_state conn) before → IfOk result.second (λ second.
+        → RestsAt at (file_state conn) before → IfOk result.second (λ second.
         IfOk second.again (ReopensTwice before commands.now more.now tail.now day result.first
         second.outcomes)) }
     ensures unopened { (at : Point) (before : List Entry) → IsOfFile at
-        → RestsOn at (file_state conn) before
+        → RestsAt at (file_state conn) before
         → IfErr result.second (KeepsSomewhere before commands.now result.first) }
     ensures ran { result.unopened ≡ None → IsOpenedAndRun commands.now result.first conn }
     ensures unrun { result.unopened ≢ None → (result.first.replies.items ≡ [])

@@ -1,16 +1,13 @@
-use Rattle.std.proofs.Common.{◌≡◌, Ok, inl, inr, true, false, sym, ap, subst, ◌∙◌, arith}
+use Rattle.std.proofs.Common.{◌≡◌, Ok, inl, inr, sym, subst, ◌∙◌, arith}
 use Rattle.sqlite.specs.Held.{state}
 use Rattle.sqlite.specs.State.{HasCleanDisk}
 use Rattle.mx_base.specs.declared.point.Point.{Point}
-use Rattle.mx_registers.specs.points.Points.{is_on_way}
-use Rattle.mx_layout.specs.Point.{HoldsPoint, TellsPoint}
+use Rattle.mx_layout.specs.Point.{TellsPoint}
 use Rattle.mx_migrate.proofs.SettleProofs.AdvanceLemmas.{still}
-use Rattle.mx_migrate.proofs.SettleProofs.PlaceLemmas.{file_fits}
-use Rattle.mx_office.specs.Layout.{office_point}
+use Rattle.mx_migrate.proofs.SettleProofs.PlaceLemmas.{file_fits, rests_placed}
 use Rattle.mx_office.specs.Opening.{HasReason}
 use Rattle.mx_office.proofs.AnswerLemmas.{answers_office, file_answers, open_absent, open_not_ours, open_reason, open_stops, point_ours, point_reason, point_says, way_reason, way_says}
-use Rattle.mx_office.proofs.MoveLemmas.{answers_there, is_at_book, moves_then, stays_shut}
-use Rattle.mx_office.proofs.StandsLemmas.{on_point, which}
+use Rattle.mx_office.proofs.MoveLemmas.{answers_there, is_at_book, moves_then, placed_holds, stays_shut}
 use Rattle.mx_office.proofs.opening.unopened.Goals as goal
 
 pub returns-then-is_on_way-clause-moves : goal.returns-then-is_on_way-clause-moves
@@ -42,15 +39,8 @@ returns-then-is_on_way-clause-reason g c clean why is =
     let old = state g.S.Store c.args.conn.now in
     let mid = state g.S.Store c.point.new.conn in
     let early : HasCleanDisk mid = omega (arith, c.move_on.ensures.moves.clean) in
-    let first : HasCleanDisk old = omega (arith, c.point.ensures.unchanged.survives.clean, c.move_on.ensures.moves.clean) in
     way_reason old c.in-Ok.at (λ has. c.in-Ok.ensures.reads early has) (λ p holds fits. c.in-Ok.ensures.exact p early holds fits) (λ lacks. c.in-Ok.ensures.absent early lacks) why (sym c.is_on_way.ensures ∙ c.if-is_on_way.true)
-    (c.move_on.ensures.stops why is) (λ at book file rests. elim (which at old book rests) [
-      | inl exactly ↦ c.move_on.ensures.whole at book file (still at book old mid c.point.ensures.unchanged exactly) clean why is
-      | inr own ↦
-          let there = c.in-Ok.ensures.exact office_point early (λ is_open. subst (λ p. HoldsPoint p old.now) own (on_point at old book rests first is_open)) (omega arith, omega arith, omega arith) in
-          let both : true ≡ false = sym c.if-is_on_way.true ∙ c.is_on_way.ensures ∙ ap is_on_way there in
-          absurd cc
-    ])
+    (c.move_on.ensures.stops why is) (λ at book file rests. c.move_on.ensures.whole at book file (still at book old mid c.point.ensures.unchanged rests) clean why is)
 
 pub returns-else-is_on_way-clause-moves : goal.returns-else-is_on_way-clause-moves
 returns-else-is_on_way-clause-moves g c =
@@ -91,6 +81,6 @@ returns-in-Err-clause-reason g c clean why is =
       reason = λ has. open_reason _ f answered c.open_fault_of.ensures (c.in-Err.ensures.reads clean has);
       not_ours = λ has. open_not_ours _ f answered c.open_fault_of.ensures (c.in-Err.ensures.reads clean has);
       absent = λ none. open_absent f answered c.open_fault_of.ensures (c.in-Err.ensures.absent clean none);
-      whole = λ at book file rests. stops (c.in-Err.ensures.exact at clean (λ is_open. on_point at old book rests early is_open) (file_fits at file));
+      whole = λ at book file rests. stops (c.in-Err.ensures.exact at clean (λ is_open. placed_holds old at (rests_placed old at book rests) early is_open) (file_fits at file));
     } in
     subst (HasReason old) same reason

@@ -2,10 +2,11 @@ use Rattle.std.proofs.Common.{arith, inr, refl, subst, sym}
 use Rattle.std.proofs.Math.Logic.{∥∥₁_map}
 use Rattle.sqlite.specs.State.{HasCleanDisk}
 use Rattle.sqlite.specs.Files.{file_state}
+use Rattle.mx_migrate.proofs.SettleProofs.PlaceLemmas.{stands_says}
 use Rattle.mx_office.specs.Layout.{office_point}
 use Rattle.mx_office.specs.Office.{office_state}
 use Rattle.mx_office.proofs.OfficeLemmas.{rests_still}
-use Rattle.mx_promise.proofs.KeptLemmas.{nothing_found, rests_as, says_here}
+use Rattle.mx_promise.proofs.KeptLemmas.{nothing_found, rests_as}
 use Rattle.mx_promise.proofs.OpenedLemmas.{found_for, missed_for, unopened_either}
 use Rattle.mx_database.proofs.PowerProofs.LeftLemmas.{some_by, wider_left}
 use Rattle.mx_promise.specs.Ended.{NextKeepsSomewhere, NextKeepsUnopened}
@@ -43,7 +44,7 @@ returns-in-Err-open_office-clause-unopened g c before commands left was clean =
     ∥∥₁_map (c.in-Ok.ensures.found left.conn left.left was early) (λ found.
     let one = left.books sure found.tables found.left in
     let rests = rests_as (file_state left.conn).may_leave mid one.0 found one.2 in
-    let nothing = nothing_found (file_state left.conn).may_leave _ c.in-Ok.conn (file_state c.in-Err-open_office.conn) early clean found (says_here found.tables one.0 one.2) failed.changes in
+    let nothing = nothing_found (file_state left.conn).may_leave _ c.in-Ok.conn (file_state c.in-Err-open_office.conn) early clean found (stands_says office_point found.tables one.0 one.2) failed.changes in
     record { book = one.0; kept = one.1; tables = rests_still mid (file_state c.in-Err-open_office.conn) one.0 nothing rests; reason = (failed.reason clean).whole office_point one.0 (inr refl) rests })
 
 pub returns-in-Ok-open_office-clause-moved : goal.returns-in-Ok-open_office-clause-moved
