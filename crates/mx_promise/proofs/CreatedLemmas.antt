@@ -13,7 +13,7 @@ use Rattle.mx_layout.specs.Steps.{schema_of}
 use Rattle.mx_layout.specs.Tables.{no_schema}
 use Rattle.mx_layout.proofs.CrashLemmas.{rests_kept}
 use Rattle.mx_database.proofs.PowerProofs.FoundLemmas.{rests_found, found_before}
-use Rattle.mx_office.specs.Layout.{office_point}
+use Rattle.mx_office.specs.Layout.{office_point, office_schema}
 use Rattle.mx_office.specs.Stands.{Rests}
 use Rattle.mx_office.proofs.StandsLemmas.{empty_stands}
 use Rattle.mx_promise.specs.Created.{IsBare, IsMade, MayBeMade}
@@ -21,7 +21,7 @@ use Rattle.mx_promise.proofs.KeptLemmas.{rests_as}
 
 module _ (old end again : State) (clean : HasCleanDisk end) (bare : IsBare old) (crash : Leaves end (λ db. IsSound no_schema db ⊎ IsEmptyIn office_point.layout db)) (found : IsFound end.may_leave again) where
   empty_book : IsEmptyIn office_point.layout found.tables → Rests again []
-  empty_book empty = rests_as end.may_leave again [] found (empty_stands found.tables empty)
+  empty_book empty = rests_as office_schema end.may_leave again [] found (empty_stands found.tables empty)
 
   no_table : IsSound no_schema found.tables → IsBare again
   no_table none = rests_found end.may_leave again no_schema (IsSound no_schema) found none none

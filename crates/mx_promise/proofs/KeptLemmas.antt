@@ -1,10 +1,11 @@
 -- The book that a stop leaves of a run, from what the run answers and what is found.
-use Rattle.std.proofs.Common.{arith, refl, sym, ap, subst, ◌∙◌, ◌≡◌, ◌≢◌, ◌≤◌, ◌<◌, ◌⊎◌, inl, inr, ℕ, ◌+◌, suc, length, take, drop, List, ◌++◌, Option, Some, None, slice_get, count_by, IsSomeAnd}
+use Rattle.std.proofs.Common.{arith, refl, sym, ap, subst, ◌∙◌, ◌≡◌, ◌≢◌, ◌≤◌, ◌<◌, ◌⊎◌, inl, inr, ℕ, ◌+◌, suc, length, take, drop, List, ◌++◌, Option, Some, None, slice_get, count_by, IsSomeAnd, ◌∷◌, []}
 use Rattle.std.proofs.lemmas.List.{take-append-drop, take-take}
 use Rattle.std.proofs.lemmas.Option.{slice_get_within}
 use Rattle.sqlite.specs.Tree.{Trees}
 use Rattle.sqlite.specs.Store.{Ghosts}
 use Rattle.sqlite.specs.Held.{Held, state}
+use Rattle.sqlite.specs.Schema.{Schema}
 use Rattle.sqlite.specs.State.{State, HasCleanDisk}
 use Rattle.sqlite.proofs.MarkLemmas.{slice_get-take}
 use Rattle.mx_book.specs.commands.Act.{Entry}
@@ -20,22 +21,36 @@ use Rattle.mx_layout.specs.declared.fault.Table.{Table}
 use Rattle.mx_faults.specs.declared.fault.Fault.{Fault}
 use Rattle.mx_faults.specs.declared.fault.Fault.TheVariants.{Memory, Store, NeedsReopen, Damaged}
 use Rattle.mx_office.specs.declared.fault.Outcomes.{Outcomes}
-use Rattle.mx_office.specs.Layout.{office_point, office_schema}
+use Rattle.mx_office.specs.Layout.{office_point}
 use Rattle.mx_office.specs.Opening.{ChangesOnWay}
-use Rattle.mx_office.proofs.MoveLemmas.{nothing_changes, placed_holds}
-use Rattle.mx_migrate.specs.settle.Place.{SaysAt}
-use Rattle.mx_office.specs.Stands.{Stands, Rests, IsEither}
+use Rattle.mx_office.proofs.MoveLemmas.{nothing_changes}
+use Rattle.mx_promise.proofs.OwnLemmas.{office_first}
+use Rattle.mx_layout.specs.Contents.{rows_in}
+use Rattle.mx_layout.specs.Point.{point_cells}
+use Rattle.mx_layout.specs.Tables.{office, HasOffice}
+use Rattle.mx_base.specs.declared.point.Point.{Point}
+use Rattle.mx_book_tables.specs.stands.Stands.{StandsInSchema}
+use Rattle.mx_office.specs.Stands.{IsEitherIn, RestsIn}
+use Rattle.mx_promise.specs.Own.{RestsOn, StandsHere, StandsOn}
+use Rattle.mx_promise.specs.Reopened.{SaysHere}
 use Rattle.mx_promise.specs.Kept.{count_accepted, HasReached, IsKept, IsBookKept}
 
 -- the tables that were found stand for the book, so they rest as it
-pub rests_as : (may_leave : Trees → Type 0) (again : State) (book : List Entry) (found : IsFound may_leave again) → Stands found.tables book → Rests again book
-rests_as may_leave again book found stands = rests_found may_leave again office_schema (λ trees. Stands trees book) found stands.lies.sound stands
+pub rests_on : (own : Schema) (at : Point) (may_leave : Trees → Type 0) (again : State) (book : List Entry) (found : IsFound may_leave again) → StandsOn own at found.tables book → RestsOn own at again book
+rests_on own at may_leave again book found stands = record {
+  schema = stands.schema;
+  is = stands.is;
+  tables = rests_found may_leave again stands.schema (λ trees. StandsInSchema stands.schema at trees book) found stands.tables.lies.sound stands.tables;
+}
+
+pub rests_as : (own : Schema) (may_leave : Trees → Type 0) (again : State) (book : List Entry) (found : IsFound may_leave again) → StandsHere own book found.tables → RestsIn own again book
+rests_as own may_leave again book found stands = rests_found may_leave again own (λ trees. StandsHere own book trees) found stands.lies.sound stands
 
 -- the tables that were found are at the point of the office, so an opening of it changed nothing
-pub nothing_found : (may_leave : Trees → Type 0) {S : Type 0} (g : Ghosts S) (mid : Held S) (now : State) → HasCleanDisk (state g mid) → HasCleanDisk now → (found : IsFound may_leave (state g mid)) → SaysAt office_point found.tables → ChangesOnWay g mid now → ChangesNothing (state g mid) now
+pub nothing_found : (may_leave : Trees → Type 0) {S : Type 0} (g : Ghosts S) (mid : Held S) (now : State) → HasCleanDisk (state g mid) → HasCleanDisk now → (found : IsFound may_leave (state g mid)) → SaysHere found.tables → ChangesOnWay g mid now → ChangesNothing (state g mid) now
 nothing_found may_leave g mid now early clean found says changes =
-    let placed = rests_found may_leave (state g mid) office_schema (SaysAt office_point) found says.lies.sound says in
-    nothing_changes g mid now changes clean (λ is_open. placed_holds (state g mid) office_point placed early is_open)
+    let there = rests_found may_leave (state g mid) says.schema (λ trees. rows_in office trees ≡ point_cells office_point ∷ []) found says.sound says.says in
+    nothing_changes g mid now changes clean (λ is_open. (subst HasOffice (sym (there.schema early is_open)) (office_first says.schema says.settled), there.tables early is_open))
 
 is_store : (stopped : Option Fault) → (stopped ≡ Some Store) ⊎ (stopped ≢ Some Store)
 is_store None = inr (λ h. cc)
@@ -45,10 +60,10 @@ is_store (Some NeedsReopen) = inr (λ h. cc)
 is_store (Some (Damaged table)) = inr (λ h. cc)
 
 -- whatever tables a crash leaves behind a run, they stand for the book after those commands
-pub book_left : (end : State) (before commands : List Entry) (outcomes : Outcomes) → let n = length outcomes.replies.items in (outcomes.stopped ≢ Some Store → Rests end (book_run before (take n commands)))
-    → Leaves end (IsEither (book_run before (take n commands)) (book_run before (take (n + 1) commands))) → HasCleanDisk end → (db : Trees) → end.may_leave db
-    → (reached : ℕ) × HasReached outcomes reached × Stands db (book_run before (take reached commands))
-book_left end before commands outcomes kept crash clean db left =
+pub book_left : (own : Schema) (end : State) (before commands : List Entry) (outcomes : Outcomes) → let n = length outcomes.replies.items in (outcomes.stopped ≢ Some Store → RestsIn own end (book_run before (take n commands)))
+    → Leaves end (IsEitherIn own (book_run before (take n commands)) (book_run before (take (n + 1) commands))) → HasCleanDisk end → (db : Trees) → end.may_leave db
+    → (reached : ℕ) × HasReached outcomes reached × StandsHere own (book_run before (take reached commands)) db
+book_left own end before commands outcomes kept crash clean db left =
     let n = length outcomes.replies.items in
     elim (is_store outcomes.stopped) [
       | inl store ↦ elim (crash clean db left) [ inl one ↦ (n, inl refl, one) | inr other ↦ (n + 1, inr (store, refl), other) ]

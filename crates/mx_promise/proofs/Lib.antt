@@ -1,3 +1,4 @@
+pub mod OwnLemmas
 pub mod KeptLemmas
 pub mod CreatedLemmas
 pub mod ReopenedLemmas

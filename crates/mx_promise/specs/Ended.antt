@@ -2,6 +2,7 @@
 use Rattle.std.specs.Prelude.{◌≡◌, ◌⊎◌, List, None, Option, Some}
 use Rattle.sqlite_disk.specs.declared.Disk.{Ghosts}
 use Rattle.sqlite_store.specs.declared.store.FileStore.{FileStore}
+use Rattle.sqlite.specs.Schema.{Schema}
 use Rattle.sqlite.specs.Files.{file_state, IsCleanLeft}
 use Rattle.sqlite.specs.declared.error.Error.{Error}
 use Rattle.sqlite.specs.declared.error.Error.TheVariants.{SqliteFailure}
@@ -13,7 +14,8 @@ use Rattle.mx_book.specs.commands.Act.{Entry}
 use Rattle.mx_layout.specs.Crash.{Leaves}
 use Rattle.mx_database.specs.power.Found.{IsEndOf}
 use Rattle.mx_database.specs.power.Left.{IsLeft}
-use Rattle.mx_office.specs.Stands.{Stands}
+use Rattle.mx_apply.specs.writing.Written.{IsSettled}
+use Rattle.mx_promise.specs.Own.{StandsHere}
 use Rattle.mx_promise.specs.Kept.{IsBookKept}
 use Rattle.mx_office.specs.declared.fault.Outcomes.{Outcomes}
 use Rattle.mx_promise.specs.Opened.{KeepsSomewhere, StandsSomewhere}
@@ -23,16 +25,17 @@ use Rattle.mx_promise.specs.declared.running.Unopened.TheVariants.{Files, Databa
 use Rattle.mx_promise.specs.declared.next_process.Ended.{Ended}
 
 -- The store is what the process left of a connection, and each state of the tables that a crash of it may leave stands for the book from before and the first of the commands accepted since, with every acknowledged command in it.
-pub record IsEnded {D : Type 0} {g : Ghosts D} (before commands : List Entry) (ended : Ended D g) : Type 0 where
+pub record IsEnded {D : Type 0} {g : Ghosts D} (own : Schema) (before commands : List Entry) (ended : Ended D g) : Type 0 where
+  pub settled : IsSettled own
   pub conn : Held (FileStore D g)
   pub left : IsEndOf conn ended.store
-  pub books : Leaves (file_state conn) (λ db. (book : List Entry) × IsBookKept before commands ended.outcomes book × Stands db book)
+  pub books : Leaves (file_state conn) (λ db. (book : List Entry) × IsBookKept before commands ended.outcomes book × StandsHere own book db)
 
 -- The same of a process in which the office was opened first, whose move may have been stopped: each state of the tables that a crash may leave stands for the book at some point that a file can be at.
-pub record IsEndedSomewhere {D : Type 0} {g : Ghosts D} (before commands : List Entry) (ended : Ended D g) : Type 0 where
+pub record IsEndedSomewhere {D : Type 0} {g : Ghosts D} (own : Schema) (before commands : List Entry) (ended : Ended D g) : Type 0 where
   pub conn : Held (FileStore D g)
   pub left : IsEndOf conn ended.store
-  pub books : Leaves (file_state conn) (λ db. (book : List Entry) × IsBookKept before commands ended.outcomes book × StandsSomewhere book db)
+  pub books : Leaves (file_state conn) (λ db. (book : List Entry) × IsBookKept before commands ended.outcomes book × StandsSomewhere own book db)
 
 -- ── where the next process opens no office ──
 
@@ -50,13 +53,13 @@ abbrev pub LeavesKept : (Trees → Type 0) → {D : Type 0} {g : Ghosts D} → E
 LeavesKept among error left = IsCleanLeft left → IsLeft among 0 error left
 
 -- what the process left stands for the one book still, at the point of the office
-abbrev pub NextKeepsUnopened : {D : Type 0} {g : Ghosts D} → List Entry → List Entry → Outcomes → Unopened D g → Type 0
-NextKeepsUnopened before commands outcomes (Files error) = IsClosedFile error
-NextKeepsUnopened before commands outcomes (Database error left) = LeavesKept (λ db. (book : List Entry) × IsBookKept before commands outcomes book × Stands db book) error left
-NextKeepsUnopened before commands outcomes (Office conn fault) = KeepsUnopened before commands outcomes (Office conn fault)
+abbrev pub NextKeepsUnopened : {D : Type 0} {g : Ghosts D} → Schema → List Entry → List Entry → Outcomes → Unopened D g → Type 0
+NextKeepsUnopened own before commands outcomes (Files error) = IsClosedFile error
+NextKeepsUnopened own before commands outcomes (Database error left) = LeavesKept (λ db. (book : List Entry) × IsBookKept before commands outcomes book × StandsHere own book db) error left
+NextKeepsUnopened own before commands outcomes (Office conn fault) = KeepsUnopened own before commands outcomes (Office conn fault)
 
 -- or at some point
-abbrev pub NextKeepsSomewhere : {D : Type 0} {g : Ghosts D} → List Entry → List Entry → Outcomes → Unopened D g → Type 0
-NextKeepsSomewhere before commands outcomes (Files error) = IsClosedFile error
-NextKeepsSomewhere before commands outcomes (Database error left) = LeavesKept (λ db. (book : List Entry) × IsBookKept before commands outcomes book × StandsSomewhere book db) error left
-NextKeepsSomewhere before commands outcomes (Office conn fault) = KeepsSomewhere before commands outcomes (Office conn fault)
+abbrev pub NextKeepsSomewhere : {D : Type 0} {g : Ghosts D} → Schema → List Entry → List Entry → Outcomes → Unopened D g → Type 0
+NextKeepsSomewhere own before commands outcomes (Files error) = IsClosedFile error
+NextKeepsSomewhere own before commands outcomes (Database error left) = LeavesKept (λ db. (book : List Entry) × IsBookKept before commands outcomes book × StandsSomewhere own book db) error left
+NextKeepsSomewhere own before commands outcomes (Office conn fault) = KeepsSomewhere own before commands outcomes (Office conn fault)

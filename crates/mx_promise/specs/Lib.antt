@@ -1,4 +1,5 @@
 pub mod Kept
+pub mod Own
 pub mod Reopened
 pub mod Created
 pub mod Ended

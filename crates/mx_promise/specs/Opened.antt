@@ -4,6 +4,7 @@ use Rattle.sqlite_disk.specs.declared.Disk as disk
 use Rattle.sqlite_store.specs.declared.store.FileStore.{FileStore}
 use Rattle.sqlite.specs.Store.{Ghosts}
 use Rattle.sqlite.specs.Held.{Held}
+use Rattle.sqlite.specs.Schema.{Schema}
 use Rattle.sqlite.specs.State.{State, HasCleanDisk}
 use Rattle.sqlite.specs.Tree.{Trees}
 use Rattle.sqlite.specs.Files.{file_state, over_files}
@@ -13,18 +14,19 @@ use Rattle.mx_database.specs.power.Left.{IsFaithful}
 use Rattle.mx_layout.specs.Crash.{Leaves, RestsAs}
 use Rattle.mx_migrate.specs.settle.Place.{IsPlacedAt, SaysAt}
 use Rattle.mx_book_tables.specs.stands.Schemas.{IsOfFile}
-use Rattle.mx_book_tables.specs.stands.Stands.{RestsAt, StandsAt}
 use Rattle.mx_office.specs.Calls.{IsRun}
 use Rattle.mx_office.specs.Opening.{AreMovedOn, MovesOn}
 use Rattle.mx_office.specs.declared.office.Office.{Office as TheOffice}
 use Rattle.mx_faults.specs.declared.fault.OpenFault.{OpenFault}
 use Rattle.mx_faults.specs.declared.fault.OpenFault.TheVariants as opening
 use Rattle.mx_office.specs.declared.fault.Outcomes.{Outcomes}
-use Rattle.mx_office.specs.Layout.{office_point, office_schema}
-use Rattle.mx_office.specs.Office.{office_state, IsReady, StandsFor}
-use Rattle.mx_office.specs.Stands.{Rests}
+use Rattle.mx_office.specs.Layout.{office_point}
+use Rattle.mx_office.specs.Office.{office_state, IsReady}
+use Rattle.mx_apply.specs.writing.Written.{IsSettled}
+use Rattle.mx_office.specs.Stands.{RestsIn}
+use Rattle.mx_promise.specs.Own.{RestsOn, StandsOn}
 use Rattle.mx_promise.specs.Kept.{IsBookKept}
-use Rattle.mx_promise.specs.Reopened.{IsKeptInFiles, IsPrintOf, IsStopOf, MissesFiles}
+use Rattle.mx_promise.specs.Reopened.{IsKeptInFiles, IsPrintOf, IsStopOf, MissesFiles, SaysHere}
 use Rattle.mx_promise.specs.declared.running.Reopened.{Reopened}
 use Rattle.mx_promise.specs.declared.running.Unopened.{Unopened}
 use Rattle.mx_promise.specs.declared.running.Unopened.TheVariants.{Files, Database, Office}
@@ -32,12 +34,12 @@ use Rattle.mx_promise.specs.declared.running.Unopened.TheVariants.{Files, Databa
 -- ── a book at some point ──
 
 -- the tables stand for the book at a point that a file can be at
-abbrev pub StandsSomewhere : List Entry → Trees → Type 0
-StandsSomewhere book trees = (at : Point) × IsOfFile at × StandsAt at trees book
+abbrev pub StandsSomewhere : Schema → List Entry → Trees → Type 0
+StandsSomewhere own book trees = (at : Point) × IsOfFile at × StandsOn own at trees book
 
 -- no transaction is open, and the tables, and each state of them that a crash may leave, stand for the book at one point that a file can be at
-abbrev pub RestsSomewhere : List Entry → State → Type 0
-RestsSomewhere book now = (at : Point) × IsOfFile at × RestsAt at now book
+abbrev pub RestsSomewhere : Schema → List Entry → State → Type 0
+RestsSomewhere own book now = (at : Point) × IsOfFile at × RestsOn own at now book
 
 -- An office was opened in the file, which moved it first where it was older, and commands were run in that.
 pub record IsOpenedAndRun {D : Type 0} {g : disk.Ghosts D} (commands : List Entry) (outcomes : Outcomes) (was : Held (FileStore D g)) : Type 0 where
@@ -48,24 +50,24 @@ pub record IsOpenedAndRun {D : Type 0} {g : disk.Ghosts D} (commands : List Entr
   pub run : IsRun commands outcomes.replies.items outcomes.stopped office after
 
 -- The connection in which no office was opened for this reason stands for the book at some point; where the store failed in the move, each state that a crash may leave does.
-pub record IsLeftFor (book : List Entry) (fault : OpenFault) (now : State) : Type 0 where
-  pub rests : fault ≢ opening.Store → RestsSomewhere book now
-  pub crash : Leaves now (StandsSomewhere book)
+pub record IsLeftFor (own : Schema) (book : List Entry) (fault : OpenFault) (now : State) : Type 0 where
+  pub rests : fault ≢ opening.Store → RestsSomewhere own book now
+  pub crash : Leaves now (StandsSomewhere own book)
 
 -- ── where no office was opened again ──
 
 -- The tables are those of the one book all the same, at some point of the move, and no office was opened for want of memory or since the store failed.
-pub record IsKeptSomewhere (before commands : List Entry) (outcomes : Outcomes) (fault : OpenFault) (now : State) : Type 0 where
+pub record IsKeptSomewhere (own : Schema) (before commands : List Entry) (outcomes : Outcomes) (fault : OpenFault) (now : State) : Type 0 where
   pub book : List Entry
   pub kept : IsBookKept before commands outcomes book
-  pub tables : IsLeftFor book fault now
+  pub tables : IsLeftFor own book fault now
   pub reason : IsStopOf fault
 
 -- so it is where the connection is handed back, and the disk returns what was written
-abbrev pub KeepsSomewhere : {D : Type 0} {g : disk.Ghosts D} → List Entry → List Entry → Outcomes → Unopened D g → Type 0
-KeepsSomewhere before commands outcomes (Files error) = ⊥
-KeepsSomewhere {D} {g} before commands outcomes (Database error left) = IsFaithful g → ∥ IsKeptInFiles StandsSomewhere before commands outcomes error left ∥₁
-KeepsSomewhere before commands outcomes (Office conn fault) = HasCleanDisk (file_state conn) → ∥ IsKeptSomewhere before commands outcomes fault (file_state conn) ∥₁
+abbrev pub KeepsSomewhere : {D : Type 0} {g : disk.Ghosts D} → Schema → List Entry → List Entry → Outcomes → Unopened D g → Type 0
+KeepsSomewhere own before commands outcomes (Files error) = ⊥
+KeepsSomewhere {D} {g} own before commands outcomes (Database error left) = IsFaithful g → ∥ IsKeptInFiles (StandsSomewhere own) before commands outcomes error left ∥₁
+KeepsSomewhere own before commands outcomes (Office conn fault) = HasCleanDisk (file_state conn) → ∥ IsKeptSomewhere own before commands outcomes fault (file_state conn) ∥₁
 
 -- ── an opening behind a loss of power, of any book ──
 
@@ -73,10 +75,10 @@ KeepsSomewhere before commands outcomes (Office conn fault) = HasCleanDisk (file
 pub record IsOpenedAgain (before now : State) : Type 0 where
   pub tables : Trees
   pub left : before.may_leave tables
-  pub books : (at : Point) (book : List Entry) → StandsAt at tables book → Rests now book
+  pub books : (own : Schema) (at : Point) (book : List Entry) → StandsOn own at tables book → RestsIn own now book
   pub placed : (at : Point) → SaysAt at tables → IsPlacedAt office_point now
   pub moved : (at : Point) → SaysAt at tables → Leaves now (AreMovedOn at tables)
-  pub settled : SaysAt office_point tables → RestsAs now office_schema (λ db. db ≡ tables)
+  pub settled : (here : SaysHere tables) → RestsAs now here.schema (λ db. db ≡ tables)
 
 -- so it is, where the disk returns what was written
 abbrev pub FindsAgain : State → State → Type 0
@@ -87,8 +89,8 @@ pub record IsUnopenedAgain (before : State) (fault : OpenFault) (now : State) : 
   pub clean : HasCleanDisk before
   pub tables : Trees
   pub left : before.may_leave tables
-  pub books : (at : Point) (book : List Entry) → IsOfFile at → StandsAt at tables book → IsLeftFor book fault now
-  pub reason : (at : Point) (book : List Entry) → IsOfFile at → StandsAt at tables book → IsStopOf fault
+  pub books : (own : Schema) (at : Point) (book : List Entry) → IsOfFile at → StandsOn own at tables book → IsLeftFor own book fault now
+  pub reason : (own : Schema) (at : Point) (book : List Entry) → IsOfFile at → StandsOn own at tables book → IsStopOf fault
   pub made : (at : Point) → SaysAt at tables → fault ≢ opening.Store → IsTrue now.is_open → AreMovedOn at tables now.now.trees
   pub moved : (at : Point) → SaysAt at tables → Leaves now (AreMovedOn at tables)
 
@@ -102,8 +104,8 @@ MissesAgain before (Office conn fault) = HasCleanDisk (file_state conn) → ∥ 
 pub record IsPrintedAgain {S : Type 0} {g : Ghosts S} (before : State) (tail : List ℕ) (day : ℕ) (again : Reopened S g) : Type 0 where
   pub tables : Trees
   pub left : before.may_leave tables
-  pub books : (at : Point) (book : List Entry) → StandsAt at tables book → StandsFor again.office book
-  pub printed : (at : Point) (book : List Entry) → StandsAt at tables book → IsPrintOf book tail day again.printed
+  pub books : (own : Schema) (at : Point) (book : List Entry) → StandsOn own at tables book → RestsIn own (office_state again.office) book
+  pub printed : (own : Schema) (at : Point) (book : List Entry) → StandsOn own at tables book → IsPrintOf book tail day again.printed
 
 -- so it is, where the disk returns what was written
 abbrev pub PrintsAgain : {S : Type 0} {g : Ghosts S} → State → List ℕ → ℕ → Reopened S g → Type 0
@@ -130,20 +132,20 @@ IsHandedClean (Err (Database error left)) = ⊥
 IsHandedClean (Err (Files error)) = ⊥
 
 -- the office stands for the book; or each state that a crash may leave of the connection that is handed back does
-abbrev pub IsLeftStanding : {D : Type 0} {g : disk.Ghosts D} → List Entry → Result (Reopened (FileStore D g) over_files) (Unopened D g) → Type 0
-IsLeftStanding book (Ok again) = StandsFor again.office book
-IsLeftStanding book (Err (Office conn fault)) = Leaves (file_state conn) (StandsSomewhere book)
-IsLeftStanding book (Err (Database error left)) = ⊤
-IsLeftStanding book (Err (Files error)) = ⊤
+abbrev pub IsLeftStanding : {D : Type 0} {g : disk.Ghosts D} → Schema → List Entry → Result (Reopened (FileStore D g) over_files) (Unopened D g) → Type 0
+IsLeftStanding own book (Ok again) = IsSettled own × RestsIn own (office_state again.office) book
+IsLeftStanding own book (Err (Office conn fault)) = Leaves (file_state conn) (StandsSomewhere own book)
+IsLeftStanding own book (Err (Database error left)) = ⊤
+IsLeftStanding own book (Err (Files error)) = ⊤
 
 -- ── what is left of files that were not opened ──
 
 -- the office stands for the one book
-pub record IsKeptBehind {S : Type 0} {g : Ghosts S} (before commands : List Entry) (outcomes : Outcomes) (again : TheOffice S g) : Type 0 where
+pub record IsKeptBehind {S : Type 0} {g : Ghosts S} (own : Schema) (before commands : List Entry) (outcomes : Outcomes) (again : TheOffice S g) : Type 0 where
   pub book : List Entry
   pub kept : IsBookKept before commands outcomes book
-  pub tables : StandsFor again book
+  pub tables : RestsIn own (office_state again) book
 
 -- so it is, where the disk returns what was written
-abbrev pub FindsKept : {S : Type 0} {g : Ghosts S} → List Entry → List Entry → Outcomes → TheOffice S g → Type 0
-FindsKept before commands outcomes again = HasCleanDisk (office_state again) → ∥ IsKeptBehind before commands outcomes again ∥₁
+abbrev pub FindsKept : {S : Type 0} {g : Ghosts S} → Schema → List Entry → List Entry → Outcomes → TheOffice S g → Type 0
+FindsKept own before commands outcomes again = HasCleanDisk (office_state again) → ∥ IsKeptBehind own before commands outcomes again ∥₁

@@ -6,10 +6,10 @@ ghost use Rattle.sqlite.specs.Held.{state};
 ghost use Rattle.mx_book.specs.commands.Act.{Entry};
 ghost use Rattle.mx_layout.specs.Crash.{Leaves};
 ghost use Rattle.mx_base.specs.declared.point.Point.{Point};
-ghost use Rattle.mx_book_tables.specs.stands.Stands.{RestsAt};
 ghost use Rattle.mx_office.specs.Office.{IsReady};
-ghost use Rattle.mx_office.specs.Opening.{StandsBehind};
-ghost use Rattle.mx_promise.specs.Moved.{FindsBook, KeepsMoving};
+ghost use Rattle.mx_promise.specs.Moved.{FindsBook, KeepsMoving, StandsMoving};
+ghost use Rattle.sqlite.specs.Schema.{Schema};
+ghost use Rattle.mx_promise.specs.Own.{RestsOn};
 
 use crate::running::Unopened;
 use mx_database::power::reopen;
@@ -21,8 +21,9 @@ use std::alloc::Global;
 // Opens the office of a database, and hands the connection back, whatever became of the opening.
 fn behind_opening<S: Alter>(alloc: Global, conn: Connection<S>) -> Connection<S>
     requires { conn.in_transaction ≡ false }
-    ensures { (at : Point) (book : List Entry) → RestsAt at (state S.Store conn) book
-        → Leaves (state S.Store result) (StandsBehind at book) }
+    ensures { (own : Schema) (at : Point) (book : List Entry)
+        → RestsOn own at (state S.Store conn) book
+        → Leaves (state S.Store result) (StandsMoving own at book) }
 {
     match open_office(alloc, conn) {
         Ok(office) => office.close(),
@@ -39,10 +40,10 @@ pub fn open_and_reopen<D: Crash + Drop>(
 ) -> Result<Office<FileStore<D>>, Unopened<D>>
     requires { conn.in_transaction ≡ false }
     ensures ready { IfOk result IsReady }
-    ensures headline { (at : Point) (book : List Entry) → RestsAt at (file_state conn) book
-        → IfOk result (FindsBook book) }
-    ensures unopened { (at : Point) (book : List Entry) → RestsAt at (file_state conn) book
-        → IfErr result (KeepsMoving at book) }
+    ensures headline { (own : Schema) (at : Point) (book : List Entry)
+        → RestsOn own at (file_state conn) book → IfOk result (FindsBook own book) }
+    ensures unopened { (own : Schema) (at : Point) (book : List Entry)
+        → RestsOn own at (file_state conn) book → IfErr result (KeepsMoving own at book) }
 {
     match reopen(alloc, behind_opening(alloc, conn), options) {
         Ok(conn) => match open_office(alloc, conn) {

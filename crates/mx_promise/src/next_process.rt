@@ -14,13 +14,16 @@ ghost use Rattle.mx_book.specs.commands.Act.{Entry};
 ghost use Rattle.mx_base.specs.declared.point.Point.{Point};
 ghost use Rattle.mx_database.specs.power.Found.{WasLeft};
 ghost use Rattle.mx_book_tables.specs.stands.Schemas.{IsOfFile};
-ghost use Rattle.mx_book_tables.specs.stands.Stands.{RestsAt};
 ghost use Rattle.mx_office.specs.Calls.{IsRun};
-ghost use Rattle.mx_office.specs.Office.{StandsFor};
+ghost use Rattle.mx_office.specs.Office.{office_state};
 ghost use Rattle.mx_promise.specs.Ended.{IsEnded, IsEndedSomewhere, NextKeepsSomewhere, NextKeepsUnopened};
 ghost use Rattle.mx_promise.specs.Ended.{without_database};
 ghost use Rattle.mx_promise.specs.Opened.{IsOpenedAndRun};
 ghost use Rattle.mx_promise.specs.Reopened.{GoesOn, IsStopOf, Reopens};
+ghost use Rattle.sqlite.specs.Schema.{Schema};
+ghost use Rattle.mx_apply.specs.writing.Written.{IsSettled};
+ghost use Rattle.mx_office.specs.Stands.{RestsIn};
+ghost use Rattle.mx_promise.specs.Own.{RestsOn};
 
 use crate::running::{Reopened, Stopped, Unopened, print_due};
 use mx_base::{Day, Tail};
@@ -53,8 +56,8 @@ pub fn run_and_end<D: Disk + Drop>(
     mut office: Office<FileStore<D>>,
     commands: &[Command],
 ) -> Ended<D>
-    ensures ended { (before : _) → StandsFor office before
-        → IsEnded before commands.now result }
+    ensures ended { (own : Schema) → IsSettled own → (before : _)
+        → RestsIn own (office_state office) before → IsEnded own before commands.now result }
     ensures ran { (after : _) × IsRun commands.now result.outcomes.replies.items
         result.outcomes.stopped office after }
 {
@@ -73,11 +76,11 @@ pub fn open_run_and_end<D: Disk + Drop>(
     commands: &[Command],
 ) -> OpenedAndEnded<D>
     requires { conn.in_transaction ≡ false }
-    ensures ended { (at : Point) (before : List Entry) → IsOfFile at
-        → RestsAt at (file_state conn) before
-        → IsEndedSomewhere before commands.now result.ended }
-    ensures whole { (at : Point) (before : List Entry) → IsOfFile at
-        → RestsAt at (file_state conn) before → IsClean (files.view result.ended.store)
+    ensures ended { (own : Schema) (at : Point) (before : List Entry) → IsOfFile at
+        → RestsOn own at (file_state conn) before
+        → IsEndedSomewhere own before commands.now result.ended }
+    ensures whole { (own : Schema) (at : Point) (before : List Entry) → IsOfFile at
+        → RestsOn own at (file_state conn) before → IsClean (files.view result.ended.store)
         → (fault : OpenFault) → result.unopened ≡ Some fault → IsStopOf fault }
     ensures ran { result.unopened ≡ None
         → IsOpenedAndRun commands.now result.ended.outcomes conn }
@@ -134,20 +137,20 @@ pub fn reopen_after<D: Disk + Drop, S: Start>(
 ) -> Stopped<FileStore<FileFrom<S>>, FileFrom<S>>
     ensures outcomes { result.outcomes ≡ ended.outcomes }
     ensures goes_on { IfOk result.again GoesOn }
-    ensures headline { (before commands : _) → IsEnded before commands ended
+    ensures headline { (own : Schema) (before commands : _) → IsEnded own before commands ended
         → WasLeft ended.store (image_at S.Start)
-        → IfOk result.again (Reopens before commands tail.now day result.outcomes) }
-    ensures unopened { (before commands : _) → IsEnded before commands ended
+        → IfOk result.again (Reopens own before commands tail.now day result.outcomes) }
+    ensures unopened { (own : Schema) (before commands : _) → IsEnded own before commands ended
         → WasLeft ended.store (image_at S.Start)
-        → IfErr result.again (NextKeepsUnopened before commands result.outcomes) }
+        → IfErr result.again (NextKeepsUnopened own before commands result.outcomes) }
 
     // Where the first process opened its office too, and may have ended in its move.
-    ensures moved { (before commands : _) → IsEndedSomewhere before commands ended
-        → WasLeft ended.store (image_at S.Start)
-        → IfOk result.again (Reopens before commands tail.now day result.outcomes) }
-    ensures unmoved { (before commands : _) → IsEndedSomewhere before commands ended
-        → WasLeft ended.store (image_at S.Start)
-        → IfErr result.again (NextKeepsSomewhere before commands result.outcomes) }
+    ensures moved { (own : Schema) (before commands : _)
+        → IsEndedSomewhere own before commands ended → WasLeft ended.store (image_at S.Start)
+        → IfOk result.again (Reopens own before commands tail.now day result.outcomes) }
+    ensures unmoved { (own : Schema) (before commands : _)
+        → IsEndedSomewhere own before commands ended → WasLeft ended.store (image_at S.Start)
+        → IfErr result.again (NextKeepsSomewhere own before commands result.outcomes) }
 {
     let Ended { outcomes, store } = ended;
     match reopen_file(rt, store, path, start) {

@@ -10,6 +10,7 @@ ghost use Rattle.mx_database.specs.power.Left.{OpensOnceMore};
 ghost use Rattle.mx_office.specs.Office.{IsReady};
 ghost use Rattle.mx_promise.specs.Opened.{FindsKept, KeepsSomewhere, StandsSomewhere};
 ghost use Rattle.mx_promise.specs.Reopened.{IsKeptInFiles};
+ghost use Rattle.sqlite.specs.Schema.{Schema};
 
 use crate::running::Unopened;
 use mx_database::power::reopen_left;
@@ -26,12 +27,12 @@ pub fn open_left<D: Crash + Drop>(
     options: Options,
 ) -> Result<Office<FileStore<D>>, Unopened<D>>
     ensures ready { IfOk result IsReady }
-    ensures headline { (before commands : List Entry) (outcomes : _) (error : _)
-        → IsKeptInFiles StandsSomewhere before commands outcomes error left
-        → OpensOnceMore left → IfOk result (FindsKept before commands outcomes) }
-    ensures unopened { (before commands : List Entry) (outcomes : _) (error : _)
-        → IsKeptInFiles StandsSomewhere before commands outcomes error left
-        → OpensOnceMore left → IfErr result (KeepsSomewhere before commands outcomes) }
+    ensures headline { (own : Schema) (before commands : List Entry) (outcomes : _) (error : _)
+        → IsKeptInFiles (StandsSomewhere own) before commands outcomes error left
+        → OpensOnceMore left → IfOk result (FindsKept own before commands outcomes) }
+    ensures unopened { (own : Schema) (before commands : List Entry) (outcomes : _) (error : _)
+        → IsKeptInFiles (StandsSomewhere own) before commands outcomes error left
+        → OpensOnceMore left → IfErr result (KeepsSomewhere own before commands outcomes) }
 {
     match reopen_left(alloc, left, options) {
         Ok(found) => match open_office(alloc, found) {

@@ -12,11 +12,12 @@ ghost use Rattle.sqlite.specs.Files.{file_state};
 ghost use Rattle.mx_book.specs.commands.Act.{Entry};
 ghost use Rattle.mx_base.specs.declared.point.Point.{Point};
 ghost use Rattle.mx_book_tables.specs.stands.Schemas.{IsOfFile};
-ghost use Rattle.mx_book_tables.specs.stands.Stands.{RestsAt};
 ghost use Rattle.mx_office.specs.Office.{office_state, IsReady};
 ghost use Rattle.mx_promise.specs.Opened.{FindsAgain, IsLeftClean, IsOpenedAndRun};
 ghost use Rattle.mx_promise.specs.Opened.{IsThereClean, KeepsSomewhere, MissesAgain, PrintsAgain};
 ghost use Rattle.mx_promise.specs.Reopened.{GoesOn, IsStopOf, Reopens};
+ghost use Rattle.sqlite.specs.Schema.{Schema};
+ghost use Rattle.mx_promise.specs.Own.{RestsOn};
 
 use crate::running::{Reopened, Stopped, Unopened, print_due, run_and_reopen};
 use mx_base::{Day, Tail};
@@ -98,15 +99,16 @@ pub fn open_run_and_reopen<D: Crash + Drop>(
     requires { conn.in_transaction ≡ false }
 
     // Of a file that stands for a book, at whatever point of the move.
-    ensures headline { (at : Point) (before : List Entry) → RestsAt at (file_state conn) before
-        → IfOk result.again (Reopens before commands.now tail.now day result.outcomes) }
+    ensures headline { (own : Schema) (at : Point) (before : List Entry)
+        → RestsOn own at (file_state conn) before
+        → IfOk result.again (Reopens own before commands.now tail.now day result.outcomes) }
 
     // Where a file can be at the point, memory or the store alone stop an opening, and the file stands for the book still.
-    ensures unopened { (at : Point) (before : List Entry) → IsOfFile at
-        → RestsAt at (file_state conn) before
-        → IfErr result.again (KeepsSomewhere before commands.now result.outcomes) }
-    ensures whole { (at : Point) (before : List Entry) → IsOfFile at
-        → RestsAt at (file_state conn) before
+    ensures unopened { (own : Schema) (at : Point) (before : List Entry) → IsOfFile at
+        → RestsOn own at (file_state conn) before
+        → IfErr result.again (KeepsSomewhere own before commands.now result.outcomes) }
+    ensures whole { (own : Schema) (at : Point) (before : List Entry) → IsOfFile at
+        → RestsOn own at (file_state conn) before
         → IsThereClean result.again
         → (fault : OpenFault) → result.unopened ≡ Some fault → IsStopOf fault }
 

@@ -8,11 +8,12 @@ ghost use Rattle.std.specs.Prelude.{◌≡◌, ◌≢◌, IfOk, IfErr};
 ghost use Rattle.sqlite.specs.State.{HasCleanDisk};
 ghost use Rattle.mx_layout.specs.Crash.{ChangesNothing, Leaves};
 ghost use Rattle.mx_database.specs.power.Found.{Finds};
-ghost use Rattle.mx_migrate.specs.settle.Place.{SaysAt};
 ghost use Rattle.mx_office.specs.Calls.{IsRun};
-ghost use Rattle.mx_office.specs.Layout.{office_point};
-ghost use Rattle.mx_office.specs.Office.{office_state, IsInDoubt, IsReady, StandsFor};
-ghost use Rattle.mx_promise.specs.Reopened.{FindsUnopened, GoesOn, IsPrintOf, KeepsUnopened, Reopens};
+ghost use Rattle.mx_office.specs.Office.{office_state, IsInDoubt, IsReady};
+ghost use Rattle.mx_promise.specs.Reopened.{FindsUnopened, GoesOn, IsPrintOf, KeepsUnopened, Reopens, SaysHere};
+ghost use Rattle.sqlite.specs.Schema.{Schema};
+ghost use Rattle.mx_apply.specs.writing.Written.{IsSettled};
+ghost use Rattle.mx_office.specs.Stands.{RestsIn};
 
 use mx_base::{Day, Tail};
 use mx_book::commands::Command;
@@ -61,8 +62,8 @@ pub(crate) fn print_due<S: Alter>(
     ensures goes_on { IsReady office.old → result ≢ Err (Ask.Failed Fault.Store)
         → IsReady office.new }
     ensures stopped { result ≡ Err (Ask.Failed Fault.Store) → IsInDoubt office.new }
-    ensures printed { (book : _) → IsReady office.old → StandsFor office.old book
-        → HasCleanDisk (office_state office.new) → IsPrintOf book tail.now day result }
+    ensures printed { (own : Schema) → IsSettled own → (book : _) → IsReady office.old
+        → RestsIn own (office_state office.old) book → HasCleanDisk (office_state office.new) → IsPrintOf book tail.now day result }
 {
     let list = office.due_rows(alloc, *tail, day)?;
     let mut text = Vec::new(alloc);
@@ -82,10 +83,10 @@ pub fn reopen_office<D: Crash + Drop>(
     ensures clean { IfOk result (λ again.
         HasCleanDisk (office_state again) → HasCleanDisk (office_state office)) }
 
-    // Of a file at the point of the office, whatever rows it has.
-    ensures found { Leaves (office_state office) (SaysAt office_point)
+    // Of a file at the point of the office, whatever rows it has, and whatever tables beside its own.
+    ensures found { Leaves (office_state office) SaysHere
         → IfOk result (λ again. Finds (office_state office).may_leave (office_state again)) }
-    ensures unopened { Leaves (office_state office) (SaysAt office_point)
+    ensures unopened { Leaves (office_state office) SaysHere
         → IfErr result (FindsUnopened (office_state office)) }
 {
     match reopen(alloc, office.close(), options) {
@@ -107,10 +108,12 @@ pub fn run_and_reopen<D: Crash + Drop>(
     day: Day,
     options: Options,
 ) -> Stopped<FileStore<D>, D>
-    ensures headline { (before : _) → StandsFor office before
-        → IfOk result.again (Reopens before commands.now tail.now day result.outcomes) }
-    ensures unopened { (before : _) → StandsFor office before
-        → IfErr result.again (KeepsUnopened before commands.now result.outcomes) }
+    ensures headline { (own : Schema) → IsSettled own → (before : _)
+        → RestsIn own (office_state office) before
+        → IfOk result.again (Reopens own before commands.now tail.now day result.outcomes) }
+    ensures unopened { (own : Schema) → IsSettled own → (before : _)
+        → RestsIn own (office_state office) before
+        → IfErr result.again (KeepsUnopened own before commands.now result.outcomes) }
 
     // What the commands were answered, whatever is found behind that.
     ensures ran { (after : _) × IsRun commands.now result.outcomes.replies.items

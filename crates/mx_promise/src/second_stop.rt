@@ -5,12 +5,15 @@ ghost use Rattle.sqlite.specs.Files.{file_state};
 ghost use Rattle.mx_book.specs.commands.Act.{Entry};
 ghost use Rattle.mx_base.specs.declared.point.Point.{Point};
 ghost use Rattle.mx_book_tables.specs.stands.Schemas.{IsOfFile};
-ghost use Rattle.mx_book_tables.specs.stands.Stands.{RestsAt};
 ghost use Rattle.mx_office.specs.Calls.{IsRun};
-ghost use Rattle.mx_office.specs.Office.{StandsFor};
+ghost use Rattle.mx_office.specs.Office.{office_state};
 ghost use Rattle.mx_promise.specs.Opened.{IsHandedClean, IsLeftStanding, IsOpenedAndRun, KeepsSomewhere};
 ghost use Rattle.mx_promise.specs.Opened.{RestsSomewhere};
 ghost use Rattle.mx_promise.specs.Reopened.{KeepsUnopened, ReopensTwice};
+ghost use Rattle.sqlite.specs.Schema.{Schema};
+ghost use Rattle.mx_apply.specs.writing.Written.{IsSettled};
+ghost use Rattle.mx_office.specs.Stands.{RestsIn};
+ghost use Rattle.mx_promise.specs.Own.{RestsOn};
 
 use crate::opening::{Opened, open_run_and_reopen};
 use crate::running::{Reopened, Stopped, Unopened, run_and_reopen};
@@ -40,11 +43,13 @@ pub fn run_and_reopen_twice<D: Crash + Drop>(
     day: Day,
     options: Options,
 ) -> StoppedTwice<FileStore<D>, D>
-    ensures headline { (before : _) → StandsFor office before → IfOk result.second (λ second.
-        IfOk second.again (ReopensTwice before commands.now more.now tail.now day result.first
+    ensures headline { (own : Schema) → IsSettled own → (before : _)
+        → RestsIn own (office_state office) before → IfOk result.second (λ second.
+        IfOk second.again (ReopensTwice own before commands.now more.now tail.now day result.first
         second.outcomes)) }
-    ensures unopened { (before : _) → StandsFor office before
-        → IfErr result.second (KeepsUnopened before commands.now result.first) }
+    ensures unopened { (own : Schema) → IsSettled own → (before : _)
+        → RestsIn own (office_state office) before
+        → IfErr result.second (KeepsUnopened own before commands.now result.first) }
     ensures ran { (after : _) × IsRun commands.now result.first.replies.items
         result.first.stopped office after }
     ensures done { IfOk result.second (λ second. second.outcomes.stopped ≡ None
@@ -88,12 +93,12 @@ fn connection_behind<D: Crash + Drop>(
 ) -> Result<Connection<FileStore<D>>, Unopened<D>>
     ensures idle { IfOk result (λ conn. conn.in_transaction ≡ false) }
     ensures clean { IfOk result (λ conn. HasCleanDisk (file_state conn) → IsHandedClean again) }
-    ensures stands { (book : List Entry) → IsLeftStanding book again
+    ensures stands { (own : Schema) (book : List Entry) → IsLeftStanding own book again
         → IfOk result (λ conn. HasCleanDisk (file_state conn)
-        → ∥ RestsSomewhere book (file_state conn) ∥₁) }
-    ensures unopened { (before commands : List Entry) (outcomes : _)
-        → IfErr again (KeepsSomewhere before commands outcomes)
-        → IfErr result (KeepsSomewhere before commands outcomes) }
+        → ∥ RestsSomewhere own book (file_state conn) ∥₁) }
+    ensures unopened { (own : Schema) (before commands : List Entry) (outcomes : _)
+        → IfErr again (KeepsSomewhere own before commands outcomes)
+        → IfErr result (KeepsSomewhere own before commands outcomes) }
 {
     match again {
         Ok(Reopened { office, printed: _ }) => Ok(office.close()),
@@ -117,13 +122,13 @@ pub fn open_run_and_reopen_twice<D: Crash + Drop>(
     options: Options,
 ) -> OpenedTwice<FileStore<D>, D>
     requires { conn.in_transaction ≡ false }
-    ensures headline { (at : Point) (before : List Entry) → IsOfFile at
-        → RestsAt at (file_state conn) before → IfOk result.second (λ second.
-        IfOk second.again (ReopensTwice before commands.now more.now tail.now day result.first
+    ensures headline { (own : Schema) (at : Point) (before : List Entry) → IsOfFile at
+        → RestsOn own at (file_state conn) before → IfOk result.second (λ second.
+        IfOk second.again (ReopensTwice own before commands.now more.now tail.now day result.first
         second.outcomes)) }
-    ensures unopened { (at : Point) (before : List Entry) → IsOfFile at
-        → RestsAt at (file_state conn) before
-        → IfErr result.second (KeepsSomewhere before commands.now result.first) }
+    ensures unopened { (own : Schema) (at : Point) (before : List Entry) → IsOfFile at
+        → RestsOn own at (file_state conn) before
+        → IfErr result.second (KeepsSomewhere own before commands.now result.first) }
     ensures ran { result.unopened ≡ None → IsOpenedAndRun commands.now result.first conn }
     ensures unrun { result.unopened ≢ None → (result.first.replies.items ≡ [])
         × (result.first.stopped ≡ None) }

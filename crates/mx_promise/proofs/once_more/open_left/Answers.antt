@@ -9,17 +9,17 @@ use Rattle.mx_promise.proofs.OpenedLemmas.{kept_behind, kept_unopened, opened_ag
 use Rattle.mx_promise.proofs.once_more.open_left.Goals as goal
 
 pub returns-in-Ok-open_office-clause-headline : goal.returns-in-Ok-open_office-clause-headline
-returns-in-Ok-open_office-clause-headline g c before commands outcomes error kept opens clean =
+returns-in-Ok-open_office-clause-headline g c own before commands outcomes error kept opens clean =
     let was = kept.was in
     let holds : HoldsWhatIsLeftOf was c.args.left = holds_once_more (file_state was).may_leave c.args.left kept.still.stands opens in
     let again = c.in-Ok-open_office.again in
     let opened = c.in-Ok-open_office.ensures in
     let early : HasCleanDisk (file_state c.in-Ok.found) = omega (arith, opened.moves.clean) in
     ∥∥₁_map (c.in-Ok.ensures.found was holds early) (λ it.
-    kept_behind before commands outcomes was kept.books again (opened_again (file_state was) over_files c.in-Ok.found (office_state again) clean it early opened.moves opened.changes))
+    kept_behind own before commands outcomes was kept.books again (opened_again (file_state was) over_files c.in-Ok.found (office_state again) clean it early opened.moves opened.changes))
 
 pub returns-in-Err-open_office-clause-unopened : goal.returns-in-Err-open_office-clause-unopened
-returns-in-Err-open_office-clause-unopened g c before commands outcomes error kept opens clean =
+returns-in-Err-open_office-clause-unopened g c own before commands outcomes error kept opens clean =
     let was = kept.was in
     let holds : HoldsWhatIsLeftOf was c.args.left = holds_once_more (file_state was).may_leave c.args.left kept.still.stands opens in
     let now = file_state c.in-Err-open_office.left in
@@ -27,10 +27,10 @@ returns-in-Err-open_office-clause-unopened g c before commands outcomes error ke
     let failed = c.in-Err-open_office.ensures in
     let early : HasCleanDisk (file_state c.in-Ok.found) = omega (arith, failed.moves.clean) in
     ∥∥₁_map (c.in-Ok.ensures.found was holds early) (λ it.
-    kept_unopened before commands outcomes was kept.books fault now (unopened_again (file_state was) over_files c.in-Ok.found now clean it fault kept.clean failed.moves (failed.reason clean)))
+    kept_unopened own before commands outcomes was kept.books fault now (unopened_again (file_state was) over_files c.in-Ok.found now clean it fault kept.clean failed.changes failed.moves (failed.reason clean)))
 
 pub returns-in-Err-clause-unopened : goal.returns-in-Err-clause-unopened
-returns-in-Err-clause-unopened g c before commands outcomes error kept opens faithful =
+returns-in-Err-clause-unopened g c own before commands outcomes error kept opens faithful =
     let was = kept.was in
     let holds : HoldsWhatIsLeftOf was c.args.left = holds_once_more (file_state was).may_leave c.args.left kept.still.stands opens in
     ∣ record {

@@ -25,7 +25,7 @@ returns-in-Err-open_office-clause-unopened g c clean =
     let now = file_state c.in-Err-open_office.left in
     let failed = c.in-Err-open_office.ensures in
     let early : HasCleanDisk (file_state c.in-Ok.found) = omega (arith, failed.moves.clean) in
-    ∥∥₁_map (c.in-Ok.ensures.found early) (λ it. unopened_again was over_files c.in-Ok.found now clean it c.in-Err-open_office.fault (c.in-Ok.ensures.clean early) failed.moves (failed.reason clean))
+    ∥∥₁_map (c.in-Ok.ensures.found early) (λ it. unopened_again was over_files c.in-Ok.found now clean it c.in-Err-open_office.fault (c.in-Ok.ensures.clean early) failed.changes failed.moves (failed.reason clean))
 
 pub returns-in-Err-open_office-clause-sure : goal.returns-in-Err-open_office-clause-sure
 returns-in-Err-open_office-clause-sure g c clean =

@@ -1,5 +1,8 @@
 use Rattle.std.proofs.Common.{arith, refl, subst, ◌≡◌, [], None}
-use Rattle.sqlite.specs.Files.{file_state}
+use Rattle.sqlite.specs.Files.{file_state, over_files}
+use Rattle.sqlite.specs.State.{HasCleanDisk}
+use Rattle.mx_office.specs.Office.{office_state}
+use Rattle.mx_promise.proofs.OwnLemmas.{kept_on, settled_of, whole_on}
 use Rattle.mx_office.specs.declared.fault.Outcomes.{Outcomes}
 use Rattle.mx_promise.specs.Reopened.{IsStopOf}
 use Rattle.mx_promise.proofs.OpenedLemmas.{if_opened_then, keeps_somewhere, keeps_unrun, reopens_unrun, seen_clean}
@@ -8,15 +11,18 @@ use Rattle.mx_promise.proofs.opening.open_run_and_reopen.Goals as goal
 -- ── an office was opened and run ──
 
 pub returns-in-Ok-clause-headline : goal.returns-in-Ok-clause-headline
-returns-in-Ok-clause-headline g c at before rests = c.run_and_reopen-outcomes.ensures.headline before (c.in-Ok.ensures.moves.kept at before rests refl)
+returns-in-Ok-clause-headline g c own at before rests =
+    c.run_and_reopen-outcomes.ensures.headline own (settled_of own at rests.schema rests.is) before (kept_on over_files c.args.conn (office_state c.in-Ok.office) own at before rests c.in-Ok.ensures.changes None c.in-Ok.ensures.moves refl)
 
 pub returns-in-Ok-clause-unopened : goal.returns-in-Ok-clause-unopened
-returns-in-Ok-clause-unopened g c at before file rests =
+returns-in-Ok-clause-unopened g c own at before file rests =
     let ran = c.run_and_reopen-outcomes in
-    keeps_somewhere before c.args.commands.now ran.result.outcomes ran.result.again (ran.ensures.unopened before (c.in-Ok.ensures.moves.kept at before rests refl))
+    let settled = settled_of own at rests.schema rests.is in
+    keeps_somewhere own settled before c.args.commands.now ran.result.outcomes ran.result.again
+    (ran.ensures.unopened own settled before (kept_on over_files c.args.conn (office_state c.in-Ok.office) own at before rests c.in-Ok.ensures.changes None c.in-Ok.ensures.moves refl))
 
 pub returns-in-Ok-clause-whole : goal.returns-in-Ok-clause-whole
-returns-in-Ok-clause-whole g c at before file rests there fault is = absurd cc
+returns-in-Ok-clause-whole g c own at before file rests there fault is = absurd cc
 
 pub returns-in-Ok-clause-ran : goal.returns-in-Ok-clause-ran
 returns-in-Ok-clause-ran g c _ =
@@ -38,27 +44,26 @@ returns-in-Ok-clause-clean g c = if_opened_then c.run_and_reopen-outcomes.result
 -- ── none was ──
 
 pub returns-in-Err-clause-headline : goal.returns-in-Err-clause-headline
-returns-in-Err-clause-headline g c at before rests =
-    let old = file_state c.args.conn in
+returns-in-Err-clause-headline g c own at before rests =
     let end = file_state c.in-Err.left in
     let again = c.reopen_and_print-again in
     let none : c.new.result.items ≡ [] = cc in
     let outcomes : Outcomes = record { replies = c.new.result; stopped = None } in
-    reopens_unrun before c.args.commands.now outcomes none refl at old end c.in-Err.fault rests c.in-Err.ensures.moves c.args.tail.now c.args.day again.result again.ensures.clean again.ensures.printed
+    reopens_unrun before c.args.commands.now outcomes none refl over_files own at c.args.conn end c.in-Err.fault rests c.in-Err.ensures.changes c.in-Err.ensures.moves c.args.tail.now c.args.day again.result again.ensures.clean again.ensures.printed
 
 pub returns-in-Err-clause-unopened : goal.returns-in-Err-clause-unopened
-returns-in-Err-clause-unopened g c at before file rests =
-    let old = file_state c.args.conn in
+returns-in-Err-clause-unopened g c own at before file rests =
     let again = c.reopen_and_print-again in
     let none : c.new.result.items ≡ [] = cc in
     let outcomes : Outcomes = record { replies = c.new.result; stopped = None } in
-    keeps_unrun before c.args.commands.now outcomes none refl at old c.in-Err.left c.in-Err.fault rests c.in-Err.ensures.moves file again.result again.ensures.unopened
+    keeps_unrun before c.args.commands.now outcomes none refl own at c.args.conn c.in-Err.left c.in-Err.fault rests c.in-Err.ensures.changes c.in-Err.ensures.moves file again.result again.ensures.unopened
 
 pub returns-in-Err-clause-whole : goal.returns-in-Err-clause-whole
-returns-in-Err-clause-whole g c at before file rests there fault is =
+returns-in-Err-clause-whole g c own at before file rests there fault is =
     let again = c.reopen_and_print-again in
     let clean = seen_clean (file_state c.in-Err.left) again.result again.ensures.clean again.ensures.sure there in
-    let stop = (c.in-Err.ensures.reason clean).whole at before file rests in
+    let early : HasCleanDisk (file_state c.args.conn) = omega (arith, c.in-Err.ensures.moves.clean) in
+    let stop = whole_on (file_state c.args.conn) own at before c.in-Err.fault early (c.in-Err.ensures.reason clean) file rests in
     let same : c.in-Err.fault ≡ fault = cc in
     subst IsStopOf same stop
 

@@ -2,7 +2,7 @@ use Rattle.std.proofs.Common.{arith}
 use Rattle.std.proofs.Math.Logic.{∥∥₁_map}
 use Rattle.sqlite.specs.State.{HasCleanDisk}
 use Rattle.mx_office.specs.Office.{office_state}
-use Rattle.mx_office.proofs.OfficeLemmas.{rests_still}
+use Rattle.mx_promise.proofs.OwnLemmas.{rests_still, settled_of}
 use Rattle.mx_promise.proofs.opening.reopen_and_print.Goals as goal
 
 pub returns-in-Ok-clause-goes_on : goal.returns-in-Ok-clause-goes_on
@@ -24,6 +24,6 @@ returns-in-Ok-clause-printed g c clean =
     ∥∥₁_map (c.in-Ok.ensures.found early) (λ it. record {
       tables = it.tables;
       left = it.left;
-      books = λ at book stands. rests_still mid now book nothing (it.books at book stands);
-      printed = λ at book stands. c.print_due-printed.ensures.printed book ready (it.books at book stands) clean;
+      books = λ own at book stands. rests_still own mid now book nothing (it.books own at book stands);
+      printed = λ own at book stands. c.print_due-printed.ensures.printed own (settled_of own at stands.schema stands.is) book ready (it.books own at book stands) clean;
     })

@@ -5,10 +5,10 @@ use Rattle.sqlite.specs.Files.{file_state}
 use Rattle.mx_layout.specs.Crash.{Leaves}
 use Rattle.mx_database.specs.power.Found.{IsFound}
 use Rattle.mx_database.proofs.PowerProofs.FoundLemmas.{found_kept}
-use Rattle.mx_migrate.specs.settle.Place.{SaysAt}
 use Rattle.mx_office.specs.Layout.{office_point}
-use Rattle.mx_promise.specs.Reopened.{IsUnopened}
+use Rattle.mx_promise.specs.Reopened.{IsUnopened, SaysHere}
 use Rattle.mx_promise.proofs.KeptLemmas.{nothing_found, rests_as}
+use Rattle.mx_promise.proofs.OwnLemmas.{rests_here, whole_on}
 use Rattle.mx_promise.specs.Reopened.{MissesFiles}
 use Rattle.mx_promise.proofs.running.reopen_office.Goals as goal
 
@@ -25,7 +25,7 @@ returns-in-Ok-open_office-clause-found g c says clean =
     let now = file_state c.in-Ok-open_office.again.conn in
     let early : HasCleanDisk mid = omega (arith, c.in-Ok-open_office.ensures.moves.clean) in
     let sure : HasCleanDisk was = c.in-Ok.ensures.clean early in
-    let here = subst (λ h. Leaves (file_state h) (SaysAt office_point)) (sym c.close.ensures) says in
+    let here = subst (λ h. Leaves (file_state h) SaysHere) (sym c.close.ensures) says in
     subst (λ h. ∥ IsFound (file_state h).may_leave now ∥₁) c.close.ensures (∥∥₁_map (c.in-Ok.ensures.found early)
     (λ found. found_kept was.may_leave mid now (nothing_found was.may_leave _ c.in-Ok.conn now early clean found (here sure found.tables found.left) c.in-Ok-open_office.ensures.changes) found))
 
@@ -38,12 +38,12 @@ returns-in-Err-open_office-clause-unopened g c says clean =
     let now = file_state c.in-Err-open_office.conn in
     let early : HasCleanDisk mid = omega (arith, c.in-Err-open_office.ensures.moves.clean) in
     let sure : HasCleanDisk was = c.in-Ok.ensures.clean early in
-    let here = subst (λ h. Leaves (file_state h) (SaysAt office_point)) (sym c.close.ensures) says in
+    let here = subst (λ h. Leaves (file_state h) SaysHere) (sym c.close.ensures) says in
     subst (λ h. ∥ IsUnopened (file_state h) fault now ∥₁) c.close.ensures (∥∥₁_map (c.in-Ok.ensures.found early)
     (λ found. record {
       clean = sure;
       found = found_kept was.may_leave mid now (nothing_found was.may_leave _ c.in-Ok.conn now early clean found (here sure found.tables found.left) c.in-Err-open_office.ensures.changes) found;
-      reason = λ book stands. (c.in-Err-open_office.ensures.reason clean).whole office_point book (inr refl) (rests_as was.may_leave mid book found stands);
+      reason = λ own settled book stands. whole_on mid own office_point book fault early (c.in-Err-open_office.ensures.reason clean) (inr refl) (rests_here own settled mid book (rests_as own was.may_leave mid book found stands));
     }))
 
 pub returns-in-Err-clause-unopened : goal.returns-in-Err-clause-unopened

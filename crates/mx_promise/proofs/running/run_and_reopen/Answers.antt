@@ -2,10 +2,8 @@ use Rattle.std.proofs.Common.{arith}
 use Rattle.std.proofs.Math.Logic.{∥∥₁_map}
 use Rattle.sqlite.specs.State.{HasCleanDisk}
 use Rattle.mx_office.specs.Office.{office_state}
-use Rattle.mx_office.proofs.OfficeLemmas.{rests_still}
-use Rattle.mx_office.specs.Layout.{office_schema}
-use Rattle.mx_office.proofs.StandsLemmas.{own_settled}
 use Rattle.mx_promise.proofs.KeptLemmas.{rests_as}
+use Rattle.mx_promise.proofs.OwnLemmas.{rests_still}
 use Rattle.mx_promise.proofs.ReopenedLemmas.{is_kept_in, keeps_unopened, run_says}
 use Rattle.mx_promise.proofs.running.run_and_reopen.Goals as goal
 
@@ -20,7 +18,7 @@ pub returns-in-Ok-clause-goes_on : goal.returns-in-Ok-clause-goes_on
 returns-in-Ok-clause-goes_on g c = record { ready = c.print_due-printed.ensures.goes_on c.in-Ok.ensures.ready; stopped = c.print_due-printed.ensures.stopped }
 
 pub returns-in-Ok-clause-headline : goal.returns-in-Ok-clause-headline
-returns-in-Ok-clause-headline g c before rests clean =
+returns-in-Ok-clause-headline g c own settled before rests clean =
     let ran = c.run-outcomes.ensures in
     let outcomes = c.run-outcomes.result in
     let commands = c.args.commands.now in
@@ -31,22 +29,22 @@ returns-in-Ok-clause-headline g c before rests clean =
     let nothing = c.print_due-printed.ensures.untouched ready in
     let early : HasCleanDisk mid = omega (arith, nothing.survives.clean) in
     let sure : HasCleanDisk end = c.in-Ok.ensures.clean early in
-    ∥∥₁_map (c.in-Ok.ensures.found (run_says before commands outcomes end (ran.over_book office_schema own_settled before rests)) early) (λ found.
-    let it = is_kept_in before commands outcomes end sure (ran.over_book office_schema own_settled before rests) found.tables found.left in
-    let rests' = rests_as end.may_leave mid it.book found it.stands in
+    ∥∥₁_map (c.in-Ok.ensures.found (run_says own settled before commands outcomes end (ran.over_book own settled before rests)) early) (λ found.
+    let it = is_kept_in own before commands outcomes end sure (ran.over_book own settled before rests) found.tables found.left in
+    let rests' = rests_as own end.may_leave mid it.book found it.stands in
     record {
       book = it.book;
       kept = it.kept;
-      tables = rests_still mid now it.book nothing rests';
-      printed = c.print_due-printed.ensures.printed it.book ready rests' clean;
+      tables = rests_still own mid now it.book nothing rests';
+      printed = c.print_due-printed.ensures.printed own settled it.book ready rests' clean;
     })
 
 pub returns-in-Err-clause-unopened : goal.returns-in-Err-clause-unopened
-returns-in-Err-clause-unopened g c before rests =
+returns-in-Err-clause-unopened g c own settled before rests =
     let ran = c.run-outcomes.ensures in
     let end = c.run-outcomes.new.self in
-    let run = ran.over_book office_schema own_settled before rests in
-    keeps_unopened before c.args.commands.now c.run-outcomes.result end.conn run c.in-Err.why (c.in-Err.ensures.unopened (run_says before c.args.commands.now c.run-outcomes.result (office_state end) run))
+    let run = ran.over_book own settled before rests in
+    keeps_unopened own settled before c.args.commands.now c.run-outcomes.result end.conn run c.in-Err.why (c.in-Err.ensures.unopened (run_says own settled before c.args.commands.now c.run-outcomes.result (office_state end) run))
 
 pub returns-in-Ok-clause-ran : goal.returns-in-Ok-clause-ran
 returns-in-Ok-clause-ran g c = (c.run-outcomes.new.self, c.run-outcomes.ensures)
