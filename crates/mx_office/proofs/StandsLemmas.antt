@@ -13,10 +13,11 @@ use Rattle.mx_layout.specs.declared.fault.Table.TheVariants as table
 use Rattle.mx_layout.specs.Making.{IsEmptyIn}
 use Rattle.mx_layout.specs.Point.{point_cells, HoldsPoint}
 use Rattle.mx_layout.specs.Steps.{IsLayout}
-use Rattle.mx_layout.specs.Tables.{office}
+use Rattle.mx_layout.specs.Tables.{office, HasOffice}
 use Rattle.mx_book_tables.proofs.StandsProofs.EmptyLemmas.{empty_stands as new_tables_stand}
 use Rattle.mx_book_tables.proofs.StandsProofs.RowLemmas.{one_book}
 use Rattle.mx_lookups.specs.numbers.Reads.{HasTablesOfRows, StandsFor}
+use Rattle.mx_lookups.proofs.NumbersProofs.TableLemmas.{tables_at}
 use Rattle.mx_apply.specs.writing.Written.{IsSettled}
 use Rattle.mx_apply.proofs.WritingProofs.ThereLemmas.{settled_at}
 use Rattle.mx_office.specs.Layout.{office_point, office_schema}
@@ -51,6 +52,10 @@ rests_point s book rests clean is_open = ((_, ap (λ (schema : Schema). schema.t
 -- look-ups find the rows of the book, in whatever schema, where the connection is open
 pub rests_found : (schema : Schema) → IsSettled schema → (s : State) (book : List Entry) → RestsIn schema s book → HasCleanDisk s → IsTrue s.is_open → StandsFor s book
 rests_found schema settled s book rests clean is_open = record { schema = subst HasTablesOfRows (sym (rests.schema clean is_open)) settled.tables; rows = (rests.tables clean is_open).rows }
+
+-- `office` is its first table
+pub office_first : (schema : Schema) → IsSettled schema → HasOffice schema
+office_first schema settled = (_, ap (λ (s : Schema). s.tables) (tables_at schema settled.tables).is)
 
 -- the schema of the program is one
 pub own_settled : IsSettled office_schema

@@ -24,7 +24,7 @@ use Rattle.mx_office.specs.declared.fault.Outcomes.{Outcomes}
 use Rattle.mx_office.specs.Layout.{office_point}
 use Rattle.mx_office.specs.Opening.{ChangesOnWay}
 use Rattle.mx_office.proofs.MoveLemmas.{nothing_changes}
-use Rattle.mx_promise.proofs.OwnLemmas.{office_first}
+use Rattle.mx_office.proofs.StandsLemmas.{office_first}
 use Rattle.mx_layout.specs.Contents.{rows_in}
 use Rattle.mx_layout.specs.Point.{point_cells}
 use Rattle.mx_layout.specs.Tables.{office, HasOffice}

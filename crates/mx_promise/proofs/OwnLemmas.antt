@@ -1,5 +1,5 @@
 -- Files with tables beside those of the program, at the point of the office; and what an opening makes of a file at any point.
-use Rattle.std.proofs.Common.{◌≡◌, ◌≢◌, ◌⊎◌, ◌∙◌, inl, inr, true, false, ℕ, List, [], ◌∷◌, Option, Some, None, IsTrue, refl, sym, ap, subst, arith}
+use Rattle.std.proofs.Common.{◌≡◌, ◌≢◌, ◌⊎◌, ◌∙◌, inl, inr, true, false, ℕ, List, [], ◌∷◌, Option, Some, None, IsTrue, refl, sym, subst, arith}
 use Rattle.sqlite.proofs.Callers.{one_permutation}
 use Rattle.sqlite.specs.Held.{Held, state}
 use Rattle.sqlite.specs.Schema.{Schema}
@@ -18,7 +18,6 @@ use Rattle.mx_layout.specs.Tables.{HasOffice, office}
 use Rattle.mx_layout.proofs.CrashLemmas.{rests_kept}
 use Rattle.mx_book_tables.specs.stands.Schemas.{IsOfFile, schema_at}
 use Rattle.mx_book_tables.specs.stands.Stands.{RestsAt, RestsInSchema, StandsInSchema}
-use Rattle.mx_lookups.proofs.NumbersProofs.TableLemmas.{tables_at}
 use Rattle.mx_apply.specs.writing.Written.{IsSettled}
 use Rattle.mx_faults.specs.declared.fault.OpenFault.{OpenFault}
 use Rattle.mx_faults.specs.declared.fault.OpenFault.TheVariants as opening
@@ -27,7 +26,7 @@ use Rattle.mx_office.specs.Layout.{office_point, office_schema}
 use Rattle.mx_office.specs.Opening.{ChangesOnWay, HasReason, MovesOn}
 use Rattle.mx_office.specs.Stands.{RestsIn}
 use Rattle.mx_office.proofs.MoveLemmas.{nothing_changes}
-use Rattle.mx_office.proofs.StandsLemmas.{own_settled}
+use Rattle.mx_office.proofs.StandsLemmas.{office_first, own_settled}
 use Rattle.mx_promise.specs.Moved.{StandsMoving}
 use Rattle.mx_promise.specs.Reopened.{SaysHere}
 use Rattle.mx_promise.specs.Own.{IsSchemaOf, RestsOn, StandsHere, StandsOn}
@@ -53,10 +52,6 @@ rests_there own s book rests = subst (λ schema. RestsInSchema schema office_poi
 
 pub rests_here : (own : Schema) → IsSettled own → (s : State) (book : List Entry) → RestsIn own s book → RestsOn own office_point s book
 rests_here own settled s book rests = record { schema = own; is = inr (settled, refl, refl); tables = rests }
-
--- `office` is the first table
-pub office_first : (schema : Schema) → IsSettled schema → HasOffice schema
-office_first schema settled = (_, ap (λ (s : Schema). s.tables) (tables_at schema settled.tables).is)
 
 -- its row says the point
 says_point : (own : Schema) (trees : Trees) (book : List Entry) → StandsHere own book trees → rows_in office trees ≡ point_cells office_point ∷ []

@@ -4,8 +4,9 @@
 //!
 //! # What is promised
 //!
-//! - The headline, for a file at any point of the move to the newest layout: `open_run_and_reopen`: `headline`. Its
-//!   other clauses, and the other calls that lose the power and open again, are told one by one in `docs/PROMISES.md`.
+//! - The headline, for a file at any point of the move to the newest layout, and there whatever tables and indexes it
+//!   has beside those of the program, which it keeps (`RestsOn`): `open_run_and_reopen`: `headline`. Its other clauses,
+//!   and the other calls that lose the power and open again, are told one by one in `docs/PROMISES.md`.
 #![tactic(auto)]
 
 pub mod creating;
