@@ -10,3 +10,4 @@ pub mod Composed
 pub mod WorkedNumbers
 pub mod WorkedTold
 pub mod WorkedToldDefects
+pub mod WorkedUntold

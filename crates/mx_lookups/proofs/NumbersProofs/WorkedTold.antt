@@ -71,7 +71,7 @@ abbrev pub entry_row : ℕ → List ℕ → Row
 entry_row n doc = Int (pos n) ∷ Text doc ∷ Null ∷ []
 
 -- a span without its position: its entry, its component, its aircraft, and the entry and the moment that ended it
-abbrev span : ℕ → ℕ → ℕ → Value → Value → Row
+abbrev pub span : ℕ → ℕ → ℕ → Value → Value → Row
 span n component aircraft ended to = Int (pos n) ∷ Int (pos component) ∷ Int (pos aircraft) ∷ Null ∷ Int (pos 28445760) ∷ ended ∷ to ∷ []
 
 -- E1 was fitted to D-ABCD and removed, E2 is fitted to D-EFGH, and E1 to D-ABCD again
