@@ -2,14 +2,13 @@
 use Rattle.std.proofs.Common.{refl, ◌≡◌, ℕ, List, [], ◌∷◌, map, pos, true, false, Ok, Err}
 use Rattle.std.specs.Prelude.{codes}
 use Rattle.sqlite.specs.declared.types.Value.TheVariants.{Int}
-use Rattle.mx_base.specs.Settled.{settled}
+use Rattle.mx_base.specs.declared.point.Point.{Point}
 use Rattle.mx_base.specs.rows.Rows.{kind_number}
 use Rattle.mx_base.specs.declared.rows.rows.EntryKind.{EntryKind}
 use Rattle.mx_base.specs.declared.rows.rows.EntryKind.TheVariants.{AddAircraft, AddComponent, LoadProgramme, Opening, Sector, Fit, Remove, Release, Defer, Extend}
-use Rattle.mx_registers.specs.points.Points.{moving}
 use Rattle.mx_layout.specs.Names.{table_name}
 use Rattle.mx_layout.specs.Point.{point_cells}
-use Rattle.mx_layout.specs.declared.fault.Table.TheVariants.{Base2, Office}
+use Rattle.mx_layout.specs.declared.fault.Table.TheVariants.{Entry, Office}
 use Rattle.mx_layout.specs.declared.fault.TableFault.TheVariants.{Damaged, Exists, Memory, NotOurs, Store}
 use Rattle.mx_book_tables.specs.reading.Damage.{table_of}
 use Rattle.mx_book_tables.specs.reading.Layout.{verified_point}
@@ -32,12 +31,15 @@ tables_of_kinds = refl
 verified_row : point_cells verified_point ≡ Int (pos 1) ∷ Int (pos 2) ∷ Int (pos 0) ∷ Int (pos 0) ∷ []
 verified_row = refl
 
+-- a point by its layout, its step and its mark
+abbrev point : ℕ → ℕ → ℕ → Point
+point layout step mark = record { layout = layout; step = step; mark = mark }
+
 -- each part counts: another layout, a step of a move, a mark
-points : map is_verified_point (settled 2 ∷ settled 1 ∷ settled 3 ∷ moving 1 0 ∷ record { layout = 2; step = 1; mark = 0 } ∷ record { layout = 2; step = 0; mark = 7 } ∷ [])
-    ≡ true ∷ false ∷ false ∷ false ∷ false ∷ false ∷ []
+points : map is_verified_point (point 2 0 0 ∷ point 1 0 0 ∷ point 3 0 0 ∷ point 1 1 0 ∷ point 2 1 0 ∷ point 2 0 7 ∷ []) ≡ true ∷ false ∷ false ∷ false ∷ false ∷ false ∷ []
 points = refl
 
 -- where `office` has not exactly one row the file is at no point, and any other fault is told
-told : map told_point (Ok (settled 2) ∷ Ok (settled 1) ∷ Err NotOurs ∷ Err Memory ∷ Err Store ∷ Err Exists ∷ Err (Damaged Office) ∷ Err (Damaged Base2) ∷ [])
-    ≡ Ok true ∷ Ok false ∷ Ok false ∷ Err Memory ∷ Err Store ∷ Err Exists ∷ Err (Damaged Office) ∷ Err (Damaged Base2) ∷ []
+told : map told_point (Ok (point 2 0 0) ∷ Ok (point 1 0 0) ∷ Err NotOurs ∷ Err Memory ∷ Err Store ∷ Err Exists ∷ Err (Damaged Office) ∷ Err (Damaged Entry) ∷ [])
+    ≡ Ok true ∷ Ok false ∷ Ok false ∷ Err Memory ∷ Err Store ∷ Err Exists ∷ Err (Damaged Office) ∷ Err (Damaged Entry) ∷ []
 told = refl
