@@ -3,3 +3,4 @@ pub mod CellLemmas
 pub mod EnterLemmas
 pub mod StandLemmas
 pub mod ThereLemmas
+pub mod WorkedWritten

@@ -3,3 +3,4 @@ pub mod PointLemmas
 pub mod ReadLemmas
 pub mod RegisterLemmas
 pub mod StoredLemmas
+pub mod WorkedReading

@@ -8,4 +8,6 @@ pub mod OrderLemmas
 pub mod SchemaLemmas
 pub mod ValueLemmas
 pub mod WorkedCells
+pub mod WorkedFamily
+pub mod WorkedTables
 pub mod WorkedTexts

@@ -7,3 +7,7 @@ pub mod SectorRows
 pub mod AnyLemmas
 pub mod ToldLemmas
 pub mod Composed
+pub mod WorkedNumbers
+pub mod WorkedTold
+pub mod WorkedToldDefects
+pub mod WorkedUntold

@@ -1,2 +1,3 @@
 pub mod TellLemmas
 pub mod KnownLemmas
+pub mod WorkedKnown

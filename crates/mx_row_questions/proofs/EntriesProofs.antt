@@ -4,3 +4,4 @@ pub mod KindLemmas
 pub mod LineLemmas
 pub mod DamageLemmas
 pub mod EntryLemmas
+pub mod WorkedEntries

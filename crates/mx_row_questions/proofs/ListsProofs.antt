@@ -1,2 +1,3 @@
 pub mod ListStanding
 pub mod ListLemmas
+pub mod WorkedListing

@@ -2,3 +2,4 @@ pub mod AddedLemmas
 pub mod PutLemmas
 pub mod TouchLemmas
 pub mod CertifiedLemmas
+pub mod WorkedMade

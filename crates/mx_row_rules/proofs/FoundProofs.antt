@@ -19,3 +19,4 @@ pub mod LastLemmas
 pub mod ProgrammeLemmas
 pub mod StatedLemmas
 pub mod WorkedFound
+pub mod WorkedStated

@@ -12,6 +12,7 @@ use Rattle.mx_book.proofs.WorkedFittings.{first_aircraft}
 use Rattle.mx_base.specs.declared.point.Point.{Point}
 use Rattle.mx_base.specs.Settled.{settled}
 use Rattle.mx_registers.specs.points.Points.{moving}
+use Rattle.mx_layout.specs.Names.{table_name}
 use Rattle.mx_layout.specs.TableName.{TableName}
 use Rattle.mx_layout.specs.declared.fault.Table.TheVariants as table
 use Rattle.mx_book_tables.specs.stands.Family.{is_at, is_register, rows_of, own_names, permanent_names, first_rows, rows_given, added}
@@ -45,6 +46,11 @@ own_at_layout_2 = refl
 -- at any point there are the point and the eleven tables that all layouts have
 always_there : (p : Point) → filter (is_at p) (table.Office ∷ permanent_names) ≡ table.Office ∷ permanent_names
 always_there p = refl
+
+-- the eleven, in the order in which they are read
+always_read : map table_name permanent_names ≡ codes "entry" ∷ codes "aircraft" ∷ codes "place" ∷ codes "component" ∷ codes "programme" ∷ codes "task" ∷ codes "opening" ∷ codes "crs" ∷ codes "crs_line"
+    ∷ codes "defect" ∷ codes "extension" ∷ []
+always_read = refl
 
 -- ── registers ──
 

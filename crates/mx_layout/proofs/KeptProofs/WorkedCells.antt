@@ -1,12 +1,14 @@
 -- Worked rows: the values of each table's columns, one row of each, no two of its columns alike.
-use Rattle.std.proofs.Common.{refl, ◌≡◌, [], ◌∷◌, true, Some, None}
+use Rattle.std.proofs.Common.{refl, ◌≡◌, [], ◌∷◌, map, true, false, Some, None}
 use Rattle.std.specs.Prelude.{codes, pos}
 use Rattle.mx_base.specs.Calendar.{date_of}
 use Rattle.mx_base.specs.Texts.{day_text, moment_text}
 use Rattle.sqlite.specs.declared.types.Value.TheVariants.{Int, Text, Null}
 use Rattle.mx_base.specs.declared.category.Category.TheVariants.{A, C}
 use Rattle.mx_base.specs.declared.rows.rows.EntryKind.TheVariants.{Opening}
-use Rattle.mx_layout.specs.kept.Cells.{kept_entry, kept_aircraft, kept_place, kept_component, kept_programme, kept_task, kept_opening, kept_crs, kept_crs_line, kept_defect, kept_extension, kept_sector1, kept_fit1, kept_removal1}
+use Rattle.mx_layout.specs.Point.{point_cells}
+use Rattle.mx_layout.specs.kept.Values.{flag, number_or_null, text_or_null}
+use Rattle.mx_layout.specs.kept.Cells.{kept_entry, kept_aircraft, kept_place, kept_component, kept_programme, kept_task, kept_opening, kept_crs, kept_crs_line, kept_defect, kept_extension, kept_sector1, kept_fit1, kept_removal1, kept_sector2, kept_sector2_rows, kept_span2, kept_total2, kept_base2}
 
 entry_cells : kept_entry.as_cells (record { seq = 9; doc = codes "O1"; kind = Opening }) ≡ Int (pos 9) ∷ Text (codes "O1") ∷ Int (pos 4) ∷ []
 entry_cells = refl
@@ -82,3 +84,43 @@ fitting_cells = refl
 removal_cells : kept_removal1.as_cells (record { seq = 6; component = 2; moment = 2879 }) ≡ Int (pos 6) ∷ Int (pos 2) ∷ Text (codes "1970-01-02T23:59") ∷ []
 unfolding date_of day_text moment_text
 removal_cells = refl
+
+-- those of layout 2 are numbers
+sector2_cells : kept_sector2.as_cells (record { seq = 5; aircraft = 1; page = 12; line = 2; took_off = 570; landed = 2879; cycles = 3 })
+    ≡ Int (pos 5) ∷ Int (pos 1) ∷ Int (pos 12) ∷ Int (pos 2) ∷ Int (pos 570) ∷ Int (pos 2879) ∷ Int (pos 3) ∷ []
+sector2_cells = refl
+
+held_cells : kept_sector2_rows.as_cells (record { sector = record { seq = 5; aircraft = 1; page = 12; line = 2; took_off = 570; landed = 2879; cycles = 3 } })
+    ≡ Int (pos 5) ∷ Int (pos 1) ∷ Int (pos 12) ∷ Int (pos 2) ∷ Int (pos 570) ∷ Int (pos 2879) ∷ Int (pos 3) ∷ []
+held_cells = refl
+
+-- a component that entry 6 removed, and one that is still fitted
+ended_cells : kept_span2.as_cells (record { fit_seq = 4; component = 2; aircraft = 1; position = codes "ENG1"; from = 570; remove_seq = Some 6; to = Some 2879 })
+    ≡ Int (pos 4) ∷ Int (pos 2) ∷ Int (pos 1) ∷ Text (codes "ENG1") ∷ Int (pos 570) ∷ Int (pos 6) ∷ Int (pos 2879) ∷ []
+ended_cells = refl
+
+open_cells : kept_span2.as_cells (record { fit_seq = 4; component = 2; aircraft = 1; position = codes "ENG1"; from = 570; remove_seq = None; to = None })
+    ≡ Int (pos 4) ∷ Int (pos 2) ∷ Int (pos 1) ∷ Text (codes "ENG1") ∷ Int (pos 570) ∷ Null ∷ Null ∷ []
+open_cells = refl
+
+total_cells : kept_total2.as_cells (record { item = 2; life = record { minutes = 1090; cycles = 101 }; clock = 28488090 }) ≡ Int (pos 2) ∷ Int (pos 1090) ∷ Int (pos 101) ∷ Int (pos 28488090) ∷ []
+total_cells = refl
+
+base_cells : kept_base2.as_cells (record { item = 2; task = codes "OVH"; life = record { minutes = 1090; cycles = 101 }; day = 19784 })
+    ≡ Int (pos 2) ∷ Text (codes "OVH") ∷ Int (pos 1090) ∷ Int (pos 101) ∷ Int (pos 19784) ∷ []
+base_cells = refl
+
+-- the row of `office` has the number 1
+office_cells : point_cells (record { layout = 1; step = 3; mark = 67 }) ≡ Int (pos 1) ∷ Int (pos 1) ∷ Int (pos 3) ∷ Int (pos 67) ∷ []
+office_cells = refl
+
+-- ── values ──
+
+flags : map flag (true ∷ false ∷ []) ≡ Int (pos 1) ∷ Int (pos 0) ∷ []
+flags = refl
+
+numbers : map number_or_null (Some 7 ∷ Some 0 ∷ None ∷ []) ≡ Int (pos 7) ∷ Int (pos 0) ∷ Null ∷ []
+numbers = refl
+
+texts : map text_or_null (Some (codes "OVH") ∷ None ∷ []) ≡ Text (codes "OVH") ∷ Null ∷ []
+texts = refl

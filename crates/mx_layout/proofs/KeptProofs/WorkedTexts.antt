@@ -1,8 +1,8 @@
 -- Worked texts: of a table with one column for its key, and of one with two.
-use Rattle.std.proofs.Common.{◌≡◌, refl}
+use Rattle.std.proofs.Common.{◌≡◌, [], ◌∷◌, map, refl}
 use Rattle.std.specs.Prelude.{codes}
 use Rattle.mx_layout.specs.Tables.{task, extension}
-use Rattle.mx_layout.specs.kept.Texts.{select_text, insert_text}
+use Rattle.mx_layout.specs.kept.Texts.{column_names, insert_text, listed, place_text, select_text}
 
 extension_shown : select_text extension ≡ codes "SELECT seq, defect, day, days FROM extension ORDER BY seq"
 extension_shown = refl
@@ -15,3 +15,12 @@ task_shown = refl
 
 task_added : insert_text task ≡ codes "INSERT INTO task (seq, line, id, part, retire, first_m, first_c, first_d, rep_m, rep_c, rep_d, tol_m, tol_c, tol_d) VALUES (?1, ?2, ?3, ?4, ?5, ?6, ?7, ?8, ?9, ?10, ?11, ?12, ?13, ?14)"
 task_added = refl
+
+columns : column_names extension ≡ codes "seq" ∷ codes "defect" ∷ codes "day" ∷ codes "days" ∷ []
+columns = refl
+
+places : map place_text (1 ∷ 9 ∷ 10 ∷ 14 ∷ []) ≡ codes "?1" ∷ codes "?9" ∷ codes "?10" ∷ codes "?14" ∷ []
+places = refl
+
+lists : map listed ([] ∷ (codes "seq" ∷ []) ∷ (codes "seq" ∷ codes "line" ∷ codes "id" ∷ []) ∷ []) ≡ codes "" ∷ codes "seq" ∷ codes "seq, line, id" ∷ []
+lists = refl

@@ -96,6 +96,10 @@ disc_row = record {
 retired_at : map (λ cycles. is_retired_in (Some (codes "DISC")) 10957 (used 5000 cycles) 19784 (disc_row ∷ [])) (99 ∷ 100 ∷ 101 ∷ []) ≡ false ∷ true ∷ true ∷ []
 retired_at = refl
 
+-- one that retires 365 days behind its birth on 2000-01-01 has a day left on day 11,321
+retired_on : map (λ day. is_retired_in (Some (codes "DISC")) 10957 (used 0 0) day (record disc_row { first = record { minutes = None; cycles = None; days = Some 365 } } ∷ [])) (11321 ∷ 11322 ∷ []) ≡ false ∷ true ∷ []
+retired_on = refl
+
 -- another part is not retired, nor an airframe
 retired_other : map (λ part. is_retired_in part 10957 (used 5000 100) 19784 (disc_row ∷ [])) (Some (codes "FAN") ∷ None ∷ []) ≡ false ∷ false ∷ []
 retired_other = refl
