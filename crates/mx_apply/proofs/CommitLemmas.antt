@@ -25,6 +25,7 @@ use Rattle.mx_book_tables.specs.stands.Stands.{IsEither, RestsAt, StandsAt}
 use Rattle.mx_book_tables.proofs.StandsProofs.SchemaLemmas.{has_tables}
 use Rattle.mx_tables.specs.Calls.{OnDamaged, OnRead}
 use Rattle.mx_tables.specs.inserts.Sets.{GainsRows}
+use Rattle.mx_lookups.specs.numbers.Told.{Damage, TellsDamage}
 use Rattle.mx_apply.specs.writing.Written.{IsSettled, with_rows, written_point}
 use Rattle.mx_apply.specs.Applies.{Applies, HasOneCommit, IsNoDamage, ReplyOf, Runs, behind}
 
@@ -79,6 +80,9 @@ module _ {S : Type 0} (g : Ghosts S) (old last : Held S) (command : Entry) where
 
         rest : (book : List Entry) → RestsAt written_point (state g old) book → RestsAt written_point (state g end) book
         rest book rests = dropped g (schema_at written_point) (schema_at written_point) (stands book) (stands book) old begun last refl rests runs.within end drop back
+
+        pub dropped_tells : {Of : Damage} → TellsDamage Of (state g begun) (state g last) result → TellsDamage Of (state g old) (state g end) result
+        dropped_tells tells = record { told = λ clean has. tells.told (mid clean) has }
 
         pub dropped_survives : Survives (state g old) (state g end) Leftover
         dropped_survives = survives_begin g old (state g end) _ (survives_then (state g begun) (state g last) (state g end) _ _ _ (λ _ trees none. absurd none) (λ _ trees none. absurd none) runs.within.survives drop)

@@ -5,3 +5,4 @@ pub mod SpanLemmas
 pub mod ReleaseLemmas
 pub mod AnyTotalLemmas
 pub mod AnyMadeLemmas
+pub mod DamageLemmas
