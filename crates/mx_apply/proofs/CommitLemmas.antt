@@ -19,6 +19,7 @@ use Rattle.mx_layout.specs.Crash.{ChangesNothing, Leaves, StaysInside}
 use Rattle.mx_layout.proofs.CrashLemmas.{IsSettled as StoreSettles, commits_either, commits_ok, dropped}
 use Rattle.mx_tables.specs.Calls.{OnDamaged, OnRead}
 use Rattle.mx_tables.specs.inserts.Sets.{GainsRows}
+use Rattle.mx_lookups.specs.numbers.Told.{Damage, TellsDamage}
 use Rattle.mx_apply.specs.writing.Written.{IsSettled, with_rows}
 use Rattle.mx_apply.specs.Applies.{Applies, HasOneCommit, IsEitherIn, IsNoDamage, ReplyOf, RestsIn, Runs, StandsIn, behind}
 use Rattle.mx_apply.proofs.WritingProofs.ThereLemmas.{in_settled}
@@ -70,6 +71,9 @@ module _ {S : Type 0} (g : Ghosts S) (old last : Held S) (command : Entry) where
 
         rest : (schema : Schema) (book : List Entry) → RestsIn schema (state g old) book → RestsIn schema (state g end) book
         rest schema book rests = dropped g schema schema (stands schema book) (stands schema book) old begun last refl rests runs.within end drop back
+
+        pub dropped_tells : {Of : Damage} → TellsDamage Of (state g begun) (state g last) result → TellsDamage Of (state g old) (state g end) result
+        dropped_tells tells = record { told = λ clean has. tells.told (mid clean) has }
 
         pub dropped_survives : Survives (state g old) (state g end) Leftover
         dropped_survives = survives_begin g old (state g end) _ (survives_then (state g begun) (state g last) (state g end) _ _ _ (λ _ trees none. absurd none) (λ _ trees none. absurd none) runs.within.survives drop)

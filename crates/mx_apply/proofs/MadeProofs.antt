@@ -6,3 +6,4 @@ pub mod ReleaseLemmas
 pub mod AnyTotalLemmas
 pub mod AnyMadeLemmas
 pub mod WorkedMade
+pub mod DamageLemmas

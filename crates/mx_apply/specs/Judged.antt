@@ -7,7 +7,10 @@ use Rattle.mx_book.specs.declared.verdict.Verdict.TheVariants as verdicts
 use Rattle.mx_row_rules.specs.changes.Rows.{AreCommandRows}
 use Rattle.mx_book.specs.declared.verdict.Verdict.{Verdict}
 use Rattle.mx_apply.specs.made.Found.{AreRowsFor}
+use Rattle.mx_lookups.specs.numbers.Told.{Damage, Either}
+use Rattle.mx_apply.specs.made.Damage.{MadeDamage}
 use Rattle.mx_row_judge.specs.Answering.{AnswerAs}
+use Rattle.mx_row_judge.specs.Damage.{JudgeDamage}
 use Rattle.mx_apply.specs.declared.judged.Judged.{Judged}
 use Rattle.mx_apply.specs.declared.judged.Judged.TheVariants.{New, Already, Refused}
 
@@ -32,3 +35,7 @@ HasItsRows command trees _ = ⊤
 pub record JudgedOf (command : Entry) (trees : Trees) (found : Judged) : Type 0 where
   pub by : (book : List Entry) → AnswerAs trees book → IsBy (judge book command) found
   pub rows : HasItsRows command trees found
+
+-- a question of the judge tells it, or a look-up of what the command names, by which its rows are made
+abbrev pub CommandDamage : Entry → Damage
+CommandDamage command = Either JudgeDamage (MadeDamage command)

@@ -2,7 +2,9 @@
 ghost use Rattle.std.specs.Prelude.{◌≡◌, false};
 ghost use Rattle.sqlite.specs.Held.{state};
 ghost use Rattle.sqlite.specs.State.{Survives};
+ghost use Rattle.mx_lookups.specs.numbers.Told.{TellsDamage};
 ghost use Rattle.mx_apply.specs.Applies.{Applies, HasOneCommit, Runs};
+ghost use Rattle.mx_apply.specs.Judged.{CommandDamage};
 
 use crate::judged::{Judged, verdict_and_rows};
 use crate::writing::write_rows;
@@ -20,6 +22,8 @@ fn run_command<S: Alter>(
 ) -> Result<Reply, TableFault>
     ensures same_reference { tx.new.conn.ghost_name ≡ tx.old.conn.ghost_name }
     ensures runs { Runs command.now
+        (state S.Store tx.old.conn.now) (state S.Store tx.new.conn.now) result }
+    ensures damage { TellsDamage (CommandDamage command.now)
         (state S.Store tx.old.conn.now) (state S.Store tx.new.conn.now) result }
 {
     // A command has its shape.
@@ -52,6 +56,9 @@ pub fn apply<S: Alter>(
     ensures survives { Survives (state S.Store conn.old) (state S.Store conn.new)
         (HasOneCommit command.now (state S.Store conn.old)) }
     ensures applies { Applies command.now (state S.Store conn.old) (state S.Store conn.new) result }
+    // Over whatever rows: a table is told damaged only for rows that judging or making this command chose.
+    ensures damage { TellsDamage (CommandDamage command.now)
+        (state S.Store conn.old) (state S.Store conn.new) result }
 {
     let mut tx = conn.transaction();
     match run_command(alloc, &mut tx, command)? {

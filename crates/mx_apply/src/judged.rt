@@ -3,7 +3,8 @@ ghost use Rattle.std.specs.Prelude.{◌≡◌};
 ghost use Rattle.sqlite.specs.Held.{state};
 ghost use Rattle.mx_lookups.specs.numbers.AnyRows.{ReadsAny};
 ghost use Rattle.mx_lookups.specs.numbers.Reads.{Reads};
-ghost use Rattle.mx_apply.specs.Judged.{IsJudged, JudgedOf};
+ghost use Rattle.mx_lookups.specs.numbers.Told.{TellsDamage};
+ghost use Rattle.mx_apply.specs.Judged.{CommandDamage, IsJudged, JudgedOf};
 
 use crate::made::rows_of_command;
 use mx_book::commands::Command;
@@ -38,6 +39,8 @@ pub fn verdict_and_rows<S: Alter>(
     ensures reads { Reads (IsJudged command.now)
         (state S.Store tx.old.conn.now) (state S.Store tx.new.conn.now) result }
     ensures any_rows { ReadsAny (JudgedOf command.now)
+        (state S.Store tx.old.conn.now) (state S.Store tx.new.conn.now) result }
+    ensures damage { TellsDamage (CommandDamage command.now)
         (state S.Store tx.old.conn.now) (state S.Store tx.new.conn.now) result }
 {
     let verdict = judge_by_rows(alloc, tx, command)?;

@@ -23,6 +23,10 @@
 //!   the rows of this command, which is new to them: `apply`: `survives` (`HasOneCommit`).
 //! - Over any rows, a table that is told damaged is damaged, and what was answered was answered by a connection that is
 //!   open: `apply`: `applies` (`Applies`: `damaged`, `was_open`).
+//! - Over any rows, a table is told damaged only for rows that judging or making this command chose: by a question of
+//!   the judge, about some aircraft, item or document; or for its rows, the last entry, what the command names, and by
+//!   the numbers of that its totals and spans. So one bad row of `opening` that no question chooses stops no command:
+//!   `apply`: `damage` (`CommandDamage`: `JudgeDamage`, `MadeDamage`).
 //! - Whatever rows there are, a row of any table that the rules of a command do not name is there behind it as it was.
 //!   They name the spans that it ends, the totals to which it gives a sector or a moment, and the last bases that it
 //!   sets: `laws::commands_leave_other_rows` (`IsNamed`).
@@ -35,7 +39,8 @@
 //!   `untouched`); of `writing` `write_rows`: `cause`.
 //!
 //! No clause says why the store failed: a body that always told so would have these clauses, and the lines of
-//! `applied.cases` would differ.
+//! `applied.cases` would differ. Nor does one say that the command names what the question was about for whose rows the
+//! judge told a table damaged (`mx_row_judge`).
 #![tactic(auto)]
 
 pub mod applying;

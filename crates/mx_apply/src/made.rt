@@ -34,6 +34,12 @@
 //! - Each total is one that an item may have, whatever the tables hold: `total_of`: `life`; `totals_of`: `lives`.
 //! - What stops it, what it leaves, and when a table is told damaged are as for each look-up; so where an aircraft or a
 //!   component lacks its total, or that is past a life: `reads` of each (`Reads`).
+//! - Over any rows, a table is told damaged only for the last entry, for the rows of what the command names, and for
+//!   those that are chosen by the numbers of that: the spans of an aircraft that flew, the open ones of a component that
+//!   is removed, and the totals with the numbers that it touches; of each line of a release its item, total, last base
+//!   and tasks in force, or its defect: `rows_of_command`: `damage` (`MadeDamage`).
+//! - It is so of each kind by itself: `damage` of the same seven (`ActDamage`); of the totals with some numbers, of these
+//!   and of the item with a number that has none: `totals_of`, `total_of`: `damage` (`TotalsDamage`, `TotalAtDamage`).
 //!
 //! Over any rows the kind whose programme a release is done by is said only as that of each book which says of the
 //! place's item what its row says (`KindAt`), and no clause says in which order the totals come, which no table shows.

@@ -29,7 +29,7 @@ use Rattle.mx_book_tables.specs.stands.Stands.{StandsInSchema}
 use Rattle.mx_office.specs.Stands.{IsEitherIn, NoneAccepted, RestsIn}
 use Rattle.mx_faults.specs.declared.fault.Fault.{Fault}
 use Rattle.mx_faults.specs.declared.fault.Fault.TheVariants.{Store, Damaged}
-use Rattle.mx_office.proofs.AppliedLemmas.{Handed, is_damaged, was_entered, was_open}
+use Rattle.mx_office.proofs.AppliedLemmas.{Handed, is_damaged, is_told, was_entered, was_open}
 use Rattle.mx_office.proofs.OfficeLemmas.{after_is, behind_is, nothing_then, rests_as, survives_itself}
 use Rattle.mx_office.proofs.ReplyLemmas.{answered_more, answered_on, damage_from, idle_fault, idle_reply, no_damage_stop, no_reopening, none_before, none_last, store_stop}
 
@@ -315,7 +315,15 @@ module _ (commands : List Entry) (said : List Reply) (command : Entry) (first mi
       let is_open = damage_open clean name is_e in
       let at = before commands said command first mid new next so_far (Err e) it clean is is_open in
       let of = still commands said command first mid new next so_far (Err e) it is at in
-      record { was_open = at.was_open; found = mid.now; answered = at.answered; damaged = is_damaged command mid new (Err e) it clean of.0.tables name (ap Err is_e) }
+      record {
+        was_open = at.was_open;
+        found = mid.now;
+        answered = at.answered;
+        damaged = is_damaged command mid new (Err e) it clean of.0.tables name (ap Err is_e);
+        next = command;
+        is_next = next;
+        told = is_told command mid new (Err e) it clean of.0.tables name (ap Err is_e);
+      }
 
   pub handed_stop : HandsIn commands said stop first new
   handed_stop = record {

@@ -21,6 +21,7 @@ use Rattle.mx_tables.specs.Calls.{OnDamaged, OnRead}
 use Rattle.mx_lookups.specs.numbers.AnyRows.{ReadsAny}
 use Rattle.mx_lookups.specs.numbers.Damage.{IsDamaged}
 use Rattle.mx_lookups.specs.numbers.Reads.{IsStop, Reads, StandsFor}
+use Rattle.mx_lookups.specs.numbers.Told.{Damage, TellsDamage}
 use Rattle.mx_row_questions.specs.entries.Damage.{ReadsOr, Refuses}
 use Rattle.mx_row_questions.specs.lists.Answering.{AnswerListsAs}
 use Rattle.mx_row_questions.specs.lists.Listing.{unknown, LifeAnswered}
@@ -28,7 +29,7 @@ use Rattle.mx_apply.specs.Applies.{IsNoDamage}
 use Rattle.mx_office.specs.Faults.{call_answer, fault_from, found_or, question_answer, IsAnswer}
 use Rattle.mx_office.specs.Looks.{LooksUp, IsFound, IsFoundIn}
 use Rattle.mx_office.specs.Office.{office_state}
-use Rattle.mx_office.specs.Questions.{IsAnsweredBy}
+use Rattle.mx_office.specs.Questions.{AnswersDamage, IsAnsweredBy}
 use Rattle.mx_apply.specs.writing.Written.{IsSettled}
 use Rattle.mx_office.specs.Stands.{RestsIn}
 use Rattle.mx_faults.specs.declared.fault.Ask.TheVariants.{Failed}
@@ -121,6 +122,10 @@ module _ {S : Type 0} (g : Ghosts S) (old last end : Held S) (drop : Survives (s
       looks_up_or Why (inl reads) = looks_wider Why (looks_up reads)
       looks_up_or Why (inr refused) = looks_refused Why refused
 
+  -- a table is told for what is so of the rows that there were before
+  pub tells_up : {V : Type 0} {Of : Damage} (result : Result V TableFault) → TellsDamage Of (state g begun) (state g last) result → TellsDamage Of (state g old) (state g end) result
+  tells_up result tells = record { told = λ clean has. tells.told (mid clean) has }
+
 -- the same, of the transaction that was begun and of what was given back
 module _ {S : Type 0} (g : Ghosts S) (old tx last end given : Held S) (starts : tx ≡ record old { in_transaction = true }) (same : end ≡ given) (drop : Survives (state g last) (state g end) (λ _. ⊥)) (back : HasCleanDisk (state g end) → IsRolledBack (state g last) (state g end))
     {V : Type 0} {Is : List Entry → V → Type 0} {IsOfRows : Trees → V → Type 0} (result : Result V TableFault) (any : ReadsAny IsOfRows (state g tx) (state g last) result) where
@@ -133,6 +138,12 @@ module _ {S : Type 0} (g : Ghosts S) (old tx last end given : Held S) (starts : 
   looked_or {Why = Why} reads =
       subst (λ (h : Held S). LooksUp Is IsOfRows (λ name trees. IsDamaged name trees ⊎ Why name trees) (state g old) (state g h) result) same
       (looks_up_or g old last end drop back Is IsOfRows result (subst (λ (h : Held S). ReadsAny IsOfRows (state g h) (state g last) result) starts any) Why (subst (λ (h : Held S). ReadsOr Why Is (state g h) (state g last) result) starts reads))
+
+-- so of what it tells damaged
+pub tells_looked : {S : Type 0} (g : Ghosts S) (old tx last end given : Held S) → tx ≡ record old { in_transaction = true } → end ≡ given → Survives (state g last) (state g end) (λ _. ⊥) → (HasCleanDisk (state g end) → IsRolledBack (state g last) (state g end))
+    → {V : Type 0} {Of : Damage} (result : Result V TableFault) → TellsDamage Of (state g tx) (state g last) result → TellsDamage Of (state g old) (state g given) result
+tells_looked g old tx last end given starts same drop back {Of = Of} result tells =
+    subst (λ (h : Held _). TellsDamage Of (state g old) (state g h) result) same (tells_up g old last end drop back result (subst (λ (h : Held _). TellsDamage Of (state g h) (state g last) result) starts tells))
 
 -- ── what a call answers ──
 
@@ -178,6 +189,10 @@ module _ {S : Type 0} {g : Ghosts S} {X : Type 0} (old new : Office S g) (refusa
     sound = λ clean has goes. sound_question (office_state old).now.trees says found (looks.of_rows clean has) goes;
     damaged = λ clean has name same. looks.damaged clean has name (question_damaged found name same);
   }
+
+-- a table that it tells damaged is answered so for the same reason
+pub damage_answered : {S : Type 0} {g : Ghosts S} {X : Type 0} (old new : Office S g) (found : Result (Result X Refusal) TableFault) {Why : Damage} → TellsDamage Why (office_state old) (office_state new) found → AnswersDamage Why old new (question_answer found)
+damage_answered old new found tells = record { told = λ clean has name same. tells.told clean has name (question_damaged found name same) }
 
 -- the life that rows give is that of each book as which they answer
 pub life_says : (item : Item) (trees : Trees) (answer : Result Use Refusal) → LifeAnswered item trees answer → IsFoundIn (unknown item) (λ book. life_now book item) trees answer

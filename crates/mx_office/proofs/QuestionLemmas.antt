@@ -8,6 +8,7 @@ use Rattle.mx_layout.specs.declared.fault.TableFault.{TableFault}
 use Rattle.mx_lists.specs.Report.{IsOfKind}
 use Rattle.mx_lists.specs.declared.question.Question.{Question}
 use Rattle.mx_lists.specs.declared.report.Report.{Report}
+use Rattle.mx_lookups.specs.numbers.Told.{Damage}
 use Rattle.mx_row_questions.specs.lists.Listing.{HasKind}
 use Rattle.mx_faults.specs.declared.fault.Ask.{Ask}
 use Rattle.mx_faults.specs.declared.fault.Ask.TheVariants.{Failed}
@@ -15,7 +16,7 @@ use Rattle.mx_faults.specs.declared.fault.Fault.{Fault}
 use Rattle.mx_faults.specs.declared.fault.Fault.TheVariants.{Damaged, Memory, Store}
 use Rattle.mx_office.specs.declared.office.Office.{Office}
 use Rattle.mx_office.specs.Faults.{found_or, question_answer, IsAnswer}
-use Rattle.mx_office.specs.Questions.{IsAnsweredBy}
+use Rattle.mx_office.specs.Questions.{AnswersDamage, IsAnsweredBy}
 
 -- what was found is of the kind that was asked for, if it is answered
 pub kind_answered : (question : Question) (found : Result (Result Report Refusal) TableFault) → HasKind question found → IfOk (question_answer found) (IsOfKind question)
@@ -56,3 +57,7 @@ module _ {X Y : Type 0} (f : X → Y) (decides : (x y : X) → f x ≡ f y → x
           same_as result (found_or refusal (said book)) (h.sound clean own (λ fault e. goes fault (same_as result (Err (Failed fault)) e)) book speaks ∙ found_as refusal (said book));
       damaged = λ clean own table e. h.damaged clean own table (ap as_answer e);
     }
+
+    -- a table is answered damaged for the same reason
+    pub damage_of_answer : {Why : Damage} → AnswersDamage Why old new (as_answer result) → AnswersDamage Why old new result
+    damage_of_answer h = record { told = λ clean own table e. h.told clean own table (ap as_answer e) }

@@ -91,7 +91,7 @@ pub record RunsOverRows (commands : List Entry) (said : List Reply) (stop : Opti
   pub told : HasCleanDisk new → IsOfOffice old → (after : Database) × AreAnswered (take (length said) commands) said old.now after
   -- and the tables have the rows of the commands that were accepted on top
   pub sound : HasCleanDisk new → IsOfOffice old → IsTrue new.is_open → stop ≢ Some Store → IsBehind commands said old new
-  -- a table is told to be damaged only where it is, in the tables that the command found
+  -- a table is told to be damaged only where it is, in the tables that the command found, and by a row that it chose there
   pub damaged : HasCleanDisk new → IsOfOffice old → (table : TableName) → stop ≡ Some (Damaged table) → IsDamagedBehind table commands said old
 
 -- ── a run ──

@@ -22,6 +22,7 @@ use Rattle.mx_apply.specs.writing.Commits.{IsWritten}
 use Rattle.mx_apply.specs.writing.Written.{IsSettled, with_rows}
 use Rattle.mx_apply.specs.made.Found.{AreRowsFor}
 use Rattle.mx_apply.specs.Applies.{AreItsRows, ReplyOf}
+use Rattle.mx_apply.specs.Judged.{CommandDamage}
 use Rattle.mx_office.specs.Layout.{office_point}
 use Rattle.mx_faults.specs.declared.fault.Fault.{Fault}
 use Rattle.mx_faults.specs.declared.fault.Fault.TheVariants.{Store}
@@ -71,9 +72,12 @@ pub record IsBehind (commands : List Entry) (said : List Reply) (old new : State
   pub answered : AreAnswered (take (length said) commands) said old.now new.now
   pub settled : new.now ≡ new.committed
 
--- the table is damaged in those that the commands that have a reply led to
+-- the table is damaged in those that the commands that have a reply led to, and there a row that judging or making the next one chose tells it
 pub record IsDamagedBehind (table : TableName) (commands : List Entry) (said : List Reply) (old : State) : Type 0 where
   pub was_open : IsTrue old.is_open
   pub found : Database
   pub answered : AreAnswered (take (length said) commands) said old.now found
   pub damaged : IsDamaged table found.trees
+  pub next : Entry
+  pub is_next : take (length said + 1) commands ≡ take (length said) commands ++ next ∷ []
+  pub told : CommandDamage next table found.trees

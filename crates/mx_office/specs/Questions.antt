@@ -6,6 +6,7 @@ use Rattle.sqlite.specs.State.{HasCleanDisk}
 use Rattle.mx_book.specs.commands.Act.{Entry}
 use Rattle.mx_layout.specs.TableName.{TableName}
 use Rattle.mx_lookups.specs.numbers.Damage.{IsDamaged}
+use Rattle.mx_lookups.specs.numbers.Told.{Damage}
 use Rattle.mx_row_questions.specs.lists.Answering.{AnswerListsAs}
 use Rattle.mx_apply.specs.writing.Written.{IsSettled}
 use Rattle.mx_faults.specs.declared.fault.Ask.{Ask}
@@ -26,3 +27,7 @@ pub record IsAnsweredBy {S : Type 0} {g : Ghosts S} {X : Type 0} (said : List En
   pub sound : HasCleanDisk (office_state new) → HasTablesOfRows (office_state old).now.schema → ((fault : Fault) → result ≢ Err (Failed fault)) → (book : List Entry) → AnswerListsAs (office_state old).now.trees book → result ≡ said book
   -- a table is answered damaged only where it is
   pub damaged : HasCleanDisk (office_state new) → HasTablesOfRows (office_state old).now.schema → (table : TableName) → result ≡ Err (Failed (Damaged table)) → IsDamaged table (office_state old).now.trees
+
+-- a table is answered damaged only for this reason
+pub record AnswersDamage {S : Type 0} {g : Ghosts S} {X : Type 0} (Why : Damage) (old new : Office S g) (result : Result X Ask) : Type 0 where
+  pub told : HasCleanDisk (office_state new) → HasTablesOfRows (office_state old).now.schema → (table : TableName) → result ≡ Err (Failed (Damaged table)) → Why table (office_state old).now.trees

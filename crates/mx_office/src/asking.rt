@@ -7,6 +7,8 @@ ghost use Rattle.mx_row_questions.specs.entries.Damage.{IsSkipped};
 ghost use Rattle.mx_row_questions.specs.entries.Entries.{AreEntries};
 ghost use Rattle.mx_lists.specs.Report.{report_of};
 ghost use Rattle.mx_lookups.specs.numbers.Damage.{IsDamaged};
+ghost use Rattle.mx_lookups.specs.numbers.Told.{TellsDamage, TotalDamage};
+ghost use Rattle.mx_row_questions.specs.lists.Damage.{ListDamage};
 ghost use Rattle.mx_row_questions.specs.lists.Listing.{unknown, HasKind, LifeAnswered};
 ghost use Rattle.mx_office.specs.Looks.{Finds, IsFound, LooksUp};
 
@@ -30,6 +32,8 @@ pub(crate) fn list_found<S: Alter>(
     ensures idle { conn.new.in_transaction ≡ false }
     ensures finds { Finds Refusal.UnknownAircraft (λ book. report_of book question.now)
         (state S.Store conn.old) (state S.Store conn.new) result }
+    ensures damage { TellsDamage ListDamage
+        (state S.Store conn.old) (state S.Store conn.new) result }
     ensures kind { HasKind question.now result }
 {
     let mut tx = conn.transaction();
@@ -46,6 +50,8 @@ pub(crate) fn life_found<S: Alter>(
     ensures idle { conn.new.in_transaction ≡ false }
     ensures looks { LooksUp (IsFound (unknown item.now) (λ book. life_now book item.now))
         (LifeAnswered item.now) IsDamaged (state S.Store conn.old) (state S.Store conn.new) result }
+    ensures damage { TellsDamage (TotalDamage item.now)
+        (state S.Store conn.old) (state S.Store conn.new) result }
 {
     let mut tx = conn.transaction();
     life(alloc, &mut tx, item)

@@ -28,6 +28,10 @@
 //!   `IsRun`: `over_rows` (`crash`, by `HasOnTop`).
 //! - Over any rows, a table that is told damaged is damaged in the tables that the command or the question found:
 //!   `IsRun`: `over_rows` (`damaged`); `entries`: `damaged`; `list` and its four, `life`: `answered` (`damaged`).
+//! - Over any rows, a run tells a table damaged only for rows that judging or making the command chose at which it
+//!   stopped, in the tables that this found: `IsRun`: `over_rows` (`damaged`: `IsDamagedBehind`, by `CommandDamage`);
+//!   a list only for rows that one question of a list chose, and a life for those of the item and its total: `list` and
+//!   `due_rows`, `life`: `damage` (`ListDamage`, `TotalDamage`).
 //! - Over any rows, what a list or a life is answered is so of each book as which the rows answer; the life is that of
 //!   the total with its number; entries are the commands that their rows state: `list` and its four, `life`: `answered`
 //!   (`sound`); `life`: `found`; `entries`: `sound`.

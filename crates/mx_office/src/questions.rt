@@ -9,6 +9,8 @@ ghost use Rattle.mx_lists.specs.DueList.{due_list};
 ghost use Rattle.mx_lists.specs.Report.{IsOfKind, report_of};
 ghost use Rattle.mx_lookups.specs.numbers.Damage.{IsDamaged};
 ghost use Rattle.mx_lookups.specs.numbers.Given.{LifeOf};
+ghost use Rattle.mx_lookups.specs.numbers.Told.{TotalDamage};
+ghost use Rattle.mx_row_questions.specs.lists.Damage.{ListDamage};
 ghost use Rattle.mx_row_questions.specs.lists.Listing.{unknown};
 ghost use Rattle.mx_apply.specs.writing.Written.{IsSettled};
 ghost use Rattle.mx_office.specs.Calls.{stop_asking, stop_in, IsAsked};
@@ -16,7 +18,7 @@ ghost use Rattle.mx_office.specs.Faults.{found_or};
 ghost use Rattle.mx_office.specs.Office.{office_state, IsReady};
 ghost use Rattle.mx_office.specs.Stands.{RestsIn};
 ghost use Rattle.mx_lookups.specs.numbers.Reads.{HasTablesOfRows};
-ghost use Rattle.mx_office.specs.Questions.{IsAnsweredBy};
+ghost use Rattle.mx_office.specs.Questions.{AnswersDamage, IsAnsweredBy};
 
 use crate::asking::{entries_found, life_found, list_found};
 use crate::fault::{call_answer, call_failed, question_answer, question_failed};
@@ -37,6 +39,7 @@ impl<S: Alter> Office<S> {
         ensures answered { IsAnsweredBy
             (λ book. found_or Refusal.UnknownAircraft (report_of book question.now))
             self.old self.new result }
+        ensures damage { AnswersDamage ListDamage self.old self.new result }
         ensures kind { IfOk result (IsOfKind question.now) }
     {
         if self.needs_reopen {
@@ -53,6 +56,7 @@ impl<S: Alter> Office<S> {
         ensures answered { IsAnsweredBy
             (λ book. found_or Refusal.UnknownAircraft (due_list book tail day))
             self.old self.new result }
+        ensures damage { AnswersDamage ListDamage self.old self.new result }
     {
         match self.list(alloc, &Question::Due(tail, day)) {
             Ok(Report::Due(list)) => Ok(list),
@@ -68,6 +72,7 @@ impl<S: Alter> Office<S> {
         ensures answered { IsAnsweredBy
             (λ book. found_or (unknown item.now) (life_now book item.now))
             self.old self.new result }
+        ensures damage { AnswersDamage (TotalDamage item.now) self.old self.new result }
 
         // Over whatever rows, it is the life that these give.
         ensures found { HasCleanDisk (office_state self.new)

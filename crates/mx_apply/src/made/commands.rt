@@ -5,6 +5,8 @@ ghost use Rattle.mx_book.specs.commands.Act.{Opened, Flown, Fitted, Removed, Def
 ghost use Rattle.mx_base.specs.rows.Rows.{FitsEntry};
 ghost use Rattle.mx_lookups.specs.numbers.AnyRows.{ReadsAny};
 ghost use Rattle.mx_lookups.specs.numbers.Reads.{Reads};
+ghost use Rattle.mx_lookups.specs.numbers.Told.{TellsDamage};
+ghost use Rattle.mx_apply.specs.made.Damage.{ActDamage, MadeDamage};
 ghost use Rattle.mx_apply.specs.made.Found.{AreRowsBy, numbers_flown, numbers_removed, AreRowsFor};
 ghost use Rattle.mx_apply.specs.made.Made.{AreRowsOf};
 ghost use Rattle.mx_book.specs.commands.Shape.{sector_shape};
@@ -39,6 +41,8 @@ pub fn rows_of_opening<S: Alter>(
     ensures reads { Reads (AreRowsOf (Opened opening) entry)
         (state S.Store tx.old.conn.now) (state S.Store tx.new.conn.now) result }
     ensures any_rows { ReadsAny (AreRowsBy (Opened opening) entry)
+        (state S.Store tx.old.conn.now) (state S.Store tx.new.conn.now) result }
+    ensures damage { TellsDamage (ActDamage (Opened opening))
         (state S.Store tx.old.conn.now) (state S.Store tx.new.conn.now) result }
 {
     let item = number_of_item(alloc, tx, &opening.item)?;
@@ -91,6 +95,8 @@ pub fn rows_of_sector<S: Alter>(
         (state S.Store tx.old.conn.now) (state S.Store tx.new.conn.now) result }
     ensures any_rows { ReadsAny (AreRowsBy (Flown sector) entry)
         (state S.Store tx.old.conn.now) (state S.Store tx.new.conn.now) result }
+    ensures damage { TellsDamage (ActDamage (Flown sector))
+        (state S.Store tx.old.conn.now) (state S.Store tx.new.conn.now) result }
 {
     let aircraft = number_of_aircraft(alloc, tx, &sector.tail)?;
     let spans = span2_by_aircraft(alloc, tx, aircraft)?;
@@ -111,6 +117,8 @@ pub fn rows_of_fitting<S: Alter>(
     ensures reads { Reads (AreRowsOf (Fitted fitting) entry)
         (state S.Store tx.old.conn.now) (state S.Store tx.new.conn.now) result }
     ensures any_rows { ReadsAny (AreRowsBy (Fitted fitting) entry)
+        (state S.Store tx.old.conn.now) (state S.Store tx.new.conn.now) result }
+    ensures damage { TellsDamage (ActDamage (Fitted fitting))
         (state S.Store tx.old.conn.now) (state S.Store tx.new.conn.now) result }
 {
     let component = number_of_component(alloc, tx, &fitting.serial)?;
@@ -146,6 +154,8 @@ pub fn rows_of_removal<S: Alter>(
         (state S.Store tx.old.conn.now) (state S.Store tx.new.conn.now) result }
     ensures any_rows { ReadsAny (AreRowsBy (Removed removal) entry)
         (state S.Store tx.old.conn.now) (state S.Store tx.new.conn.now) result }
+    ensures damage { TellsDamage (ActDamage (Removed removal))
+        (state S.Store tx.old.conn.now) (state S.Store tx.new.conn.now) result }
 {
     let component = number_of_component(alloc, tx, &removal.serial)?;
     let spans = open_spans_by_component(alloc, tx, component)?;
@@ -167,6 +177,8 @@ pub fn rows_of_deferral<S: Alter>(
         (state S.Store tx.old.conn.now) (state S.Store tx.new.conn.now) result }
     ensures any_rows { ReadsAny (AreRowsBy (Deferred deferral) entry)
         (state S.Store tx.old.conn.now) (state S.Store tx.new.conn.now) result }
+    ensures damage { TellsDamage (ActDamage (Deferred deferral))
+        (state S.Store tx.old.conn.now) (state S.Store tx.new.conn.now) result }
 {
     let aircraft = number_of_aircraft(alloc, tx, &deferral.tail)?;
     let totals = totals_of(alloc, tx, &[aircraft])?;
@@ -186,6 +198,8 @@ pub fn rows_of_extension<S: Alter>(
         (state S.Store tx.old.conn.now) (state S.Store tx.new.conn.now) result }
     ensures any_rows { ReadsAny (AreRowsBy (Extended extension) entry)
         (state S.Store tx.old.conn.now) (state S.Store tx.new.conn.now) result }
+    ensures damage { TellsDamage (ActDamage (Extended extension))
+        (state S.Store tx.old.conn.now) (state S.Store tx.new.conn.now) result }
 {
     let defect = number_of_defect(alloc, tx, &extension.defect)?;
     Ok(extension_rows(alloc, entry, extension, defect)?)
@@ -202,6 +216,8 @@ pub fn rows_of_command<S: Alter>(
     ensures reads { Reads (λ book rows. AreCommandRows book command.now rows)
         (state S.Store tx.old.conn.now) (state S.Store tx.new.conn.now) result }
     ensures any_rows { ReadsAny (AreRowsFor command.now)
+        (state S.Store tx.old.conn.now) (state S.Store tx.new.conn.now) result }
+    ensures damage { TellsDamage (MadeDamage command.now)
         (state S.Store tx.old.conn.now) (state S.Store tx.new.conn.now) result }
 {
     let entry = entry_of_command(alloc, tx, command)?;

@@ -9,6 +9,7 @@ ghost use Rattle.mx_row_rules.specs.changes.Rows.{IsEntryOf};
 ghost use Rattle.mx_lookups.specs.numbers.AnyRows.{ReadsAny};
 ghost use Rattle.mx_lookups.specs.numbers.Given.{AircraftNumber, ComponentNumber, DefectNumber, ItemNumber};
 ghost use Rattle.mx_lookups.specs.numbers.Reads.{Reads};
+ghost use Rattle.mx_lookups.specs.numbers.Told.{AircraftDamage, ComponentDamage, EntryDamage, ItemDamage, LastDamage, TellsDamage};
 ghost use Rattle.mx_apply.specs.made.Found.{IsEntryBehind, NumberBy};
 
 use mx_base::rows::EntryRow;
@@ -32,6 +33,8 @@ pub fn entry_of_command<S: Alter>(
         (state S.Store tx.old.conn.now) (state S.Store tx.new.conn.now) result }
     ensures any_rows { ReadsAny (IsEntryBehind command.now)
         (state S.Store tx.old.conn.now) (state S.Store tx.new.conn.now) result }
+    ensures damage { TellsDamage LastDamage
+        (state S.Store tx.old.conn.now) (state S.Store tx.new.conn.now) result }
     ensures fits { IfOk result FitsEntry }
     ensures shaped { IfOk result (λ row. has_shape command.now ≡ true) }
 {
@@ -50,6 +53,8 @@ pub fn number_of_aircraft<S: Alter>(
         (state S.Store tx.old.conn.now) (state S.Store tx.new.conn.now) result }
     ensures any_rows { ReadsAny (NumberBy (AircraftNumber tail.now))
         (state S.Store tx.old.conn.now) (state S.Store tx.new.conn.now) result }
+    ensures damage { TellsDamage (AircraftDamage tail.now)
+        (state S.Store tx.old.conn.now) (state S.Store tx.new.conn.now) result }
 {
     let found = aircraft_number(alloc, tx, tail)?;
     Ok(or_zero(found))
@@ -65,6 +70,8 @@ pub fn number_of_component<S: Alter>(
     ensures reads { Reads (λ book number. number ≡ number_of_serial book serial.now)
         (state S.Store tx.old.conn.now) (state S.Store tx.new.conn.now) result }
     ensures any_rows { ReadsAny (NumberBy (ComponentNumber serial.now))
+        (state S.Store tx.old.conn.now) (state S.Store tx.new.conn.now) result }
+    ensures damage { TellsDamage (ComponentDamage serial.now)
         (state S.Store tx.old.conn.now) (state S.Store tx.new.conn.now) result }
 {
     let found = component_number(alloc, tx, serial)?;
@@ -82,6 +89,8 @@ pub fn number_of_item<S: Alter>(
         (state S.Store tx.old.conn.now) (state S.Store tx.new.conn.now) result }
     ensures any_rows { ReadsAny (NumberBy (ItemNumber item.now))
         (state S.Store tx.old.conn.now) (state S.Store tx.new.conn.now) result }
+    ensures damage { TellsDamage (ItemDamage item.now)
+        (state S.Store tx.old.conn.now) (state S.Store tx.new.conn.now) result }
 {
     let found = item_number(alloc, tx, item)?;
     Ok(or_zero(found))
@@ -97,6 +106,8 @@ pub fn number_of_defect<S: Alter>(
     ensures reads { Reads (λ book number. number ≡ or_zero (seq_of_defect book doc.now))
         (state S.Store tx.old.conn.now) (state S.Store tx.new.conn.now) result }
     ensures any_rows { ReadsAny (NumberBy (DefectNumber doc.now))
+        (state S.Store tx.old.conn.now) (state S.Store tx.new.conn.now) result }
+    ensures damage { TellsDamage (EntryDamage doc.now)
         (state S.Store tx.old.conn.now) (state S.Store tx.new.conn.now) result }
 {
     let found = defect_number(alloc, tx, doc)?;

@@ -15,6 +15,8 @@ ghost use Rattle.mx_row_rules.specs.changes.Certified.{AreKnownOf, HasLifeReache
 ghost use Rattle.mx_lookups.specs.numbers.AnyRows.{ReadsAny};
 ghost use Rattle.mx_lookups.specs.numbers.Given.{ItemNumber};
 ghost use Rattle.mx_lookups.specs.numbers.Reads.{Reads};
+ghost use Rattle.mx_lookups.specs.numbers.Told.{ItemDamage, TellsDamage};
+ghost use Rattle.mx_apply.specs.made.Damage.{ActDamage, DueDamage, LifeDamage, LineKnownDamage, ReleaseKnownDamage};
 ghost use Rattle.mx_apply.specs.made.Found.{AreLinesAt, AreRowsBy, DueBy, IsLineFound, ItemFound, KindAt, LifeBy, NumberBy};
 ghost use Rattle.mx_apply.specs.made.Made.{AreRowsOf};
 ghost use Rattle.mx_apply.specs.made.Releases.{due_by_kind};
@@ -46,6 +48,8 @@ fn found_of_item<S: Alter>(
         (state S.Store tx.old.conn.now) (state S.Store tx.new.conn.now) result }
     ensures any_rows { ReadsAny (ItemFound item.now)
         (state S.Store tx.old.conn.now) (state S.Store tx.new.conn.now) result }
+    ensures damage { TellsDamage (ItemDamage item.now)
+        (state S.Store tx.old.conn.now) (state S.Store tx.new.conn.now) result }
 {
     match item {
         Item::Airframe(tail) => {
@@ -72,6 +76,8 @@ fn place_found<S: Alter>(
     ensures any_rows { ReadsAny (λ trees found.
         NumberBy (ItemNumber (item_at place.now)) trees found.0 × KindAt place.now trees found.1)
         (state S.Store tx.old.conn.now) (state S.Store tx.new.conn.now) result }
+    ensures damage { TellsDamage (ItemDamage (item_at place.now))
+        (state S.Store tx.old.conn.now) (state S.Store tx.new.conn.now) result }
 {
     let item = item_of_place(place);
     let number = number_of_item(alloc, tx, &item)?;
@@ -89,6 +95,8 @@ fn life_reached<S: Alter>(
     ensures reads { Reads (λ book reached. reached ≡ use_or_none (life_now book item.now))
         (state S.Store tx.old.conn.now) (state S.Store tx.new.conn.now) result }
     ensures any_rows { ReadsAny (LifeBy item.now)
+        (state S.Store tx.old.conn.now) (state S.Store tx.new.conn.now) result }
+    ensures damage { TellsDamage (LifeDamage item.now)
         (state S.Store tx.old.conn.now) (state S.Store tx.new.conn.now) result }
     ensures life { IfOk result IsLife }
 {
@@ -120,6 +128,8 @@ fn due_by<S: Alter>(
     ensures reads { Reads (λ book due. due ≡ due_by_kind book kind.now item.now id.now)
         (state S.Store tx.old.conn.now) (state S.Store tx.new.conn.now) result }
     ensures any_rows { ReadsAny (DueBy kind.now item.now id.now)
+        (state S.Store tx.old.conn.now) (state S.Store tx.new.conn.now) result }
+    ensures damage { TellsDamage (DueDamage kind.now item.now id.now)
         (state S.Store tx.old.conn.now) (state S.Store tx.new.conn.now) result }
 {
     let found = found_of_item(alloc, tx, item)?;
@@ -153,6 +163,8 @@ fn line_known<S: Alter>(
         (state S.Store tx.old.conn.now) (state S.Store tx.new.conn.now) result }
     ensures any_rows { ReadsAny (λ trees known. IsLineFound kind.now trees line.now known)
         (state S.Store tx.old.conn.now) (state S.Store tx.new.conn.now) result }
+    ensures damage { TellsDamage (LineKnownDamage kind.now line.now)
+        (state S.Store tx.old.conn.now) (state S.Store tx.new.conn.now) result }
     ensures life { IfOk result HasLifeReached }
 {
     match line {
@@ -183,6 +195,8 @@ fn release_known<S: Alter>(
     ensures any_rows { ReadsAny (λ trees known.
         NumberBy (ItemNumber (item_at release.now.place)) trees known.0
         × AreLinesAt release.now.place lines.now trees known.1.items)
+        (state S.Store tx.old.conn.now) (state S.Store tx.new.conn.now) result }
+    ensures damage { TellsDamage (ReleaseKnownDamage release.now.place lines.now)
         (state S.Store tx.old.conn.now) (state S.Store tx.new.conn.now) result }
     ensures each { IfOk result (λ known. length known.1.items ≡ length lines.now) }
     ensures lives { IfOk result (λ known. All HasLifeReached known.1.items) }
@@ -215,6 +229,8 @@ pub fn rows_of_release<S: Alter>(
     ensures reads { Reads (AreRowsOf (Released release lines.now) entry)
         (state S.Store tx.old.conn.now) (state S.Store tx.new.conn.now) result }
     ensures any_rows { ReadsAny (AreRowsBy (Released release lines.now) entry)
+        (state S.Store tx.old.conn.now) (state S.Store tx.new.conn.now) result }
+    ensures damage { TellsDamage (ActDamage (Released release lines.now))
         (state S.Store tx.old.conn.now) (state S.Store tx.new.conn.now) result }
 {
     let (item, known) = release_known(alloc, tx, &release, lines)?;

@@ -8,6 +8,8 @@ ghost use Rattle.mx_registers.specs.kept.Totals.{is_among, total_in, total_rows}
 ghost use Rattle.mx_row_rules.specs.changes.Kept.{HasLife};
 ghost use Rattle.mx_lookups.specs.numbers.AnyRows.{ReadsAny};
 ghost use Rattle.mx_lookups.specs.numbers.Reads.{Reads};
+ghost use Rattle.mx_lookups.specs.numbers.Told.{TellsDamage};
+ghost use Rattle.mx_apply.specs.made.Damage.{ItemAtDamage, TotalAtDamage, TotalsDamage};
 ghost use Rattle.mx_apply.specs.made.Found.{AppendsTotal, AreTotalsOf};
 ghost use Rattle.mx_apply.specs.made.Totals.{HasItem, TotalOf};
 
@@ -43,6 +45,8 @@ fn is_item<S: Alter>(
         (state S.Store tx.old.conn.now) (state S.Store tx.new.conn.now) result }
     ensures any_rows { ReadsAny (λ trees there. IsTrue there ↔ HasItem number trees)
         (state S.Store tx.old.conn.now) (state S.Store tx.new.conn.now) result }
+    ensures damage { TellsDamage (ItemAtDamage number)
+        (state S.Store tx.old.conn.now) (state S.Store tx.new.conn.now) result }
 {
     let aircraft = aircraft_by_seq(alloc, tx, number)?;
     if is_number(aircraft_number(&aircraft), number) {
@@ -74,6 +78,8 @@ pub fn total_of<S: Alter>(
     ensures reads { Reads (λ book found. found ≡ total_in (total_rows book) number)
         (state S.Store tx.old.conn.now) (state S.Store tx.new.conn.now) result }
     ensures any_rows { ReadsAny (TotalOf number)
+        (state S.Store tx.old.conn.now) (state S.Store tx.new.conn.now) result }
+    ensures damage { TellsDamage (TotalAtDamage number)
         (state S.Store tx.old.conn.now) (state S.Store tx.new.conn.now) result }
     ensures life { IfOk result (λ found. IfSome found HasLife) }
 {
@@ -111,6 +117,8 @@ fn push_total<S: Alter>(
     ensures any_rows { ReadsAny (λ trees done.
         AppendsTotal number totals.old.items totals.new.items trees)
         (state S.Store tx.old.conn.now) (state S.Store tx.new.conn.now) result }
+    ensures damage { TellsDamage (TotalAtDamage number)
+        (state S.Store tx.old.conn.now) (state S.Store tx.new.conn.now) result }
     ensures lives { OnOk result (All HasLife totals.old.items → All HasLife totals.new.items) }
 {
     let found = total_of(alloc, tx, number)?;
@@ -134,6 +142,8 @@ fn totals_in_order<S: Alter>(
         totals.items ≡ filter (is_among numbers.now) (total_rows book))
         (state S.Store tx.old.conn.now) (state S.Store tx.new.conn.now) result }
     ensures any_rows { ReadsAny (λ trees totals. AreTotalsOf numbers.now trees totals.items)
+        (state S.Store tx.old.conn.now) (state S.Store tx.new.conn.now) result }
+    ensures damage { TellsDamage (TotalsDamage numbers.now)
         (state S.Store tx.old.conn.now) (state S.Store tx.new.conn.now) result }
     ensures lives { IfOk result (λ totals. All HasLife totals.items) }
 {
@@ -160,6 +170,8 @@ pub fn totals_of<S: Alter>(
         totals.items ≡ filter (is_among numbers.now) (total_rows book))
         (state S.Store tx.old.conn.now) (state S.Store tx.new.conn.now) result }
     ensures any_rows { ReadsAny (λ trees totals. AreTotalsOf numbers.now trees totals.items)
+        (state S.Store tx.old.conn.now) (state S.Store tx.new.conn.now) result }
+    ensures damage { TellsDamage (TotalsDamage numbers.now)
         (state S.Store tx.old.conn.now) (state S.Store tx.new.conn.now) result }
     ensures lives { IfOk result (λ totals. All HasLife totals.items) }
 {

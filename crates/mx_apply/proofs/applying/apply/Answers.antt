@@ -9,7 +9,9 @@ use Rattle.mx_layout.specs.declared.fault.TableFault.{TableFault}
 use Rattle.mx_layout.specs.declared.fault.TableFault.TheVariants.{Store}
 use Rattle.mx_apply.specs.Applies.{Applies, HasOneCommit, Runs}
 use Rattle.mx_apply.proofs.ApplyLemmas.{handed_on}
-use Rattle.mx_apply.proofs.CommitLemmas.{commit_survives, commits, dropped_survives, in_doubt, stops, tells}
+use Rattle.mx_apply.proofs.CommitLemmas.{commit_survives, commits, dropped_survives, dropped_tells, in_doubt, stops, tells}
+use Rattle.mx_lookups.specs.numbers.Told.{TellsDamage}
+use Rattle.mx_apply.specs.Judged.{CommandDamage}
 use Rattle.mx_apply.proofs.applying.apply.Goals as goal
 
 -- the transaction is that which was begun
@@ -93,3 +95,15 @@ returns-in_default-clause-survives g c =
     let same : c.drop-tx-in-Already-1.new.self.0 ≡ c.conn-in-Already-1.given.0 = search rules in
     let runs = started g.S.Store c.args.command.now last (Ok told) c.transaction-tx.ensures.begun c.in_ok-told.ensures.runs in
     survived g.S.Store c.args.command.now c.args.conn.now same (dropped_survives g.S.Store c.args.conn.now last c.args.command.now c.drop-tx-in-Already-1.new.self.0 c.drop-tx-in-Already-1.ensures.survives c.drop-tx-in-Already-1.ensures.undone (Ok told) runs)
+
+pub returns-in_err-told-clause-damage : goal.returns-in_err-told-clause-damage
+returns-in_err-told-clause-damage g c =
+    let command = c.args.command.now in
+    let old = c.args.conn.now in
+    let last = c.run_command.new.tx.conn.now in
+    let e = c.in_err-told.field-0.0 in
+    let same : c.drop-tx.new.self.0 ≡ c.conn-1.given.0 = search rules in
+    let runs = started g.S.Store command last (Err e) c.transaction-tx.ensures.begun c.in_err-told.ensures.runs in
+    let tells = subst (λ h. TellsDamage {V = Reply} (CommandDamage command) (state g.S.Store h) (state g.S.Store last) (Err e)) c.transaction-tx.ensures.begun c.in_err-told.ensures.damage in
+    handed_on (λ r. TellsDamage (CommandDamage command) (state g.S.Store old) (state g.S.Store c.conn-1.given.0) r) e c.from_residual.result c.from_residual.ensures.1
+    (subst (λ h. TellsDamage {V = Reply} (CommandDamage command) (state g.S.Store old) (state g.S.Store h) (Err e)) same (dropped_tells g.S.Store old last command c.drop-tx.new.self.0 c.drop-tx.ensures.survives c.drop-tx.ensures.undone (Err e) runs tells))

@@ -2,6 +2,7 @@ use Rattle.std.proofs.Common.{Ok, subst}
 use Rattle.sqlite.specs.Held.{state}
 use Rattle.mx_lookups.specs.numbers.AnyRows.{ReadsAny}
 use Rattle.mx_lookups.specs.numbers.Reads.{Reads}
+use Rattle.mx_lookups.proofs.NumbersProofs.ToldLemmas.{handed}
 use Rattle.mx_apply.specs.Judged.{IsJudged, JudgedOf}
 use Rattle.mx_apply.proofs.ApplyLemmas.{already, refused, written}
 use Rattle.mx_apply.proofs.applying.run_command.Goals as goal
@@ -34,3 +35,6 @@ returns-in-Refused-clause-runs g c =
     let r = subst (λ j. Reads (IsJudged command) old mid (Ok j)) c.in-Refused.is c.in_ok-rows.ensures.reads in
     let any = subst (λ j. ReadsAny (JudgedOf command) old mid (Ok j)) c.in-Refused.is c.in_ok-rows.ensures.any_rows in
     refused command old mid c.in-Refused.refusal r any
+
+pub returns-in_err-rows-clause-damage : goal.returns-in_err-rows-clause-damage
+returns-in_err-rows-clause-damage g c = handed (λ name trees it. it) c.from_residual.ensures.1 c.in_err-rows.ensures.damage

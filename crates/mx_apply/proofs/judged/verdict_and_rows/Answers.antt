@@ -1,7 +1,9 @@
-use Rattle.std.proofs.Common.{◌∙◌, sym}
+use Rattle.std.proofs.Common.{◌∙◌, inl, inr, sym}
 use Rattle.mx_lookups.proofs.NumbersProofs.AnyLemmas.{any_so}
 use Rattle.mx_lookups.proofs.NumbersProofs.ReadLemmas.{reads_then, told}
 use Rattle.mx_apply.proofs.MadeProofs.AnyMadeLemmas.{any_then}
+use Rattle.mx_lookups.proofs.NumbersProofs.ToldLemmas.{handed}
+use Rattle.mx_apply.proofs.MadeProofs.DamageLemmas.{handed_later}
 use Rattle.mx_apply.proofs.judged.verdict_and_rows.Goals as goal
 
 pub returns-in_ok-rows-in-New-clause-reads : goal.returns-in_ok-rows-in-New-clause-reads
@@ -18,3 +20,10 @@ returns-in-Already-clause-any_rows g c = any_so _ _ _ _ _ _ (λ trees of. record
 
 pub returns-in-Refused-clause-any_rows : goal.returns-in-Refused-clause-any_rows
 returns-in-Refused-clause-any_rows g c = any_so _ _ _ _ _ _ (λ trees of. record { by = λ book answers. sym (of book answers) ∙ c.in-Refused.is; rows = tt }) c.in_ok-verdict.ensures.looks_up.any_rows
+
+pub returns-in_err-verdict-clause-damage : goal.returns-in_err-verdict-clause-damage
+returns-in_err-verdict-clause-damage g c = handed (λ _ _. inl) c.from_residual.ensures.1 c.in_err-verdict.ensures.looks_up.damage
+
+pub returns-in_err-rows-in-New-clause-damage : goal.returns-in_err-rows-in-New-clause-damage
+returns-in_err-rows-in-New-clause-damage g c =
+    handed_later (λ _ _. inr) c.from_residual-in_err-rows-in-New.ensures.1 c.in_ok-verdict.ensures.looks_up.reads c.in_err-rows-in-New.ensures.reads.within c.in_err-rows-in-New.ensures.damage

@@ -1,4 +1,4 @@
-use Rattle.std.proofs.Common.{◌∙◌, ◌∷◌, map, ap, subst, sym, pos, None}
+use Rattle.std.proofs.Common.{◌∙◌, inl, inr, ◌∷◌, map, ap, subst, sym, pos, List, None}
 use Rattle.mx_base.specs.declared.rows.rows.SpanRow.{SpanRow}
 use Rattle.mx_lookups.proofs.NumbersProofs.BookRows.{open_spans_of}
 use Rattle.mx_lookups.proofs.NumbersProofs.ReadLemmas.{reads_then, stopped, told}
@@ -14,6 +14,9 @@ use Rattle.mx_layout.specs.kept.Cells.{kept_span2}
 use Rattle.mx_table_rows.specs.chosen.Choices.{is_open}
 use Rattle.mx_lookups.specs.numbers.AnyRows.{AreChosen}
 use Rattle.mx_lookups.proofs.NumbersProofs.TableLemmas.{spans}
+use Rattle.mx_lookups.proofs.NumbersProofs.ToldLemmas.{handed, unread}
+use Rattle.mx_apply.specs.made.Damage.{TotalsDamage}
+use Rattle.mx_apply.proofs.MadeProofs.DamageLemmas.{handed_with, told_with}
 use Rattle.mx_apply.proofs.made.commands.rows_of_removal.Goals as goal
 
 pub returns-in_err-spans-clause-reads : goal.returns-in_err-spans-clause-reads
@@ -63,3 +66,21 @@ returns-clause-any_rows g c =
     })
     (any_then _ _ _ _ _ _ _ _ c.in_ok-component.ensures.reads c.in_ok-component.ensures.any_rows later.within
     (any_then _ _ _ _ _ _ _ _ opened (chosen_read spans c.in_ok-spans.ensures.reads) c.in_ok-totals.ensures.reads.within c.in_ok-totals.ensures.any_rows))
+
+pub returns-in_err-component-clause-damage : goal.returns-in_err-component-clause-damage
+returns-in_err-component-clause-damage g c = handed (λ _ _. inl) c.from_residual.ensures.1 c.in_err-component.ensures.damage
+
+pub returns-in_err-spans-clause-damage : goal.returns-in_err-spans-clause-damage
+returns-in_err-spans-clause-damage g c =
+    let m = c.in_ok-component.component in
+    told_with (λ name trees by it. inr (m, by, inl it)) c.in_ok-component.ensures.reads c.in_ok-component.ensures.any_rows c.in_err-spans.ensures.reads.within (unread spans c.from_residual-in_err-spans.ensures.1 c.in_err-spans.ensures.reads)
+
+pub returns-in_err-totals-clause-damage : goal.returns-in_err-totals-clause-damage
+returns-in_err-totals-clause-damage g c =
+    let m = c.in_ok-component.component in
+    let rows = c.in_ok-spans.spans.items in
+    let opened = open_spans_of m c.in_ok-spans.ensures.reads in
+    let numbers = c.deref-2.ensures.value ∙ c.in_ok-numbers.ensures ∙ ap (numbers_removed m) c.deref.ensures.value in
+    told_with (λ name trees by it. inr (m, by, inr it)) c.in_ok-component.ensures.reads c.in_ok-component.ensures.any_rows (reads_then _ _ _ _ _ _ _ opened c.in_err-totals.ensures.reads).within
+    (handed_with {Why = λ name trees. (spans : List SpanRow) × AreChosen kept_span2 None kept_span2.order (is_open 1 (Int (pos m))) trees spans × TotalsDamage (numbers_removed m spans) name trees} (λ name trees chose it. (rows, chose, subst (λ ns. TotalsDamage ns name trees) numbers it))
+    c.from_residual-in_err-totals.ensures.1 opened (chosen_read spans c.in_ok-spans.ensures.reads) c.in_err-totals.ensures.reads.within c.in_err-totals.ensures.damage)

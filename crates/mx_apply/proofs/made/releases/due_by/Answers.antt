@@ -1,4 +1,4 @@
-use Rattle.std.proofs.Common.{◌∙◌, Some, ap, ap₂, sym, refl}
+use Rattle.std.proofs.Common.{◌∙◌, inl, inr, Some, ap, ap₂, subst, sym, refl}
 use Rattle.std.specs.Option.{option_and_then}
 use Rattle.mx_book.specs.due.Due.{due_after}
 use Rattle.mx_book.specs.Base.{base}
@@ -8,6 +8,9 @@ use Rattle.mx_apply.specs.made.Releases.{due_by_kind}
 use Rattle.mx_apply.proofs.MadeProofs.ReleaseLemmas.{due_known}
 use Rattle.mx_lookups.proofs.NumbersProofs.AnyLemmas.{any_so}
 use Rattle.mx_apply.proofs.MadeProofs.AnyMadeLemmas.{any_then, due_falls, due_never}
+use Rattle.mx_lookups.proofs.NumbersProofs.ToldLemmas.{handed}
+use Rattle.mx_apply.specs.made.Damage.{DueDamage}
+use Rattle.mx_apply.proofs.MadeProofs.DamageLemmas.{due_based, handed_later}
 use Rattle.mx_apply.proofs.made.releases.due_by.Goals as goal
 
 pub returns-in-Some-named-clause-reads : goal.returns-in-Some-named-clause-reads
@@ -104,3 +107,15 @@ pub returns-in-None-clause-any_rows : goal.returns-in-None-clause-any_rows
 returns-in-None-clause-any_rows g c =
     any_so _ _ _ _ _ _ (λ trees both. record { found = c.in_ok-found.found; built = both.0; last = c.in_ok-last.last; done = both.1; falls = due_never trees c.args.kind.now c.args.id.now c.in_ok-last.last c.in_ok-found.found _ c.in-None.is refl })
     (any_then _ _ _ _ _ _ _ _ c.in_ok-found.ensures.reads c.in_ok-found.ensures.any_rows c.in_ok-last.ensures.looks_up.reads.within c.in_ok-last.ensures.looks_up.any_rows)
+
+pub returns-in_err-found-clause-damage : goal.returns-in_err-found-clause-damage
+returns-in_err-found-clause-damage g c = handed (λ name trees it. due_based c.args.kind.now c.args.item.now c.args.id.now name trees (inl it)) c.from_residual.ensures.1 c.in_err-found.ensures.damage
+
+pub returns-in_err-last-clause-damage : goal.returns-in_err-last-clause-damage
+returns-in_err-last-clause-damage g c =
+    handed_later (λ name trees it. due_based c.args.kind.now c.args.item.now c.args.id.now name trees it) c.from_residual-in_err-last.ensures.1 c.in_ok-found.ensures.reads c.in_err-last.ensures.looks_up.reads.within c.in_err-last.ensures.looks_up.damage
+
+pub returns-in_err-known-in-Some-clause-damage : goal.returns-in_err-known-in-Some-clause-damage
+returns-in_err-known-in-Some-clause-damage g c =
+    handed_later (λ name trees it. subst (λ o. DueDamage o c.args.item.now c.args.id.now name trees) (sym c.in-Some.is) (inr it)) c.from_residual-in_err-known-in-Some.ensures.1
+    (reads_then _ _ _ _ _ _ _ c.in_ok-found.ensures.reads c.in_ok-last.ensures.looks_up.reads) c.in_err-known-in-Some.ensures.looks_up.reads.within c.in_err-known-in-Some.ensures.looks_up.damage

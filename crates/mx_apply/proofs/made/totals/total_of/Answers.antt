@@ -1,4 +1,4 @@
-use Rattle.std.proofs.Common.{◌∙◌, None, Option, List, refl, sym, ap}
+use Rattle.std.proofs.Common.{◌∙◌, inl, inr, None, Option, List, refl, sym, ap}
 use Rattle.std.specs.Prelude.{slice_get}
 use Rattle.mx_base.specs.declared.rows.rows.TotalRow.{TotalRow}
 use Rattle.mx_row_rules.specs.changes.Kept.{HasLife}
@@ -8,6 +8,8 @@ use Rattle.mx_lookups.proofs.NumbersProofs.BookRows.{totals_of}
 use Rattle.mx_lookups.proofs.NumbersProofs.ReadLemmas.{reads_then, refused, stopped, told}
 use Rattle.mx_lookups.proofs.NumbersProofs.TableLemmas.{totals}
 use Rattle.mx_apply.proofs.MadeProofs.TotalLemmas.{missing_total, no_total, total_first, total_lives, total_past, total_there}
+use Rattle.mx_lookups.proofs.NumbersProofs.ToldLemmas.{told_as, told_here, unread}
+use Rattle.mx_apply.proofs.MadeProofs.DamageLemmas.{handed_with, told_missing, total_none}
 use Rattle.mx_apply.proofs.made.totals.total_of.Goals as goal
 
 abbrev first : List TotalRow → Option TotalRow
@@ -54,3 +56,21 @@ returns-clause-any_rows g c =
 pub returns-in_err-there-in-None-clause-reads : goal.returns-in_err-there-in-None-clause-reads
 returns-in_err-there-in-None-clause-reads g c =
     stopped _ _ _ _ _ _ c.from_residual-in_err-there-in-None.ensures.1 (reads_then _ _ _ _ _ _ _ (totals_of c.args.number c.in_ok-rows.ensures.reads) c.in_err-there-in-None.ensures.reads)
+
+pub returns-in_err-rows-clause-damage : goal.returns-in_err-rows-clause-damage
+returns-in_err-rows-clause-damage g c = told_as (λ _ _. inl) (unread totals c.from_residual.ensures.1 c.in_err-rows.ensures.reads)
+
+pub returns-in-Some-clause-damage : goal.returns-in-Some-clause-damage
+returns-in-Some-clause-damage g c =
+    let past : HasLife c.in-Some.row.now → ⊥ = λ low. (let e = sym c.if-is_life.false ∙ c.is_life.ensures.1 low in absurd cc) in
+    told_here table.Total2 (λ clean has. inr (inl (refl, (c.in-Some.row.now, (gives totals first (c.in-Some.ensures.value ∙ ap first c.deref.ensures.value) c.in_ok-rows.ensures.reads).found clean has, past))))
+
+pub returns-then-there-clause-damage : goal.returns-then-there-clause-damage
+returns-then-there-clause-damage g c =
+    let two = c.in_ok-there-in-None.ensures in
+    told_missing c.args.number _ _ _ _ _ _ (totals_of c.args.number c.in_ok-rows.ensures.reads) two.reads.within (gives totals first (c.in-None.ensures.value ∙ ap first c.deref.ensures.value) c.in_ok-rows.ensures.reads) two.any_rows c.if-there.true
+
+pub returns-in_err-there-in-None-clause-damage : goal.returns-in_err-there-in-None-clause-damage
+returns-in_err-there-in-None-clause-damage g c =
+    handed_with (λ name trees none it. inr (inr (total_none c.args.number none, inl it))) c.from_residual-in_err-there-in-None.ensures.1 (totals_of c.args.number c.in_ok-rows.ensures.reads)
+    (gives totals first (c.in-None.ensures.value ∙ ap first c.deref.ensures.value) c.in_ok-rows.ensures.reads) c.in_err-there-in-None.ensures.reads.within c.in_err-there-in-None.ensures.damage

@@ -1,6 +1,6 @@
 use Rattle.std.proofs.Common.{◌≡◌, ◌+◌, ◌∙◌, ◌++◌, ◌∷◌, [], ℕ, All, Ok, Vec, filter, get_or, take, sym, subst, ap, arith}
 use Rattle.std.proofs.lemmas.List.{take_more}
-use Rattle.std.proofs.lemmas.List.Elements.{All-nil}
+use Rattle.std.proofs.lemmas.List.Elements.{All-nil, Contains-get_or}
 use Rattle.std.specs.declared.alloc.Global.{Global}
 use Rattle.sqlite.specs.Held.{state}
 use Rattle.sqlite.specs.declared.transaction.Transaction.{Transaction}
@@ -16,6 +16,8 @@ use Rattle.mx_apply.proofs.MadeProofs.AnyTotalLemmas.{again_of, none_of, one_of,
 use Rattle.mx_lookups.proofs.NumbersProofs.ReadLemmas.{reads_then, stopped}
 use Rattle.mx_apply.proofs.MadeProofs.AmongLemmas.{below_next, first_read, none_read, one_read, there_already}
 use Rattle.mx_apply.proofs.made.totals.totals_in_order.Goals.{then-numbers-i+in_ok-push_total-2, else-numbers-i}
+use Rattle.mx_lookups.proofs.NumbersProofs.ToldLemmas.{handed}
+use Rattle.mx_apply.proofs.MadeProofs.DamageLemmas.{handed_later}
 use Rattle.mx_apply.proofs.made.totals.totals_in_order.Goals as goal
 
 pub returns-in_err-push_total-2-clause-reads : goal.returns-in_err-push_total-2-clause-reads
@@ -75,3 +77,12 @@ numbers-preserved g c =
             lives = subst (λ (v : Vec TotalRow Global). All HasLife v.items) (sym w.totals-is) c.numbers.invariant.lives;
           }
     ]
+
+pub returns-in_err-push_total-clause-damage : goal.returns-in_err-push_total-clause-damage
+returns-in_err-push_total-clause-damage g c = (let ns = c.args.numbers.now in handed (λ name trees it. (get_or ns 0 0, Contains-get_or ns 0 0 c.requires.some, it)) c.from_residual.ensures.1 c.in_err-push_total.ensures.damage)
+
+pub returns-in_err-push_total-2-clause-damage : goal.returns-in_err-push_total-2-clause-damage
+returns-in_err-push_total-2-clause-damage g c =
+    let ns = c.args.numbers.now in
+    let i = c.numbers.i in
+    handed_later (λ name trees it. (get_or ns i 0, Contains-get_or ns i 0 c.numbers-test.true, it)) c.from_residual-in_err-push_total-2.ensures.1 c.numbers.invariant.reads c.in_err-push_total-2.ensures.reads.within c.in_err-push_total-2.ensures.damage

@@ -14,9 +14,9 @@ returns-clause-ran g c =
     let new = state g.S.Store c.apply.new.conn in
     let answered = c.call_answer-answered.result in
     run_handed (command ∷ []) (replies_in answered) (stop_in answered) c.args.self.now _ c.if-self.false
-    (subst (λ r. HandsIn (command ∷ []) (replies_in r) (stop_in r) old new) (sym c.call_answer-answered.ensures) (handed_one command old new c.apply.result (record { applies = c.apply.ensures.applies; survives = c.apply.ensures.survives })))
+    (subst (λ r. HandsIn (command ∷ []) (replies_in r) (stop_in r) old new) (sym c.call_answer-answered.ensures) (handed_one command old new c.apply.result (record { applies = c.apply.ensures.applies; survives = c.apply.ensures.survives; damage = c.apply.ensures.damage })))
     (one_handed answered) (search rules) (search rules) (search rules) (search rules) (search rules)
 
 pub returns-clause-entered : goal.returns-clause-entered
 returns-clause-entered g c clean =
-    rw c.call_answer-answered.ensures (entered c.args.command.now (office_state c.args.self.now) (state g.S.Store c.apply.new.conn) c.apply.result (record { applies = c.apply.ensures.applies; survives = c.apply.ensures.survives }) clean)
+    rw c.call_answer-answered.ensures (entered c.args.command.now (office_state c.args.self.now) (state g.S.Store c.apply.new.conn) c.apply.result (record { applies = c.apply.ensures.applies; survives = c.apply.ensures.survives; damage = c.apply.ensures.damage }) clean)
