@@ -154,6 +154,26 @@ def given_up(desk: Desk, request: bytes) -> bytes:
     return b""
 
 
+def is_unread(peer: socket.socket, port: int) -> bool:
+    """Whether bytes of a connection to this port lie with the system that the program has not read yet."""
+    ends = f"0100007F:{port:04X} 0100007F:{peer.getsockname()[1]:04X}"
+    for line in pathlib.Path("/proc/net/tcp").read_text().split("\n"):
+        if ends in line:
+            return not line.split()[4].endswith(":00000000")
+    return False
+
+
+def unanswered(desk: Desk, request: bytes) -> bytes:
+    """The connection is reset once the program has read the whole request, so that its answer can't be taken."""
+    with desk.connect() as peer:
+        send(peer, request)
+        until = time.monotonic() + PATIENCE
+        while is_unread(peer, desk.port) and time.monotonic() < until:
+            time.sleep(0.0005)
+        peer.setsockopt(socket.SOL_SOCKET, socket.SO_LINGER, struct.pack("ii", 1, 0))
+    return b""
+
+
 def behind_another(desk: Desk, request: bytes) -> bytes:
     """All of it has come before the program looks at it, since another peer is served first, so that the connection ends
     without a reset, which may take an answer away that is not read yet. It takes two connections."""

@@ -102,10 +102,16 @@ repeat = { hours = 2000 }
 """
 HEADER = b"tail,page,line,off,on,cycles\n"
 FIRST_ROW = b"D-ABCD,12,1,2024-03-01T08:00,2024-03-01T09:30,1\n"
+SECOND_ROW = b"D-ABCD,13,1,2024-03-02T08:00,2024-03-02T08:45,2\n"
 
 
 def sector(page: int, line: int, off: str, on: str, cycles: int = 1) -> Command:
     return {"do": "sector", "tail": TAIL, "page": page, "line": line, "off": off, "on": on, "cycles": cycles}
+
+
+# The commands of the two rows.
+FIRST_SECTOR = sector(12, 1, "2024-03-01T08:00", "2024-03-01T09:30")
+SECOND_SECTOR = sector(13, 1, "2024-03-02T08:00", "2024-03-02T08:45", 2)
 
 
 def dated(do: str, doc: str, day: str, **more: object) -> Command:
@@ -150,4 +156,4 @@ def path_of(question: str, tail: str = TAIL) -> str:
     return "/".join(["/aircraft", tail, question, *QUESTIONS[question]])
 
 
-DUE_PATH, LIFE_PATH = path_of("due"), path_of("life")
+DUE_PATH, LIFE_PATH, LIMITS_PATH = path_of("due"), path_of("life"), path_of("limits")

@@ -14,7 +14,7 @@ from model.http_text import Asked, asked_of
 from model.judge import enter
 from model.playing import words_of
 from office_facts import (
-    AIRCRAFT, COMMANDS, FLEET_QUESTIONS, HEADER, PROGRAMME, QUESTIONS, TABLES, TAIL, Command, path_of,
+    AIRCRAFT, COMMANDS, FIRST_ROW, FLEET_QUESTIONS, HEADER, PROGRAMME, QUESTIONS, SECOND_ROW, TABLES, TAIL, Command, path_of,
 )
 
 ALL_TABLES = set(TABLES)
@@ -270,15 +270,22 @@ class Programme(Entering):
         for number in range(1, 101)))
 
 
+def row(line: int) -> bytes:
+    """A row of a log, four a day; the first of them is cut."""
+    if line == 0:
+        return b"D-ABCD,14,1\n"
+    day, hour = 3 + line // 4, 6 + 3 * (line % 4)
+    return b"D-ABCD,14,%d,2024-03-%02dT%02d:00,2024-03-%02dT%02d:30,1\n" % (line + 1, day, hour, day, hour)
+
+
 class Import(Entering):
-    """`import FILE CSV`, with twenty rows of which the third is bad."""
+    """`import FILE CSV`, with twenty rows, of which the second lands before it takes off, and the fourth is cut."""
 
     name = "import"
     status = 3
     earlier = [Asked("enter", (), made(AIRCRAFT))]
-    asked = Asked("import", (), HEADER + b"".join(
-        b"D-ABCD,1,3\n" if line == 3 else b"D-ABCD,1,%d,2024-02-%02dT10:00,2024-02-%02dT10:30,1\n" % (line, line, line)
-        for line in range(1, 21)))
+    asked = Asked("import", (), HEADER + FIRST_ROW + b"D-ABCD,12,2,2024-03-01T10:00,2024-03-01T09:50,1\n" + SECOND_ROW
+                  + b"".join(map(row, range(17))))
 
 
 # Commands that a file of layout 1 takes, which has no programme, and how many of them it has where a word enters the

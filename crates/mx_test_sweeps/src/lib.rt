@@ -11,8 +11,8 @@
 //! - `keep`, `restore`: keeps a copy of the files, and takes it back;
 //! - `open [log CALLS] [db CALLS] [pages PAGES]`: opens the office; the log holds so many pages before it is copied;
 //! - `list COMMAND`, `list`: puts a command behind those of the list, or empties it;
-//! - `stops-of-making`, `stops-of-commands`, `stops-of-line`, `stops-of-commits`, `doubts`: sweeps, which play such
-//!   lines over copies (`sweep_lines`);
+//! - `stops-of-making`, `stops-of-commands`, `stops-of-line`, `stops-of-commits`, `stops-of-settling`, `doubts`: sweeps, which
+//!   play such lines over copies (`sweep_lines`);
 //! - `questions`: a sweep over the questions of the book of that list.
 //!
 //! Lines in the open office: commands, and the questions that the disks answer; `close`, `end` and `power` leave it.
@@ -36,6 +36,7 @@ mod settings;
 mod stops_of_commands;
 mod stops_of_line;
 mod stops_of_making;
+mod stops_of_settling;
 mod sweep;
 mod sweep_lines;
 

@@ -9,7 +9,7 @@ use mx_test_cases::{Disks, Unmade};
 use std::alloc::{AllocError, Global};
 
 // Lines that an office answers by saying that it has to be opened again.
-const CALLS: [&str; 8] = [
+const CALLS: [&str; 9] = [
     "run",
     "first",
     "life D-ABCD",
@@ -18,6 +18,7 @@ const CALLS: [&str; 8] = [
     "forecast D-ABCD 2024-03-10 30 120 1",
     "airframe D-ABCD",
     "entries 1 10",
+    "verify",
 ];
 
 /// What the plain book gives for the list of commands, over the office that the files hold.

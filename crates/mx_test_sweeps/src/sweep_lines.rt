@@ -7,6 +7,7 @@ use crate::settings::end_of;
 use crate::stops_of_commands::{CommandStops, plain_of};
 use crate::stops_of_line::{LineStops, calls_of_opening, seen_around};
 use crate::stops_of_making::MakingStops;
+use crate::stops_of_settling::{SettlingStops, asked_once};
 use crate::sweep::{End, Wrong, swept};
 use mx_test_cases::{AnswerText, Disks, Unmade};
 use std::alloc::Global;
@@ -76,6 +77,27 @@ fn stops_of_line<D: Disks>(
     swept(alloc, player, &mut stops, &BOTH_ENDS, at_least)
 }
 
+fn stops_of_settling<D: Disks>(
+    alloc: Global,
+    player: &mut Player<D>,
+    (file, pages, at_least): (&str, &str, &str),
+    commits: &str,
+    question: &[&str],
+) -> AnswerText {
+    let at_least = at_least.parse::<u64>()?;
+    let point = player.answer(&["step", "settle", commits])?;
+    let wanted = asked_once(player, question)?;
+    let mut stops = SettlingStops {
+        commits,
+        question,
+        file,
+        pages,
+        point,
+        wanted,
+    };
+    swept(alloc, player, &mut stops, &BOTH_ENDS, at_least)
+}
+
 fn doubts<D: Disks>(
     alloc: Global,
     player: &mut Player<D>,
@@ -123,6 +145,15 @@ fn played<D: Disks>(alloc: Global, player: &mut Player<D>, words: &[&str]) -> An
             at_least,
             line @ ..,
         ] => stops_of_line(alloc, player, (*file, *pages, *at_least), false, line),
+        [
+            "stops-of-settling",
+            file,
+            "pages",
+            pages,
+            at_least,
+            commits,
+            question @ ..,
+        ] => stops_of_settling(alloc, player, (*file, *pages, *at_least), commits, question),
         ["doubts", end, at_least] => doubts(alloc, player, end, at_least),
         ["questions", tail, day, at_least] => {
             stops_of_questions(alloc, player.list(), (*tail, *day, *at_least))
@@ -140,6 +171,7 @@ pub(crate) fn is_sweep(words: &[&str]) -> bool {
                 | "stops-of-commands"
                 | "stops-of-line"
                 | "stops-of-commits"
+                | "stops-of-settling"
                 | "doubts"
                 | "questions",
             ..
@@ -147,11 +179,17 @@ pub(crate) fn is_sweep(words: &[&str]) -> bool {
     )
 }
 
-/// What a sweep is answered: `stops-of-making FILE AT_LEAST`, `stops-of-commands FILE pages PAGES AT_LEAST`,
-/// `stops-of-line FILE pages PAGES AT_LEAST LINE`, `stops-of-commits FILE pages PAGES AT_LEAST LINE`, `doubts END AT_LEAST` or
-/// `questions TAIL DAY AT_LEAST`. The second and `doubts` hand the list of commands in to the office that the files hold; the third
-/// plays a line that changes the tables of the files, in one commit, and the fourth one that makes several; the last asks the
-/// book of the list, and no file. It plays its lines over copies, so that the player stays as it is.
+/// What a sweep is answered. AT_LEAST is how many stops there must be:
+/// - `stops-of-making FILE AT_LEAST`: the making of a file;
+/// - `stops-of-commands FILE pages PAGES AT_LEAST`: the list of commands is handed in to the office that the files hold;
+/// - `stops-of-line FILE pages PAGES AT_LEAST LINE`: a line that changes the tables of the files, in one commit;
+/// - `stops-of-commits FILE pages PAGES AT_LEAST LINE`: one that makes several commits;
+/// - `stops-of-settling FILE pages PAGES AT_LEAST COMMITS QUESTION`: the files are moved by so many commits, and the office that is
+///   opened behind each stop is asked;
+/// - `doubts END AT_LEAST`: the first command of the list, which is handed in again behind each stop;
+/// - `questions TAIL DAY AT_LEAST`: the book of the list is asked, and no file.
+///
+/// It plays its lines over copies, so that the player stays as it is.
 pub(crate) fn answer_of_sweep<D: Disks>(
     alloc: Global,
     player: &Player<D>,
