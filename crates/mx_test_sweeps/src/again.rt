@@ -2,6 +2,7 @@
 //! stopped is played once more. Here it is also decided whether a line is a sweep.
 
 use crate::player::Player;
+use crate::sweep::all_entries;
 use crate::sweep_lines::{answer_of_sweep, is_sweep};
 use mx_test_cases::{Disks, Plays, answer_of, append_joined};
 use std::alloc::{AllocError, Global};
@@ -47,10 +48,28 @@ impl<D: Disks> Again<D> {
         answer_of(self.alloc, answer)
     }
 
+    // Whether the office has as many entries as a run that a fault stopped told, or one more where that was the store's.
+    fn has_what_was_told(&mut self, told: &str) -> Result<bool, AllocError> {
+        let mut last = None;
+        for reply in told.split(" / ") {
+            if let Some(seq) = reply.strip_prefix("accepted ") {
+                last = seq.parse::<usize>().ok();
+            }
+        }
+        let Some(last) = last else {
+            return Ok(true);
+        };
+        let found = all_entries(&mut self.player).or(Err(AllocError))?.len();
+        Ok(found == last || told.ends_with("fault store") && found == last.saturating_add(1))
+    }
+
     // Plays a line that a fault stopped once more. Where the store failed, and for a list, of which a part may have
     // been accepted, what is known by now counts as accepted.
     fn play_again(&mut self, words: &[&str], first: &str) -> Result<String, AllocError> {
         self.player.open_again().or(Err(AllocError))?;
+        if matches!(words, ["run"]) && !self.has_what_was_told(first)? {
+            return String::from_str(self.alloc, "other entries than those that were told");
+        }
         let answer = self.play_once(words)?;
         if first.ends_with("fault store") || matches!(words, ["run"]) {
             return as_first(self.alloc, answer.as_str());
