@@ -1,4 +1,5 @@
 """What the scripts that ask the desk share: requests, the program as it serves, ways to send."""
+import itertools
 import json
 import pathlib
 import random
@@ -43,15 +44,21 @@ def run(office: str, *words: object) -> typing.Tuple[int, bytes, bytes]:
     return done.returncode, done.stdout, done.stderr
 
 
+# Ports below those from which connections are made, in an order of chance.
+NEXT_PORT = itertools.cycle(random.sample(range(20000, 32000), 12000))
+
+
 def free_port() -> int:
-    """A port that nobody has, below those from which connections are made."""
-    while True:
-        port = random.randrange(20000, 32000)
-        try:
-            with socket.create_server(("127.0.0.1", port)):
-                return port
-        except OSError:
-            continue
+    """A port that nobody has, and none of the last thousands that were given. It is bound to see that, and not listened at, where another
+    peer that waits for its own program might come in."""
+    for port in NEXT_PORT:
+        with socket.socket() as probe:
+            probe.setsockopt(socket.SOL_SOCKET, socket.SO_REUSEADDR, 1)
+            try:
+                probe.bind(("127.0.0.1", port))
+            except OSError:
+                continue
+            return port
 
 
 class Desk:
