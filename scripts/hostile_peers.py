@@ -14,7 +14,7 @@ from model import office
 from office_facts import COMMANDS, DUE_PATH, LIFE_PATH
 
 SLOW = 6  # bytes that come a second apart
-QUICK = 3  # seconds in which the next peer is answered
+QUICK = 10  # seconds in which the next peer is answered
 PEERS = 1000
 WARM = 100  # of those, behind which the program has what it holds from then on
 MORE_KILOBYTES = 256  # that it may hold behind the others
