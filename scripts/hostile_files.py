@@ -148,7 +148,7 @@ def cut_files(program: str, seed: int, settled: Kept, killed: Kept, limit: trial
         cases += [(at, log) for at in [1, 2, *places(len(of.db), chance, 34, PAGE)]]
     in_turn(kind, seed, functools.partial(cut_db, kind, settled, killed), cases, limit)
     kind.least("refused", 100)
-    kind.least("answered whole", 3)
+    kind.least("answered whole", 5)
     return kind
 
 
@@ -200,13 +200,25 @@ def read_by_sqlite(pair: Kept) -> Read:
             found = b"\n".join(line for line, in conn.execute("PRAGMA integrity_check"))
             if found != b"ok" and not UNUSED.fullmatch(found):
                 return None
-            schema = conn.execute("SELECT type, name, tbl_name, sql FROM sqlite_schema ORDER BY name").fetchall()
-            names = [name.decode() for kind, name, _, _ in schema if kind == b"table" and not name.startswith(b"sqlite_")]
+            schema = [(kind, name, b" ".join((sql or b"").lower().split())) for kind, name, sql in conn.execute(
+                "SELECT type, name, sql FROM sqlite_schema ORDER BY name")]  # blanks and capitals mean nothing in it
+            names = [name.decode() for kind, name, _ in schema if kind == b"table" and not name.startswith(b"sqlite_")]
             return schema, {name: sorted(conn.execute(f'SELECT * FROM "{name}"'), key=repr) for name in names}
         except (sqlite3.Error, UnicodeDecodeError, OverflowError):
             return None
         finally:
             conn.close()
+
+
+def roots_by_sqlite(pair: Kept) -> typing.Dict[str, int]:
+    """The first page of each table."""
+    with tempfile.TemporaryDirectory(prefix="office-hostile-") as folder:
+        file = pathlib.Path(folder) / "book.db"
+        pair.put(file)
+        conn = sqlite3.connect(file)
+        found = dict(conn.execute("SELECT name, rootpage FROM sqlite_schema WHERE type = 'table'"))
+        conn.close()
+        return found
 
 
 def same_rows(kind: Kind, empty: Kept, rows: Tables) -> typing.Optional[typing.Dict[str, Printed]]:
@@ -263,9 +275,10 @@ def changed_db(
         kind.count("unsound, and not verified")
         return
     came = words_on(kind, pair, {word: [alike[word], STORE] for word in WORDS}, what)
-    is_of_others = all(before[1][name] == found[1][name] for name in before[1] if name not in OWN)
-    if is_of_others:
+    if all(before[1][name] == found[1][name] for name in before[1] if name not in OWN):
         kind.want(f"{what}: it is verified", False, came["verify"] == VERIFIED)
+        kind.count("with other rows of what follows from the others, told")
+        return
     kind.count("with other rows, of another book" if came["verify"] == VERIFIED else "with other rows, told")
 
 
@@ -289,10 +302,15 @@ def changed_files(program: str, seed: int, settled: Kept, empty: Kept, limit: tr
         drawn = [chance.choice(used) if nth % 8 else chance.randrange(len(settled.db)) for _ in range(many)]
         cases.append([(at, other(chance, settled.db[at])) for at in drawn])
     cases += [[(at, other(chance, settled.db[at]))] for at in range(0, 100, 4)]
+    roots = roots_by_sqlite(settled)
+    with_own = [roots[name] for name in OWN]
+    own = [at for at in used if at // PAGE + 1 in with_own]
+    cases += [[(at, other(chance, settled.db[at]))] for at in chance.sample(own, 16)]
     cases += [[(it.end() - 1, ord("3"))] for it in re.finditer(OTHER_PART, settled.db) if it.start() in used]
     in_turn(kind, seed, lambda *it: changed_db(kind, settled, empty, before, list(it)), cases, limit)
     kind.least("unsound, and not verified", 20)
     kind.least("with other rows, told", 3)
+    kind.least("with other rows of what follows from the others, told", 3)
     kind.least("with other rows, of another book", 1)
     kind.least("with the same rows, answered as before", 10)
     return kind

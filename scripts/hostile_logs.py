@@ -21,14 +21,14 @@ from stopped_words import made
 # ── logs ──
 
 
-def by_others(folder: pathlib.Path, page: int) -> typing.Tuple[bytes, bytes]:
-    """The database and the log of another program, still open, with pages of this size."""
-    file = folder / f"others{page}.db"
+def by_others(folder: pathlib.Path, page: int, more: typing.Sequence[str] = ()) -> typing.Tuple[bytes, bytes]:
+    """The database and the log of another program, still open, with pages of this size, behind these texts too."""
+    file = folder / f"others{page}{len(more)}.db"
     conn = sqlite3.connect(file, isolation_level=None)
     for text in (f"PRAGMA page_size = {page}", "PRAGMA journal_mode = WAL", "PRAGMA wal_autocheckpoint = 0",
                  "CREATE TABLE note (id INTEGER PRIMARY KEY, text TEXT)", "INSERT INTO note VALUES (1, 'a')",
                  "WITH RECURSIVE n (i) AS (SELECT 2 UNION ALL SELECT i + 1 FROM n WHERE i < 900) "
-                 "INSERT INTO note SELECT i, 'note' FROM n"):
+                 "INSERT INTO note SELECT i, 'note' FROM n", *more):
         conn.execute(text)
     pair = file.read_bytes(), log_of(file).read_bytes()
     conn.close()
@@ -104,6 +104,8 @@ def logs(program: str, seed: int, settled: Kept, empty: Kept) -> Kind:
         others_db, others_log = by_others(folder, 4096)
         beside.look("the log of another program", settled._replace(log=others_log))
         beside.look("the log beside the file of another program", Kept(others_db, killed.log, []))
+        _, others_log = by_others(folder, 4096, ["PRAGMA wal_checkpoint(TRUNCATE)", "UPDATE note SET text = 'other'"])
+        beside.look("pages of another program alone", settled._replace(log=others_log))
         for page in (512, 1024, 65536):
             _, log = by_others(folder, page)
             beside.look(f"a log of pages of {page} bytes", settled._replace(log=log))

@@ -121,11 +121,11 @@ def kept(file: pathlib.Path, book: Book) -> Kept:
 
 
 def sector_rows(first: int, count: int) -> bytes:
-    """Rows of a log, one sector behind the other, four a day."""
-    begin = datetime.datetime(2024, 3, 7, 6)
+    """Rows of a log, one sector behind the other, twelve a day."""
+    begin = datetime.datetime(2024, 3, 7)
     found = b""
     for nth in range(first, first + count):
-        off = begin + datetime.timedelta(days=nth // 4, hours=3 * (nth % 4))
+        off = begin + datetime.timedelta(hours=2 * nth)
         on = off + datetime.timedelta(minutes=45)
         found += b"%s,%d,%d,%s,%s,1\n" % (TAIL.encode(), 100 + nth // 10, 1 + nth % 10, *(
             it.strftime("%Y-%m-%dT%H:%M").encode() for it in (off, on)))
@@ -135,7 +135,7 @@ def sector_rows(first: int, count: int) -> bytes:
 STEPS = [
     Asked("programme", ("P1",), PROGRAMME),
     Asked("enter", (), made(*COMMANDS)),
-    Asked("import", (), HEADER + sector_rows(0, 150)),
+    Asked("import", (), HEADER + sector_rows(0, 230)),
 ]
 
 
