@@ -1,4 +1,5 @@
 pub mod OwnLemmas
+pub mod AgainLemmas
 pub mod KeptLemmas
 pub mod CreatedLemmas
 pub mod ReopenedLemmas

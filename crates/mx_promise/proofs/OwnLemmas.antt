@@ -1,5 +1,5 @@
 -- Files with tables beside those of the program, at the point of the office; and what an opening makes of a file at any point.
-use Rattle.std.proofs.Common.{◌≡◌, ◌≢◌, ◌⊎◌, ◌∙◌, inl, inr, true, false, ℕ, List, [], ◌∷◌, Option, Some, None, IsTrue, refl, sym, subst, arith}
+use Rattle.std.proofs.Common.{◌≡◌, ◌≢◌, ◌⊎◌, ◌∙◌, inl, inr, false, ℕ, List, [], ◌∷◌, Option, Some, None, IsTrue, refl, sym, subst, arith}
 use Rattle.sqlite.proofs.Callers.{one_permutation}
 use Rattle.sqlite.specs.Held.{Held, state}
 use Rattle.sqlite.specs.Schema.{Schema}
@@ -12,7 +12,7 @@ use Rattle.mx_registers.specs.points.Commits.{point_behind}
 use Rattle.mx_registers.specs.points.Points.{is_on_way}
 use Rattle.mx_layout.specs.declared.fault.Table.TheVariants as table
 use Rattle.mx_layout.specs.Contents.{rows_in}
-use Rattle.mx_layout.specs.Crash.{ChangesNothing, Leaves}
+use Rattle.mx_layout.specs.Crash.{ChangesNothing, Leaves, RestsAs}
 use Rattle.mx_layout.specs.Point.{HoldsPoint, point_cells}
 use Rattle.mx_layout.specs.Tables.{HasOffice, office}
 use Rattle.mx_layout.proofs.CrashLemmas.{rests_kept}
@@ -72,6 +72,18 @@ still_in own old new book nothing rests =
 
 pub rests_still : (own : Schema) (old new : State) (book : List Entry) → ChangesNothing old new → RestsIn own old book → RestsIn own new book
 rests_still own old new book nothing = still_in own old new book (λ _. nothing)
+
+-- what is as it was found rests as the book that the tables stand for
+pub rests_found_here : (own : Schema) → IsSettled own → (now : State) (tables : Trees) (book : List Entry) → ((here : SaysHere tables) → RestsAs now here.schema (λ db. db ≡ tables)) → StandsHere own book tables → RestsIn own now book
+unfolding says_here
+rests_found_here own settled now tables book found stands =
+    let rests = found (says_here own settled tables book stands) in
+    record {
+      schema = rests.schema;
+      tables = λ clean is_open. subst (StandsHere own book) (sym (rests.tables clean is_open)) stands;
+      settled = rests.settled;
+      crash = λ clean db may. subst (StandsHere own book) (sym (rests.crash clean db may)) stands;
+    }
 
 -- ── at any point ──
 

@@ -1,5 +1,5 @@
 -- The headline, from what the run, the reopening and the printing answer.
-use Rattle.std.proofs.Common.{ℕ, List, take, Result, Ok, Err, IfOk, subst, sym}
+use Rattle.std.proofs.Common.{ℕ, List, take, Result, Ok, Err, IfOk, IfErr, inr, refl, subst, sym}
 use Rattle.std.proofs.Math.Logic.{∥∥₁_elim, ∥∥₁_map, ∥∥₁_prop}
 use Rattle.sqlite_disk.specs.declared.Disk as disk
 use Rattle.sqlite_store.specs.declared.store.FileStore.{FileStore}
@@ -13,23 +13,24 @@ use Rattle.mx_book.specs.commands.Act.{Entry}
 use Rattle.mx_book.specs.Accepted.{accepted, HasAcknowledged}
 use Rattle.mx_book.specs.Run.{book_run}
 use Rattle.mx_book.proofs.AcceptedLemmas.{acknowledged_stays}
-use Rattle.mx_layout.specs.Crash.{Leaves}
 use Rattle.mx_database.specs.power.Found.{IsEndOf}
 use Rattle.mx_faults.specs.declared.fault.OpenFault.{OpenFault}
 use Rattle.mx_office.specs.declared.fault.Outcomes.{Outcomes}
 use Rattle.mx_office.specs.Calls.{RunsOver}
+use Rattle.mx_office.specs.Layout.{office_point}
 use Rattle.mx_office.specs.Office.{office_state}
 use Rattle.mx_apply.specs.writing.Written.{IsSettled}
 use Rattle.mx_office.specs.Stands.{RestsIn}
 use Rattle.mx_promise.specs.Own.{StandsHere}
-use Rattle.mx_promise.specs.declared.running.Reopened.{Reopened}
-use Rattle.mx_promise.specs.declared.running.Unopened.{Unopened}
-use Rattle.mx_promise.specs.declared.running.Unopened.TheVariants.{Files, Database, Office}
+use Rattle.mx_promise.specs.declared.again.Reopened.{Reopened}
+use Rattle.mx_promise.specs.declared.again.Unopened.{Unopened}
+use Rattle.mx_promise.specs.declared.again.Unopened.TheVariants.{Files, Database, Office}
 use Rattle.mx_promise.specs.Kept.{IsBookKept}
 use Rattle.mx_promise.specs.Ended.{IsEnded}
-use Rattle.mx_promise.specs.Reopened.{FindsUnopened, IsUnopened, KeepsUnopened, IsKeptUnopened, IsReopened, Reopens, IsReopenedTwice, ReopensTwice, SaysHere}
-use Rattle.mx_promise.proofs.KeptLemmas.{book_left, is_book_kept, rests_as}
-use Rattle.mx_promise.proofs.OwnLemmas.{says_here}
+use Rattle.mx_promise.specs.Opened.{IsUnopenedAgain, MissesAgain}
+use Rattle.mx_promise.specs.Reopened.{KeepsUnopened, IsKeptUnopened, IsReopened, Reopens, IsReopenedTwice, ReopensTwice}
+use Rattle.mx_promise.proofs.KeptLemmas.{book_left, is_book_kept}
+use Rattle.mx_promise.proofs.OwnLemmas.{rests_found_here, stands_on}
 
 -- what a run of a book answered, and what it leaves
 abbrev pub HasRun : Schema → List Entry → List Entry → Outcomes → State → Type 0
@@ -46,27 +47,30 @@ is_kept_in own before commands outcomes end clean run db left =
     let one = book_left own end before commands outcomes run.kept run.crash clean db left in
     record { book = book_run before (take one.0 commands); kept = is_book_kept before commands outcomes one.0 one.1 (run.answered clean) (run.whole clean); stands = one.2 }
 
--- whatever a crash leaves of it is at the point of the office
-pub run_says : (own : Schema) → IsSettled own → (before commands : List Entry) (outcomes : Outcomes) (end : State) → HasRun own before commands outcomes end → Leaves end SaysHere
-run_says own settled before commands outcomes end run clean db may = let it = is_kept_in own before commands outcomes end clean run db may in says_here own settled db it.book it.stands
+pub is_kept_unopened : (own : Schema) → IsSettled own → (before commands : List Entry) (outcomes : Outcomes) (was now : State) (fault : OpenFault) (one : IsUnopenedAgain was fault now) (book : List Entry) → IsBookKept before commands outcomes book → StandsHere own book one.tables
+    → IsKeptUnopened own before commands outcomes fault now
+is_kept_unopened own settled before commands outcomes was now fault one book kept stands = record {
+  book = book;
+  kept = kept;
+  tables = rests_found_here own settled now one.tables book one.settled stands;
+  reason = (one.books own office_point book (stands_on own settled one.tables book stands)).reason (inr refl);
+}
 
-is_kept_unopened : (own : Schema) → IsSettled own → (before commands : List Entry) (outcomes : Outcomes) (end now : State) (fault : OpenFault) → HasRun own before commands outcomes end → IsUnopened end fault now → IsKeptUnopened own before commands outcomes fault now
-is_kept_unopened own settled before commands outcomes end now fault run left =
-    let it = is_kept_in own before commands outcomes end left.clean run left.found.tables left.found.left in
-    record { book = it.book; kept = it.kept; tables = rests_as own end.may_leave now it.book left.found it.stands; reason = left.reason own settled it.book it.stands }
-
-pub keeps_unopened : {D : Type 0} {g : disk.Ghosts D} (own : Schema) → IsSettled own → (before commands : List Entry) (outcomes : Outcomes) (end : Held (FileStore D g)) → HasRun own before commands outcomes (file_state end)
-    → (why : Unopened D g) → FindsUnopened (file_state end) why → KeepsUnopened own before commands outcomes why
-keeps_unopened own settled before commands outcomes end run (Files error) left = left
-keeps_unopened own settled before commands outcomes end run (Database error rest) left = λ faithful.
-    let it = left faithful in
+pub keeps_unopened : {X D : Type 0} {g : disk.Ghosts D} (own : Schema) → IsSettled own → (before commands : List Entry) (outcomes : Outcomes) (end : Held (FileStore D g)) → HasRun own before commands outcomes (file_state end)
+    → (again : Result X (Unopened D g)) → IfErr again (MissesAgain (file_state end)) → IfErr again (KeepsUnopened own before commands outcomes)
+keeps_unopened own settled before commands outcomes end run (Ok it) misses = tt
+keeps_unopened own settled before commands outcomes end run (Err (Files error)) misses = misses
+keeps_unopened own settled before commands outcomes end run (Err (Database error rest)) misses = λ faithful.
+    let it = misses faithful in
     ∣ record {
       was = end;
       clean = it.0;
       books = λ db may. (let one = is_kept_in own before commands outcomes (file_state end) it.0 run db may in (one.book, one.kept, one.stands));
       still = it.1;
     } ∣₁
-keeps_unopened own settled before commands outcomes end run (Office conn fault) left = λ clean. ∥∥₁_map (left clean) (λ one. is_kept_unopened own settled before commands outcomes (file_state end) (file_state conn) fault run one)
+keeps_unopened own settled before commands outcomes end run (Err (Office conn fault)) misses = λ clean. ∥∥₁_map (misses clean) (λ one.
+    let it = is_kept_in own before commands outcomes (file_state end) one.clean run one.tables one.left in
+    is_kept_unopened own settled before commands outcomes (file_state end) (file_state conn) fault one it.book it.kept it.stands)
 
 -- two runs, one after the other
 pub is_reopened_twice : {S : Type 0} {g : Ghosts S} (own : Schema) (before commands more : List Entry) (tail : List ℕ) (day : ℕ) (first second : Outcomes) (again : Reopened S g) (between : List Entry)

@@ -20,8 +20,8 @@ use Rattle.mx_promise.specs.Kept.{IsBookKept}
 use Rattle.mx_office.specs.declared.fault.Outcomes.{Outcomes}
 use Rattle.mx_promise.specs.Opened.{KeepsSomewhere, StandsSomewhere}
 use Rattle.mx_promise.specs.Reopened.{KeepsUnopened}
-use Rattle.mx_promise.specs.declared.running.Unopened.{Unopened}
-use Rattle.mx_promise.specs.declared.running.Unopened.TheVariants.{Files, Database, Office}
+use Rattle.mx_promise.specs.declared.again.Unopened.{Unopened}
+use Rattle.mx_promise.specs.declared.again.Unopened.TheVariants.{Files, Database, Office}
 use Rattle.mx_promise.specs.declared.next_process.Ended.{Ended}
 
 -- The store is what the process left of a connection, and each state of the tables that a crash of it may leave stands for the book from before and the first of the commands accepted since, with every acknowledged command in it.

@@ -19,8 +19,8 @@ use Rattle.mx_office.specs.Office.{office_state}
 use Rattle.mx_office.specs.Stands.{RestsIn}
 use Rattle.mx_promise.specs.Own.{RestsOn, StandsOn}
 use Rattle.mx_promise.specs.Reopened.{IsStopOf}
-use Rattle.mx_promise.specs.declared.running.Unopened.{Unopened}
-use Rattle.mx_promise.specs.declared.running.Unopened.TheVariants.{Files, Database, Office}
+use Rattle.mx_promise.specs.declared.again.Unopened.{Unopened}
+use Rattle.mx_promise.specs.declared.again.Unopened.TheVariants.{Files, Database, Office}
 
 -- the tables stand for the book at a point, or at one behind it on the way to the newest layout
 abbrev pub StandsMoving : Schema → Point → List Entry → Trees → Type 0

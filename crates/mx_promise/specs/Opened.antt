@@ -1,9 +1,9 @@
 -- The headline from the connection on: the office of a file at any point of the move is opened, commands are run, the move or the run is stopped, and the office is opened again.
-use Rattle.std.specs.Prelude.{◌≡◌, ◌≢◌, ℕ, List, ⊤, None, Result, Ok, Err, IsTrue}
+use Rattle.std.specs.Prelude.{◌≡◌, ◌≢◌, ◌≤◌, ℕ, List, [], length, ⊤, Option, None, Some, Result, Ok, Err, IsTrue}
 use Rattle.sqlite_disk.specs.declared.Disk as disk
 use Rattle.sqlite_store.specs.declared.store.FileStore.{FileStore}
 use Rattle.sqlite.specs.Store.{Ghosts}
-use Rattle.sqlite.specs.Held.{Held}
+use Rattle.sqlite.specs.Held.{Held, state}
 use Rattle.sqlite.specs.Schema.{Schema}
 use Rattle.sqlite.specs.State.{State, HasCleanDisk}
 use Rattle.sqlite.specs.Tree.{Trees}
@@ -25,11 +25,13 @@ use Rattle.mx_office.specs.Office.{office_state, IsReady}
 use Rattle.mx_apply.specs.writing.Written.{IsSettled}
 use Rattle.mx_office.specs.Stands.{RestsIn}
 use Rattle.mx_promise.specs.Own.{RestsOn, StandsOn}
+use Rattle.mx_faults.specs.declared.fault.Fault.TheVariants.{NeedsReopen}
 use Rattle.mx_promise.specs.Kept.{IsBookKept}
+use Rattle.mx_promise.specs.Moved.{IsKeptMoving}
 use Rattle.mx_promise.specs.Reopened.{IsKeptInFiles, IsPrintOf, IsStopOf, MissesFiles, SaysHere}
-use Rattle.mx_promise.specs.declared.running.Reopened.{Reopened}
-use Rattle.mx_promise.specs.declared.running.Unopened.{Unopened}
-use Rattle.mx_promise.specs.declared.running.Unopened.TheVariants.{Files, Database, Office}
+use Rattle.mx_promise.specs.declared.again.Reopened.{Reopened}
+use Rattle.mx_promise.specs.declared.again.Unopened.{Unopened}
+use Rattle.mx_promise.specs.declared.again.Unopened.TheVariants.{Files, Database, Office}
 
 -- ── a book at some point ──
 
@@ -41,13 +43,35 @@ StandsSomewhere own book trees = (at : Point) × IsOfFile at × StandsOn own at 
 abbrev pub RestsSomewhere : Schema → List Entry → State → Type 0
 RestsSomewhere own book now = (at : Point) × IsOfFile at × RestsOn own at now book
 
+-- the tables stand for the book at a point, at which a file can be if one can be at this one
+abbrev pub StandsFurther : Schema → Point → List Entry → Trees → Type 0
+StandsFurther own at book trees = (to : Point) × (IsOfFile at → IsOfFile to) × StandsOn own to trees book
+
+-- they do so for the one book that a stop leaves
+abbrev pub StandsKept : Schema → Point → List Entry → List Entry → Outcomes → Trees → Type 0
+StandsKept own at before commands outcomes trees = (book : List Entry) × IsBookKept before commands outcomes book × StandsFurther own at book trees
+
+-- ── what was answered ──
+
 -- An office was opened in the file, which moved it first where it was older, and commands were run in that.
-pub record IsOpenedAndRun {D : Type 0} {g : disk.Ghosts D} (commands : List Entry) (outcomes : Outcomes) (was : Held (FileStore D g)) : Type 0 where
-  pub office : TheOffice (FileStore D g) over_files
-  pub after : TheOffice (FileStore D g) over_files
-  pub moves : MovesOn (file_state was) (office_state office) None
+pub record IsOpenedAndRun {S : Type 0} (g : Ghosts S) (commands : List Entry) (outcomes : Outcomes) (was : Held S) : Type 0 where
+  pub office : TheOffice S g
+  pub after : TheOffice S g
+  pub moves : MovesOn (state g was) (office_state office) None
   pub ready : IsReady office
   pub run : IsRun commands outcomes.replies.items outcomes.stopped office after
+
+-- What the commands were answered where an office was opened for them; where none was, none of them was run. Whatever is found behind that, the office that is opened again is fed by it.
+pub record AreTold {S : Type 0} (g : Ghosts S) (commands : List Entry) (unopened : Option OpenFault) (outcomes : Outcomes) (was : Held S) : Type 0 where
+  pub ran : unopened ≡ None → IsOpenedAndRun g commands outcomes was
+  -- with no office there is no reply, and no stop of a run
+  pub unrun : unopened ≢ None → outcomes.replies.items ≡ []
+  pub unstopped : unopened ≢ None → outcomes.stopped ≡ None
+  -- an office that was just opened never says that it has to be opened again
+  pub usable : outcomes.stopped ≢ Some NeedsReopen
+  -- no command has two replies, and each has one where nothing stopped the run
+  pub counted : length outcomes.replies.items ≤ length commands
+  pub done : unopened ≡ None → outcomes.stopped ≡ None → length outcomes.replies.items ≡ length commands
 
 -- The connection in which no office was opened for this reason stands for the book at some point; where the store failed in the move, each state that a crash may leave does.
 pub record IsLeftFor (own : Schema) (book : List Entry) (fault : OpenFault) (now : State) : Type 0 where
@@ -84,15 +108,15 @@ pub record IsOpenedAgain (before now : State) : Type 0 where
 abbrev pub FindsAgain : State → State → Type 0
 FindsAgain before now = HasCleanDisk now → ∥ IsOpenedAgain before now ∥₁
 
--- The disk had returned what was written, and the tables that were found are among those that a crash may have left. Where they stood for a book at a point that a file can be at, the connection stands for it still, and no office was opened for want of memory or since the store failed. Where they were those of a file at some point, whatever rows they have: they are what steps of the move made of them, unless the store failed, and so is each state that the next crash may leave.
+-- The disk had returned what was written, and the tables that were found are among those that a crash may have left. Where they stood for a book, at whatever point, the connection stands for it still, there or further on, and where a file can be at that point no office was opened for want of memory or since the store failed. Where they were those of a file at some point, whatever rows they have: they are what steps of the move made of them, unless the store failed, and so is each state that the next crash may leave; and where that point was the office's they are as they were found.
 pub record IsUnopenedAgain (before : State) (fault : OpenFault) (now : State) : Type 0 where
   pub clean : HasCleanDisk before
   pub tables : Trees
   pub left : before.may_leave tables
-  pub books : (own : Schema) (at : Point) (book : List Entry) → IsOfFile at → StandsOn own at tables book → IsLeftFor own book fault now
-  pub reason : (own : Schema) (at : Point) (book : List Entry) → IsOfFile at → StandsOn own at tables book → IsStopOf fault
+  pub books : (own : Schema) (at : Point) (book : List Entry) → StandsOn own at tables book → IsKeptMoving own at book fault now
   pub made : (at : Point) → SaysAt at tables → fault ≢ opening.Store → IsTrue now.is_open → AreMovedOn at tables now.now.trees
   pub moved : (at : Point) → SaysAt at tables → Leaves now (AreMovedOn at tables)
+  pub settled : (here : SaysHere tables) → RestsAs now here.schema (λ db. db ≡ tables)
 
 -- so it is where the connection is handed back, and the disk returns what was written
 abbrev pub MissesAgain : {D : Type 0} {g : disk.Ghosts D} → State → Unopened D g → Type 0

@@ -33,9 +33,9 @@ use Rattle.mx_office.specs.Stands.{RestsIn}
 use Rattle.mx_promise.specs.Own.{StandsHere}
 use Rattle.mx_reports.specs.DueText.{due_lines}
 use Rattle.mx_promise.specs.Kept.{IsBookKept}
-use Rattle.mx_promise.specs.declared.running.Reopened.{Reopened}
-use Rattle.mx_promise.specs.declared.running.Unopened.{Unopened}
-use Rattle.mx_promise.specs.declared.running.Unopened.TheVariants.{Files, Database, Office}
+use Rattle.mx_promise.specs.declared.again.Reopened.{Reopened}
+use Rattle.mx_promise.specs.declared.again.Unopened.{Unopened}
+use Rattle.mx_promise.specs.declared.again.Unopened.TheVariants.{Files, Database, Office}
 
 -- why a list was not printed: the book has no such aircraft, or memory or the store failed
 abbrev pub IsUnprinted : List Entry → List ℕ → ℕ → Ask → Type 0

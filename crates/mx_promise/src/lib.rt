@@ -9,6 +9,7 @@
 //!   and the other calls that lose the power and open again, are told one by one in `docs/PROMISES.md`.
 #![tactic(auto)]
 
+pub mod again;
 pub mod creating;
 pub mod moving;
 pub mod next_process;
@@ -17,10 +18,11 @@ pub mod opening;
 pub mod running;
 pub mod second_stop;
 
+pub use again::{Reopened, Unopened, open_again, reopen_office};
 pub use creating::{Made, create_and_reopen};
 pub use moving::open_and_reopen;
 pub use next_process::{Ended, OpenedAndEnded, open_run_and_end, reopen_after, run_and_end};
 pub use once_more::open_left;
-pub use opening::{Opened, open_again, open_run_and_reopen};
-pub use running::{Reopened, Stopped, Unopened, reopen_office, run_and_reopen};
+pub use opening::{Opened, open_run_and_reopen};
+pub use running::{Stopped, run_and_reopen};
 pub use second_stop::{OpenedTwice, StoppedTwice, open_run_and_reopen_twice, run_and_reopen_twice};

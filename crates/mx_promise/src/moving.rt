@@ -11,8 +11,7 @@ ghost use Rattle.mx_promise.specs.Moved.{FindsBook, KeepsMoving, StandsMoving};
 ghost use Rattle.sqlite.specs.Schema.{Schema};
 ghost use Rattle.mx_promise.specs.Own.{RestsOn};
 
-use crate::running::Unopened;
-use mx_database::power::reopen;
+use crate::again::{Unopened, open_again};
 use mx_office::{Office, open_office};
 use sqlite::{Alter, Connection, FileStore, Options};
 use sqlite_disk::Crash;
@@ -45,11 +44,5 @@ pub fn open_and_reopen<D: Crash + Drop>(
     ensures unopened { (own : Schema) (at : Point) (book : List Entry)
         → RestsOn own at (file_state conn) book → IfErr result (KeepsMoving own at book) }
 {
-    match reopen(alloc, behind_opening(alloc, conn), options) {
-        Ok(conn) => match open_office(alloc, conn) {
-            Ok(again) => Ok(again),
-            Err((conn, fault)) => Err(Unopened::Office(conn, fault)),
-        },
-        Err((error, left)) => Err(Unopened::Database(error, left)),
-    }
+    open_again(alloc, behind_opening(alloc, conn), options)
 }

@@ -5,8 +5,8 @@
 //! `open_run_and_end`, says what the process leaves, and `reopen_after` takes that as a value, lets it go, and has the
 //! first one's clause as its premise. That the file holds what the first left of it (`WasLeft`) is its other premise:
 //! nobody can prove it of a device.
-ghost use Rattle.std.specs.Prelude.{◌≡◌, ◌≢◌, ◌≤◌, [], None, Some, false, length, List, IfOk, IfErr};
-ghost use Rattle.sqlite.specs.Files.{file_state};
+ghost use Rattle.std.specs.Prelude.{◌≡◌, Some, false, List, IfOk, IfErr};
+ghost use Rattle.sqlite.specs.Files.{file_state, over_files};
 ghost use Rattle.sqlite_store.specs.FileStore as files;
 ghost use Rattle.sqlite_trees.specs.View.{IsClean};
 ghost use Rattle.sqlite_wal.specs.Files.{image_at};
@@ -18,18 +18,20 @@ ghost use Rattle.mx_office.specs.Calls.{IsRun};
 ghost use Rattle.mx_office.specs.Office.{office_state};
 ghost use Rattle.mx_promise.specs.Ended.{IsEnded, IsEndedSomewhere, NextKeepsSomewhere, NextKeepsUnopened};
 ghost use Rattle.mx_promise.specs.Ended.{without_database};
-ghost use Rattle.mx_promise.specs.Opened.{IsOpenedAndRun};
+ghost use Rattle.mx_promise.specs.Opened.{AreTold};
 ghost use Rattle.mx_promise.specs.Reopened.{GoesOn, IsStopOf, Reopens};
 ghost use Rattle.sqlite.specs.Schema.{Schema};
 ghost use Rattle.mx_apply.specs.writing.Written.{IsSettled};
 ghost use Rattle.mx_office.specs.Stands.{RestsIn};
 ghost use Rattle.mx_promise.specs.Own.{RestsOn};
 
-use crate::running::{Reopened, Stopped, Unopened, print_due};
+use crate::again::{Unopened, printed_from};
+use crate::opening::{OpenedAndRun, open_and_run};
+use crate::running::Stopped;
 use mx_base::{Day, Tail};
 use mx_book::commands::Command;
 use mx_database::power::{end_process, reopen_file};
-use mx_office::{Fault, Office, OpenFault, Outcomes, open_office};
+use mx_office::{Office, OpenFault, Outcomes, open_office};
 use sqlite::{Connection, Error, FileFrom, FileStore, Leftover};
 use sqlite_disk::{Disk, Start};
 use std::alloc::Global;
@@ -82,36 +84,19 @@ pub fn open_run_and_end<D: Disk + Drop>(
     ensures whole { (own : Schema) (at : Point) (before : List Entry) → IsOfFile at
         → RestsOn own at (file_state conn) before → IsClean (files.view result.ended.store)
         → (fault : OpenFault) → result.unopened ≡ Some fault → IsStopOf fault }
-    ensures ran { result.unopened ≡ None
-        → IsOpenedAndRun commands.now result.ended.outcomes conn }
-    ensures unrun { result.unopened ≢ None → result.ended.outcomes.replies.items ≡ [] }
-    ensures unstopped { result.unopened ≢ None → result.ended.outcomes.stopped ≡ None }
-    ensures usable { result.ended.outcomes.stopped ≢ Some Fault.NeedsReopen }
-    ensures counted { length result.ended.outcomes.replies.items ≤ length commands.now }
-    ensures done { result.unopened ≡ None → result.ended.outcomes.stopped ≡ None
-        → length result.ended.outcomes.replies.items ≡ length commands.now }
+    ensures told { AreTold over_files commands.now result.unopened result.ended.outcomes conn }
 {
-    match open_office(alloc, conn) {
-        Ok(office) => {
-            let ended = run_and_end(alloc, office, commands);
-            OpenedAndEnded {
-                unopened: None,
-                ended,
-            }
-        }
-        Err((left, fault)) => {
-            let store = end_process(left);
-            OpenedAndEnded {
-                unopened: Some(fault),
-                ended: Ended {
-                    outcomes: Outcomes {
-                        replies: Vec::new(alloc),
-                        stopped: None,
-                    },
-                    store,
-                },
-            }
-        }
+    let OpenedAndRun {
+        unopened,
+        outcomes,
+        left,
+    } = open_and_run(alloc, conn, commands);
+    OpenedAndEnded {
+        unopened,
+        ended: Ended {
+            outcomes,
+            store: end_process(left),
+        },
     }
 }
 
@@ -155,13 +140,10 @@ pub fn reopen_after<D: Disk + Drop, S: Start>(
     let Ended { outcomes, store } = ended;
     match reopen_file(rt, store, path, start) {
         Ok(conn) => match open_office(rt.alloc(), conn) {
-            Ok(mut office) => {
-                let printed = print_due(rt.alloc(), &mut office, tail, day);
-                Stopped {
-                    outcomes,
-                    again: Ok(Reopened { office, printed }),
-                }
-            }
+            Ok(office) => Stopped {
+                outcomes,
+                again: Ok(printed_from(rt.alloc(), office, tail, day)),
+            },
             Err((conn, fault)) => Stopped {
                 outcomes,
                 again: Err(Unopened::Office(conn, fault)),

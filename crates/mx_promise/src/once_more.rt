@@ -12,7 +12,7 @@ ghost use Rattle.mx_promise.specs.Opened.{FindsKept, KeepsSomewhere, StandsSomew
 ghost use Rattle.mx_promise.specs.Reopened.{IsKeptInFiles};
 ghost use Rattle.sqlite.specs.Schema.{Schema};
 
-use crate::running::Unopened;
+use crate::again::Unopened;
 use mx_database::power::reopen_left;
 use mx_office::{Office, open_office};
 use sqlite::{FileStore, Leftover, Options};

@@ -6,27 +6,37 @@
 //! which side of that commit the file is: of that one stop each state that a crash may leave is said to stand for the
 //! book, each at a point of its own (`IsLeftFor`). The connection can then be given to nothing but a further opening of
 //! the files, behind which the file is at one point, and the same call takes it again.
-ghost use Rattle.std.specs.Prelude.{◌≡◌, ◌≢◌, ◌≤◌, [], None, Some, false, length, List, IfOk, IfErr};
-ghost use Rattle.sqlite.specs.State.{HasCleanDisk};
-ghost use Rattle.sqlite.specs.Files.{file_state};
-ghost use Rattle.mx_book.specs.commands.Act.{Entry};
-ghost use Rattle.mx_base.specs.declared.point.Point.{Point};
-ghost use Rattle.mx_book_tables.specs.stands.Schemas.{IsOfFile};
-ghost use Rattle.mx_office.specs.Office.{office_state, IsReady};
-ghost use Rattle.mx_promise.specs.Opened.{FindsAgain, IsLeftClean, IsOpenedAndRun};
-ghost use Rattle.mx_promise.specs.Opened.{IsThereClean, KeepsSomewhere, MissesAgain, PrintsAgain};
-ghost use Rattle.mx_promise.specs.Reopened.{GoesOn, IsStopOf, Reopens};
+ghost use Rattle.std.specs.Prelude.{◌≡◌, Some, List, IfOk, IfErr, false};
+ghost use Rattle.sqlite.specs.Files.{file_state, over_files};
+ghost use Rattle.sqlite.specs.Held.{state};
 ghost use Rattle.sqlite.specs.Schema.{Schema};
+ghost use Rattle.sqlite.specs.State.{HasCleanDisk};
+ghost use Rattle.mx_base.specs.declared.point.Point.{Point};
+ghost use Rattle.mx_book.specs.commands.Act.{Entry};
+ghost use Rattle.mx_book_tables.specs.stands.Schemas.{IsOfFile};
+ghost use Rattle.mx_layout.specs.Crash.{Leaves};
+ghost use Rattle.mx_office.specs.Office.{office_state};
+ghost use Rattle.mx_promise.specs.Opened.{AreTold, IsThereClean, KeepsSomewhere, StandsKept};
 ghost use Rattle.mx_promise.specs.Own.{RestsOn};
+ghost use Rattle.mx_promise.specs.Reopened.{GoesOn, IsStopOf, Reopens};
 
-use crate::running::{Reopened, Stopped, Unopened, print_due, run_and_reopen};
+use crate::again::{Reopened, Unopened, reopen_and_print};
 use mx_base::{Day, Tail};
 use mx_book::commands::Command;
-use mx_database::power::reopen;
-use mx_office::{Fault, Office, OpenFault, Outcomes, open_office};
+use mx_office::{OpenFault, Outcomes, open_office};
 use sqlite::{Alter, Connection, FileStore, Options};
 use sqlite_disk::{Crash, Disk};
 use std::alloc::Global;
+
+// What came of a database whose office was opened for commands, and of those, before anything is lost.
+pub(crate) struct OpenedAndRun<S: Alter> {
+    // Why no office was opened for the commands, if none was: then none of them was run.
+    pub(crate) unopened: Option<OpenFault>,
+    // The replies, and what stopped the run before its end; no reply and no stop where no command was run.
+    pub(crate) outcomes: Outcomes,
+    // The connection that is left behind them.
+    pub(crate) left: Connection<S>,
+}
 
 /// What came of a database whose office was opened for commands, was stopped, and was opened again.
 pub struct Opened<S: Alter, D: Disk> {
@@ -38,50 +48,40 @@ pub struct Opened<S: Alter, D: Disk> {
     pub again: Result<Reopened<S>, Unopened<D>>,
 }
 
-/// The power is lost at this moment, and the office of the database is opened again. A file of an older layout, or one
-/// that was stopped on its way to the newest, is moved there first.
-pub fn open_again<D: Crash + Drop>(
+// Opens the office of a database, which is moved to the newest layout first where it is older, and applies commands
+// until they end or something stops them, in the move or behind it.
+pub(crate) fn open_and_run<S: Alter>(
     alloc: Global,
-    conn: Connection<FileStore<D>>,
-    options: Options,
-) -> Result<Office<FileStore<D>>, Unopened<D>>
-    ensures ready { IfOk result IsReady }
-    ensures clean { IfOk result (λ again.
-        HasCleanDisk (office_state again) → HasCleanDisk (file_state conn)) }
-    ensures sure { IfErr result (λ why. IsLeftClean why → HasCleanDisk (file_state conn)) }
-    ensures found { IfOk result (λ again. FindsAgain (file_state conn) (office_state again)) }
-    ensures unopened { IfErr result (MissesAgain (file_state conn)) }
+    conn: Connection<S>,
+    commands: &[Command],
+) -> OpenedAndRun<S>
+    requires { conn.in_transaction ≡ false }
+    ensures leaves { (own : Schema) (at : Point) (before : List Entry)
+        → RestsOn own at (state S.Store conn) before → Leaves (state S.Store result.left)
+        (StandsKept own at before commands.now result.outcomes) }
+    ensures whole { (own : Schema) (at : Point) (before : List Entry) → IsOfFile at
+        → RestsOn own at (state S.Store conn) before → HasCleanDisk (state S.Store result.left)
+        → (fault : OpenFault) → result.unopened ≡ Some fault → IsStopOf fault }
+    ensures told { AreTold S.Store commands.now result.unopened result.outcomes conn }
+    ensures clean { HasCleanDisk (state S.Store result.left) → HasCleanDisk (state S.Store conn) }
 {
-    match reopen(alloc, conn, options) {
-        Ok(found) => match open_office(alloc, found) {
-            Ok(again) => Ok(again),
-            Err((left, fault)) => Err(Unopened::Office(left, fault)),
-        },
-        Err((error, left)) => Err(Unopened::Database(error, left)),
-    }
-}
-
-// The power is lost at this moment, the office is opened again, and a due list is printed from it.
-fn reopen_and_print<D: Crash + Drop>(
-    alloc: Global,
-    conn: Connection<FileStore<D>>,
-    tail: &Tail,
-    day: Day,
-    options: Options,
-) -> Result<Reopened<FileStore<D>>, Unopened<D>>
-    ensures goes_on { IfOk result GoesOn }
-    ensures clean { IfOk result (λ it.
-        HasCleanDisk (office_state it.office) → HasCleanDisk (file_state conn)) }
-    ensures sure { IfErr result (λ why. IsLeftClean why → HasCleanDisk (file_state conn)) }
-    ensures printed { IfOk result (PrintsAgain (file_state conn) tail.now day) }
-    ensures unopened { IfErr result (MissesAgain (file_state conn)) }
-{
-    match open_again(alloc, conn, options) {
+    match open_office(alloc, conn) {
         Ok(mut office) => {
-            let printed = print_due(alloc, &mut office, tail, day);
-            Ok(Reopened { office, printed })
+            let outcomes = office.run(alloc, commands);
+            OpenedAndRun {
+                unopened: None,
+                outcomes,
+                left: office.close(),
+            }
         }
-        Err(why) => Err(why),
+        Err((left, fault)) => OpenedAndRun {
+            unopened: Some(fault),
+            outcomes: Outcomes {
+                replies: Vec::new(alloc),
+                stopped: None,
+            },
+            left,
+        },
     }
 }
 
@@ -113,38 +113,20 @@ pub fn open_run_and_reopen<D: Crash + Drop>(
         → (fault : OpenFault) → result.unopened ≡ Some fault → IsStopOf fault }
 
     // What the commands were answered, whatever is found behind that, and with what the office is fed in again.
-    ensures ran { result.unopened ≡ None → IsOpenedAndRun commands.now result.outcomes conn }
-    ensures unrun { result.unopened ≢ None → result.outcomes.replies.items ≡ [] }
-    ensures unstopped { result.unopened ≢ None → result.outcomes.stopped ≡ None }
-    ensures usable { result.outcomes.stopped ≢ Some Fault.NeedsReopen }
-    ensures counted { length result.outcomes.replies.items ≤ length commands.now }
-    ensures done { result.unopened ≡ None → result.outcomes.stopped ≡ None
-        → length result.outcomes.replies.items ≡ length commands.now }
+    ensures told { AreTold over_files commands.now result.unopened result.outcomes conn }
     ensures goes_on { IfOk result.again GoesOn }
     ensures clean { IfOk result.again (λ it.
         HasCleanDisk (office_state it.office) → HasCleanDisk (file_state conn)) }
 {
-    match open_office(alloc, conn) {
-        Ok(office) => {
-            let Stopped { outcomes, again } = run_and_reopen(
-                alloc, office, commands, tail, day, options,
-            );
-            Opened {
-                unopened: None,
-                outcomes,
-                again,
-            }
-        }
-        Err((left, fault)) => {
-            let again = reopen_and_print(alloc, left, tail, day, options);
-            Opened {
-                unopened: Some(fault),
-                outcomes: Outcomes {
-                    replies: Vec::new(alloc),
-                    stopped: None,
-                },
-                again,
-            }
-        }
+    let OpenedAndRun {
+        unopened,
+        outcomes,
+        left,
+    } = open_and_run(alloc, conn, commands);
+    let again = reopen_and_print(alloc, left, tail, day, options);
+    Opened {
+        unopened,
+        outcomes,
+        again,
     }
 }

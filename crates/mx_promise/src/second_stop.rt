@@ -1,13 +1,13 @@
 //! A second stop, from the book that the first one left.
-ghost use Rattle.std.specs.Prelude.{◌≡◌, ◌≢◌, [], None, false, length, List, IfOk, IfErr};
+ghost use Rattle.std.specs.Prelude.{◌≡◌, None, false, length, List, IfOk, IfErr};
 ghost use Rattle.sqlite.specs.State.{HasCleanDisk};
-ghost use Rattle.sqlite.specs.Files.{file_state};
+ghost use Rattle.sqlite.specs.Files.{file_state, over_files};
 ghost use Rattle.mx_book.specs.commands.Act.{Entry};
 ghost use Rattle.mx_base.specs.declared.point.Point.{Point};
 ghost use Rattle.mx_book_tables.specs.stands.Schemas.{IsOfFile};
 ghost use Rattle.mx_office.specs.Calls.{IsRun};
 ghost use Rattle.mx_office.specs.Office.{office_state};
-ghost use Rattle.mx_promise.specs.Opened.{IsHandedClean, IsLeftStanding, IsOpenedAndRun, KeepsSomewhere};
+ghost use Rattle.mx_promise.specs.Opened.{AreTold, IsHandedClean, IsLeftStanding, KeepsSomewhere};
 ghost use Rattle.mx_promise.specs.Opened.{RestsSomewhere};
 ghost use Rattle.mx_promise.specs.Reopened.{KeepsUnopened, ReopensTwice};
 ghost use Rattle.sqlite.specs.Schema.{Schema};
@@ -15,8 +15,9 @@ ghost use Rattle.mx_apply.specs.writing.Written.{IsSettled};
 ghost use Rattle.mx_office.specs.Stands.{RestsIn};
 ghost use Rattle.mx_promise.specs.Own.{RestsOn};
 
+use crate::again::{Reopened, Unopened};
 use crate::opening::{Opened, open_run_and_reopen};
-use crate::running::{Reopened, Stopped, Unopened, run_and_reopen};
+use crate::running::{Stopped, run_and_reopen};
 use mx_base::{Day, Tail};
 use mx_book::commands::Command;
 use mx_database::power::reopen;
@@ -129,9 +130,7 @@ pub fn open_run_and_reopen_twice<D: Crash + Drop>(
     ensures unopened { (own : Schema) (at : Point) (before : List Entry) → IsOfFile at
         → RestsOn own at (file_state conn) before
         → IfErr result.second (KeepsSomewhere own before commands.now result.first) }
-    ensures ran { result.unopened ≡ None → IsOpenedAndRun commands.now result.first conn }
-    ensures unrun { result.unopened ≢ None → (result.first.replies.items ≡ [])
-        × (result.first.stopped ≡ None) }
+    ensures told { AreTold over_files commands.now result.unopened result.first conn }
     ensures done { IfOk result.second (λ second. second.unopened ≡ None
         → second.outcomes.stopped ≡ None
         → length second.outcomes.replies.items ≡ length more.now) }

@@ -9,7 +9,7 @@ use Rattle.mx_layout.specs.Tables.{no_schema}
 use Rattle.mx_database.proofs.PowerProofs.LeftLemmas.{err_by, wider_left}
 use Rattle.mx_promise.specs.Created.{MayBeMade}
 use Rattle.mx_promise.proofs.CreatedLemmas.{finds_before, if_opened, is_made, may_be_made, unless_store}
-use Rattle.mx_promise.proofs.OpenedLemmas.{if_opened_then}
+use Rattle.mx_promise.proofs.AgainLemmas.{if_opened_then}
 use Rattle.mx_promise.proofs.creating.create_and_reopen.Goals as goal
 
 pub returns-clause-headline : goal.returns-clause-headline

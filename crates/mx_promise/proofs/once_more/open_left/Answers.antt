@@ -5,7 +5,8 @@ use Rattle.sqlite.specs.State.{HasCleanDisk}
 use Rattle.mx_database.specs.power.Left.{HoldsWhatIsLeftOf}
 use Rattle.mx_database.proofs.PowerProofs.LeftLemmas.{faithful_left, holds_once_more, wider_left}
 use Rattle.mx_office.specs.Office.{office_state}
-use Rattle.mx_promise.proofs.OpenedLemmas.{kept_behind, kept_unopened, opened_again, unopened_again}
+use Rattle.mx_promise.proofs.AgainLemmas.{opened_again, unopened_again}
+use Rattle.mx_promise.proofs.OpenedLemmas.{kept_behind, kept_unopened}
 use Rattle.mx_promise.proofs.once_more.open_left.Goals as goal
 
 pub returns-in-Ok-open_office-clause-headline : goal.returns-in-Ok-open_office-clause-headline
@@ -16,7 +17,8 @@ returns-in-Ok-open_office-clause-headline g c own before commands outcomes error
     let opened = c.in-Ok-open_office.ensures in
     let early : HasCleanDisk (file_state c.in-Ok.found) = omega (arith, opened.moves.clean) in
     ∥∥₁_map (c.in-Ok.ensures.found was holds early) (λ it.
-    kept_behind own before commands outcomes was kept.books again (opened_again (file_state was) over_files c.in-Ok.found (office_state again) clean it early opened.moves opened.changes))
+    let one = opened_again (file_state was) over_files c.in-Ok.found (office_state again) clean it early opened.moves opened.changes in
+    kept_behind own before commands outcomes (file_state was) again one (kept.books one.tables one.left))
 
 pub returns-in-Err-open_office-clause-unopened : goal.returns-in-Err-open_office-clause-unopened
 returns-in-Err-open_office-clause-unopened g c own before commands outcomes error kept opens clean =
@@ -27,7 +29,8 @@ returns-in-Err-open_office-clause-unopened g c own before commands outcomes erro
     let failed = c.in-Err-open_office.ensures in
     let early : HasCleanDisk (file_state c.in-Ok.found) = omega (arith, failed.moves.clean) in
     ∥∥₁_map (c.in-Ok.ensures.found was holds early) (λ it.
-    kept_unopened own before commands outcomes was kept.books fault now (unopened_again (file_state was) over_files c.in-Ok.found now clean it fault kept.clean failed.changes failed.moves (failed.reason clean)))
+    let one = unopened_again (file_state was) over_files c.in-Ok.found now clean it fault kept.clean early failed.changes failed.moves (failed.reason clean) in
+    kept_unopened own before commands outcomes (file_state was) fault now one (kept.books one.tables one.left))
 
 pub returns-in-Err-clause-unopened : goal.returns-in-Err-clause-unopened
 returns-in-Err-clause-unopened g c own before commands outcomes error kept opens faithful =

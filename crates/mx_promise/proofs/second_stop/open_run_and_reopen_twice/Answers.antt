@@ -11,9 +11,8 @@ returns-in-Ok g c = record {
       reopens_twice_somewhere own (settled_of own at rests.schema rests.is) before c.args.commands.now c.args.more.now c.args.tail.now c.args.day first.result.outcomes first.result.again (file_state c.in-Ok.found) second.result.outcomes second.result.again
       (first.ensures.headline own at before rests) (first.ensures.unopened own at before file rests) c.in-Ok.ensures.clean (c.in-Ok.ensures.stands own) second.ensures.clean (second.ensures.headline own);
   unopened = λ own at before file rests. tt;
-  ran = c.open_run_and_reopen-unopened.ensures.ran;
-  unrun = λ some. (c.open_run_and_reopen-unopened.ensures.unrun some, c.open_run_and_reopen-unopened.ensures.unstopped some);
-  done = c.open_run_and_reopen-second.ensures.done;
+  told = c.open_run_and_reopen-unopened.ensures.told;
+  done = c.open_run_and_reopen-second.ensures.told.done;
 }
 
 pub returns-in-Err-clause-unopened : goal.returns-in-Err-clause-unopened

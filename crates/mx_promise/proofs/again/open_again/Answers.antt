@@ -3,8 +3,8 @@ use Rattle.std.proofs.Math.Logic.{∥∥₁_map}
 use Rattle.sqlite.specs.Files.{file_state, over_files}
 use Rattle.sqlite.specs.State.{HasCleanDisk}
 use Rattle.mx_office.specs.Office.{office_state}
-use Rattle.mx_promise.proofs.OpenedLemmas.{opened_again, unopened_again}
-use Rattle.mx_promise.proofs.opening.open_again.Goals as goal
+use Rattle.mx_promise.proofs.AgainLemmas.{opened_again, unopened_again}
+use Rattle.mx_promise.proofs.again.open_again.Goals as goal
 
 pub returns-in-Ok-open_office-clause-clean : goal.returns-in-Ok-open_office-clause-clean
 returns-in-Ok-open_office-clause-clean g c clean =
@@ -25,7 +25,7 @@ returns-in-Err-open_office-clause-unopened g c clean =
     let now = file_state c.in-Err-open_office.left in
     let failed = c.in-Err-open_office.ensures in
     let early : HasCleanDisk (file_state c.in-Ok.found) = omega (arith, failed.moves.clean) in
-    ∥∥₁_map (c.in-Ok.ensures.found early) (λ it. unopened_again was over_files c.in-Ok.found now clean it c.in-Err-open_office.fault (c.in-Ok.ensures.clean early) failed.changes failed.moves (failed.reason clean))
+    ∥∥₁_map (c.in-Ok.ensures.found early) (λ it. unopened_again was over_files c.in-Ok.found now clean it c.in-Err-open_office.fault (c.in-Ok.ensures.clean early) early failed.changes failed.moves (failed.reason clean))
 
 pub returns-in-Err-open_office-clause-sure : goal.returns-in-Err-open_office-clause-sure
 returns-in-Err-open_office-clause-sure g c clean =

@@ -1,7 +1,7 @@
 use Rattle.std.proofs.Common.{rules, ◌∙◌, ap, Some}
 use Rattle.mx_lists.specs.DueList.{due_list}
 use Rattle.mx_promise.proofs.PrintLemmas.{handed, listed, unlisted}
-use Rattle.mx_promise.proofs.running.print_due.Goals as goal
+use Rattle.mx_promise.proofs.again.print_due.Goals as goal
 
 pub returns-in-Ok-clause-printed : goal.returns-in-Ok-clause-printed
 returns-in-Ok-clause-printed g c own settled book ready stands clean =
