@@ -67,7 +67,7 @@ class Beside:
                 log = log_of(file).read_bytes() if log_of(file).exists() else None
                 if found is not None and not (word == "enter" and came[0] == 0):
                     self.kind.want(f"{what}: the tables behind {word}", found, read_by_sqlite(Kept(file.read_bytes(), log, [])))
-                if came == STORE or (came == NOT_OURS and word != "migrate"):  # which closes the database that it refuses
+                if came in (STORE, NOT_OURS):
                     self.kind.want(f"{what}: the database behind {word}", pair.db, file.read_bytes())
         self.kind.count("the book of the file alone" if book is self.settled.book else "unsound, and refused" if found is None
                         else "with the tables that SQLite finds")

@@ -38,7 +38,7 @@ impl Work for Moving {
         let done = move_on(rt.alloc(), &mut conn, self.steps, out);
         Left {
             conn,
-            is_to_be_closed: true,
+            is_to_be_closed: done.is_ok(),
             done,
         }
     }

@@ -55,6 +55,7 @@ pub mod tables;
 
 pub use components::MoveComponent;
 pub use kept::{WriteBases, WriteTotal};
+pub use mx_registers::points::point_after as next_point;
 pub use sectors::MoveSectors;
 pub use step::{Migrate, commit_step};
 pub use tables::{ChangeToSpans, ChangeToTotals, CreateBases, CreateSectors, Finish};
