@@ -4,7 +4,7 @@ use Rattle.std.proofs.lemmas.List.{take-append-le, drop-append-le}
 use Rattle.std.specs.Prelude.{⊤, is_err}
 use Rattle.sqlite.specs.Store.{Ghosts}
 use Rattle.mx_book.specs.commands.Act.{Entry}
-use Rattle.mx_office.specs.declared.office.Office.{Office}
+use Rattle.mx_jobs.specs.OpenOffice.{Office}
 use Rattle.mx_http.specs.request.Asked.{AsksFor}
 use Rattle.mx_http.specs.request.Head.{head_of}
 use Rattle.mx_http.specs.request.Routes.{Asked}

@@ -8,19 +8,19 @@ use Rattle.mx_book.specs.declared.verdict.Refusal.TheVariants.{UnknownAircraft}
 use Rattle.mx_book.specs.declared.verdict.Reply.{Reply}
 use Rattle.mx_layout.specs.TableName.{TableName}
 use Rattle.mx_layout.specs.Crash.{Leaves}
-use Rattle.mx_office.specs.Faults.{found_or, IsAnswer}
-use Rattle.mx_office.proofs.CallLemmas.{stopped_asking}
-use Rattle.mx_office.specs.Calls.{stop_asking, IsAsked, IsRun}
-use Rattle.mx_office.specs.Office.{office_state, IsReady, StandsFor}
-use Rattle.mx_office.specs.Questions.{IsAnsweredBy}
-use Rattle.mx_office.proofs.OfficeLemmas.{rests_still}
-use Rattle.mx_office.specs.Layout.{office_schema}
-use Rattle.mx_office.specs.Stands.{IsEither, Rests}
-use Rattle.mx_office.proofs.StandsLemmas.{own_settled}
+use Rattle.mx_jobs.specs.Faults.{found_or, IsAnswer}
+use Rattle.mx_jobs.proofs.CallLemmas.{stopped_asking}
+use Rattle.mx_jobs.specs.Calls.{stop_asking, IsAsked, IsRun}
+use Rattle.mx_jobs.specs.Office.{office_state, IsReady, StandsFor}
+use Rattle.mx_jobs.specs.Questions.{IsAnsweredBy}
+use Rattle.mx_jobs.proofs.OfficeLemmas.{rests_still}
+use Rattle.mx_jobs.specs.Layout.{office_schema}
+use Rattle.mx_jobs.specs.Stands.{IsEither, Rests}
+use Rattle.mx_jobs.proofs.StandsLemmas.{own_settled}
 use Rattle.mx_faults.specs.declared.fault.Ask.{Ask}
 use Rattle.mx_faults.specs.declared.fault.Fault.{Fault}
 use Rattle.mx_faults.specs.declared.fault.Fault.TheVariants.{Memory, Store, NeedsReopen, Damaged}
-use Rattle.mx_office.specs.declared.office.Office.{Office}
+use Rattle.mx_jobs.specs.OpenOffice.{Office}
 use Rattle.mx_output.specs.sector_log.Rows.{good_rows, told}
 use Rattle.mx_lists.specs.Report.{report_of}
 use Rattle.mx_lists.specs.declared.question.Question.{Question}

@@ -5,9 +5,9 @@ use Rattle.std.specs.Prelude.{⊤}
 use Rattle.sqlite.specs.Store.{Ghosts}
 use Rattle.sqlite.specs.State.{HasCleanDisk}
 use Rattle.mx_book.specs.commands.Act.{Entry}
-use Rattle.mx_office.specs.Office.{office_state}
-use Rattle.mx_office.specs.Stands.{Rests}
-use Rattle.mx_office.specs.declared.office.Office.{Office}
+use Rattle.mx_jobs.specs.Office.{office_state}
+use Rattle.mx_jobs.specs.Stands.{Rests}
+use Rattle.mx_jobs.specs.OpenOffice.{Office}
 use Rattle.mx_http.specs.declared.request.input.InputFault.{InputFault}
 use Rattle.mx_http.specs.declared.request.input.InputFault.TheVariants as faults
 use Rattle.mx_http.specs.declared.responses.fault.DeskFault.{DeskFault}

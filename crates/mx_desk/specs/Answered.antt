@@ -1,9 +1,9 @@
 -- What becomes of an office that answers a request, whatever its tables hold.
 use Rattle.std.specs.Prelude.{◌≡◌, ◌⊎◌}
 use Rattle.sqlite.specs.Store.{Ghosts}
-use Rattle.mx_office.specs.Calls.{Runs}
+use Rattle.mx_jobs.specs.Calls.{Runs}
 use Rattle.mx_faults.specs.declared.fault.Fault.TheVariants.{Memory}
-use Rattle.mx_office.specs.declared.office.Office.{Office}
+use Rattle.mx_jobs.specs.OpenOffice.{Office}
 use Rattle.mx_output.specs.sector_log.Rows.{good_rows, told}
 use Rattle.mx_jobs.specs.answers.Asked.{Asks}
 use Rattle.mx_http.specs.responses.Answer.{Answer, fault_answer, list_answer, rejection_answer, replies_answer, rows_answer, stop_answer}

@@ -3,7 +3,7 @@ use Rattle.std.specs.Prelude.{ℕ, List, take, Option, Some, None, Result, Err}
 use Rattle.mx_book.specs.commands.Act.{Entry}
 use Rattle.mx_book.specs.Run.{replies}
 use Rattle.mx_book.specs.declared.verdict.Refusal.TheVariants.{UnknownAircraft}
-use Rattle.mx_office.specs.Faults.{found_or}
+use Rattle.mx_jobs.specs.Faults.{found_or}
 use Rattle.mx_faults.specs.declared.fault.Ask.{Ask}
 use Rattle.mx_faults.specs.declared.fault.Ask.TheVariants.{Failed}
 use Rattle.mx_faults.specs.declared.fault.Fault.{Fault}

@@ -7,11 +7,11 @@ use Rattle.mx_book.specs.commands.Act.{Entry}
 use Rattle.mx_book.specs.Run.{book_run}
 use Rattle.mx_layout.specs.TableName.{TableName}
 use Rattle.mx_layout.specs.Crash.{Leaves}
-use Rattle.mx_office.specs.Office.{office_state, IsInDoubt, IsReady, StandsFor}
-use Rattle.mx_office.specs.Stands.{IsEither, Rests}
+use Rattle.mx_jobs.specs.Office.{office_state, IsInDoubt, IsReady, StandsFor}
+use Rattle.mx_jobs.specs.Stands.{IsEither, Rests}
 use Rattle.mx_faults.specs.declared.fault.Fault.{Fault}
 use Rattle.mx_faults.specs.declared.fault.Fault.TheVariants.{Memory, Store, Damaged}
-use Rattle.mx_office.specs.declared.office.Office.{Office}
+use Rattle.mx_jobs.specs.OpenOffice.{Office}
 use Rattle.mx_http.specs.request.Asked.{AsksFor}
 use Rattle.mx_http.specs.request.Body.{whole_body}
 use Rattle.mx_http.specs.request.Head.{head_of}

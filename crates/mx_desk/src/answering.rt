@@ -2,7 +2,7 @@
 ghost use Rattle.std.specs.Prelude.{◌≡◌, ℕ, IfOk};
 ghost use Rattle.http.specs.Response.{body_of, head_of};
 ghost use Rattle.sqlite.specs.State.{HasCleanDisk};
-ghost use Rattle.mx_office.specs.Office.{office_state, StandsFor};
+ghost use Rattle.mx_jobs.specs.Office.{office_state, StandsFor};
 ghost use Rattle.mx_http.specs.request.Routes.{asked};
 ghost use Rattle.mx_http.specs.responses.Answer.{IsMade};
 ghost use Rattle.mx_desk.specs.Answered.{AnswersIfRoom};
@@ -14,7 +14,7 @@ use crate::listing::ask_list;
 use http::Response;
 use mx_http::request::Route;
 use mx_http::responses::{DeskFault, forecast_in_digits};
-use mx_office::Office;
+use mx_jobs::office::Office;
 use mx_output::questions::{due_question, life_question, limits_question};
 use sqlite::Alter;
 use std::alloc::Global;

@@ -5,7 +5,7 @@ ghost use Rattle.mx_intake.specs.Entries.{entries_of_text};
 ghost use Rattle.mx_intake.specs.Sectors.{sector_rows};
 ghost use Rattle.mx_output.specs.questions.Asking.{doc_of};
 ghost use Rattle.mx_http.specs.responses.Answer.{IsMade, replies_answer};
-ghost use Rattle.mx_office.specs.Calls.{Runs};
+ghost use Rattle.mx_jobs.specs.Calls.{Runs};
 ghost use Rattle.mx_desk.specs.Answered.{AnswersIfRoom};
 ghost use Rattle.mx_http.specs.responses.Request.{entering, importing, loading};
 
@@ -17,7 +17,7 @@ use mx_http::responses::{
 };
 use mx_intake::{commands_of_json, programme_of};
 use mx_jobs::logs::import_text;
-use mx_office::Office;
+use mx_jobs::office::Office;
 use sqlite::Alter;
 use std::alloc::Global;
 use std::slice;

@@ -49,5 +49,6 @@ mod serving;
 pub use answering::route_response;
 pub use mx_http::request::{NoRoute, Route, route};
 pub use mx_http::responses::DeskFault;
+pub use mx_jobs as jobs;
 pub use serve::serve_one;
 pub use serving::serve_on;

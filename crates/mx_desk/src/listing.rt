@@ -10,8 +10,8 @@ use mx_http::request::Rejection;
 use mx_http::responses::{
     DeskFault, refusal_response, rejection_response, report_response, stop_response,
 };
+use mx_jobs::office::{Ask, Office};
 use mx_lists::Question;
-use mx_office::{Ask, Office};
 use sqlite::Alter;
 use std::alloc::Global;
 

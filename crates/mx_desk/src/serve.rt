@@ -1,7 +1,7 @@
 //! One connection: a request is read, an office answers it, and the answer is written.
 ghost use Rattle.std.specs.Prelude.{◌≡◌, ◌≢◌, ◌⊎◌, ◌++◌, ⊤, [], Some, Err, OnOk, OnErr, IfOk, IfErr};
 ghost use Rattle.sqlite.specs.State.{HasCleanDisk};
-ghost use Rattle.mx_office.specs.Office.{office_state, StandsFor};
+ghost use Rattle.mx_jobs.specs.Office.{office_state, StandsFor};
 ghost use Rattle.mx_http.specs.request.Head.{head_of};
 ghost use Rattle.mx_desk.specs.Taken.{TakesBehind, TakesRequest};
 ghost use Rattle.mx_desk.specs.Served.{AnswersInput, IsSilent, KeepsBook, LeavesBook, ServesInput, Writes};
@@ -9,7 +9,7 @@ ghost use Rattle.mx_desk.specs.Served.{AnswersInput, IsSilent, KeepsBook, Leaves
 use crate::answering::route_response;
 use mx_http::request::{Rejection, asked_of, head_of, read_body, read_head};
 use mx_http::responses::{DeskFault, bytes_of, of_input, reject, write_text};
-use mx_office::Office;
+use mx_jobs::office::Office;
 use sqlite::Alter;
 use std::alloc::Global;
 use std::io::{Read, Write};

@@ -1,13 +1,13 @@
 //! An open office at a listener, one connection after the other.
 ghost use Rattle.std.specs.Prelude.{◌≡◌, ◌++◌, IfErr, OnOk};
 ghost use Rattle.mx_book.specs.Run.{book_run};
-ghost use Rattle.mx_office.specs.Office.{office_state, IsReady, StandsFor};
+ghost use Rattle.mx_jobs.specs.Office.{office_state, IsReady, StandsFor};
 ghost use Rattle.mx_desk.specs.Served.{KeepsBook, LeavesBook, LeavesSome, StopsServing};
 ghost use Rattle.mx_http.specs.responses.Serving.{served_line};
 
 use crate::serve::serve_one;
 use mx_http::responses::{append_served, take_the_rest};
-use mx_office::{Fault, Office};
+use mx_jobs::office::{Fault, Office};
 use sqlite::Alter;
 use std::alloc::Global;
 use std::net::{OpenListener, TcpListener};

@@ -3,6 +3,7 @@
 //! - `logs`: the import of a sector log into an office, and what is printed of it.
 //! - `answers`: what an open office answers to a question for a list, and what is printed of it.
 //! - `upkeep`: what a word does over a database where no office is open: a move, a whole book made as a file.
+//! - `office`: the office itself, for whoever has a job done over one.
 //!
 //! # What is promised
 //!
@@ -33,4 +34,5 @@ mod verifying;
 
 pub use entering::enter_all;
 pub use making::{CREATED, make_book};
+pub use mx_office as office;
 pub use verifying::print_verified;

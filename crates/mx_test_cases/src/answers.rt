@@ -49,15 +49,21 @@ pub fn documents(alloc: Global, commands: &[Command]) -> Result<String, AllocErr
     or_none(text)
 }
 
+/// Appends the lines of a printed text, joined by ` / `, behind ` / ` where there is something before them.
+pub fn append_lines(out: &mut String, text: &[u8]) -> Result<(), AllocError> {
+    let Ok(text) = str::from_utf8(text) else {
+        return append_joined(out, "no text");
+    };
+    for line in text.lines() {
+        append_joined(out, line)?;
+    }
+    Ok(())
+}
+
 /// The lines of a printed text, joined by ` / `.
 pub fn joined_lines(alloc: Global, text: &[u8]) -> Result<String, AllocError> {
-    let Ok(text) = str::from_utf8(text) else {
-        return String::from_str(alloc, "no text");
-    };
     let mut joined = String::new(alloc);
-    for line in text.lines() {
-        append_joined(&mut joined, line)?;
-    }
+    append_lines(&mut joined, text)?;
     Ok(joined)
 }
 

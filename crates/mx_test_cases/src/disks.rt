@@ -36,6 +36,8 @@ pub struct Asked<'a> {
     pub words: &'a [&'a str],
     /// The commands that `run` hands in, and `first` the first of them.
     pub list: &'a [Command],
+    /// The text that `import` hands in, and `post`.
+    pub text: &'a str,
     /// Where the entries are put that `entries` finds.
     pub entries: &'a mut Vec<Command>,
 }

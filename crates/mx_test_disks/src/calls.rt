@@ -5,9 +5,13 @@ ghost use Rattle.std.specs.Prelude.{◌≡◌, false};
 use mx_base::Use;
 use mx_book::Reply;
 use mx_book::commands::{Command, Item};
+use mx_desk::jobs::logs::{self, ImportReport};
+use mx_desk::jobs::office::{Ask, Fault, Office, Outcomes};
+use mx_desk::{DeskFault, serve_one};
+use mx_intake::IntakeFault;
 use mx_layout::{Layout, TableFault, create};
 use mx_lists::{Question, Report};
-use mx_office::{Ask, Fault, Office, Outcomes};
+use mx_test_cases::{Sink, Source};
 use sqlite::{Alter, Connection};
 use std::alloc::Global;
 
@@ -79,4 +83,23 @@ pub(crate) fn verified_in<S: Alter>(alloc: Global, office: &mut Office<S>) -> Re
 /// Whether the office has to be opened again.
 pub(crate) fn is_in_doubt<S: Alter>(office: &Office<S>) -> bool {
     office.needs_reopen()
+}
+
+/// What the rows of the log that a reader gives are told, or its fault as a whole.
+pub(crate) fn imported<S: Alter>(
+    alloc: Global,
+    office: &mut Office<S>,
+    reader: &mut Source<'_>,
+) -> Result<ImportReport, IntakeFault> {
+    logs::import(alloc, office, reader)
+}
+
+/// How the desk ends with the request that a reader gives, which it answers into a writer.
+pub(crate) fn served<S: Alter>(
+    alloc: Global,
+    office: &mut Office<S>,
+    reader: &mut Source<'_>,
+    writer: &mut Sink,
+) -> Result<(), DeskFault> {
+    serve_one(alloc, office, reader, writer)
 }

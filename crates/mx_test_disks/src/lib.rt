@@ -19,6 +19,10 @@
 //! - `due TAIL DAY`, `limits TAIL DAY`, `forecast TAIL DAY DAYS MINUTES CYCLES`: these lists;
 //! - `entries FROM AT_MOST`, `entry NUMBER COMMAND`: documents of entries; whether one is this command;
 //! - `verify`: whether the tables stand for a book;
+//! - `import [read LIMIT]`: hands in the text as a sector log, through a reader, and answers what its rows are told;
+//! - `get PATH [read LIMIT] [write LIMIT]`, `post PATH ..`: a request, the second with the text as its body, that the desk reads and
+//!   answers: how that ends, and the lines of what was written. A limit of the reader or of the writer is `part BYTES`, which a call
+//!   passes on at most, or `fails CALLS` or `interrupted CALLS`, behind which one call fails;
 //! - `needs-reopen`: whether the files have to be opened again.
 //!
 //! A fault is answered by its name behind `fault`, and a row that a table refuses by the constraint behind `refused`.
@@ -31,6 +35,7 @@ pub mod disks;
 mod files;
 mod office_lines;
 mod queries;
+mod streams;
 mod texts;
 
 pub use disks::MemoryDisks;

@@ -1,10 +1,11 @@
 //! What is asked of an open office.
 
 use crate::calls::{applied, entries_of, is_in_doubt, life_of, list_of, ran, verified_in};
+use crate::streams::{get, import, post};
 use crate::texts::{answers_in, append_fault, ask_text};
 use mx_book::commands::{Command, Item};
+use mx_desk::jobs::office::{Fault, Office};
 use mx_lists::Question;
-use mx_office::{Fault, Office};
 use mx_reports::append_whole;
 use mx_test_cases::{
     AnswerText, Asked, Unmade, command_of, documents, item_of, joined_lines, question_of,
@@ -126,6 +127,9 @@ pub(crate) fn answer_of_office<S: Alter>(office: &mut Office<S>, asked: Asked<'_
         ["entries", from, at_most] => entries(office, asked, from, at_most),
         ["entry", seq, command @ ..] => is_entry(alloc, office, seq, command),
         ["verify"] => verify(alloc, office),
+        ["import", limits @ ..] => import(office, &asked, limits),
+        ["get", path, limits @ ..] => get(alloc, office, path, limits),
+        ["post", path, limits @ ..] => post(office, &asked, path, limits),
         ["needs-reopen"] => Ok(yes_or_no(alloc, is_in_doubt(office))?),
         command => apply(alloc, office, &command_of(alloc, command)?),
     }

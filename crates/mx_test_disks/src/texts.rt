@@ -2,7 +2,7 @@
 //! nothing is done and left without its answer.
 
 use mx_book::Reply;
-use mx_office::{Ask, Fault, OpenFault};
+use mx_desk::jobs::office::{Ask, Fault, OpenFault};
 use mx_test_cases::{AnswerText, append_joined, or_none, replies_in, room_for_replies};
 use mx_test_lines::faults::{append_damaged, room};
 use sqlite::{Constraint, Error, ErrorCode};

@@ -2,6 +2,4 @@
 #![tactic(auto)]
 
 #[cfg(test)]
-mod in_parts;
-#[cfg(test)]
 mod tests;

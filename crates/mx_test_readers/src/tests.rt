@@ -1,7 +1,7 @@
 //! An input that is read in parts, and one of which a read fails or is interrupted.
-use crate::in_parts::InParts;
 use mx_http::request::{InputFault, read_body, read_head};
 use mx_intake::{IntakeFault, READ_FAILED, TOO_LONG, read_all};
+use mx_test_cases::{Flow, Source};
 use std::io::ErrorKind;
 use std::test::Fail;
 
@@ -11,24 +11,46 @@ const TEXT: &[u8] = b"D-ABCD,12,1";
 /// A request: its head, and the body that it says.
 const HEAD: &[u8] = b"POST /entries HTTP/1.1\r\nContent-Length: 2\r\n\r\n";
 
-// Whether an input ends with this fault of the whole, where its reads fail so behind the first `answered`.
+// A reader that gives a text in small parts, of which no read fails.
+fn whole(text: &[u8]) -> Source<'_> {
+    Source::new(
+        text,
+        Flow {
+            part: 3,
+            failing: None,
+        },
+    )
+}
+
+// A reader that gives a text in small parts, of which a read fails so behind the first `answered`.
+fn failing(text: &[u8], answered: u32, kind: ErrorKind) -> Source<'_> {
+    Source::new(
+        text,
+        Flow {
+            part: 3,
+            failing: Some((answered, kind)),
+        },
+    )
+}
+
+// Whether an input ends with this fault of the whole, where a read fails so behind the first `answered`.
 fn is_told(rt: &HostRuntime, answered: u32, kind: ErrorKind) -> bool {
-    let mut reader = InParts::failing(TEXT, answered, kind);
+    let mut reader = failing(TEXT, answered, kind);
     match read_all(rt.alloc(), &mut reader, 100) {
         Ok(_) => false,
         Err(fault) => fault.number == READ_FAILED && fault.entry == 0,
     }
 }
 
-// Whether a head can't be read, where its reads fail so behind the first `answered`.
+// Whether a head can't be read, where a read fails so behind the first `answered`.
 fn is_head_told(rt: &HostRuntime, answered: u32, kind: ErrorKind) -> bool {
-    let mut reader = InParts::failing(HEAD, answered, kind);
+    let mut reader = failing(HEAD, answered, kind);
     matches!(read_head(rt.alloc(), &mut reader), Err(InputFault::Read))
 }
 
-// Whether a body can't be read, where its reads fail so behind the first `answered`.
+// Whether a body can't be read, where a read fails so behind the first `answered`.
 fn is_body_told(rt: &HostRuntime, answered: u32, kind: ErrorKind) -> bool {
-    let mut reader = InParts::failing(TEXT, answered, kind);
+    let mut reader = failing(TEXT, answered, kind);
     matches!(
         read_body(rt.alloc(), &mut reader, b"", TEXT.len()),
         Err(InputFault::Read)
@@ -53,14 +75,14 @@ fn failed_and_interrupted_reads_are_told(rt: HostRuntime) -> Result<(), Fail> {
 
 #[test]
 fn no_more_is_read_than_is_needed(rt: HostRuntime) -> Result<(), Fail> {
-    let mut reader = InParts::whole(TEXT);
+    let mut reader = whole(TEXT);
     let bytes = read_all(rt.alloc(), &mut reader, TEXT.len())?;
     wanted(
         bytes.as_slice() == TEXT && reader.ends == 1,
         "all bytes, and one end",
     )?;
 
-    let mut longer = InParts::whole(TEXT);
+    let mut longer = whole(TEXT);
     let fault = read_all(rt.alloc(), &mut longer, TEXT.len() - 1);
     wanted(
         fault
@@ -72,18 +94,18 @@ fn no_more_is_read_than_is_needed(rt: HostRuntime) -> Result<(), Fail> {
         "a longer one",
     )?;
 
-    let mut head = InParts::whole(HEAD);
+    let mut head = whole(HEAD);
     let bytes = read_head(rt.alloc(), &mut head)?;
     wanted(
         bytes.as_slice() == HEAD && head.ends == 0,
         "a head, and no end",
     )?;
 
-    let mut body = InParts::whole(TEXT);
+    let mut body = whole(TEXT);
     let found = read_body(rt.alloc(), &mut body, b"D-", 5)?;
     wanted(found.is_some() && body.ends == 0, "a body, and no end")?;
 
-    let mut begun = InParts::failing(TEXT, 0, ErrorKind::Other);
+    let mut begun = failing(TEXT, 0, ErrorKind::Other);
     let found = read_body(rt.alloc(), &mut begun, b"D-ABCD", 6)?;
     wanted(
         found.is_some(),

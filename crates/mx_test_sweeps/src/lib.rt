@@ -11,8 +11,9 @@
 //! - `keep`, `restore`: keeps a copy of the files, and takes it back;
 //! - `open [log CALLS] [db CALLS] [pages PAGES]`: opens the office; the log holds so many pages before it is copied;
 //! - `list COMMAND`, `list`: puts a command behind those of the list, or empties it;
-//! - `stops-of-making`, `stops-of-commands`, `stops-of-line`, `stops-of-commits`, `stops-of-settling`, `doubts`: sweeps, which
-//!   play such lines over copies (`sweep_lines`);
+//! - `text LINE`, `text`: puts a line behind those of the text that `import` and `post` hand in, or empties it;
+//! - `stops-of-making`, `stops-of-commands`, `stops-of-entering`, `stops-of-line`, `stops-of-commits`, `stops-of-settling`,
+//!   `doubts`: sweeps, which play such lines over copies (`sweep_lines`); of `stops-of-entering` the list states the good rows of the text;
 //! - `questions`: a sweep over the questions of the book of that list.
 //!
 //! Lines in the open office: commands, and the questions that the disks answer; `close`, `end` and `power` leave it.
@@ -27,6 +28,7 @@
 mod again;
 mod doubts;
 pub mod failing;
+mod handing;
 pub mod interrupted;
 mod plain;
 mod player;

@@ -3,7 +3,7 @@
 use crate::settings::{holding, setting_of};
 use crate::sweep::End;
 use mx_book::commands::Command;
-use mx_test_cases::{AnswerText, Asked, Disks, Held, Setting, Unmade, command_of};
+use mx_test_cases::{AnswerText, Asked, Disks, Held, Setting, Unmade, append_word, command_of};
 use std::alloc::Global;
 use std::mem;
 
@@ -13,6 +13,8 @@ pub(crate) struct Player<D> {
     disks: D,
     // The commands that `run` and the sweeps hand in.
     list: Vec<Command>,
+    // The text that `import` hands in, as a sector log, and `post`.
+    text: String,
     // The entries that were asked for last.
     entries: Vec<Command>,
 }
@@ -24,20 +26,23 @@ impl<D: Disks> Player<D> {
             alloc,
             disks,
             list: Vec::new(alloc),
+            text: String::new(alloc),
             entries: Vec::new(alloc),
         }
     }
 
-    /// A player with copies of the disks and of the list.
+    /// A player with copies of the disks, of the list and of the text.
     pub(crate) fn trial(&self) -> Result<Player<D>, Unmade> {
         let mut list = Vec::new(self.alloc);
         for command in &self.list {
             list.push(command.copy(self.alloc)?)?;
         }
+        let text = self.text.clone()?;
         Ok(Player {
             alloc: self.alloc,
             disks: self.disks.copy()?,
             list,
+            text,
             entries: Vec::new(self.alloc),
         })
     }
@@ -58,6 +63,7 @@ impl<D: Disks> Player<D> {
             alloc: _,
             disks,
             list: _,
+            text: _,
             entries: _,
         } = self;
         disks.let_go();
@@ -93,6 +99,7 @@ impl<D: Disks> Player<D> {
         let text = String::from_str(self.alloc, "ok")?;
         self.disks.begin();
         self.list.clear();
+        self.text.clear();
         Ok(text)
     }
 
@@ -105,6 +112,22 @@ impl<D: Disks> Player<D> {
             self.list.push(command_of(self.alloc, words)?)?;
         }
         Ok(text)
+    }
+
+    // Puts a line behind those of the text; no words empty the text.
+    fn lengthen_text(&mut self, words: &[&str]) -> AnswerText {
+        let answer = String::from_str(self.alloc, "ok")?;
+        if words.is_empty() {
+            self.text.clear();
+            return Ok(answer);
+        }
+        let mut line = String::new(self.alloc);
+        for word in words {
+            append_word(&mut line, word)?;
+        }
+        line.push('\n')?;
+        self.text.push_str(line.as_str())?;
+        Ok(answer)
     }
 
     // Keeps a copy of the files.
@@ -127,6 +150,7 @@ impl<D: Disks> Player<D> {
             alloc: self.alloc,
             words,
             list: &self.list,
+            text: self.text.as_str(),
             entries: &mut self.entries,
         };
         self.disks.ask(setting, asked)
@@ -175,6 +199,7 @@ impl<D: Disks> Player<D> {
         match words {
             ["disk"] => self.begin(),
             ["list", command @ ..] => self.lengthen(command),
+            ["text", line @ ..] => self.lengthen_text(line),
             _ => {
                 if self.is_open() {
                     self.in_office(words)

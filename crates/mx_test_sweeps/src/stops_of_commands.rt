@@ -1,6 +1,7 @@
-//! A list of commands over files, and what each stop of it leaves: the tables of the book of the commands that were answered, or of
-//! one more. Files of an older layout are moved as they are opened, and stopped in that too.
+//! A list of commands over files, or the sector log that states them, and what each stop of it leaves: the tables of the book of the
+//! commands that were answered, or of one more. Files of an older layout are moved as they are opened, and stopped in that too.
 
+use crate::handing::Handing;
 use crate::plain::{Plain, is_start, plain_run};
 use crate::player::Player;
 use crate::sweep::{End, Stops, Wrong, all_entries, must};
@@ -91,37 +92,15 @@ fn known_after(alloc: Global, plain: &Plain, answer: &str) -> Result<Known, Wron
     })
 }
 
-// Every call answers that the office has to be opened again.
+// Every call answers that the office has to be opened again, and so does the desk.
 fn needs_reopen<D: Disks>(player: &mut Player<D>) -> Result<bool, Unmade> {
     for call in CALLS {
         if !player.says(call, "fault reopen")? {
             return Ok(false);
         }
     }
-    player.says("needs-reopen", "yes")
-}
-
-// Runs the commands in the open office. Where a fault stops the run, every call answers from then on that the office has
-// to be opened again.
-fn run_through<D: Disks>(
-    alloc: Global,
-    plain: &Plain,
-    player: &mut Player<D>,
-) -> Result<Known, Wrong> {
-    let answer = player.line("run")?;
-    let known = known_after(alloc, plain, answer.as_str())?;
-    if known.is_stopped {
-        must(
-            needs_reopen(player)?,
-            "a call that is answered where the office has to be opened again",
-        )?;
-    } else {
-        must(
-            player.says("needs-reopen", "no")?,
-            "an office that has to be opened again after no fault",
-        )?;
-    }
-    Ok(known)
+    let served = player.line("get /aircraft/D-ABCD/life")?;
+    Ok(served.ends_with(" / fault reopen") && player.says("needs-reopen", "yes")?)
 }
 
 // Each command that was kept is answered with its number.
@@ -137,12 +116,14 @@ fn knows_what_was_kept(first: &[&str], again: &[&str], kept: usize) -> bool {
     true
 }
 
-/// A list of commands over files of which one stops.
+/// Commands over files of which one stops.
 #[derive(Drop)]
 pub(crate) struct CommandStops<'a> {
     pub alloc: Global,
     /// What the plain book gives.
     pub plain: Plain,
+    /// How the commands are handed in.
+    pub handing: Handing,
     /// The file that stops.
     pub file: &'a str,
     /// How many pages the log holds.
@@ -150,14 +131,39 @@ pub(crate) struct CommandStops<'a> {
 }
 
 impl<'a> CommandStops<'a> {
-    // Runs the commands over files of which one stops.
+    // Every call, and what hands in the commands, answers that the office has to be opened again.
+    fn is_left<D: Disks>(&self, player: &mut Player<D>) -> Result<bool, Wrong> {
+        let again = self.handing.replies(self.alloc, player)?;
+        Ok(again.as_str() == "fault reopen" && needs_reopen(player)?)
+    }
+
+    // Hands in the commands to the open office. Where a fault stops them, every call answers from then on that the office has
+    // to be opened again.
+    fn hand_in<D: Disks>(&self, player: &mut Player<D>) -> Result<Known, Wrong> {
+        let answer = self.handing.replies(self.alloc, player)?;
+        let known = known_after(self.alloc, &self.plain, answer.as_str())?;
+        if known.is_stopped {
+            must(
+                self.is_left(player)?,
+                "a call that is answered where the office has to be opened again",
+            )?;
+        } else {
+            must(
+                player.says("needs-reopen", "no")?,
+                "an office that has to be opened again after no fault",
+            )?;
+        }
+        Ok(known)
+    }
+
+    // Hands in the commands over files of which one stops.
     fn run_stopped<D: Disks>(&self, player: &mut Player<D>, calls: u64) -> Result<Known, Wrong> {
         let file = self.file;
         let pages = self.pages;
         let opening = format!(in self.alloc; "open {file} {calls} pages {pages}")?;
         let opened = player.line(opening.as_str())?;
         if opened.as_str() == "opened" {
-            return run_through(self.alloc, &self.plain, player);
+            return self.hand_in(player);
         }
         must(
             opened.as_str() == "fault store",
@@ -215,7 +221,7 @@ impl<'a> CommandStops<'a> {
             player.says("verify", "verified")?,
             "tables that are not those of a book",
         )?;
-        let again = player.line("run")?;
+        let again = self.handing.replies(self.alloc, player)?;
         self.is_answered_again(player, &found, again.as_str())?;
         let wanted = self.plain.book.as_slice();
         let last = all_entries(player)?;

@@ -1,6 +1,8 @@
 //! The sweeps, by their words.
 
 use crate::doubts::Doubts;
+use crate::handing::{Handing, whole_import};
+use crate::plain::Plain;
 use crate::player::Player;
 use crate::running_out::stops_of_questions;
 use crate::settings::end_of;
@@ -33,17 +35,20 @@ fn stops_of_making<D: Disks>(
     swept(alloc, player, &mut stops, &BOTH_ENDS, at_least)
 }
 
-fn stops_of_commands<D: Disks>(
+// The stops of the commands of the list, which are handed in so.
+fn stops_of_handing<D: Disks>(
     alloc: Global,
     player: &mut Player<D>,
     (file, pages, at_least): (&str, &str, &str),
+    begun: Result<(Plain, Handing), Wrong>,
 ) -> AnswerText {
     let at_least = at_least.parse::<u64>()?;
-    match plain_of(alloc, player) {
-        Ok(plain) => {
+    match begun {
+        Ok((plain, handing)) => {
             let mut stops = CommandStops {
                 alloc,
                 plain,
+                handing,
                 file,
                 pages,
             };
@@ -51,6 +56,20 @@ fn stops_of_commands<D: Disks>(
         }
         Err(wrong) => unbegun(alloc, wrong),
     }
+}
+
+// What the plain book gives, for a list that is run.
+fn begin_run<D: Disks>(alloc: Global, player: &mut Player<D>) -> Result<(Plain, Handing), Wrong> {
+    Ok((plain_of(alloc, player)?, Handing::Run))
+}
+
+// What the plain book gives, for a log that is imported.
+fn begin_import<D: Disks>(
+    alloc: Global,
+    player: &mut Player<D>,
+) -> Result<(Plain, Handing), Wrong> {
+    let plain = plain_of(alloc, player)?;
+    Ok((plain, whole_import(player)?))
 }
 
 fn stops_of_line<D: Disks>(
@@ -125,11 +144,14 @@ fn doubts<D: Disks>(
 fn played<D: Disks>(alloc: Global, player: &mut Player<D>, words: &[&str]) -> AnswerText {
     match words {
         ["stops-of-making", file, at_least] => stops_of_making(alloc, player, file, at_least),
-        ["stops-of-commands", file, "pages", pages, at_least] => stops_of_commands(
-            alloc,
-            player,
-            (*file, *pages, *at_least),
-        ),
+        ["stops-of-commands", file, "pages", pages, at_least] => {
+            let begun = begin_run(alloc, player);
+            stops_of_handing(alloc, player, (*file, *pages, *at_least), begun)
+        }
+        ["stops-of-entering", file, "pages", pages, at_least] => {
+            let begun = begin_import(alloc, player);
+            stops_of_handing(alloc, player, (*file, *pages, *at_least), begun)
+        }
         ["stops-of-line", file, "pages", pages, at_least, line @ ..] => stops_of_line(
             alloc,
             player,
@@ -169,6 +191,7 @@ pub(crate) fn is_sweep(words: &[&str]) -> bool {
         [
             "stops-of-making"
                 | "stops-of-commands"
+                | "stops-of-entering"
                 | "stops-of-line"
                 | "stops-of-commits"
                 | "stops-of-settling"
@@ -182,6 +205,7 @@ pub(crate) fn is_sweep(words: &[&str]) -> bool {
 /// What a sweep is answered. AT_LEAST is how many stops there must be:
 /// - `stops-of-making FILE AT_LEAST`: the making of a file;
 /// - `stops-of-commands FILE pages PAGES AT_LEAST`: the list of commands is handed in to the office that the files hold;
+/// - `stops-of-entering FILE pages PAGES AT_LEAST`: the same, where one import of the text hands them in, a sector log;
 /// - `stops-of-line FILE pages PAGES AT_LEAST LINE`: a line that changes the tables of the files, in one commit;
 /// - `stops-of-commits FILE pages PAGES AT_LEAST LINE`: one that makes several commits;
 /// - `stops-of-settling FILE pages PAGES AT_LEAST COMMITS QUESTION`: the files are moved by so many commits, and the office that is

@@ -3,7 +3,7 @@ use Rattle.sqlite.specs.Held.{state}
 use Rattle.mx_book.specs.commands.Act.{Entry}
 use Rattle.mx_book.specs.Run.{book_run}
 use Rattle.mx_book.proofs.GrowthLemmas.{book_run-append}
-use Rattle.mx_office.specs.Stands.{Rests}
+use Rattle.mx_jobs.specs.Stands.{Rests}
 use Rattle.mx_desk.proofs.ServedLemmas.{left_here}
 use Rattle.mx_desk.proofs.serving.serve_on.Goals as goal
 

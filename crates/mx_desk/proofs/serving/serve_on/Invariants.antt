@@ -2,7 +2,7 @@ use Rattle.std.proofs.Common.{◌≡◌, List, false}
 use Rattle.sqlite.specs.Held.{state}
 use Rattle.mx_book.specs.commands.Act.{Entry}
 use Rattle.mx_book.specs.Run.{book_run}
-use Rattle.mx_office.specs.Stands.{Rests}
+use Rattle.mx_jobs.specs.Stands.{Rests}
 use Rattle.mx_desk.proofs.serving.serve_on.Given as goal
 
 abbrev pub invariant-loop : goal.invariant-loop
