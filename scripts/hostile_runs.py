@@ -74,9 +74,9 @@ class Kind:
         return sum(self.met.values())
 
     def least(self, how: str, number: int) -> None:
-        """At least so many of all inputs have to be met so, and as large a part of those that the time allowed."""
-        least = number * self.tried() // max(self.all, self.tried(), 1)
-        self.want(f"{least} that are {how}", True, self.met[how] >= least)
+        """At least so many have to be met so, where the time allowed all inputs."""
+        if self.tried() >= self.all:
+            self.want(f"{number} that are {how}", True, self.met[how] >= number)
 
     def line(self) -> str:
         met = ", ".join(f"{number} {how}" for how, number in sorted(self.met.items()))
