@@ -1,11 +1,11 @@
 //! A database over any store, or the office that is open in it, asked a line.
 ghost use Rattle.std.specs.Prelude.{◌≡◌, false, IfErr};
 
-use crate::database_lines::answer_of_database;
 use crate::office_lines::answer_of_office;
 use crate::texts::append_open_fault;
 use mx_desk::jobs::office::{Office, OpenFault, open_office};
 use mx_test_cases::{AnswerText, Asked, Unmade};
+use mx_test_lines::database::answer_of_database;
 use mx_test_lines::faults::room;
 use mx_test_lines::moves::answer_of_install;
 use sqlite::{Alter, Connection};

@@ -1,7 +1,5 @@
 //! The calls of an office, each in a function of its own that says nothing of the tables: so the proofs above
 //! carry none of what the office promises of them.
-ghost use Rattle.std.specs.Prelude.{◌≡◌, false};
-
 use mx_base::Use;
 use mx_book::Reply;
 use mx_book::commands::{Command, Item};
@@ -9,25 +7,10 @@ use mx_desk::jobs::logs::{self, ImportReport};
 use mx_desk::jobs::office::{Ask, Fault, Office, Outcomes};
 use mx_desk::{DeskFault, serve_one};
 use mx_intake::IntakeFault;
-use mx_layout::{Layout, TableFault, create};
 use mx_lists::{Question, Report};
 use mx_test_cases::{Sink, Source};
-use sqlite::{Alter, Connection};
+use sqlite::Alter;
 use std::alloc::Global;
-
-/// Makes an empty book of layout 2, which is the newest.
-pub(crate) fn created<S: Alter>(conn: &mut Connection<S>) -> Result<(), TableFault>
-    requires { conn.old.in_transaction ≡ false }
-{
-    create(conn, Layout(2))
-}
-
-/// Makes an empty book of layout 1.
-pub(crate) fn created_old<S: Alter>(conn: &mut Connection<S>) -> Result<(), TableFault>
-    requires { conn.old.in_transaction ≡ false }
-{
-    create(conn, Layout(1))
-}
 
 /// What the office answers to the command.
 pub(crate) fn applied<S: Alter>(

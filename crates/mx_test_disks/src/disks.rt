@@ -3,10 +3,9 @@
 use crate::files::{
     Fused, Left, Pair, asked_in, asked_of_files, copied, empty_files, held_in, left_by, lose_power,
 };
-use crate::texts::append_error;
 use mx_desk::jobs::office::Office;
 use mx_test_cases::{AnswerText, Asked, Disks, Held, Setting, Unmade};
-use mx_test_lines::faults::room;
+use mx_test_lines::faults::{append_error, room};
 use std::alloc::{AllocError, Global};
 use std::mem;
 

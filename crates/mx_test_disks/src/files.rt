@@ -6,10 +6,10 @@ ghost use Rattle.sqlite_disk.specs.Memory.{memory_is_usable};
 ghost use Rattle.sqlite_disk.specs.Fuse.{inner_of, IsFresh};
 
 use crate::asking::ask;
-use crate::texts::error_text;
 use mx_database::power::end_process;
 use mx_desk::jobs::office::Office;
 use mx_test_cases::{AnswerText, Asked, Held, Setting};
+use mx_test_lines::faults::error_text;
 use sqlite::{Connection, Error, FileStore, Files, Options};
 use sqlite_disk::{Crash, Disk, Fuse, Memory};
 use std::alloc::{AllocError, Global};

@@ -30,12 +30,11 @@
 
 mod asking;
 mod calls;
-mod database_lines;
-pub mod disks;
+mod disks;
 mod files;
 mod office_lines;
-mod queries;
+pub mod program;
 mod streams;
 mod texts;
 
-pub use disks::MemoryDisks;
+pub use program::play;

@@ -3,9 +3,8 @@
 
 use mx_book::Reply;
 use mx_desk::jobs::office::{Ask, Fault, OpenFault};
-use mx_test_cases::{AnswerText, append_joined, or_none, replies_in, room_for_replies};
-use mx_test_lines::faults::{append_damaged, room};
-use sqlite::{Constraint, Error, ErrorCode};
+use mx_test_cases::{append_joined, or_none, replies_in, room_for_replies};
+use mx_test_lines::faults::append_damaged;
 use std::alloc::{AllocError, Global};
 
 /// Appends why a call of an office was stopped.
@@ -28,38 +27,6 @@ pub(crate) fn append_open_fault(out: &mut String, fault: OpenFault) -> Result<()
         OpenFault::OlderLayout(layout) => write!(out, "fault older {layout}"),
         OpenFault::Damaged(table) => append_damaged(out, table),
     }
-}
-
-// The constraint of a table that refused a row.
-fn constraint_name(constraint: Constraint) -> &'static str {
-    match constraint {
-        Constraint::Datatype => "refused datatype",
-        Constraint::NotNull => "refused not null",
-        Constraint::Check => "refused check",
-        Constraint::PrimaryKey => "refused primary key",
-        Constraint::Unique => "refused unique",
-        Constraint::ForeignKey => "refused foreign key",
-    }
-}
-
-/// Appends why a statement was not run: the constraint that refused its row, what is wrong with its text, or the
-/// fault that stopped it.
-pub(crate) fn append_error(out: &mut String, error: Error) -> Result<(), AllocError> {
-    match error {
-        Error::SqliteFailure(ErrorCode::ConstraintViolation(constraint)) => out.push_str(
-            constraint_name(constraint),
-        ),
-        Error::SqliteFailure(ErrorCode::OutOfMemory) => out.push_str("fault memory"),
-        Error::SqlInputError(wrong) => write!(out, "error {wrong}"),
-        _ => out.push_str("fault store"),
-    }
-}
-
-/// Why a statement was not run, or a database not opened.
-pub(crate) fn error_text(alloc: Global, error: Error) -> AnswerText {
-    let mut text = room(alloc)?;
-    append_error(&mut text, error)?;
-    Ok(text)
 }
 
 /// The replies, and behind them what stopped the office, joined by ` / `; `none` where there is neither. Where

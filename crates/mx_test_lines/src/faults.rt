@@ -1,7 +1,8 @@
-//! Answers as text, which lines over a database give alike: room for one, and the faults of tables.
+//! Answers as text, which lines over a database give alike: room for one, and the faults of tables and of statements.
 
 use mx_layout::{Table, TableFault};
 use mx_test_cases::AnswerText;
+use sqlite::{Constraint, Error, ErrorCode};
 use std::alloc::{AllocError, Global};
 
 /// Room for one answer.
@@ -38,5 +39,37 @@ pub fn append_done(out: &mut String, done: Result<(), TableFault>) -> Result<(),
 pub fn fault_text(alloc: Global, fault: TableFault) -> AnswerText {
     let mut text = room(alloc)?;
     append_table_fault(&mut text, fault)?;
+    Ok(text)
+}
+
+// The constraint of a table that refused a row.
+fn constraint_name(constraint: Constraint) -> &'static str {
+    match constraint {
+        Constraint::Datatype => "refused datatype",
+        Constraint::NotNull => "refused not null",
+        Constraint::Check => "refused check",
+        Constraint::PrimaryKey => "refused primary key",
+        Constraint::Unique => "refused unique",
+        Constraint::ForeignKey => "refused foreign key",
+    }
+}
+
+/// Appends why a statement was not run: the constraint that refused its row, what is wrong with its text, or the
+/// fault that stopped it.
+pub fn append_error(out: &mut String, error: Error) -> Result<(), AllocError> {
+    match error {
+        Error::SqliteFailure(ErrorCode::ConstraintViolation(constraint)) => out.push_str(
+            constraint_name(constraint),
+        ),
+        Error::SqliteFailure(ErrorCode::OutOfMemory) => out.push_str("fault memory"),
+        Error::SqlInputError(wrong) => write!(out, "error {wrong}"),
+        _ => out.push_str("fault store"),
+    }
+}
+
+/// Why a statement was not run, or a database not opened.
+pub fn error_text(alloc: Global, error: Error) -> AnswerText {
+    let mut text = room(alloc)?;
+    append_error(&mut text, error)?;
     Ok(text)
 }

@@ -2,10 +2,8 @@
 //! `mx_test_sweeps` plays; where the first is `--again`, a line that a fault stopped is played once more.
 #![tactic(auto)]
 
-use mx_test_disks::MemoryDisks;
 use std::process::ExitCode;
 
 fn main(rt: HostRuntime) -> ExitCode {
-    let disks = MemoryDisks::new(rt.alloc());
-    ExitCode::from(mx_test_sweeps::play(&rt, disks))
+    ExitCode::from(mx_test_disks::play(&rt))
 }

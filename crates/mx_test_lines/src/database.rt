@@ -1,17 +1,15 @@
 //! What is asked of the database that files hold, without an office.
 ghost use Rattle.std.specs.Prelude.{◌≡◌, false};
 
-use crate::calls::{created, created_old};
+use crate::faults::{append_done, append_error, append_table_fault, room};
+use crate::kept::answer_of_kept_rows;
+use crate::moves::answer_of_step;
 use crate::queries::{asked, tables};
-use crate::texts::append_error;
-use mx_layout::point;
-use mx_test_cases::{AnswerText, Unmade, append_word};
-use mx_test_lines::faults::{append_done, append_table_fault, room};
-use mx_test_lines::kept::answer_of_kept_rows;
-use mx_test_lines::moves::answer_of_step;
-use mx_test_lines::rows::{
+use crate::rows::{
     answer_by_rows, entered_by_rows, entries_by_rows, is_entry_by_rows, verdict_by_rows, verified,
 };
+use mx_layout::{Layout, TableFault, create, point};
+use mx_test_cases::{AnswerText, Unmade, append_word};
 use sqlite::{Alter, Connection};
 use std::alloc::{AllocError, Global};
 
@@ -46,21 +44,23 @@ fn point_text<S: Alter>(alloc: Global, conn: &mut Connection<S>) -> Result<Strin
     Ok(text)
 }
 
-// Makes an empty book of the newest layout.
-fn make<S: Alter>(alloc: Global, conn: &mut Connection<S>) -> Result<String, AllocError>
+// Makes an empty book of a layout. It says nothing of the tables, so that the proofs above carry none of what `create` promises.
+fn created<S: Alter>(conn: &mut Connection<S>, layout: u8) -> Result<(), TableFault>
     requires { conn.old.in_transaction ≡ false }
 {
-    let mut text = room(alloc)?;
-    append_done(&mut text, created(conn))?;
-    Ok(text)
+    create(conn, Layout(layout))
 }
 
-// Makes an empty book of layout 1.
-fn make_old<S: Alter>(alloc: Global, conn: &mut Connection<S>) -> Result<String, AllocError>
+// Makes an empty book of a layout, of which 2 is the newest.
+fn make<S: Alter>(
+    alloc: Global,
+    conn: &mut Connection<S>,
+    layout: u8,
+) -> Result<String, AllocError>
     requires { conn.old.in_transaction ≡ false }
 {
     let mut text = room(alloc)?;
-    append_done(&mut text, created_old(conn))?;
+    append_done(&mut text, created(conn, layout))?;
     Ok(text)
 }
 
@@ -76,7 +76,7 @@ fn statement_of(alloc: Global, words: &[&str]) -> Result<String, AllocError> {
 /// What a database answers to a line: `make`, `make-old`, `point`, `tables`, `ask QUERY`, `sql STATEMENT`, `step STEP`,
 /// `enter COMMAND`, `judge COMMAND`, `entries FROM AT_MOST`, `entry NUMBER COMMAND`, `verify`, one of kept rows, or one for a
 /// list.
-pub(crate) fn answer_of_database<S: Alter>(
+pub fn answer_of_database<S: Alter>(
     alloc: Global,
     conn: &mut Connection<S>,
     words: &[&str],
@@ -84,8 +84,8 @@ pub(crate) fn answer_of_database<S: Alter>(
     requires { conn.old.in_transaction ≡ false }
 {
     match words {
-        ["make"] => Ok(make(alloc, conn)?),
-        ["make-old"] => Ok(make_old(alloc, conn)?),
+        ["make"] => Ok(make(alloc, conn, 2)?),
+        ["make-old"] => Ok(make(alloc, conn, 1)?),
         ["point"] => Ok(point_text(alloc, conn)?),
         ["tables"] => tables(alloc, conn),
         ["ask", query @ ..] => {

@@ -1,6 +1,6 @@
 //! Rows of a database as text: those that a query gives, and all rows of all tables.
 
-use crate::texts::error_text;
+use crate::faults::error_text;
 use mx_test_cases::{AnswerText, append_joined, or_none};
 use sqlite::types::ValueRef;
 use sqlite::{Alter, Connection, Error, Row};
