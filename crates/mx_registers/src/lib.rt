@@ -19,6 +19,7 @@
 
 pub mod file;
 pub mod kept;
+pub mod late;
 pub mod laws;
 pub mod lines;
 pub mod merge;
