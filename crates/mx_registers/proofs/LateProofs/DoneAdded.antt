@@ -1,5 +1,5 @@
 -- The accomplishments that a new command adds, as rows of the table.
-use Rattle.std.proofs.Common.{refl, sym, ap, ◌∙◌, ◌≡◌, ℕ, ◌+◌, length, List, [], ◌∷◌, ◌++◌, Bool, true, false, cond, nat_eq, ◌&&◌, Option, Some, None}
+use Rattle.std.proofs.Common.{refl, sym, ap, ◌∙◌, ◌≡◌, ℕ, ◌+◌, length, List, [], ◌∷◌, ◌++◌, Bool, true, false, cond, ◌&&◌, Some, None}
 use Rattle.std.specs.Prelude.{filter, map}
 use Rattle.std.proofs.lemmas.Bool.Decides.{Decides-eqb}
 use Rattle.mx_base.specs.declared.rows.rows.DoneRow.{DoneRow}
@@ -15,7 +15,6 @@ use Rattle.mx_book.specs.declared.verdict.Verdict.TheVariants.{New}
 use Rattle.mx_book.specs.Base.{Stated, DoneIn, base}
 use Rattle.mx_book.specs.Book.{IsBook, is_new}
 use Rattle.mx_book.specs.Judge.{judge}
-use Rattle.mx_book.specs.Programme.{is_done}
 use Rattle.mx_book.proofs.CommandsProofs.SameLemmas.{text_same}
 use Rattle.mx_registers.specs.Names.{has_item, item_at, or_zero, seq_of_item}
 use Rattle.mx_registers.specs.kept.Changes.{sectors_late}

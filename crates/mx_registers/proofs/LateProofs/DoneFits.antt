@@ -1,12 +1,11 @@
 -- The accomplishments fit their columns, and their values and bases the life of an item and the calendar.
 use Rattle.std.proofs.Common.{arith, refl, ap, ◌∙◌, ◌≡◌, ℕ, ◌+◌, ◌/◌, ◌^◌, ◌≤◌, ◌<◌, zero, suc, length, List, [], ◌∷◌, ◌++◌, Bool, true, false, cond, ◌&&◌, Option, Some, None}
 use Rattle.std.specs.Prelude.{All, IfSome, find, fold, nat_le, take}
-use Rattle.std.specs.List.{filter_map, flat_map, cons_option, list_all, AllByRecursion}
+use Rattle.std.specs.List.{flat_map, cons_option, list_all, AllByRecursion}
 use Rattle.std.specs.Option.{option_and_then, option_map, option_map_or}
 use Rattle.std.proofs.lemmas.Bool.Decides.{nat_tests}
 use Rattle.std.proofs.lemmas.List.Elements.{All-from_recursion}
 use Rattle.mx_base.specs.Calendar.{last_day, last_moment}
-use Rattle.mx_base.specs.Identifier.{IsIdentifier, is_graphic}
 use Rattle.mx_base.specs.declared.amounts.Base.{Base}
 use Rattle.mx_base.specs.declared.amounts.Limit.{Limit}
 use Rattle.mx_base.specs.declared.rows.rows.DoneRow.{DoneRow}
@@ -22,10 +21,9 @@ use Rattle.mx_book.specs.declared.commands.item.Item.TheVariants.{Airframe as Of
 use Rattle.mx_book.specs.declared.commands.programme.Task.{Task}
 use Rattle.mx_book.specs.declared.commands.release.Line.{Line}
 use Rattle.mx_book.specs.declared.commands.release.Release.{Release}
-use Rattle.mx_book.specs.due.Due.{IsBase, counted_from, due_after, first_due, lesser}
+use Rattle.mx_book.specs.due.Due.{IsBase, counted_from, due_after, first_due}
 use Rattle.mx_book.specs.Base.{Accomplishment, Stated, DoneIn, base_at, base_of, due_of, lesser_base, task_then, value_of}
 use Rattle.mx_book.specs.Book.{IsBook}
-use Rattle.mx_book.specs.Life.{life_at, use_or_none}
 use Rattle.mx_book.specs.Programme.{is_done, kind_at, task_in_force, tasks_in_force, tasks_loaded}
 use Rattle.mx_book.specs.Register.{aircraft, birth, component, register}
 use Rattle.mx_book.proofs.CommandsProofs.ShapeLemmas.{both_true, tasks_shaped}
@@ -35,7 +33,7 @@ use Rattle.mx_book.proofs.ListLemmas.{found_task}
 use Rattle.mx_registers.specs.kept.Bases.{tasks_accomplished, tasks_by}
 use Rattle.mx_registers.specs.kept.Fits.{FitRegisters}
 use Rattle.mx_registers.specs.kept.Items.{items}
-use Rattle.mx_registers.specs.late.Done.{IsWithinLife, Placed, done_chain, done_row, done_rows, done_rows_at, done_rows_of, due_limit, limit_or_none, placed, placed_by, placed_from, placed_lines}
+use Rattle.mx_registers.specs.late.Done.{IsWithinLife, Placed, done_chain, done_rows, done_rows_at, done_rows_of, due_limit, limit_or_none, placed, placed_by, placed_from, placed_lines}
 use Rattle.mx_registers.proofs.ReleaseLemmas.{lines_few_enough}
 use Rattle.mx_registers.proofs.KeptProofs.BaseFits.{IsTask, book_tasks, day_low, lesser_low, once_fit}
 use Rattle.mx_registers.proofs.KeptProofs.FitLemmas.{items_low, IsLow}

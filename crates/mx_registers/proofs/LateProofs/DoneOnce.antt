@@ -1,5 +1,5 @@
 -- Each accomplishment has one row.
-use Rattle.std.proofs.Common.{arith, refl, sym, subst, ap, ◌∙◌, ◌≡◌, ℕ, ◌+◌, ◌*◌, ◌^◌, ◌≤◌, ◌<◌, length, List, [], ◌∷◌, Bool, true, false, cond, nat_eq, ◌&&◌, ◌||◌, Option, Some, None}
+use Rattle.std.proofs.Common.{arith, refl, sym, subst, ap, ◌∙◌, ◌≡◌, ℕ, ◌+◌, ◌<◌, length, List, [], ◌∷◌, Bool, true, false, cond, nat_eq, ◌&&◌, ◌||◌, Option, Some, None}
 use Rattle.std.specs.Prelude.{filter}
 use Rattle.std.specs.List.{list_any}
 use Rattle.std.proofs.lemmas.Bool.Decides.{Decides-eqb}
@@ -10,7 +10,7 @@ use Rattle.mx_book.specs.commands.Act.{Entry}
 use Rattle.mx_book.specs.declared.commands.item.Item.{Item}
 use Rattle.mx_book.specs.Book.{IsBook}
 use Rattle.mx_registers.specs.Names.{item_at}
-use Rattle.mx_registers.specs.late.Done.{AreDoneOnce, done_rows, done_rows_of, is_done_at, is_done_of}
+use Rattle.mx_registers.specs.late.Done.{AreDoneOnce, done_rows, is_done_at, is_done_of}
 use Rattle.mx_registers.proofs.KeptProofs.DoneLemmas.{both}
 use Rattle.mx_registers.proofs.LateProofs.DoneBecomes.{no_rows_of}
 use Rattle.mx_registers.proofs.LateProofs.DoneOrder.{rows_rise, self}

@@ -4,7 +4,6 @@ use Rattle.std.specs.Prelude.{map, filter, fold, is_some, slice_get}
 use Rattle.std.specs.List.{list_any, flat_map, AllByRecursion}
 use Rattle.std.specs.Option.{option_and_then}
 use Rattle.std.proofs.lemmas.Bool.Decides.{Decides-eqb, nat_tests}
-use Rattle.std.proofs.lemmas.List.Concat.{flat_map-append}
 use Rattle.std.proofs.lemmas.List.Elements.{filter-append}
 use Rattle.mx_base.specs.declared.amounts.Base.{Base}
 use Rattle.mx_book.specs.commands.Act.{Entry, Flown}
@@ -20,12 +19,11 @@ use Rattle.mx_registers.specs.Names.{item_added, item_at, or_zero, seq_of_tail, 
 use Rattle.mx_base.specs.rows.Rising.{IsRising}
 use Rattle.mx_base.specs.declared.rows.rows.DoneRow.{DoneRow}
 use Rattle.mx_registers.specs.kept.Items.{items}
-use Rattle.mx_registers.specs.kept.Bases.{each_once, tasks_accomplished, tasks_by}
+use Rattle.mx_registers.specs.kept.Bases.{tasks_accomplished}
 use Rattle.mx_registers.specs.kept.Spans.{span_rows}
 use Rattle.mx_registers.specs.kept.Totals.{numbers_during}
-use Rattle.mx_registers.specs.late.Done.{Placed, placed, done_row, done_chain, done_rows_of, done_rows_at, done_rows, is_behind, value_more, credited_late, rebased, is_done_of, last_base, late_rows_at}
+use Rattle.mx_registers.specs.late.Done.{Placed, placed, done_row, done_chain, done_rows_of, done_rows_at, done_rows, is_behind, value_more, credited_late, rebased, is_done_of, last_base}
 use Rattle.mx_registers.proofs.KeptProofs.ItemNumbers.{items_numbered}
-use Rattle.mx_registers.proofs.KeptProofs.TotalRows.{items-more, items_there}
 use Rattle.mx_registers.proofs.KeptProofs.ItemOrder.{items_from}
 use Rattle.mx_registers.proofs.KeptProofs.BaseRows.{accomplished_based, number_listed, all_from}
 use Rattle.mx_registers.proofs.KeptProofs.KeyedLemmas.{AreDistinct, once_distinct}

@@ -1,5 +1,5 @@
 -- The cycles at which defects were found, with a new command, and that they fit their columns.
-use Rattle.std.proofs.Common.{arith, refl, sym, subst, ap, ◌∙◌, ◌≡◌, ℕ, ◌+◌, ◌^◌, ◌≤◌, ◌<◌, length, List, [], ◌∷◌, ◌++◌, Bool, true, false, cond, nat_eq, ◌&&◌, Some, None, append_assoc, append-nil, length-append}
+use Rattle.std.proofs.Common.{arith, refl, sym, subst, ap, ◌∙◌, ◌≡◌, ℕ, ◌+◌, ◌≤◌, ◌<◌, length, List, [], ◌∷◌, ◌++◌, Bool, true, false, cond, nat_eq, ◌&&◌, Some, None, append_assoc, append-nil, length-append}
 use Rattle.std.specs.Prelude.{All, is_some, map, nat_le}
 use Rattle.std.specs.List.{flat_map, AllByRecursion}
 use Rattle.std.proofs.lemmas.Bool.Decides.{nat_tests}
@@ -17,7 +17,6 @@ use Rattle.mx_book.specs.Book.{IsBook, is_book_from, is_new}
 use Rattle.mx_book.specs.Judge.{judge}
 use Rattle.mx_book.specs.Life.{airframe_moments, clock, if_same, latest, use_or_none}
 use Rattle.mx_book.specs.Register.{aircraft}
-use Rattle.mx_book.proofs.CommandsProofs.SameLemmas.{text_same}
 use Rattle.mx_book.proofs.JudgeLemmas.{both_true}
 use Rattle.mx_book.proofs.LifeLemmas.{life_bounded}
 use Rattle.mx_registers.specs.Names.{or_zero, seq_of_tail, tail_added}

@@ -1,7 +1,7 @@
 -- The accomplishments of a book as rows: what an item had reached at each, when its task was due then, and the base that this leaves.
 use Rattle.std.specs.Prelude.{⊤, ◌≡◌, ℕ, ◌+◌, ◌-◌, ◌/◌, nat_eq, nat_le, List, [], ◌∷◌, ◌++◌, Bool, false, ◌&&◌, Option, Some, None, filter, fold, map, if◌then◌else◌}
 use Rattle.std.specs.List.{list_any, flat_map}
-use Rattle.std.specs.Option.{option_map, option_map_or, option_and_then}
+use Rattle.std.specs.Option.{option_map, option_map_or, option_and_then, unwrap_or}
 use Rattle.mx_base.specs.declared.amounts.Base.{Base}
 use Rattle.mx_base.specs.declared.amounts.Limit.{Limit}
 use Rattle.mx_book.specs.commands.Act.{Act, Entry, Flown, Opened, Released, release_of}
@@ -12,13 +12,13 @@ use Rattle.mx_book.specs.declared.commands.release.Line.{Line}
 use Rattle.mx_book.specs.declared.commands.release.Line.TheVariants.{Done, Rectified}
 use Rattle.mx_book.specs.declared.commands.release.Release.{Release}
 use Rattle.mx_book.specs.declared.commands.sector.Sector.{Sector}
-use Rattle.mx_book.specs.due.Due.{IsBase, due_after, lesser}
+use Rattle.mx_book.specs.due.Due.{IsBase, due_after}
 use Rattle.mx_book.specs.Register.{birth}
 use Rattle.mx_book.specs.Life.{life_now, minutes_flown, use_or_none}
 use Rattle.mx_book.specs.Programme.{is_done}
-use Rattle.mx_book.specs.Base.{Accomplishment, Stated, DoneIn, base_at, base_of, due_of, task_then, value_of}
+use Rattle.mx_book.specs.Base.{Accomplishment, Stated, DoneIn, base_at, base_of, due_of, lesser_base, task_then, value_of}
 use Rattle.mx_registers.specs.Names.{said_at}
-use Rattle.mx_registers.specs.Registers.{next}
+use Rattle.mx_registers.specs.Registers.{next, no_limit}
 use Rattle.mx_base.specs.declared.rows.rows.DoneRow.{DoneRow}
 use Rattle.mx_registers.specs.kept.Bases.{stated_base, tasks_accomplished}
 use Rattle.mx_registers.specs.kept.Becomes.{Change}
@@ -56,14 +56,9 @@ placed book item id = placed_from 1 item id book
 
 -- ── the rows ──
 
--- no dimension is limited
-abbrev pub no_limit : Limit
-no_limit = record { minutes = None; cycles = None; days = None }
-
 -- the limit, or none in any dimension
 abbrev pub limit_or_none : Option Limit → Limit
-limit_or_none None = no_limit
-limit_or_none (Some limit) = limit
+limit_or_none limit = unwrap_or limit no_limit
 
 -- when the task was due at an accomplishment, behind one with this base, if any: in no dimension where it was never due
 abbrev pub due_limit : List Entry → Item → List ℕ → Option Base → Accomplishment → Limit
@@ -120,7 +115,7 @@ credited_late book numbers s row = if list_any (nat_eq row.item) numbers && is_b
 
 -- in each dimension the value, or the due where that is less
 abbrev pub lesser_of : Base → Limit → Base
-lesser_of value due = record { minutes = lesser value.minutes due.minutes; cycles = lesser value.cycles due.cycles; day = lesser value.day due.days }
+lesser_of value due = lesser_base value (Some due)
 
 -- when the task of a row was due, behind one with this base, if any: by the task in force where the release was made, and never where the entry made none
 abbrev pub due_anew : List Entry → Item → List ℕ → Option Base → DoneRow → Limit
