@@ -2,22 +2,23 @@
 use Rattle.std.proofs.Common.{refl, ◌≡◌, ℕ, List, [], ◌∷◌, ◌++◌, true, false, Some, None}
 use Rattle.std.specs.Prelude.{codes, map}
 use Rattle.mx_base.specs.declared.amounts.Base.{Base}
+use Rattle.mx_base.specs.declared.amounts.Limit.{Limit}
 use Rattle.mx_base.specs.declared.category.Category.TheVariants.{C}
 use Rattle.mx_base.specs.declared.rows.rows.DoneRow.{DoneRow}
 use Rattle.mx_base.specs.declared.rows.rows.FoundRow.{FoundRow}
 use Rattle.mx_book.specs.commands.Act.{Act, Entry, Added, Listed, Deferred, Flown, Released}
 use Rattle.mx_book.specs.declared.commands.item.Item.TheVariants.{Airframe}
-use Rattle.mx_book.specs.declared.commands.release.Line.TheVariants.{Done}
+use Rattle.mx_book.specs.declared.commands.release.Line.TheVariants.{Done, Rectified}
 use Rattle.mx_book.specs.declared.commands.release.Place.TheVariants.{Aircraft}
 use Rattle.mx_book.specs.declared.commands.sector.Sector.{Sector}
 use Rattle.mx_book.specs.Book.{is_book}
 use Rattle.mx_book.proofs.Worked.{at, used, logged}
 use Rattle.mx_book.proofs.WorkedFittings.{engine, fit, remove}
-use Rattle.mx_book.proofs.WorkedProgrammes.{c172, days_alone, first_four, hundred_hours, load, minutes_alone}
+use Rattle.mx_book.proofs.WorkedProgrammes.{c172, days_alone, first_four, hundred_hours, load, minutes_alone, open_task}
 use Rattle.mx_registers.specs.kept.Totals.{numbers_flown}
 use Rattle.mx_registers.specs.Registers.{no_limit}
-use Rattle.mx_registers.specs.late.Done.{credited_late, done_become, done_by, done_rows, done_rows_of, is_done_at, last_base, moved, rebased}
-use Rattle.mx_registers.specs.late.Found.{found_become, found_rows}
+use Rattle.mx_registers.specs.late.Done.{credited_late, done_become, done_by, done_rows, done_rows_of, is_done_at, last_base, moved, rebased, valued}
+use Rattle.mx_registers.specs.late.Found.{defect_deferred, defect_found, found_become, found_rows}
 use Rattle.mx_registers.proofs.KeptProofs.WorkedKept.{overhauled, work_on_abcd}
 
 abbrev late : List ℕ
@@ -82,6 +83,13 @@ inspected_again : done_become inspected (logged (codes "W4") (inspect 13)) (stat
     ≡ stated ∷ record { item = 5; task = codes "100H"; seq = 10; line = 1; value = value 62900 900; due = minutes_alone 68900; base = value 62900 900 } ∷ []
 inspected_again = refl
 
+-- what an opening adds stands on no line, and a defect that is rectified takes a line and adds none
+opening_added : done_by inspected (open_task (Airframe late) c172 (codes "ANNUAL") 61000 850 19600) ≡ record { item = 5; task = codes "ANNUAL"; seq = 10; line = 0; value = record { minutes = 61000; cycles = 850; day = 19600 }; due = no_limit; base = record { minutes = 61000; cycles = 850; day = 19600 } } ∷ []
+opening_added = refl
+
+behind_a_defect : map (λ (row : DoneRow). row.line) (done_by inspected (Released (record { place = Aircraft late; moment = at 19786 13 0 }) (Rectified (codes "X1") ∷ Done (Airframe late) (codes "100H") ∷ []))) ≡ 2 ∷ []
+behind_a_defect = refl
+
 -- three tasks in one release: the second was due on 2000-12-31
 abbrev on_that_day : ℕ → ℕ → Base
 on_that_day minutes cycles = record { minutes = minutes; cycles = cycles; day = 19784 }
@@ -131,6 +139,17 @@ none_of_it = refl
 anew : rebased with_two (Airframe late) (codes "100H") None (record (inspection 63020 902 0) { due = no_limit } ∷ []) ≡ inspection 63020 902 63000 ∷ []
 anew = refl
 
+-- a second row is due behind the base of the first, here by 6,000 minutes
+anew_behind : rebased (inspected ++ logged (codes "W4") (inspect 13) ∷ []) (Airframe late) (codes "100H") None (inspection 62900 900 0 ∷ record (inspection 62900 900 0) { seq = 10 } ∷ [])
+    ≡ inspection 62900 900 62900 ∷ record (inspection 62900 900 62900) { seq = 10; due = minutes_alone 68900 } ∷ []
+anew_behind = refl
+
+two_kept : map {B = ℕ × Limit} (λ row. (row.seq, row.due)) (done_rows_of (inspected ++ logged (codes "W4") (inspect 13) ∷ []) 5 (Airframe late) (codes "100H")) ≡ (9, minutes_alone 63000) ∷ (10, minutes_alone 68900) ∷ []
+two_kept = refl
+
+said_alone : valued (inspection 62900 900 62800) ≡ record (inspection 62900 900 62900) { due = no_limit }
+said_alone = refl
+
 -- and by the rows alone: a due is moved as far as the base before it
 abbrev again : ℕ → ℕ → ℕ → DoneRow
 again minutes due base = record (inspection minutes 901 base) { seq = 12; due = minutes_alone due }
@@ -148,6 +167,12 @@ found seq hour cycles = record { seq = seq; aircraft = 5; moment = at 19786 hour
 
 abbrev deferred : List Entry
 deferred = inspected ++ logged (codes "X1") (defer 13) ∷ []
+
+same_defect : map defect_found (found_rows deferred) ≡ map defect_deferred (record { seq = 10; aircraft = 5; moment = at 19786 13 0; reference = codes "33-40-01"; category = C } ∷ [])
+same_defect = refl
+
+found_as : defect_found (found 10 13 900) ≡ (10, 5, at 19786 13 0)
+found_as = refl
 
 found_kept : found_rows deferred ≡ found 10 13 900 ∷ []
 found_kept = refl
