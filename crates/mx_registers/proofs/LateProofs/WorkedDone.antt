@@ -71,6 +71,14 @@ loaded_behind = refl
 last_kept : map (λ (id : List ℕ). last_base (done_rows_of inspected 5 (Airframe late) id)) (codes "100H" ∷ codes "ANNUAL" ∷ []) ≡ Some (value 62900 900) ∷ None ∷ []
 last_kept = refl
 
+-- of a row of late work the base counts, and not the value
+last_of_late : last_base (inspection 62900 900 62900 ∷ inspection 63020 902 63000 ∷ []) ≡ Some (value 63000 902)
+last_of_late = refl
+
+-- each line of a release on its own
+lines_kept : map (λ (row : DoneRow). row.line) (done_rows (overhauled ++ logged (codes "WO2") work_on_abcd ∷ [])) ≡ 1 ∷ 2 ∷ 1 ∷ 3 ∷ []
+lines_kept = refl
+
 -- which row stands where
 places : map (is_done_at 5 (codes "100H") 9 1) (inspection 62900 900 62900 ∷ record (inspection 62900 900 62900) { item = 1 } ∷ record (inspection 62900 900 62900) { task = codes "100" } ∷ record (inspection 62900 900 62900) { seq = 10 } ∷ record (inspection 62900 900 62900) { line = 0 } ∷ [])
     ≡ true ∷ false ∷ false ∷ false ∷ false ∷ []
@@ -176,6 +184,10 @@ found_as = refl
 
 found_kept : found_rows deferred ≡ found 10 13 900 ∷ []
 found_kept = refl
+
+-- by the sectors that had landed then
+found_behind : found_rows (inspected ++ logged (codes "TL/D-LATE/1/9") (Flown (flight 9 (at 19786 14 0) (at 19786 15 0))) ∷ logged (codes "X1") (defer 16) ∷ []) ≡ found 11 16 901 ∷ []
+found_behind = refl
 
 found_next : found_become deferred (logged (codes "X2") (defer 14)) (found_rows deferred) ≡ found 10 13 900 ∷ found 11 14 900 ∷ []
 found_next = refl
