@@ -12,5 +12,6 @@ pub mod WorkedReleases
 pub mod WorkedDefects
 pub mod FileProofs
 pub mod KeptProofs
+pub mod LateProofs
 pub mod PlainProofs
 pub mod PointsProofs

@@ -6,4 +6,5 @@ pub mod Left
 pub mod Added
 pub mod file
 pub mod kept
+pub mod late
 pub mod points

@@ -3,6 +3,7 @@
 //!
 //! - `plain`: the rows that a command adds behind the entries of a book in memory, and the command that rows say.
 //! - `kept`: the rows that are computed from the registers and kept beside them, and what a command makes of each.
+//! - `late`: the rows that layout 3 keeps, which a sector that is entered late changes, and what a command makes of each.
 //! - `points`: which tables there are at each point of a move, which rows stand in them, and what a commit of it does.
 //! - `file`: the rows of all tables of a file as one value, and when they are those of a book.
 //!
@@ -19,6 +20,7 @@
 
 pub mod file;
 pub mod kept;
+pub mod late;
 pub mod laws;
 pub mod lines;
 pub mod merge;

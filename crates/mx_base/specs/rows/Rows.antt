@@ -27,6 +27,8 @@ use Rattle.mx_base.specs.declared.rows.rows.ExtensionRow.{ExtensionRow}
 use Rattle.mx_base.specs.declared.rows.rows.SpanRow.{SpanRow}
 use Rattle.mx_base.specs.declared.rows.rows.TotalRow.{TotalRow}
 use Rattle.mx_base.specs.declared.rows.rows.BaseRow.{BaseRow}
+use Rattle.mx_base.specs.declared.rows.rows.DoneRow.{DoneRow}
+use Rattle.mx_base.specs.declared.rows.rows.FoundRow.{FoundRow}
 
 -- the number of a kind of entry, in the order of the commands
 abbrev pub kind_number : EntryKind → ℕ
@@ -241,3 +243,20 @@ pub record FitsBase (row : BaseRow) : Type 0 where
   pub item : row.item < 2 ^ 32
   pub task : IsIdentifier is_graphic 16 row.task
   pub base : FitsBaseValue (base_in_row row)
+
+-- the numbers have 32 bits, those of the due where there are any, the task is an identifier, and the days are in the calendar
+pub record FitsDone (row : DoneRow) : Type 0 where
+  pub item : row.item < 2 ^ 32
+  pub task : IsIdentifier is_graphic 16 row.task
+  pub seq : row.seq < 2 ^ 32
+  pub line : row.line < 2 ^ 32
+  pub value : FitsBaseValue row.value
+  pub due : FitsLimit row.due
+  pub base : FitsBaseValue row.base
+
+-- the numbers have 32 bits, and the moment is in the calendar
+pub record FitsFound (row : FoundRow) : Type 0 where
+  pub seq : row.seq < 2 ^ 32
+  pub aircraft : row.aircraft < 2 ^ 32
+  pub moment : row.moment ≤ last_moment
+  pub cycles : row.cycles < 2 ^ 32

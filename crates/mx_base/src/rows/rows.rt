@@ -3,7 +3,7 @@
 //! that deferred it.
 
 use crate::{
-    Category, Day, Doc, Kind, Limit, MelRef, Moment, Part, Position, Serial, Tail, TaskId,
+    Base, Category, Day, Doc, Kind, Limit, MelRef, Moment, Part, Position, Serial, Tail, TaskId,
     Tolerance, Use,
 };
 
@@ -214,4 +214,29 @@ pub struct BaseRow {
     /// The life at which the task was done.
     pub life: Use,
     pub day: Day,
+}
+
+/// An accomplishment of a task of an item: what the item had reached then, when the task was due, and the base that the
+/// next due is counted from.
+#[derive(Clone, Copy, Debug, PartialEq, Eq)]
+pub struct DoneRow {
+    pub item: u32,
+    pub task: TaskId,
+    /// The number of the entry that says so.
+    pub seq: u32,
+    /// The line there, from 1, or 0 where the entry is an opening.
+    pub line: u32,
+    pub value: Base,
+    /// A limit in no dimension where the task was never due.
+    pub due: Limit,
+    pub base: Base,
+}
+
+/// The cycles of an airframe when a defect was found on it, which stand with the defect.
+#[derive(Clone, Copy, Debug, PartialEq, Eq)]
+pub struct FoundRow {
+    pub seq: u32,
+    pub aircraft: u32,
+    pub moment: Moment,
+    pub cycles: u32,
 }

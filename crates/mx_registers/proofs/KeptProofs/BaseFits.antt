@@ -32,7 +32,7 @@ use Rattle.mx_registers.proofs.KeptProofs.SaidLemmas.{all_said, LineFits, SaysFi
 
 -- ── tasks ──
 
-abbrev IsTask : List ℕ → Type 0
+abbrev pub IsTask : List ℕ → Type 0
 IsTask = IsIdentifier is_graphic 16
 
 lines_fit : (item : Item) (lines : List Line) → AllByRecursion LineFits lines → AllByRecursion IsTask (filter_map (task_done item) lines)
@@ -53,7 +53,7 @@ act_tasks item (Opened o) h = at (same_item o.item item)
 act_tasks item (Released r lines) h = lines_fit item lines h.1
 act_tasks item _ h = tt
 
-book_tasks : (item : Item) (book : List Entry) → SayFit book → AllByRecursion IsTask (flat_map (λ (e : Entry). tasks_by item e.act) book)
+pub book_tasks : (item : Item) (book : List Entry) → SayFit book → AllByRecursion IsTask (flat_map (λ (e : Entry). tasks_by item e.act) book)
 book_tasks item [] h = tt
 book_tasks item (x ∷ book) h = all_append IsTask (tasks_by item x.act) (flat_map (λ (e : Entry). tasks_by item e.act) book) (act_tasks item x.act h.0) (book_tasks item book h.1)
 
@@ -65,7 +65,7 @@ some_of P p (x ∷ xs) h = at (p x) (some_of P p xs h.1)
     at true rest = (h.0, rest)
     at false rest = rest
 
-once_fit : (xs : List (List ℕ)) → AllByRecursion IsTask xs → AllByRecursion IsTask (each_once xs)
+pub once_fit : (xs : List (List ℕ)) → AllByRecursion IsTask xs → AllByRecursion IsTask (each_once xs)
 once_fit [] h = tt
 once_fit (x ∷ xs) h = (h.0, some_of IsTask (λ other. not (same_text other x)) (each_once xs) (once_fit xs h.1))
 
@@ -76,7 +76,7 @@ abbrev AccomplishmentFits : Accomplishment → Type 0
 AccomplishmentFits (Stated o) = (o.use_then.minutes < 2 ^ 32) × (o.use_then.cycles < 2 ^ 32) × (o.day ≤ last_day)
 AccomplishmentFits (DoneIn k r) = r.moment ≤ last_moment
 
-lesser_low : (value bound : ℕ) (due : Option ℕ) → value ≤ bound → lesser value due ≤ bound
+pub lesser_low : (value bound : ℕ) (due : Option ℕ) → value ≤ bound → lesser value due ≤ bound
 lesser_low value bound None h = h
 lesser_low value bound (Some d) h = omega arith
 
@@ -87,7 +87,7 @@ done_fits life day (Some due) h low =
     let cycles = lesser_low life.cycles 51000000 due.cycles h.cycles in
     record { minutes = omega arith; cycles = omega arith; day = lesser_low day last_day due.days low }
 
-day_low : (moment : ℕ) → moment ≤ last_moment → moment / 1440 ≤ last_day
+pub day_low : (moment : ℕ) → moment ≤ last_moment → moment / 1440 ≤ last_day
 day_low moment h = omega arith
 
 module _ (book : List Entry) (b : IsBook book) (item : Item) (id : List ℕ) where

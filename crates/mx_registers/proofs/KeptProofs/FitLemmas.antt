@@ -109,7 +109,7 @@ clock_low book h (Airframe tail) =
 -- ── numbers ──
 
 -- the number that a name was found at is one of the entries, or 0
-number_low : (name_of : Entry → Option (List ℕ)) (name : List ℕ) (k : ℕ) (book : List Entry) → or_zero (number_from name_of name k book) ≤ k + length book
+pub number_low : (name_of : Entry → Option (List ℕ)) (name : List ℕ) (k : ℕ) (book : List Entry) → or_zero (number_from name_of name k book) ≤ k + length book
 number_low name_of name k [] = omega arith
 number_low name_of name k (x ∷ book) = at (option_map_or (λ added. same_text added name) (name_of x) false) (number_low name_of name (k + 1) book)
   where

@@ -108,7 +108,7 @@ module _ (book : List Entry) (doc : List ℕ) (n : ℕ) (id : List ℕ) (b : IsB
     c = record { doc = doc; act = act }
 
     -- an item whose number is new is not in the book
-    new_item : (item : Item) → item_at book n ≡ None → item_at (book ++ c ∷ []) n ≡ Some item → has_item book item ≡ false
+    pub new_item : (item : Item) → item_at book n ≡ None → item_at (book ++ c ∷ []) n ≡ Some item → has_item book item ≡ false
     new_item item none h = at (has_item book item) refl
       where
         at : (t : Bool) → has_item book item ≡ t → t ≡ false
