@@ -52,11 +52,7 @@ fn created<S: Alter>(conn: &mut Connection<S>, layout: u8) -> Result<(), TableFa
 }
 
 // Makes an empty book of a layout, of which 2 is the newest.
-fn make<S: Alter>(
-    alloc: Global,
-    conn: &mut Connection<S>,
-    layout: u8,
-) -> Result<String, AllocError>
+fn make<S: Alter>(alloc: Global, conn: &mut Connection<S>, layout: u8) -> Result<String, AllocError>
     requires { conn.old.in_transaction ≡ false }
 {
     let mut text = room(alloc)?;
