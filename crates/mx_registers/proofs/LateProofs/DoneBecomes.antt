@@ -117,7 +117,7 @@ with_sector book doc s rows b each =
     (items book) (both_all (λ (x : ℕ × Item). has_item book x.1 ≡ true) (λ (x : ℕ × Item). item_at book x.0 ≡ Some x.1) (items book) (items_there book b) (items_numbered book b))
 
 -- a new sector credits the rows that it is due to, and moves due and base of each behind them
-late_rows : (book : List Entry) (doc : List ℕ) (s : Sector) → IsBook book → judge book (record { doc = doc; act = Flown s }) ≡ New → act_shape (Flown s) ≡ true
+pub late_rows : (book : List Entry) (doc : List ℕ) (s : Sector) → IsBook book → judge book (record { doc = doc; act = Flown s }) ≡ New → act_shape (Flown s) ≡ true
     → done_rows (book ++ record { doc = doc; act = Flown s } ∷ []) ≡ flat_map (late_rows_at book s (done_rows book)) (items book)
 late_rows book doc s b new shape =
     with_sector book doc s (λ x id. late_rows_of book s (done_rows book) x.0 id) b

@@ -1,5 +1,5 @@
 -- The accomplishments fit their columns, and their values and bases the life of an item and the calendar.
-use Rattle.std.proofs.Common.{arith, refl, ap, ◌∙◌, ◌≡◌, ℕ, ◌+◌, ◌/◌, ◌^◌, ◌≤◌, ◌<◌, zero, suc, length, List, [], ◌∷◌, ◌++◌, Bool, true, false, cond, ◌&&◌, Option, Some, None}
+use Rattle.std.proofs.Common.{arith, refl, subst, ap, ◌∙◌, ◌≡◌, ℕ, ◌+◌, ◌/◌, ◌^◌, ◌≤◌, ◌<◌, zero, suc, length, List, [], ◌∷◌, ◌++◌, Bool, true, false, cond, ◌&&◌, Option, Some, None}
 use Rattle.std.specs.Prelude.{All, IfSome, find, fold, nat_le, take}
 use Rattle.std.specs.List.{flat_map, cons_option, list_all, AllByRecursion}
 use Rattle.std.specs.Option.{option_and_then, option_map, option_map_or}
@@ -10,7 +10,7 @@ use Rattle.mx_base.specs.declared.amounts.Base.{Base}
 use Rattle.mx_base.specs.declared.amounts.Limit.{Limit}
 use Rattle.mx_base.specs.declared.rows.rows.DoneRow.{DoneRow}
 use Rattle.mx_base.specs.rows.Rows.{FitsBaseValue, FitsDone, FitsLimit}
-use Rattle.mx_book.specs.commands.Act.{Act, Entry, Added, Listed, Loaded, Opened, Released, aircraft_of, component_of, tasks_of}
+use Rattle.mx_book.specs.commands.Act.{Act, Entry, Added, Flown, Listed, Loaded, Opened, Released, aircraft_of, component_of, tasks_of}
 use Rattle.mx_book.specs.commands.Programme.{limit_shape, task_shape}
 use Rattle.mx_book.specs.commands.Same.{same_item, same_text}
 use Rattle.mx_book.specs.commands.Shape.{act_shape, has_shape, opening_shape, positions_shape, use_shape}
@@ -21,23 +21,28 @@ use Rattle.mx_book.specs.declared.commands.item.Item.TheVariants.{Airframe as Of
 use Rattle.mx_book.specs.declared.commands.programme.Task.{Task}
 use Rattle.mx_book.specs.declared.commands.release.Line.{Line}
 use Rattle.mx_book.specs.declared.commands.release.Release.{Release}
+use Rattle.mx_book.specs.declared.commands.sector.Sector.{Sector}
+use Rattle.mx_book.specs.declared.verdict.Verdict.TheVariants.{New}
 use Rattle.mx_book.specs.due.Due.{IsBase, counted_from, due_after, first_due}
 use Rattle.mx_book.specs.Base.{Accomplishment, Stated, DoneIn, base_at, base_of, due_of, lesser_base, task_then, value_of}
 use Rattle.mx_book.specs.Book.{IsBook}
+use Rattle.mx_book.specs.Judge.{judge}
 use Rattle.mx_book.specs.Programme.{is_done, kind_at, task_in_force, tasks_in_force, tasks_loaded}
 use Rattle.mx_book.specs.Register.{aircraft, birth, component, register}
 use Rattle.mx_book.proofs.CommandsProofs.ShapeLemmas.{both_true, tasks_shaped}
 use Rattle.mx_book.proofs.DueProofs.DueLemmas.{limit_small, task_limits}
+use Rattle.mx_book.proofs.JudgeLemmas.{IsBook-entered}
 use Rattle.mx_book.proofs.LifeLemmas.{life_bounded}
 use Rattle.mx_book.proofs.ListLemmas.{found_task}
 use Rattle.mx_registers.specs.kept.Bases.{tasks_accomplished, tasks_by}
 use Rattle.mx_registers.specs.kept.Fits.{FitRegisters}
 use Rattle.mx_registers.specs.kept.Items.{items}
-use Rattle.mx_registers.specs.late.Done.{IsWithinLife, Placed, done_chain, done_rows, done_rows_at, done_rows_of, due_limit, limit_or_none, placed, placed_by, placed_from, placed_lines}
+use Rattle.mx_registers.specs.late.Done.{IsWithinLife, Placed, done_chain, done_moved, done_rows, done_rows_at, done_rows_of, due_limit, limit_or_none, placed, placed_by, placed_from, placed_lines}
 use Rattle.mx_registers.proofs.ReleaseLemmas.{lines_few_enough}
 use Rattle.mx_registers.proofs.KeptProofs.BaseFits.{IsTask, book_tasks, day_low, lesser_low, once_fit}
 use Rattle.mx_registers.proofs.KeptProofs.FitLemmas.{items_low, IsLow}
 use Rattle.mx_registers.proofs.KeptProofs.KnownLemmas.{all_append}
+use Rattle.mx_registers.proofs.LateProofs.DoneBecomes.{late_rows}
 use Rattle.mx_registers.proofs.KeptProofs.SaidLemmas.{all_said, SaysFit, SayFit}
 
 -- ── the day of birth ──
@@ -270,3 +275,10 @@ done_fit book b h = All-from_recursion FitsDone (done_rows book) (first_of_both 
 
 pub done_within : (book : List Entry) → IsBook book → FitRegisters book → All IsWithinLife (done_rows book)
 done_within book b h = All-from_recursion IsWithinLife (done_rows book) (first_of_both (done_rows book) (all_rows book b (all_said book h) (items book) (items_low book b))).1
+
+-- so they are with a new sector
+pub credited_within : (book : List Entry) (doc : List ℕ) (s : Sector) → IsBook book → judge book (record { doc = doc; act = Flown s }) ≡ New → has_shape (record { doc = doc; act = Flown s }) ≡ true → FitRegisters (book ++ record { doc = doc; act = Flown s } ∷ [])
+    → All IsWithinLife (done_moved book (Flown s) (done_rows book))
+credited_within book doc s b new shape h =
+    let e : Entry = record { doc = doc; act = Flown s } in
+    subst (λ (rows : List DoneRow). All IsWithinLife rows) (late_rows book doc s b new (both_true _ _ shape).0) (done_within (book ++ e ∷ []) (IsBook-entered book e b shape new) h)

@@ -6,7 +6,7 @@ ghost use Rattle.mx_base.specs.rows.Rising.{IsRising};
 ghost use Rattle.mx_base.specs.rows.Rows.{FitsDone, line_key};
 ghost use Rattle.mx_book.specs.commands.Act.{Act, Entry, Flown};
 ghost use Rattle.mx_book.specs.commands.Bounds.{are_distinct};
-ghost use Rattle.mx_book.specs.commands.Shape.{act_shape};
+ghost use Rattle.mx_book.specs.commands.Shape.{act_shape, has_shape};
 ghost use Rattle.mx_book.specs.declared.commands.item.Item.{Item};
 ghost use Rattle.mx_book.specs.declared.commands.item.Item.TheVariants.{Airframe};
 ghost use Rattle.mx_book.specs.declared.commands.sector.Sector.{Sector};
@@ -24,7 +24,7 @@ ghost use Rattle.mx_registers.specs.kept.Fits.{FitRegisters};
 ghost use Rattle.mx_registers.specs.kept.Items.{number_of_tail};
 ghost use Rattle.mx_registers.specs.kept.Spans.{span_rows};
 ghost use Rattle.mx_registers.specs.kept.Totals.{numbers_during, numbers_flown};
-ghost use Rattle.mx_registers.specs.late.Done.{AreDoneOnce, IsWithinLife, credited_late, done_become, done_by, done_rows, done_rows_of, is_done_of, last_base, moved, rebased, valued};
+ghost use Rattle.mx_registers.specs.late.Done.{AreDoneOnce, IsWithinLife, credited_late, done_become, done_by, done_moved, done_rows, done_rows_of, is_done_of, last_base, moved, rebased, valued};
 
 /// The rows of a task of the item with a number, among all accomplishments, are those of the task, in their order.
 pub fn rows_of_a_task()
@@ -127,12 +127,17 @@ pub fn sectors_in_order_leave_accomplishments()
 {}
 
 /// Accomplishments fit their columns where the rows of the registers do, and value and base of each are within the life of an
-/// item and the calendar.
+/// item and the calendar, also with a new sector: a row that a sector takes past them is of no book, and so damaged.
 pub fn accomplishments_fit()
     ensures fits { (book : List Entry) → IsBook book → FitRegisters book
         → All FitsDone (done_rows book) }
     ensures within { (book : List Entry) → IsBook book → FitRegisters book
         → All IsWithinLife (done_rows book) }
+    ensures credited { (book : List Entry) (doc : List ℕ) (sector : Sector) → IsBook book
+        → judge book (entry_of doc (Flown sector)) ≡ New
+        → has_shape (entry_of doc (Flown sector)) ≡ true
+        → FitRegisters (book ++ entry_of doc (Flown sector) ∷ [])
+        → All IsWithinLife (done_moved book (Flown sector) (done_rows book)) }
 {}
 
 /// The numbers of an aircraft and of the components that were fitted to it throughout a flight are distinct, so that each
