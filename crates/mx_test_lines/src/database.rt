@@ -44,19 +44,36 @@ fn point_text<S: Alter>(alloc: Global, conn: &mut Connection<S>) -> Result<Strin
     Ok(text)
 }
 
-// Makes an empty book of a layout. It says nothing of the tables, so that the proofs above carry none of what `create` promises.
-fn created<S: Alter>(conn: &mut Connection<S>, layout: u8) -> Result<(), TableFault>
+// Makes an empty book of layout 2, which is the newest. It says nothing of the tables, so that the proofs above carry none of what
+// `create` promises; nor does the next.
+fn created<S: Alter>(conn: &mut Connection<S>) -> Result<(), TableFault>
     requires { conn.old.in_transaction ≡ false }
 {
-    create(conn, Layout(layout))
+    create(conn, Layout(2))
 }
 
-// Makes an empty book of a layout, of which 2 is the newest.
-fn make<S: Alter>(alloc: Global, conn: &mut Connection<S>, layout: u8) -> Result<String, AllocError>
+// Makes an empty book of layout 1.
+fn created_old<S: Alter>(conn: &mut Connection<S>) -> Result<(), TableFault>
+    requires { conn.old.in_transaction ≡ false }
+{
+    create(conn, Layout(1))
+}
+
+// Makes an empty book of the newest layout.
+fn make<S: Alter>(alloc: Global, conn: &mut Connection<S>) -> Result<String, AllocError>
     requires { conn.old.in_transaction ≡ false }
 {
     let mut text = room(alloc)?;
-    append_done(&mut text, created(conn, layout))?;
+    append_done(&mut text, created(conn))?;
+    Ok(text)
+}
+
+// Makes an empty book of layout 1.
+fn make_old<S: Alter>(alloc: Global, conn: &mut Connection<S>) -> Result<String, AllocError>
+    requires { conn.old.in_transaction ≡ false }
+{
+    let mut text = room(alloc)?;
+    append_done(&mut text, created_old(conn))?;
     Ok(text)
 }
 
@@ -80,8 +97,8 @@ pub fn answer_of_database<S: Alter>(
     requires { conn.old.in_transaction ≡ false }
 {
     match words {
-        ["make"] => Ok(make(alloc, conn, 2)?),
-        ["make-old"] => Ok(make(alloc, conn, 1)?),
+        ["make"] => Ok(make(alloc, conn)?),
+        ["make-old"] => Ok(make_old(alloc, conn)?),
         ["point"] => Ok(point_text(alloc, conn)?),
         ["tables"] => tables(alloc, conn),
         ["ask", query @ ..] => {
