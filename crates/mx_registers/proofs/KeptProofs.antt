@@ -35,3 +35,8 @@ pub mod SaidLemmas
 pub mod FitLemmas
 pub mod BaseFits
 pub mod SpanFits
+pub mod UncutLemmas
+pub mod Weighing
+pub mod MomentLemmas
+pub mod MomentRows
+mod WorkedMoments

@@ -5,3 +5,4 @@ pub mod Totals
 pub mod Bases
 pub mod Becomes
 pub mod Fits
+pub mod Moments

@@ -16,6 +16,9 @@
 //!   `clocks_change`, `places_have_clocks`.
 //! - A sector that takes off by the clock of its airframe is credited to what is at its aircraft, and late for no item;
 //!   nor is one that lands after it: `sectors_in_order`.
+//! - No sector is under way when a component is fitted to its aircraft or removed from it; so the life of an item up to a moment is
+//!   what was flown between the moments of its spans, by the landings alone, and by the rows of sectors and spans:
+//!   `no_sector_is_cut`, `lives_are_by_moments`, `lives_are_by_rows`.
 //! - Each total grows by what a new command gives its item, and an item that it adds has one; by the numbers in the
 //!   rows alone it is said of every command which totals change and to what, and which totals and spans stay:
 //!   `totals_change`, `totals_change_by_number`, `other_rows_stay`.

@@ -168,7 +168,7 @@ not_within off on x y lands inside before same = ap (λ b. b && option_map_or (�
         let ends : nat_le on m ≡ true = ap (λ o. option_map_or (λ to. nat_le on to) o true) (sym e) ∙ (both (nat_le x.from off) (option_map_or (λ to. nat_le on to) x.to true) inside).1 in
         let lands_by = le_of on m ends in omega arith
 
-none_within : (off on : ℕ) (tail : List ℕ) (x : Span) (ys : List Span) → off < on → has_between off on x.from x.to ≡ true → AllByRecursion (IsBefore x) ys
+pub none_within : (off on : ℕ) (tail : List ℕ) (x : Span) (ys : List Span) → off < on → has_between off on x.from x.to ≡ true → AllByRecursion (IsBefore x) ys
     → list_any (is_on (has_between off on) tail) (filter (λ (y : Span). same_text y.serial x.serial) ys) ≡ false
 none_within off on tail x [] lands inside h = refl
 none_within off on tail x (y ∷ ys) lands inside h = at (same_text y.serial x.serial) refl (none_within off on tail x ys lands inside h.1)

@@ -1,8 +1,9 @@
 //! Laws of lives and clocks: what one entry more makes of them. Each function does nothing; its contract is the law, and
 //! the checker proves it.
-ghost use Rattle.std.specs.Prelude.{◌≡◌, ◌≤◌, ◌<◌, ℕ, max, true, List, [], ◌∷◌, ◌++◌};
+ghost use Rattle.std.specs.Prelude.{◌≡◌, ◌≤◌, ◌<◌, ℕ, max, true, List, [], ◌∷◌, ◌++◌, Option, Some};
+ghost use Rattle.std.specs.List.{AllByRecursion};
 ghost use Rattle.std.specs.Option.{option_map, option_or};
-ghost use Rattle.mx_book.specs.commands.Act.{Entry, Flown};
+ghost use Rattle.mx_book.specs.commands.Act.{Entry, Flown, sector_of};
 ghost use Rattle.mx_book.specs.commands.Shape.{act_shape};
 ghost use Rattle.mx_book.specs.declared.commands.item.Item.{Item};
 ghost use Rattle.mx_book.specs.declared.commands.item.Item.TheVariants.{Airframe, Component};
@@ -10,9 +11,15 @@ ghost use Rattle.mx_book.specs.declared.commands.release.Place.TheVariants.{Airc
 ghost use Rattle.mx_book.specs.declared.commands.sector.Sector.{Sector};
 ghost use Rattle.mx_book.specs.Book.{IsBook};
 ghost use Rattle.mx_book.specs.Judge.{is_at, judge};
-ghost use Rattle.mx_book.specs.Life.{clock, credited, is_credited, latest, life_now, opening_of, use_after};
+ghost use Rattle.mx_book.specs.Life.{clock, credited, is_credited, latest, life_now, life_until, opening_of, use_after};
+ghost use Rattle.mx_book.specs.Register.{register};
+ghost use Rattle.mx_book.specs.Span.{spans};
 ghost use Rattle.mx_book.specs.declared.verdict.Verdict.TheVariants.{New};
 ghost use Rattle.mx_registers.specs.kept.Changes.{clock_of_place, moments_given, sectors_given, sectors_late};
+ghost use Rattle.mx_registers.specs.Names.{item_at};
+ghost use Rattle.mx_registers.specs.Registers.{sector_rows};
+ghost use Rattle.mx_registers.specs.kept.Moments.{IsUncut, flown_by_number, life_by_moments, use_more};
+ghost use Rattle.mx_registers.specs.kept.Spans.{span_rows};
 
 /// One entry more gives the clock of each item its moments.
 pub fn clocks_change()
@@ -62,4 +69,29 @@ pub fn places_have_clocks()
         → clock_of_place book item ≤ clock_of_place (book ++ entry ∷ []) item }
     ensures placed { (book : List Entry) → IsBook book → (serial : List ℕ)
         → clock book (Component serial) ≤ clock_of_place book (Component serial) }
+{}
+
+/// No sector of a book is under way when a component is fitted to its aircraft or removed from it: each sector of the aircraft of a
+/// span is before it, within it or behind it.
+pub fn no_sector_is_cut()
+    ensures { (book : List Entry) → IsBook book
+        → AllByRecursion (λ sector. AllByRecursion (IsUncut sector) (spans book))
+        (register sector_of book) }
+{}
+
+/// The life of an item up to a moment, by moments alone: an airframe has what was flown with it by then, and a component, of each
+/// of its spans, what its aircraft had flown by then or by the end of the span, less what that had flown by its beginning.
+pub fn lives_are_by_moments()
+    ensures { (book : List Entry) (item : Item) (until : Option ℕ) → IsBook book
+        → life_until book item until ≡ life_by_moments book item until }
+{}
+
+/// The same by the rows of the sectors and of the spans, of the item with a number.
+pub fn lives_are_by_rows()
+    ensures { (book : List Entry) (number : ℕ) (item : Item) (until : Option ℕ) → IsBook book
+        → item_at book number ≡ Some item
+        → life_until book item until
+        ≡ option_map
+        (use_more (flown_by_number (sector_rows book) (span_rows book) number until))
+        (opening_of book item) }
 {}
