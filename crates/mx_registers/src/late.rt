@@ -8,7 +8,7 @@
 //! for no item, the clause says so.
 //!
 //! - The accomplishments of a task of an item stand in the order of the entries and then of their lines, no two of one line;
-//!   they are told by the number of the item and the task, and rows that agree on each task of each item are the same:
+//!   they are told by the number of the item and the task, and rows that agree on each task of each item are the same in some order:
 //!   `rows_of_a_task`, `accomplishments_stand_by_tasks`.
 //! - The base of the last is the last base of the task, and what the rows of the last bases have of it:
 //!   `last_rows_have_the_bases`.
