@@ -25,6 +25,7 @@ use Rattle.mx_registers.proofs.KeptProofs.Induction.{of_each_book}
 use Rattle.mx_registers.proofs.KeptProofs.JudgedLemmas.{new-timely, not_passed}
 use Rattle.mx_registers.proofs.KeptProofs.KnownLemmas.{all_append}
 use Rattle.mx_registers.proofs.KeptProofs.PlaceLemmas.{open_is_fitted}
+use Rattle.mx_registers.proofs.KeptProofs.ReleaseBases.{all_both}
 use Rattle.mx_registers.proofs.KeptProofs.SpanGrowth.{spans-more}
 
 all_mapped_by : {X : Type 0} (P : X → Type 0) (f : X → X) → (xs : List X) → AllByRecursion (λ x. P (f x)) xs → AllByRecursion P (map f xs)
@@ -116,10 +117,6 @@ own_uncut book doc _ new = tt
 abbrev AreAllUncut : List Entry → Type 0
 AreAllUncut book = AllByRecursion (λ (s : Sector). AllByRecursion (IsUncut s) (spans book)) (register sector_of book)
 
-both_of : {X : Type 0} (P Q : X → Type 0) → (xs : List X) → AllByRecursion P xs → AllByRecursion Q xs → AllByRecursion (λ x. P x × Q x) xs
-both_of P Q [] p q = tt
-both_of P Q (x ∷ xs) p q = ((p.0, q.0), both_of P Q xs p.1 q.1)
-
 pub all_uncut : (book : List Entry) → IsBook book → AreAllUncut book
 all_uncut = of_each_book AreAllUncut (λ book e b shape new before.
     let timely = new-timely book e new in
@@ -127,5 +124,5 @@ all_uncut = of_each_book AreAllUncut (λ book e b shape new before.
     (all_append (λ (s : Sector). AllByRecursion (IsUncut s) (spans (book ++ e ∷ []))) (register sector_of book) (register sector_of (e ∷ []))
     (all_of (λ (s : Sector). IsFlownBy (λ t. clock book (Airframe t)) s × AllByRecursion (IsUncut s) (spans book)) (λ (s : Sector). AllByRecursion (IsUncut s) (spans (book ++ e ∷ [])))
     (λ s h. more_uncut book e s b timely h.0.1 h.1) (register sector_of book)
-    (both_of (IsFlownBy (λ t. clock book (Airframe t))) (λ (s : Sector). AllByRecursion (IsUncut s) (spans book)) (register sector_of book) (sectors_flown book b.shaped) before))
+    (all_both (IsFlownBy (λ t. clock book (Airframe t))) (λ (s : Sector). AllByRecursion (IsUncut s) (spans book)) (λ (s : Sector). IsFlownBy (λ t. clock book (Airframe t)) s × AllByRecursion (IsUncut s) (spans book)) (λ s f u. (f, u)) (register sector_of book) (sectors_flown book b.shaped) before))
     (own_uncut book e.doc e.act new))) tt

@@ -27,6 +27,7 @@ use Rattle.mx_registers.proofs.KeptProofs.BaseGrowth.{timely_none_late}
 use Rattle.mx_registers.proofs.KeptProofs.ItemNumbers.{items_numbered}
 use Rattle.mx_registers.proofs.KeptProofs.NumberLemmas.{unknown_unbased}
 use Rattle.mx_registers.proofs.KeptProofs.PutBases.{new_item}
+use Rattle.mx_registers.proofs.KeptProofs.ReleaseBases.{all_both}
 use Rattle.mx_registers.proofs.KeptProofs.TotalRows.{items-more, items_there}
 use Rattle.mx_registers.proofs.LateProofs.DoneAdded.{added_none, rows_added}
 use Rattle.mx_registers.proofs.LateProofs.DoneLate.{credited_rebased, done_rows-more, last_base_done}
@@ -95,10 +96,6 @@ always : {X : Type 0} (xs : List X) → AllByRecursion (λ (x : X). Unit {0}) xs
 always [] = tt
 always (x ∷ xs) = (tt, always xs)
 
-both_all : {X : Type 0} (P Q : X → Type 0) (xs : List X) → AllByRecursion P xs → AllByRecursion Q xs → AllByRecursion (λ (x : X). P x × Q x) xs
-both_all P Q [] h k = tt
-both_all P Q (x ∷ xs) h k = ((h.0, k.0), both_all P Q xs h.1 k.1)
-
 tasks_kept : (book : List Entry) (doc : List ℕ) (s : Sector) (item : Item) → tasks_accomplished (book ++ record { doc = doc; act = Flown s } ∷ []) item ≡ tasks_accomplished book item
 tasks_kept book doc s item =
     ap each_once (flat_map-append (λ (x : Entry). tasks_by item x.act) book (record { doc = doc; act = Flown s } ∷ []) ∙ append-nil (flat_map (λ (x : Entry). tasks_by item x.act) book))
@@ -114,7 +111,7 @@ with_sector book doc s rows b each =
     (λ x h.
     ap (flat_map (done_rows_of (book ++ e ∷ []) x.0 x.1)) (tasks_kept book doc s x.1)
     ∙ same_flat (done_rows_of (book ++ e ∷ []) x.0 x.1) (rows x) (λ (id : List ℕ). Unit {0}) (λ id _. each x h id) (tasks_accomplished book x.1) (always (tasks_accomplished book x.1)))
-    (items book) (both_all (λ (x : ℕ × Item). has_item book x.1 ≡ true) (λ (x : ℕ × Item). item_at book x.0 ≡ Some x.1) (items book) (items_there book b) (items_numbered book b))
+    (items book) (all_both (λ (x : ℕ × Item). has_item book x.1 ≡ true) (λ (x : ℕ × Item). item_at book x.0 ≡ Some x.1) (λ (x : ℕ × Item). (has_item book x.1 ≡ true) × (item_at book x.0 ≡ Some x.1)) (λ x h k. (h, k)) (items book) (items_there book b) (items_numbered book b))
 
 -- a new sector credits the rows that it is due to, and moves due and base of each behind them
 pub late_rows : (book : List Entry) (doc : List ℕ) (s : Sector) → IsBook book → judge book (record { doc = doc; act = Flown s }) ≡ New → act_shape (Flown s) ≡ true

@@ -33,6 +33,7 @@ use Rattle.mx_registers.specs.kept.Spans.{span_rows}
 use Rattle.mx_registers.specs.kept.Totals.{numbers_during}
 use Rattle.mx_registers.specs.late.Done.{Placed, placed_lines, placed_by, placed_from, placed, done_chain, done_rows_of, is_done_of}
 use Rattle.mx_registers.proofs.KeptProofs.NumbersThere.{numbers_are_credited}
+use Rattle.mx_registers.proofs.KeptProofs.DoneLemmas.{both}
 use Rattle.mx_registers.proofs.LateProofs.DoneLate.{done_rows-more}
 
 -- ── the rows of a task rise by the numbers of their entries, and then by their lines ──
@@ -130,11 +131,6 @@ split p x zs (y ∷ ys) h = at (p y) refl h (λ later. split p x zs ys later)
 
 pub self : (x : DoneRow) → is_done_of x.item x.task x ≡ true
 self x = ap (λ c. c && same_text x.task x.task) ((Decides-eqb x.item x.item).1 refl) ∙ (text_same x.task x.task).1 refl
-
-both : (p q : Bool) → p && q ≡ true → (p ≡ true) × (q ≡ true)
-both true true h = (refl, refl)
-both true false h = (cc)
-both false q h = (cc)
 
 no_row : (x : DoneRow) (zs : List DoneRow) → [] ≡ x ∷ zs → ⊥
 no_row x zs e = (cc)

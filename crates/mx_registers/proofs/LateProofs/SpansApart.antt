@@ -28,7 +28,9 @@ use Rattle.mx_registers.specs.kept.Spans.{span_row, span_rows, span_rows_from}
 use Rattle.mx_registers.specs.kept.Totals.{has_between, numbers_during}
 use Rattle.mx_registers.proofs.KeptProofs.ClockLemmas.{spans_timed}
 use Rattle.mx_registers.proofs.KeptProofs.CreditLemmas.{serial_kept}
+use Rattle.mx_registers.proofs.KeptProofs.DoneLemmas.{both}
 use Rattle.mx_registers.proofs.KeptProofs.JudgedLemmas.{new-timely, not_passed}
+use Rattle.mx_registers.proofs.KeptProofs.ReleaseBases.{all_both}
 use Rattle.mx_registers.proofs.KeptProofs.Induction.{of_each_book}
 use Rattle.mx_registers.proofs.KeptProofs.KnownLemmas.{component_kept}
 use Rattle.mx_registers.proofs.KeptProofs.NumbersThere.{fitted_numbers, is_on, among, not_among}
@@ -100,10 +102,6 @@ none_found p (x ∷ xs) h = at (p x) refl h (none_found p xs)
     at true e h rest = (cc)
     at false e h rest = (e, rest h)
 
-two_all : {X : Type 0} (P Q R : X → Type 0) → ((x : X) → P x → Q x → R x) → (xs : List X) → AllByRecursion P xs → AllByRecursion Q xs → AllByRecursion R xs
-two_all P Q R each [] h k = tt
-two_all P Q R each (x ∷ xs) h k = (each x h.0 k.0, two_all P Q R each xs h.1 k.1)
-
 -- the spans of a component that is fitted ended by then
 before_fitting : (book : List Entry) (f : Fitting) (x : Span) → clock book (Component f.serial) ≤ f.moment → same_text x.serial f.serial && is_none x.to ≡ false → IsTimed book x → IsBefore x (span_of f [])
 before_fitting book f x by free timed = record { ended = λ e. ends x.to refl (same_of e); by = λ e. timely x.to (same_of e) timed.1 }
@@ -127,7 +125,7 @@ apart_with book doc (Fitted f) b new h =
     let free = (new-fitting book (record { doc = doc; act = Fitted f }) f new refl).1 in
     subst (λ xs. AreApart (xs ++ span_of f [] ∷ [])) (sym (map-id (spans book)))
     (one_more (spans book) (span_of f []) h
-    (two_all (λ x. same_text x.serial f.serial && is_none x.to ≡ false) (IsTimed book) (λ x. IsBefore x (span_of f [])) (λ x shut timed. before_fitting book f x (omega arith) shut timed) (spans book)
+    (all_both (λ x. same_text x.serial f.serial && is_none x.to ≡ false) (IsTimed book) (λ x. IsBefore x (span_of f [])) (λ x shut timed. before_fitting book f x (omega arith) shut timed) (spans book)
     (none_found (λ (x : Span). same_text x.serial f.serial && is_none x.to) (spans book) free) (spans_timed book)))
 apart_with book doc act b new h = subst AreApart (sym (append-nil (map (ended_by act) (spans book)))) (still_apart act (spans book) h)
 
@@ -145,11 +143,6 @@ later_not a b h = grind (arith, nat_tests)
 
 le_of : (a b : ℕ) → nat_le a b ≡ true → a ≤ b
 le_of a b h = grind (arith, nat_tests)
-
-both : (p q : Bool) → p && q ≡ true → (p ≡ true) × (q ≡ true)
-both true true h = (refl, refl)
-both true false h = (cc)
-both false q h = (cc)
 
 neither : (p q : Bool) → p ≡ false → q ≡ false → p || q ≡ false
 neither true q h k = (cc)
