@@ -1,6 +1,6 @@
 //! The player: a book that commands are handed in to, and that is asked.
 
-use crate::{books, calendar, commands, defects, dues, identifiers};
+use crate::{books, calendar, commands, defects, dues, identifiers, running_out};
 use mx_book::commands::Command;
 use mx_book::entry_list::Book;
 use mx_book::{Reply, Verdict};
@@ -61,6 +61,9 @@ impl BookPlayer {
             return Ok(Some(answer));
         }
         if let Some(answer) = dues::answer(self.alloc, &self.book, words)? {
+            return Ok(Some(answer));
+        }
+        if let Some(answer) = running_out::answer(self.alloc, &self.book, words)? {
             return Ok(Some(answer));
         }
         defects::answer(self.alloc, &self.book, words)

@@ -14,6 +14,7 @@ pub mod questions;
 pub mod quoted;
 mod releases;
 pub mod streams;
+pub mod wrong;
 
 pub use answers::{
     answer_of, append_joined, append_lines, append_number, append_reply, append_word, begin_print,
@@ -28,3 +29,4 @@ pub use program::run;
 pub use questions::question_of;
 pub use quoted::text_of;
 pub use streams::{Flow, Flows, Sink, Source};
+pub use wrong::{Wrong, must, wrong_text};

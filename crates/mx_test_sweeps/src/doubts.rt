@@ -3,8 +3,8 @@
 
 use crate::plain::{Plain, is_start};
 use crate::player::Player;
-use crate::sweep::{End, Stops, Wrong, all_entries, must};
-use mx_test_cases::Disks;
+use crate::sweep::{End, Stops, all_entries};
+use mx_test_cases::{Disks, Wrong, must};
 use std::alloc::Global;
 
 /// What is known of a command that was handed in where the log stops.

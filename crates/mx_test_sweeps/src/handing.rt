@@ -1,8 +1,8 @@
 //! How commands are handed in to an open office, and their replies: a list that is run, or the good rows of a sector log that is imported.
 
 use crate::player::Player;
-use crate::sweep::{End, Wrong, must};
-use mx_test_cases::{Disks, append_joined};
+use crate::sweep::End;
+use mx_test_cases::{Disks, Wrong, append_joined, must};
 use std::alloc::Global;
 
 /// How the commands of the list are handed in.

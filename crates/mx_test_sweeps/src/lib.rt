@@ -13,27 +13,17 @@
 //! - `list COMMAND`, `list`: puts a command behind those of the list, or empties it;
 //! - `text LINE`, `text`: puts a line behind those of the text that `import` and `post` hand in, or empties it;
 //! - `stops-of-making`, `stops-of-commands`, `stops-of-entering`, `stops-of-line`, `stops-of-commits`, `stops-of-settling`,
-//!   `doubts`: sweeps, which play such lines over copies (`sweep_lines`); of `stops-of-entering` the list states the good rows of the text;
-//! - `questions`: a sweep over the questions of the book of that list.
+//!   `doubts`: sweeps, which play such lines over copies (`sweep_lines`); of `stops-of-entering` the list states the good rows of the text.
 //!
 //! Lines in the open office: commands, and the questions that the disks answer; `close`, `end` and `power` leave it.
-//!
-//! # What is promised
-//!
-//! - By a book whose questions run out (`failing`), a verdict, a due and each list are those of the plain book, or the
-//!   fault that it was given, and of a list also want of memory: `judge_interrupted`, `due_interrupted`,
-//!   `list_interrupted`. The line `questions` shows that both come.
 #![tactic(auto)]
 
 mod again;
 mod doubts;
-pub mod failing;
 mod handing;
-pub mod interrupted;
 mod plain;
 mod player;
 pub mod program;
-mod running_out;
 mod settings;
 mod stops_of_commands;
 mod stops_of_line;

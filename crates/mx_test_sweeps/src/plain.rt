@@ -17,8 +17,8 @@ pub(crate) struct Plain {
     pub book: Book,
 }
 
-/// Enters a command where it is new, and appends the reply to it.
-pub(crate) fn append_reply_to(
+// Enters a command where it is new, and appends the reply to it.
+fn append_reply_to(
     alloc: Global,
     out: &mut Vec<u8>,
     book: &mut Book,

@@ -4,9 +4,9 @@
 use crate::handing::Handing;
 use crate::plain::{Plain, is_start, plain_run};
 use crate::player::Player;
-use crate::sweep::{End, Stops, Wrong, all_entries, must};
+use crate::sweep::{End, Stops, all_entries};
 use mx_book::commands::Command;
-use mx_test_cases::{Disks, Unmade};
+use mx_test_cases::{Disks, Unmade, Wrong, must};
 use std::alloc::{AllocError, Global};
 
 // Lines that an office answers by saying that it has to be opened again.

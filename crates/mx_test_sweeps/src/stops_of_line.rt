@@ -6,8 +6,8 @@
 
 use crate::player::Player;
 use crate::settings::stopping;
-use crate::sweep::{Stops, Wrong, must};
-use mx_test_cases::{Disks, Setting, Unmade};
+use crate::sweep::Stops;
+use mx_test_cases::{Disks, Setting, Unmade, Wrong, must};
 
 // What a line that the store stopped is answered.
 const STOPPED: &str = "fault store";

@@ -1,8 +1,8 @@
 //! The making of an empty book, and what each stop of it leaves in the files: nothing, or the whole of it.
 
 use crate::player::Player;
-use crate::sweep::{Stops, Wrong, answers, must};
-use mx_test_cases::Disks;
+use crate::sweep::{Stops, answers};
+use mx_test_cases::{Disks, Wrong, must};
 use std::alloc::Global;
 
 // What is asked of the files: their point and tables, the making once more, and the entries then.

@@ -3,8 +3,8 @@
 
 use crate::player::Player;
 use crate::settings::stopping;
-use crate::sweep::{End, Stops, Wrong, must};
-use mx_test_cases::{AnswerText, Disks};
+use crate::sweep::{End, Stops};
+use mx_test_cases::{AnswerText, Disks, Wrong, must};
 
 /// A move of so many commits over files of which one stops.
 #[derive(Drop)]

@@ -6,32 +6,11 @@
 
 use crate::player::Player;
 use mx_book::commands::Command;
-use mx_test_cases::{AnswerText, Disks, Held, Unmade, append_joined};
-use std::alloc::{AllocError, Global};
+use mx_test_cases::{AnswerText, Disks, Held, Wrong, append_joined, must, wrong_text};
+use std::alloc::Global;
 
 /// The number of calls past which the work is to end.
 const MOST_CALLS: u64 = 10_000;
-
-/// Why something is not as it must be.
-#[derive(Clone, Copy)]
-pub(crate) enum Wrong {
-    /// A line can't be played.
-    Unmade(Unmade),
-    /// What was found, in words.
-    Found(&'static str),
-}
-
-impl From<Unmade> for Wrong {
-    fn from(error: Unmade) -> Wrong {
-        Wrong::Unmade(error)
-    }
-}
-
-impl From<AllocError> for Wrong {
-    fn from(_error: AllocError) -> Wrong {
-        Wrong::Unmade(Unmade::Memory)
-    }
-}
 
 /// How a program ends that was stopped.
 #[derive(Clone, Copy)]
@@ -40,15 +19,6 @@ pub(crate) enum End {
     Process,
     /// The power is lost: the files hold what was synced.
     Power,
-}
-
-/// What must hold, or what was found where it doesn't.
-pub(crate) fn must(holds: bool, otherwise: &'static str) -> Result<(), Wrong> {
-    if holds {
-        Ok(())
-    } else {
-        Err(Wrong::Found(otherwise))
-    }
 }
 
 /// The answers to lines, joined by ` / `.
@@ -119,8 +89,8 @@ fn ended_text<W: Stops>(alloc: Global, work: &W, stops: u64, at_least: u64) -> A
         return Ok(format!(in alloc; "fewer than {at_least} stops")?);
     }
     match work.verdict() {
-        Ok(what) | Err(Wrong::Found(what)) => Ok(String::from_str(alloc, what)?),
-        Err(Wrong::Unmade(error)) => Err(error),
+        Ok(what) => Ok(String::from_str(alloc, what)?),
+        Err(wrong) => wrong_text(alloc, wrong),
     }
 }
 

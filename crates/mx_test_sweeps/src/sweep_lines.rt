@@ -4,25 +4,16 @@ use crate::doubts::Doubts;
 use crate::handing::{Handing, whole_import};
 use crate::plain::Plain;
 use crate::player::Player;
-use crate::running_out::stops_of_questions;
 use crate::settings::end_of;
 use crate::stops_of_commands::{CommandStops, plain_of};
 use crate::stops_of_line::{LineStops, calls_of_opening, seen_around};
 use crate::stops_of_making::MakingStops;
 use crate::stops_of_settling::{SettlingStops, asked_once};
-use crate::sweep::{End, Wrong, swept};
-use mx_test_cases::{AnswerText, Disks, Unmade};
+use crate::sweep::{End, swept};
+use mx_test_cases::{AnswerText, Disks, Unmade, Wrong, wrong_text};
 use std::alloc::Global;
 
 const BOTH_ENDS: [End; 2] = [End::Process, End::Power];
-
-// What is wrong before a sweep begins.
-fn unbegun(alloc: Global, wrong: Wrong) -> AnswerText {
-    match wrong {
-        Wrong::Unmade(error) => Err(error),
-        Wrong::Found(what) => Ok(String::from_str(alloc, what)?),
-    }
-}
 
 fn stops_of_making<D: Disks>(
     alloc: Global,
@@ -54,7 +45,7 @@ fn stops_of_handing<D: Disks>(
             };
             swept(alloc, player, &mut stops, &BOTH_ENDS, at_least)
         }
-        Err(wrong) => unbegun(alloc, wrong),
+        Err(wrong) => wrong_text(alloc, wrong),
     }
 }
 
@@ -136,7 +127,7 @@ fn doubts<D: Disks>(
             };
             swept(alloc, player, &mut work, &[end], at_least)
         }
-        Err(wrong) => unbegun(alloc, wrong),
+        Err(wrong) => wrong_text(alloc, wrong),
     }
 }
 
@@ -177,9 +168,6 @@ fn played<D: Disks>(alloc: Global, player: &mut Player<D>, words: &[&str]) -> An
             question @ ..,
         ] => stops_of_settling(alloc, player, (*file, *pages, *at_least), commits, question),
         ["doubts", end, at_least] => doubts(alloc, player, end, at_least),
-        ["questions", tail, day, at_least] => {
-            stops_of_questions(alloc, player.list(), (*tail, *day, *at_least))
-        }
         _ => Err(Unmade::NoSuchLine),
     }
 }
@@ -195,8 +183,7 @@ pub(crate) fn is_sweep(words: &[&str]) -> bool {
                 | "stops-of-line"
                 | "stops-of-commits"
                 | "stops-of-settling"
-                | "doubts"
-                | "questions",
+                | "doubts",
             ..
         ]
     )
@@ -210,8 +197,7 @@ pub(crate) fn is_sweep(words: &[&str]) -> bool {
 /// - `stops-of-commits FILE pages PAGES AT_LEAST LINE`: one that makes several commits;
 /// - `stops-of-settling FILE pages PAGES AT_LEAST COMMITS QUESTION`: the files are moved by so many commits, and the office that is
 ///   opened behind each stop is asked;
-/// - `doubts END AT_LEAST`: the first command of the list, which is handed in again behind each stop;
-/// - `questions TAIL DAY AT_LEAST`: the book of the list is asked, and no file.
+/// - `doubts END AT_LEAST`: the first command of the list, which is handed in again behind each stop.
 ///
 /// It plays its lines over copies, so that the player stays as it is.
 pub(crate) fn answer_of_sweep<D: Disks>(

@@ -145,11 +145,11 @@ impl Keyed for ReleaseLineRow {
     }
 }
 
-/// Puts rows into the order of their keys.
+/// Puts rows into the order of their keys, which are sorted beside their places: rows of each kind by the same code.
 pub fn sort_rows<R: Keyed>(rows: &mut Vec<R>) -> Result<(), NoMemory>
     ensures { OnOk result (ArePut R.key rows.old.items rows.new.items) }
 {
-    match rows.sort_by_key(|row| row.key()) {
+    match rows.sort_by_cached_key(|row| row.key()) {
         Ok(()) => Ok(()),
         Err(_) => Err(NoMemory),
     }

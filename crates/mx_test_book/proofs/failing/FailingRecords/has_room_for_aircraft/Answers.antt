@@ -1,0 +1,6 @@
+use Rattle.std.proofs.Common.{refl}
+use Rattle.mx_test_book.proofs.FailingLemmas.{counted}
+use Rattle.mx_test_book.proofs.failing.FailingRecords.has_room_for_aircraft.Goals as goal
+
+pub returns : goal.returns
+returns c = counted _ _ _ _ _ _ _ c.in_ok-count.ensures.asked refl c.has_room_for_aircraft.ensures c.answered.ensures

@@ -1,6 +1,0 @@
-use Rattle.std.proofs.Common.{refl}
-use Rattle.mx_test_sweeps.proofs.FailingLemmas.{counted}
-use Rattle.mx_test_sweeps.proofs.failing.FailingRecords.aircraft.Goals as goal
-
-pub returns : goal.returns
-returns c = counted _ _ _ _ _ _ _ c.in_ok-count.ensures.asked refl c.aircraft.ensures c.answered.ensures

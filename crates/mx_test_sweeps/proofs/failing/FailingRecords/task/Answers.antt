@@ -1,6 +1,0 @@
-use Rattle.std.proofs.Common.{refl}
-use Rattle.mx_test_sweeps.proofs.FailingLemmas.{counted}
-use Rattle.mx_test_sweeps.proofs.failing.FailingRecords.task.Goals as goal
-
-pub returns-clause-answers : goal.returns-clause-answers
-returns-clause-answers c = counted _ _ _ _ _ _ _ c.in_ok-count.ensures.asked refl c.task.ensures.answers c.answered.ensures
