@@ -1,1 +1,2 @@
 pub mod MapsProofs
+pub mod MomentsProofs

@@ -22,6 +22,9 @@
 //!   command comes back: `IndexedBook::enter`: `entered`, `seq`, `unchanged`, `back`.
 //! - Each map has at each key what the definition answers of the book there, before and behind each entry: the
 //!   invariant of `IndexedBook` (`AreIndexes`); `Indexes::new`, `changes`, `make_room`, `put`.
+//! - Of the sectors and spans of a book, in any order, the life of an item up to any moment, its accomplishments as rows and the
+//!   last base of each task are found by halving, whenever a sector was flown (`moments`): `Moments::life_now`,
+//!   `Moments::life_at`, `flown::lives_are_exact`, `done::done_rows`. Nothing that writes stands on these yet.
 //!
 //! `mx_verify::merged` stands on it, and with that the word `verify` and the move of older files. What these take
 //! stands in `docs/COST.md`.
@@ -31,6 +34,7 @@ pub mod bases;
 pub mod indexed;
 pub mod indexed_book;
 pub mod maps;
+pub mod moments;
 
 pub use indexed::Indexed;
 pub use indexed_book::IndexedBook;

@@ -1,0 +1,5 @@
+pub mod DoneLemmas
+pub mod FlownLemmas
+pub mod LandingLemmas
+pub mod SaidLemmas
+pub mod WalkLemmas

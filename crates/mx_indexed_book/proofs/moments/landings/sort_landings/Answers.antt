@@ -1,0 +1,7 @@
+use Rattle.std.proofs.Common.{rules}
+use Rattle.std.proofs.lemmas.List.Sorted.{IsNonDecreasingBy-from_sort_by_key}
+use Rattle.mx_indexed_book.specs.moments.Landings.{landing_key}
+use Rattle.mx_indexed_book.proofs.moments.landings.sort_landings.Goals as goal
+
+pub returns-in-Ok-clause-order : goal.returns-in-Ok-clause-order
+returns-in-Ok-clause-order c = IsNonDecreasingBy-from_sort_by_key landing_key _ c.in-Ok.ensures.sorted (λ a r q k. search rules)

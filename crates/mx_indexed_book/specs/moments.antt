@@ -1,0 +1,3 @@
+pub mod Done
+pub mod Flown
+pub mod Landings
