@@ -1,6 +1,7 @@
 pub mod ClockLemmas
 pub mod LifeLemmas
 pub mod MapLemmas
+pub mod NumberedLemmas
 pub mod PlaceLemmas
 pub mod PositionLemmas
 pub mod ProgrammeLemmas

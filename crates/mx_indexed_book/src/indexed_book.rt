@@ -12,6 +12,7 @@ ghost use Rattle.mx_book.specs.Life.{clock, life_now};
 ghost use Rattle.mx_book.specs.Programme.{is_accomplished, is_at_end, life_ended, next_revision, tasks_in_force};
 ghost use Rattle.mx_book.specs.Register.{aircraft, component, found_of, has_room_for_aircraft, has_room_for_component, part_at};
 ghost use Rattle.mx_book.specs.Span.{is_taken, tail_fitted};
+ghost use Rattle.mx_registers.specs.Names.{seq_of_item};
 ghost use Rattle.mx_indexed_book.specs.maps.Programmes.{programme_entry};
 
 use crate::bases::bases_set;
@@ -95,18 +96,40 @@ impl IndexedBook {
         }
     }
 
+    /// The number of the entry that added the aircraft of an airframe, or the component.
+    pub fn number_of(&self, item: &Item) -> Option<u32>
+        ensures { result ≡ seq_of_item self.now item.now }
+    {
+        match item {
+            Item::Airframe(tail) => held(&self.indexes.registers.aircraft, tail, None),
+            Item::Component(serial) => held(&self.indexes.registers.components, serial, None),
+        }
+    }
+
     /// The aircraft with this registration.
     pub fn aircraft(&self, tail: &Tail) -> Option<Aircraft>
         ensures { result ≡ aircraft self.now tail.now }
     {
-        held(&self.indexes.registers.aircraft, tail, None)
+        match held(&self.indexes.registers.aircraft, tail, None) {
+            None => None,
+            Some(seq) => match self.book.entry(seq) {
+                None => None,
+                Some(entry) => entry.added_aircraft(),
+            },
+        }
     }
 
     /// The component with this serial number.
     pub fn component(&self, serial: &Serial) -> Option<Component>
         ensures { result ≡ component self.now serial.now }
     {
-        held(&self.indexes.registers.components, serial, None)
+        match held(&self.indexes.registers.components, serial, None) {
+            None => None,
+            Some(seq) => match self.book.entry(seq) {
+                None => None,
+                Some(entry) => entry.added_component(),
+            },
+        }
     }
 
     /// The defect that was deferred by a document.

@@ -4,3 +4,4 @@
 pub mod done;
 pub mod flown;
 pub mod landings;
+pub mod said;

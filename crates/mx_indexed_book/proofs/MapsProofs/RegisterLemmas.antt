@@ -32,11 +32,11 @@ pub none_of : {X : Type 0} (o : Option X) → is_some o ≡ false → o ≡ None
 none_of None h = refl
 none_of (Some x) h = absurd (cc)
 
-or_none : {X : Type 0} (o : Option X) → option_or o None ≡ o
+pub or_none : {X : Type 0} (o : Option X) → option_or o None ≡ o
 or_none None = refl
 or_none (Some x) = refl
 
-put_behind : {X : Type 0} (b : Bool) (x : X) (o : Option X) → (b ≡ true → o ≡ None) → option_or o (cond b (Some x) None) ≡ cond b (Some x) o
+pub put_behind : {X : Type 0} (b : Bool) (x : X) (o : Option X) → (b ≡ true → o ≡ None) → option_or o (cond b (Some x) None) ≡ cond b (Some x) o
 put_behind true x o h = ap (λ p. option_or p (Some x)) (h refl)
 put_behind false x o h = or_none o
 
@@ -63,13 +63,13 @@ module _ {X : Type 0} (pick : Entry → Option X) (text : X → List ℕ) where
 
 -- ── those of the registers ──
 
-free_aircraft : (book : List Entry) (doc : List ℕ) (act : Act) → judge book (record { doc = doc; act = act }) ≡ New → (a : Aircraft) → aircraft_of act ≡ Some a → aircraft book a.tail ≡ None
+pub free_aircraft : (book : List Entry) (doc : List ℕ) (act : Act) → judge book (record { doc = doc; act = act }) ≡ New → (a : Aircraft) → aircraft_of act ≡ Some a → aircraft book a.tail ≡ None
 free_aircraft book doc (Added x positions) new a is =
     let same : x ≡ a = cc in
     subst (λ (y : Aircraft). aircraft book y.tail ≡ None) same (none_of (aircraft book x.tail) (added_is_unknown book doc x positions (ap is_new new)))
 free_aircraft book doc _ new a is = absurd cc
 
-free_component : (book : List Entry) (doc : List ℕ) (act : Act) → judge book (record { doc = doc; act = act }) ≡ New → (c : Component) → component_of act ≡ Some c → component book c.serial ≡ None
+pub free_component : (book : List Entry) (doc : List ℕ) (act : Act) → judge book (record { doc = doc; act = act }) ≡ New → (c : Component) → component_of act ≡ Some c → component book c.serial ≡ None
 free_component book doc (Listed x) new c is =
     let same : x ≡ c = cc in
     subst (λ (y : Component). component book y.serial ≡ None) same (none_of (component book x.serial) (listed_is_unknown book doc x (ap is_new new)))
@@ -80,12 +80,6 @@ free_extension book doc (Extended y) new x is =
     let same : y ≡ x = cc in
     subst (λ (z : Extension). extension book z.defect ≡ None) same (none_of (extension book y.defect) (new-passes book (record { doc = doc; act = Extended y }) new).already_extended)
 free_extension book doc _ new x is = absurd cc
-
-pub aircraft_moves : (book : List Entry) (entry : Entry) → judge book entry ≡ New → (tail : List ℕ) → aircraft (book ++ entry ∷ []) tail ≡ changed (slice_cmp nat_cmp) (named (λ a. a.tail) (aircraft_of entry.act)) tail (aircraft book tail)
-aircraft_moves book entry new = row_moves (λ e. aircraft_of e.act) (λ (a : Aircraft). a.tail) book entry (free_aircraft book entry.doc entry.act new)
-
-pub component_moves : (book : List Entry) (entry : Entry) → judge book entry ≡ New → (serial : List ℕ) → component (book ++ entry ∷ []) serial ≡ changed (slice_cmp nat_cmp) (named (λ c. c.serial) (component_of entry.act)) serial (component book serial)
-component_moves book entry new = row_moves (λ e. component_of e.act) (λ (c : Component). c.serial) book entry (free_component book entry.doc entry.act new)
 
 pub extension_moves : (book : List Entry) (entry : Entry) → judge book entry ≡ New → (doc : List ℕ) → extension (book ++ entry ∷ []) doc ≡ changed (slice_cmp nat_cmp) (named (λ x. x.defect) (extension_of entry.act)) doc (extension book doc)
 extension_moves book entry new = row_moves (λ e. extension_of e.act) (λ (x : Extension). x.defect) book entry (free_extension book entry.doc entry.act new)

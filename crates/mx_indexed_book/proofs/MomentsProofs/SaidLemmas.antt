@@ -39,6 +39,11 @@ map-append : {X Y : Type 0} (f : X → Y) (xs ys : List X) → map f (xs ++ ys) 
 map-append f [] ys = refl
 map-append f (x ∷ xs) ys = ap (λ l. f x ∷ l) (map-append f xs ys)
 
+-- what the first line certifies stands before what the others do
+pub certified-step : (before : List Entry) (r : Release) (number : ℕ) (line : Line) (later : List Line) → certified before r number (line ∷ later) ≡ certified before r number (line ∷ []) ++ certified before r (number + 1) later
+certified-step before r number (Done item task) later = refl
+certified-step before r number (Rectified doc) later = refl
+
 module _ (book : List Entry) (b : IsBook book) (number : ℕ) (item : Item) (id : List ℕ) (there : item_at book number ≡ Some item) where
   -- ── what is said of an accomplishment ──
 

@@ -6,7 +6,7 @@ use Rattle.std.specs.Cmp.Lexicographic.{slice_cmp}
 use Rattle.mx_book.specs.commands.Act.{Entry, aircraft_of, component_of, extension_of}
 use Rattle.mx_book.specs.Defect.{deferred_by, defect, extension}
 use Rattle.mx_book.specs.Judge.{known_from}
-use Rattle.mx_book.specs.Register.{aircraft, component}
+use Rattle.mx_registers.specs.Names.{seq_of_serial, seq_of_tail}
 use Rattle.mx_indexed_book.specs.maps.Maps.{HasRoom, IsIndex}
 use Rattle.mx_indexed_book.specs.declared.maps.registers.RegisterChanges.{RegisterChanges}
 use Rattle.mx_indexed_book.specs.declared.maps.registers.Registers.{Registers}
@@ -19,21 +19,25 @@ number_of book doc = option_map (λ known. known.0) (known_from doc 1 book)
 abbrev pub named : {Row : Type 0} → (Row → List ℕ) → Option Row → Option (List ℕ × Option Row)
 named name row = option_map (λ r. (name r, Some r)) row
 
--- what an entry changes: its document has the next number, and the row that it says is found by its name
+-- the number that a thing is found by its name to have from now on, where an entry adds one
+abbrev pub numbered : {Row : Type 0} → (Row → List ℕ) → ℕ → Option Row → Option (List ℕ × Option ℕ)
+numbered name number row = option_map (λ r. (name r, Some number)) row
+
+-- what an entry changes: its document has the next number, and so has the aircraft or the component that it adds; the row that it says is found by its name
 abbrev pub registers_changed : List Entry → Entry → RegisterChanges
 registers_changed book entry = record {
   document = Some (entry.doc, Some (length book + 1));
-  aircraft = named (λ a. a.tail) (aircraft_of entry.act);
-  component = named (λ c. c.serial) (component_of entry.act);
+  aircraft = numbered (λ a. a.tail) (length book + 1) (aircraft_of entry.act);
+  component = numbered (λ c. c.serial) (length book + 1) (component_of entry.act);
   defect = named (λ d. d.doc) (deferred_by entry);
   extension = named (λ x. x.defect) (extension_of entry.act);
 }
 
--- the maps have the number of each document, and the row of each name
+-- the maps have the number of each document, of the entry that added each aircraft and each component, and the row of each name
 pub record AreRegisters (book : List Entry) (maps : Registers) : Type 0 where
   pub documents_are : IsIndex (slice_cmp nat_cmp) None (number_of book) maps.documents
-  pub aircraft_are : IsIndex (slice_cmp nat_cmp) None (aircraft book) maps.aircraft
-  pub components_are : IsIndex (slice_cmp nat_cmp) None (component book) maps.components
+  pub aircraft_are : IsIndex (slice_cmp nat_cmp) None (seq_of_tail book) maps.aircraft
+  pub components_are : IsIndex (slice_cmp nat_cmp) None (seq_of_serial book) maps.components
   pub defects_are : IsIndex (slice_cmp nat_cmp) None (defect book) maps.defects
   pub extensions_are : IsIndex (slice_cmp nat_cmp) None (extension book) maps.extensions
 

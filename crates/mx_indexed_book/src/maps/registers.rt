@@ -1,4 +1,5 @@
-//! The registers in maps: the number of each document, and the row of each aircraft, component, defect and extension.
+//! The registers in maps: the number of each document, of the entry that added each aircraft and each component, and the row of each
+//! defect and extension.
 ghost use Rattle.std.specs.Prelude.{◌≡◌, ◌+◌, [], List, length};
 ghost use Rattle.std.specs.Bool.{OnTrue};
 ghost use Rattle.mx_book.specs.commands.Act.{Entry};
@@ -9,19 +10,19 @@ ghost use Rattle.mx_indexed_book.specs.maps.Registers.{AreRegisters, RegistersHa
 use crate::maps::maps::{make_room, put};
 use mx_base::{Doc, Serial, Tail};
 use mx_book::Defect;
-use mx_book::commands::{Aircraft, Command, Component, Extension};
+use mx_book::commands::{Command, Extension};
 use std::alloc::Global;
 use std::collections::BTreeMap;
 
-/// The number of each document, and the rows of the registers by their names.
+/// The numbers of documents, aircraft and components, and the rows of defects and extensions by their names.
 #[derive(Drop)]
 pub struct Registers {
     /// The number of the entry of each document.
     pub documents: BTreeMap<Doc, Option<u32>>,
-    /// The aircraft of each registration.
-    pub aircraft: BTreeMap<Tail, Option<Aircraft>>,
-    /// The component of each serial number.
-    pub components: BTreeMap<Serial, Option<Component>>,
+    /// The number of the entry that added the aircraft of each registration.
+    pub aircraft: BTreeMap<Tail, Option<u32>>,
+    /// The number of the entry that added the component of each serial number.
+    pub components: BTreeMap<Serial, Option<u32>>,
     /// The defect that was deferred by each document.
     pub defects: BTreeMap<Doc, Option<Defect>>,
     /// The extension of the defect of each document.
@@ -32,8 +33,8 @@ pub struct Registers {
 #[derive(Clone, Copy)]
 pub struct RegisterChanges {
     pub(crate) document: Option<(Doc, Option<u32>)>,
-    pub(crate) aircraft: Option<(Tail, Option<Aircraft>)>,
-    pub(crate) component: Option<(Serial, Option<Component>)>,
+    pub(crate) aircraft: Option<(Tail, Option<u32>)>,
+    pub(crate) component: Option<(Serial, Option<u32>)>,
     pub(crate) defect: Option<(Doc, Option<Defect>)>,
     pub(crate) extension: Option<(Doc, Option<Extension>)>,
 }
@@ -60,10 +61,10 @@ pub fn registers_changed(entry: &Command, seq: u32) -> RegisterChanges
         document: Some((entry.doc(), Some(seq))),
         aircraft: entry
             .added_aircraft()
-            .map(|aircraft| (aircraft.tail, Some(aircraft))),
+            .map(|aircraft| (aircraft.tail, Some(seq))),
         component: entry
             .added_component()
-            .map(|component| (component.serial, Some(component))),
+            .map(|component| (component.serial, Some(seq))),
         defect: defect_deferred(entry).map(|defect| (defect.doc, Some(defect))),
         extension: entry
             .extension()
