@@ -4,8 +4,6 @@ ghost use Rattle.std.specs.List.{list_all, list_any};
 ghost use Rattle.std.specs.Option.{option_copied, option_map, option_map_or};
 ghost use Rattle.mx_book.specs.commands.Programme.{task_shape};
 ghost use Rattle.mx_book.specs.Asking.{known_same, task_of};
-ghost use Rattle.mx_book.specs.due.Due.{IsBase};
-ghost use Rattle.mx_book.specs.Base.{base};
 ghost use Rattle.mx_book.specs.Defect.{defect, extension, is_rectified};
 ghost use Rattle.mx_book.specs.Judge.{earliest_takeoff, judge, known_from};
 ghost use Rattle.mx_book.specs.Life.{clock, life_now};
@@ -15,11 +13,10 @@ ghost use Rattle.mx_book.specs.Span.{is_taken, tail_fitted};
 ghost use Rattle.mx_registers.specs.Names.{seq_of_item};
 ghost use Rattle.mx_indexed_book.specs.maps.Programmes.{programme_entry};
 
-use crate::bases::bases_set;
 use crate::maps::indexes::Indexes;
 use crate::maps::maps::held;
 use crate::maps::programmes::{one_retires, revision_after, task_named, tasks_loaded};
-use mx_base::{Base, Day, Doc, Kind, Moment, Part, Position, Serial, Tail, TaskId, Use};
+use mx_base::{Day, Doc, Kind, Moment, Part, Position, Serial, Tail, TaskId, Use};
 use mx_book::commands::{Aircraft, Command, Component, Extension, Item, Task};
 use mx_book::entry_list::{Book, NoMemory};
 use mx_book::found::Found;
@@ -181,20 +178,11 @@ impl IndexedBook {
         self.indexes.clocks.of_airframe(tail)
     }
 
-    /// The last base of a task of an item, or `None` where it was never accomplished.
-    pub fn base(&self, item: &Item, id: &TaskId) -> Option<Base>
-        ensures base { result ≡ base self.now item.now id.now }
-        ensures bounded { IfSome result IsBase }
-    {
-        self.indexes.work.base(item, id)
-    }
-
     /// Whether the task of an item was accomplished.
-    #[tactic(auto, using(crate::proofs::MapsProofs::WorkLemmas::accomplished))]
     pub fn is_accomplished(&self, item: &Item, id: &TaskId) -> bool
         ensures { result ≡ is_accomplished self.now item.now id.now }
     {
-        self.base(item, id).is_some()
+        self.indexes.work.is_accomplished(item, id)
     }
 
     /// Whether a defect was rectified.
@@ -300,12 +288,9 @@ impl IndexedBook {
         ensures unchanged { OnErr result (self.new ≡ self.old) }
     {
         let _ = command.doc();
-        let Ok(set) = bases_set(self.alloc, self, &command) else {
-            return Err((command, NoMemory));
-        };
         let Ok(changes) = self
             .indexes
-            .changes(self.alloc, &command, self.book.len() + 1, set.as_slice())
+            .changes(self.alloc, &command, self.book.len() + 1)
         else {
             return Err((command, NoMemory));
         };

@@ -3,13 +3,14 @@
 //! | Question of `Records` | Map |
 //! |---|---|
 //! | `known` | the number of each document |
-//! | `aircraft`, `component`, `defect`, `extension` | the row by its name |
+//! | `aircraft`, `component` | the number of the entry that added each |
+//! | `defect`, `extension` | the row by its name |
 //! | `part_at` | the part of each position |
 //! | `is_taken`, `tail_fitted` | whether each position is taken, and where each component is fitted |
 //! | `clock`, `earliest_takeoff` | the clock of each airframe, and of each component |
 //! | `next_revision`, `task` | the number of the entry that loaded the programme in force of each kind |
 //! | `is_retired` | that number, the life of each airframe, and how far that of each component is ahead of it |
-//! | `is_accomplished` | the last base of each task of each airframe, and of each component |
+//! | `is_accomplished` | the tasks of each airframe, and of each component, that were |
 //! | `is_rectified` | the defects that were |
 //!
 //! Whether there is room for one more aircraft or component is told by two counts. So nothing reads all entries.
@@ -30,7 +31,6 @@
 //! stands in `docs/COST.md`.
 #![tactic(auto)]
 
-pub mod bases;
 pub mod indexed;
 pub mod indexed_book;
 pub mod maps;

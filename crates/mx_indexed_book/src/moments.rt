@@ -4,4 +4,5 @@
 pub mod done;
 pub mod flown;
 pub mod landings;
+pub mod lives;
 pub mod said;

@@ -4,7 +4,6 @@ use Rattle.std.specs.Prelude.{codes}
 use Rattle.std.specs.List.{filter_map}
 use Rattle.std.specs.Ordering.{nat_cmp}
 use Rattle.std.specs.Cmp.Lexicographic.{slice_cmp}
-use Rattle.mx_base.specs.declared.amounts.Base.{Base}
 use Rattle.mx_book.specs.commands.Act.{Act, Entry, Released}
 use Rattle.mx_book.specs.declared.commands.item.Item.TheVariants.{Airframe, Component}
 use Rattle.mx_book.specs.declared.commands.release.Line.{Line}
@@ -21,7 +20,7 @@ use Rattle.mx_indexed_book.specs.maps.Places.{has_component, place_of, places_ch
 use Rattle.mx_indexed_book.specs.maps.Positions.{part_of, parts_given}
 use Rattle.mx_indexed_book.specs.maps.Programmes.{last_loaded, programme_changed}
 use Rattle.mx_indexed_book.specs.maps.Registers.{number_of}
-use Rattle.mx_indexed_book.specs.maps.Work.{airframe_task, bases_set, component_task, keyed, line_defect}
+use Rattle.mx_indexed_book.specs.maps.Work.{airframe_task, component_task, keyed, line_defect, tasks_done}
 
 -- ── changes ──
 
@@ -87,20 +86,13 @@ lines = Done (Airframe abcd) (codes "100H") ∷ Rectified x1 ∷ Done (Component
 abbrev released : Act
 released = Released (record { place = places.Aircraft abcd; moment = at 19784 0 0 }) lines
 
--- the release leaves what each item has reached, where no programme says when its task was due
-abbrev airframe_reached : Base
-airframe_reached = record { minutes = 60090; cycles = 801; day = 19784 }
+tasks : tasks_done released ≡ (Airframe abcd, codes "100H") ∷ (Component e1, codes "OVH") ∷ []
+tasks = refl
 
-abbrev component_reached : Base
-component_reached = record { minutes = 1090; cycles = 101; day = 19784 }
-
-bases : bases_set replaced released ≡ (Airframe abcd, codes "100H", airframe_reached) ∷ (Component e1, codes "OVH", component_reached) ∷ []
-bases = refl
-
-airframe_work : filter_map (keyed airframe_task) (bases_set replaced released) ≡ ((abcd, codes "100H"), Some airframe_reached) ∷ []
+airframe_work : filter_map (keyed airframe_task) (tasks_done released) ≡ ((abcd, codes "100H"), true) ∷ []
 airframe_work = refl
 
-component_work : filter_map (keyed component_task) (bases_set replaced released) ≡ ((e1, codes "OVH"), Some component_reached) ∷ []
+component_work : filter_map (keyed component_task) (tasks_done released) ≡ ((e1, codes "OVH"), true) ∷ []
 component_work = refl
 
 rectified : filter_map line_defect lines ≡ (x1, true) ∷ []

@@ -22,7 +22,7 @@ pub record AreChanges (book : List Entry) (entry : Entry) (changes : Changes) : 
   pub clocks_are : changes.clocks ≡ clocks_changed book entry
   pub parts_are : changes.parts.items ≡ parts_given entry.act
   pub programme_is : changes.programme ≡ programme_changed book entry
-  pub work_is : IsWorkChanged book entry changes.work
+  pub work_is : IsWorkChanged entry changes.work
   pub lives_are : changes.lives ≡ lives_changed book entry
   pub counts_are : changes.counts ≡ counts_of (book ++ entry ∷ [])
 

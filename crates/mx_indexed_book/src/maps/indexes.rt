@@ -5,13 +5,10 @@
 //! by it.
 ghost use Rattle.std.specs.Prelude.{◌≡◌, ◌+◌, [], List, length, IfOk};
 ghost use Rattle.std.specs.Bool.{OnTrue};
-ghost use Rattle.std.specs.List.{AllByRecursion};
 ghost use Rattle.mx_book.specs.commands.Act.{Entry};
-ghost use Rattle.mx_book.specs.due.Due.{IsBase};
 ghost use Rattle.mx_book.specs.Book.{IsBook};
 ghost use Rattle.mx_indexed_book.specs.maps.Indexed.{AreChanges, AreIndexes, HaveRoom};
 ghost use Rattle.mx_indexed_book.specs.maps.OneMore.{SayOneMore};
-ghost use Rattle.mx_indexed_book.specs.maps.Work.{bases_set};
 
 use crate::maps::clocks::{ClockChanges, Clocks};
 use crate::maps::counts::Counts;
@@ -22,8 +19,8 @@ use crate::maps::positions::parts_given;
 use crate::maps::programmes::programme_changed;
 use crate::maps::registers::{RegisterChanges, Registers, registers_changed};
 use crate::maps::work::{Work, WorkChanges, work_changed};
-use mx_base::{Base, Kind, Part, Position, Tail, TaskId};
-use mx_book::commands::{Command, Item};
+use mx_base::{Kind, Part, Position, Tail};
+use mx_book::commands::Command;
 use std::alloc::{AllocError, Global};
 use std::collections::BTreeMap;
 
@@ -40,7 +37,7 @@ pub struct Indexes {
     pub parts: BTreeMap<(Tail, Position), Option<Part>>,
     /// The number of the entry that loaded the programme in force of each kind.
     pub programmes: BTreeMap<Kind, Option<u32>>,
-    /// The last bases of tasks, and the defects that were rectified.
+    /// Which tasks were accomplished, and the defects that were rectified.
     pub work: Work,
     /// The lives of items.
     pub lives: Lives,
@@ -78,21 +75,14 @@ impl Indexes {
         }
     }
 
-    /// What an entry changes that has this number and sets these bases. An error where memory runs out.
-    pub fn changes(
-        &self,
-        alloc: Global,
-        entry: &Command,
-        seq: u32,
-        set: &[(Item, TaskId, Base)],
-    ) -> Result<Changes, AllocError>
+    /// What an entry changes that has this number. An error where memory runs out.
+    pub fn changes(&self, alloc: Global, entry: &Command, seq: u32) -> Result<Changes, AllocError>
         ensures { (book : List Entry) → IsBook book → AreIndexes book self.now
-            → seq ≡ length book + 1 → set.now ≡ bases_set book entry.now.act
-            → AllByRecursion (λ b. IsBase b.2) set.now
+            → seq ≡ length book + 1
             → IfOk result (λ changes. AreChanges book entry.now changes) }
     {
         let parts = parts_given(alloc, entry)?;
-        let work = work_changed(alloc, entry, set)?;
+        let work = work_changed(alloc, entry)?;
         Ok(Changes {
             registers: registers_changed(entry, seq),
             places: self.places.changes(entry),

@@ -1,76 +1,109 @@
-//! The last bases and what was rectified, in maps.
+//! What was accomplished and what was rectified, in maps.
 ghost use Rattle.std.specs.Prelude.{◌≡◌, [], IfOk, List};
 ghost use Rattle.std.specs.Bool.{OnTrue};
-ghost use Rattle.std.specs.List.{AllByRecursion, filter_map};
+ghost use Rattle.std.specs.List.{filter_map};
 ghost use Rattle.mx_book.specs.commands.Act.{Entry, lines_of};
-ghost use Rattle.mx_book.specs.due.Due.{IsBase};
-ghost use Rattle.mx_book.specs.Base.{base};
 ghost use Rattle.mx_book.specs.Defect.{is_rectified};
+ghost use Rattle.mx_book.specs.Programme.{is_accomplished};
 ghost use Rattle.mx_indexed_book.specs.maps.OneMore.{SayOneMore};
-ghost use Rattle.mx_indexed_book.specs.maps.Work.{IsWork, IsWorkChanged, WorkHasRoom, airframe_task, bases_set, component_task, keyed, line_defect};
+ghost use Rattle.mx_indexed_book.specs.maps.Work.{IsWork, IsWorkChanged, WorkHasRoom, airframe_task, component_task, keyed, line_defect, line_task, tasks_done};
 
 use crate::maps::maps::{held, make_room_for_all, put_all};
-use mx_base::{Base, Doc, Serial, Tail, TaskId};
+use mx_base::{Doc, Serial, Tail, TaskId};
 use mx_book::commands::{Command, Item, Line};
 use std::alloc::{AllocError, Global};
 use std::collections::BTreeMap;
 
-/// The last base of each task of each airframe and of each component, and the defects that were rectified.
+/// Which tasks of each airframe and of each component were accomplished, and the defects that were rectified.
 #[derive(Drop)]
 pub struct Work {
-    pub(crate) airframes: BTreeMap<(Tail, TaskId), Option<Base>>,
-    pub(crate) components: BTreeMap<(Serial, TaskId), Option<Base>>,
+    pub(crate) airframes: BTreeMap<(Tail, TaskId), bool>,
+    pub(crate) components: BTreeMap<(Serial, TaskId), bool>,
     pub(crate) rectified: BTreeMap<Doc, bool>,
 }
 
 /// What one entry changes of them.
 #[derive(Drop)]
 pub struct WorkChanges {
-    pub(crate) airframes: Vec<((Tail, TaskId), Option<Base>)>,
-    pub(crate) components: Vec<((Serial, TaskId), Option<Base>)>,
+    pub(crate) airframes: Vec<((Tail, TaskId), bool)>,
+    pub(crate) components: Vec<((Serial, TaskId), bool)>,
     pub(crate) rectified: Vec<(Doc, bool)>,
 }
 
-// A base that is set, of an airframe.
-fn of_airframe(set: &(Item, TaskId, Base)) -> Option<((Tail, TaskId), Option<Base>)>
-    ensures { result ≡ keyed airframe_task set.now }
+// The task of an item that a line certifies.
+fn task_certified(line: &Line) -> Option<(Item, TaskId)>
+    ensures { result ≡ line_task line.now }
 {
-    let (item, id, base) = set;
+    match line {
+        Line::Done(item, id) => Some((*item, *id)),
+        Line::Rectified(_) => None,
+    }
+}
+
+// The tasks that some lines certify, each of an item.
+fn tasks_certified(alloc: Global, lines: &[Line]) -> Result<Vec<(Item, TaskId)>, AllocError>
+    ensures { IfOk result (λ done. done.items ≡ filter_map line_task lines.now) }
+{
+    lines
+        .iter()
+        .filter_map(|line| task_certified(line))
+        .collect(alloc)
+}
+
+// The tasks that an entry accomplishes, each of an item.
+fn tasks_accomplished(alloc: Global, entry: &Command) -> Result<Vec<(Item, TaskId)>, AllocError>
+    ensures { IfOk result (λ done. done.items ≡ tasks_done entry.now.act) }
+{
+    if let Some(opening) = entry.stated_opening() {
+        let mut done = Vec::new(alloc);
+        done.push((opening.item, opening.task))?;
+        return Ok(done);
+    }
+    tasks_certified(alloc, entry.lines())
+}
+
+// A task that is accomplished, of an airframe.
+fn of_airframe(done: &(Item, TaskId)) -> Option<((Tail, TaskId), bool)>
+    ensures { result ≡ keyed airframe_task done.now }
+{
+    let (item, id) = done;
     match item {
-        Item::Airframe(tail) => Some(((*tail, *id), Some(*base))),
+        Item::Airframe(tail) => Some(((*tail, *id), true)),
         Item::Component(_) => None,
     }
 }
 
-// A base that is set, of a component.
-fn of_component(set: &(Item, TaskId, Base)) -> Option<((Serial, TaskId), Option<Base>)>
-    ensures { result ≡ keyed component_task set.now }
+// A task that is accomplished, of a component.
+fn of_component(done: &(Item, TaskId)) -> Option<((Serial, TaskId), bool)>
+    ensures { result ≡ keyed component_task done.now }
 {
-    let (item, id, base) = set;
+    let (item, id) = done;
     match item {
         Item::Airframe(_) => None,
-        Item::Component(serial) => Some(((*serial, *id), Some(*base))),
+        Item::Component(serial) => Some(((*serial, *id), true)),
     }
 }
 
-// Of bases that are set those of airframes.
+// Of tasks that are accomplished those of airframes.
 fn of_airframes(
     alloc: Global,
-    set: &[(Item, TaskId, Base)],
-) -> Result<Vec<((Tail, TaskId), Option<Base>)>, AllocError>
-    ensures { IfOk result (λ bases. bases.items ≡ filter_map (keyed airframe_task) set.now) }
+    done: &[(Item, TaskId)],
+) -> Result<Vec<((Tail, TaskId), bool)>, AllocError>
+    ensures { IfOk result (λ tasks. tasks.items ≡ filter_map (keyed airframe_task) done.now) }
 {
-    set.iter().filter_map(|one| of_airframe(one)).collect(alloc)
+    done.iter()
+        .filter_map(|one| of_airframe(one))
+        .collect(alloc)
 }
 
-// Of bases that are set those of components.
+// Of tasks that are accomplished those of components.
 fn of_components(
     alloc: Global,
-    set: &[(Item, TaskId, Base)],
-) -> Result<Vec<((Serial, TaskId), Option<Base>)>, AllocError>
-    ensures { IfOk result (λ bases. bases.items ≡ filter_map (keyed component_task) set.now) }
+    done: &[(Item, TaskId)],
+) -> Result<Vec<((Serial, TaskId), bool)>, AllocError>
+    ensures { IfOk result (λ tasks. tasks.items ≡ filter_map (keyed component_task) done.now) }
 {
-    set.iter()
+    done.iter()
         .filter_map(|one| of_component(one))
         .collect(alloc)
 }
@@ -97,18 +130,13 @@ fn defects_rectified(alloc: Global, entry: &Command) -> Result<Vec<(Doc, bool)>,
         .collect(alloc)
 }
 
-/// What an entry changes that sets these bases. An error where memory runs out.
-pub fn work_changed(
-    alloc: Global,
-    entry: &Command,
-    set: &[(Item, TaskId, Base)],
-) -> Result<WorkChanges, AllocError>
-    ensures { (book : List Entry) → set.now ≡ bases_set book entry.now.act
-        → AllByRecursion (λ b. IsBase b.2) set.now
-        → IfOk result (λ changes. IsWorkChanged book entry.now changes) }
+/// What an entry changes. An error where memory runs out.
+pub fn work_changed(alloc: Global, entry: &Command) -> Result<WorkChanges, AllocError>
+    ensures { IfOk result (λ changes. IsWorkChanged entry.now changes) }
 {
-    let airframes = of_airframes(alloc, set)?;
-    let components = of_components(alloc, set)?;
+    let done = tasks_accomplished(alloc, entry)?;
+    let airframes = of_airframes(alloc, done.as_slice())?;
+    let components = of_components(alloc, done.as_slice())?;
     let rectified = defects_rectified(alloc, entry)?;
     Ok(WorkChanges {
         airframes,
@@ -129,14 +157,14 @@ impl Work {
         }
     }
 
-    /// The last base of a task of an item, where it was accomplished.
-    pub fn base(&self, item: &Item, id: &TaskId) -> Option<Base>
+    /// Whether the task of an item was accomplished.
+    pub fn is_accomplished(&self, item: &Item, id: &TaskId) -> bool
         ensures { (book : List Entry) → IsWork book self.now
-            → result ≡ base book item.now id.now }
+            → result ≡ is_accomplished book item.now id.now }
     {
         match item {
-            Item::Airframe(tail) => held(&self.airframes, &(*tail, *id), None),
-            Item::Component(serial) => held(&self.components, &(*serial, *id), None),
+            Item::Airframe(tail) => held(&self.airframes, &(*tail, *id), false),
+            Item::Component(serial) => held(&self.components, &(*serial, *id), false),
         }
     }
 
@@ -152,8 +180,8 @@ impl Work {
         ensures same { (book : List Entry) → IsWork book self.old → IsWork book self.new }
         ensures room { OnTrue result (WorkHasRoom changes.now self.new) }
     {
-        let airframes = make_room_for_all(&mut self.airframes, &changes.airframes, None);
-        let components = make_room_for_all(&mut self.components, &changes.components, None);
+        let airframes = make_room_for_all(&mut self.airframes, &changes.airframes, false);
+        let components = make_room_for_all(&mut self.components, &changes.components, false);
         let rectified = make_room_for_all(&mut self.rectified, &changes.rectified, false);
         airframes & components & rectified
     }
@@ -161,7 +189,7 @@ impl Work {
     /// Enters what an entry changes, for which there is room.
     pub fn put(&mut self, changes: &WorkChanges)
         requires { WorkHasRoom changes.now self.old }
-        ensures { SayOneMore IsWork (λ book entry. IsWorkChanged book entry changes.now)
+        ensures { SayOneMore IsWork (λ book entry. IsWorkChanged entry changes.now)
             self.old self.new }
     {
         put_all(&mut self.airframes, &changes.airframes);

@@ -7,9 +7,8 @@ ghost use Rattle.std.specs.List.{AllByRecursion};
 ghost use Rattle.std.specs.Option.{option_and_then};
 ghost use Rattle.mx_book.specs.commands.Programme.{task_shape};
 ghost use Rattle.mx_book.specs.declared.commands.item.Item.{Item};
-ghost use Rattle.mx_book.specs.due.Due.{IsBase, IsLife, due_after};
+ghost use Rattle.mx_book.specs.due.Due.{IsBase, due_after};
 ghost use Rattle.mx_book.specs.Base.{base, base_at};
-ghost use Rattle.mx_book.specs.Life.{life_at, use_or_none};
 ghost use Rattle.mx_registers.specs.Names.{item_at};
 ghost use Rattle.mx_registers.specs.Registers.{no_limit, sector_rows};
 ghost use Rattle.mx_registers.specs.kept.Spans.{span_rows};
@@ -19,12 +18,13 @@ ghost use Rattle.mx_indexed_book.specs.moments.Flown.{ArePermuted};
 
 use crate::indexed_book::IndexedBook;
 use crate::moments::flown::Moments;
+use crate::moments::lives::life_at;
 use mx_base::rows::DoneRow;
 use mx_base::{Base, Day, Limit, Moment, TaskId, Use, day_of};
 use mx_book::commands::{Item, Task};
 use mx_book::due::{base_done, due_after};
 use mx_book::entry_list::NoMemory;
-use mx_book::found::{birth_of, life_or_none, opening_use};
+use mx_book::found::birth_of;
 use mx_registers::plain::item_of_entry;
 use std::alloc::Global;
 use std::collections::BTreeMap;
@@ -54,26 +54,6 @@ pub struct Accomplished {
 pub struct Done {
     pub rows: Vec<DoneRow>,
     pub bases: BTreeMap<(u32, TaskId), Base>,
-}
-
-// What the item with a number had reached at a moment.
-fn life_reached(
-    book: &IndexedBook,
-    moments: &Moments,
-    number: u32,
-    item: &Item,
-    moment: Moment,
-) -> Use
-    requires moments { ArePermuted (sector_rows book.now) (span_rows book.now) moments.now }
-    requires item { item_at book.now number ≡ Some item.now }
-    ensures life { result ≡ use_or_none (life_at book.now item.now moment) }
-    ensures bounded { IsLife result }
-{
-    let _ = book.plain().len();
-    match opening_use(&book.found_of(item)) {
-        Some(opening) => moments.life_at(number, &opening, moment),
-        None => life_or_none(None),
-    }
 }
 
 // The limit, or none in any dimension.
@@ -131,7 +111,7 @@ fn done_row(
     let (value, due, base) = match a.said {
         Said::ByOpening(base) => (base, None, base),
         Said::ByRelease(moment, task) => {
-            let life = life_reached(book, moments, a.item, item, moment);
+            let life = life_at(book, moments, a.item, item, moment);
             let due = due_by(before, birth_of(&book.found_of(item)), task);
             let day = day_of(moment);
             (base_at(&life, day), due, base_done(&life, day, due))

@@ -1,12 +1,7 @@
-use Rattle.std.proofs.Common.{sym, ap, ◌∙◌, ◌+◌, subst, ℕ, List}
-use Rattle.std.specs.List.{AllByRecursion}
-use Rattle.mx_base.specs.declared.amounts.Base.{Base}
+use Rattle.std.proofs.Common.{sym, ap, ◌∙◌, ◌+◌, subst, List}
 use Rattle.mx_book.specs.commands.Act.{Entry}
-use Rattle.mx_book.specs.declared.commands.item.Item.{Item}
-use Rattle.mx_book.specs.due.Due.{IsBase}
 use Rattle.mx_book.specs.Judge.{judge}
 use Rattle.mx_indexed_book.specs.maps.Indexed.{AreIndexes}
-use Rattle.mx_indexed_book.specs.maps.Work.{bases_set}
 use Rattle.mx_indexed_book.proofs.indexed_book.IndexedBook.enter.Goals as goal
 
 pub invariant_of-self : goal.invariant_of-self
@@ -16,9 +11,7 @@ pub invariant_of-self-in-Ok-enter : goal.invariant_of-self-in-Ok-enter
 invariant_of-self-in-Ok-enter c =
     let book = c.self.inside.book in
     let command = c.args.command in
-    let set_is = c.as_slice.ensures.value ∙ c.in-Ok.ensures.bases ∙ ap (λ (b : List Entry). bases_set b command.act) (sym c.self.view_is) in
-    let bounded = subst (λ (set : List (Item × List ℕ × Base)). AllByRecursion (λ (b : Item × List ℕ × Base). IsBase b.2) set) (sym c.as_slice.ensures.value) c.in-Ok.ensures.bounded in
-    let changed = c.in-Ok-changes.ensures book c.len.ensures.book c.self.invariant (ap (λ n. n + 1) c.len.ensures.len) set_is bounded in
+    let changed = c.in-Ok.ensures book c.len.ensures.book c.self.invariant (ap (λ n. n + 1) c.len.ensures.len) in
     let is_new = ap (λ b. judge b command) c.self.view_is ∙ c.requires in
     subst (λ (b : List Entry). AreIndexes b c.put.new.self) (sym c.in-Ok-enter.ensures.entered)
     (c.put.ensures book command c.len.ensures.book c.doc.ensures.shape is_new changed (c.make_room.ensures.same book c.self.invariant))

@@ -4,7 +4,7 @@ use Rattle.mx_book.specs.Book.{IsBook}
 use Rattle.mx_book.specs.Life.{opening_in}
 use Rattle.mx_book.proofs.LifeLemmas.{life_bounded}
 use Rattle.mx_indexed_book.proofs.MomentsProofs.FlownLemmas.{lives_exact}
-use Rattle.mx_indexed_book.proofs.moments.done.life_reached.Goals as goal
+use Rattle.mx_indexed_book.proofs.moments.lives.life_at.Goals as goal
 
 pub returns-in-Some-clause-life : goal.returns-in-Some-clause-life
 returns-in-Some-clause-life c =
