@@ -1,10 +1,9 @@
 -- Worked rows: what registers give, and why they are those of no book.
-use Rattle.std.proofs.Common.{refl, ◌≡◌, ℕ, ◌+◌, List, [], ◌∷◌, Ok, Err}
+use Rattle.std.proofs.Common.{refl, ◌≡◌, ℕ, ◌+◌, [], ◌∷◌, Ok, Err}
 use Rattle.std.specs.Prelude.{codes}
 use Rattle.std.specs.Fmt.{digits}
-use Rattle.mx_book.proofs.Worked.{a1, abcd, at}
-use Rattle.mx_base.specs.declared.rows.rows.EntryKind.{EntryKind}
-use Rattle.mx_base.specs.declared.rows.rows.EntryKind.TheVariants.{AddAircraft, AddComponent, Fit, Remove, Release, Sector}
+use Rattle.mx_book.proofs.Worked.{a1, at}
+use Rattle.mx_base.specs.declared.rows.rows.EntryKind.TheVariants.{AddAircraft, AddComponent, Fit, Remove, Sector}
 use Rattle.mx_base.specs.declared.rows.rows.EntryRow.{EntryRow}
 use Rattle.mx_base.specs.declared.rows.rows.SectorRow.{SectorRow}
 use Rattle.mx_registers.proofs.Worked.{component_with, entry, first_aircraft_row, fitted_row, no_rows}

@@ -4,7 +4,6 @@ use Rattle.sqlite.specs.Tree.{Trees}
 use Rattle.mx_base.specs.declared.rows.rows.EntryKind.{EntryKind}
 use Rattle.mx_registers.specs.Left.{all_rows}
 use Rattle.mx_layout.specs.TableName.{TableName}
-use Rattle.mx_layout.specs.Tables.{office}
 use Rattle.mx_verify.specs.merged.Merging.{merging}
 use Rattle.mx_registers.specs.file.Tables.{AreFilePut}
 use Rattle.mx_verify.specs.declared.merged.merged.NoBook.TheVariants as no_book

@@ -1,3 +1,4 @@
+pub mod KeptBook
 pub mod Keys
 pub mod Merging
 pub mod Blame

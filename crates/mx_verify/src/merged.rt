@@ -5,10 +5,13 @@
 //!
 //! - Registers give their book beside its maps, or what the definition says in its place: `merge_beside_maps`: `given`,
 //!   `exact`, `sound`.
+//! - Lives by moments and last bases of that book are those that it gives: `KeptBook::life`, `KeptBook::base`.
 //! - The totals of a book are those that it gives: `total_rows`.
 
+pub mod kept_book;
 pub mod merged;
 pub mod totals;
 
-pub use merged::{NoBook, merge_beside_maps};
+pub use kept_book::KeptBook;
+pub use merged::{Merged, NoBook, merge_beside_maps};
 pub use totals::total_rows;

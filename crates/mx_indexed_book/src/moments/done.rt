@@ -193,6 +193,8 @@ pub fn done_rows(
     ensures bases { (number : ℕ) (item : Item) (id : List ℕ) → said.now ≡ accomplished book.now
         → item_at book.now number ≡ Some item
         → IfOk result (λ done. get task_cmp done.bases (number, id) ≡ base book.now item id) }
+    ensures bounded { IfOk result (λ done. (number : ℕ) (id : List ℕ)
+        → IfSome (get task_cmp done.bases (number, id)) IsBase) }
 {
     let _ = book.plain().len();
     all_done(alloc, book, moments, said)

@@ -1,5 +1,5 @@
 -- An entry is to blame exactly where the merge says that one is damaged.
-use Rattle.std.proofs.Common.{◌≡◌, ◌∙◌, ◌⊎◌, inl, inr, ℕ, ◌+◌, Bool, true, false, cond, List, [], ◌∷◌, ◌++◌, length, nat_eq, Option, None, Some, refl, sym, ap, subst, arith}
+use Rattle.std.proofs.Common.{◌≡◌, ◌∙◌, ◌⊎◌, inl, inr, ℕ, ◌+◌, Bool, true, false, cond, List, [], ◌∷◌, ◌++◌, length, nat_eq, Option, None, Some, refl, ap, subst, arith}
 use Rattle.std.specs.Prelude.{Result, Ok, Err}
 use Rattle.std.specs.Option.{option_map_or}
 use Rattle.std.proofs.lemmas.Bool.{and_from}
@@ -9,7 +9,7 @@ use Rattle.mx_book.specs.Book.{is_new}
 use Rattle.mx_book.specs.Judge.{judge}
 use Rattle.mx_base.specs.declared.rows.rows.EntryKind.{EntryKind}
 use Rattle.mx_base.specs.declared.rows.rows.EntryRow.{EntryRow}
-use Rattle.mx_registers.specs.Merge.{Rest, are_taken, is_next, take_command}
+use Rattle.mx_registers.specs.Merge.{Rest, are_taken, take_command}
 use Rattle.mx_book_tables.proofs.StandsProofs.PointLemmas.{and_left, and_right}
 use Rattle.mx_verify.specs.merged.Blame.{Gives, HasBlame, IsToBlame}
 use Rattle.mx_verify.specs.merged.Merging.{has_row, merging, without_command}

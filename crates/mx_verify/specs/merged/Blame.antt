@@ -2,7 +2,7 @@
 -- `merging` goes through the entries as the program does. What its answer `Damaged` means is said here without it: the
 -- entries before one give a book with their rows, and behind that book the rows of the one say no command that is new.
 -- A law ties the two both ways. `Differs` is what is left: no book, and no entry to blame.
-use Rattle.std.specs.Prelude.{◌≡◌, ◌⊎◌, ◌+◌, ℕ, true, false, List, [], ◌∷◌, ◌++◌, length, None, Some}
+use Rattle.std.specs.Prelude.{◌≡◌, ◌⊎◌, ◌+◌, true, false, List, [], ◌∷◌, ◌++◌, length, None, Some}
 use Rattle.mx_book.specs.commands.Act.{Entry}
 use Rattle.mx_book.specs.Book.{is_new}
 use Rattle.mx_book.specs.Judge.{judge}

@@ -10,10 +10,9 @@ ghost use Rattle.mx_verify.specs.merged.Merging.{merging};
 ghost use Rattle.mx_registers.specs.file.Tables.{AreFilePut};
 
 use crate::derived::last_bases::last_bases;
-use crate::merged::{NoBook, merge_beside_maps, total_rows};
+use crate::merged::{KeptBook, Merged, NoBook, merge_beside_maps, total_rows};
 use mx_base::rows::{BaseRow, EntryKind, TotalRow};
 use mx_book::entry_list::NoMemory;
-use mx_indexed_book::IndexedBook;
 use mx_registers::file::{FileRows, put_in_order};
 use mx_registers::merge::Registers;
 use std::alloc::Global;
@@ -39,14 +38,15 @@ pub enum Unkept {
 }
 
 // What is kept of a book whose registers these are.
-fn kept_of(alloc: Global, book: &IndexedBook, registers: &Registers) -> Result<KeptRows, NoMemory>
-    ensures { AreRegistersOf registers.now book.now
-        → IfOk result (λ kept. AreKeptOf kept book.now) }
+fn kept_of(alloc: Global, merged: Merged, registers: &Registers) -> Result<KeptRows, NoMemory>
+    requires { AreRegistersOf registers.now merged }
+    ensures { IfOk result (λ kept. AreKeptOf kept merged) }
 {
-    let totals = total_rows(alloc, book)?;
+    let book = KeptBook::of(alloc, merged, registers)?;
+    let totals = total_rows(alloc, &book)?;
     let bases = last_bases(
         alloc,
-        book,
+        &book,
         registers.rows.openings.as_slice(),
         registers.rows.release_lines.as_slice(),
     )?;
@@ -75,8 +75,8 @@ fn kept_in_order(alloc: Global, registers: &Registers) -> Result<KeptRows, Unkep
         Err(NoBook::Damaged(kind)) => return Err(Unkept::Damaged(kind)),
         Err(NoBook::Differs) => return Err(Unkept::Differs),
     };
-    let _ = book.plain().len();
-    match kept_of(alloc, &book, registers) {
+    let _ = book.book().plain().len();
+    match kept_of(alloc, book, registers) {
         Ok(kept) => Ok(kept),
         Err(_) => Err(Unkept::Memory),
     }

@@ -1,7 +1,7 @@
 //! The last bases of a book, made of its openings and of the lines of its releases.
 //!
 //! Of which tasks there are last bases is what the openings and the lines of the releases name; what each of them is,
-//! the book is asked that the registers give, by its map. So these rows are walked once, a task that was met before is
+//! the book is asked that the registers give. So these rows are walked once, a task that was met before is
 //! passed over, and neither the items of the book nor the tasks of each are needed. A task that has no base is passed
 //! over too: in a book none is named without one, and of other registers nothing is made up. No order is promised,
 //! since who writes them picks those of an item by its number.
@@ -14,10 +14,10 @@ ghost use Rattle.mx_registers.specs.kept.Bases.{base_rows};
 ghost use Rattle.mx_verify.specs.merged.Keys.{AreKeys};
 ghost use Rattle.mx_verify.specs.derived.Kept.{AreBasesAt, base_row_at, key_certified, key_stated};
 
+use crate::merged::KeptBook;
 use mx_base::rows::{BaseRow, OpeningRow, ReleaseLineRow};
 use mx_base::{Base, Day, TaskId, Use};
 use mx_book::entry_list::NoMemory;
-use mx_indexed_book::IndexedBook;
 use mx_indexed_book::maps::maps::held;
 use mx_registers::plain::item_of_entry;
 use std::alloc::Global;
@@ -40,11 +40,11 @@ fn base_row(number: u32, task: &TaskId, base: &Base) -> BaseRow
 }
 
 // The row of the last base of a task of the item that the entry with this number added, where there is one.
-fn base_row_at(book: &IndexedBook, key: &(u32, TaskId)) -> Option<BaseRow>
+fn base_row_at(book: &KeptBook, key: &(u32, TaskId)) -> Option<BaseRow>
     ensures { result ≡ base_row_at book.now key.now }
 {
     let item = item_of_entry(book.plain(), key.0)?;
-    let base = book.base(&item, &key.1)?;
+    let base = book.base(key.0, &item, &key.1)?;
     Some(base_row(key.0, &key.1, &base))
 }
 
@@ -87,7 +87,7 @@ fn keys_certified(alloc: Global, lines: &[ReleaseLineRow]) -> Result<Vec<(u32, T
 
 // Adds the last base of a task to rows, where it has one and they have none of it yet; the map has of which tasks they are.
 fn add_base(
-    book: &IndexedBook,
+    book: &KeptBook,
     rows: &mut Vec<BaseRow>,
     met: &mut BTreeMap<(u32, TaskId), bool>,
     key: &(u32, TaskId),
@@ -115,7 +115,7 @@ fn add_base(
 
 // Adds the last bases of tasks to rows, each once.
 fn add_bases(
-    book: &IndexedBook,
+    book: &KeptBook,
     rows: &mut Vec<BaseRow>,
     met: &mut BTreeMap<(u32, TaskId), bool>,
     keys: &[(u32, TaskId)],
@@ -135,7 +135,7 @@ fn add_bases(
 /// The last bases of a book whose openings and lines of releases these are, in any order. `NoMemory` where memory runs out.
 pub fn last_bases(
     alloc: Global,
-    book: &IndexedBook,
+    book: &KeptBook,
     openings: &[OpeningRow],
     lines: &[ReleaseLineRow],
 ) -> Result<Vec<BaseRow>, NoMemory>

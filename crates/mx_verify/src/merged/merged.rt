@@ -9,6 +9,9 @@ ghost use Rattle.mx_book.specs.commands.Act.{Entry};
 ghost use Rattle.mx_book.specs.Book.{IsBook};
 ghost use Rattle.mx_registers.specs.Registers.{AreRegistersOf};
 ghost use Rattle.mx_registers.specs.Left.{all_rows, rest_of};
+ghost use Rattle.std.specs.List.{AllByRecursion};
+ghost use Rattle.mx_indexed_book.specs.declared.moments.done.Accomplished.{Accomplished};
+ghost use Rattle.mx_indexed_book.specs.moments.Done.{IsSayable, accomplished};
 ghost use Rattle.mx_verify.specs.merged.Merging.{has_row, merging, without_command};
 
 use mx_base::rows::{EntryKind, EntryRow};
@@ -16,9 +19,12 @@ use mx_book::Verdict;
 use mx_book::entry_list::NoMemory;
 use mx_indexed_book::IndexedBook;
 use mx_indexed_book::indexed::judge;
+use mx_indexed_book::moments::done::Accomplished;
+use mx_indexed_book::moments::said::add_accomplished;
 use mx_registers::merge::{Left, Registers};
 use mx_registers::plain::merge::{are_all_taken, next_command, rows_of};
 use std::alloc::Global;
+use std::marker::Model;
 
 /// Why rows are those of no book.
 #[derive(Clone, Copy, Debug, PartialEq, Eq)]
@@ -29,6 +35,50 @@ pub enum NoBook {
     /// Each row can stand behind those before it, but they are not the rows of a book: an entry lacks its row, a row its
     /// entry, or the entries are not numbered from 1.
     Differs,
+}
+
+/// The book that registers give, beside its maps, and what its entries accomplish. Contracts see the list of the entries.
+#[derive(Drop)]
+pub struct Merged {
+    book: IndexedBook,
+    said: Vec<Accomplished>,
+}
+
+impl Model for Merged {
+    ghost use Rattle.std.specs.Prelude.{List};
+    ghost use Rattle.mx_book.specs.commands.Act.{Entry};
+    ghost use Rattle.mx_verify.specs.merged.KeptBook.{IsSaid};
+
+    ghost Value = { List Entry };
+
+    ghost view = { λ a. a.book };
+
+    ghost invariant = { λ a. IsSaid a.book a.said.items };
+}
+
+impl Merged {
+    /// The book beside its maps.
+    pub fn book(&self) -> &IndexedBook
+        ensures { result.now ≡ self.now }
+    {
+        &self.book
+    }
+
+    /// The book beside its maps, alone.
+    pub fn into_book(self) -> IndexedBook
+        ensures { result ≡ self }
+    {
+        let Merged { book, said: _ } = self;
+        book
+    }
+
+    /// What its entries accomplish.
+    pub fn said(&self) -> &[Accomplished]
+        ensures all { result.now ≡ accomplished self.now }
+        ensures sayable { AllByRecursion (λ (a : Accomplished). IsSayable a.said) result.now }
+    {
+        self.said.as_slice()
+    }
 }
 
 // Whether the first row of its kind is of the entry.
@@ -66,10 +116,11 @@ fn merged_book(
     alloc: Global,
     entries: &[EntryRow],
     all: Left<'_>,
-) -> Result<Result<IndexedBook, NoBook>, NoMemory>
+) -> Result<Result<Merged, NoBook>, NoMemory>
     ensures { IfOk result (λ given. given ≡ merging [] entries.now (rest_of all.entry)) }
 {
     let mut book = IndexedBook::new(alloc);
+    let mut said = Vec::new(alloc);
     let mut coming = entries;
     let mut rows = all;
     while let Some((entry, later)) = coming.split_first() {
@@ -82,6 +133,7 @@ fn merged_book(
         if judge(&book, &command) != Verdict::New {
             return Ok(Err(NoBook::Damaged(entry.kind)));
         }
+        add_accomplished(&book, &command, &mut said)?;
         match book.enter(command) {
             Ok(_) => {}
             Err((_, no_memory)) => return Err(no_memory),
@@ -90,7 +142,7 @@ fn merged_book(
         coming = later;
     }
     if are_all_taken(rows) {
-        Ok(Ok(book))
+        Ok(Ok(Merged { book, said }))
     } else {
         Ok(Err(NoBook::Differs))
     }
@@ -101,7 +153,7 @@ fn merged_book(
 pub fn merge_beside_maps(
     alloc: Global,
     registers: &Registers,
-) -> Result<Result<IndexedBook, NoBook>, NoMemory>
+) -> Result<Result<Merged, NoBook>, NoMemory>
     ensures given { IfOk result (λ given.
         given ≡ merging [] registers.now.entries.items (all_rows registers.now)) }
     ensures exact { (book : List Entry) → IsBook book → AreRegistersOf registers.now book

@@ -1,4 +1,4 @@
-//! Rows of last bases, and whether they are those that a book beside its maps gives.
+//! Rows of last bases, and whether they are those that a book gives.
 ghost use Rattle.std.specs.Prelude.{◌≡◌, ◌&&◌, IfOk, MatchOption, IsPermutation};
 ghost use Rattle.std.specs.Bool.{Decides};
 ghost use Rattle.std.specs.List.{list_all};
@@ -9,10 +9,10 @@ ghost use Rattle.mx_verify.specs.merged.Keys.{AreKeys};
 ghost use Rattle.mx_verify.specs.verified.Bases.{has_certified, has_stated};
 ghost use Rattle.mx_registers.specs.file.Bases.{is_last_base, same_base};
 
+use crate::merged::KeptBook;
 use mx_base::rows::{BaseRow, OpeningRow, ReleaseLineRow};
 use mx_base::{Base, TaskId};
 use mx_book::entry_list::NoMemory;
-use mx_indexed_book::IndexedBook;
 use mx_indexed_book::maps::maps::held;
 use mx_registers::plain::item_of_entry;
 use std::alloc::Global;
@@ -37,11 +37,11 @@ fn is_same_base(one: &Base, other: &Base) -> bool
 }
 
 // Whether a row has the last base of its task of its item.
-fn is_last_base(book: &IndexedBook, row: &BaseRow) -> bool
+fn is_last_base(book: &KeptBook, row: &BaseRow) -> bool
     ensures { result ≡ is_last_base book.now row.now }
 {
     match item_of_entry(book.plain(), row.item) {
-        Some(item) => match book.base(&item, &row.task) {
+        Some(item) => match book.base(row.item, &item, &row.task) {
             Some(base) => is_same_base(&base_in(row), &base),
             None => false,
         },
@@ -50,7 +50,7 @@ fn is_last_base(book: &IndexedBook, row: &BaseRow) -> bool
 }
 
 // Whether each row has the last base of its task of its item.
-fn are_last_bases(book: &IndexedBook, rows: &[BaseRow]) -> bool
+fn are_last_bases(book: &KeptBook, rows: &[BaseRow]) -> bool
     ensures { result ≡ list_all (is_last_base book.now) rows.now }
 {
     rows.iter().all(|row| is_last_base(book, row))
@@ -115,7 +115,7 @@ fn are_certified(keys: &BTreeMap<(u32, TaskId), bool>, lines: &[ReleaseLineRow])
 
 // Whether each row has the last base of its task, and a map has each task that openings state and lines certify.
 fn are_right(
-    book: &IndexedBook,
+    book: &KeptBook,
     keys: &BTreeMap<(u32, TaskId), bool>,
     openings: &[OpeningRow],
     lines: &[ReleaseLineRow],
@@ -132,7 +132,7 @@ fn are_right(
 /// where memory runs out.
 pub fn are_bases(
     alloc: Global,
-    book: &IndexedBook,
+    book: &KeptBook,
     openings: &[OpeningRow],
     lines: &[ReleaseLineRow],
     rows: &[BaseRow],

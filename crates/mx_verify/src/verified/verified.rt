@@ -11,12 +11,11 @@ ghost use Rattle.mx_registers.specs.kept.Totals.{total_rows};
 ghost use Rattle.mx_verify.specs.merged.Merging.{merging};
 ghost use Rattle.mx_verify.specs.verified.Verified.{AreRowsOf, HasKeptRows};
 
-use crate::merged::{NoBook, merge_beside_maps, total_rows};
+use crate::merged::{KeptBook, Merged, NoBook, merge_beside_maps, total_rows};
 use crate::verified::bases::are_bases;
 use crate::verified::same::are_same;
 use mx_base::rows::EntryKind;
 use mx_book::entry_list::NoMemory;
-use mx_indexed_book::IndexedBook;
 use mx_registers::file::FileRows;
 use mx_registers::file::spans::spans_made;
 use std::alloc::Global;
@@ -31,7 +30,7 @@ pub enum Unverified {
 }
 
 // Whether the spans are those of a book whose registers these are.
-fn are_spans(alloc: Global, book: &IndexedBook, rows: &FileRows) -> Result<bool, NoMemory>
+fn are_spans(alloc: Global, book: &KeptBook, rows: &FileRows) -> Result<bool, NoMemory>
     ensures { AreRegistersOf rows.now.registers book.now
         → IfOk result (λ same. Decides same (rows.now.spans.items ≡ span_rows book.now)) }
 {
@@ -46,7 +45,7 @@ fn are_spans(alloc: Global, book: &IndexedBook, rows: &FileRows) -> Result<bool,
 }
 
 // Whether the totals are those of a book.
-fn are_totals(alloc: Global, book: &IndexedBook, rows: &FileRows) -> Result<bool, NoMemory>
+fn are_totals(alloc: Global, book: &KeptBook, rows: &FileRows) -> Result<bool, NoMemory>
     ensures { IfOk result (λ same. Decides same (rows.now.totals.items ≡ total_rows book.now)) }
 {
     let given = total_rows(alloc, book)?;
@@ -54,7 +53,7 @@ fn are_totals(alloc: Global, book: &IndexedBook, rows: &FileRows) -> Result<bool
 }
 
 // Whether the last bases are those of a book whose registers these are.
-fn are_last_bases(alloc: Global, book: &IndexedBook, rows: &FileRows) -> Result<bool, NoMemory>
+fn are_last_bases(alloc: Global, book: &KeptBook, rows: &FileRows) -> Result<bool, NoMemory>
     ensures { AreRegistersOf rows.now.registers book.now → IfOk result
         (λ same. Decides same (IsPermutation rows.now.bases.items (base_rows book.now))) }
 {
@@ -69,13 +68,14 @@ fn are_last_bases(alloc: Global, book: &IndexedBook, rows: &FileRows) -> Result<
 }
 
 // Whether the kept rows are those that a book gives whose registers these are.
-fn are_kept_rows(alloc: Global, book: &IndexedBook, rows: &FileRows) -> Result<bool, NoMemory>
-    ensures { AreRegistersOf rows.now.registers book.now
-        → IfOk result (λ same. Decides same (HasKeptRows rows.now book.now)) }
+fn are_kept_rows(alloc: Global, merged: Merged, rows: &FileRows) -> Result<bool, NoMemory>
+    requires { AreRegistersOf rows.now.registers merged }
+    ensures { IfOk result (λ same. Decides same (HasKeptRows rows.now merged)) }
 {
-    let spans = are_spans(alloc, book, rows)?;
-    let totals = are_totals(alloc, book, rows)?;
-    let bases = are_last_bases(alloc, book, rows)?;
+    let book = KeptBook::of(alloc, merged, &rows.registers)?;
+    let spans = are_spans(alloc, &book, rows)?;
+    let totals = are_totals(alloc, &book, rows)?;
+    let bases = are_last_bases(alloc, &book, rows)?;
     Ok(spans && totals && bases)
 }
 
@@ -103,8 +103,8 @@ pub fn verify_rows(alloc: Global, rows: &FileRows) -> Result<bool, Unverified>
         Err(NoBook::Damaged(kind)) => return Err(Unverified::Damaged(kind)),
         Err(NoBook::Differs) => return Ok(false),
     };
-    let _ = book.plain().len();
-    match are_kept_rows(alloc, &book, rows) {
+    let _ = book.book().plain().len();
+    match are_kept_rows(alloc, book, rows) {
         Ok(same) => Ok(same),
         Err(_) => Err(Unverified::Memory),
     }

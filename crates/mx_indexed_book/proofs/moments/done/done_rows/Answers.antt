@@ -1,12 +1,14 @@
-use Rattle.std.proofs.Common.{subst, ◌≡◌}
-use Rattle.std.specs.Prelude.{IsPermutation}
+use Rattle.std.proofs.Common.{subst, ◌≡◌, ℕ, List}
+use Rattle.std.specs.Prelude.{IfSome, IsPermutation}
 use Rattle.std.specs.BTreeMap.{get}
+use Rattle.mx_book.specs.due.Due.{IsBase}
 use Rattle.mx_book.specs.Base.{base}
 use Rattle.mx_book.specs.Book.{IsBook}
 use Rattle.mx_registers.specs.late.Done.{done_rows}
 use Rattle.mx_indexed_book.specs.declared.moments.done.Done.{Done}
 use Rattle.mx_indexed_book.specs.moments.Done.{AreDone, task_cmp}
 use Rattle.mx_indexed_book.proofs.MomentsProofs.DoneLemmas.{last_bases, made, rows_permuted}
+use Rattle.mx_indexed_book.proofs.MomentsProofs.WalkLemmas.{base_bounded}
 use Rattle.mx_indexed_book.proofs.moments.done.done_rows.Goals as goal
 
 pub returns-clause-rows : goal.returns-clause-rows
@@ -22,3 +24,8 @@ returns-clause-bases c = λ number item id is there.
     let b = subst IsBook c.plain.ensures c.len.ensures.book in
     made (λ (done : Done). AreDone book c.args.said.now done.rows.items done.bases) (λ (done : Done). get task_cmp done.bases (number, id) ≡ base book item id) c.all_done.result c.all_done.ensures
     (λ done are. last_bases book b c.args.said.now done.rows.items done.bases is are number item id there)
+
+pub returns-clause-bounded : goal.returns-clause-bounded
+returns-clause-bounded c =
+    made (λ (done : Done). AreDone c.args.book.now c.args.said.now done.rows.items done.bases) (λ (done : Done). (number : ℕ) (id : List ℕ) → IfSome (get task_cmp done.bases (number, id)) IsBase) c.all_done.result c.all_done.ensures
+    (λ done are. λ number id. base_bounded c.args.book.now c.args.said.now done.rows.items done.bases number id are)
