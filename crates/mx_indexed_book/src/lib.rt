@@ -25,7 +25,7 @@
 //!   invariant of `IndexedBook` (`AreIndexes`); `Indexes::new`, `changes`, `make_room`, `put`.
 //! - Of the sectors and spans of a book, in any order, the life of an item up to any moment, its accomplishments as rows and the
 //!   last base of each task are found by halving, whenever a sector was flown (`moments`): `Moments::life_now`,
-//!   `Moments::life_at`, `flown::lives_are_exact`, `done::done_rows`. Nothing that writes stands on these yet.
+//!   `Moments::life_at`, `flown::lives_are_exact`, `done::done_rows`, of what `said::add_accomplished` gathers.
 //!
 //! `mx_verify::merged` stands on it, and with that the word `verify` and the move of older files. What these take
 //! stands in `docs/COST.md`.
