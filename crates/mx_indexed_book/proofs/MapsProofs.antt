@@ -1,6 +1,8 @@
 pub mod ClockLemmas
 pub mod LifeLemmas
 pub mod MapLemmas
+pub mod CreditLemmas
+pub mod MovementLemmas
 pub mod NumberedLemmas
 pub mod PlaceLemmas
 pub mod PositionLemmas

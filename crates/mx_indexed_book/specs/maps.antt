@@ -3,6 +3,7 @@ pub mod Counts
 pub mod Indexed
 pub mod Lives
 pub mod Maps
+pub mod Movements
 pub mod OneMore
 pub mod Places
 pub mod Positions

@@ -9,7 +9,7 @@
 //! | `is_taken`, `tail_fitted` | whether each position is taken, and where each component is fitted |
 //! | `clock`, `earliest_takeoff` | the clock of each airframe, and of each component |
 //! | `next_revision`, `task` | the number of the entry that loaded the programme in force of each kind |
-//! | `is_retired` | that number, the life of each airframe, and how far that of each component is ahead of it |
+//! | `is_retired` | that number, the life of each airframe, how far that of each component is ahead of it, and what was moved to and from each aircraft |
 //! | `is_accomplished` | the tasks of each airframe, and of each component, that were |
 //! | `is_rectified` | the defects that were |
 //!

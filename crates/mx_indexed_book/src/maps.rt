@@ -6,6 +6,7 @@ pub mod counts;
 pub mod indexes;
 pub mod lives;
 pub mod maps;
+pub mod movements;
 pub mod places;
 pub mod positions;
 pub mod programmes;

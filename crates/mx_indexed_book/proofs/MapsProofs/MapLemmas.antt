@@ -1,9 +1,12 @@
 -- A map of answers, behind room for one key more and behind a change of one key.
-use Rattle.std.proofs.Common.{sym, ap, subst, ◌∙◌, ◌≡◌, ℕ, List, [], ◌∷◌, Option, Some}
+use Rattle.std.proofs.Common.{arith, refl, sym, ap, subst, ◌∙◌, ◌≡◌, ℕ, List, [], ◌∷◌, Bool, true, false, cond, nat_eq, Option, Some}
+use Rattle.std.specs.Prelude.{nat_lt}
 use Rattle.std.specs.Ordering.{is_eq, nat_cmp}
 use Rattle.std.specs.declared.cmp.Ordering.{Ordering}
+use Rattle.std.specs.declared.cmp.Ordering.TheVariants.{Less, Equal, Greater}
 use Rattle.std.specs.BTreeMap.{BTreeMap}
 use Rattle.std.specs.Cmp.Lexicographic.{slice_cmp, texts_ties}
+use Rattle.std.proofs.lemmas.Bool.Decides.{nat_tests}
 use Rattle.mx_book.specs.commands.Same.{same_text}
 use Rattle.mx_indexed_book.specs.maps.Maps.{HasRoomForAll, IsIndex, KeepsRows, changed, changed_all, held}
 
@@ -20,6 +23,15 @@ module _ {K V : Type 0} (cmp : K → K → Ordering) (none : V) where
 -- the order of texts tells the same texts
 pub tie : (text name : List ℕ) → is_eq (slice_cmp nat_cmp text name) ≡ same_text text name
 tie text name = sym (texts_ties text name)
+
+-- the order of numbers tells the same number
+pub tie_number : (n m : ℕ) → is_eq (nat_cmp n m) ≡ nat_eq n m
+tie_number n m = at (nat_lt n m) (nat_eq n m) (λ h. grind (arith, nat_tests))
+  where
+    at : (less same : Bool) → (less ≡ true → same ≡ false) → is_eq (cond less Less (cond same Equal Greater)) ≡ same
+    at true same h = sym (h refl)
+    at false true h = refl
+    at false false h = refl
 
 -- ── several changes ──
 

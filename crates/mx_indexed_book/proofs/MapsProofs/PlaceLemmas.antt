@@ -16,7 +16,7 @@ use Rattle.mx_book.proofs.CommandsProofs.SameLemmas.{text_same}
 use Rattle.mx_book.specs.declared.verdict.Verdict.TheVariants.{New}
 use Rattle.mx_book.specs.Book.{IsBook}
 use Rattle.mx_book.specs.Judge.{judge}
-use Rattle.mx_book.specs.Span.{Span, fitted, is_open_on, is_taken, span_begun, spans}
+use Rattle.mx_book.specs.Span.{Span, fitted, is_open_on, is_taken, span_begun, spans, tail_fitted}
 use Rattle.mx_book.proofs.JudgeLemmas.{both_true}
 use Rattle.mx_book.proofs.PassLemmas.{new-fitting}
 use Rattle.mx_book.proofs.SpanLemmas.{one_component, removed_nowhere}
@@ -34,6 +34,14 @@ use Rattle.mx_indexed_book.proofs.MapsProofs.RegisterLemmas.{none_of}
 unended : (act : Act) → ((s : Span) → ended_by act s ≡ s) → (p : Span → Bool) (xs : List Span) → find p (map (ended_by act) xs) ≡ find p xs
 unended act h p [] = refl
 unended act h p (x ∷ xs) = ap (λ (s : Span). cond (p s) (Some s) (find p (map (ended_by act) xs))) (h x) ∙ ap (λ o. cond (p x) (Some x) o) (unended act h p xs)
+
+-- the aircraft of the place
+pub tail_of_place : (book : List Entry) (serial : List ℕ) → tail_fitted book serial ≡ option_map (λ (p : List ℕ × List ℕ). p.0) (place_of book serial)
+tail_of_place book serial = at (fitted book serial)
+  where
+    at : (o : Option Span) → option_map (λ (s : Span). s.tail) o ≡ option_map (λ (p : List ℕ × List ℕ). p.0) (option_map (λ (s : Span). (s.tail, s.position)) o)
+    at None = refl
+    at (Some s) = refl
 
 pub just_fitted : (book : List Entry) (doc : List ℕ) (f : Fitting) → judge book (record { doc = doc; act = Fitted f }) ≡ New → place_of (book ++ record { doc = doc; act = Fitted f } ∷ []) f.serial ≡ Some (f.tail, f.position)
 just_fitted book doc f new =

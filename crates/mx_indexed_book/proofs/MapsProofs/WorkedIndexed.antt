@@ -1,25 +1,27 @@
 -- Worked rows of the maps: what they answer of books in which components are replaced and a programme is revised, and what the next entry changes, counted by hand.
-use Rattle.std.proofs.Common.{refl, ◌≡◌, ℕ, List, [], ◌∷◌, true, false, Some, None, map}
+use Rattle.std.proofs.Common.{refl, ◌≡◌, ℕ, List, [], ◌∷◌, Bool, true, false, Some, None, map}
 use Rattle.std.specs.Prelude.{codes}
 use Rattle.std.specs.List.{filter_map}
 use Rattle.std.specs.Ordering.{nat_cmp}
 use Rattle.std.specs.Cmp.Lexicographic.{slice_cmp}
-use Rattle.mx_book.specs.commands.Act.{Act, Entry, Released}
+use Rattle.mx_book.specs.commands.Act.{Act, Entry, Flown, Released}
 use Rattle.mx_book.specs.declared.commands.item.Item.TheVariants.{Airframe, Component}
 use Rattle.mx_book.specs.declared.commands.release.Line.{Line}
 use Rattle.mx_book.specs.declared.commands.release.Line.TheVariants.{Done, Rectified}
 use Rattle.mx_book.specs.declared.commands.release.Place.TheVariants as places
 use Rattle.mx_book.proofs.Worked.{abcd, at, logged, used}
 use Rattle.mx_book.proofs.WorkedDefects.{x1}
-use Rattle.mx_book.proofs.WorkedFittings.{e1, e2, engine, first_aircraft, propeller, remove, replaced}
+use Rattle.mx_book.proofs.WorkedFittings.{e1, e2, efgh, engine, first_aircraft, propeller, remove, replaced}
 use Rattle.mx_book.proofs.WorkedProgrammes.{annual, c172, first_four, load, second_revision}
 use Rattle.mx_indexed_book.specs.maps.Clocks.{airframe_clock, clocks_changed, raised}
-use Rattle.mx_indexed_book.specs.maps.Lives.{lead, lead_over}
+use Rattle.mx_indexed_book.specs.maps.Lives.{components_changed, lead, lead_over}
 use Rattle.mx_indexed_book.specs.maps.Maps.{changed, changed_all}
+use Rattle.mx_indexed_book.specs.maps.Movements.{behind, fitted_before, last_behind, movement_at, movements, movements_changed}
 use Rattle.mx_indexed_book.specs.maps.Places.{has_component, place_of, places_changed}
 use Rattle.mx_indexed_book.specs.maps.Positions.{part_of, parts_given}
 use Rattle.mx_indexed_book.specs.maps.Programmes.{last_loaded, programme_changed}
 use Rattle.mx_indexed_book.specs.maps.Registers.{number_of}
+use Rattle.mx_indexed_book.specs.declared.maps.movements.Movement.{Movement}
 use Rattle.mx_indexed_book.specs.maps.Work.{airframe_task, component_task, keyed, line_defect, tasks_done}
 
 -- ── changes ──
@@ -66,6 +68,57 @@ not_set_back = refl
 -- E1 is fitted nowhere and has flown its 90 minutes; E2 has its 1,000 minutes, and flies with an airframe of 60,090
 leads : map (lead replaced) (e1 ∷ e2 ∷ []) ≡ Some (lead_over (used 0 0) (used 1090 101)) ∷ Some (lead_over (used 60090 801) (used 1000 100)) ∷ []
 leads = refl
+
+-- ── movements ──
+
+abbrev moved : List ℕ → ℕ → Bool → Movement
+moved serial moment is_fitting = record { serial = serial; moment = moment; is_fitting = is_fitting }
+
+-- E2 was fitted last, when E1 was removed, which had been fitted first
+abbrev fitted_last : Movement
+fitted_last = moved e2 (at 19783 9 30) true
+
+abbrev removed_before : Movement
+removed_before = moved e1 (at 19783 9 30) false
+
+abbrev fitted_first : Movement
+fitted_first = moved e1 (at 19754 0 0) true
+
+moved_there : map (movements replaced) (abcd ∷ efgh ∷ []) ≡ (fitted_last ∷ removed_before ∷ fitted_first ∷ []) ∷ [] ∷ []
+moved_there = refl
+
+moved_at : map (λ place. movement_at replaced (abcd, place)) (0 ∷ 1 ∷ 2 ∷ 3 ∷ []) ≡ Some fitted_first ∷ Some removed_before ∷ Some fitted_last ∷ None ∷ []
+moved_at = refl
+
+-- the removal of E2 is the fourth
+moved_then : movements_changed replaced removal ≡ record { count = Some (abcd, 4); added = Some ((abcd, 3), Some (moved e2 (at 19783 9 30) false)) }
+moved_then = refl
+
+-- two came behind nine o'clock, none behind the last
+moved_behind : map (λ minutes. behind (at 19783 9 minutes) (movements replaced abcd)) (0 ∷ 30 ∷ []) ≡ (fitted_last ∷ removed_before ∷ []) ∷ [] ∷ []
+moved_behind = refl
+
+last_of : map (λ count. last_behind (at 19783 9 0) (movements replaced abcd) count) (3 ∷ 2 ∷ 1 ∷ 0 ∷ []) ≡ Some fitted_last ∷ Some removed_before ∷ None ∷ None ∷ []
+last_of = refl
+
+-- before these E1 was fitted, and E2 was not; before all three neither was
+fitted_then : fitted_before e1 false (fitted_last ∷ removed_before ∷ []) ≡ true
+fitted_then = refl
+
+fitted_not_yet : map (λ serial. fitted_before serial true (movements replaced abcd)) (e1 ∷ e2 ∷ []) ≡ false ∷ false ∷ []
+fitted_not_yet = refl
+
+-- from eight to nine o'clock E1 flies, with which the sector leaves it 1,150 minutes and 102 cycles, and not E2, whose airframe has 60,150 and 802 then
+leads_then : components_changed replaced (Flown (record { tail = abcd; page = 11; line = 9; off = at 19783 8 0; on = at 19783 9 0; cycles = 1 }))
+    ≡ (e2, Some (lead_over (used 60150 802) (used 1000 100))) ∷ (e1, Some (lead_over (used 0 0) (used 1150 102))) ∷ []
+leads_then = refl
+
+-- a removal changes the lead of what it removes, a sector by the last movement none
+leads_removed : components_changed replaced removal.act ≡ (e2, Some (lead_over (used 0 0) (used 1000 100))) ∷ []
+leads_removed = refl
+
+leads_kept : components_changed replaced (Flown (record { tail = abcd; page = 12; line = 1; off = at 19783 9 30; on = at 19783 10 0; cycles = 1 })) ≡ []
+leads_kept = refl
 
 -- ── a programme that is revised: the second entry has the first, the fifth the second ──
 

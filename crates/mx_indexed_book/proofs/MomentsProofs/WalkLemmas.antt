@@ -5,7 +5,6 @@ use Rattle.std.specs.List.{AllByRecursion}
 use Rattle.std.specs.BTreeMap.{BTreeMap, get, is_at, IsEmpty, Updates}
 use Rattle.std.specs.Map.{lookup}
 use Rattle.std.specs.Ordering.{is_eq, nat_cmp}
-use Rattle.std.specs.declared.cmp.Ordering.TheVariants.{Less, Equal, Greater}
 use Rattle.std.specs.Cmp.Lexicographic.{slice_cmp}
 use Rattle.std.proofs.lemmas.Bool.Decides.{Decides-eqb, nat_tests}
 use Rattle.std.proofs.lemmas.List.Elements.{filter-append}
@@ -22,19 +21,10 @@ use Rattle.mx_registers.specs.Names.{item_at}
 use Rattle.mx_registers.specs.late.Done.{is_done_of, last_base}
 use Rattle.mx_indexed_book.specs.declared.moments.done.Accomplished.{Accomplished}
 use Rattle.mx_indexed_book.specs.moments.Done.{AreDone, IsSayable, base_said, is_said_of, said_chain, said_row, task_cmp}
-use Rattle.mx_indexed_book.proofs.MapsProofs.MapLemmas.{tie}
+use Rattle.mx_indexed_book.proofs.MapsProofs.MapLemmas.{tie, tie_number}
 use Rattle.mx_indexed_book.proofs.MapsProofs.PlaceLemmas.{then_eq}
 
 -- ── the order of tasks ──
-
--- the order of numbers tells the same number
-pub tie_number : (n m : ℕ) → is_eq (nat_cmp n m) ≡ nat_eq n m
-tie_number n m = at (nat_lt n m) (nat_eq n m) (λ h. grind (arith, nat_tests))
-  where
-    at : (less same : Bool) → (less ≡ true → same ≡ false) → is_eq (cond less Less (cond same Equal Greater)) ≡ same
-    at true same h = sym (h refl)
-    at false true h = refl
-    at false false h = refl
 
 -- the order of tasks tells the same task of the same item
 pub tie_task : (n : ℕ) (task : List ℕ) (m : ℕ) (id : List ℕ) → is_eq (task_cmp (n, task) (m, id)) ≡ nat_eq n m && same_text task id

@@ -1,17 +1,22 @@
--- The lives of the airframes in a map, and by how much the life of each component is ahead of that of the airframe that it is fitted to: what a sector adds to both changes that of no component.
-use Rattle.std.specs.Prelude.{ℕ, pos, ◌-ℤ◌, List, [], ◌∷◌, Option, Some, None}
+-- The lives of the airframes in a map, and by how much the life of each component is ahead of that of the airframe that it is fitted to: what a sector adds to both changes neither, so that it changes those alone that were moved behind its take-off.
+use Rattle.std.specs.Prelude.{◌≡◌, ℕ, pos, ◌-ℤ◌, List, [], ◌∷◌, Bool, not, map, Option, Some, None, if◌then◌else◌}
+use Rattle.std.specs.List.{cons_option}
 use Rattle.std.specs.Option.{option_map, option_map_or}
 use Rattle.std.specs.Ordering.{nat_cmp}
 use Rattle.std.specs.Cmp.Lexicographic.{slice_cmp}
 use Rattle.mx_base.specs.declared.amounts.Use.{Use}
 use Rattle.mx_book.specs.commands.Act.{Act, Entry, Added, Listed, Flown, Fitted, Removed}
 use Rattle.mx_book.specs.declared.commands.item.Item.TheVariants.{Airframe, Component}
+use Rattle.mx_book.specs.declared.commands.sector.Sector.{Sector}
 use Rattle.mx_book.specs.Life.{life_now, use_after, use_or_none}
 use Rattle.mx_book.specs.Span.{tail_fitted}
-use Rattle.mx_indexed_book.specs.maps.Maps.{HasRoom, IsIndex}
+use Rattle.mx_registers.specs.kept.Changes.{is_fitted_to}
+use Rattle.mx_indexed_book.specs.maps.Maps.{HasRoom, HasRoomForAll, IsIndex}
+use Rattle.mx_indexed_book.specs.maps.Movements.{behind, movements}
 use Rattle.mx_indexed_book.specs.declared.maps.lives.Lead.{Lead}
 use Rattle.mx_indexed_book.specs.declared.maps.lives.LifeChanges.{LifeChanges}
 use Rattle.mx_indexed_book.specs.declared.maps.lives.Lives.{Lives}
+use Rattle.mx_indexed_book.specs.declared.maps.movements.Movement.{Movement}
 
 -- the life of an airframe, and of a component
 abbrev pub airframe_life : List Entry → List ℕ → Option Use
@@ -48,19 +53,35 @@ component_changed book (Fitted f) = Some (f.serial, option_map (lead_over (use_o
 component_changed book (Removed r) = Some (r.serial, option_map (lead_over (use_or_none None)) (component_life book r.serial))
 component_changed book _ = None
 
+-- a life, with a sector where it is credited with it
+abbrev pub flown_if : Bool → Sector → Use → Use
+flown_if credited s life = if credited then use_after (s ∷ []) life else life
+
+-- by how much the life of a component is ahead behind one more sector, which it is credited with or not
+abbrev pub lead_with : List Entry → Sector → Bool → List ℕ → Option Lead
+lead_with book s credited serial =
+    option_map (λ life. lead_over (flown_if (is_fitted_to book s.tail serial) s (life_where_fitted book serial)) (flown_if credited s life)) (component_life book serial)
+
+-- the leads of components that were moved, from the last one back, behind one more sector that came before: what was removed is credited with it, and what was fitted is not
+abbrev pub leads_moved : List Entry → Sector → List Movement → List (List ℕ × Option Lead)
+leads_moved book s moved = map (λ m. (m.serial, lead_with book s (not m.is_fitting) m.serial)) moved
+
+-- the components whose leads an entry changes, and the lead of each then, of which the last stands: a sector changes those of components that were moved to its aircraft or from it behind its take-off
+abbrev pub components_changed : List Entry → Act → List (List ℕ × Option Lead)
+components_changed book (Flown s) = leads_moved book s (behind s.off (movements book s.tail))
+components_changed book act = cons_option (component_changed book act) []
+
 -- what an entry changes
-abbrev pub lives_changed : List Entry → Entry → LifeChanges
-lives_changed book entry = record {
-  airframe = airframe_changed book entry.act;
-  component = component_changed book entry.act;
-}
+pub record AreLivesChanged (book : List Entry) (entry : Entry) (changes : LifeChanges) : Type 0 where
+  pub airframe_is : changes.airframe ≡ airframe_changed book entry.act
+  pub components_are : changes.components.items ≡ components_changed book entry.act
 
 -- the maps have the life of each airframe, and the lead of each component
 pub record AreLives (book : List Entry) (maps : Lives) : Type 0 where
   pub airframes_are : IsIndex (slice_cmp nat_cmp) None (airframe_life book) maps.airframes
   pub components_are : IsIndex (slice_cmp nat_cmp) None (lead book) maps.components
 
--- each map has room for its change
+-- each map has room for its changes
 pub record LivesHaveRoom (changes : LifeChanges) (maps : Lives) : Type 0 where
   pub for_airframe : HasRoom (slice_cmp nat_cmp) changes.airframe maps.airframes
-  pub for_component : HasRoom (slice_cmp nat_cmp) changes.component maps.components
+  pub for_components : HasRoomForAll (slice_cmp nat_cmp) changes.components.items maps.components

@@ -14,6 +14,7 @@ use crate::maps::clocks::{ClockChanges, Clocks};
 use crate::maps::counts::Counts;
 use crate::maps::lives::{LifeChanges, Lives};
 use crate::maps::maps::{make_room, make_room_for_all, put, put_all};
+use crate::maps::movements::{MovementChanges, Movements};
 use crate::maps::places::{PlaceChanges, Places};
 use crate::maps::positions::parts_given;
 use crate::maps::programmes::programme_changed;
@@ -31,6 +32,8 @@ pub struct Indexes {
     pub registers: Registers,
     /// Where components are fitted.
     pub places: Places,
+    /// What was fitted to each aircraft and removed from it.
+    pub movements: Movements,
     /// The clocks of items.
     pub clocks: Clocks,
     /// The part that each position of an aircraft takes.
@@ -50,6 +53,7 @@ pub struct Indexes {
 pub struct Changes {
     pub(crate) registers: RegisterChanges,
     pub(crate) places: PlaceChanges,
+    pub(crate) movements: MovementChanges,
     pub(crate) clocks: ClockChanges,
     pub(crate) parts: Vec<((Tail, Position), Option<Part>)>,
     pub(crate) programme: Option<(Kind, Option<u32>)>,
@@ -66,6 +70,7 @@ impl Indexes {
         Indexes {
             registers: Registers::new(alloc),
             places: Places::new(alloc),
+            movements: Movements::new(alloc),
             clocks: Clocks::new(alloc),
             parts: BTreeMap::new(alloc),
             programmes: BTreeMap::new(alloc),
@@ -83,14 +88,18 @@ impl Indexes {
     {
         let parts = parts_given(alloc, entry)?;
         let work = work_changed(alloc, entry)?;
+        let lives = self
+            .lives
+            .changes(alloc, &self.places, &self.movements, entry)?;
         Ok(Changes {
             registers: registers_changed(entry, seq),
             places: self.places.changes(entry),
+            movements: self.movements.changes(&self.places, entry, seq),
             clocks: self.clocks.changes(&self.places, entry),
             parts,
             programme: programme_changed(entry, seq),
             work,
-            lives: self.lives.changes(&self.places, entry),
+            lives,
             counts: self.counts.counted(entry),
         })
     }
@@ -102,12 +111,13 @@ impl Indexes {
     {
         let registers = self.registers.make_room(&changes.registers);
         let places = self.places.make_room(&changes.places);
+        let movements = self.movements.make_room(&changes.movements);
         let clocks = self.clocks.make_room(&changes.clocks);
         let parts = make_room_for_all(&mut self.parts, &changes.parts, None);
         let programmes = make_room(&mut self.programmes, &changes.programme, None);
         let work = self.work.make_room(&changes.work);
         let lives = self.lives.make_room(&changes.lives);
-        registers & places & clocks & parts & programmes & work & lives
+        registers & places & movements & clocks & parts & programmes & work & lives
     }
 
     /// Enters what an entry changes, for which there is room.
@@ -118,6 +128,7 @@ impl Indexes {
     {
         self.registers.put(&changes.registers);
         self.places.put(&changes.places);
+        self.movements.put(&changes.movements);
         self.clocks.put(&changes.clocks);
         put_all(&mut self.parts, &changes.parts);
         put(&mut self.programmes, &changes.programme);

@@ -1,5 +1,5 @@
 //! The lives of the items in maps.
-ghost use Rattle.std.specs.Prelude.{◌≡◌, ◌<◌, ◌^◌, ℕ, pos, ◌-ℤ◌, [], ◌∷◌, List, None, true};
+ghost use Rattle.std.specs.Prelude.{◌≡◌, ◌<◌, ◌^◌, ℕ, pos, ◌-ℤ◌, [], ◌∷◌, List, None, not, true, map, IfOk};
 ghost use Rattle.mx_base.specs.declared.amounts.Use.{Use};
 ghost use Rattle.std.specs.Bool.{OnTrue};
 ghost use Rattle.std.specs.Option.{option_map};
@@ -8,15 +8,18 @@ ghost use Rattle.mx_book.specs.commands.Shape.{has_shape, sector_shape};
 ghost use Rattle.mx_book.specs.due.Due.{IsLife};
 ghost use Rattle.mx_book.specs.Book.{IsBook};
 ghost use Rattle.mx_book.specs.Life.{life_now, use_after, use_or_none};
-ghost use Rattle.mx_indexed_book.specs.maps.Lives.{AreLives, LivesHaveRoom, airframe_changed, airframe_life, component_changed, component_life, lead, lead_over, life_where_fitted, lives_changed};
-ghost use Rattle.mx_indexed_book.specs.maps.OneMore.{Equal, SayOneMore};
+ghost use Rattle.mx_registers.specs.kept.Changes.{is_fitted_to};
+ghost use Rattle.mx_indexed_book.specs.maps.Lives.{AreLives, AreLivesChanged, LivesHaveRoom, airframe_changed, airframe_life, component_changed, component_life, components_changed, flown_if, lead, lead_over, lead_with, leads_moved, life_where_fitted};
+ghost use Rattle.mx_indexed_book.specs.maps.Movements.{AreMovements};
+ghost use Rattle.mx_indexed_book.specs.maps.OneMore.{SayOneMore};
 ghost use Rattle.mx_indexed_book.specs.maps.Places.{ArePlaces};
 
-use crate::maps::maps::{held, make_room, put};
+use crate::maps::maps::{held, make_room, make_room_for_all, put, put_all};
+use crate::maps::movements::{Movement, Movements};
 use crate::maps::places::Places;
 use mx_base::{Serial, Tail, Use};
 use mx_book::commands::{Body, Command, Item, Sector};
-use std::alloc::Global;
+use std::alloc::{AllocError, Global};
 use std::collections::BTreeMap;
 
 /// By how much one life is ahead of another, in each dimension.
@@ -34,10 +37,10 @@ pub struct Lives {
 }
 
 /// What one entry changes of them.
-#[derive(Clone, Copy)]
+#[derive(Drop)]
 pub struct LifeChanges {
     pub(crate) airframe: Option<(Tail, Option<Use>)>,
-    pub(crate) component: Option<(Serial, Option<Lead>)>,
+    pub(crate) components: Vec<(Serial, Option<Lead>)>,
 }
 
 // By how much a life is ahead of another.
@@ -77,6 +80,18 @@ fn with_sector(life: &Use, sector: &Sector) -> Use
     Use {
         minutes: life.minutes.saturating_add(flown),
         cycles: life.cycles.saturating_add(sector.cycles),
+    }
+}
+
+// A life, with a sector where it is credited with it.
+fn flown_if(credited: bool, sector: &Sector, life: &Use) -> Use
+    requires { sector_shape sector.now ≡ true }
+    ensures { IsLife life.now → result ≡ flown_if credited sector.now life.now }
+{
+    if credited {
+        with_sector(life, sector)
+    } else {
+        *life
     }
 }
 
@@ -214,15 +229,99 @@ impl Lives {
         }
     }
 
-    /// What an entry changes, by where components are fitted.
-    pub fn changes(&self, places: &Places, entry: &Command) -> LifeChanges
-        ensures { (book : List Entry) → IsBook book → ArePlaces book places.now
-            → AreLives book self.now → result ≡ lives_changed book entry.now }
+    // Whether a component is fitted to the aircraft of a sector.
+    fn is_fitted_to(places: &Places, sector: &Sector, serial: &Serial) -> bool
+        ensures { (book : List Entry) → ArePlaces book places.now
+            → result ≡ is_fitted_to book sector.now.tail serial.now }
     {
-        LifeChanges {
-            airframe: self.airframe_changed(entry),
-            component: self.component_changed(places, entry),
+        match places.tail_fitted(serial) {
+            Some(tail) => tail == sector.tail,
+            None => false,
         }
+    }
+
+    // By how much the life of a component is ahead behind one more sector, which it is credited with or not.
+    fn lead_with(
+        &self,
+        places: &Places,
+        sector: &Sector,
+        credited: bool,
+        serial: &Serial,
+    ) -> Option<Lead>
+        requires { sector_shape sector.now ≡ true }
+        ensures { (book : List Entry) → IsBook book → ArePlaces book places.now
+            → AreLives book self.now
+            → result ≡ lead_with book sector.now credited serial.now }
+    {
+        let life = self.of_component(places, serial)?;
+        let other = self.where_fitted(places, serial);
+        let other = flown_if(Lives::is_fitted_to(places, sector, serial), sector, &other);
+        Some(lead_over(&other, &flown_if(credited, sector, &life)))
+    }
+
+    // The leads of components that were moved behind the take-off of one more sector.
+    fn leads_flown(
+        &self,
+        alloc: Global,
+        places: &Places,
+        sector: &Sector,
+        moved: &[Movement],
+    ) -> Result<Vec<(Serial, Option<Lead>)>, AllocError>
+        requires { sector_shape sector.now ≡ true }
+        ensures { (book : List Entry) → IsBook book → ArePlaces book places.now
+            → AreLives book self.now
+            → IfOk result (λ leads. leads.items ≡ leads_moved book sector.now moved.now) }
+    {
+        let mut leads = Vec::new(alloc);
+        let mut rest = moved;
+        while let Some((movement, earlier)) = rest.split_first() {
+            let lead = self.lead_with(places, sector, !movement.is_fitting, &movement.serial);
+            leads.push((movement.serial, lead))?;
+            rest = earlier;
+        }
+        Ok(leads)
+    }
+
+    // The components whose leads an entry changes, and the lead of each then.
+    fn components_changed(
+        &self,
+        alloc: Global,
+        places: &Places,
+        movements: &Movements,
+        entry: &Command,
+    ) -> Result<Vec<(Serial, Option<Lead>)>, AllocError>
+        ensures { (book : List Entry) → IsBook book → ArePlaces book places.now
+            → AreMovements book movements.now → AreLives book self.now
+            → IfOk result (λ leads. leads.items ≡ components_changed book entry.now.act) }
+    {
+        if let Some(sector) = entry.flown_sector() {
+            let moved = movements.behind(alloc, &sector.tail, sector.off)?;
+            return self.leads_flown(alloc, places, &sector, moved.as_slice());
+        }
+        let mut leads = Vec::new(alloc);
+        if let Some(change) = self.component_changed(places, entry) {
+            leads.push(change)?;
+        }
+        Ok(leads)
+    }
+
+    /// What an entry changes, by where components are fitted and what was moved. An error where memory runs out.
+    pub fn changes(
+        &self,
+        alloc: Global,
+        places: &Places,
+        movements: &Movements,
+        entry: &Command,
+    ) -> Result<LifeChanges, AllocError>
+        ensures { (book : List Entry) → IsBook book → ArePlaces book places.now
+            → AreMovements book movements.now → AreLives book self.now
+            → IfOk result (λ changes. AreLivesChanged book entry.now changes) }
+    {
+        let components = self.components_changed(alloc, places, movements, entry)?;
+        Ok(LifeChanges {
+            airframe: self.airframe_changed(entry),
+            components,
+        })
     }
 
     /// Makes room for what an entry changes. Whether there was memory for it; in either case the maps say what they said.
@@ -231,15 +330,16 @@ impl Lives {
         ensures room { OnTrue result (LivesHaveRoom changes.now self.new) }
     {
         make_room(&mut self.airframes, &changes.airframe, None)
-            & make_room(&mut self.components, &changes.component, None)
+            & make_room_for_all(&mut self.components, &changes.components, None)
     }
 
     /// Enters what an entry changes, for which there is room.
     pub fn put(&mut self, changes: &LifeChanges)
         requires { LivesHaveRoom changes.now self.old }
-        ensures { SayOneMore AreLives (Equal changes.now lives_changed) self.old self.new }
+        ensures { SayOneMore AreLives (λ book entry. AreLivesChanged book entry changes.now)
+            self.old self.new }
     {
         put(&mut self.airframes, &changes.airframe);
-        put(&mut self.components, &changes.component);
+        put_all(&mut self.components, &changes.components);
     }
 }

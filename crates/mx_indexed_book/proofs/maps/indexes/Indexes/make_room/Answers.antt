@@ -12,6 +12,7 @@ returns-clause-same c book are =
     record {
       registers_are = c.make_room-registers.ensures.same book are.registers_are;
       places_are = c.make_room-places.ensures.same book are.places_are;
+      movements_are = c.make_room-movements.ensures.same book are.movements_are;
       clocks_are = c.make_room-clocks.ensures.same book are.clocks_are;
       parts_are = stays names_cmp None _ c.args.self.now.parts c.make_room_for_all-parts.new.map (c.make_room_for_all-parts.ensures.same exact) are.parts_are;
       programmes_are = stays (slice_cmp nat_cmp) None _ c.args.self.now.programmes c.make_room-programmes.new.map (c.make_room-programmes.ensures.same exact_bytes) are.programmes_are;
