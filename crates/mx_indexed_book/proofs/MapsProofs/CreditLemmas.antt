@@ -1,6 +1,6 @@
 -- To which components a sector is credited that no movement of its aircraft cuts: those that were fitted to it before the movements behind its take-off.
 use Rattle.std.proofs.Common.{arith, refl, sym, subst, ap, ◌∙◌, ◌≡◌, ℕ, ◌≤◌, ◌<◌, List, [], ◌∷◌, ◌++◌, Bool, true, false, cond, ◌&&◌, ◌||◌, Option, Some, None}
-use Rattle.std.specs.Prelude.{filter, is_none, map, max, nat_le, nat_lt, not}
+use Rattle.std.specs.Prelude.{filter, is_none, map, nat_le, nat_lt, not}
 use Rattle.std.specs.List.{list_any, AllByRecursion}
 use Rattle.std.specs.Option.{option_map, option_map_or}
 use Rattle.std.proofs.lemmas.Bool.Decides.{nat_tests}
@@ -16,10 +16,10 @@ use Rattle.mx_book.specs.declared.commands.sector.Sector.{Sector}
 use Rattle.mx_book.proofs.CommandsProofs.SameLemmas.{text_same}
 use Rattle.mx_book.specs.declared.verdict.Verdict.TheVariants.{New}
 use Rattle.mx_book.specs.Book.{IsBook}
-use Rattle.mx_book.specs.Judge.{judge, too_early}
+use Rattle.mx_book.specs.Judge.{judge}
 use Rattle.mx_book.specs.Life.{clock, is_credited, is_within}
 use Rattle.mx_book.specs.Span.{Span, fitted, span_begun, spans, tail_fitted}
-use Rattle.mx_book.proofs.JudgeLemmas.{both_true, IsBook-entered}
+use Rattle.mx_book.proofs.JudgeLemmas.{IsBook-entered}
 use Rattle.mx_book.proofs.PassLemmas.{new-fitting}
 use Rattle.mx_book.proofs.SpanLemmas.{removed_nowhere}
 use Rattle.mx_registers.specs.kept.Changes.{ended_by, is_fitted_to}

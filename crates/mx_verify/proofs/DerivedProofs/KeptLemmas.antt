@@ -24,7 +24,8 @@ use Rattle.mx_registers.specs.Registers.{opening_rows, release_line_rows}
 use Rattle.mx_indexed_book.specs.maps.Maps.{held}
 use Rattle.mx_registers.specs.kept.Bases.{base_row, base_rows, is_keyed}
 use Rattle.mx_registers.proofs.KeptProofs.DoneLemmas.{both}
-use Rattle.mx_verify.specs.merged.Keys.{AreKeys, key_cmp}
+use Rattle.mx_indexed_book.specs.moments.Done.{task_cmp}
+use Rattle.mx_verify.specs.merged.Keys.{AreKeys}
 use Rattle.mx_registers.specs.file.Bases.{certifies, has_key, is_last_base, same_base, states}
 use Rattle.mx_verify.specs.derived.Kept.{AreBasesAt, AreKeptOf, base_row_at, is_key, key_certified, key_stated}
 use Rattle.mx_verify.specs.merged.Merging.{merging}
@@ -106,7 +107,7 @@ complete_more book keys key rows more b kept here number id any some =
     (sym (list_any-append (is_key number id) keys (key ∷ [])) ∙ any)
 
 -- a task that has a row already
-pub met_before : (book : List Entry) (keys : List (ℕ × List ℕ)) (key : ℕ × List ℕ) (rows : List BaseRow) (met : BTreeMap (ℕ × List ℕ) Bool) → held key_cmp false met key ≡ true → AreBasesAt book keys rows → AreKeys rows met → AreBasesAt book (keys ++ key ∷ []) rows × AreKeys rows met
+pub met_before : (book : List Entry) (keys : List (ℕ × List ℕ)) (key : ℕ × List ℕ) (rows : List BaseRow) (met : BTreeMap (ℕ × List ℕ) Bool) → held task_cmp false met key ≡ true → AreBasesAt book keys rows → AreKeys rows met → AreBasesAt book (keys ++ key ∷ []) rows × AreKeys rows met
 met_before book keys key rows met has b are = (
   record {
     once = b.once;
@@ -131,7 +132,7 @@ has_none book keys key rows met none b are = (
     no e = (cc)
 
 -- a task that has a base and no row yet
-pub one_base : (book : List Entry) (keys : List (ℕ × List ℕ)) (key : ℕ × List ℕ) (row : BaseRow) (rows : List BaseRow) (met more : BTreeMap (ℕ × List ℕ) Bool) → held key_cmp false met key ≡ false → base_row_at book key ≡ Some row → Updates key_cmp met more key (Some true) → AreBasesAt book keys rows → AreKeys rows met
+pub one_base : (book : List Entry) (keys : List (ℕ × List ℕ)) (key : ℕ × List ℕ) (row : BaseRow) (rows : List BaseRow) (met more : BTreeMap (ℕ × List ℕ) Bool) → held task_cmp false met key ≡ false → base_row_at book key ≡ Some row → Updates task_cmp met more key (Some true) → AreBasesAt book keys rows → AreKeys rows met
     → AreBasesAt book (keys ++ key ∷ []) (rows ++ row ∷ []) × AreKeys (rows ++ row ∷ []) more
 one_base book keys key row rows met more apart is updates b are =
     let row_is = row_at book key row is in
@@ -144,7 +145,7 @@ one_base book keys key row rows met more apart is updates b are =
             (λ some. list_any-append (is_keyed key.0 key.1) rows (row ∷ []) ∙ last (has_key key.0 key.1 rows) (is_keyed key.0 key.1 row)
             (ap (λ n. nat_eq n key.0 && same_text row.task key.1) row_is.item ∙ ap (λ c. c && same_text row.task key.1) ((Decides-eqb key.0 key.0).1 refl) ∙ (text_same row.task key.1).1 row_is.task));
       },
-      keys_more rows row met more (subst (λ (k : ℕ × List ℕ). Updates key_cmp met more k (Some true)) (sym (ap (λ n. (n, row.task)) row_is.item ∙ ap (λ (t : List ℕ). (key.0, t)) row_is.task)) updates) are,
+      keys_more rows row met more (subst (λ (k : ℕ × List ℕ). Updates task_cmp met more k (Some true)) (sym (ap (λ n. (n, row.task)) row_is.item ∙ ap (λ (t : List ℕ). (key.0, t)) row_is.task)) updates) are,
     )
   where
     last : (p q : Bool) → q ≡ true → p || (q || false) ≡ true

@@ -11,28 +11,16 @@ use Rattle.std.proofs.lemmas.List.Folds.{list_any-append}
 use Rattle.mx_book.specs.commands.Same.{same_text}
 use Rattle.mx_base.specs.declared.rows.rows.BaseRow.{BaseRow}
 use Rattle.mx_registers.specs.kept.Bases.{is_keyed}
-use Rattle.mx_indexed_book.proofs.MapsProofs.MapLemmas.{tie}
-use Rattle.mx_indexed_book.proofs.MapsProofs.PlaceLemmas.{then_eq}
-use Rattle.mx_verify.specs.merged.Keys.{AreKeys, key_cmp}
-
--- the order of numbers tells the same number
-pub tie_number : (n m : ℕ) → is_eq (nat_cmp n m) ≡ nat_eq n m
-tie_number n m = at (nat_lt n m) (nat_eq n m) (λ h. grind (arith, nat_tests))
-  where
-    at : (less same : Bool) → (less ≡ true → same ≡ false) → is_eq (cond less Less (cond same Equal Greater)) ≡ same
-    at true same h = sym (h refl)
-    at false true h = refl
-    at false false h = refl
-
-tie_key : (n : ℕ) (task : List ℕ) (m : ℕ) (id : List ℕ) → is_eq (key_cmp (n, task) (m, id)) ≡ nat_eq n m && same_text task id
-tie_key n task m id = then_eq (nat_cmp n m) (slice_cmp nat_cmp task id) ∙ ap (λ c. c && is_eq (slice_cmp nat_cmp task id)) (tie_number n m) ∙ ap (λ c. nat_eq n m && c) (tie task id)
+use Rattle.mx_indexed_book.specs.moments.Done.{task_cmp}
+use Rattle.mx_indexed_book.proofs.MomentsProofs.WalkLemmas.{tie_task}
+use Rattle.mx_verify.specs.merged.Keys.{AreKeys}
 
 -- a map behind the key of one row more has the keys of the rows with it
-pub keys_more : (rows : List BaseRow) (row : BaseRow) (keys more : BTreeMap (ℕ × List ℕ) Bool) → Updates key_cmp keys more (row.item, row.task) (Some true) → AreKeys rows keys → AreKeys (rows ++ row ∷ []) more
+pub keys_more : (rows : List BaseRow) (row : BaseRow) (keys more : BTreeMap (ℕ × List ℕ) Bool) → Updates task_cmp keys more (row.item, row.task) (Some true) → AreKeys rows keys → AreKeys (rows ++ row ∷ []) more
 keys_more rows row keys more updates are = λ number id.
     ap (λ o. unwrap_or o false) (updates.0 (number, id))
-    ∙ put (is_eq (key_cmp (row.item, row.task) (number, id))) (get key_cmp keys (number, id))
-    ∙ ap (λ c. unwrap_or (get key_cmp keys (number, id)) false || c) (tie_key row.item row.task number id ∙ sym (or_false (is_keyed number id row)))
+    ∙ put (is_eq (task_cmp (row.item, row.task) (number, id))) (get task_cmp keys (number, id))
+    ∙ ap (λ c. unwrap_or (get task_cmp keys (number, id)) false || c) (tie_task row.item row.task number id ∙ sym (or_false (is_keyed number id row)))
     ∙ ap (λ c. c || (is_keyed number id row || false)) (are number id)
     ∙ sym (list_any-append (is_keyed number id) rows (row ∷ []))
   where
@@ -50,4 +38,4 @@ keys_more rows row keys more updates are = λ number id.
 
 -- an empty map has the keys of no rows
 pub keys_of_none : (keys : BTreeMap (ℕ × List ℕ) Bool) → IsEmpty keys → AreKeys [] keys
-keys_of_none keys empty = λ number id. ap (λ entries. unwrap_or (lookup (is_at (key_cmp (number, id))) entries) false) empty
+keys_of_none keys empty = λ number id. ap (λ entries. unwrap_or (lookup (is_at (task_cmp (number, id))) entries) false) empty

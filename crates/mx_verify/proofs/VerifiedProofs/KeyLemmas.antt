@@ -13,7 +13,8 @@ use Rattle.mx_book.specs.Book.{IsBook}
 use Rattle.mx_registers.specs.Registers.{opening_rows, release_line_rows}
 use Rattle.mx_registers.specs.kept.Bases.{AreKeyedOnce, base_rows}
 use Rattle.mx_indexed_book.specs.maps.Maps.{held}
-use Rattle.mx_verify.specs.merged.Keys.{AreKeys, key_cmp}
+use Rattle.mx_indexed_book.specs.moments.Done.{task_cmp}
+use Rattle.mx_verify.specs.merged.Keys.{AreKeys}
 use Rattle.mx_verify.proofs.MergedProofs.KeyLemmas.{keys_more, keys_of_none}
 use Rattle.mx_verify.specs.verified.Bases.{has_certified, has_stated}
 use Rattle.mx_registers.specs.file.Bases.{has_key, is_certified_in, is_last_base, is_stated_in}
@@ -30,7 +31,7 @@ pub starts : (rows : List BaseRow) (keys : BTreeMap (ℕ × List ℕ) Bool) → 
 starts rows keys empty = record { before = []; rows_are = refl; once = tt; keys_are = keys_of_none keys empty }
 
 -- a row of another key
-pub goes_on : (rows rest later : List BaseRow) (row : BaseRow) (keys more : BTreeMap (ℕ × List ℕ) Bool) → rest ≡ row ∷ later → held key_cmp false keys (row.item, row.task) ≡ false → Updates key_cmp keys more (row.item, row.task) (Some true) → Keeps rows rest keys → Keeps rows later more
+pub goes_on : (rows rest later : List BaseRow) (row : BaseRow) (keys more : BTreeMap (ℕ × List ℕ) Bool) → rest ≡ row ∷ later → held task_cmp false keys (row.item, row.task) ≡ false → Updates task_cmp keys more (row.item, row.task) (Some true) → Keeps rows rest keys → Keeps rows later more
 goes_on rows rest later row keys more is apart updates k = record {
   before = k.before ++ row ∷ [];
   rows_are = k.rows_are ∙ ap (λ xs. k.before ++ xs) is ∙ sym (append_assoc k.before (row ∷ []) later);
@@ -39,7 +40,7 @@ goes_on rows rest later row keys more is apart updates k = record {
 }
 
 -- a row of the key of one before it
-pub repeats : (rows rest later : List BaseRow) (row : BaseRow) (keys : BTreeMap (ℕ × List ℕ) Bool) → rest ≡ row ∷ later → held key_cmp false keys (row.item, row.task) ≡ true → Keeps rows rest keys → AreKeyedOnce rows → ⊥
+pub repeats : (rows rest later : List BaseRow) (row : BaseRow) (keys : BTreeMap (ℕ × List ℕ) Bool) → rest ≡ row ∷ later → held task_cmp false keys (row.item, row.task) ≡ true → Keeps rows rest keys → AreKeyedOnce rows → ⊥
 repeats rows rest later row keys is has k once =
     let apart = once_apart k.before row later (subst AreKeyedOnce (k.rows_are ∙ ap (λ xs. k.before ++ xs) is) once) in
     let e : true ≡ false = sym has ∙ k.keys_are row.item row.task ∙ apart in
@@ -69,7 +70,7 @@ certified_alike rows keys are [] = refl
 certified_alike rows keys are (row ∷ lines) =
     ap (λ c. c && list_all (has_certified keys) lines) (at row.item row.task) ∙ ap (λ c. is_certified_in rows row && c) (certified_alike rows keys are lines)
   where
-    at : (item : Option ℕ) (task : Option (List ℕ)) → option_map_or (λ i. option_map_or (λ t. held key_cmp false keys (i, t)) task true) item true ≡ option_map_or (λ i. option_map_or (λ t. has_key i t rows) task true) item true
+    at : (item : Option ℕ) (task : Option (List ℕ)) → option_map_or (λ i. option_map_or (λ t. held task_cmp false keys (i, t)) task true) item true ≡ option_map_or (λ i. option_map_or (λ t. has_key i t rows) task true) item true
     at None task = refl
     at (Some i) None = refl
     at (Some i) (Some t) = are i t
