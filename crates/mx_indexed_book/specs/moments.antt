@@ -1,3 +1,4 @@
 pub mod Done
 pub mod Flown
+pub mod Found
 pub mod Landings
