@@ -23,10 +23,10 @@
 //!   command comes back: `IndexedBook::enter`: `entered`, `seq`, `unchanged`, `back`.
 //! - Each map has at each key what the definition answers of the book there, before and behind each entry: the
 //!   invariant of `IndexedBook` (`AreIndexes`); `Indexes::new`, `changes`, `make_room`, `put`.
-//! - Of the sectors and spans of a book, in any order, the life of an item up to any moment, its accomplishments as rows, the
-//!   last base of each task and the cycles at which each defect was found are found by halving, whenever a sector was
-//!   flown (`moments`): `Moments::life_now`, `Moments::life_at`, `flown::lives_are_exact`, `done::done_rows`, of what
-//!   `said::add_accomplished` gathers, `found::found_rows`, of the rows of deferrals.
+//! - Of the sectors and spans of a book, in any order, by halving, whenever a sector was flown (`moments`): the life of an item
+//!   up to any moment, `Moments::life_now`, `Moments::life_at`, `flown::lives_are_exact`; its accomplishments as rows and the
+//!   last base of each task, of what `said::add_accomplished` gathers, `done::done_rows`; and the cycles that an airframe had
+//!   reached when a defect was found on it, of the rows of deferrals, `found::found_rows`.
 //!
 //! `mx_verify::merged` stands on it, and with that the word `verify` and the move of older files. What these take
 //! stands in `docs/COST.md`.
