@@ -231,3 +231,14 @@ moved_by_clock tail = of_each_book (λ book. AllByRecursion (λ (m : Movement). 
         at : (o : Option (List ℕ × Movement)) → movement book e.act ≡ o → AllByRecursion (λ (m : Movement). m.moment ≤ clock (book ++ e ∷ []) (Airframe tail)) (movements book tail) → AllByRecursion (λ (m : Movement). m.moment ≤ clock (book ++ e ∷ []) (Airframe tail)) (with_movement tail o (movements book tail))
         at None is still = still
         at (Some g) is still = both g (same_text g.0 tail) is refl still
+
+-- none came behind a moment that is not before that
+pub none_behind : (book : List Entry) (tail : List ℕ) (moment : ℕ) → IsBook book → clock book (Airframe tail) ≤ moment → [] ≡ behind moment (movements book tail)
+none_behind book tail moment b by = at (movements book tail) (moved_by_clock tail book b)
+  where
+    at : (ms : List Movement) → AllByRecursion (λ (m : Movement). m.moment ≤ clock book (Airframe tail)) ms → [] ≡ behind moment ms
+    at [] h = refl
+    at (m ∷ earlier) h =
+        let first = h.0 in
+        let early : m.moment ≤ moment = omega (arith, by) in
+        let no : nat_lt moment m.moment ≡ false = grind (arith, nat_tests) in ap (λ b. cond b (m ∷ behind moment earlier) []) (sym no)

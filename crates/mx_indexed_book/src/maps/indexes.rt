@@ -88,9 +88,10 @@ impl Indexes {
     {
         let parts = parts_given(alloc, entry)?;
         let work = work_changed(alloc, entry)?;
+        let (places, clocks) = (&self.places, &self.clocks);
         let lives = self
             .lives
-            .changes(alloc, &self.places, &self.movements, entry)?;
+            .changes(alloc, places, clocks, &self.movements, entry)?;
         Ok(Changes {
             registers: registers_changed(entry, seq),
             places: self.places.changes(entry),

@@ -9,11 +9,13 @@ ghost use Rattle.mx_book.specs.due.Due.{IsLife};
 ghost use Rattle.mx_book.specs.Book.{IsBook};
 ghost use Rattle.mx_book.specs.Life.{life_now, use_after, use_or_none};
 ghost use Rattle.mx_registers.specs.kept.Changes.{is_fitted_to};
+ghost use Rattle.mx_indexed_book.specs.maps.Clocks.{AreClocks};
 ghost use Rattle.mx_indexed_book.specs.maps.Lives.{AreLives, AreLivesChanged, LivesHaveRoom, airframe_changed, airframe_life, component_changed, component_life, components_changed, flown_if, lead, lead_over, lead_with, leads_moved, life_where_fitted};
 ghost use Rattle.mx_indexed_book.specs.maps.Movements.{AreMovements};
 ghost use Rattle.mx_indexed_book.specs.maps.OneMore.{SayOneMore};
 ghost use Rattle.mx_indexed_book.specs.maps.Places.{ArePlaces};
 
+use crate::maps::clocks::Clocks;
 use crate::maps::maps::{held, make_room, make_room_for_all, put, put_all};
 use crate::maps::movements::{Movement, Movements};
 use crate::maps::places::Places;
@@ -287,15 +289,16 @@ impl Lives {
         &self,
         alloc: Global,
         places: &Places,
+        clocks: &Clocks,
         movements: &Movements,
         entry: &Command,
     ) -> Result<Vec<(Serial, Option<Lead>)>, AllocError>
         ensures { (book : List Entry) → IsBook book → ArePlaces book places.now
-            → AreMovements book movements.now → AreLives book self.now
+            → AreClocks book clocks.now → AreMovements book movements.now → AreLives book self.now
             → IfOk result (λ leads. leads.items ≡ components_changed book entry.now.act) }
     {
         if let Some(sector) = entry.flown_sector() {
-            let moved = movements.behind(alloc, &sector.tail, sector.off)?;
+            let moved = movements.behind(alloc, clocks, &sector.tail, sector.off)?;
             return self.leads_flown(alloc, places, &sector, moved.as_slice());
         }
         let mut leads = Vec::new(alloc);
@@ -305,19 +308,20 @@ impl Lives {
         Ok(leads)
     }
 
-    /// What an entry changes, by where components are fitted and what was moved. An error where memory runs out.
+    /// What an entry changes, by where components are fitted, clocks, and what was moved. An error where memory runs out.
     pub fn changes(
         &self,
         alloc: Global,
         places: &Places,
+        clocks: &Clocks,
         movements: &Movements,
         entry: &Command,
     ) -> Result<LifeChanges, AllocError>
         ensures { (book : List Entry) → IsBook book → ArePlaces book places.now
-            → AreMovements book movements.now → AreLives book self.now
+            → AreClocks book clocks.now → AreMovements book movements.now → AreLives book self.now
             → IfOk result (λ changes. AreLivesChanged book entry.now changes) }
     {
-        let components = self.components_changed(alloc, places, movements, entry)?;
+        let components = self.components_changed(alloc, places, clocks, movements, entry)?;
         Ok(LifeChanges {
             airframe: self.airframe_changed(entry),
             components,

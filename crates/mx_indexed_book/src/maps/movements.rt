@@ -2,10 +2,13 @@
 ghost use Rattle.std.specs.Prelude.{◌≡◌, ◌+◌, ◌<◌, [], List, IfOk, OnSome, length};
 ghost use Rattle.std.specs.Bool.{OnTrue};
 ghost use Rattle.mx_book.specs.commands.Act.{Entry};
+ghost use Rattle.mx_book.specs.Book.{IsBook};
+ghost use Rattle.mx_indexed_book.specs.maps.Clocks.{AreClocks};
 ghost use Rattle.mx_indexed_book.specs.maps.Movements.{AreMovements, MovementsHaveRoom, behind, last_behind, movement, movement_at, movement_count, movements, movements_changed};
 ghost use Rattle.mx_indexed_book.specs.maps.OneMore.{Equal, SayOneMore};
 ghost use Rattle.mx_indexed_book.specs.maps.Places.{ArePlaces};
 
+use crate::maps::clocks::Clocks;
 use crate::maps::maps::{held, make_room, put};
 use crate::maps::places::Places;
 use mx_base::{Moment, Serial, Tail};
@@ -114,17 +117,23 @@ impl Movements {
         }
     }
 
-    /// The movements of an aircraft behind a moment, from the last one back. An error where memory runs out.
+    /// The movements of an aircraft behind a moment, from the last one back: none where the moment is not before the
+    /// clock of its airframe. An error where memory runs out.
     pub fn behind(
         &self,
         alloc: Global,
+        clocks: &Clocks,
         tail: &Tail,
         moment: Moment,
     ) -> Result<Vec<Movement>, AllocError>
-        ensures { (book : List Entry) → AreMovements book self.now
+        ensures { (book : List Entry) → IsBook book → AreClocks book clocks.now
+            → AreMovements book self.now
             → IfOk result (λ found. found.items ≡ behind moment (movements book tail.now)) }
     {
         let mut found = Vec::new(alloc);
+        if clocks.of_airframe(tail) <= moment {
+            return Ok(found);
+        }
         let mut count = self.count(tail);
         while let Some(movement) = self.last_behind(tail, count, moment) {
             found.push(movement)?;

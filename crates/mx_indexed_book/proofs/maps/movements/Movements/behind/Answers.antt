@@ -1,8 +1,9 @@
-use Rattle.std.proofs.Common.{arith, sym, ap, ◌∙◌, ◌-◌, [], ◌∷◌, ◌++◌, append-nil, append_assoc}
+use Rattle.std.proofs.Common.{arith, sym, subst, ap, ◌∙◌, ℕ, ◌-◌, ◌≤◌, [], ◌∷◌, ◌++◌, append-nil, append_assoc}
+use Rattle.std.proofs.lemmas.Map.Keys.{le_from_is_le}
 use Rattle.std.specs.Option.{option_map_or}
 use Rattle.mx_indexed_book.specs.maps.Movements.{behind, movements}
 use Rattle.mx_indexed_book.specs.declared.maps.movements.Movement.{Movement}
-use Rattle.mx_indexed_book.proofs.MapsProofs.MovementLemmas.{all_earliest, behind_by_last, earliest}
+use Rattle.mx_indexed_book.proofs.MapsProofs.MovementLemmas.{all_earliest, behind_by_last, earliest, none_behind}
 use Rattle.mx_indexed_book.proofs.maps.movements.Movements.behind.Goals as goal
 
 pub loop-movement-init : goal.loop-movement-init
@@ -29,7 +30,7 @@ loop-movement-preserved c book are =
     )
 
 pub returns : goal.returns
-returns c book are =
+returns c book is_book clocks are =
     let moment = c.args.moment in
     let ms = movements book c.args.tail.now in
     let found = c.loop-movement.found.items in
@@ -38,3 +39,12 @@ returns c book are =
     sym (append-nil found)
     ∙ ap (λ l. found ++ l) (sym (behind_by_last moment ms count so_far.0 ∙ ap (λ o. option_map_or (λ (x : Movement). x ∷ behind moment (earliest (count - 1) ms)) o []) (sym (c.in_default.ensures.last book are))))
     ∙ so_far.1
+
+pub returns-then-le : goal.returns-then-le
+returns-then-le c book is_book clocks are =
+    let tail = c.args.tail.now in
+    let moment = c.args.moment in
+    let clock = c.of_airframe.result in
+    let by = le_from_is_le clock moment (sym c.le.ensures ∙ c.if-le.true) in
+    let is = c.of_airframe.ensures book clocks in
+    c.new-found.ensures.items ∙ none_behind book tail moment is_book (subst (λ (n : ℕ). n ≤ moment) is by)
