@@ -23,4 +23,4 @@ pub mod moves;
 pub mod points;
 pub mod standing;
 
-pub use points::{LAST_MARK, is_on_way, point_after};
+pub use points::{LAST_MARK, NEWEST_LAYOUT, is_on_way, point_after, steps_from};

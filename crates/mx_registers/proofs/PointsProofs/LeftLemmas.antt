@@ -19,7 +19,7 @@ use Rattle.mx_registers.proofs.KeptProofs.TableLemmas.{register_becomes}
 use Rattle.mx_registers.proofs.KeptProofs.TouchedLemmas.{spans_untouched, totals_untouched}
 use Rattle.mx_base.specs.declared.point.Point.{Point}
 use Rattle.mx_registers.specs.points.Standing.{AreLeft, IsLeft}
-use Rattle.mx_registers.specs.points.Tables.{Line, aircraft_all, components_all, deferrals_all, extensions_all, fittings_1, openings_all, places_all, programmes_all, release_lines_all, releases_all, removals_1, sectors_1, sectors_2, spans_2, stands_there, tasks_all, totals_2}
+use Rattle.mx_registers.specs.points.Tables.{Line, aircraft_all, components_all, deferrals_2, deferrals_3, extensions_all, fittings_1, openings_all, places_all, programmes_all, release_lines_all, releases_all, removals_1, sectors_1, sectors_2, spans_2, stands_there, tasks_all, totals_2}
 
 -- rows of which none passes a test that all those pass which change stay as they are
 none_changed : {Row : Type 0} (touched : Row → Bool) (change : Row → Row) (rows : List Row) → AllByRecursion (λ row. touched row ≡ false → change row ≡ row) rows → filter touched rows ≡ [] → map change rows ≡ rows
@@ -69,7 +69,8 @@ module _ (at : Point) (book : List Entry) (command : Entry) (b : IsBook book) (n
     removals = without removals_1 removals_by (register_becomes removals_by);
     releases = without releases_all releases_by (register_becomes releases_by);
     release_lines = without release_lines_all release_lines_by (register_becomes release_lines_by);
-    deferrals = without deferrals_all deferrals_by (register_becomes deferrals_by);
+    deferrals_old = without deferrals_2 deferrals_by (register_becomes deferrals_by);
+    deferrals_new = without deferrals_3 deferrals_by (register_becomes deferrals_by);
     extensions = without extensions_all extensions_by (register_becomes extensions_by);
     spans = spans_left;
     totals = totals_left;

@@ -13,10 +13,12 @@ use Rattle.mx_base.specs.declared.rows.rows.TotalRow.{TotalRow}
 use Rattle.mx_registers.specs.kept.Bases.{base_rows}
 use Rattle.mx_registers.specs.kept.Spans.{span_rows}
 use Rattle.mx_registers.specs.kept.Totals.{total_rows}
-use Rattle.mx_registers.specs.points.Moves.{IsNext, last_moved}
-use Rattle.mx_registers.specs.points.Tables.{bases_2, fittings_1, removals_1, rows_at, spans_2, totals_2}
+use Rattle.mx_registers.specs.late.Done.{done_rows}
+use Rattle.mx_registers.specs.points.Moves.{BringsFrom, IsNext, TakesFrom, last_moved}
+use Rattle.mx_registers.specs.points.Tables.{bases_2, done_3, fittings_1, removals_1, rows_at, spans_2, totals_2}
 use Rattle.mx_base.specs.declared.rows.rows.SpanRow.{SpanRow}
 use Rattle.mx_base.specs.declared.rows.rows.BaseRow.{BaseRow}
+use Rattle.mx_base.specs.declared.rows.rows.DoneRow.{DoneRow}
 use Rattle.mx_registers.proofs.PointsProofs.PointLemmas.{moved_more}
 use Rattle.mx_registers.proofs.KeptProofs.ItemOrder.{total_rows-rising}
 use Rattle.mx_registers.specs.points.Points.{moving}
@@ -119,3 +121,11 @@ removals_left book mark thing h = thing_taken (λ (row : RemovalRow). row.compon
 pub bases_written : (book : List Entry) (mark thing : ℕ) → IsNext (λ (row : BaseRow). row.item) mark thing (base_rows book)
     → IsPermutation (rows_at bases_2 (moving 4 thing) book) (rows_at bases_2 (moving 4 mark) book ++ filter (λ (row : BaseRow). nat_eq row.item thing) (base_rows book))
 bases_written book mark thing h = thing_there (base_rows book) (λ (row : BaseRow). row.item) mark thing h
+
+-- ── of one item, its accomplishments in place of its last bases ──
+
+pub done_written : (book : List Entry) (mark thing : ℕ) → IsNext (λ (row : DoneRow). row.item) mark thing (done_rows book) → BringsFrom done_3 2 2 mark thing book
+done_written book mark thing h = thing_there (done_rows book) (λ (row : DoneRow). row.item) mark thing h
+
+pub bases_left : (book : List Entry) (mark thing : ℕ) → IsNext (λ (row : BaseRow). row.item) mark thing (base_rows book) → TakesFrom bases_2 2 2 mark thing book
+bases_left book mark thing h = thing_taken (λ (row : BaseRow). row.item) mark thing (base_rows book) h.0 h.1

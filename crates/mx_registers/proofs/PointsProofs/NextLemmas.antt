@@ -7,15 +7,17 @@ use Rattle.std.proofs.lemmas.Bool.Decides.{nat_tests}
 use Rattle.mx_base.specs.declared.amounts.Base.{Base}
 use Rattle.mx_book.specs.commands.Act.{Entry}
 use Rattle.mx_book.specs.declared.commands.item.Item.{Item}
-use Rattle.mx_book.specs.Base.{base}
+use Rattle.mx_book.specs.Base.{base, base_of}
 use Rattle.mx_book.specs.Programme.{last_of}
 use Rattle.mx_base.specs.rows.Rising.{IsRising}
 use Rattle.mx_base.specs.declared.rows.rows.BaseRow.{BaseRow}
+use Rattle.mx_base.specs.declared.rows.rows.DoneRow.{DoneRow}
 use Rattle.mx_base.specs.rows.Rows.{base_row_with}
 use Rattle.mx_registers.specs.kept.Bases.{base_row, base_rows, base_rows_of, tasks_accomplished}
 use Rattle.mx_registers.specs.kept.Items.{items}
+use Rattle.mx_registers.specs.late.Done.{Placed, done_chain, done_rows, done_rows_at, done_rows_of, placed}
 use Rattle.mx_registers.specs.points.Moves.{IsNext}
-use Rattle.mx_registers.specs.points.Points.{next_mark, moving}
+use Rattle.mx_registers.specs.points.Points.{moving, moving_from, next_mark}
 use Rattle.mx_registers.proofs.KeptProofs.ItemOrder.{items_from}
 
 abbrev pub self : ℕ → ℕ
@@ -68,9 +70,34 @@ pub rows_of_all : (book : List Entry) (P : ℕ → Type 0) (xs : List (ℕ × It
 rows_of_all book P [] h = tt
 rows_of_all book P (x ∷ xs) h = all_join (λ (row : BaseRow). P row.item) (base_rows_of book x) (flat_map (base_rows_of book) xs) (rows_of_one book P x h.0 (tasks_accomplished book x.1)) (rows_of_all book P xs h.1)
 
--- the item whose bases are written next is the next for their rows
+-- ── accomplishments ──
+
+chain_of_one : (book : List Entry) (P : ℕ → Type 0) (n : ℕ) (item : Item) (id : List ℕ) (before : Option Base) → P n → (ps : List Placed) → AllByRecursion (λ (row : DoneRow). P row.item) (done_chain book n item id before ps)
+chain_of_one book P n item id before h [] = tt
+chain_of_one book P n item id before h (p ∷ more) = (h, chain_of_one book P n item id (Some (base_of book item id before p.what)) h more)
+
+done_of_one : (book : List Entry) (P : ℕ → Type 0) (x : ℕ × Item) → P x.0 → (ids : List (List ℕ)) → AllByRecursion (λ (row : DoneRow). P row.item) (flat_map (done_rows_of book x.0 x.1) ids)
+done_of_one book P x h [] = tt
+done_of_one book P x h (id ∷ ids) = all_join (λ (row : DoneRow). P row.item) (done_rows_of book x.0 x.1 id) (flat_map (done_rows_of book x.0 x.1) ids) (chain_of_one book P x.0 x.1 id None h (placed book x.1 id)) (done_of_one book P x h ids)
+
+pub done_of_all : (book : List Entry) (P : ℕ → Type 0) (xs : List (ℕ × Item)) → AllByRecursion P (map (λ (x : ℕ × Item). x.0) xs) → AllByRecursion (λ (row : DoneRow). P row.item) (flat_map (done_rows_at book) xs)
+done_of_all book P [] h = tt
+done_of_all book P (x ∷ xs) h = all_join (λ (row : DoneRow). P row.item) (done_rows_at book x) (flat_map (done_rows_at book) xs) (done_of_one book P x h.0 (tasks_accomplished book x.1)) (done_of_all book P xs h.1)
+
+-- ── the next item ──
+
+-- no item is between the mark and the next
+item_next : (book : List Entry) (mark item : ℕ) → next_of mark (map (λ (x : ℕ × Item). x.0) (items book)) ≡ Some item → (mark < item) × AllByRecursion (Apart mark item) (map (λ (x : ℕ × Item). x.0) (items book))
+item_next book mark item h =
+    next_is_least mark item 1 (0 + 1 + length book) (map (λ (x : ℕ × Item). x.0) (items book)) (numbers_rise (λ (x : ℕ × Item). x.0) 1 (0 + 1 + length book) (items book) (items_from [] book)) h
+
+-- so the item whose bases are written next is the next for their rows
 pub bases_next : (book : List Entry) (mark item : ℕ) → next_mark (moving 4 mark) book ≡ Some item → IsNext (λ (row : BaseRow). row.item) mark item (base_rows book)
-bases_next book mark item h =
-    let numbers = map (λ (x : ℕ × Item). x.0) (items book) in
-    let next = next_is_least mark item 1 (0 + 1 + length book) numbers (numbers_rise (λ (x : ℕ × Item). x.0) 1 (0 + 1 + length book) (items book) (items_from [] book)) h in
-    (next.0, rows_of_all book (Apart mark item) (items book) next.1)
+bases_next book mark item h = let next = item_next book mark item h in (next.0, rows_of_all book (Apart mark item) (items book) next.1)
+
+-- and that whose accomplishments are, for their rows and for those of last bases
+pub done_next : (book : List Entry) (mark item : ℕ) → next_mark (moving_from 2 2 mark) book ≡ Some item → IsNext (λ (row : DoneRow). row.item) mark item (done_rows book)
+done_next book mark item h = let next = item_next book mark item h in (next.0, done_of_all book (Apart mark item) (items book) next.1)
+
+pub bases_next_left : (book : List Entry) (mark item : ℕ) → next_mark (moving_from 2 2 mark) book ≡ Some item → IsNext (λ (row : BaseRow). row.item) mark item (base_rows book)
+bases_next_left book mark item h = let next = item_next book mark item h in (next.0, rows_of_all book (Apart mark item) (items book) next.1)

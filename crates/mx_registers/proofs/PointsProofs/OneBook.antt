@@ -1,7 +1,8 @@
 -- Books that give the same rows to the tables at a point are one.
-use Rattle.std.proofs.Common.{arith, refl, sym, subst, ap, ◌∙◌, ◌≡◌, ℕ, ◌+◌, ◌*◌, ◌^◌, ◌≤◌, length, List, [], ◌∷◌, ◌++◌, Bool, true, false, cond, nat_le, ◌&&◌, ◌||◌, Some, None}
+use Rattle.std.proofs.Common.{arith, refl, sym, subst, ap, ◌∙◌, ◌≡◌, ℕ, ◌+◌, ◌*◌, ◌^◌, ◌≤◌, length, List, [], ◌∷◌, ◌++◌, Bool, true, false, cond, nat_le, ◌&&◌, ◌||◌, Option, Some, None}
 use Rattle.std.specs.Prelude.{not, map, filter, IsPermutation}
 use Rattle.std.specs.List.{filter_map}
+use Rattle.std.specs.Option.{option_map_or}
 use Rattle.std.proofs.lemmas.List.Elements.{filter_agree}
 use Rattle.std.proofs.lemmas.List.Sorted.{IsPermutation-refl, IsPermutation-sym, IsPermutation-trans, IsPermutation-append, IsPermutation-filter_both}
 use Rattle.mx_book.specs.commands.Act.{Entry}
@@ -28,7 +29,7 @@ use Rattle.mx_base.specs.declared.rows.rows.SpanRow.{SpanRow}
 use Rattle.mx_registers.specs.kept.Spans.{fitting_in, removal_in, span_rows}
 use Rattle.mx_registers.specs.points.Points.{Step, has_moved, is_past, is_within_step, step_of}
 use Rattle.mx_registers.specs.points.Same.{GiveSame, GiveSameRegisters}
-use Rattle.mx_registers.specs.points.Tables.{Line, fittings_1, is_table_at, removals_1, rows_at, sectors_1, sectors_2, spans_2, stands_there, always, entries_all, aircraft_all, places_all, components_all, programmes_all, tasks_all, openings_all, releases_all, release_lines_all, deferrals_all, extensions_all}
+use Rattle.mx_registers.specs.points.Tables.{Line, fittings_1, is_table_at, removals_1, rows_at, sectors_1, sectors_2, spans_2, stands_there, always, entries_all, aircraft_all, places_all, components_all, programmes_all, tasks_all, openings_all, releases_all, release_lines_all, deferrals_2, deferrals_3, deferrals_all, extensions_all}
 use Rattle.mx_registers.proofs.KeptProofs.SpanRegisters.{fittings_in_spans, removals_in_spans}
 
 -- two rising lists of the same rows are one
@@ -41,23 +42,45 @@ filter_none : {X : Type 0} (p : X → Bool) (xs : List X) → ((x : X) → p x �
 filter_none p [] h = refl
 filter_none p (x ∷ xs) h = ap (λ b. cond b (x ∷ filter p xs) (filter p xs)) (h x) ∙ filter_none p xs h
 
+and_false : (b : Bool) → b && false ≡ false
+and_false true = refl
+and_false false = refl
+
 -- a step that has not begun has moved nothing
 not_begun : (past within : Bool) (by : Bool) → past || within ≡ false → past || (within && by) ≡ false
 not_begun true within by h = (cc)
 not_begun false true by h = (cc)
 not_begun false false by h = refl
 
-absent_old : (past moved : Bool) → (true && not past) ≡ false → (past ≡ true → moved ≡ true) → true && not moved ≡ false
-absent_old true moved h k = ap (λ b. true && not b) (k refl)
-absent_old false moved h k = (cc)
-
 past_moved : (past rest : Bool) → past ≡ true → past || rest ≡ true
 past_moved true rest h = refl
 past_moved false rest h = (cc)
 
-and_left : (a : Bool) → a && true ≡ false → a ≡ false
-and_left true h = (cc)
-and_left false h = refl
+-- a table that is not there has not been begun, or its rows have gone
+absent : (begun past moved taken : Bool) → begun && not past ≡ false → (begun ≡ false → moved ≡ false) → (past ≡ true → taken ≡ true) → moved && not taken ≡ false
+absent false past moved taken h none all = ap (λ b. b && not taken) (none refl)
+absent true true moved taken h none all = ap (λ b. moved && not b) (all refl) ∙ and_false moved
+absent true false moved taken h none all = (cc)
+
+module _ {Row : Type 0} (line : Line Row) (at : Point) where
+  pub absent_none : (book : List Entry) → is_table_at line at ≡ false → rows_at line at book ≡ []
+  absent_none book h = filter_none (λ row. stands_there line at (line.number row)) (line.rows book)
+      (λ row.
+      let n = line.number row in
+      absent (option_map_or (λ step. is_past at step || is_within_step at step) line.brought true) (option_map_or (is_past at) line.taken false)
+      (option_map_or (λ step. has_moved at step n) line.brought true) (option_map_or (λ step. has_moved at step n) line.taken false) h (none n line.brought) (all n line.taken))
+    where
+      none : (n : ℕ) (o : Option Step) → option_map_or (λ step. is_past at step || is_within_step at step) o true ≡ false → option_map_or (λ step. has_moved at step n) o true ≡ false
+      none n None h = h
+      none n (Some step) h = not_begun (is_past at step) (is_within_step at step) (nat_le n at.mark) h
+
+      all : (n : ℕ) (o : Option Step) → option_map_or (is_past at) o false ≡ true → option_map_or (λ step. has_moved at step n) o false ≡ true
+      all n None h = h
+      all n (Some step) h = past_moved (is_past at step) (is_within_step at step && nat_le n at.mark) h
+
+and_true : (b : Bool) → b && true ≡ b
+and_true true = refl
+and_true false = refl
 
 module _ {Row : Type 0} (rows : List Entry → List Row) (number : Row → ℕ) (step : Step) (at : Point) where
   abbrev pub new : Line Row
@@ -69,47 +92,36 @@ module _ {Row : Type 0} (rows : List Entry → List Row) (number : Row → ℕ) 
   abbrev moved : Row → Bool
   moved row = has_moved at step (number row)
 
-  pub new_none : (book : List Entry) → is_table_at new at ≡ false → rows_at new at book ≡ []
-  new_none book h = filter_none (λ row. stands_there new at (number row)) (rows book) (λ row. ap (λ b. b && true) (not_begun (is_past at step) (is_within_step at step) (nat_le (number row) at.mark) (and_left (is_past at step || is_within_step at step) h)))
-
-  pub old_none : (book : List Entry) → is_table_at old at ≡ false → rows_at old at book ≡ []
-  old_none book h = filter_none (λ row. stands_there old at (number row)) (rows book) (λ row. absent_old (is_past at step) (moved row) h (past_moved (is_past at step) (is_within_step at step && nat_le (number row) at.mark)))
-
-  and_true : (b : Bool) → b && true ≡ b
-  and_true true = refl
-  and_true false = refl
-
   pub new_is : (book : List Entry) → rows_at new at book ≡ filter moved (rows book)
   new_is book = filter_agree (λ row. stands_there new at (number row)) moved (λ row. and_true (moved row)) (rows book)
-
-  pub old_is : (book : List Entry) → rows_at old at book ≡ filter (λ row. not (moved row)) (rows book)
-  old_is book = refl
 
   -- the rows of both tables are all
   pub split : (book : List Entry) → IsPermutation (rows book) (filter moved (rows book) ++ filter (λ row. not (moved row)) (rows book))
   split book = IsPermutation-filter_both moved (λ row. not (moved row)) (λ row. refl) (rows book)
 
-given_or_none : {Row : Type 0} (line : Line Row) (at : Point) (one other : List Entry) → GiveSame line at one other → ((book : List Entry) → is_table_at line at ≡ false → rows_at line at book ≡ []) → (b : Bool) → is_table_at line at ≡ b → IsPermutation (rows_at line at one) (rows_at line at other)
-given_or_none line at one other same none true e = same e
-given_or_none line at one other same none false e =
-    subst (λ l. IsPermutation l (rows_at line at other)) (sym (none one e)) (subst (λ l. IsPermutation [] l) (sym (none other e)) (IsPermutation-refl []))
+  -- so they stand each in one of both
+  pub each_once : (book : List Entry) → IsPermutation (rows book) (rows_at new at book ++ rows_at old at book)
+  each_once book = subst (λ l. IsPermutation (rows book) (l ++ rows_at old at book)) (sym (new_is book)) (split book)
 
--- ── sectors ──
+given_or_none : {Row : Type 0} (line : Line Row) (at : Point) (one other : List Entry) → GiveSame line at one other → IsPermutation (rows_at line at one) (rows_at line at other)
+given_or_none line at one other same = on (is_table_at line at) refl
+  where
+    on : (b : Bool) → is_table_at line at ≡ b → IsPermutation (rows_at line at one) (rows_at line at other)
+    on true e = same e
+    on false e =
+        let none = absent_none line at in
+        subst (λ l. IsPermutation l (rows_at line at other)) (sym (none one e)) (subst (λ l. IsPermutation [] l) (sym (none other e)) (IsPermutation-refl []))
 
-same_sectors : (at : Point) (one other : List Entry) → GiveSame sectors_1 at one other → GiveSame sectors_2 at one other → IsPermutation (sector_rows one) (sector_rows other)
-same_sectors at one other before after =
-    let number = λ (row : SectorRow). row.seq in
-    let step = step_of 1 1 in
-    let moved = λ (row : SectorRow). has_moved at step row.seq in
-    let kept = λ (row : SectorRow). not (has_moved at step row.seq) in
-    let old = given_or_none sectors_1 at one other before (old_none sector_rows number step at) (is_table_at sectors_1 at) refl in
-    let new = given_or_none sectors_2 at one other after (new_none sector_rows number step at) (is_table_at sectors_2 at) refl in
-    let new_moved : IsPermutation (filter moved (sector_rows one)) (filter moved (sector_rows other)) =
-    subst (λ l. IsPermutation l (filter moved (sector_rows other))) (new_is sector_rows number step at one) (subst (λ l. IsPermutation (rows_at sectors_2 at one) l) (new_is sector_rows number step at other) new) in
-    IsPermutation-trans (sector_rows one) (filter moved (sector_rows one) ++ filter kept (sector_rows one)) (sector_rows other) (split sector_rows number step at one)
-    (IsPermutation-trans (filter moved (sector_rows one) ++ filter kept (sector_rows one)) (filter moved (sector_rows other) ++ filter kept (sector_rows other)) (sector_rows other)
-    (IsPermutation-append (filter moved (sector_rows one)) (filter moved (sector_rows other)) (filter kept (sector_rows one)) (filter kept (sector_rows other)) new_moved old)
-    (IsPermutation-sym (sector_rows other) (filter moved (sector_rows other) ++ filter kept (sector_rows other)) (split sector_rows number step at other)))
+-- ── rows that a step moves from one table to another ──
+
+same_moved : {Row : Type 0} (rows : List Entry → List Row) (number : Row → ℕ) (step : Step) (at : Point) (one other : List Entry) → GiveSame (old rows number step at) at one other → GiveSame (new rows number step at) at one other → IsPermutation (rows one) (rows other)
+same_moved rows number step at one other before after =
+    let was = old rows number step at in
+    let is = new rows number step at in
+    IsPermutation-trans (rows one) (rows_at is at one ++ rows_at was at one) (rows other) (each_once rows number step at one)
+    (IsPermutation-trans (rows_at is at one ++ rows_at was at one) (rows_at is at other ++ rows_at was at other) (rows other)
+    (IsPermutation-append (rows_at is at one) (rows_at is at other) (rows_at was at one) (rows_at was at other) (given_or_none is at one other after) (given_or_none was at one other before))
+    (IsPermutation-sym (rows other) (rows_at is at other ++ rows_at was at other) (each_once rows number step at other)))
 
 -- ── fittings and removals ──
 
@@ -155,7 +167,7 @@ module _ (at : Point) (one other : List Entry) (is : IsBook one) (was : IsBook o
   same_spans : GiveSame spans_2 at one other → moved_spans one ≡ moved_spans other
   same_spans same =
       let number = λ (row : SpanRow). row.component in
-      let given = given_or_none spans_2 at one other same (new_none span_rows number step at) (is_table_at spans_2 at) refl in
+      let given = given_or_none spans_2 at one other same in
       let perm : IsPermutation (moved_spans one) (moved_spans other) =
       subst (λ l. IsPermutation l (moved_spans other)) (new_is span_rows number step at one) (subst (λ l. IsPermutation (rows_at spans_2 at one) l) (new_is span_rows number step at other) given) in
       rising_once (λ (row : SpanRow). row.fit_seq) 1 (length one + 1) (length other + 1) (moved_spans one) (moved_spans other)
@@ -178,14 +190,14 @@ module _ (at : Point) (one other : List Entry) (is : IsBook one) (was : IsBook o
   same_fittings : GiveSame fittings_1 at one other → GiveSame spans_2 at one other → IsPermutation (fitting_rows one) (fitting_rows other)
   same_fittings before after =
       let number = λ (row : FittingRow). row.component in
-      let old = given_or_none fittings_1 at one other before (old_none fitting_rows number step at) (is_table_at fittings_1 at) refl in
+      let old = given_or_none fittings_1 at one other before in
       let same : filter (λ (row : FittingRow). is_moved row.component) (fitting_rows one) ≡ filter (λ (row : FittingRow). is_moved row.component) (fitting_rows other) = moved_fittings one ∙ ap (map fitting_in) (same_spans after) ∙ sym (moved_fittings other) in
       joined fitting_rows number (subst (λ l. IsPermutation (filter (λ (row : FittingRow). is_moved row.component) (fitting_rows one)) l) same (IsPermutation-refl (filter (λ (row : FittingRow). is_moved row.component) (fitting_rows one)))) old
 
   same_removals : GiveSame removals_1 at one other → GiveSame spans_2 at one other → IsPermutation (removal_rows one) (removal_rows other)
   same_removals before after =
       let number = λ (row : RemovalRow). row.component in
-      let old = given_or_none removals_1 at one other before (old_none removal_rows number step at) (is_table_at removals_1 at) refl in
+      let old = given_or_none removals_1 at one other before in
       let moved = λ (row : RemovalRow). is_moved row.component in
       let there : IsPermutation (filter moved (removal_rows one)) (filter_map removal_in (moved_spans other)) =
       subst (λ l. IsPermutation (filter moved (removal_rows one)) (filter_map removal_in l)) (same_spans after) (removals_in_spans is_moved one is) in
@@ -204,6 +216,14 @@ whole {Row} rows number at one other same =
     let both : IsPermutation (filter (λ (row : Row). true) (rows one)) (filter (λ (row : Row). true) (rows other)) = same refl in
     subst (λ (l : List Row). IsPermutation l (rows other)) (all_there (rows one)) (subst (λ (l : List Row). IsPermutation (filter (λ (row : Row). true) (rows one)) l) (all_there (rows other)) both)
 
+-- where all deferrals are given to one table, both books give the same to any table of them
+pub deferrals_given : (line : Line DeferralRow) → line.rows ≡ deferral_rows → (at : Point) (one other : List Entry) → IsBook one → IsBook other → GiveSame deferrals_all at one other → GiveSame line at one other
+deferrals_given line of at one other is was same there =
+    let key = λ (row : DeferralRow). row.seq in
+    let all : deferral_rows one ≡ deferral_rows other = rising_once key 1 (length one + 1) (length other + 1) _ _ (deferral_rows-rising one is.shaped) (deferral_rows-rising other was.shaped) (whole deferral_rows key at one other same) in
+    let alike : line.rows one ≡ line.rows other = ap (λ rows. rows one) of ∙ all ∙ sym (ap (λ rows. rows other) of) in
+    subst (λ l. IsPermutation (rows_at line at one) (filter (λ row. stands_there line at (line.number row)) l)) alike (IsPermutation-refl (rows_at line at one))
+
 -- ── one book ──
 
 same_registers : (at : Point) (one other : List Entry) → IsBook one → IsBook other → GiveSameRegisters at one other → HaveSameRegisters one other
@@ -215,12 +235,12 @@ same_registers at one other is was same = record {
   programmes = rising_once (λ (row : ProgrammeRow). row.seq) 1 (length one + 1) (length other + 1) _ _ (programme_rows-rising one is.shaped) (programme_rows-rising other was.shaped) (whole programme_rows programmes_all.number at one other same.programmes);
   tasks = rising_once task_key (1 * 2 ^ 32) ((length one + 1) * 2 ^ 32) ((length other + 1) * 2 ^ 32) _ _ (task_rows-rising one is.shaped) (task_rows-rising other was.shaped) (whole task_rows tasks_all.number at one other same.tasks);
   openings = rising_once (λ (row : OpeningRow). row.seq) 1 (length one + 1) (length other + 1) _ _ (opening_rows-rising one is.shaped) (opening_rows-rising other was.shaped) (whole opening_rows openings_all.number at one other same.openings);
-  sectors = rising_once (λ (row : SectorRow). row.seq) 1 (length one + 1) (length other + 1) _ _ (sector_rows-rising one is.shaped) (sector_rows-rising other was.shaped) (same_sectors at one other same.sectors_old same.sectors_new);
+  sectors = rising_once (λ (row : SectorRow). row.seq) 1 (length one + 1) (length other + 1) _ _ (sector_rows-rising one is.shaped) (sector_rows-rising other was.shaped) (same_moved sector_rows sectors_1.number (step_of 1 1) at one other same.sectors_old same.sectors_new);
   fittings = rising_once (λ (row : FittingRow). row.seq) 1 (length one + 1) (length other + 1) _ _ (fitting_rows-rising one is.shaped) (fitting_rows-rising other was.shaped) (same_fittings at one other is was same.fittings same.spans);
   removals = rising_once (λ (row : RemovalRow). row.seq) 1 (length one + 1) (length other + 1) _ _ (removal_rows-rising one is.shaped) (removal_rows-rising other was.shaped) (same_removals at one other is was same.removals same.spans);
   releases = rising_once (λ (row : ReleaseRow). row.seq) 1 (length one + 1) (length other + 1) _ _ (release_rows-rising one is.shaped) (release_rows-rising other was.shaped) (whole release_rows releases_all.number at one other same.releases);
   release_lines = rising_once release_line_key (1 * 2 ^ 32) ((length one + 1) * 2 ^ 32) ((length other + 1) * 2 ^ 32) _ _ (release_line_rows-rising one is.shaped) (release_line_rows-rising other was.shaped) (whole release_line_rows release_lines_all.number at one other same.release_lines);
-  deferrals = rising_once (λ (row : DeferralRow). row.seq) 1 (length one + 1) (length other + 1) _ _ (deferral_rows-rising one is.shaped) (deferral_rows-rising other was.shaped) (whole deferral_rows deferrals_all.number at one other same.deferrals);
+  deferrals = rising_once (λ (row : DeferralRow). row.seq) 1 (length one + 1) (length other + 1) _ _ (deferral_rows-rising one is.shaped) (deferral_rows-rising other was.shaped) (same_moved deferral_rows deferrals_2.number (step_of 2 1) at one other same.deferrals_old same.deferrals_new);
   extensions = rising_once (λ (row : ExtensionRow). row.seq) 1 (length one + 1) (length other + 1) _ _ (extension_rows-rising one is.shaped) (extension_rows-rising other was.shaped) (whole extension_rows extensions_all.number at one other same.extensions);
 }
 

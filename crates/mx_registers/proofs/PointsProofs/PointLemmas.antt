@@ -2,6 +2,7 @@
 use Rattle.std.proofs.Common.{arith, refl, sym, subst, ap, ◌∙◌, ◌≡◌, ℕ, ◌+◌, ◌≤◌, ◌<◌, zero, suc, length, List, [], ◌∷◌, ◌++◌, Bool, true, false, cond, ◌&&◌, Some, take, drop}
 use Rattle.std.specs.Prelude.{nat_le, filter, fold, map, not}
 use Rattle.std.proofs.Math.Seq.{drop-nil, take-nil}
+use mathlib.Core.List.{map-map}
 use Rattle.std.proofs.lemmas.Bool.Decides.{nat_tests}
 use Rattle.std.proofs.lemmas.List.Elements.{filter_agree}
 use Rattle.mx_book.specs.commands.Act.{Entry}
@@ -9,11 +10,15 @@ use Rattle.mx_book.specs.Book.{IsBook}
 use Rattle.mx_book.specs.Programme.{last_of}
 use Rattle.mx_base.specs.declared.rows.rows.SectorRow.{SectorRow}
 use Rattle.mx_base.specs.rows.Rising.{IsRising}
-use Rattle.mx_registers.specs.Registers.{sector_rows}
-use Rattle.mx_registers.proofs.RegisterLemmas.{sector_rows-rising}
-use Rattle.mx_registers.specs.points.Moves.{last_moved}
-use Rattle.mx_registers.specs.points.Points.{moving}
-use Rattle.mx_registers.specs.points.Tables.{rows_at, sectors_1, sectors_2}
+use Rattle.mx_base.specs.declared.rows.rows.DeferralRow.{DeferralRow}
+use Rattle.mx_base.specs.declared.rows.rows.FoundRow.{FoundRow}
+use Rattle.mx_registers.specs.Registers.{deferral_rows, sector_rows}
+use Rattle.mx_registers.specs.late.Found.{defect_deferred, defect_found, found_rows}
+use Rattle.mx_registers.proofs.LateProofs.FoundBecomes.{found_of_deferrals}
+use Rattle.mx_registers.proofs.RegisterLemmas.{deferral_rows-rising, sector_rows-rising}
+use Rattle.mx_registers.specs.points.Moves.{BringsFound, MovesDeferrals, MovesSectors, deferrals_mark, last_moved}
+use Rattle.mx_registers.specs.points.Points.{moving_from}
+use Rattle.mx_registers.specs.points.Tables.{found_3, rows_at}
 
 pub le_true : (a b : ℕ) → a ≤ b → nat_le a b ≡ true
 le_true a b h = grind (arith, nat_tests)
@@ -141,23 +146,61 @@ next_number number mark n xs row rows e =
     ∙ ap (λ l. last_of (map number l)) e ∙ last_number number (number row) rows
     ∙ ap (λ l. Some (last_moved number mark l)) (sym e)
 
--- ── the move of sectors ──
+-- ── a commit that moves up to 64 rows ──
 
 and_true : (b : Bool) → b && true ≡ b
 and_true true = refl
 and_true false = refl
 
-new_there : (mark : ℕ) (book : List Entry) → rows_at sectors_2 (moving 1 mark) book ≡ filter (below (λ (row : SectorRow). row.seq) mark) (sector_rows book)
-new_there mark book = filter_agree _ (below (λ (row : SectorRow). row.seq) mark) (λ row. and_true (nat_le row.seq mark)) (sector_rows book)
+-- with the next rows, at most 64, the new table has what it had and these, and the old the others
+batch_moved : {Row : Type 0} (number : Row → ℕ) (mark high : ℕ) (xs : List Row) → IsRising number 1 xs high
+    → (filter (λ row. nat_le (number row) (last_moved number mark (take 64 (filter (above number mark) xs))) && true) xs ≡ filter (λ row. nat_le (number row) mark && true) xs ++ take 64 (filter (above number mark) xs))
+    × (filter (above number (last_moved number mark (take 64 (filter (above number mark) xs)))) xs ≡ drop 64 (filter (above number mark) xs))
+batch_moved number mark high xs up =
+    let batch = take 64 (filter (above number mark) xs) in
+    (there (last_moved number mark batch) ∙ moved_more number mark 1 high 64 xs up ∙ ap (λ l. l ++ batch) (sym (there mark)), left_less number mark 1 high 64 xs up)
+  where
+    there : (m : ℕ) → filter (λ row. nat_le (number row) m && true) xs ≡ filter (below number m) xs
+    there m = filter_agree _ (below number m) (λ row. and_true (nat_le (number row) m)) xs
 
--- a commit of the move of sectors: with the next of the old table, at most 64, the new table has what it had and these, and the old the others
-pub sectors_moved : (book : List Entry) (mark : ℕ) → IsBook book
-    → (rows_at sectors_2 (moving 1 (last_moved (λ (row : SectorRow). row.seq) mark (take 64 (rows_at sectors_1 (moving 1 mark) book)))) book ≡ rows_at sectors_2 (moving 1 mark) book ++ take 64 (rows_at sectors_1 (moving 1 mark) book))
-    × (rows_at sectors_1 (moving 1 (last_moved (λ (row : SectorRow). row.seq) mark (take 64 (rows_at sectors_1 (moving 1 mark) book)))) book ≡ drop 64 (rows_at sectors_1 (moving 1 mark) book))
-sectors_moved book mark b =
-    let up = sector_rows-rising book b.shaped in
-    let key = λ (row : SectorRow). row.seq in
-    let batch = take 64 (rows_at sectors_1 (moving 1 mark) book) in (
-      new_there (last_moved key mark batch) book ∙ moved_more key mark 1 (length book + 1) 64 (sector_rows book) up ∙ ap (λ l. l ++ batch) (sym (new_there mark book)),
-      left_less key mark 1 (length book + 1) 64 (sector_rows book) up,
-    )
+pub sectors_moved : (book : List Entry) (mark : ℕ) → IsBook book → MovesSectors book mark
+sectors_moved book mark b = let h = batch_moved (λ (row : SectorRow). row.seq) mark (length book + 1) (sector_rows book) (sector_rows-rising book b.shaped) in record { brought = h.0; taken = h.1 }
+
+pub deferrals_moved : (book : List Entry) (mark : ℕ) → IsBook book → MovesDeferrals book mark
+deferrals_moved book mark b = let h = batch_moved (λ (row : DeferralRow). row.seq) mark (length book + 1) (deferral_rows book) (deferral_rows-rising book b.shaped) in record { brought = h.0; taken = h.1 }
+
+-- ── what comes beside deferrals ──
+
+-- the mark behind the next rows is that behind their numbers
+mark_of_numbers : {Row : Type 0} (number : Row → ℕ) (mark n : ℕ) (xs : List Row) → last_moved number mark (take n (filter (above number mark) xs)) ≡ last_moved (λ k. k) mark (take n (filter (above (λ k. k) mark) (map number xs)))
+mark_of_numbers number mark n xs =
+    sym (last_mapped mark (take n (filter (above number mark) xs)))
+    ∙ ap (last_moved (λ k. k) mark) (sym (take_map number n (filter (above number mark) xs)) ∙ ap (take n) (sym (filter_map_number number mark xs)))
+  where
+    last_mapped : (m : ℕ) (ys : List _) → last_moved (λ k. k) m (map number ys) ≡ last_moved number m ys
+    last_mapped m [] = refl
+    last_mapped m (y ∷ ys) = last_mapped (number y) ys
+
+-- rows whose numbers rise do
+rise_by_numbers : {Row : Type 0} (number : Row → ℕ) (low high : ℕ) (xs : List Row) → IsRising (λ k. k) low (map number xs) high → IsRising number low xs high
+rise_by_numbers number low high [] up = up
+rise_by_numbers number low high (x ∷ xs) up = (up.0, rise_by_numbers number (number x + 1) high xs up.1)
+
+numbers_rising : {Row : Type 0} (number : Row → ℕ) (low high : ℕ) (xs : List Row) → IsRising number low xs high → IsRising (λ k. k) low (map number xs) high
+numbers_rising number low high [] up = up
+numbers_rising number low high (x ∷ xs) up = (up.0, numbers_rising number (number x + 1) high xs up.1)
+
+-- the cycles at which defects were found have the numbers of these
+pub found_numbers : (book : List Entry) → map (λ (row : FoundRow). row.seq) (found_rows book) ≡ map (λ (row : DeferralRow). row.seq) (deferral_rows book)
+found_numbers book =
+    sym (map-map (λ (x : ℕ × ℕ × ℕ). x.0) defect_found (found_rows book)) ∙ ap (map (λ (x : ℕ × ℕ × ℕ). x.0)) (found_of_deferrals book) ∙ map-map (λ (x : ℕ × ℕ × ℕ). x.0) defect_deferred (deferral_rows book)
+
+pub found_brought : (book : List Entry) (mark : ℕ) → IsBook book → BringsFound book mark
+found_brought book mark b =
+    let seq = λ (row : FoundRow). row.seq in
+    let deferred = λ (row : DeferralRow). row.seq in
+    let high = length book + 1 in
+    let up : IsRising seq 1 (found_rows book) high = rise_by_numbers seq 1 high (found_rows book) (subst (λ ns. IsRising (λ k. k) 1 ns high) (sym (found_numbers book)) (numbers_rising deferred 1 high (deferral_rows book) (deferral_rows-rising book b.shaped))) in
+    let to : last_moved seq mark (take 64 (filter (above seq mark) (found_rows book))) ≡ deferrals_mark book mark =
+    mark_of_numbers seq mark 64 (found_rows book) ∙ ap (λ ns. last_moved (λ k. k) mark (take 64 (filter (above (λ k. k) mark) ns))) (found_numbers book) ∙ sym (mark_of_numbers deferred mark 64 (deferral_rows book)) in
+    subst (λ m. rows_at found_3 (moving_from 2 1 m) book ≡ rows_at found_3 (moving_from 2 1 mark) book ++ take 64 (filter (above seq mark) (found_rows book))) to (batch_moved seq mark high (found_rows book) up).0

@@ -11,11 +11,16 @@ use Rattle.mx_book.specs.Book.{IsBook}
 use Rattle.mx_book.specs.Programme.{last_of}
 use Rattle.mx_book.specs.Register.{component}
 use Rattle.mx_base.specs.rows.Rising.{IsRising}
+use Rattle.mx_base.specs.declared.rows.rows.DeferralRow.{DeferralRow}
+use Rattle.mx_base.specs.declared.rows.rows.DoneRow.{DoneRow}
 use Rattle.mx_base.specs.declared.rows.rows.FittingRow.{FittingRow}
+use Rattle.mx_base.specs.declared.rows.rows.FoundRow.{FoundRow}
 use Rattle.mx_base.specs.declared.rows.rows.RemovalRow.{RemovalRow}
 use Rattle.mx_base.specs.declared.rows.rows.SectorRow.{SectorRow}
 use Rattle.mx_registers.specs.Names.{or_zero, seq_of_serial}
-use Rattle.mx_registers.specs.Registers.{component_rows, fitting_rows, removal_rows, sector_rows}
+use Rattle.mx_registers.specs.Registers.{component_rows, deferral_rows, fitting_rows, removal_rows, sector_rows}
+use Rattle.mx_registers.specs.late.Done.{done_rows}
+use Rattle.mx_registers.specs.late.Found.{found_rows}
 use Rattle.mx_registers.specs.kept.Bases.{base_rows}
 use Rattle.mx_registers.specs.kept.Items.{items}
 use Rattle.mx_registers.specs.kept.Spans.{span_rows}
@@ -27,11 +32,11 @@ use Rattle.mx_registers.proofs.KeptProofs.DoneLemmas.{neither}
 use Rattle.mx_registers.proofs.KeptProofs.SpanRegisters.{fittings_in_spans}
 use Rattle.mx_base.specs.declared.point.Point.{Point}
 use Rattle.mx_registers.specs.points.Points.{Step, has_moved, is_past, is_within_step, next_mark, numbers_left, numbers_of, size_of}
-use Rattle.mx_registers.specs.points.Tables.{Line, bases_2, fittings_1, is_moved_at, removals_1, sectors_1, sectors_2, spans_2, stands_there, totals_2}
+use Rattle.mx_registers.specs.points.Tables.{Line, bases_2, deferrals_2, deferrals_3, done_3, fittings_1, found_3, is_moved_at, removals_1, sectors_1, sectors_2, spans_2, stands_there, totals_2}
 use Rattle.mx_registers.specs.points.Moves.{OthersStay, Stays}
-use Rattle.mx_registers.proofs.PointsProofs.NextLemmas.{rows_of_all, self}
+use Rattle.mx_registers.proofs.PointsProofs.NextLemmas.{done_of_all, rows_of_all, self}
 use Rattle.mx_registers.proofs.PointsProofs.NextComponents.{component_has_row, fittings_of, of_number, removals_from, spans_from}
-use Rattle.mx_registers.proofs.PointsProofs.PointLemmas.{above}
+use Rattle.mx_registers.proofs.PointsProofs.PointLemmas.{above, found_numbers}
 use Rattle.mx_registers.proofs.PointsProofs.CommitLemmas.{last_self, numbers_rising}
 
 -- ── at a commit of a step ──
@@ -67,6 +72,10 @@ others_stay book at mark = record {
   spans = line_stays spans_2 at mark book;
   totals = line_stays totals_2 at mark book;
   bases = line_stays bases_2 at mark book;
+  deferrals_old = line_stays deferrals_2 at mark book;
+  deferrals_new = line_stays deferrals_3 at mark book;
+  found = line_stays found_3 at mark book;
+  done = line_stays done_3 at mark book;
 }
 
 -- ── what holds of the numbers of a step holds of those in the rows that it moves ──
@@ -93,11 +102,19 @@ module _ (P : ℕ → Type 0) (book : List Entry) where
   abbrev pub Bases : Type 0
   Bases = AllByRecursion (λ (row : BaseRow). P row.item) (base_rows book)
 
+  -- of the deferrals, and of the cycles at which they were found
+  abbrev pub Deferrals : Type 0
+  Deferrals = AllByRecursion (λ (row : DeferralRow). P row.seq) (deferral_rows book) × AllByRecursion (λ (row : FoundRow). P row.seq) (found_rows book)
+
+  -- of the last bases, and of the accomplishments
+  abbrev pub Accomplishments : Type 0
+  Accomplishments = Bases × AllByRecursion (λ (row : DoneRow). P row.item) (done_rows book)
+
 module _ (P : ℕ → Type 0) (book : List Entry) (b : IsBook book) where
-  pub of_sectors : AllByRecursion P (numbers_of 1 book) → Sectors P book
+  pub of_sectors : AllByRecursion P (numbers_of 1 1 book) → Sectors P book
   of_sectors h = all_unmapped P (λ (row : SectorRow). row.seq) (sector_rows book) h
 
-  pub of_components : AllByRecursion P (numbers_of 2 book) → Components P book
+  pub of_components : AllByRecursion P (numbers_of 1 2 book) → Components P book
   of_components h =
       let each : (serial : List ℕ) → is_some (component book serial) ≡ true → P (or_zero (seq_of_serial book serial)) =
       λ serial known. of_number P (or_zero (seq_of_serial book serial)) (component_rows book) h (component_has_row book b serial known) in
@@ -107,11 +124,20 @@ module _ (P : ℕ → Type 0) (book : List Entry) (b : IsBook book) where
         spans,
       )
 
-  pub of_totals : AllByRecursion P (numbers_of 3 book) → Totals P book
+  pub of_totals : AllByRecursion P (numbers_of 1 3 book) → Totals P book
   of_totals h = totals_of P book (items book) h
 
-  pub of_bases : AllByRecursion P (numbers_of 4 book) → Bases P book
+  pub of_bases : AllByRecursion P (numbers_of 1 4 book) → Bases P book
   of_bases h = rows_of_all book P (items book) h
+
+  pub of_deferrals : AllByRecursion P (numbers_of 2 1 book) → Deferrals P book
+  of_deferrals h = (
+      all_unmapped P (λ (row : DeferralRow). row.seq) (deferral_rows book) h,
+      all_unmapped P (λ (row : FoundRow). row.seq) (found_rows book) (subst (AllByRecursion P) (sym (found_numbers book)) h),
+    )
+
+  pub of_accomplishments : AllByRecursion P (numbers_of 2 2 book) → Accomplishments P book
+  of_accomplishments h = (rows_of_all book P (items book) h, done_of_all book P (items book) h)
 
 -- ── numbers that are not 0, and numbers that are up to a mark ──
 
@@ -125,8 +151,8 @@ all_some : (low high : ℕ) (ns : List ℕ) → 0 < low → IsRising self low ns
 all_some low high [] h up = tt
 all_some low high (n ∷ ns) h up = (omega (arith, up.0), all_some (n + 1) high ns (omega arith) up.1)
 
-pub numbers_some : (book : List Entry) → IsBook book → (step : ℕ) → AllByRecursion IsSome (numbers_of step book)
-numbers_some book b step = all_some 1 (length book + 1) (numbers_of step book) (omega arith) (numbers_rising book b step)
+pub numbers_some : (book : List Entry) → IsBook book → (layout step : ℕ) → AllByRecursion IsSome (numbers_of layout step book)
+numbers_some book b layout step = all_some 1 (length book + 1) (numbers_of layout step book) (omega arith) (numbers_rising book b layout step)
 
 all_up_to : (mark : ℕ) (ns : List ℕ) → filter (above self mark) ns ≡ [] → AllByRecursion (UpTo mark) ns
 all_up_to mark [] h = tt
@@ -137,8 +163,8 @@ all_up_to mark (n ∷ ns) h = at (nat_le n mark) refl h (all_up_to mark ns)
     at false e h rest = (cc)
 
 -- where the step has nothing left, all its numbers are up to the mark
-pub numbers_up_to : (book : List Entry) (at : Point) → next_mark at book ≡ None → AllByRecursion (UpTo at.mark) (numbers_of at.step book)
-numbers_up_to book at h = up (numbers_left at.step at.mark book) refl
+pub numbers_up_to : (book : List Entry) (at : Point) → next_mark at book ≡ None → AllByRecursion (UpTo at.mark) (numbers_of at.layout at.step book)
+numbers_up_to book at h = up (numbers_left at.layout at.step at.mark book) refl
   where
     none : (j : ℕ) (y : ℕ) (rest : List ℕ) → last_of (take (suc j) (y ∷ rest)) ≡ None → ⊥
     none j y rest h = let last = last_self y (take j rest) in (cc)
@@ -147,6 +173,6 @@ numbers_up_to book at h = up (numbers_left at.step at.mark book) refl
     sized y rest true h = none 63 y rest h
     sized y rest false h = none 0 y rest h
 
-    up : (l : List ℕ) → numbers_left at.step at.mark book ≡ l → AllByRecursion (UpTo at.mark) (numbers_of at.step book)
-    up [] e = all_up_to at.mark (numbers_of at.step book) e
+    up : (l : List ℕ) → numbers_left at.layout at.step at.mark book ≡ l → AllByRecursion (UpTo at.mark) (numbers_of at.layout at.step book)
+    up [] e = all_up_to at.mark (numbers_of at.layout at.step book) e
     up (y ∷ rest) e = absurd (sized y rest _ (ap (λ l. last_of (take (size_of at.step) l)) (sym e) ∙ h))

@@ -1,4 +1,4 @@
--- Worked points: a fleet of one aircraft, two engines and 130 sectors on its way from layout 1 to layout 2.
+-- Worked points: a fleet of one aircraft, two engines and 130 sectors on its way from layout 1 to layout 2 and on to layout 3.
 use Rattle.std.proofs.Common.{refl, ◌≡◌, ℕ, zero, suc, ◌+◌, length, List, [], ◌∷◌, Bool, true, false}
 use Rattle.std.specs.Prelude.{codes, map}
 use Rattle.mx_book.specs.commands.Act.{Entry, Flown, Released, Deferred, Extended}
@@ -7,8 +7,8 @@ use Rattle.mx_book.proofs.Worked.{at, abcd, logged}
 use Rattle.mx_book.proofs.WorkedFittings.{e1, e2, engine_with, first_aircraft, replaced}
 use Rattle.mx_registers.proofs.KeptProofs.WorkedKept.{overhauled}
 use Rattle.mx_base.specs.declared.point.Point.{Point}
-use Rattle.mx_registers.specs.points.Commits.{commits_of_move, point_behind, rounds, commits_left}
-use Rattle.mx_registers.specs.points.Points.{is_on_way, moving, next_point}
+use Rattle.mx_registers.specs.points.Commits.{commits_left, commits_of_move, commits_of_second_move, commits_to, point_behind, point_behind_to, rounds}
+use Rattle.mx_registers.specs.points.Points.{is_before, is_on_way, moving, next_point, next_point_to}
 use Rattle.mx_base.specs.Settled.{settled}
 use Rattle.mx_registers.specs.points.Tables.{bases_2, fittings_1, is_table_at, removals_1, rows_at, sectors_1, sectors_2, spans_2, totals_2, is_moved_at, entries_all, aircraft_all, places_all, components_all, programmes_all, tasks_all, openings_all, releases_all, release_lines_all, deferrals_all, extensions_all}
 use Rattle.mx_registers.specs.points.Moves.{sectors_mark, sectors_next, totals_mark, totals_next}
@@ -115,6 +115,14 @@ way_14 = refl
 way_15 : next_point (moving 4 3) fleet ≡ settled 2
 way_15 = refl
 
+-- with layout 2 the newest it stays there; on the way to layout 3 no deferral moves, and the accomplishments of each item are written
+way_on : map (λ p. next_point_to 3 p fleet) (settled 2 ∷ point 2 1 0 ∷ point 2 2 0 ∷ point 2 2 1 ∷ point 2 2 2 ∷ point 2 2 3 ∷ settled 3 ∷ [])
+    ≡ point 2 1 0 ∷ point 2 2 0 ∷ point 2 2 1 ∷ point 2 2 2 ∷ point 2 2 3 ∷ settled 3 ∷ settled 3 ∷ []
+way_on = refl
+
+way_ends : next_point (settled 2) fleet ≡ settled 2
+way_ends = refl
+
 -- 16 commits; and 14 for an aircraft, two engines that were fitted, one sector, a programme and the overhaul of an engine
 commits_of_fleet : commits_of_move fleet ≡ 16
 commits_of_fleet = refl
@@ -134,6 +142,34 @@ commits_from_67 = refl
 
 two_commits_on : point_behind 2 (moving 2 2) fleet ≡ moving 3 0
 two_commits_on = refl
+
+-- to layout 3 it is six commits more: 22 in all, two of them from the second item on, and 17 from layout 1 have begun the second move
+commits_to_layout_3 : map (λ p. commits_to 3 p fleet) (settled 2 ∷ settled 1 ∷ point 2 2 2 ∷ settled 3 ∷ []) ≡ 6 ∷ 22 ∷ 2 ∷ 0 ∷ []
+commits_to_layout_3 = refl
+
+seventeen_on : point_behind_to 3 17 (settled 1) fleet ≡ point 2 1 0
+seventeen_on = refl
+
+-- ── the way of deferrals ──
+
+-- so many deferrals of D-ABCD, the last first
+abbrev deferred : ℕ → List Entry
+deferred zero = []
+deferred (suc n) = logged (88 ∷ n ∷ []) (Deferred (record { tail = abcd; moment = at 19784 0 0; reference = codes "21-31-01"; category = C })) ∷ deferred n
+
+-- entry 1 is the aircraft, and 2 to 66 are deferrals
+abbrev long_list : List Entry
+long_list = first_aircraft ∷ deferred 65
+
+-- seven commits to layout 2, and six to layout 3
+commits_of_list : commits_left (settled 1) long_list ∷ commits_to 3 (settled 2) long_list ∷ commits_of_second_move long_list ∷ [] ≡ 7 ∷ 6 ∷ 6 ∷ []
+commits_of_list = refl
+
+-- 64 deferrals move at once, then the last, and then the accomplishments of the aircraft
+way_of_list : map (λ n. point_behind_to 3 n (settled 2) long_list) (1 ∷ 2 ∷ 3 ∷ 4 ∷ 5 ∷ 6 ∷ []) ≡ point 2 1 0 ∷ point 2 1 65 ∷ point 2 1 66 ∷ point 2 2 0 ∷ point 2 2 1 ∷ settled 3 ∷ []
+way_of_list = refl
+
+-- ── how many at a time ──
 
 times_64 : map (rounds 64) (0 ∷ 1 ∷ 64 ∷ 65 ∷ 130 ∷ []) ≡ 0 ∷ 1 ∷ 1 ∷ 2 ∷ 3 ∷ []
 times_64 = refl
@@ -206,6 +242,10 @@ others_off_way = refl
 
 others_stay : map (λ p. next_point p replaced) others ≡ others
 others_stay = refl
+
+-- on the way to layout 3 the points of the second move are too, up to its last step
+before_layout_3 : map (is_before 3) (settled 1 ∷ settled 2 ∷ point 2 1 65 ∷ point 2 2 3 ∷ point 2 3 0 ∷ point 2 0 1 ∷ settled 3 ∷ []) ≡ true ∷ true ∷ true ∷ true ∷ false ∷ false ∷ false ∷ []
+before_layout_3 = refl
 
 -- an entry's number is at most 1,000,000
 last_mark : is_on_way (moving 4 1000000) ≡ true

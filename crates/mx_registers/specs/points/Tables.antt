@@ -8,9 +8,11 @@ use Rattle.mx_base.specs.rows.Rows.{place_key, task_key, release_line_key}
 use Rattle.mx_base.specs.declared.rows.rows.AircraftRow.{AircraftRow}
 use Rattle.mx_base.specs.declared.rows.rows.ComponentRow.{ComponentRow}
 use Rattle.mx_base.specs.declared.rows.rows.DeferralRow.{DeferralRow}
+use Rattle.mx_base.specs.declared.rows.rows.DoneRow.{DoneRow}
 use Rattle.mx_base.specs.declared.rows.rows.EntryRow.{EntryRow}
 use Rattle.mx_base.specs.declared.rows.rows.ExtensionRow.{ExtensionRow}
 use Rattle.mx_base.specs.declared.rows.rows.FittingRow.{FittingRow}
+use Rattle.mx_base.specs.declared.rows.rows.FoundRow.{FoundRow}
 use Rattle.mx_base.specs.declared.rows.rows.OpeningRow.{OpeningRow}
 use Rattle.mx_base.specs.declared.rows.rows.PlaceRow.{PlaceRow}
 use Rattle.mx_base.specs.declared.rows.rows.ProgrammeRow.{ProgrammeRow}
@@ -23,6 +25,8 @@ use Rattle.mx_registers.specs.Registers.{aircraft_rows, component_rows, deferral
 use Rattle.mx_registers.specs.kept.Bases.{base_rows}
 use Rattle.mx_registers.specs.kept.Spans.{span_rows}
 use Rattle.mx_registers.specs.kept.Totals.{total_rows}
+use Rattle.mx_registers.specs.late.Done.{done_rows}
+use Rattle.mx_registers.specs.late.Found.{found_rows}
 use Rattle.mx_registers.specs.points.Points.{Step, has_moved, is_past, is_within_step, step_of}
 use Rattle.mx_base.specs.declared.rows.rows.BaseRow.{BaseRow}
 use Rattle.mx_base.specs.declared.rows.rows.SpanRow.{SpanRow}
@@ -94,15 +98,15 @@ releases_all = always release_rows (λ row. row.seq)
 abbrev pub release_lines_all : Line ReleaseLineRow
 release_lines_all = always release_line_rows release_line_key
 
--- the deferrals
-abbrev pub deferrals_all : Line DeferralRow
-deferrals_all = always deferral_rows (λ row. row.seq)
-
 -- the extensions
 abbrev pub extensions_all : Line ExtensionRow
 extensions_all = always extension_rows (λ row. row.seq)
 
--- ── the tables of one layout ──
+-- the deferrals, which stand in one table at each point of a file up to layout 2
+abbrev pub deferrals_all : Line DeferralRow
+deferrals_all = always deferral_rows (λ row. row.seq)
+
+-- ── the tables of some layouts ──
 
 -- the sectors, their moments as text
 abbrev pub sectors_1 : Line SectorRow
@@ -128,6 +132,22 @@ spans_2 = record { rows = span_rows; number = λ row. row.component; brought = S
 abbrev pub totals_2 : Line TotalRow
 totals_2 = record { rows = total_rows; number = λ row. row.item; brought = Some (step_of 1 3); taken = None }
 
--- the last bases
+-- the last bases, which go where the accomplishments of their item come
 abbrev pub bases_2 : Line BaseRow
-bases_2 = record { rows = base_rows; number = λ row. row.item; brought = Some (step_of 1 4); taken = None }
+bases_2 = record { rows = base_rows; number = λ row. row.item; brought = Some (step_of 1 4); taken = Some (step_of 2 2) }
+
+-- the deferrals, without the cycles at which each was found
+abbrev pub deferrals_2 : Line DeferralRow
+deferrals_2 = record { rows = deferral_rows; number = λ row. row.seq; brought = None; taken = Some (step_of 2 1) }
+
+-- the deferrals, with these cycles beside them
+abbrev pub deferrals_3 : Line DeferralRow
+deferrals_3 = record { rows = deferral_rows; number = λ row. row.seq; brought = Some (step_of 2 1); taken = None }
+
+-- the cycles at which each was found
+abbrev pub found_3 : Line FoundRow
+found_3 = record { rows = found_rows; number = λ row. row.seq; brought = Some (step_of 2 1); taken = None }
+
+-- the accomplishments, in place of the last bases
+abbrev pub done_3 : Line DoneRow
+done_3 = record { rows = done_rows; number = λ row. row.item; brought = Some (step_of 2 2); taken = None }

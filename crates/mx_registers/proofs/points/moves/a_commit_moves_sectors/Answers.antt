@@ -3,4 +3,4 @@ use Rattle.mx_registers.proofs.PointsProofs.StepLemmas.{sectors_next_point}
 use Rattle.mx_registers.proofs.points.moves.a_commit_moves_sectors.Goals as goal
 
 pub returns : goal.returns
-returns c = record { rows = λ book mark b. let h = sectors_moved book mark b in record { brought = h.0; taken = h.1 }; point = sectors_next_point }
+returns c = record { rows = sectors_moved; point = sectors_next_point }
