@@ -42,8 +42,8 @@
 //!   they led to: `settle`: `settles` (`Settles`: `damaged`).
 //! - Whatever rows there are, with 8,000,000 commits a file ends at the newest layout, or a fault is answered:
 //!   `settle`: `settles` (`Settles`: `ends`).
-//! - Where the tables of layout 1 stood for a book and no fault is answered, the file is settled at layout 2 with as
-//!   many commits as its move takes, and with fewer it is on the way: `settle`: `enough`, `fewer`.
+//! - Where the tables of layout 1 stood for a book and no fault is answered, the file is settled at the newest
+//!   layout with as many commits as its move takes, and with fewer it is on the way: `settle`: `enough`, `fewer`.
 
 pub mod advancing;
 mod choosing;
@@ -57,5 +57,5 @@ pub mod settling;
 
 pub use advancing::advance;
 pub use due::Due;
-pub use place::NEWEST_LAYOUT;
+pub use mx_registers::points::NEWEST_LAYOUT;
 pub use settling::{ENOUGH_COMMITS, settle};

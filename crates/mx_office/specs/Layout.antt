@@ -3,7 +3,7 @@ use Rattle.sqlite.specs.Schema.{Schema}
 use Rattle.mx_base.specs.declared.point.Point.{Point}
 use Rattle.mx_base.specs.Settled.{settled}
 use Rattle.mx_book_tables.specs.stands.Schemas.{schema_at}
-use Rattle.mx_migrate.specs.declared.settle.place.TheConstants.{NEWEST_LAYOUT}
+use Rattle.mx_registers.specs.declared.points.points.TheConstants.{NEWEST_LAYOUT}
 
 -- the point of each file of the office
 abbrev pub office_point : Point

@@ -5,6 +5,7 @@ use Rattle.sqlite.specs.Order.{Row}
 use Rattle.sqlite.specs.Schema.{Schema}
 use Rattle.mx_base.specs.declared.point.Point.{Point}
 use Rattle.mx_base.specs.Settled.{settled}
+use Rattle.mx_registers.specs.declared.points.points.TheConstants.{NEWEST_LAYOUT}
 use Rattle.mx_base.specs.declared.rows.rows.SpanRow.{SpanRow}
 use Rattle.mx_base.specs.declared.rows.rows.TotalRow.{TotalRow}
 use Rattle.mx_base.specs.declared.rows.rows.BaseRow.{BaseRow}
@@ -21,7 +22,7 @@ use Rattle.mx_apply.specs.writing.Changes.{all_in_place}
 
 -- the point of the files to which commands are written: settled at layout 2
 abbrev pub written_point : Point
-written_point = settled 2
+written_point = settled NEWEST_LAYOUT
 
 -- the schema has the tables of a file that is settled at layout 2, and behind them whatever tables and indexes; no table refers to another
 pub record IsSettled (schema : Schema) : Type 0 where

@@ -6,6 +6,7 @@ use Rattle.sqlite.specs.Order.{Row}
 use Rattle.sqlite.specs.State.{State, HasCleanDisk, IsUnchanged}
 use Rattle.sqlite.specs.Tree.{Trees}
 use Rattle.mx_base.specs.declared.point.Point.{Point}
+use Rattle.mx_registers.specs.declared.points.points.TheConstants.{NEWEST_LAYOUT}
 use Rattle.mx_layout.specs.TableName.{TableName}
 use Rattle.mx_layout.specs.declared.fault.TableFault.{TableFault}
 use Rattle.mx_layout.specs.declared.fault.TableFault.TheVariants as fault
@@ -36,13 +37,13 @@ all_same true true false is = absurd cc
 
 is_point : (at : Point) → is_verified_point at ≡ true → at ≡ verified_point
 is_point at is =
-    let each = all_same (nat_eq at.layout 2) (nat_eq at.step 0) (nat_eq at.mark 0) is in
+    let each = all_same (nat_eq at.layout NEWEST_LAYOUT) (nat_eq at.step 0) (nat_eq at.mark 0) is in
     same_point at verified_point (grind (arith, nat_tests, each.0)) (grind (arith, nat_tests, each.1)) (grind (arith, nat_tests, each.2))
 
 was_point : (at : Point) → point_cells at ∷ [] ≡ point_cells verified_point ∷ [] → is_verified_point at ≡ true
 was_point at same = rw (layout, step, mark) refl
   where
-    layout : at.layout ≡ 2
+    layout : at.layout ≡ NEWEST_LAYOUT
     layout = cc
 
     step : at.step ≡ 0

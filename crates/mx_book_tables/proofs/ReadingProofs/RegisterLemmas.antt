@@ -5,7 +5,7 @@ use Rattle.std.proofs.lemmas.List.Sorted.{All-permutation, IsPermutation-map, Is
 use Rattle.sqlite.specs.Schema.{Schema}
 use Rattle.sqlite.specs.Tree.{Trees}
 use Rattle.mx_book.specs.commands.Act.{Entry}
-use Rattle.mx_registers.specs.Registers.{sector_rows}
+use Rattle.mx_registers.specs.Registers.{deferral_rows, sector_rows}
 use Rattle.mx_registers.specs.kept.Spans.{span_rows}
 use Rattle.mx_base.specs.declared.point.Point.{Point}
 use Rattle.mx_registers.specs.points.Points.{moving}
@@ -135,7 +135,7 @@ registers_read at trees rows book moved are spans has =
       openings = read_as at table.Opening kept_opening openings_all (facts table.Opening) trees book all.openings rows.registers.rows.openings.items are.openings (has.fit table.Opening refl) (has.tables table.Opening refl);
       releases = read_as at table.Crs kept_crs releases_all (facts table.Crs) trees book all.releases rows.registers.rows.releases.items are.releases (has.fit table.Crs refl) (has.tables table.Crs refl);
       release_lines = read_as at table.CrsLine kept_crs_line release_lines_all (facts table.CrsLine) trees book all.release_lines rows.registers.rows.release_lines.items are.release_lines (has.fit table.CrsLine refl) (has.tables table.CrsLine refl);
-      deferrals = read_as at table.Defect kept_defect deferrals_all (facts table.Defect) trees book all.deferrals rows.registers.rows.deferrals.items are.deferrals (has.fit table.Defect refl) (has.tables table.Defect refl);
+      deferrals = read_as at table.Defect kept_defect deferrals_all (facts table.Defect) trees book (all_there (deferral_rows book)) rows.registers.rows.deferrals.items are.deferrals (has.fit table.Defect refl) (has.tables table.Defect refl);
       extensions = read_as at table.Extension kept_extension extensions_all (facts table.Extension) trees book all.extensions rows.registers.rows.extensions.items are.extensions (has.fit table.Extension refl) (has.tables table.Extension refl);
       sectors = read_as at table.Sector2 kept_sector2 sectors_2 (facts table.Sector2) trees book moved.sectors rows.registers.rows.sectors.items are.sectors (has.fit table.Sector2 moved.flown) (has.tables table.Sector2 moved.flown);
       spans = read_as at table.Span2 kept_span2 spans_2 (facts table.Span2) trees book moved.spans rows.spans.items spans (has.fit table.Span2 moved.fitted) (has.tables table.Span2 moved.fitted);

@@ -5,6 +5,8 @@ use Rattle.mx_book.specs.declared.limits.TheConstants.{MOST_ENTRIES}
 use Rattle.mx_base.specs.declared.point.Point.{Point}
 use Rattle.mx_base.specs.Settled.{settled}
 use Rattle.mx_registers.specs.points.Points.{is_on_way, moving}
+use Rattle.mx_registers.specs.declared.points.points.TheConstants.{NEWEST_LAYOUT}
+use Rattle.mx_registers.proofs.PointsProofs.CommitLemmas.{way_point}
 use Rattle.mx_book_tables.specs.stands.Schemas.{IsOfFile}
 
 pub and_left : (a b : Bool) → a && b ≡ true → a ≡ true
@@ -18,8 +20,8 @@ and_right false b h = (cc)
 low_enough : {A : Type 0} (a b : ℕ) → b < a → nat_le a b ≡ true → A
 low_enough a b above h = elim (leb_tells a b) [ inl t ↦ absurd (omega arith) | inr t ↦ absurd cc ]
 
--- what holds settled at layout 1, in each step of the move from there at any mark, and settled at layout 2, holds wherever a file can be
-module _ (P : Point → Type 0) (first : P (settled 1)) (sectors : (mark : ℕ) → P (moving 1 mark)) (components : (mark : ℕ) → P (moving 2 mark)) (totals : (mark : ℕ) → P (moving 3 mark)) (bases : (mark : ℕ) → P (moving 4 mark)) (second : P (settled 2)) where
+-- what holds settled at layout 1, in each step of the move from there at any mark, and settled at the newest layout, holds wherever a file can be
+module _ (P : Point → Type 0) (first : P (settled 1)) (sectors : (mark : ℕ) → P (moving 1 mark)) (components : (mark : ℕ) → P (moving 2 mark)) (totals : (mark : ℕ) → P (moving 3 mark)) (bases : (mark : ℕ) → P (moving 4 mark)) (newest : P (settled NEWEST_LAYOUT)) where
   by_step : (step mark : ℕ) → is_on_way (moving step mark) ≡ true → P (moving step mark)
   by_step zero mark h = subst (λ m. P (moving 0 m)) (sym ((Decides-eqb mark 0).0 (and_right (nat_le mark MOST_ENTRIES) (nat_eq mark 0) h))) first
   by_step (suc zero) mark h = sectors mark
@@ -29,11 +31,8 @@ module _ (P : Point → Type 0) (first : P (settled 1)) (sectors : (mark : ℕ) 
   by_step (suc (suc (suc (suc (suc step))))) mark h = low_enough (suc (suc (suc (suc (suc step))))) 4 (omega arith) (and_left _ _ h)
 
   on_way : (at : Point) → is_on_way at ≡ true → P at
-  on_way at h =
-      let is = (Decides-eqb at.layout 1).0 (and_left _ _ (and_left _ _ h)) in
-      subst (λ (layout : ℕ). P (record { layout = layout; step = at.step; mark = at.mark })) (sym is)
-      (by_step at.step at.mark (subst (λ (layout : ℕ). is_on_way (record { layout = layout; step = at.step; mark = at.mark }) ≡ true) is h))
+  on_way at h = let same = way_point at h in subst P (sym same) (by_step at.step at.mark (subst (λ p. is_on_way p ≡ true) same h))
 
   pub by_point : (at : Point) → IsOfFile at → P at
   by_point at (inl h) = on_way at h
-  by_point at (inr is) = subst P (sym is) second
+  by_point at (inr is) = subst P (sym is) newest

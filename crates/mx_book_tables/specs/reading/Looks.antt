@@ -4,6 +4,7 @@ use Rattle.std.specs.Bool.{Decides}
 use Rattle.sqlite.specs.Tree.{Trees}
 use Rattle.sqlite.specs.State.{State, HasCleanDisk, IsUnchanged}
 use Rattle.mx_base.specs.declared.point.Point.{Point}
+use Rattle.mx_registers.specs.declared.points.points.TheConstants.{NEWEST_LAYOUT}
 use Rattle.mx_layout.specs.TableName.{TableName}
 use Rattle.mx_layout.specs.declared.fault.TableFault.{TableFault}
 use Rattle.mx_layout.specs.declared.fault.TableFault.TheVariants as fault
@@ -39,7 +40,7 @@ pub record TellsPoint (trees : Trees) (at_point : Bool) : Type 0 where
 
 -- this is that point
 abbrev pub is_verified_point : Point → Bool
-is_verified_point at = nat_eq at.layout 2 && (nat_eq at.step 0 && nat_eq at.mark 0)
+is_verified_point at = nat_eq at.layout NEWEST_LAYOUT && (nat_eq at.step 0 && nat_eq at.mark 0)
 
 -- whether what was read is that point: there is none where `office` has not exactly one row
 abbrev pub told_point : Result Point TableFault → Result Bool TableFault

@@ -5,6 +5,7 @@ use Rattle.sqlite.specs.Schema.{Schema}
 use Rattle.sqlite_schema.specs.declared.schema.Index.{Index}
 use Rattle.mx_base.specs.declared.point.Point.{Point}
 use Rattle.mx_base.specs.Settled.{settled}
+use Rattle.mx_registers.specs.declared.points.points.TheConstants.{NEWEST_LAYOUT}
 use Rattle.mx_registers.specs.points.Points.{Step, step_of, is_past, is_within_step, is_on_way}
 use Rattle.mx_layout.specs.Names.{table_named}
 use Rattle.mx_layout.specs.Tables.{unique, span2_by_component, span2_by_aircraft, span2_by_remove_seq, crs_line_by_defect, extension_by_defect, defect_by_aircraft}
@@ -44,7 +45,7 @@ HasTablesAt at = HasBehind (own_at at)
 
 -- a file can be at this point: on the way to the newest layout, or settled there
 abbrev pub IsOfFile : Point → Type 0
-IsOfFile at = (is_on_way at ≡ true) ⊎ (at ≡ settled 2)
+IsOfFile at = (is_on_way at ≡ true) ⊎ (at ≡ settled NEWEST_LAYOUT)
 
 -- how many statements have made the tables of a file at this point, those of the first layout and those of the moves
 abbrev pub statements_at : Point → ℕ

@@ -5,6 +5,7 @@ ghost use Rattle.mx_book_tables.specs.reading.Looks.{Looks, TellsPoint, told_poi
 
 use mx_base::Point;
 use mx_layout::{TableFault, point_in};
+use mx_registers::points::NEWEST_LAYOUT;
 use sqlite::{Alter, Transaction};
 
 // Whether what was read is the point.
@@ -12,7 +13,7 @@ fn told_point(read: Result<Point, TableFault>) -> Result<bool, TableFault>
     ensures { result ≡ told_point read }
 {
     match read {
-        Ok(at) => Ok(at.layout == 2 && at.step == 0 && at.mark == 0),
+        Ok(at) => Ok(at.layout == NEWEST_LAYOUT && at.step == 0 && at.mark == 0),
         Err(TableFault::NotOurs) => Ok(false),
         Err(fault) => Err(fault),
     }

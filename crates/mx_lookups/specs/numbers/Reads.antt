@@ -5,6 +5,7 @@ use Rattle.sqlite.specs.State.{State, HasCleanDisk}
 use Rattle.mx_book.specs.commands.Act.{Entry}
 use Rattle.mx_base.specs.declared.point.Point.{Point}
 use Rattle.mx_base.specs.Settled.{settled}
+use Rattle.mx_registers.specs.declared.points.points.TheConstants.{NEWEST_LAYOUT}
 use Rattle.mx_layout.specs.TableName.{TableName}
 use Rattle.mx_layout.specs.declared.fault.TableFault.{TableFault}
 use Rattle.mx_layout.specs.declared.fault.TableFault.TheVariants.{Memory, Store, Damaged}
@@ -16,7 +17,7 @@ use Rattle.mx_lookups.specs.numbers.Damage.{IsDamaged}
 
 -- the point at which rows are looked up
 abbrev pub rows_point : Point
-rows_point = settled 2
+rows_point = settled NEWEST_LAYOUT
 
 -- the schema has the tables that a file has there, and behind them whatever tables and indexes
 unfoldable pub HasTablesOfRows : Schema → Type 0

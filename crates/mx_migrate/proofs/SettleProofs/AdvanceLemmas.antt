@@ -8,6 +8,7 @@ use Rattle.sqlite.specs.Tree.{Trees}
 use Rattle.sqlite.proofs.StateLemmas.{survives_then}
 use Rattle.mx_book.specs.commands.Act.{Entry}
 use Rattle.mx_base.specs.declared.point.Point.{Point}
+use Rattle.mx_registers.specs.declared.points.points.TheConstants.{NEWEST_LAYOUT}
 use Rattle.mx_base.specs.Settled.{settled}
 use Rattle.mx_registers.specs.points.Points.{next_point}
 use Rattle.mx_layout.specs.TableName.{TableName}
@@ -75,7 +76,7 @@ same_now of P old new nothing rests clean is_open =
     nothing.now_is clean is_open ∙ sym (rests.settled early (nothing.was_open clean is_open))
 
 -- at the newest layout the point stays
-pub newest_stays : (book : List Entry) → next_point (settled 2) book ≡ settled 2
+pub newest_stays : (book : List Entry) → next_point (settled NEWEST_LAYOUT) book ≡ settled NEWEST_LAYOUT
 newest_stays book = refl
 
 -- ── the point was not answered ──
@@ -198,7 +199,7 @@ module _ (old mid ready : State) (from : Point) (tells : TellsPlace old mid (Ok 
   -- none was due
   pub stays : Chooses from known after mid ready (Ok None) → Advances old ready (Ok from)
   stays c =
-      let newest : from ≡ settled 2 = c.fits from_file in
+      let newest : from ≡ settled NEWEST_LAYOUT = c.fits from_file in
       record {
         clean = both.survives.clean;
         untouched = tt;
@@ -210,7 +211,7 @@ module _ (old mid ready : State) (from : Point) (tells : TellsPlace old mid (Ok 
 
   pub rows_stay : Chooses from known after mid ready (Ok None) → (at : Point) → IsPlacedAt at old → AdvancesRows at old ready (Ok from)
   rows_stay c at placed =
-      let newest : from ≡ settled 2 = c.fits from_file in
+      let newest : from ≡ settled NEWEST_LAYOUT = c.fits from_file in
       record {
         made = λ other clean. absurd (other (sym (placed_from at placed (ready_mid clean)) ∙ newest));
         left = λ clean db may. inl (left_before clean db may);
@@ -232,9 +233,9 @@ module _ (old mid ready : State) (from : Point) (tells : TellsPlace old mid (Ok 
 
     pub book_stays : Chooses from known after mid ready (Ok None) → AdvancesBook book old ready (Ok from)
     book_stays c =
-        let newest : from ≡ settled 2 = c.fits from_file in
+        let newest : from ≡ settled NEWEST_LAYOUT = c.fits from_file in
         let stays_at : (at : Point) → RestsAt at old book → HasCleanDisk ready → at ≡ next_point at book =
-        λ at rests clean. (let here : at ≡ settled 2 = sym (rests_from at book rests (ready_mid clean)) ∙ newest in here ∙ ap (λ p. next_point p book) (sym here)) in
+        λ at rests clean. (let here : at ≡ settled NEWEST_LAYOUT = sym (rests_from at book rests (ready_mid clean)) ∙ newest in here ∙ ap (λ p. next_point p book) (sym here)) in
         record {
           moved = λ at rests clean. rests_from at book rests (ready_mid clean) ∙ stays_at at rests clean;
           kept = λ at rests. rests_point ready at (next_point at book) book (stays_at at rests) (still at book old ready both rests);
@@ -296,11 +297,11 @@ module _ (old mid ready : State) (from : Point) (tells : TellsPlace old mid (Ok 
               (λ clean db makes. due_says step at to ready.now.trees db (file_fits to (later at placed clean).0) ((placed_still at old ready both placed).tables (late clean) (r.opened clean).0) makes) (made at placed);
           later = λ at placed clean. (let far = later at placed clean in (far.0, inr far.1));
           opened = λ at placed _ clean. (let opened = r.opened clean in (open_old (late clean) opened.0, opened.1));
-          ended = λ placed clean. (let far = later (settled 2) placed clean in absurd (none_behind to far.0 far.1));
+          ended = λ placed clean. (let far = later (settled NEWEST_LAYOUT) placed clean in absurd (none_behind to far.0 far.1));
         }
       where
         -- no point that a file can be at is behind the newest layout
-        none_behind : (to : Point) → IsOfFile to → IsBehind (settled 2) to → ⊥
+        none_behind : (to : Point) → IsOfFile to → IsBehind (settled NEWEST_LAYOUT) to → ⊥
         none_behind to file (inl newer) = (let b = bounds to file in absurd (omega (arith, b.layout)))
         none_behind to file (inr (layout, inl further)) = (let b = bounds to file in let zero = b.newest (sym layout) in absurd (omega (arith, zero.0)))
         none_behind to file (inr (layout, inr (step, greater))) = (let b = bounds to file in let zero = b.newest (sym layout) in absurd (omega (arith, zero.1)))

@@ -10,6 +10,7 @@ use Rattle.sqlite.specs.Tree.{Trees}
 use Rattle.mx_book.specs.commands.Act.{Entry}
 use Rattle.mx_base.specs.declared.rows.rows.SectorRow.{SectorRow}
 use Rattle.mx_base.specs.declared.point.Point.{Point}
+use Rattle.mx_registers.specs.declared.points.points.TheConstants.{NEWEST_LAYOUT}
 use Rattle.mx_base.specs.Settled.{settled}
 use Rattle.mx_registers.specs.points.Moves.{last_moved}
 use Rattle.mx_registers.specs.points.Points.{moving}
@@ -104,13 +105,13 @@ chooses_step at old new step here due goes called = record {
 }
 
 -- no step is due
-pub settled_at : (at : Point) → IsOfFile at → 2 ≤ at.layout → at ≡ settled 2
+pub settled_at : (at : Point) → IsOfFile at → NEWEST_LAYOUT ≤ at.layout → at ≡ settled NEWEST_LAYOUT
 settled_at at file newest =
     let b = bounds at file in
-    let two : at.layout ≡ 2 = omega (arith, b.layout) in
-    same_point at (settled 2) two (b.newest two).0 (b.newest two).1
+    let two : at.layout ≡ NEWEST_LAYOUT = omega (arith, b.layout) in
+    same_point at (settled NEWEST_LAYOUT) two (b.newest two).0 (b.newest two).1
 
-pub chooses_none : (at : Point) (known : Option KeptRows) (old new : State) → 2 ≤ at.layout → Chooses at known known old new (Ok None)
+pub chooses_none : (at : Point) (known : Option KeptRows) (old new : State) → NEWEST_LAYOUT ≤ at.layout → Chooses at known known old new (Ok None)
 chooses_none at known old new newest = record {
   fits = λ file. settled_at at file newest;
   due = λ _ _ _ _ _. tt;
@@ -140,14 +141,14 @@ chooses_beside at known old new result c = record {
 -- ── the new table of sectors ──
 
 -- a point below the newest layout is in its step
-in_step : (at : Point) (step : ℕ) → at.layout < 2 → at.step ≡ step → IsOfFile at → at ≡ moving step at.mark
+in_step : (at : Point) (step : ℕ) → at.layout < NEWEST_LAYOUT → at.step ≡ step → IsOfFile at → at ≡ moving step at.mark
 in_step at step older is file = let b = bounds at file in same_point at (moving step at.mark) (omega (arith, b.first)) is refl
 
 -- and before the steps it is settled at layout 1
-first_at : (at : Point) → at.layout < 2 → at.step ≡ 0 → IsOfFile at → at ≡ settled 1
+first_at : (at : Point) → at.layout < NEWEST_LAYOUT → at.step ≡ 0 → IsOfFile at → at ≡ settled 1
 first_at at older first file = let b = bounds at file in same_point at (settled 1) (omega (arith, b.first)) first (b.start first)
 
-pub table_due : (at : Point) (old new : State) (step : CreateSectors) → at.layout < 2 → at.step ≡ 0 → Chooses at None None old new (Ok (Some (due.SectorTable step)))
+pub table_due : (at : Point) (old new : State) (step : CreateSectors) → at.layout < NEWEST_LAYOUT → at.step ≡ 0 → Chooses at None None old new (Ok (Some (due.SectorTable step)))
 table_due at old new step older first = chooses_step at old new (due.SectorTable step) (first_at at older first) (λ _ _ _ _. tt)
     (λ file _ _ to trees it. later at to (moving 1 0) (inl refl) (subst (λ p. IsBehind p (moving 1 0)) (sym (first_at at older first file)) (inr (refl, inl (omega arith)))) it.point)
     (λ _ _. tt)
@@ -262,12 +263,12 @@ last_step_of at not_0 not_1 not_2 not_3 file = by at.step refl (bounds at file).
     by (suc (suc (suc (suc zero)))) is low = is
     by (suc (suc (suc (suc (suc n))))) is low = absurd (omega (arith, low))
 
-pub chooses_at : (at : Point) (known after : Option KeptRows) (step : ℕ) (old new : State) (result : Result (Option Due) TableFault) → at.layout < 2 → (IsOfFile at → at.step ≡ step) → Chooses (moving step at.mark) known after old new result → Chooses at known after old new result
+pub chooses_at : (at : Point) (known after : Option KeptRows) (step : ℕ) (old new : State) (result : Result (Option Due) TableFault) → at.layout < NEWEST_LAYOUT → (IsOfFile at → at.step ≡ step) → Chooses (moving step at.mark) known after old new result → Chooses at known after old new result
 chooses_at at known after step old new result older is c =
     let there : IsOfFile at → at ≡ moving step at.mark = λ f. in_step at step older (is f) f in
     let file : IsOfFile at → IsOfFile (moving step at.mark) = λ f. subst IsOfFile (there f) f in
     record {
-      fits = λ f. subst (λ p. IfOk result (λ next. MatchOption next (p ≡ settled 2) (λ s. IsFor s p))) (sym (there f)) (c.fits (file f));
+      fits = λ f. subst (λ p. IfOk result (λ next. MatchOption next (p ≡ settled NEWEST_LAYOUT) (λ s. IsFor s p))) (sym (there f)) (c.fits (file f));
       due = λ book f clean stands knows. subst (λ p. IfOk result (λ next. IfSome next (λ s. IsDueAt s p book))) (sym (there f)) (c.due book (file f) clean (λ is_open. subst (λ p. StandsIn p book old.now) (there f) (stands is_open)) knows);
       stops = λ book f clean stands knows. c.stops book (file f) clean (λ is_open. subst (λ p. StandsIn p book old.now) (there f) (stands is_open)) knows;
       knows = λ book f clean stands knows. c.knows book (file f) clean (λ is_open. subst (λ p. StandsIn p book old.now) (there f) (stands is_open)) knows;

@@ -5,6 +5,7 @@ use Rattle.sqlite.specs.Held.{Held, state}
 use Rattle.sqlite.specs.State.{State, HasCleanDisk}
 use Rattle.sqlite.specs.Store.{Ghosts}
 use Rattle.mx_base.specs.declared.point.Point.{Point}
+use Rattle.mx_registers.specs.declared.points.points.TheConstants.{NEWEST_LAYOUT}
 use Rattle.mx_registers.specs.points.Points.{is_on_way}
 use Rattle.mx_layout.specs.declared.fault.TableFault.{TableFault}
 use Rattle.mx_layout.specs.Crash.{ChangesNothing}
@@ -21,9 +22,9 @@ use Rattle.mx_migrate.proofs.SettleProofs.PlaceLemmas.{checked_same}
 -- ── points on the way ──
 
 -- below the newest layout each point of a file is
-pub way_below : (at : Point) → IsOfFile at → at.layout < 2 → is_on_way at ≡ true
+pub way_below : (at : Point) → IsOfFile at → at.layout < NEWEST_LAYOUT → is_on_way at ≡ true
 way_below at (inl way) older = way
-way_below at (inr is) older = let two : at.layout ≡ 2 = ap (λ (p : Point). p.layout) is in absurd (omega (arith, two, older))
+way_below at (inr is) older = let two : at.layout ≡ NEWEST_LAYOUT = ap (λ (p : Point). p.layout) is in absurd (omega (arith, two, older))
 
 layout_of : (step : Due) (at : Point) → IsFor step at → at.layout ≡ 1
 layout_of (due.SectorTable step) at here = ap (λ (p : Point). p.layout) here
@@ -100,20 +101,20 @@ pub record HasFollowed {S : Type 0} (g : Ghosts S) (was : Held S) (now : State) 
   pub tells : TellsPlace (state g was) (state g mid) (Ok from)
   pub read : HasCleanDisk (state g mid) → TellsRead g was (Ok from)
   pub early : HasCleanDisk now → HasCleanDisk (state g mid)
-  pub moved : ((end ≡ from) × ChangesNothing (state g was) now) ⊎ (from.layout < 2)
+  pub moved : ((end ≡ from) × ChangesNothing (state g was) now) ⊎ (from.layout < NEWEST_LAYOUT)
 
 pub followed_none : {S : Type 0} (g : Ghosts S) (was mid : Held S) (from : Point) → TellsPlace (state g was) (state g mid) (Ok from) → (HasCleanDisk (state g mid) → TellsRead g was (Ok from)) → HasFollowed g was (state g mid) from
 followed_none g was mid from tells read = record { from = from; mid = mid; tells = tells; read = read; early = λ clean. clean; moved = inl (refl, tells.unchanged) }
 
 module _ {S : Type 0} (g : Ghosts S) (was : Held S) (now : State) where
-  pub followed_more : (end : Point) → HasFollowed g was now end → end.layout < 2 → (new : State) → (HasCleanDisk new → HasCleanDisk now) → (next : Point) → HasFollowed g was new next
+  pub followed_more : (end : Point) → HasFollowed g was now end → end.layout < NEWEST_LAYOUT → (new : State) → (HasCleanDisk new → HasCleanDisk now) → (next : Point) → HasFollowed g was new next
   followed_more end f older new clean next = record {
     from = f.from;
     mid = f.mid;
     tells = f.tells;
     read = f.read;
     early = λ late. f.early (clean late);
-    moved = elim f.moved [ inl still ↦ inr (subst (λ (p : Point). p.layout < 2) still.0 older) | inr below ↦ inr below ];
+    moved = elim f.moved [ inl still ↦ inr (subst (λ (p : Point). p.layout < NEWEST_LAYOUT) still.0 older) | inr below ↦ inr below ];
   }
 
   pub follows : (end : Point) → HasFollowed g was now end → (result : Result Point MoveFault) → FollowsPoint g was now result

@@ -1,5 +1,5 @@
 -- The point that a file is at, from what the reader of the point answers.
-use Rattle.std.proofs.Common.{◌≡◌, inl, inr, ◌≤◌, ◌&&◌, ◌||◌, ℕ, Bool, true, false, cond, not, nat_eq, nat_le, nat_lt, List, Ok, Err, Result, IsTrue, refl, sym, ap, subst, ◌∙◌, arith}
+use Rattle.std.proofs.Common.{◌≡◌, ◌⊎◌, inl, inr, ◌≤◌, ◌<◌, ◌&&◌, ◌||◌, ℕ, Bool, true, false, cond, not, nat_eq, nat_le, nat_lt, List, Ok, Err, Result, IsTrue, refl, sym, ap, subst, ◌∙◌, arith}
 use Rattle.std.specs.Prelude.{IfOk, OnOk}
 use Rattle.std.proofs.lemmas.Bool.Decides.{nat_tests}
 use Rattle.sqlite.proofs.Callers.{one_permutation}
@@ -10,7 +10,9 @@ use Rattle.mx_book.specs.commands.Act.{Entry}
 use Rattle.mx_book.specs.declared.limits.TheConstants.{MOST_ENTRIES}
 use Rattle.mx_base.specs.declared.point.Point.{Point}
 use Rattle.mx_base.specs.Settled.{settled}
-use Rattle.mx_registers.specs.points.Points.{is_on_way}
+use Rattle.mx_registers.specs.points.Points.{is_on_way, steps_from}
+use Rattle.mx_registers.specs.declared.points.points.TheConstants.{NEWEST_LAYOUT}
+use Rattle.mx_registers.proofs.PointsProofs.CommitLemmas.{before_parts}
 use Rattle.mx_layout.specs.declared.fault.Table.TheVariants as table
 use Rattle.mx_layout.specs.declared.fault.TableFault.{TableFault}
 use Rattle.mx_layout.specs.Contents.{rows_in}
@@ -35,28 +37,33 @@ same_point at other layout step mark = λ i. record { layout = layout i; step = 
 number_is : (a b : ℕ) → nat_eq a b ≡ true → a ≡ b
 number_is a b e = grind (arith, nat_tests)
 
-at_most : (a b : ℕ) → nat_le a b ≡ true → a ≤ b
-at_most a b e = grind (arith, nat_tests)
-
 -- the numbers of a point that a file can be at
 pub record Bounds (at : Point) : Type 0 where
-  pub layout : at.layout ≤ 2
+  pub layout : at.layout ≤ NEWEST_LAYOUT
   pub first : 1 ≤ at.layout
   pub step : at.step ≤ 4
   pub mark : at.mark ≤ MOST_ENTRIES
-  pub newest : at.layout ≡ 2 → (at.step ≡ 0) × (at.mark ≡ 0)
+  pub newest : at.layout ≡ NEWEST_LAYOUT → (at.step ≡ 0) × (at.mark ≡ 0)
   pub start : at.step ≡ 0 → at.mark ≡ 0
+
+-- below the newest layout a move leads from the first
+first_layout : (layout : ℕ) → layout < NEWEST_LAYOUT → (layout ≡ 1) ⊎ (layout ≡ 2) → layout ≡ 1
+first_layout layout under (inl one) = one
+first_layout layout under (inr two) = absurd (omega arith)
 
 pub bounds : (at : Point) → IsOfFile at → Bounds at
 bounds at (inl way) =
-    let one : at.layout ≡ 1 = number_is at.layout 1 (and_left _ _ (and_left _ _ way)) in
+    let parts = before_parts NEWEST_LAYOUT at way in
+    let one : at.layout ≡ 1 = first_layout at.layout parts.0 parts.1 in
+    let last = steps_from at.layout in
+    let start = and_right (nat_le at.mark MOST_ENTRIES) _ (and_right (nat_lt 0 last && nat_le at.step last) _ (and_right (nat_lt at.layout NEWEST_LAYOUT) _ way)) in
     record {
       layout = omega arith;
       first = omega arith;
-      step = at_most at.step 4 (and_right _ _ (and_left _ _ way));
-      mark = at_most at.mark MOST_ENTRIES (and_left _ _ (and_right _ _ way));
+      step = subst (λ l. at.step ≤ steps_from l) one parts.2.0;
+      mark = parts.2.1;
       newest = λ two. absurd (omega arith);
-      start = λ zero. number_is at.mark 0 (subst (λ (n : ℕ). not (nat_eq n 0) || nat_eq at.mark 0 ≡ true) zero (and_right _ _ (and_right _ _ way)));
+      start = λ zero. number_is at.mark 0 (subst (λ (n : ℕ). not (nat_eq n 0) || nat_eq at.mark 0 ≡ true) zero start);
     }
 bounds at (inr is) =
     subst Bounds (sym is) (record { layout = omega arith; first = omega arith; step = omega arith; mark = omega arith; newest = λ _. (refl, refl); start = λ _. refl })
@@ -65,14 +72,14 @@ pub file_fits : (at : Point) → IsOfFile at → FitsPoint at
 file_fits at file = let b = bounds at file in (omega (arith, b.layout), omega (arith, b.step), omega (arith, b.mark))
 
 abbrev is_newest : Point → Bool
-is_newest at = (nat_eq at.layout 2 && nat_eq at.step 0) && nat_eq at.mark 0
+is_newest at = (nat_eq at.layout NEWEST_LAYOUT && nat_eq at.step 0) && nat_eq at.mark 0
 
 pub of_file : (at : Point) → is_of_file at ≡ true → IsOfFile at
 of_file at e = by (is_on_way at) refl e
   where
     by : (b : Bool) → is_on_way at ≡ b → b || is_newest at ≡ true → IsOfFile at
     by true way h = inl way
-    by false way h = inr (same_point at (settled 2) (number_is at.layout 2 (and_left _ _ (and_left _ _ h))) (number_is at.step 0 (and_right _ _ (and_left _ _ h))) (number_is at.mark 0 (and_right _ _ h)))
+    by false way h = inr (same_point at (settled NEWEST_LAYOUT) (number_is at.layout NEWEST_LAYOUT (and_left _ _ (and_left _ _ h))) (number_is at.step 0 (and_right _ _ (and_left _ _ h))) (number_is at.mark 0 (and_right _ _ h)))
 
 pub is_file : (at : Point) → IsOfFile at → is_of_file at ≡ true
 is_file at (inl way) = ap (λ b. b || is_newest at) way
@@ -84,12 +91,12 @@ checks newer file at = cond newer (Err (stop.NewerLayout at.layout)) (cond file 
 pub checked_file : (at : Point) → IsOfFile at → checked at ≡ Ok at
 checked_file at file =
     let b = bounds at file in
-    let older : nat_lt 2 at.layout ≡ false = (let low = b.layout in grind (arith, nat_tests)) in
+    let older : nat_lt NEWEST_LAYOUT at.layout ≡ false = (let low = b.layout in grind (arith, nat_tests)) in
     ap (λ newer. checks newer (is_of_file at) at) older ∙ ap (λ known. checks false known at) (is_file at file)
 
 -- a point that is answered is one that a file can be at
 checked_is : (at : Point) → IfOk (checked at) IsOfFile
-checked_is at = by (nat_lt 2 at.layout) (is_of_file at) refl
+checked_is at = by (nat_lt NEWEST_LAYOUT at.layout) (is_of_file at) refl
   where
     by : (newer known : Bool) → is_of_file at ≡ known → IfOk (checks newer known at) IsOfFile
     by true known e = tt
@@ -148,7 +155,7 @@ placed_holds s at placed clean is_open = ((_, ap (λ (x : Schema). x.tables) (pl
 
 -- a point that is checked is answered as it is
 pub checked_same : (at p : Point) → checked at ≡ Ok p → p ≡ at
-checked_same at p e = by (nat_lt 2 at.layout) (is_of_file at) e
+checked_same at p e = by (nat_lt NEWEST_LAYOUT at.layout) (is_of_file at) e
   where
     by : (newer known : Bool) → checks newer known at ≡ Ok p → p ≡ at
     by true known e = absurd cc

@@ -8,6 +8,7 @@ use Rattle.sqlite.specs.Tree.{Trees}
 use Rattle.sqlite_trees.specs.View.{doubt}
 use Rattle.mx_book.specs.commands.Act.{Entry}
 use Rattle.mx_base.specs.declared.point.Point.{Point}
+use Rattle.mx_registers.specs.declared.points.points.TheConstants.{NEWEST_LAYOUT}
 use Rattle.mx_base.specs.Settled.{settled}
 use Rattle.mx_registers.specs.points.Commits.{commits_of_move, point_behind}
 use Rattle.mx_registers.specs.points.Points.{is_on_way, next_point}
@@ -65,11 +66,11 @@ behind_more zero at book = refl
 behind_more (suc n) at book = behind_more n (next_point at book) book
 
 -- behind the newest layout no commit leads further
-stays_behind : (most done : ℕ) (at : Point) (book : List Entry) → done ≤ most → point_behind done at book ≡ settled 2 → point_behind most at book ≡ settled 2
+stays_behind : (most done : ℕ) (at : Point) (book : List Entry) → done ≤ most → point_behind done at book ≡ settled NEWEST_LAYOUT → point_behind most at book ≡ settled NEWEST_LAYOUT
 stays_behind zero done at book low there = let same : done ≡ zero = omega arith in sym (ap (λ n. point_behind n at book) same) ∙ there
 stays_behind (suc most) done at book low there = by (nat_le done most) refl (λ under. stays_behind most done at book under there)
   where
-    by : (b : Bool) → nat_le done most ≡ b → (done ≤ most → point_behind most at book ≡ settled 2) → point_behind (suc most) at book ≡ settled 2
+    by : (b : Bool) → nat_le done most ≡ b → (done ≤ most → point_behind most at book ≡ settled NEWEST_LAYOUT) → point_behind (suc most) at book ≡ settled NEWEST_LAYOUT
     by true e before =
         let under : done ≤ most = grind (arith, nat_tests) in
         behind_more most at book ∙ ap (λ p. next_point p book) (before under) ∙ newest_stays book
@@ -148,7 +149,7 @@ module _ (old now : State) where
   abbrev GoesByRows : Option KeptRows → State → Result Point MoveFault → Type 0
   GoesByRows known new result = (at : Point) → IsPlacedAt at now → KnowsNow at known now → AdvancesRows at now new result
 
-  pub gone_more : (done : ℕ) (p q : Point) (known after : Option KeptRows) (new : State) → p.layout < 2 → HasGone done p known old now → Advances now new (Ok q) → GoesByRows known new (Ok q) → GoesKnowing known new (Ok q)
+  pub gone_more : (done : ℕ) (p q : Point) (known after : Option KeptRows) (new : State) → p.layout < NEWEST_LAYOUT → HasGone done p known old now → Advances now new (Ok q) → GoesByRows known new (Ok q) → GoesKnowing known new (Ok q)
       → ((at : Point) → IsPlacedAt at now → KnowsNow at known now → KnowsNow q after new) → ((at : Point) (book : List Entry) → RestsAt at now book → HasCleanDisk new → Knows known book → Knows after book) → HasGone (done + 1) q after old new
   gone_more done p q known after new older gone more rows goes still_kept still_knows =
       let one : suc done ≡ done + 1 = omega arith in
@@ -170,11 +171,11 @@ module _ (old now : State) where
         keeps = λ at placed. still_kept p (gone.placed at placed) (gone.keeps at placed);
       }
     where
-      not_newest : p ≢ settled 2
-      not_newest same = let two : p.layout ≡ 2 = ap (λ (r : Point). r.layout) same in absurd (omega (arith, two, older))
+      not_newest : p ≢ settled NEWEST_LAYOUT
+      not_newest same = let two : p.layout ≡ NEWEST_LAYOUT = ap (λ (r : Point). r.layout) same in absurd (omega (arith, two, older))
 
-      rises : IsOfFile p × (5000005 + done ≤ rank p) → IsOfFile q × (((p ≡ settled 2) × (q ≡ p)) ⊎ IsBehind p q) → IsOfFile q × (5000005 + (done + 1) ≤ rank q)
-      rises before (far, inl same) = (let two : p.layout ≡ 2 = ap (λ (r : Point). r.layout) same.0 in absurd (omega arith))
+      rises : IsOfFile p × (5000005 + done ≤ rank p) → IsOfFile q × (((p ≡ settled NEWEST_LAYOUT) × (q ≡ p)) ⊎ IsBehind p q) → IsOfFile q × (5000005 + (done + 1) ≤ rank q)
+      rises before (far, inl same) = (let two : p.layout ≡ NEWEST_LAYOUT = ap (λ (r : Point). r.layout) same.0 in absurd (omega arith))
       rises before (far, inr behind) = (far, omega (arith, before.1, rank_rises p q before.0 far behind))
 
   -- where a file can be at the first point, it can be at the one that was reached
@@ -230,8 +231,8 @@ module _ (old now : State) where
 
   pub gone_newest : (most done : ℕ) (p : Point) (known : Option KeptRows) → HasGone done p known old now → done ≤ most → 2 ≤ p.layout → Settles most old now (Ok p)
   gone_newest most done p known gone low newest =
-      let there : (at : Point) → IsPlacedAt at old → HasCleanDisk now → p ≡ settled 2 = λ at placed clean. settled_at p (gone.risen at placed clean).0 newest in
-      let behind : (at : Point) (book : List Entry) → RestsAt at old book → HasCleanDisk now → point_behind done at book ≡ settled 2 =
+      let there : (at : Point) → IsPlacedAt at old → HasCleanDisk now → p ≡ settled NEWEST_LAYOUT = λ at placed clean. settled_at p (gone.risen at placed clean).0 newest in
+      let behind : (at : Point) (book : List Entry) → RestsAt at old book → HasCleanDisk now → point_behind done at book ≡ settled NEWEST_LAYOUT =
       λ at book rests clean. sym (gone.reached at book rests clean) ∙ there at (rests_placed old at book rests) clean in
       let stay : (at : Point) (book : List Entry) → RestsAt at old book → HasCleanDisk now → point_behind done at book ≡ point_behind most at book =
       λ at book rests clean. behind at book rests clean ∙ sym (stays_behind most done at book low (behind at book rests clean)) in
@@ -282,13 +283,13 @@ if_ok P Q (Ok a) more h = more a h
 if_ok P Q (Err e) more h = tt
 
 module _ (book : List Entry) (at_most : ℕ) (old new : State) (result : Result Point MoveFault) (b : IsBook book) (settles : Settles at_most old new result) (rests : RestsAt (settled 1) old book) (clean : HasCleanDisk new) where
-  way : (point_behind (commits_of_move book) (settled 1) book ≡ settled 2) × ((k : ℕ) → k < commits_of_move book → is_on_way (point_behind k (settled 1) book) ≡ true)
+  way : (point_behind (commits_of_move book) (settled 1) book ≡ settled NEWEST_LAYOUT) × ((k : ℕ) → k < commits_of_move book → is_on_way (point_behind k (settled 1) book) ≡ true)
   way = reach book b (commits_of_move book) (settled 1) refl (from_first book b)
 
-  pub enough : commits_of_move book ≤ at_most → IfOk result (λ to. to ≡ settled 2)
+  pub enough : commits_of_move book ≤ at_most → IfOk result (λ to. to ≡ settled NEWEST_LAYOUT)
   enough more =
       let all = stays_behind at_most (commits_of_move book) (settled 1) book more way.0 in
-      if_ok (λ to. to ≡ point_behind at_most (settled 1) book) (λ to. to ≡ settled 2) result (λ to is. is ∙ all) (settles.reached (settled 1) book rests clean)
+      if_ok (λ to. to ≡ point_behind at_most (settled 1) book) (λ to. to ≡ settled NEWEST_LAYOUT) result (λ to is. is ∙ all) (settles.reached (settled 1) book rests clean)
 
   pub fewer : at_most < commits_of_move book → IfOk result (λ to. is_on_way to ≡ true)
   fewer less =

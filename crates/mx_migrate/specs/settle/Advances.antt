@@ -17,7 +17,7 @@ use Rattle.mx_migrate.specs.settle.Choices.{IsUnfit}
 use Rattle.mx_migrate.specs.settle.Due.{IsCalledFor, IsFor, IsOffFor, MakesBy}
 use Rattle.mx_migrate.specs.settle.Place.{IsBehind, IsMoveStop, IsPlacedAt}
 use Rattle.mx_migrate.specs.declared.settle.due.Due.{Due}
-use Rattle.mx_migrate.specs.declared.settle.place.TheConstants.{NEWEST_LAYOUT}
+use Rattle.mx_registers.specs.declared.points.points.TheConstants.{NEWEST_LAYOUT}
 
 -- these trees are what a step of the move that those call for makes of them, from the one point to the other
 abbrev pub IsStepTo : Point → Point → Trees → Trees → Type 0

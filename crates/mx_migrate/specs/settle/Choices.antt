@@ -37,7 +37,7 @@ use Rattle.mx_migrate.specs.settle.Items.{AreItemsOf, Knows, is_next}
 use Rattle.mx_migrate.specs.settle.Numbers.{late_table}
 use Rattle.mx_migrate.specs.settle.Place.{IsBehind}
 use Rattle.mx_migrate.specs.declared.settle.due.Due.{Due}
-use Rattle.mx_migrate.specs.declared.settle.place.TheConstants.{NEWEST_LAYOUT}
+use Rattle.mx_registers.specs.declared.points.points.TheConstants.{NEWEST_LAYOUT}
 
 -- ── the next number of a table ──
 

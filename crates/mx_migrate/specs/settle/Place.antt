@@ -18,7 +18,7 @@ use Rattle.mx_book_tables.specs.stands.Stands.{LiesAt}
 use Rattle.mx_faults.specs.Moving.{fault_from}
 use Rattle.mx_faults.specs.declared.moving.MoveFault.{MoveFault}
 use Rattle.mx_faults.specs.declared.moving.MoveFault.TheVariants.{Memory, Store, NotOurs, NewerLayout, Damaged}
-use Rattle.mx_migrate.specs.declared.settle.place.TheConstants.{NEWEST_LAYOUT}
+use Rattle.mx_registers.specs.declared.points.points.TheConstants.{NEWEST_LAYOUT}
 
 -- ── points ──
 

@@ -20,7 +20,7 @@ use Rattle.mx_faults.specs.declared.moving.MoveFault.{MoveFault}
 use Rattle.mx_faults.specs.declared.moving.MoveFault.TheVariants.{Store, Damaged}
 use Rattle.mx_migrate.specs.settle.Advances.{AreMoved, LeadsTo, Stops}
 use Rattle.mx_migrate.specs.settle.Place.{IsMoveStop, IsPlacedAt}
-use Rattle.mx_migrate.specs.declared.settle.place.TheConstants.{NEWEST_LAYOUT}
+use Rattle.mx_registers.specs.declared.points.points.TheConstants.{NEWEST_LAYOUT}
 use Rattle.mx_migrate.specs.declared.settle.settling.TheConstants.{ENOUGH_COMMITS}
 
 -- fewer commits than so many lead from these tables to those that a file has now, and there the table with this name stops it

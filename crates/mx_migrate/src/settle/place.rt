@@ -7,11 +7,8 @@ ghost use Rattle.mx_migrate.specs.settle.Place.{checked, is_of_file, TellsPlace,
 use mx_base::Point;
 use mx_faults::moving::{MoveFault, fault_of};
 use mx_layout::{Table, point};
-use mx_registers::points::is_on_way;
+use mx_registers::points::{NEWEST_LAYOUT, is_on_way};
 use sqlite::{Alter, Connection};
-
-/// The newest layout.
-pub const NEWEST_LAYOUT: u8 = 2;
 
 // Whether a file can be at the point: on the way to the newest layout, or settled there.
 fn is_of_file(at: Point) -> bool

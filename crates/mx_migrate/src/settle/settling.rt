@@ -13,15 +13,17 @@ ghost use Rattle.mx_book.specs.commands.Act.{Entry};
 ghost use Rattle.mx_book.specs.Book.{IsBook};
 ghost use Rattle.mx_base.specs.Settled.{settled};
 ghost use Rattle.mx_registers.specs.points.Commits.{commits_of_move};
+ghost use Rattle.mx_registers.specs.declared.points.points.TheConstants.{NEWEST_LAYOUT};
 ghost use Rattle.mx_registers.specs.points.Points.{is_on_way};
 ghost use Rattle.mx_book_tables.specs.stands.Stands.{RestsAt};
 ghost use Rattle.mx_migrate.specs.settle.Place.{FollowsPoint};
 ghost use Rattle.mx_migrate.specs.settle.Settles.{Settles};
 
 use crate::settle::advancing::advance_knowing;
-use crate::settle::place::{NEWEST_LAYOUT, place};
+use crate::settle::place::place;
 use mx_base::Point;
 use mx_faults::MoveFault;
+use mx_registers::points::NEWEST_LAYOUT;
 use sqlite::{Alter, Connection};
 use std::alloc::Global;
 
@@ -70,7 +72,7 @@ pub fn settle<S: Alter>(
     ensures enough { (book : List Entry) → IsBook book
         → RestsAt (settled 1) (state S.Store conn.old) book
         → HasCleanDisk (state S.Store conn.new) → commits_of_move book ≤ at_most
-        → IfOk result (λ to. to ≡ settled 2) }
+        → IfOk result (λ to. to ≡ settled NEWEST_LAYOUT) }
     ensures fewer { (book : List Entry) → IsBook book
         → RestsAt (settled 1) (state S.Store conn.old) book
         → HasCleanDisk (state S.Store conn.new) → at_most < commits_of_move book

@@ -18,19 +18,19 @@ of_last P n (x ∷ xs) all h = let same : x ≡ n = cc in subst P same all.0
 
 module _ (step mark thing : ℕ) (some : 0 < step) (last : step ≤ 4) (one : size_of step ≡ 1) (book : List Entry) (b : IsBook book) (due : next_mark (moving step mark) book ≡ Some thing) where
   abbrev numbers : List ℕ
-  numbers = numbers_of step book
+  numbers = numbers_of 1 step book
 
-  first : last_of (take 1 (numbers_left step mark book)) ≡ Some thing
-  first = subst (λ size. last_of (take size (numbers_left step mark book)) ≡ Some thing) one due
+  first : last_of (take 1 (numbers_left 1 step mark book)) ≡ Some thing
+  first = subst (λ size. last_of (take size (numbers_left 1 step mark book)) ≡ Some thing) one due
 
   -- it is the next behind the mark
   pub is_next : (mark < thing) × AllByRecursion (Apart mark thing) numbers
-  is_next = next_is_least mark thing 1 (length book + 1) numbers (numbers_rising book b step) first
+  is_next = next_is_least mark thing 1 (length book + 1) numbers (numbers_rising book b 1 step) first
 
   -- it is one of the book
   pub in_book : thing < length book + 1
   in_book =
-      let all = keys_below (λ (n : ℕ). n) 1 (length book + 1) numbers (numbers_rising book b step) in
+      let all = keys_below (λ (n : ℕ). n) 1 (length book + 1) numbers (numbers_rising book b 1 step) in
       of_last (λ n. n < length book + 1) thing _ (recursion_from_All (λ n. n < length book + 1) _ (All-filter (λ n. not (nat_le n mark)) (λ n. n < length book + 1) numbers all)) first
 
   -- the next point is that of the thing

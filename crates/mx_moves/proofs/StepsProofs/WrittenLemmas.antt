@@ -60,7 +60,7 @@ registers_fit at trees book stands flown_there fitted_there flown fitted =
       removals = removals_fit book stands.rows.is_book spans;
       releases = subst (All FitsRelease) all.releases (fit table.Crs refl);
       release_lines = subst (All FitsReleaseLine) all.release_lines (fit table.CrsLine refl);
-      deferrals = subst (All FitsDeferral) all.deferrals (fit table.Defect refl);
+      deferrals = subst (All FitsDeferral) (all_there (deferral_rows book)) (fit table.Defect refl);
     }
 
 fit_at_totals : (mark : ℕ) (trees : Trees) (book : List Entry) → StandsAt (moving 3 mark) trees book → FitRegisters book

@@ -29,7 +29,7 @@ use Rattle.mx_base.specs.declared.rows.rows.SpanRow.{SpanRow}
 use Rattle.mx_registers.specs.kept.Spans.{fitting_in, removal_in, span_rows}
 use Rattle.mx_registers.specs.points.Points.{Step, has_moved, is_past, is_within_step, step_of}
 use Rattle.mx_registers.specs.points.Same.{GiveSame, GiveSameRegisters}
-use Rattle.mx_registers.specs.points.Tables.{Line, fittings_1, is_table_at, removals_1, rows_at, sectors_1, sectors_2, spans_2, stands_there, always, entries_all, aircraft_all, places_all, components_all, programmes_all, tasks_all, openings_all, releases_all, release_lines_all, deferrals_2, deferrals_3, deferrals_all, extensions_all}
+use Rattle.mx_registers.specs.points.Tables.{Line, fittings_1, is_table_at, removals_1, rows_at, sectors_1, spans_2, stands_there, always, entries_all, aircraft_all, places_all, components_all, programmes_all, tasks_all, openings_all, releases_all, release_lines_all, deferrals_2, deferrals_all, extensions_all}
 use Rattle.mx_registers.proofs.KeptProofs.SpanRegisters.{fittings_in_spans, removals_in_spans}
 
 -- two rising lists of the same rows are one

@@ -132,9 +132,9 @@ module _ (P : ℕ → Type 0) (book : List Entry) (b : IsBook book) where
 
   pub of_deferrals : AllByRecursion P (numbers_of 2 1 book) → Deferrals P book
   of_deferrals h = (
-      all_unmapped P (λ (row : DeferralRow). row.seq) (deferral_rows book) h,
-      all_unmapped P (λ (row : FoundRow). row.seq) (found_rows book) (subst (AllByRecursion P) (sym (found_numbers book)) h),
-    )
+    all_unmapped P (λ (row : DeferralRow). row.seq) (deferral_rows book) h,
+    all_unmapped P (λ (row : FoundRow). row.seq) (found_rows book) (subst (AllByRecursion P) (sym (found_numbers book)) h),
+  )
 
   pub of_accomplishments : AllByRecursion P (numbers_of 2 2 book) → Accomplishments P book
   of_accomplishments h = (rows_of_all book P (items book) h, done_of_all book P (items book) h)
