@@ -1,5 +1,5 @@
 -- The text that shows the next component: what it is understood as, computed.
-use Rattle.std.proofs.Common.{◌≡◌, ◌∷◌, [], ℕ, List, Some, refl}
+use Rattle.std.proofs.Common.{◌∷◌, [], ℕ, List, Some, refl}
 use Rattle.std.specs.Prelude.{codes}
 use Rattle.sqlite.specs.Listing.{understood}
 use Rattle.sqlite_sql.specs.declared.ops.CompareOp.TheVariants.{Gt}

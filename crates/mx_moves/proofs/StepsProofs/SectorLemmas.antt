@@ -117,7 +117,7 @@ new_table : (mark : ℕ) (book : List Entry) → IsBook book
 new_table mark book is_book =
     let moved = sectors_next book mark in
     let had = rows_at sectors_2 (moving 1 mark) book in
-    subst (IsPermutation (map kept_sector2.as_cells moved ++ map kept_sector2.as_cells had)) (sym (map-append kept_sector2.as_cells had moved) ∙ ap (map kept_sector2.as_cells) (sym (moved_law book mark is_book).0))
+    subst (IsPermutation (map kept_sector2.as_cells moved ++ map kept_sector2.as_cells had)) (sym (map-append kept_sector2.as_cells had moved) ∙ ap (map kept_sector2.as_cells) (sym (moved_law book mark is_book).brought))
     (IsPermutation-append_comm (map kept_sector2.as_cells moved) (map kept_sector2.as_cells had))
 
 rows_become : (mark : ℕ) (book : List Entry) → IsBook book → (name : TableName) → is_at (moving 1 (sectors_mark book mark)) name ≡ true
@@ -129,9 +129,9 @@ rows_become mark book is_book name there = IsPermutation-refl (rows_given (movin
 
 rows_fit : (mark : ℕ) (trees : Trees) (book : List Entry) → StandsAt (moving 1 mark) trees book → (name : TableName) → is_at (moving 1 (sectors_mark book mark)) name ≡ true → Fit (rows_of name) (moving 1 (sectors_mark book mark)) book
 rows_fit mark trees book stands table.Sector1 there =
-    subst (All FitsSector) (sym (moved_law book mark stands.rows.is_book).1) (All-drop FitsSector 64 (rows_at sectors_1 (moving 1 mark) book) (left_fit mark trees book stands))
+    subst (All FitsSector) (sym (moved_law book mark stands.rows.is_book).taken) (All-drop FitsSector 64 (rows_at sectors_1 (moving 1 mark) book) (left_fit mark trees book stands))
 rows_fit mark trees book stands table.Sector2 there =
-    subst (All FitsSector) (sym (moved_law book mark stands.rows.is_book).0)
+    subst (All FitsSector) (sym (moved_law book mark stands.rows.is_book).brought)
     (All-append FitsSector (rows_at sectors_2 (moving 1 mark) book) (sectors_next book mark) (stands.rows.fit table.Sector2 refl) (All-take FitsSector 64 (rows_at sectors_1 (moving 1 mark) book) (left_fit mark trees book stands)))
 rows_fit mark trees book stands name there = stands.rows.fit name there
 

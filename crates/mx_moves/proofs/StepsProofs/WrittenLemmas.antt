@@ -12,7 +12,7 @@ use Rattle.mx_book.specs.Programme.{last_of}
 use Rattle.mx_base.specs.declared.rows.rows.BaseRow.{BaseRow}
 use Rattle.mx_base.specs.declared.rows.rows.TotalRow.{TotalRow}
 use Rattle.mx_base.specs.rows.Rows.{FitsAircraft, FitsBase, FitsComponent, FitsDeferral, FitsOpening, FitsRelease, FitsReleaseLine, FitsSector, FitsSpan, FitsTotal}
-use Rattle.mx_registers.specs.Registers.{sector_rows}
+use Rattle.mx_registers.specs.Registers.{deferral_rows, sector_rows}
 use Rattle.mx_registers.specs.kept.Bases.{base_rows}
 use Rattle.mx_registers.specs.kept.Fits.{FitRegisters}
 use Rattle.mx_registers.specs.kept.Items.{items}

@@ -8,13 +8,13 @@ ghost use Rattle.mx_book.specs.declared.verdict.Verdict.TheVariants.{New};
 ghost use Rattle.mx_registers.specs.points.Standing.{AreAlwaysWhole, AreEmptyWhereAbsent, AreLeft, AreWholeWhereSettled, StandOnce};
 ghost use Rattle.mx_base.specs.declared.point.Point.{Point};
 
-/// At every point each sector stands in the old table or in the new one and not in both, and each fitting and removal in
-/// its table or in the span of its component.
+/// At every point each sector and each deferral stands in the old table or in the new one and not in both, each fitting
+/// and removal in its table or in the span of its component, and each item has its last bases or its accomplishments.
 pub fn each_row_stands_once()
     ensures { (at : Point) (book : List Entry) → IsBook book → StandOnce at book }
 {}
 
-/// A table of one layout has no row at a point where it is not there, and all that the book gives it at a settled point
+/// A table of some layouts has no row at a point where it is not there, and all that the book gives it at a settled point
 /// where it is; a table that all layouts have has all of its rows at every point.
 pub fn tables_are_empty_or_whole()
     ensures absent { (at : Point) (book : List Entry) → AreEmptyWhereAbsent at book }
