@@ -9,7 +9,7 @@ use Rattle.mx_base.specs.declared.rows.rows.DeferralRow.{DeferralRow}
 use Rattle.mx_base.specs.declared.rows.rows.SectorRow.{SectorRow}
 use Rattle.mx_registers.specs.Registers.{aircraft_by, component_rows, components_by, deferral_rows, gives_by, sector_rows}
 use Rattle.mx_registers.specs.kept.Items.{items, items_by}
-use Rattle.mx_registers.specs.points.Commits.{commits_left, commits_of_move, commits_of_second_move, commits_to, point_behind, point_behind_to, rounds, step_commits}
+use Rattle.mx_registers.specs.points.Commits.{commits_left, commits_of_both_moves, commits_of_move, commits_of_second_move, commits_to, point_behind, point_behind_to, rounds, step_commits}
 use Rattle.mx_registers.specs.points.Points.{is_before, is_on_way, next_point_to, numbers_of, size_of}
 use Rattle.mx_base.specs.Settled.{settled}
 use Rattle.mx_base.specs.declared.point.Point.{Point}
@@ -99,7 +99,7 @@ module _ (book : List Entry) (b : IsBook book) where
       omega arith
 
   -- from layout 1 on the way to layout 3 those of both
-  pub from_first_on : commits_to 3 (settled 1) book ≡ commits_of_move book + commits_of_second_move book
+  pub from_first_on : commits_to 3 (settled 1) book ≡ commits_of_both_moves book
   from_first_on =
       let first = from_first in
       let second = from_second in

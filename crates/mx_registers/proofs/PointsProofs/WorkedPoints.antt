@@ -7,7 +7,7 @@ use Rattle.mx_book.proofs.Worked.{at, abcd, logged}
 use Rattle.mx_book.proofs.WorkedFittings.{e1, e2, engine_with, first_aircraft, replaced}
 use Rattle.mx_registers.proofs.KeptProofs.WorkedKept.{overhauled}
 use Rattle.mx_base.specs.declared.point.Point.{Point}
-use Rattle.mx_registers.specs.points.Commits.{commits_left, commits_of_move, commits_of_second_move, commits_to, point_behind, point_behind_to, rounds}
+use Rattle.mx_registers.specs.points.Commits.{commits_left, commits_of_both_moves, commits_of_move, commits_of_second_move, commits_to, point_behind, point_behind_to, rounds}
 use Rattle.mx_registers.specs.points.Points.{is_before, is_on_way, moving, next_point, next_point_to}
 use Rattle.mx_base.specs.Settled.{settled}
 use Rattle.mx_registers.specs.points.Tables.{bases_2, deferrals_2, deferrals_3, done_3, fittings_1, found_3, is_table_at, removals_1, rows_at, sectors_1, sectors_2, spans_2, totals_2, is_moved_at, entries_all, aircraft_all, places_all, components_all, programmes_all, tasks_all, openings_all, releases_all, release_lines_all, deferrals_all, extensions_all}
@@ -165,6 +165,9 @@ two_commits_on = refl
 -- to layout 3 it is six commits more: 22 in all, two of them from the second item on, and 17 from layout 1 have begun the second move
 commits_to_layout_3 : map (λ p. commits_to 3 p fleet) (settled 2 ∷ settled 1 ∷ point 2 2 2 ∷ settled 3 ∷ []) ≡ 6 ∷ 22 ∷ 2 ∷ 0 ∷ []
 commits_to_layout_3 = refl
+
+commits_of_both : commits_of_both_moves fleet ≡ 22
+commits_of_both = refl
 
 seventeen_on : point_behind_to 3 17 (settled 1) fleet ≡ point 2 1 0
 seventeen_on = refl

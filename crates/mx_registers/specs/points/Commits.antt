@@ -59,3 +59,7 @@ commits_of_move book = 5 + rounds 64 (length (sector_rows book)) + 2 * length (a
 -- the commits from layout 2 to the next: one for each 64 deferrals, one for each aircraft and each component, and three more
 abbrev pub commits_of_second_move : List Entry → ℕ
 commits_of_second_move book = 3 + rounds 64 (length (deferral_rows book)) + length (aircraft_rows book) + length (component_rows book)
+
+-- the commits from layout 1 to layout 3
+abbrev pub commits_of_both_moves : List Entry → ℕ
+commits_of_both_moves book = commits_of_move book + commits_of_second_move book

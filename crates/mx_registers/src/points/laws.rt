@@ -7,7 +7,7 @@ ghost use Rattle.std.specs.Prelude.{◌≡◌, ◌+◌, ◌<◌, ℕ, true, List
 ghost use Rattle.mx_book.specs.commands.Act.{Entry};
 ghost use Rattle.mx_book.specs.Book.{IsBook};
 ghost use Rattle.mx_base.specs.declared.point.Point.{Point};
-ghost use Rattle.mx_registers.specs.points.Commits.{commits_left, commits_of_move, commits_of_second_move, commits_to, point_behind, point_behind_to};
+ghost use Rattle.mx_registers.specs.points.Commits.{commits_left, commits_of_both_moves, commits_of_move, commits_of_second_move, commits_to, point_behind, point_behind_to};
 ghost use Rattle.mx_registers.specs.points.Points.{is_before, is_on_way, next_point, next_point_to};
 ghost use Rattle.mx_base.specs.Settled.{settled};
 ghost use Rattle.mx_registers.specs.points.Same.{GiveSameRegisters};
@@ -47,9 +47,9 @@ pub fn a_commit_leaves_one_less_to_layout_3()
 /// second move takes three, one for each 64 deferrals, and one for each aircraft and each component.
 pub fn moves_take_so_many_commits()
     ensures reached { (book : List Entry) → IsBook book
-        → point_behind_to 3 (commits_of_move book + commits_of_second_move book) (settled 1) book ≡ settled 3 }
+        → point_behind_to 3 (commits_of_both_moves book) (settled 1) book ≡ settled 3 }
     ensures on_way { (book : List Entry) (commits : ℕ) → IsBook book
-        → commits < commits_of_move book + commits_of_second_move book
+        → commits < commits_of_both_moves book
         → is_before 3 (point_behind_to 3 commits (settled 1) book) ≡ true }
     ensures second { (book : List Entry) → IsBook book
         → point_behind_to 3 (commits_of_second_move book) (settled 2) book ≡ settled 3 }
