@@ -1,12 +1,12 @@
 -- The points that a file can be at, case by case.
-use Rattle.std.proofs.Common.{◌≡◌, inl, inr, ℕ, suc, zero, ◌<◌, Bool, true, false, nat_eq, nat_le, ◌&&◌, refl, subst, sym, arith}
+use Rattle.std.proofs.Common.{◌≡◌, ◌⊎◌, inl, inr, ℕ, suc, zero, ◌<◌, Bool, true, false, nat_eq, nat_le, ◌&&◌, refl, subst, sym, ap, arith}
 use Rattle.std.proofs.lemmas.Bool.Decides.{Decides-eqb, leb_tells}
 use Rattle.mx_book.specs.declared.limits.TheConstants.{MOST_ENTRIES}
 use Rattle.mx_base.specs.declared.point.Point.{Point}
 use Rattle.mx_base.specs.Settled.{settled}
-use Rattle.mx_registers.specs.points.Points.{is_on_way, moving}
+use Rattle.mx_registers.specs.points.Points.{is_on_way, moving, moving_from}
 use Rattle.mx_registers.specs.declared.points.points.TheConstants.{NEWEST_LAYOUT}
-use Rattle.mx_registers.proofs.PointsProofs.CommitLemmas.{way_point}
+use Rattle.mx_registers.proofs.PointsProofs.CommitLemmas.{before_parts}
 use Rattle.mx_book_tables.specs.stands.Schemas.{IsOfFile}
 
 pub and_left : (a b : Bool) → a && b ≡ true → a ≡ true
@@ -31,7 +31,13 @@ module _ (P : Point → Type 0) (first : P (settled 1)) (sectors : (mark : ℕ) 
   by_step (suc (suc (suc (suc (suc step))))) mark h = low_enough (suc (suc (suc (suc (suc step))))) 4 (omega arith) (and_left _ _ h)
 
   on_way : (at : Point) → is_on_way at ≡ true → P at
-  on_way at h = let same = way_point at h in subst P (sym same) (by_step at.step at.mark (subst (λ p. is_on_way p ≡ true) same h))
+  on_way at h = let parts = before_parts NEWEST_LAYOUT at h in from parts.0 parts.1
+    where
+      from : at.layout < NEWEST_LAYOUT → (at.layout ≡ 1) ⊎ (at.layout ≡ 2) → P at
+      from under (inl one) =
+          let same : at ≡ moving at.step at.mark = ap (λ l. moving_from l at.step at.mark) one in
+          subst P (sym same) (by_step at.step at.mark (subst (λ p. is_on_way p ≡ true) same h))
+      from under (inr two) = absurd (omega arith)
 
   pub by_point : (at : Point) → IsOfFile at → P at
   by_point at (inl h) = on_way at h

@@ -13,8 +13,9 @@ use Rattle.mx_base.specs.Settled.{settled}
 use Rattle.mx_base.specs.declared.point.Point.{Point}
 use Rattle.mx_registers.specs.points.Moves.{AllStay}
 use Rattle.mx_registers.specs.points.Points.{is_on_way, moving, next_mark, next_point, on_to}
+use Rattle.mx_registers.specs.declared.points.points.TheConstants.{NEWEST_LAYOUT}
 use Rattle.mx_registers.specs.points.Tables.{rows_at, sectors_1, sectors_2, spans_2}
-use Rattle.mx_registers.proofs.PointsProofs.CommitLemmas.{way_parts}
+use Rattle.mx_registers.proofs.PointsProofs.CommitLemmas.{before_parts}
 use Rattle.mx_registers.proofs.PointsProofs.EndLemmas.{tables_stay}
 use Rattle.mx_registers.proofs.PointsProofs.StandingLemmas.{empty_where_absent}
 use Rattle.mx_registers.proofs.PointsProofs.StepLemmas.{step_after}
@@ -71,7 +72,7 @@ made_stands at to book old new here due stood it =
 module _ (step mark : ℕ) (some : 0 < step) (last : step ≤ 4) (book : List Entry) (b : IsBook book) (way : is_on_way (moving step mark) ≡ true) (none : next_mark (moving step mark) book ≡ None) where
   -- the next point is that of the next step, or of the next layout
   next_of_none : next_point (moving step mark) book ≡ on_to (moving step mark) None
-  next_of_none = step_after step mark (next_mark (moving step mark) book) some last (way_parts book b (moving step mark) way).2 ∙ ap (on_to (moving step mark)) none
+  next_of_none = step_after step mark (next_mark (moving step mark) book) some last (before_parts NEWEST_LAYOUT (moving step mark) way).2.1 ∙ ap (on_to (moving step mark)) none
 
   -- all tables stay
   stay_where_none : AllStay (moving step mark) (on_to (moving step mark) None) book

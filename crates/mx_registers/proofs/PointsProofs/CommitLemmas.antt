@@ -18,7 +18,7 @@ use Rattle.mx_registers.specs.kept.Items.{items}
 use Rattle.mx_registers.proofs.KeptProofs.ItemOrder.{items_from}
 use Rattle.mx_registers.specs.points.Commits.{commits_to, later_commits, later_moves, rounds, step_commits}
 use Rattle.mx_registers.specs.points.Moves.{last_moved}
-use Rattle.mx_registers.specs.points.Points.{is_before, is_in_move, is_on_way, moving, moving_from, next_mark, next_point_to, numbers_left, numbers_of, on_to, size_of, steps_from}
+use Rattle.mx_registers.specs.points.Points.{is_before, is_in_move, is_on_way, moving_from, next_mark, next_point_to, numbers_left, numbers_of, on_to, size_of, steps_from}
 use Rattle.mx_registers.specs.declared.points.points.TheConstants.{NEWEST_LAYOUT}
 use Rattle.mx_base.specs.Settled.{settled}
 use Rattle.mx_base.specs.declared.point.Point.{Point}
@@ -273,21 +273,16 @@ module _ (book : List Entry) (b : IsBook book) where
           subst (GoesTo 3 book) (sym same)
           (second_move book b 3 (omega arith) refl (inr refl) at.step at.mark (subst (λ p. is_before 3 p ≡ true) same h) (subst (λ l. at.step ≤ steps_from l) two last) by)
 
-  -- each commit at a point on the way leaves one less, and goes on
+  -- and so on the way to either
+  pub counts_to : (newest : ℕ) → 2 ≤ newest → newest ≤ 3 → (at : Point) → is_before newest at ≡ true → GoesTo newest book at
+  counts_to newest low high at h = by (nat_eq newest 2) refl
+    where
+      by : (b : Bool) → nat_eq newest 2 ≡ b → GoesTo newest book at
+      by true e = let two = (Decides-eqb newest 2).0 e in subst (λ n. GoesTo n book at) (sym two) (counts_to_2 at (subst (λ n. is_before n at ≡ true) two h))
+      by false e =
+          let three : newest ≡ 3 = grind (arith, nat_tests) in
+          subst (λ n. GoesTo n book at) (sym three) (counts_to_3 at (subst (λ n. is_before n at ≡ true) three h))
+
+  -- each commit at a point on the way to the newest layout leaves one less, and goes on
   pub commit_counts : (at : Point) → is_on_way at ≡ true → Goes book at
-  commit_counts = counts_to_2
-
--- while layout 2 is the newest, a point on the way is in a step of the move from layout 1, or before it
-pub way_point : (at : Point) → is_on_way at ≡ true → at ≡ moving at.step at.mark
-way_point at h = let parts = before_parts NEWEST_LAYOUT at h in from parts.0 parts.1
-  where
-    from : at.layout < 2 → (at.layout ≡ 1) ⊎ (at.layout ≡ 2) → at ≡ moving at.step at.mark
-    from under (inl one) = ap (λ l. moving_from l at.step at.mark) one
-    from under (inr two) = absurd (omega arith)
-
--- so its step is one of the four
-pub way_parts : (book : List Entry) → IsBook book → (at : Point) → is_on_way at ≡ true → (at ≡ moving at.step at.mark) × (at.step ≤ 4) × (at.mark ≤ MOST_ENTRIES)
-way_parts book b at h =
-    let parts = before_parts NEWEST_LAYOUT at h in
-    let same = way_point at h in
-    (same, subst (λ p. at.step ≤ steps_from p.layout) same parts.2.0, parts.2.1)
+  commit_counts at h = counts_to NEWEST_LAYOUT (omega arith) (omega arith) at h

@@ -12,10 +12,11 @@ use Rattle.mx_registers.specs.kept.Items.{items, items_by}
 use Rattle.mx_registers.specs.points.Commits.{commits_left, commits_of_both_moves, commits_of_move, commits_of_second_move, commits_to, point_behind, point_behind_to, rounds, step_commits}
 use Rattle.mx_registers.specs.points.Points.{is_before, is_on_way, next_point_to, numbers_of, size_of}
 use Rattle.mx_base.specs.Settled.{settled}
+use Rattle.mx_registers.specs.declared.points.points.TheConstants.{NEWEST_LAYOUT}
 use Rattle.mx_base.specs.declared.point.Point.{Point}
 use Rattle.mx_registers.proofs.PointsProofs.NextLemmas.{self}
 use Rattle.mx_registers.proofs.PointsProofs.PointLemmas.{all_above}
-use Rattle.mx_registers.proofs.PointsProofs.CommitLemmas.{counts_to_2, numbers_rising, GoesTo}
+use Rattle.mx_registers.proofs.PointsProofs.CommitLemmas.{commit_counts, numbers_rising, GoesTo}
 
 -- ── the end of the way ──
 
@@ -48,10 +49,10 @@ module _ (book : List Entry) (newest : ℕ) (counts : (at : Point) → is_before
 
 -- the same on the way to the newest layout
 abbrev pub Reaches : List Entry → ℕ → Point → Type 0
-Reaches book n at = (point_behind n at book ≡ settled 2) × ((k : ℕ) → k < n → is_on_way (point_behind k at book) ≡ true)
+Reaches book n at = (point_behind n at book ≡ settled NEWEST_LAYOUT) × ((k : ℕ) → k < n → is_on_way (point_behind k at book) ≡ true)
 
 pub reach : (book : List Entry) → IsBook book → (n : ℕ) (at : Point) → is_on_way at ≡ true → commits_left at book ≡ n → Reaches book n at
-reach book b n at h e = reach_to book 2 (counts_to_2 book b) n at h refl e
+reach book b n at h e = reach_to book NEWEST_LAYOUT (commit_counts book b) n at h refl e
 
 -- ── how many they are ──
 
@@ -80,8 +81,8 @@ module _ (book : List Entry) (b : IsBook book) where
       whole layout step ∙ ap (λ size. rounds size (length (numbers_of layout step book)) + 1) one
       ∙ ap (λ n. n + 1) (rounds_1 (length (numbers_of layout step book)) ∙ ap length of ∙ length-map (items book) (λ (x : ℕ × Item). x.0))
 
-  -- from layout 1 the commits left are those of the move
-  pub from_first : commits_left (settled 1) book ≡ commits_of_move book
+  -- from layout 1, on the way to layout 2, the commits left are those of the move
+  pub from_first : commits_to 2 (settled 1) book ≡ commits_of_move book
   from_first =
       let sectors : step_commits 1 1 0 book ≡ rounds 64 (length (sector_rows book)) + 1 = whole 1 1 ∙ ap (λ n. rounds 64 n + 1) (length-map (sector_rows book) (λ (row : SectorRow). row.seq)) in
       let components : step_commits 1 2 0 book ≡ length (component_rows book) + 1 = whole 1 2 ∙ ap (λ n. n + 1) (rounds_1 (length (numbers_of 1 2 book)) ∙ length-map (component_rows book) (λ (row : ComponentRow). row.seq)) in
