@@ -8,7 +8,6 @@ use Rattle.sqlite.specs.State.{State, HasCleanDisk, Shows, Survives, KeepsCommit
 use Rattle.sqlite.specs.Held.{Held, state}
 use Rattle.sqlite.proofs.StateLemmas.{survives_then}
 use Rattle.sqlite.proofs.InsideLemmas.{keeps_then}
-use Rattle.sqlite.proofs.Callers.{survives_begin}
 use Rattle.mx_layout.specs.Crash.{Leaves, RestsAs, StaysInside, IsWithin, ChangesNothing}
 
 -- the law of a store that while it is open a crash leaves the last commit

@@ -1,5 +1,5 @@
 -- What follows from what a database lists, and the texts over one without office.
-use Rattle.std.proofs.Common.{◌≡◌, inl, inr, List, [], Option, Some, None, false, Ok, Err, Result, refl, sym, ◌∙◌}
+use Rattle.std.proofs.Common.{◌≡◌, List, [], Option, Some, None, false, Ok, Err, Result, refl, sym, ◌∙◌}
 use Rattle.std.specs.Prelude.{is_some, MatchOption}
 use Rattle.sqlite.specs.Order.{Row}
 use Rattle.sqlite.specs.Schema.{Schema}
@@ -14,11 +14,10 @@ use Rattle.sqlite_resolve.specs.declared.error.CompileError.TheVariants.{NoSuchT
 use Rattle.sqlite.specs.State.{State, Shown, IsUnchanged}
 use Rattle.sqlite.proofs.Callers.{IsPlain}
 use Rattle.sqlite_tied.specs.Compute.{everything}
-use Rattle.mx_layout.specs.declared.fault.TableFault.{TableFault}
-use Rattle.mx_layout.specs.Listed.{LacksOffice, FindsNoOffice, IsRefusal}
+use Rattle.mx_layout.specs.Listed.{LacksOffice, FindsNoOffice}
 use Rattle.mx_layout.specs.Making.{ask_text}
 use Rattle.mx_layout.specs.Point.{point_text}
-use Rattle.mx_layout.specs.Tables.{no_schema, HasOffice}
+use Rattle.mx_layout.specs.Tables.{HasOffice}
 use Rattle.mx_layout.proofs.AbsentLemmas.{point_missing}
 use Rattle.mx_layout.proofs.ReadLemmas.{shown_unchanged}
 

@@ -1,5 +1,5 @@
 -- What one INSERT of values makes of a database, whatever the schema is.
-use Rattle.std.proofs.Common.{◌≡◌, ◌⊎◌, inl, inr, ℕ, ◌/◌, List, [], ◌∷◌, length, slice_get, false, Some, None, Option, Ok, Err, Result, refl, sym, ap, subst, ◌∙◌, append-nil}
+use Rattle.std.proofs.Common.{◌≡◌, ◌⊎◌, inl, inr, ℕ, List, [], ◌∷◌, slice_get, false, Some, None, Option, Ok, Err, Result, refl, sym, ap, subst, ◌∙◌, append-nil}
 use Rattle.sqlite.specs.Order.{Row}
 use Rattle.sqlite.specs.Term.{Term}
 use Rattle.sqlite.specs.Table.{Table}
@@ -7,13 +7,13 @@ use Rattle.sqlite.specs.Schema.{Schema}
 use Rattle.sqlite.specs.Source.TheVariants.{Values}
 use Rattle.sqlite.specs.Command.TheVariants.{Insert}
 use Rattle.sqlite.specs.Command.{Command}
-use Rattle.sqlite.specs.Edit.{Edit, edit_of, Applies}
+use Rattle.sqlite.specs.Edit.{edit_of, Applies}
 use Rattle.sqlite.specs.Rowids.TheVariants.{Chosen}
 use Rattle.sqlite.specs.Does.{Tally, Does}
 use Rattle.sqlite.specs.declared.run.Mode.{Mode}
-use Rattle.sqlite.specs.Rows.{Written, stamped, Edited}
+use Rattle.sqlite.specs.Rows.{Written, Edited}
 use Rattle.sqlite.specs.Tree.{Trees}
-use Rattle.sqlite.specs.Effect.{Database, value_rows}
+use Rattle.sqlite.specs.Effect.{Database}
 use Rattle.sqlite.proofs.Callers.{one_step}
 use Rattle.sqlite_rules.specs.Action.{works}
 use Rattle.std.proofs.lemmas.Bool.{cases_Bool}
@@ -21,9 +21,8 @@ use Rattle.sqlite_schema.specs.declared.schema.Keys.TheVariants.{Enforced}
 use Rattle.sqlite_resolve.specs.declared.compiled.Compiled.{Compiled}
 use Rattle.sqlite.specs.declared.error.Error.{Error}
 use Rattle.sqlite.specs.Listing.{understood}
-use Rattle.sqlite.specs.State.{State, mode_of, text_of, shows_rows, RunsAlone, ExecutesIn, Executes, IsNotRun, MayCommit, CommitsBy, Survives}
+use Rattle.sqlite.specs.State.{State, mode_of, text_of, shows_rows, RunsAlone, ExecutesIn, Executes, IsNotRun, MayCommit, CommitsBy}
 use Rattle.sqlite.proofs.Callers.{IsPlain, command_of, runs_as}
-use Rattle.sqlite.proofs.StateLemmas.{survives_weaker}
 use Rattle.mx_layout.specs.Contents.{cells, Adds}
 use Rattle.mx_layout.specs.Plans.{added, uncounted}
 use Rattle.mx_layout.specs.Writing.{Inserts, MayInsert, Stops}

@@ -1,5 +1,5 @@
 //! The tables as sets of typed rows, which are read and to which rows are added: those of every layout in `permanent`,
-//! those of one in `moved`; in `inserts`, what all inserts are. SQL for all rows of a table, and for one that is added,
+//! those that a move touches in `moved`; in `inserts`, what all inserts are. SQL for all rows of a table, and for one that is added,
 //! is in this crate, that for chosen rows in `mx_table_rows::chosen`, and for the rows in whose place others come in
 //! `mx_table_rows::totals`. Above these a table is what `rows` gives for its type, in the order of its key, and `insert`
 //! adds one row to it. Each call is made inside a `Transaction`, which the caller commits or drops.
@@ -33,10 +33,11 @@
 //! 2. `mx_layout/proofs/KeptProofs/MovedLawful.antt`: `TABLE_lawful`, by `first_keyed` or `two_keyed` with the place of
 //!    the table in the schema, from 0, what is computed there (`refl`), and how a row is had back from its values.
 //!    Where the `refl` is refused, the place, a kind of column or the text that is computed is another. A table of a
-//!    layout stands behind those that come before it there, at each point of a move where it stands (`span2` at two,
-//!    `sector2` at three), a permanent one behind nothing. Its line of `each_lawful` in `EachLawful.antt` there. Where
-//!    another table has rows of the same type, a type of its own holds them (`held`, `Sector2Row`).
-//! 3. `src/permanent.rt`, or `src/moved.rt` where one layout has it, from a table that is there: `Stored`, whose texts
+//!    layout stands behind those that come before it there, `defect` first, at each point of a move where it stands
+//!    (`span2` at two, `sector2` at three), a permanent one behind nothing. Its line of `each_lawful` in
+//!    `EachLawful.antt` there. Where another table has rows of the same type, a type of its own holds them (`held`,
+//!    `Sector2Row`).
+//! 3. `src/permanent.rt`, or `src/moved.rt` where a move touches it, from a table that is there: `Stored`, whose texts
 //!    are those of `mx_layout::kept` written out, and whose `read` says by `read_columns!` how many columns there are
 //!    and by which function of `column.rt` each is taken; and `Insert`, which passes each value in the order of the
 //!    columns to `insert_columns!`. Its row type is a word of `prelude.rt`. A kind of value that no table has had needs

@@ -16,7 +16,7 @@ use Rattle.mx_layout.specs.TableName.{TableName}
 use Rattle.mx_layout.specs.declared.fault.Table.TheVariants as table
 use Rattle.mx_layout.specs.Contents.{rows_in}
 use Rattle.mx_layout.specs.Names.{table_named}
-use Rattle.mx_layout.specs.Tables.{span2, total2, base2}
+use Rattle.mx_layout.specs.Tables.{sector2, span2, total2, base2}
 use Rattle.mx_layout.specs.kept.Kept.{Kept}
 use Rattle.mx_layout.specs.kept.Cells.{kept_aircraft, kept_component, kept_crs, kept_crs_line, kept_defect, kept_entry, kept_extension, kept_opening, kept_place, kept_programme, kept_sector2, kept_span2, kept_task}
 use Rattle.mx_layout.specs.kept.Schemas.{HasPermanent}
@@ -33,8 +33,8 @@ use Rattle.mx_book_tables.specs.reading.Stored.{AreRegisters, AreRegisterRows, H
 
 -- ── which schemas have their tables ──
 
-registers_in : (schema : Schema) → HasPermanent schema → kept_sector2.IsIn schema → kept_span2.IsIn schema → HasRegisters schema
-registers_in schema each sectors spans = record {
+registers_in : (schema : Schema) → HasPermanent schema → kept_defect.IsIn schema → kept_sector2.IsIn schema → kept_span2.IsIn schema → HasRegisters schema
+registers_in schema each deferrals sectors spans = record {
   entries = each;
   aircraft = each;
   places = each;
@@ -44,7 +44,7 @@ registers_in schema each sectors spans = record {
   openings = each;
   releases = each;
   release_lines = each;
-  deferrals = each;
+  deferrals = deferrals;
   extensions = each;
   sectors = sectors;
   spans = spans;
@@ -56,19 +56,19 @@ permanent_too at schema has = record { rest = own_at at ++ has.rest; more = has.
 -- that of a file whose totals are being made
 pub registers_at_totals : (mark : ℕ) (schema : Schema) → HasTablesAt (moving 3 mark) schema → HasRegisters schema
 registers_at_totals mark schema has =
-    registers_in schema (permanent_too (moving 3 mark) schema has) (inr (inr (record { rest = span2 ∷ total2 ∷ has.rest; more = has.more; is = has.is })))
+    registers_in schema (permanent_too (moving 3 mark) schema has) (record { rest = sector2 ∷ span2 ∷ total2 ∷ has.rest; more = has.more; is = has.is }) (inr (inr (record { rest = span2 ∷ total2 ∷ has.rest; more = has.more; is = has.is })))
     (inr (record { rest = total2 ∷ has.rest; more = has.more; is = has.is }))
 
 -- that of a file whose last bases are being made
 pub registers_at_bases : (mark : ℕ) (schema : Schema) → HasTablesAt (moving 4 mark) schema → HasRegisters schema
 registers_at_bases mark schema has =
-    registers_in schema (permanent_too (moving 4 mark) schema has) (inr (inr (record { rest = span2 ∷ total2 ∷ base2 ∷ has.rest; more = has.more; is = has.is })))
+    registers_in schema (permanent_too (moving 4 mark) schema has) (record { rest = sector2 ∷ span2 ∷ total2 ∷ base2 ∷ has.rest; more = has.more; is = has.is }) (inr (inr (record { rest = span2 ∷ total2 ∷ base2 ∷ has.rest; more = has.more; is = has.is })))
     (inr (record { rest = total2 ∷ base2 ∷ has.rest; more = has.more; is = has.is }))
 
 -- that of a file whose tables are verified
 pub registers_settled : (schema : Schema) → HasTables schema → HasRegisters schema
 registers_settled schema has =
-    registers_in schema (permanent_too verified_point schema has) (inr (inr (record { rest = span2 ∷ total2 ∷ base2 ∷ has.rest; more = has.more; is = has.is })))
+    registers_in schema (permanent_too verified_point schema has) (record { rest = sector2 ∷ span2 ∷ total2 ∷ base2 ∷ has.rest; more = has.more; is = has.is }) (inr (inr (record { rest = span2 ∷ total2 ∷ base2 ∷ has.rest; more = has.more; is = has.is })))
     (inr (record { rest = total2 ∷ base2 ∷ has.rest; more = has.more; is = has.is }))
 
 -- the schemas at these points themselves

@@ -1,6 +1,6 @@
 -- What holds of the rows of each table of the family, line by line.
 use Rattle.std.proofs.Common.{inl, inr, ◌≡◌, ℕ, ◌+◌, ◌*◌, ◌^◌, true, false, List, [], ◌∷◌, ◌++◌, length, Some, refl}
-use Rattle.std.specs.Prelude.{⊤}
+use Rattle.std.specs.Prelude.{⊤, filter, map}
 use Rattle.std.specs.List.{list_all}
 use Rattle.sqlite.specs.Order.{Row}
 use Rattle.sqlite.specs.Schema.{Schema}
@@ -16,17 +16,18 @@ use Rattle.mx_registers.specs.points.Tables.{Line, rows_at, is_table_at, entries
 use Rattle.mx_registers.proofs.PointsProofs.OneBook.{all_there}
 use Rattle.mx_registers.proofs.PointsProofs.StandingLemmas.{whole_where_settled}
 use Rattle.mx_layout.specs.Steps.{IsLayout}
+use Rattle.mx_layout.specs.Names.{table_named}
 use Rattle.mx_layout.specs.TableName.{TableName}
 use Rattle.mx_layout.specs.Tables.{sector2, span2, total2, base2}
 use Rattle.mx_layout.specs.declared.fault.Table.TheVariants as table
 use Rattle.mx_layout.specs.kept.Kept.{Kept}
-use Rattle.mx_layout.specs.kept.Cells.{kept_sector1, kept_fit1, kept_removal1, kept_sector2, kept_span2, kept_total2, kept_base2}
+use Rattle.mx_layout.specs.kept.Cells.{kept_defect, kept_sector1, kept_fit1, kept_removal1, kept_sector2, kept_span2, kept_total2, kept_base2}
 use Rattle.mx_layout.specs.kept.Family.{IsReadable, IsReadableAs}
 use Rattle.mx_layout.specs.kept.Meanings.{IsLawful}
 use Rattle.mx_layout.specs.kept.Schemas.{HasPermanent}
 use Rattle.mx_layout.proofs.KeptProofs.Lawful.{entry_lawful, aircraft_lawful, place_lawful, component_lawful, programme_lawful, task_lawful, opening_lawful, crs_lawful, crs_line_lawful, defect_lawful, extension_lawful, sector1_lawful, fit1_lawful, removal1_lawful}
 use Rattle.mx_layout.proofs.KeptProofs.MovedLawful.{sector2_lawful, span2_lawful, total2_lawful, base2_lawful}
-use Rattle.mx_book_tables.specs.stands.Family.{Rows, of, none, rows_of, first_rows}
+use Rattle.mx_book_tables.specs.stands.Family.{Rows, of, none, rows_of, first_rows, is_at}
 use Rattle.mx_book_tables.specs.stands.Schemas.{IsOfFile, HasTablesAt, own_at}
 use Rattle.mx_book_tables.proofs.StandsProofs.PointLemmas.{by_point}
 
@@ -41,6 +42,13 @@ never h = absurd cc
 
 permanent_too : (at : Point) (schema : Schema) → HasTablesAt at schema → HasPermanent schema
 permanent_too at schema has = record { rest = own_at at ++ has.rest; more = has.more; is = has.is }
+
+-- so far each has the deferrals, wherever a file can be
+defect_in : (at : Point) → IsOfFile at → IsInWhereThere kept_defect deferrals_all at
+defect_in at file there schema has = record { rest = map table_named (filter (is_at at) later_names) ++ has.rest; more = has.more; is = has.is }
+  where
+    later_names : List TableName
+    later_names = table.Sector1 ∷ table.Fit1 ∷ table.Removal1 ∷ table.Sector2 ∷ table.Span2 ∷ table.Total2 ∷ table.Base2 ∷ []
 
 sector1_in : (at : Point) → IsOfFile at → IsInWhereThere kept_sector1 sectors_1 at
 sector1_in = by_point (IsInWhereThere kept_sector1 sectors_1)
@@ -110,7 +118,7 @@ facts table.Task = record { law = task_lawful; is_named = refl; readable = λ _ 
 facts table.Opening = record { law = opening_lawful; is_named = refl; readable = λ _ h. h; no_first = λ _. refl; is_in = λ at _ _. permanent_too at; whole = λ _ _ _ book. all_there (openings_all.rows book) }
 facts table.Crs = record { law = crs_lawful; is_named = refl; readable = λ _ h. h; no_first = λ _. refl; is_in = λ at _ _. permanent_too at; whole = λ _ _ _ book. all_there (releases_all.rows book) }
 facts table.CrsLine = record { law = crs_line_lawful; is_named = refl; readable = λ _ h. h; no_first = λ _. refl; is_in = λ at _ _. permanent_too at; whole = λ _ _ _ book. all_there (release_lines_all.rows book) }
-facts table.Defect = record { law = defect_lawful; is_named = refl; readable = λ _ h. h; no_first = λ _. refl; is_in = λ at _ _. permanent_too at; whole = λ _ _ _ book. all_there (deferrals_all.rows book) }
+facts table.Defect = record { law = defect_lawful; is_named = refl; readable = λ _ h. h; no_first = λ _. refl; is_in = defect_in; whole = λ _ _ _ book. all_there (deferrals_all.rows book) }
 facts table.Extension = record { law = extension_lawful; is_named = refl; readable = λ _ h. h; no_first = λ _. refl; is_in = λ at _ _. permanent_too at; whole = λ _ _ _ book. all_there (extensions_all.rows book) }
 facts table.Sector1 = record { law = sector1_lawful; is_named = refl; readable = λ _ h. h; no_first = λ _. refl; is_in = sector1_in; whole = λ layout _ there book. (whole_where_settled (settled layout) book).sectors_old refl there }
 facts table.Fit1 = record { law = fit1_lawful; is_named = refl; readable = λ _ h. h; no_first = λ _. refl; is_in = fit1_in; whole = λ layout _ there book. (whole_where_settled (settled layout) book).fittings refl there }

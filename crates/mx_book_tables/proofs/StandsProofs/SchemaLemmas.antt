@@ -54,7 +54,7 @@ all_filtered p (x ∷ xs) = at (p x) refl (all_filtered p xs)
 
 -- the names of the tables that each file has, in the order of the schema
 abbrev first_names : List TableName
-first_names = table.Office ∷ table.Entry ∷ table.Aircraft ∷ table.Place ∷ table.Component ∷ table.Programme ∷ table.Task ∷ table.Opening ∷ table.Crs ∷ table.CrsLine ∷ table.Extension ∷ table.Defect ∷ []
+first_names = table.Office ∷ table.Entry ∷ table.Aircraft ∷ table.Place ∷ table.Component ∷ table.Programme ∷ table.Task ∷ table.Opening ∷ table.Crs ∷ table.CrsLine ∷ table.Extension ∷ []
 
 -- the names of all tables of a file at a point
 abbrev names_at : Point → List TableName
@@ -78,19 +78,19 @@ named_there at table.Opening h = first_at at table.Opening (7, omega arith, refl
 named_there at table.Crs h = first_at at table.Crs (8, omega arith, refl)
 named_there at table.CrsLine h = first_at at table.CrsLine (9, omega arith, refl)
 named_there at table.Extension h = first_at at table.Extension (10, omega arith, refl)
-named_there at table.Defect h = first_at at table.Defect (11, omega arith, refl)
-named_there at table.Sector1 h = own_there at table.Sector1 (0, omega arith, refl) h
-named_there at table.Fit1 h = own_there at table.Fit1 (1, omega arith, refl) h
-named_there at table.Removal1 h = own_there at table.Removal1 (2, omega arith, refl) h
-named_there at table.Sector2 h = own_there at table.Sector2 (3, omega arith, refl) h
-named_there at table.Span2 h = own_there at table.Span2 (4, omega arith, refl) h
-named_there at table.Total2 h = own_there at table.Total2 (5, omega arith, refl) h
-named_there at table.Base2 h = own_there at table.Base2 (6, omega arith, refl) h
+named_there at table.Defect h = own_there at table.Defect (0, omega arith, refl) h
+named_there at table.Sector1 h = own_there at table.Sector1 (1, omega arith, refl) h
+named_there at table.Fit1 h = own_there at table.Fit1 (2, omega arith, refl) h
+named_there at table.Removal1 h = own_there at table.Removal1 (3, omega arith, refl) h
+named_there at table.Sector2 h = own_there at table.Sector2 (4, omega arith, refl) h
+named_there at table.Span2 h = own_there at table.Span2 (5, omega arith, refl) h
+named_there at table.Total2 h = own_there at table.Total2 (6, omega arith, refl) h
+named_there at table.Base2 h = own_there at table.Base2 (7, omega arith, refl) h
 
 all_at : (at : Point) → All (λ name. is_at at name ≡ true) (names_at at)
 all_at at =
     All-append (λ name. is_at at name ≡ true) first_names (filter (is_at at) own_names)
-    (All-from_recursion (λ name. is_at at name ≡ true) first_names (refl, (refl, (refl, (refl, (refl, (refl, (refl, (refl, (refl, (refl, (refl, (refl, tt)))))))))))))
+    (All-from_recursion (λ name. is_at at name ≡ true) first_names (refl, (refl, (refl, (refl, (refl, (refl, (refl, (refl, (refl, (refl, (refl, tt))))))))))))
     (all_filtered (is_at at) own_names)
 
 -- names of one table are one

@@ -1,5 +1,5 @@
 -- Worked points: which tables and indexes a file has at each point on its way from layout 1 to layout 2, and what a command brings to each table there.
-use Rattle.std.proofs.Common.{refl, ◌≡◌, ℕ, List, [], ◌∷◌}
+use Rattle.std.proofs.Common.{refl, ◌≡◌, ℕ, List, [], ◌∷◌, true, false, Some, None}
 use Rattle.std.specs.Prelude.{codes, filter, map, pos}
 use Rattle.mx_base.specs.Calendar.{date_of}
 use Rattle.mx_base.specs.Texts.{day_text, moment_text}
@@ -11,12 +11,17 @@ use Rattle.mx_book.proofs.Worked.{abcd, at as moment, logged}
 use Rattle.mx_book.proofs.WorkedFittings.{first_aircraft}
 use Rattle.mx_base.specs.declared.point.Point.{Point}
 use Rattle.mx_base.specs.Settled.{settled}
-use Rattle.mx_registers.specs.points.Points.{moving}
+use Rattle.mx_registers.specs.Registers.{deferrals_by}
+use Rattle.mx_registers.specs.kept.Becomes.{adding}
+use Rattle.mx_registers.specs.points.Points.{moving, moving_from, step_of}
+use Rattle.mx_registers.specs.points.Tables.{deferrals_2}
 use Rattle.mx_layout.specs.Names.{table_name}
 use Rattle.mx_layout.specs.TableName.{TableName}
+use Rattle.mx_layout.specs.Tables.{defect_by_aircraft}
+use Rattle.mx_layout.specs.kept.Cells.{kept_defect}
 use Rattle.mx_layout.specs.declared.fault.Table.TheVariants as table
-use Rattle.mx_book_tables.specs.stands.Family.{is_at, is_register, rows_of, own_names, permanent_names, first_rows, rows_given, added}
-use Rattle.mx_book_tables.specs.stands.Schemas.{indexes_at, schema_at, statements_at}
+use Rattle.mx_book_tables.specs.stands.Family.{of, is_at, is_there, is_register, rows_of, own_names, permanent_names, first_rows, rows_given, added}
+use Rattle.mx_book_tables.specs.stands.Schemas.{indexes_at, is_index_at, schema_at, statements_at}
 
 -- ── tables ──
 
@@ -24,38 +29,38 @@ use Rattle.mx_book_tables.specs.stands.Schemas.{indexes_at, schema_at, statement
 abbrev own : Point → List TableName
 own p = filter (is_at p) own_names
 
-own_at_layout_1 : own (settled 1) ≡ table.Sector1 ∷ table.Fit1 ∷ table.Removal1 ∷ []
+own_at_layout_1 : own (settled 1) ≡ table.Defect ∷ table.Sector1 ∷ table.Fit1 ∷ table.Removal1 ∷ []
 own_at_layout_1 = refl
 
 -- while sectors are moved there are both tables of them
-own_in_step_1 : (mark : ℕ) → own (moving 1 mark) ≡ table.Sector1 ∷ table.Fit1 ∷ table.Removal1 ∷ table.Sector2 ∷ []
+own_in_step_1 : (mark : ℕ) → own (moving 1 mark) ≡ table.Defect ∷ table.Sector1 ∷ table.Fit1 ∷ table.Removal1 ∷ table.Sector2 ∷ []
 own_in_step_1 mark = refl
 
-own_in_step_2 : (mark : ℕ) → own (moving 2 mark) ≡ table.Fit1 ∷ table.Removal1 ∷ table.Sector2 ∷ table.Span2 ∷ []
+own_in_step_2 : (mark : ℕ) → own (moving 2 mark) ≡ table.Defect ∷ table.Fit1 ∷ table.Removal1 ∷ table.Sector2 ∷ table.Span2 ∷ []
 own_in_step_2 mark = refl
 
-own_in_step_3 : (mark : ℕ) → own (moving 3 mark) ≡ table.Sector2 ∷ table.Span2 ∷ table.Total2 ∷ []
+own_in_step_3 : (mark : ℕ) → own (moving 3 mark) ≡ table.Defect ∷ table.Sector2 ∷ table.Span2 ∷ table.Total2 ∷ []
 own_in_step_3 mark = refl
 
-own_in_step_4 : (mark : ℕ) → own (moving 4 mark) ≡ table.Sector2 ∷ table.Span2 ∷ table.Total2 ∷ table.Base2 ∷ []
+own_in_step_4 : (mark : ℕ) → own (moving 4 mark) ≡ table.Defect ∷ table.Sector2 ∷ table.Span2 ∷ table.Total2 ∷ table.Base2 ∷ []
 own_in_step_4 mark = refl
 
-own_at_layout_2 : own (settled 2) ≡ table.Sector2 ∷ table.Span2 ∷ table.Total2 ∷ table.Base2 ∷ []
+own_at_layout_2 : own (settled 2) ≡ table.Defect ∷ table.Sector2 ∷ table.Span2 ∷ table.Total2 ∷ table.Base2 ∷ []
 own_at_layout_2 = refl
 
--- at any point there are the point and the eleven tables that all layouts have
+-- at any point there are the point and the ten tables that all layouts have
 always_there : (p : Point) → filter (is_at p) (table.Office ∷ permanent_names) ≡ table.Office ∷ permanent_names
 always_there p = refl
 
--- the eleven, in the order in which they are read
+-- the ten, in the order in which they are read
 always_read : map table_name permanent_names ≡ codes "entry" ∷ codes "aircraft" ∷ codes "place" ∷ codes "component" ∷ codes "programme" ∷ codes "task" ∷ codes "opening" ∷ codes "crs" ∷ codes "crs_line"
-    ∷ codes "defect" ∷ codes "extension" ∷ []
+    ∷ codes "extension" ∷ []
 always_read = refl
 
 -- ── registers ──
 
 -- spans, totals and last bases are computed from the registers, and no commands are read from them
-own_registers_at_layout_2 : filter (λ name. is_register (rows_of name)) (own (settled 2)) ≡ table.Sector2 ∷ []
+own_registers_at_layout_2 : filter (λ name. is_register (rows_of name)) (own (settled 2)) ≡ table.Defect ∷ table.Sector2 ∷ []
 own_registers_at_layout_2 = refl
 
 -- ── indexes ──
@@ -82,6 +87,19 @@ indexes_in_step_4 mark = refl
 indexes_at_layout_2 : names (settled 2) ≡ codes "span2_by_component" ∷ codes "span2_by_aircraft" ∷ codes "span2_by_remove_seq" ∷ codes "sqlite_autoindex_base2_1"
     ∷ codes "crs_line_by_defect" ∷ codes "extension_by_defect" ∷ codes "defect_by_aircraft" ∷ []
 indexes_at_layout_2 = refl
+
+-- ── a table that goes ──
+
+-- of a table whose rows a step of the move from layout 2 takes, and of its index, by the points on the way
+abbrev later_points : List Point
+later_points = settled 1 ∷ settled 2 ∷ moving_from 2 1 5 ∷ moving_from 2 2 5 ∷ settled 3 ∷ []
+
+-- it is there until that step has ended
+taken_table : map (is_there (of kept_defect deferrals_2 (adding deferrals_by) None)) later_points ≡ true ∷ true ∷ true ∷ false ∷ false ∷ []
+taken_table = refl
+
+taken_index : map (λ at. is_index_at at (record { index = defect_by_aircraft; since = step_of 2 0; until = Some (step_of 2 1) })) later_points ≡ false ∷ true ∷ true ∷ false ∷ false ∷ []
+taken_index = refl
 
 -- ── trees ──
 

@@ -46,11 +46,11 @@ rows_of table.Office = none
 
 -- the tables that all layouts have and that commands write, in the order in which they are read
 abbrev pub permanent_names : List TableName
-permanent_names = table.Entry ∷ table.Aircraft ∷ table.Place ∷ table.Component ∷ table.Programme ∷ table.Task ∷ table.Opening ∷ table.Crs ∷ table.CrsLine ∷ table.Defect ∷ table.Extension ∷ []
+permanent_names = table.Entry ∷ table.Aircraft ∷ table.Place ∷ table.Component ∷ table.Programme ∷ table.Task ∷ table.Opening ∷ table.Crs ∷ table.CrsLine ∷ table.Extension ∷ []
 
 -- the tables behind these, in the order in which layouts make them
 abbrev pub own_names : List TableName
-own_names = table.Sector1 ∷ table.Fit1 ∷ table.Removal1 ∷ table.Sector2 ∷ table.Span2 ∷ table.Total2 ∷ table.Base2 ∷ []
+own_names = table.Defect ∷ table.Sector1 ∷ table.Fit1 ∷ table.Removal1 ∷ table.Sector2 ∷ table.Span2 ∷ table.Total2 ∷ table.Base2 ∷ []
 
 -- ── what the family says of each table ──
 

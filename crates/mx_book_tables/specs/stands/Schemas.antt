@@ -1,5 +1,6 @@
 -- The schema of a file at a point, by the tables that stand there; and how many statements have made it.
-use Rattle.std.specs.Prelude.{◌≡◌, ◌⊎◌, ℕ, nat_eq, true, ◌||◌, List, [], ◌∷◌, map, filter, codes, if◌then◌else◌}
+use Rattle.std.specs.Prelude.{◌≡◌, ◌⊎◌, ℕ, nat_eq, Bool, true, false, not, ◌&&◌, ◌||◌, Option, None, List, [], ◌∷◌, map, filter, codes, if◌then◌else◌}
+use Rattle.std.specs.Option.{option_map_or}
 use Rattle.sqlite.specs.Table.{Table}
 use Rattle.sqlite.specs.Schema.{Schema}
 use Rattle.sqlite_schema.specs.declared.schema.Index.{Index}
@@ -16,24 +17,29 @@ use Rattle.mx_book_tables.specs.stands.Family.{is_at, own_names}
 abbrev pub own_at : Point → List Table
 own_at at = map table_named (filter (is_at at) own_names)
 
--- an index behind those of the permanent tables, and the step from which on a file has it
+-- an index behind those of the permanent tables, the step from which on a file has it, and the one behind which it is gone with its table, if any is
 pub record IndexLine : Type 0 where
   pub index : Index
   pub since : Step
+  pub until : Option Step
 
 -- these indexes, in the order in which they are made; the last ones stand from layout 2 on
 abbrev pub own_indexes : List IndexLine
-own_indexes = record { index = span2_by_component; since = step_of 1 2 }
-    ∷ record { index = span2_by_aircraft; since = step_of 1 2 }
-    ∷ record { index = span2_by_remove_seq; since = step_of 1 2 }
-    ∷ record { index = unique (codes "sqlite_autoindex_base2_1") 28 27 (1 ∷ 2 ∷ []); since = step_of 1 4 }
-    ∷ record { index = crs_line_by_defect; since = step_of 2 0 }
-    ∷ record { index = extension_by_defect; since = step_of 2 0 }
-    ∷ record { index = defect_by_aircraft; since = step_of 2 0 } ∷ []
+own_indexes = record { index = span2_by_component; since = step_of 1 2; until = None }
+    ∷ record { index = span2_by_aircraft; since = step_of 1 2; until = None }
+    ∷ record { index = span2_by_remove_seq; since = step_of 1 2; until = None }
+    ∷ record { index = unique (codes "sqlite_autoindex_base2_1") 28 27 (1 ∷ 2 ∷ []); since = step_of 1 4; until = None }
+    ∷ record { index = crs_line_by_defect; since = step_of 2 0; until = None }
+    ∷ record { index = extension_by_defect; since = step_of 2 0; until = None }
+    ∷ record { index = defect_by_aircraft; since = step_of 2 0; until = None } ∷ []
+
+-- a file at this point has the index: its step has begun, and the one that drops its table has not ended
+abbrev pub is_index_at : Point → IndexLine → Bool
+is_index_at at line = (is_past at line.since || is_within_step at line.since) && not (option_map_or (is_past at) line.until false)
 
 -- those of them that a file at this point has
 abbrev pub indexes_at : Point → List Index
-indexes_at at = map (λ line. line.index) (filter (λ line. is_past at line.since || is_within_step at line.since) own_indexes)
+indexes_at at = map (λ line. line.index) (filter (is_index_at at) own_indexes)
 
 -- the schema of a file at this point
 abbrev pub schema_at : Point → Schema

@@ -1,9 +1,8 @@
 -- The law of a table holds for things that hold what stands in it.
-use Rattle.std.proofs.Common.{◌≡◌, ◌∙◌, ℕ, List, [], ◌∷◌, map, refl, sym, ap, subst}
-use Rattle.std.specs.Prelude.{All, IsSorted}
+use Rattle.std.proofs.Common.{◌≡◌, ◌∙◌, ℕ, List, [], ◌∷◌, map, sym, ap, subst}
+use Rattle.std.specs.Prelude.{IsSorted}
 use Rattle.std.proofs.lemmas.List.Elements.{All-map}
 use Rattle.std.proofs.lemmas.Simd.{map-map}
-use Rattle.sqlite.specs.Order.{Row}
 use Rattle.mx_base.specs.rows.Rising.{IsFrom}
 use Rattle.mx_layout.specs.kept.Kept.{Kept, held}
 use Rattle.mx_layout.specs.kept.Meanings.{IsLawful}

@@ -1,5 +1,5 @@
 -- The law of each permanent table and of each of layout 1: what its two texts mean and how a row is stored, computed, and that its cells tell rows apart.
-use Rattle.std.proofs.Common.{◌≡◌, ◌==◌, cond, ℕ, Option, Some, None, [], refl}
+use Rattle.std.proofs.Common.{◌≡◌, ◌==◌, cond, ℕ, Option, Some, None, [], ◌∷◌, refl}
 use Rattle.sqlite.specs.Listing.{understood}
 use Rattle.sqlite_tied.specs.Compute.{everything}
 use Rattle.mx_base.proofs.RoundTrips.{moment_text_injective}
@@ -12,6 +12,7 @@ use Rattle.mx_base.specs.declared.rows.rows.RemovalRow.{RemovalRow}
 use Rattle.mx_base.specs.declared.rows.rows.SectorRow.{SectorRow}
 use Rattle.mx_base.specs.rows.Rows.{kind_number, category_number, days_stated}
 use Rattle.mx_layout.proofs.RowLemmas.{cast_int, cast_null}
+use Rattle.mx_layout.specs.Tables.{defect}
 use Rattle.mx_layout.specs.kept.Cells
 use Rattle.mx_layout.specs.kept.Meanings.{IsLawful}
 use Rattle.mx_layout.specs.kept.Schemas.{own_1, own_moving, HasBehind, HasOwn1}
@@ -95,7 +96,7 @@ category_back _ = refl
 
 pub defect_lawful : IsLawful Cells.kept_defect
 unfolding understood everything
-defect_lawful = first_keyed Cells.kept_defect [] 11 (λ _ _. refl) (λ _ _. simp (cast_int, cast_null, cast-number_or_null) refl) (λ _. refl)
+defect_lawful = first_keyed Cells.kept_defect (defect ∷ []) 11 (λ _ _. refl) (λ _ _. simp (cast_int, cast_null, cast-number_or_null) refl) (λ _. refl)
     (told_apart (λ row. record { seq = number_at row 0; aircraft = number_at row 1; moment = number_at row 2; reference = text_at row 3; category = category_of (number_at row 4) (number_if_at row 5) }) (λ r i. record { seq = r.seq; aircraft = r.aircraft; moment = r.moment; reference = r.reference; category = category_back r.category i }))
 
 -- ── tables of layout 1, whose moments are texts ──

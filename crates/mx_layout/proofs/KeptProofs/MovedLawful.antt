@@ -2,7 +2,7 @@
 use Rattle.std.proofs.Common.{◌⊎◌, [], ◌∷◌, refl}
 use Rattle.sqlite.specs.Listing.{understood}
 use Rattle.sqlite_tied.specs.Compute.{everything}
-use Rattle.mx_layout.specs.Tables.{sector1, fit1, removal1, sector2, span2, total2}
+use Rattle.mx_layout.specs.Tables.{defect, sector1, fit1, removal1, sector2, span2, total2}
 use Rattle.mx_layout.proofs.RowLemmas.{cast_int, cast_null}
 use Rattle.mx_layout.specs.kept.Cells
 use Rattle.mx_layout.specs.kept.Meanings.{IsLawful}
@@ -17,11 +17,11 @@ sector2_apart = told_apart (λ row. record { seq = number_at row 0; aircraft = n
 
 pub sector2_lawful : IsLawful Cells.kept_sector2
 unfolding understood everything
-sector2_lawful = either_lawful Cells.kept_sector2 (HasBehind (sector1 ∷ fit1 ∷ removal1 ∷ sector2 ∷ [])) (λ s. HasBehind own_moving s ⊎ HasBehind (sector2 ∷ []) s)
-    (first_keyed Cells.kept_sector2 (sector1 ∷ fit1 ∷ removal1 ∷ sector2 ∷ []) 15 (λ _ _. refl) (λ _ _. simp (cast_int, cast_null) refl) (λ _. refl) sector2_apart)
-    (either_lawful Cells.kept_sector2 (HasBehind own_moving) (HasBehind (sector2 ∷ []))
+sector2_lawful = either_lawful Cells.kept_sector2 (HasBehind (defect ∷ sector1 ∷ fit1 ∷ removal1 ∷ sector2 ∷ [])) (λ s. HasBehind own_moving s ⊎ HasBehind (defect ∷ sector2 ∷ []) s)
+    (first_keyed Cells.kept_sector2 (defect ∷ sector1 ∷ fit1 ∷ removal1 ∷ sector2 ∷ []) 15 (λ _ _. refl) (λ _ _. simp (cast_int, cast_null) refl) (λ _. refl) sector2_apart)
+    (either_lawful Cells.kept_sector2 (HasBehind own_moving) (HasBehind (defect ∷ sector2 ∷ []))
     (first_keyed Cells.kept_sector2 own_moving 14 (λ _ _. refl) (λ _ _. simp (cast_int, cast_null) refl) (λ _. refl) sector2_apart)
-    (first_keyed Cells.kept_sector2 (sector2 ∷ []) 12 (λ _ _. refl) (λ _ _. simp (cast_int, cast_null) refl) (λ _. refl) sector2_apart))
+    (first_keyed Cells.kept_sector2 (defect ∷ sector2 ∷ []) 12 (λ _ _. refl) (λ _ _. simp (cast_int, cast_null) refl) (λ _. refl) sector2_apart))
 
 -- sectors of `sector2` by the type of its rows
 pub sector2_row_lawful : IsLawful Cells.kept_sector2_rows
@@ -34,13 +34,13 @@ span2_apart =
 
 pub span2_lawful : IsLawful Cells.kept_span2
 unfolding understood everything
-span2_lawful = either_lawful Cells.kept_span2 (HasBehind own_moving) (HasBehind (sector2 ∷ span2 ∷ []))
+span2_lawful = either_lawful Cells.kept_span2 (HasBehind own_moving) (HasBehind (defect ∷ sector2 ∷ span2 ∷ []))
     (first_keyed Cells.kept_span2 own_moving 15 (λ _ _. refl) (λ _ _. simp (cast_int, cast_null, cast-number_or_null) refl) (λ _. refl) span2_apart)
-    (first_keyed Cells.kept_span2 (sector2 ∷ span2 ∷ []) 13 (λ _ _. refl) (λ _ _. simp (cast_int, cast_null, cast-number_or_null) refl) (λ _. refl) span2_apart)
+    (first_keyed Cells.kept_span2 (defect ∷ sector2 ∷ span2 ∷ []) 13 (λ _ _. refl) (λ _ _. simp (cast_int, cast_null, cast-number_or_null) refl) (λ _. refl) span2_apart)
 
 pub total2_lawful : IsLawful Cells.kept_total2
 unfolding understood everything
-total2_lawful = first_keyed Cells.kept_total2 (sector2 ∷ span2 ∷ total2 ∷ []) 14 (λ _ _. refl) (λ _ _. simp (cast_int, cast_null) refl) (λ _. refl)
+total2_lawful = first_keyed Cells.kept_total2 (defect ∷ sector2 ∷ span2 ∷ total2 ∷ []) 14 (λ _ _. refl) (λ _ _. simp (cast_int, cast_null) refl) (λ _. refl)
     (told_apart (λ row. record { item = number_at row 0; life = record { minutes = number_at row 1; cycles = number_at row 2 }; clock = number_at row 3 }) (λ _. refl))
 
 pub base2_lawful : IsLawful Cells.kept_base2

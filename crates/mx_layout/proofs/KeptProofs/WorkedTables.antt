@@ -24,15 +24,15 @@ use Rattle.mx_layout.specs.kept.Keys.{number_of, one_key, two_key}
 -- ── names ──
 
 abbrev in_all_layouts : List TableName
-in_all_layouts = table.Office ∷ table.Entry ∷ table.Aircraft ∷ table.Place ∷ table.Component ∷ table.Programme ∷ table.Task ∷ table.Opening ∷ table.Crs ∷ table.CrsLine ∷ table.Extension ∷ table.Defect ∷ []
+in_all_layouts = table.Office ∷ table.Entry ∷ table.Aircraft ∷ table.Place ∷ table.Component ∷ table.Programme ∷ table.Task ∷ table.Opening ∷ table.Crs ∷ table.CrsLine ∷ table.Extension ∷ []
 
-abbrev in_one_layout : List TableName
-in_one_layout = table.Sector1 ∷ table.Fit1 ∷ table.Removal1 ∷ table.Sector2 ∷ table.Span2 ∷ table.Total2 ∷ table.Base2 ∷ []
+abbrev in_some_layouts : List TableName
+in_some_layouts = table.Defect ∷ table.Sector1 ∷ table.Fit1 ∷ table.Removal1 ∷ table.Sector2 ∷ table.Span2 ∷ table.Total2 ∷ table.Base2 ∷ []
 
-names : map table_name in_all_layouts ≡ codes "office" ∷ codes "entry" ∷ codes "aircraft" ∷ codes "place" ∷ codes "component" ∷ codes "programme" ∷ codes "task" ∷ codes "opening" ∷ codes "crs" ∷ codes "crs_line" ∷ codes "extension" ∷ codes "defect" ∷ []
+names : map table_name in_all_layouts ≡ codes "office" ∷ codes "entry" ∷ codes "aircraft" ∷ codes "place" ∷ codes "component" ∷ codes "programme" ∷ codes "task" ∷ codes "opening" ∷ codes "crs" ∷ codes "crs_line" ∷ codes "extension" ∷ []
 names = refl
 
-own_names : map table_name in_one_layout ≡ codes "sector1" ∷ codes "fit1" ∷ codes "removal1" ∷ codes "sector2" ∷ codes "span2" ∷ codes "total2" ∷ codes "base2" ∷ []
+own_names : map table_name in_some_layouts ≡ codes "defect" ∷ codes "sector1" ∷ codes "fit1" ∷ codes "removal1" ∷ codes "sector2" ∷ codes "span2" ∷ codes "total2" ∷ codes "base2" ∷ []
 own_names = refl
 
 -- ── keys ──

@@ -26,7 +26,7 @@ use Rattle.mx_base.specs.rows.Rows
 use Rattle.mx_base.specs.rows.Rows.{kind_number, category_number, days_stated}
 use Rattle.mx_layout.specs.kept.Values.{number_or_null, text_or_null, flag}
 use Rattle.mx_layout.specs.kept.Kept.{Kept, held, numbered, lined}
-use Rattle.mx_layout.specs.kept.Schemas.{HasPermanent, HasOwn1, HasSpans, HasTotals, HasOwn2, HasFittings, HasSectors2}
+use Rattle.mx_layout.specs.kept.Schemas.{HasPermanent, HasDefects, HasOwn1, HasSpans, HasTotals, HasOwn2, HasFittings, HasSectors2}
 
 -- entries, as the rows of `entry`
 abbrev pub kept_entry : Kept EntryRow
@@ -78,7 +78,7 @@ kept_crs_line = lined table.CrsLine HasPermanent Rows.FitsReleaseLine
 
 -- deferrals of defects, as the rows of `defect`: the category by its number, and the days that it states
 abbrev pub kept_defect : Kept DeferralRow
-kept_defect = numbered table.Defect HasPermanent Rows.FitsDeferral
+kept_defect = numbered table.Defect HasDefects Rows.FitsDeferral
     (λ r. Int (pos r.seq) ∷ Int (pos r.aircraft) ∷ Int (pos r.moment) ∷ Text r.reference ∷ Int (pos (category_number r.category)) ∷ number_or_null (days_stated r.category) ∷ [])
 
 -- extensions of intervals, as the rows of `extension`

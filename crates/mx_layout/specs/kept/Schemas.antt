@@ -1,7 +1,8 @@
 -- The schemas that have a table, whatever else they have: every layout, and every point between two.
 -- While components are moved to layout 2, spans stand behind tables that are dropped with the move, and in front of
 -- their place from then on. What a text means names the place of its table, so each text of spans is computed at both
--- (`HasSpans`), and its law is joined from the two.
+-- (`HasSpans`), and its law is joined from the two. Deferrals stand first behind the permanent tables, in every layout so
+-- far: a table that goes is none of these.
 use Rattle.std.specs.Prelude.{◌≡◌, ◌⊎◌, List, [], ◌∷◌, ◌++◌, codes}
 use Rattle.sqlite.specs.Table.{Table}
 use Rattle.sqlite.specs.Schema.{Schema}
@@ -11,7 +12,7 @@ use Rattle.mx_layout.specs.Tables.{office, entry, aircraft, place, component, pr
 -- the permanent tables and then any others, and their indexes
 abbrev pub permanent : List Table → List Index → Schema
 permanent rest more = record {
-  tables = office ∷ entry ∷ aircraft ∷ place ∷ component ∷ programme ∷ task ∷ opening ∷ crs ∷ crs_line ∷ extension ∷ defect ∷ rest;
+  tables = office ∷ entry ∷ aircraft ∷ place ∷ component ∷ programme ∷ task ∷ opening ∷ crs ∷ crs_line ∷ extension ∷ rest;
   indexes = unique (codes "sqlite_autoindex_entry_1") 2 1 (2 ∷ [])
       ∷ unique (codes "sqlite_autoindex_aircraft_1") 4 3 (2 ∷ [])
       ∷ unique (codes "sqlite_autoindex_place_1") 6 5 (1 ∷ 2 ∷ [])
@@ -23,15 +24,15 @@ permanent rest more = record {
 
 -- the tables of layout 1 that stand behind the permanent ones
 abbrev pub own_1 : List Table
-own_1 = sector1 ∷ fit1 ∷ removal1 ∷ []
+own_1 = defect ∷ sector1 ∷ fit1 ∷ removal1 ∷ []
 
 -- the tables of layout 2 that stand behind the permanent ones
 abbrev pub own_2 : List Table
-own_2 = sector2 ∷ span2 ∷ total2 ∷ base2 ∷ []
+own_2 = defect ∷ sector2 ∷ span2 ∷ total2 ∷ base2 ∷ []
 
 -- those that stand there while components are moved from layout 1 to layout 2
 abbrev pub own_moving : List Table
-own_moving = fit1 ∷ removal1 ∷ sector2 ∷ span2 ∷ []
+own_moving = defect ∷ fit1 ∷ removal1 ∷ sector2 ∷ span2 ∷ []
 
 -- the schema has the permanent tables, behind them these, and then any others
 pub record HasBehind (own : List Table) (schema : Schema) : Type 0 where
@@ -42,6 +43,10 @@ pub record HasBehind (own : List Table) (schema : Schema) : Type 0 where
 -- the schema has the permanent tables
 abbrev pub HasPermanent : Schema → Type 0
 HasPermanent = HasBehind []
+
+-- the schema has the permanent tables and deferrals: at each layout up to the second, and between them
+abbrev pub HasDefects : Schema → Type 0
+HasDefects = HasBehind (defect ∷ [])
 
 -- the schema has the permanent tables and those of layout 1
 abbrev pub HasOwn1 : Schema → Type 0
@@ -57,12 +62,12 @@ HasFittings schema = HasOwn1 schema ⊎ HasBehind own_moving schema
 
 -- the schema has the permanent tables and the sectors of layout 2: while sectors are moved, while components are, and from then on
 abbrev pub HasSectors2 : Schema → Type 0
-HasSectors2 schema = HasBehind (sector1 ∷ fit1 ∷ removal1 ∷ sector2 ∷ []) schema ⊎ (HasBehind own_moving schema ⊎ HasBehind (sector2 ∷ []) schema)
+HasSectors2 schema = HasBehind (defect ∷ sector1 ∷ fit1 ∷ removal1 ∷ sector2 ∷ []) schema ⊎ (HasBehind own_moving schema ⊎ HasBehind (defect ∷ sector2 ∷ []) schema)
 
 -- the schema has the permanent tables and spans: while components are moved, and from then on
 abbrev pub HasSpans : Schema → Type 0
-HasSpans schema = HasBehind own_moving schema ⊎ HasBehind (sector2 ∷ span2 ∷ []) schema
+HasSpans schema = HasBehind own_moving schema ⊎ HasBehind (defect ∷ sector2 ∷ span2 ∷ []) schema
 
 -- the schema has the permanent tables and totals: once all components are moved
 abbrev pub HasTotals : Schema → Type 0
-HasTotals = HasBehind (sector2 ∷ span2 ∷ total2 ∷ [])
+HasTotals = HasBehind (defect ∷ sector2 ∷ span2 ∷ total2 ∷ [])

@@ -27,22 +27,22 @@ use Rattle.mx_table_rows.proofs.ChosenProofs.EqualLemmas.{one_equal, two_equal, 
 -- spans stand at one place while components are moved, and at another from then on
 spans_found : (text : List ℕ) (tests : List Term) (chosen : Row → Row → Bool) → ((values r : Row) → list_all (holds (values ∷ r ∷ [])) tests ≡ chosen values (cells span2 r))
     → ((rest : List Table) (more : List Index) → Chooses (permanent (own_moving ++ rest) more) text span2 tests)
-    → ((rest : List Table) (more : List Index) → Chooses (permanent ((sector2 ∷ span2 ∷ []) ++ rest) more) text span2 tests) → Finds kept_span2 text chosen
+    → ((rest : List Table) (more : List Index) → Chooses (permanent ((defect ∷ sector2 ∷ span2 ∷ []) ++ rest) more) text span2 tests) → Finds kept_span2 text chosen
 spans_found text tests chosen picks moving settled =
-    either_finds kept_span2 (HasBehind own_moving) (HasBehind (sector2 ∷ span2 ∷ [])) text None kept_span2.order chosen (in_place own_moving moving) (in_place (sector2 ∷ span2 ∷ []) settled)
+    either_finds kept_span2 (HasBehind own_moving) (HasBehind (defect ∷ sector2 ∷ span2 ∷ [])) text None kept_span2.order chosen (in_place own_moving moving) (in_place (defect ∷ sector2 ∷ span2 ∷ []) settled)
   where
     in_place : (own : List Table) → ((rest : List Table) (more : List Index) → Chooses (permanent (own ++ rest) more) text span2 tests) → Finds (over kept_span2 (HasBehind own)) text chosen
     in_place own texts = first_found (over kept_span2 (HasBehind own)) own (λ _ has. has) text tests chosen (λ _. refl) picks refl texts (λ _. refl) (λ _ _. refl)
 
 -- sectors of layout 2 stand at three places: while sectors are moved, while components are, and from then on
 sectors_found : (text : List ℕ) (tests : List Term) (chosen : Row → Row → Bool) → ((values r : Row) → list_all (holds (values ∷ r ∷ [])) tests ≡ chosen values (cells sector2 r))
-    → ((rest : List Table) (more : List Index) → Chooses (permanent ((sector1 ∷ fit1 ∷ removal1 ∷ sector2 ∷ []) ++ rest) more) text sector2 tests)
+    → ((rest : List Table) (more : List Index) → Chooses (permanent ((defect ∷ sector1 ∷ fit1 ∷ removal1 ∷ sector2 ∷ []) ++ rest) more) text sector2 tests)
     → ((rest : List Table) (more : List Index) → Chooses (permanent (own_moving ++ rest) more) text sector2 tests)
-    → ((rest : List Table) (more : List Index) → Chooses (permanent ((sector2 ∷ []) ++ rest) more) text sector2 tests) → Finds kept_sector2_rows text chosen
+    → ((rest : List Table) (more : List Index) → Chooses (permanent ((defect ∷ sector2 ∷ []) ++ rest) more) text sector2 tests) → Finds kept_sector2_rows text chosen
 sectors_found text tests chosen picks first moving settled =
-    either_finds kept_sector2_rows (HasBehind (sector1 ∷ fit1 ∷ removal1 ∷ sector2 ∷ [])) (λ s. HasBehind own_moving s ⊎ HasBehind (sector2 ∷ []) s) text None kept_sector2_rows.order chosen
-    (in_place (sector1 ∷ fit1 ∷ removal1 ∷ sector2 ∷ []) first)
-    (either_finds kept_sector2_rows (HasBehind own_moving) (HasBehind (sector2 ∷ [])) text None kept_sector2_rows.order chosen (in_place own_moving moving) (in_place (sector2 ∷ []) settled))
+    either_finds kept_sector2_rows (HasBehind (defect ∷ sector1 ∷ fit1 ∷ removal1 ∷ sector2 ∷ [])) (λ s. HasBehind own_moving s ⊎ HasBehind (defect ∷ sector2 ∷ []) s) text None kept_sector2_rows.order chosen
+    (in_place (defect ∷ sector1 ∷ fit1 ∷ removal1 ∷ sector2 ∷ []) first)
+    (either_finds kept_sector2_rows (HasBehind own_moving) (HasBehind (defect ∷ sector2 ∷ [])) text None kept_sector2_rows.order chosen (in_place own_moving moving) (in_place (defect ∷ sector2 ∷ []) settled))
   where
     in_place : (own : List Table) → ((rest : List Table) (more : List Index) → Chooses (permanent (own ++ rest) more) text sector2 tests) → Finds (over kept_sector2_rows (HasBehind own)) text chosen
     in_place own texts = first_found (over kept_sector2_rows (HasBehind own)) own (λ _ has. has) text tests chosen (λ _. refl) picks refl texts (λ _. refl) (λ _ _. refl)
@@ -107,11 +107,11 @@ crs_line_by_defect_finds = two_found kept_crs_line [] (λ _ has. has) crs_line_b
 
 pub defect_by_seq_finds : Finds kept_defect defect_by_seq (by_value 0)
 unfolding understood everything
-defect_by_seq_finds = first_found kept_defect [] (λ _ has. has) defect_by_seq (given_at Eq defect 0 0 ∷ []) (by_value 0) (λ _. refl) (λ _ _. one_equal _ _ refl) refl (λ _ _. (refl, refl, (refl, refl))) (λ _. refl) (λ _ _. refl)
+defect_by_seq_finds = first_found kept_defect (defect ∷ []) (λ _ has. has) defect_by_seq (given_at Eq defect 0 0 ∷ []) (by_value 0) (λ _. refl) (λ _ _. one_equal _ _ refl) refl (λ _ _. (refl, refl, (refl, refl))) (λ _. refl) (λ _ _. refl)
 
 pub defect_by_aircraft_finds : Finds kept_defect defect_by_aircraft (by_value 1)
 unfolding understood everything
-defect_by_aircraft_finds = first_found kept_defect [] (λ _ has. has) defect_by_aircraft (given_at Eq defect 1 0 ∷ []) (by_value 1) (λ _. refl) (λ _ _. one_equal _ _ refl) refl (λ _ _. (refl, refl, (refl, refl))) (λ _. refl) (λ _ _. refl)
+defect_by_aircraft_finds = first_found kept_defect (defect ∷ []) (λ _ has. has) defect_by_aircraft (given_at Eq defect 1 0 ∷ []) (by_value 1) (λ _. refl) (λ _ _. one_equal _ _ refl) refl (λ _ _. (refl, refl, (refl, refl))) (λ _. refl) (λ _ _. refl)
 
 pub extension_by_seq_finds : Finds kept_extension extension_by_seq (by_value 0)
 unfolding understood everything
@@ -139,7 +139,7 @@ span2_by_remove_seq_finds = spans_found span2_by_remove_seq (given_at Eq span2 5
 
 pub total2_by_item_finds : Finds kept_total2 total2_by_item (by_value 0)
 unfolding understood everything
-total2_by_item_finds = first_found kept_total2 (sector2 ∷ span2 ∷ total2 ∷ []) (λ _ has. has) total2_by_item (given_at Eq total2 0 0 ∷ []) (by_value 0) (λ _. refl) (λ _ _. one_equal _ _ refl) refl (λ _ _. (refl, refl, (refl, refl))) (λ _. refl) (λ _ _. refl)
+total2_by_item_finds = first_found kept_total2 (defect ∷ sector2 ∷ span2 ∷ total2 ∷ []) (λ _ has. has) total2_by_item (given_at Eq total2 0 0 ∷ []) (by_value 0) (λ _. refl) (λ _ _. one_equal _ _ refl) refl (λ _ _. (refl, refl, (refl, refl))) (λ _. refl) (λ _ _. refl)
 
 pub sector2_by_seq_finds : Finds kept_sector2_rows sector2_by_seq (by_value 0)
 unfolding understood everything
@@ -179,7 +179,7 @@ all_crs_lines_finds = two_found kept_crs_line [] (λ _ has. has) all_crs_lines [
 
 pub all_defects_finds : Finds kept_defect all_defects any_row
 unfolding understood everything
-all_defects_finds = first_found kept_defect [] (λ _ has. has) all_defects [] any_row (λ _. refl) (λ _ _. refl) refl (λ _ _. (refl, refl, (refl, refl))) (λ _. refl) (λ _ _. refl)
+all_defects_finds = first_found kept_defect (defect ∷ []) (λ _ has. has) all_defects [] any_row (λ _. refl) (λ _ _. refl) refl (λ _ _. (refl, refl, (refl, refl))) (λ _. refl) (λ _ _. refl)
 
 -- ── the last row ──
 

@@ -1,5 +1,5 @@
 -- Worked rows: what becomes of the rows of totals, spans and last bases, by hand.
-use Rattle.std.proofs.Common.{◌≡◌, ℕ, refl, Some, None, Ok, Err, pos, true, false, map, filter, List, [], ◌∷◌}
+use Rattle.std.proofs.Common.{◌≡◌, ℕ, refl, Some, None, Ok, Err, pos, filter, List, [], ◌∷◌}
 use Rattle.std.specs.Prelude.{codes}
 use Rattle.sqlite.specs.Order.{Row}
 use Rattle.sqlite.specs.declared.types.Value.TheVariants.{Int, Text, Null}
@@ -7,10 +7,8 @@ use Rattle.sqlite_sql.specs.Ops.{binary}
 use Rattle.sqlite_value.specs.Order.{value_cmp}
 use lib.Ieee.{is_nan, lt}
 use Rattle.mx_base.specs.declared.amounts.Use.{Use}
-use Rattle.mx_base.specs.declared.rows.rows.TotalRow.{TotalRow}
 use Rattle.mx_layout.specs.declared.fault.Table.TheVariants.{Total2, Base2}
 use Rattle.mx_layout.specs.declared.fault.TableFault.TheVariants.{Store, Damaged}
-use Rattle.mx_table_rows.specs.declared.totals.lives.Total.{Total}
 use Rattle.mx_table_rows.specs.totals.Bases.{is_of_task}
 use Rattle.mx_table_rows.specs.totals.Calls.{change_where}
 use Rattle.mx_table_rows.specs.totals.Single.{one_in, only_of, one_or_none_in, one_or_none_of}
