@@ -1,5 +1,5 @@
 -- Worked points: a fleet of one aircraft, two engines and 130 sectors on its way from layout 1 to layout 2 and on to layout 3.
-use Rattle.std.proofs.Common.{refl, ◌≡◌, ℕ, zero, suc, ◌+◌, length, List, [], ◌∷◌, Bool, true, false}
+use Rattle.std.proofs.Common.{refl, ◌≡◌, ℕ, zero, suc, ◌+◌, length, List, [], ◌∷◌, Bool, true, false, None}
 use Rattle.std.specs.Prelude.{codes, map}
 use Rattle.mx_book.specs.commands.Act.{Entry, Flown, Released, Deferred, Extended}
 use Rattle.mx_book.specs.declared.commands.sector.Sector.{Sector}
@@ -8,7 +8,7 @@ use Rattle.mx_book.proofs.WorkedFittings.{e1, e2, engine_with, first_aircraft, r
 use Rattle.mx_registers.proofs.KeptProofs.WorkedKept.{overhauled}
 use Rattle.mx_base.specs.declared.point.Point.{Point}
 use Rattle.mx_registers.specs.points.Commits.{commits_left, commits_of_both_moves, commits_of_move, commits_of_second_move, commits_to, point_behind, point_behind_to, rounds}
-use Rattle.mx_registers.specs.points.Points.{is_before, is_on_way, moving, next_point, next_point_to}
+use Rattle.mx_registers.specs.points.Points.{is_before, is_on_way, moving, next_point, next_point_to, point_after}
 use Rattle.mx_base.specs.Settled.{settled}
 use Rattle.mx_registers.specs.points.Tables.{bases_2, deferrals_2, deferrals_3, done_3, fittings_1, found_3, is_table_at, removals_1, rows_at, sectors_1, sectors_2, spans_2, totals_2, is_moved_at, entries_all, aircraft_all, places_all, components_all, programmes_all, tasks_all, openings_all, releases_all, release_lines_all, deferrals_all, extensions_all}
 use Rattle.mx_registers.specs.points.Moves.{deferrals_mark, deferrals_next, sectors_mark, sectors_next, totals_mark, totals_next}
@@ -142,6 +142,9 @@ way_on = refl
 way_ends : next_point (settled 2) fleet ≡ settled 2
 way_ends = refl
 
+points_after : map (λ p. point_after p None) (settled 1 ∷ moving 3 7 ∷ moving 4 7 ∷ settled 2 ∷ []) ≡ moving 1 0 ∷ moving 4 0 ∷ settled 2 ∷ settled 2 ∷ []
+points_after = refl
+
 -- 16 commits; and 14 for an aircraft, two engines that were fitted, one sector, a programme and the overhaul of an engine
 commits_of_fleet : commits_of_move fleet ≡ 16
 commits_of_fleet = refl
@@ -149,7 +152,7 @@ commits_of_fleet = refl
 commits_of_few : commits_of_move overhauled ≡ 14
 commits_of_few = refl
 
-few_reach_layout_2 : map (λ commits. point_behind commits (settled 1) overhauled) (13 ∷ 14 ∷ []) ≡ moving 4 3 ∷ settled 2 ∷ []
+few_reach_layout_2 : map (λ commits. point_behind commits (settled 1) overhauled) (13 ∷ 14 ∷ 15 ∷ []) ≡ moving 4 3 ∷ settled 2 ∷ settled 2 ∷ []
 few_reach_layout_2 = refl
 
 -- from the first point 16 commits are left; with one of two components moved, ten are left: one for the other, one to end the step, and four for each of the next two steps
