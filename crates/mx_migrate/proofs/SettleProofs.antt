@@ -10,6 +10,7 @@ pub mod KeptChoices
 pub mod LeftLemmas
 pub mod ChoiceLemmas
 pub mod AdvanceLemmas
+pub mod RankLemmas
 pub mod SettleLemmas
 pub mod Worked
 pub mod WorkedRows

@@ -1,6 +1,7 @@
 pub mod Due
 pub mod DueLaws
 pub mod Place
+pub mod Ranks
 pub mod Items
 pub mod Numbers
 pub mod Found

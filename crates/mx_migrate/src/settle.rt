@@ -44,6 +44,7 @@
 //!   `settle`: `settles` (`Settles`: `ends`).
 //! - Where the tables of layout 1 stood for a book and no fault is answered, the file is settled at the newest
 //!   layout with as many commits as its move takes, and with fewer it is on the way: `settle`: `enough`, `fewer`.
+//! - So many commits are enough for both moves, that to layout 3 too: `laws::openings_make_enough_commits`.
 
 pub mod advancing;
 mod choosing;
@@ -51,6 +52,7 @@ pub mod due;
 mod front;
 mod items;
 mod known;
+pub mod laws;
 mod numbers;
 pub mod place;
 pub mod settling;

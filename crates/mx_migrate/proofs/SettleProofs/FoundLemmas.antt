@@ -1,5 +1,5 @@
 -- What registers give stays so while what is kept of items is written: no table of theirs changes.
-use Rattle.std.proofs.Common.{◌≡◌, ◌∙◌, inl, inr, ◌≤◌, ℕ, true, false, cond, ◌++◌, List, [], ◌∷◌, map, filter, not, nat_eq, Option, None, Some, refl, sym, ap, subst, arith}
+use Rattle.std.proofs.Common.{◌≡◌, ◌∙◌, inl, inr, ◌≤◌, true, false, cond, ◌++◌, List, [], ◌∷◌, map, filter, not, nat_eq, Option, None, Some, refl, sym, ap, subst, arith}
 use Rattle.std.specs.List.Sorted.{IsPermutation}
 use Rattle.std.proofs.lemmas.List.Sorted.{IsPermutation-sym, IsPermutation-trans}
 use Rattle.sqlite.specs.Order.{Row}

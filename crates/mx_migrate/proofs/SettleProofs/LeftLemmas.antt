@@ -39,7 +39,7 @@ use Rattle.mx_moves.specs.steps.Sectors.{is_next_from}
 use Rattle.mx_moves.proofs.StepsProofs.PageLemmas.{permutation_none}
 use Rattle.mx_migrate.specs.settle.Choices.{HasLateNumber}
 use Rattle.mx_migrate.proofs.SettleProofs.FrontLemmas.{above_number, first_chosen_are}
-use Rattle.mx_migrate.proofs.SettleProofs.ItemLemmas.{between, later}
+use Rattle.mx_migrate.proofs.SettleProofs.ItemLemmas.{between}
 
 -- ── sectors that are left ──
 

@@ -1,5 +1,5 @@
 -- Commits of a file, one after another.
-use Rattle.std.proofs.Common.{◌≡◌, ◌≢◌, ◌⊎◌, inl, inr, ℕ, zero, suc, ◌+◌, ◌*◌, ◌<◌, ◌≤◌, Bool, true, false, nat_le, List, Option, None, Ok, Err, Result, IsTrue, refl, sym, ap, subst, ◌∙◌, arith}
+use Rattle.std.proofs.Common.{◌≡◌, ◌≢◌, ◌⊎◌, inl, inr, ℕ, zero, suc, ◌+◌, ◌<◌, ◌≤◌, Bool, true, false, nat_le, List, Option, None, Ok, Err, Result, IsTrue, refl, sym, ap, subst, ◌∙◌, arith}
 use Rattle.std.specs.Prelude.{IfOk, IsErrAnd}
 use Rattle.std.proofs.lemmas.Bool.Decides.{nat_tests}
 use Rattle.sqlite.specs.Effect.{Database}
@@ -25,39 +25,12 @@ use Rattle.mx_migrate.specs.settle.Advances.{Advances, AdvancesBook, AdvancesRow
 use Rattle.mx_migrate.specs.settle.Found.{KnowsNow}
 use Rattle.mx_migrate.specs.settle.Items.{Knows}
 use Rattle.mx_migrate.specs.settle.Place.{IsBehind, IsPlacedAt, SaysAt, TellsPlace}
+use Rattle.mx_migrate.specs.settle.Ranks.{points_before}
 use Rattle.mx_migrate.specs.settle.Settles.{Settles}
 use Rattle.mx_migrate.proofs.SettleProofs.AdvanceLemmas.{newest_stays, no_damage, placed_point, placed_still, rests_point, same_now, still}
 use Rattle.mx_migrate.proofs.SettleProofs.ChoiceLemmas.{settled_at}
-use Rattle.mx_migrate.proofs.SettleProofs.PlaceLemmas.{Bounds, bounds, place_is, place_stops, rests_placed}
-
--- ── how far a point is ──
-
--- the place of a point among those that a file can be at, in their order
-abbrev rank : Point → ℕ
-rank at = at.layout * 5000005 + at.step * 1000001 + at.mark
-
-one_or_two : (n : ℕ) → 1 ≤ n → n ≤ 2 → (n ≡ 1) ⊎ (n ≡ 2)
-one_or_two zero low high = absurd (omega arith)
-one_or_two (suc zero) low high = inl refl
-one_or_two (suc (suc zero)) low high = inr refl
-one_or_two (suc (suc (suc n))) low high = absurd (omega arith)
-
-rank_high : (at : Point) → IsOfFile at → rank at ≤ 10000010
-rank_high at file = by (bounds at file)
-  where
-    by : Bounds at → rank at ≤ 10000010
-    by b = elim (one_or_two at.layout b.first b.layout) [
-      | inl one ↦ omega (arith, one, b.step, b.mark)
-      | inr two ↦ (let zero = b.newest two in omega (arith, two, zero.0, zero.1))
-    ]
-
-rank_rises : (at to : Point) → IsOfFile at → IsOfFile to → IsBehind at to → rank at + 1 ≤ rank to
-rank_rises at to file far behind = by (bounds at file) (bounds to far) behind
-  where
-    by : Bounds at → Bounds to → IsBehind at to → rank at + 1 ≤ rank to
-    by b c (inl newer) = omega (arith, newer, b.step, b.mark)
-    by b c (inr (layout, inl further)) = omega (arith, layout, further, b.mark)
-    by b c (inr (layout, inr (step, greater))) = omega (arith, layout, step, greater)
+use Rattle.mx_migrate.proofs.SettleProofs.PlaceLemmas.{place_is, place_stops, rests_placed}
+use Rattle.mx_migrate.proofs.SettleProofs.RankLemmas.{rank_rises, ranked_high, ranked_of_file}
 
 -- ── one commit more ──
 
@@ -112,7 +85,7 @@ pub record HasGone (done : ℕ) (end : Point) (known : Option KeptRows) (old now
   pub kept : (at : Point) (book : List Entry) → RestsAt at old book → RestsAt (point_behind done at book) now book
   pub knows : (at : Point) (book : List Entry) → RestsAt at old book → HasCleanDisk now → Knows known book
   pub placed : (at : Point) → IsPlacedAt at old → IsPlacedAt end now
-  pub risen : (at : Point) → IsPlacedAt at old → HasCleanDisk now → IsOfFile end × (5000005 + done ≤ rank end)
+  pub risen : (at : Point) → IsPlacedAt at old → HasCleanDisk now → IsOfFile end × (done ≤ points_before end)
   pub made : (at : Point) → IsPlacedAt at old → HasCleanDisk now → IsTrue now.is_open → IsTrue old.is_open × LeadsTo done at old.now.trees end now.now.trees
   pub left : (at : Point) → IsPlacedAt at old → Leaves now (IsLeftBy done at old)
   pub keeps : (at : Point) → IsPlacedAt at old → KnowsNow end known now
@@ -128,14 +101,11 @@ gone_none old now from tells =
       kept = λ at book rests. still at book old now nothing rests;
       knows = λ _ _ _ _. tt;
       placed = λ at placed. placed_point now at from (λ clean. sym (is at placed clean)) (placed_still at old now nothing placed);
-      risen = λ at placed clean. (tells.of_file, low_rank from tells.of_file);
+      risen = λ at placed clean. (tells.of_file, omega arith);
       made = λ at placed clean is_open. (nothing.was_open clean is_open, (is at placed clean, ap (λ (d : Database). d.trees) (same_now (schema_at at) (SaysAt at) old now nothing placed clean is_open)));
       left = λ at placed clean db may. elim (nothing.survives.crash clean db may) [ inl before ↦ inl before | inr none ↦ absurd none ];
       keeps = λ _ _ _ _. tt;
     }
-  where
-    low_rank : (at : Point) → IsOfFile at → 5000005 + 0 ≤ rank at
-    low_rank at file = let b = bounds at file in omega (arith, b.first)
 
 no_store : (name : TableName) → stop.Damaged name ≡ stop.Store → ⊥
 no_store name is = absurd cc
@@ -174,9 +144,9 @@ module _ (old now : State) where
       not_newest : p ≢ settled NEWEST_LAYOUT
       not_newest same = let two : p.layout ≡ NEWEST_LAYOUT = ap (λ (r : Point). r.layout) same in absurd (omega (arith, two, older))
 
-      rises : IsOfFile p × (5000005 + done ≤ rank p) → IsOfFile q × (((p ≡ settled NEWEST_LAYOUT) × (q ≡ p)) ⊎ IsBehind p q) → IsOfFile q × (5000005 + (done + 1) ≤ rank q)
+      rises : IsOfFile p × (done ≤ points_before p) → IsOfFile q × (((p ≡ settled NEWEST_LAYOUT) × (q ≡ p)) ⊎ IsBehind p q) → IsOfFile q × (done + 1 ≤ points_before q)
       rises before (far, inl same) = (let two : p.layout ≡ NEWEST_LAYOUT = ap (λ (r : Point). r.layout) same.0 in absurd (omega arith))
-      rises before (far, inr behind) = (far, omega (arith, before.1, rank_rises p q before.0 far behind))
+      rises before (far, inr behind) = (far, omega (arith, before.1, rank_rises p q (ranked_of_file p before.0) (ranked_of_file q far) behind))
 
   -- where a file can be at the first point, it can be at the one that was reached
   file_behind : (done : ℕ) (p : Point) (known : Option KeptRows) → HasGone done p known old now → (at : Point) (book : List Entry) → RestsAt at old book → HasCleanDisk now → IsOfFile (point_behind done at book)
@@ -226,10 +196,10 @@ module _ (old now : State) where
     left = gone.left;
     counted = λ at placed clean is_open. (let it = gone.made at placed clean is_open in (it.0, (most, omega arith, it.1, inl refl)));
     damaged = λ _ _ _ _. tt;
-    ends = λ at placed clean enough. (let far = gone.risen at placed clean in absurd (omega (arith, far.1, rank_high p far.0, enough)));
+    ends = λ at placed clean enough. (let far = gone.risen at placed clean in absurd (omega (arith, far.1, ranked_high p (ranked_of_file p far.0), enough)));
   }
 
-  pub gone_newest : (most done : ℕ) (p : Point) (known : Option KeptRows) → HasGone done p known old now → done ≤ most → 2 ≤ p.layout → Settles most old now (Ok p)
+  pub gone_newest : (most done : ℕ) (p : Point) (known : Option KeptRows) → HasGone done p known old now → done ≤ most → NEWEST_LAYOUT ≤ p.layout → Settles most old now (Ok p)
   gone_newest most done p known gone low newest =
       let there : (at : Point) → IsPlacedAt at old → HasCleanDisk now → p ≡ settled NEWEST_LAYOUT = λ at placed clean. settled_at p (gone.risen at placed clean).0 newest in
       let behind : (at : Point) (book : List Entry) → RestsAt at old book → HasCleanDisk now → point_behind done at book ≡ settled NEWEST_LAYOUT =

@@ -1,6 +1,6 @@
 -- Worked rows: as what a point is answered, which numbers no entry can have, and of which table that is told first.
 use Rattle.std.proofs.Common.{refl, ◌≡◌, ℕ, List, [], ◌∷◌, Bool, true, false, Option, Some, None, Ok, Err}
-use Rattle.std.specs.Prelude.{codes}
+use Rattle.std.specs.Prelude.{codes, map}
 use Rattle.std.specs.List.{list_any}
 use Rattle.mx_base.specs.declared.point.Point.{Point}
 use Rattle.mx_base.specs.declared.rows.rows.BaseRow.{BaseRow}
@@ -17,6 +17,7 @@ use Rattle.mx_migrate.specs.settle.Choices.{fault_by, next_checked}
 use Rattle.mx_migrate.specs.settle.Items.{next_total, of_item, total_by}
 use Rattle.mx_migrate.specs.settle.Numbers.{has_late, is_late, is_late_span, late_table, or_behind}
 use Rattle.mx_migrate.specs.settle.Place.{checked, place_of}
+use Rattle.mx_migrate.specs.settle.Ranks.{points_before}
 use Rattle.mx_migrate.specs.declared.settle.due.Due.TheVariants as due
 use Rattle.mx_migrate.specs.declared.settle.settling.TheConstants.{ENOUGH_COMMITS}
 
@@ -24,6 +25,10 @@ use Rattle.mx_migrate.specs.declared.settle.settling.TheConstants.{ENOUGH_COMMIT
 
 abbrev point : ℕ → ℕ → ℕ → Point
 point layout step mark = record { layout = layout; step = step; mark = mark }
+
+-- of a move from layout 1 the first point has one behind it for each of 1,000,001 marks of four steps, and of one from layout 2 for each of two
+points_in_order : map points_before (point 1 0 0 ∷ point 1 1 0 ∷ point 1 4 1000000 ∷ point 2 0 0 ∷ point 2 1 65 ∷ point 2 2 1000000 ∷ point 3 0 0 ∷ []) ≡ 0 ∷ 1 ∷ 4000004 ∷ 4000005 ∷ 4000071 ∷ 6000007 ∷ 6000008 ∷ []
+points_in_order = refl
 
 before_the_move : checked (point 1 0 0) ≡ Ok (point 1 0 0)
 before_the_move = refl

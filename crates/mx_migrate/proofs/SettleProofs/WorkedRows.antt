@@ -1,7 +1,6 @@
 -- Worked rows of the tables that a move makes: each value in the column that the page of the file has it in, all of a row different.
 use Rattle.std.proofs.Common.{refl, ◌≡◌, [], ◌∷◌, None, Some}
-use Rattle.std.specs.Prelude.{codes, map, pos}
-use Rattle.sqlite.specs.Order.{Row}
+use Rattle.std.specs.Prelude.{codes, pos}
 use Rattle.sqlite.specs.declared.types.Value.TheVariants.{Int, Null, Text}
 use Rattle.mx_layout.specs.kept.Cells.{kept_base2, kept_sector2, kept_span2, kept_total2}
 
