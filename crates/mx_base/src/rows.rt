@@ -10,7 +10,7 @@ pub mod rows;
 
 pub use register_rows::{RegisterPairs, RegisterRows};
 pub use rows::{
-    AircraftRow, BaseRow, ComponentRow, DeferralRow, DoneRow, EntryKind, EntryRow, ExtensionRow,
-    FittingRow, FoundRow, OpeningRow, PlaceRow, ProgrammeRow, ReleaseLineRow, ReleaseRow,
+    AircraftRow, BaseRow, ComponentRow, Deferral3Row, DeferralRow, DoneRow, EntryKind, EntryRow,
+    ExtensionRow, FittingRow, OpeningRow, PlaceRow, ProgrammeRow, ReleaseLineRow, ReleaseRow,
     RemovalRow, Sector2Row, SectorRow, SpanRow, TaskRow, TotalRow,
 };

@@ -23,12 +23,12 @@ use Rattle.mx_base.specs.declared.rows.rows.OpeningRow.{OpeningRow}
 use Rattle.mx_base.specs.declared.rows.rows.ReleaseRow.{ReleaseRow}
 use Rattle.mx_base.specs.declared.rows.rows.ReleaseLineRow.{ReleaseLineRow}
 use Rattle.mx_base.specs.declared.rows.rows.DeferralRow.{DeferralRow}
+use Rattle.mx_base.specs.declared.rows.rows.Deferral3Row.{Deferral3Row}
 use Rattle.mx_base.specs.declared.rows.rows.ExtensionRow.{ExtensionRow}
 use Rattle.mx_base.specs.declared.rows.rows.SpanRow.{SpanRow}
 use Rattle.mx_base.specs.declared.rows.rows.TotalRow.{TotalRow}
 use Rattle.mx_base.specs.declared.rows.rows.BaseRow.{BaseRow}
 use Rattle.mx_base.specs.declared.rows.rows.DoneRow.{DoneRow}
-use Rattle.mx_base.specs.declared.rows.rows.FoundRow.{FoundRow}
 
 -- the number of a kind of entry, in the order of the commands
 abbrev pub kind_number : EntryKind → ℕ
@@ -204,6 +204,11 @@ pub record FitsDeferral (row : DeferralRow) : Type 0 where
   pub reference : IsIdentifier is_graphic 16 row.reference
   pub category : FitsCategory row.category
 
+-- the deferral fits, and the cycles have 32 bits
+pub record FitsDeferral3 (row : Deferral3Row) : Type 0 where
+  pub deferral : FitsDeferral row.deferral
+  pub found_cycles : row.found_cycles < 2 ^ 32
+
 -- the numbers have 32 bits, and the day is in the calendar
 pub record FitsExtension (row : ExtensionRow) : Type 0 where
   pub seq : row.seq < 2 ^ 32
@@ -253,10 +258,3 @@ pub record FitsDone (row : DoneRow) : Type 0 where
   pub value : FitsBaseValue row.value
   pub due : FitsLimit row.due
   pub base : FitsBaseValue row.base
-
--- the numbers have 32 bits, and the moment is in the calendar
-pub record FitsFound (row : FoundRow) : Type 0 where
-  pub seq : row.seq < 2 ^ 32
-  pub aircraft : row.aircraft < 2 ^ 32
-  pub moment : row.moment ≤ last_moment
-  pub cycles : row.cycles < 2 ^ 32

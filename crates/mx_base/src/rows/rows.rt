@@ -174,6 +174,14 @@ pub struct DeferralRow {
     pub category: Category,
 }
 
+/// A defect that was deferred, as the table of layout 3 keeps it.
+#[derive(Clone, Copy, Debug, PartialEq, Eq)]
+pub struct Deferral3Row {
+    pub deferral: DeferralRow,
+    /// The cycles that the airframe had reached when the defect was found.
+    pub found_cycles: u32,
+}
+
 /// The extension of the interval within which a deferred defect is rectified.
 #[derive(Clone, Copy, Debug, PartialEq, Eq)]
 pub struct ExtensionRow {
@@ -230,13 +238,4 @@ pub struct DoneRow {
     /// A limit in no dimension where the task was never due.
     pub due: Limit,
     pub base: Base,
-}
-
-/// The cycles of an airframe when a defect was found on it, which stand with the defect.
-#[derive(Clone, Copy, Debug, PartialEq, Eq)]
-pub struct FoundRow {
-    pub seq: u32,
-    pub aircraft: u32,
-    pub moment: Moment,
-    pub cycles: u32,
 }
