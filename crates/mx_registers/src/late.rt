@@ -1,6 +1,6 @@
 //! The rows that layout 3 keeps in place of the last bases and beside the defects, as functions of the book, and what a
 //! command makes of them: each accomplishment of a task, with what the item had reached, when the task was due and the base
-//! that this leaves; and the cycles of an airframe when a defect was found on it. No table has them yet.
+//! that this leaves; and the cycles of an airframe when a defect was found on it. No file has them yet.
 //!
 //! # What is promised
 //!

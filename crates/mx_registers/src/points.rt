@@ -9,12 +9,11 @@
 //! - The next point of a file, and whether a point is on the way to the newest layout, are the definition's:
 //!   `point_after`, `is_on_way`.
 //! - The tables at any point stand for at most one book: `laws::points_decide_the_book`.
-//! - At every point each sector, deferral, fitting and removal stands in one table alone, a deferral in its new one
-//!   beside the cycles at which it was found, and of each item its last bases stand or its accomplishments; a table that
-//!   is not there has no row, and one that is there has all of its rows where no step is under way:
-//!   `each_row_stands_once`, `tables_are_empty_or_whole`.
-//! - A new command leaves every register to which it adds no row, and the spans and totals of which it touches and
-//!   begins none, at every point: `commands_leave_other_tables`.
+//! - At every point each sector, deferral, fitting and removal stands in one table alone, and of each item its last bases
+//!   stand or its accomplishments; a table that is not there has no row, and one that is there has all of its rows where
+//!   no step is under way: `each_row_stands_once`, `tables_are_empty_or_whole`.
+//! - A new command leaves every register to which it adds no row, and the spans, totals and deferrals with the cycles at
+//!   which they were found of which it touches and begins none, at every point: `commands_leave_other_tables`.
 //! - A commit moves up to 64 sectors or deferrals, or what there is of one component, or writes one total, or the bases
 //!   of one item, or its accomplishments in place of these: behind it each row stands in one table alone, and the other
 //!   tables are as they were: `a_commit_moves_sectors`, `a_commit_moves_a_component`, `a_commit_writes_a_total`,

@@ -5,7 +5,7 @@ use Rattle.std.specs.declared.cmp.Ordering.TheVariants.{Less, Equal, Greater}
 use Rattle.mx_base.specs.declared.amounts.Base.{Base}
 use Rattle.mx_base.specs.declared.category.Category.TheVariants.{C}
 use Rattle.mx_base.specs.declared.rows.rows.DoneRow.{DoneRow}
-use Rattle.mx_base.specs.declared.rows.rows.FoundRow.{FoundRow}
+use Rattle.mx_base.specs.declared.rows.rows.Deferral3Row.{Deferral3Row}
 use Rattle.mx_book.specs.commands.Act.{Entry, Flown, Released}
 use Rattle.mx_book.specs.declared.commands.item.Item.TheVariants.{Airframe, Component}
 use Rattle.mx_book.specs.declared.commands.programme.Task.{Task}
@@ -143,8 +143,8 @@ reached = refl
 reached_by_others : map (λ (number : ℕ). cycles_reached deferred number (at 19784 12 0)) (2 ∷ 4 ∷ []) ≡ 101 ∷ 0 ∷ []
 reached_by_others = refl
 
-abbrev found : List FoundRow
-found = record { seq = 10; aircraft = 1; moment = at 19784 10 0; cycles = 802 } ∷ []
+abbrev found : List Deferral3Row
+found = record { deferral = record { seq = 10; aircraft = 1; moment = at 19784 10 0; reference = codes "21-31-01"; category = C }; found_cycles = 802 } ∷ []
 
 by_deferrals : map (found_row deferred) (deferral_rows deferred) ≡ found
 by_deferrals = refl

@@ -1,5 +1,5 @@
-//! The cycles at which defects were found, by moments: of each deferral what the airframe had reached when the defect was found, with
-//! the sectors that had landed by then, whenever they were entered.
+//! Deferrals with the cycles at which they were found, by moments: what the airframe had reached when the defect was found, with the
+//! sectors that had landed by then, whenever they were entered.
 ghost use Rattle.std.specs.Prelude.{◌≡◌, IfOk, map};
 ghost use Rattle.mx_registers.specs.Registers.{deferral_rows, sector_rows};
 ghost use Rattle.mx_registers.specs.kept.Spans.{span_rows};
@@ -11,7 +11,7 @@ use crate::indexed_book::IndexedBook;
 use crate::moments::flown::Moments;
 use crate::moments::lives::life_at;
 use mx_base::Moment;
-use mx_base::rows::{DeferralRow, FoundRow};
+use mx_base::rows::{Deferral3Row, DeferralRow};
 use mx_book::entry_list::NoMemory;
 use mx_registers::plain::item_of_entry;
 use std::alloc::Global;
@@ -27,26 +27,24 @@ fn cycles_reached(book: &IndexedBook, moments: &Moments, number: u32, moment: Mo
     }
 }
 
-// The row of a defect, by that of its deferral.
-fn found_row(book: &IndexedBook, moments: &Moments, deferral: &DeferralRow) -> FoundRow
+// The row of a deferral with the cycles at which the defect was found.
+fn found_row(book: &IndexedBook, moments: &Moments, deferral: &DeferralRow) -> Deferral3Row
     requires { ArePermuted (sector_rows book.now) (span_rows book.now) moments.now }
     ensures { result ≡ found_row book.now deferral.now }
 {
-    FoundRow {
-        seq: deferral.seq,
-        aircraft: deferral.aircraft,
-        moment: deferral.moment,
-        cycles: cycles_reached(book, moments, deferral.aircraft, deferral.moment),
+    Deferral3Row {
+        deferral: *deferral,
+        found_cycles: cycles_reached(book, moments, deferral.aircraft, deferral.moment),
     }
 }
 
-// The rows of the defects of some deferrals.
+// The rows of some deferrals.
 fn rows_of(
     alloc: Global,
     book: &IndexedBook,
     moments: &Moments,
     deferrals: &[DeferralRow],
-) -> Result<Vec<FoundRow>, NoMemory>
+) -> Result<Vec<Deferral3Row>, NoMemory>
     requires { ArePermuted (sector_rows book.now) (span_rows book.now) moments.now }
     ensures { IfOk result (λ rows. rows.items ≡ map (found_row book.now) deferrals.now) }
 {
@@ -62,14 +60,14 @@ fn rows_of(
     Ok(rows)
 }
 
-/// The cycles at which the defects of a book were found, as rows in the order of their deferrals, of these and the sectors and spans of
-/// its registers. `NoMemory` where memory runs out.
+/// The deferrals of a book with the cycles at which they were found, of these and the sectors and spans of its registers, in their
+/// order. `NoMemory` where memory runs out.
 pub fn found_rows(
     alloc: Global,
     book: &IndexedBook,
     moments: &Moments,
     deferrals: &[DeferralRow],
-) -> Result<Vec<FoundRow>, NoMemory>
+) -> Result<Vec<Deferral3Row>, NoMemory>
     requires moments { ArePermuted (sector_rows book.now) (span_rows book.now) moments.now }
     requires deferrals { deferrals.now ≡ deferral_rows book.now }
     ensures { IfOk result (λ rows. rows.items ≡ found_rows book.now) }

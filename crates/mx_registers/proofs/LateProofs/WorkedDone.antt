@@ -5,7 +5,7 @@ use Rattle.mx_base.specs.declared.amounts.Base.{Base}
 use Rattle.mx_base.specs.declared.amounts.Limit.{Limit}
 use Rattle.mx_base.specs.declared.category.Category.TheVariants.{C}
 use Rattle.mx_base.specs.declared.rows.rows.DoneRow.{DoneRow}
-use Rattle.mx_base.specs.declared.rows.rows.FoundRow.{FoundRow}
+use Rattle.mx_base.specs.declared.rows.rows.Deferral3Row.{Deferral3Row}
 use Rattle.mx_book.specs.commands.Act.{Act, Entry, Added, Listed, Deferred, Flown, Released}
 use Rattle.mx_book.specs.declared.commands.item.Item.TheVariants.{Airframe}
 use Rattle.mx_book.specs.declared.commands.release.Line.TheVariants.{Done, Rectified}
@@ -18,7 +18,7 @@ use Rattle.mx_book.proofs.WorkedProgrammes.{c172, days_alone, first_four, hundre
 use Rattle.mx_registers.specs.kept.Totals.{numbers_flown}
 use Rattle.mx_registers.specs.Registers.{no_limit}
 use Rattle.mx_registers.specs.late.Done.{credited_late, done_become, done_by, done_rows, done_rows_of, is_done_at, last_base, moved, rebased, valued}
-use Rattle.mx_registers.specs.late.Found.{defect_deferred, defect_found, found_become, found_rows}
+use Rattle.mx_registers.specs.late.Found.{found_become, found_rows, is_found_touched}
 use Rattle.mx_registers.proofs.KeptProofs.WorkedKept.{overhauled, work_on_abcd}
 
 abbrev late : List ℕ
@@ -170,17 +170,11 @@ moved_alone = refl
 abbrev defer : ℕ → Act
 defer hour = Deferred (record { tail = late; moment = at 19786 hour 0; reference = codes "33-40-01"; category = C })
 
-abbrev found : ℕ → ℕ → ℕ → FoundRow
-found seq hour cycles = record { seq = seq; aircraft = 5; moment = at 19786 hour 0; cycles = cycles }
+abbrev found : ℕ → ℕ → ℕ → Deferral3Row
+found seq hour cycles = record { deferral = record { seq = seq; aircraft = 5; moment = at 19786 hour 0; reference = codes "33-40-01"; category = C }; found_cycles = cycles }
 
 abbrev deferred : List Entry
 deferred = inspected ++ logged (codes "X1") (defer 13) ∷ []
-
-same_defect : map defect_found (found_rows deferred) ≡ map defect_deferred (record { seq = 10; aircraft = 5; moment = at 19786 13 0; reference = codes "33-40-01"; category = C } ∷ [])
-same_defect = refl
-
-found_as : defect_found (found 10 13 900) ≡ (10, 5, at 19786 13 0)
-found_as = refl
 
 found_kept : found_rows deferred ≡ found 10 13 900 ∷ []
 found_kept = refl
@@ -193,5 +187,18 @@ found_next : found_become deferred (logged (codes "X2") (defer 14)) (found_rows 
 found_next = refl
 
 -- a sector adds to those of its aircraft that were found when it had landed
-found_credited : found_become deferred (logged (codes "TL/D-LATE/1/1") (Flown (flight 1 (at 19786 12 0) (at 19786 13 0)))) (found 10 13 900 ∷ found 11 12 900 ∷ record (found 12 14 900) { aircraft = 1 } ∷ []) ≡ found 10 13 901 ∷ found 11 12 900 ∷ record (found 12 14 900) { aircraft = 1 } ∷ []
+abbrev first_flight : Act
+first_flight = Flown (flight 1 (at 19786 12 0) (at 19786 13 0))
+
+abbrev another : Deferral3Row
+another = let row = found 12 14 900 in record row { deferral = record row.deferral { aircraft = 1 } }
+
+found_credited : found_become deferred (logged (codes "TL/D-LATE/1/1") first_flight) (found 10 13 900 ∷ found 11 12 900 ∷ another ∷ []) ≡ found 10 13 901 ∷ found 11 12 900 ∷ another ∷ []
 found_credited = refl
+
+found_touched : map (is_found_touched deferred first_flight) (found 10 13 900 ∷ found 11 12 900 ∷ another ∷ []) ≡ true ∷ false ∷ false ∷ []
+found_touched = refl
+
+-- a deferral touches none
+found_untouched : is_found_touched deferred (defer 14) (found 10 13 900) ≡ false
+found_untouched = refl

@@ -10,7 +10,7 @@ use Rattle.mx_base.specs.declared.point.Point.{Point}
 use Rattle.mx_registers.specs.points.Points.{is_before, moving, moving_from, next_mark, next_point, next_point_to, on_to, steps_from}
 use Rattle.mx_registers.specs.declared.points.points.TheConstants.{NEWEST_LAYOUT}
 use Rattle.mx_base.specs.Settled.{settled}
-use Rattle.mx_registers.specs.points.Tables.{Line, bases_2, deferrals_2, deferrals_3, done_3, fittings_1, found_3, removals_1, sectors_1, sectors_2, spans_2, stands_there, totals_2}
+use Rattle.mx_registers.specs.points.Tables.{Line, bases_2, deferrals_2, deferrals_3, done_3, fittings_1, removals_1, sectors_1, sectors_2, spans_2, stands_there, totals_2}
 use Rattle.mx_registers.specs.points.Moves.{AllStay, Stays}
 use Rattle.mx_registers.proofs.PointsProofs.PointLemmas.{le_false, le_true}
 use Rattle.mx_registers.proofs.PointsProofs.StepLemmas.{step_after_to}
@@ -60,7 +60,6 @@ module _ (book : List Entry) (mark : ℕ) where
     bases = refl;
     deferrals_old = refl;
     deferrals_new = refl;
-    found = refl;
     done = refl;
   }
 
@@ -76,7 +75,6 @@ module _ (book : List Entry) (mark : ℕ) where
     bases = refl;
     deferrals_old = refl;
     deferrals_new = refl;
-    found = refl;
     done = refl;
   }
 
@@ -92,7 +90,6 @@ module _ (book : List Entry) (mark : ℕ) where
     bases = refl;
     deferrals_old = refl;
     deferrals_new = refl;
-    found = refl;
     done = refl;
   }
 
@@ -108,7 +105,6 @@ module _ (book : List Entry) (mark : ℕ) where
     bases = stays IsSome bases_2 (moving 3 mark) (moving 4 0) book brought_none some;
     deferrals_old = refl;
     deferrals_new = refl;
-    found = refl;
     done = refl;
   }
 
@@ -124,7 +120,6 @@ module _ (book : List Entry) (mark : ℕ) where
     bases = stays (UpTo mark) bases_2 (moving 4 mark) (settled 2) book (brought_all mark) h;
     deferrals_old = refl;
     deferrals_new = refl;
-    found = refl;
     done = refl;
   }
 
@@ -139,8 +134,7 @@ module _ (book : List Entry) (mark : ℕ) where
     totals = refl;
     bases = refl;
     deferrals_old = stays IsSome deferrals_2 (moving_from 2 0 mark) (moving_from 2 1 0) book taken_none some.0;
-    deferrals_new = stays IsSome deferrals_3 (moving_from 2 0 mark) (moving_from 2 1 0) book brought_none some.0;
-    found = stays IsSome found_3 (moving_from 2 0 mark) (moving_from 2 1 0) book brought_none some.1;
+    deferrals_new = stays IsSome deferrals_3 (moving_from 2 0 mark) (moving_from 2 1 0) book brought_none some.1;
     done = refl;
   }
 
@@ -155,8 +149,7 @@ module _ (book : List Entry) (mark : ℕ) where
     totals = refl;
     bases = stays IsSome bases_2 (moving_from 2 1 mark) (moving_from 2 2 0) book taken_none some.0;
     deferrals_old = stays (UpTo mark) deferrals_2 (moving_from 2 1 mark) (moving_from 2 2 0) book (taken_all mark) h.0;
-    deferrals_new = stays (UpTo mark) deferrals_3 (moving_from 2 1 mark) (moving_from 2 2 0) book (brought_all mark) h.0;
-    found = stays (UpTo mark) found_3 (moving_from 2 1 mark) (moving_from 2 2 0) book (brought_all mark) h.1;
+    deferrals_new = stays (UpTo mark) deferrals_3 (moving_from 2 1 mark) (moving_from 2 2 0) book (brought_all mark) h.1;
     done = stays IsSome done_3 (moving_from 2 1 mark) (moving_from 2 2 0) book brought_none some.1;
   }
 
@@ -172,7 +165,6 @@ module _ (book : List Entry) (mark : ℕ) where
     bases = stays (UpTo mark) bases_2 (moving_from 2 2 mark) (settled 3) book (taken_all mark) h.0;
     deferrals_old = refl;
     deferrals_new = refl;
-    found = refl;
     done = stays (UpTo mark) done_3 (moving_from 2 2 mark) (settled 3) book (brought_all mark) h.1;
   }
 
@@ -227,7 +219,7 @@ module _ (book : List Entry) (b : IsBook book) (newest : ℕ) where
   second_stays under (suc (suc (suc n))) mark h last by none = absurd (omega arith)
 
   same_point : (at : Point) → AllStay at at book
-  same_point at = record { sectors_old = refl; sectors_new = refl; fittings = refl; removals = refl; spans = refl; totals = refl; bases = refl; deferrals_old = refl; deferrals_new = refl; found = refl; done = refl }
+  same_point at = record { sectors_old = refl; sectors_new = refl; fittings = refl; removals = refl; spans = refl; totals = refl; bases = refl; deferrals_old = refl; deferrals_new = refl; done = refl }
 
   -- where a step begins, or has nothing left to move, all tables stay
   pub tables_stay_to : (at : Point) → Ends at → AllStayOn at

@@ -2,7 +2,7 @@
 use Rattle.std.proofs.Common.{refl, ap, ◌∙◌, ◌≡◌, List, [], ◌∷◌, ◌++◌, Bool, true, false, cond, append-nil}
 use Rattle.std.specs.Prelude.{filter, map}
 use Rattle.std.specs.List.{AllByRecursion}
-use Rattle.mx_book.specs.commands.Act.{Act, Entry}
+use Rattle.mx_book.specs.commands.Act.{Act, Entry, Deferred, Flown}
 use Rattle.mx_book.specs.commands.Shape.{has_shape}
 use Rattle.mx_book.specs.Book.{IsBook}
 use Rattle.mx_book.specs.Judge.{judge}
@@ -10,6 +10,9 @@ use Rattle.mx_book.specs.declared.verdict.Verdict.TheVariants.{New}
 use Rattle.mx_book.proofs.JudgeLemmas.{both_true}
 use Rattle.mx_base.specs.declared.rows.rows.SpanRow.{SpanRow}
 use Rattle.mx_registers.specs.Registers.{aircraft_by, components_by, deferrals_by, extensions_by, fittings_by, openings_by, places_by, programmes_by, release_lines_by, releases_by, removals_by, sectors_by, tasks_by}
+use Rattle.mx_base.specs.declared.rows.rows.Deferral3Row.{Deferral3Row}
+use Rattle.mx_registers.specs.late.Found.{found_added, found_become, found_moved, found_rows, is_found_touched, with_cycles}
+use Rattle.mx_registers.proofs.LateProofs.FoundBecomes.{found_with_command}
 use Rattle.mx_registers.specs.kept.Becomes.{Becomes, Change, adding, spans_become, totals_become}
 use Rattle.mx_registers.specs.kept.Spans.{is_span_touched, span_ended, span_rows, spans_opened}
 use Rattle.mx_registers.specs.kept.Totals.{is_among, numbers_touched, total_changed, total_rows, totals_opened}
@@ -34,6 +37,15 @@ each_span : (book : List Entry) (act : Act) (rows : List SpanRow) → AllByRecur
 each_span book act [] = tt
 each_span book act (row ∷ rows) = (spans_untouched book act row, each_span book act rows)
 
+-- a deferral that a command does not touch stays
+found_untouched : (book : List Entry) (act : Act) (row : Deferral3Row) → is_found_touched book act row ≡ false → found_moved book act row ≡ row
+found_untouched book (Flown s) row none = ap (λ c. cond {A = Deferral3Row} c (with_cycles s.cycles row) row) none
+found_untouched book _ row none = refl
+
+each_found : (book : List Entry) (act : Act) (rows : List Deferral3Row) → AllByRecursion (λ row. is_found_touched book act row ≡ false → found_moved book act row ≡ row) rows
+each_found book act [] = tt
+each_found book act (row ∷ rows) = (found_untouched book act row, each_found book act rows)
+
 module _ (at : Point) (book : List Entry) (command : Entry) (b : IsBook book) (new : judge book command ≡ New) (shape : has_shape command ≡ true) where
   -- where the change of a table leaves its rows, the table has the same rows at each point
   unchanged : {Row : Type 0} (line : Line Row) (change : Change Row) → Becomes line.rows change → change book command (line.rows book) ≡ line.rows book → IsLeft line at book command
@@ -55,6 +67,17 @@ module _ (at : Point) (book : List Entry) (command : Entry) (b : IsBook book) (n
       unchanged totals_2 totals_become (λ book command b new shape. total_rows-changed book command.doc command.act b new (both_true _ _ shape).0)
       (ap (λ l. rest ++ l) opened ∙ append-nil rest ∙ none_changed (is_among (numbers_touched book command.act)) (total_changed book command.act) (total_rows book) (totals_untouched book command.doc command.act b new) none)
 
+  -- what a deferral adds is added without cycles too
+  none_added : (act : Act) → deferrals_by book act ≡ [] → found_added book act ≡ []
+  none_added (Deferred d) none = (cc)
+  none_added _ none = refl
+
+  found_left : filter (is_found_touched book command.act) (found_rows book) ≡ [] → deferrals_by book command.act ≡ [] → IsLeft deferrals_3 at book command
+  found_left none added =
+      let rest = map (found_moved book command.act) (found_rows book) in
+      unchanged deferrals_3 found_become (λ book command b new shape. found_with_command book command.doc command.act b new shape)
+      (ap (λ l. rest ++ l) (none_added command.act added) ∙ append-nil rest ∙ none_changed (is_found_touched book command.act) (found_moved book command.act) (found_rows book) (each_found book command.act (found_rows book)) none)
+
   pub are_left : AreLeft at book command
   are_left = record {
     aircraft = without aircraft_all aircraft_by (register_becomes aircraft_by);
@@ -70,7 +93,7 @@ module _ (at : Point) (book : List Entry) (command : Entry) (b : IsBook book) (n
     releases = without releases_all releases_by (register_becomes releases_by);
     release_lines = without release_lines_all release_lines_by (register_becomes release_lines_by);
     deferrals_old = without deferrals_2 deferrals_by (register_becomes deferrals_by);
-    deferrals_new = without deferrals_3 deferrals_by (register_becomes deferrals_by);
+    deferrals_new = found_left;
     extensions = without extensions_all extensions_by (register_becomes extensions_by);
     spans = spans_left;
     totals = totals_left;

@@ -4,11 +4,12 @@ use Rattle.std.specs.Prelude.{not, map, filter, IsPermutation}
 use Rattle.std.specs.List.{filter_map}
 use Rattle.std.specs.Option.{option_map_or}
 use Rattle.std.proofs.lemmas.List.Elements.{filter_agree}
-use Rattle.std.proofs.lemmas.List.Sorted.{IsPermutation-refl, IsPermutation-sym, IsPermutation-trans, IsPermutation-append, IsPermutation-filter_both}
+use Rattle.std.proofs.lemmas.List.Sorted.{IsPermutation-refl, IsPermutation-sym, IsPermutation-trans, IsPermutation-append, IsPermutation-filter_both, IsPermutation-map}
 use Rattle.mx_book.specs.commands.Act.{Entry}
 use Rattle.mx_book.specs.Book.{IsBook}
 use Rattle.mx_base.specs.declared.rows.rows.AircraftRow.{AircraftRow}
 use Rattle.mx_base.specs.declared.rows.rows.ComponentRow.{ComponentRow}
+use Rattle.mx_base.specs.declared.rows.rows.Deferral3Row.{Deferral3Row}
 use Rattle.mx_base.specs.declared.rows.rows.DeferralRow.{DeferralRow}
 use Rattle.mx_base.specs.declared.rows.rows.EntryRow.{EntryRow}
 use Rattle.mx_base.specs.declared.rows.rows.ExtensionRow.{ExtensionRow}
@@ -27,9 +28,11 @@ use Rattle.mx_registers.proofs.RegisterLemmas.{entry_rows-rising, aircraft_rows-
 use Rattle.mx_base.specs.declared.point.Point.{Point}
 use Rattle.mx_base.specs.declared.rows.rows.SpanRow.{SpanRow}
 use Rattle.mx_registers.specs.kept.Spans.{fitting_in, removal_in, span_rows}
+use Rattle.mx_registers.specs.late.Found.{found_rows}
+use Rattle.mx_registers.proofs.LateProofs.FoundBecomes.{found_of_deferrals}
 use Rattle.mx_registers.specs.points.Points.{Step, has_moved, is_past, is_within_step, step_of}
 use Rattle.mx_registers.specs.points.Same.{GiveSame, GiveSameRegisters}
-use Rattle.mx_registers.specs.points.Tables.{Line, fittings_1, is_table_at, removals_1, rows_at, sectors_1, spans_2, stands_there, always, entries_all, aircraft_all, places_all, components_all, programmes_all, tasks_all, openings_all, releases_all, release_lines_all, deferrals_2, deferrals_all, extensions_all}
+use Rattle.mx_registers.specs.points.Tables.{Line, fittings_1, is_table_at, removals_1, rows_at, sectors_1, spans_2, stands_there, always, entries_all, aircraft_all, places_all, components_all, programmes_all, tasks_all, openings_all, releases_all, release_lines_all, deferrals_2, deferrals_3, extensions_all}
 use Rattle.mx_registers.proofs.KeptProofs.SpanRegisters.{fittings_in_spans, removals_in_spans}
 
 -- two rising lists of the same rows are one
@@ -205,6 +208,31 @@ module _ (at : Point) (one other : List Entry) (is : IsBook one) (was : IsBook o
       (IsPermutation-trans (filter moved (removal_rows one)) (filter_map removal_in (moved_spans other)) (filter moved (removal_rows other)) there
       (IsPermutation-sym (filter moved (removal_rows other)) (filter_map removal_in (moved_spans other)) (removals_in_spans is_moved other was))) old
 
+-- ── deferrals ──
+
+abbrev deferral_in : Deferral3Row → DeferralRow
+deferral_in row = row.deferral
+
+-- those of the new table stand there by the deferrals that they have
+found_there : (at : Point) (book : List Entry) → map deferral_in (rows_at deferrals_3 at book) ≡ rows_at (new deferral_rows deferrals_2.number (step_of 2 1) at) at book
+found_there at book =
+    let there = λ (row : DeferralRow). stands_there deferrals_3 at row.seq in
+    sym (filter_through deferral_in there (found_rows book)) ∙ ap (filter there) (found_of_deferrals book)
+
+pub deferrals_once : (at : Point) (book : List Entry) → IsPermutation (deferral_rows book) (map deferral_in (rows_at deferrals_3 at book) ++ rows_at deferrals_2 at book)
+deferrals_once at book =
+    subst (λ l. IsPermutation (deferral_rows book) (l ++ rows_at deferrals_2 at book)) (sym (found_there at book)) (each_once deferral_rows deferrals_2.number (step_of 2 1) at book)
+
+same_deferrals : (at : Point) (one other : List Entry) → GiveSame deferrals_2 at one other → GiveSame deferrals_3 at one other → IsPermutation (deferral_rows one) (deferral_rows other)
+same_deferrals at one other before after =
+    let found = λ (book : List Entry). map deferral_in (rows_at deferrals_3 at book) in
+    let left = rows_at deferrals_2 at in
+    let came : IsPermutation (found one) (found other) = IsPermutation-map deferral_in (rows_at deferrals_3 at one) (rows_at deferrals_3 at other) (given_or_none deferrals_3 at one other after) in
+    IsPermutation-trans (deferral_rows one) (found one ++ left one) (deferral_rows other) (deferrals_once at one)
+    (IsPermutation-trans (found one ++ left one) (found other ++ left other) (deferral_rows other)
+    (IsPermutation-append (found one) (found other) (left one) (left other) came (given_or_none deferrals_2 at one other before))
+    (IsPermutation-sym (deferral_rows other) (found other ++ left other) (deferrals_once at other)))
+
 -- ── the tables that all layouts have ──
 
 pub all_there : {X : Type 0} (xs : List X) → filter (λ x. true) xs ≡ xs
@@ -215,14 +243,6 @@ whole : {Row : Type 0} (rows : List Entry → List Row) (number : Row → ℕ) (
 whole {Row} rows number at one other same =
     let both : IsPermutation (filter (λ (row : Row). true) (rows one)) (filter (λ (row : Row). true) (rows other)) = same refl in
     subst (λ (l : List Row). IsPermutation l (rows other)) (all_there (rows one)) (subst (λ (l : List Row). IsPermutation (filter (λ (row : Row). true) (rows one)) l) (all_there (rows other)) both)
-
--- where all deferrals are given to one table, both books give the same to any table of them
-pub deferrals_given : (line : Line DeferralRow) → line.rows ≡ deferral_rows → (at : Point) (one other : List Entry) → IsBook one → IsBook other → GiveSame deferrals_all at one other → GiveSame line at one other
-deferrals_given line of at one other is was same there =
-    let key = λ (row : DeferralRow). row.seq in
-    let all : deferral_rows one ≡ deferral_rows other = rising_once key 1 (length one + 1) (length other + 1) _ _ (deferral_rows-rising one is.shaped) (deferral_rows-rising other was.shaped) (whole deferral_rows key at one other same) in
-    let alike : line.rows one ≡ line.rows other = ap (λ rows. rows one) of ∙ all ∙ sym (ap (λ rows. rows other) of) in
-    subst (λ l. IsPermutation (rows_at line at one) (filter (λ row. stands_there line at (line.number row)) l)) alike (IsPermutation-refl (rows_at line at one))
 
 -- ── one book ──
 
@@ -240,7 +260,7 @@ same_registers at one other is was same = record {
   removals = rising_once (λ (row : RemovalRow). row.seq) 1 (length one + 1) (length other + 1) _ _ (removal_rows-rising one is.shaped) (removal_rows-rising other was.shaped) (same_removals at one other is was same.removals same.spans);
   releases = rising_once (λ (row : ReleaseRow). row.seq) 1 (length one + 1) (length other + 1) _ _ (release_rows-rising one is.shaped) (release_rows-rising other was.shaped) (whole release_rows releases_all.number at one other same.releases);
   release_lines = rising_once release_line_key (1 * 2 ^ 32) ((length one + 1) * 2 ^ 32) ((length other + 1) * 2 ^ 32) _ _ (release_line_rows-rising one is.shaped) (release_line_rows-rising other was.shaped) (whole release_line_rows release_lines_all.number at one other same.release_lines);
-  deferrals = rising_once (λ (row : DeferralRow). row.seq) 1 (length one + 1) (length other + 1) _ _ (deferral_rows-rising one is.shaped) (deferral_rows-rising other was.shaped) (same_moved deferral_rows deferrals_2.number (step_of 2 1) at one other same.deferrals_old same.deferrals_new);
+  deferrals = rising_once (λ (row : DeferralRow). row.seq) 1 (length one + 1) (length other + 1) _ _ (deferral_rows-rising one is.shaped) (deferral_rows-rising other was.shaped) (same_deferrals at one other same.deferrals_old same.deferrals_new);
   extensions = rising_once (λ (row : ExtensionRow). row.seq) 1 (length one + 1) (length other + 1) _ _ (extension_rows-rising one is.shaped) (extension_rows-rising other was.shaped) (whole extension_rows extensions_all.number at one other same.extensions);
 }
 

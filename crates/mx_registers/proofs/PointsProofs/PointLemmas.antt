@@ -11,14 +11,15 @@ use Rattle.mx_book.specs.Programme.{last_of}
 use Rattle.mx_base.specs.declared.rows.rows.SectorRow.{SectorRow}
 use Rattle.mx_base.specs.rows.Rising.{IsRising}
 use Rattle.mx_base.specs.declared.rows.rows.DeferralRow.{DeferralRow}
-use Rattle.mx_base.specs.declared.rows.rows.FoundRow.{FoundRow}
+use Rattle.mx_base.specs.declared.rows.rows.Deferral3Row.{Deferral3Row}
 use Rattle.mx_registers.specs.Registers.{deferral_rows, sector_rows}
-use Rattle.mx_registers.specs.late.Found.{defect_deferred, defect_found, found_rows}
+use Rattle.mx_registers.specs.late.Found.{found_rows}
 use Rattle.mx_registers.proofs.LateProofs.FoundBecomes.{found_of_deferrals}
 use Rattle.mx_registers.proofs.RegisterLemmas.{deferral_rows-rising, sector_rows-rising}
-use Rattle.mx_registers.specs.points.Moves.{BringsFound, MovesDeferrals, MovesSectors, deferrals_mark, last_moved}
+use Rattle.mx_registers.specs.points.Moves.{BringsFound, MovesDeferrals, MovesSectors, deferrals_mark, found_next, last_moved}
 use Rattle.mx_registers.specs.points.Points.{moving_from}
-use Rattle.mx_registers.specs.points.Tables.{found_3, rows_at}
+use Rattle.mx_registers.specs.points.Tables.{deferrals_3, rows_at}
+use Rattle.mx_registers.proofs.PointsProofs.OneBook.{filter_through}
 
 pub le_true : (a b : ℕ) → a ≤ b → nat_le a b ≡ true
 le_true a b h = grind (arith, nat_tests)
@@ -166,41 +167,40 @@ batch_moved number mark high xs up =
 pub sectors_moved : (book : List Entry) (mark : ℕ) → IsBook book → MovesSectors book mark
 sectors_moved book mark b = let h = batch_moved (λ (row : SectorRow). row.seq) mark (length book + 1) (sector_rows book) (sector_rows-rising book b.shaped) in record { brought = h.0; taken = h.1 }
 
+-- ── deferrals, which come with the cycles at which they were found ──
+
+abbrev deferral_in : Deferral3Row → DeferralRow
+deferral_in row = row.deferral
+
+-- the mark behind rows is that behind what they have
+last_through : {New Old : Type 0} (f : New → Old) (number : Old → ℕ) (mark : ℕ) (rows : List New) → last_moved number mark (map f rows) ≡ last_moved (λ row. number (f row)) mark rows
+last_through f number mark [] = refl
+last_through f number mark (row ∷ rows) = last_through f number (number (f row)) rows
+
+-- rows rise if what they have does
+rise_through : {New Old : Type 0} (f : New → Old) (number : Old → ℕ) (low high : ℕ) (rows : List New) → IsRising number low (map f rows) high → IsRising (λ row. number (f row)) low rows high
+rise_through f number low high [] up = up
+rise_through f number low high (row ∷ rows) up = (up.0, rise_through f number (number (f row) + 1) high rows up.1)
+
+pub found_numbers : (book : List Entry) → map (λ (row : Deferral3Row). row.deferral.seq) (found_rows book) ≡ map (λ (row : DeferralRow). row.seq) (deferral_rows book)
+found_numbers book = sym (map-map (λ (row : DeferralRow). row.seq) deferral_in (found_rows book)) ∙ ap (map (λ (row : DeferralRow). row.seq)) (found_of_deferrals book)
+
+-- those that come next are those that go
+pub found_brought : (book : List Entry) (mark : ℕ) → BringsFound book mark
+found_brought book mark =
+    let beyond = above (λ (row : DeferralRow). row.seq) mark in
+    sym (take_map deferral_in 64 (filter (λ row. beyond (deferral_in row)) (found_rows book)))
+    ∙ ap (take 64) (sym (filter_through deferral_in beyond (found_rows book)) ∙ ap (filter beyond) (found_of_deferrals book))
+
 pub deferrals_moved : (book : List Entry) (mark : ℕ) → IsBook book → MovesDeferrals book mark
-deferrals_moved book mark b = let h = batch_moved (λ (row : DeferralRow). row.seq) mark (length book + 1) (deferral_rows book) (deferral_rows-rising book b.shaped) in record { brought = h.0; taken = h.1 }
-
--- ── what comes beside deferrals ──
-
--- the mark behind the next rows is that behind their numbers
-mark_of_numbers : {Row : Type 0} (number : Row → ℕ) (mark n : ℕ) (xs : List Row) → last_moved number mark (take n (filter (above number mark) xs)) ≡ last_moved (λ k. k) mark (take n (filter (above (λ k. k) mark) (map number xs)))
-mark_of_numbers number mark n xs =
-    sym (last_mapped mark (take n (filter (above number mark) xs)))
-    ∙ ap (last_moved (λ k. k) mark) (sym (take_map number n (filter (above number mark) xs)) ∙ ap (take n) (sym (filter_map_number number mark xs)))
-  where
-    last_mapped : (m : ℕ) (ys : List _) → last_moved (λ k. k) m (map number ys) ≡ last_moved number m ys
-    last_mapped m [] = refl
-    last_mapped m (y ∷ ys) = last_mapped (number y) ys
-
--- rows whose numbers rise do
-rise_by_numbers : {Row : Type 0} (number : Row → ℕ) (low high : ℕ) (xs : List Row) → IsRising (λ k. k) low (map number xs) high → IsRising number low xs high
-rise_by_numbers number low high [] up = up
-rise_by_numbers number low high (x ∷ xs) up = (up.0, rise_by_numbers number (number x + 1) high xs up.1)
-
-numbers_rising : {Row : Type 0} (number : Row → ℕ) (low high : ℕ) (xs : List Row) → IsRising number low xs high → IsRising (λ k. k) low (map number xs) high
-numbers_rising number low high [] up = up
-numbers_rising number low high (x ∷ xs) up = (up.0, numbers_rising number (number x + 1) high xs up.1)
-
--- the cycles at which defects were found have the numbers of these
-pub found_numbers : (book : List Entry) → map (λ (row : FoundRow). row.seq) (found_rows book) ≡ map (λ (row : DeferralRow). row.seq) (deferral_rows book)
-found_numbers book =
-    sym (map-map (λ (x : ℕ × ℕ × ℕ). x.0) defect_found (found_rows book)) ∙ ap (map (λ (x : ℕ × ℕ × ℕ). x.0)) (found_of_deferrals book) ∙ map-map (λ (x : ℕ × ℕ × ℕ). x.0) defect_deferred (deferral_rows book)
-
-pub found_brought : (book : List Entry) (mark : ℕ) → IsBook book → BringsFound book mark
-found_brought book mark b =
-    let seq = λ (row : FoundRow). row.seq in
-    let deferred = λ (row : DeferralRow). row.seq in
+deferrals_moved book mark b =
+    let old = λ (row : DeferralRow). row.seq in
+    let new = λ (row : Deferral3Row). row.deferral.seq in
     let high = length book + 1 in
-    let up : IsRising seq 1 (found_rows book) high = rise_by_numbers seq 1 high (found_rows book) (subst (λ ns. IsRising (λ k. k) 1 ns high) (sym (found_numbers book)) (numbers_rising deferred 1 high (deferral_rows book) (deferral_rows-rising book b.shaped))) in
-    let to : last_moved seq mark (take 64 (filter (above seq mark) (found_rows book))) ≡ deferrals_mark book mark =
-    mark_of_numbers seq mark 64 (found_rows book) ∙ ap (λ ns. last_moved (λ k. k) mark (take 64 (filter (above (λ k. k) mark) ns))) (found_numbers book) ∙ sym (mark_of_numbers deferred mark 64 (deferral_rows book)) in
-    subst (λ m. rows_at found_3 (moving_from 2 1 m) book ≡ rows_at found_3 (moving_from 2 1 mark) book ++ take 64 (filter (above seq mark) (found_rows book))) to (batch_moved seq mark high (found_rows book) up).0
+    let rise = deferral_rows-rising book b.shaped in
+    let up : IsRising new 1 (found_rows book) high = rise_through deferral_in old 1 high (found_rows book) (subst (λ rows. IsRising old 1 rows high) (sym (found_of_deferrals book)) rise) in
+    let to : last_moved new mark (found_next book mark) ≡ deferrals_mark book mark = sym (last_through deferral_in old mark (found_next book mark)) ∙ ap (last_moved old mark) (found_brought book mark) in
+    record {
+      brought = subst (λ m. rows_at deferrals_3 (moving_from 2 1 m) book ≡ rows_at deferrals_3 (moving_from 2 1 mark) book ++ found_next book mark) to (batch_moved new mark high (found_rows book) up).0;
+      taken = (batch_moved old mark high (deferral_rows book) rise).1;
+    }

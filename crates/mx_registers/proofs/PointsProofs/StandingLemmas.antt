@@ -11,17 +11,15 @@ use Rattle.mx_book.specs.Book.{IsBook}
 use Rattle.mx_base.specs.declared.rows.rows.FittingRow.{FittingRow}
 use Rattle.mx_base.specs.declared.rows.rows.RemovalRow.{RemovalRow}
 use Rattle.mx_base.specs.declared.rows.rows.SpanRow.{SpanRow}
-use Rattle.mx_registers.specs.Registers.{deferral_rows, fitting_rows, removal_rows, sector_rows}
-use Rattle.mx_registers.specs.late.Found.{defect_deferred, defect_found, found_rows}
-use Rattle.mx_registers.proofs.LateProofs.FoundBecomes.{found_of_deferrals}
+use Rattle.mx_registers.specs.Registers.{fitting_rows, removal_rows, sector_rows}
 use Rattle.mx_registers.specs.kept.Spans.{fitting_in, removal_in, span_rows}
 use Rattle.mx_registers.proofs.KeptProofs.SpanRegisters.{fittings_in_spans, removals_in_spans}
 use Rattle.mx_base.specs.declared.point.Point.{Point}
 use Rattle.mx_registers.specs.points.Points.{Step, has_moved, is_past, is_within_step, step_of}
 use Rattle.mx_registers.specs.points.Standing.{AreAlwaysWhole, AreEmptyWhereAbsent, AreWholeWhereSettled, IsWholeWhereSettled, StandOnce}
-use Rattle.mx_registers.specs.points.Tables.{Line, aircraft_all, bases_2, components_all, deferrals_2, deferrals_3, done_3, entries_all, extensions_all, fittings_1, found_3, is_table_at, openings_all, places_all, programmes_all, release_lines_all, releases_all, removals_1, rows_at, sectors_1, sectors_2, spans_2, stands_there, tasks_all, totals_2}
+use Rattle.mx_registers.specs.points.Tables.{Line, aircraft_all, bases_2, components_all, deferrals_2, deferrals_3, done_3, entries_all, extensions_all, fittings_1, is_table_at, openings_all, places_all, programmes_all, release_lines_all, releases_all, removals_1, rows_at, sectors_1, sectors_2, spans_2, stands_there, tasks_all, totals_2}
 use Rattle.mx_registers.proofs.PointsProofs.StepLemmas.{lt_true}
-use Rattle.mx_registers.proofs.PointsProofs.OneBook.{absent_none, all_there, each_once, filter_through, new_is, split}
+use Rattle.mx_registers.proofs.PointsProofs.OneBook.{absent_none, all_there, deferrals_once, each_once, filter_through, new_is, split}
 
 -- ── each row once ──
 
@@ -52,12 +50,6 @@ module _ (at : Point) (book : List Entry) where
       IsPermutation-trans (removal_rows book) (filter moved (removal_rows book) ++ left) (filter_map removal_in (rows_at spans_2 at book) ++ left) (split removal_rows (λ (row : RemovalRow). row.component) step at book)
       (IsPermutation-append (filter moved (removal_rows book)) (filter_map removal_in (rows_at spans_2 at book)) left left there (IsPermutation-refl left))
 
--- the cycles at which deferrals were found stand beside these
-found_beside : (at : Point) (book : List Entry) → map defect_found (rows_at found_3 at book) ≡ map defect_deferred (rows_at deferrals_3 at book)
-found_beside at book =
-    let there = λ (x : ℕ × ℕ × ℕ). stands_there deferrals_3 at x.0 in
-    sym (filter_through defect_found there (found_rows book)) ∙ ap (filter there) (found_of_deferrals book) ∙ filter_through defect_deferred there (deferral_rows book)
-
 -- a point that has begun the last step from layout 2 is behind the steps from layout 1
 behind_first : (layout : ℕ) (step : ℕ) → (nat_lt 2 layout || (nat_eq 2 layout && nat_lt 2 step)) || (nat_eq 2 layout && nat_eq 2 step) ≡ true → nat_lt 1 layout ≡ true
 behind_first zero step h = (cc)
@@ -85,8 +77,7 @@ stand_once at book b = record {
   sectors = each_once sector_rows sectors_1.number (step_of 1 1) at book;
   fittings = fittings_once at book;
   removals = removals_once at book b;
-  deferrals = each_once deferral_rows deferrals_2.number (step_of 2 1) at book;
-  found = found_beside at book;
+  deferrals = deferrals_once at book;
   items = items_once at;
 }
 
@@ -103,7 +94,6 @@ empty_where_absent at book = record {
   bases = absent_none bases_2 at book;
   deferrals_old = absent_none deferrals_2 at book;
   deferrals_new = absent_none deferrals_3 at book;
-  found = absent_none found_3 at book;
   done = absent_none done_3 at book;
 }
 
@@ -168,7 +158,6 @@ whole_where_settled at book = record {
   bases = whole_line bases_2 at book refl refl;
   deferrals_old = whole_line deferrals_2 at book refl refl;
   deferrals_new = whole_line deferrals_3 at book refl refl;
-  found = whole_line found_3 at book refl refl;
   done = whole_line done_3 at book refl refl;
 }
 

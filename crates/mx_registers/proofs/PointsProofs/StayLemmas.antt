@@ -14,7 +14,7 @@ use Rattle.mx_base.specs.rows.Rising.{IsRising}
 use Rattle.mx_base.specs.declared.rows.rows.DeferralRow.{DeferralRow}
 use Rattle.mx_base.specs.declared.rows.rows.DoneRow.{DoneRow}
 use Rattle.mx_base.specs.declared.rows.rows.FittingRow.{FittingRow}
-use Rattle.mx_base.specs.declared.rows.rows.FoundRow.{FoundRow}
+use Rattle.mx_base.specs.declared.rows.rows.Deferral3Row.{Deferral3Row}
 use Rattle.mx_base.specs.declared.rows.rows.RemovalRow.{RemovalRow}
 use Rattle.mx_base.specs.declared.rows.rows.SectorRow.{SectorRow}
 use Rattle.mx_registers.specs.Names.{or_zero, seq_of_serial}
@@ -32,7 +32,7 @@ use Rattle.mx_registers.proofs.KeptProofs.DoneLemmas.{neither}
 use Rattle.mx_registers.proofs.KeptProofs.SpanRegisters.{fittings_in_spans}
 use Rattle.mx_base.specs.declared.point.Point.{Point}
 use Rattle.mx_registers.specs.points.Points.{Step, has_moved, is_past, is_within_step, next_mark, numbers_left, numbers_of, size_of}
-use Rattle.mx_registers.specs.points.Tables.{Line, bases_2, deferrals_2, deferrals_3, done_3, fittings_1, found_3, is_moved_at, removals_1, sectors_1, sectors_2, spans_2, stands_there, totals_2}
+use Rattle.mx_registers.specs.points.Tables.{Line, bases_2, deferrals_2, deferrals_3, done_3, fittings_1, is_moved_at, removals_1, sectors_1, sectors_2, spans_2, stands_there, totals_2}
 use Rattle.mx_registers.specs.points.Moves.{OthersStay, Stays}
 use Rattle.mx_registers.proofs.PointsProofs.NextLemmas.{done_of_all, rows_of_all, self}
 use Rattle.mx_registers.proofs.PointsProofs.NextComponents.{component_has_row, fittings_of, of_number, removals_from, spans_from}
@@ -74,7 +74,6 @@ others_stay book at mark = record {
   bases = line_stays bases_2 at mark book;
   deferrals_old = line_stays deferrals_2 at mark book;
   deferrals_new = line_stays deferrals_3 at mark book;
-  found = line_stays found_3 at mark book;
   done = line_stays done_3 at mark book;
 }
 
@@ -102,9 +101,9 @@ module _ (P : ℕ → Type 0) (book : List Entry) where
   abbrev pub Bases : Type 0
   Bases = AllByRecursion (λ (row : BaseRow). P row.item) (base_rows book)
 
-  -- of the deferrals, and of the cycles at which they were found
+  -- of the deferrals, and of these with the cycles at which they were found
   abbrev pub Deferrals : Type 0
-  Deferrals = AllByRecursion (λ (row : DeferralRow). P row.seq) (deferral_rows book) × AllByRecursion (λ (row : FoundRow). P row.seq) (found_rows book)
+  Deferrals = AllByRecursion (λ (row : DeferralRow). P row.seq) (deferral_rows book) × AllByRecursion (λ (row : Deferral3Row). P row.deferral.seq) (found_rows book)
 
   -- of the last bases, and of the accomplishments
   abbrev pub Accomplishments : Type 0
@@ -133,7 +132,7 @@ module _ (P : ℕ → Type 0) (book : List Entry) (b : IsBook book) where
   pub of_deferrals : AllByRecursion P (numbers_of 2 1 book) → Deferrals P book
   of_deferrals h = (
     all_unmapped P (λ (row : DeferralRow). row.seq) (deferral_rows book) h,
-    all_unmapped P (λ (row : FoundRow). row.seq) (found_rows book) (subst (AllByRecursion P) (sym (found_numbers book)) h),
+    all_unmapped P (λ (row : Deferral3Row). row.deferral.seq) (found_rows book) (subst (AllByRecursion P) (sym (found_numbers book)) h),
   )
 
   pub of_accomplishments : AllByRecursion P (numbers_of 2 2 book) → Accomplishments P book

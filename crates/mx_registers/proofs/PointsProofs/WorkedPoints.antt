@@ -10,7 +10,7 @@ use Rattle.mx_base.specs.declared.point.Point.{Point}
 use Rattle.mx_registers.specs.points.Commits.{commits_left, commits_of_both_moves, commits_of_move, commits_of_second_move, commits_to, point_behind, point_behind_to, rounds}
 use Rattle.mx_registers.specs.points.Points.{is_before, is_on_way, moving, next_point, next_point_to, point_after}
 use Rattle.mx_base.specs.Settled.{settled}
-use Rattle.mx_registers.specs.points.Tables.{bases_2, deferrals_2, deferrals_3, done_3, fittings_1, found_3, is_table_at, removals_1, rows_at, sectors_1, sectors_2, spans_2, totals_2, is_moved_at, entries_all, aircraft_all, places_all, components_all, programmes_all, tasks_all, openings_all, releases_all, release_lines_all, deferrals_all, extensions_all}
+use Rattle.mx_registers.specs.points.Tables.{bases_2, deferrals_2, deferrals_3, done_3, fittings_1, is_table_at, removals_1, rows_at, sectors_1, sectors_2, spans_2, totals_2, is_moved_at, entries_all, aircraft_all, places_all, components_all, programmes_all, tasks_all, openings_all, releases_all, release_lines_all, extensions_all}
 use Rattle.mx_registers.specs.points.Moves.{deferrals_mark, deferrals_next, sectors_mark, sectors_next, totals_mark, totals_next}
 use Rattle.mx_book.specs.declared.commands.item.Item.TheVariants.{Airframe}
 use Rattle.mx_book.specs.declared.commands.release.Line.TheVariants.{Rectified}
@@ -45,23 +45,23 @@ tables_in_step_4 mark = refl
 tables_at_layout_2 : there (settled 2) ≡ false ∷ true ∷ false ∷ false ∷ true ∷ true ∷ true ∷ []
 tables_at_layout_2 = refl
 
--- of those that the move from layout 2 touches: the deferrals of either table, the cycles at which they were found, the last bases, the accomplishments
+-- of those that the move from layout 2 touches: the deferrals of either table, the last bases, the accomplishments
 abbrev there_later : Point → List Bool
-there_later p = is_table_at deferrals_2 p ∷ is_table_at deferrals_3 p ∷ is_table_at found_3 p ∷ is_table_at bases_2 p ∷ is_table_at done_3 p ∷ []
+there_later p = is_table_at deferrals_2 p ∷ is_table_at deferrals_3 p ∷ is_table_at bases_2 p ∷ is_table_at done_3 p ∷ []
 
-later_tables_at_layout_1 : there_later (settled 1) ≡ true ∷ false ∷ false ∷ false ∷ false ∷ []
+later_tables_at_layout_1 : there_later (settled 1) ≡ true ∷ false ∷ false ∷ false ∷ []
 later_tables_at_layout_1 = refl
 
-later_tables_at_layout_2 : there_later (settled 2) ≡ true ∷ false ∷ false ∷ true ∷ false ∷ []
+later_tables_at_layout_2 : there_later (settled 2) ≡ true ∷ false ∷ true ∷ false ∷ []
 later_tables_at_layout_2 = refl
 
-tables_with_deferrals : (mark : ℕ) → there_later (point 2 1 mark) ≡ true ∷ true ∷ true ∷ true ∷ false ∷ []
+tables_with_deferrals : (mark : ℕ) → there_later (point 2 1 mark) ≡ true ∷ true ∷ true ∷ false ∷ []
 tables_with_deferrals mark = refl
 
-tables_with_accomplishments : (mark : ℕ) → there_later (point 2 2 mark) ≡ false ∷ true ∷ true ∷ true ∷ true ∷ []
+tables_with_accomplishments : (mark : ℕ) → there_later (point 2 2 mark) ≡ false ∷ true ∷ true ∷ true ∷ []
 tables_with_accomplishments mark = refl
 
-tables_at_layout_3 : there_later (settled 3) ≡ false ∷ true ∷ true ∷ false ∷ true ∷ []
+tables_at_layout_3 : there_later (settled 3) ≡ false ∷ true ∷ false ∷ true ∷ []
 tables_at_layout_3 = refl
 
 -- ── the way of a fleet ──
@@ -238,8 +238,8 @@ bases_split = refl
 
 -- ── deferrals and accomplishments ──
 
--- 64 deferrals stand in the new table, each beside its cycles, and the last in the old
-deferrals_split : length (rows_at deferrals_3 (point 2 1 65) long_list) ∷ length (rows_at found_3 (point 2 1 65) long_list) ∷ length (rows_at deferrals_2 (point 2 1 65) long_list) ∷ [] ≡ 64 ∷ 64 ∷ 1 ∷ []
+-- 64 deferrals stand in the new table, and the last in the old
+deferrals_split : length (rows_at deferrals_3 (point 2 1 65) long_list) ∷ length (rows_at deferrals_2 (point 2 1 65) long_list) ∷ [] ≡ 64 ∷ 1 ∷ []
 deferrals_split = refl
 
 deferrals_of_a_commit : map (λ mark. length (deferrals_next long_list mark)) (0 ∷ 65 ∷ 66 ∷ []) ≡ 64 ∷ 1 ∷ 0 ∷ []
@@ -271,22 +271,22 @@ moved_in_step_4 : moves (moving 4 5) ≡ false ∷ false ∷ false ∷ false ∷
 moved_in_step_4 = refl
 
 abbrev moves_later : Point → List Bool
-moves_later p = is_moved_at deferrals_2 p ∷ is_moved_at deferrals_3 p ∷ is_moved_at found_3 p ∷ is_moved_at bases_2 p ∷ is_moved_at done_3 p ∷ []
+moves_later p = is_moved_at deferrals_2 p ∷ is_moved_at deferrals_3 p ∷ is_moved_at bases_2 p ∷ is_moved_at done_3 p ∷ []
 
-moved_with_deferrals : moves_later (point 2 1 5) ≡ true ∷ true ∷ true ∷ false ∷ false ∷ []
+moved_with_deferrals : moves_later (point 2 1 5) ≡ true ∷ true ∷ false ∷ false ∷ []
 moved_with_deferrals = refl
 
-moved_with_accomplishments : moves_later (point 2 2 5) ≡ false ∷ false ∷ false ∷ true ∷ true ∷ []
+moved_with_accomplishments : moves_later (point 2 2 5) ≡ false ∷ false ∷ true ∷ true ∷ []
 moved_with_accomplishments = refl
 
 -- ── the tables that all layouts have ──
 
 abbrev whole : Point → List ℕ
 whole p = length (rows_at entries_all p opened) ∷ length (rows_at aircraft_all p opened) ∷ length (rows_at places_all p opened) ∷ length (rows_at components_all p opened) ∷ length (rows_at programmes_all p opened) ∷ length (rows_at tasks_all p opened)
-    ∷ length (rows_at openings_all p opened) ∷ length (rows_at releases_all p opened) ∷ length (rows_at release_lines_all p opened) ∷ length (rows_at deferrals_all p opened) ∷ length (rows_at extensions_all p opened) ∷ []
+    ∷ length (rows_at openings_all p opened) ∷ length (rows_at releases_all p opened) ∷ length (rows_at release_lines_all p opened) ∷ length (rows_at extensions_all p opened) ∷ []
 
 -- at any point they have all their rows
-whole_tables : (layout step mark : ℕ) → whole (point layout step mark) ≡ 7 ∷ 1 ∷ 2 ∷ 1 ∷ 1 ∷ 3 ∷ 1 ∷ 1 ∷ 1 ∷ 1 ∷ 1 ∷ []
+whole_tables : (layout step mark : ℕ) → whole (point layout step mark) ≡ 7 ∷ 1 ∷ 2 ∷ 1 ∷ 1 ∷ 3 ∷ 1 ∷ 1 ∷ 1 ∷ 1 ∷ []
 whole_tables layout step mark = refl
 
 -- ── points that are not on the way ──

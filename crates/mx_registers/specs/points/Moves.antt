@@ -1,14 +1,14 @@
 -- What a commit of a move does with the rows of a book.
-use Rattle.std.specs.Prelude.{◌≡◌, ◌⊎◌, ◌≤◌, ◌<◌, ℕ, nat_le, nat_eq, List, [], ◌∷◌, ◌++◌, filter, not, take, drop, false, IsPermutation}
+use Rattle.std.specs.Prelude.{◌≡◌, ◌⊎◌, ◌≤◌, ◌<◌, ℕ, nat_le, nat_eq, List, [], ◌∷◌, ◌++◌, filter, not, map, take, drop, false, IsPermutation}
 use Rattle.std.specs.List.{AllByRecursion}
 use Rattle.mx_book.specs.commands.Act.{Entry}
 use Rattle.mx_base.specs.declared.rows.rows.DeferralRow.{DeferralRow}
-use Rattle.mx_base.specs.declared.rows.rows.FoundRow.{FoundRow}
+use Rattle.mx_base.specs.declared.rows.rows.Deferral3Row.{Deferral3Row}
 use Rattle.mx_base.specs.declared.rows.rows.SectorRow.{SectorRow}
 use Rattle.mx_registers.specs.kept.Totals.{total_rows}
 use Rattle.mx_registers.specs.late.Found.{found_rows}
 use Rattle.mx_registers.specs.points.Points.{moving_from}
-use Rattle.mx_registers.specs.points.Tables.{Line, bases_2, deferrals_2, deferrals_3, done_3, fittings_1, found_3, is_moved_at, removals_1, rows_at, sectors_1, sectors_2, spans_2, totals_2}
+use Rattle.mx_registers.specs.points.Tables.{Line, bases_2, deferrals_2, deferrals_3, done_3, fittings_1, is_moved_at, removals_1, rows_at, sectors_1, sectors_2, spans_2, totals_2}
 use Rattle.mx_base.specs.declared.rows.rows.TotalRow.{TotalRow}
 use Rattle.mx_base.specs.declared.point.Point.{Point}
 
@@ -35,9 +35,9 @@ rows_next old layout book mark = take 64 (rows_at old (moving_from layout 1 mark
 abbrev pub rows_mark : {Row : Type 0} → Line Row → ℕ → List Entry → ℕ → ℕ
 rows_mark old layout book mark = last_moved old.number mark (rows_next old layout book mark)
 
--- the new table has the rows that it had and those that were moved, and the old table the others
-pub record MovesBatch {Row : Type 0} (old new : Line Row) (layout : ℕ) (book : List Entry) (mark : ℕ) : Type 0 where
-  pub brought : rows_at new (moving_from layout 1 (rows_mark old layout book mark)) book ≡ rows_at new (moving_from layout 1 mark) book ++ rows_next old layout book mark
+-- the new table has the rows that it had and the next that the book gives it, and the old table the others
+pub record MovesBatch {Old New : Type 0} (old : Line Old) (new : Line New) (layout : ℕ) (book : List Entry) (mark : ℕ) : Type 0 where
+  pub brought : rows_at new (moving_from layout 1 (rows_mark old layout book mark)) book ≡ rows_at new (moving_from layout 1 mark) book ++ take 64 (rows_beyond new.number mark (new.rows book))
   pub taken : rows_at old (moving_from layout 1 (rows_mark old layout book mark)) book ≡ drop 64 (rows_at old (moving_from layout 1 mark) book)
 
 -- the sectors that the next commit moves
@@ -60,13 +60,17 @@ deferrals_next book mark = rows_next deferrals_2 2 book mark
 abbrev pub deferrals_mark : List Entry → ℕ → ℕ
 deferrals_mark book mark = rows_mark deferrals_2 2 book mark
 
+-- the same with the cycles at which they were found
+abbrev pub found_next : List Entry → ℕ → List Deferral3Row
+found_next book mark = take 64 (rows_beyond (λ (row : Deferral3Row). row.deferral.seq) mark (found_rows book))
+
 -- the deferrals are moved
 abbrev pub MovesDeferrals : List Entry → ℕ → Type 0
 MovesDeferrals book mark = MovesBatch deferrals_2 deferrals_3 2 book mark
 
--- the cycles at which these were found come beside them
+-- those that come are those that go, with these cycles
 abbrev pub BringsFound : List Entry → ℕ → Type 0
-BringsFound book mark = rows_at found_3 (moving_from 2 1 (deferrals_mark book mark)) book ≡ rows_at found_3 (moving_from 2 1 mark) book ++ take 64 (rows_beyond (λ (row : FoundRow). row.seq) mark (found_rows book))
+BringsFound book mark = map (λ (row : Deferral3Row). row.deferral) (found_next book mark) ≡ deferrals_next book mark
 
 -- ── totals, one at a time ──
 
@@ -112,7 +116,6 @@ pub record OthersStay (at to : Point) (book : List Entry) : Type 0 where
   pub bases : is_moved_at bases_2 at ≡ false → Stays bases_2 at to book
   pub deferrals_old : is_moved_at deferrals_2 at ≡ false → Stays deferrals_2 at to book
   pub deferrals_new : is_moved_at deferrals_3 at ≡ false → Stays deferrals_3 at to book
-  pub found : is_moved_at found_3 at ≡ false → Stays found_3 at to book
   pub done : is_moved_at done_3 at ≡ false → Stays done_3 at to book
 
 -- the tables of some layouts stay from one point to another
@@ -126,5 +129,4 @@ pub record AllStay (at to : Point) (book : List Entry) : Type 0 where
   pub bases : Stays bases_2 at to book
   pub deferrals_old : Stays deferrals_2 at to book
   pub deferrals_new : Stays deferrals_3 at to book
-  pub found : Stays found_3 at to book
   pub done : Stays done_3 at to book

@@ -7,12 +7,12 @@ use Rattle.mx_book.specs.commands.Act.{Entry}
 use Rattle.mx_base.specs.rows.Rows.{place_key, task_key, release_line_key}
 use Rattle.mx_base.specs.declared.rows.rows.AircraftRow.{AircraftRow}
 use Rattle.mx_base.specs.declared.rows.rows.ComponentRow.{ComponentRow}
+use Rattle.mx_base.specs.declared.rows.rows.Deferral3Row.{Deferral3Row}
 use Rattle.mx_base.specs.declared.rows.rows.DeferralRow.{DeferralRow}
 use Rattle.mx_base.specs.declared.rows.rows.DoneRow.{DoneRow}
 use Rattle.mx_base.specs.declared.rows.rows.EntryRow.{EntryRow}
 use Rattle.mx_base.specs.declared.rows.rows.ExtensionRow.{ExtensionRow}
 use Rattle.mx_base.specs.declared.rows.rows.FittingRow.{FittingRow}
-use Rattle.mx_base.specs.declared.rows.rows.FoundRow.{FoundRow}
 use Rattle.mx_base.specs.declared.rows.rows.OpeningRow.{OpeningRow}
 use Rattle.mx_base.specs.declared.rows.rows.PlaceRow.{PlaceRow}
 use Rattle.mx_base.specs.declared.rows.rows.ProgrammeRow.{ProgrammeRow}
@@ -102,10 +102,6 @@ release_lines_all = always release_line_rows release_line_key
 abbrev pub extensions_all : Line ExtensionRow
 extensions_all = always extension_rows (λ row. row.seq)
 
--- the deferrals, which stand in one table at each point of a file up to layout 2
-abbrev pub deferrals_all : Line DeferralRow
-deferrals_all = always deferral_rows (λ row. row.seq)
-
 -- ── the tables of some layouts ──
 
 -- the sectors, their moments as text
@@ -140,13 +136,9 @@ bases_2 = record { rows = base_rows; number = λ row. row.item; brought = Some (
 abbrev pub deferrals_2 : Line DeferralRow
 deferrals_2 = record { rows = deferral_rows; number = λ row. row.seq; brought = None; taken = Some (step_of 2 1) }
 
--- the deferrals, with these cycles beside them
-abbrev pub deferrals_3 : Line DeferralRow
-deferrals_3 = record { rows = deferral_rows; number = λ row. row.seq; brought = Some (step_of 2 1); taken = None }
-
--- the cycles at which each was found
-abbrev pub found_3 : Line FoundRow
-found_3 = record { rows = found_rows; number = λ row. row.seq; brought = Some (step_of 2 1); taken = None }
+-- the deferrals, with these cycles
+abbrev pub deferrals_3 : Line Deferral3Row
+deferrals_3 = record { rows = found_rows; number = λ row. row.deferral.seq; brought = Some (step_of 2 1); taken = None }
 
 -- the accomplishments, in place of the last bases
 abbrev pub done_3 : Line DoneRow

@@ -1,7 +1,8 @@
 //! Laws of the cycles at which defects were found, as rows. Each function does nothing; its contract is the law, and the
 //! checker proves it.
 ghost use Rattle.std.specs.Prelude.{◌≡◌, ◌≤◌, ℕ, List, [], ◌∷◌, ◌++◌, All, map, true};
-ghost use Rattle.mx_base.specs.rows.Rows.{FitsFound};
+ghost use Rattle.mx_base.specs.rows.Rows.{FitsDeferral3};
+ghost use Rattle.mx_base.specs.declared.rows.rows.Deferral3Row.{Deferral3Row};
 ghost use Rattle.mx_book.specs.commands.Act.{Entry, Flown};
 ghost use Rattle.mx_book.specs.commands.Shape.{act_shape};
 ghost use Rattle.mx_book.specs.declared.commands.item.Item.TheVariants.{Airframe};
@@ -14,7 +15,7 @@ ghost use Rattle.mx_registers.specs.Registers.{deferral_rows};
 ghost use Rattle.mx_registers.specs.kept.Becomes.{Becomes};
 ghost use Rattle.mx_registers.specs.kept.Changes.{entry_of};
 ghost use Rattle.mx_registers.specs.kept.Fits.{FitRegisters};
-ghost use Rattle.mx_registers.specs.late.Found.{defect_deferred, defect_found, found_become, found_rows};
+ghost use Rattle.mx_registers.specs.late.Found.{found_become, found_rows};
 
 /// The cycles at which defects were found, with a new command: a sector, whenever it was flown, adds its own to those of
 /// its aircraft's defects that were found when it had landed; no other command changes one; and a deferral adds a row with
@@ -31,14 +32,14 @@ pub fn sectors_in_order_leave_found_cycles()
         → found_rows (book ++ entry_of doc (Flown sector) ∷ []) ≡ found_rows book }
 {}
 
-/// There is one for each defect that was deferred, in their order.
+/// They stand with the deferrals, in their order.
 pub fn found_cycles_are_of_deferrals()
     ensures { (book : List Entry)
-        → map defect_found (found_rows book) ≡ map defect_deferred (deferral_rows book) }
+        → map (λ (row : Deferral3Row). row.deferral) (found_rows book) ≡ deferral_rows book }
 {}
 
 /// They fit their columns where the rows of the registers do.
 pub fn found_cycles_fit()
     ensures { (book : List Entry) → IsBook book → FitRegisters book
-        → All FitsFound (found_rows book) }
+        → All FitsDeferral3 (found_rows book) }
 {}

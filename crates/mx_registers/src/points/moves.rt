@@ -64,8 +64,8 @@ pub fn a_commit_writes_bases()
         → Brings bases_2 4 mark item book }
 {}
 
-/// A commit of the move of deferrals takes the next in the order of their numbers, at most 64, and brings the cycles at
-/// which these were found beside them.
+/// A commit of the move of deferrals takes the next in the order of their numbers, at most 64, and brings these with the
+/// cycles at which they were found.
 pub fn a_commit_moves_deferrals()
     ensures rows { (book : List Entry) (mark : ℕ) → IsBook book → MovesDeferrals book mark }
     ensures found { (book : List Entry) (mark : ℕ) → IsBook book → BringsFound book mark }

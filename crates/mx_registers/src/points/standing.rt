@@ -22,8 +22,8 @@ pub fn tables_are_empty_or_whole()
     ensures always { (at : Point) (book : List Entry) → AreAlwaysWhole at book }
 {}
 
-/// A new command leaves the registers to which it adds no row, and the spans and totals where it touches and opens none:
-/// they have the same rows at every point.
+/// A new command leaves the registers to which it adds no row, and the spans, the totals and the deferrals with the cycles
+/// at which they were found where it touches and opens none: they have the same rows at every point.
 pub fn commands_leave_other_tables()
     ensures { (at : Point) (book : List Entry) (command : Entry) → IsBook book
         → judge book command ≡ New → has_shape command ≡ true → AreLeft at book command }
