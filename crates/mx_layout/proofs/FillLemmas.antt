@@ -32,7 +32,7 @@ use Rattle.mx_layout.specs.Point.{point_cells, insert_office_text}
 use Rattle.mx_layout.specs.Steps.{schema_of, IsLayout}
 use Rattle.mx_layout.specs.TableName.{TableName}
 use Rattle.mx_layout.specs.declared.fault.Table.TheVariants as table
-use Rattle.mx_layout.specs.Tables.{no_schema, layout_1, layout_2, office}
+use Rattle.mx_layout.specs.Tables.{no_schema, layout_1, layout_2, layout_3, office}
 use Rattle.mx_layout.specs.Writing.{Gains}
 use Rattle.mx_layout.proofs.CrashLemmas.{IsSettled, commits_either, commits_ok}
 use Rattle.mx_layout.proofs.InsideLemmas.{gains}
@@ -56,6 +56,10 @@ in_layout_2 : AddsPoint layout_2
 unfolding understood everything
 in_layout_2 = (refl, (refl, refl))
 
+in_layout_3 : AddsPoint layout_3
+unfolding understood everything
+in_layout_3 = (refl, (refl, refl))
+
 abbrev pub bound_point : Point → Row
 bound_point p = Int (pos p.layout) ∷ Int (pos p.step) ∷ Int (pos p.mark) ∷ []
 
@@ -69,8 +73,10 @@ pub office_gains : (layout : ℕ) → IsLayout layout → (p : Point) (old new :
     → OnOk ran (Gains office (point_cells p) old.now new.now)
 office_gains layout (inl one) p old new ran has h = gains old new insert_office_text (bound_point p) office (point_cells p) ran
     (inserts layout_1 0 office terms 5 insert_office_text (bound_point p) (point_cells p) (λ _. stored p) refl in_layout_1.0 in_layout_1.1 (λ _. refl) (news_are p) (λ _. refl) old (has ∙ ap schema_of one) new) h
-office_gains layout (inr two) p old new ran has h = gains old new insert_office_text (bound_point p) office (point_cells p) ran
+office_gains layout (inr (inl two)) p old new ran has h = gains old new insert_office_text (bound_point p) office (point_cells p) ran
     (inserts layout_2 0 office terms 5 insert_office_text (bound_point p) (point_cells p) (λ _. stored p) refl in_layout_2.0 in_layout_2.1 (λ _. refl) (news_are p) (λ _. refl) old (has ∙ ap schema_of two) new) h
+office_gains layout (inr (inr three)) p old new ran has h = gains old new insert_office_text (bound_point p) office (point_cells p) ran
+    (inserts layout_3 0 office terms 5 insert_office_text (bound_point p) (point_cells p) (λ _. stored p) refl in_layout_3.0 in_layout_3.1 (λ _. refl) (news_are p) (λ _. refl) old (has ∙ ap schema_of three) new) h
 
 -- with no table there is nothing that could have a row
 pub bare_blank : (db : Database) → db.schema ≡ no_schema → IsSound no_schema db.trees → IsBlank no_schema db
@@ -144,7 +150,8 @@ module _ {S : Type 0} (g : Ghosts S) (to : Schema) (Q : Trees → Type 0) (old t
 -- each layout has the table of the point
 has_office : (layout : ℕ) → IsLayout layout → Contains (schema_of layout).tables office
 has_office layout (inl one) = subst (λ n. Contains (schema_of n).tables office) (sym one) (0, omega arith, refl)
-has_office layout (inr two) = subst (λ n. Contains (schema_of n).tables office) (sym two) (0, omega arith, refl)
+has_office layout (inr (inl two)) = subst (λ n. Contains (schema_of n).tables office) (sym two) (0, omega arith, refl)
+has_office layout (inr (inr three)) = subst (λ n. Contains (schema_of n).tables office) (sym three) (0, omega arith, refl)
 
 -- the tables of a layout without a row, and then the row of its settled point
 pub empty_book : (layout : ℕ) → IsLayout layout → (old new : Database) → IsBlank (schema_of layout) old → Gains office (point_cells (settled layout)) old new → (new.schema ≡ schema_of layout) × IsEmptyIn layout new.trees

@@ -1,4 +1,4 @@
--- What SELECT .. FROM table ORDER BY its first column, or its first two, answers, whatever the schema is.
+-- What SELECT .. FROM table ORDER BY its first column, its first two or its first four, answers, whatever the schema is.
 use Rattle.std.proofs.Common.{◌≡◌, inl, inr, ℕ, ◌+◌, ◌<◌, List, [], ◌∷◌, map, length, slice_index_or, false, Ok, Err, Result, OnOk, refl, sym, ap, ap₂, subst, ◌∙◌, All, arith}
 use Rattle.std.specs.declared.cmp.Ordering.{Ordering}
 use Rattle.std.specs.declared.cmp.Ordering.TheVariants.{Less, Equal, Greater}
@@ -19,7 +19,7 @@ use Rattle.sqlite.specs.Table.{Table}
 use Rattle.sqlite_value.specs.Keys.{ascending}
 use Rattle.sqlite_value.specs.declared.keys.Key.{Key}
 use Rattle.mx_layout.specs.Contents.{cells, rows_in}
-use Rattle.mx_layout.specs.Reading.{AreAllBy, by_first, by_two, HasOther}
+use Rattle.mx_layout.specs.Reading.{AreAllBy, by_first, by_two, by_four, HasOther}
 use Rattle.sqlite.specs.Listing.{understood}
 use Rattle.sqlite.specs.Clock.{timed}
 use Rattle.sqlite.specs.State.{State, Shown, ShowsRows, IsUnchanged, FailsToQuery, FailsToShow, IsNotRun}
@@ -45,6 +45,10 @@ first_key = (col 1 0, ascending Binary) ∷ []
 abbrev pub two_keys : List (Term × Key)
 two_keys = (col 1 1, ascending Binary) ∷ (col 1 2, ascending Binary) ∷ []
 
+-- the key of the first four columns of a table whose rows are stored behind a rowid
+abbrev pub four_keys : List (Term × Key)
+four_keys = (col 1 1, ascending Binary) ∷ (col 1 2, ascending Binary) ∷ (col 1 3, ascending Binary) ∷ (col 1 4, ascending Binary) ∷ []
+
 -- all rows of a table, sorted by its rowid
 abbrev pub scan : ℕ → List Term → Query
 scan = scan_by first_key
@@ -59,6 +63,11 @@ sorts_by_first project first x y = ap is_lt (or_equal _ ∙ ap₂ value_cmp (fir
 
 pub sorts_by_two : (project : List Term) → ((r : Row) → column r 1 ≡ column (eval_all project ([] ∷ r ∷ [])) 0) → ((r : Row) → column r 2 ≡ column (eval_all project ([] ∷ r ∷ [])) 1) → Sorts two_keys project by_two
 sorts_by_two project first second x y = ap is_lt (ap₂ ordering_then (ap₂ value_cmp (first x) (first y)) (or_equal _ ∙ ap₂ value_cmp (second x) (second y)))
+
+pub sorts_by_four : (project : List Term) → ((r : Row) → column r 1 ≡ column (eval_all project ([] ∷ r ∷ [])) 0) → ((r : Row) → column r 2 ≡ column (eval_all project ([] ∷ r ∷ [])) 1)
+    → ((r : Row) → column r 3 ≡ column (eval_all project ([] ∷ r ∷ [])) 2) → ((r : Row) → column r 4 ≡ column (eval_all project ([] ∷ r ∷ [])) 3) → Sorts four_keys project by_four
+sorts_by_four project first second third fourth x y =
+    ap is_lt (ap₂ ordering_then (ap₂ value_cmp (first x) (first y)) (ap₂ ordering_then (ap₂ value_cmp (second x) (second y)) (ap₂ ordering_then (ap₂ value_cmp (third x) (third y)) (or_equal _ ∙ ap₂ value_cmp (fourth x) (fourth y)))))
 
 -- outputs that are sorted give rows that are, where what sorts them sorts the rows
 pub rows_sorted : (order : Row → Row → Ordering) (q : Query) (IsOut : Output → Type 0) → ((x y : Output) → IsOut x → IsOut y → is_lt (output_cmp q x y) ≡ false → is_lt (order x.1 y.1) ≡ false)

@@ -10,10 +10,10 @@ use Rattle.sqlite.specs.Listing.{understood}
 use Rattle.sqlite_schema.specs.declared.schema.Index.{Index}
 use Rattle.sqlite_tied.specs.Compute.{everything}
 use Rattle.mx_layout.specs.Contents.{HasNoReferences}
-use Rattle.mx_layout.specs.CreateTexts.{office_text, entry_text, aircraft_text, place_text, component_text, programme_text, task_text, opening_text, crs_text, crs_line_text, extension_text, defect_text, sector1_text, fit1_text, removal1_text, sector2_text, sector1_dropped, span2_text, fit1_dropped, removal1_dropped, total2_text, base2_text, span2_by_component_text, span2_by_aircraft_text, span2_by_remove_seq_text, crs_line_by_defect_text, extension_by_defect_text, defect_by_aircraft_text}
+use Rattle.mx_layout.specs.CreateTexts.{office_text, entry_text, aircraft_text, place_text, component_text, programme_text, task_text, opening_text, crs_text, crs_line_text, extension_text, defect_text, sector1_text, fit1_text, removal1_text, sector2_text, sector1_dropped, span2_text, fit1_dropped, removal1_dropped, total2_text, base2_text, defect3_text, defect_dropped, done3_text, base2_dropped, span2_by_component_text, span2_by_aircraft_text, span2_by_remove_seq_text, crs_line_by_defect_text, extension_by_defect_text, defect_by_aircraft_text, defect3_by_aircraft_text, sector2_by_aircraft_text, crs_by_item_text}
 use Rattle.mx_layout.specs.Making.{IsBlank}
 use Rattle.mx_layout.specs.Steps.{schema_after, steps_of, step_texts, schema_of, IsLayout, LayoutsMeet}
-use Rattle.mx_layout.specs.Tables.{no_schema, layout_1, layout_2, office, entry, aircraft, place, component, programme, task, opening, crs, crs_line, extension, defect, sector1, fit1, removal1, sector2, span2, total2, base2, span2_by_component, span2_by_aircraft, span2_by_remove_seq, crs_line_by_defect, extension_by_defect, defect_by_aircraft}
+use Rattle.mx_layout.specs.Tables.{no_schema, layout_1, layout_2, layout_3, office, entry, aircraft, place, component, programme, task, opening, crs, crs_line, extension, defect, sector1, fit1, removal1, sector2, span2, total2, base2, defect3, done3, span2_by_component, span2_by_aircraft, span2_by_remove_seq, crs_line_by_defect, extension_by_defect, defect_by_aircraft, defect3_by_aircraft, sector2_by_aircraft, crs_by_item}
 use Rattle.mx_layout.proofs.CreateLemmas.{Defines, creates_blank}
 use Rattle.mx_layout.proofs.DropLemmas.{MeansRemoved, none_refer, removes_blank}
 use Rattle.mx_layout.proofs.IndexLemmas.{MeansIndexed, indexes_blank}
@@ -34,14 +34,19 @@ layout_2_schema : schema_at 28 ≡ layout_2
 unfolding schema_at everything
 layout_2_schema = refl
 
+layout_3_schema : schema_at 35 ≡ layout_3
+unfolding schema_at everything
+layout_3_schema = refl
+
 -- the statements of a layout end with its schema
 pub last_schema : (layout : ℕ) → IsLayout layout → schema_at (steps_of layout) ≡ schema_of layout
 last_schema layout (inl one) = subst (λ n. schema_at (steps_of n) ≡ schema_of n) (sym one) layout_1_schema
-last_schema layout (inr two) = subst (λ n. schema_at (steps_of n) ≡ schema_of n) (sym two) layout_2_schema
+last_schema layout (inr (inl two)) = subst (λ n. schema_at (steps_of n) ≡ schema_of n) (sym two) layout_2_schema
+last_schema layout (inr (inr three)) = subst (λ n. schema_at (steps_of n) ≡ schema_of n) (sym three) layout_3_schema
 
 pub meet : LayoutsMeet
 unfolding everything
-meet = record { first = refl; second = refl }
+meet = record { first = refl; second = refl; third = refl }
 
 -- ── each statement ──
 
@@ -177,6 +182,34 @@ pub defect_by_aircraft_made : Indexing 27 defect_by_aircraft_text defect defect_
 unfolding schema_at understood everything
 defect_by_aircraft_made = record { means = record { at = 11; there = refl; is = refl; whole = refl; plain = (refl, refl); defined = refl; tree = refl }; next = refl }
 
+pub defect3_made : Making 28 defect3_text defect3
+unfolding schema_at understood everything
+defect3_made = record { defines = record { command = refl; whole = refl; plain = (refl, refl); defined = refl; uncounted = refl }; next = refl }
+
+pub defect_gone : Dropping 29 defect_dropped defect
+unfolding schema_at understood everything
+defect_gone = record { means = record { at = 11; there = refl; is = refl; plain = (refl, refl); uncounted = refl }; free = none_refer (schema_at 29).tables refl; next = refl }
+
+pub done3_made : Making 30 done3_text done3
+unfolding schema_at understood everything
+done3_made = record { defines = record { command = refl; whole = refl; plain = (refl, refl); defined = refl; uncounted = refl }; next = refl }
+
+pub base2_gone : Dropping 31 base2_dropped base2
+unfolding schema_at understood everything
+base2_gone = record { means = record { at = 14; there = refl; is = refl; plain = (refl, refl); uncounted = refl }; free = none_refer (schema_at 31).tables refl; next = refl }
+
+pub defect3_by_aircraft_made : Indexing 32 defect3_by_aircraft_text defect3 defect3_by_aircraft
+unfolding schema_at understood everything
+defect3_by_aircraft_made = record { means = record { at = 14; there = refl; is = refl; whole = refl; plain = (refl, refl); defined = refl; tree = refl }; next = refl }
+
+pub sector2_by_aircraft_made : Indexing 33 sector2_by_aircraft_text sector2 sector2_by_aircraft
+unfolding schema_at understood everything
+sector2_by_aircraft_made = record { means = record { at = 11; there = refl; is = refl; whole = refl; plain = (refl, refl); defined = refl; tree = refl }; next = refl }
+
+pub crs_by_item_made : Indexing 34 crs_by_item_text crs crs_by_item
+unfolding schema_at understood everything
+crs_by_item_made = record { means = record { at = 8; there = refl; is = refl; whole = refl; plain = (refl, refl); defined = refl; tree = refl }; next = refl }
+
 -- texts, each of which leads on from the place before it
 abbrev AllAdvance : ℕ → List (List ℕ) → Type 0
 AllAdvance n [] = ⊤
@@ -193,7 +226,7 @@ indexes it = inr (inr (_, _, it))
 
 all_advance : AllAdvance 0 step_texts
 all_advance =
-    (makes office_made, (makes entry_made, (makes aircraft_made, (makes place_made, (makes component_made, (makes programme_made, (makes task_made, (makes opening_made, (makes crs_made, (makes crs_line_made, (makes extension_made, (makes defect_made, (makes sector1_made, (makes fit1_made, (makes removal1_made, (makes sector2_made, (drops sector1_gone, (makes span2_made, (indexes span2_by_component_made, (indexes span2_by_aircraft_made, (indexes span2_by_remove_seq_made, (drops fit1_gone, (drops removal1_gone, (makes total2_made, (makes base2_made, (indexes crs_line_by_defect_made, (indexes extension_by_defect_made, (indexes defect_by_aircraft_made, tt))))))))))))))))))))))))))))
+    (makes office_made, (makes entry_made, (makes aircraft_made, (makes place_made, (makes component_made, (makes programme_made, (makes task_made, (makes opening_made, (makes crs_made, (makes crs_line_made, (makes extension_made, (makes defect_made, (makes sector1_made, (makes fit1_made, (makes removal1_made, (makes sector2_made, (drops sector1_gone, (makes span2_made, (indexes span2_by_component_made, (indexes span2_by_aircraft_made, (indexes span2_by_remove_seq_made, (drops fit1_gone, (drops removal1_gone, (makes total2_made, (makes base2_made, (indexes crs_line_by_defect_made, (indexes extension_by_defect_made, (indexes defect_by_aircraft_made, (makes defect3_made, (drops defect_gone, (makes done3_made, (drops base2_gone, (indexes defect3_by_aircraft_made, (indexes sector2_by_aircraft_made, (indexes crs_by_item_made, tt)))))))))))))))))))))))))))))))))))
 
 advance_from : (n k : ℕ) (texts : List (List ℕ)) (text : List ℕ) → AllAdvance n texts → slice_get texts k ≡ Some text → Advances (n + k) text
 advance_from n k [] text all is = absurd cc

@@ -59,6 +59,12 @@ total2_text = codes "CREATE TABLE total2 (item INTEGER PRIMARY KEY, minutes INTE
 abbrev pub base2_text : List ℕ
 base2_text = codes "CREATE TABLE base2 (item INTEGER NOT NULL, task TEXT NOT NULL, minutes INTEGER NOT NULL, cycles INTEGER NOT NULL, day INTEGER NOT NULL, PRIMARY KEY (item, task)) STRICT"
 
+abbrev pub defect3_text : List ℕ
+defect3_text = codes "CREATE TABLE defect3 (seq INTEGER PRIMARY KEY, aircraft INTEGER NOT NULL, moment INTEGER NOT NULL, reference TEXT NOT NULL, category INTEGER NOT NULL, days INTEGER, cycles INTEGER, found_cycles INTEGER NOT NULL) STRICT"
+
+abbrev pub done3_text : List ℕ
+done3_text = codes "CREATE TABLE done3 (item INTEGER NOT NULL, task TEXT NOT NULL, seq INTEGER NOT NULL, line INTEGER NOT NULL, value_m INTEGER NOT NULL, value_c INTEGER NOT NULL, value_d INTEGER NOT NULL, due_m INTEGER, due_c INTEGER, due_d INTEGER, base_m INTEGER NOT NULL, base_c INTEGER NOT NULL, base_d INTEGER NOT NULL, PRIMARY KEY (item, task, seq, line)) STRICT"
+
 -- the text that drops the table of this name
 abbrev pub sector1_dropped : List ℕ
 sector1_dropped = codes "DROP TABLE sector1"
@@ -68,6 +74,12 @@ fit1_dropped = codes "DROP TABLE fit1"
 
 abbrev pub removal1_dropped : List ℕ
 removal1_dropped = codes "DROP TABLE removal1"
+
+abbrev pub defect_dropped : List ℕ
+defect_dropped = codes "DROP TABLE defect"
+
+abbrev pub base2_dropped : List ℕ
+base2_dropped = codes "DROP TABLE base2"
 
 -- the text that makes the index of this name
 abbrev pub span2_by_component_text : List ℕ
@@ -87,3 +99,12 @@ extension_by_defect_text = codes "CREATE INDEX extension_by_defect ON extension 
 
 abbrev pub defect_by_aircraft_text : List ℕ
 defect_by_aircraft_text = codes "CREATE INDEX defect_by_aircraft ON defect (aircraft)"
+
+abbrev pub defect3_by_aircraft_text : List ℕ
+defect3_by_aircraft_text = codes "CREATE INDEX defect3_by_aircraft ON defect3 (aircraft)"
+
+abbrev pub sector2_by_aircraft_text : List ℕ
+sector2_by_aircraft_text = codes "CREATE INDEX sector2_by_aircraft ON sector2 (aircraft)"
+
+abbrev pub crs_by_item_text : List ℕ
+crs_by_item_text = codes "CREATE INDEX crs_by_item ON crs (item)"

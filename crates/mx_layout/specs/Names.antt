@@ -26,6 +26,8 @@ table_named table.Sector2 = Tables.sector2
 table_named table.Span2 = Tables.span2
 table_named table.Total2 = Tables.total2
 table_named table.Base2 = Tables.base2
+table_named table.Defect3 = Tables.defect3
+table_named table.Done3 = Tables.done3
 
 -- the name of a table in the file
 abbrev pub table_name : TableName → List ℕ

@@ -21,6 +21,10 @@ by_first = on (λ r. column r 0) value_cmp
 abbrev pub by_two : Row → Row → Ordering
 by_two = then_cmp (on (λ r. column r 0) value_cmp) (on (λ r. column r 1) value_cmp)
 
+-- the order of the first column and, where that is the same, of the second, and so on to the fourth
+abbrev pub by_four : Row → Row → Ordering
+by_four = then_cmp (on (λ r. column r 0) value_cmp) (then_cmp (on (λ r. column r 1) value_cmp) (then_cmp (on (λ r. column r 2) value_cmp) (on (λ r. column r 3) value_cmp)))
+
 -- exactly the rows of the table, in the order of the first column
 abbrev pub AreAll : Table → Trees → List Row → Type 0
 AreAll = AreAllBy by_first

@@ -1,4 +1,4 @@
--- The tables of layouts 1 and 2: their columns and keys, and the schemas that they make.
+-- The tables of layouts 1, 2 and 3: their columns and keys, and the schemas that they make.
 use Rattle.std.specs.Prelude.{◌≡◌, ℕ, pos, Bool, true, false, List, [], ◌∷◌, Some, None, codes}
 use Rattle.sqlite.specs.Collation.TheVariants.{Binary}
 use Rattle.sqlite.specs.declared.types.Value.TheVariants.{Null, Int}
@@ -114,6 +114,14 @@ total2 = keyed (codes "total2") 26 (integer (codes "item") false ∷ integer (co
 abbrev pub base2 : Table
 base2 = record (keyed (codes "base2") 27 (integer (codes "item") true ∷ text (codes "task") true ∷ integer (codes "minutes") true ∷ integer (codes "cycles") true ∷ integer (codes "day") true ∷ [])) { key = None; primary = 1 ∷ 2 ∷ []; uniques = (1 ∷ 2 ∷ []) ∷ []; orders = plain ∷ [] }
 
+-- a deferred defect, and the cycles that the airframe had reached when it was found; the column of the cycles within which it is rectified is empty
+abbrev pub defect3 : Table
+defect3 = keyed (codes "defect3") 32 (integer (codes "seq") false ∷ integer (codes "aircraft") true ∷ integer (codes "moment") true ∷ text (codes "reference") true ∷ integer (codes "category") true ∷ integer (codes "days") false ∷ integer (codes "cycles") false ∷ integer (codes "found_cycles") true ∷ [])
+
+-- an accomplishment of a task of an item: what the item had reached, when the task was due, and the base that this leaves
+abbrev pub done3 : Table
+done3 = record (keyed (codes "done3") 33 (integer (codes "item") true ∷ text (codes "task") true ∷ integer (codes "seq") true ∷ integer (codes "line") true ∷ integer (codes "value_m") true ∷ integer (codes "value_c") true ∷ integer (codes "value_d") true ∷ integer (codes "due_m") false ∷ integer (codes "due_c") false ∷ integer (codes "due_d") false ∷ integer (codes "base_m") true ∷ integer (codes "base_c") true ∷ integer (codes "base_d") true ∷ [])) { key = None; primary = 1 ∷ 2 ∷ 3 ∷ 4 ∷ []; uniques = (1 ∷ 2 ∷ 3 ∷ 4 ∷ []) ∷ []; orders = plain ∷ [] }
+
 -- the index that keeps one text or one compound key unique
 abbrev pub unique : List ℕ → ℕ → ℕ → List ℕ → Index
 unique name tree table columns = record { name = name; tree = tree; table = table; columns = columns; order = plain; is_unique = true }
@@ -146,6 +154,18 @@ extension_by_defect = index_by (codes "extension_by_defect") 30 extension 2
 abbrev pub defect_by_aircraft : Index
 defect_by_aircraft = index_by (codes "defect_by_aircraft") 31 defect 2
 
+-- the defects of each aircraft, as layout 3 keeps them
+abbrev pub defect3_by_aircraft : Index
+defect3_by_aircraft = index_by (codes "defect3_by_aircraft") 35 defect3 2
+
+-- the sectors of each aircraft
+abbrev pub sector2_by_aircraft : Index
+sector2_by_aircraft = index_by (codes "sector2_by_aircraft") 36 sector2 2
+
+-- the releases of each item
+abbrev pub crs_by_item : Index
+crs_by_item = index_by (codes "crs_by_item") 37 crs 2
+
 -- the schema of layout 1
 abbrev pub layout_1 : Schema
 layout_1 = record {
@@ -172,6 +192,23 @@ layout_2 = record {
       ∷ span2_by_component ∷ span2_by_aircraft ∷ span2_by_remove_seq
       ∷ unique (codes "sqlite_autoindex_base2_1") 28 27 (1 ∷ 2 ∷ [])
       ∷ crs_line_by_defect ∷ extension_by_defect ∷ defect_by_aircraft ∷ [];
+  views = [];
+}
+
+-- the schema of layout 3
+abbrev pub layout_3 : Schema
+layout_3 = record {
+  tables = office ∷ entry ∷ aircraft ∷ place ∷ component ∷ programme ∷ task ∷ opening ∷ crs ∷ crs_line ∷ extension ∷ sector2 ∷ span2 ∷ total2 ∷ defect3 ∷ done3 ∷ [];
+  indexes = unique (codes "sqlite_autoindex_entry_1") 2 1 (2 ∷ [])
+      ∷ unique (codes "sqlite_autoindex_aircraft_1") 4 3 (2 ∷ [])
+      ∷ unique (codes "sqlite_autoindex_place_1") 6 5 (1 ∷ 2 ∷ [])
+      ∷ unique (codes "sqlite_autoindex_component_1") 8 7 (2 ∷ [])
+      ∷ unique (codes "sqlite_autoindex_task_1") 11 10 (1 ∷ 2 ∷ [])
+      ∷ unique (codes "sqlite_autoindex_crs_line_1") 15 14 (1 ∷ 2 ∷ [])
+      ∷ span2_by_component ∷ span2_by_aircraft ∷ span2_by_remove_seq
+      ∷ crs_line_by_defect ∷ extension_by_defect
+      ∷ unique (codes "sqlite_autoindex_done3_1") 34 33 (1 ∷ 2 ∷ 3 ∷ 4 ∷ [])
+      ∷ defect3_by_aircraft ∷ sector2_by_aircraft ∷ crs_by_item ∷ [];
   views = [];
 }
 

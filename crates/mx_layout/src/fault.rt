@@ -29,6 +29,8 @@ pub enum Table {
     Span2,
     Total2,
     Base2,
+    Defect3,
+    Done3,
 }
 
 impl Table {
@@ -56,6 +58,8 @@ impl Table {
             Table::Span2 => "span2",
             Table::Total2 => "total2",
             Table::Base2 => "base2",
+            Table::Defect3 => "defect3",
+            Table::Done3 => "done3",
         }
     }
 }

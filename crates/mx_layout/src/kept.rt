@@ -10,8 +10,8 @@
 //! - Over every schema that has a table its two texts show all of its rows and add one; rows with the same values are
 //!   one; rows shown in its order ascend by its key: `laws::tables_are_lawful`. `mx_tables` asks it of each type of
 //!   rows.
-//! - Layout 1 has the permanent tables and its own; layout 2 and each schema on the way to it have those that stand
-//!   there, with the indexes that a file has: `laws::layout_1_has_its_tables`, `laws::layout_2_has_its_tables`,
-//!   `laws::points_have_their_tables`.
+//! - Layout 1 has the permanent tables and its own; layouts 2 and 3 and each schema on the way to them have those that
+//!   stand there, with the indexes that a file has: `laws::layout_1_has_its_tables`, `laws::layout_2_has_its_tables`,
+//!   `laws::layout_3_has_its_tables`, `laws::points_have_their_tables`, `laws::later_points_have_their_tables`.
 
 pub mod laws;

@@ -1,5 +1,5 @@
 //! The layouts by number.
 
-/// A layout of the tables, by its number: 1 or 2.
+/// A layout of the tables, by its number: 1, 2 or 3.
 #[derive(Clone, Copy, Debug, PartialEq, Eq)]
 pub struct Layout(pub u8);

@@ -7,7 +7,7 @@
 //!
 //! # What is promised
 //!
-//! - `create` makes exactly the tables of the layout that it is given, 1 or 2, with its settled point, in one commit:
+//! - `create` makes exactly the tables of the layout that it is given, 1, 2 or 3, with its settled point, in one commit:
 //!   `create`: `made`, `crash`.
 //! - Where a fault other than `Store` is answered nothing changed, and over a database with any table, index or view
 //!   nothing ever does: `create`: `unchanged`, `kept`, `taken`.

@@ -5,6 +5,7 @@ ghost use Rattle.sqlite.specs.State.{HasCleanDisk, IsUnchanged};
 ghost use Rattle.sqlite.specs.Held.{state};
 ghost use Rattle.sqlite_catalog.specs.Listing.{IsSound};
 ghost use Rattle.sqlite_trees.specs.View.{doubt};
+ghost use Rattle.mx_layout.specs.CreateTexts.{done3_text};
 ghost use Rattle.mx_layout.specs.Crash.{Leaves, RestsAs, StaysIn, IsWithin, ChangesNothing};
 ghost use Rattle.mx_layout.specs.Listed.{IsRefusal};
 ghost use Rattle.mx_layout.specs.Making.{IsBlank, IsEmptyIn};
@@ -22,14 +23,25 @@ use sqlite::{Alter, Connection, Error, Row, Transaction, params};
 /// How many statements make a layout of no table.
 fn steps_of(layout: Layout) -> u8
     ensures value { result ≡ steps_of layout.0 }
-    ensures bound { result ≤ 28 }
+    ensures bound { result ≤ 35 }
 {
-    if layout.0 == 1 { 15 } else { 28 }
+    match layout.0 {
+        1 => 15,
+        2 => 28,
+        _ => 35,
+    }
+}
+
+/// The statement that makes `done3`.
+fn done3_text() -> &'static str
+    ensures { result.now ≡ done3_text }
+{
+    "CREATE TABLE done3 (item INTEGER NOT NULL, task TEXT NOT NULL, seq INTEGER NOT NULL, line INTEGER NOT NULL, value_m INTEGER NOT NULL, value_c INTEGER NOT NULL, value_d INTEGER NOT NULL, due_m INTEGER, due_c INTEGER, due_d INTEGER, base_m INTEGER NOT NULL, base_c INTEGER NOT NULL, base_d INTEGER NOT NULL, PRIMARY KEY (item, task, seq, line)) STRICT"
 }
 
 /// The statement at this place: 15 make layout 1, and those of the moves behind them each further layout.
 fn step_text(at: u8) -> &'static str
-    requires { at < 28 }
+    requires { at < 35 }
     ensures { slice_get step_texts at ≡ Some result.now }
 {
     match at {
@@ -80,6 +92,14 @@ fn step_text(at: u8) -> &'static str
         25 => "CREATE INDEX crs_line_by_defect ON crs_line (defect)",
         26 => "CREATE INDEX extension_by_defect ON extension (defect)",
         27 => "CREATE INDEX defect_by_aircraft ON defect (aircraft)",
+        28 =>
+            "CREATE TABLE defect3 (seq INTEGER PRIMARY KEY, aircraft INTEGER NOT NULL, moment INTEGER NOT NULL, reference TEXT NOT NULL, category INTEGER NOT NULL, days INTEGER, cycles INTEGER, found_cycles INTEGER NOT NULL) STRICT",
+        29 => "DROP TABLE defect",
+        30 => done3_text(),
+        31 => "DROP TABLE base2",
+        32 => "CREATE INDEX defect3_by_aircraft ON defect3 (aircraft)",
+        33 => "CREATE INDEX sector2_by_aircraft ON sector2 (aircraft)",
+        34 => "CREATE INDEX crs_by_item ON crs (item)",
         _ => "",
     }
 }

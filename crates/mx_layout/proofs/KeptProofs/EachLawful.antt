@@ -24,4 +24,6 @@ each_lawful table.Sector2 = MovedLawful.sector2_lawful
 each_lawful table.Span2 = MovedLawful.span2_lawful
 each_lawful table.Total2 = MovedLawful.total2_lawful
 each_lawful table.Base2 = MovedLawful.base2_lawful
+each_lawful table.Defect3 = MovedLawful.defect3_lawful
+each_lawful table.Done3 = MovedLawful.done3_lawful
 each_lawful _ = tt

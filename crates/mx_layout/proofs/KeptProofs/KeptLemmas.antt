@@ -23,8 +23,8 @@ use Rattle.sqlite_resolve.specs.declared.compiled.Compiled.{Compiled}
 use Rattle.sqlite_resolve.specs.declared.error.CompileError.{CompileError}
 use Rattle.mx_layout.specs.Contents.{cells}
 use Rattle.mx_layout.specs.Names.{table_named}
-use Rattle.mx_layout.specs.Reading.{by_first, by_two}
-use Rattle.mx_layout.proofs.ReadLemmas.{first_key, two_keys, sorts_by_first, sorts_by_two}
+use Rattle.mx_layout.specs.Reading.{by_first, by_two, by_four}
+use Rattle.mx_layout.proofs.ReadLemmas.{first_key, two_keys, four_keys, sorts_by_first, sorts_by_two, sorts_by_four}
 use Rattle.mx_layout.specs.Plans.{scan_by, Sorts, added, uncounted}
 use Rattle.mx_base.specs.rows.Rising.{IsFrom}
 use Rattle.mx_layout.proofs.KeptProofs.OrderLemmas.{first_ascends}
@@ -67,6 +67,9 @@ behind_terms table = places_from 1 1 table.columns
 
 abbrev pub two_shape : Table → Shape
 two_shape table = record { keys = two_keys; order = by_two; shown = behind_terms table; key_places = 1 ∷ 2 ∷ []; added = lit Null ∷ places_from 0 0 table.columns }
+
+abbrev pub four_shape : Table → Shape
+four_shape table = record (two_shape table) { keys = four_keys; order = by_four; key_places = 1 ∷ 2 ∷ 3 ∷ 4 ∷ [] }
 
 -- ── the law of a table, from what is computed of it ──
 
@@ -235,6 +238,13 @@ module _ {X : Type 0} (k : Kept X) (own : List Table) (at : ℕ) where
   two_keyed computes stores ascends once =
       let sorts = sorts_by_two (behind_terms table) (λ r. sym (ap (λ f. column (f.sorted r) 0) (computes [] []))) (λ r. sym (ap (λ f. column (f.sorted r) 1) (computes [] []))) in
       by_shape (two_shape table) two_stored computes sorts stores once ascends
+
+  -- the key is the first four columns, and a row is stored behind a rowid of its own
+  pub four_keyed : Computes k (four_shape table) two_stored own at → Stores k (four_shape table) two_stored → Ascends k by_four → TellsApart k → IsLawful (over k (HasBehind own))
+  four_keyed computes stores ascends once =
+      let sorts = sorts_by_four (behind_terms table) (λ r. sym (ap (λ f. column (f.sorted r) 0) (computes [] []))) (λ r. sym (ap (λ f. column (f.sorted r) 1) (computes [] [])))
+      (λ r. sym (ap (λ f. column (f.sorted r) 2) (computes [] []))) (λ r. sym (ap (λ f. column (f.sorted r) 3) (computes [] []))) in
+      by_shape (four_shape table) two_stored computes sorts stores once ascends
 
 -- a table that stands at one place in some schemas, and at another in others
 pub either_lawful : {X : Type 0} (k : Kept X) (P Q : Schema → Type 0) → IsLawful (over k P) → IsLawful (over k Q) → IsLawful (over k (λ s. P s ⊎ Q s))

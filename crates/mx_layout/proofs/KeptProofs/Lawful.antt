@@ -86,11 +86,11 @@ extension_lawful = first_keyed Cells.kept_extension [] 10 (λ _ _. refl) (λ _ _
     (told_apart (λ row. record { seq = number_at row 0; defect = number_at row 1; day = number_at row 2; days = number_at row 3 }) (λ _. refl))
 
 -- the category of a number and the days that are stated, and D of any number that is none
-abbrev category_of : ℕ → Option ℕ → Category
+abbrev pub category_of : ℕ → Option ℕ → Category
 category_of n (Some days) = categories.A days
 category_of n None = cond (n == 2) categories.B (cond (n == 3) categories.C categories.D)
 
-category_back : (c : Category) → category_of (category_number c) (number_if (number_or_null (days_stated c))) ≡ c
+pub category_back : (c : Category) → category_of (category_number c) (number_if (number_or_null (days_stated c))) ≡ c
 category_back (categories.A days) = refl
 category_back _ = refl
 

@@ -12,7 +12,7 @@ use Rattle.sqlite.specs.declared.types.Value.TheVariants.{Int}
 use Rattle.sqlite.specs.Order.{Row, column, value_cmp}
 use Rattle.mx_base.specs.rows.Rising.{IsFrom}
 use Rattle.mx_base.specs.rows.Rows.{line_key}
-use Rattle.mx_layout.specs.Reading.{by_first, by_two}
+use Rattle.mx_layout.specs.Reading.{by_first, by_two, by_four}
 use Rattle.mx_layout.specs.kept.Kept.{Kept}
 
 equals : (a b : ℕ) → value_cmp (Int (pos a)) (Int (pos b)) ≡ Equal → a ≡ b
@@ -72,3 +72,7 @@ not_less_first a b o h = by_order (value_cmp (Int (pos b)) (Int (pos a))) refl h
 -- in the order of the first two columns, by the first alone
 pub first_part_ascends : {X : Type 0} (k : Kept X) → ((x : X) → column (k.as_cells x) 0 ≡ Int (pos (k.key x))) → (rows : List X) → All k.Fits rows → IsSorted by_two (map k.as_cells rows) → IsFrom k.key 0 rows
 first_part_ascends k first = ascends k.as_cells k.Fits by_two k.key (λ x y _ h. not_less_first (k.key x) (k.key y) _ (rw (first y, first x) at h))
+
+-- in the order of the first four columns, by the first alone
+pub first_of_four_ascends : {X : Type 0} (k : Kept X) → ((x : X) → column (k.as_cells x) 0 ≡ Int (pos (k.key x))) → (rows : List X) → All k.Fits rows → IsSorted by_four (map k.as_cells rows) → IsFrom k.key 0 rows
+first_of_four_ascends k first = ascends k.as_cells k.Fits by_four k.key (λ x y _ h. not_less_first (k.key x) (k.key y) _ (rw (first y, first x) at h))

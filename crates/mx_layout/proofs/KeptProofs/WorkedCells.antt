@@ -8,7 +8,7 @@ use Rattle.mx_base.specs.declared.category.Category.TheVariants.{A, C}
 use Rattle.mx_base.specs.declared.rows.rows.EntryKind.TheVariants.{Opening}
 use Rattle.mx_layout.specs.Point.{point_cells}
 use Rattle.mx_layout.specs.kept.Values.{flag, number_or_null, text_or_null}
-use Rattle.mx_layout.specs.kept.Cells.{kept_entry, kept_aircraft, kept_place, kept_component, kept_programme, kept_task, kept_opening, kept_crs, kept_crs_line, kept_defect, kept_extension, kept_sector1, kept_fit1, kept_removal1, kept_sector2, kept_sector2_rows, kept_span2, kept_total2, kept_base2}
+use Rattle.mx_layout.specs.kept.Cells.{kept_entry, kept_aircraft, kept_place, kept_component, kept_programme, kept_task, kept_opening, kept_crs, kept_crs_line, kept_defect, kept_extension, kept_sector1, kept_fit1, kept_removal1, kept_sector2, kept_sector2_rows, kept_span2, kept_total2, kept_base2, kept_defect3, kept_done3}
 
 entry_cells : kept_entry.as_cells (record { seq = 9; doc = codes "O1"; kind = Opening }) ≡ Int (pos 9) ∷ Text (codes "O1") ∷ Int (pos 4) ∷ []
 entry_cells = refl
@@ -109,6 +109,24 @@ total_cells = refl
 base_cells : kept_base2.as_cells (record { item = 2; task = codes "OVH"; life = record { minutes = 1090; cycles = 101 }; day = 19784 })
     ≡ Int (pos 2) ∷ Text (codes "OVH") ∷ Int (pos 1090) ∷ Int (pos 101) ∷ Int (pos 19784) ∷ []
 base_cells = refl
+
+-- the cycles within which it is rectified are never stated, and those at which it was found stand behind them
+found_cells : kept_defect3.as_cells (record { deferral = record { seq = 6; aircraft = 5; moment = 28495200; reference = codes "21-31-01"; category = A 14 }; found_cycles = 803 })
+    ≡ Int (pos 6) ∷ Int (pos 5) ∷ Int (pos 28495200) ∷ Text (codes "21-31-01") ∷ Int (pos 1) ∷ Int (pos 14) ∷ Null ∷ Int (pos 803) ∷ []
+found_cells = refl
+
+-- what the item had reached, the due, in a dimension that has one, and the base
+accomplished_cells : kept_done3.as_cells (record {
+  item = 2;
+  task = codes "OVH";
+  seq = 8;
+  line = 1;
+  value = record { minutes = 1090; cycles = 101; day = 19784 };
+  due = record { minutes = Some 1080; cycles = None; days = Some 19790 };
+  base = record { minutes = 1080; cycles = 100; day = 19783 };
+})
+    ≡ Int (pos 2) ∷ Text (codes "OVH") ∷ Int (pos 8) ∷ Int (pos 1) ∷ Int (pos 1090) ∷ Int (pos 101) ∷ Int (pos 19784) ∷ Int (pos 1080) ∷ Null ∷ Int (pos 19790) ∷ Int (pos 1080) ∷ Int (pos 100) ∷ Int (pos 19783) ∷ []
+accomplished_cells = refl
 
 -- the row of `office` has the number 1
 office_cells : point_cells (record { layout = 1; step = 3; mark = 67 }) ≡ Int (pos 1) ∷ Int (pos 1) ∷ Int (pos 3) ∷ Int (pos 67) ∷ []

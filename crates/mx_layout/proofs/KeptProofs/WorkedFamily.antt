@@ -26,3 +26,5 @@ kept_by_name table.Sector2 = refl
 kept_by_name table.Span2 = refl
 kept_by_name table.Total2 = refl
 kept_by_name table.Base2 = refl
+kept_by_name table.Defect3 = refl
+kept_by_name table.Done3 = refl

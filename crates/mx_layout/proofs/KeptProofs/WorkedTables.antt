@@ -17,7 +17,7 @@ use Rattle.mx_layout.specs.Point.{unnamed}
 use Rattle.mx_layout.specs.Reading.{by_first, by_two}
 use Rattle.mx_layout.specs.Steps.{schema_of, steps, steps_of, step_texts}
 use Rattle.mx_layout.specs.Tables.{crs_line, extension}
-use Rattle.mx_layout.specs.kept.Cells.{kept_base2, kept_entry, kept_extension, kept_task}
+use Rattle.mx_layout.specs.kept.Cells.{kept_base2, kept_done3, kept_entry, kept_extension, kept_task}
 use Rattle.mx_layout.specs.kept.Kept.{Kept, held, lined, numbered}
 use Rattle.mx_layout.specs.kept.Keys.{number_of, one_key, two_key}
 
@@ -27,12 +27,12 @@ abbrev in_all_layouts : List TableName
 in_all_layouts = table.Office ∷ table.Entry ∷ table.Aircraft ∷ table.Place ∷ table.Component ∷ table.Programme ∷ table.Task ∷ table.Opening ∷ table.Crs ∷ table.CrsLine ∷ table.Extension ∷ []
 
 abbrev in_some_layouts : List TableName
-in_some_layouts = table.Defect ∷ table.Sector1 ∷ table.Fit1 ∷ table.Removal1 ∷ table.Sector2 ∷ table.Span2 ∷ table.Total2 ∷ table.Base2 ∷ []
+in_some_layouts = table.Defect ∷ table.Sector1 ∷ table.Fit1 ∷ table.Removal1 ∷ table.Sector2 ∷ table.Span2 ∷ table.Total2 ∷ table.Base2 ∷ table.Defect3 ∷ table.Done3 ∷ []
 
 names : map table_name in_all_layouts ≡ codes "office" ∷ codes "entry" ∷ codes "aircraft" ∷ codes "place" ∷ codes "component" ∷ codes "programme" ∷ codes "task" ∷ codes "opening" ∷ codes "crs" ∷ codes "crs_line" ∷ codes "extension" ∷ []
 names = refl
 
-own_names : map table_name in_some_layouts ≡ codes "defect" ∷ codes "sector1" ∷ codes "fit1" ∷ codes "removal1" ∷ codes "sector2" ∷ codes "span2" ∷ codes "total2" ∷ codes "base2" ∷ []
+own_names : map table_name in_some_layouts ≡ codes "defect" ∷ codes "sector1" ∷ codes "fit1" ∷ codes "removal1" ∷ codes "sector2" ∷ codes "span2" ∷ codes "total2" ∷ codes "base2" ∷ codes "defect3" ∷ codes "done3" ∷ []
 own_names = refl
 
 -- ── keys ──
@@ -47,8 +47,8 @@ on_line = Int (pos 3) ∷ Int (pos 4) ∷ Text (codes "OVH") ∷ []
 keys : (one_key on_line ∷ two_key on_line ∷ []) ≡ 3 ∷ 12884901892 ∷ []
 keys = refl
 
--- an extension is known by its entry, a task by its line too, and a last base by its item
-keys_of_rows : (kept_extension.cells_key on_line ∷ kept_task.cells_key on_line ∷ kept_base2.cells_key on_line ∷ []) ≡ 3 ∷ 12884901892 ∷ 3 ∷ []
+-- an extension is known by its entry, a task by its line too, and a last base and an accomplishment by their item
+keys_of_rows : (kept_extension.cells_key on_line ∷ kept_task.cells_key on_line ∷ kept_base2.cells_key on_line ∷ kept_done3.cells_key on_line ∷ []) ≡ 3 ∷ 12884901892 ∷ 3 ∷ 3 ∷ []
 keys_of_rows = refl
 
 key_of_extension : kept_extension.key (record { seq = 9; defect = 6; day = 19790; days = 3 }) ≡ 9
@@ -67,6 +67,15 @@ first_orders = refl
 two_orders : map (by_two (row 2 5)) (row 1 6 ∷ row 2 4 ∷ row 2 5 ∷ row 2 6 ∷ row 3 4 ∷ []) ≡ Greater ∷ Greater ∷ Equal ∷ Less ∷ Less ∷ []
 unfolding value_cmp is_nan lt
 two_orders = refl
+
+-- by each of four columns, where those before it are the same
+abbrev row_of_four : ℕ → ℕ → ℕ → ℕ → Row
+row_of_four item task seq line = Int (pos item) ∷ Int (pos task) ∷ Int (pos seq) ∷ Int (pos line) ∷ []
+
+four_orders : map (kept_done3.order (row_of_four 2 5 7 3)) (row_of_four 1 6 8 4 ∷ row_of_four 2 4 8 4 ∷ row_of_four 2 5 6 4 ∷ row_of_four 2 5 7 2 ∷ row_of_four 2 5 7 3 ∷ row_of_four 2 5 7 4 ∷ row_of_four 2 5 8 2 ∷ row_of_four 2 6 6 2 ∷ row_of_four 3 4 6 2 ∷ [])
+    ≡ Greater ∷ Greater ∷ Greater ∷ Greater ∷ Equal ∷ Less ∷ Less ∷ Less ∷ Less ∷ []
+unfolding value_cmp is_nan lt
+four_orders = refl
 
 orders_of_tables : (kept_entry.order (row 2 5) (row 2 6) ∷ kept_task.order (row 2 5) (row 2 6) ∷ kept_base2.order (row 2 5) (row 2 6) ∷ []) ≡ Equal ∷ Less ∷ Less ∷ []
 unfolding value_cmp is_nan lt
@@ -118,20 +127,24 @@ rows_there = refl
 
 -- ── layouts ──
 
--- fifteen statements make layout 1, and thirteen more layout 2; each has its text
-statements : map steps_of (1 ∷ 2 ∷ []) ≡ 15 ∷ 28 ∷ []
+-- fifteen statements make layout 1, thirteen more layout 2, and seven more layout 3; each has its text
+statements : map steps_of (1 ∷ 2 ∷ 3 ∷ []) ≡ 15 ∷ 28 ∷ 35 ∷ []
 statements = refl
 
-all_statements : (length steps ∷ length step_texts ∷ []) ≡ 28 ∷ 28 ∷ []
+all_statements : (length steps ∷ length step_texts ∷ []) ≡ 35 ∷ 35 ∷ []
 all_statements = refl
 
-tables : map (λ layout. length (schema_of layout).tables) (1 ∷ 2 ∷ []) ≡ 15 ∷ 16 ∷ []
+tables : map (λ layout. length (schema_of layout).tables) (1 ∷ 2 ∷ 3 ∷ []) ≡ 15 ∷ 16 ∷ 16 ∷ []
 tables = refl
 
 -- the case of letters does not count
 listed_tables : map (has_table (schema_of 2)) (codes "office" ∷ codes "OFFICE" ∷ codes "base2" ∷ codes "sector1" ∷ codes "offices" ∷ []) ≡ true ∷ true ∷ true ∷ false ∷ false ∷ []
 unfolding same_name
 listed_tables = refl
+
+later_tables : map (has_table (schema_of 3)) (codes "office" ∷ codes "defect3" ∷ codes "done3" ∷ codes "total2" ∷ codes "defect" ∷ codes "base2" ∷ []) ≡ true ∷ true ∷ true ∷ true ∷ false ∷ false ∷ []
+unfolding same_name
+later_tables = refl
 
 -- where no table is named `office`, the file is not ours, but for want of memory and the store
 no_point : map unnamed (Err Memory ∷ Err Store ∷ Err Exists ∷ Err (Damaged table.Office) ∷ Ok (settled 2) ∷ []) ≡ Memory ∷ Store ∷ NotOurs ∷ NotOurs ∷ NotOurs ∷ []

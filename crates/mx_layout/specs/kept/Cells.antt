@@ -1,8 +1,8 @@
 -- How the rows of each table are kept.
 use Rattle.std.specs.Prelude.{pos, [], ◌∷◌}
-use Rattle.sqlite.specs.declared.types.Value.TheVariants.{Int, Text}
+use Rattle.sqlite.specs.declared.types.Value.TheVariants.{Null, Int, Text}
 use Rattle.mx_base.specs.Texts.{moment_text}
-use Rattle.mx_layout.specs.Reading.{by_two}
+use Rattle.mx_layout.specs.Reading.{by_two, by_four}
 use Rattle.mx_layout.specs.declared.fault.Table.TheVariants as table
 use Rattle.mx_base.specs.declared.rows.rows.EntryRow.{EntryRow}
 use Rattle.mx_base.specs.declared.rows.rows.AircraftRow.{AircraftRow}
@@ -18,15 +18,17 @@ use Rattle.mx_base.specs.declared.rows.rows.OpeningRow.{OpeningRow}
 use Rattle.mx_base.specs.declared.rows.rows.ReleaseRow.{ReleaseRow}
 use Rattle.mx_base.specs.declared.rows.rows.ReleaseLineRow.{ReleaseLineRow}
 use Rattle.mx_base.specs.declared.rows.rows.DeferralRow.{DeferralRow}
+use Rattle.mx_base.specs.declared.rows.rows.Deferral3Row.{Deferral3Row}
 use Rattle.mx_base.specs.declared.rows.rows.ExtensionRow.{ExtensionRow}
 use Rattle.mx_base.specs.declared.rows.rows.SpanRow.{SpanRow}
 use Rattle.mx_base.specs.declared.rows.rows.TotalRow.{TotalRow}
 use Rattle.mx_base.specs.declared.rows.rows.BaseRow.{BaseRow}
+use Rattle.mx_base.specs.declared.rows.rows.DoneRow.{DoneRow}
 use Rattle.mx_base.specs.rows.Rows
 use Rattle.mx_base.specs.rows.Rows.{kind_number, category_number, days_stated}
 use Rattle.mx_layout.specs.kept.Values.{number_or_null, text_or_null, flag}
 use Rattle.mx_layout.specs.kept.Kept.{Kept, held, numbered, lined}
-use Rattle.mx_layout.specs.kept.Schemas.{HasPermanent, HasDefects, HasOwn1, HasSpans, HasTotals, HasOwn2, HasFittings, HasSectors2}
+use Rattle.mx_layout.specs.kept.Schemas.{HasPermanent, HasDefects, HasDefects3, HasDone, HasOwn1, HasSpans, HasTotals, HasBases, HasFittings, HasSectors2}
 
 -- entries, as the rows of `entry`
 abbrev pub kept_entry : Kept EntryRow
@@ -122,5 +124,19 @@ kept_total2 = numbered table.Total2 HasTotals Rows.FitsTotal
 
 -- last bases, as the rows of `base2`
 abbrev pub kept_base2 : Kept BaseRow
-kept_base2 = record (numbered table.Base2 HasOwn2 Rows.FitsBase
+kept_base2 = record (numbered table.Base2 HasBases Rows.FitsBase
     (λ r. Int (pos r.item) ∷ Text r.task ∷ Int (pos r.life.minutes) ∷ Int (pos r.life.cycles) ∷ Int (pos r.day) ∷ [])) { order = by_two }
+
+-- deferrals of defects, as the rows of `defect3`: those of `defect`, with no cycles within which they are rectified, and the cycles at which they were found
+abbrev pub kept_defect3 : Kept Deferral3Row
+kept_defect3 = numbered table.Defect3 HasDefects3 Rows.FitsDeferral3
+    (λ r. Int (pos r.deferral.seq) ∷ Int (pos r.deferral.aircraft) ∷ Int (pos r.deferral.moment) ∷ Text r.deferral.reference
+    ∷ Int (pos (category_number r.deferral.category)) ∷ number_or_null (days_stated r.deferral.category) ∷ Null ∷ Int (pos r.found_cycles) ∷ [])
+
+-- accomplishments, as the rows of `done3`
+abbrev pub kept_done3 : Kept DoneRow
+kept_done3 = record (numbered table.Done3 HasDone Rows.FitsDone
+    (λ r. Int (pos r.item) ∷ Text r.task ∷ Int (pos r.seq) ∷ Int (pos r.line)
+    ∷ Int (pos r.value.minutes) ∷ Int (pos r.value.cycles) ∷ Int (pos r.value.day)
+    ∷ number_or_null r.due.minutes ∷ number_or_null r.due.cycles ∷ number_or_null r.due.days
+    ∷ Int (pos r.base.minutes) ∷ Int (pos r.base.cycles) ∷ Int (pos r.base.day) ∷ [])) { order = by_four }

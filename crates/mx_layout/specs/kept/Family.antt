@@ -32,6 +32,8 @@ of_kept R said none table.Sector2 = said _ Cells.kept_sector2
 of_kept R said none table.Span2 = said _ Cells.kept_span2
 of_kept R said none table.Total2 = said _ Cells.kept_total2
 of_kept R said none table.Base2 = said _ Cells.kept_base2
+of_kept R said none table.Defect3 = said _ Cells.kept_defect3
+of_kept R said none table.Done3 = said _ Cells.kept_done3
 of_kept R said none _ = none
 
 -- the row is of the type of the table with this name; of a table whose rows have no type nothing is asked

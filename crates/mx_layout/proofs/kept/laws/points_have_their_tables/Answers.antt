@@ -1,5 +1,5 @@
 use Rattle.std.proofs.Common.{inl, inr}
-use Rattle.mx_layout.proofs.KeptProofs.SchemaLemmas.{moving_defects, own_1_defects, own_2_defects, totals_defects, first_stay, sectors_come, spans_come, totals_come, bases_come, totals_sectors, totals_spans}
+use Rattle.mx_layout.proofs.KeptProofs.SchemaLemmas.{moving_defects, own_1_defects, own_2_moved, moved_defects, moved_sectors, moved_spans, first_stay, sectors_come, spans_come, totals_come, bases_come}
 use Rattle.mx_layout.proofs.kept.laws.points_have_their_tables.Goals as goal
 
 pub returns : goal.returns
@@ -12,10 +12,11 @@ returns c = record {
   deferrals_with_spans = moving_defects _ spans_come;
   sectors_with_spans = inr (inl spans_come);
   spans = inl spans_come;
-  sectors_with_totals = totals_sectors _ totals_come;
-  spans_with_totals = totals_spans _ totals_come;
-  totals = totals_come;
-  deferrals_with_totals = totals_defects _ totals_come;
+  sectors_with_totals = moved_sectors _ totals_come;
+  spans_with_totals = moved_spans _ totals_come;
+  totals = inl totals_come;
+  deferrals_with_totals = moved_defects _ totals_come;
   bases = bases_come;
-  deferrals_with_bases = own_2_defects _ bases_come;
+  deferrals_with_bases = moved_defects _ (own_2_moved _ bases_come);
+  last_bases = inl bases_come;
 }
