@@ -6,7 +6,8 @@
 //! These are laws, of each point; a layout is a point at which no move is under way.
 //!
 //! - Settled at a layout a file has the schema of that layout, and wherever a file can be it has the one that a file's
-//!   statements have made: `settled_schemas`, `points_have_the_schemas_of_files`.
+//!   statements have made, on the way to layout 3 too: `settled_schemas`, `points_have_the_schemas_of_files`.
+//! - Wherever a table is there, its texts are understood in the schema: `tables_are_understood_there`.
 //! - The schema at a point has the tables of the family that are there, and no other of the family:
 //!   `schemas_have_the_tables`.
 //! - New tables of a layout stand for the empty book: `new_tables_stand`.

@@ -46,10 +46,10 @@ last_point : IsFree kept_point (schema_at (settled 2))
 last_point = (record { rest = _; more = _; is = refl }, none_refer (schema_at (settled 2)).tables refl)
 
 totals_there : kept_total2.IsIn (schema_at (moving 3 0))
-totals_there = record { rest = _; more = _; is = refl }
+totals_there = inl (record { rest = _; more = _; is = refl })
 
 bases_there : kept_base2.IsIn (schema_at (moving 4 0))
-bases_there = record { rest = _; more = _; is = refl }
+bases_there = inl (record { rest = _; more = _; is = refl })
 
 -- ── totals ──
 

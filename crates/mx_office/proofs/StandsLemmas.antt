@@ -12,7 +12,7 @@ use Rattle.mx_layout.specs.Contents.{rows_in}
 use Rattle.mx_layout.specs.declared.fault.Table.TheVariants as table
 use Rattle.mx_layout.specs.Making.{IsEmptyIn}
 use Rattle.mx_layout.specs.Point.{point_cells, HoldsPoint}
-use Rattle.mx_layout.specs.Steps.{IsLayout}
+use Rattle.mx_book_tables.proofs.StandsProofs.PointLemmas.{newest_is_layout}
 use Rattle.mx_layout.specs.Tables.{office, HasOffice}
 use Rattle.mx_book_tables.proofs.StandsProofs.EmptyLemmas.{empty_stands as new_tables_stand}
 use Rattle.mx_book_tables.proofs.StandsProofs.RowLemmas.{one_book}
@@ -23,16 +23,13 @@ use Rattle.mx_apply.proofs.WritingProofs.ThereLemmas.{settled_at}
 use Rattle.mx_office.specs.Layout.{office_point, office_schema}
 use Rattle.mx_office.specs.Stands.{Rests, RestsIn, Stands}
 
-is_layout : IsLayout office_point.layout
-is_layout = inr refl
-
 -- tables stand for at most one book
 pub stands_once : (trees : Trees) (one other : List Entry) → Stands trees one → Stands trees other → one ≡ other
 stands_once trees one other a b = one_book office_point trees one other a.rows b.rows
 
 -- tables that were just made are those of no entry
 pub empty_stands : (trees : Trees) → IsEmptyIn office_point.layout trees → Stands trees []
-empty_stands = new_tables_stand office_point.layout is_layout
+empty_stands = new_tables_stand office_point.layout newest_is_layout
 
 one_row : (row : Row) (rows : List Row) → IsPermutation (row ∷ []) rows → rows ≡ row ∷ []
 one_row row rows same = sym (sorted_once (λ _. 0) 0 0 1 (row ∷ []) rows (omega arith, omega arith) (flat rows) same)

@@ -68,6 +68,8 @@ name_there table.Base2 there = (15, omega arith, refl)
 name_there table.Sector1 there = never there
 name_there table.Fit1 there = never there
 name_there table.Removal1 there = never there
+name_there table.Defect3 there = never there
+name_there table.Done3 there = never there
 
 -- a schema without a table of the layout lacks one
 pub missing : (schema : Schema) (name : TableName) → is_at verified_point name ≡ true → has_table schema (table_name name) ≡ false → lacks_any schema ≡ true

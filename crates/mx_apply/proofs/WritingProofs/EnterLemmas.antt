@@ -27,19 +27,17 @@ use Rattle.mx_row_rules.proofs.ChangesProofs.TouchLemmas.{spans_are_put, totals_
 use Rattle.mx_registers.specs.points.Tables.{bases_2, spans_2, totals_2}
 use Rattle.mx_layout.specs.TableName.{TableName}
 use Rattle.mx_layout.specs.declared.fault.Table.TheVariants as table
-use Rattle.mx_layout.specs.Steps.{IsLayout}
 use Rattle.mx_layout.specs.kept.Kept.{Kept}
 use Rattle.mx_layout.specs.kept.Cells.{kept_entry, kept_aircraft, kept_place, kept_component, kept_programme, kept_task, kept_opening, kept_crs, kept_crs_line, kept_defect, kept_extension, kept_sector2, kept_sector2_rows, kept_span2, kept_total2, kept_base2}
 use Rattle.mx_book_tables.specs.stands.Family.{added, first_rows, given, is_at, is_register, is_there, rows_given, rows_of}
+use Rattle.mx_registers.specs.declared.points.points.TheConstants.{NEWEST_LAYOUT}
+use Rattle.mx_book_tables.proofs.StandsProofs.PointLemmas.{newest_is_layout}
 use Rattle.mx_book_tables.proofs.StandsProofs.FamilyLemmas.{AreFacts, facts, never}
 use Rattle.mx_book_tables.proofs.StandsProofs.ChangeLemmas.{brings}
 use Rattle.mx_table_rows.proofs.ChosenProofs.EqualLemmas.{equal_numbers}
 use Rattle.mx_apply.specs.writing.Changes.{all_in_place}
 use Rattle.mx_apply.specs.writing.Written.{written_point, is_same_base, is_same_span, is_same_total, with_changed, with_rows}
 use Rattle.mx_apply.proofs.WritingProofs.CellLemmas.{base_agrees, bases_put_are, is_of_same_task, other_table, own_table}
-
-pub is_layout : IsLayout 2
-is_layout = inr refl
 
 -- ── kept rows, of any book ──
 
@@ -54,19 +52,21 @@ base_facts = facts table.Base2
 
 -- the rows that a book gives these tables
 pub spans_given : (book : List Entry) → rows_given written_point book table.Span2 ≡ map kept_span2.as_cells (span_rows book)
-spans_given book = ap (map kept_span2.as_cells) (span_facts.whole 2 is_layout refl book)
+spans_given book = ap (map kept_span2.as_cells) (span_facts.whole NEWEST_LAYOUT newest_is_layout refl book)
 
 pub totals_given : (book : List Entry) → rows_given written_point book table.Total2 ≡ map kept_total2.as_cells (total_rows book)
-totals_given book = ap (map kept_total2.as_cells) (total_facts.whole 2 is_layout refl book)
+totals_given book = ap (map kept_total2.as_cells) (total_facts.whole NEWEST_LAYOUT newest_is_layout refl book)
 
 pub bases_given : (book : List Entry) → rows_given written_point book table.Base2 ≡ map kept_base2.as_cells (base_rows book)
-bases_given book = ap (map kept_base2.as_cells) (base_facts.whole 2 is_layout refl book)
+bases_given book = ap (map kept_base2.as_cells) (base_facts.whole NEWEST_LAYOUT newest_is_layout refl book)
 
 -- a table to which rows are only added is left by those that are changed
 changed_leave : (v : ChangedRows) (name : TableName) (rows : List Row) → is_register (rows_of name) ≡ true → with_changed v name rows ≡ rows
 changed_leave v table.Span2 rows is = never is
 changed_leave v table.Total2 rows is = never is
 changed_leave v table.Base2 rows is = never is
+changed_leave v table.Defect3 rows is = never is
+changed_leave v table.Done3 rows is = never is
 changed_leave v table.Office rows is = never is
 changed_leave v name rows is =
     other_table kept_base2 is_same_base v.bases.items name _ refl ∙ other_table kept_total2 is_same_total v.totals.items name _ refl ∙ other_table kept_span2 is_same_span v.spans.items name rows refl
@@ -90,7 +90,7 @@ module _ (book : List Entry) (command : Entry) (x : CommandRows) (due : AreComma
   gained name top is there first same =
       let f = rows_of name in
       let brought : rows_given written_point after name ≡ given_rows name ++ top =
-      ap (λ l. l ++ given f written_point after) first ∙ brings 2 is_layout name is there book command
+      ap (λ l. l ++ given f written_point after) first ∙ brings NEWEST_LAYOUT newest_is_layout name is there book command
       ∙ ap (λ l. given f written_point book ++ l) (sym same) ∙ ap (λ l. (l ++ given f written_point book) ++ top) (sym first) in
       IsPermutation-trans _ _ _ (same_rows _ _ (ap (λ l. top ++ l) (changed_leave x.changed name (given_rows name) is)))
       (IsPermutation-trans _ _ _ (IsPermutation-append_comm top (given_rows name)) (same_rows _ _ (sym brought)))
@@ -165,3 +165,5 @@ module _ (book : List Entry) (command : Entry) (x : CommandRows) (due : AreComma
   enter table.Sector1 there = never there
   enter table.Fit1 there = never there
   enter table.Removal1 there = never there
+  enter table.Defect3 there = never there
+  enter table.Done3 there = never there

@@ -37,11 +37,13 @@ use Rattle.mx_layout.specs.kept.Cells.{kept_entry, kept_aircraft, kept_place, ke
 use Rattle.mx_layout.proofs.KeptProofs.OntoLemmas.{on_top_keeps}
 use Rattle.mx_book_tables.specs.stands.Family.{Fit, FitBrought, Rows, is_at, is_register, is_there, none, of, rows_of}
 use Rattle.mx_book_tables.specs.stands.Stands.{StandsInSchema}
+use Rattle.mx_registers.specs.declared.points.points.TheConstants.{NEWEST_LAYOUT}
+use Rattle.mx_book_tables.proofs.StandsProofs.PointLemmas.{newest_is_layout}
 use Rattle.mx_book_tables.proofs.StandsProofs.FamilyLemmas.{Facts, RegisterFacts, facts, never, register_facts}
 use Rattle.mx_tables.specs.inserts.Sets.{GainsRows}
 use Rattle.mx_apply.specs.writing.Written.{IsSettled, written_point, is_same_base, is_same_span, is_same_total, with_added, with_changed, with_rows}
 use Rattle.mx_apply.proofs.WritingProofs.CellLemmas.{bases_put_are, is_of_same_task}
-use Rattle.mx_apply.proofs.WritingProofs.EnterLemmas.{base_facts, enter, is_layout, span_facts, total_facts}
+use Rattle.mx_apply.proofs.WritingProofs.EnterLemmas.{base_facts, enter, span_facts, total_facts}
 use Rattle.mx_apply.proofs.WritingProofs.RowLemmas.{Keeps, all_in_place_keeps}
 use Rattle.mx_apply.proofs.WritingProofs.ThereLemmas.{in_settled}
 
@@ -75,8 +77,8 @@ unwrapped (row ∷ rows) fit =
 -- what stands in a register fits with what a command brings to it
 more_fit : (name : TableName) (f : Rows) → Facts name f → RegisterFacts f → is_register f ≡ true → is_there f written_point ≡ true → (book : List Entry) (command : Entry) → Fit f written_point book → FitBrought f written_point book command → Fit f written_point (book ++ command ∷ [])
 more_fit name (of k line change (Some read)) facts register is there book command fit fits =
-    let before = facts.whole 2 is_layout there book in
-    subst (All k.Fits) (sym (facts.whole 2 is_layout there (book ++ command ∷ []) ∙ register.more book command))
+    let before = facts.whole NEWEST_LAYOUT newest_is_layout there book in
+    subst (All k.Fits) (sym (facts.whole NEWEST_LAYOUT newest_is_layout there (book ++ command ∷ []) ∙ register.more book command))
     (All-append k.Fits (line.rows book) (change book command []) (subst (All k.Fits) before fit) (fits there))
 more_fit name (of k line change None) facts register other there book command fit fits = never other
 more_fit name none facts register other there book command fit fits = never other
@@ -126,13 +128,15 @@ module _ (book : List Entry) (command : Entry) (x : CommandRows) (due : AreComma
 
   -- all rows of the book with the command fit
   rows_fit : (name : TableName) → is_at written_point name ≡ true → Fit (rows_of name) written_point book → Fit (rows_of name) written_point after
-  rows_fit table.Span2 there fit = subst (All FitsSpan) (sym (span_facts.whole 2 is_layout refl after)) (spans_fit (subst (All FitsSpan) (span_facts.whole 2 is_layout refl book) fit))
-  rows_fit table.Total2 there fit = subst (All FitsTotal) (sym (total_facts.whole 2 is_layout refl after)) (totals_fit (subst (All FitsTotal) (total_facts.whole 2 is_layout refl book) fit))
-  rows_fit table.Base2 there fit = subst (All FitsBase) (sym (base_facts.whole 2 is_layout refl after)) (bases_fit (subst (All FitsBase) (base_facts.whole 2 is_layout refl book) fit))
+  rows_fit table.Span2 there fit = subst (All FitsSpan) (sym (span_facts.whole NEWEST_LAYOUT newest_is_layout refl after)) (spans_fit (subst (All FitsSpan) (span_facts.whole NEWEST_LAYOUT newest_is_layout refl book) fit))
+  rows_fit table.Total2 there fit = subst (All FitsTotal) (sym (total_facts.whole NEWEST_LAYOUT newest_is_layout refl after)) (totals_fit (subst (All FitsTotal) (total_facts.whole NEWEST_LAYOUT newest_is_layout refl book) fit))
+  rows_fit table.Base2 there fit = subst (All FitsBase) (sym (base_facts.whole NEWEST_LAYOUT newest_is_layout refl after)) (bases_fit (subst (All FitsBase) (base_facts.whole NEWEST_LAYOUT newest_is_layout refl book) fit))
   rows_fit table.Office there fit = tt
   rows_fit table.Sector1 there fit = never there
   rows_fit table.Fit1 there fit = never there
   rows_fit table.Removal1 there fit = never there
+  rows_fit table.Defect3 there fit = never there
+  rows_fit table.Done3 there fit = never there
   rows_fit name there fit = more_fit name (rows_of name) (facts name) (register_facts name) refl there book command fit (brought_fit name refl there)
 
   -- tables that stood for the book, and whose rows became what the rows of the command make of them, stand for the book with it

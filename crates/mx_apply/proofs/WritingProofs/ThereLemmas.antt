@@ -12,6 +12,7 @@ use Rattle.mx_layout.specs.kept.Kept.{Kept}
 use Rattle.mx_layout.specs.kept.Cells.{kept_entry, kept_aircraft, kept_place, kept_component, kept_programme, kept_task, kept_opening, kept_crs, kept_crs_line, kept_defect, kept_extension, kept_sector2_rows, kept_span2, kept_total2, kept_base2}
 use Rattle.mx_book_tables.specs.stands.Family.{is_at}
 use Rattle.mx_book_tables.specs.stands.Schemas.{IsOfFile, indexes_at, schema_at}
+use Rattle.mx_book_tables.proofs.StandsProofs.PointLemmas.{file_is_up_to_3}
 use Rattle.mx_book_tables.proofs.StandsProofs.FamilyLemmas.{AreFacts, facts}
 use Rattle.mx_book_tables.proofs.StandsProofs.SchemaLemmas.{has_tables}
 use Rattle.mx_lookups.proofs.NumbersProofs.TableLemmas.{tables_at, tables_of_rows}
@@ -22,7 +23,7 @@ of_file = inr refl
 
 -- the schema has a table that a file has there
 there : {X : Type 0} {name : TableName} {k : Kept X} {line : Line X} → AreFacts name k line → is_table_at line written_point ≡ true → (schema : Schema) → IsSettled schema → k.IsIn schema
-there fact at schema is = fact.is_in written_point of_file at schema (tables_at schema is.tables)
+there fact at schema is = fact.is_in written_point (file_is_up_to_3 written_point of_file) at schema (tables_at schema is.tables)
 
 unreferenced : HasNoReferences (schema_at written_point)
 unreferenced = (refl, (refl, (refl, (refl, (refl, (refl, (refl, (refl, (refl, (refl, (refl, (refl, (refl, (refl, (refl, (refl, tt))))))))))))))))

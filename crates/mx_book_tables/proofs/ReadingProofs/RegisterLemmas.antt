@@ -1,5 +1,5 @@
 -- The registers of a file: which schemas have their tables, and whose rows are read of them where all sectors and spans of a book stand there.
-use Rattle.std.proofs.Common.{◌≡◌, inr, ℕ, true, List, [], ◌++◌, ◌∷◌, map, All, refl, sym, subst}
+use Rattle.std.proofs.Common.{◌≡◌, inl, inr, ℕ, true, List, [], ◌++◌, ◌∷◌, map, All, refl, sym, subst}
 use Rattle.std.specs.Prelude.{IsPermutation}
 use Rattle.std.proofs.lemmas.List.Sorted.{All-permutation, IsPermutation-map, IsPermutation-sym, IsPermutation-trans}
 use Rattle.sqlite.specs.Schema.{Schema}
@@ -9,7 +9,7 @@ use Rattle.mx_registers.specs.Registers.{deferral_rows, sector_rows}
 use Rattle.mx_registers.specs.kept.Spans.{span_rows}
 use Rattle.mx_base.specs.declared.point.Point.{Point}
 use Rattle.mx_registers.specs.points.Points.{moving}
-use Rattle.mx_registers.specs.points.Tables.{Line, rows_at, entries_all, aircraft_all, places_all, components_all, programmes_all, tasks_all, openings_all, releases_all, release_lines_all, deferrals_all, extensions_all, sectors_2, spans_2}
+use Rattle.mx_registers.specs.points.Tables.{Line, rows_at, entries_all, aircraft_all, places_all, components_all, programmes_all, tasks_all, openings_all, releases_all, release_lines_all, extensions_all, deferrals_2, sectors_2, spans_2}
 use Rattle.mx_registers.proofs.PointsProofs.OneBook.{all_there}
 use Rattle.mx_registers.proofs.PointsProofs.StandingLemmas.{always_whole}
 use Rattle.mx_layout.specs.TableName.{TableName}
@@ -56,20 +56,20 @@ permanent_too at schema has = record { rest = own_at at ++ has.rest; more = has.
 -- that of a file whose totals are being made
 pub registers_at_totals : (mark : ℕ) (schema : Schema) → HasTablesAt (moving 3 mark) schema → HasRegisters schema
 registers_at_totals mark schema has =
-    registers_in schema (permanent_too (moving 3 mark) schema has) (record { rest = sector2 ∷ span2 ∷ total2 ∷ has.rest; more = has.more; is = has.is }) (inr (inr (record { rest = span2 ∷ total2 ∷ has.rest; more = has.more; is = has.is })))
-    (inr (record { rest = total2 ∷ has.rest; more = has.more; is = has.is }))
+    registers_in schema (permanent_too (moving 3 mark) schema has) (record { rest = sector2 ∷ span2 ∷ total2 ∷ has.rest; more = has.more; is = has.is }) (inr (inr (inl (record { rest = span2 ∷ total2 ∷ has.rest; more = has.more; is = has.is }))))
+    (inr (inl (record { rest = total2 ∷ has.rest; more = has.more; is = has.is })))
 
 -- that of a file whose last bases are being made
 pub registers_at_bases : (mark : ℕ) (schema : Schema) → HasTablesAt (moving 4 mark) schema → HasRegisters schema
 registers_at_bases mark schema has =
-    registers_in schema (permanent_too (moving 4 mark) schema has) (record { rest = sector2 ∷ span2 ∷ total2 ∷ base2 ∷ has.rest; more = has.more; is = has.is }) (inr (inr (record { rest = span2 ∷ total2 ∷ base2 ∷ has.rest; more = has.more; is = has.is })))
-    (inr (record { rest = total2 ∷ base2 ∷ has.rest; more = has.more; is = has.is }))
+    registers_in schema (permanent_too (moving 4 mark) schema has) (record { rest = sector2 ∷ span2 ∷ total2 ∷ base2 ∷ has.rest; more = has.more; is = has.is }) (inr (inr (inl (record { rest = span2 ∷ total2 ∷ base2 ∷ has.rest; more = has.more; is = has.is }))))
+    (inr (inl (record { rest = total2 ∷ base2 ∷ has.rest; more = has.more; is = has.is })))
 
 -- that of a file whose tables are verified
 pub registers_settled : (schema : Schema) → HasTables schema → HasRegisters schema
 registers_settled schema has =
-    registers_in schema (permanent_too verified_point schema has) (record { rest = sector2 ∷ span2 ∷ total2 ∷ base2 ∷ has.rest; more = has.more; is = has.is }) (inr (inr (record { rest = span2 ∷ total2 ∷ base2 ∷ has.rest; more = has.more; is = has.is })))
-    (inr (record { rest = total2 ∷ base2 ∷ has.rest; more = has.more; is = has.is }))
+    registers_in schema (permanent_too verified_point schema has) (record { rest = sector2 ∷ span2 ∷ total2 ∷ base2 ∷ has.rest; more = has.more; is = has.is }) (inr (inr (inl (record { rest = span2 ∷ total2 ∷ base2 ∷ has.rest; more = has.more; is = has.is }))))
+    (inr (inl (record { rest = total2 ∷ base2 ∷ has.rest; more = has.more; is = has.is })))
 
 -- the schemas at these points themselves
 pub schema_at_totals : (mark : ℕ) → HasRegisters (schema_at (moving 3 mark))
@@ -105,21 +105,23 @@ module _ {X : Type 0} (at : Point) (name : TableName) (k : Kept X) (line : Line 
 
 -- ── all registers ──
 
--- all sectors and spans of the book stand in the tables that are read
+-- all deferrals, sectors and spans of the book stand in the tables that are read
 pub record AreMoved (at : Point) (book : List Entry) : Type 0 where
+  pub deferred : is_at at table.Defect ≡ true
   pub flown : is_at at table.Sector2 ≡ true
   pub fitted : is_at at table.Span2 ≡ true
+  pub deferrals : rows_at deferrals_2 at book ≡ deferral_rows book
   pub sectors : rows_at sectors_2 at book ≡ sector_rows book
   pub spans : rows_at spans_2 at book ≡ span_rows book
 
 pub moved_at_totals : (mark : ℕ) (book : List Entry) → AreMoved (moving 3 mark) book
-moved_at_totals mark book = record { flown = refl; fitted = refl; sectors = all_there (sector_rows book); spans = all_there (span_rows book) }
+moved_at_totals mark book = record { deferred = refl; flown = refl; fitted = refl; deferrals = all_there (deferral_rows book); sectors = all_there (sector_rows book); spans = all_there (span_rows book) }
 
 pub moved_at_bases : (mark : ℕ) (book : List Entry) → AreMoved (moving 4 mark) book
-moved_at_bases mark book = record { flown = refl; fitted = refl; sectors = all_there (sector_rows book); spans = all_there (span_rows book) }
+moved_at_bases mark book = record { deferred = refl; flown = refl; fitted = refl; deferrals = all_there (deferral_rows book); sectors = all_there (sector_rows book); spans = all_there (span_rows book) }
 
 pub moved_settled : (book : List Entry) → AreMoved verified_point book
-moved_settled book = record { flown = refl; fitted = refl; sectors = all_there (sector_rows book); spans = all_there (span_rows book) }
+moved_settled book = record { deferred = refl; flown = refl; fitted = refl; deferrals = all_there (deferral_rows book); sectors = all_there (sector_rows book); spans = all_there (span_rows book) }
 
 -- over tables that have the rows of a book, what was read of the registers is those of the book
 pub registers_read : (at : Point) (trees : Trees) (rows : FileRows) (book : List Entry) → AreMoved at book → AreRegisterRows trees rows.registers → AreRowsOf kept_span2 trees rows.spans.items → HasRowsAt at trees book → AreRegistersIn rows book
@@ -135,7 +137,7 @@ registers_read at trees rows book moved are spans has =
       openings = read_as at table.Opening kept_opening openings_all (facts table.Opening) trees book all.openings rows.registers.rows.openings.items are.openings (has.fit table.Opening refl) (has.tables table.Opening refl);
       releases = read_as at table.Crs kept_crs releases_all (facts table.Crs) trees book all.releases rows.registers.rows.releases.items are.releases (has.fit table.Crs refl) (has.tables table.Crs refl);
       release_lines = read_as at table.CrsLine kept_crs_line release_lines_all (facts table.CrsLine) trees book all.release_lines rows.registers.rows.release_lines.items are.release_lines (has.fit table.CrsLine refl) (has.tables table.CrsLine refl);
-      deferrals = read_as at table.Defect kept_defect deferrals_all (facts table.Defect) trees book (all_there (deferral_rows book)) rows.registers.rows.deferrals.items are.deferrals (has.fit table.Defect refl) (has.tables table.Defect refl);
+      deferrals = read_as at table.Defect kept_defect deferrals_2 (facts table.Defect) trees book moved.deferrals rows.registers.rows.deferrals.items are.deferrals (has.fit table.Defect moved.deferred) (has.tables table.Defect moved.deferred);
       extensions = read_as at table.Extension kept_extension extensions_all (facts table.Extension) trees book all.extensions rows.registers.rows.extensions.items are.extensions (has.fit table.Extension refl) (has.tables table.Extension refl);
       sectors = read_as at table.Sector2 kept_sector2 sectors_2 (facts table.Sector2) trees book moved.sectors rows.registers.rows.sectors.items are.sectors (has.fit table.Sector2 moved.flown) (has.tables table.Sector2 moved.flown);
       spans = read_as at table.Span2 kept_span2 spans_2 (facts table.Span2) trees book moved.spans rows.spans.items spans (has.fit table.Span2 moved.fitted) (has.tables table.Span2 moved.fitted);

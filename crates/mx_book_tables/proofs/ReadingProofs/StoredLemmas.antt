@@ -17,8 +17,7 @@ use Rattle.mx_base.specs.declared.rows.rows.SpanRow.{SpanRow}
 use Rattle.mx_base.specs.declared.rows.rows.TotalRow.{TotalRow}
 use Rattle.mx_registers.specs.kept.Bases.{base_rows}
 use Rattle.mx_registers.specs.kept.Totals.{total_rows}
-use Rattle.mx_registers.specs.points.Tables.{rows_at, entries_all, aircraft_all, places_all, components_all, programmes_all, tasks_all, openings_all, releases_all, release_lines_all, deferrals_all, extensions_all, sectors_2, spans_2, totals_2, bases_2}
-use Rattle.mx_registers.specs.Registers.{deferral_rows}
+use Rattle.mx_registers.specs.points.Tables.{rows_at, entries_all, aircraft_all, places_all, components_all, programmes_all, tasks_all, openings_all, releases_all, release_lines_all, extensions_all, deferrals_2, sectors_2, spans_2, totals_2, bases_2}
 use Rattle.mx_registers.proofs.PointsProofs.OneBook.{all_there}
 use Rattle.mx_registers.proofs.PointsProofs.StandingLemmas.{always_whole}
 use Rattle.mx_layout.specs.TableName.{TableName}
@@ -36,6 +35,7 @@ use Rattle.mx_layout.specs.kept.Family.{IsReadable}
 use Rattle.mx_book_tables.specs.stands.Family.{Fit, is_at, rows_given, rows_of}
 use Rattle.mx_book_tables.specs.stands.Schemas.{schema_at}
 use Rattle.mx_book_tables.specs.stands.Stands.{HasRowsAt}
+use Rattle.mx_book_tables.proofs.StandsProofs.PointLemmas.{file_is_up_to_3}
 use Rattle.mx_book_tables.proofs.StandsProofs.FamilyLemmas.{facts, never}
 use Rattle.mx_book_tables.proofs.StandsProofs.RowLemmas.{readable_stored}
 use Rattle.mx_book_tables.proofs.StandsProofs.SchemaLemmas.{has_tables}
@@ -89,7 +89,7 @@ tables_given trees rows book are at_point is_book same = record {
     each table.Opening there = given_as verified_point table.Opening kept_opening openings_all (facts table.Opening) trees book (always_whole verified_point book).openings rows.registers.rows.openings.items are.registers.openings same.registers.openings
     each table.Crs there = given_as verified_point table.Crs kept_crs releases_all (facts table.Crs) trees book (always_whole verified_point book).releases rows.registers.rows.releases.items are.registers.releases same.registers.releases
     each table.CrsLine there = given_as verified_point table.CrsLine kept_crs_line release_lines_all (facts table.CrsLine) trees book (always_whole verified_point book).release_lines rows.registers.rows.release_lines.items are.registers.release_lines same.registers.release_lines
-    each table.Defect there = given_as verified_point table.Defect kept_defect deferrals_all (facts table.Defect) trees book (all_there (deferral_rows book)) rows.registers.rows.deferrals.items are.registers.deferrals same.registers.deferrals
+    each table.Defect there = given_as verified_point table.Defect kept_defect deferrals_2 (facts table.Defect) trees book (moved_settled book).deferrals rows.registers.rows.deferrals.items are.registers.deferrals same.registers.deferrals
     each table.Extension there = given_as verified_point table.Extension kept_extension extensions_all (facts table.Extension) trees book (always_whole verified_point book).extensions rows.registers.rows.extensions.items are.registers.extensions same.registers.extensions
     each table.Sector2 there = given_as verified_point table.Sector2 kept_sector2 sectors_2 (facts table.Sector2) trees book (moved_settled book).sectors rows.registers.rows.sectors.items are.registers.sectors same.registers.sectors
     each table.Span2 there = given_as verified_point table.Span2 kept_span2 spans_2 (facts table.Span2) trees book (moved_settled book).spans rows.spans.items are.spans same.registers.spans
@@ -98,6 +98,8 @@ tables_given trees rows book are at_point is_book same = record {
     each table.Sector1 there = never there
     each table.Fit1 there = never there
     each table.Removal1 there = never there
+    each table.Defect3 there = never there
+    each table.Done3 there = never there
 
 -- the row of office is that of the point where tables have the rows of a book
 pub point_given : (trees : Trees) (book : List Entry) → HasRowsAt verified_point trees book → IsAtPoint trees
@@ -187,7 +189,7 @@ AreKeptIn schema = kept_total2.IsIn schema × kept_base2.IsIn schema
 
 -- a schema with the tables of the layout has these
 pub kept_in : (schema : Schema) → HasTables schema → AreKeptIn schema
-kept_in schema has = ((facts table.Total2).is_in verified_point (inr refl) refl schema has, (facts table.Base2).is_in verified_point (inr refl) refl schema has)
+kept_in schema has = ((facts table.Total2).is_in verified_point (file_is_up_to_3 verified_point (inr refl)) refl schema has, (facts table.Base2).is_in verified_point (file_is_up_to_3 verified_point (inr refl)) refl schema has)
 
 -- the rows of the registers, with them, are those of all tables
 pub stored_with : (trees : Trees) (registers : FileRows) (kept : KeptPairs) (rows : FileRows) → rows.registers ≡ registers.registers → rows.spans ≡ registers.spans → rows.totals ≡ kept.0 → rows.bases ≡ kept.1

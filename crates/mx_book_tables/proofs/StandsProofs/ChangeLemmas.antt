@@ -14,6 +14,9 @@ use Rattle.mx_registers.proofs.KeptProofs.ItemNumbers.{total_rows-changed}
 use Rattle.mx_registers.proofs.KeptProofs.PutBases.{command_bases}
 use Rattle.mx_registers.proofs.KeptProofs.SpanRows.{span_rows-more}
 use Rattle.mx_registers.proofs.KeptProofs.TableLemmas.{register_becomes}
+use Rattle.mx_registers.specs.late.Found.{found_become, found_rows}
+use Rattle.mx_registers.proofs.LateProofs.DoneBecomes.{done_with_command}
+use Rattle.mx_registers.proofs.LateProofs.FoundBecomes.{found_with_command}
 use Rattle.mx_base.specs.Settled.{settled}
 use Rattle.mx_registers.specs.points.Tables.{rows_at}
 use Rattle.mx_layout.specs.Steps.{IsLayout}
@@ -49,6 +52,8 @@ become table.Sector2 = of_register sectors_by
 become table.Span2 = in_some_order span_rows spans_become (λ book command b new shape. span_rows-more book command b new)
 become table.Total2 = in_some_order total_rows totals_become (λ book command b new shape. total_rows-changed book command.doc command.act b new (both_true _ _ shape).0)
 become table.Base2 = λ book command b new shape. command_bases book command.doc command.act b new shape
+become table.Defect3 = in_some_order found_rows found_become (λ book command b new shape. found_with_command book command.doc command.act b new shape)
+become table.Done3 = λ book command b new shape. done_with_command book command.doc command.act b new shape
 become table.Office = tt
 
 -- ── what a command brings to a register ──

@@ -27,7 +27,8 @@ empty_book = record { few = omega arith; shaped = refl; judged = refl }
 
 fits_settled : (layout : ℕ) → IsLayout layout → FitsPoint (settled layout)
 fits_settled layout (inl one) = (omega (arith, one), omega arith, omega arith)
-fits_settled layout (inr two) = (omega (arith, two), omega arith, omega arith)
+fits_settled layout (inr (inl two)) = (omega (arith, two), omega arith, omega arith)
+fits_settled layout (inr (inr three)) = (omega (arith, three), omega arith, omega arith)
 
 -- no entry gives no row, and none has to fit
 no_row_fits : (at : Point) (name : TableName) → Fit (rows_of name) at []

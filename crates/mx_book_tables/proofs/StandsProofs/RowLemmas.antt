@@ -11,9 +11,8 @@ use Rattle.sqlite.specs.Tree.{Trees}
 use Rattle.mx_book.specs.commands.Act.{Entry}
 use Rattle.mx_base.specs.declared.point.Point.{Point}
 use Rattle.mx_registers.specs.points.Same.{GiveSame}
-use Rattle.mx_registers.specs.points.Tables.{deferrals_2, deferrals_3}
 use Rattle.mx_registers.specs.points.Tables.{rows_at}
-use Rattle.mx_registers.proofs.PointsProofs.OneBook.{deferrals_given, one_book_at}
+use Rattle.mx_registers.proofs.PointsProofs.OneBook.{one_book_at}
 use Rattle.mx_layout.specs.Contents.{rows_in}
 use Rattle.mx_layout.specs.Names.{table_named}
 use Rattle.mx_layout.specs.Point.{point_cells}
@@ -119,8 +118,8 @@ one_book at trees one other has had = one_book_at at one other has.is_book had.i
   openings = same table.Opening;
   releases = same table.Crs;
   release_lines = same table.CrsLine;
-  deferrals_old = deferrals_given deferrals_2 refl at one other has.is_book had.is_book (same table.Defect);
-  deferrals_new = deferrals_given deferrals_3 refl at one other has.is_book had.is_book (same table.Defect);
+  deferrals_old = same table.Defect;
+  deferrals_new = same table.Defect3;
   extensions = same table.Extension;
   sectors_old = same table.Sector1;
   sectors_new = same table.Sector2;

@@ -13,19 +13,23 @@ use Rattle.mx_layout.specs.TableName.{TableName}
 use Rattle.mx_layout.specs.declared.fault.Table.TheVariants as table
 use Rattle.mx_layout.proofs.TreeLemmas.{same_tree}
 use Rattle.mx_book_tables.specs.stands.Family.{is_at, own_names}
-use Rattle.mx_book_tables.specs.stands.Schemas.{IsOfFile, schema_at, statements_at}
-use Rattle.mx_book_tables.proofs.StandsProofs.PointLemmas.{by_point}
+use Rattle.mx_book_tables.specs.stands.Schemas.{IsOfFile, IsUpTo, schema_at, statements_at}
+use Rattle.mx_book_tables.proofs.StandsProofs.PointLemmas.{by_point, file_is_up_to_3}
 use lib.ListN.{get_or-map}
 
 -- ── which schema it is ──
 
 pub settled_schema : (layout : ℕ) → IsLayout layout → schema_at (settled layout) ≡ schema_of layout
 settled_schema layout (inl one) = subst (λ l. schema_at (settled l) ≡ schema_of l) (sym one) refl
-settled_schema layout (inr two) = subst (λ l. schema_at (settled l) ≡ schema_of l) (sym two) refl
+settled_schema layout (inr (inl two)) = subst (λ l. schema_at (settled l) ≡ schema_of l) (sym two) refl
+settled_schema layout (inr (inr three)) = subst (λ l. schema_at (settled l) ≡ schema_of l) (sym three) refl
+
+pub point_schema : (at : Point) → IsUpTo 3 at → schema_at at ≡ schema_after (statements_at at)
+unfolding everything
+point_schema = by_point (λ at. schema_at at ≡ schema_after (statements_at at)) refl (λ mark. refl) (λ mark. refl) (λ mark. refl) (λ mark. refl) refl (λ mark. refl) (λ mark. refl) refl
 
 pub file_schema : (at : Point) → IsOfFile at → schema_at at ≡ schema_after (statements_at at)
-unfolding everything
-file_schema = by_point (λ at. schema_at at ≡ schema_after (statements_at at)) refl (λ mark. refl) (λ mark. refl) (λ mark. refl) (λ mark. refl) refl
+file_schema at file = point_schema at (file_is_up_to_3 at file)
 
 -- ── lists ──
 
@@ -86,6 +90,8 @@ named_there at table.Sector2 h = own_there at table.Sector2 (4, omega arith, ref
 named_there at table.Span2 h = own_there at table.Span2 (5, omega arith, refl) h
 named_there at table.Total2 h = own_there at table.Total2 (6, omega arith, refl) h
 named_there at table.Base2 h = own_there at table.Base2 (7, omega arith, refl) h
+named_there at table.Defect3 h = own_there at table.Defect3 (8, omega arith, refl) h
+named_there at table.Done3 h = own_there at table.Done3 (9, omega arith, refl) h
 
 all_at : (at : Point) → All (λ name. is_at at name ≡ true) (names_at at)
 all_at at =

@@ -1,5 +1,5 @@
--- Worked points: which tables and indexes a file has at each point on its way from layout 1 to layout 2, and what a command brings to each table there.
-use Rattle.std.proofs.Common.{refl, ◌≡◌, ℕ, List, [], ◌∷◌, true, false, Some, None}
+-- Worked points: which tables and indexes a file has at each point on its way from layout 1 to layout 3, and what a command brings to each table there.
+use Rattle.std.proofs.Common.{refl, ◌≡◌, ℕ, List, [], ◌∷◌}
 use Rattle.std.specs.Prelude.{codes, filter, map, pos}
 use Rattle.mx_base.specs.Calendar.{date_of}
 use Rattle.mx_base.specs.Texts.{day_text, moment_text}
@@ -11,17 +11,12 @@ use Rattle.mx_book.proofs.Worked.{abcd, at as moment, logged}
 use Rattle.mx_book.proofs.WorkedFittings.{first_aircraft}
 use Rattle.mx_base.specs.declared.point.Point.{Point}
 use Rattle.mx_base.specs.Settled.{settled}
-use Rattle.mx_registers.specs.Registers.{deferrals_by}
-use Rattle.mx_registers.specs.kept.Becomes.{adding}
-use Rattle.mx_registers.specs.points.Points.{moving, moving_from, step_of}
-use Rattle.mx_registers.specs.points.Tables.{deferrals_2}
+use Rattle.mx_registers.specs.points.Points.{moving, moving_from}
 use Rattle.mx_layout.specs.Names.{table_name}
 use Rattle.mx_layout.specs.TableName.{TableName}
-use Rattle.mx_layout.specs.Tables.{defect_by_aircraft}
-use Rattle.mx_layout.specs.kept.Cells.{kept_defect}
 use Rattle.mx_layout.specs.declared.fault.Table.TheVariants as table
-use Rattle.mx_book_tables.specs.stands.Family.{of, is_at, is_there, is_register, rows_of, own_names, permanent_names, first_rows, rows_given, added}
-use Rattle.mx_book_tables.specs.stands.Schemas.{indexes_at, is_index_at, schema_at, statements_at}
+use Rattle.mx_book_tables.specs.stands.Family.{is_at, is_register, rows_of, own_names, permanent_names, first_rows, rows_given, added}
+use Rattle.mx_book_tables.specs.stands.Schemas.{indexes_at, schema_at, statements_at}
 
 -- ── tables ──
 
@@ -47,6 +42,16 @@ own_in_step_4 mark = refl
 
 own_at_layout_2 : own (settled 2) ≡ table.Defect ∷ table.Sector2 ∷ table.Span2 ∷ table.Total2 ∷ table.Base2 ∷ []
 own_at_layout_2 = refl
+
+-- while deferrals are moved there are both tables of them
+own_with_deferrals : (mark : ℕ) → own (moving_from 2 1 mark) ≡ table.Defect ∷ table.Sector2 ∷ table.Span2 ∷ table.Total2 ∷ table.Base2 ∷ table.Defect3 ∷ []
+own_with_deferrals mark = refl
+
+own_with_accomplishments : (mark : ℕ) → own (moving_from 2 2 mark) ≡ table.Sector2 ∷ table.Span2 ∷ table.Total2 ∷ table.Base2 ∷ table.Defect3 ∷ table.Done3 ∷ []
+own_with_accomplishments mark = refl
+
+own_at_layout_3 : own (settled 3) ≡ table.Sector2 ∷ table.Span2 ∷ table.Total2 ∷ table.Defect3 ∷ table.Done3 ∷ []
+own_at_layout_3 = refl
 
 -- at any point there are the point and the ten tables that all layouts have
 always_there : (p : Point) → filter (is_at p) (table.Office ∷ permanent_names) ≡ table.Office ∷ permanent_names
@@ -88,18 +93,17 @@ indexes_at_layout_2 : names (settled 2) ≡ codes "span2_by_component" ∷ codes
     ∷ codes "crs_line_by_defect" ∷ codes "extension_by_defect" ∷ codes "defect_by_aircraft" ∷ []
 indexes_at_layout_2 = refl
 
--- ── a table that goes ──
+indexes_with_deferrals : (mark : ℕ) → names (moving_from 2 1 mark) ≡ names (settled 2)
+indexes_with_deferrals mark = refl
 
--- of a table whose rows a step of the move from layout 2 takes, and of its index, by the points on the way
-abbrev later_points : List Point
-later_points = settled 1 ∷ settled 2 ∷ moving_from 2 1 5 ∷ moving_from 2 2 5 ∷ settled 3 ∷ []
+-- an index goes with its table
+indexes_with_accomplishments : (mark : ℕ) → names (moving_from 2 2 mark) ≡ codes "span2_by_component" ∷ codes "span2_by_aircraft" ∷ codes "span2_by_remove_seq" ∷ codes "sqlite_autoindex_base2_1"
+    ∷ codes "crs_line_by_defect" ∷ codes "extension_by_defect" ∷ codes "sqlite_autoindex_done3_1" ∷ []
+indexes_with_accomplishments mark = refl
 
--- it is there until that step has ended
-taken_table : map (is_there (of kept_defect deferrals_2 (adding deferrals_by) None)) later_points ≡ true ∷ true ∷ true ∷ false ∷ false ∷ []
-taken_table = refl
-
-taken_index : map (λ at. is_index_at at (record { index = defect_by_aircraft; since = step_of 2 0; until = Some (step_of 2 1) })) later_points ≡ false ∷ true ∷ true ∷ false ∷ false ∷ []
-taken_index = refl
+indexes_at_layout_3 : names (settled 3) ≡ codes "span2_by_component" ∷ codes "span2_by_aircraft" ∷ codes "span2_by_remove_seq"
+    ∷ codes "crs_line_by_defect" ∷ codes "extension_by_defect" ∷ codes "sqlite_autoindex_done3_1" ∷ codes "defect3_by_aircraft" ∷ codes "sector2_by_aircraft" ∷ codes "crs_by_item" ∷ []
+indexes_at_layout_3 = refl
 
 -- ── trees ──
 
@@ -114,9 +118,12 @@ trees_at_layout_1 = refl
 trees_at_layout_2 : trees (settled 2) ≡ (0 ∷ 1 ∷ 3 ∷ 5 ∷ 7 ∷ 9 ∷ 10 ∷ 12 ∷ 13 ∷ 14 ∷ 16 ∷ 17 ∷ 21 ∷ 22 ∷ 26 ∷ 27 ∷ []) ∷ (2 ∷ 4 ∷ 6 ∷ 8 ∷ 11 ∷ 15 ∷ 23 ∷ 24 ∷ 25 ∷ 28 ∷ 29 ∷ 30 ∷ 31 ∷ []) ∷ []
 trees_at_layout_2 = refl
 
+trees_at_layout_3 : trees (settled 3) ≡ (0 ∷ 1 ∷ 3 ∷ 5 ∷ 7 ∷ 9 ∷ 10 ∷ 12 ∷ 13 ∷ 14 ∷ 16 ∷ 21 ∷ 22 ∷ 26 ∷ 32 ∷ 33 ∷ []) ∷ (2 ∷ 4 ∷ 6 ∷ 8 ∷ 11 ∷ 15 ∷ 23 ∷ 24 ∷ 25 ∷ 29 ∷ 30 ∷ 34 ∷ 35 ∷ 36 ∷ 37 ∷ []) ∷ []
+trees_at_layout_3 = refl
+
 -- ── statements ──
 
-statements : map statements_at (settled 1 ∷ moving 1 7 ∷ moving 2 7 ∷ moving 3 7 ∷ moving 4 7 ∷ settled 2 ∷ []) ≡ 15 ∷ 16 ∷ 21 ∷ 24 ∷ 25 ∷ 28 ∷ []
+statements : map statements_at (settled 1 ∷ moving 1 7 ∷ moving 2 7 ∷ moving 3 7 ∷ moving 4 7 ∷ settled 2 ∷ moving_from 2 1 7 ∷ moving_from 2 2 7 ∷ settled 3 ∷ []) ≡ 15 ∷ 16 ∷ 21 ∷ 24 ∷ 25 ∷ 28 ∷ 29 ∷ 31 ∷ 35 ∷ []
 statements = refl
 
 -- ── rows ──

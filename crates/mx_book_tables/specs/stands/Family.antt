@@ -1,6 +1,7 @@
 -- The tables as one family, with a line for each: how its rows are kept, which of a book's rows stand in it at a point, what a command makes of them, and where they are among the registers.
 use Rattle.std.specs.Prelude.{⊤, ◌≡◌, Bool, true, false, List, [], ◌∷◌, ◌++◌, map, All, IsPermutation, Option, Some, None, if◌then◌else◌}
 use Rattle.sqlite.specs.Order.{Row}
+use Rattle.sqlite.specs.Schema.{Schema}
 use Rattle.mx_book.specs.commands.Act.{Entry}
 use Rattle.mx_book.specs.commands.Shape.{has_shape}
 use Rattle.mx_book.specs.Book.{IsBook}
@@ -9,13 +10,15 @@ use Rattle.mx_book.specs.declared.verdict.Verdict.TheVariants.{New}
 use Rattle.mx_registers.specs.declared.merge.Registers.{Registers}
 use Rattle.mx_registers.specs.Registers.{entry_added, aircraft_by, places_by, components_by, programmes_by, tasks_by, openings_by, sectors_by, fittings_by, removals_by, releases_by, release_lines_by, deferrals_by, extensions_by}
 use Rattle.mx_registers.specs.kept.Becomes.{BecomesSome, Change, adding, bases_become, spans_become, totals_become}
+use Rattle.mx_registers.specs.late.Done.{done_become}
+use Rattle.mx_registers.specs.late.Found.{found_become}
 use Rattle.mx_base.specs.declared.point.Point.{Point}
-use Rattle.mx_registers.specs.points.Tables.{Line, rows_at, is_table_at, entries_all, aircraft_all, places_all, components_all, programmes_all, tasks_all, openings_all, releases_all, release_lines_all, deferrals_all, extensions_all, sectors_1, fittings_1, removals_1, sectors_2, spans_2, totals_2, bases_2}
+use Rattle.mx_registers.specs.points.Tables.{Line, rows_at, is_table_at, entries_all, aircraft_all, places_all, components_all, programmes_all, tasks_all, openings_all, releases_all, release_lines_all, extensions_all, deferrals_2, sectors_1, fittings_1, removals_1, sectors_2, spans_2, totals_2, bases_2, deferrals_3, done_3}
 use Rattle.mx_layout.specs.TableName.{TableName}
 use Rattle.mx_layout.specs.declared.fault.Table.TheVariants as table
 use Rattle.mx_layout.specs.Point.{point_cells}
 use Rattle.mx_layout.specs.kept.Kept.{Kept}
-use Rattle.mx_layout.specs.kept.Cells.{kept_entry, kept_aircraft, kept_place, kept_component, kept_programme, kept_task, kept_opening, kept_crs, kept_crs_line, kept_defect, kept_extension, kept_sector1, kept_fit1, kept_removal1, kept_sector2, kept_span2, kept_total2, kept_base2}
+use Rattle.mx_layout.specs.kept.Cells.{kept_entry, kept_aircraft, kept_place, kept_component, kept_programme, kept_task, kept_opening, kept_crs, kept_crs_line, kept_defect, kept_extension, kept_sector1, kept_fit1, kept_removal1, kept_sector2, kept_span2, kept_total2, kept_base2, kept_defect3, kept_done3}
 
 -- the rows of a table: how they are kept, which of a book's stand in it at a point, what a command makes of them, and where they are among the registers, if they are one; or none, of a table that no command writes
 pub data Rows : Type 1 where
@@ -33,7 +36,7 @@ rows_of table.Task = of kept_task tasks_all (adding tasks_by) (Some (λ r. r.row
 rows_of table.Opening = of kept_opening openings_all (adding openings_by) (Some (λ r. r.rows.openings.items))
 rows_of table.Crs = of kept_crs releases_all (adding releases_by) (Some (λ r. r.rows.releases.items))
 rows_of table.CrsLine = of kept_crs_line release_lines_all (adding release_lines_by) (Some (λ r. r.rows.release_lines.items))
-rows_of table.Defect = of kept_defect deferrals_all (adding deferrals_by) (Some (λ r. r.rows.deferrals.items))
+rows_of table.Defect = of kept_defect deferrals_2 (adding deferrals_by) (Some (λ r. r.rows.deferrals.items))
 rows_of table.Extension = of kept_extension extensions_all (adding extensions_by) (Some (λ r. r.rows.extensions.items))
 rows_of table.Sector1 = of kept_sector1 sectors_1 (adding sectors_by) (Some (λ r. r.rows.sectors.items))
 rows_of table.Fit1 = of kept_fit1 fittings_1 (adding fittings_by) (Some (λ r. r.rows.fittings.items))
@@ -42,6 +45,8 @@ rows_of table.Sector2 = of kept_sector2 sectors_2 (adding sectors_by) (Some (λ 
 rows_of table.Span2 = of kept_span2 spans_2 spans_become None
 rows_of table.Total2 = of kept_total2 totals_2 totals_become None
 rows_of table.Base2 = of kept_base2 bases_2 bases_become None
+rows_of table.Defect3 = of kept_defect3 deferrals_3 found_become None
+rows_of table.Done3 = of kept_done3 done_3 done_become None
 rows_of table.Office = none
 
 -- the tables that all layouts have and that commands write, in the order in which they are read
@@ -50,7 +55,7 @@ permanent_names = table.Entry ∷ table.Aircraft ∷ table.Place ∷ table.Compo
 
 -- the tables behind these, in the order in which layouts make them
 abbrev pub own_names : List TableName
-own_names = table.Defect ∷ table.Sector1 ∷ table.Fit1 ∷ table.Removal1 ∷ table.Sector2 ∷ table.Span2 ∷ table.Total2 ∷ table.Base2 ∷ []
+own_names = table.Defect ∷ table.Sector1 ∷ table.Fit1 ∷ table.Removal1 ∷ table.Sector2 ∷ table.Span2 ∷ table.Total2 ∷ table.Base2 ∷ table.Defect3 ∷ table.Done3 ∷ []
 
 -- ── what the family says of each table ──
 
@@ -58,6 +63,11 @@ own_names = table.Defect ∷ table.Sector1 ∷ table.Fit1 ∷ table.Removal1 ∷
 abbrev pub is_there : Rows → Point → Bool
 is_there (of k line change read) at = is_table_at line at
 is_there none at = false
+
+-- the texts of the table are understood in a schema
+abbrev pub IsIn : Rows → Schema → Type 0
+IsIn (of k line change read) schema = k.IsIn schema
+IsIn none schema = ⊤
 
 -- its rows are one of the registers
 abbrev pub is_register : Rows → Bool

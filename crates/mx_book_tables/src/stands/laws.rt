@@ -1,5 +1,6 @@
 //! Laws of tables at points. Each function does nothing; its contract is the law, and the checker proves it.
 ghost use Rattle.std.specs.Prelude.{◌≡◌, ◌↔◌, ℕ, true, List, [], All, Contains};
+ghost use Rattle.sqlite.specs.Schema.{Schema};
 ghost use Rattle.sqlite.specs.Tree.{Trees};
 ghost use Rattle.mx_book.specs.commands.Act.{Entry};
 ghost use Rattle.mx_base.specs.declared.point.Point.{Point};
@@ -10,8 +11,8 @@ ghost use Rattle.mx_layout.specs.Names.{table_named};
 ghost use Rattle.mx_layout.specs.Steps.{IsLayout, schema_after, schema_of};
 ghost use Rattle.mx_layout.specs.TableName.{TableName};
 ghost use Rattle.mx_layout.specs.kept.Family.{IsReadable};
-ghost use Rattle.mx_book_tables.specs.stands.Family.{BecomesAt, BecomesBy, Brings, is_at, is_register, is_there, rows_of};
-ghost use Rattle.mx_book_tables.specs.stands.Schemas.{IsOfFile, schema_at, statements_at};
+ghost use Rattle.mx_book_tables.specs.stands.Family.{BecomesAt, BecomesBy, Brings, IsIn, is_at, is_register, is_there, rows_of};
+ghost use Rattle.mx_book_tables.specs.stands.Schemas.{HasTablesAt, IsOfFile, IsUpTo, schema_at, statements_at};
 ghost use Rattle.mx_book_tables.specs.stands.Stands.{HasRowsAt, StandsAt};
 
 /// Settled at a layout, a file has the schema of that layout.
@@ -19,10 +20,17 @@ pub fn settled_schemas()
     ensures { (layout : ℕ) → IsLayout layout → schema_at (settled layout) ≡ schema_of layout }
 {}
 
-/// Wherever a file can be, it has the schema that so many statements make of no table: no law of tables at a point speaks
-/// of a schema that no file has.
+/// Wherever a file can be, it has the schema that so many statements make of no table, on the way to layout 3 too: no law
+/// of tables at a point speaks of a schema that no file has.
 pub fn points_have_the_schemas_of_files()
-    ensures { (at : Point) → IsOfFile at → schema_at at ≡ schema_after (statements_at at) }
+    ensures files { (at : Point) → IsOfFile at → schema_at at ≡ schema_after (statements_at at) }
+    ensures later { (at : Point) → IsUpTo 3 at → schema_at at ≡ schema_after (statements_at at) }
+{}
+
+/// Wherever a table is there, up to layout 3, the schema is one in which its texts are understood.
+pub fn tables_are_understood_there()
+    ensures { (name : TableName) (at : Point) → IsUpTo 3 at → is_there (rows_of name) at ≡ true
+        → (schema : Schema) → HasTablesAt at schema → IsIn (rows_of name) schema }
 {}
 
 /// The schema at a point has the tables of the family that are there, and no other of the family.

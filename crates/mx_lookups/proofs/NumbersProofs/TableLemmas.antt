@@ -10,7 +10,7 @@ use Rattle.mx_registers.specs.Registers.{entry_rows, aircraft_rows, place_rows, 
 use Rattle.mx_registers.specs.kept.Spans.{span_rows}
 use Rattle.mx_registers.specs.kept.Totals.{total_rows}
 use Rattle.mx_registers.proofs.KeptProofs.ItemOrder.{total_rows-rising}
-use Rattle.mx_registers.specs.points.Tables.{Line, rows_at, is_table_at, entries_all, aircraft_all, places_all, components_all, programmes_all, tasks_all, openings_all, releases_all, release_lines_all, deferrals_all, extensions_all, sectors_2, spans_2, totals_2}
+use Rattle.mx_registers.specs.points.Tables.{Line, rows_at, is_table_at, entries_all, aircraft_all, places_all, components_all, programmes_all, tasks_all, openings_all, releases_all, release_lines_all, extensions_all, deferrals_2, sectors_2, spans_2, totals_2}
 use Rattle.mx_registers.proofs.PointsProofs.OneBook.{span_rows-rising}
 use Rattle.mx_layout.specs.TableName.{TableName}
 use Rattle.mx_layout.specs.declared.fault.Table.TheVariants as table
@@ -22,6 +22,8 @@ use Rattle.mx_layout.specs.kept.Cells.{kept_entry, kept_aircraft, kept_place, ke
 use Rattle.mx_layout.specs.kept.Meanings.{IsLawful}
 use Rattle.mx_book_tables.specs.stands.Schemas.{HasTablesAt}
 use Rattle.mx_book_tables.specs.stands.Stands.{HasRowsAt}
+use Rattle.mx_registers.specs.declared.points.points.TheConstants.{NEWEST_LAYOUT}
+use Rattle.mx_book_tables.proofs.StandsProofs.PointLemmas.{file_is_up_to_3, newest_is_layout}
 use Rattle.mx_book_tables.proofs.StandsProofs.FamilyLemmas.{AreFacts, Rise, facts, register_facts}
 use Rattle.mx_lookups.specs.numbers.Keeping.{KeepsRows}
 use Rattle.mx_lookups.specs.numbers.Reads.{HasTablesOfRows, rows_point}
@@ -53,11 +55,11 @@ pub table_is : {X : Type 0} (name : TableName) (k : Kept X) (line : Line X) → 
     → ((trees : Trees) (book : List Entry) → HasRowsAt rows_point trees book → IsPermutation (map k.as_cells (rows_at line rows_point book)) (rows_in (table_named k.name) trees))
     → IsTable k line.rows
 table_is name k line fact readable there rise fits given =
-    let whole = fact.whole 2 (inr refl) there in
+    let whole = fact.whole NEWEST_LAYOUT newest_is_layout there in
     record {
       law = fact.law;
       readable = readable;
-      is_in = λ schema has. fact.is_in rows_point (inr refl) there schema (tables_at schema has);
+      is_in = λ schema has. fact.is_in rows_point (file_is_up_to_3 rows_point (inr refl)) there schema (tables_at schema has);
       keeps = λ trees book has. (let up = rise book has.is_book in record {
         low = up.0;
         high = up.1;
@@ -95,7 +97,7 @@ pub release_lines : IsTable kept_crs_line release_line_rows
 release_lines = table_is table.CrsLine kept_crs_line release_lines_all (facts table.CrsLine) (λ row is. is) refl (λ book is. (register_facts table.CrsLine).rise book is.shaped) (λ trees book has. has.fit table.CrsLine refl) (λ trees book has. has.tables table.CrsLine refl)
 
 pub deferrals : IsTable kept_defect deferral_rows
-deferrals = table_is table.Defect kept_defect deferrals_all (facts table.Defect) (λ row is. is) refl (λ book is. (register_facts table.Defect).rise book is.shaped) (λ trees book has. has.fit table.Defect refl) (λ trees book has. has.tables table.Defect refl)
+deferrals = table_is table.Defect kept_defect deferrals_2 (facts table.Defect) (λ row is. is) refl (λ book is. (register_facts table.Defect).rise book is.shaped) (λ trees book has. has.fit table.Defect refl) (λ trees book has. has.tables table.Defect refl)
 
 pub extensions : IsTable kept_extension extension_rows
 extensions = table_is table.Extension kept_extension extensions_all (facts table.Extension) (λ row is. is) refl (λ book is. (register_facts table.Extension).rise book is.shaped) (λ trees book has. has.fit table.Extension refl) (λ trees book has. has.tables table.Extension refl)

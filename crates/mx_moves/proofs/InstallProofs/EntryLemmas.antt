@@ -65,6 +65,8 @@ module _ (book : List Entry) (command : Entry) where
   rows_fit fits table.Span2 there fit = never there
   rows_fit fits table.Total2 there fit = never there
   rows_fit fits table.Base2 there fit = never there
+  rows_fit fits table.Defect3 there fit = never there
+  rows_fit fits table.Done3 there fit = never there
   rows_fit fits name there fit = more_fit name (rows_of name) (facts name) (register_facts name) refl there book command fit (fits name)
 
   -- what a book gives a table with a command, and what is given to it before
@@ -73,6 +75,8 @@ module _ (book : List Entry) (command : Entry) where
   rows_more table.Span2 there = never there
   rows_more table.Total2 there = never there
   rows_more table.Base2 there = never there
+  rows_more table.Defect3 there = never there
+  rows_more table.Done3 there = never there
   rows_more name there = brings 1 is_layout name refl there book command
 
   -- the tables that stood for a book and gained the rows of a command that is new stand for the book with it

@@ -19,6 +19,7 @@ use Rattle.mx_layout.specs.kept.Family.{on_top}
 use Rattle.mx_layout.proofs.KeptProofs.OntoLemmas.{on_top_keeps}
 use Rattle.mx_layout.specs.kept.Cells.{kept_entry, kept_aircraft, kept_place, kept_component, kept_programme, kept_task, kept_opening, kept_crs, kept_crs_line, kept_defect, kept_extension, kept_sector1, kept_fit1, kept_removal1}
 use Rattle.mx_book_tables.specs.stands.Schemas.{HasTablesAt, IsOfFile, indexes_at, schema_at}
+use Rattle.mx_book_tables.proofs.StandsProofs.PointLemmas.{file_is_up_to_3}
 use Rattle.mx_book_tables.proofs.StandsProofs.FamilyLemmas.{AreFacts, facts}
 use Rattle.mx_tables.specs.inserts.Sets.{GainsRows}
 use Rattle.mx_moves.specs.install.Entries.{first_point, with_command}
@@ -33,7 +34,7 @@ has_all schema is = record { rest = []; more = indexes_at first_point; is = is }
 
 -- the schema has a table that a file has there
 there : {X : Type 0} {name : TableName} {k : Kept X} {line : Line X} → AreFacts name k line → is_table_at line first_point ≡ true → (schema : Schema) → schema ≡ schema_at first_point → k.IsIn schema
-there fact at schema is = fact.is_in first_point of_file at schema (has_all schema is)
+there fact at schema is = fact.is_in first_point (file_is_up_to_3 first_point of_file) at schema (has_all schema is)
 
 pub entries_in : (schema : Schema) → schema ≡ schema_at first_point → kept_entry.IsIn schema
 entries_in schema is = there (facts table.Entry) refl schema is
