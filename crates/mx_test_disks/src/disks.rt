@@ -27,7 +27,8 @@ fn is_taken(words: &[&str], answer: &AnswerText) -> bool {
     answer.is_ok()
         && matches!(
             words,
-            ["make" | "make-old" | "install" | "open"] | ["sql" | "kept" | "step" | "enter", ..]
+            ["make" | "make-old" | "make-later" | "install" | "open"]
+                | ["sql" | "kept" | "later" | "step" | "enter", ..]
         )
 }
 

@@ -3,6 +3,7 @@ ghost use Rattle.std.specs.Prelude.{◌≡◌, false};
 
 use crate::faults::{append_done, append_error, append_table_fault, room};
 use crate::kept::answer_of_kept_rows;
+use crate::later::answer_of_later_rows;
 use crate::moves::answer_of_step;
 use crate::queries::{asked, tables};
 use crate::rows::{
@@ -45,7 +46,7 @@ fn point_text<S: Alter>(alloc: Global, conn: &mut Connection<S>) -> Result<Strin
 }
 
 // Makes an empty book of layout 2, which is the newest. It says nothing of the tables, so that the proofs above carry none of what
-// `create` promises; nor does the next.
+// `create` promises; nor do the next two.
 fn created<S: Alter>(conn: &mut Connection<S>) -> Result<(), TableFault>
     requires { conn.old.in_transaction ≡ false }
 {
@@ -57,6 +58,13 @@ fn created_old<S: Alter>(conn: &mut Connection<S>) -> Result<(), TableFault>
     requires { conn.old.in_transaction ≡ false }
 {
     create(conn, Layout(1))
+}
+
+// Makes an empty book of layout 3, to which no file is moved yet.
+fn created_later<S: Alter>(conn: &mut Connection<S>) -> Result<(), TableFault>
+    requires { conn.old.in_transaction ≡ false }
+{
+    create(conn, Layout(3))
 }
 
 // Makes an empty book of the newest layout.
@@ -77,6 +85,15 @@ fn make_old<S: Alter>(alloc: Global, conn: &mut Connection<S>) -> Result<String,
     Ok(text)
 }
 
+// Makes an empty book of the layout behind the newest.
+fn make_later<S: Alter>(alloc: Global, conn: &mut Connection<S>) -> Result<String, AllocError>
+    requires { conn.old.in_transaction ≡ false }
+{
+    let mut text = room(alloc)?;
+    append_done(&mut text, created_later(conn))?;
+    Ok(text)
+}
+
 // The words of a statement as its text.
 fn statement_of(alloc: Global, words: &[&str]) -> Result<String, AllocError> {
     let mut sql = String::new(alloc);
@@ -86,9 +103,9 @@ fn statement_of(alloc: Global, words: &[&str]) -> Result<String, AllocError> {
     Ok(sql)
 }
 
-/// What a database answers to a line: `make`, `make-old`, `point`, `tables`, `ask QUERY`, `sql STATEMENT`, `step STEP`,
-/// `enter COMMAND`, `judge COMMAND`, `entries FROM AT_MOST`, `entry NUMBER COMMAND`, `verify`, one of kept rows, or one for a
-/// list.
+/// What a database answers to a line: `make`, `make-old`, `make-later`, `point`, `tables`, `ask QUERY`, `sql STATEMENT`, `step STEP`,
+/// `enter COMMAND`, `judge COMMAND`, `entries FROM AT_MOST`, `entry NUMBER COMMAND`, `verify`, one of kept rows, one of the rows
+/// of layout 3, or one for a list.
 pub fn answer_of_database<S: Alter>(
     alloc: Global,
     conn: &mut Connection<S>,
@@ -99,6 +116,7 @@ pub fn answer_of_database<S: Alter>(
     match words {
         ["make"] => Ok(make(alloc, conn)?),
         ["make-old"] => Ok(make_old(alloc, conn)?),
+        ["make-later"] => Ok(make_later(alloc, conn)?),
         ["point"] => Ok(point_text(alloc, conn)?),
         ["tables"] => tables(alloc, conn),
         ["ask", query @ ..] => {
@@ -112,6 +130,7 @@ pub fn answer_of_database<S: Alter>(
         ["step", step @ ..] => answer_of_step(alloc, conn, step),
         ["enter", command @ ..] => entered_by_rows(alloc, conn, command),
         ["kept", line @ ..] => answer_of_kept_rows(alloc, conn, line),
+        ["later", line @ ..] => answer_of_later_rows(alloc, conn, line),
         ["judge", command @ ..] => verdict_by_rows(alloc, conn, command),
         ["rows", question @ ..] => answer_by_rows(alloc, conn, question),
         ["entries", from, at_most] => entries_by_rows(alloc, conn, from, at_most),

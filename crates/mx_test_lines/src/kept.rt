@@ -18,8 +18,8 @@ use mx_test_cases::{AnswerText, Unmade, append_joined, or_none, use_of};
 use sqlite::{Alter, Connection, Transaction};
 use std::alloc::{AllocError, Global};
 
-// Commits what was done: `ok`, or why it was not done or not committed.
-fn committed<S: Alter>(
+/// Commits what was done: `ok`, or why it was not done or not committed.
+pub(crate) fn committed<S: Alter>(
     alloc: Global,
     tx: Transaction<'_, S>,
     done: Result<(), TableFault>,

@@ -34,7 +34,7 @@ use Rattle.mx_migrate.specs.settle.Place.{AnswersAs, IsMoveStop, IsPlacedAt, Say
 pub same_point : (at other : Point) → at.layout ≡ other.layout → at.step ≡ other.step → at.mark ≡ other.mark → at ≡ other
 same_point at other layout step mark = λ i. record { layout = layout i; step = step i; mark = mark i }
 
-number_is : (a b : ℕ) → nat_eq a b ≡ true → a ≡ b
+pub number_is : (a b : ℕ) → nat_eq a b ≡ true → a ≡ b
 number_is a b e = grind (arith, nat_tests)
 
 -- the numbers of a point that a file can be at

@@ -18,10 +18,11 @@ use Rattle.mx_registers.specs.points.Points.{is_before, steps_from}
 use Rattle.mx_registers.specs.declared.points.points.TheConstants.{NEWEST_LAYOUT}
 use Rattle.mx_registers.proofs.PointsProofs.CommitLemmas.{before_parts}
 use Rattle.mx_registers.proofs.PointsProofs.StepLemmas.{not_zero}
-use Rattle.mx_book_tables.specs.stands.Schemas.{IsOfFile}
+use Rattle.mx_book_tables.specs.stands.Schemas.{IsOfFile, IsUpTo}
 use Rattle.mx_book_tables.proofs.StandsProofs.PointLemmas.{and_right}
 use Rattle.mx_migrate.specs.settle.Place.{IsBehind}
-use Rattle.mx_migrate.specs.settle.Ranks.{IsUpTo3, points_before, points_in_move}
+use Rattle.mx_migrate.specs.settle.Ranks.{points_before, points_in_move}
+use Rattle.mx_migrate.proofs.SettleProofs.PlaceLemmas.{number_is}
 
 -- ── in a move ──
 
@@ -57,9 +58,6 @@ pub record Ranked (at : Point) : Type 0 where
   pub mark : at.mark ≤ MOST_ENTRIES
   pub start : at.step ≡ 0 → at.mark ≡ 0
 
-number_is : (a b : ℕ) → nat_eq a b ≡ true → a ≡ b
-number_is a b e = grind (arith, nat_tests)
-
 ranked_before : (newest : ℕ) (at : Point) → is_before newest at ≡ true → Ranked at
 ranked_before newest at way =
     let parts = before_parts newest at way in
@@ -75,7 +73,7 @@ ranked_before newest at way =
 ranked_settled : (layout : ℕ) → (layout ≡ 1) ⊎ ((layout ≡ 2) ⊎ (layout ≡ 3)) → Ranked (settled layout)
 ranked_settled layout which = record { layout = which; step = omega arith; mark = omega arith; start = λ _. refl }
 
-pub ranked_up_to_3 : (at : Point) → IsUpTo3 at → Ranked at
+pub ranked_up_to_3 : (at : Point) → IsUpTo 3 at → Ranked at
 ranked_up_to_3 at (inl way) = ranked_before 3 at way
 ranked_up_to_3 at (inr is) = subst Ranked (sym is) (ranked_settled 3 (inr (inr refl)))
 
