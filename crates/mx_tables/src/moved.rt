@@ -2,7 +2,7 @@
 //! these.
 
 use crate::prelude::*;
-use mx_base::Use;
+use mx_base::{Base, Use};
 
 // The table `defect`: every deferral of a defect, its category in two columns, of which that of the days is NULL where
 // it states none.
@@ -274,5 +274,74 @@ impl Insert for BaseRow {
         insert_columns!(self, tx:
             self.item, self.task.as_str(), self.life.minutes, self.life.cycles, self.day.number()
         )
+    }
+}
+
+// The table `defect3`: every deferral of a defect, with the cycles that the airframe had reached. No category states
+// cycles within which a defect is rectified, so a row with a value in their column is none.
+impl Stored for Deferral3Row {
+    ghost use Rattle.mx_layout.{specs.kept.Cells.kept_defect3, proofs.KeptProofs.MovedLawful.defect3_lawful};
+
+    ghost kept = { kept_defect3 };
+
+    ghost lawful = { defect3_lawful };
+
+    fn texts() -> Texts {
+        Texts {
+            table: Table::Defect3,
+            select: "SELECT seq, aircraft, moment, reference, category, days, cycles, found_cycles FROM defect3 ORDER BY seq",
+            insert: "INSERT INTO defect3 (seq, aircraft, moment, reference, category, days, cycles, found_cycles) VALUES (?1, ?2, ?3, ?4, ?5, ?6, ?7, ?8)",
+        }
+    }
+
+    fn read(row: &Row) -> Option<Deferral3Row> {
+        let read = read_columns!(row, 8: Deferral3Row {
+            deferral: DeferralRow {
+                seq: number_at(0), aircraft: number_at(1), moment: moment_at(2),
+                reference: graphic_at(3),
+                category: category_at(4),
+            },
+            found_cycles: number_at(7),
+        })?;
+        null_at(row, 6)?;
+        Some(read)
+    }
+}
+
+impl Insert for Deferral3Row {
+    fn insert<S: Alter>(&self, tx: &mut Transaction<'_, S>) -> Result<(), TableFault> {
+        let cycles: Option<u32> = None;
+        insert_columns!(self, tx:
+            self.deferral.seq, self.deferral.aircraft, self.deferral.moment.number(),
+            self.deferral.reference.as_str(), number_of_category(self.deferral.category),
+            days_of_category(self.deferral.category), cycles, self.found_cycles
+        )
+    }
+}
+
+// The table `done3`: every accomplishment of a task of an item. A row is added to it once both of its days were tested
+// (`DatedRow`).
+impl Stored for DoneRow {
+    ghost use Rattle.mx_layout.{specs.kept.Cells.kept_done3, proofs.KeptProofs.MovedLawful.done3_lawful};
+
+    ghost kept = { kept_done3 };
+
+    ghost lawful = { done3_lawful };
+
+    fn texts() -> Texts {
+        Texts {
+            table: Table::Done3,
+            select: "SELECT item, task, seq, line, value_m, value_c, value_d, due_m, due_c, due_d, base_m, base_c, base_d FROM done3 ORDER BY item, task, seq, line",
+            insert: "INSERT INTO done3 (item, task, seq, line, value_m, value_c, value_d, due_m, due_c, due_d, base_m, base_c, base_d) VALUES (?1, ?2, ?3, ?4, ?5, ?6, ?7, ?8, ?9, ?10, ?11, ?12, ?13)",
+        }
+    }
+
+    fn read(row: &Row) -> Option<DoneRow> {
+        read_columns!(row, 13: DoneRow {
+            item: number_at(0), task: graphic_at(1), seq: number_at(2), line: number_at(3),
+            value: Base { minutes: number_at(4), cycles: number_at(5), day: day_number_at(6) },
+            due: limit_at(7),
+            base: Base { minutes: number_at(10), cycles: number_at(11), day: day_number_at(12) },
+        })
     }
 }

@@ -17,32 +17,36 @@ use Rattle.mx_layout.specs.Contents.{cells}
 use Rattle.mx_layout.specs.Tables.{entry, aircraft, place, component, programme, task, opening, crs, crs_line, extension, defect, sector1, fit1, removal1, sector2, span2, total2, base2}
 use Rattle.mx_layout.specs.kept.Cells.{kept_entry, kept_aircraft, kept_place, kept_component, kept_programme, kept_task, kept_opening, kept_crs, kept_crs_line, kept_extension, kept_defect, kept_sector1, kept_fit1, kept_sector2_rows, kept_span2, kept_total2, kept_base2}
 use Rattle.mx_layout.specs.kept.Kept.{over}
-use Rattle.mx_layout.specs.kept.Schemas.{permanent, own_1, own_2, own_moving, HasBehind, HasOwn1}
+use Rattle.mx_layout.specs.kept.Schemas.{permanent, own_1, own_2, own_moving, HasBehind, HasOwn1, HasOwn2}
 use Rattle.mx_table_rows.specs.chosen.Choices.{backward}
 use Rattle.mx_table_rows.specs.chosen.Lookups.{FindsFirst, Finds, Deletes}
 use Rattle.mx_table_rows.specs.chosen.Texts.{sector2_by_seq, by_value, by_values, open_by, open_spans_by_component, open_spans_by_aircraft, up_to, any_row, entry_by_seq, entry_by_doc, aircraft_by_seq, aircraft_by_tail, place_by_seq, component_by_seq, component_by_serial, programme_by_seq, programme_by_kind, task_by_seq, opening_by_seq, crs_by_seq, crs_line_by_seq, crs_line_by_defect, defect_by_seq, defect_by_aircraft, extension_by_seq, extension_by_defect, span2_by_fit_seq, span2_by_component, span2_by_aircraft, span2_by_remove_seq, total2_by_item, base2_by_item_and_task, last_entry, all_aircraft, all_components, all_defects, all_crs_lines, sector1_gone, fit1_gone}
 use Rattle.mx_table_rows.proofs.ChosenProofs.LookupLemmas.{Chooses, Drops, given_at, first_found, last_found, two_found, deleted, either_finds, either_deletes}
 use Rattle.mx_table_rows.proofs.ChosenProofs.EqualLemmas.{one_equal, two_equal, missing}
 
--- spans stand at one place while components are moved, and at another from then on
+-- spans stand at one place while components are moved, at another from then on, and at a third once deferrals are moved
 spans_found : (text : List ℕ) (tests : List Term) (chosen : Row → Row → Bool) → ((values r : Row) → list_all (holds (values ∷ r ∷ [])) tests ≡ chosen values (cells span2 r))
     → ((rest : List Table) (more : List Index) → Chooses (permanent (own_moving ++ rest) more) text span2 tests)
-    → ((rest : List Table) (more : List Index) → Chooses (permanent ((defect ∷ sector2 ∷ span2 ∷ []) ++ rest) more) text span2 tests) → Finds kept_span2 text chosen
-spans_found text tests chosen picks moving settled =
-    either_finds kept_span2 (HasBehind own_moving) (HasBehind (defect ∷ sector2 ∷ span2 ∷ [])) text None kept_span2.order chosen (in_place own_moving moving) (in_place (defect ∷ sector2 ∷ span2 ∷ []) settled)
+    → ((rest : List Table) (more : List Index) → Chooses (permanent ((defect ∷ sector2 ∷ span2 ∷ []) ++ rest) more) text span2 tests)
+    → ((rest : List Table) (more : List Index) → Chooses (permanent ((sector2 ∷ span2 ∷ []) ++ rest) more) text span2 tests) → Finds kept_span2 text chosen
+spans_found text tests chosen picks moving settled last =
+    either_finds kept_span2 (HasBehind own_moving) (λ s. HasBehind (defect ∷ sector2 ∷ span2 ∷ []) s ⊎ HasBehind (sector2 ∷ span2 ∷ []) s) text None kept_span2.order chosen (in_place own_moving moving)
+    (either_finds kept_span2 (HasBehind (defect ∷ sector2 ∷ span2 ∷ [])) (HasBehind (sector2 ∷ span2 ∷ [])) text None kept_span2.order chosen (in_place (defect ∷ sector2 ∷ span2 ∷ []) settled) (in_place (sector2 ∷ span2 ∷ []) last))
   where
     in_place : (own : List Table) → ((rest : List Table) (more : List Index) → Chooses (permanent (own ++ rest) more) text span2 tests) → Finds (over kept_span2 (HasBehind own)) text chosen
     in_place own texts = first_found (over kept_span2 (HasBehind own)) own (λ _ has. has) text tests chosen (λ _. refl) picks refl texts (λ _. refl) (λ _ _. refl)
 
--- sectors of layout 2 stand at three places: while sectors are moved, while components are, and from then on
+-- sectors of layout 2 stand at four places: while sectors are moved, while components are, from then on, and once deferrals are moved
 sectors_found : (text : List ℕ) (tests : List Term) (chosen : Row → Row → Bool) → ((values r : Row) → list_all (holds (values ∷ r ∷ [])) tests ≡ chosen values (cells sector2 r))
     → ((rest : List Table) (more : List Index) → Chooses (permanent ((defect ∷ sector1 ∷ fit1 ∷ removal1 ∷ sector2 ∷ []) ++ rest) more) text sector2 tests)
     → ((rest : List Table) (more : List Index) → Chooses (permanent (own_moving ++ rest) more) text sector2 tests)
-    → ((rest : List Table) (more : List Index) → Chooses (permanent ((defect ∷ sector2 ∷ []) ++ rest) more) text sector2 tests) → Finds kept_sector2_rows text chosen
-sectors_found text tests chosen picks first moving settled =
-    either_finds kept_sector2_rows (HasBehind (defect ∷ sector1 ∷ fit1 ∷ removal1 ∷ sector2 ∷ [])) (λ s. HasBehind own_moving s ⊎ HasBehind (defect ∷ sector2 ∷ []) s) text None kept_sector2_rows.order chosen
+    → ((rest : List Table) (more : List Index) → Chooses (permanent ((defect ∷ sector2 ∷ []) ++ rest) more) text sector2 tests)
+    → ((rest : List Table) (more : List Index) → Chooses (permanent ((sector2 ∷ []) ++ rest) more) text sector2 tests) → Finds kept_sector2_rows text chosen
+sectors_found text tests chosen picks first moving settled last =
+    either_finds kept_sector2_rows (HasBehind (defect ∷ sector1 ∷ fit1 ∷ removal1 ∷ sector2 ∷ [])) (λ s. HasBehind own_moving s ⊎ (HasBehind (defect ∷ sector2 ∷ []) s ⊎ HasBehind (sector2 ∷ []) s)) text None kept_sector2_rows.order chosen
     (in_place (defect ∷ sector1 ∷ fit1 ∷ removal1 ∷ sector2 ∷ []) first)
-    (either_finds kept_sector2_rows (HasBehind own_moving) (HasBehind (defect ∷ sector2 ∷ [])) text None kept_sector2_rows.order chosen (in_place own_moving moving) (in_place (defect ∷ sector2 ∷ []) settled))
+    (either_finds kept_sector2_rows (HasBehind own_moving) (λ s. HasBehind (defect ∷ sector2 ∷ []) s ⊎ HasBehind (sector2 ∷ []) s) text None kept_sector2_rows.order chosen (in_place own_moving moving)
+    (either_finds kept_sector2_rows (HasBehind (defect ∷ sector2 ∷ [])) (HasBehind (sector2 ∷ [])) text None kept_sector2_rows.order chosen (in_place (defect ∷ sector2 ∷ []) settled) (in_place (sector2 ∷ []) last)))
   where
     in_place : (own : List Table) → ((rest : List Table) (more : List Index) → Chooses (permanent (own ++ rest) more) text sector2 tests) → Finds (over kept_sector2_rows (HasBehind own)) text chosen
     in_place own texts = first_found (over kept_sector2_rows (HasBehind own)) own (λ _ has. has) text tests chosen (λ _. refl) picks refl texts (λ _. refl) (λ _ _. refl)
@@ -123,31 +127,35 @@ extension_by_defect_finds = first_found kept_extension [] (λ _ has. has) extens
 
 pub span2_by_fit_seq_finds : Finds kept_span2 span2_by_fit_seq (by_value 0)
 unfolding understood everything
-span2_by_fit_seq_finds = spans_found span2_by_fit_seq (given_at Eq span2 0 0 ∷ []) (by_value 0) (λ _ _. one_equal _ _ refl) (λ _ _. (refl, refl, (refl, refl))) (λ _ _. (refl, refl, (refl, refl)))
+span2_by_fit_seq_finds = spans_found span2_by_fit_seq (given_at Eq span2 0 0 ∷ []) (by_value 0) (λ _ _. one_equal _ _ refl) (λ _ _. (refl, refl, (refl, refl))) (λ _ _. (refl, refl, (refl, refl))) (λ _ _. (refl, refl, (refl, refl)))
 
 pub span2_by_component_finds : Finds kept_span2 span2_by_component (by_value 1)
 unfolding understood everything
-span2_by_component_finds = spans_found span2_by_component (given_at Eq span2 1 0 ∷ []) (by_value 1) (λ _ _. one_equal _ _ refl) (λ _ _. (refl, refl, (refl, refl))) (λ _ _. (refl, refl, (refl, refl)))
+span2_by_component_finds = spans_found span2_by_component (given_at Eq span2 1 0 ∷ []) (by_value 1) (λ _ _. one_equal _ _ refl) (λ _ _. (refl, refl, (refl, refl))) (λ _ _. (refl, refl, (refl, refl))) (λ _ _. (refl, refl, (refl, refl)))
 
 pub span2_by_aircraft_finds : Finds kept_span2 span2_by_aircraft (by_value 2)
 unfolding understood everything
-span2_by_aircraft_finds = spans_found span2_by_aircraft (given_at Eq span2 2 0 ∷ []) (by_value 2) (λ _ _. one_equal _ _ refl) (λ _ _. (refl, refl, (refl, refl))) (λ _ _. (refl, refl, (refl, refl)))
+span2_by_aircraft_finds = spans_found span2_by_aircraft (given_at Eq span2 2 0 ∷ []) (by_value 2) (λ _ _. one_equal _ _ refl) (λ _ _. (refl, refl, (refl, refl))) (λ _ _. (refl, refl, (refl, refl))) (λ _ _. (refl, refl, (refl, refl)))
 
 pub span2_by_remove_seq_finds : Finds kept_span2 span2_by_remove_seq (by_value 5)
 unfolding understood everything
-span2_by_remove_seq_finds = spans_found span2_by_remove_seq (given_at Eq span2 5 0 ∷ []) (by_value 5) (λ _ _. one_equal _ _ refl) (λ _ _. (refl, refl, (refl, refl))) (λ _ _. (refl, refl, (refl, refl)))
+span2_by_remove_seq_finds = spans_found span2_by_remove_seq (given_at Eq span2 5 0 ∷ []) (by_value 5) (λ _ _. one_equal _ _ refl) (λ _ _. (refl, refl, (refl, refl))) (λ _ _. (refl, refl, (refl, refl))) (λ _ _. (refl, refl, (refl, refl)))
 
 pub total2_by_item_finds : Finds kept_total2 total2_by_item (by_value 0)
 unfolding understood everything
-total2_by_item_finds = first_found kept_total2 (defect ∷ sector2 ∷ span2 ∷ total2 ∷ []) (λ _ has. has) total2_by_item (given_at Eq total2 0 0 ∷ []) (by_value 0) (λ _. refl) (λ _ _. one_equal _ _ refl) refl (λ _ _. (refl, refl, (refl, refl))) (λ _. refl) (λ _ _. refl)
+total2_by_item_finds = either_finds kept_total2 (HasBehind (defect ∷ sector2 ∷ span2 ∷ total2 ∷ [])) (HasBehind (sector2 ∷ span2 ∷ total2 ∷ [])) total2_by_item None kept_total2.order (by_value 0)
+    (first_found (over kept_total2 (HasBehind (defect ∷ sector2 ∷ span2 ∷ total2 ∷ []))) (defect ∷ sector2 ∷ span2 ∷ total2 ∷ []) (λ _ has. has) total2_by_item (given_at Eq total2 0 0 ∷ []) (by_value 0) (λ _. refl) (λ _ _. one_equal _ _ refl) refl (λ _ _. (refl, refl, (refl, refl))) (λ _. refl) (λ _ _. refl))
+    (first_found (over kept_total2 (HasBehind (sector2 ∷ span2 ∷ total2 ∷ []))) (sector2 ∷ span2 ∷ total2 ∷ []) (λ _ has. has) total2_by_item (given_at Eq total2 0 0 ∷ []) (by_value 0) (λ _. refl) (λ _ _. one_equal _ _ refl) refl (λ _ _. (refl, refl, (refl, refl))) (λ _. refl) (λ _ _. refl))
 
 pub sector2_by_seq_finds : Finds kept_sector2_rows sector2_by_seq (by_value 0)
 unfolding understood everything
-sector2_by_seq_finds = sectors_found sector2_by_seq (given_at Eq sector2 0 0 ∷ []) (by_value 0) (λ _ _. one_equal _ _ refl) (λ _ _. (refl, refl, (refl, refl))) (λ _ _. (refl, refl, (refl, refl))) (λ _ _. (refl, refl, (refl, refl)))
+sector2_by_seq_finds = sectors_found sector2_by_seq (given_at Eq sector2 0 0 ∷ []) (by_value 0) (λ _ _. one_equal _ _ refl) (λ _ _. (refl, refl, (refl, refl))) (λ _ _. (refl, refl, (refl, refl))) (λ _ _. (refl, refl, (refl, refl))) (λ _ _. (refl, refl, (refl, refl)))
 
 pub base2_by_item_and_task_finds : Finds kept_base2 base2_by_item_and_task (by_values 0 1)
 unfolding understood everything
-base2_by_item_and_task_finds = two_found kept_base2 own_2 (λ _ has. has) base2_by_item_and_task (given_at Eq base2 0 0 ∷ given_at Eq base2 1 1 ∷ []) (by_values 0 1) (λ _. refl) (λ _ _. two_equal _ _ _ refl) refl (λ _ _. (refl, refl, (refl, refl))) (λ _. refl) (λ _ _. refl) (λ _ _. refl)
+base2_by_item_and_task_finds = either_finds kept_base2 HasOwn2 (HasBehind (sector2 ∷ span2 ∷ total2 ∷ base2 ∷ [])) base2_by_item_and_task None kept_base2.order (by_values 0 1)
+    (two_found (over kept_base2 (HasBehind own_2)) own_2 (λ _ has. has) base2_by_item_and_task (given_at Eq base2 0 0 ∷ given_at Eq base2 1 1 ∷ []) (by_values 0 1) (λ _. refl) (λ _ _. two_equal _ _ _ refl) refl (λ _ _. (refl, refl, (refl, refl))) (λ _. refl) (λ _ _. refl) (λ _ _. refl))
+    (two_found (over kept_base2 (HasBehind (sector2 ∷ span2 ∷ total2 ∷ base2 ∷ []))) (sector2 ∷ span2 ∷ total2 ∷ base2 ∷ []) (λ _ has. has) base2_by_item_and_task (given_at Eq base2 0 0 ∷ given_at Eq base2 1 1 ∷ []) (by_values 0 1) (λ _. refl) (λ _ _. two_equal _ _ _ refl) refl (λ _ _. (refl, refl, (refl, refl))) (λ _. refl) (λ _ _. refl) (λ _ _. refl))
 
 -- ── open spans ──
 
@@ -157,11 +165,11 @@ open_tests at = given_at Eq span2 at 0 ∷ op2 (Is Binary) (col 1 (place_of span
 
 pub open_spans_by_component_finds : Finds kept_span2 open_spans_by_component (open_by 1)
 unfolding understood everything
-open_spans_by_component_finds = spans_found open_spans_by_component (open_tests 1) (open_by 1) (λ values r. two_equal _ _ _ (ap (λ b. by_value 1 values (cells span2 r) && b) (missing (column r (place_of span2 5))))) (λ _ _. (refl, refl, (refl, refl))) (λ _ _. (refl, refl, (refl, refl)))
+open_spans_by_component_finds = spans_found open_spans_by_component (open_tests 1) (open_by 1) (λ values r. two_equal _ _ _ (ap (λ b. by_value 1 values (cells span2 r) && b) (missing (column r (place_of span2 5))))) (λ _ _. (refl, refl, (refl, refl))) (λ _ _. (refl, refl, (refl, refl))) (λ _ _. (refl, refl, (refl, refl)))
 
 pub open_spans_by_aircraft_finds : Finds kept_span2 open_spans_by_aircraft (open_by 2)
 unfolding understood everything
-open_spans_by_aircraft_finds = spans_found open_spans_by_aircraft (open_tests 2) (open_by 2) (λ values r. two_equal _ _ _ (ap (λ b. by_value 2 values (cells span2 r) && b) (missing (column r (place_of span2 5))))) (λ _ _. (refl, refl, (refl, refl))) (λ _ _. (refl, refl, (refl, refl)))
+open_spans_by_aircraft_finds = spans_found open_spans_by_aircraft (open_tests 2) (open_by 2) (λ values r. two_equal _ _ _ (ap (λ b. by_value 2 values (cells span2 r) && b) (missing (column r (place_of span2 5))))) (λ _ _. (refl, refl, (refl, refl))) (λ _ _. (refl, refl, (refl, refl))) (λ _ _. (refl, refl, (refl, refl)))
 
 -- ── all rows of a table ──
 

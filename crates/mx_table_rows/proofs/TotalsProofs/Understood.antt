@@ -1,12 +1,12 @@
 -- The texts that delete the rows in whose place others come: what each is understood as, computed.
-use Rattle.std.proofs.Common.{[], ◌∷◌, refl}
+use Rattle.std.proofs.Common.{◌⊎◌, [], ◌∷◌, refl}
 use Rattle.sqlite.specs.Listing.{understood}
 use Rattle.sqlite_sql.specs.declared.ops.CompareOp.TheVariants.{Eq}
 use Rattle.sqlite_tied.specs.Compute.{everything}
 use Rattle.mx_layout.specs.Tables.{defect, sector2, span2, total2, base2}
 use Rattle.mx_layout.specs.kept.Cells.{kept_span2, kept_total2, kept_base2}
 use Rattle.mx_layout.specs.kept.Kept.{over}
-use Rattle.mx_layout.specs.kept.Schemas.{own_2, own_moving, HasBehind}
+use Rattle.mx_layout.specs.kept.Schemas.{own_2, own_moving, HasBehind, HasOwn2}
 use Rattle.mx_table_rows.specs.chosen.Lookups.{Deletes}
 use Rattle.mx_table_rows.specs.chosen.Texts.{by_value, by_values}
 use Rattle.mx_table_rows.proofs.ChosenProofs.LookupLemmas.{given_at, deleted, either_deletes}
@@ -16,14 +16,22 @@ use Rattle.mx_table_rows.specs.totals.InPlace.{span2_gone, total2_gone, base2_go
 pub span2_gone_deletes : Deletes kept_span2 span2_gone (by_value 0)
 unfolding understood everything
 span2_gone_deletes =
-    either_deletes kept_span2 (HasBehind own_moving) (HasBehind (defect ∷ sector2 ∷ span2 ∷ [])) span2_gone (by_value 0)
+    either_deletes kept_span2 (HasBehind own_moving) (λ s. HasBehind (defect ∷ sector2 ∷ span2 ∷ []) s ⊎ HasBehind (sector2 ∷ span2 ∷ []) s) span2_gone (by_value 0)
     (deleted (over kept_span2 (HasBehind own_moving)) own_moving (λ _ has. has) span2_gone (given_at Eq span2 0 0 ∷ []) (by_value 0) (λ _. refl) (λ _ _. one_equal _ _ refl) 15 (λ _ _. refl) (λ _ _. (refl, (refl, refl))))
+    (either_deletes kept_span2 (HasBehind (defect ∷ sector2 ∷ span2 ∷ [])) (HasBehind (sector2 ∷ span2 ∷ [])) span2_gone (by_value 0)
     (deleted (over kept_span2 (HasBehind (defect ∷ sector2 ∷ span2 ∷ []))) (defect ∷ sector2 ∷ span2 ∷ []) (λ _ has. has) span2_gone (given_at Eq span2 0 0 ∷ []) (by_value 0) (λ _. refl) (λ _ _. one_equal _ _ refl) 13 (λ _ _. refl) (λ _ _. (refl, (refl, refl))))
+    (deleted (over kept_span2 (HasBehind (sector2 ∷ span2 ∷ []))) (sector2 ∷ span2 ∷ []) (λ _ has. has) span2_gone (given_at Eq span2 0 0 ∷ []) (by_value 0) (λ _. refl) (λ _ _. one_equal _ _ refl) 12 (λ _ _. refl) (λ _ _. (refl, (refl, refl)))))
 
 pub total2_gone_deletes : Deletes kept_total2 total2_gone (by_value 0)
 unfolding understood everything
-total2_gone_deletes = deleted kept_total2 (defect ∷ sector2 ∷ span2 ∷ total2 ∷ []) (λ _ has. has) total2_gone (given_at Eq total2 0 0 ∷ []) (by_value 0) (λ _. refl) (λ _ _. one_equal _ _ refl) 14 (λ _ _. refl) (λ _ _. (refl, (refl, refl)))
+total2_gone_deletes =
+    either_deletes kept_total2 (HasBehind (defect ∷ sector2 ∷ span2 ∷ total2 ∷ [])) (HasBehind (sector2 ∷ span2 ∷ total2 ∷ [])) total2_gone (by_value 0)
+    (deleted (over kept_total2 (HasBehind (defect ∷ sector2 ∷ span2 ∷ total2 ∷ []))) (defect ∷ sector2 ∷ span2 ∷ total2 ∷ []) (λ _ has. has) total2_gone (given_at Eq total2 0 0 ∷ []) (by_value 0) (λ _. refl) (λ _ _. one_equal _ _ refl) 14 (λ _ _. refl) (λ _ _. (refl, (refl, refl))))
+    (deleted (over kept_total2 (HasBehind (sector2 ∷ span2 ∷ total2 ∷ []))) (sector2 ∷ span2 ∷ total2 ∷ []) (λ _ has. has) total2_gone (given_at Eq total2 0 0 ∷ []) (by_value 0) (λ _. refl) (λ _ _. one_equal _ _ refl) 13 (λ _ _. refl) (λ _ _. (refl, (refl, refl))))
 
 pub base2_gone_deletes : Deletes kept_base2 base2_gone (by_values 0 1)
 unfolding understood everything
-base2_gone_deletes = deleted kept_base2 own_2 (λ _ has. has) base2_gone (given_at Eq base2 0 0 ∷ given_at Eq base2 1 1 ∷ []) (by_values 0 1) (λ _. refl) (λ _ _. two_equal _ _ _ refl) 15 (λ _ _. refl) (λ _ _. (refl, (refl, refl)))
+base2_gone_deletes =
+    either_deletes kept_base2 HasOwn2 (HasBehind (sector2 ∷ span2 ∷ total2 ∷ base2 ∷ [])) base2_gone (by_values 0 1)
+    (deleted (over kept_base2 (HasBehind own_2)) own_2 (λ _ has. has) base2_gone (given_at Eq base2 0 0 ∷ given_at Eq base2 1 1 ∷ []) (by_values 0 1) (λ _. refl) (λ _ _. two_equal _ _ _ refl) 15 (λ _ _. refl) (λ _ _. (refl, (refl, refl))))
+    (deleted (over kept_base2 (HasBehind (sector2 ∷ span2 ∷ total2 ∷ base2 ∷ []))) (sector2 ∷ span2 ∷ total2 ∷ base2 ∷ []) (λ _ has. has) base2_gone (given_at Eq base2 0 0 ∷ given_at Eq base2 1 1 ∷ []) (by_values 0 1) (λ _. refl) (λ _ _. two_equal _ _ _ refl) 14 (λ _ _. refl) (λ _ _. (refl, (refl, refl))))
