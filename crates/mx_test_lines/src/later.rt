@@ -8,6 +8,7 @@ use crate::kept::committed;
 use mx_base::rows::{Deferral3Row, DoneRow};
 use mx_base::{Base, Category, Limit};
 use mx_layout::TableFault;
+use mx_tables::dated::DatedRow;
 use mx_tables::inserts::Insert;
 use mx_tables::rows;
 use mx_test_cases::{AnswerText, Unmade, append_joined, or_none};
@@ -146,7 +147,7 @@ fn rewrite_accomplishments<S: Alter>(alloc: Global, conn: &mut Connection<S>) ->
     requires { conn.old.in_transaction ≡ false }
 {
     let mut tx = conn.transaction();
-    let done = rewritten::<S, DoneRow>(alloc, &mut tx, "DELETE FROM done3");
+    let done = rewritten::<S, DatedRow>(alloc, &mut tx, "DELETE FROM done3");
     committed(alloc, tx, done)
 }
 
