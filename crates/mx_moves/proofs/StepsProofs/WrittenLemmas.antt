@@ -12,7 +12,6 @@ use Rattle.mx_book.specs.Programme.{last_of}
 use Rattle.mx_base.specs.declared.rows.rows.BaseRow.{BaseRow}
 use Rattle.mx_base.specs.declared.rows.rows.TotalRow.{TotalRow}
 use Rattle.mx_base.specs.rows.Rows.{FitsAircraft, FitsBase, FitsComponent, FitsDeferral, FitsOpening, FitsRelease, FitsReleaseLine, FitsSector, FitsSpan, FitsTotal}
-use Rattle.mx_registers.specs.Registers.{deferral_rows, sector_rows}
 use Rattle.mx_registers.specs.kept.Bases.{base_rows}
 use Rattle.mx_registers.specs.kept.Fits.{FitRegisters}
 use Rattle.mx_registers.specs.kept.Items.{items}
@@ -24,10 +23,10 @@ use Rattle.mx_registers.proofs.KeptProofs.SpanFits.{fittings_fit, removals_fit}
 use Rattle.mx_base.specs.declared.point.Point.{Point}
 use Rattle.mx_registers.specs.points.Moves.{last_moved, totals_next}
 use Rattle.mx_registers.specs.points.Points.{moving, next_mark, next_point}
-use Rattle.mx_registers.specs.points.Tables.{bases_2, rows_at, sectors_2, spans_2, stands_there, totals_2}
+use Rattle.mx_registers.specs.points.Tables.{bases_2, rows_at, stands_there, totals_2}
 use Rattle.mx_registers.proofs.PointsProofs.MoveLemmas.{bases_written as written_law, totals_moved}
 use Rattle.mx_registers.proofs.PointsProofs.NextLemmas.{bases_next}
-use Rattle.mx_registers.proofs.PointsProofs.OneBook.{all_there, filter_through}
+use Rattle.mx_registers.proofs.PointsProofs.OneBook.{filter_through}
 use Rattle.mx_registers.proofs.PointsProofs.PointLemmas.{next_number}
 use Rattle.mx_registers.proofs.PointsProofs.StandingLemmas.{always_whole}
 use Rattle.mx_layout.specs.TableName.{TableName}
@@ -36,6 +35,7 @@ use Rattle.mx_layout.specs.kept.Cells.{kept_base2, kept_total2}
 use Rattle.mx_layout.proofs.KeptProofs.OntoLemmas.{on_top_keeps}
 use Rattle.mx_book_tables.specs.stands.Family.{rows_of, rows_given, is_at, Fit}
 use Rattle.mx_book_tables.specs.stands.Stands.{StandsAt}
+use Rattle.mx_book_tables.proofs.ReadingProofs.RegisterLemmas.{AreMoved, moved_at_bases, moved_at_totals}
 use Rattle.mx_moves.proofs.RowLemmas.{Keeps}
 use Rattle.mx_moves.specs.steps.Rows.{MakesRows}
 use Rattle.mx_moves.specs.steps.Written.{WritesBases, WritesTotal, bases_of, bases_written, total_written}
@@ -45,29 +45,29 @@ use Rattle.mx_moves.proofs.StepsProofs.ThingLemmas.{next_is, point_fits}
 
 -- ── what is kept fits, since the registers do ──
 
--- where all sectors and spans are in their new tables
-registers_fit : (at : Point) (trees : Trees) (book : List Entry) → StandsAt at trees book → is_at at table.Sector2 ≡ true → is_at at table.Span2 ≡ true → rows_at sectors_2 at book ≡ sector_rows book → rows_at spans_2 at book ≡ span_rows book → FitRegisters book
-registers_fit at trees book stands flown_there fitted_there flown fitted =
+-- where all deferrals, sectors and spans stand in the tables that are read
+registers_fit : (at : Point) (trees : Trees) (book : List Entry) → StandsAt at trees book → AreMoved at book → FitRegisters book
+registers_fit at trees book stands moved =
     let all = always_whole at book in
     let fit = stands.rows.fit in
-    let spans : All FitsSpan (span_rows book) = subst (All FitsSpan) fitted (fit table.Span2 fitted_there) in
+    let spans : All FitsSpan (span_rows book) = subst (All FitsSpan) moved.spans (fit table.Span2 moved.fitted) in
     record {
       aircraft = subst (All FitsAircraft) all.aircraft (fit table.Aircraft refl);
       components = subst (All FitsComponent) all.components (fit table.Component refl);
       openings = subst (All FitsOpening) all.openings (fit table.Opening refl);
-      sectors = subst (All FitsSector) flown (fit table.Sector2 flown_there);
+      sectors = subst (All FitsSector) moved.sectors (fit table.Sector2 moved.flown);
       fittings = fittings_fit book spans;
       removals = removals_fit book stands.rows.is_book spans;
       releases = subst (All FitsRelease) all.releases (fit table.Crs refl);
       release_lines = subst (All FitsReleaseLine) all.release_lines (fit table.CrsLine refl);
-      deferrals = subst (All FitsDeferral) (all_there (deferral_rows book)) (fit table.Defect refl);
+      deferrals = subst (All FitsDeferral) moved.deferrals (fit table.Defect moved.deferred);
     }
 
 fit_at_totals : (mark : ℕ) (trees : Trees) (book : List Entry) → StandsAt (moving 3 mark) trees book → FitRegisters book
-fit_at_totals mark trees book stands = registers_fit (moving 3 mark) trees book stands refl refl (all_there (sector_rows book)) (all_there (span_rows book))
+fit_at_totals mark trees book stands = registers_fit (moving 3 mark) trees book stands (moved_at_totals mark book)
 
 fit_at_bases : (mark : ℕ) (trees : Trees) (book : List Entry) → StandsAt (moving 4 mark) trees book → FitRegisters book
-fit_at_bases mark trees book stands = registers_fit (moving 4 mark) trees book stands refl refl (all_there (sector_rows book)) (all_there (span_rows book))
+fit_at_bases mark trees book stands = registers_fit (moving 4 mark) trees book stands (moved_at_bases mark book)
 
 -- ── the total of one item ──
 
