@@ -7,8 +7,8 @@
 //!
 //! # What is promised
 //!
-//! - `create` makes exactly the tables of the layout that it is given, 1, 2 or 3, with its settled point, in one commit:
-//!   `create`: `made`, `crash`.
+//! - `create` makes exactly the tables of the layout that it is given, 1, 2 or 3, with its settled point, in one
+//!   commit: `create`: `made`, `crash`.
 //! - Where a fault other than `Store` is answered nothing changed, and over a database with any table, index or view
 //!   nothing ever does: `create`: `unchanged`, `kept`, `taken`.
 //! - It answers `Exists` only where a table is named `office`, whatever its columns are, and `NotOurs` only where none

@@ -25,7 +25,8 @@ impl Model for DatedRow {
 
     ghost view = { λ dated. dated.row };
 
-    ghost invariant = { λ dated. (dated.row.value.day ≤ last_day) × (dated.row.base.day ≤ last_day) };
+    ghost invariant = { λ dated.
+        (dated.row.value.day ≤ last_day) × (dated.row.base.day ≤ last_day) };
 
     ghost inverse = { λ row. record { row = row } };
 }

@@ -51,8 +51,8 @@ pub fn points_have_their_tables()
     ensures last_bases { HasBases (schema_after 25) }
 {}
 
-/// So has each schema on the way from there to layout 3: behind 29 statements, where deferrals are moved, and behind 31, where
-/// accomplishments are written.
+/// So has each schema on the way from there to layout 3: behind 29 statements, where deferrals are moved, and behind 31,
+/// where accomplishments are written.
 pub fn later_points_have_their_tables()
     ensures own_with_deferrals { HasOwn2 (schema_after 29) }
     ensures old_deferrals { HasDefects (schema_after 29) }
