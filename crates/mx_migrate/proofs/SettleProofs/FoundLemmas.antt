@@ -65,7 +65,11 @@ module _ (to : Point) where
 
 -- ── registers ──
 
-module _ (onto : TableName → List Row → List Row) (stays : Stays onto) (to : Point) (old new : Trees) (made : MakesRows onto to old new) (flown : is_at to table.Sector2 ≡ true) (fitted : is_at to table.Span2 ≡ true) where
+-- those of their tables that not every file has are there
+abbrev AreThere : Point → Type 0
+AreThere at = (is_at at table.Defect ≡ true) × (is_at at table.Sector2 ≡ true) × (is_at at table.Span2 ≡ true)
+
+module _ (onto : TableName → List Row → List Row) (stays : Stays onto) (to : Point) (old new : Trees) (made : MakesRows onto to old new) (there : AreThere to) where
   still : {X : Type 0} (k : Kept X) → is_at to k.name ≡ true → IsBeside k.name → (xs : List X) → AreRowsOf k old xs → AreRowsOf k new xs
   still k there beside xs are =
       let same : IsPermutation (rows_in (table_named k.name) old) (rows_in (table_named k.name) new) =
@@ -86,11 +90,11 @@ module _ (onto : TableName → List Row → List Row) (stays : Stays onto) (to :
           openings = still kept_opening refl (refl, refl, refl) _ r.openings;
           releases = still kept_crs refl (refl, refl, refl) _ r.releases;
           release_lines = still kept_crs_line refl (refl, refl, refl) _ r.release_lines;
-          deferrals = still kept_defect refl (refl, refl, refl) _ r.deferrals;
+          deferrals = still kept_defect there.0 (refl, refl, refl) _ r.deferrals;
           extensions = still kept_extension refl (refl, refl, refl) _ r.extensions;
-          sectors = still kept_sector2 flown (refl, refl, refl) _ r.sectors;
+          sectors = still kept_sector2 there.1 (refl, refl, refl) _ r.sectors;
         };
-        spans = still kept_span2 fitted (refl, refl, refl) _ are.spans;
+        spans = still kept_span2 there.2 (refl, refl, refl) _ are.spans;
         totals = are.totals;
         bases = are.bases;
       }
@@ -109,16 +113,13 @@ early_point at p is layout step (inr newer) = let same : at.layout ≡ p.layout 
 may_behind : (to p : Point) → to ≡ p → MayBeRead p → MayBeRead to
 may_behind to p is may = subst MayBeRead (sym is) may
 
-there_too : (name : TableName) (to p : Point) → to ≡ p → is_at p name ≡ true → is_at to name ≡ true
-there_too name to p is there = subst (λ q. is_at q name ≡ true) (sym is) there
-
 module _ (kept : KeptRows) (at to : Point) (old new : Trees) (knows : MayBeRead at × AreKeptIn kept old) where
   abbrev Still : Type 0
   Still = MayBeRead to × AreKeptIn kept new
 
-  behind : (onto : TableName → List Row → List Row) → Stays onto → (p : Point) → to ≡ p → MayBeRead p → is_at p table.Sector2 ≡ true → is_at p table.Span2 ≡ true → MakesRows onto to old new → Still
-  behind onto stays p is may flown fitted made =
-      (may_behind to p is may, kept_still onto stays to old new made (there_too table.Sector2 to p is flown) (there_too table.Span2 to p is fitted) kept knows.1)
+  behind : (onto : TableName → List Row → List Row) → Stays onto → (p : Point) → to ≡ p → MayBeRead p → AreThere p → MakesRows onto to old new → Still
+  behind onto stays p is may there made =
+      (may_behind to p is may, kept_still onto stays to old new made (subst AreThere (sym is) there) kept knows.1)
 
   kept_on : (step : Due) → IsFor step at → MakesBy step at to old new → Still
   kept_on (due.SectorTable step) here it = absurd (early_point at (settled 1) here (omega arith) (omega arith) knows.0)
@@ -126,10 +127,10 @@ module _ (kept : KeptRows) (at to : Point) (old new : Trees) (knows : MayBeRead 
   kept_on (due.SpanTable step) here it = absurd (early_point at (moving 1 step.mark) here.0 (omega arith) (omega arith) knows.0)
   kept_on (due.Component step) here it = absurd (early_point at (moving 2 step.mark) here (omega arith) (omega arith) knows.0)
   kept_on (due.TotalTable step) here it = absurd (early_point at (moving 2 step.mark) here.0 (omega arith) (omega arith) knows.0)
-  kept_on (due.Total step) here it = behind (total_written step.row to) (total_stays to step.row) (moving 3 step.row.item) it.point (inl (omega arith)) refl refl it.made
-  kept_on (due.BaseTable step) here it = behind (table_made table.Base2 to) (made_stays to) (moving 4 0) it.point (inl (omega arith)) refl refl it.made
-  kept_on (due.Bases step) here it = behind (bases_written step.rows.items to) (bases_stay to step.rows.items) (moving 4 step.item) it.point (inl (omega arith)) refl refl it.made
-  kept_on (due.End step) here it = behind (point_set to) (end_stays to) (settled 2) it.point (inr (omega arith)) refl refl it.made
+  kept_on (due.Total step) here it = behind (total_written step.row to) (total_stays to step.row) (moving 3 step.row.item) it.point (inl (omega arith)) (refl, refl, refl) it.made
+  kept_on (due.BaseTable step) here it = behind (table_made table.Base2 to) (made_stays to) (moving 4 0) it.point (inl (omega arith)) (refl, refl, refl) it.made
+  kept_on (due.Bases step) here it = behind (bases_written step.rows.items to) (bases_stay to step.rows.items) (moving 4 step.item) it.point (inl (omega arith)) (refl, refl, refl) it.made
+  kept_on (due.End step) here it = behind (point_set to) (end_stays to) (settled 2) it.point (inr (omega arith)) (refl, refl, refl) it.made
 
 pub knows_on : (known : Option KeptRows) (step : Due) (at to : Point) (old new : Trees) → IsFor step at → MakesBy step at to old new → KnowsIn at known old → KnowsIn to known new
 knows_on None step at to old new here it knows = tt
