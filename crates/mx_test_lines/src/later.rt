@@ -40,7 +40,7 @@ fn append_deferral(out: &mut String, row: &Deferral3Row) -> Result<(), AllocErro
 fn append_base(out: &mut String, name: &str, base: &Base) -> Result<(), AllocError> {
     let minutes = base.minutes;
     let cycles = base.cycles;
-    let day = base.day.number();
+    let day = base.day;
     write!(out, " {name}={minutes}/{cycles}/{day}")
 }
 
