@@ -28,6 +28,7 @@ pub mod defects;
 pub mod entries;
 pub mod items;
 pub mod kept;
+pub mod later;
 mod prelude;
 pub mod programmes;
 pub mod sectors;
