@@ -5,6 +5,7 @@ pub mod ChangeLemmas
 pub mod CreditLemmas
 pub mod SpanLemmas
 pub mod FittedLemmas
+pub mod DoneLemmas
 pub mod StepLemmas
 pub mod WorkedTotals
 pub mod ReplaceLemmas

@@ -24,6 +24,7 @@
 //!   `unchanged`, `within` of each.
 
 pub mod bases;
+pub mod done;
 pub mod in_place;
 pub mod lives;
 mod single;

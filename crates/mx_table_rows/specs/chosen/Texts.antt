@@ -11,6 +11,10 @@ by_value at values = has_value at (column values 0)
 abbrev pub by_values : ℕ → ℕ → Row → Row → Bool
 by_values one two values row = has_value one (column values 0) row && has_value two (column values 1) row
 
+-- the rows with these four values in the first four columns
+abbrev pub by_four_values : Row → Row → Bool
+by_four_values values row = has_value 0 (column values 0) row && (has_value 1 (column values 1) row && (has_value 2 (column values 2) row && has_value 3 (column values 3) row))
+
 -- the spans with the first value in this column that nothing ended
 abbrev pub open_by : ℕ → Row → Row → Bool
 open_by at values = is_open at (column values 0)
