@@ -6,6 +6,7 @@ pub mod CreditLemmas
 pub mod SpanLemmas
 pub mod FittedLemmas
 pub mod DoneLemmas
+pub mod PutLemmas
 pub mod StepLemmas
 pub mod WorkedTotals
 pub mod ReplaceLemmas

@@ -5,4 +5,5 @@ pub mod Bases
 pub mod Done
 pub mod Spans
 pub mod Steps
+pub mod Puts
 pub mod InPlace
