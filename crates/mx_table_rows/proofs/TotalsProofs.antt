@@ -6,6 +6,8 @@ pub mod CreditLemmas
 pub mod SpanLemmas
 pub mod FittedLemmas
 pub mod DoneLemmas
+pub mod FoundLemmas
+pub mod ShiftLemmas
 pub mod PutLemmas
 pub mod StepLemmas
 pub mod WorkedTotals

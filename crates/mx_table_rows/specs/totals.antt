@@ -3,6 +3,7 @@ pub mod Single
 pub mod Totals
 pub mod Bases
 pub mod Done
+pub mod Found
 pub mod Spans
 pub mod Steps
 pub mod Puts

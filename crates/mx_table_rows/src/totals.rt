@@ -25,6 +25,7 @@
 
 pub mod bases;
 pub mod done;
+pub mod found;
 pub mod in_place;
 pub mod lives;
 mod single;
