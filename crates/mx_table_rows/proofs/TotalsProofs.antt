@@ -11,5 +11,6 @@ pub mod ShiftLemmas
 pub mod PutLemmas
 pub mod StepLemmas
 pub mod WorkedTotals
+pub mod WorkedLater
 pub mod ReplaceLemmas
 pub mod Understood

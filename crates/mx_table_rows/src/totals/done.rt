@@ -38,9 +38,9 @@ pub fn last_done<S: Alter>(
     }
 }
 
-/// Adds an accomplishment. `Damaged` with `done3`, and nothing is done, where a day of it is past the calendar; `Memory`
-/// for want of memory, and `Store` for an error of the store, a row for the same line of the entry, of the same task of
-/// the same item, among them.
+/// Adds an accomplishment. `Damaged` with `done3`, and nothing is done, where a day of it is past the calendar;
+/// `Memory` for want of memory, and `Store` for an error of the store, among them that there is a row for the same line
+/// of the entry, of the same task of the same item.
 pub fn set_done<S: Alter>(tx: &mut Transaction<'_, S>, row: DoneRow) -> Result<(), TableFault>
     ensures same_reference { tx.new.conn.ghost_name ≡ tx.old.conn.ghost_name }
     ensures changes { IsDated row

@@ -1,8 +1,8 @@
 //! The cycles at which deferred defects were found.
 //!
-//! A sector that is entered late adds to the cycles at which the defects were found that are later than it. All defects of
-//! the aircraft are read, and all sums made, before the first is written: so a damaged row, or a sum past the most of a
-//! life, leaves each of them as it was.
+//! A sector that is entered late adds to the cycles at which defects were found behind it. All defects of the aircraft are
+//! read, and all sums made, before the first is written: so a damaged row, or a sum past the most of a life, leaves each
+//! of them as it was.
 ghost use Rattle.std.specs.Prelude.{◌≡◌, ◌⊎◌, Any, IfOk, IfErr};
 ghost use Rattle.sqlite.specs.Held.{state};
 ghost use Rattle.mx_layout.specs.kept.Cells.{kept_defect3};
@@ -29,7 +29,8 @@ fn rows_with(
 ) -> Result<Vec<Deferral3Row>, TableFault>
     ensures shifted { IfOk result (λ v. AreGained cycles landed rows.now v.items) }
     ensures stopped { IfErr result (λ e. (e ≡ TableFault.Memory)
-        ⊎ ((e ≡ TableFault.Damaged Table.Defect3) × Any (λ x. ¬ CanGain cycles landed x) rows.now)) }
+        ⊎ ((e ≡ TableFault.Damaged Table.Defect3)
+        × Any (λ x. ¬ CanGain cycles landed x) rows.now)) }
 {
     let mut shifted = Vec::new(alloc);
     'rows: for row in rows {
@@ -77,10 +78,10 @@ fn put_rows<S: Alter>(tx: &mut Transaction<'_, S>, rows: &[Deferral3Row]) -> Res
     Ok(())
 }
 
-/// Adds cycles to those at which the defects of an aircraft were found, of each that was found at this moment or later, and
-/// of no other: all are read before the first is written. `Damaged` with `defect3`, and nothing changed, where a defect of
-/// the aircraft can't be read, or where a sum is past the most cycles of a life: 51,000,000. `Memory` for want of memory,
-/// and `Store` for an error of the store.
+/// Adds cycles to those at which the defects of an aircraft were found, of each that was found at this moment or later,
+/// and of no other: all are read before the first is written. `Damaged` with `defect3`, and nothing changed, where a
+/// defect of the aircraft can't be read, or where a sum is past the most cycles of a life: 51,000,000. `Memory` for want
+/// of memory, and `Store` for an error of the store.
 pub fn shift_found<S: Alter>(
     alloc: Global,
     tx: &mut Transaction<'_, S>,
