@@ -5,7 +5,12 @@ pub mod ChangeLemmas
 pub mod CreditLemmas
 pub mod SpanLemmas
 pub mod FittedLemmas
+pub mod DoneLemmas
+pub mod FoundLemmas
+pub mod ShiftLemmas
+pub mod PutLemmas
 pub mod StepLemmas
 pub mod WorkedTotals
+pub mod WorkedLater
 pub mod ReplaceLemmas
 pub mod Understood

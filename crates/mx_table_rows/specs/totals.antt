@@ -2,6 +2,9 @@ pub mod Calls
 pub mod Single
 pub mod Totals
 pub mod Bases
+pub mod Done
+pub mod Found
 pub mod Spans
 pub mod Steps
+pub mod Puts
 pub mod InPlace

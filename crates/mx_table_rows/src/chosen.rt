@@ -10,6 +10,8 @@
 //! - The rows read are exactly those of the table with this value in the column, in the order of the key, and each fits
 //!   its type; of open spans those that nothing ended; of all aircraft, components or defects every row; the last entry
 //!   is the last by number: `ReadsFirst`: `rows`, `fits`, cited by each look-up (`ReadsBy`).
+//! - Accomplishments are chosen by their item, or by their item and task, in the order of the task, the entry and the line
+//!   there: `later::done3_by_item`, `later::done3_by_item_and_task`: `reads`.
 //! - `Damaged` names the reader's own table, and only where one of the rows that were chosen is none of its type: a row
 //!   that was not chosen is not met: `ReadsFirst`: `cause`, `damaged`.
 //! - An answer changes nothing: `ReadsFirst`: `unchanged`.
@@ -28,6 +30,7 @@ pub mod defects;
 pub mod entries;
 pub mod items;
 pub mod kept;
+pub mod later;
 mod prelude;
 pub mod programmes;
 pub mod sectors;

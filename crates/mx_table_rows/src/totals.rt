@@ -1,5 +1,5 @@
-//! Totals, last bases and what is fitted: each is read, and changed in place. Each call is made inside a `Transaction`,
-//! which the caller commits or drops.
+//! Totals, last bases, accomplishments, the cycles at which defects were found, and what is fitted: each is read, and
+//! changed in place. Each call is made inside a `Transaction`, which the caller commits or drops.
 //!
 //! # What is promised
 //!
@@ -11,10 +11,19 @@
 //! - It is told damaged where one of them has no row, more than one or one that can't be read, or a sum past the most
 //!   of a life, and there alone; then nothing changed, for any of them: `credit`: `changes` (`good`, `damaged`,
 //!   `unchanged`).
+//! - Cycles are added to those at which the defects of an aircraft were found, of exactly those that were found at a moment
+//!   or later; the other rows and each other table are as they were: `shift_found`: `changes` (`becomes`).
+//! - That is told damaged where a defect of the aircraft can't be read, or a sum is past the most cycles of a life, and
+//!   there alone; then nothing changed, for any of them: `shift_found`: `changes` (`good`, `damaged`, `unchanged`).
+//! - An accomplishment is added, and nothing else changes; where a day of it is past the calendar that is told damaged, and
+//!   nothing is done at all: `set_done`: `changes`, `refuses`.
+//! - The last accomplishment of a task, or that there is none, is that of the last entry, and of the last line there:
+//!   `last_done`: `reads` (`IsLastDone`).
 //! - A clock is set and the life stays; a total is added; the open span of a component is ended, by its two empty
 //!   columns; and nothing else changes: `set_clock`, `new_total`, `end_span2`: `changes`.
 //! - A row comes in place of those that were chosen, a last base of that which the item had of the task, and nothing
-//!   else changes: `ReplacesRows`: `replaces`, cited by `set_span2`, `set_total` and `set_base`.
+//!   else changes: `ReplacesRows`: `replaces`, cited by `set_span2`, `set_total`, `set_base`, `set_found` and
+//!   `set_done_row`.
 //! - A span is ended only where the component has exactly one that is open and can be read; else it is told damaged,
 //!   and nothing changed: `end_span2`: `changes` (`good`, `damaged`, `unchanged`).
 //! - The total, and the base of a task or that there is none, are those of the one row; what is fitted is the position
@@ -24,6 +33,8 @@
 //!   `unchanged`, `within` of each.
 
 pub mod bases;
+pub mod done;
+pub mod found;
 pub mod in_place;
 pub mod lives;
 mod single;

@@ -23,8 +23,8 @@ use Rattle.sqlite.specs.State.{State, Shown}
 use Rattle.sqlite.proofs.Callers.{IsPlain, reads_as}
 use Rattle.sqlite_value.specs.declared.keys.Key.{Key}
 use Rattle.mx_layout.specs.Contents.{cells, rows_in}
-use Rattle.mx_layout.specs.Reading.{by_first, by_two}
-use Rattle.mx_layout.proofs.ReadLemmas.{first_key, two_keys, shown_unchanged, rows_sorted}
+use Rattle.mx_layout.specs.Reading.{by_first, by_two, by_four}
+use Rattle.mx_layout.proofs.ReadLemmas.{first_key, two_keys, four_keys, shown_unchanged, rows_sorted}
 use Rattle.mx_table_rows.specs.chosen.Choices.{AreFirst, at_most, backward}
 use Rattle.mx_table_rows.specs.chosen.Lookups.{choose, SortsAt, MeansThose}
 use Rattle.mx_table_rows.specs.chosen.Calls.{ShowsFirst}
@@ -46,6 +46,11 @@ sorts_by_last tests tree project limit params first x y = ap is_lt (or_equal _ �
 
 pub sorts_by_two : (tests : List Term) (tree : ℕ) (project : List Term) (limit : Term) (params : Row) → ((r : Row) → column r 1 ≡ column (eval_all project (params ∷ r ∷ [])) 0) → ((r : Row) → column r 2 ≡ column (eval_all project (params ∷ r ∷ [])) 1) → SortsAt (choose two_keys tests tree project limit) params by_two
 sorts_by_two tests tree project limit params first second x y = ap is_lt (ap₂ ordering_then (ap₂ value_cmp (first x) (first y)) (or_equal _ ∙ ap₂ value_cmp (second x) (second y)))
+
+pub sorts_by_four : (tests : List Term) (tree : ℕ) (project : List Term) (limit : Term) (params : Row) → ((r : Row) → column r 1 ≡ column (eval_all project (params ∷ r ∷ [])) 0) → ((r : Row) → column r 2 ≡ column (eval_all project (params ∷ r ∷ [])) 1)
+    → ((r : Row) → column r 3 ≡ column (eval_all project (params ∷ r ∷ [])) 2) → ((r : Row) → column r 4 ≡ column (eval_all project (params ∷ r ∷ [])) 3) → SortsAt (choose four_keys tests tree project limit) params by_four
+sorts_by_four tests tree project limit params first second third fourth x y =
+    ap is_lt (ap₂ ordering_then (ap₂ value_cmp (first x) (first y)) (ap₂ ordering_then (ap₂ value_cmp (second x) (second y)) (ap₂ ordering_then (ap₂ value_cmp (third x) (third y)) (or_equal _ ∙ ap₂ value_cmp (fourth x) (fourth y)))))
 
 -- each that passes, alone
 pub picked : {A B : Type 0} (p : A → Bool) (f : A → B) (xs : List A) → flat_map (λ x. cond (p x) (f x ∷ []) []) xs ≡ map f (filter p xs)

@@ -45,14 +45,15 @@ use Rattle.mx_table_rows.specs.chosen.Lookups.{choose, MeansDeleted}
 use Rattle.mx_table_rows.specs.chosen.Calls.{DeletesThose}
 use Rattle.mx_table_rows.proofs.ChosenProofs.ChooseLemmas.{picked}
 
-both_out : (a b : Row → Bool) (xs : List Row) → filter (λ r. not (b r)) (filter (λ r. not (a r)) xs) ≡ filter (λ r. not (a r || b r)) xs
+-- what fails two tests, one after another
+pub both_out : (a b : Row → Bool) (xs : List Row) → filter (λ r. not (b r)) (filter (λ r. not (a r)) xs) ≡ filter (λ r. not (a r || b r)) xs
 both_out a b [] = refl
 both_out a b (x ∷ xs) = elim (cases_Bool (a x)) [
   | inl e ↦ simp e (both_out a b xs)
   | inr e ↦ elim (cases_Bool (b x)) [ inl k ↦ simp (e, k) (both_out a b xs) | inr k ↦ simp (e, k) (ap (λ l. x ∷ l) (both_out a b xs)) ]
 ]
 
-none_out : (xs : List Row) → filter (λ _. true) xs ≡ xs
+pub none_out : (xs : List Row) → filter (λ _. true) xs ≡ xs
 none_out [] = refl
 none_out (x ∷ xs) = ap (λ l. x ∷ l) (none_out xs)
 

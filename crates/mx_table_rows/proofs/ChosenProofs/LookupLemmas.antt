@@ -23,14 +23,14 @@ use Rattle.sqlite_sql.specs.declared.ops.BinaryOp.TheVariants.{Compare}
 use Rattle.sqlite_sql.specs.declared.ops.CompareOp.{CompareOp}
 use Rattle.mx_layout.specs.Contents.{cells}
 use Rattle.mx_layout.specs.Names.{table_named}
-use Rattle.mx_layout.specs.Reading.{by_first, by_two}
-use Rattle.mx_layout.proofs.ReadLemmas.{first_key, two_keys}
+use Rattle.mx_layout.specs.Reading.{by_first, by_two, by_four}
+use Rattle.mx_layout.proofs.ReadLemmas.{first_key, two_keys, four_keys}
 use Rattle.mx_layout.specs.kept.Kept.{Kept, over}
 use Rattle.mx_layout.specs.kept.Schemas.{HasBehind, permanent}
 use Rattle.mx_layout.proofs.KeptProofs.KeptLemmas.{shown_terms, behind_terms}
 use Rattle.mx_table_rows.specs.chosen.Choices.{backward}
 use Rattle.mx_table_rows.specs.chosen.Lookups.{choose, SortsAt, MeansThose, MeansDeleted, FindsFirst, Finds, Deletes}
-use Rattle.mx_table_rows.proofs.ChosenProofs.ChooseLemmas.{last_key, sorts_by_first, sorts_by_last, sorts_by_two}
+use Rattle.mx_table_rows.proofs.ChosenProofs.ChooseLemmas.{last_key, sorts_by_first, sorts_by_last, sorts_by_two, sorts_by_four}
 
 abbrev pub no_limit : Term
 no_limit = lit (Int (negsuc 0))
@@ -60,6 +60,10 @@ ChoosesLast schema text table tests most = ChoosesBy last_key shown_terms (lit (
 -- a table whose rows are stored behind a rowid: all that pass the tests
 abbrev pub ChoosesByTwo : Schema → List ℕ → Table → List Term → Type 0
 ChoosesByTwo = ChoosesBy two_keys behind_terms no_limit
+
+-- the same, where the first four columns are the key
+abbrev pub ChoosesByFour : Schema → List ℕ → Table → List Term → Type 0
+ChoosesByFour = ChoosesBy four_keys behind_terms no_limit
 
 -- the text deletes the rows that pass the tests of the table at a place of the schema
 abbrev pub Drops : Schema → List ℕ → ℕ → Table → List Term → Type 0
@@ -123,6 +127,14 @@ module _ {X : Type 0} (k : Kept X) (own : List Table) (behind : (schema : Schema
       → ((values r : Row) → column r 2 ≡ column (eval_all (behind_terms table) (values ∷ r ∷ [])) 1) → Finds k text chosen
   two_found ordered texts shows at_first at_second =
       subst (λ o. FindsFirst k text None o chosen) (sym ordered) (means two_keys behind_terms no_limit by_two None texts shows (λ values. sorts_by_two tests table.tree (behind_terms table) no_limit values (at_first values) (at_second values)) (λ _. refl))
+
+  -- the key is the first four columns
+  pub four_found : k.order ≡ by_four → ((rest : List Table) (more : List Index) → ChoosesByFour (permanent (own ++ rest) more) text table tests)
+      → ((values : Row) → (λ (r : Row). eval_all (behind_terms table) (values ∷ r ∷ [])) ≡ cells table) → ((values r : Row) → column r 1 ≡ column (eval_all (behind_terms table) (values ∷ r ∷ [])) 0)
+      → ((values r : Row) → column r 2 ≡ column (eval_all (behind_terms table) (values ∷ r ∷ [])) 1) → ((values r : Row) → column r 3 ≡ column (eval_all (behind_terms table) (values ∷ r ∷ [])) 2)
+      → ((values r : Row) → column r 4 ≡ column (eval_all (behind_terms table) (values ∷ r ∷ [])) 3) → Finds k text chosen
+  four_found ordered texts shows at_first at_second at_third at_fourth =
+      subst (λ o. FindsFirst k text None o chosen) (sym ordered) (means four_keys behind_terms no_limit by_four None texts shows (λ values. sorts_by_four tests table.tree (behind_terms table) no_limit values (at_first values) (at_second values) (at_third values) (at_fourth values)) (λ _. refl))
 
   -- rows are deleted from a table, whatever its key is
   pub deleted : (at : ℕ) → ((rest : List Table) (more : List Index) → slice_get (permanent (own ++ rest) more).tables at ≡ Some table)

@@ -14,14 +14,14 @@ use Rattle.sqlite_schema.specs.declared.schema.Index.{Index}
 use Rattle.sqlite_sql.specs.declared.ops.CompareOp.TheVariants.{Eq, Le}
 use Rattle.sqlite_tied.specs.Compute.{everything}
 use Rattle.mx_layout.specs.Contents.{cells}
-use Rattle.mx_layout.specs.Tables.{entry, aircraft, place, component, programme, task, opening, crs, crs_line, extension, defect, sector1, fit1, removal1, sector2, span2, total2, base2}
-use Rattle.mx_layout.specs.kept.Cells.{kept_entry, kept_aircraft, kept_place, kept_component, kept_programme, kept_task, kept_opening, kept_crs, kept_crs_line, kept_extension, kept_defect, kept_sector1, kept_fit1, kept_sector2_rows, kept_span2, kept_total2, kept_base2}
+use Rattle.mx_layout.specs.Tables.{entry, aircraft, place, component, programme, task, opening, crs, crs_line, extension, defect, sector1, fit1, removal1, sector2, span2, total2, base2, defect3, done3}
+use Rattle.mx_layout.specs.kept.Cells.{kept_entry, kept_aircraft, kept_place, kept_component, kept_programme, kept_task, kept_opening, kept_crs, kept_crs_line, kept_extension, kept_defect, kept_sector1, kept_fit1, kept_sector2_rows, kept_span2, kept_total2, kept_base2, kept_defect3, kept_done3}
 use Rattle.mx_layout.specs.kept.Kept.{over}
-use Rattle.mx_layout.specs.kept.Schemas.{permanent, own_1, own_2, own_moving, HasBehind, HasOwn1, HasOwn2}
+use Rattle.mx_layout.specs.kept.Schemas.{permanent, own_1, own_2, own_3, own_moving, HasBehind, HasOwn1, HasOwn2, HasOwn3}
 use Rattle.mx_table_rows.specs.chosen.Choices.{backward}
 use Rattle.mx_table_rows.specs.chosen.Lookups.{FindsFirst, Finds, Deletes}
-use Rattle.mx_table_rows.specs.chosen.Texts.{sector2_by_seq, by_value, by_values, open_by, open_spans_by_component, open_spans_by_aircraft, up_to, any_row, entry_by_seq, entry_by_doc, aircraft_by_seq, aircraft_by_tail, place_by_seq, component_by_seq, component_by_serial, programme_by_seq, programme_by_kind, task_by_seq, opening_by_seq, crs_by_seq, crs_line_by_seq, crs_line_by_defect, defect_by_seq, defect_by_aircraft, extension_by_seq, extension_by_defect, span2_by_fit_seq, span2_by_component, span2_by_aircraft, span2_by_remove_seq, total2_by_item, base2_by_item_and_task, last_entry, all_aircraft, all_components, all_defects, all_crs_lines, sector1_gone, fit1_gone}
-use Rattle.mx_table_rows.proofs.ChosenProofs.LookupLemmas.{Chooses, Drops, given_at, first_found, last_found, two_found, deleted, either_finds, either_deletes}
+use Rattle.mx_table_rows.specs.chosen.Texts.{sector2_by_seq, sector2_by_aircraft, crs_by_item, defect3_by_seq, defect3_by_aircraft, done3_by_item, done3_by_item_and_task, all_defects3, by_value, by_values, open_by, open_spans_by_component, open_spans_by_aircraft, up_to, any_row, entry_by_seq, entry_by_doc, aircraft_by_seq, aircraft_by_tail, place_by_seq, component_by_seq, component_by_serial, programme_by_seq, programme_by_kind, task_by_seq, opening_by_seq, crs_by_seq, crs_line_by_seq, crs_line_by_defect, defect_by_seq, defect_by_aircraft, extension_by_seq, extension_by_defect, span2_by_fit_seq, span2_by_component, span2_by_aircraft, span2_by_remove_seq, total2_by_item, base2_by_item_and_task, last_entry, all_aircraft, all_components, all_defects, all_crs_lines, sector1_gone, fit1_gone}
+use Rattle.mx_table_rows.proofs.ChosenProofs.LookupLemmas.{Chooses, Drops, given_at, first_found, last_found, two_found, four_found, ChoosesByFour, deleted, either_finds, either_deletes}
 use Rattle.mx_table_rows.proofs.ChosenProofs.EqualLemmas.{one_equal, two_equal, missing}
 
 -- spans stand at one place while components are moved, at another from then on, and at a third once deferrals are moved
@@ -50,6 +50,30 @@ sectors_found text tests chosen picks first moving settled last =
   where
     in_place : (own : List Table) → ((rest : List Table) (more : List Index) → Chooses (permanent (own ++ rest) more) text sector2 tests) → Finds (over kept_sector2_rows (HasBehind own)) text chosen
     in_place own texts = first_found (over kept_sector2_rows (HasBehind own)) own (λ _ has. has) text tests chosen (λ _. refl) picks refl texts (λ _. refl) (λ _ _. refl)
+
+-- deferrals of layout 3 stand at three places: while deferrals are moved, while accomplishments are written, and from then on
+defects_found : (text : List ℕ) (tests : List Term) (chosen : Row → Row → Bool) → ((values r : Row) → list_all (holds (values ∷ r ∷ [])) tests ≡ chosen values (cells defect3 r))
+    → ((rest : List Table) (more : List Index) → Chooses (permanent ((defect ∷ sector2 ∷ span2 ∷ total2 ∷ base2 ∷ defect3 ∷ []) ++ rest) more) text defect3 tests)
+    → ((rest : List Table) (more : List Index) → Chooses (permanent ((sector2 ∷ span2 ∷ total2 ∷ base2 ∷ defect3 ∷ []) ++ rest) more) text defect3 tests)
+    → ((rest : List Table) (more : List Index) → Chooses (permanent ((sector2 ∷ span2 ∷ total2 ∷ defect3 ∷ []) ++ rest) more) text defect3 tests) → Finds kept_defect3 text chosen
+defects_found text tests chosen picks moving written last =
+    either_finds kept_defect3 (HasBehind (defect ∷ sector2 ∷ span2 ∷ total2 ∷ base2 ∷ defect3 ∷ [])) (λ s. HasBehind (sector2 ∷ span2 ∷ total2 ∷ base2 ∷ defect3 ∷ []) s ⊎ HasBehind (sector2 ∷ span2 ∷ total2 ∷ defect3 ∷ []) s) text None kept_defect3.order chosen
+    (in_place (defect ∷ sector2 ∷ span2 ∷ total2 ∷ base2 ∷ defect3 ∷ []) moving)
+    (either_finds kept_defect3 (HasBehind (sector2 ∷ span2 ∷ total2 ∷ base2 ∷ defect3 ∷ [])) (HasBehind (sector2 ∷ span2 ∷ total2 ∷ defect3 ∷ [])) text None kept_defect3.order chosen
+    (in_place (sector2 ∷ span2 ∷ total2 ∷ base2 ∷ defect3 ∷ []) written) (in_place (sector2 ∷ span2 ∷ total2 ∷ defect3 ∷ []) last))
+  where
+    in_place : (own : List Table) → ((rest : List Table) (more : List Index) → Chooses (permanent (own ++ rest) more) text defect3 tests) → Finds (over kept_defect3 (HasBehind own)) text chosen
+    in_place own texts = first_found (over kept_defect3 (HasBehind own)) own (λ _ has. has) text tests chosen (λ _. refl) picks refl texts (λ _. refl) (λ _ _. refl)
+
+-- accomplishments stand at one place while they are written, and at another from then on
+done_found : (text : List ℕ) (tests : List Term) (chosen : Row → Row → Bool) → ((values r : Row) → list_all (holds (values ∷ r ∷ [])) tests ≡ chosen values (cells done3 r))
+    → ((rest : List Table) (more : List Index) → ChoosesByFour (permanent ((sector2 ∷ span2 ∷ total2 ∷ base2 ∷ defect3 ∷ done3 ∷ []) ++ rest) more) text done3 tests)
+    → ((rest : List Table) (more : List Index) → ChoosesByFour (permanent (own_3 ++ rest) more) text done3 tests) → Finds kept_done3 text chosen
+done_found text tests chosen picks written last =
+    either_finds kept_done3 (HasBehind (sector2 ∷ span2 ∷ total2 ∷ base2 ∷ defect3 ∷ done3 ∷ [])) HasOwn3 text None kept_done3.order chosen (in_place (sector2 ∷ span2 ∷ total2 ∷ base2 ∷ defect3 ∷ done3 ∷ []) written) (in_place own_3 last)
+  where
+    in_place : (own : List Table) → ((rest : List Table) (more : List Index) → ChoosesByFour (permanent (own ++ rest) more) text done3 tests) → Finds (over kept_done3 (HasBehind own)) text chosen
+    in_place own texts = four_found (over kept_done3 (HasBehind own)) own (λ _ has. has) text tests chosen (λ _. refl) picks refl texts (λ _. refl) (λ _ _. refl) (λ _ _. refl) (λ _ _. refl) (λ _ _. refl)
 
 -- ── look-ups by the value in one column ──
 
@@ -101,6 +125,10 @@ pub crs_by_seq_finds : Finds kept_crs crs_by_seq (by_value 0)
 unfolding understood everything
 crs_by_seq_finds = first_found kept_crs [] (λ _ has. has) crs_by_seq (given_at Eq crs 0 0 ∷ []) (by_value 0) (λ _. refl) (λ _ _. one_equal _ _ refl) refl (λ _ _. (refl, refl, (refl, refl))) (λ _. refl) (λ _ _. refl)
 
+pub crs_by_item_finds : Finds kept_crs crs_by_item (by_value 1)
+unfolding understood everything
+crs_by_item_finds = first_found kept_crs [] (λ _ has. has) crs_by_item (given_at Eq crs 1 0 ∷ []) (by_value 1) (λ _. refl) (λ _ _. one_equal _ _ refl) refl (λ _ _. (refl, refl, (refl, refl))) (λ _. refl) (λ _ _. refl)
+
 pub crs_line_by_seq_finds : Finds kept_crs_line crs_line_by_seq (by_value 0)
 unfolding understood everything
 crs_line_by_seq_finds = two_found kept_crs_line [] (λ _ has. has) crs_line_by_seq (given_at Eq crs_line 0 0 ∷ []) (by_value 0) (λ _. refl) (λ _ _. one_equal _ _ refl) refl (λ _ _. (refl, refl, (refl, refl))) (λ _. refl) (λ _ _. refl) (λ _ _. refl)
@@ -151,11 +179,31 @@ pub sector2_by_seq_finds : Finds kept_sector2_rows sector2_by_seq (by_value 0)
 unfolding understood everything
 sector2_by_seq_finds = sectors_found sector2_by_seq (given_at Eq sector2 0 0 ∷ []) (by_value 0) (λ _ _. one_equal _ _ refl) (λ _ _. (refl, refl, (refl, refl))) (λ _ _. (refl, refl, (refl, refl))) (λ _ _. (refl, refl, (refl, refl))) (λ _ _. (refl, refl, (refl, refl)))
 
+pub sector2_by_aircraft_finds : Finds kept_sector2_rows sector2_by_aircraft (by_value 1)
+unfolding understood everything
+sector2_by_aircraft_finds = sectors_found sector2_by_aircraft (given_at Eq sector2 1 0 ∷ []) (by_value 1) (λ _ _. one_equal _ _ refl) (λ _ _. (refl, refl, (refl, refl))) (λ _ _. (refl, refl, (refl, refl))) (λ _ _. (refl, refl, (refl, refl))) (λ _ _. (refl, refl, (refl, refl)))
+
 pub base2_by_item_and_task_finds : Finds kept_base2 base2_by_item_and_task (by_values 0 1)
 unfolding understood everything
 base2_by_item_and_task_finds = either_finds kept_base2 HasOwn2 (HasBehind (sector2 ∷ span2 ∷ total2 ∷ base2 ∷ [])) base2_by_item_and_task None kept_base2.order (by_values 0 1)
     (two_found (over kept_base2 (HasBehind own_2)) own_2 (λ _ has. has) base2_by_item_and_task (given_at Eq base2 0 0 ∷ given_at Eq base2 1 1 ∷ []) (by_values 0 1) (λ _. refl) (λ _ _. two_equal _ _ _ refl) refl (λ _ _. (refl, refl, (refl, refl))) (λ _. refl) (λ _ _. refl) (λ _ _. refl))
     (two_found (over kept_base2 (HasBehind (sector2 ∷ span2 ∷ total2 ∷ base2 ∷ []))) (sector2 ∷ span2 ∷ total2 ∷ base2 ∷ []) (λ _ has. has) base2_by_item_and_task (given_at Eq base2 0 0 ∷ given_at Eq base2 1 1 ∷ []) (by_values 0 1) (λ _. refl) (λ _ _. two_equal _ _ _ refl) refl (λ _ _. (refl, refl, (refl, refl))) (λ _. refl) (λ _ _. refl) (λ _ _. refl))
+
+pub defect3_by_seq_finds : Finds kept_defect3 defect3_by_seq (by_value 0)
+unfolding understood everything
+defect3_by_seq_finds = defects_found defect3_by_seq (given_at Eq defect3 0 0 ∷ []) (by_value 0) (λ _ _. one_equal _ _ refl) (λ _ _. (refl, refl, (refl, refl))) (λ _ _. (refl, refl, (refl, refl))) (λ _ _. (refl, refl, (refl, refl)))
+
+pub defect3_by_aircraft_finds : Finds kept_defect3 defect3_by_aircraft (by_value 1)
+unfolding understood everything
+defect3_by_aircraft_finds = defects_found defect3_by_aircraft (given_at Eq defect3 1 0 ∷ []) (by_value 1) (λ _ _. one_equal _ _ refl) (λ _ _. (refl, refl, (refl, refl))) (λ _ _. (refl, refl, (refl, refl))) (λ _ _. (refl, refl, (refl, refl)))
+
+pub done3_by_item_finds : Finds kept_done3 done3_by_item (by_value 0)
+unfolding understood everything
+done3_by_item_finds = done_found done3_by_item (given_at Eq done3 0 0 ∷ []) (by_value 0) (λ _ _. one_equal _ _ refl) (λ _ _. (refl, refl, (refl, refl))) (λ _ _. (refl, refl, (refl, refl)))
+
+pub done3_by_item_and_task_finds : Finds kept_done3 done3_by_item_and_task (by_values 0 1)
+unfolding understood everything
+done3_by_item_and_task_finds = done_found done3_by_item_and_task (given_at Eq done3 0 0 ∷ given_at Eq done3 1 1 ∷ []) (by_values 0 1) (λ _ _. two_equal _ _ _ refl) (λ _ _. (refl, refl, (refl, refl))) (λ _ _. (refl, refl, (refl, refl)))
 
 -- ── open spans ──
 
@@ -188,6 +236,10 @@ all_crs_lines_finds = two_found kept_crs_line [] (λ _ has. has) all_crs_lines [
 pub all_defects_finds : Finds kept_defect all_defects any_row
 unfolding understood everything
 all_defects_finds = first_found kept_defect (defect ∷ []) (λ _ has. has) all_defects [] any_row (λ _. refl) (λ _ _. refl) refl (λ _ _. (refl, refl, (refl, refl))) (λ _. refl) (λ _ _. refl)
+
+pub all_defects3_finds : Finds kept_defect3 all_defects3 any_row
+unfolding understood everything
+all_defects3_finds = defects_found all_defects3 [] any_row (λ _ _. refl) (λ _ _. (refl, refl, (refl, refl))) (λ _ _. (refl, refl, (refl, refl))) (λ _ _. (refl, refl, (refl, refl)))
 
 -- ── the last row ──
 

@@ -120,8 +120,3 @@ module _ (added : Use) where
   credited_more rows [] (y ∷ xs) item x all one = absurd all
   credited_more rows (m ∷ items) [] item x all one = absurd all
   credited_more rows (m ∷ items) (y ∷ xs) item x all one = (all.0, credited_more rows items xs item x all.1 one)
-
--- one total more is written
-pub put_more : (xs : List TotalRow) (x : TotalRow) (rows : List Row) → totals_put (xs ++ x ∷ []) rows ≡ kept_total2.as_cells x ∷ filter (λ r. not (is_of_item x.item r)) (totals_put xs rows)
-put_more [] x rows = refl
-put_more (y ∷ xs) x rows = put_more xs x (kept_total2.as_cells y ∷ filter (λ r. not (is_of_item y.item r)) rows)

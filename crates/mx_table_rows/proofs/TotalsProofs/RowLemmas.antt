@@ -1,9 +1,10 @@
 -- Rows that are chosen, changed and put in another order.
-use Rattle.std.proofs.Common.{◌≡◌, inl, inr, ℕ, pos, Bool, true, false, not, List, [], ◌∷◌, ◌++◌, map, filter, refl, sym, ap, subst, ◌∙◌, arith}
+use Rattle.std.proofs.Common.{◌≡◌, inl, inr, ℕ, pos, Bool, true, false, cond, ◌&&◌, not, List, [], ◌∷◌, ◌++◌, map, filter, refl, sym, ap, subst, ◌∙◌, arith}
 use Rattle.std.specs.Prelude.{if◌then◌else◌}
 use Rattle.std.specs.List.Sorted.{IsPermutation}
 use Rattle.std.proofs.lemmas.Bool.{cases_Bool, eqb-true}
-use Rattle.std.proofs.lemmas.List.Sorted.{IsPermutation-map, IsPermutation-sym, IsPermutation-filter_both, Contains-permutation, length_permutation}
+use Rattle.std.proofs.lemmas.List.{map-append}
+use Rattle.std.proofs.lemmas.List.Sorted.{IsPermutation-map, IsPermutation-sym, IsPermutation-trans, IsPermutation-append_left, IsPermutation-filter_both, Contains-permutation, length_permutation}
 use Rattle.sqlite_rules.proofs.ListLemmas.{has_filtered, has_contained, contains_had}
 use Rattle.sqlite_rules.specs.Lists.{Has}
 use Rattle.sqlite.specs.Order.{Row}
@@ -52,6 +53,22 @@ module _ {X : Type 0} where
     | inr a ↦ simp a (let first = same x a in let rest = same_else p f g same xs in cc)
   ]
 
+  -- and of elements that pass it
+  pub same_where : (p : X → Bool) (f g : X → X) → ((x : X) → p x ≡ true → f x ≡ g x) → (xs : List X) → map f (filter p xs) ≡ map g (filter p xs)
+  same_where p f g same [] = refl
+  same_where p f g same (x ∷ xs) = elim (cases_Bool (p x)) [
+    | inl a ↦ simp a (let first = same x a in let rest = same_where p f g same xs in cc)
+    | inr a ↦ simp a (same_where p f g same xs)
+  ]
+
+  -- one test after another is both
+  pub both_in : (p q : X → Bool) (xs : List X) → filter q (filter p xs) ≡ filter (λ x. p x && q x) xs
+  both_in p q [] = refl
+  both_in p q (x ∷ xs) = elim (cases_Bool (p x)) [
+    | inl a ↦ simp a (ap (λ l. cond (q x) (x ∷ l) l) (both_in p q xs))
+    | inr a ↦ simp a (both_in p q xs)
+  ]
+
   pub map_same : (xs : List X) → map (λ x. x) xs ≡ xs
   map_same [] = refl
   map_same (x ∷ xs) = ap (λ l. x ∷ l) (map_same xs)
@@ -64,6 +81,18 @@ where_one test change rows row only =
     let rest : map made (filter (λ r. not (test r)) rows) ≡ filter (λ r. not (test r)) rows = same_else test made (λ r. r) (λ r fails. ap (λ b. if b then change r else r) fails) rows ∙ map_same _ in
     subst (λ l. IsPermutation (map made rows) l) (ap (λ r. r ∷ map made (filter (λ y. not (test y)) rows)) first ∙ ap (λ l. change row ∷ l) rest)
     (IsPermutation-map made rows (row ∷ filter (λ r. not (test r)) rows) (split_one test rows row only))
+
+-- the rows that pass are changed
+pub where_many : (test : Row → Bool) (change : Row → Row) (rows those : List Row) → IsPermutation (filter test rows) those → IsPermutation (change_where test change rows) (map change those ++ filter (λ r. not (test r)) rows)
+where_many test change rows those same =
+    let made = λ (r : Row). if test r then change r else r in
+    let others = filter (λ r. not (test r)) rows in
+    let first : map made (filter test rows) ≡ map change (filter test rows) = same_where test made change (λ r passes. ap (λ b. if b then change r else r) passes) rows in
+    let rest : map made others ≡ others = same_else test made (λ r. r) (λ r fails. ap (λ b. if b then change r else r) fails) rows ∙ map_same _ in
+    let parts : map made (filter test rows ++ others) ≡ map change (filter test rows) ++ others = map-append made (filter test rows) others ∙ ap (λ l. l ++ map made others) first ∙ ap (λ l. map change (filter test rows) ++ l) rest in
+    IsPermutation-trans (map made rows) (map change (filter test rows) ++ others) (map change those ++ others)
+    (subst (IsPermutation (map made rows)) parts (IsPermutation-map made rows (filter test rows ++ others) (IsPermutation-filter_both test (λ r. not (test r)) (λ _. refl) rows)))
+    (IsPermutation-append_left others (map change (filter test rows)) (map change those) (IsPermutation-map change (filter test rows) those same))
 
 -- numbers that SQL finds equal
 pub number_is : (n m : ℕ) → equal Binary (Int (pos n)) (Int (pos m)) ≡ true → n ≡ m

@@ -30,7 +30,8 @@ use Rattle.mx_table_rows.proofs.TotalsProofs.RowLemmas.{passes_only}
 same_integer : (a b : ℤ) → equal Binary (Int a) (Int b) ≡ true → a ≡ b
 same_integer a b same = let test : int_test Eq a b ≡ true = sym (at_ints false Eq a b) ∙ same in grind (arith, ints)
 
-integer_is : (v : Value) (n : ℤ) → IsTrue (is_int v) → equal Binary v (Int n) ≡ true → v ≡ Int n
+-- a whole number that SQL finds equal to another is that one
+pub integer_is : (v : Value) (n : ℤ) → IsTrue (is_int v) → equal Binary v (Int n) ≡ true → v ≡ Int n
 integer_is Null n whole same = absurd cc
 integer_is (Int m) n whole same = ap Int (same_integer m n same)
 integer_is (Real x) n whole same = absurd cc

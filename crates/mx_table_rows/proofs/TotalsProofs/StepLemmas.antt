@@ -1,14 +1,10 @@
 -- Totals that are read one after another, and then written one after another.
-use Rattle.std.proofs.Common.{◌≡◌, ◌≢◌, inl, ℕ, ◌<◌, List, [], ◌∷◌, ◌++◌, not, length, get_or, All, Any, Ok, Err, Result, OnOk, refl, sym, subst, ◌∙◌, arith}
+use Rattle.std.proofs.Common.{◌≡◌, inl, ℕ, ◌<◌, List, [], ◌∷◌, ◌++◌, length, get_or, All, Any, Ok, Err, Result, OnOk, refl, sym, subst, arith}
 use Rattle.std.specs.Prelude.{IsErrAnd, nat_eq}
-use Rattle.std.specs.List.{AllByRecursion, IsDistinct}
+use Rattle.std.specs.List.{IsDistinct}
 use Rattle.std.proofs.lemmas.List.Elements.{All-nil, All-cons}
-use Rattle.std.proofs.lemmas.List.Sorted.{IsPermutation-refl, IsPermutation-trans, IsPermutation-cons}
-use Rattle.sqlite_keyed.proofs.ListLemmas.{IsPermutation-same, IsPermutation-filter}
+use Rattle.std.proofs.lemmas.List.Sorted.{IsPermutation-trans}
 use Rattle.sqlite.specs.Order.{Row}
-use Rattle.sqlite.specs.Table.{Table}
-use Rattle.sqlite.specs.Schema.{Schema}
-use Rattle.sqlite.specs.Tree.{Trees}
 use Rattle.sqlite.specs.Effect.{Database}
 use Rattle.sqlite.specs.State.{State, HasCleanDisk}
 use Rattle.mx_base.specs.declared.amounts.Use.{Use}
@@ -21,15 +17,15 @@ use Rattle.mx_layout.specs.Crash.{IsWithin}
 use Rattle.mx_layout.specs.Tables.{total2}
 use Rattle.mx_layout.proofs.CrashLemmas.{within_then, within_itself, stays_then}
 use Rattle.mx_layout.specs.kept.Cells.{kept_total2}
-use Rattle.mx_table_rows.specs.totals.InPlace.{Replaces, ReplacesRows}
 use Rattle.mx_table_rows.specs.totals.Calls.{change_where, Becomes, ReadsFrom, ChangesRows}
-use Rattle.mx_table_rows.specs.totals.Totals.{is_of_item, is_of_any, credited, CanCredit, IsCredited, AreCredited, totals_put}
-use Rattle.mx_table_rows.specs.totals.Steps.{ReadsTotals, PutsTotals}
+use Rattle.mx_table_rows.specs.totals.Totals.{is_of_any, credited, CanCredit, IsCredited, AreCredited, is_own_total, totals_put}
+use Rattle.mx_table_rows.specs.totals.Steps.{ReadsTotals}
+use Rattle.mx_table_rows.specs.totals.Puts.{PutsRows}
 use Rattle.mx_table_rows.proofs.TotalsProofs.ReadLemmas.{stopped_is}
 use Rattle.mx_layout.proofs.ReadLemmas.{on_ok}
 use Rattle.mx_tables.proofs.InsertsProofs.SetLemmas.{on_weaker, on_read_weaker, stays_open}
 use Rattle.mx_table_rows.proofs.TotalsProofs.KeepLemmas.{keeps_itself, keeps_then, unchanged_after, on_read, not_damaged, caused, at_damage}
-use Rattle.mx_table_rows.proofs.TotalsProofs.CreditLemmas.{credited_put, credited_more, put_more}
+use Rattle.mx_table_rows.proofs.TotalsProofs.CreditLemmas.{credited_put, credited_more}
 
 -- ── read ──
 
@@ -90,58 +86,6 @@ memory_stops {W} added all rows_of old new result is within =
     subst (λ (r : Result W TableFault). ReadsTotals added all rows_of old new r) (sym is)
     (record { rows = λ _ _. tt; cause = inl refl; damaged = λ _ _ same. (absurd cc); unchanged = λ _ _ same. (absurd cc); keeps = λ _ _. tt; mode = λ _ _. tt; inside = λ _ _. tt; within = within })
 
--- ── written ──
-
-others_same : (table : Table) (db : Trees) (tables : List Table) → AllByRecursion (λ t. t.tree ≢ table.tree → db t.tree ≡ db t.tree) tables
-others_same table db [] = tt
-others_same table db (t ∷ tables) = ((λ _. refl), others_same table db tables)
-
-others_then : (table : Table) (old mid new : Trees) (tables : List Table) → AllByRecursion (λ t. t.tree ≢ table.tree → mid t.tree ≡ old t.tree) tables → AllByRecursion (λ t. t.tree ≢ table.tree → new t.tree ≡ mid t.tree) tables
-    → AllByRecursion (λ t. t.tree ≢ table.tree → new t.tree ≡ old t.tree) tables
-others_then table old mid new [] a b = tt
-others_then table old mid new (t ∷ tables) a b = ((λ other. b.0 other ∙ a.0 other), others_then table old mid new tables a.1 b.1)
-
-pub none_put : (s : State) → PutsTotals {V = ℕ} [] s s (Ok 0)
-none_put s = record {
-  becomes = λ _ _ _ _ rises. record { schema = refl; rows = IsPermutation-refl (rows_in total2 s.now.trees); others = others_same total2 s.now.trees s.now.schema.tables; rises = rises; sound = λ sound. sound };
-  cause = tt;
-  mode = λ _ begun. begun;
-  inside = λ _ begun. stays_open s begun;
-  within = within_itself s;
-}
-
--- one more, in place of what it was
-becomes_more : (xs : List TotalRow) (x : TotalRow) (old mid new : Database) → Becomes total2 (totals_put xs) old mid → Replaces total2 (is_of_item x.item) (kept_total2.as_cells x) mid new → Becomes total2 (totals_put (xs ++ x ∷ [])) old new
-becomes_more xs x old mid new a b =
-    let left = λ (r : Row). not (is_of_item x.item r) in
-    record {
-      schema = b.schema ∙ a.schema;
-      rows = IsPermutation-trans _ _ _ (IsPermutation-same _ _ (put_more xs x (rows_in total2 old.trees)))
-          (IsPermutation-trans _ _ _ (IsPermutation-cons (kept_total2.as_cells x) _ _ (IsPermutation-filter left _ _ a.rows)) b.replaced);
-      others = others_then total2 old.trees mid.trees new.trees old.schema.tables a.others (subst (λ (s : Schema). AllByRecursion (λ t. t.tree ≢ total2.tree → new.trees t.tree ≡ mid.trees t.tree) s.tables) a.schema b.others);
-      rises = b.rises;
-      sound = λ _. b.sound;
-    }
-
-module _ (xs : List TotalRow) (x : TotalRow) (first old new : State) (so_far : PutsTotals {V = ℕ} xs first old (Ok 0)) where
-  pub one_put : {V : Type 0} (v : V) → ReplacesRows kept_total2 (is_of_item x.item) x old new (Ok v) → PutsTotals {V = ℕ} (xs ++ x ∷ []) first new (Ok 0)
-  one_put v one =
-      let early : HasCleanDisk new → HasCleanDisk old = λ clean. omega (arith, one.within.survives.clean) in
-      record {
-        becomes = λ clean begun has free rises. (let before = so_far.becomes (early clean) begun has free rises in
-            becomes_more xs x first.now old.now new.now before
-            (one.replaces clean (so_far.mode (early clean) begun) (subst kept_total2.IsIn (sym before.schema) has) (subst HasNoReferences (sym before.schema) free) before.rises));
-        cause = tt;
-        mode = λ clean begun. (one.inside clean (so_far.mode (early clean) begun)).mode;
-        inside = λ clean begun. stays_then first old new (so_far.inside (early clean) begun) (one.inside clean (so_far.mode (early clean) begun.0));
-        within = within_then first old new so_far.within so_far.mode one.within;
-      }
-
-  pub put_stops : {V W : Type 0} (all : List TotalRow) (e : TableFault) (result : Result W TableFault) → IsErrAnd result (λ f. f ≡ e) → ReplacesRows {V = V} kept_total2 (is_of_item x.item) x old new (Err e) → PutsTotals all first new result
-  put_stops {V} {W} all e result is one =
-      subst (λ (r : Result W TableFault). PutsTotals all first new r) (sym (stopped_is e result is))
-      (record { becomes = λ _ _ _ _ _. tt; cause = one.cause; mode = λ _ _. tt; inside = λ _ _. tt; within = within_then first old new so_far.within so_far.mode one.within })
-
 -- ── read, and then written ──
 
 all_can : (added : Use) (rows : List Row) (items : List ℕ) (xs : List TotalRow) → AreCredited added rows items xs → All (CanCredit added rows) items
@@ -151,7 +95,7 @@ all_can added rows (item ∷ items) [] all = absurd all
 all_can added rows (item ∷ items) (x ∷ xs) all = All-cons (CanCredit added rows) item items (all.0.was, all.0.can) (all_can added rows items xs all.1)
 
 pub read_then_put : {V W : Type 0} (added : Use) (items : List ℕ) (rows_of : V → List TotalRow) (v : V) (old mid new : State) (result : Result W TableFault) → IsDistinct nat_eq items
-    → ReadsTotals added items rows_of old mid (Ok v) → PutsTotals (rows_of v) mid new result
+    → ReadsTotals added items rows_of old mid (Ok v) → PutsRows kept_total2 is_own_total (rows_of v) mid new result
     → ChangesRows kept_total2 (change_where (is_of_any items) (credited added)) (λ rows. All (CanCredit added rows) items) (λ rows. Any (λ item. ¬ CanCredit added rows item) items) old new result
 read_then_put {V} {W} added items rows_of v old mid new result distinct one two =
     let early : HasCleanDisk new → HasCleanDisk mid = λ clean. omega (arith, two.within.survives.clean) in

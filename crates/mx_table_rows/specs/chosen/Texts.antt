@@ -11,6 +11,10 @@ by_value at values = has_value at (column values 0)
 abbrev pub by_values : ℕ → ℕ → Row → Row → Bool
 by_values one two values row = has_value one (column values 0) row && has_value two (column values 1) row
 
+-- the rows with these four values in the first four columns
+abbrev pub by_four_values : Row → Row → Bool
+by_four_values values row = has_value 0 (column values 0) row && (has_value 1 (column values 1) row && (has_value 2 (column values 2) row && has_value 3 (column values 3) row))
+
 -- the spans with the first value in this column that nothing ended
 abbrev pub open_by : ℕ → Row → Row → Bool
 open_by at values = is_open at (column values 0)
@@ -65,6 +69,9 @@ opening_by_seq = codes "SELECT seq, item, kind, task, minutes, cycles, day FROM 
 abbrev pub crs_by_seq : List ℕ
 crs_by_seq = codes "SELECT seq, item, kind, moment FROM crs WHERE seq = ?1 ORDER BY seq"
 
+abbrev pub crs_by_item : List ℕ
+crs_by_item = codes "SELECT seq, item, kind, moment FROM crs WHERE item = ?1 ORDER BY seq"
+
 abbrev pub crs_line_by_seq : List ℕ
 crs_line_by_seq = codes "SELECT seq, line, item, task, defect FROM crs_line WHERE seq = ?1 ORDER BY seq, line"
 
@@ -98,11 +105,26 @@ span2_by_remove_seq = codes "SELECT fit_seq, component, aircraft, position, from
 abbrev pub sector2_by_seq : List ℕ
 sector2_by_seq = codes "SELECT seq, aircraft, page, line, took_off, landed, cycles FROM sector2 WHERE seq = ?1 ORDER BY seq"
 
+abbrev pub sector2_by_aircraft : List ℕ
+sector2_by_aircraft = codes "SELECT seq, aircraft, page, line, took_off, landed, cycles FROM sector2 WHERE aircraft = ?1 ORDER BY seq"
+
 abbrev pub total2_by_item : List ℕ
 total2_by_item = codes "SELECT item, minutes, cycles, clock FROM total2 WHERE item = ?1 ORDER BY item"
 
 abbrev pub base2_by_item_and_task : List ℕ
 base2_by_item_and_task = codes "SELECT item, task, minutes, cycles, day FROM base2 WHERE item = ?1 AND task = ?2 ORDER BY item, task"
+
+abbrev pub defect3_by_seq : List ℕ
+defect3_by_seq = codes "SELECT seq, aircraft, moment, reference, category, days, cycles, found_cycles FROM defect3 WHERE seq = ?1 ORDER BY seq"
+
+abbrev pub defect3_by_aircraft : List ℕ
+defect3_by_aircraft = codes "SELECT seq, aircraft, moment, reference, category, days, cycles, found_cycles FROM defect3 WHERE aircraft = ?1 ORDER BY seq"
+
+abbrev pub done3_by_item : List ℕ
+done3_by_item = codes "SELECT item, task, seq, line, value_m, value_c, value_d, due_m, due_c, due_d, base_m, base_c, base_d FROM done3 WHERE item = ?1 ORDER BY item, task, seq, line"
+
+abbrev pub done3_by_item_and_task : List ℕ
+done3_by_item_and_task = codes "SELECT item, task, seq, line, value_m, value_c, value_d, due_m, due_c, due_d, base_m, base_c, base_d FROM done3 WHERE item = ?1 AND task = ?2 ORDER BY item, task, seq, line"
 
 -- ── open spans ──
 
@@ -125,6 +147,9 @@ all_defects = codes "SELECT seq, aircraft, moment, reference, category, days FRO
 
 abbrev pub all_crs_lines : List ℕ
 all_crs_lines = codes "SELECT seq, line, item, task, defect FROM crs_line ORDER BY seq, line"
+
+abbrev pub all_defects3 : List ℕ
+all_defects3 = codes "SELECT seq, aircraft, moment, reference, category, days, cycles, found_cycles FROM defect3 ORDER BY seq"
 
 -- ── the last row ──
 

@@ -37,3 +37,9 @@ total2_gone = codes "DELETE FROM total2 WHERE item = ?1"
 
 abbrev pub base2_gone : List ℕ
 base2_gone = codes "DELETE FROM base2 WHERE item = ?1 AND task = ?2"
+
+abbrev pub defect3_gone : List ℕ
+defect3_gone = codes "DELETE FROM defect3 WHERE seq = ?1"
+
+abbrev pub done3_gone : List ℕ
+done3_gone = codes "DELETE FROM done3 WHERE item = ?1 AND task = ?2 AND seq = ?3 AND line = ?4"

@@ -1,4 +1,4 @@
--- The steps of a credit: all totals are read, and then each is written.
+-- The first step of a credit: all totals are read.
 use Rattle.std.specs.Prelude.{◌≡◌, ◌⊎◌, ℕ, List, Any, Result, Err, OnOk, IfOk, IfErr, IsTrue}
 use Rattle.sqlite.specs.State.{State, HasCleanDisk, IsUnchanged, KeepsCounts}
 use Rattle.mx_base.specs.declared.amounts.Use.{Use}
@@ -6,14 +6,13 @@ use Rattle.mx_base.specs.declared.rows.rows.TotalRow.{TotalRow}
 use Rattle.mx_layout.specs.declared.fault.TableFault.{TableFault}
 use Rattle.mx_layout.specs.declared.fault.TableFault.TheVariants.{Memory, Store, Damaged}
 use Rattle.mx_layout.specs.declared.fault.Table.TheVariants.{Total2}
-use Rattle.mx_layout.specs.Contents.{rows_in, HasNoReferences, Rises}
+use Rattle.mx_layout.specs.Contents.{rows_in}
 use Rattle.mx_layout.specs.Crash.{StaysInside, IsWithin}
 use Rattle.mx_layout.specs.Tables.{total2}
 use Rattle.mx_layout.specs.kept.Cells.{kept_total2}
 use Rattle.mx_tables.specs.Calls.{OnRead}
 use Rattle.mx_tables.specs.inserts.Sets.{IsInside}
-use Rattle.mx_table_rows.specs.totals.Calls.{Becomes}
-use Rattle.mx_table_rows.specs.totals.Totals.{CanCredit, AreCredited, totals_put}
+use Rattle.mx_table_rows.specs.totals.Totals.{CanCredit, AreCredited}
 
 -- nothing was changed, if anything was read at all
 pub record Keeps (old new : State) : Type 0 where
@@ -33,12 +32,4 @@ pub record ReadsTotals {V : Type 0} (added : Use) (items : List ℕ) (rows_of : 
   pub keeps : HasCleanDisk new → kept_total2.IsIn old.now.schema → OnOk result (Keeps old new)
   pub mode : HasCleanDisk new → IsTrue old.in_transaction → OnRead result (IsTrue new.in_transaction)
   pub inside : HasCleanDisk new → IsInside old → OnRead result (StaysInside old new)
-  pub within : IsWithin old new
-
--- totals were written one after another, each in place of that of its item; or the call stopped
-pub record PutsTotals {V : Type 0} (xs : List TotalRow) (old new : State) (result : Result V TableFault) : Type 0 where
-  pub becomes : HasCleanDisk new → IsTrue old.in_transaction → kept_total2.IsIn old.now.schema → HasNoReferences old.now.schema → Rises total2 old.now.trees → OnOk result (Becomes total2 (totals_put xs) old.now new.now)
-  pub cause : IfErr result (λ e. (e ≡ Memory) ⊎ (e ≡ Store))
-  pub mode : HasCleanDisk new → IsTrue old.in_transaction → OnOk result (IsTrue new.in_transaction)
-  pub inside : HasCleanDisk new → IsInside old → OnOk result (StaysInside old new)
   pub within : IsWithin old new

@@ -1,5 +1,5 @@
 -- Totals, and what becomes of the rows of `total2`.
-use Rattle.std.specs.Prelude.{◌≡◌, ℕ, ◌+◌, pos, Bool, not, List, [], ◌∷◌, filter}
+use Rattle.std.specs.Prelude.{◌≡◌, ℕ, ◌+◌, pos, Bool, List, [], ◌∷◌}
 use Rattle.std.specs.List.{list_any}
 use Rattle.sqlite.specs.declared.types.Value.{Value}
 use Rattle.sqlite.specs.declared.types.Value.TheVariants.{Int}
@@ -11,6 +11,7 @@ use Rattle.mx_layout.specs.kept.Cells.{kept_total2}
 use Rattle.mx_table_rows.specs.chosen.Choices.{has_value}
 use Rattle.mx_table_rows.specs.declared.totals.lives.Total.{Total}
 use Rattle.mx_table_rows.specs.totals.Single.{IsOnly}
+use Rattle.mx_table_rows.specs.totals.Puts.{rows_put}
 
 -- a life with a use added
 abbrev pub life_with : Use → Use → Use
@@ -68,7 +69,10 @@ AreCredited added rows [] [] = Unit {0}
 AreCredited added rows (item ∷ items) (x ∷ xs) = IsCredited added rows item x × AreCredited added rows items xs
 AreCredited added rows _ _ = ⊥
 
+-- the total is that of the item of the row
+abbrev pub is_own_total : TotalRow → Row → Bool
+is_own_total x row = is_of_item x.item row
+
 -- the rows, with totals one after another in place of those that their items had
 abbrev pub totals_put : List TotalRow → List Row → List Row
-totals_put [] rows = rows
-totals_put (x ∷ xs) rows = totals_put xs (kept_total2.as_cells x ∷ filter (λ row. not (is_of_item x.item row)) rows)
+totals_put = rows_put kept_total2 is_own_total

@@ -25,3 +25,21 @@ pub fn sector2_by_seq<S: Alter>(
         params![seq],
     )
 }
+
+/// The sectors of an aircraft.
+pub fn sector2_by_aircraft<S: Alter>(
+    alloc: Global,
+    tx: &mut Transaction<'_, S>,
+    aircraft: u32,
+) -> Result<Vec<Sector2Row>, TableFault>
+    ensures same_reference { tx.new.conn.ghost_name ≡ tx.old.conn.ghost_name }
+    ensures reads { ReadsBy kept_sector2_rows 1 (Int (pos aircraft))
+        (state S.Store tx.old.conn.now) (state S.Store tx.new.conn.now) result }
+{
+    rows_chosen(
+        alloc,
+        tx,
+        "SELECT seq, aircraft, page, line, took_off, landed, cycles FROM sector2 WHERE aircraft = ?1 ORDER BY seq",
+        params![aircraft],
+    )
+}

@@ -45,6 +45,24 @@ pub fn crs_by_seq<S: Alter>(
     )
 }
 
+/// The releases of an item.
+pub fn crs_by_item<S: Alter>(
+    alloc: Global,
+    tx: &mut Transaction<'_, S>,
+    item: u32,
+) -> Result<Vec<ReleaseRow>, TableFault>
+    ensures same_reference { tx.new.conn.ghost_name ≡ tx.old.conn.ghost_name }
+    ensures reads { ReadsBy kept_crs 1 (Int (pos item))
+        (state S.Store tx.old.conn.now) (state S.Store tx.new.conn.now) result }
+{
+    rows_chosen(
+        alloc,
+        tx,
+        "SELECT seq, item, kind, moment FROM crs WHERE item = ?1 ORDER BY seq",
+        params![item],
+    )
+}
+
 /// The lines of a release.
 pub fn crs_line_by_seq<S: Alter>(
     alloc: Global,

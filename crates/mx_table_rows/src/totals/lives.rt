@@ -1,7 +1,9 @@
 //! The life and the clock of an item, and a life that a use is added to.
+ghost use Rattle.std.specs.Prelude.{◌+◌, ◌≤◌};
 ghost use Rattle.std.specs.Option.{SomeIff};
 ghost use Rattle.mx_book.specs.due.Due.{IsLife};
 ghost use Rattle.mx_table_rows.specs.totals.Totals.{life_with};
+ghost use Rattle.mx_table_rows.specs.totals.Found.{most_cycles};
 
 use mx_base::{Moment, Use};
 
@@ -16,6 +18,14 @@ const MOST_CYCLES: u32 = 51_000_000;
 pub struct Total {
     pub life: Use,
     pub clock: Moment,
+}
+
+/// The cycles with more added, or `None` where that is past the most that a life can have.
+pub(crate) fn cycles_with(cycles: u32, added: u32) -> Option<u32>
+    ensures { SomeIff result (cycles + added ≤ most_cycles) (cycles + added) }
+{
+    let sum = cycles.checked_add(added)?;
+    if sum <= MOST_CYCLES { Some(sum) } else { None }
 }
 
 /// The life with a use added, or `None` where that is past the most that a life can be.

@@ -12,8 +12,9 @@ ghost use Rattle.mx_layout.specs.kept.Cells.{kept_total2};
 ghost use Rattle.mx_tables.specs.Calls.{OnRead};
 ghost use Rattle.mx_table_rows.specs.totals.Calls.{ReadsFrom, ChangesRows, change_where};
 ghost use Rattle.mx_table_rows.specs.totals.Single.{IsOnly, HasOne};
-ghost use Rattle.mx_table_rows.specs.totals.Totals.{total_row, is_of_item, is_of_any, credited, clocked, CanCredit, IsCredited};
-ghost use Rattle.mx_table_rows.specs.totals.Steps.{ReadsTotals, PutsTotals};
+ghost use Rattle.mx_table_rows.specs.totals.Totals.{total_row, is_of_item, is_own_total, is_of_any, credited, clocked, CanCredit, IsCredited};
+ghost use Rattle.mx_table_rows.specs.totals.Steps.{ReadsTotals};
+ghost use Rattle.mx_table_rows.specs.totals.Puts.{PutsRows};
 
 use crate::chosen::kept::total2_by_item;
 use crate::totals::in_place::set_total;
@@ -82,7 +83,7 @@ fn rows_with<S: Alter>(
 // Writes totals, each in place of the one that its item had.
 fn put_rows<S: Alter>(tx: &mut Transaction<'_, S>, rows: &[TotalRow]) -> Result<(), TableFault>
     ensures same_reference { tx.new.conn.ghost_name ≡ tx.old.conn.ghost_name }
-    ensures puts { PutsTotals rows.now
+    ensures puts { PutsRows kept_total2 is_own_total rows.now
         (state S.Store tx.old.conn.now) (state S.Store tx.new.conn.now) result }
 {
     'rows: for row in rows {

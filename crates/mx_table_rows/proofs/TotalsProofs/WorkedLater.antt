@@ -1,0 +1,40 @@
+-- Worked rows: what becomes of the rows of deferrals, and which row is that of an accomplishment, by hand.
+use Rattle.std.proofs.Common.{◌≡◌, ℕ, true, false, refl, Some, None, pos, filter, List, [], ◌∷◌}
+use Rattle.std.specs.Prelude.{codes}
+use Rattle.sqlite.specs.Order.{Row}
+use Rattle.sqlite.specs.declared.types.Value.TheVariants.{Int, Text, Null}
+use Rattle.sqlite_sql.specs.Ops.{binary}
+use Rattle.sqlite_value.specs.Order.{value_cmp}
+use lib.Ieee.{is_nan, lt}
+use Rattle.mx_book.specs.Programme.{last_of}
+use Rattle.mx_table_rows.specs.totals.Calls.{change_where}
+use Rattle.mx_table_rows.specs.totals.Done.{is_of_line}
+use Rattle.mx_table_rows.specs.totals.Found.{is_from, is_found_from, found_later}
+
+-- a defect of an aircraft, of category C, found at a moment and at so many cycles
+row : (seq aircraft moment found : ℕ) → Row
+row seq aircraft moment found = Int (pos seq) ∷ Int (pos aircraft) ∷ Int (pos moment) ∷ Text (codes "24-1") ∷ Int (pos 3) ∷ Null ∷ Null ∷ Int (pos found) ∷ []
+
+-- a landing at 28401200 with 2 cycles is entered late, of aircraft 1: its defects from then on were found at 2 cycles more
+shifted_rows : change_where (is_found_from 1 28401200) (found_later 2) (row 4 1 28401199 800 ∷ row 5 1 28401200 801 ∷ row 6 2 28401300 90 ∷ row 7 1 28401300 805 ∷ [])
+    ≡ row 4 1 28401199 800 ∷ row 5 1 28401200 803 ∷ row 6 2 28401300 90 ∷ row 7 1 28401300 807 ∷ []
+unfolding row binary value_cmp is_nan lt
+shifted_rows = refl
+
+-- what is no number is at no moment
+from_nothing : (is_from 0 Null ≡ false) × (is_from 0 (Int (pos 0)) ≡ true)
+from_nothing = (refl, refl)
+
+-- the first columns of an accomplishment: its item, its task, the entry and the line there
+done : (item : ℕ) (task : List ℕ) (seq line : ℕ) → Row
+done item task seq line = Int (pos item) ∷ Text task ∷ Int (pos seq) ∷ Int (pos line) ∷ []
+
+-- an accomplishment is known by all four
+done_of : filter (is_of_line 1 (codes "100H") 9 2) (done 2 (codes "100H") 9 2 ∷ done 1 (codes "ANNUAL") 9 2 ∷ done 1 (codes "100H") 8 2 ∷ done 1 (codes "100H") 9 1 ∷ done 1 (codes "100H") 9 2 ∷ [])
+    ≡ done 1 (codes "100H") 9 2 ∷ []
+unfolding done binary value_cmp is_nan lt
+done_of = refl
+
+-- the last of three, and of none
+last_done : (last_of {X = ℕ} (7 ∷ 8 ∷ 9 ∷ []) ≡ Some 9) × (last_of {X = ℕ} [] ≡ None)
+last_done = (refl, refl)

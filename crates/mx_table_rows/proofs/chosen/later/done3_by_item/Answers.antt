@@ -1,0 +1,9 @@
+use Rattle.std.proofs.Common.{None, rules, [], ◌∷◌, pos}
+use Rattle.sqlite.specs.declared.types.Value.TheVariants.{Int}
+use Rattle.mx_layout.specs.kept.Cells.{kept_done3}
+use Rattle.mx_table_rows.specs.chosen.Texts.{by_value}
+use Rattle.mx_table_rows.proofs.ChosenProofs.Understood.{done3_by_item_finds}
+use Rattle.mx_table_rows.proofs.chosen.later.done3_by_item.Goals as goal
+
+pub returns-clause-reads : goal.returns-clause-reads
+returns-clause-reads g c = c.rows_chosen.ensures.reads None kept_done3.order (by_value 0) (Int (pos c.args.item) ∷ []) done3_by_item_finds (search rules)
