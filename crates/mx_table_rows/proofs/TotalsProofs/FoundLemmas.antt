@@ -19,7 +19,8 @@ use Rattle.mx_layout.specs.kept.Cells.{kept_defect3}
 use Rattle.mx_layout.proofs.KeptProofs.MovedLawful.{defect3_lawful}
 use Rattle.mx_table_rows.specs.chosen.Calls.{ReadsFirst}
 use Rattle.mx_table_rows.specs.totals.Calls.{ReadsFrom}
-use Rattle.mx_table_rows.specs.totals.Found.{most_cycles, is_of_aircraft, was_found_from, found_with, CanGain, CanShift, AllCanShift, OneCantShift, AreGained, AreShifted}
+use Rattle.mx_table_rows.specs.declared.totals.lives.TheConstants.{MOST_CYCLES}
+use Rattle.mx_table_rows.specs.totals.Found.{is_of_aircraft, was_found_from, found_with, CanGain, CanShift, AllCanShift, OneCantShift, AreGained, AreShifted}
 use Rattle.mx_table_rows.proofs.TotalsProofs.ReadLemmas.{stopped_is}
 
 module _ (cycles landed : ℕ) where
@@ -46,7 +47,7 @@ module _ (cycles landed : ℕ) where
         early from = grind (arith, nat_tests)
 
     -- one that was found from then on is found later
-    pub one_gained : nat_lt x.deferral.moment landed ≡ false → x.found_cycles + cycles ≤ most_cycles → AreGained cycles landed (xs ++ x ∷ []) (ys ++ found_with cycles x ∷ [])
+    pub one_gained : nat_lt x.deferral.moment landed ≡ false → x.found_cycles + cycles ≤ MOST_CYCLES → AreGained cycles landed (xs ++ x ∷ []) (ys ++ found_with cycles x ∷ [])
     one_gained from within = record {
       can = each_can (λ _. within);
       are = made (found_with cycles x ∷ []) (ap (λ b. map (found_with cycles) (cond (not b) (x ∷ []) [])) from);

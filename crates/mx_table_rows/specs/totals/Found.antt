@@ -8,10 +8,7 @@ use Rattle.mx_layout.specs.kept.Cells.{kept_defect3}
 use Rattle.mx_layout.specs.Reading.{HasOther}
 use Rattle.mx_table_rows.specs.chosen.Choices.{has_value}
 use Rattle.mx_table_rows.specs.totals.Totals.{number_with}
-
--- the most cycles of a life
-abbrev pub most_cycles : ℕ
-most_cycles = 51000000
+use Rattle.mx_table_rows.specs.declared.totals.lives.TheConstants.{MOST_CYCLES}
 
 -- the value is a number that is not below this one
 abbrev pub is_from : ℕ → Value → Bool
@@ -41,7 +38,7 @@ found_with cycles x = record x { found_cycles = x.found_cycles + cycles }
 
 -- where the defect was found at this moment or later, so many cycles more are no more than those of a life
 abbrev pub CanGain : ℕ → ℕ → Deferral3Row → Type 0
-CanGain cycles landed x = landed ≤ x.deferral.moment → x.found_cycles + cycles ≤ most_cycles
+CanGain cycles landed x = landed ≤ x.deferral.moment → x.found_cycles + cycles ≤ MOST_CYCLES
 
 -- the row is that of a defect that can be read, and can be found at so many cycles more
 pub record CanShift (cycles landed : ℕ) (row : Row) : Type 0 where

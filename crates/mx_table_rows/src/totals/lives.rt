@@ -3,7 +3,7 @@ ghost use Rattle.std.specs.Prelude.{◌+◌, ◌≤◌};
 ghost use Rattle.std.specs.Option.{SomeIff};
 ghost use Rattle.mx_book.specs.due.Due.{IsLife};
 ghost use Rattle.mx_table_rows.specs.totals.Totals.{life_with};
-ghost use Rattle.mx_table_rows.specs.totals.Found.{most_cycles};
+ghost use Rattle.mx_table_rows.specs.declared.totals.lives.TheConstants.{MOST_CYCLES};
 
 use mx_base::{Moment, Use};
 
@@ -11,7 +11,7 @@ use mx_base::{Moment, Use};
 const MOST_MINUTES: u32 = 1_540_000_000;
 
 /// The most cycles of a life.
-const MOST_CYCLES: u32 = 51_000_000;
+pub const MOST_CYCLES: u32 = 51_000_000;
 
 /// The life of an item now, and its clock: the moment that its records have reached.
 #[derive(Clone, Copy, Debug, PartialEq, Eq)]
@@ -22,7 +22,7 @@ pub struct Total {
 
 /// The cycles with more added, or `None` where that is past the most that a life can have.
 pub(crate) fn cycles_with(cycles: u32, added: u32) -> Option<u32>
-    ensures { SomeIff result (cycles + added ≤ most_cycles) (cycles + added) }
+    ensures { SomeIff result (cycles + added ≤ MOST_CYCLES) (cycles + added) }
 {
     let sum = cycles.checked_add(added)?;
     if sum <= MOST_CYCLES { Some(sum) } else { None }
