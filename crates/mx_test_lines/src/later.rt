@@ -296,7 +296,9 @@ fn done<S: Alter>(alloc: Global, conn: &mut Connection<S>, row: DoneRow) -> Answ
 fn shift<S: Alter>(
     alloc: Global,
     conn: &mut Connection<S>,
-    (aircraft, cycles, landed): (u32, u32, Moment),
+    aircraft: u32,
+    cycles: u32,
+    landed: Moment,
 ) -> AnswerText
     requires { conn.old.in_transaction ≡ false }
 {
@@ -369,7 +371,7 @@ pub fn answer_of_later_rows<S: Alter>(
             let aircraft = aircraft.parse::<u32>()?;
             let cycles = cycles.parse::<u32>()?;
             let landed = Moment::read(landed)?;
-            shift(alloc, conn, (aircraft, cycles, landed))
+            shift(alloc, conn, aircraft, cycles, landed)
         }
         _ => Err(Unmade::NoSuchLine),
     }
