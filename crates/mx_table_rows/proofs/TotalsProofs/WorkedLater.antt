@@ -12,7 +12,8 @@ use Rattle.mx_book.specs.due.Due.{IsLife}
 use Rattle.mx_book.specs.Programme.{last_of}
 use Rattle.mx_table_rows.specs.totals.Calls.{change_where}
 use Rattle.mx_table_rows.specs.totals.Done.{is_of_line}
-use Rattle.mx_table_rows.specs.totals.Found.{most_cycles, is_from, is_found_from, is_own_defect, found_later, was_found_from, found_with}
+use Rattle.mx_table_rows.specs.declared.totals.lives.TheConstants.{MOST_CYCLES}
+use Rattle.mx_table_rows.specs.totals.Found.{is_from, is_found_from, is_own_defect, found_later, was_found_from, found_with}
 
 -- a defect of an aircraft, of category C, found at a moment and at so many cycles
 row : (seq aircraft moment found : ℕ) → Row
@@ -43,7 +44,7 @@ unfolding row found_at binary value_cmp is_nan lt
 found_by = refl
 
 -- a life has so many cycles, and no more
-most_of_a_life : IsLife (record { minutes = 0; cycles = most_cycles }) × ¬ IsLife (record { minutes = 0; cycles = most_cycles + 1 })
+most_of_a_life : IsLife (record { minutes = 0; cycles = MOST_CYCLES }) × ¬ IsLife (record { minutes = 0; cycles = MOST_CYCLES + 1 })
 most_of_a_life = (record { minutes = omega arith; cycles = omega arith }, λ life. absurd (omega (arith, life.cycles)))
 
 -- the first columns of an accomplishment: its item, its task, the entry and the line there
