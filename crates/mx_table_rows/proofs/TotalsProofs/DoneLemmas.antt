@@ -1,10 +1,9 @@
 -- The last accomplishment of a task, from those that are read.
-use Rattle.std.proofs.Common.{arith, ◌≡◌, ◌-◌, ℕ, List, [], ◌∷◌, filter, length, Option, Some, None, Vec, Ok, Err, Result, IsPermutation, refl, sym, ap, subst, ◌∙◌}
-use Rattle.std.specs.Prelude.{IsErrAnd, IsSorted, fold, slice_get}
+use Rattle.std.proofs.Common.{◌≡◌, ◌-◌, ℕ, List, filter, length, Option, None, Vec, Ok, Err, Result, IsPermutation, sym, subst}
+use Rattle.std.specs.Prelude.{IsErrAnd, IsSorted, slice_get}
 use Rattle.std.proofs.lemmas.List.Sorted.{IsPermutation-sym, Contains-permutation}
 use Rattle.sqlite.specs.State.{State}
 use Rattle.mx_base.specs.declared.rows.rows.DoneRow.{DoneRow}
-use Rattle.mx_book.specs.Programme.{last_of}
 use Rattle.mx_layout.specs.declared.fault.TableFault.{TableFault}
 use Rattle.mx_layout.specs.Contents.{rows_in}
 use Rattle.mx_layout.specs.Tables.{done3}
@@ -14,15 +13,6 @@ use Rattle.mx_table_rows.specs.totals.Bases.{is_of_task}
 use Rattle.mx_table_rows.specs.totals.Calls.{ReadsFrom}
 use Rattle.mx_table_rows.specs.totals.Done.{IsLastDone, HasOtherDone}
 use Rattle.mx_table_rows.proofs.TotalsProofs.ReadLemmas.{stopped_is}
-
-last_from : {X : Type 0} (o : Option X) (x : X) (xs : List X) → fold (λ before y. Some y) o (x ∷ xs) ≡ slice_get (x ∷ xs) (length xs)
-last_from o x [] = refl
-last_from o x (y ∷ xs) = last_from (Some x) y xs
-
--- the last is at the end
-pub last_is : {X : Type 0} (xs : List X) → last_of xs ≡ slice_get xs (length xs - 1)
-last_is [] = refl
-last_is (x ∷ xs) = last_from None x xs ∙ (let same : length xs ≡ length (x ∷ xs) - 1 = omega arith in ap (slice_get (x ∷ xs)) same)
 
 module _ (item : ℕ) (task : List ℕ) (old new : State) where
   -- how the accomplishments of the task were read
@@ -40,7 +30,7 @@ module _ (item : ℕ) (task : List ℕ) (old new : State) where
       fit = r.fits;
       those = subst (IsPermutation (filter (is_of_task item task) (rows_in done3 old.now.trees))) (sym are.first) are.are.all;
       sorted = subst (λ l. IsSorted kept_done3.order l) (sym are.first) are.are.sorted;
-      is = at_end ∙ sym (last_is rows.items);
+      is = at_end;
     });
     cause = tt;
     damaged = λ _ _ is. (absurd cc);

@@ -1,5 +1,5 @@
 -- Worked rows: what becomes of the rows of deferrals, and which row is that of an accomplishment, by hand.
-use Rattle.std.proofs.Common.{◌≡◌, ℕ, ◌+◌, true, false, map, arith, refl, Some, None, pos, filter, List, [], ◌∷◌}
+use Rattle.std.proofs.Common.{◌≡◌, ℕ, ◌+◌, true, false, map, arith, refl, pos, filter, List, [], ◌∷◌}
 use Rattle.std.specs.Prelude.{codes}
 use Rattle.sqlite.specs.Order.{Row}
 use Rattle.sqlite.specs.declared.types.Value.TheVariants.{Int, Text, Null}
@@ -9,7 +9,6 @@ use lib.Ieee.{is_nan, lt}
 use Rattle.mx_base.specs.declared.category.Category.TheVariants.{C}
 use Rattle.mx_base.specs.declared.rows.rows.Deferral3Row.{Deferral3Row}
 use Rattle.mx_book.specs.due.Due.{IsLife}
-use Rattle.mx_book.specs.Programme.{last_of}
 use Rattle.mx_table_rows.specs.totals.Calls.{change_where}
 use Rattle.mx_table_rows.specs.totals.Done.{is_of_line}
 use Rattle.mx_table_rows.specs.declared.totals.lives.TheConstants.{MOST_CYCLES}
@@ -56,7 +55,3 @@ done_of : filter (is_of_line 1 (codes "100H") 9 2) (done 2 (codes "100H") 9 2 �
     ≡ done 1 (codes "100H") 9 2 ∷ []
 unfolding done binary value_cmp is_nan lt
 done_of = refl
-
--- the last of three, and of none
-last_done : (last_of {X = ℕ} (7 ∷ 8 ∷ 9 ∷ []) ≡ Some 9) × (last_of {X = ℕ} [] ≡ None)
-last_done = (refl, refl)

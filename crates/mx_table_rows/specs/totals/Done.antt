@@ -1,10 +1,9 @@
 -- Accomplishments, as rows of `done3`.
-use Rattle.std.specs.Prelude.{◌≡◌, ◌≤◌, ℕ, pos, Bool, List, map, filter, All, Option, IsPermutation, IsSorted, ◌&&◌}
+use Rattle.std.specs.Prelude.{◌≡◌, ◌≤◌, ◌-◌, ℕ, pos, Bool, List, length, map, filter, slice_get, All, Option, IsPermutation, IsSorted, ◌&&◌}
 use Rattle.sqlite.specs.declared.types.Value.TheVariants.{Int, Text}
 use Rattle.sqlite.specs.Order.{Row}
 use Rattle.mx_base.specs.Calendar.{last_day}
 use Rattle.mx_base.specs.declared.rows.rows.DoneRow.{DoneRow}
-use Rattle.mx_book.specs.Programme.{last_of}
 use Rattle.mx_layout.specs.kept.Cells.{kept_done3}
 use Rattle.mx_layout.specs.Reading.{HasOther}
 use Rattle.mx_layout.specs.kept.Family.{IsReadableAs}
@@ -26,7 +25,7 @@ pub record IsLastDone (item : ℕ) (task : List ℕ) (rows : List Row) (last : O
   pub fit : All kept_done3.Fits done
   pub those : IsPermutation (filter (is_of_task item task) rows) (map kept_done3.as_cells done)
   pub sorted : IsSorted kept_done3.order (map kept_done3.as_cells done)
-  pub is : last ≡ last_of done
+  pub is : last ≡ slice_get done (length done - 1)
 
 -- an accomplishment of the task of the item is none of the type
 abbrev pub HasOtherDone : ℕ → List ℕ → List Row → Type 0
