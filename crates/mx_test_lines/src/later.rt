@@ -10,7 +10,7 @@ ghost use Rattle.std.specs.Prelude.{◌≡◌, false};
 
 use crate::faults::fault_text;
 use crate::kept::committed;
-use mx_base::rows::{Deferral3Row, DoneRow};
+use mx_base::rows::{Deferral3Row, DoneRow, ReleaseRow, Sector2Row};
 use mx_base::{Base, Category, Limit, Moment, TaskId};
 use mx_layout::TableFault;
 use mx_table_rows::chosen::later::{
@@ -107,22 +107,6 @@ fn accomplishments_text(alloc: Global, found: &[DoneRow]) -> Result<String, Allo
     or_none(text)
 }
 
-fn deferrals<S: Alter>(alloc: Global, conn: &mut Connection<S>) -> AnswerText
-    requires { conn.old.in_transaction ≡ false }
-{
-    let mut tx = conn.transaction();
-    let found = rows(alloc, &mut tx);
-    deferrals_found(alloc, found)
-}
-
-fn accomplishments<S: Alter>(alloc: Global, conn: &mut Connection<S>) -> AnswerText
-    requires { conn.old.in_transaction ≡ false }
-{
-    let mut tx = conn.transaction();
-    let found = rows(alloc, &mut tx);
-    accomplishments_found(alloc, found)
-}
-
 // Deferrals that were looked up.
 fn deferrals_found(alloc: Global, found: Result<Vec<Deferral3Row>, TableFault>) -> AnswerText {
     match found {
@@ -164,95 +148,18 @@ fn rewritten<S: Alter, R: Insert + Drop>(
     put_again(tx, delete, &found)
 }
 
-fn rewrite_deferrals<S: Alter>(alloc: Global, conn: &mut Connection<S>) -> AnswerText
-    requires { conn.old.in_transaction ≡ false }
-{
-    let mut tx = conn.transaction();
-    let done = rewritten::<S, Deferral3Row>(alloc, &mut tx, "DELETE FROM defect3");
-    committed(alloc, tx, done)
-}
-
-fn rewrite_accomplishments<S: Alter>(alloc: Global, conn: &mut Connection<S>) -> AnswerText
-    requires { conn.old.in_transaction ≡ false }
-{
-    let mut tx = conn.transaction();
-    let done = rewritten::<S, DatedRow>(alloc, &mut tx, "DELETE FROM done3");
-    committed(alloc, tx, done)
-}
-
-// The deferral of an entry.
-fn deferral<S: Alter>(alloc: Global, conn: &mut Connection<S>, seq: u32) -> AnswerText
-    requires { conn.old.in_transaction ≡ false }
-{
-    let mut tx = conn.transaction();
-    let found = defect3_by_seq(alloc, &mut tx, seq);
-    deferrals_found(alloc, found)
-}
-
-// The deferrals of an aircraft.
-fn found_on<S: Alter>(alloc: Global, conn: &mut Connection<S>, aircraft: u32) -> AnswerText
-    requires { conn.old.in_transaction ≡ false }
-{
-    let mut tx = conn.transaction();
-    let found = defect3_by_aircraft(alloc, &mut tx, aircraft);
-    deferrals_found(alloc, found)
-}
-
-// All deferrals.
-fn every_deferral<S: Alter>(alloc: Global, conn: &mut Connection<S>) -> AnswerText
-    requires { conn.old.in_transaction ≡ false }
-{
-    let mut tx = conn.transaction();
-    let found = all_defects3(alloc, &mut tx);
-    deferrals_found(alloc, found)
-}
-
-// The accomplishments of an item.
-fn of_item<S: Alter>(alloc: Global, conn: &mut Connection<S>, item: u32) -> AnswerText
-    requires { conn.old.in_transaction ≡ false }
-{
-    let mut tx = conn.transaction();
-    let found = done3_by_item(alloc, &mut tx, item);
-    accomplishments_found(alloc, found)
-}
-
-// The accomplishments of a task of an item.
-fn of_task<S: Alter>(
-    alloc: Global,
-    conn: &mut Connection<S>,
-    item: u32,
-    task: &TaskId,
-) -> AnswerText
-    requires { conn.old.in_transaction ≡ false }
-{
-    let mut tx = conn.transaction();
-    let found = done3_by_item_and_task(alloc, &mut tx, item, task);
-    accomplishments_found(alloc, found)
-}
-
-// The last accomplishment of a task of an item.
-fn last_of_task<S: Alter>(
-    alloc: Global,
-    conn: &mut Connection<S>,
-    item: u32,
-    task: &TaskId,
-) -> AnswerText
-    requires { conn.old.in_transaction ≡ false }
-{
-    let mut tx = conn.transaction();
-    match last_done(alloc, &mut tx, item, task) {
+// The last accomplishment of a task that was looked up.
+fn last_found(alloc: Global, found: Result<Option<DoneRow>, TableFault>) -> AnswerText {
+    match found {
         Ok(Some(row)) => Ok(accomplishments_text(alloc, &[row])?),
         Ok(None) => Ok(or_none(String::new(alloc))?),
         Err(fault) => fault_text(alloc, fault),
     }
 }
 
-// The numbers of the sectors of an aircraft.
-fn sectors_of<S: Alter>(alloc: Global, conn: &mut Connection<S>, aircraft: u32) -> AnswerText
-    requires { conn.old.in_transaction ≡ false }
-{
-    let mut tx = conn.transaction();
-    match sector2_by_aircraft(alloc, &mut tx, aircraft) {
+// The numbers of sectors that were looked up.
+fn sectors_found(alloc: Global, found: Result<Vec<Sector2Row>, TableFault>) -> AnswerText {
+    match found {
         Ok(found) => {
             let mut text = String::new(alloc);
             for row in &found {
@@ -265,12 +172,9 @@ fn sectors_of<S: Alter>(alloc: Global, conn: &mut Connection<S>, aircraft: u32) 
     }
 }
 
-// The numbers of the releases of an item.
-fn releases_of<S: Alter>(alloc: Global, conn: &mut Connection<S>, item: u32) -> AnswerText
-    requires { conn.old.in_transaction ≡ false }
-{
-    let mut tx = conn.transaction();
-    match crs_by_item(alloc, &mut tx, item) {
+// The numbers of releases that were looked up.
+fn releases_found(alloc: Global, found: Result<Vec<ReleaseRow>, TableFault>) -> AnswerText {
+    match found {
         Ok(found) => {
             let mut text = String::new(alloc);
             for row in &found {
@@ -283,36 +187,111 @@ fn releases_of<S: Alter>(alloc: Global, conn: &mut Connection<S>, item: u32) -> 
     }
 }
 
-// Adds an accomplishment.
-fn done<S: Alter>(alloc: Global, conn: &mut Connection<S>, row: DoneRow) -> AnswerText
-    requires { conn.old.in_transaction ≡ false }
-{
-    let mut tx = conn.transaction();
-    let done = set_done(&mut tx, row);
-    committed(alloc, tx, done)
-}
-
-// Adds to the cycles at which the defects of an aircraft were found.
-fn shift<S: Alter>(
-    alloc: Global,
-    conn: &mut Connection<S>,
-    aircraft: u32,
-    cycles: u32,
-    landed: Moment,
-) -> AnswerText
-    requires { conn.old.in_transaction ≡ false }
-{
-    let mut tx = conn.transaction();
-    let done = shift_found(alloc, &mut tx, aircraft, cycles, landed);
-    committed(alloc, tx, done)
-}
-
 fn base_of(minutes: &str, cycles: &str, day: &str) -> Result<Base, Unmade> {
     Ok(Base {
         minutes: minutes.parse::<u32>()?,
         cycles: cycles.parse::<u32>()?,
         day: day.parse::<u32>()?,
     })
+}
+
+// The accomplishment that the words behind `done` say.
+fn done_of(words: &[&str]) -> Result<DoneRow, Unmade> {
+    let [item, task, seq, line, minutes, cycles, day, base @ ..] = words else {
+        return Err(Unmade::NoSuchLine);
+    };
+    let [base_minutes, base_cycles, base_day] = base else {
+        return Err(Unmade::NoSuchLine);
+    };
+    Ok(DoneRow {
+        item: item.parse::<u32>()?,
+        task: TaskId::read(task)?,
+        seq: seq.parse::<u32>()?,
+        line: line.parse::<u32>()?,
+        value: base_of(minutes, cycles, day)?,
+        due: NEVER,
+        base: base_of(base_minutes, base_cycles, base_day)?,
+    })
+}
+
+// Deferrals, sectors and releases, which the words ask for by one number or none.
+fn looked_up<S: Alter>(alloc: Global, tx: &mut Transaction<'_, S>, words: &[&str]) -> AnswerText {
+    match words {
+        ["deferrals"] => deferrals_found(alloc, rows(alloc, tx)),
+        ["every"] => deferrals_found(alloc, all_defects3(alloc, tx)),
+        ["deferral", seq] => {
+            let seq = seq.parse::<u32>()?;
+            deferrals_found(alloc, defect3_by_seq(alloc, tx, seq))
+        }
+        ["found", aircraft] => {
+            let aircraft = aircraft.parse::<u32>()?;
+            deferrals_found(alloc, defect3_by_aircraft(alloc, tx, aircraft))
+        }
+        ["sectors", aircraft] => {
+            let aircraft = aircraft.parse::<u32>()?;
+            sectors_found(alloc, sector2_by_aircraft(alloc, tx, aircraft))
+        }
+        ["releases", item] => {
+            let item = item.parse::<u32>()?;
+            releases_found(alloc, crs_by_item(alloc, tx, item))
+        }
+        _ => done_looked_up(alloc, tx, words),
+    }
+}
+
+// Accomplishments, which the words ask for.
+fn done_looked_up<S: Alter>(
+    alloc: Global,
+    tx: &mut Transaction<'_, S>,
+    words: &[&str],
+) -> AnswerText {
+    match words {
+        ["accomplishments"] => accomplishments_found(alloc, rows(alloc, tx)),
+        ["of", item] => {
+            let item = item.parse::<u32>()?;
+            accomplishments_found(alloc, done3_by_item(alloc, tx, item))
+        }
+        ["of", item, task] => {
+            let item = item.parse::<u32>()?;
+            let task = TaskId::read(task)?;
+            accomplishments_found(alloc, done3_by_item_and_task(alloc, tx, item, &task))
+        }
+        ["last", item, task] => {
+            let item = item.parse::<u32>()?;
+            let task = TaskId::read(task)?;
+            last_found(alloc, last_done(alloc, tx, item, &task))
+        }
+        _ => Err(Unmade::NoSuchLine),
+    }
+}
+
+// Does what the words say to the tables, which is then to be committed.
+fn changed<S: Alter>(
+    alloc: Global,
+    tx: &mut Transaction<'_, S>,
+    words: &[&str],
+) -> Result<Result<(), TableFault>, Unmade> {
+    match words {
+        ["rewrite", "deferrals"] => Ok(rewritten::<S, Deferral3Row>(
+            alloc,
+            tx,
+            "DELETE FROM defect3",
+        )),
+        ["rewrite", "accomplishments"] => {
+            Ok(rewritten::<S, DatedRow>(alloc, tx, "DELETE FROM done3"))
+        }
+        ["done", row @ ..] => {
+            let row = done_of(row)?;
+            Ok(set_done(tx, row))
+        }
+        ["shift", aircraft, cycles, landed] => {
+            let aircraft = aircraft.parse::<u32>()?;
+            let cycles = cycles.parse::<u32>()?;
+            let landed = Moment::read(landed)?;
+            Ok(shift_found(alloc, tx, aircraft, cycles, landed))
+        }
+        _ => Err(Unmade::NoSuchLine),
+    }
 }
 
 /// What the rows of layout 3 answer to a line behind `later`.
@@ -323,56 +302,12 @@ pub fn answer_of_later_rows<S: Alter>(
 ) -> AnswerText
     requires { conn.old.in_transaction ≡ false }
 {
+    let mut tx = conn.transaction();
     match words {
-        ["deferrals"] => deferrals(alloc, conn),
-        ["accomplishments"] => accomplishments(alloc, conn),
-        ["rewrite", "deferrals"] => rewrite_deferrals(alloc, conn),
-        ["rewrite", "accomplishments"] => rewrite_accomplishments(alloc, conn),
-        ["deferral", seq] => deferral(alloc, conn, seq.parse::<u32>()?),
-        ["found", aircraft] => found_on(alloc, conn, aircraft.parse::<u32>()?),
-        ["every"] => every_deferral(alloc, conn),
-        ["of", item] => of_item(alloc, conn, item.parse::<u32>()?),
-        ["of", item, task] => {
-            let task = TaskId::read(task)?;
-            of_task(alloc, conn, item.parse::<u32>()?, &task)
+        ["rewrite" | "done" | "shift", ..] => {
+            let done = changed(alloc, &mut tx, words)?;
+            committed(alloc, tx, done)
         }
-        ["last", item, task] => {
-            let task = TaskId::read(task)?;
-            last_of_task(alloc, conn, item.parse::<u32>()?, &task)
-        }
-        ["sectors", aircraft] => sectors_of(alloc, conn, aircraft.parse::<u32>()?),
-        ["releases", item] => releases_of(alloc, conn, item.parse::<u32>()?),
-        [
-            "done",
-            item,
-            task,
-            seq,
-            line,
-            minutes,
-            cycles,
-            day,
-            more @ ..,
-        ] => {
-            let [base_minutes, base_cycles, base_day] = more else {
-                return Err(Unmade::NoSuchLine);
-            };
-            let row = DoneRow {
-                item: item.parse::<u32>()?,
-                task: TaskId::read(task)?,
-                seq: seq.parse::<u32>()?,
-                line: line.parse::<u32>()?,
-                value: base_of(minutes, cycles, day)?,
-                due: NEVER,
-                base: base_of(base_minutes, base_cycles, base_day)?,
-            };
-            done(alloc, conn, row)
-        }
-        ["shift", aircraft, cycles, landed] => {
-            let aircraft = aircraft.parse::<u32>()?;
-            let cycles = cycles.parse::<u32>()?;
-            let landed = Moment::read(landed)?;
-            shift(alloc, conn, aircraft, cycles, landed)
-        }
-        _ => Err(Unmade::NoSuchLine),
+        _ => looked_up(alloc, &mut tx, words),
     }
 }
