@@ -1,3 +1,4 @@
 pub mod Rows
 pub mod Rising
 pub mod Pairs
+pub mod Spans

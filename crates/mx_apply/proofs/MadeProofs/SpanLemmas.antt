@@ -8,7 +8,8 @@ use Rattle.mx_book.specs.commands.Act.{Entry}
 use Rattle.mx_base.specs.declared.rows.rows.SpanRow.{SpanRow}
 use Rattle.mx_registers.specs.kept.Items.{number_of_serial}
 use Rattle.mx_registers.specs.kept.Spans.{is_open_of, span_rows}
-use Rattle.mx_registers.specs.kept.Totals.{has_between, numbers_during}
+use Rattle.mx_base.specs.rows.Spans.{has_between}
+use Rattle.mx_registers.specs.kept.Totals.{numbers_during}
 use Rattle.mx_registers.proofs.KeptProofs.CreditLemmas.{filter_on}
 use Rattle.mx_registers.proofs.KeptProofs.SpanRegisters.{and_swap}
 use Rattle.mx_layout.specs.declared.fault.TableFault.{TableFault}

@@ -27,7 +27,7 @@ use Rattle.mx_base.specs.declared.rows.rows.SpanRow.{SpanRow}
 use Rattle.mx_base.specs.declared.rows.rows.TotalRow.{TotalRow}
 use Rattle.mx_registers.specs.Names.{or_zero}
 use Rattle.mx_registers.specs.Registers.{entry_row}
-use Rattle.mx_registers.specs.kept.Totals.{has_between}
+use Rattle.mx_base.specs.rows.Spans.{has_between}
 use Rattle.mx_layout.specs.kept.Cells.{kept_aircraft, kept_component, kept_entry, kept_span2}
 use Rattle.mx_table_rows.specs.chosen.Choices.{backward, has_value, is_any, is_open}
 use Rattle.mx_row_rules.specs.found.Names.{last_number}

@@ -10,7 +10,7 @@ ghost use Rattle.mx_apply.specs.made.Damage.{ActDamage, MadeDamage};
 ghost use Rattle.mx_apply.specs.made.Found.{AreRowsBy, numbers_flown, numbers_removed, AreRowsFor};
 ghost use Rattle.mx_apply.specs.made.Made.{AreRowsOf};
 ghost use Rattle.mx_book.specs.commands.Shape.{sector_shape};
-ghost use Rattle.mx_registers.specs.kept.Totals.{has_between};
+ghost use Rattle.mx_base.specs.rows.Spans.{has_between};
 ghost use Rattle.mx_row_rules.specs.changes.Rows.{AreCommandRows};
 
 use crate::made::numbers::{

@@ -26,7 +26,8 @@ use Rattle.mx_base.specs.declared.rows.rows.TotalRow.{TotalRow}
 use Rattle.mx_registers.specs.kept.Changes.{moments_given}
 use Rattle.mx_registers.specs.kept.Items.{items}
 use Rattle.mx_registers.specs.kept.Spans.{span_row, span_rows, span_rows_from}
-use Rattle.mx_registers.specs.kept.Totals.{credited_row, has_between, numbers_during, numbers_there, raised_row, total_grown, total_row, total_rows}
+use Rattle.mx_base.specs.rows.Spans.{has_between}
+use Rattle.mx_registers.specs.kept.Totals.{credited_row, numbers_during, numbers_there, raised_row, total_grown, total_row, total_rows}
 use Rattle.mx_registers.proofs.KeptProofs.SpanGrowth.{span_of, same_sym}
 use Rattle.mx_registers.proofs.KeptProofs.TotalRows.{items_there, total_rows-more}
 use Rattle.mx_registers.proofs.KeptProofs.KnownLemmas.{aircraft_kept, component_kept}

@@ -22,7 +22,8 @@ use Rattle.mx_registers.specs.kept.Bases.{each_once, tasks_accomplished, tasks_b
 use Rattle.mx_registers.specs.kept.Changes.{sectors_late}
 use Rattle.mx_registers.specs.kept.Items.{items}
 use Rattle.mx_registers.specs.kept.Totals.{numbers_flown}
-use Rattle.mx_registers.specs.late.Done.{credited_late, done_become, done_by, done_rows, done_rows_at, done_rows_of, is_done_of, late_rows_at, late_rows_of, moved}
+use Rattle.mx_book.specs.due.Moved.{moved}
+use Rattle.mx_registers.specs.late.Done.{credited_late, done_become, done_by, done_rows, done_rows_at, done_rows_of, is_done_of, late_rows_at, late_rows_of}
 use Rattle.mx_registers.proofs.KeptProofs.BaseGrowth.{timely_none_late}
 use Rattle.mx_registers.proofs.KeptProofs.ItemNumbers.{items_numbered}
 use Rattle.mx_registers.proofs.KeptProofs.NumberLemmas.{unknown_unbased}

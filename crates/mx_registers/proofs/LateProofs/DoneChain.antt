@@ -18,7 +18,8 @@ use Rattle.mx_book.specs.Life.{life_at, use_or_none}
 use Rattle.mx_book.specs.Programme.{is_done}
 use Rattle.mx_book.specs.Base.{Accomplishment, Stated, DoneIn, accomplished_by, accomplished_from, accomplishments, base_of, task_then, base_at, value_of}
 use Rattle.mx_base.specs.declared.rows.rows.DoneRow.{DoneRow}
-use Rattle.mx_registers.specs.late.Done.{Placed, placed_lines, placed_by, placed_from, placed, limit_or_none, due_limit, done_row, done_chain, done_rows_of, release_at, lesser_of, due_anew, row_with, rebased, valued}
+use Rattle.mx_book.specs.due.Moved.{lesser_of, row_with}
+use Rattle.mx_registers.specs.late.Done.{Placed, placed_lines, placed_by, placed_from, placed, limit_or_none, due_limit, done_row, done_chain, done_rows_of, release_at, due_anew, rebased, valued}
 use Rattle.mx_registers.proofs.KeptProofs.KnownLemmas.{all_append}
 use Rattle.mx_registers.proofs.KeptProofs.DoneLemmas.{IsKept, all_kept}
 

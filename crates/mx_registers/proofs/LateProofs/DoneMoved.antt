@@ -30,7 +30,8 @@ use Rattle.mx_registers.proofs.KeptProofs.Induction.{of_each_book}
 use Rattle.mx_registers.proofs.KeptProofs.KnownLemmas.{all_append}
 use Rattle.mx_registers.proofs.KeptProofs.ReleaseBases.{all_both, task_now}
 use Rattle.mx_base.specs.declared.rows.rows.DoneRow.{DoneRow}
-use Rattle.mx_registers.specs.late.Done.{Placed, credited_late, done_chain, done_row, done_rows_of, due_anew, due_limit, due_moved, is_behind, lesser_of, limit_or_none, moved, moved_by, placed, rebased, row_with, value_more}
+use Rattle.mx_book.specs.due.Moved.{due_moved, lesser_of, moved, moved_by, row_with}
+use Rattle.mx_registers.specs.late.Done.{Placed, credited_late, done_chain, done_row, done_rows_of, due_anew, due_limit, is_behind, limit_or_none, placed, rebased, value_more}
 use Rattle.mx_registers.proofs.LateProofs.DoneLate.{placed-more}
 use Rattle.mx_registers.proofs.LateProofs.DoneChain.{Says, all_mapped, anew, lesser_is_base, placed_kept, placed_said, placed_what}
 

@@ -17,7 +17,8 @@ use Rattle.mx_book.specs.Life.{life_now, use_or_none}
 use Rattle.mx_book.specs.Programme.{is_done}
 use Rattle.mx_book.specs.Base.{Accomplishment, DoneIn, base, task_then, base_at, value_of}
 use Rattle.mx_registers.specs.kept.Changes.{due_at}
-use Rattle.mx_registers.specs.late.Done.{Placed, placed_by, limit_or_none, due_limit, done_row, done_chain, lesser_of, row_done}
+use Rattle.mx_book.specs.due.Moved.{lesser_of}
+use Rattle.mx_registers.specs.late.Done.{Placed, placed_by, limit_or_none, due_limit, done_row, done_chain, row_done}
 use Rattle.mx_registers.proofs.KeptProofs.DoneLemmas.{done_there}
 use Rattle.mx_registers.proofs.KeptProofs.BaseGrowth.{life_more_none, birth_kept}
 use Rattle.mx_registers.proofs.KeptProofs.JudgedLemmas.{new-distinct}

@@ -25,7 +25,8 @@ use Rattle.mx_registers.proofs.NewLemmas.{fitted_is_known}
 use Rattle.mx_base.specs.declared.rows.rows.SpanRow.{SpanRow}
 use Rattle.mx_registers.specs.kept.Changes.{ended_by, IsTimed}
 use Rattle.mx_registers.specs.kept.Spans.{span_row, span_rows, span_rows_from}
-use Rattle.mx_registers.specs.kept.Totals.{has_between, numbers_during}
+use Rattle.mx_base.specs.rows.Spans.{has_between}
+use Rattle.mx_registers.specs.kept.Totals.{numbers_during}
 use Rattle.mx_registers.proofs.KeptProofs.ClockLemmas.{spans_timed}
 use Rattle.mx_registers.proofs.KeptProofs.CreditLemmas.{serial_kept}
 use Rattle.mx_registers.proofs.KeptProofs.DoneLemmas.{both}

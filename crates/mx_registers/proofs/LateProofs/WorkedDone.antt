@@ -17,7 +17,8 @@ use Rattle.mx_book.proofs.WorkedFittings.{engine, fit, remove}
 use Rattle.mx_book.proofs.WorkedProgrammes.{c172, days_alone, first_four, hundred_hours, load, minutes_alone, open_task}
 use Rattle.mx_registers.specs.kept.Totals.{numbers_flown}
 use Rattle.mx_registers.specs.Registers.{no_limit}
-use Rattle.mx_registers.specs.late.Done.{credited_late, done_become, done_by, done_rows, done_rows_of, is_done_at, last_base, moved, rebased, valued}
+use Rattle.mx_book.specs.due.Moved.{moved}
+use Rattle.mx_registers.specs.late.Done.{credited_late, done_become, done_by, done_rows, done_rows_of, is_done_at, last_base, rebased, valued}
 use Rattle.mx_registers.specs.late.Found.{found_become, found_rows, is_found_touched}
 use Rattle.mx_registers.proofs.KeptProofs.WorkedKept.{overhauled, work_on_abcd}
 

@@ -1,5 +1,5 @@
 -- The totals of a book as rows, and what one command makes of them.
-use Rattle.std.specs.Prelude.{ℕ, max, nat_eq, nat_le, is_none, ◌&&◌, Bool, true, Option, List, [], ◌∷◌, filter, find, map, if◌then◌else◌}
+use Rattle.std.specs.Prelude.{ℕ, max, nat_eq, is_none, ◌&&◌, Bool, Option, List, [], ◌∷◌, filter, find, map, if◌then◌else◌}
 use Rattle.std.specs.List.{list_any}
 use Rattle.std.specs.Option.{option_map_or}
 use Rattle.mx_book.specs.commands.Act.{Act, Entry, Added, Listed, Flown, Fitted, Removed, Released, Deferred}
@@ -9,6 +9,7 @@ use Rattle.mx_book.specs.Life.{life_now, clock, latest, use_after, use_or_none}
 use Rattle.mx_registers.specs.Names.{item_at}
 use Rattle.mx_registers.specs.Registers.{next}
 use Rattle.mx_base.specs.declared.rows.rows.SpanRow.{SpanRow}
+use Rattle.mx_base.specs.rows.Spans.{has_between}
 use Rattle.mx_base.specs.declared.rows.rows.TotalRow.{TotalRow}
 use Rattle.mx_registers.specs.kept.Changes.{moments_given, sectors_given}
 use Rattle.mx_registers.specs.kept.Items.{items, number_of_place, number_of_serial, number_of_tail}
@@ -51,10 +52,6 @@ totals_opened before _ = []
 -- the numbers of an aircraft and of the components that are fitted to it, by the rows of the spans
 abbrev pub numbers_there : ℕ → List SpanRow → List ℕ
 numbers_there aircraft spans = aircraft ∷ map (λ row. row.component) (filter (λ row. is_none row.to && nat_eq row.aircraft aircraft) spans)
-
--- the moments from which a component was fitted and at which it was removed, if it was, have a flight from off to on between them
-abbrev pub has_between : ℕ → ℕ → ℕ → Option ℕ → Bool
-has_between off on from to = nat_le from off && option_map_or (λ to. nat_le on to) to true
 
 -- the numbers of an aircraft and of the components that were fitted to it throughout a flight, by the rows of the spans
 abbrev pub numbers_during : ℕ → ℕ → ℕ → List SpanRow → List ℕ

@@ -1,7 +1,7 @@
 -- The accomplishments of a book as rows: what an item had reached at each, when its task was due then, and the base that this leaves.
 use Rattle.std.specs.Prelude.{⊤, ◌≡◌, ℕ, ◌+◌, ◌-◌, ◌/◌, nat_eq, nat_le, List, [], ◌∷◌, ◌++◌, Bool, false, ◌&&◌, Option, Some, None, filter, fold, map, if◌then◌else◌}
 use Rattle.std.specs.List.{list_any, flat_map}
-use Rattle.std.specs.Option.{option_map, option_map_or, option_and_then, unwrap_or}
+use Rattle.std.specs.Option.{option_map_or, option_and_then, unwrap_or}
 use Rattle.mx_base.specs.declared.amounts.Base.{Base}
 use Rattle.mx_base.specs.declared.amounts.Limit.{Limit}
 use Rattle.mx_book.specs.commands.Act.{Act, Entry, Flown, Opened, Released, release_of}
@@ -13,10 +13,11 @@ use Rattle.mx_book.specs.declared.commands.release.Line.TheVariants.{Done, Recti
 use Rattle.mx_book.specs.declared.commands.release.Release.{Release}
 use Rattle.mx_book.specs.declared.commands.sector.Sector.{Sector}
 use Rattle.mx_book.specs.due.Due.{IsBase, due_after}
+use Rattle.mx_book.specs.due.Moved.{lesser_of, moved, row_with}
 use Rattle.mx_book.specs.Register.{birth}
 use Rattle.mx_book.specs.Life.{life_now, minutes_flown, use_or_none}
 use Rattle.mx_book.specs.Programme.{is_done}
-use Rattle.mx_book.specs.Base.{Accomplishment, Stated, DoneIn, base_at, base_of, due_of, lesser_base, task_then, value_of}
+use Rattle.mx_book.specs.Base.{Accomplishment, Stated, DoneIn, base_at, base_of, due_of, task_then, value_of}
 use Rattle.mx_registers.specs.Names.{said_at}
 use Rattle.mx_registers.specs.Registers.{next, no_limit}
 use Rattle.mx_base.specs.declared.rows.rows.DoneRow.{DoneRow}
@@ -113,40 +114,15 @@ credited_late book numbers s row = if list_any (nat_eq row.item) numbers && is_b
 
 -- ── the due and the base of each row anew ──
 
--- in each dimension the value, or the due where that is less
-abbrev pub lesser_of : Base → Limit → Base
-lesser_of value due = lesser_base value (Some due)
-
 -- when the task of a row was due, behind one with this base, if any: by the task in force where the release was made, and never where the entry made none
 abbrev pub due_anew : List Entry → Item → List ℕ → Option Base → DoneRow → Limit
 due_anew book item id before row = limit_or_none (option_and_then (λ r. option_and_then (due_after before (birth book item)) (task_then book row.seq r id)) (release_at book row.seq))
-
--- the row with another due, and the base that this leaves of its value
-abbrev pub row_with : DoneRow → Limit → DoneRow
-row_with row due = record row { due = due; base = lesser_of row.value due }
 
 -- rows of a task of an item, due and base of each anew behind the one before it
 abbrev pub rebased : List Entry → Item → List ℕ → Option Base → List DoneRow → List DoneRow
 rebased book item id before [] = []
 rebased book item id before (row ∷ rows) =
     row_with row (due_anew book item id before row) ∷ rebased book item id (Some (lesser_of row.value (due_anew book item id before row))) rows
-
--- ── the same by the rows alone ──
-
--- a due in one dimension, moved as far as the base was that it is counted from
-abbrev pub moved_by : ℕ → ℕ → Option ℕ → Option ℕ
-moved_by old new due = option_map (λ n. n + (new - old)) due
-
--- a due, moved as far as the base was that it is counted from; one that is counted from none stays
-abbrev pub due_moved : Option Base → Option Base → Limit → Limit
-due_moved None new due = due
-due_moved (Some old) None due = due
-due_moved (Some old) (Some new) due = record { minutes = moved_by old.minutes new.minutes due.minutes; cycles = moved_by old.cycles new.cycles due.cycles; days = moved_by old.day new.day due.days }
-
--- rows of a task of an item whose values have grown, due and base of each anew: the due is moved as far as the base of the row before it, from that to this
-abbrev pub moved : Option Base → Option Base → List DoneRow → List DoneRow
-moved old new [] = []
-moved old new (row ∷ rows) = row_with row (due_moved old new row.due) ∷ moved (Some row.base) (Some (lesser_of row.value (due_moved old new row.due))) rows
 
 -- the row is of this task of the item with this number
 abbrev pub is_done_of : ℕ → List ℕ → DoneRow → Bool

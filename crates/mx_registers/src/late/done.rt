@@ -24,7 +24,8 @@ ghost use Rattle.mx_registers.specs.kept.Fits.{FitRegisters};
 ghost use Rattle.mx_registers.specs.kept.Items.{number_of_tail};
 ghost use Rattle.mx_registers.specs.kept.Spans.{span_rows};
 ghost use Rattle.mx_registers.specs.kept.Totals.{numbers_during, numbers_flown};
-ghost use Rattle.mx_registers.specs.late.Done.{AreDoneOnce, IsWithinLife, credited_late, done_become, done_by, done_moved, done_rows, done_rows_of, is_done_of, last_base, moved, rebased, valued};
+ghost use Rattle.mx_book.specs.due.Moved.{moved};
+ghost use Rattle.mx_registers.specs.late.Done.{AreDoneOnce, IsWithinLife, credited_late, done_become, done_by, done_moved, done_rows, done_rows_of, is_done_of, last_base, rebased, valued};
 
 /// The rows of a task of the item with a number, among all accomplishments, are those of the task, in their order.
 pub fn rows_of_a_task()

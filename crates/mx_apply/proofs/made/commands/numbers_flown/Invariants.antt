@@ -1,6 +1,6 @@
 use Rattle.std.proofs.Common.{◌≡◌, ◌∷◌, filter, map, take}
 use Rattle.mx_base.specs.declared.rows.rows.SpanRow.{SpanRow}
-use Rattle.mx_registers.specs.kept.Totals.{has_between}
+use Rattle.mx_base.specs.rows.Spans.{has_between}
 use Rattle.mx_apply.proofs.made.commands.numbers_flown.Given as goal
 
 -- the numbers so far
