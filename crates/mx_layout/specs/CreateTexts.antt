@@ -104,7 +104,7 @@ abbrev pub defect3_by_aircraft_text : List ℕ
 defect3_by_aircraft_text = codes "CREATE INDEX defect3_by_aircraft ON defect3 (aircraft)"
 
 abbrev pub sector2_by_aircraft_text : List ℕ
-sector2_by_aircraft_text = codes "CREATE INDEX sector2_by_aircraft ON sector2 (aircraft)"
+sector2_by_aircraft_text = codes "CREATE INDEX sector2_by_aircraft ON sector2 (aircraft, took_off)"
 
 abbrev pub crs_by_item_text : List ℕ
-crs_by_item_text = codes "CREATE INDEX crs_by_item ON crs (item)"
+crs_by_item_text = codes "CREATE INDEX crs_by_item ON crs (item, moment)"

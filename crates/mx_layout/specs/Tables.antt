@@ -158,13 +158,13 @@ defect_by_aircraft = index_by (codes "defect_by_aircraft") 31 defect 2
 abbrev pub defect3_by_aircraft : Index
 defect3_by_aircraft = index_by (codes "defect3_by_aircraft") 35 defect3 2
 
--- the sectors of each aircraft
+-- the sectors of each aircraft, by their take-offs
 abbrev pub sector2_by_aircraft : Index
-sector2_by_aircraft = index_by (codes "sector2_by_aircraft") 36 sector2 2
+sector2_by_aircraft = record (index_by (codes "sector2_by_aircraft") 36 sector2 2) { columns = 2 ∷ 5 ∷ [] }
 
--- the releases of each item
+-- the releases of each item, by their moments
 abbrev pub crs_by_item : Index
-crs_by_item = index_by (codes "crs_by_item") 37 crs 2
+crs_by_item = record (index_by (codes "crs_by_item") 37 crs 2) { columns = 2 ∷ 4 ∷ [] }
 
 -- the schema of layout 1
 abbrev pub layout_1 : Schema

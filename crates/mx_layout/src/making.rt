@@ -98,8 +98,8 @@ fn step_text(at: u8) -> &'static str
         30 => done3_text(),
         31 => "DROP TABLE base2",
         32 => "CREATE INDEX defect3_by_aircraft ON defect3 (aircraft)",
-        33 => "CREATE INDEX sector2_by_aircraft ON sector2 (aircraft)",
-        34 => "CREATE INDEX crs_by_item ON crs (item)",
+        33 => "CREATE INDEX sector2_by_aircraft ON sector2 (aircraft, took_off)",
+        34 => "CREATE INDEX crs_by_item ON crs (item, moment)",
         _ => "",
     }
 }
