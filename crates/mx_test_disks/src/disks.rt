@@ -5,7 +5,7 @@ use crate::files::{
 };
 use mx_desk::jobs::office::Office;
 use mx_test_cases::{AnswerText, Asked, Disks, Held, Setting, Unmade};
-use mx_test_lines::faults::{append_error, room};
+use mx_test_tables::faults::{append_error, room};
 use std::alloc::{AllocError, Global};
 use std::mem;
 

@@ -9,7 +9,7 @@ use crate::asking::ask;
 use mx_database::power::end_process;
 use mx_desk::jobs::office::Office;
 use mx_test_cases::{AnswerText, Asked, Held, Setting};
-use mx_test_lines::faults::error_text;
+use mx_test_tables::faults::error_text;
 use sqlite::{Connection, Error, FileStore, Files, Options};
 use sqlite_disk::{Crash, Disk, Fuse, Memory};
 use std::alloc::{AllocError, Global};

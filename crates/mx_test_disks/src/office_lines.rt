@@ -11,7 +11,7 @@ use mx_test_cases::{
     AnswerText, Asked, Unmade, command_of, documents, item_of, joined_lines, question_of,
     room_for_replies, yes_or_no,
 };
-use mx_test_lines::faults::room;
+use mx_test_tables::faults::room;
 use sqlite::Alter;
 use std::alloc::Global;
 use std::slice;

@@ -4,7 +4,7 @@
 use mx_book::Reply;
 use mx_desk::jobs::office::{Ask, Fault, OpenFault};
 use mx_test_cases::{append_joined, or_none, replies_in, room_for_replies};
-use mx_test_lines::faults::append_damaged;
+use mx_test_tables::faults::append_damaged;
 use std::alloc::{AllocError, Global};
 
 /// Appends why a call of an office was stopped.

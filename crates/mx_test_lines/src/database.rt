@@ -1,16 +1,16 @@
 //! What is asked of the database that files hold, without an office.
 ghost use Rattle.std.specs.Prelude.{◌≡◌, false};
 
-use crate::faults::{append_done, append_error, append_table_fault, room};
-use crate::kept::answer_of_kept_rows;
-use crate::later::answer_of_later_rows;
 use crate::moves::answer_of_step;
-use crate::queries::{asked, tables};
 use crate::rows::{
     answer_by_rows, entered_by_rows, entries_by_rows, is_entry_by_rows, verdict_by_rows, verified,
 };
 use mx_layout::{Layout, TableFault, create, point};
 use mx_test_cases::{AnswerText, Unmade, append_word};
+use mx_test_tables::faults::{append_done, append_error, append_table_fault, room};
+use mx_test_tables::kept::answer_of_kept_rows;
+use mx_test_tables::later::answer_of_later_rows;
+use mx_test_tables::queries::{asked, tables};
 use sqlite::{Alter, Connection};
 use std::alloc::{AllocError, Global};
 

@@ -16,7 +16,6 @@ ghost use Rattle.std.specs.Prelude.{◌≡◌, false};
 
 pub mod installing;
 
-use crate::faults::{append_damaged, room};
 pub use installing::answer_of_install;
 use mx_base::rows::{BaseRow, TotalRow};
 use mx_base::{Day, Moment, Point, TaskId};
@@ -27,6 +26,7 @@ use mx_migrate::{
     MoveSectors, WriteBases, WriteTotal, commit_step,
 };
 use mx_test_cases::{AnswerText, Unmade, use_of};
+use mx_test_tables::faults::{append_damaged, room};
 use sqlite::{Alter, Connection};
 use std::alloc::{AllocError, Global};
 

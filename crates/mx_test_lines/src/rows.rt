@@ -7,7 +7,6 @@
 //!   stopped it.
 ghost use Rattle.std.specs.Prelude.{◌≡◌, false};
 
-use crate::faults::{append_table_fault, fault_text, room};
 use mx_apply::apply;
 use mx_base::Use;
 use mx_book::commands::Item;
@@ -21,6 +20,7 @@ use mx_test_cases::{
     AnswerText, Unmade, command_of, documents, item_of, listed, question_of, replies_in, reply_in,
     room_for_reply, verdict_text, yes_or_no,
 };
+use mx_test_tables::faults::{append_table_fault, fault_text, room};
 use mx_verify::verify;
 use sqlite::{Alter, Connection};
 use std::alloc::{AllocError, Global};

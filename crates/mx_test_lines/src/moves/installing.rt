@@ -1,7 +1,6 @@
 //! A file of layout 1 that has a whole book.
 ghost use Rattle.std.specs.Prelude.{◌≡◌, false};
 
-use crate::faults::{append_done, room};
 use mx_book::Verdict;
 use mx_book::commands::Command;
 use mx_book::entry_list::Book;
@@ -9,6 +8,7 @@ use mx_layout::TableFault;
 use mx_moves::install::install_v1;
 use mx_plain_book::Plain;
 use mx_test_cases::AnswerText;
+use mx_test_tables::faults::{append_done, room};
 use sqlite::{Alter, Connection};
 use std::alloc::{AllocError, Global};
 

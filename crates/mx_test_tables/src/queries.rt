@@ -42,7 +42,7 @@ fn rows_text(alloc: Global, rows: &[Row]) -> Result<String, AllocError> {
 }
 
 /// The rows that a query gives, joined by ` / `, each with its values.
-pub(crate) fn asked<S: Alter>(alloc: Global, conn: &mut Connection<S>, sql: &str) -> AnswerText {
+pub fn asked<S: Alter>(alloc: Global, conn: &mut Connection<S>, sql: &str) -> AnswerText {
     match conn.query_all(sql, &[]) {
         Ok(rows) => Ok(rows_text(alloc, &rows)?),
         Err(error) => error_text(alloc, error),
@@ -96,7 +96,7 @@ fn named_tables<S: Alter>(alloc: Global, conn: &mut Connection<S>, names: &[Row]
 }
 
 /// All rows of all tables: `NAME: ROW / ROW ..` or `NAME: none` for each table, in the order of their names, joined by ` // `.
-pub(crate) fn tables<S: Alter>(alloc: Global, conn: &mut Connection<S>) -> AnswerText {
+pub fn tables<S: Alter>(alloc: Global, conn: &mut Connection<S>) -> AnswerText {
     match conn.query_all(NAMES, &[]) {
         Ok(names) => named_tables(alloc, conn, &names),
         Err(error) => error_text(alloc, error),

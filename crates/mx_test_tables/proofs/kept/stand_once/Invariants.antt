@@ -1,7 +1,7 @@
 use Rattle.std.proofs.Common.{◌≡◌, length}
 use Rattle.std.specs.Prelude.{nat_eq}
 use Rattle.mx_book.specs.commands.Bounds.{are_distinct}
-use Rattle.mx_test_lines.proofs.kept.stand_once.Given as goal
+use Rattle.mx_test_tables.proofs.kept.stand_once.Given as goal
 
 -- what is left answers for all
 abbrev pub invariant-loop-number : goal.invariant-loop-number
