@@ -3,7 +3,7 @@
 //!   to the lives of items; `total ITEM`;
 //! - `done ITEM TASK MINUTES CYCLES DAY`, `base ITEM TASK`: when a task was last done on an item;
 //! - `fitted AIRCRAFT`, `end COMPONENT ENTRY MOMENT`: what is fitted; ends the span of a component.
-ghost use Rattle.std.specs.Prelude.{◌≡◌, false, nat_eq};
+ghost use Rattle.std.specs.Prelude.{◌≡◌, IfOk, false, nat_eq, true};
 ghost use Rattle.mx_book.specs.commands.Bounds.{are_distinct};
 
 use crate::faults::{append_done, append_table_fault, fault_text, room};
@@ -87,6 +87,22 @@ fn stand_once(numbers: &[u32]) -> bool
     true
 }
 
+// The items that the words name, none of them twice.
+pub(crate) fn items_of(alloc: Global, words: &[&str]) -> Result<Vec<u32>, Unmade>
+    ensures { IfOk result (λ v. are_distinct nat_eq v.items ≡ true) }
+{
+    let mut items = Vec::new(alloc);
+    for word in words {
+        let item = word.parse::<u32>()?;
+        items.push(item)?;
+    }
+    if stand_once(&items) {
+        Ok(items)
+    } else {
+        Err(Unmade::NoSuchLine)
+    }
+}
+
 // Adds a use to the lives of items: `credit MINUTES CYCLES ITEM ..`, no item twice.
 fn credit_all<S: Alter>(
     alloc: Global,
@@ -96,14 +112,7 @@ fn credit_all<S: Alter>(
 ) -> AnswerText
     requires { conn.old.in_transaction ≡ false }
 {
-    let mut items = Vec::new(alloc);
-    for word in words {
-        let item = word.parse::<u32>()?;
-        items.push(item)?;
-    }
-    if !stand_once(&items) {
-        return Err(Unmade::NoSuchLine);
-    }
+    let items = items_of(alloc, words)?;
     let mut tx = conn.transaction();
     let done = credit(alloc, &mut tx, &items, added);
     committed(alloc, tx, done)

@@ -1,38 +1,29 @@
 //! Lines over the tables of layout 3, of any database that has them, each in a transaction of its own:
 //! - `deferrals`, `accomplishments`: the rows of `defect3`, and of `done3`, as their types say them;
-//! - `rewrite deferrals`, `rewrite accomplishments`: these rows are read, deleted and added once more;
 //! - `deferral SEQ`, `found AIRCRAFT`, `every`: the deferral of an entry, those of an aircraft, and all, as they are looked up;
 //! - `of ITEM`, `of ITEM TASK`, `last ITEM TASK`: the accomplishments of an item, those of a task, and the last of these;
-//! - `sectors AIRCRAFT`, `releases ITEM`: the numbers of the sectors of an aircraft, and of the releases of an item;
-//! - `done ITEM TASK SEQ LINE VALUE BASE`, each of the last two as `MINUTES CYCLES DAY`: adds an accomplishment that was never due;
-//! - `shift AIRCRAFT CYCLES MOMENT`: adds to the cycles at which defects were found, from a moment on.
+//! - `sectors AIRCRAFT`, `releases ITEM`: the numbers of the sectors of an aircraft, and of the releases of an item; behind them
+//!   `FROM BEFORE`: of those alone that took off, or were made, from a moment on and before another;
+//! - `during AIRCRAFT OFF ON`: the components that were fitted to an aircraft throughout a flight;
+//! - and those of `late`, which change rows.
 ghost use Rattle.std.specs.Prelude.{◌≡◌, false};
 
 use crate::faults::fault_text;
-use crate::kept::committed;
-use mx_base::rows::{Deferral3Row, DoneRow};
+use crate::late::answer_of_late_rows;
+use mx_base::rows::{Deferral3Row, DoneRow, ReleaseRow, Sector2Row};
 use mx_base::{Base, Category, Limit, Moment, TaskId};
 use mx_layout::TableFault;
 use mx_table_rows::chosen::later::{
     all_defects3, defect3_by_aircraft, defect3_by_seq, done3_by_item, done3_by_item_and_task,
 };
-use mx_table_rows::chosen::sectors::sector2_by_aircraft;
-use mx_table_rows::chosen::works::crs_by_item;
-use mx_table_rows::totals::done::{last_done, set_done};
-use mx_table_rows::totals::found::shift_found;
-use mx_tables::dated::DatedRow;
-use mx_tables::inserts::Insert;
+use mx_table_rows::chosen::sectors::{sector2_between, sector2_by_aircraft};
+use mx_table_rows::chosen::works::{crs_between, crs_by_item};
+use mx_table_rows::totals::done::last_done;
+use mx_table_rows::totals::spans::fitted_during;
 use mx_tables::rows;
-use mx_test_cases::{AnswerText, Unmade, append_joined, append_number, or_none};
-use sqlite::{Alter, Connection, Transaction};
+use mx_test_cases::{AnswerText, append_joined, append_number, or_none};
+use sqlite::{Alter, Connection};
 use std::alloc::{AllocError, Global};
-
-/// The limit of a task that is never due.
-const NEVER: Limit = Limit {
-    minutes: None,
-    cycles: None,
-    days: None,
-};
 
 fn append_category(out: &mut String, category: Category) -> Result<(), AllocError> {
     match category {
@@ -91,6 +82,20 @@ fn append_accomplishment(out: &mut String, row: &DoneRow) -> Result<(), AllocErr
     append_base(out, "base", &row.base)
 }
 
+// Appends a number, behind ` / ` where there is one before it.
+fn append_next(out: &mut String, number: u32) -> Result<(), AllocError> {
+    append_joined(out, "")?;
+    append_number(out, number)
+}
+
+fn numbers_text(alloc: Global, numbers: &[u32]) -> Result<String, AllocError> {
+    let mut text = String::new(alloc);
+    for number in numbers {
+        append_next(&mut text, *number)?;
+    }
+    or_none(text)
+}
+
 fn deferrals_text(alloc: Global, found: &[Deferral3Row]) -> Result<String, AllocError> {
     let mut text = String::new(alloc);
     for row in found {
@@ -137,47 +142,6 @@ fn accomplishments_found(alloc: Global, found: Result<Vec<DoneRow>, TableFault>)
         Ok(found) => Ok(accomplishments_text(alloc, &found)?),
         Err(fault) => fault_text(alloc, fault),
     }
-}
-
-// Deletes the rows of a table, by the statement, and adds these.
-fn put_again<S: Alter, R: Insert + Drop>(
-    tx: &mut Transaction<'_, S>,
-    delete: &str,
-    found: &[R],
-) -> Result<(), TableFault> {
-    if tx.execute(delete, &[]).is_err() {
-        return Err(TableFault::Store);
-    }
-    for row in found {
-        row.insert(tx)?;
-    }
-    Ok(())
-}
-
-// Reads all rows of a table and writes them once more.
-fn rewritten<S: Alter, R: Insert + Drop>(
-    alloc: Global,
-    tx: &mut Transaction<'_, S>,
-    delete: &str,
-) -> Result<(), TableFault> {
-    let found: Vec<R> = rows(alloc, tx)?;
-    put_again(tx, delete, &found)
-}
-
-fn rewrite_deferrals<S: Alter>(alloc: Global, conn: &mut Connection<S>) -> AnswerText
-    requires { conn.old.in_transaction ≡ false }
-{
-    let mut tx = conn.transaction();
-    let done = rewritten::<S, Deferral3Row>(alloc, &mut tx, "DELETE FROM defect3");
-    committed(alloc, tx, done)
-}
-
-fn rewrite_accomplishments<S: Alter>(alloc: Global, conn: &mut Connection<S>) -> AnswerText
-    requires { conn.old.in_transaction ≡ false }
-{
-    let mut tx = conn.transaction();
-    let done = rewritten::<S, DatedRow>(alloc, &mut tx, "DELETE FROM done3");
-    committed(alloc, tx, done)
 }
 
 // The deferral of an entry.
@@ -247,72 +211,103 @@ fn last_of_task<S: Alter>(
     }
 }
 
-// The numbers of the sectors of an aircraft.
+// Numbers that were looked up.
+fn numbers_found(alloc: Global, found: Result<Vec<u32>, TableFault>) -> AnswerText {
+    match found {
+        Ok(found) => Ok(numbers_text(alloc, &found)?),
+        Err(fault) => fault_text(alloc, fault),
+    }
+}
+
+// The numbers of sectors that were looked up.
+fn sectors_found(alloc: Global, found: Result<Vec<Sector2Row>, TableFault>) -> AnswerText {
+    match found {
+        Ok(found) => {
+            let mut text = String::new(alloc);
+            for row in &found {
+                append_next(&mut text, row.sector.seq)?;
+            }
+            Ok(or_none(text)?)
+        }
+        Err(fault) => fault_text(alloc, fault),
+    }
+}
+
+// The numbers of releases that were looked up.
+fn releases_found(alloc: Global, found: Result<Vec<ReleaseRow>, TableFault>) -> AnswerText {
+    match found {
+        Ok(found) => {
+            let mut text = String::new(alloc);
+            for row in &found {
+                append_next(&mut text, row.seq)?;
+            }
+            Ok(or_none(text)?)
+        }
+        Err(fault) => fault_text(alloc, fault),
+    }
+}
+
+// The sectors of an aircraft.
 fn sectors_of<S: Alter>(alloc: Global, conn: &mut Connection<S>, aircraft: u32) -> AnswerText
     requires { conn.old.in_transaction ≡ false }
 {
     let mut tx = conn.transaction();
-    match sector2_by_aircraft(alloc, &mut tx, aircraft) {
-        Ok(found) => {
-            let mut text = String::new(alloc);
-            for row in &found {
-                append_joined(&mut text, "")?;
-                append_number(&mut text, row.sector.seq)?;
-            }
-            Ok(or_none(text)?)
-        }
-        Err(fault) => fault_text(alloc, fault),
-    }
+    let found = sector2_by_aircraft(alloc, &mut tx, aircraft);
+    sectors_found(alloc, found)
 }
 
-// The numbers of the releases of an item.
-fn releases_of<S: Alter>(alloc: Global, conn: &mut Connection<S>, item: u32) -> AnswerText
-    requires { conn.old.in_transaction ≡ false }
-{
-    let mut tx = conn.transaction();
-    match crs_by_item(alloc, &mut tx, item) {
-        Ok(found) => {
-            let mut text = String::new(alloc);
-            for row in &found {
-                append_joined(&mut text, "")?;
-                append_number(&mut text, row.seq)?;
-            }
-            Ok(or_none(text)?)
-        }
-        Err(fault) => fault_text(alloc, fault),
-    }
-}
-
-// Adds an accomplishment.
-fn done<S: Alter>(alloc: Global, conn: &mut Connection<S>, row: DoneRow) -> AnswerText
-    requires { conn.old.in_transaction ≡ false }
-{
-    let mut tx = conn.transaction();
-    let done = set_done(&mut tx, row);
-    committed(alloc, tx, done)
-}
-
-// Adds to the cycles at which the defects of an aircraft were found.
-fn shift<S: Alter>(
+// The sectors of an aircraft that took off from a moment on and before another.
+fn sectors_near<S: Alter>(
     alloc: Global,
     conn: &mut Connection<S>,
     aircraft: u32,
-    cycles: u32,
-    landed: Moment,
+    from: Moment,
+    before: Moment,
 ) -> AnswerText
     requires { conn.old.in_transaction ≡ false }
 {
     let mut tx = conn.transaction();
-    let done = shift_found(alloc, &mut tx, aircraft, cycles, landed);
-    committed(alloc, tx, done)
+    let found = sector2_between(alloc, &mut tx, aircraft, from, before);
+    sectors_found(alloc, found)
 }
 
-fn base_of(minutes: &str, cycles: &str, day: &str) -> Result<Base, Unmade> {
-    Ok(Base {
-        minutes: minutes.parse::<u32>()?,
-        cycles: cycles.parse::<u32>()?,
-        day: day.parse::<u32>()?,
-    })
+// The releases of an item.
+fn releases_of<S: Alter>(alloc: Global, conn: &mut Connection<S>, item: u32) -> AnswerText
+    requires { conn.old.in_transaction ≡ false }
+{
+    let mut tx = conn.transaction();
+    let found = crs_by_item(alloc, &mut tx, item);
+    releases_found(alloc, found)
+}
+
+// The releases of an item from a moment on and before another.
+fn releases_near<S: Alter>(
+    alloc: Global,
+    conn: &mut Connection<S>,
+    item: u32,
+    from: Moment,
+    before: Moment,
+) -> AnswerText
+    requires { conn.old.in_transaction ≡ false }
+{
+    let mut tx = conn.transaction();
+    let found = crs_between(alloc, &mut tx, item, from, before);
+    releases_found(alloc, found)
+}
+
+// The components that a flight of an aircraft credits.
+fn components_during<S: Alter>(
+    alloc: Global,
+    conn: &mut Connection<S>,
+    aircraft: u32,
+    off: Moment,
+    on: Moment,
+) -> AnswerText
+    requires { conn.old.in_transaction ≡ false }
+{
+    let mut tx = conn.transaction();
+    let found = fitted_during(alloc, &mut tx, aircraft, off, on);
+    numbers_found(alloc, found)
 }
 
 /// What the rows of layout 3 answer to a line behind `later`.
@@ -326,8 +321,6 @@ pub fn answer_of_later_rows<S: Alter>(
     match words {
         ["deferrals"] => deferrals(alloc, conn),
         ["accomplishments"] => accomplishments(alloc, conn),
-        ["rewrite", "deferrals"] => rewrite_deferrals(alloc, conn),
-        ["rewrite", "accomplishments"] => rewrite_accomplishments(alloc, conn),
         ["deferral", seq] => deferral(alloc, conn, seq.parse::<u32>()?),
         ["found", aircraft] => found_on(alloc, conn, aircraft.parse::<u32>()?),
         ["every"] => every_deferral(alloc, conn),
@@ -342,37 +335,21 @@ pub fn answer_of_later_rows<S: Alter>(
         }
         ["sectors", aircraft] => sectors_of(alloc, conn, aircraft.parse::<u32>()?),
         ["releases", item] => releases_of(alloc, conn, item.parse::<u32>()?),
-        [
-            "done",
-            item,
-            task,
-            seq,
-            line,
-            minutes,
-            cycles,
-            day,
-            more @ ..,
-        ] => {
-            let [base_minutes, base_cycles, base_day] = more else {
-                return Err(Unmade::NoSuchLine);
-            };
-            let row = DoneRow {
-                item: item.parse::<u32>()?,
-                task: TaskId::read(task)?,
-                seq: seq.parse::<u32>()?,
-                line: line.parse::<u32>()?,
-                value: base_of(minutes, cycles, day)?,
-                due: NEVER,
-                base: base_of(base_minutes, base_cycles, base_day)?,
-            };
-            done(alloc, conn, row)
-        }
-        ["shift", aircraft, cycles, landed] => {
+        ["sectors", aircraft, from, before] => {
             let aircraft = aircraft.parse::<u32>()?;
-            let cycles = cycles.parse::<u32>()?;
-            let landed = Moment::read(landed)?;
-            shift(alloc, conn, aircraft, cycles, landed)
+            let from = Moment::read(from)?;
+            sectors_near(alloc, conn, aircraft, from, Moment::read(before)?)
         }
-        _ => Err(Unmade::NoSuchLine),
+        ["releases", item, from, before] => {
+            let item = item.parse::<u32>()?;
+            let from = Moment::read(from)?;
+            releases_near(alloc, conn, item, from, Moment::read(before)?)
+        }
+        ["during", aircraft, off, on] => {
+            let aircraft = aircraft.parse::<u32>()?;
+            let off = Moment::read(off)?;
+            components_during(alloc, conn, aircraft, off, Moment::read(on)?)
+        }
+        _ => answer_of_late_rows(alloc, conn, words),
     }
 }

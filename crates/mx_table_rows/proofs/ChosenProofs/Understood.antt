@@ -11,18 +11,18 @@ use Rattle.sqlite.specs.Collation.TheVariants.{Binary}
 use Rattle.sqlite.specs.declared.types.Value.TheVariants.{Null}
 use Rattle.sqlite.specs.Listing.{understood}
 use Rattle.sqlite_schema.specs.declared.schema.Index.{Index}
-use Rattle.sqlite_sql.specs.declared.ops.CompareOp.TheVariants.{Eq, Le}
+use Rattle.sqlite_sql.specs.declared.ops.CompareOp.TheVariants.{Eq, Ge, Le, Lt}
 use Rattle.sqlite_tied.specs.Compute.{everything}
 use Rattle.mx_layout.specs.Contents.{cells}
 use Rattle.mx_layout.specs.Tables.{entry, aircraft, place, component, programme, task, opening, crs, crs_line, extension, defect, sector1, fit1, removal1, sector2, span2, total2, base2, defect3, done3}
 use Rattle.mx_layout.specs.kept.Cells.{kept_entry, kept_aircraft, kept_place, kept_component, kept_programme, kept_task, kept_opening, kept_crs, kept_crs_line, kept_extension, kept_defect, kept_sector1, kept_fit1, kept_sector2_rows, kept_span2, kept_total2, kept_base2, kept_defect3, kept_done3}
 use Rattle.mx_layout.specs.kept.Kept.{over}
 use Rattle.mx_layout.specs.kept.Schemas.{permanent, own_1, own_2, own_3, own_moving, HasBehind, HasOwn1, HasOwn2, HasOwn3}
-use Rattle.mx_table_rows.specs.chosen.Choices.{backward}
+use Rattle.mx_table_rows.specs.chosen.Choices.{backward, is_at_least, is_below}
 use Rattle.mx_table_rows.specs.chosen.Lookups.{FindsFirst, Finds, Deletes}
-use Rattle.mx_table_rows.specs.chosen.Texts.{sector2_by_seq, sector2_by_aircraft, crs_by_item, defect3_by_seq, defect3_by_aircraft, done3_by_item, done3_by_item_and_task, all_defects3, by_value, by_values, open_by, open_spans_by_component, open_spans_by_aircraft, up_to, any_row, entry_by_seq, entry_by_doc, aircraft_by_seq, aircraft_by_tail, place_by_seq, component_by_seq, component_by_serial, programme_by_seq, programme_by_kind, task_by_seq, opening_by_seq, crs_by_seq, crs_line_by_seq, crs_line_by_defect, defect_by_seq, defect_by_aircraft, extension_by_seq, extension_by_defect, span2_by_fit_seq, span2_by_component, span2_by_aircraft, span2_by_remove_seq, total2_by_item, base2_by_item_and_task, last_entry, all_aircraft, all_components, all_defects, all_crs_lines, sector1_gone, fit1_gone}
+use Rattle.mx_table_rows.specs.chosen.Texts.{sector2_by_seq, sector2_by_aircraft, sector2_between, crs_by_item, crs_between, between, defect3_by_seq, defect3_by_aircraft, done3_by_item, done3_by_item_and_task, all_defects3, by_value, by_values, open_by, open_spans_by_component, open_spans_by_aircraft, up_to, any_row, entry_by_seq, entry_by_doc, aircraft_by_seq, aircraft_by_tail, place_by_seq, component_by_seq, component_by_serial, programme_by_seq, programme_by_kind, task_by_seq, opening_by_seq, crs_by_seq, crs_line_by_seq, crs_line_by_defect, defect_by_seq, defect_by_aircraft, extension_by_seq, extension_by_defect, span2_by_fit_seq, span2_by_component, span2_by_aircraft, span2_by_remove_seq, total2_by_item, base2_by_item_and_task, last_entry, all_aircraft, all_components, all_defects, all_crs_lines, sector1_gone, fit1_gone}
 use Rattle.mx_table_rows.proofs.ChosenProofs.LookupLemmas.{Chooses, Drops, given_at, first_found, last_found, two_found, four_found, ChoosesByFour, deleted, either_finds, either_deletes}
-use Rattle.mx_table_rows.proofs.ChosenProofs.EqualLemmas.{one_equal, two_equal, missing}
+use Rattle.mx_table_rows.proofs.ChosenProofs.EqualLemmas.{one_equal, two_equal, three_equal, missing}
 
 -- spans stand at one place while components are moved, at another from then on, and at a third once deferrals are moved
 spans_found : (text : List ℕ) (tests : List Term) (chosen : Row → Row → Bool) → ((values r : Row) → list_all (holds (values ∷ r ∷ [])) tests ≡ chosen values (cells span2 r))
@@ -204,6 +204,16 @@ done3_by_item_finds = done_found done3_by_item (given_at Eq done3 0 0 ∷ []) (b
 pub done3_by_item_and_task_finds : Finds kept_done3 done3_by_item_and_task (by_values 0 1)
 unfolding understood everything
 done3_by_item_and_task_finds = done_found done3_by_item_and_task (given_at Eq done3 0 0 ∷ given_at Eq done3 1 1 ∷ []) (by_values 0 1) (λ _ _. two_equal _ _ _ refl) (λ _ _. (refl, refl, (refl, refl))) (λ _ _. (refl, refl, (refl, refl)))
+
+-- ── look-ups by the value in one column, and by bounds of another ──
+
+pub sector2_between_finds : Finds kept_sector2_rows sector2_between (between 1 4)
+unfolding understood everything
+sector2_between_finds = sectors_found sector2_between (given_at Eq sector2 1 0 ∷ given_at Ge sector2 4 1 ∷ given_at Lt sector2 4 2 ∷ []) (between 1 4) (λ values r. three_equal (by_value 1 values (cells sector2 r)) (is_at_least 4 (column values 1) (cells sector2 r)) (is_below 4 (column values 2) (cells sector2 r)) _ refl) (λ _ _. (refl, refl, (refl, refl))) (λ _ _. (refl, refl, (refl, refl))) (λ _ _. (refl, refl, (refl, refl))) (λ _ _. (refl, refl, (refl, refl)))
+
+pub crs_between_finds : Finds kept_crs crs_between (between 1 3)
+unfolding understood everything
+crs_between_finds = first_found kept_crs [] (λ _ has. has) crs_between (given_at Eq crs 1 0 ∷ given_at Ge crs 3 1 ∷ given_at Lt crs 3 2 ∷ []) (between 1 3) (λ _. refl) (λ values r. three_equal (by_value 1 values (cells crs r)) (is_at_least 3 (column values 1) (cells crs r)) (is_below 3 (column values 2) (cells crs r)) _ refl) refl (λ _ _. (refl, refl, (refl, refl))) (λ _. refl) (λ _ _. refl)
 
 -- ── open spans ──
 

@@ -1,7 +1,7 @@
 -- The texts that show chosen rows, or delete them, and by which values they are chosen.
 use Rattle.std.specs.Prelude.{ℕ, Bool, List, codes, ◌&&◌}
 use Rattle.sqlite.specs.Order.{Row, column}
-use Rattle.mx_table_rows.specs.chosen.Choices.{has_value, is_open, is_above, is_up_to, is_any}
+use Rattle.mx_table_rows.specs.chosen.Choices.{has_value, is_between, is_open, is_above, is_up_to, is_any}
 
 -- the rows with the first value in this column
 abbrev pub by_value : ℕ → Row → Row → Bool
@@ -14,6 +14,10 @@ by_values one two values row = has_value one (column values 0) row && has_value 
 -- the rows with these four values in the first four columns
 abbrev pub by_four_values : Row → Row → Bool
 by_four_values values row = has_value 0 (column values 0) row && (has_value 1 (column values 1) row && (has_value 2 (column values 2) row && has_value 3 (column values 3) row))
+
+-- the rows with the first value in one column, and in another one from the second on and below the third
+abbrev pub between : ℕ → ℕ → Row → Row → Bool
+between one two values = is_between one (column values 0) two (column values 1) (column values 2)
 
 -- the spans with the first value in this column that nothing ended
 abbrev pub open_by : ℕ → Row → Row → Bool
@@ -125,6 +129,14 @@ done3_by_item = codes "SELECT item, task, seq, line, value_m, value_c, value_d, 
 
 abbrev pub done3_by_item_and_task : List ℕ
 done3_by_item_and_task = codes "SELECT item, task, seq, line, value_m, value_c, value_d, due_m, due_c, due_d, base_m, base_c, base_d FROM done3 WHERE item = ?1 AND task = ?2 ORDER BY item, task, seq, line"
+
+-- ── look-ups by the value in one column, and by bounds of another ──
+
+abbrev pub sector2_between : List ℕ
+sector2_between = codes "SELECT seq, aircraft, page, line, took_off, landed, cycles FROM sector2 WHERE aircraft = ?1 AND took_off >= ?2 AND took_off < ?3 ORDER BY seq"
+
+abbrev pub crs_between : List ℕ
+crs_between = codes "SELECT seq, item, kind, moment FROM crs WHERE item = ?1 AND moment >= ?2 AND moment < ?3 ORDER BY seq"
 
 -- ── open spans ──
 

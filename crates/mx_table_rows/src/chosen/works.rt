@@ -3,10 +3,11 @@ ghost use Rattle.std.specs.Prelude.{◌≡◌, pos, None};
 ghost use Rattle.sqlite.specs.declared.types.Value.TheVariants.{Int};
 ghost use Rattle.sqlite.specs.Held.{state};
 ghost use Rattle.mx_layout.specs.kept.Cells.{kept_opening, kept_crs, kept_crs_line};
-ghost use Rattle.mx_table_rows.specs.chosen.Choices.{is_any};
+ghost use Rattle.mx_table_rows.specs.chosen.Choices.{is_any, is_between};
 ghost use Rattle.mx_table_rows.specs.chosen.Calls.{ReadsBy, ReadsFirst};
 
 use crate::chosen::prelude::*;
+use mx_base::Moment;
 use mx_base::rows::{OpeningRow, ReleaseLineRow, ReleaseRow};
 
 /// The accomplishment before the records that an entry stated: at most one.
@@ -60,6 +61,27 @@ pub fn crs_by_item<S: Alter>(
         tx,
         "SELECT seq, item, kind, moment FROM crs WHERE item = ?1 ORDER BY seq",
         params![item],
+    )
+}
+
+/// The releases at an item, an aircraft or a component, from a moment on and before another.
+pub fn crs_between<S: Alter>(
+    alloc: Global,
+    tx: &mut Transaction<'_, S>,
+    item: u32,
+    from: Moment,
+    before: Moment,
+) -> Result<Vec<ReleaseRow>, TableFault>
+    ensures same_reference { tx.new.conn.ghost_name ≡ tx.old.conn.ghost_name }
+    ensures reads { ReadsFirst kept_crs None kept_crs.order
+        (is_between 1 (Int (pos item)) 3 (Int (pos from)) (Int (pos before))) (λ rows. rows.items)
+        (state S.Store tx.old.conn.now) (state S.Store tx.new.conn.now) result }
+{
+    rows_chosen(
+        alloc,
+        tx,
+        "SELECT seq, item, kind, moment FROM crs WHERE item = ?1 AND moment >= ?2 AND moment < ?3 ORDER BY seq",
+        params![item, from.number(), before.number()],
     )
 }
 
