@@ -14,3 +14,10 @@ pub mod WorkedTotals
 pub mod WorkedLater
 pub mod ReplaceLemmas
 pub mod Understood
+pub mod LateReads
+pub mod LateRows
+pub mod LateWrites
+pub mod LateExchange
+pub mod LateCalls
+pub mod LateLoops
+pub mod WorkedLate

@@ -7,4 +7,6 @@ pub mod Found
 pub mod Spans
 pub mod Steps
 pub mod Puts
+pub mod Late
+pub mod LateSteps
 pub mod InPlace

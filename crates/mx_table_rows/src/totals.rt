@@ -36,6 +36,7 @@ pub mod bases;
 pub mod done;
 pub mod found;
 pub mod in_place;
+pub mod late;
 pub mod lives;
 mod single;
 pub mod spans;

@@ -26,11 +26,11 @@ use Rattle.mx_table_rows.proofs.ChosenProofs.DeleteLemmas.{both_out, none_out}
 use Rattle.mx_table_rows.proofs.TotalsProofs.ReadLemmas.{stopped_is}
 use Rattle.mx_table_rows.proofs.TotalsProofs.KeepLemmas.{on_read, not_damaged, caused}
 
-others_same : (table : Table) (db : Trees) (tables : List Table) → AllByRecursion (λ t. t.tree ≢ table.tree → db t.tree ≡ db t.tree) tables
+pub others_same : (table : Table) (db : Trees) (tables : List Table) → AllByRecursion (λ t. t.tree ≢ table.tree → db t.tree ≡ db t.tree) tables
 others_same table db [] = tt
 others_same table db (t ∷ tables) = ((λ _. refl), others_same table db tables)
 
-others_then : (table : Table) (old mid new : Trees) (tables : List Table) → AllByRecursion (λ t. t.tree ≢ table.tree → mid t.tree ≡ old t.tree) tables → AllByRecursion (λ t. t.tree ≢ table.tree → new t.tree ≡ mid t.tree) tables
+pub others_then : (table : Table) (old mid new : Trees) (tables : List Table) → AllByRecursion (λ t. t.tree ≢ table.tree → mid t.tree ≡ old t.tree) tables → AllByRecursion (λ t. t.tree ≢ table.tree → new t.tree ≡ mid t.tree) tables
     → AllByRecursion (λ t. t.tree ≢ table.tree → new t.tree ≡ old t.tree) tables
 others_then table old mid new [] a b = tt
 others_then table old mid new (t ∷ tables) a b = ((λ other. b.0 other ∙ a.0 other), others_then table old mid new tables a.1 b.1)

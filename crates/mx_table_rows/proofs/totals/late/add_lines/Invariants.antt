@@ -1,0 +1,12 @@
+use Rattle.std.proofs.Common.{◌≡◌, ℕ, take, Ok}
+use Rattle.sqlite.specs.Held.{state}
+use Rattle.mx_layout.specs.kept.Cells.{kept_done3}
+use Rattle.mx_table_rows.specs.totals.LateSteps.{WritesRows, lines_added}
+use Rattle.mx_table_rows.proofs.totals.late.add_lines.Given as goal
+
+-- the rows so far are added
+abbrev pub invariant-rows : goal.invariant-rows
+invariant-rows g l = record {
+  same_reference : l.tx.conn.ghost_name ≡ l.fn.tx.conn.ghost_name;
+  writes : WritesRows {V = ℕ} kept_done3 (lines_added (take l.row-index l.rows)) (state g.S.Store l.fn.tx.conn.now) (state g.S.Store l.tx.conn.now) (Ok 0);
+}

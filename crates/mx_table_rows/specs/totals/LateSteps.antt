@@ -1,0 +1,139 @@
+-- The steps of a use that is entered late: what is read, which rows are made of it, and how these come in place of others.
+use Rattle.std.specs.Prelude.{◌≡◌, ◌⊎◌, ℕ, Bool, true, not, List, ◌++◌, map, filter, All, Any, Option, Some, None, Result, Ok, Err, OnOk, IfOk, IfErr, IsTrue, IsPermutation, if◌then◌else◌}
+use Rattle.std.specs.List.{flat_map, list_any}
+use Rattle.sqlite.specs.Order.{Row}
+use Rattle.sqlite.specs.Tree.{Trees}
+use Rattle.sqlite.specs.State.{State, HasCleanDisk, IsUnchanged}
+use Rattle.mx_base.specs.declared.amounts.Use.{Use}
+use Rattle.mx_base.specs.declared.rows.rows.DoneRow.{DoneRow}
+use Rattle.mx_base.specs.declared.rows.rows.TotalRow.{TotalRow}
+use Rattle.mx_book.specs.due.Due.{IsLife}
+use Rattle.mx_layout.specs.TableName.{TableName}
+use Rattle.mx_layout.specs.declared.fault.TableFault.{TableFault}
+use Rattle.mx_layout.specs.declared.fault.TableFault.TheVariants.{Memory, Store, Damaged}
+use Rattle.mx_layout.specs.declared.fault.Table.TheVariants.{Crs, Done3}
+use Rattle.mx_layout.specs.Contents.{rows_in, HasNoReferences, Rises}
+use Rattle.mx_layout.specs.Crash.{StaysInside, IsWithin}
+use Rattle.mx_layout.specs.Names.{table_named}
+use Rattle.mx_layout.specs.Reading.{HasOther}
+use Rattle.mx_layout.specs.Tables.{crs, total2, done3}
+use Rattle.mx_layout.specs.kept.Cells.{kept_done3}
+use Rattle.mx_layout.specs.kept.Family.{IsReadableAs}
+use Rattle.mx_layout.specs.kept.Kept.{Kept}
+use Rattle.mx_tables.specs.Calls.{OnRead}
+use Rattle.mx_tables.specs.inserts.Sets.{IsInside}
+use Rattle.mx_table_rows.specs.totals.Calls.{Becomes}
+use Rattle.mx_table_rows.specs.totals.Done.{is_of_line, IsDated}
+use Rattle.mx_table_rows.specs.totals.Late.{is_behind, is_late, life_at, done_with, HasRelease, IsLateFault, BecomeBoth}
+use Rattle.mx_table_rows.specs.totals.Steps.{Keeps}
+use Rattle.mx_table_rows.specs.totals.Totals.{life_with, is_of_item, is_of_any, AreCredited}
+
+-- ── read ──
+
+-- P of the table that is told damaged
+abbrev pub IfDamaged : TableFault → (TableName → Type 0) → Type 0
+IfDamaged (Damaged table) P = P table
+IfDamaged _ P = Unit {0}
+
+-- P of the table that a call told damaged
+abbrev pub OfDamaged : {T : Type 0} → Result T TableFault → (TableName → Type 0) → Type 0
+OfDamaged (Ok v) P = Unit {0}
+OfDamaged (Err fault) P = IfDamaged fault P
+
+-- something was read of some tables, or one of them is bad, and nothing changed; or want of memory or the store stopped the call
+pub record ReadsLate {V : Type 0} (Is : Trees → V → Type 0) (IsBad : Trees → TableName → Type 0) (old new : State) (result : Result V TableFault) : Type 0 where
+  pub value : HasCleanDisk new → kept_done3.IsIn old.now.schema → IfOk result (Is old.now.trees)
+  pub cause : IfErr result IsLateFault
+  pub damaged : HasCleanDisk new → kept_done3.IsIn old.now.schema → OfDamaged result (IsBad old.now.trees)
+  pub unchanged : HasCleanDisk new → kept_done3.IsIn old.now.schema → OfDamaged result (λ _. IsUnchanged old new)
+  pub keeps : HasCleanDisk new → kept_done3.IsIn old.now.schema → OnOk result (Keeps old new)
+  pub mode : HasCleanDisk new → IsTrue old.in_transaction → OnRead result (IsTrue new.in_transaction)
+  pub inside : HasCleanDisk new → IsInside old → OnRead result (StaysInside old new)
+  pub within : IsWithin old new
+
+-- the accomplishments of each of the items in turn
+abbrev pub of_each : List ℕ → List Row → List Row
+of_each items rows = flat_map (λ item. filter (is_of_item item) rows) items
+
+-- exactly the accomplishments of each of the items in turn, each fitting
+pub record AreDone (items : List ℕ) (trees : Trees) (done : List DoneRow) : Type 0 where
+  pub fit : All kept_done3.Fits done
+  pub those : IsPermutation (of_each items (rows_in done3 trees)) (map kept_done3.as_cells done)
+
+-- an accomplishment of one of the items is none of the type
+abbrev pub AreUnread : List ℕ → Trees → TableName → Type 0
+AreUnread items trees Done3 = HasOther (IsReadableAs kept_done3) (filter (is_of_any items) (rows_in done3 trees))
+AreUnread items trees _ = ⊥
+
+-- the release of the accomplishment is behind the landing
+abbrev pub was_behind : ℕ → List Row → DoneRow → Bool
+was_behind landed releases x = is_behind landed releases (kept_done3.as_cells x)
+
+-- behind the landing the days of the accomplishment are in the calendar, and its value with the use added is a life
+abbrev pub CanTake : Use → ℕ → List Row → DoneRow → Type 0
+CanTake added landed releases x = was_behind landed releases x ≡ true → IsDated x × IsLife (life_with (life_at x) added)
+
+-- the accomplishment can be written with the use added, and its release is there where it needs one
+pub record IsGiven (added : Use) (landed : ℕ) (releases : List Row) (x : DoneRow) : Type 0 where
+  pub can : CanTake added landed releases x
+  pub has : HasRelease releases (kept_done3.as_cells x)
+
+-- the accomplishment with the use added, or none where it is not behind the landing
+pub record IsTaken (added : Use) (landed : ℕ) (x : DoneRow) (trees : Trees) (made : Option DoneRow) : Type 0 where
+  pub given : IsGiven added landed (rows_in crs trees) x
+  pub is : made ≡ (if was_behind landed (rows_in crs trees) x then Some (done_with added x) else None)
+
+-- the accomplishment can't be written with the use added, or its release is missing
+abbrev pub CantTake : Use → ℕ → DoneRow → Trees → TableName → Type 0
+CantTake added landed x trees Done3 = ¬ CanTake added landed (rows_in crs trees) x
+CantTake added landed x trees Crs = ¬ HasRelease (rows_in crs trees) (kept_done3.as_cells x)
+CantTake added landed x trees _ = ⊥
+
+-- those of some accomplishments that are behind the landing, each with the use added
+pub record AreTaken (added : Use) (landed : ℕ) (done : List DoneRow) (trees : Trees) (made : List DoneRow) : Type 0 where
+  pub given : All (IsGiven added landed (rows_in crs trees)) done
+  pub are : made ≡ map (done_with added) (filter (was_behind landed (rows_in crs trees)) done)
+
+-- one of some accomplishments can't be written so
+abbrev pub OneCantTake : Use → ℕ → List DoneRow → Trees → TableName → Type 0
+OneCantTake added landed done trees table = Any (λ x. CantTake added landed x trees table) done
+
+-- those of the accomplishments of the items that are behind the landing, each with the use added
+pub record AreLate (items : List ℕ) (added : Use) (landed : ℕ) (trees : Trees) (made : List DoneRow) : Type 0 where
+  pub done : List DoneRow
+  pub read : AreDone items trees done
+  pub taken : AreTaken added landed done trees made
+
+-- ── written ──
+
+-- the rows of a table became what is made of them, and nothing else changed; or the call stopped
+pub record WritesRows {X V : Type 0} (k : Kept X) (made : List Row → List Row) (old new : State) (result : Result V TableFault) : Type 0 where
+  pub becomes : HasCleanDisk new → IsTrue old.in_transaction → k.IsIn old.now.schema → HasNoReferences old.now.schema → Rises (table_named k.name) old.now.trees → OnOk result (Becomes (table_named k.name) made old.now new.now)
+  pub cause : IfErr result (λ e. (e ≡ Memory) ⊎ (e ≡ Store))
+  pub mode : HasCleanDisk new → IsTrue old.in_transaction → OnOk result (IsTrue new.in_transaction)
+  pub inside : HasCleanDisk new → IsInside old → OnOk result (StaysInside old new)
+  pub within : IsWithin old new
+
+-- the row is that of the same line of the same entry, of the same task of the same item
+abbrev pub is_same_line : DoneRow → Row → Bool
+is_same_line x row = is_of_line x.item x.task x.seq x.line row
+
+-- the rows without those of these accomplishments
+abbrev pub without_lines : List DoneRow → List Row → List Row
+without_lines xs rows = filter (λ row. not (list_any (λ x. is_same_line x row) xs)) rows
+
+-- these accomplishments on top of the rows
+abbrev pub lines_added : List DoneRow → List Row → List Row
+lines_added xs rows = map kept_done3.as_cells xs ++ rows
+
+-- these accomplishments in place of all that stand for the same lines
+abbrev pub lines_exchanged : List DoneRow → List Row → List Row
+lines_exchanged xs rows = lines_added xs (without_lines xs rows)
+
+-- totals and accomplishments became what is made of each, and nothing else changed; or the call stopped
+pub record WritesBoth {V : Type 0} (totals_made done_made : List Row → List Row) (old new : State) (result : Result V TableFault) : Type 0 where
+  pub becomes : HasCleanDisk new → IsTrue old.in_transaction → kept_done3.IsIn old.now.schema → HasNoReferences old.now.schema → Rises total2 old.now.trees → Rises done3 old.now.trees → OnOk result (BecomeBoth totals_made done_made old.now new.now)
+  pub cause : IfErr result (λ e. (e ≡ Memory) ⊎ (e ≡ Store))
+  pub mode : HasCleanDisk new → IsTrue old.in_transaction → OnOk result (IsTrue new.in_transaction)
+  pub inside : HasCleanDisk new → IsInside old → OnOk result (StaysInside old new)
+  pub within : IsWithin old new
