@@ -1,10 +1,10 @@
 -- A use that is entered late: what was read is good or bad, and then totals and accomplishments are written.
-use Rattle.std.proofs.Common.{◌≡◌, ◌⊎◌, inl, inr, ℕ, true, List, [], ◌∷◌, map, filter, All, Any, Ok, Err, Result, OnOk, IfErr, IsTrue, IsPermutation, refl, sym, ap, subst, ◌∙◌, arith}
+use Rattle.std.proofs.Common.{◌≡◌, ◌⊎◌, inl, inr, ℕ, List, [], ◌∷◌, map, filter, All, Ok, Err, Result, OnOk, IfErr, IsPermutation, refl, sym, subst, arith}
 use Rattle.std.specs.Prelude.{IsErrAnd, nat_eq, Contains}
 use Rattle.std.specs.List.{IsDistinct}
 use Rattle.std.proofs.lemmas.List.Elements.{All-map, All-nil, All-cons}
 use Rattle.std.proofs.lemmas.List.Sorted.{IsPermutation-sym, IsPermutation-trans, Contains-permutation, All-permutation}
-use Rattle.sqlite_rules.proofs.ListLemmas.{has_contained, contains_had, any_has}
+use Rattle.sqlite_rules.proofs.ListLemmas.{has_contained, contains_had}
 use Rattle.sqlite_rules.proofs.ProbeLemmas.{mapped_has}
 use Rattle.sqlite.specs.Order.{Row}
 use Rattle.sqlite.specs.Tree.{Trees}
@@ -20,18 +20,17 @@ use Rattle.mx_layout.specs.declared.fault.TableFault.TheVariants.{Memory, Store,
 use Rattle.mx_layout.specs.declared.fault.Table.TheVariants as table
 use Rattle.mx_layout.specs.Contents.{rows_in, HasNoReferences, Rises}
 use Rattle.mx_layout.specs.Tables.{crs, total2, done3}
-use Rattle.mx_layout.specs.kept.Cells.{kept_total2, kept_done3}
+use Rattle.mx_layout.specs.kept.Cells.{kept_done3}
 use Rattle.mx_layout.proofs.CrashLemmas.{within_then, stays_then}
 use Rattle.mx_layout.proofs.KeptProofs.MovedLawful.{done3_lawful}
 use Rattle.mx_layout.proofs.ReadLemmas.{on_ok}
 use Rattle.mx_tables.proofs.InsertsProofs.SetLemmas.{on_weaker}
 use Rattle.mx_table_rows.specs.totals.Calls.{change_where}
-use Rattle.mx_table_rows.specs.totals.Done.{IsDated}
 use Rattle.mx_table_rows.specs.totals.Totals.{life_with, is_of_any, credited, CanCredit, AreCredited, totals_put}
 use Rattle.mx_table_rows.specs.totals.Steps.{ReadsTotals}
-use Rattle.mx_table_rows.specs.totals.Late.{is_behind, is_late, value_credited, life_at, CanCreditValue, HasRelease, CanCreditLate, CantCreditLate, IsLateFault, BecomeBoth, BecomeLate, CreditsLate}
-use Rattle.mx_table_rows.specs.totals.LateSteps.{ReadsLate, WritesBoth, AreDone, AreUnread, CanTake, IsGiven, CantTake, AreTaken, OneCantTake, AreLate, lines_exchanged}
-use Rattle.mx_table_rows.proofs.TotalsProofs.KeepLemmas.{Stopped, on_read, not_damaged, at_damage}
+use Rattle.mx_table_rows.specs.totals.Late.{is_late, value_credited, life_at, CanCreditValue, HasRelease, CanCreditLate, CantCreditLate, IsLateFault, BecomeBoth, CreditsLate}
+use Rattle.mx_table_rows.specs.totals.LateSteps.{ReadsLate, WritesBoth, AreDone, AreUnread, IsGiven, CantTake, AreTaken, OneCantTake, AreLate, lines_exchanged}
+use Rattle.mx_table_rows.proofs.TotalsProofs.KeepLemmas.{Stopped, on_read, not_damaged}
 use Rattle.mx_table_rows.proofs.TotalsProofs.ReadLemmas.{stopped_is}
 use Rattle.mx_table_rows.proofs.TotalsProofs.LateReads.{told, reads_then}
 use Rattle.mx_table_rows.proofs.TotalsProofs.LateWrites.{done_totals}
@@ -161,7 +160,7 @@ module _ (items : List ℕ) (added : Use) (landed : ℕ) where
         becomes = λ clean begun has free up done_up. (let same = (one.keeps (early clean) has).now_is in
             let is = one.value (early clean) has in
             let wrote = two.becomes clean (one.mode (early clean) begun) (subst (λ (d : Database). kept_done3.IsIn d.schema) (sym same) has) (subst (λ (d : Database). HasNoReferences d.schema) (sym same) free)
-                (subst (λ (d : Database). Rises total2 d.trees) (sym same) up) (subst (λ (d : Database). Rises done3 d.trees) (sym same) done_up) in
+            (subst (λ (d : Database). Rises total2 d.trees) (sym same) up) (subst (λ (d : Database). Rises done3 d.trees) (sym same) done_up) in
             let before : OnOk result (BecomeBoth totals_made done_made old.now new.now) = subst (λ (d : Database). OnOk result (BecomeBoth totals_made done_made d new.now)) same wrote in
             on_weaker result (λ b. record {
               schema = b.schema;

@@ -1,11 +1,9 @@
 -- Accomplishments that are exchanged: those that are written come in place of exactly the rows that are behind the landing.
-use Rattle.std.proofs.Common.{◌≡◌, inl, inr, ℕ, pos, Bool, true, false, ◌&&◌, ◌||◌, not, List, [], ◌∷◌, ◌++◌, map, filter, All, Any, IsPermutation, refl, sym, ap, ap₂, subst, subst₂, ◌∙◌, arith}
-use Rattle.std.specs.Prelude.{nat_eq, Contains}
+use Rattle.std.proofs.Common.{◌≡◌, ℕ, pos, Bool, true, false, ◌&&◌, ◌||◌, not, List, [], ◌∷◌, ◌++◌, map, filter, IsPermutation, refl, sym, ap, ap₂, subst, subst₂, ◌∙◌, arith}
+use Rattle.std.specs.Prelude.{nat_eq}
 use Rattle.std.specs.List.{AllByRecursion, IsDistinct, list_any}
-use Rattle.std.proofs.lemmas.Bool.{cases_Bool}
 use Rattle.std.proofs.lemmas.Bool.Decides.{nat_tests}
-use Rattle.std.proofs.lemmas.List.Elements.{All-map, All-contains}
-use Rattle.std.proofs.lemmas.List.Sorted.{IsPermutation-sym, IsPermutation-trans, IsPermutation-append_right, IsPermutation-filter_both, Contains-permutation, All-permutation}
+use Rattle.std.proofs.lemmas.List.Sorted.{IsPermutation-sym, IsPermutation-trans, IsPermutation-append_right, IsPermutation-filter_both, Contains-permutation}
 use Rattle.sqlite_keyed.proofs.ListLemmas.{map-map, filter-map, IsPermutation-same, IsPermutation-filter}
 use Rattle.sqlite_rules.proofs.ListLemmas.{some_has, some_from, has_left, has_right, has_kept, has_filtered, has_contained, contains_had}
 use Rattle.sqlite_rules.proofs.ProbeLemmas.{mapped_has}
@@ -18,21 +16,16 @@ use Rattle.sqlite_schema.specs.Rules.{equal}
 use Rattle.sqlite_typed.proofs.TestLemmas.{bytes_eq_refl}
 use Rattle.mx_base.specs.declared.amounts.Use.{Use}
 use Rattle.mx_base.specs.declared.rows.rows.DoneRow.{DoneRow}
-use Rattle.mx_layout.specs.TableName.{TableName}
-use Rattle.mx_layout.specs.declared.fault.Table.TheVariants.{Crs, Done3}
 use Rattle.mx_layout.specs.Contents.{rows_in}
-use Rattle.mx_layout.specs.Reading.{HasOther}
 use Rattle.mx_layout.specs.Tables.{crs, done3}
 use Rattle.mx_layout.specs.kept.Cells.{kept_done3}
-use Rattle.mx_layout.specs.kept.Family.{IsReadableAs}
-use Rattle.mx_layout.proofs.KeptProofs.MovedLawful.{done3_lawful}
 use Rattle.mx_table_rows.specs.chosen.Choices.{has_value}
 use Rattle.mx_table_rows.proofs.ChosenProofs.DeleteLemmas.{filter_has, map_had, same_test}
 use Rattle.mx_table_rows.proofs.ChosenProofs.EqualLemmas.{equal_numbers, equal_texts}
 use Rattle.mx_table_rows.specs.totals.Calls.{change_where}
 use Rattle.mx_table_rows.specs.totals.Totals.{is_of_item, is_of_any}
-use Rattle.mx_table_rows.specs.totals.Late.{is_behind, is_late, value_credited, done_with, CanCreditValue, HasRelease}
-use Rattle.mx_table_rows.specs.totals.LateSteps.{of_each, AreDone, was_behind, IsGiven, AreTaken, AreLate, is_same_line, without_lines, lines_added, lines_exchanged}
+use Rattle.mx_table_rows.specs.totals.Late.{is_behind, is_late, value_credited, done_with}
+use Rattle.mx_table_rows.specs.totals.LateSteps.{of_each, AreDone, was_behind, AreLate, is_same_line, lines_exchanged}
 use Rattle.mx_table_rows.proofs.TotalsProofs.CreditLemmas.{none_of}
 use Rattle.mx_table_rows.proofs.TotalsProofs.RowLemmas.{both_in, where_many, number_is}
 
@@ -74,8 +67,8 @@ module _ (rows : List Row) where
       let own = filter (is_of_item item) rows in
       let apart : (row : Row) → Has rows row → is_of_item item row ≡ true → is_of_any items row ≡ false =
       λ row here is. (let it = done row (has_left own (of_each items rows) row (has_kept (is_of_item item) rows row here is)) in
-          let same : it.0.item ≡ item = number_is it.0.item item (subst (λ r. is_of_item item r ≡ true) it.1 is) in
-          ap (is_of_any items) it.1 ∙ none_of it.0.item items (subst (λ n. AllByRecursion (λ m. nat_eq n m ≡ false) items) (sym same) distinct.0)) in
+      let same : it.0.item ≡ item = number_is it.0.item item (subst (λ r. is_of_item item r ≡ true) it.1 is) in
+      ap (is_of_any items) it.1 ∙ none_of it.0.item items (subst (λ n. AllByRecursion (λ m. nat_eq n m ≡ false) items) (sym same) distinct.0)) in
       IsPermutation-trans _ (own ++ filter (is_of_any items) rows) _ (either_parts (is_of_item item) (is_of_any items) rows apart)
       (IsPermutation-append_right own _ _ (each_parts items distinct.1 (λ row here. done row (has_right own (of_each items rows) row here))))
 

@@ -1,6 +1,5 @@
 -- The loops of a use that is entered late: one more is read, deleted or added, or the call stops there.
 use Rattle.std.proofs.Common.{◌≡◌, ◌≢◌, pos, inl, inr, ℕ, Bool, true, false, ◌||◌, not, List, [], ◌∷◌, ◌++◌, map, filter, Option, Vec, Ok, Err, Result, IsPermutation, refl, sym, ap, subst, ◌∙◌}
-use Rattle.std.specs.Prelude.{IsErrAnd}
 use Rattle.std.specs.List.{list_any}
 use Rattle.std.specs.Option.{option_to_list}
 use Rattle.std.proofs.lemmas.List.{map-append, append_assoc}

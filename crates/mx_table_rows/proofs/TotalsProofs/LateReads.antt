@@ -1,7 +1,6 @@
 -- Calls one after another that read some tables.
-use Rattle.std.proofs.Common.{◌≡◌, ◌⊎◌, inl, inr, List, map, filter, None, All, Vec, Ok, Err, Result, OnOk, IfOk, IfErr, IsTrue, IsPermutation, refl, sym, subst, ◌∙◌, arith}
+use Rattle.std.proofs.Common.{◌≡◌, ◌⊎◌, inl, inr, List, Ok, Err, Result, IfOk, refl, sym, subst, ◌∙◌, arith}
 use Rattle.std.specs.Prelude.{IsErrAnd}
-use Rattle.std.proofs.lemmas.List.Sorted.{IsPermutation-sym, Contains-permutation}
 use Rattle.sqlite.specs.Order.{Row}
 use Rattle.sqlite.specs.Schema.{Schema}
 use Rattle.sqlite.specs.Tree.{Trees}
@@ -11,16 +10,15 @@ use Rattle.mx_layout.specs.TableName.{TableName}
 use Rattle.mx_layout.specs.declared.fault.TableFault.{TableFault}
 use Rattle.mx_layout.specs.declared.fault.TableFault.TheVariants.{Memory, Store, NotOurs, Exists, Damaged}
 use Rattle.mx_layout.specs.Contents.{rows_in}
-use Rattle.mx_layout.specs.Crash.{StaysInside, IsWithin}
+use Rattle.mx_layout.specs.Crash.{IsWithin}
 use Rattle.mx_layout.specs.Names.{table_named}
 use Rattle.mx_layout.specs.kept.Cells.{kept_done3}
 use Rattle.mx_layout.specs.kept.Kept.{Kept}
 use Rattle.mx_layout.proofs.CrashLemmas.{within_then, within_itself, stays_then}
-use Rattle.mx_tables.specs.Calls.{OnRead}
 use Rattle.mx_tables.proofs.InsertsProofs.SetLemmas.{on_weaker, on_read_weaker, stays_open}
 use Rattle.mx_table_rows.specs.totals.Calls.{ReadsFrom}
 use Rattle.mx_table_rows.specs.totals.Late.{IsLateFault}
-use Rattle.mx_table_rows.specs.totals.LateSteps.{IfDamaged, OfDamaged, ReadsLate}
+use Rattle.mx_table_rows.specs.totals.LateSteps.{OfDamaged, ReadsLate}
 use Rattle.mx_table_rows.specs.totals.Steps.{Keeps}
 use Rattle.mx_table_rows.proofs.TotalsProofs.KeepLemmas.{keeps_itself, keeps_then, unchanged_after}
 use Rattle.mx_table_rows.proofs.TotalsProofs.ReadLemmas.{stopped_is}

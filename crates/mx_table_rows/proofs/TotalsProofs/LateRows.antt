@@ -1,7 +1,7 @@
 -- Accomplishments behind a landing: which are read, and what is made of them.
-use Rattle.std.proofs.Common.{◌≡◌, ◌≢◌, ◌≤◌, inl, inr, ◌+◌, ℕ, pos, Bool, true, false, cond, ◌&&◌, ◌||◌, not, List, [], ◌∷◌, ◌++◌, map, filter, Option, Some, None, All, Any, Vec, Ok, Err, Result, IsPermutation, refl, sym, ap, ap₂, subst, subst₂, ◌∙◌, arith}
+use Rattle.std.proofs.Common.{◌≡◌, ◌≢◌, inl, inr, ℕ, Bool, true, false, cond, ◌&&◌, ◌||◌, not, List, [], ◌∷◌, ◌++◌, map, filter, Option, Some, None, All, Vec, Ok, Err, Result, IsPermutation, refl, sym, ap, ap₂, subst, subst₂, ◌∙◌, arith}
 use Rattle.std.specs.Prelude.{nat_lt, if◌then◌else◌}
-use Rattle.std.specs.List.{list_any, flat_map}
+use Rattle.std.specs.List.{list_any}
 use Rattle.std.specs.Option.{option_to_list}
 use Rattle.std.proofs.lemmas.Bool.{cases_Bool}
 use Rattle.std.proofs.lemmas.Bool.Decides.{nat_tests}
@@ -17,7 +17,7 @@ use Rattle.mx_base.specs.declared.rows.rows.DoneRow.{DoneRow}
 use Rattle.mx_base.specs.declared.rows.rows.ReleaseRow.{ReleaseRow}
 use Rattle.mx_book.specs.due.Due.{IsLife}
 use Rattle.mx_layout.specs.declared.fault.TableFault.{TableFault}
-use Rattle.mx_layout.specs.declared.fault.Table.TheVariants.{Crs, Done3}
+use Rattle.mx_layout.specs.declared.fault.Table.TheVariants.{Done3}
 use Rattle.mx_layout.specs.Contents.{rows_in}
 use Rattle.mx_layout.specs.Reading.{HasOther}
 use Rattle.mx_layout.specs.Tables.{crs, done3}
@@ -29,8 +29,8 @@ use Rattle.mx_table_rows.specs.totals.Calls.{ReadsFrom}
 use Rattle.mx_table_rows.specs.totals.Done.{IsDated}
 use Rattle.mx_table_rows.specs.totals.Found.{is_from}
 use Rattle.mx_table_rows.specs.totals.Single.{IsOnly}
-use Rattle.mx_table_rows.specs.totals.Totals.{life_with, is_of_item, is_of_any}
-use Rattle.mx_table_rows.specs.totals.Late.{is_stated, is_release_of, is_behind, life_at, done_with}
+use Rattle.mx_table_rows.specs.totals.Totals.{life_with, is_of_item}
+use Rattle.mx_table_rows.specs.totals.Late.{is_stated, is_release_of, life_at, done_with}
 use Rattle.mx_table_rows.specs.totals.LateSteps.{of_each, AreDone, was_behind, IsGiven, IsTaken, CantTake, AreTaken}
 
 -- ── one accomplishment ──

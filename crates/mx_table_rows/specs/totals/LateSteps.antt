@@ -6,7 +6,6 @@ use Rattle.sqlite.specs.Tree.{Trees}
 use Rattle.sqlite.specs.State.{State, HasCleanDisk, IsUnchanged}
 use Rattle.mx_base.specs.declared.amounts.Use.{Use}
 use Rattle.mx_base.specs.declared.rows.rows.DoneRow.{DoneRow}
-use Rattle.mx_base.specs.declared.rows.rows.TotalRow.{TotalRow}
 use Rattle.mx_book.specs.due.Due.{IsLife}
 use Rattle.mx_layout.specs.TableName.{TableName}
 use Rattle.mx_layout.specs.declared.fault.TableFault.{TableFault}
@@ -24,9 +23,9 @@ use Rattle.mx_tables.specs.Calls.{OnRead}
 use Rattle.mx_tables.specs.inserts.Sets.{IsInside}
 use Rattle.mx_table_rows.specs.totals.Calls.{Becomes}
 use Rattle.mx_table_rows.specs.totals.Done.{is_of_line, IsDated}
-use Rattle.mx_table_rows.specs.totals.Late.{is_behind, is_late, life_at, done_with, HasRelease, IsLateFault, BecomeBoth}
+use Rattle.mx_table_rows.specs.totals.Late.{is_behind, life_at, done_with, HasRelease, IsLateFault, BecomeBoth}
 use Rattle.mx_table_rows.specs.totals.Steps.{Keeps}
-use Rattle.mx_table_rows.specs.totals.Totals.{life_with, is_of_item, is_of_any, AreCredited}
+use Rattle.mx_table_rows.specs.totals.Totals.{life_with, is_of_item, is_of_any}
 
 -- ── read ──
 

@@ -1,11 +1,12 @@
-//! A sector that is entered late.
+//! A use that is entered late, since the sector was.
 //!
-//! Its use goes to the totals of the items, and to the values of those of their accomplishments whose release is behind
-//! the landing: what the items had been used then was more by it. Totals, accomplishments and releases are all read, and
+//! It goes to the totals of the items, and to the values of those of their accomplishments whose release is behind the
+//! landing: what the items had been used then was more by it. Totals, accomplishments and releases are all read, and
 //! all sums made, before the first row is written. So a damaged row of any of the three tables, a release that is
 //! missing, or a sum past the most of a life, leaves each total and each value as it was; written as they are read, a
-//! fault in the middle would leave totals that count a sector which the values behind it don't. The rows of the
-//! accomplishments are all deleted, and then all added: so no two of them have to differ in what they are known by.
+//! fault in the middle would leave totals that count a sector which the values behind it don't. What stands for the
+//! lines of the accomplishments is all deleted before the first of them is added: so nothing is lost even of rows that
+//! stand for one line.
 ghost use Rattle.std.specs.Prelude.{◌≡◌, nat_eq, pos, true};
 ghost use Rattle.std.specs.Option.{SomeIff};
 ghost use Rattle.mx_book.specs.commands.Bounds.{are_distinct};
@@ -174,10 +175,7 @@ fn delete_line<S: Alter>(tx: &mut Transaction<'_, S>, row: &DatedRow) -> Result<
 }
 
 // Deletes what stands for the lines of these accomplishments.
-fn delete_lines<S: Alter>(
-    tx: &mut Transaction<'_, S>,
-    rows: &[DatedRow],
-) -> Result<(), TableFault>
+fn delete_lines<S: Alter>(tx: &mut Transaction<'_, S>, rows: &[DatedRow]) -> Result<(), TableFault>
     ensures same_reference { tx.new.conn.ghost_name ≡ tx.old.conn.ghost_name }
     ensures writes { WritesRows kept_done3 (without_lines rows.now)
         (state S.Store tx.old.conn.now) (state S.Store tx.new.conn.now) result }

@@ -45,7 +45,7 @@ returns-in_err-late-clause-credits g c =
     let a = state g.S.Store c.args.tx.now.conn.now in
     let b = state g.S.Store c.rows_with.new.tx.conn.now in
     let d = state g.S.Store c.late_rows.new.tx.conn.now in
-    late_unread items c.args.added c.args.landed (AreBoth items distinct c.args.added c.args.landed (λ rows. rows.items) (λ rows. rows.items) totals) a d c.in_err-late.field-0.0 c.from_residual.result c.from_residual.ensures.1
+    late_unread items c.args.added c.args.landed (AreBoth items distinct c.args.added c.args.landed (λ rows. rows.items) (λ rows. rows.items) totals) a d c.in_err-late.field-0.0 c.from_residual-in_err-late.result c.from_residual-in_err-late.ensures.1
     (both_read items distinct c.args.added c.args.landed (λ rows. rows.items) (λ rows. rows.items) totals a b d (Err c.in_err-late.field-0.0) c.in_ok-credited.ensures.reads c.in_err-late.ensures.reads)
 
 pub returns-in_err-put_rows-clause-credits : goal.returns-in_err-put_rows-clause-credits
@@ -59,7 +59,7 @@ returns-in_err-put_rows-clause-credits g c =
     let d = state g.S.Store c.late_rows.new.tx.conn.now in
     let e = state g.S.Store c.put_rows.new.tx.conn.now in
     let fault = c.in_err-put_rows.field-0.0 in
-    all_written items distinct c.args.added c.args.landed (λ rows. rows.items) (λ rows. rows.items) totals late a d e c.from_residual.result
+    all_written items distinct c.args.added c.args.landed (λ rows. rows.items) (λ rows. rows.items) totals late a d e c.from_residual-in_err-put_rows.result
     (both_read items distinct c.args.added c.args.landed (λ rows. rows.items) (λ rows. rows.items) totals a b d (Ok late) c.in_ok-credited.ensures.reads c.in_ok-late.ensures.reads)
-    (both_stopped (totals_put totals.items) (lines_exchanged late.items) d e fault c.from_residual.result c.from_residual.ensures.1
+    (both_stopped (totals_put totals.items) (lines_exchanged late.items) d e fault c.from_residual-in_err-put_rows.result c.from_residual-in_err-put_rows.ensures.1
     (puts_write kept_total2 is_own_total totals.items d e (Err fault) (subst (λ (xs : List TotalRow). PutsRows kept_total2 is_own_total xs d e (Err fault)) c.deref.ensures.value c.in_err-put_rows.ensures.puts)))

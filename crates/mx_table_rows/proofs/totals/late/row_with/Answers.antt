@@ -41,7 +41,7 @@ returns-in-Some-clause-reads g c =
     let from : nat_lt release.moment c.args.landed ≡ false = (search rules) in
     release_read c.args.added c.args.landed x some (state g.S.Store c.args.tx.now.conn.now) (state g.S.Store c.release_of.new.tx.conn.now) release (Some c.in-Some.late)
     (λ trees only. subst (λ (y : DoneRow). IsTaken c.args.added c.args.landed x trees (Some y)) (sym c.in-Some.ensures.1)
-        (taken_behind c.args.added c.args.landed x trees release some only from c.in-Some.ensures.0.0 c.in-Some.ensures.0.1)) c.in_ok-release.ensures.reads
+    (taken_behind c.args.added c.args.landed x trees release some only from c.in-Some.ensures.0.0 c.in-Some.ensures.0.1)) c.in_ok-release.ensures.reads
 
 pub returns-in-None-clause-reads : goal.returns-in-None-clause-reads
 returns-in-None-clause-reads g c =

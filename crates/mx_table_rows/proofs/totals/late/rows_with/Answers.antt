@@ -1,4 +1,4 @@
-use Rattle.std.proofs.Common.{rules, ◌∙◌, ◌≡◌, ◌+◌, List, ◌++◌, [], ◌∷◌, take, Option, None, Some, Ok, Err, sym, ap, subst}
+use Rattle.std.proofs.Common.{◌∙◌, ◌≡◌, ◌+◌, List, ◌++◌, [], ◌∷◌, take, Option, Ok, Err, sym, ap, subst}
 use Rattle.std.specs.Option.{option_to_list}
 use Rattle.std.proofs.lemmas.List.{take_all, take_more, append-nil}
 use Rattle.sqlite_rules.specs.Lists.{Has}
