@@ -14,6 +14,10 @@ use Rattle.mx_table_rows.specs.totals.Bases.{is_of_task}
 abbrev pub is_of_line : ℕ → List ℕ → ℕ → ℕ → Row → Bool
 is_of_line item task seq line row = has_value 0 (Int (pos item)) row && (has_value 1 (Text task) row && (has_value 2 (Int (pos seq)) row && has_value 3 (Int (pos line)) row))
 
+-- the row is that of the line of this accomplishment
+abbrev pub is_own_line : DoneRow → Row → Bool
+is_own_line x row = is_of_line x.item x.task x.seq x.line row
+
 -- both days of the accomplishment are in the calendar
 pub record IsDated (row : DoneRow) : Type 0 where
   pub value : row.value.day ≤ last_day
