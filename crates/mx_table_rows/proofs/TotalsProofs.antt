@@ -4,13 +4,14 @@ pub mod KeepLemmas
 pub mod ChangeLemmas
 pub mod CreditLemmas
 pub mod SpanLemmas
-pub mod FittedLemmas
-pub mod DoneLemmas
 pub mod FoundLemmas
 pub mod ShiftLemmas
+pub mod RebaseLemmas
+pub mod WriteLemmas
 pub mod PutLemmas
 pub mod StepLemmas
 pub mod WorkedTotals
 pub mod WorkedLater
+pub mod WorkedRebase
 pub mod ReplaceLemmas
 pub mod Understood

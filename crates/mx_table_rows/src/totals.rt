@@ -37,6 +37,7 @@ pub mod done;
 pub mod found;
 pub mod in_place;
 pub mod lives;
+pub mod rebase;
 mod single;
 pub mod spans;
 pub mod totals;
