@@ -7,6 +7,7 @@ pub mod SpanLemmas
 pub mod FoundLemmas
 pub mod ShiftLemmas
 pub mod RebaseLemmas
+pub mod RemadeLemmas
 pub mod WriteLemmas
 pub mod PutLemmas
 pub mod StepLemmas

@@ -137,7 +137,7 @@ reads_of k test As AreBad old new v w turned r = reads_as k (λ rows u. AreExact
 -- none of them was read
 pub unread_of : {X A W : Type 0} (k : Kept X) (test : Row → Bool) (As : List Row → W → Type 0) (AreBad : List Row → Type 0) (old new : State) (e : TableFault) (result : Result W TableFault)
     → IsErrAnd result (λ f. f ≡ e) → ((rows : List Row) → HasUnreadable k test rows → AreBad rows) → ReadsFirst {V = Vec X A} k None k.order test (λ rows. rows.items) old new (Err e) → ReadsFrom k As AreBad old new result
-unread_of {A} k test As AreBad old new e result is bad r = stops_reading k (λ rows u. AreExactly k test rows u.items) As (HasUnreadable k test) AreBad old new e result is bad (reads_exactly {A = A} k test old new (Err e) r)
+unread_of {X} {A} k test As AreBad old new e result is bad r = stops_reading {V = Vec X A} k (λ rows u. AreExactly k test rows u.items) As (HasUnreadable k test) AreBad old new e result is bad (reads_exactly k test old new {A = A} (Err e) r)
 
 -- no two things are the only one
 pub only_once : {X : Type 0} (k : Kept X) → IsLawful k → (test : Row → Bool) (rows : List Row) (x y : X) → IsOnly k test rows x → IsOnly k test rows y → x ≡ y

@@ -1,13 +1,9 @@
 -- Accomplishments whose dues are moved: the rows that are made so far, and those that do not fit.
-use Rattle.std.proofs.Common.{◌≡◌, ◌<◌, ◌≤◌, ◌^◌, ◌+◌, ℕ, List, [], ◌∷◌, ◌++◌, length, drop, get_or, Option, Some, None, IfSome, All, refl, sym, ap, subst, ◌∙◌, arith}
+use Rattle.std.proofs.Common.{◌≡◌, ◌<◌, ◌+◌, ℕ, List, [], ◌∷◌, ◌++◌, length, drop, get_or, Option, Some, None, All, sym, ap, subst, ◌∙◌}
 use Rattle.std.proofs.lemmas.List.{append_assoc, drop_more}
 use Rattle.std.proofs.lemmas.List.Elements.{All-head, All-tail, All-push, All-get_or}
-use Rattle.mx_base.specs.Calendar.{last_day}
 use Rattle.mx_base.specs.declared.amounts.Base.{Base}
-use Rattle.mx_base.specs.declared.amounts.Limit.{Limit}
 use Rattle.mx_base.specs.declared.rows.rows.DoneRow.{DoneRow}
-use Rattle.mx_base.specs.rows.Rows.{FitsLimit}
-use Rattle.mx_book.specs.due.Due.{lesser}
 use Rattle.mx_book.specs.due.Moved.{due_moved, row_with, moved}
 use Rattle.mx_layout.specs.kept.Cells.{kept_done3}
 
@@ -35,14 +31,3 @@ module _ (rows made : List DoneRow) (i : ℕ) (x : DoneRow) (within : i < length
 
   pub one_fits : (y : DoneRow) → (All kept_done3.Fits rows → All kept_done3.Fits made) → (kept_done3.Fits x → kept_done3.Fits y) → All kept_done3.Fits rows → All kept_done3.Fits (made ++ y ∷ [])
   one_fits y fit so all = All-push kept_done3.Fits made y (fit all) (so (subst kept_done3.Fits (sym is) (All-get_or kept_done3.Fits rows i x within all)))
-
-lesser_below : (value : ℕ) (due : Option ℕ) → lesser value due ≤ value
-lesser_below value None = omega arith
-lesser_below value (Some due) = omega arith
-
--- the row with another due fits, where that does and the day of its base is in the calendar
-pub fits_with : (row : DoneRow) (due : Limit) → kept_done3.Fits row → FitsLimit due → lesser row.value.day due.days ≤ last_day → kept_done3.Fits (row_with row due)
-fits_with row due fits limit day = record fits {
-  due = limit;
-  base = record { minutes = omega (arith, lesser_below row.value.minutes due.minutes, fits.value.minutes); cycles = omega (arith, lesser_below row.value.cycles due.cycles, fits.value.cycles); day = day };
-}
