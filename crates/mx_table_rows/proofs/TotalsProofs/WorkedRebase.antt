@@ -1,5 +1,5 @@
 -- Worked rows: what becomes of the accomplishments of a task whose values have grown, and what was fitted during a flight, by hand.
-use Rattle.std.proofs.Common.{◌≡◌, ℕ, refl, Some, None, Option, map, filter, List, [], ◌∷◌}
+use Rattle.std.proofs.Common.{◌≡◌, ℕ, refl, Some, None, Option, map, filter, [], ◌∷◌}
 use Rattle.std.specs.Prelude.{codes}
 use Rattle.sqlite_sql.specs.Ops.{binary}
 use Rattle.sqlite_value.specs.Order.{value_cmp}

@@ -16,7 +16,7 @@ ghost use Rattle.mx_table_rows.specs.totals.Bases.{is_of_task};
 ghost use Rattle.mx_table_rows.specs.totals.Remade.{AreRemade, CantRemake, RemakesRows};
 
 use crate::chosen::later::done3_by_item_and_task;
-use crate::totals::in_place::set_done_rows;
+use crate::totals::instead::set_done_rows;
 use mx_base::rows::DoneRow;
 use mx_base::{Base, Day, Limit, TaskId, Use};
 use mx_book::due::due::base_done;
@@ -32,7 +32,10 @@ fn moved_by(old: u32, new: u32, due: Option<u32>) -> Option<Option<u32>>
     ensures past { IfNone result (¬ IfSome (moved_by old new due) (λ n. n < 2 ^ 32)) }
 {
     match due {
-        Some(due) => Some(Some(due.checked_add(new.saturating_sub(old))?)),
+        Some(due) => {
+            let moved = due.checked_add(new.saturating_sub(old))?;
+            Some(Some(moved))
+        }
         None => Some(None),
     }
 }

@@ -1,7 +1,7 @@
 use Rattle.std.proofs.Common.{◌≡◌, ℕ, take, Ok}
 use Rattle.sqlite.specs.Held.{state}
 use Rattle.mx_table_rows.specs.totals.Puts.{WritesRows, rows_added}
-use Rattle.mx_table_rows.proofs.totals.in_place.add_rows.Given as goal
+use Rattle.mx_table_rows.proofs.totals.instead.add_rows.Given as goal
 
 -- the rows so far are added
 abbrev pub invariant-rows : goal.invariant-rows

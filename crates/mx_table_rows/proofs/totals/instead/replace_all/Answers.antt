@@ -1,6 +1,6 @@
 use Rattle.sqlite.specs.Held.{state}
 use Rattle.mx_table_rows.proofs.TotalsProofs.WriteLemmas.{instead_then, instead_stops}
-use Rattle.mx_table_rows.proofs.totals.in_place.replace_all.Goals as goal
+use Rattle.mx_table_rows.proofs.totals.instead.replace_all.Goals as goal
 
 pub returns-clause-replaces : goal.returns-clause-replaces
 returns-clause-replaces g c chosen given deletes same =

@@ -3,7 +3,7 @@ use Rattle.std.proofs.lemmas.List.{take_all, take_more}
 use Rattle.sqlite.specs.Held.{state}
 use Rattle.mx_table_rows.specs.totals.Puts.{WritesRows, rows_added}
 use Rattle.mx_table_rows.proofs.TotalsProofs.WriteLemmas.{none_added, one_added, adding_stops}
-use Rattle.mx_table_rows.proofs.totals.in_place.add_rows.Goals as goal
+use Rattle.mx_table_rows.proofs.totals.instead.add_rows.Goals as goal
 
 pub rows-init : goal.rows-init
 rows-init g c = record { same_reference = refl; adds = none_added g.R.Stored.kept _ }
