@@ -84,12 +84,7 @@ fn was_fitted(off: Moment, on: Moment, span: &SpanRow) -> bool
 }
 
 // The components that these spans say were fitted throughout a flight from `off` to `on`.
-fn during(
-    alloc: Global,
-    spans: &[SpanRow],
-    off: Moment,
-    on: Moment,
-) -> Result<Vec<u32>, AllocError>
+fn during(alloc: Global, spans: &[SpanRow], off: Moment, on: Moment) -> Result<Vec<u32>, AllocError>
     ensures { IfOk result (λ v. v.items ≡ map component_of (filter (was_fitted off on) spans.now)) }
 {
     spans
