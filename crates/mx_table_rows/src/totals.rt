@@ -1,5 +1,5 @@
-//! Totals, last bases, accomplishments, the cycles at which defects were found, and what is fitted: each is read, and
-//! changed in place. Each call is made inside a `Transaction`, which the caller commits or drops.
+//! Totals, last bases, accomplishments, the cycles at which defects were found, and what is and was fitted: each is read,
+//! and changed in place. Each call is made inside a `Transaction`, which the caller commits or drops.
 //!
 //! # What is promised
 //!
@@ -25,6 +25,12 @@
 //!   nothing is done at all: `set_done`: `changes`, `refuses`.
 //! - The last accomplishment of a task, or that there is none, is that of the last entry, and of the last line there:
 //!   `last_done`: `reads` (`IsLastDone`).
+//! - Due and base of the accomplishments of a task are made anew by their rows: what is made of all of them comes in their
+//!   place, and nothing else changes: `rebase`: `changes` (`becomes`: `IsRemade`).
+//! - It is told damaged where an accomplishment of the task can't be read, or a due is past 32 bits then, and there alone;
+//!   then nothing changed: `rebase`: `changes` (`good`, `damaged`, `unchanged`).
+//! - Accomplishments are written one after another, each in place of its own, or those of a task in place of all that it
+//!   had, and nothing else changes: `put_rows` of `done`: `puts`; `set_done_rows`: `replaces`.
 //! - A clock is set and the life stays; a total is added; the open span of a component is ended, by its two empty
 //!   columns; and nothing else changes: `set_clock`, `new_total`, `end_span2`: `changes`.
 //! - A row comes in place of those that were chosen, a last base of that which the item had of the task, and nothing
@@ -35,6 +41,8 @@
 //! - The total, and the base of a task or that there is none, are those of the one row; what is fitted is the position
 //!   and component of each open span of the aircraft, in the order of their fittings: `total`, `base_row`, `fitted`:
 //!   `reads`.
+//! - What a flight credits is the component of each span of the aircraft that has the flight between its moments, in the
+//!   order of their fittings: `fitted_during`: `reads` (`AreDuring`).
 //! - Reading changes nothing; a stop within one of these calls leaves nothing but what was committed before:
 //!   `unchanged`, `within` of each.
 
@@ -42,8 +50,10 @@ pub mod bases;
 pub mod done;
 pub mod found;
 pub mod in_place;
+pub mod instead;
 pub mod late;
 pub mod lives;
+pub mod rebase;
 mod single;
 pub mod spans;
 pub mod totals;

@@ -26,10 +26,11 @@ use Rattle.mx_layout.proofs.KeptProofs.MovedLawful.{done3_lawful}
 use Rattle.mx_layout.proofs.ReadLemmas.{on_ok}
 use Rattle.mx_tables.proofs.InsertsProofs.SetLemmas.{on_weaker}
 use Rattle.mx_table_rows.specs.totals.Calls.{change_where}
+use Rattle.mx_table_rows.specs.totals.Puts.{rows_instead}
 use Rattle.mx_table_rows.specs.totals.Totals.{life_with, is_of_any, credited, CanCredit, AreCredited, totals_put}
 use Rattle.mx_table_rows.specs.totals.Steps.{ReadsTotals}
 use Rattle.mx_table_rows.specs.totals.Late.{is_late, value_credited, life_at, CanCreditValue, HasRelease, CanCreditLate, CantCreditLate, IsLateFault, BecomeBoth, CreditsLate}
-use Rattle.mx_table_rows.specs.totals.LateSteps.{ReadsLate, WritesBoth, AreDone, AreUnread, IsGiven, CantTake, AreTaken, OneCantTake, AreLate, lines_exchanged}
+use Rattle.mx_table_rows.specs.totals.LateSteps.{ReadsLate, WritesBoth, AreOfEach, AreUnread, IsGiven, CantTake, AreTaken, OneCantTake, AreLate, is_any_line}
 use Rattle.mx_table_rows.proofs.TotalsProofs.KeepLemmas.{Stopped, on_read, not_damaged}
 use Rattle.mx_table_rows.proofs.TotalsProofs.ReadLemmas.{stopped_is}
 use Rattle.mx_table_rows.proofs.TotalsProofs.LateReads.{told, reads_then}
@@ -45,7 +46,7 @@ module _ (items : List ℕ) (distinct : IsDistinct nat_eq items) (added : Use) (
   unread_is trees table.Done3 bad = (bad.0, bad.1, λ can. bad.2 (can.done, can.fits, can.is))
   unread_is trees _ bad = absurd bad
 
-  module _ (trees : Trees) (done : List DoneRow) (are : AreDone items trees done) where
+  module _ (trees : Trees) (done : List DoneRow) (are : AreOfEach items trees done) where
     abbrev stored : List Row
     stored = filter (is_of_any items) (rows_in done3 trees)
 
@@ -209,10 +210,10 @@ module _ {V W : Type 0} (items : List ℕ) (distinct : IsDistinct nat_eq items) 
       (CantCreditLate items added landed) (CantCreditLate items added landed) (CantCreditLate items added landed) a b c v r
       (λ trees w totals late. (totals, late)) (λ trees name totals bad. bad) (totals_read added items landed rows_of a b v one) two
 
-  pub all_written : {T : Type 0} (w : W) (old mid new : State) (result : Result T TableFault) → ReadsLate AreBoth (CantCreditLate items added landed) old mid (Ok w) → WritesBoth (totals_put (rows_of v)) (lines_exchanged (lines_of w)) mid new result
+  pub all_written : {T : Type 0} (w : W) (old mid new : State) (result : Result T TableFault) → ReadsLate AreBoth (CantCreditLate items added landed) old mid (Ok w) → WritesBoth (totals_put (rows_of v)) (rows_instead kept_done3 (is_any_line (lines_of w)) (lines_of w)) mid new result
       → CreditsLate items added landed old new result
   all_written w old mid new result one two =
-      late_credited items added landed AreBoth (totals_put (rows_of v)) (lines_exchanged (lines_of w)) w old mid new result one two
+      late_credited items added landed AreBoth (totals_put (rows_of v)) (rows_instead kept_done3 (is_any_line (lines_of w)) (lines_of w)) w old mid new result one two
       (λ trees are. late_can items distinct added landed trees (rows_of v) (lines_of w) are.0 are.1)
       (λ trees are. credited_put added items (rows_of v) (rows_in total2 trees) distinct are.0)
       (λ trees are. late_exchanged items distinct added landed trees (lines_of w) are.1)

@@ -24,8 +24,10 @@ use Rattle.mx_table_rows.proofs.ChosenProofs.DeleteLemmas.{filter_has, map_had, 
 use Rattle.mx_table_rows.proofs.ChosenProofs.EqualLemmas.{equal_numbers, equal_texts}
 use Rattle.mx_table_rows.specs.totals.Calls.{change_where}
 use Rattle.mx_table_rows.specs.totals.Totals.{is_of_item, is_of_any}
+use Rattle.mx_table_rows.specs.totals.Done.{is_own_line}
+use Rattle.mx_table_rows.specs.totals.Puts.{rows_instead}
 use Rattle.mx_table_rows.specs.totals.Late.{is_behind, is_late, value_credited, done_with}
-use Rattle.mx_table_rows.specs.totals.LateSteps.{of_each, AreDone, was_behind, AreLate, is_same_line, lines_exchanged}
+use Rattle.mx_table_rows.specs.totals.LateSteps.{of_each, AreOfEach, was_behind, AreLate, is_any_line}
 use Rattle.mx_table_rows.proofs.TotalsProofs.CreditLemmas.{none_of}
 use Rattle.mx_table_rows.proofs.TotalsProofs.RowLemmas.{both_in, where_many, number_is}
 
@@ -85,7 +87,7 @@ text_same : (t : List ℕ) → equal Binary (Text t) (Text t) ≡ true
 text_same t = equal_texts t t ∙ bytes_eq_refl t
 
 -- an accomplishment stands for its own line, credited or not
-own_line : (added : Use) (x : DoneRow) → is_same_line (done_with added x) (kept_done3.as_cells x) ≡ true
+own_line : (added : Use) (x : DoneRow) → is_own_line (done_with added x) (kept_done3.as_cells x) ≡ true
 own_line added x = simp (number_same x.item, text_same x.task, number_same x.seq, number_same x.line) refl
 
 module _ (items : List ℕ) (distinct : IsDistinct nat_eq items) (added : Use) (landed : ℕ) (trees : Trees) where
@@ -102,7 +104,7 @@ module _ (items : List ℕ) (distinct : IsDistinct nat_eq items) (added : Use) (
   test = is_late items landed releases
 
   -- the accomplishments of the items are those that were read
-  pub all_read : (done : List DoneRow) → AreDone items trees done → IsPermutation (filter (is_of_any items) rows) (map kept_done3.as_cells done)
+  pub all_read : (done : List DoneRow) → AreOfEach items trees done → IsPermutation (filter (is_of_any items) rows) (map kept_done3.as_cells done)
   all_read done are =
       let each : (row : Row) → Has (of_each items rows) row → IsDone row =
       λ row here. (let it = map_had kept_done3.as_cells done row (has_contained _ row (Contains-permutation (of_each items rows) (map kept_done3.as_cells done) row are.those (contains_had _ row here))) in (it.0, it.2)) in
@@ -122,20 +124,20 @@ module _ (items : List ℕ) (distinct : IsDistinct nat_eq items) (added : Use) (
         (IsPermutation-filter behind (filter (is_of_any items) rows) (map kept_done3.as_cells are.done) read)
 
     abbrev is_put : Row → Bool
-    is_put row = list_any (λ y. is_same_line y row) (map (done_with added) xs)
+    is_put row = is_any_line (map (done_with added) xs) row
 
     put_passes : (row : Row) → Has rows row → test row ≡ true → is_put row ≡ true
     put_passes row here passes =
         let it = map_had kept_done3.as_cells xs row (has_contained _ row (Contains-permutation (filter test rows) (map kept_done3.as_cells xs) row those (contains_had _ row (has_kept test rows row here passes)))) in
-        some_from (λ y. is_same_line y row) (map (done_with added) xs) (done_with added it.0) (mapped_has (done_with added) xs it.0 it.1)
-        (ap (is_same_line (done_with added it.0)) it.2 ∙ own_line added it.0)
+        some_from (λ y. is_own_line y row) (map (done_with added) xs) (done_with added it.0) (mapped_has (done_with added) xs it.0 it.1)
+        (ap (is_own_line (done_with added it.0)) it.2 ∙ own_line added it.0)
 
     passes_put : (row : Row) → Has rows row → is_put row ≡ true → test row ≡ true
     passes_put row here put =
-        let it = some_has (λ y. is_same_line y row) (map (done_with added) xs) put in
+        let it = some_has (λ y. is_own_line y row) (map (done_with added) xs) put in
         let from = map_had (done_with added) xs it.0 it.1 in
         let x = from.0 in
-        let same : is_same_line (done_with added x) row ≡ true = subst (λ (y : DoneRow). is_same_line y row ≡ true) from.2 it.2 in
+        let same : is_own_line (done_with added x) row ≡ true = subst (λ (y : DoneRow). is_own_line y row ≡ true) from.2 it.2 in
         let own = kept_done3.as_cells x in
         -- the row of x passes
         let own_passes = (has_filtered test rows own (has_contained _ own (Contains-permutation (map kept_done3.as_cells xs) (filter test rows) own (IsPermutation-sym _ _ those) (contains_had _ own (mapped_has kept_done3.as_cells xs x from.1))))).1 in
@@ -159,10 +161,10 @@ module _ (items : List ℕ) (distinct : IsDistinct nat_eq items) (added : Use) (
             ap₂ (λ (s l : ℕ). behind (kept_done3.as_cells (record z { seq = s; line = l }))) seq line
 
     -- the rows that pass are changed, where those that are written come in place of theirs
-    pub late_exchanged : IsPermutation (change_where test (value_credited added) rows) (lines_exchanged ys rows)
+    pub late_exchanged : IsPermutation (change_where test (value_credited added) rows) (rows_instead kept_done3 (is_any_line ys) ys rows)
     late_exchanged =
         let new = map kept_done3.as_cells (map (done_with added) xs) in
         let made : map (value_credited added) (map kept_done3.as_cells xs) ≡ new = map-map (value_credited added) kept_done3.as_cells xs ∙ sym (map-map kept_done3.as_cells (done_with added) xs) in
         let others : filter (λ r. not (test r)) rows ≡ filter (λ r. not (is_put r)) rows = filter_has _ _ rows (λ r here. ap not (same_test (test r) (is_put r) (put_passes r here) (passes_put r here))) in
         let parts = subst₂ (λ (l m : List Row). IsPermutation (change_where test (value_credited added) rows) (l ++ m)) made others (where_many test (value_credited added) rows (map kept_done3.as_cells xs) those) in
-        subst (λ (l : List DoneRow). IsPermutation (change_where test (value_credited added) rows) (lines_exchanged l rows)) (sym are.taken.are) parts
+        subst (λ (l : List DoneRow). IsPermutation (change_where test (value_credited added) rows) (rows_instead kept_done3 (is_any_line l) l rows)) (sym are.taken.are) parts

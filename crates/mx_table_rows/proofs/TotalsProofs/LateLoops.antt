@@ -27,42 +27,46 @@ use Rattle.mx_table_rows.proofs.ChosenProofs.DeleteLemmas.{both_out, none_out}
 use Rattle.mx_table_rows.specs.chosen.Calls.{DeletesRows}
 use Rattle.mx_table_rows.specs.chosen.Choices.{has_value}
 use Rattle.mx_table_rows.specs.totals.Calls.{ReadsFrom}
+use Rattle.mx_table_rows.specs.totals.Done.{is_own_line}
+use Rattle.mx_table_rows.specs.totals.Puts.{WritesRows, rows_added, rows_instead}
+use Rattle.mx_table_rows.specs.totals.Several.{AreExactly, HasUnreadable}
 use Rattle.mx_table_rows.specs.totals.Single.{IsOnly, HasOne}
 use Rattle.mx_table_rows.specs.totals.Totals.{is_of_item, is_of_any}
-use Rattle.mx_table_rows.specs.totals.LateSteps.{ReadsLate, WritesRows, AreDone, AreUnread, IsTaken, CantTake, AreTaken, OneCantTake, is_same_line, without_lines, lines_added, lines_exchanged}
+use Rattle.mx_table_rows.specs.totals.LateSteps.{ReadsLate, AreOfEach, AreUnread, IsTaken, CantTake, AreTaken, OneCantTake, is_any_line}
 use Rattle.mx_table_rows.proofs.TotalsProofs.LateReads.{read_as, of_table_ok, of_table_err, late_worse, reads_then}
-use Rattle.mx_table_rows.proofs.TotalsProofs.LateRows.{lined, IsRead, IsUnread, done_more, taken_more}
-use Rattle.mx_table_rows.proofs.TotalsProofs.LateWrites.{done_permanent, writes_nothing, writes_as, deletes_write, inserts_write, writes_then}
+use Rattle.mx_table_rows.proofs.TotalsProofs.LateRows.{lined, done_more, taken_more}
+use Rattle.mx_table_rows.proofs.TotalsProofs.LateWrites.{done_permanent}
+use Rattle.mx_table_rows.proofs.TotalsProofs.WriteLemmas.{none_added, deletes_write, writes_then}
 
 -- ── the accomplishments of items ──
 
 -- an accomplishment of one of the items can't be read
-unread_too : (items : List ℕ) (item : ℕ) → Has items item → (trees : Trees) → IsUnread item (rows_in done3 trees) → AreUnread items trees Done3
+unread_too : (items : List ℕ) (item : ℕ) → Has items item → (trees : Trees) → HasUnreadable kept_done3 (is_of_item item) (rows_in done3 trees) → AreUnread items trees Done3
 unread_too items item here trees bad =
     let rows = rows_in done3 trees in
     let it = has_filtered (is_of_item item) rows bad.0 (has_contained _ bad.0 bad.1) in
     (bad.0, contains_had _ bad.0 (has_kept (is_of_any items) rows bad.0 it.0 (some_from (λ n. is_of_item n bad.0) items item here it.1)), bad.2)
 
-module _ {A : Type 0} (items all : List ℕ) (item : ℕ) (here : Has all item) (xs : List DoneRow) (first old new : State) (so_far : ReadsLate (λ trees (ys : List DoneRow). AreDone items trees ys) (AreUnread all) first old (Ok xs)) where
+module _ {A : Type 0} (items all : List ℕ) (item : ℕ) (here : Has all item) (xs : List DoneRow) (first old new : State) (so_far : ReadsLate (λ trees (ys : List DoneRow). AreOfEach items trees ys) (AreUnread all) first old (Ok xs)) where
   -- how the accomplishments of one item were read
   abbrev pub ReadOne : Result (Vec DoneRow A) TableFault → Type 0
-  ReadOne read = ReadsFrom kept_done3 (λ rows (v : Vec DoneRow A). IsRead item rows v.items) (IsUnread item) old new read
+  ReadOne read = ReadsFrom kept_done3 (λ rows (v : Vec DoneRow A). AreExactly kept_done3 (is_of_item item) rows v.items) (HasUnreadable kept_done3 (is_of_item item)) old new read
 
   abbrev One : Trees → Vec DoneRow A → Type 0
-  One trees v = IsRead item (rows_in done3 trees) v.items
+  One trees v = AreExactly kept_done3 (is_of_item item) (rows_in done3 trees) v.items
 
   abbrev pub More : Trees → Vec DoneRow A → Type 0
-  More trees v = AreDone (items ++ item ∷ []) trees (xs ++ v.items)
+  More trees v = AreOfEach (items ++ item ∷ []) trees (xs ++ v.items)
 
   both : (read : Result (Vec DoneRow A) TableFault) → ReadsLate One (AreUnread all) old new read → ReadsLate More (AreUnread all) first new read
-  both read one = reads_then (λ trees (ys : List DoneRow). AreDone items trees ys) One More (AreUnread all) (AreUnread all) (AreUnread all) first old new xs read
+  both read one = reads_then (λ trees (ys : List DoneRow). AreOfEach items trees ys) One More (AreUnread all) (AreUnread all) (AreUnread all) first old new xs read
       (λ trees v before now. done_more trees items xs item v.items before now) (λ trees t _ bad. bad) so_far one
 
   pub item_more : (v : Vec DoneRow A) → ReadOne (Ok v) → ReadsLate More (AreUnread all) first new (Ok v)
-  item_more v one = both (Ok v) (of_table_ok kept_done3 (λ rows (w : Vec DoneRow A). IsRead item rows w.items) (IsUnread item) (AreUnread all) (λ _ has. has) (inr (inr (inr (inl refl)))) (unread_too all item here) old new v one)
+  item_more v one = both (Ok v) (of_table_ok kept_done3 (λ rows (w : Vec DoneRow A). AreExactly kept_done3 (is_of_item item) rows w.items) (HasUnreadable kept_done3 (is_of_item item)) (AreUnread all) (λ _ has. has) (inr (inr (inr (inl refl)))) (unread_too all item here) old new v one)
 
   pub item_stops : (e : TableFault) → ReadOne (Err e) → ReadsLate More (AreUnread all) first new (Err e)
-  item_stops e one = both (Err e) (of_table_err kept_done3 (λ rows (w : Vec DoneRow A). IsRead item rows w.items) (IsUnread item) (AreUnread all) (λ _ has. has) (inr (inr (inr (inl refl)))) (unread_too all item here) old new e one)
+  item_stops e one = both (Err e) (of_table_err kept_done3 (λ rows (w : Vec DoneRow A). AreExactly kept_done3 (is_of_item item) rows w.items) (HasUnreadable kept_done3 (is_of_item item)) (AreUnread all) (λ _ has. has) (inr (inr (inr (inl refl)))) (unread_too all item here) old new e one)
 
 -- ── what is made of one ──
 
@@ -115,38 +119,35 @@ or_false : (a : Bool) → a || false ≡ a
 or_false true = refl
 or_false false = refl
 
-without_more : (xs : List DoneRow) (x : DoneRow) (rows : List Row) → without_lines (xs ++ x ∷ []) rows ≡ filter (λ row. not (is_same_line x row)) (without_lines xs rows)
-without_more xs x rows =
-    let among = λ (row : Row). list_any (λ y. is_same_line y row) xs in
-    filter_same _ (λ row. not (among row || is_same_line x row))
-    (λ row. ap not (list_any-append (λ y. is_same_line y row) xs (x ∷ []) ∙ ap (λ b. among row || b) (or_false (is_same_line x row)))) rows
-    ∙ sym (both_out among (is_same_line x) rows)
+-- the rows that stand for none of these lines
+abbrev others : List DoneRow → List Row → List Row
+others xs rows = filter (λ row. not (is_any_line xs row)) rows
 
-added_more : (xs : List DoneRow) (x : DoneRow) (rows : List Row) → IsPermutation (lines_added (xs ++ x ∷ []) rows) (kept_done3.as_cells x ∷ lines_added xs rows)
-added_more xs x rows =
-    let had = map kept_done3.as_cells xs in
-    subst (λ l. IsPermutation l (kept_done3.as_cells x ∷ had ++ rows)) (sym (ap (λ l. l ++ rows) (map-append kept_done3.as_cells xs (x ∷ [])) ∙ append_assoc had (kept_done3.as_cells x ∷ []) rows))
-    (IsPermutation-middle had (kept_done3.as_cells x) rows)
+others_more : (xs : List DoneRow) (x : DoneRow) (rows : List Row) → others (xs ++ x ∷ []) rows ≡ filter (λ row. not (is_own_line x row)) (others xs rows)
+others_more xs x rows =
+    filter_same _ (λ row. not (is_any_line xs row || is_own_line x row))
+    (λ row. ap not (list_any-append (λ y. is_own_line y row) xs (x ∷ []) ∙ ap (λ b. is_any_line xs row || b) (or_false (is_own_line x row)))) rows
+    ∙ sym (both_out (is_any_line xs) (is_own_line x) rows)
 
-module _ (s : State) where
-  pub none_deleted : WritesRows {V = ℕ} kept_done3 (without_lines []) s s (Ok 0)
-  none_deleted = writes_as kept_done3 (λ rows. rows) (without_lines []) (λ rows. IsPermutation-same _ _ (none_out rows)) s s (Ok 0) (writes_nothing kept_done3 s)
+pub none_deleted : (s : State) → WritesRows {V = ℕ} kept_done3 (λ rows. filter (λ row. not (is_any_line [] row)) rows) s s (Ok 0)
+none_deleted s = let w = none_added kept_done3 s in record {
+  becomes = λ clean begun has free rises. (let b = w.becomes clean begun has free rises in
+      record { schema = b.schema; rows = IsPermutation-same _ _ (none_out (rows_in done3 s.now.trees)); others = b.others; rises = b.rises; sound = b.sound });
+  cause = w.cause;
+  mode = w.mode;
+  inside = w.inside;
+  within = w.within;
+}
 
-  pub none_added : WritesRows {V = ℕ} kept_done3 (lines_added []) s s (Ok 0)
-  none_added = writes_nothing kept_done3 s
-
-module _ (xs : List DoneRow) (x : DoneRow) (first old new : State) where
-  pub line_deleted : {V : Type 0} (r : Result V TableFault) → WritesRows {V = ℕ} kept_done3 (without_lines xs) first old (Ok 0) → DeletesRows kept_done3 (is_same_line x) old new r → WritesRows kept_done3 (without_lines (xs ++ x ∷ [])) first new r
-  line_deleted r so_far one =
-      writes_then kept_done3 (without_lines xs) (λ rows. filter (λ row. not (is_same_line x row)) rows) (without_lines (xs ++ x ∷ [])) (IsPermutation-filter (λ row. not (is_same_line x row)))
-      (λ rows. IsPermutation-same _ _ (without_more xs x rows)) first old new 0 r so_far (deletes_write kept_done3 (is_same_line x) old new r one)
-
-  pub line_added : {V : Type 0} (r : Result V TableFault) → WritesRows {V = ℕ} kept_done3 (lines_added xs) first old (Ok 0) → InsertsRow kept_done3 x old new r → WritesRows kept_done3 (lines_added (xs ++ x ∷ [])) first new r
-  line_added r so_far one =
-      writes_then kept_done3 (lines_added xs) (λ rows. kept_done3.as_cells x ∷ rows) (lines_added (xs ++ x ∷ [])) (λ a b. IsPermutation-cons (kept_done3.as_cells x) a b)
-      (added_more xs x) first old new 0 r so_far (inserts_write kept_done3 x old new r one)
+-- one line more
+pub line_deleted : {V : Type 0} (xs : List DoneRow) (x : DoneRow) (first old new : State) (r : Result V TableFault) → WritesRows {V = ℕ} kept_done3 (λ rows. filter (λ row. not (is_any_line xs row)) rows) first old (Ok 0) → DeletesRows kept_done3 (is_own_line x) old new r
+    → WritesRows kept_done3 (λ rows. filter (λ row. not (is_any_line (xs ++ x ∷ []) row)) rows) first new r
+line_deleted xs x first old new r so_far one =
+    writes_then kept_done3 (others xs) (filter (λ row. not (is_own_line x row))) (others (xs ++ x ∷ [])) first old new 0 r (IsPermutation-filter (λ row. not (is_own_line x row)))
+    (λ rows. IsPermutation-same _ _ (others_more xs x rows)) so_far (deletes_write kept_done3 (is_own_line x) old new r one)
 
 -- what stands for the lines is deleted, and then they are added
-pub lines_then : {V W : Type 0} (xs : List DoneRow) (old mid new : State) (v : V) (r : Result W TableFault) → WritesRows kept_done3 (without_lines xs) old mid (Ok v) → WritesRows kept_done3 (lines_added xs) mid new r → WritesRows kept_done3 (lines_exchanged xs) old new r
+pub lines_then : {V W : Type 0} (xs : List DoneRow) (old mid new : State) (v : V) (r : Result W TableFault) → WritesRows kept_done3 (λ rows. filter (λ row. not (is_any_line xs row)) rows) old mid (Ok v) → WritesRows kept_done3 (rows_added kept_done3 xs) mid new r
+    → WritesRows kept_done3 (rows_instead kept_done3 (is_any_line xs) xs) old new r
 lines_then xs old mid new v r one two =
-    writes_then kept_done3 (without_lines xs) (lines_added xs) (lines_exchanged xs) (λ a b. IsPermutation-append_right (map kept_done3.as_cells xs) a b) (λ rows. IsPermutation-refl _) old mid new v r one two
+    writes_then kept_done3 (others xs) (rows_added kept_done3 xs) (rows_instead kept_done3 (is_any_line xs) xs) old mid new v r (λ a b. IsPermutation-append_right (map kept_done3.as_cells xs) a b) (λ rows. IsPermutation-refl _) one two

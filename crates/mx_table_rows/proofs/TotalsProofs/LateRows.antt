@@ -28,10 +28,11 @@ use Rattle.mx_table_rows.specs.chosen.Calls.{ReadsFirst}
 use Rattle.mx_table_rows.specs.totals.Calls.{ReadsFrom}
 use Rattle.mx_table_rows.specs.totals.Done.{IsDated}
 use Rattle.mx_table_rows.specs.totals.Found.{is_from}
+use Rattle.mx_table_rows.specs.totals.Several.{AreExactly}
 use Rattle.mx_table_rows.specs.totals.Single.{IsOnly}
 use Rattle.mx_table_rows.specs.totals.Totals.{life_with, is_of_item}
 use Rattle.mx_table_rows.specs.totals.Late.{is_stated, is_release_of, life_at, done_with}
-use Rattle.mx_table_rows.specs.totals.LateSteps.{of_each, AreDone, was_behind, IsGiven, IsTaken, CantTake, AreTaken}
+use Rattle.mx_table_rows.specs.totals.LateSteps.{of_each, AreOfEach, was_behind, IsGiven, IsTaken, CantTake, AreTaken}
 
 -- ── one accomplishment ──
 
@@ -117,19 +118,10 @@ module _ (added : Use) (landed : ℕ) where
 
 -- ── the accomplishments of items ──
 
-pub none_done : (trees : Trees) → AreDone [] trees []
+pub none_done : (trees : Trees) → AreOfEach [] trees []
 none_done trees = record { fit = All-nil kept_done3.Fits; those = IsPermutation-refl [] }
 
--- exactly the accomplishments of the item, each fitting
-pub record IsRead (item : ℕ) (rows : List Row) (done : List DoneRow) : Type 0 where
-  pub fit : All kept_done3.Fits done
-  pub those : IsPermutation (filter (is_of_item item) rows) (map kept_done3.as_cells done)
-
--- an accomplishment of the item is none of the type
-abbrev pub IsUnread : ℕ → List Row → Type 0
-IsUnread item rows = HasOther (IsReadableAs kept_done3) (filter (is_of_item item) rows)
-
-pub done_more : (trees : Trees) (items : List ℕ) (xs : List DoneRow) (item : ℕ) (ys : List DoneRow) → AreDone items trees xs → IsRead item (rows_in done3 trees) ys → AreDone (items ++ item ∷ []) trees (xs ++ ys)
+pub done_more : (trees : Trees) (items : List ℕ) (xs : List DoneRow) (item : ℕ) (ys : List DoneRow) → AreOfEach items trees xs → AreExactly kept_done3 (is_of_item item) (rows_in done3 trees) ys → AreOfEach (items ++ item ∷ []) trees (xs ++ ys)
 done_more trees items xs item ys all one =
     let rows = rows_in done3 trees in
     let own = λ (n : ℕ). filter (is_of_item n) rows in
@@ -138,28 +130,3 @@ done_more trees items xs item ys all one =
       fit = All-append kept_done3.Fits xs ys all.fit one.fit;
       those = subst₂ IsPermutation (sym from) (sym (map-append kept_done3.as_cells xs ys)) (IsPermutation-append _ _ _ _ all.those one.those);
     }
-
-module _ (item : ℕ) (old new : State) where
-  abbrev Answers : {A : Type 0} → Result (Vec DoneRow A) TableFault → Type 0
-  Answers {A} answer = ReadsFrom kept_done3 (λ rows (v : Vec DoneRow A). IsRead item rows v.items) (IsUnread item) old new answer
-
-  -- how the accomplishments of an item are read
-  pub item_read : {A : Type 0} (read : Result (Vec DoneRow A) TableFault) → ReadsFirst kept_done3 None kept_done3.order (is_of_item item) (λ rows. rows.items) old new read → Answers read
-  item_read (Ok v) r = record {
-    value = λ clean has. (let are = r.rows clean has in record { fit = r.fits; those = subst (IsPermutation (filter (is_of_item item) (rows_in done3 old.now.trees))) (sym are.first) are.are.all });
-    cause = tt;
-    damaged = λ _ _ is. (absurd cc);
-    unchanged = r.unchanged;
-    inside = r.inside;
-    within = r.within;
-  }
-  item_read (Err e) r = record {
-    value = λ _ _. tt;
-    cause = r.cause;
-    damaged = λ clean has is. (let bad = r.damaged clean has is in
-        let rows = subst (IsPermutation (filter (is_of_item item) (rows_in done3 old.now.trees))) (sym bad.1.first) bad.1.are.all in
-        (bad.2.0, Contains-permutation bad.0 _ bad.2.0 (IsPermutation-sym _ bad.0 rows) bad.2.1, bad.2.2));
-    unchanged = r.unchanged;
-    inside = r.inside;
-    within = r.within;
-  }

@@ -1,4 +1,4 @@
--- Calls one after another that write rows: of a table, and then of another.
+-- Totals that are written, and then accomplishments.
 use Rattle.std.proofs.Common.{◌≡◌, ◌≢◌, inl, inr, ℕ, Bool, List, [], ◌∷◌, map, filter, not, Ok, Err, Result, IsTrue, IsPermutation, refl, sym, subst, ◌∙◌, arith}
 use Rattle.std.specs.Prelude.{IsErrAnd, Contains}
 use Rattle.std.specs.List.{AllByRecursion}
@@ -26,9 +26,9 @@ use Rattle.mx_tables.proofs.InsertsProofs.SetLemmas.{on_weaker, stays_open}
 use Rattle.mx_tables.specs.inserts.Calls.{InsertsRow}
 use Rattle.mx_table_rows.specs.chosen.Calls.{DeletesRows}
 use Rattle.mx_table_rows.specs.totals.Calls.{Becomes}
-use Rattle.mx_table_rows.specs.totals.Puts.{rows_put, PutsRows}
+use Rattle.mx_table_rows.specs.totals.Puts.{WritesRows}
 use Rattle.mx_table_rows.specs.totals.Late.{BecomeBoth}
-use Rattle.mx_table_rows.specs.totals.LateSteps.{WritesRows, WritesBoth}
+use Rattle.mx_table_rows.specs.totals.LateSteps.{WritesBoth}
 use Rattle.mx_table_rows.proofs.TotalsProofs.PutLemmas.{others_same, others_then}
 use Rattle.mx_table_rows.proofs.TotalsProofs.ReadLemmas.{stopped_is}
 
@@ -41,88 +41,6 @@ done_totals schema (inr there) = inr (own_3_stayed schema there)
 pub done_permanent : (schema : Schema) → HasDone schema → HasPermanent schema
 done_permanent schema (inl coming) = record { rest = _; more = coming.more; is = coming.is }
 done_permanent schema (inr there) = record { rest = _; more = there.more; is = there.is }
-
--- ── one table ──
-
-module _ {X : Type 0} (k : Kept X) where
-  abbrev table : Table
-  table = table_named k.name
-
-  pub writes_nothing : (s : State) → WritesRows {V = ℕ} k (λ rows. rows) s s (Ok 0)
-  writes_nothing s = record {
-    becomes = λ _ _ _ _ rises. record { schema = refl; rows = IsPermutation-refl (rows_in table s.now.trees); others = others_same table s.now.trees s.now.schema.tables; rises = rises; sound = λ sound. sound };
-    cause = tt;
-    mode = λ _ begun. begun;
-    inside = λ _ begun. stays_open s begun;
-    within = within_itself s;
-  }
-
-  -- some rows are deleted
-  pub deletes_write : {V : Type 0} (chosen : Row → Bool) (old new : State) (r : Result V TableFault) → DeletesRows k chosen old new r → WritesRows k (λ rows. filter (λ row. not (chosen row)) rows) old new r
-  deletes_write chosen old new r d = record {
-    becomes = λ clean begun has free rises. on_weaker r
-        (λ loses. record { schema = loses.schema; rows = IsPermutation-same _ _ (sym loses.left); others = loses.others; rises = loses.rises; sound = λ _. loses.sound }) (d.loses clean begun has free rises);
-    cause = d.cause;
-    mode = λ clean begun. on_weaker r (λ stays. stays.mode) (d.inside clean begun);
-    inside = λ clean begun. d.inside clean begun.0;
-    within = d.within;
-  }
-
-  -- a row is added
-  pub inserts_write : {V : Type 0} (x : X) (old new : State) (r : Result V TableFault) → InsertsRow k x old new r → WritesRows k (λ rows. k.as_cells x ∷ rows) old new r
-  inserts_write x old new r d = record {
-    becomes = λ clean begun has free rises. on_weaker r
-        (λ gains. record { schema = gains.schema; rows = gains.adds.gained; others = gains.adds.others; rises = gains.adds.rises rises; sound = λ _. gains.sound }) (d.gains clean begun has);
-    cause = d.cause;
-    mode = λ clean begun. on_weaker r (λ stays. stays.mode) (d.inside clean begun);
-    inside = λ clean begun. d.inside clean begun.0;
-    within = d.within;
-  }
-
-  -- rows come in place of others
-  pub puts_write : {V : Type 0} (has_key : X → Row → Bool) (xs : List X) (old new : State) (r : Result V TableFault) → PutsRows k has_key xs old new r → WritesRows k (rows_put k has_key xs) old new r
-  puts_write has_key xs old new r p = record { becomes = p.becomes; cause = p.cause; mode = p.mode; inside = p.inside; within = p.within }
-
-  -- the call stopped
-  pub stops_writing : {V W : Type 0} (one made : List Row → List Row) (old new : State) (e : TableFault) (result : Result W TableFault) → IsErrAnd result (λ f. f ≡ e) → WritesRows {V = V} k one old new (Err e) → WritesRows k made old new result
-  stops_writing {V} {W} one made old new e result is w =
-      subst (λ (s : Result W TableFault). WritesRows k made old new s) (sym (stopped_is e result is))
-      (record { becomes = λ _ _ _ _ _. tt; cause = w.cause; mode = λ _ _. tt; inside = λ _ _. tt; within = w.within })
-
-  -- the same rows, in another order
-  pub writes_as : {V : Type 0} (one made : List Row → List Row) → ((rows : List Row) → IsPermutation (made rows) (one rows)) → (old new : State) (r : Result V TableFault) → WritesRows k one old new r → WritesRows k made old new r
-  writes_as one made is old new r w = record {
-    becomes = λ clean begun has free rises. on_weaker r
-        (λ b. record { schema = b.schema; rows = IsPermutation-trans _ _ _ (is (rows_in table old.now.trees)) b.rows; others = b.others; rises = b.rises; sound = b.sound }) (w.becomes clean begun has free rises);
-    cause = w.cause;
-    mode = w.mode;
-    inside = w.inside;
-    within = w.within;
-  }
-
-  module _ (one two made : List Row → List Row) (carries : (xs ys : List Row) → IsPermutation xs ys → IsPermutation (two xs) (two ys)) (is : (rows : List Row) → IsPermutation (made rows) (two (one rows))) where
-    becomes_then : (a b c : Database) → Becomes table one a b → Becomes table two b c → Becomes table made a c
-    becomes_then a b c x y = record {
-      schema = y.schema ∙ x.schema;
-      rows = IsPermutation-trans _ _ _ (is (rows_in table a.trees)) (IsPermutation-trans _ _ _ (carries _ _ x.rows) y.rows);
-      others = others_then table a.trees b.trees c.trees a.schema.tables x.others (subst (λ (s : Schema). AllByRecursion (λ t. t.tree ≢ table.tree → c.trees t.tree ≡ b.trees t.tree) s.tables) x.schema y.others);
-      rises = y.rises;
-      sound = λ sound. y.sound (x.sound sound);
-    }
-
-    -- one call after another
-    pub writes_then : {V W : Type 0} (a b c : State) (v : V) (r : Result W TableFault) → WritesRows k one a b (Ok v) → WritesRows k two b c r → WritesRows k made a c r
-    writes_then a b c v r x y =
-        let early : HasCleanDisk c → HasCleanDisk b = λ clean. omega (arith, y.within.survives.clean) in
-        record {
-          becomes = λ clean begun has free rises. (let first = x.becomes (early clean) begun has free rises in
-              on_weaker r (becomes_then a.now b.now c.now first)
-              (y.becomes clean (x.mode (early clean) begun) (subst k.IsIn (sym first.schema) has) (subst HasNoReferences (sym first.schema) free) first.rises));
-          cause = y.cause;
-          mode = λ clean begun. y.mode clean (x.mode (early clean) begun);
-          inside = λ clean begun. (let stays = x.inside (early clean) begun in on_weaker r (stays_then a b c stays) (y.inside clean (stays.mode, stays.is_open)));
-          within = within_then a b c x.within x.mode y.within;
-        }
 
 -- ── totals, and then accomplishments ──
 

@@ -9,8 +9,10 @@ use lib.Ieee.{is_nan, lt}
 use Rattle.mx_base.specs.declared.amounts.Use.{Use}
 use Rattle.mx_base.specs.declared.rows.rows.DoneRow.{DoneRow}
 use Rattle.mx_table_rows.specs.totals.Calls.{change_where}
+use Rattle.mx_layout.specs.kept.Cells.{kept_done3}
+use Rattle.mx_table_rows.specs.totals.Puts.{rows_instead}
 use Rattle.mx_table_rows.specs.totals.Late.{is_stated, is_release_of, is_behind, is_late, value_credited, life_at, done_with}
-use Rattle.mx_table_rows.specs.totals.LateSteps.{of_each, was_behind, is_same_line, without_lines, lines_added, lines_exchanged}
+use Rattle.mx_table_rows.specs.totals.LateSteps.{of_each, was_behind, is_any_line}
 
 -- an accomplishment of a task of an item, by a line of an entry, with its value in minutes and cycles at day 19,786
 row : (item : ℕ) (task : List ℕ) (seq line minutes cycles : ℕ) → Row
@@ -78,15 +80,15 @@ in_turn : of_each (5 ∷ 4 ∷ []) (row 4 (codes "100H") 10 3 100 2 ∷ row 5 (c
 unfolding row binary value_cmp is_nan lt
 in_turn = refl
 
--- a row of each other line, entry, task and item stays
-same_line : filter (is_same_line (done 9 1 0 0)) (row 5 (codes "100H") 9 1 62900 900 ∷ row 5 (codes "100H") 9 2 1 1 ∷ row 5 (codes "100H") 8 1 1 1 ∷ row 5 (codes "ANNUAL") 9 1 1 1 ∷ row 6 (codes "100H") 9 1 1 1 ∷ [])
-    ≡ row 5 (codes "100H") 9 1 62900 900 ∷ []
+-- the lines of two accomplishments are known by item, task, entry and line
+any_line : filter (is_any_line (done 9 1 0 0 ∷ done 10 1 0 0 ∷ []))
+    (row 5 (codes "100H") 9 1 62900 900 ∷ row 5 (codes "100H") 9 2 1 1 ∷ row 5 (codes "100H") 8 1 1 1 ∷ row 5 (codes "ANNUAL") 9 1 1 1 ∷ row 6 (codes "100H") 9 1 1 1 ∷ row 5 (codes "100H") 10 1 7 7 ∷ [])
+    ≡ row 5 (codes "100H") 9 1 62900 900 ∷ row 5 (codes "100H") 10 1 7 7 ∷ []
 unfolding row done binary value_cmp is_nan lt
-same_line = refl
+any_line = refl
 
--- two lines are taken out, put on top, and exchanged
-exchanged : (without_lines (done 9 1 0 0 ∷ done 10 1 0 0 ∷ []) (row 5 (codes "100H") 10 1 7 7 ∷ row 5 (codes "100H") 9 2 1 1 ∷ row 5 (codes "100H") 9 1 8 8 ∷ []) ≡ row 5 (codes "100H") 9 2 1 1 ∷ [])
-    × (lines_added (done 9 1 60 1 ∷ []) (row 5 (codes "100H") 9 2 1 1 ∷ []) ≡ row 5 (codes "100H") 9 1 60 1 ∷ row 5 (codes "100H") 9 2 1 1 ∷ [])
-    × (lines_exchanged (done 9 1 60 1 ∷ []) (row 5 (codes "100H") 9 1 0 0 ∷ row 5 (codes "100H") 9 2 1 1 ∷ []) ≡ row 5 (codes "100H") 9 1 60 1 ∷ row 5 (codes "100H") 9 2 1 1 ∷ [])
+-- one comes in place of all that stands for its line
+exchanged : rows_instead kept_done3 (is_any_line (done 9 1 60 1 ∷ [])) (done 9 1 60 1 ∷ []) (row 5 (codes "100H") 9 1 0 0 ∷ row 5 (codes "100H") 9 2 1 1 ∷ row 5 (codes "100H") 9 1 3 4 ∷ [])
+    ≡ row 5 (codes "100H") 9 1 60 1 ∷ row 5 (codes "100H") 9 2 1 1 ∷ []
 unfolding row done binary value_cmp is_nan lt
-exchanged = (refl, refl, refl)
+exchanged = refl

@@ -22,7 +22,7 @@ use Rattle.mx_layout.specs.kept.Kept.{Kept}
 use Rattle.mx_tables.specs.Calls.{OnRead}
 use Rattle.mx_tables.specs.inserts.Sets.{IsInside}
 use Rattle.mx_table_rows.specs.totals.Calls.{Becomes}
-use Rattle.mx_table_rows.specs.totals.Done.{is_of_line, IsDated}
+use Rattle.mx_table_rows.specs.totals.Done.{is_own_line, IsDated}
 use Rattle.mx_table_rows.specs.totals.Late.{is_behind, life_at, done_with, HasRelease, IsLateFault, BecomeBoth}
 use Rattle.mx_table_rows.specs.totals.Steps.{Keeps}
 use Rattle.mx_table_rows.specs.totals.Totals.{life_with, is_of_item, is_of_any}
@@ -55,7 +55,7 @@ abbrev pub of_each : List ℕ → List Row → List Row
 of_each items rows = flat_map (λ item. filter (is_of_item item) rows) items
 
 -- exactly the accomplishments of each of the items in turn, each fitting
-pub record AreDone (items : List ℕ) (trees : Trees) (done : List DoneRow) : Type 0 where
+pub record AreOfEach (items : List ℕ) (trees : Trees) (done : List DoneRow) : Type 0 where
   pub fit : All kept_done3.Fits done
   pub those : IsPermutation (of_each items (rows_in done3 trees)) (map kept_done3.as_cells done)
 
@@ -100,34 +100,14 @@ OneCantTake added landed done trees table = Any (λ x. CantTake added landed x t
 -- those of the accomplishments of the items that are behind the landing, each with the use added
 pub record AreLate (items : List ℕ) (added : Use) (landed : ℕ) (trees : Trees) (made : List DoneRow) : Type 0 where
   pub done : List DoneRow
-  pub read : AreDone items trees done
+  pub read : AreOfEach items trees done
   pub taken : AreTaken added landed done trees made
 
 -- ── written ──
 
--- the rows of a table became what is made of them, and nothing else changed; or the call stopped
-pub record WritesRows {X V : Type 0} (k : Kept X) (made : List Row → List Row) (old new : State) (result : Result V TableFault) : Type 0 where
-  pub becomes : HasCleanDisk new → IsTrue old.in_transaction → k.IsIn old.now.schema → HasNoReferences old.now.schema → Rises (table_named k.name) old.now.trees → OnOk result (Becomes (table_named k.name) made old.now new.now)
-  pub cause : IfErr result (λ e. (e ≡ Memory) ⊎ (e ≡ Store))
-  pub mode : HasCleanDisk new → IsTrue old.in_transaction → OnOk result (IsTrue new.in_transaction)
-  pub inside : HasCleanDisk new → IsInside old → OnOk result (StaysInside old new)
-  pub within : IsWithin old new
-
--- the row is that of the same line of the same entry, of the same task of the same item
-abbrev pub is_same_line : DoneRow → Row → Bool
-is_same_line x row = is_of_line x.item x.task x.seq x.line row
-
--- the rows without those of these accomplishments
-abbrev pub without_lines : List DoneRow → List Row → List Row
-without_lines xs rows = filter (λ row. not (list_any (λ x. is_same_line x row) xs)) rows
-
--- these accomplishments on top of the rows
-abbrev pub lines_added : List DoneRow → List Row → List Row
-lines_added xs rows = map kept_done3.as_cells xs ++ rows
-
--- these accomplishments in place of all that stand for the same lines
-abbrev pub lines_exchanged : List DoneRow → List Row → List Row
-lines_exchanged xs rows = lines_added xs (without_lines xs rows)
+-- the row is that of the line of one of these accomplishments
+abbrev pub is_any_line : List DoneRow → Row → Bool
+is_any_line xs row = list_any (λ x. is_own_line x row) xs
 
 -- totals and accomplishments became what is made of each, and nothing else changed; or the call stopped
 pub record WritesBoth {V : Type 0} (totals_made done_made : List Row → List Row) (old new : State) (result : Result V TableFault) : Type 0 where

@@ -7,7 +7,7 @@
 //! fault in the middle would leave totals that count a sector which the values behind it don't. What stands for the
 //! lines of the accomplishments is all deleted before the first of them is added: so nothing is lost even of rows that
 //! stand for one line.
-ghost use Rattle.std.specs.Prelude.{◌≡◌, nat_eq, pos, true};
+ghost use Rattle.std.specs.Prelude.{◌≡◌, filter, not, nat_eq, pos, true};
 ghost use Rattle.std.specs.Option.{SomeIff};
 ghost use Rattle.mx_book.specs.commands.Bounds.{are_distinct};
 ghost use Rattle.mx_book.specs.due.Due.{IsLife};
@@ -17,15 +17,17 @@ ghost use Rattle.mx_layout.specs.kept.Cells.{kept_crs, kept_done3};
 ghost use Rattle.mx_table_rows.specs.chosen.Calls.{DeletesRows};
 ghost use Rattle.mx_table_rows.specs.chosen.Choices.{has_value};
 ghost use Rattle.mx_table_rows.specs.totals.Calls.{ReadsFrom};
-ghost use Rattle.mx_table_rows.specs.totals.Done.{IsDated};
+ghost use Rattle.mx_table_rows.specs.totals.Done.{IsDated, is_own_line};
+ghost use Rattle.mx_table_rows.specs.totals.Puts.{WritesRows, rows_instead};
 ghost use Rattle.mx_table_rows.specs.totals.Single.{IsOnly, HasOne};
 ghost use Rattle.mx_table_rows.specs.totals.Totals.{life_with};
 ghost use Rattle.mx_table_rows.specs.totals.Late.{life_at, done_with, CantCreditLate, CreditsLate};
-ghost use Rattle.mx_table_rows.specs.totals.LateSteps.{ReadsLate, WritesRows, AreDone, AreUnread, IsTaken, CantTake, AreTaken, OneCantTake, AreLate, is_same_line, without_lines, lines_added, lines_exchanged};
+ghost use Rattle.mx_table_rows.specs.totals.LateSteps.{ReadsLate, AreOfEach, AreUnread, IsTaken, CantTake, AreTaken, OneCantTake, AreLate, is_any_line};
 
 use crate::chosen::chosen::delete_rows;
 use crate::chosen::later::done3_by_item;
 use crate::chosen::works::crs_by_seq;
+use crate::totals::instead::add_rows;
 use crate::totals::lives::life_with;
 use crate::totals::single::only;
 use crate::totals::totals;
@@ -33,7 +35,6 @@ use mx_base::rows::{DoneRow, ReleaseRow};
 use mx_base::{Base, Moment, Use};
 use mx_layout::{Table, TableFault};
 use mx_tables::dated::DatedRow;
-use mx_tables::inserts::Insert;
 use sqlite::{Alter, Transaction, params};
 use std::alloc::Global;
 
@@ -129,7 +130,7 @@ fn rows_of<S: Alter>(
     items: &[u32],
 ) -> Result<Vec<DoneRow>, TableFault>
     ensures same_reference { tx.new.conn.ghost_name ≡ tx.old.conn.ghost_name }
-    ensures reads { ReadsLate (λ trees rows. AreDone items.now trees rows.items)
+    ensures reads { ReadsLate (λ trees rows. AreOfEach items.now trees rows.items)
         (AreUnread items.now)
         (state S.Store tx.old.conn.now) (state S.Store tx.new.conn.now) result }
 {
@@ -163,7 +164,7 @@ fn late_rows<S: Alter>(
 // Deletes what stands for the line of an accomplishment.
 fn delete_line<S: Alter>(tx: &mut Transaction<'_, S>, row: &DatedRow) -> Result<(), TableFault>
     ensures same_reference { tx.new.conn.ghost_name ≡ tx.old.conn.ghost_name }
-    ensures deletes { DeletesRows kept_done3 (is_same_line row.now)
+    ensures deletes { DeletesRows kept_done3 (is_own_line row.now)
         (state S.Store tx.old.conn.now) (state S.Store tx.new.conn.now) result }
 {
     let done = row.row();
@@ -177,23 +178,11 @@ fn delete_line<S: Alter>(tx: &mut Transaction<'_, S>, row: &DatedRow) -> Result<
 // Deletes what stands for the lines of these accomplishments.
 fn delete_lines<S: Alter>(tx: &mut Transaction<'_, S>, rows: &[DatedRow]) -> Result<(), TableFault>
     ensures same_reference { tx.new.conn.ghost_name ≡ tx.old.conn.ghost_name }
-    ensures writes { WritesRows kept_done3 (without_lines rows.now)
+    ensures writes { WritesRows kept_done3 (filter (λ row. not (is_any_line rows.now row)))
         (state S.Store tx.old.conn.now) (state S.Store tx.new.conn.now) result }
 {
     'rows: for row in rows {
         delete_line(tx, row)?;
-    }
-    Ok(())
-}
-
-// Adds accomplishments.
-fn add_lines<S: Alter>(tx: &mut Transaction<'_, S>, rows: &[DatedRow]) -> Result<(), TableFault>
-    ensures same_reference { tx.new.conn.ghost_name ≡ tx.old.conn.ghost_name }
-    ensures writes { WritesRows kept_done3 (lines_added rows.now)
-        (state S.Store tx.old.conn.now) (state S.Store tx.new.conn.now) result }
-{
-    'rows: for row in rows {
-        row.insert(tx)?;
     }
     Ok(())
 }
@@ -204,11 +193,12 @@ fn exchange_lines<S: Alter>(
     rows: &[DatedRow],
 ) -> Result<(), TableFault>
     ensures same_reference { tx.new.conn.ghost_name ≡ tx.old.conn.ghost_name }
-    ensures writes { WritesRows kept_done3 (lines_exchanged rows.now)
+    ensures writes { WritesRows kept_done3
+        (rows_instead kept_done3 (is_any_line rows.now) rows.now)
         (state S.Store tx.old.conn.now) (state S.Store tx.new.conn.now) result }
 {
     delete_lines(tx, rows)?;
-    add_lines(tx, rows)
+    add_rows(tx, rows)
 }
 
 /// Adds the use of a sector that is entered late to the totals of these items, and to the values of those of their

@@ -5,12 +5,12 @@ use Rattle.mx_base.specs.declared.rows.rows.TotalRow.{TotalRow}
 use Rattle.mx_layout.specs.Contents.{rows_in}
 use Rattle.mx_layout.specs.Tables.{total2}
 use Rattle.mx_layout.specs.kept.Cells.{kept_total2, kept_done3}
-use Rattle.mx_table_rows.specs.totals.Puts.{PutsRows}
+use Rattle.mx_table_rows.specs.totals.Puts.{WritesRows, PutsRows, rows_instead}
 use Rattle.mx_table_rows.specs.totals.Totals.{is_own_total, totals_put, AreCredited}
-use Rattle.mx_table_rows.specs.totals.LateSteps.{WritesRows, lines_exchanged}
+use Rattle.mx_table_rows.specs.totals.LateSteps.{is_any_line}
 use Rattle.mx_table_rows.proofs.TotalsProofs.CreditLemmas.{no_two}
 use Rattle.mx_table_rows.proofs.TotalsProofs.LateCalls.{AreBoth, both_read, all_written, totals_unread_late, late_unread}
-use Rattle.mx_table_rows.proofs.TotalsProofs.LateWrites.{puts_write, both_then, both_stopped}
+use Rattle.mx_table_rows.proofs.TotalsProofs.LateWrites.{both_then, both_stopped}
 use Rattle.mx_table_rows.proofs.totals.late.credit_late.Goals as goal
 
 pub returns-clause-credits : goal.returns-clause-credits
@@ -26,9 +26,9 @@ returns-clause-credits g c =
     let new = state g.S.Store c.exchange_lines.new.tx.conn.now in
     all_written items distinct c.args.added c.args.landed (λ rows. rows.items) (λ rows. rows.items) totals late a d new c.exchange_lines.result
     (both_read items distinct c.args.added c.args.landed (λ rows. rows.items) (λ rows. rows.items) totals a b d (Ok late) c.in_ok-credited.ensures.reads c.in_ok-late.ensures.reads)
-    (both_then (totals_put totals.items) (lines_exchanged late.items) d e new _ c.exchange_lines.result
-    (puts_write kept_total2 is_own_total totals.items d e (Ok _) (subst (λ (xs : List TotalRow). PutsRows kept_total2 is_own_total xs d e (Ok _)) c.deref.ensures.value c.in_ok-put_rows.ensures.puts))
-    (subst (λ (xs : List DoneRow). WritesRows kept_done3 (lines_exchanged xs) e new c.exchange_lines.result) c.deref-2.ensures.value c.exchange_lines.ensures.writes))
+    (both_then (totals_put totals.items) (rows_instead kept_done3 (is_any_line late.items) late.items) d e new _ c.exchange_lines.result
+    (subst (λ (xs : List TotalRow). PutsRows kept_total2 is_own_total xs d e (Ok _)) c.deref.ensures.value c.in_ok-put_rows.ensures.puts)
+    (subst (λ (xs : List DoneRow). WritesRows kept_done3 (rows_instead kept_done3 (is_any_line xs) xs) e new c.exchange_lines.result) c.deref-2.ensures.value c.exchange_lines.ensures.writes))
 
 pub returns-in_err-credited-clause-credits : goal.returns-in_err-credited-clause-credits
 returns-in_err-credited-clause-credits g c =
@@ -61,5 +61,5 @@ returns-in_err-put_rows-clause-credits g c =
     let fault = c.in_err-put_rows.field-0.0 in
     all_written items distinct c.args.added c.args.landed (λ rows. rows.items) (λ rows. rows.items) totals late a d e c.from_residual-in_err-put_rows.result
     (both_read items distinct c.args.added c.args.landed (λ rows. rows.items) (λ rows. rows.items) totals a b d (Ok late) c.in_ok-credited.ensures.reads c.in_ok-late.ensures.reads)
-    (both_stopped (totals_put totals.items) (lines_exchanged late.items) d e fault c.from_residual-in_err-put_rows.result c.from_residual-in_err-put_rows.ensures.1
-    (puts_write kept_total2 is_own_total totals.items d e (Err fault) (subst (λ (xs : List TotalRow). PutsRows kept_total2 is_own_total xs d e (Err fault)) c.deref.ensures.value c.in_err-put_rows.ensures.puts)))
+    (both_stopped (totals_put totals.items) (rows_instead kept_done3 (is_any_line late.items) late.items) d e fault c.from_residual-in_err-put_rows.result c.from_residual-in_err-put_rows.ensures.1
+    (subst (λ (xs : List TotalRow). PutsRows kept_total2 is_own_total xs d e (Err fault)) c.deref.ensures.value c.in_err-put_rows.ensures.puts))
