@@ -1,10 +1,8 @@
 -- The loops of a use that is entered late: one more is read, deleted or added, or the call stops there.
-use Rattle.std.proofs.Common.{◌≡◌, ◌≢◌, pos, inl, inr, ℕ, Bool, true, false, ◌||◌, not, List, [], ◌∷◌, ◌++◌, map, filter, Option, Vec, Ok, Err, Result, IsPermutation, refl, sym, ap, subst, ◌∙◌}
-use Rattle.std.specs.List.{list_any}
+use Rattle.std.proofs.Common.{◌≡◌, ◌≢◌, pos, inl, inr, ℕ, Bool, true, false, ◌||◌, not, List, [], ◌∷◌, ◌++◌, map, filter, Option, Vec, Ok, Err, Result, refl, sym, ap, ◌∙◌}
 use Rattle.std.specs.Option.{option_to_list}
-use Rattle.std.proofs.lemmas.List.{map-append, append_assoc}
 use Rattle.std.proofs.lemmas.List.Folds.{list_any-append}
-use Rattle.std.proofs.lemmas.List.Sorted.{IsPermutation-refl, IsPermutation-cons, IsPermutation-middle, IsPermutation-append_right}
+use Rattle.std.proofs.lemmas.List.Sorted.{IsPermutation-refl, IsPermutation-append_right}
 use Rattle.sqlite_keyed.proofs.ListLemmas.{IsPermutation-same, IsPermutation-filter, filter_same}
 use Rattle.sqlite_rules.proofs.ListLemmas.{some_from, has_kept, has_filtered, has_contained, contains_had}
 use Rattle.sqlite_rules.specs.Lists.{Has}
@@ -22,7 +20,6 @@ use Rattle.mx_layout.specs.declared.fault.Table.TheVariants.{Crs, Done3}
 use Rattle.mx_layout.specs.Contents.{rows_in}
 use Rattle.mx_layout.specs.Tables.{crs, done3}
 use Rattle.mx_layout.specs.kept.Cells.{kept_crs, kept_done3}
-use Rattle.mx_tables.specs.inserts.Calls.{InsertsRow}
 use Rattle.mx_table_rows.proofs.ChosenProofs.DeleteLemmas.{both_out, none_out}
 use Rattle.mx_table_rows.specs.chosen.Calls.{DeletesRows}
 use Rattle.mx_table_rows.specs.chosen.Choices.{has_value}

@@ -1,5 +1,5 @@
 -- Accomplishments behind a landing: which are read, and what is made of them.
-use Rattle.std.proofs.Common.{◌≡◌, ◌≢◌, inl, inr, ℕ, Bool, true, false, cond, ◌&&◌, ◌||◌, not, List, [], ◌∷◌, ◌++◌, map, filter, Option, Some, None, All, Vec, Ok, Err, Result, IsPermutation, refl, sym, ap, ap₂, subst, subst₂, ◌∙◌, arith}
+use Rattle.std.proofs.Common.{◌≡◌, ◌≢◌, inl, inr, ℕ, Bool, true, false, cond, ◌&&◌, ◌||◌, not, List, [], ◌∷◌, ◌++◌, map, filter, Option, Some, None, IsPermutation, refl, sym, ap, ap₂, subst₂, ◌∙◌, arith}
 use Rattle.std.specs.Prelude.{nat_lt, if◌then◌else◌}
 use Rattle.std.specs.List.{list_any}
 use Rattle.std.specs.Option.{option_to_list}
@@ -8,24 +8,18 @@ use Rattle.std.proofs.lemmas.Bool.Decides.{nat_tests}
 use Rattle.std.proofs.lemmas.List.{map-append, append-nil}
 use Rattle.std.proofs.lemmas.List.Concat.{flat_map-append}
 use Rattle.std.proofs.lemmas.List.Elements.{All-nil, All-cons, All-append, filter-append}
-use Rattle.std.proofs.lemmas.List.Sorted.{IsPermutation-refl, IsPermutation-append, IsPermutation-sym, Contains-permutation}
+use Rattle.std.proofs.lemmas.List.Sorted.{IsPermutation-refl, IsPermutation-append}
 use Rattle.sqlite.specs.Order.{Row, column}
 use Rattle.sqlite.specs.Tree.{Trees}
-use Rattle.sqlite.specs.State.{State}
 use Rattle.mx_base.specs.declared.amounts.Use.{Use}
 use Rattle.mx_base.specs.declared.rows.rows.DoneRow.{DoneRow}
 use Rattle.mx_base.specs.declared.rows.rows.ReleaseRow.{ReleaseRow}
 use Rattle.mx_book.specs.due.Due.{IsLife}
-use Rattle.mx_layout.specs.declared.fault.TableFault.{TableFault}
 use Rattle.mx_layout.specs.declared.fault.Table.TheVariants.{Done3}
 use Rattle.mx_layout.specs.Contents.{rows_in}
-use Rattle.mx_layout.specs.Reading.{HasOther}
 use Rattle.mx_layout.specs.Tables.{crs, done3}
 use Rattle.mx_layout.specs.kept.Cells.{kept_crs, kept_done3}
-use Rattle.mx_layout.specs.kept.Family.{IsReadableAs}
 use Rattle.mx_table_rows.proofs.ChosenProofs.EqualLemmas.{equal_numbers}
-use Rattle.mx_table_rows.specs.chosen.Calls.{ReadsFirst}
-use Rattle.mx_table_rows.specs.totals.Calls.{ReadsFrom}
 use Rattle.mx_table_rows.specs.totals.Done.{IsDated}
 use Rattle.mx_table_rows.specs.totals.Found.{is_from}
 use Rattle.mx_table_rows.specs.totals.Several.{AreExactly}

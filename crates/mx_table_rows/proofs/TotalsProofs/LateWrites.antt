@@ -1,10 +1,8 @@
 -- Totals that are written, and then accomplishments.
-use Rattle.std.proofs.Common.{◌≡◌, ◌≢◌, inl, inr, ℕ, Bool, List, [], ◌∷◌, map, filter, not, Ok, Err, Result, IsTrue, IsPermutation, refl, sym, subst, ◌∙◌, arith}
+use Rattle.std.proofs.Common.{◌≡◌, ◌≢◌, inl, inr, List, [], ◌∷◌, map, Ok, Err, Result, IsTrue, IsPermutation, sym, subst, ◌∙◌, arith}
 use Rattle.std.specs.Prelude.{IsErrAnd, Contains}
 use Rattle.std.specs.List.{AllByRecursion}
 use Rattle.std.proofs.lemmas.List.Elements.{All-contains, All-from_recursion}
-use Rattle.std.proofs.lemmas.List.Sorted.{IsPermutation-refl, IsPermutation-trans}
-use Rattle.sqlite_keyed.proofs.ListLemmas.{IsPermutation-same}
 use Rattle.sqlite.specs.Order.{Row}
 use Rattle.sqlite.specs.Table.{Table}
 use Rattle.sqlite.specs.Schema.{Schema}
@@ -14,22 +12,17 @@ use Rattle.sqlite.specs.Effect.{Database}
 use Rattle.sqlite.specs.State.{State, HasCleanDisk}
 use Rattle.mx_layout.specs.declared.fault.TableFault.{TableFault}
 use Rattle.mx_layout.specs.Contents.{cells, rows_in, HasNoReferences, Rises}
-use Rattle.mx_layout.specs.Names.{table_named}
 use Rattle.mx_layout.specs.Tables.{total2, done3}
 use Rattle.mx_layout.specs.kept.Cells.{kept_total2, kept_done3}
-use Rattle.mx_layout.specs.kept.Kept.{Kept}
 use Rattle.mx_layout.specs.kept.Schemas.{HasDone, HasTotals, HasPermanent}
-use Rattle.mx_layout.proofs.CrashLemmas.{within_then, within_itself, stays_then}
+use Rattle.mx_layout.proofs.CrashLemmas.{within_then, stays_then}
 use Rattle.mx_layout.proofs.KeptProofs.MovedLawful.{total2_lawful, done3_lawful}
 use Rattle.mx_layout.proofs.KeptProofs.SchemaLemmas.{own_3_stayed, all_3_stayed}
-use Rattle.mx_tables.proofs.InsertsProofs.SetLemmas.{on_weaker, stays_open}
-use Rattle.mx_tables.specs.inserts.Calls.{InsertsRow}
-use Rattle.mx_table_rows.specs.chosen.Calls.{DeletesRows}
+use Rattle.mx_tables.proofs.InsertsProofs.SetLemmas.{on_weaker}
 use Rattle.mx_table_rows.specs.totals.Calls.{Becomes}
 use Rattle.mx_table_rows.specs.totals.Puts.{WritesRows}
 use Rattle.mx_table_rows.specs.totals.Late.{BecomeBoth}
 use Rattle.mx_table_rows.specs.totals.LateSteps.{WritesBoth}
-use Rattle.mx_table_rows.proofs.TotalsProofs.PutLemmas.{others_same, others_then}
 use Rattle.mx_table_rows.proofs.TotalsProofs.ReadLemmas.{stopped_is}
 
 -- ── the schemas that have accomplishments ──
