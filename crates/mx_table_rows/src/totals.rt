@@ -14,9 +14,9 @@
 //! - A use that is entered late is added to the totals of exactly the items that it names, and to the values of exactly
 //!   those of their accomplishments whose release has a moment that is not before the landing; due and base of these, the
 //!   other rows and each other table are as they were: `credit_late`: `credits` (`CreditsLate`: `becomes`).
-//! - It is told damaged by the table where a total of the items can't be credited, where an accomplishment of theirs
-//!   can't be read or its value would be past the most of a life, and where the one release of one is missing, and there
-//!   alone; then nothing changed: `credit_late`: `credits` (`good`, `damaged`, `unchanged`).
+//! - It is told damaged by the table where a total of the items can't be credited, where an accomplishment of theirs can't
+//!   be read or its value would be past the most of a life, and where the release of one is not there once or can't be
+//!   read, and there alone; then nothing changed: `credit_late`: `credits` (`good`, `damaged`, `unchanged`).
 //! - Cycles are added to those at which the defects of an aircraft were found, of exactly those that were found at a moment
 //!   or later; the other rows and each other table are as they were: `shift_found`: `changes` (`becomes`).
 //! - That is told damaged where a defect of the aircraft can't be read, or a sum is past the most cycles of a life, and

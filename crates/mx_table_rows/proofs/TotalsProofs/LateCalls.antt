@@ -30,11 +30,11 @@ use Rattle.mx_table_rows.specs.totals.Puts.{rows_instead}
 use Rattle.mx_table_rows.specs.totals.Totals.{life_with, is_of_any, credited, CanCredit, AreCredited, totals_put}
 use Rattle.mx_table_rows.specs.totals.Steps.{ReadsTotals}
 use Rattle.mx_table_rows.specs.totals.Late.{is_late, value_credited, life_at, CanCreditValue, HasRelease, CanCreditLate, CantCreditLate, IsLateFault, BecomeBoth, CreditsLate}
-use Rattle.mx_table_rows.specs.totals.LateSteps.{ReadsLate, WritesBoth, AreOfEach, AreUnread, IsGiven, CantTake, AreTaken, OneCantTake, AreLate, is_any_line}
+use Rattle.mx_table_rows.specs.totals.LateSteps.{ReadsLate, AreOfEach, AreUnread, IsGiven, CantTake, AreTaken, OneCantTake, AreLate, is_any_line}
 use Rattle.mx_table_rows.proofs.TotalsProofs.KeepLemmas.{Stopped, on_read, not_damaged}
 use Rattle.mx_table_rows.proofs.TotalsProofs.ReadLemmas.{stopped_is}
 use Rattle.mx_table_rows.proofs.TotalsProofs.LateReads.{told, reads_then}
-use Rattle.mx_table_rows.proofs.TotalsProofs.LateWrites.{done_totals}
+use Rattle.mx_table_rows.proofs.TotalsProofs.LateWrites.{WritesBoth, done_totals}
 use Rattle.mx_table_rows.proofs.TotalsProofs.LateExchange.{all_read, late_exchanged}
 use Rattle.mx_table_rows.proofs.TotalsProofs.CreditLemmas.{credited_put}
 

@@ -1,5 +1,5 @@
 -- Totals that are written, and then accomplishments.
-use Rattle.std.proofs.Common.{◌≡◌, ◌≢◌, inl, inr, List, [], ◌∷◌, map, Ok, Err, Result, IsTrue, IsPermutation, sym, subst, ◌∙◌, arith}
+use Rattle.std.proofs.Common.{◌≡◌, ◌≢◌, ◌⊎◌, inl, inr, List, [], ◌∷◌, map, Ok, Err, Result, OnOk, IfErr, IsTrue, IsPermutation, sym, subst, ◌∙◌, arith}
 use Rattle.std.specs.Prelude.{IsErrAnd, Contains}
 use Rattle.std.specs.List.{AllByRecursion}
 use Rattle.std.proofs.lemmas.List.Elements.{All-contains, All-from_recursion}
@@ -11,6 +11,9 @@ use Rattle.sqlite_trees.specs.View.{is_int}
 use Rattle.sqlite.specs.Effect.{Database}
 use Rattle.sqlite.specs.State.{State, HasCleanDisk}
 use Rattle.mx_layout.specs.declared.fault.TableFault.{TableFault}
+use Rattle.mx_layout.specs.declared.fault.TableFault.TheVariants.{Memory, Store}
+use Rattle.mx_layout.specs.Crash.{StaysInside, IsWithin}
+use Rattle.mx_tables.specs.inserts.Sets.{IsInside}
 use Rattle.mx_layout.specs.Contents.{cells, rows_in, HasNoReferences, Rises}
 use Rattle.mx_layout.specs.Tables.{total2, done3}
 use Rattle.mx_layout.specs.kept.Cells.{kept_total2, kept_done3}
@@ -22,7 +25,6 @@ use Rattle.mx_tables.proofs.InsertsProofs.SetLemmas.{on_weaker}
 use Rattle.mx_table_rows.specs.totals.Calls.{Becomes}
 use Rattle.mx_table_rows.specs.totals.Puts.{WritesRows}
 use Rattle.mx_table_rows.specs.totals.Late.{BecomeBoth}
-use Rattle.mx_table_rows.specs.totals.LateSteps.{WritesBoth}
 use Rattle.mx_table_rows.proofs.TotalsProofs.ReadLemmas.{stopped_is}
 
 -- ── the schemas that have accomplishments ──
@@ -36,6 +38,14 @@ done_permanent schema (inl coming) = record { rest = _; more = coming.more; is =
 done_permanent schema (inr there) = record { rest = _; more = there.more; is = there.is }
 
 -- ── totals, and then accomplishments ──
+
+-- totals and accomplishments became what is made of each, and nothing else changed; or the call stopped
+pub record WritesBoth {V : Type 0} (totals_made done_made : List Row → List Row) (old new : State) (result : Result V TableFault) : Type 0 where
+  pub becomes : HasCleanDisk new → IsTrue old.in_transaction → kept_done3.IsIn old.now.schema → HasNoReferences old.now.schema → Rises total2 old.now.trees → Rises done3 old.now.trees → OnOk result (BecomeBoth totals_made done_made old.now new.now)
+  pub cause : IfErr result (λ e. (e ≡ Memory) ⊎ (e ≡ Store))
+  pub mode : HasCleanDisk new → IsTrue old.in_transaction → OnOk result (IsTrue new.in_transaction)
+  pub inside : HasCleanDisk new → IsInside old → OnOk result (StaysInside old new)
+  pub within : IsWithin old new
 
 table_at : (P : Table → Type 0) (tables : List Table) (t : Table) → AllByRecursion P tables → Contains tables t → P t
 table_at P tables t all there = All-contains P tables t (All-from_recursion P tables all) there

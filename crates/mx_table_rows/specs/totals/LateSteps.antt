@@ -1,4 +1,4 @@
--- The steps of a use that is entered late: what is read, which rows are made of it, and how these come in place of others.
+-- The steps of a use that is entered late: what is read, which rows are made of it, and in whose place these come.
 use Rattle.std.specs.Prelude.{◌≡◌, ◌⊎◌, ℕ, Bool, true, List, map, filter, All, Any, Option, Some, None, Result, Ok, Err, OnOk, IfOk, IfErr, IsTrue, IsPermutation, if◌then◌else◌}
 use Rattle.std.specs.List.{flat_map, list_any}
 use Rattle.sqlite.specs.Order.{Row}
@@ -21,6 +21,7 @@ use Rattle.mx_tables.specs.Calls.{OnRead}
 use Rattle.mx_tables.specs.inserts.Sets.{IsInside}
 use Rattle.mx_table_rows.specs.totals.Done.{is_own_line, IsDated}
 use Rattle.mx_table_rows.specs.totals.Late.{is_behind, life_at, done_with, HasRelease, IsLateFault, BecomeBoth}
+use Rattle.mx_table_rows.specs.totals.Several.{HasUnreadable}
 use Rattle.mx_table_rows.specs.totals.Steps.{Keeps}
 use Rattle.mx_table_rows.specs.totals.Totals.{life_with, is_of_item, is_of_any}
 
@@ -58,7 +59,7 @@ pub record AreOfEach (items : List ℕ) (trees : Trees) (done : List DoneRow) : 
 
 -- an accomplishment of one of the items is none of the type
 abbrev pub AreUnread : List ℕ → Trees → TableName → Type 0
-AreUnread items trees Done3 = HasOther (IsReadableAs kept_done3) (filter (is_of_any items) (rows_in done3 trees))
+AreUnread items trees Done3 = HasUnreadable kept_done3 (is_of_any items) (rows_in done3 trees)
 AreUnread items trees _ = ⊥
 
 -- the release of the accomplishment is behind the landing
@@ -105,11 +106,3 @@ pub record AreLate (items : List ℕ) (added : Use) (landed : ℕ) (trees : Tree
 -- the row is that of the line of one of these accomplishments
 abbrev pub is_any_line : List DoneRow → Row → Bool
 is_any_line xs row = list_any (λ x. is_own_line x row) xs
-
--- totals and accomplishments became what is made of each, and nothing else changed; or the call stopped
-pub record WritesBoth {V : Type 0} (totals_made done_made : List Row → List Row) (old new : State) (result : Result V TableFault) : Type 0 where
-  pub becomes : HasCleanDisk new → IsTrue old.in_transaction → kept_done3.IsIn old.now.schema → HasNoReferences old.now.schema → Rises total2 old.now.trees → Rises done3 old.now.trees → OnOk result (BecomeBoth totals_made done_made old.now new.now)
-  pub cause : IfErr result (λ e. (e ≡ Memory) ⊎ (e ≡ Store))
-  pub mode : HasCleanDisk new → IsTrue old.in_transaction → OnOk result (IsTrue new.in_transaction)
-  pub inside : HasCleanDisk new → IsInside old → OnOk result (StaysInside old new)
-  pub within : IsWithin old new
