@@ -1,5 +1,5 @@
 -- The steps of a use that is entered late: what is read, which rows are made of it, and in whose place these come.
-use Rattle.std.specs.Prelude.{◌≡◌, ◌⊎◌, ℕ, Bool, true, List, map, filter, All, Any, Option, Some, None, Result, Ok, Err, OnOk, IfOk, IfErr, IsTrue, IsPermutation, if◌then◌else◌}
+use Rattle.std.specs.Prelude.{◌≡◌, ℕ, Bool, true, List, map, filter, All, Any, Option, Some, None, Result, Ok, Err, OnOk, IfOk, IfErr, IsTrue, IsPermutation, if◌then◌else◌}
 use Rattle.std.specs.List.{flat_map, list_any}
 use Rattle.sqlite.specs.Order.{Row}
 use Rattle.sqlite.specs.Tree.{Trees}
@@ -9,18 +9,16 @@ use Rattle.mx_base.specs.declared.rows.rows.DoneRow.{DoneRow}
 use Rattle.mx_book.specs.due.Due.{IsLife}
 use Rattle.mx_layout.specs.TableName.{TableName}
 use Rattle.mx_layout.specs.declared.fault.TableFault.{TableFault}
-use Rattle.mx_layout.specs.declared.fault.TableFault.TheVariants.{Memory, Store, Damaged}
+use Rattle.mx_layout.specs.declared.fault.TableFault.TheVariants.{Damaged}
 use Rattle.mx_layout.specs.declared.fault.Table.TheVariants.{Crs, Done3}
-use Rattle.mx_layout.specs.Contents.{rows_in, HasNoReferences, Rises}
+use Rattle.mx_layout.specs.Contents.{rows_in}
 use Rattle.mx_layout.specs.Crash.{StaysInside, IsWithin}
-use Rattle.mx_layout.specs.Reading.{HasOther}
-use Rattle.mx_layout.specs.Tables.{crs, total2, done3}
+use Rattle.mx_layout.specs.Tables.{crs, done3}
 use Rattle.mx_layout.specs.kept.Cells.{kept_done3}
-use Rattle.mx_layout.specs.kept.Family.{IsReadableAs}
 use Rattle.mx_tables.specs.Calls.{OnRead}
 use Rattle.mx_tables.specs.inserts.Sets.{IsInside}
 use Rattle.mx_table_rows.specs.totals.Done.{is_own_line, IsDated}
-use Rattle.mx_table_rows.specs.totals.Late.{is_behind, life_at, done_with, HasRelease, IsLateFault, BecomeBoth}
+use Rattle.mx_table_rows.specs.totals.Late.{is_behind, life_at, done_with, HasRelease, IsLateFault}
 use Rattle.mx_table_rows.specs.totals.Several.{HasUnreadable}
 use Rattle.mx_table_rows.specs.totals.Steps.{Keeps}
 use Rattle.mx_table_rows.specs.totals.Totals.{life_with, is_of_item, is_of_any}

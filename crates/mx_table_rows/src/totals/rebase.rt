@@ -4,8 +4,8 @@
 //! so with the first base that grows the next due does, and what follows with it: all rows of the task are read, and all
 //! made, before the first is written. So a damaged row, or a due past the most of a column, leaves each of them as it was.
 //!
-//! A due is moved as far as the base before it was, and not computed from a programme: where a row had another due than by
-//! its programme, it has so afterwards too.
+//! A due is moved as far as the base before it was, and not computed from a programme: a chain of dues that was wrong
+//! before is not mended.
 ghost use Rattle.std.specs.Prelude.{◌≡◌, ◌⊎◌, ◌<◌, ◌^◌, All, None, IfOk, IfErr, IfSome, IfNone};
 ghost use Rattle.sqlite.specs.Held.{state};
 ghost use Rattle.mx_base.specs.rows.Rows.{FitsLimit};
