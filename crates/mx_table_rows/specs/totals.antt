@@ -1,5 +1,6 @@
 pub mod Calls
 pub mod Single
+pub mod Several
 pub mod Totals
 pub mod Bases
 pub mod Done
@@ -7,4 +8,7 @@ pub mod Found
 pub mod Spans
 pub mod Steps
 pub mod Puts
+pub mod Late
+pub mod LateSteps
+pub mod Remade
 pub mod InPlace

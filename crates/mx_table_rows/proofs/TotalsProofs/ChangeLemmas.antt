@@ -15,7 +15,7 @@ use Rattle.mx_layout.specs.kept.Kept.{Kept}
 use Rattle.mx_tables.specs.Calls.{OnRead}
 use Rattle.mx_tables.specs.inserts.Calls.{InsertsRow}
 use Rattle.mx_table_rows.specs.totals.InPlace.{Replaces, ReplacesRows}
-use Rattle.mx_table_rows.specs.totals.Calls.{change_where, Becomes, ReadsFrom, ChangesRows}
+use Rattle.mx_table_rows.specs.totals.Calls.{change_where, Becomes, ReadsFrom, ChangesTable, ChangesRows}
 use Rattle.mx_table_rows.specs.totals.Single.{IsOnly, HasOne}
 use Rattle.mx_table_rows.proofs.TotalsProofs.RowLemmas.{where_one}
 use Rattle.mx_table_rows.proofs.TotalsProofs.ReadLemmas.{stopped_is}
@@ -62,10 +62,10 @@ read_then_replaced {X} {V} k test by change x y old mid new result one two made 
     }
 
 -- nothing was read
-pub stops_changing : {X V W : Type 0} (k : Kept X) (made : List Row → List Row) (Is : List Row → V → Type 0) (AreGood AreBad : List Row → Type 0) (old new : State) (e : TableFault) (result : Result W TableFault)
-    → IsErrAnd result (λ f. f ≡ e) → ReadsFrom k Is AreBad old new (Err e) → ChangesRows k made AreGood AreBad old new result
-stops_changing {X} {V} {W} k made Is AreGood AreBad old new e result is r =
-    subst (λ (s : Result W TableFault). ChangesRows k made AreGood AreBad old new s) (sym (stopped_is e result is))
+pub stops_before : {X V W : Type 0} (k : Kept X) (Changes : Database → Database → Type 0) (Is : List Row → V → Type 0) (AreGood AreBad : List Row → Type 0) (old new : State) (e : TableFault) (result : Result W TableFault)
+    → IsErrAnd result (λ f. f ≡ e) → ReadsFrom k Is AreBad old new (Err e) → ChangesTable k Changes AreGood AreBad old new result
+stops_before {X} {V} {W} k Changes Is AreGood AreBad old new e result is r =
+    subst (λ (s : Result W TableFault). ChangesTable k Changes AreGood AreBad old new s) (sym (stopped_is e result is))
     (record {
       becomes = λ _ _ _ _ _. tt;
       good = λ _ _. tt;
@@ -76,6 +76,10 @@ stops_changing {X} {V} {W} k made Is AreGood AreBad old new e result is r =
       inside = λ clean begun. r.inside clean begun.0;
       within = r.within;
     })
+
+pub stops_changing : {X V W : Type 0} (k : Kept X) (made : List Row → List Row) (Is : List Row → V → Type 0) (AreGood AreBad : List Row → Type 0) (old new : State) (e : TableFault) (result : Result W TableFault)
+    → IsErrAnd result (λ f. f ≡ e) → ReadsFrom k Is AreBad old new (Err e) → ChangesRows k made AreGood AreBad old new result
+stops_changing k made Is AreGood AreBad old new e result is r = stops_before k (Becomes (table_named k.name) made) Is AreGood AreBad old new e result is r
 
 -- a row is added
 pub inserts_is : {X V : Type 0} (k : Kept X) (x : X) (old new : State) (result : Result V TableFault) → InsertsRow k x old new result → ChangesRows k (λ rows. k.as_cells x ∷ rows) (λ _. ⊤) (λ _. ⊥) old new result

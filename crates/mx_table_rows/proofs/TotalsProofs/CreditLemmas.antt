@@ -54,7 +54,7 @@ other_item : (n m : ℕ) → nat_eq n m ≡ false → equal Binary (Int (pos n))
 other_item n m other = equal_numbers n m ∙ other
 
 -- a total is of none of some items
-none_of : (n : ℕ) (items : List ℕ) → AllByRecursion (λ m. nat_eq n m ≡ false) items → list_any (λ m. equal Binary (Int (pos n)) (Int (pos m))) items ≡ false
+pub none_of : (n : ℕ) (items : List ℕ) → AllByRecursion (λ m. nat_eq n m ≡ false) items → list_any (λ m. equal Binary (Int (pos n)) (Int (pos m))) items ≡ false
 none_of n [] other = refl
 none_of n (m ∷ items) other = simp (other_item n m other.0) (none_of n items other.1)
 

@@ -1,5 +1,5 @@
 -- Rows that are written one after another.
-use Rattle.std.proofs.Common.{◌≡◌, ◌≢◌, ℕ, Bool, true, false, ◌||◌, cond, List, [], ◌∷◌, ◌++◌, map, filter, not, Ok, Err, Result, OnOk, IsPermutation, refl, sym, ap, subst, ◌∙◌, arith}
+use Rattle.std.proofs.Common.{◌≡◌, ◌≢◌, ℕ, Bool, true, false, ◌||◌, cond, List, [], ◌∷◌, ◌++◌, map, filter, not, Ok, Err, Result, IsPermutation, refl, sym, ap, subst, ◌∙◌, arith}
 use Rattle.std.specs.Prelude.{IsErrAnd}
 use Rattle.std.specs.List.{AllByRecursion, list_any}
 use Rattle.std.proofs.lemmas.List.Sorted.{IsPermutation-refl, IsPermutation-sym, IsPermutation-trans, IsPermutation-cons, IsPermutation-middle}
@@ -8,7 +8,6 @@ use Rattle.sqlite.specs.Order.{Row}
 use Rattle.sqlite_trees.specs.Tree.{IsAscending}
 use Rattle.sqlite.specs.Table.{Table}
 use Rattle.sqlite.specs.Schema.{Schema}
-use Rattle.sqlite.specs.Tree.{Trees}
 use Rattle.sqlite.specs.Effect.{Database}
 use Rattle.sqlite.specs.State.{State, HasCleanDisk}
 use Rattle.mx_layout.specs.declared.fault.TableFault.{TableFault}
@@ -20,20 +19,9 @@ use Rattle.mx_tables.proofs.InsertsProofs.SetLemmas.{stays_open}
 use Rattle.mx_table_rows.specs.totals.InPlace.{Replaces, ReplacesRows}
 use Rattle.mx_table_rows.specs.totals.Calls.{Becomes, ReadsFrom, ChangesRows}
 use Rattle.mx_table_rows.specs.totals.Puts.{rows_put, PutsRows}
-use Rattle.mx_tables.proofs.InsertsProofs.SetLemmas.{on_weaker}
-use Rattle.mx_layout.proofs.ReadLemmas.{on_ok}
 use Rattle.mx_table_rows.proofs.ChosenProofs.DeleteLemmas.{both_out, none_out}
 use Rattle.mx_table_rows.proofs.TotalsProofs.ReadLemmas.{stopped_is}
-use Rattle.mx_table_rows.proofs.TotalsProofs.KeepLemmas.{on_read, not_damaged, caused}
-
-others_same : (table : Table) (db : Trees) (tables : List Table) → AllByRecursion (λ t. t.tree ≢ table.tree → db t.tree ≡ db t.tree) tables
-others_same table db [] = tt
-others_same table db (t ∷ tables) = ((λ _. refl), others_same table db tables)
-
-others_then : (table : Table) (old mid new : Trees) (tables : List Table) → AllByRecursion (λ t. t.tree ≢ table.tree → mid t.tree ≡ old t.tree) tables → AllByRecursion (λ t. t.tree ≢ table.tree → new t.tree ≡ mid t.tree) tables
-    → AllByRecursion (λ t. t.tree ≢ table.tree → new t.tree ≡ old t.tree) tables
-others_then table old mid new [] a b = tt
-others_then table old mid new (t ∷ tables) a b = ((λ other. b.0 other ∙ a.0 other), others_then table old mid new tables a.1 b.1)
+use Rattle.mx_table_rows.proofs.TotalsProofs.WriteLemmas.{others_same, others_then, read_then_written}
 
 module _ {X : Type 0} (k : Kept X) (has_key : X → Row → Bool) where
   abbrev table : Table
@@ -108,18 +96,6 @@ module _ {X : Type 0} (k : Kept X) (has_key : X → Row → Bool) where
       → ReadsFrom k Is AreBad old mid (Ok u) → PutsRows k has_key (rows_of u) mid new result
       → (Rises table old.now.trees → Is (rows_in table old.now.trees) u → IsPermutation (made (rows_in table old.now.trees)) (rows_put k has_key (rows_of u) (rows_in table old.now.trees)))
       → (Is (rows_in table old.now.trees) u → AreGood (rows_in table old.now.trees)) → ChangesRows k made AreGood AreBad old new result
-  read_then_put {U} {V} Is rows_of made AreGood AreBad u old mid new result one two become good =
-      let early : HasCleanDisk new → HasCleanDisk mid = λ clean. omega (arith, two.within.survives.clean) in
-      record {
-        becomes = λ clean begun has free rises. (let same = (one.unchanged (early clean) has).0.now_is in
-            let puts = two.becomes clean (one.inside (early clean) begun).mode (subst (λ (d : Database). k.IsIn d.schema) (sym same) has) (subst (λ (d : Database). HasNoReferences d.schema) (sym same) free) (subst (λ (d : Database). Rises table d.trees) (sym same) rises) in
-            let before : OnOk result (Becomes table (rows_put k has_key (rows_of u)) old.now new.now) = subst (λ (d : Database). OnOk result (Becomes table (rows_put k has_key (rows_of u)) d new.now)) same puts in
-            on_weaker result (λ b. record { schema = b.schema; rows = IsPermutation-trans _ _ _ (become rises (one.value (early clean) has)) b.rows; others = b.others; rises = b.rises; sound = b.sound }) before);
-        good = λ clean has. on_ok result (good (one.value (early clean) has));
-        cause = caused result k.name two.cause;
-        damaged = λ _ _ is. absurd (not_damaged result k.name two.cause is);
-        unchanged = λ _ _ is. absurd (not_damaged result k.name two.cause is);
-        mode = λ clean begun. on_read _ result two.cause (two.mode clean (one.inside (early clean) begun).mode);
-        inside = λ clean begun. (let stays = one.inside (early clean) begun.0 in on_read _ result two.cause (on_weaker result (stays_then old mid new stays) (two.inside clean (stays.mode, stays.is_open))));
-        within = within_then old mid new one.within (λ clean begun. (one.inside clean begun).mode) two.within;
-      }
+  read_then_put Is rows_of made AreGood AreBad u old mid new result one two become good =
+      read_then_written k Is (rows_put k has_key (rows_of u)) (Becomes table made) AreGood AreBad u old mid new result one two
+      (λ rises is b. record { schema = b.schema; rows = IsPermutation-trans _ _ _ (become rises is) b.rows; others = b.others; rises = b.rises; sound = b.sound }) good

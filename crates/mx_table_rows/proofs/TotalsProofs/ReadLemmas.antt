@@ -1,8 +1,8 @@
 -- What is read of a table, from the chosen rows that are read.
 use Rattle.std.proofs.Common.{◌≡◌, inl, inr, Bool, List, [], ◌∷◌, map, filter, Option, None, Some, Vec, Ok, Err, Result, All, refl, sym, ap, subst, ◌∙◌, IsTrue, Contains, arith}
-use Rattle.std.specs.Prelude.{IsErrAnd}
+use Rattle.std.specs.Prelude.{IsErrAnd, IsSorted}
 use Rattle.std.specs.List.Sorted.{IsPermutation}
-use Rattle.std.proofs.lemmas.List.Sorted.{IsPermutation-sym}
+use Rattle.std.proofs.lemmas.List.Sorted.{IsPermutation-sym, Contains-permutation}
 use Rattle.sqlite_rules.proofs.ListLemmas.{has_contained}
 use Rattle.sqlite.specs.Order.{Row}
 use Rattle.sqlite.specs.State.{State, HasCleanDisk, IsUnchanged}
@@ -19,6 +19,7 @@ use Rattle.mx_table_rows.specs.chosen.Choices.{AreFirst}
 use Rattle.mx_table_rows.specs.chosen.Calls.{ReadsFirst}
 use Rattle.mx_table_rows.specs.totals.Calls.{ReadsFrom}
 use Rattle.mx_table_rows.specs.totals.Single.{only_of, one_or_none_of, one_in, one_or_none_in, IsOnly, HasOne, IsOneOrNone, HasOneOrNone}
+use Rattle.mx_table_rows.specs.totals.Several.{AreExactly, HasUnreadable}
 use Rattle.mx_table_rows.proofs.TotalsProofs.RowLemmas.{permutation_one, permutation_none}
 
 -- a call that stopped says which error it is
@@ -104,6 +105,18 @@ module _ {X : Type 0} (k : Kept X) (test : Row → Bool) (old new : State) where
   reads_one_or_none (Ok rows) r = reads_some_in rows.items r.rows r.fits r.unchanged r.inside r.within
   reads_one_or_none (Err e) r = reads_none (IsOneOrNone k test) (λ rows. ¬ HasOneOrNone k test rows) e not_some r
 
+  -- the chosen rows that were read are exactly those that pass the test
+  pub reads_exactly : {A : Type 0} (read : Result (Vec X A) TableFault) → ReadsFirst k None k.order test (λ rows. rows.items) old new read → ReadsFrom k (λ rows v. AreExactly k test rows v.items) (HasUnreadable k test) old new read
+  reads_exactly (Ok xs) r = record {
+    value = λ clean has. (let are = r.rows clean has in record { fit = r.fits; those = those_are _ are; sorted = subst (λ l. IsSorted k.order l) (sym are.first) are.are.sorted });
+    cause = tt;
+    damaged = λ _ _ not. (absurd cc);
+    unchanged = r.unchanged;
+    inside = r.inside;
+    within = r.within;
+  }
+  reads_exactly (Err e) r = reads_none (λ rows v. AreExactly k test rows v.items) (HasUnreadable k test) e (λ rows are other. (other.0, Contains-permutation rows _ other.0 (IsPermutation-sym _ rows (those_are rows are)) other.1, other.2)) r
+
 -- something else is made of what was read
 pub reads_as : {X V W : Type 0} (k : Kept X) (Is : List Row → V → Type 0) (As : List Row → W → Type 0) (AreBad AreWorse : List Row → Type 0) (old new : State) (v : V) (w : W)
     → ((rows : List Row) → Is rows v → As rows w) → ReadsFrom k Is AreBad old new (Ok v) → ReadsFrom k As AreWorse old new (Ok w)
@@ -115,6 +128,16 @@ pub stops_reading : {X V W : Type 0} (k : Kept X) (Is : List Row → V → Type 
 stops_reading {X} {V} {W} k Is As AreBad AreWorse old new e result is bad r =
     subst (λ (s : Result W TableFault). ReadsFrom k As AreWorse old new s) (sym (stopped_is e result is))
     (record { value = λ _ _. tt; cause = r.cause; damaged = λ clean has same. bad _ (r.damaged clean has (cc)); unchanged = r.unchanged; inside = r.inside; within = r.within })
+
+-- something is made of exactly the rows that pass a test
+pub reads_of : {X A W : Type 0} (k : Kept X) (test : Row → Bool) (As : List Row → W → Type 0) (AreBad : List Row → Type 0) (old new : State) (v : Vec X A) (w : W)
+    → ((rows : List Row) → AreExactly k test rows v.items → As rows w) → ReadsFirst k None k.order test (λ rows. rows.items) old new (Ok v) → ReadsFrom k As AreBad old new (Ok w)
+reads_of k test As AreBad old new v w turned r = reads_as k (λ rows u. AreExactly k test rows u.items) As (HasUnreadable k test) AreBad old new v w turned (reads_exactly k test old new (Ok v) r)
+
+-- none of them was read
+pub unread_of : {X A W : Type 0} (k : Kept X) (test : Row → Bool) (As : List Row → W → Type 0) (AreBad : List Row → Type 0) (old new : State) (e : TableFault) (result : Result W TableFault)
+    → IsErrAnd result (λ f. f ≡ e) → ((rows : List Row) → HasUnreadable k test rows → AreBad rows) → ReadsFirst {V = Vec X A} k None k.order test (λ rows. rows.items) old new (Err e) → ReadsFrom k As AreBad old new result
+unread_of {X} {A} k test As AreBad old new e result is bad r = stops_reading {V = Vec X A} k (λ rows u. AreExactly k test rows u.items) As (HasUnreadable k test) AreBad old new e result is bad (reads_exactly k test old new {A = A} (Err e) r)
 
 -- no two things are the only one
 pub only_once : {X : Type 0} (k : Kept X) → IsLawful k → (test : Row → Bool) (rows : List Row) (x y : X) → IsOnly k test rows x → IsOnly k test rows y → x ≡ y

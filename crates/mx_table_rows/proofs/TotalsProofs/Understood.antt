@@ -16,7 +16,7 @@ use Rattle.mx_table_rows.specs.chosen.Lookups.{Deletes}
 use Rattle.mx_table_rows.specs.chosen.Texts.{by_value, by_values, by_four_values}
 use Rattle.mx_table_rows.proofs.ChosenProofs.LookupLemmas.{given_at, deleted, either_deletes}
 use Rattle.mx_table_rows.proofs.ChosenProofs.EqualLemmas.{one_equal, two_equal, four_equal}
-use Rattle.mx_table_rows.specs.totals.InPlace.{span2_gone, total2_gone, base2_gone, defect3_gone, done3_gone}
+use Rattle.mx_table_rows.specs.totals.InPlace.{span2_gone, total2_gone, base2_gone, defect3_gone, done3_gone, done3_of_task_gone}
 
 pub span2_gone_deletes : Deletes kept_span2 span2_gone (by_value 0)
 unfolding understood everything
@@ -65,3 +65,10 @@ done3_gone_deletes =
     either_deletes kept_done3 (HasBehind (sector2 ∷ span2 ∷ total2 ∷ base2 ∷ defect3 ∷ done3 ∷ [])) HasOwn3 done3_gone by_four_values
     (deleted (over kept_done3 (HasBehind (sector2 ∷ span2 ∷ total2 ∷ base2 ∷ defect3 ∷ done3 ∷ []))) (sector2 ∷ span2 ∷ total2 ∷ base2 ∷ defect3 ∷ done3 ∷ []) (λ _ has. has) done3_gone done_tests by_four_values (λ _. refl) done_picks 16 (λ _ _. refl) (λ _ _. (refl, (refl, refl))))
     (deleted (over kept_done3 (HasBehind own_3)) own_3 (λ _ has. has) done3_gone done_tests by_four_values (λ _. refl) done_picks 15 (λ _ _. refl) (λ _ _. (refl, (refl, refl))))
+
+pub done3_of_task_gone_deletes : Deletes kept_done3 done3_of_task_gone (by_values 0 1)
+unfolding understood everything
+done3_of_task_gone_deletes =
+    either_deletes kept_done3 (HasBehind (sector2 ∷ span2 ∷ total2 ∷ base2 ∷ defect3 ∷ done3 ∷ [])) HasOwn3 done3_of_task_gone (by_values 0 1)
+    (deleted (over kept_done3 (HasBehind (sector2 ∷ span2 ∷ total2 ∷ base2 ∷ defect3 ∷ done3 ∷ []))) (sector2 ∷ span2 ∷ total2 ∷ base2 ∷ defect3 ∷ done3 ∷ []) (λ _ has. has) done3_of_task_gone (given_at Eq done3 0 0 ∷ given_at Eq done3 1 1 ∷ []) (by_values 0 1) (λ _. refl) (λ _ _. two_equal _ _ _ refl) 16 (λ _ _. refl) (λ _ _. (refl, (refl, refl))))
+    (deleted (over kept_done3 (HasBehind own_3)) own_3 (λ _ has. has) done3_of_task_gone (given_at Eq done3 0 0 ∷ given_at Eq done3 1 1 ∷ []) (by_values 0 1) (λ _. refl) (λ _ _. two_equal _ _ _ refl) 15 (λ _ _. refl) (λ _ _. (refl, (refl, refl))))

@@ -1,5 +1,5 @@
 -- Worked rows: what becomes of the rows of deferrals, and which row is that of an accomplishment, by hand.
-use Rattle.std.proofs.Common.{◌≡◌, ℕ, ◌+◌, true, false, map, arith, refl, pos, filter, List, [], ◌∷◌}
+use Rattle.std.proofs.Common.{◌≡◌, ℕ, ◌+◌, true, false, map, arith, refl, pos, filter, List, [], ◌∷◌, Some, None}
 use Rattle.std.specs.Prelude.{codes}
 use Rattle.sqlite.specs.Order.{Row}
 use Rattle.sqlite.specs.declared.types.Value.TheVariants.{Int, Text, Null}
@@ -7,10 +7,12 @@ use Rattle.sqlite_sql.specs.Ops.{binary}
 use Rattle.sqlite_value.specs.Order.{value_cmp}
 use lib.Ieee.{is_nan, lt}
 use Rattle.mx_base.specs.declared.category.Category.TheVariants.{C}
+use Rattle.mx_base.specs.declared.amounts.Base.{Base}
 use Rattle.mx_base.specs.declared.rows.rows.Deferral3Row.{Deferral3Row}
+use Rattle.mx_base.specs.declared.rows.rows.DoneRow.{DoneRow}
 use Rattle.mx_book.specs.due.Due.{IsLife}
 use Rattle.mx_table_rows.specs.totals.Calls.{change_where}
-use Rattle.mx_table_rows.specs.totals.Done.{is_of_line}
+use Rattle.mx_table_rows.specs.totals.Done.{is_of_line, is_own_line}
 use Rattle.mx_table_rows.specs.declared.totals.lives.TheConstants.{MOST_CYCLES}
 use Rattle.mx_table_rows.specs.totals.Found.{is_from, is_found_from, is_own_defect, found_later, was_found_from, found_with}
 
@@ -55,3 +57,15 @@ done_of : filter (is_of_line 1 (codes "100H") 9 2) (done 2 (codes "100H") 9 2 �
     ≡ done 1 (codes "100H") 9 2 ∷ []
 unfolding done binary value_cmp is_nan lt
 done_of = refl
+
+-- the accomplishment of line 2 of entry 9
+accomplishment : DoneRow
+accomplishment =
+    let reached : Base = record { minutes = 62900; cycles = 900; day = 19786 } in
+    record { item = 1; task = codes "100H"; seq = 9; line = 2; value = reached; due = record { minutes = Some 63000; cycles = None; days = None }; base = reached }
+
+-- and so is its own
+own_done : filter (is_own_line accomplishment) (done 2 (codes "100H") 9 2 ∷ done 1 (codes "ANNUAL") 9 2 ∷ done 1 (codes "100H") 2 9 ∷ done 1 (codes "100H") 9 1 ∷ done 1 (codes "100H") 9 2 ∷ [])
+    ≡ done 1 (codes "100H") 9 2 ∷ []
+unfolding done accomplishment binary value_cmp is_nan lt
+own_done = refl

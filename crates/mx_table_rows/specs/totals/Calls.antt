@@ -35,9 +35,9 @@ pub record ReadsFrom {X V : Type 0} (k : Kept X) (Is : List Row → V → Type 0
   pub inside : HasCleanDisk new → IsTrue old.in_transaction → OnRead result (StaysInside old new)
   pub within : IsWithin old new
 
--- the rows of a table, which were good, became what is made of them, and nothing else changed; or they are bad, and nothing changed; or want of memory or the store stopped the call
-pub record ChangesRows {X V : Type 0} (k : Kept X) (made : List Row → List Row) (AreGood AreBad : List Row → Type 0) (old new : State) (result : Result V TableFault) : Type 0 where
-  pub becomes : HasCleanDisk new → IsTrue old.in_transaction → k.IsIn old.now.schema → HasNoReferences old.now.schema → Rises (table_named k.name) old.now.trees → OnOk result (Becomes (table_named k.name) made old.now new.now)
+-- a table, whose rows were good, changed in this way, and nothing else did; or they are bad, and nothing changed; or want of memory or the store stopped the call
+pub record ChangesTable {X V : Type 0} (k : Kept X) (Changes : Database → Database → Type 0) (AreGood AreBad : List Row → Type 0) (old new : State) (result : Result V TableFault) : Type 0 where
+  pub becomes : HasCleanDisk new → IsTrue old.in_transaction → k.IsIn old.now.schema → HasNoReferences old.now.schema → Rises (table_named k.name) old.now.trees → OnOk result (Changes old.now new.now)
   pub good : HasCleanDisk new → k.IsIn old.now.schema → OnOk result (AreGood (rows_in (table_named k.name) old.now.trees))
   pub cause : IfErr result (λ e. (e ≡ Memory) ⊎ ((e ≡ Store) ⊎ (e ≡ Damaged k.name)))
   pub damaged : HasCleanDisk new → k.IsIn old.now.schema → result ≡ Err (Damaged k.name) → AreBad (rows_in (table_named k.name) old.now.trees)
@@ -45,3 +45,7 @@ pub record ChangesRows {X V : Type 0} (k : Kept X) (made : List Row → List Row
   pub mode : HasCleanDisk new → IsTrue old.in_transaction → OnRead result (IsTrue new.in_transaction)
   pub inside : HasCleanDisk new → IsInside old → OnRead result (StaysInside old new)
   pub within : IsWithin old new
+
+-- the rows of a table, which were good, became what is made of them, and nothing else changed; or they are bad, and nothing changed; or want of memory or the store stopped the call
+abbrev pub ChangesRows : {X V : Type 0} → Kept X → (List Row → List Row) → (List Row → Type 0) → (List Row → Type 0) → State → State → Result V TableFault → Type 0
+ChangesRows k made AreGood AreBad old new result = ChangesTable k (Becomes (table_named k.name) made) AreGood AreBad old new result

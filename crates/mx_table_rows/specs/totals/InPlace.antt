@@ -43,3 +43,6 @@ defect3_gone = codes "DELETE FROM defect3 WHERE seq = ?1"
 
 abbrev pub done3_gone : List ℕ
 done3_gone = codes "DELETE FROM done3 WHERE item = ?1 AND task = ?2 AND seq = ?3 AND line = ?4"
+
+abbrev pub done3_of_task_gone : List ℕ
+done3_of_task_gone = codes "DELETE FROM done3 WHERE item = ?1 AND task = ?2"

@@ -62,7 +62,7 @@ fn row_with<S: Alter>(
 }
 
 // The rows of the totals of these items, with the use added to each life.
-fn rows_with<S: Alter>(
+pub(crate) fn rows_with<S: Alter>(
     alloc: Global,
     tx: &mut Transaction<'_, S>,
     items: &[u32],
@@ -81,7 +81,10 @@ fn rows_with<S: Alter>(
 }
 
 // Writes totals, each in place of the one that its item had.
-fn put_rows<S: Alter>(tx: &mut Transaction<'_, S>, rows: &[TotalRow]) -> Result<(), TableFault>
+pub(crate) fn put_rows<S: Alter>(
+    tx: &mut Transaction<'_, S>,
+    rows: &[TotalRow],
+) -> Result<(), TableFault>
     ensures same_reference { tx.new.conn.ghost_name ≡ tx.old.conn.ghost_name }
     ensures puts { PutsRows kept_total2 is_own_total rows.now
         (state S.Store tx.old.conn.now) (state S.Store tx.new.conn.now) result }
