@@ -29,8 +29,8 @@
 //!   place, and nothing else changes: `rebase`: `changes` (`becomes`: `IsRemade`).
 //! - It is told damaged where an accomplishment of the task can't be read, or a due is past 32 bits then, and there alone;
 //!   then nothing changed: `rebase`: `changes` (`good`, `damaged`, `unchanged`).
-//! - Accomplishments are written one after another, each in place of its own, or those of a task in place of all that it
-//!   had, and nothing else changes: `put_rows` of `done`: `puts`; `set_done_rows`: `replaces`.
+//! - The accomplishments of a task are written in place of all that it had, and nothing else changes: `set_done_rows`:
+//!   `replaces`.
 //! - A clock is set and the life stays; a total is added; the open span of a component is ended, by its two empty
 //!   columns; and nothing else changes: `set_clock`, `new_total`, `end_span2`: `changes`.
 //! - A row comes in place of those that were chosen, a last base of that which the item had of the task, and nothing

@@ -6,11 +6,9 @@ ghost use Rattle.sqlite.specs.State.{HasCleanDisk};
 ghost use Rattle.sqlite.specs.Held.{state};
 ghost use Rattle.mx_layout.specs.kept.Cells.{kept_done3};
 ghost use Rattle.mx_table_rows.specs.totals.Calls.{ReadsFrom, ChangesRows};
-ghost use Rattle.mx_table_rows.specs.totals.Done.{IsDated, IsLastDone, HasOtherDone, is_own_line};
-ghost use Rattle.mx_table_rows.specs.totals.Puts.{PutsRows};
+ghost use Rattle.mx_table_rows.specs.totals.Done.{IsDated, IsLastDone, HasOtherDone};
 
 use crate::chosen::later::done3_by_item_and_task;
-use crate::totals::in_place::set_done_row;
 use mx_base::TaskId;
 use mx_base::rows::DoneRow;
 use mx_layout::{Table, TableFault};
@@ -60,20 +58,4 @@ pub fn set_done<S: Alter>(tx: &mut Transaction<'_, S>, row: DoneRow) -> Result<(
         Some(dated) => dated.insert(tx),
         None => Err(TableFault::Damaged(Table::Done3)),
     }
-}
-
-// Writes accomplishments one after another, each in place of the one of the same line of the same entry, of the same task
-// of the same item.
-pub(crate) fn put_rows<S: Alter>(
-    tx: &mut Transaction<'_, S>,
-    rows: &[DatedRow],
-) -> Result<(), TableFault>
-    ensures same_reference { tx.new.conn.ghost_name ≡ tx.old.conn.ghost_name }
-    ensures puts { PutsRows kept_done3 is_own_line rows.now
-        (state S.Store tx.old.conn.now) (state S.Store tx.new.conn.now) result }
-{
-    'rows: for row in rows {
-        set_done_row(tx, row)?;
-    }
-    Ok(())
 }
