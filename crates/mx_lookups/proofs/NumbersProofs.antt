@@ -1,6 +1,7 @@
 pub mod ReadLemmas
 pub mod ChosenLemmas
 pub mod TableLemmas
+pub mod LaterTables
 pub mod LookupLemmas
 pub mod BookRows
 pub mod SectorRows

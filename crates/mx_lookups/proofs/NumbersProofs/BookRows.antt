@@ -10,6 +10,7 @@ use Rattle.sqlite.specs.Order.{column}
 use Rattle.sqlite.specs.State.{State}
 use Rattle.sqlite_schema.specs.Rules.{equal}
 use Rattle.sqlite_sql.specs.Ops.{binary}
+use Rattle.mx_base.specs.declared.point.Point.{Point}
 use Rattle.mx_book.specs.commands.Act.{Entry}
 use Rattle.mx_book.specs.commands.Same.{same_text}
 use Rattle.mx_registers.specs.Registers.{entry_rows, aircraft_rows, place_rows, component_rows, programme_rows, task_rows, opening_rows, release_rows, release_line_rows, deferral_rows, extension_rows}
@@ -23,19 +24,19 @@ use Rattle.mx_table_rows.specs.chosen.Choices.{has_value, is_any, is_open}
 use Rattle.mx_table_rows.specs.chosen.Calls.{ReadsBy, ReadsFirst}
 use Rattle.mx_row_rules.specs.found.Defects.{rectifies}
 use Rattle.mx_row_rules.specs.found.Spans.{is_open_at, is_open_of, is_removed_by}
-use Rattle.mx_lookups.specs.numbers.Reads.{Reads}
+use Rattle.mx_lookups.specs.numbers.Reads.{Reads, ReadsAt}
 use Rattle.mx_lookups.proofs.NumbersProofs.LookupLemmas.{all_read, rows_read, text_is, number_is, is_open_at-cells, is_open_of-cells}
-use Rattle.mx_lookups.proofs.NumbersProofs.TableLemmas.{IsTable, entries, aircraft, places, components, programmes, tasks, openings, releases, release_lines, deferrals, extensions, spans, totals}
+use Rattle.mx_lookups.proofs.NumbersProofs.TableLemmas.{IsTableAt, entries, aircraft, places, components, programmes, tasks, openings, releases, release_lines, deferrals, extensions, spans, totals}
 
 -- ── by a number and by a text, whatever the table ──
 
-module _ {X A : Type 0} (k : Kept X) (rows : List Entry → List X) (it : IsTable k rows) (old new : State) (result : Result (Vec X A) TableFault) where
-  by_number : (at : ℕ) (of : X → ℕ) → ((x : X) → column (k.as_cells x) at ≡ Int (pos (of x))) → (n : ℕ) → ReadsBy k at (Int (pos n)) old new result
-      → Reads (λ book found. found.items ≡ filter (λ x. nat_eq (of x) n) (rows book)) old new result
+module _ {at_point : Point} {X A : Type 0} (k : Kept X) (rows : List Entry → List X) (it : IsTableAt at_point k rows) (old new : State) (result : Result (Vec X A) TableFault) where
+  pub by_number : (at : ℕ) (of : X → ℕ) → ((x : X) → column (k.as_cells x) at ≡ Int (pos (of x))) → (n : ℕ) → ReadsBy k at (Int (pos n)) old new result
+      → ReadsAt at_point (λ book found. found.items ≡ filter (λ x. nat_eq (of x) n) (rows book)) old new result
   by_number at of is n = rows_read k rows it (has_value at (Int (pos n))) (λ x. nat_eq (of x) n) (λ x. ap (λ cell. equal Binary cell (Int (pos n))) (is x) ∙ number_is (of x) n) (λ found. found.items) old new result
 
-  by_text : (at : ℕ) (of : X → List ℕ) → ((x : X) → column (k.as_cells x) at ≡ Text (of x)) → (text : List ℕ) → ReadsBy k at (Text text) old new result
-      → Reads (λ book found. found.items ≡ filter (λ x. same_text (of x) text) (rows book)) old new result
+  pub by_text : (at : ℕ) (of : X → List ℕ) → ((x : X) → column (k.as_cells x) at ≡ Text (of x)) → (text : List ℕ) → ReadsBy k at (Text text) old new result
+      → ReadsAt at_point (λ book found. found.items ≡ filter (λ x. same_text (of x) text) (rows book)) old new result
   by_text at of is text = rows_read k rows it (has_value at (Text text)) (λ x. same_text (of x) text) (λ x. ap (λ cell. equal Binary cell (Text text)) (is x) ∙ text_is (of x) text) (λ found. found.items) old new result
 
 -- ── each raw look-up ──
