@@ -9,6 +9,7 @@ use Rattle.sqlite.specs.State.{State, HasCleanDisk}
 use Rattle.sqlite.specs.Store.{Ghosts}
 use Rattle.sqlite.specs.Tree.{Trees}
 use Rattle.sqlite.specs.declared.transaction.Transaction.{Transaction}
+use Rattle.mx_base.specs.Settled.{settled}
 use Rattle.mx_base.specs.declared.point.Point.{Point}
 use Rattle.mx_book.specs.Book.{IsBook}
 use Rattle.mx_book.specs.commands.Act.{Entry}
@@ -20,12 +21,12 @@ use Rattle.mx_layout.specs.kept.Kept.{Kept}
 use Rattle.mx_table_rows.specs.chosen.Calls.{ReadsFirst}
 use Rattle.mx_lookups.specs.numbers.AnyRows.{AreChosen, GivesBy, GivesFirst, ReadsAnyAt}
 use Rattle.mx_lookups.specs.numbers.Damage.{IsDamaged}
-use Rattle.mx_lookups.specs.numbers.LookUp.{IsLookUpAt}
-use Rattle.mx_lookups.specs.numbers.Reads.{HasTablesOfRowsAt, ReadsAt}
+use Rattle.mx_lookups.specs.numbers.LookUp.{IsLookUpAt, LooksUp}
+use Rattle.mx_lookups.specs.numbers.Reads.{HasTablesOfRowsAt, IsRowsPoint, ReadsAt, rows_point}
 use Rattle.mx_lookups.specs.numbers.Told.{Damage, TellsDamageAt, UnreadFirst}
 use Rattle.mx_lookups.proofs.NumbersProofs.AnyLemmas.{any_so, silent}
 use Rattle.mx_lookups.proofs.NumbersProofs.ReadLemmas.{follows, map_ok, no_memory, reads_then, refused, stopped, told}
-use Rattle.mx_lookups.proofs.NumbersProofs.TableLemmas.{IsInEachAt, IsTableAt}
+use Rattle.mx_lookups.proofs.NumbersProofs.TableLemmas.{IsInEachAt, IsTableAt, at_each, later, now}
 use Rattle.mx_lookups.proofs.NumbersProofs.ToldLemmas.{handed, told_as, told_here, told_later, unread_in}
 
 -- ── over states ──
@@ -122,6 +123,14 @@ module _ {S : Type 0} {at : Point} {g : Ghosts S} where
       → new.conn.ghost_name ≡ old.conn.ghost_name → ReadsAt at P (state g old.conn.now) (state g new.conn.now) (Ok v) → ReadsFirst k most order picks items (state g old.conn.now) (state g new.conn.now) (Ok v)
       → w ≡ of (items v) → ((book : List Entry) → IsBook book → P book v → of (items v) ≡ what book) → IsLookUpAt at g (λ book found. found ≡ what book) (GivesFirst k most order picks of) Why old new (Ok w)
   rows_give it of same reads raw made so = answers (chosen it same reads raw) (λ book b p. made ∙ so book b p) (λ trees are. (_, are, made))
+
+-- what is looked up alike at each point is so now and at layout 3
+pub at_points : {S V : Type 0} {g : Ghosts S} {P : List Entry → V → Type 0} {A : Trees → V → Type 0} {Why : Damage} {old new : Transaction S} {result : Result V TableFault} → ((at : Point) → IsRowsPoint at → IsLookUpAt at g P A Why old new result) → LooksUp g P A Why old new result
+at_points so = record { now = so rows_point now; later = so (settled 3) later }
+
+-- and at each such point
+pub at_point : {S V : Type 0} {g : Ghosts S} {P : List Entry → V → Type 0} {A : Trees → V → Type 0} {Why : Damage} {old new : Transaction S} {result : Result V TableFault} → LooksUp g P A Why old new result → {at : Point} → IsRowsPoint at → IsLookUpAt at g P A Why old new result
+at_point {g = g} {P = P} {A = A} {Why = Why} {old = old} {new = new} {result = result} l = at_each (λ at. IsLookUpAt at g P A Why old new result) l.now l.later
 
 -- ── a second look-up, by what the first found ──
 

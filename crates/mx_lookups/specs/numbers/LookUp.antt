@@ -4,6 +4,7 @@ use Rattle.sqlite.specs.Held.{state}
 use Rattle.sqlite.specs.Store.{Ghosts}
 use Rattle.sqlite.specs.Tree.{Trees}
 use Rattle.sqlite.specs.declared.transaction.Transaction.{Transaction}
+use Rattle.mx_base.specs.Settled.{settled}
 use Rattle.mx_base.specs.declared.point.Point.{Point}
 use Rattle.mx_book.specs.commands.Act.{Entry}
 use Rattle.mx_layout.specs.declared.fault.TableFault.{TableFault}
@@ -24,3 +25,8 @@ pub record IsLookUpAt {S V : Type 0} (at : Point) (g : Ghosts S) (Is : List Entr
 -- so at the point at which rows are looked up
 abbrev pub IsLookUp : {S V : Type 0} → Ghosts S → (List Entry → V → Type 0) → (Trees → V → Type 0) → Damage → Transaction S → Transaction S → Result V TableFault → Type 0
 IsLookUp = IsLookUpAt rows_point
+
+-- It is such a look-up at the point at which rows are looked up, and at layout 3.
+pub record LooksUp {S V : Type 0} (g : Ghosts S) (Is : List Entry → V → Type 0) (IsOfRows : Trees → V → Type 0) (Why : Damage) (old new : Transaction S) (result : Result V TableFault) : Type 0 where
+  pub now : IsLookUp g Is IsOfRows Why old new result
+  pub later : IsLookUpAt (settled 3) g Is IsOfRows Why old new result
