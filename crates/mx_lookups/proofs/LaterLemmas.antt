@@ -180,7 +180,7 @@ pub done_past : {chosen : Row → Bool} (trees : Trees) (base : Base) → ¬ IsL
 unfolding IsDamaged
 done_past trees base past gave =
     elim (last_has None gave.0 base (sym gave.2)) [
-      inl none ↦ absurd cc
+      | inl none ↦ absurd cc
       | inr row ↦ inr (inr (row.0, chosen_kept kept_done3 row.0 gave.0 row.1 gave.1, λ low. past (subst (λ b. IsLife (life_in_base b)) row.2 low)))
     ]
 
